@@ -1,0 +1,11 @@
+pub mod Count
+pub mod Geometry
+pub mod History
+pub mod Lengths
+pub mod Marks
+pub mod MemorySink
+pub mod MemorySource
+pub mod Refusal
+pub mod Result
+pub mod Sink
+pub mod Source

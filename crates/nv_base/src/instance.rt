@@ -1,0 +1,23 @@
+// Stored instances and their device numbers.
+ghost use Rattle.std.specs.Prelude.{◌≡◌, ◌+◌, ◌*◌, ◌≤◌};
+
+/// One stored instance of a block: a native block has index 0, a redundant one 0 and 1, a dataset one for each
+/// stored dataset.
+#[derive(Clone, Copy, Debug, PartialEq, Eq, PartialOrd, Ord)]
+pub struct Instance {
+    pub block: u16,
+    pub index: u8,
+}
+
+/// The number by which a memory device knows an instance. Its low six bits are the index.
+#[derive(Clone, Copy, Debug, PartialEq, Eq, PartialOrd, Ord)]
+pub struct DeviceNumber(pub u16);
+
+/// The device number of an instance: 64 numbers for each block.
+pub fn number_of(instance: Instance) -> DeviceNumber
+    requires block { instance.block ≤ 512 }
+    requires index { instance.index ≤ 63 }
+    ensures { result.0 ≡ instance.block * 64 + instance.index }
+{
+    DeviceNumber(instance.block * 64 + u16::from(instance.index))
+}

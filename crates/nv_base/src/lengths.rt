@@ -1,0 +1,75 @@
+// The configured device numbers with their lengths.
+ghost use Rattle.std.specs.Prelude.{◌≡◌, ◌<◌, ◌≤◌, ◌++◌, ◌∷◌, [], length, Some, MatchOption, IfOk, OnOk, OnErr, slice_get};
+ghost use Rattle.nv_base.specs.Lengths.{AreLengths, last_or};
+
+use crate::DeviceNumber;
+use std::alloc::{AllocError, Global};
+use std::marker::Model;
+
+/// Device numbers with the lengths of their contents in bytes, ascending. No number is 0 or 65,535, and each length
+/// is 1 to 4,096. Contracts see the list.
+#[derive(Clone, Debug, Drop)]
+pub struct Lengths {
+    items: Vec<(DeviceNumber, u16)>,
+}
+
+impl Model for Lengths {
+    ghost use Rattle.std.specs.Prelude.{List, ℕ};
+    ghost use Rattle.nv_base.specs.declared.instance.DeviceNumber.{DeviceNumber};
+    ghost use Rattle.nv_base.specs.Lengths.{AreLengths};
+
+    ghost Value = { List (DeviceNumber × ℕ) };
+
+    ghost view = { λ l. l.items.items };
+
+    ghost invariant = { λ l. AreLengths 0 l.items.items };
+}
+
+impl Lengths {
+    /// No numbers.
+    pub fn new(alloc: Global) -> Lengths
+        ensures { result ≡ [] }
+    {
+        Lengths {
+            items: Vec::new(alloc),
+        }
+    }
+
+    /// How many numbers stand here.
+    pub fn len(&self) -> u32
+        ensures count { result ≡ length self.now }
+        ensures bounds { AreLengths 0 self.now }
+    {
+        self.items.len() as u32
+    }
+
+    /// The number and length at a place, from 0. None exactly where the place isn't below `len`.
+    pub fn get(&self, i: u32) -> Option<(DeviceNumber, u16)>
+        ensures { MatchOption result (length self.now ≤ i) (λ r. slice_get self.now i ≡ Some r) }
+    {
+        self.items.get(i as usize).copied()
+    }
+
+    /// Adds a number above all others.
+    pub fn add(&mut self, number: DeviceNumber, length: u16) -> Result<(), AllocError>
+        requires above { last_or 0 self.old < number.0 }
+        requires number { number.0 < 65535 }
+        requires some { 1 ≤ length }
+        requires most { length ≤ 4096 }
+        ensures ok { OnOk result (self.new ≡ self.old ++ (number, length) ∷ []) }
+        ensures err { OnErr result (self.new ≡ self.old) }
+    {
+        self.items.push((number, length))?;
+        Ok(())
+    }
+}
+
+/// The list of these numbers with their lengths.
+pub fn lengths_of(alloc: Global, items: &[(DeviceNumber, u16)]) -> Result<Lengths, AllocError>
+    requires { AreLengths 0 items.now }
+    ensures { IfOk result (λ l. l ≡ items.now) }
+{
+    Ok(Lengths {
+        items: items.to_vec(alloc)?,
+    })
+}

@@ -1,0 +1,49 @@
+//! The words of the memory stack: blocks and their instances, marks, requests, results, the history, and where
+//! bytes come from and go to.
+//!
+//! It promises lists that keep their order and bounds, and sources and sinks whose every fault is counted. What a
+//! history may hold, and what a flash does, is said elsewhere.
+#![tactic(auto)]
+
+mod bytes;
+mod bytes_room;
+mod entry;
+mod geometry;
+mod history;
+mod instance;
+mod job;
+mod lengths;
+mod mark;
+mod marks;
+mod marks_room;
+mod memory_sink;
+mod memory_source;
+mod request;
+mod result;
+mod sink;
+mod source;
+mod std_sink;
+mod std_source;
+#[cfg(test)]
+mod tests;
+
+pub use bytes::{Bytes, bytes_of};
+pub use bytes_room::BytesRoom;
+pub use entry::{Entry, Taken};
+pub use geometry::Geometry;
+pub use history::History;
+pub use instance::{DeviceNumber, Instance, number_of};
+pub use job::{DeviceOp, GivenFrom, JobStep, Outcome};
+pub use lengths::{Lengths, lengths_of};
+pub use mark::Mark;
+pub use marks::Marks;
+pub use marks_room::MarksRoom;
+pub use memory_sink::{MemSink, mem_sink};
+pub use memory_source::{MemSource, mem_source};
+pub use request::{JobKind, Refusal, Reply, Request, refusal_number};
+pub use result::{ReqResult, result_code};
+pub use sink::{Sink, SinkAnswer};
+pub use source::{Source, SourceAnswer};
+pub use std::alloc::AllocFailed;
+pub use std_sink::StdSink;
+pub use std_source::StdSource;

@@ -1,0 +1,66 @@
+// A sink in memory.
+ghost use Rattle.std.specs.Prelude.{◌≡◌, ℕ, List, [], Option, Some, IfOk};
+ghost use Rattle.nv_base.specs.Sink.{IsPut, IsFailedPut};
+ghost use Rattle.nv_base.specs.MemorySink.{FailsAsListed};
+
+use crate::{Sink, SinkAnswer};
+use std::alloc::{AllocError, Global};
+use std::marker::Model;
+
+/// A sink in memory, for tests. Its listed calls fail and keep nothing, as does a call that finds no memory; every
+/// other call keeps its whole piece. Contracts see the bytes written, the listed calls, the calls so far and the faults.
+#[derive(Debug, Drop)]
+pub struct MemSink {
+    bytes: Vec<u8>,
+    failing: Vec<u64>,
+    calls: u64,
+    faults: u64,
+}
+
+impl Model for MemSink {
+    ghost use Rattle.nv_base.specs.MemorySink.{SinkInMemory};
+
+    ghost Value = { SinkInMemory };
+
+    ghost view = { λ s. record { written = s.bytes.items; failing = s.failing.items; calls = s.calls; faults = s.faults } };
+}
+
+/// An empty sink whose calls with the listed numbers, from 1, fail.
+pub fn mem_sink(alloc: Global, failing: &[u64]) -> Result<MemSink, AllocError>
+    ensures { IfOk result (λ s. s ≡ record { written = []; failing = failing.now; calls = 0; faults = 0 }) }
+{
+    Ok(MemSink {
+        bytes: Vec::new(alloc),
+        failing: failing.to_vec(alloc)?,
+        calls: 0,
+        faults: 0,
+    })
+}
+
+impl MemSink {
+    /// Lends what was written.
+    pub fn bytes(&self) -> &[u8]
+        ensures { result.now ≡ self.now.written }
+    {
+        &self.bytes
+    }
+}
+
+impl Sink for MemSink {
+    ghost written = { λ s. Some s.written };
+
+    ghost faults = { λ s. s.faults };
+
+    fn put(&mut self, piece: &[u8]) -> SinkAnswer
+        ensures done { IsPut result (Some self.old.written) self.old.faults piece.now (Some self.new.written) self.new.faults }
+        ensures failed { IsFailedPut result (Some self.old.written) self.old.faults piece.now (Some self.new.written) self.new.faults }
+        ensures listed { FailsAsListed result self.old self.new }
+    {
+        self.calls = self.calls.saturating_add(1);
+        if self.failing.contains(&self.calls) || self.bytes.extend_from_slice(piece).is_err() {
+            self.faults = self.faults.saturating_add(1);
+            return SinkAnswer::Failed;
+        }
+        SinkAnswer::Done
+    }
+}
