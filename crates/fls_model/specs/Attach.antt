@@ -1,0 +1,45 @@
+-- What an attach does.
+use Rattle.std.specs.Prelude.{◌≡◌, ◌≢◌, ◌⊎◌, ℕ, List, [], ◌∷◌, length, replicate, Option, Some, None, Result, Ok, Err}
+use Rattle.nv_base.specs.Count.{Rose}
+use Rattle.nv_base.specs.Geometry.{size_of}
+use Rattle.nv_base.specs.declared.geometry.Geometry.{Geometry}
+use Rattle.fls_model.specs.declared.flash.AttachFault.{AttachFault}
+use Rattle.fls_model.specs.declared.flash.AttachFault.TheVariants.{Failed, WrongSize, Memory}
+use Rattle.fls_model.specs.Told.{Told, Change, AreToldAlike, IfBothTold}
+
+-- a flash of no bytes is blank
+abbrev pub enlarged : ℕ → List ℕ → List ℕ
+enlarged size [] = replicate size 255
+enlarged size (x ∷ xs) = x ∷ xs
+
+-- a fact on the bytes, where they are told
+abbrev pub IfTold : Option (List ℕ) → (List ℕ → Type 0) → Type 0
+IfTold (Some bytes) P = P bytes
+IfTold None P = Unit {0}
+
+-- blank, or as large as a geometry
+abbrev pub HasSize : Geometry → List ℕ → Type 0
+HasSize g bytes = (bytes ≡ []) ⊎ (length bytes ≡ size_of g)
+
+-- the list of changes begins
+abbrev pub Begins : Option (List Change) → Type 0
+Begins (Some changes) = changes ≡ []
+Begins None = Unit {0}
+
+pub record IsAttached (g : Geometry) (s t : Told) : Type 0 where
+  pub geometry : t.geometry ≡ g
+  pub size : IfTold s.bytes (HasSize g)
+  pub told_alike : AreToldAlike s.bytes t.bytes
+  pub bytes : IfBothTold s.bytes t.bytes (λ old new. new ≡ enlarged (size_of g) old)
+  pub changes : Begins t.changes
+  pub ops : t.ops ≡ s.ops
+  pub faults : t.faults ≡ s.faults
+  pub cuts : t.cuts ≡ s.cuts
+  pub off : t.off ≡ s.off
+
+-- by its answer: attached, failed with a counted fault, of a wrong size, or without memory
+abbrev pub IsAttach : Geometry → Told → Result (Unit {0}) AttachFault → Told → Type 0
+IsAttach g s (Ok _) t = IsAttached g s t
+IsAttach g s (Err Failed) t = Rose s.faults t.faults × (t ≡ record s { faults = t.faults })
+IsAttach g s (Err (WrongSize found)) t = IfTold s.bytes (λ bytes. (length bytes ≡ found) × (found ≢ 0) × (found ≢ size_of g)) × (t ≡ s)
+IsAttach g s (Err Memory) t = t ≡ s

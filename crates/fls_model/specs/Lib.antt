@@ -1,0 +1,9 @@
+pub mod Attach
+pub mod Bytes
+pub mod Call
+pub mod Memory
+pub mod MemoryInside
+pub mod Op
+pub mod Read
+pub mod Step
+pub mod Told

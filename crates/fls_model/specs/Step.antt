@@ -1,0 +1,51 @@
+-- What a program or an erase does.
+use Rattle.std.specs.Prelude.{◌≡◌, ◌≤◌, ◌*◌, ℕ, Bool, true, false, List, [], ◌∷◌, ◌++◌, Option, Some, None}
+use Rattle.nv_base.specs.Count.{Rose, next_count}
+use Rattle.nv_base.specs.declared.geometry.Geometry.{Geometry}
+use Rattle.fls_model.specs.declared.flash.FlashAnswer.{FlashAnswer}
+use Rattle.fls_model.specs.declared.flash.FlashAnswer.TheVariants.{Done, Failed, Off}
+use Rattle.fls_model.specs.Op.{Op, Program, Erase, after_op, MayLeave}
+use Rattle.fls_model.specs.Told.{Told, Change, IfBothTold, AreToldAlike}
+
+abbrev pub programs : ℕ → List ℕ → Op
+programs = Program
+
+abbrev pub erases : Geometry → ℕ → Op
+erases g sector = Erase (sector * g.sector) g.sector
+
+-- the bytes after an answer: a failed operation may have any effect of one that was cut
+abbrev pub Leaves : Op → FlashAnswer → List ℕ → List ℕ → Type 0
+Leaves op Done old new = new ≡ after_op op old
+Leaves op Failed old new = MayLeave op old new
+Leaves op Off old new = MayLeave op old new
+
+-- the list of changes goes on by one, or isn't told any more
+abbrev pub Notes : Op → FlashAnswer → Option (List ℕ) → Option (List Change) → Option (List Change) → Type 0
+Notes op answer (Some bytes) (Some old) (Some new) = new ≡ old ++ record { op = op; before = bytes; answer = answer } ∷ []
+Notes op answer _ _ (Some new) = ⊥
+Notes op answer _ _ None = Unit {0}
+
+-- a fault and a cut have their counts, and a cut stands from its operation on; a cut may hide a fault
+abbrev pub HasCause : FlashAnswer → Told → Told → Type 0
+HasCause Done s t = (t.faults ≡ s.faults) × (t.cuts ≡ s.cuts) × (t.off ≡ false)
+HasCause Failed s t = Rose s.faults t.faults × (t.cuts ≡ s.cuts) × (t.off ≡ false)
+HasCause Off s t = (s.faults ≤ t.faults) × Rose s.cuts t.cuts × (t.off ≡ true)
+
+-- a changing operation that was asked for while no cut stood
+pub record IsAsked (op : Op) (s : Told) (answer : FlashAnswer) (t : Told) : Type 0 where
+  pub geometry : t.geometry ≡ s.geometry
+  pub ops : t.ops ≡ next_count s.ops
+  pub told_alike : AreToldAlike s.bytes t.bytes
+  pub bytes : IfBothTold s.bytes t.bytes (Leaves op answer)
+  -- whatever the answer, the bytes are some that a cut may leave, all else is as it was
+  pub within : IfBothTold s.bytes t.bytes (MayLeave op)
+  pub changes : Notes op answer s.bytes s.changes t.changes
+  pub cause : HasCause answer s t
+
+abbrev pub OffOrAsked : Bool → Op → Told → FlashAnswer → Told → Type 0
+OffOrAsked true op s answer t = (answer ≡ Off) × (t ≡ s)
+OffOrAsked false op s answer t = IsAsked op s answer t
+
+-- while a cut stands nothing happens
+abbrev pub IsStep : Op → Told → FlashAnswer → Told → Type 0
+IsStep op s answer t = OffOrAsked s.off op s answer t

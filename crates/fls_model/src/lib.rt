@@ -1,0 +1,14 @@
+//! What a flash is: reads, programs and erases, what a power cut or a fault may leave, and a flash in memory.
+//!
+//! It promises that every answer has its cause and every byte its place. Cuts on purpose, scripted faults and image
+//! files are left to the devices over it, jobs to the driver.
+#![tactic(auto)]
+
+mod call;
+mod flash;
+mod memory;
+mod range;
+
+pub use call::{Call, erase_call, program_call};
+pub use flash::{AttachFault, Flash, FlashAnswer};
+pub use memory::{MemFlash, mem_flash};

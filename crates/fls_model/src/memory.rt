@@ -1,0 +1,275 @@
+// A flash in memory.
+ghost use Rattle.std.specs.Prelude.{◌≡◌, ◌≢◌, ◌≤◌, ◌<◌, ◌+◌, Some, IfOk, OnOk, OnErr, length, slice_set, false};
+ghost use Rattle.nv_base.specs.Geometry.{IsLegal, size_of};
+ghost use Rattle.fls_model.specs.Told.{HasRange, HasPage, HasSector};
+ghost use Rattle.fls_model.specs.Op.{after_op, MayLeave};
+ghost use Rattle.fls_model.specs.Step.{IsStep, programs, erases};
+ghost use Rattle.fls_model.specs.Read.{IsRead};
+ghost use Rattle.fls_model.specs.Attach.{IsAttach, IsAttached, IfTold, HasSize, enlarged};
+ghost use Rattle.fls_model.specs.Call.{op_of, IsCall, IsInside};
+ghost use Rattle.fls_model.specs.Memory.{in_memory, IsAskedOnce, IsBegun};
+
+use crate::call::{Call, erase_call, program_call};
+use crate::range::{erase_range, program_range};
+use crate::{AttachFault, Flash, FlashAnswer};
+use nv_base::Geometry;
+use std::alloc::{AllocError, Global};
+use std::marker::Model;
+
+/// A flash in memory. It never fails and is never off. It tells the list of its changes exactly while it was asked
+/// for at most as many changing operations since its attach as it was made to tell.
+#[derive(Drop)]
+pub struct MemFlash {
+    geometry: Geometry,
+    bytes: Vec<u8>,
+    // the bytes at the attach, where it has room for calls
+    first: Vec<u8>,
+    calls: Vec<Call>,
+    room: u32,
+    asked: u64,
+    ops: u64,
+}
+
+impl Model for MemFlash {
+    ghost use Rattle.fls_model.specs.Memory.{InMemory};
+
+    ghost Value = { InMemory };
+
+    ghost use Rattle.fls_model.specs.MemoryInside.{in_memory_of, IsKept};
+
+    ghost view = { in_memory_of };
+
+    ghost invariant = { IsKept };
+}
+
+/// A flash of these bytes, not attached yet, that tells at most so many changes.
+pub fn mem_flash(alloc: Global, bytes: &[u8], calls: u32) -> Result<MemFlash, AllocError>
+    ensures { IfOk result (λ m. m ≡ in_memory bytes.now calls) }
+{
+    Ok(MemFlash {
+        geometry: Geometry {
+            page: 0,
+            sector: 0,
+            sectors: 0,
+        },
+        bytes: bytes.to_vec(alloc)?,
+        first: Vec::new(alloc),
+        calls: Vec::new(alloc),
+        room: calls,
+        asked: 0,
+        ops: 0,
+    })
+}
+
+// Room for these calls.
+fn room_for(alloc: Global, calls: u32) -> Result<Vec<Call>, AllocError>
+    ensures { IfOk result (λ v. length v.items ≡ calls) }
+{
+    let none = Call::Sector {
+        address: 0,
+        length: 0,
+    };
+    vec![in alloc; none; calls as usize]
+}
+
+// The bytes at an attach: a copy, or of a flash of no bytes a blank one.
+fn first_bytes(alloc: Global, bytes: &[u8], size: usize) -> Result<Vec<u8>, AllocError>
+    ensures { IfOk result (λ v. v.items ≡ enlarged size bytes.now) }
+{
+    if bytes.is_empty() {
+        return vec![in alloc; 255u8; size];
+    }
+    bytes.to_vec(alloc)
+}
+
+// A flash of no bytes becomes blank.
+fn enlarge(bytes: &mut Vec<u8>, size: usize) -> Result<(), AllocError>
+    ensures done { OnOk result (bytes.new.items ≡ enlarged size bytes.old.items) }
+    ensures err { OnErr result (bytes.new.items ≡ bytes.old.items) }
+{
+    if bytes.is_empty() {
+        bytes.resize(size, 255)?;
+    }
+    Ok(())
+}
+
+fn apply(bytes: &mut Vec<u8>, call: &Call)
+    requires call { IsCall call.now }
+    requires inside { IsInside (op_of call.now) (length bytes.old.items) }
+    ensures done { bytes.new.items ≡ after_op (op_of call.now) bytes.old.items }
+    ensures within { MayLeave (op_of call.now) bytes.old.items bytes.new.items }
+    ensures size { length bytes.new.items ≡ length bytes.old.items }
+{
+    match call {
+        Call::Page {
+            address,
+            length,
+            page,
+        } => program_range(bytes, *address as usize, &page[..*length as usize]),
+        Call::Sector { address, length } => {
+            erase_range(bytes, *address as usize, *length as usize)
+        }
+    }
+}
+
+fn note(calls: &mut Vec<Call>, at: u64, call: Call)
+    ensures { calls.new.items ≡ slice_set calls.old.items at call }
+{
+    if at < calls.len() as u64 {
+        calls[at as usize] = call;
+    }
+}
+
+impl MemFlash {
+    /// Lends the bytes as they are now.
+    pub fn bytes(&self) -> &[u8]
+        ensures { self.now.told.bytes ≡ Some result.now }
+    {
+        &self.bytes
+    }
+
+    // Attaches it at a size that it has, or enlarges it.
+    fn begin(&mut self, alloc: Global, geometry: Geometry, size: usize) -> Result<(), AllocError>
+        requires legal { IsLegal geometry }
+        requires size { size ≡ size_of geometry }
+        requires found { IfTold self.old.told.bytes (HasSize geometry) }
+        ensures attach { OnOk result (IsAttached geometry self.old.told self.new.told) }
+        ensures begun { OnOk result (IsBegun self.old self.new) }
+        ensures err { OnErr result (self.new ≡ self.old) }
+    {
+        let calls = room_for(alloc, self.room)?;
+        let first = if self.room > 0 {
+            first_bytes(alloc, &self.bytes, size)?
+        } else {
+            Vec::new(alloc)
+        };
+        enlarge(&mut self.bytes, size)?;
+        self.geometry = geometry;
+        self.first = first;
+        self.calls = calls;
+        self.asked = 0;
+        Ok(())
+    }
+
+    // Makes a change and keeps its call.
+    fn change(&mut self, call: Call)
+        requires attached { 0 < self.old.told.geometry.page }
+        requires call { IsCall call }
+        requires inside { IsInside (op_of call) (size_of self.old.told.geometry) }
+        ensures step { IsStep (op_of call) self.old.told FlashAnswer.Done self.new.told }
+        ensures asked { IsAskedOnce self.old self.new }
+    {
+        apply(&mut self.bytes, &call);
+        note(&mut self.calls, self.asked, call);
+        self.asked = self.asked.saturating_add(1);
+        self.ops = self.ops.saturating_add(1);
+    }
+}
+
+impl Flash for MemFlash {
+    ghost told = { λ m. m.told };
+
+    fn attach(&mut self, alloc: Global, geometry: Geometry) -> Result<(), AttachFault>
+        requires { IsLegal geometry }
+        ensures attach { IsAttach geometry self.old.told result self.new.told }
+        ensures begun { OnOk result (IsBegun self.old self.new) }
+        ensures never_fails { result ≢ Err AttachFault.Failed }
+        ensures err { OnErr result (self.new ≡ self.old) }
+    {
+        let size = geometry.sector as usize * geometry.sectors as usize;
+        let found = self.bytes.len();
+        if found != 0 && found != size {
+            return Err(AttachFault::WrongSize {
+                found: found as u64,
+            });
+        }
+        self.begin(alloc, geometry, size)
+            .map_err(|_| AttachFault::Memory)
+    }
+
+    fn power_on(&mut self)
+        ensures power { self.new.told ≡ record (self.old.told) { off = false } }
+        ensures same { self.new ≡ self.old }
+    {
+        let _geometry = self.geometry;
+    }
+
+    fn arm(&mut self, nth: u32, keep: u32)
+        ensures { self.new ≡ self.old }
+    {}
+
+    fn read(&mut self, address: u32, into: &mut [u8]) -> FlashAnswer
+        requires { HasRange self.old.told address (length into.old) }
+        ensures read { IsRead address self.old.told into.old result into.new self.new.told }
+        ensures done { result ≡ FlashAnswer.Done }
+        ensures same { self.new ≡ self.old }
+    {
+        let at = address as usize;
+        let end = at + into.len();
+        into.copy_from_slice(&self.bytes[at..end]);
+        FlashAnswer::Done
+    }
+
+    fn program(&mut self, address: u32, page: &[u8]) -> FlashAnswer
+        requires { HasPage self.old.told address (length page.now) }
+        ensures step { IsStep (programs address page.now) self.old.told result self.new.told }
+        ensures done { result ≡ FlashAnswer.Done }
+        ensures asked { IsAskedOnce self.old self.new }
+    {
+        let _geometry = self.geometry;
+        self.change(program_call(address, page));
+        FlashAnswer::Done
+    }
+
+    fn erase(&mut self, sector: u32) -> FlashAnswer
+        requires { HasSector self.old.told sector }
+        ensures step { IsStep (erases self.old.told.geometry sector) self.old.told result self.new.told }
+        ensures done { result ≡ FlashAnswer.Done }
+        ensures asked { IsAskedOnce self.old self.new }
+    {
+        let size = self.geometry.sector;
+        self.change(erase_call(sector * size, size));
+        FlashAnswer::Done
+    }
+}
+
+#[cfg(test)]
+mod tests {
+    use super::*;
+
+    const SMALLEST: Geometry = Geometry {
+        page: 16,
+        sector: 64,
+        sectors: 2,
+    };
+
+    #[test]
+    fn attaches_by_its_size(rt: HostRuntime) -> Result<(), AllocError> {
+        let wrong = Err(AttachFault::WrongSize { found: 100 });
+        for (size, want) in [(0, Ok(())), (128, Ok(())), (100, wrong)] {
+            let bytes = vec![in rt.alloc(); 7u8; size]?;
+            let mut flash = mem_flash(rt.alloc(), &bytes, 1)?;
+            assert_eq!(rt; flash.attach(rt.alloc(), SMALLEST), want, "at {size}");
+        }
+        Ok(())
+    }
+
+    #[test]
+    fn clears_bits_and_sets_them(rt: HostRuntime) -> Result<(), AllocError> {
+        let mut flash = mem_flash(rt.alloc(), &[], 2)?;
+        let attached = flash.attach(rt.alloc(), SMALLEST);
+        assert!(rt; attached.is_ok());
+        flash.program(16, &[0x0f; 16]);
+        flash.program(16, &[0x3c; 16]);
+        flash.program(64, &[0; 16]);
+        flash.erase(1);
+        let mut page = [0; 16];
+        let answer = flash.read(16, &mut page);
+        assert_eq!(rt; answer, FlashAnswer::Done);
+        assert_eq!(rt; page, [0x0c; 16]);
+        assert_eq!(rt; flash.bytes().len(), 128);
+        assert_eq!(rt; flash.bytes()[15], 0xff);
+        assert_eq!(rt; flash.bytes()[64], 0xff);
+        Ok(())
+    }
+}
