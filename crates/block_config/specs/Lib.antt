@@ -1,0 +1,12 @@
+pub mod Block
+pub mod Config
+pub mod Content
+pub mod DemoConfig
+pub mod Field
+pub mod Head
+pub mod Inside
+pub mod Item
+pub mod Lengths
+pub mod Reading
+pub mod Rules
+pub mod Sizes

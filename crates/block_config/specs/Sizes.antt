@@ -1,0 +1,42 @@
+-- The pages that a configuration needs.
+use Rattle.std.specs.Prelude.{ℕ, zero, suc, ◌+◌, ◌*◌, ◌≤◌, max, List, fold, sum_by}
+use Rattle.std.specs.Int.{div_ceil}
+use Rattle.block_config.specs.declared.block.BlockDesc.{BlockDesc}
+use Rattle.block_config.specs.declared.sizes.Measures.{Measures}
+use Rattle.block_config.specs.Block.{instance_count, record_count}
+
+-- the pages of a record with so many bytes: header page, header gate, body pages, commit gate
+abbrev pub record_pages : ℕ → ℕ → ℕ
+record_pages page n = 3 + div_ceil n page
+
+abbrev pub instances_of : BlockDesc → ℕ
+instances_of b = instance_count b.kind b.nv
+
+-- the size of each instance of a block
+abbrev pub size_of : ℕ → BlockDesc → ℕ
+size_of page b = record_pages page b.length
+
+-- the pages of one immediate write; only a block of priority 0 has such writes
+abbrev pub urgent_at : ℕ → ℕ → ℕ
+urgent_at zero pages = pages
+urgent_at (suc p) pages = 0
+
+abbrev pub urgent_pages : ℕ → BlockDesc → ℕ
+urgent_pages page b = urgent_at b.priority (record_count b.kind * size_of page b)
+
+-- the greatest, or 0 where there is none
+abbrev pub greatest : (BlockDesc → ℕ) → List BlockDesc → ℕ
+greatest f blocks = fold (λ m b. max m (f b)) 0 blocks
+
+abbrev pub measures_of : ℕ → List BlockDesc → Measures
+measures_of page blocks = record {
+  instances = sum_by instances_of blocks;
+  all = sum_by (λ b. instances_of b * size_of page b) blocks;
+  greatest = greatest (size_of page) blocks;
+  urgent = greatest (urgent_pages page) blocks;
+}
+
+-- small enough to be added up
+pub record IsBounded (b : BlockDesc) : Type 0 where
+  pub instances : instances_of b ≤ 64
+  pub content : b.length ≤ 4096

@@ -1,0 +1,71 @@
+// The pages that a configuration needs.
+ghost use Rattle.std.specs.Prelude.{◌≡◌, ◌≤◌, ◌+◌, ◌*◌, length, All};
+ghost use Rattle.block_config.specs.Block.{instance_count, record_count};
+ghost use Rattle.block_config.specs.Sizes.{record_pages, urgent_pages, measures_of, IsBounded};
+
+use crate::BlockDesc;
+
+/// What is added up over all blocks: the instances, the pages of all of them, the pages of the greatest, and the
+/// most pages of one immediate write.
+#[derive(Clone, Copy, Debug)]
+pub struct Measures {
+    pub instances: u16,
+    pub all: u32,
+    pub greatest: u32,
+    pub urgent: u32,
+}
+
+impl Measures {
+    /// Pages that a bank needs.
+    pub fn need(self) -> u64
+        ensures { result ≡ self.all + 2 * self.greatest + 2 * self.urgent + 1 }
+    {
+        u64::from(self.all) + 2 * u64::from(self.greatest) + 2 * u64::from(self.urgent) + 1
+    }
+}
+
+/// Pages of a record with so many bytes.
+fn record_pages(length: u16, page: u32) -> u32
+    requires { 16 ≤ page }
+    ensures value { result ≡ record_pages page length }
+    ensures most { length ≤ 4096 → result ≤ 259 }
+{
+    3 + u32::from(length).div_ceil(page)
+}
+
+/// Pages of one immediate write of a block, 0 where it has no such writes.
+fn urgent_pages(block: &BlockDesc, page: u32) -> u32
+    requires page { 16 ≤ page }
+    requires bounded { IsBounded block.now }
+    ensures { result ≡ urgent_pages page block.now }
+{
+    if block.priority == 0 {
+        u32::from(block.kind.records()) * record_pages(block.length, page)
+    } else {
+        0
+    }
+}
+
+/// The measures of these blocks on pages of this size.
+pub fn measures_of(blocks: &[BlockDesc], page: u32) -> Measures
+    requires page { 16 ≤ page }
+    requires few { length blocks.now ≤ 512 }
+    requires bounded { All IsBounded blocks.now }
+    ensures { result ≡ measures_of page blocks.now }
+{
+    let mut sum = Measures {
+        instances: 0,
+        all: 0,
+        greatest: 0,
+        urgent: 0,
+    };
+    for block in blocks {
+        let size = record_pages(block.length, page);
+        let instances = block.kind.instances(block.nv);
+        sum.instances += u16::from(instances);
+        sum.all += u32::from(instances) * size;
+        sum.greatest = sum.greatest.max(size);
+        sum.urgent = sum.urgent.max(urgent_pages(block, page));
+    }
+    sum
+}
