@@ -1,0 +1,13 @@
+// Bytes that are all alike.
+ghost use Rattle.std.specs.Prelude.{◌≡◌, ◌↔◌, length, replicate, IsTrue};
+
+pub(crate) fn all_are(bytes: &[u8], value: u8) -> bool
+    ensures { IsTrue result ↔ (bytes.now ≡ replicate (length bytes.now) value) }
+{
+    for byte in bytes {
+        if *byte != value {
+            return false;
+        }
+    }
+    true
+}

@@ -1,0 +1,20 @@
+// Gates.
+ghost use Rattle.std.specs.Prelude.{◌≡◌, ◌↔◌, length, IsTrue};
+ghost use Rattle.fee_format.specs.Gate.{IsGate};
+ghost use Rattle.fee_format.specs.Pages.{gate_page};
+
+use crate::bytes::all_are;
+
+/// Writes an open gate, which fills the page.
+pub fn write_gate(page: &mut [u8])
+    ensures { page.new ≡ gate_page (length page.old) }
+{
+    page.fill(0);
+}
+
+/// Whether the page is a gate that stands open.
+pub fn gate_stands(page: &[u8]) -> bool
+    ensures { IsTrue result ↔ IsGate page.now }
+{
+    all_are(page, 0)
+}
