@@ -1,0 +1,21 @@
+use Rattle.std.proofs.Common.{refl, arith}
+use Rattle.std.proofs.lemmas.List.{take_at}
+use Rattle.fee_log.proofs.Within.{within_length}
+use Rattle.fee_log.proofs.Soundness.{open_is_blank}
+use Rattle.fee_log.proofs.log.Log.load_bytes.Goals as goal
+
+pub take_records-self-inside-requires-clause-each :
+    goal.take_records-self-inside-requires-clause-each
+take_records-self-inside-requires-clause-each c =
+    rw (c.deref.ensures.value, c.deref_mut.ensures.value) (within_length _ _ _ _ c.self.invariant.places)
+
+pub returns : goal.returns
+returns c =
+    let taken = c.take_records-self-inside.ensures in
+    rw (← c.self.view_is) (record {
+      records = taken.records;
+      log = rw (← c.bank_pages-pages.ensures) taken.log;
+      closed = rw (← c.bank_pages-pages.ensures) (open_is_blank c.is_tail_blank.result _ c.is_tail_blank.ensures);
+      places = rw (take_at c.take_records-self-inside.new.places _ c.self.inside.places.len (omega arith), taken.places_are, c.deref.ensures.value) refl;
+      same = refl;
+    })

@@ -1,0 +1,84 @@
+-- The log of one bank.
+use Rattle.std.specs.Prelude.{◌≡◌, ◌⊎◌, ◌↔◌, ◌<◌, ◌≤◌, ◌+◌, ◌*◌, ℕ, Bool, false, List, Option, Some, None, Contains, IfSome}
+use Rattle.nv_base.specs.declared.geometry.Geometry.{Geometry}
+use Rattle.nv_base.specs.declared.instance.DeviceNumber.{DeviceNumber}
+use Rattle.nv_base.specs.Geometry.{IsLegal, bank_pages_of}
+use Rattle.nv_base.specs.Lengths.{AreLengths}
+use Rattle.fee_format.specs.declared.rec_head.RecHead.{RecHead}
+use Rattle.fee_format.specs.Pages.{page_at}
+use Rattle.fee_format.specs.RecHead.{IsLegalRecHead}
+use Rattle.fee_format.specs.RecordList.{Rec, IsLog, IsTailBlank, pages_of_head, free_pages_of}
+use Rattle.fee_log.specs.declared.place.Place.{Place}
+use Rattle.fee_log.specs.declared.work.Work.{Work}
+use Rattle.fee_log.specs.Places.{erased_places, places_after, AreWithin}
+
+pub record LogState : Type 0 where
+  pub geometry : Geometry
+  -- bank 0 or 1
+  pub bank : ℕ
+  -- the configured numbers with their lengths, ascending
+  pub numbers : List (DeviceNumber × ℕ)
+  -- the place of each number, in that order
+  pub places : List Place
+  -- the page where the next record begins, or the one in work
+  pub end : ℕ
+  pub closed : Bool
+  -- the record in work, and how many of its pages are done
+  pub work : Option Work
+
+-- PAGES
+-- the bank's pages
+abbrev pub pages_in : LogState → ℕ
+pages_in s = bank_pages_of s.geometry
+
+-- where a page of the bank begins on the flash, in bytes
+abbrev pub address_of : LogState → ℕ → ℕ
+address_of s q = (s.bank * pages_in s + q) * s.geometry.page
+
+-- the page after the record in work
+abbrev pub end_with : ℕ → ℕ → Option Work → ℕ
+end_with p end None = end
+end_with p end (Some w) = end + pages_of_head p w.head
+
+-- the free pages: those after the record in work, none in a closed bank
+abbrev pub free_in : LogState → ℕ
+free_in s = free_pages_of (pages_in s) (end_with s.geometry.page s.end s.work) s.closed
+
+-- WHAT HOLDS OF EACH LOG
+-- a record in work lies in the bank, and isn't whole
+pub record IsWorkIn (p B end : ℕ) (w : Work) : Type 0 where
+  pub legal : IsLegalRecHead w.head
+  pub left : w.done < pages_of_head p w.head
+  pub within : end + pages_of_head p w.head ≤ B
+
+pub record IsSound (s : LogState) : Type 0 where
+  pub geometry : IsLegal s.geometry
+  pub bank : s.bank < 2
+  pub numbers : AreLengths 0 s.numbers
+  pub places : AreWithin s.geometry.page s.end s.numbers s.places
+  pub end_low : 2 ≤ s.end
+  pub end_high : s.end ≤ pages_in s
+  pub work : IfSome s.work (IsWorkIn s.geometry.page (pages_in s) s.end)
+  pub not_closed : IfSome s.work (λ w. s.closed ≡ false)
+
+-- A START
+-- the log of an erased bank
+abbrev pub erased_log : Geometry → ℕ → List (DeviceNumber × ℕ) → LogState
+erased_log g bank numbers =
+    record { geometry = g; bank = bank; numbers = numbers; places = erased_places numbers; end = 2; closed = false; work = None }
+
+-- the log of a bank that has these bytes: its record list, whether its tail is blank, and the places that its records
+-- give
+pub record IsLoaded (bytes : List ℕ) (old new : LogState) : Type 0 where
+  pub records : List Rec
+  pub log : IsLog old.geometry.page (pages_in old) (page_at old.geometry.page bytes) records new.end
+  pub closed : (new.closed ≡ false) ↔ IsTailBlank old.geometry.page (pages_in old) (page_at old.geometry.page bytes) new.end
+  pub places : new.places ≡ places_after old.geometry.page old.numbers records
+  pub same : new ≡ record old { places = new.places; end = new.end; closed = new.closed; work = None }
+
+-- A RECORD TO APPEND
+-- the number is configured, with this length; a content has its length, and a mark has none
+pub record IsFor (numbers : List (DeviceNumber × ℕ)) (h : RecHead) : Type 0 where
+  pub length : ℕ
+  pub configured : Contains numbers (record { 0 = h.number }, length)
+  pub kind : ((h.kind ≡ 1) × (h.length ≡ length)) ⊎ (((h.kind ≡ 2) ⊎ (h.kind ≡ 3)) × (h.length ≡ 0))
