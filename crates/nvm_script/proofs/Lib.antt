@@ -1,0 +1,9 @@
+pub mod Cuts
+pub mod LineLaws
+pub mod Numerals
+pub mod OwnerLaws
+pub mod RuleLaws
+pub mod ScriptLaws
+pub mod SpellingLaws
+pub mod StepLaws
+pub mod WordLaws

@@ -1,0 +1,14 @@
+pub mod Cut
+pub mod Line
+pub mod Lines
+pub mod Number
+pub mod Owners
+pub mod Reading
+pub mod Readings
+pub mod Rules
+pub mod Script
+pub mod ScriptReading
+pub mod Spelling
+pub mod Step
+pub mod Word
+pub mod Words

@@ -1,0 +1,26 @@
+//! What people write and read: the steps of a script, and the line of each entry of a history.
+//!
+//! It promises that a line is exactly the text of its entry, and that a script gives exactly the steps that it spells,
+//! or names its first wrong line. Which entries a history may hold, and what becomes of a step, is left to the crates
+//! that take them.
+#![tactic(auto)]
+
+mod caller;
+mod cut;
+mod lines;
+mod number;
+mod owners;
+mod readings;
+mod rules;
+mod script;
+mod spelling;
+mod step;
+mod step_list;
+mod word;
+mod words;
+
+pub use lines::{end_text, entry_text};
+pub use readings::one_reading;
+pub use script::{Mode, ScriptFault, read_script};
+pub use step::{Step, StepKind};
+pub use step_list::StepList;

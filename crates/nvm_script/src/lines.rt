@@ -1,0 +1,317 @@
+// The lines of a history.
+ghost use Rattle.std.specs.Prelude.{◌≡◌, length, IfOk, string_bytes};
+ghost use Rattle.std.specs.List.{flat_map};
+ghost use Rattle.nvm_script.specs.Words.{mark_text};
+ghost use Rattle.nvm_script.specs.Lines.{ask_line as ask_text, pick_line as pick_text, instance_text, wrote_line as wrote_text, post_line as post_text, found_text, found_line as found_line_text, entry_line, end_line};
+
+use crate::words::{
+    given_words, job_word, mark_words, refused_words, reply_words, request_words, taken_words,
+};
+use nv_base::{Bytes, Entry, Instance, Mark, Marks, result_code};
+use std::alloc::{AllocError, Global};
+
+fn ask_line(alloc: Global, caller: u8, request: &str, reply: &str) -> Result<String, AllocError>
+    ensures { IfOk result (λ t. string_bytes t ≡ ask_text caller request.now reply.now) }
+{
+    format!(in alloc; "ask {caller} {request} -> {reply}\n")
+}
+
+fn pick_line(
+    alloc: Global,
+    block: u16,
+    job: &str,
+    taken: &str,
+    ops: u64,
+) -> Result<String, AllocError>
+    ensures { IfOk result (λ t. string_bytes t ≡ pick_text block job.now taken.now ops) }
+{
+    format!(in alloc; "pick {block} {job}{taken} ops {ops}\n")
+}
+
+fn instance_words(alloc: Global, instance: Instance, mark: &Mark) -> Result<String, AllocError>
+    ensures { IfOk result (λ t. string_bytes t ≡ instance_text instance (mark_text mark.now)) }
+{
+    let words = mark_words(alloc, mark)?;
+    let block = instance.block;
+    let index = instance.index;
+    format!(in alloc; "{block}.{index} {words}")
+}
+
+fn wrote_line(alloc: Global, words: &str, ops: u64) -> Result<String, AllocError>
+    ensures { IfOk result (λ t. string_bytes t ≡ wrote_text words.now ops) }
+{
+    format!(in alloc; "wrote {words} ops {ops}\n")
+}
+
+fn post_line(
+    alloc: Global,
+    block: u16,
+    code: u8,
+    given: &str,
+    refused: &str,
+    ops: u64,
+) -> Result<String, AllocError>
+    ensures { IfOk result (λ t. string_bytes t ≡ post_text block code given.now refused.now ops) }
+{
+    format!(in alloc; "post {block} {code}{given}{refused} ops {ops}\n")
+}
+
+fn found_words(alloc: Global, instance: Instance, mark: &Mark) -> Result<String, AllocError>
+    ensures { IfOk result (λ t. string_bytes t ≡ found_text (instance, mark.now)) }
+{
+    let words = instance_words(alloc, instance, mark)?;
+    format!(in alloc; " {words}")
+}
+
+// The instances that were found, in order.
+fn all_found_words(alloc: Global, marks: &Marks) -> Result<String, AllocError>
+    ensures { IfOk result (λ t. string_bytes t ≡ flat_map found_text marks.now) }
+{
+    let mut text = String::new(alloc);
+    for i in 0..marks.len() {
+        if let Some((instance, mark)) = marks.get(i) {
+            let words = found_words(alloc, instance, mark)?;
+            text.push_str(words.as_str())?;
+        }
+    }
+    Ok(text)
+}
+
+fn found_line(alloc: Global, count: u32, marks: &str, ops: u64) -> Result<String, AllocError>
+    ensures { IfOk result (λ t. string_bytes t ≡ found_line_text count marks.now ops) }
+{
+    format!(in alloc; "found {count}{marks} ops {ops}\n")
+}
+
+fn line(alloc: Global, entry: &Entry) -> Result<String, AllocError>
+    ensures { IfOk result (λ t. string_bytes t ≡ entry_line entry.now) }
+{
+    match entry {
+        Entry::Ask {
+            caller,
+            request,
+            reply,
+        } => {
+            let request = request_words(alloc, request)?;
+            let reply = reply_words(alloc, *reply)?;
+            ask_line(alloc, *caller, request.as_str(), reply.as_str())
+        }
+        Entry::Pick {
+            block,
+            job,
+            taken,
+            ops,
+        } => {
+            let taken = taken_words(alloc, taken)?;
+            pick_line(alloc, *block, job_word(*job), taken.as_str(), *ops)
+        }
+        Entry::Wrote {
+            instance,
+            mark,
+            ops,
+        } => {
+            let words = instance_words(alloc, *instance, mark)?;
+            wrote_line(alloc, words.as_str(), *ops)
+        }
+        Entry::Post {
+            block,
+            result: outcome,
+            given,
+            refused,
+            ops,
+        } => {
+            let given = given_words(alloc, given)?;
+            let refused = refused_words(alloc, *refused)?;
+            post_line(
+                alloc,
+                *block,
+                result_code(*outcome),
+                given.as_str(),
+                refused.as_str(),
+                *ops,
+            )
+        }
+        Entry::Off { ops } => format!(in alloc; "off ops {ops}\n"),
+        Entry::Found { marks, ops } => {
+            let words = all_found_words(alloc, marks)?;
+            found_line(alloc, marks.len(), words.as_str(), *ops)
+        }
+    }
+}
+
+/// The line of an entry, with its newline.
+pub fn entry_text(alloc: Global, entry: &Entry) -> Result<Bytes, AllocError>
+    ensures { IfOk result (λ b. b ≡ entry_line entry.now) }
+{
+    let text = line(alloc, entry)?;
+    Ok(Bytes::from_vec(text.into_bytes()))
+}
+
+/// The last line of a history, with how many entries it has, and its newline.
+pub fn end_text(alloc: Global, count: u32) -> Result<Bytes, AllocError>
+    ensures { IfOk result (λ b. b ≡ end_line count) }
+{
+    let text = format!(in alloc; "end {count}\n")?;
+    Ok(Bytes::from_vec(text.into_bytes()))
+}
+
+#[cfg(test)]
+mod tests {
+    use super::*;
+    use nv_base::{JobKind, Refusal, Reply, ReqResult, Request, Taken, bytes_of};
+    use std::process::Abort;
+    use std::test::Fail;
+
+    fn ask(request: Request, reply: Reply) -> Entry {
+        Entry::Ask {
+            caller: 0,
+            request,
+            reply,
+        }
+    }
+
+    fn pick(job: JobKind, taken: Taken, ops: u64) -> Entry {
+        Entry::Pick {
+            block: 2,
+            job,
+            taken,
+            ops,
+        }
+    }
+
+    fn wrote(index: u8, mark: Mark) -> Entry {
+        Entry::Wrote {
+            instance: Instance { block: 2, index },
+            mark,
+            ops: 14,
+        }
+    }
+
+    fn post(outcome: ReqResult, given: Option<Bytes>, refused: u8) -> Entry {
+        Entry::Post {
+            block: 3,
+            result: outcome,
+            given,
+            refused,
+            ops: 0,
+        }
+    }
+
+    fn expect_lines(rt: &impl Abort, alloc: Global, cases: &[(Entry, &str)]) -> Result<(), Fail> {
+        for (entry, line) in cases {
+            let text = entry_text(alloc, entry)?;
+            assert_eq!(rt; text.as_slice(), line.as_bytes(), "{line}");
+        }
+        Ok(())
+    }
+
+    #[test]
+    fn lines_of_requests(rt: HostRuntime) -> Result<(), Fail> {
+        let alloc = rt.alloc();
+        let four = bytes_of(alloc, &[0x11, 0x22, 0x33, 0x44])?;
+        let write = Request::Write {
+            block: 2,
+            content: Some(four),
+            store: 0,
+        };
+        let stored = Request::Write {
+            block: 2,
+            content: None,
+            store: 1,
+        };
+        let ram = Request::PutRam {
+            block: 2,
+            content: bytes_of(alloc, &[0x5a; 976])?,
+        };
+        let switch = Request::SetRam { block: 2, on: true };
+        let index = Request::SetIndex { block: 2, index: 5 };
+        let status = Request::Status { block: 0 };
+        let bad_index = Reply::Refused(Refusal::BadIndex);
+        let canceled = Reply::StatusIs(ReqResult::Canceled);
+        let cases = [
+            (
+                ask(write, Reply::Accepted),
+                "ask 0 write 2 11223344 -> ok\n",
+            ),
+            (
+                ask(stored, Reply::Accepted),
+                "ask 0 writeram 2 store 1 -> ok\n",
+            ),
+            (ask(ram, Reply::Accepted), "ask 0 ram 2 5a*976 -> ok\n"),
+            (ask(switch, Reply::Accepted), "ask 0 setram 2 1 -> ok\n"),
+            (ask(index, bad_index), "ask 0 setindex 2 5 -> refused 4\n"),
+            (ask(status, canceled), "ask 0 status 0 -> status 6\n"),
+            (
+                ask(Request::ReadAll, Reply::IndexIs(2)),
+                "ask 0 readall -> index 2\n",
+            ),
+        ];
+        expect_lines(&rt, alloc, &cases)
+    }
+
+    #[test]
+    fn lines_of_jobs(rt: HostRuntime) -> Result<(), Fail> {
+        let alloc = rt.alloc();
+        let bytes = bytes_of(alloc, &[1, 2, 3, 4])?;
+        let stored = Taken::Content { bytes, store: 1 };
+        let bytes = bytes_of(alloc, &[0x99, 0xaa, 0xbb, 0xcc])?;
+        let taken = Taken::Content { bytes, store: 0 };
+        let refused = Taken::Refused { count: 2 };
+        let stale = Taken::Stale {
+            asked: 3,
+            got: 2,
+            count: 1,
+        };
+        let same = Mark::Content(bytes_of(alloc, &[0x0a; 4])?);
+        let given = Some(bytes_of(alloc, &[0xa5; 20])?);
+        let cases = [
+            (
+                pick(JobKind::Write, stored, 0),
+                "pick 2 write 01020304 store 1 ops 0\n",
+            ),
+            (
+                pick(JobKind::Write, taken, 11),
+                "pick 2 write 99aabbcc ops 11\n",
+            ),
+            (
+                pick(JobKind::Write, refused, 0),
+                "pick 2 write refused 2 ops 0\n",
+            ),
+            (
+                pick(JobKind::Write, stale, 7),
+                "pick 2 write stale 3 2 ops 7\n",
+            ),
+            (
+                pick(JobKind::Read, Taken::Nothing, 10),
+                "pick 2 read ops 10\n",
+            ),
+            (wrote(1, same), "wrote 2.1 data 0a0a0a0a ops 14\n"),
+            (wrote(0, Mark::Erased), "wrote 2.0 erased ops 14\n"),
+            (
+                post(ReqResult::Restored, given, 0),
+                "post 3 8 data a5*20 ops 0\n",
+            ),
+            (
+                post(ReqResult::NotOk, None, 1),
+                "post 3 1 refused 1 ops 0\n",
+            ),
+            (Entry::Off { ops: 14 }, "off ops 14\n"),
+        ];
+        expect_lines(&rt, alloc, &cases)
+    }
+
+    #[test]
+    fn lines_of_a_start_up_and_the_end(rt: HostRuntime) -> Result<(), Fail> {
+        let alloc = rt.alloc();
+        let mut marks = Marks::new(alloc);
+        let content = bytes_of(alloc, &[0x0b; 4])?;
+        marks.add(Instance { block: 2, index: 0 }, Mark::Content(content))?;
+        marks.add(Instance { block: 3, index: 1 }, Mark::Invalid)?;
+        let found = Entry::Found { marks, ops: 19 };
+        let cases = [(found, "found 2 2.0 data 0b0b0b0b 3.1 invalid ops 19\n")];
+        expect_lines(&rt, alloc, &cases)?;
+        let end = end_text(alloc, 8)?;
+        assert_eq!(rt; end.as_slice(), b"end 8\n".as_slice());
+        Ok(())
+    }
+}
