@@ -1,0 +1,5 @@
+pub mod BankLemmas
+pub mod Flash
+pub mod Lookup
+pub mod Numbers
+pub mod PlayLemmas

@@ -1,0 +1,12 @@
+use Rattle.std.proofs.Common.{ℕ, ◌≡◌, ◌+◌, ◌-◌, ◌*◌, ◌≤◌, length, take, drop, ap, ◌∙◌, arith, length-drop}
+use Rattle.std.proofs.lemmas.List.{length-take}
+use Rattle.nv_base.specs.Geometry.{size_of}
+use Rattle.nv_base.specs.declared.geometry.Geometry.{Geometry}
+use Rattle.fls_model.specs.Told.{Told}
+use Rattle.nvm_top.proofs.BankLemmas.{sector-inside, bank-inside}
+use Rattle.nvm_top.proofs.bank_device.read_bank.Goals as goal
+
+pub read-requires : goal.read-requires
+read-requires g c =
+    let same : (g.F.Flash.told c.loop-sector.flash).geometry ≡ c.args.geometry = ap (λ (t : Told). t.geometry) c.loop-sector.invariant ∙ c.requires.attached in
+    record { inside = rw same (omega (arith, length-take {A = ℕ}, sector-inside c.args.geometry c.loop-sector.sector c.loop-sector-test.true, bank-inside c.args.geometry)) }

@@ -1,0 +1,6 @@
+use Rattle.std.proofs.Common.{◌≤◌}
+use Rattle.nvm_top.proofs.play.run_steps.Given as goal
+
+-- the count of faults never falls
+abbrev pub invariant-loop-step : goal.invariant-loop-step
+invariant-loop-step g l = l.initial.stack.faults ≤ l.stack.faults

@@ -1,0 +1,14 @@
+-- The statuses of commands that stop.
+use Rattle.nvm_top.specs.declared.status.Status.{Status}
+use Rattle.nvm_top.specs.declared.status.Status.TheVariants as status
+use Rattle.nvm_top.specs.declared.stop.Stop.{Stop}
+use Rattle.nvm_top.specs.declared.stop.Stop.TheVariants.{ReadFault, Unbuilt, WrongSize, FlashFault, NoRoom, HistoryFull, Memory}
+
+abbrev pub status_of : Stop → Status
+status_of ReadFault = status.ReadFault
+status_of (Unbuilt line) = status.Unbuilt
+status_of (WrongSize found need) = status.WrongSize
+status_of FlashFault = status.FlashFault
+status_of NoRoom = status.NoRoom
+status_of HistoryFull = status.HistoryFull
+status_of Memory = status.Memory

@@ -1,0 +1,25 @@
+//! The commands of the program `nvm`: words, input, configuration and steps to lines of output and a status.
+//!
+//! It promises that each status has its cause: a fault status comes only where that object's count of faults rose,
+//! and nothing of the flash changes where a call stops before start-up. What the blocks and the flash do below it is
+//! left to the other crates; the program only makes the real input, output and flash.
+#![tactic(auto)]
+
+mod bank_device;
+mod commands;
+mod desk;
+mod first_steps;
+mod input;
+mod job;
+mod output;
+mod play;
+mod stack;
+mod status;
+mod stop;
+
+pub use commands::command;
+pub use play::play_command;
+pub use status::Status;
+
+#[cfg(test)]
+mod tests;

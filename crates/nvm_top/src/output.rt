@@ -1,0 +1,98 @@
+// Writing the lines of the output.
+ghost use Rattle.std.specs.Prelude.{◌≡◌, ◌≤◌, ◌⊎◌, Err, IfErr, OnOk};
+ghost use Rattle.nv_base.specs.Count.{Rose};
+ghost use Rattle.nvm_top.specs.Output.{fault_status};
+ghost use Rattle.nvm_top.specs.Stop.{status_of};
+
+use crate::Status;
+use crate::stop::Stop;
+use nv_base::{History, Sink, SinkAnswer};
+use nvm_script::{end_text, entry_text};
+use std::alloc::{AllocError, Global};
+
+/// Why the output wasn't written: a counted fault, or want of memory.
+#[derive(Clone, Copy, Debug, PartialEq, Eq)]
+pub enum OutputFault {
+    Failed,
+    Memory,
+}
+
+impl From<AllocError> for OutputFault {
+    ghost use Rattle.nvm_top.specs.declared.output.OutputFault.TheVariants.{Memory};
+
+    ghost from_gives = { λ _ fault. fault ≡ Memory };
+
+    fn from(_error: AllocError) -> OutputFault {
+        OutputFault::Memory
+    }
+}
+
+impl OutputFault {
+    /// The status that it gives.
+    pub fn status(self) -> Status
+        ensures { result ≡ fault_status self }
+    {
+        match self {
+            OutputFault::Failed => Status::WriteFault,
+            OutputFault::Memory => Status::Memory,
+        }
+    }
+}
+
+fn put_line<K: Sink>(output: &mut K, line: &[u8]) -> Result<(), OutputFault>
+    ensures ok { OnOk result (K.faults output.new ≡ K.faults output.old) }
+    ensures failed { IfErr result (λ fault. (fault ≡ OutputFault.Failed) × Rose (K.faults output.old) (K.faults output.new)) }
+{
+    match output.put(line) {
+        SinkAnswer::Done => Ok(()),
+        SinkAnswer::Failed => Err(OutputFault::Failed),
+    }
+}
+
+/// Writes the entries of a history, one line each.
+pub fn write_history<K: Sink>(
+    alloc: Global,
+    history: &History,
+    output: &mut K,
+) -> Result<(), OutputFault>
+    ensures ok { OnOk result (K.faults output.new ≡ K.faults output.old) }
+    ensures failed { IfErr result (λ fault. fault ≡ OutputFault.Failed → Rose (K.faults output.old) (K.faults output.new)) }
+{
+    for i in 0..history.len() {
+        if let Some(entry) = history.entry(i) {
+            let text = entry_text(alloc, entry)?;
+            put_line(output, text.as_slice())?;
+        }
+    }
+    Ok(())
+}
+
+/// Writes the last line of a whole history: how many entries it has.
+pub fn write_end<K: Sink>(
+    alloc: Global,
+    history: &History,
+    output: &mut K,
+) -> Result<(), OutputFault>
+    ensures ok { OnOk result (K.faults output.new ≡ K.faults output.old) }
+    ensures failed { IfErr result (λ fault. fault ≡ OutputFault.Failed → Rose (K.faults output.old) (K.faults output.new)) }
+{
+    let text = end_text(alloc, history.len())?;
+    put_line(output, text.as_slice())
+}
+
+/// Writes the line of a stop and gives its status, or the status of the fault in its place.
+pub fn report<K: Sink>(alloc: Global, stop: Stop, output: &mut K) -> Status
+    ensures status { (result ≡ status_of stop) ⊎ (result ≡ Status.Memory) ⊎ (result ≡ Status.WriteFault) }
+    ensures failed { result ≡ Status.WriteFault → Rose (K.faults output.old) (K.faults output.new) }
+{
+    if stop == Stop::Memory {
+        return Status::Memory;
+    }
+    let Ok(line) = stop.line(alloc) else {
+        return Status::Memory;
+    };
+    match put_line(output, line.as_bytes()) {
+        Ok(()) => stop.status(),
+        Err(fault) => fault.status(),
+    }
+}

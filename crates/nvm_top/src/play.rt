@@ -1,0 +1,204 @@
+// The command `play`: the steps of a person over one flash, with their history.
+ghost use Rattle.std.specs.Prelude.{◌≡◌, ◌≤◌, ℕ, Err, IfErr, OnOk};
+ghost use Rattle.std.specs.Io.KnownBytes.{IsAtEnd};
+ghost use Rattle.nv_base.specs.Count.{Rose};
+ghost use Rattle.nv_base.specs.Geometry.{IsLegal};
+ghost use Rattle.fls_model.specs.Told.{Told};
+ghost use Rattle.fls_model.specs.Attach.{IsAttach};
+ghost use Rattle.nvm_top.specs.Play.{IsWrongSize, IsBeforeStart, IsInputStop, IsAttachStop, IsRunStop, HasRunCause, IsPlayEnd, IsRunEnd};
+
+use crate::Status;
+use crate::bank_device::BankDevice;
+use crate::desk::AskFault;
+use crate::first_steps::{BLOCK, Step, StepsFault, first_steps};
+use crate::input::{InputFault, read_input};
+use crate::output::{report, write_end, write_history};
+use crate::stack::{Stack, Turned};
+use crate::stop::Stop;
+use block_config::demo;
+use fls_model::{AttachFault, Flash};
+use nv_base::{Geometry, History, Lengths, Reply, Sink, Source};
+use std::alloc::Global;
+
+/// The most entries of a history.
+const CAP: u32 = 100_000;
+
+/// Plays the steps of the input on the flash and writes their history: `mem play`, a first line `@demo`, and steps
+/// on block 2. Other words are `Unbuilt`, and no input is read then.
+pub fn play_command<S: Source, K: Sink, F: Flash>(
+    alloc: Global,
+    words: &[String],
+    input: &mut S,
+    output: &mut K,
+    flash: F,
+) -> (Status, F)
+    ensures read_fault { result.0 ≡ Status.ReadFault → Rose (S.faults input.old) (S.faults input.new) }
+    ensures write_fault { result.0 ≡ Status.WriteFault → Rose (K.faults output.old) (K.faults output.new) }
+    ensures flash_fault { result.0 ≡ Status.FlashFault → Rose (F.told flash).faults (F.told result.1).faults }
+    ensures wrong_size { result.0 ≡ Status.WrongSize → IsWrongSize 2048 (F.told flash).bytes }
+    ensures untouched { IsBeforeStart result.0 → F.told result.1 ≡ F.told flash }
+    ensures ended { result.0 ≡ Status.Ok → IsAtEnd (S.left input.new) }
+{
+    match read_steps(alloc, words, input) {
+        Ok(steps) => play_steps(alloc, &steps, output, flash),
+        Err(stop) => (report(alloc, stop, output), flash),
+    }
+}
+
+/// The steps of the input, where the words are `mem play`.
+fn read_steps<S: Source>(alloc: Global, words: &[String], input: &mut S) -> Result<Vec<Step>, Stop>
+    ensures ok { OnOk result (IsAtEnd (S.left input.new)) }
+    ensures err { IfErr result (IsInputStop (S.faults input.old) (S.faults input.new)) }
+{
+    if !is_play(words) {
+        return Err(Stop::Unbuilt { line: 0 });
+    }
+    let bytes = match read_input(alloc, input) {
+        Ok(bytes) => bytes,
+        Err(InputFault::Failed) => return Err(Stop::ReadFault),
+        Err(InputFault::TooLong) => return Err(Stop::Unbuilt { line: 0 }),
+        Err(InputFault::Memory) => return Err(Stop::Memory),
+    };
+    match first_steps(alloc, &bytes) {
+        Ok(steps) => Ok(steps),
+        Err(StepsFault::Unbuilt(line)) => Err(Stop::Unbuilt { line }),
+        Err(StepsFault::Memory) => Err(Stop::Memory),
+    }
+}
+
+fn is_play(words: &[String]) -> bool {
+    match words {
+        [image, command] => image.as_str() == "mem" && command.as_str() == "play",
+        _ => false,
+    }
+}
+
+fn play_steps<K: Sink, F: Flash>(
+    alloc: Global,
+    steps: &[Step],
+    output: &mut K,
+    flash: F,
+) -> (Status, F)
+    ensures end { IsPlayEnd 2048 (F.told flash) (F.told result.1) result.0 }
+    ensures write_fault { result.0 ≡ Status.WriteFault → Rose (K.faults output.old) (K.faults output.new) }
+{
+    let Ok(config) = demo(alloc) else {
+        return (Status::Memory, flash);
+    };
+    let Ok(numbers) = config.lengths(alloc) else {
+        return (Status::Memory, flash);
+    };
+    let geometry = config.geometry();
+    match BankDevice::make(alloc, flash, geometry, &numbers) {
+        Ok(device) => play_on(alloc, steps, output, device, numbers),
+        Err((fault, flash)) => (report(alloc, attach_stop(fault, geometry), output), flash),
+    }
+}
+
+fn attach_stop(fault: AttachFault, geometry: Geometry) -> Stop
+    requires { IsLegal geometry }
+    ensures { (s t : Told) → IsAttach geometry s (Err fault) t → IsAttachStop geometry s t result }
+{
+    match fault {
+        AttachFault::Failed => Stop::FlashFault,
+        AttachFault::WrongSize { found } => Stop::WrongSize {
+            found,
+            need: u64::from(geometry.sector) * u64::from(geometry.sectors),
+        },
+        AttachFault::Memory => Stop::Memory,
+    }
+}
+
+fn play_on<K: Sink, F: Flash>(
+    alloc: Global,
+    steps: &[Step],
+    output: &mut K,
+    device: BankDevice<F>,
+    numbers: Lengths,
+) -> (Status, F)
+    requires { numbers ≡ device.log.numbers }
+    ensures end { IsRunEnd device.told.faults (F.told result.1).faults result.0 }
+    ensures write_fault { result.0 ≡ Status.WriteFault → Rose (K.faults output.old) (K.faults output.new) }
+{
+    match Stack::start(alloc, device, numbers, CAP) {
+        Ok(mut stack) => {
+            let run = run_steps(alloc, steps, &mut stack);
+            let status = write_run(alloc, run, stack.history(), output);
+            (status, stack.into_flash())
+        }
+        Err((stop, flash)) => (report(alloc, stop, output), flash),
+    }
+}
+
+fn run_steps<F: Flash>(alloc: Global, steps: &[Step], stack: &mut Stack<F>) -> Result<(), Stop>
+    ensures cause { HasRunCause stack.old.faults stack.new.faults result }
+    ensures counts { stack.old.faults ≤ stack.new.faults }
+{
+    for step in steps {
+        run_step(alloc, step, stack)?;
+    }
+    Ok(())
+}
+
+fn run_step<F: Flash>(alloc: Global, step: &Step, stack: &mut Stack<F>) -> Result<(), Stop>
+    ensures cause { HasRunCause stack.old.faults stack.new.faults result }
+    ensures counts { stack.old.faults ≤ stack.new.faults }
+{
+    match step {
+        Step::Write(content) => answered(stack.ask_write(alloc, BLOCK, content.clone()?)),
+        Step::Read => answered(stack.ask_read(alloc, BLOCK)),
+        Step::Turn(count) => make_turns(stack, u64::from(*count)),
+        Step::Drain => make_turns(stack, u64::MAX),
+    }
+}
+
+fn answered(reply: Result<Reply, AskFault>) -> Result<(), Stop>
+    ensures { (before after : ℕ) → HasRunCause before after result }
+{
+    match reply {
+        Ok(_) => Ok(()),
+        Err(AskFault::NoRoom) => Err(Stop::HistoryFull),
+        Err(AskFault::Memory) => Err(Stop::Memory),
+    }
+}
+
+/// Makes so many turns, or fewer where nothing is left to do or the power is off.
+fn make_turns<F: Flash>(stack: &mut Stack<F>, most: u64) -> Result<(), Stop>
+    ensures cause { HasRunCause stack.old.faults stack.new.faults result }
+    ensures counts { stack.old.faults ≤ stack.new.faults }
+{
+    for _ in 0..most {
+        match stack.turn() {
+            Turned::Idle | Turned::Off => return Ok(()),
+            Turned::NoRoom => return Err(Stop::NoRoom),
+            Turned::Failed => return Err(Stop::FlashFault),
+            Turned::Worked | Turned::Picked | Turned::Posted => {}
+        }
+    }
+    Ok(())
+}
+
+/// Writes the history of a run, and then its end or why it stopped.
+fn write_run<K: Sink>(
+    alloc: Global,
+    run: Result<(), Stop>,
+    history: &History,
+    output: &mut K,
+) -> Status
+    ensures end { (before after : ℕ) → HasRunCause before after run → IsRunEnd before after result }
+    ensures write_fault { result ≡ Status.WriteFault → Rose (K.faults output.old) (K.faults output.new) }
+{
+    if run == Err(Stop::Memory) {
+        return Status::Memory;
+    }
+    if let Err(fault) = write_history(alloc, history, output) {
+        return fault.status();
+    }
+    match run {
+        Ok(()) => match write_end(alloc, history, output) {
+            Ok(()) => Status::Ok,
+            Err(fault) => fault.status(),
+        },
+        Err(stop) => report(alloc, stop, output),
+    }
+}

@@ -1,0 +1,59 @@
+// Why a command stops before its end.
+ghost use Rattle.std.specs.Prelude.{◌≡◌};
+ghost use Rattle.nvm_top.specs.Stop.{status_of};
+
+use crate::Status;
+use std::alloc::{AllocError, Global};
+
+/// Why a command stops: its input failed or isn't served, the flash failed or has a wrong size, a record or the
+/// history has no room, or want of memory.
+#[derive(Clone, Copy, Debug, PartialEq, Eq)]
+pub enum Stop {
+    ReadFault,
+    Unbuilt { line: u32 },
+    WrongSize { found: u64, need: u64 },
+    FlashFault,
+    NoRoom,
+    HistoryFull,
+    Memory,
+}
+
+impl From<AllocError> for Stop {
+    ghost use Rattle.nvm_top.specs.declared.stop.Stop.TheVariants.{Memory};
+
+    ghost from_gives = { λ _ stop. stop ≡ Memory };
+
+    fn from(_error: AllocError) -> Stop {
+        Stop::Memory
+    }
+}
+
+impl Stop {
+    /// The status that it gives.
+    pub fn status(self) -> Status
+        ensures { result ≡ status_of self }
+    {
+        match self {
+            Stop::ReadFault => Status::ReadFault,
+            Stop::Unbuilt { .. } => Status::Unbuilt,
+            Stop::WrongSize { .. } => Status::WrongSize,
+            Stop::FlashFault => Status::FlashFault,
+            Stop::NoRoom => Status::NoRoom,
+            Stop::HistoryFull => Status::HistoryFull,
+            Stop::Memory => Status::Memory,
+        }
+    }
+
+    /// The line that says so; none at want of memory.
+    pub fn line(self, alloc: Global) -> Result<String, AllocError> {
+        match self {
+            Stop::ReadFault => String::from_str(alloc, "input fault\n"),
+            Stop::Unbuilt { line } => format!(in alloc; "unbuilt {line}\n"),
+            Stop::WrongSize { found, need } => format!(in alloc; "size {found} {need}\n"),
+            Stop::FlashFault => String::from_str(alloc, "flash fault\n"),
+            Stop::NoRoom => String::from_str(alloc, "no room\n"),
+            Stop::HistoryFull => String::from_str(alloc, "history full\n"),
+            Stop::Memory => Ok(String::new(alloc)),
+        }
+    }
+}

@@ -1,0 +1,164 @@
+// Whole runs of `play` over input, output and flash in memory.
+use crate::play_command;
+use fls_model::mem_flash;
+use nv_base::{mem_sink, mem_source};
+use std::alloc::{AllocError, Global};
+use std::process::Abort;
+use std::test::Fail;
+
+/// One run: its name, its words, its input, the calls of input and output that fail, the bytes of the flash at the start, and
+/// what it writes and ends with.
+#[derive(Drop)]
+struct Case<'a> {
+    name: &'a str,
+    words: &'a [&'a str],
+    input: &'a str,
+    takes_fail: &'a [u64],
+    puts_fail: &'a [u64],
+    flash: &'a [u8],
+    output: &'a str,
+    status: u8,
+}
+
+/// A run of `mem play` over a blank flash in which nothing fails.
+fn plain<'a>(name: &'a str, input: &'a str, output: &'a str, status: u8) -> Case<'a> {
+    Case {
+        name,
+        words: &["mem", "play"],
+        input,
+        takes_fail: &[],
+        puts_fail: &[],
+        flash: &[],
+        output,
+        status,
+    }
+}
+
+fn strings(alloc: Global, words: &[&str]) -> Result<Vec<String>, AllocError> {
+    let mut list = Vec::new(alloc);
+    for word in words {
+        list.push(String::from_str(alloc, *word)?)?;
+    }
+    Ok(list)
+}
+
+fn check(rt: &impl Abort, alloc: Global, case: &Case<'_>) -> Result<(), AllocError> {
+    let name = case.name;
+    let words = strings(alloc, case.words)?;
+    let mut input = mem_source(alloc, case.input.as_bytes(), case.takes_fail)?;
+    let mut output = mem_sink(alloc, case.puts_fail)?;
+    let flash = mem_flash(alloc, case.flash, 0)?;
+    let (status, _flash) = play_command(alloc, &words, &mut input, &mut output, flash);
+    assert_eq!(rt;
+        output.bytes(),
+        case.output.as_bytes(),
+        "the output of {name}"
+    );
+    assert_eq!(rt; status.code(), case.status, "the status of {name}");
+    Ok(())
+}
+
+#[test]
+fn runs(rt: HostRuntime) -> Result<(), Fail> {
+    let cases = [
+        plain(
+            "write_then_read",
+            "@demo\nwrite 2 11223344\ndrain\nread 2\ndrain\n",
+            "found 0 ops 0\nask 0 write 2 11223344 -> ok\npick 2 write 11223344 ops 0\nwrote 2.0 data 11223344 ops 10\n\
+             post 2 0 ops 10\nask 0 read 2 -> ok\npick 2 read ops 10\npost 2 0 data 11223344 ops 10\nend 8\n",
+            0,
+        ),
+        plain("blank_start", "@demo\n", "found 0 ops 0\nend 1\n", 0),
+        plain(
+            "second_write_is_pending",
+            "@demo\nwrite 2 11223344\nwrite 2 55667788\ndrain\n",
+            "found 0 ops 0\nask 0 write 2 11223344 -> ok\nask 0 write 2 55667788 -> refused 11\n\
+             pick 2 write 11223344 ops 0\nwrote 2.0 data 11223344 ops 10\npost 2 0 ops 10\nend 6\n",
+            0,
+        ),
+        plain(
+            "last_line_without_newline",
+            "@demo\nwrite 2 1122",
+            "found 0 ops 0\nask 0 write 2 1122 -> refused 5\nend 2\n",
+            0,
+        ),
+        plain(
+            "read_blank",
+            "@demo\nread 2\ndrain\n",
+            "found 0 ops 0\nask 0 read 2 -> ok\npick 2 read ops 0\npost 2 3 ops 0\nend 4\n",
+            0,
+        ),
+        plain("no_first_line", "", "unbuilt 1\n", 12),
+        plain(
+            "other_block",
+            "@demo\r\n# a comment\n\nwrite 3 11\n",
+            "unbuilt 4\n",
+            12,
+        ),
+        plain(
+            "leading_zero",
+            "@demo\nturn 1\nturn 01\n",
+            "unbuilt 3\n",
+            12,
+        ),
+    ];
+    for case in &cases {
+        check(&rt, rt.alloc(), case)?;
+    }
+    Ok(())
+}
+
+#[test]
+fn stops(rt: HostRuntime) -> Result<(), Fail> {
+    let cases = [
+        Case {
+            puts_fail: &[2],
+            ..plain("output_fails", "@demo\n", "found 0 ops 0\n", 6)
+        },
+        Case {
+            takes_fail: &[1],
+            ..plain("input_fails", "@demo\n", "input fault\n", 5)
+        },
+        Case {
+            flash: &[255; 100],
+            ..plain("wrong_size", "@demo\n", "size 100 2048\n", 9)
+        },
+        Case {
+            words: &[],
+            ..plain("no_words", "@demo\n", "unbuilt 0\n", 12)
+        },
+    ];
+    for case in &cases {
+        check(&rt, rt.alloc(), case)?;
+    }
+    Ok(())
+}
+
+/// The lines of one write that is served, when so many operations were made before its end.
+fn write_lines(output: &mut String, before: u32, after: u32) -> Result<(), AllocError> {
+    write!(output, "ask 0 write 2 11223344 -> ok\n")?;
+    write!(output, "pick 2 write 11223344 ops {before}\n")?;
+    write!(
+        output,
+        "wrote 2.0 data 11223344 ops {after}\npost 2 0 ops {after}\n"
+    )
+}
+
+#[test]
+fn sixteen_writes_fill_the_bank(rt: HostRuntime) -> Result<(), Fail> {
+    let alloc = rt.alloc();
+    let mut input = String::from_str(alloc, "@demo\n")?;
+    let mut output = String::from_str(alloc, "found 0 ops 0\n")?;
+    let mut ops = 0;
+    for _ in 0..16 {
+        input.push_str("write 2 11223344\ndrain\n")?;
+    }
+    for after in [10, 14, 18, 22, 26, 30, 34, 38, 42, 46, 50, 54, 58, 62, 66] {
+        write_lines(&mut output, ops, after)?;
+        ops = after;
+    }
+    output.push_str("ask 0 write 2 11223344 -> ok\npick 2 write 11223344 ops 66\nno room\n")?;
+    let full = plain("sixteen_writes", input.as_str(), output.as_str(), 13);
+    check(&rt, alloc, &full)?;
+    Ok(())
+}
