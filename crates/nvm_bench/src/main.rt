@@ -1,0 +1,30 @@
+//! The program `nvm`: it makes the real input, output and flash, and runs the command of its words over them. All
+//! else is the commands'.
+#![tactic(auto)]
+
+use fls_model::mem_flash;
+use nv_base::{StdSink, StdSource};
+use nvm_top::{Status, command};
+use std::alloc::AllocError;
+use std::process::ExitCode;
+use std::{env, io};
+
+/// The words after the program's name.
+fn words(rt: &HostRuntime) -> io::Result<Vec<String>> {
+    let mut words = Vec::new(rt.alloc());
+    for word in env::args(rt)?.skip(1) {
+        words.push(word).map_err(AllocError::from)?;
+    }
+    Ok(words)
+}
+
+fn main(rt: HostRuntime) -> ExitCode {
+    let alloc = rt.alloc();
+    let (Ok(words), Ok(flash)) = (words(&rt), mem_flash(alloc, &[], 0)) else {
+        return ExitCode::from(Status::Memory.code());
+    };
+    let mut input = StdSource::make(rt.stdin());
+    let mut output = StdSink::make(rt.stdout());
+    let (status, _flash) = command(&rt, alloc, &words, &mut input, &mut output, flash);
+    ExitCode::from(status.code())
+}
