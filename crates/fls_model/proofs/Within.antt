@@ -1,7 +1,7 @@
 -- what a program and an erase leave is some that a cut may leave
-use Rattle.std.proofs.Common.{◌≡◌, ◌<◌, ◌≤◌, ℕ, zero, suc, ◌+◌, ◌%◌, List, [], ◌∷◌, ◌++◌, length, take, drop, replicate, get_or, refl, sym, ap, ◌∙◌, arith, append_assoc, length-append, length-drop, lit<}
+use Rattle.std.proofs.Common.{◌≡◌, ◌<◌, ◌≤◌, ℕ, zero, suc, ◌+◌, List, [], ◌∷◌, ◌++◌, length, take, drop, replicate, refl, ap, ◌∙◌, arith, append_assoc, length-append, length-drop, lit<}
 use Rattle.std.specs.Prelude.{bit_and}
-use Rattle.std.proofs.lemmas.List.{take_at, drop_at, length-take, length-take-le, length-replicate, get_or-drop}
+use Rattle.std.proofs.lemmas.List.{take_at, drop_at, length-take-le, length-replicate, get_or-drop}
 use Rattle.std.proofs.lemmas.Grind.{and_numeral}
 use Rattle.std.proofs.Math.Nat.{mod-eq_of_lt}
 use Rattle.fls_model.specs.Bytes.{piece, spliced, and_bytes, AreBytes, SameOutside, Grown}
@@ -29,7 +29,7 @@ and_full x lt = and_numeral x 254 refl ∙ mod-eq_of_lt lt
 grown_full : (n : ℕ) (old : List ℕ) → n ≤ length old → AreBytes old → Grown (take n old) (replicate n 255)
 grown_full zero old le small = tt
 grown_full (suc n) [] le small = absurd (omega arith)
-grown_full (suc n) (x ∷ xs) le small = (and_full x (small 0), lit< tt, grown_full n xs (omega arith) (λ k. small (suc k)))
+grown_full (suc n) (x ∷ xs) le small = (and_full x (small 0), λ h. lit< tt, grown_full n xs (omega arith) (λ k. small (suc k)))
 
 length-and_bytes : (old page : List ℕ) → length page ≤ length old → length (and_bytes old page) ≡ length old
 length-and_bytes [] [] le = refl

@@ -1,5 +1,5 @@
 -- Pieces of a list of bytes.
-use Rattle.std.specs.Prelude.{◌≡◌, ◌<◌, ◌≤◌, ◌+◌, ℕ, List, [], ◌∷◌, ◌++◌, length, get_or, take, drop, bit_and}
+use Rattle.std.specs.Prelude.{◌≡◌, ◌<◌, ◌+◌, ℕ, List, [], ◌∷◌, ◌++◌, length, get_or, take, drop, bit_and}
 
 -- n bytes from an address on
 abbrev pub piece : ℕ → ℕ → List ℕ → List ℕ
@@ -21,10 +21,10 @@ pub record SameOutside (address n : ℕ) (old new : List ℕ) : Type 0 where
   pub front : take address new ≡ take address old
   pub back : drop (address + n) new ≡ drop (address + n) old
 
--- each byte has the old one's bits and maybe more
+-- each byte has the bits of the old one and maybe more, and stays a byte
 abbrev pub Grown : List ℕ → List ℕ → Type 0
 Grown [] [] = Unit {0}
-Grown (x ∷ xs) (y ∷ ys) = (bit_and x y ≡ x) × (y < 256) × Grown xs ys
+Grown (x ∷ xs) (y ∷ ys) = (bit_and x y ≡ x) × (x < 256 → y < 256) × Grown xs ys
 Grown _ _ = ⊥
 
 -- numbers of eight bits

@@ -1,17 +1,20 @@
--- Operations as they are kept.
+-- Calls as they are kept.
 use Rattle.std.specs.Prelude.{ℕ, ◌+◌, ◌≤◌, length, take}
+use Rattle.nv_base.specs.declared.geometry.Geometry.{Geometry}
 use Rattle.fls_model.specs.declared.call.Call.{Call}
 use Rattle.fls_model.specs.declared.call.Call.TheVariants.{Page, Sector}
 use Rattle.fls_model.specs.Op.{Op, Program, Erase}
+use Rattle.fls_model.specs.Step.{erases}
 
-abbrev pub op_of : Call → Op
-op_of (Page address n page) = Program address (take n page)
-op_of (Sector address n) = Erase address n
+-- the operation that it asks for
+abbrev pub op_of : Geometry → Call → Op
+op_of g (Page address n page) = Program address (take n page)
+op_of g (Sector sector) = erases g sector
 
 -- a page of at most 256 bytes
 abbrev pub IsCall : Call → Type 0
 IsCall (Page address n page) = n ≤ 256
-IsCall (Sector address n) = Unit {0}
+IsCall (Sector sector) = Unit {0}
 
 -- an operation lies within so many bytes
 abbrev pub IsInside : Op → ℕ → Type 0

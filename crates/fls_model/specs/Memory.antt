@@ -1,5 +1,5 @@
 -- A flash in memory, as contracts see it.
-use Rattle.std.specs.Prelude.{◌≡◌, ◌↔◌, ◌≤◌, ℕ, List, [], length, IsSome, false, Some}
+use Rattle.std.specs.Prelude.{◌≡◌, ◌↔◌, ◌≤◌, ℕ, List, [], IsSome, false, Some}
 use Rattle.nv_base.specs.Count.{next_count}
 use Rattle.fls_model.specs.Told.{Told}
 

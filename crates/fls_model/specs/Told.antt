@@ -43,6 +43,7 @@ pub record HasRange (t : Told) (address n : ℕ) : Type 0 where
 pub record HasPage (t : Told) (address n : ℕ) : Type 0 where
   pub attached : 0 < t.geometry.page
   pub page : n ≡ t.geometry.page
+  pub small : n ≤ 256
   pub aligned : address % t.geometry.page ≡ 0
   pub inside : address + n ≤ size_of t.geometry
 

@@ -1,11 +1,11 @@
-// A changing operation as it was asked for.
-ghost use Rattle.std.specs.Prelude.{◌≡◌, ◌≤◌, length};
+// A call of a changing operation.
+ghost use Rattle.std.specs.Prelude.{◌≡◌, ◌≤◌, ℕ, length};
+ghost use Rattle.nv_base.specs.declared.geometry.Geometry.{Geometry};
 ghost use Rattle.fls_model.specs.Call.{op_of, IsCall};
-ghost use Rattle.fls_model.specs.Op.{Erase};
 ghost use Rattle.fls_model.specs.Step.{programs};
 
-/// A changing operation in memory of its own: a program of the first bytes of `page`, or an erase. Addresses and
-/// lengths are in bytes.
+/// A call of a changing operation, in memory of its own: a program of the first `length` bytes of `page`, or an erase
+/// of a sector by its number.
 #[derive(Clone, Copy)]
 pub enum Call {
     Page {
@@ -14,15 +14,14 @@ pub enum Call {
         page: [u8; 256],
     },
     Sector {
-        address: u32,
-        length: u32,
+        sector: u32,
     },
 }
 
 /// A program of a page.
 pub fn program_call(address: u32, page: &[u8]) -> Call
     requires { length page.now ≤ 256 }
-    ensures op { op_of result ≡ programs address page.now }
+    ensures op { (g : Geometry) → op_of g result ≡ programs address page.now }
     ensures call { IsCall result }
 {
     let mut copy = [0; 256];
@@ -33,12 +32,4 @@ pub fn program_call(address: u32, page: &[u8]) -> Call
         length: length as u32,
         page: copy,
     }
-}
-
-/// An erase of a sector.
-pub fn erase_call(address: u32, length: u32) -> Call
-    ensures op { op_of result ≡ Erase address length }
-    ensures call { IsCall result }
-{
-    Call::Sector { address, length }
 }

@@ -8,7 +8,9 @@ mod call;
 mod flash;
 mod memory;
 mod range;
+mod worked;
 
-pub use call::{Call, erase_call, program_call};
+pub use call::{Call, program_call};
 pub use flash::{AttachFault, Flash, FlashAnswer};
 pub use memory::{MemFlash, mem_flash};
+pub use worked::worked_cases;

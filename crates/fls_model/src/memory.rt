@@ -9,7 +9,7 @@ ghost use Rattle.fls_model.specs.Attach.{IsAttach, IsAttached, IfTold, HasSize, 
 ghost use Rattle.fls_model.specs.Call.{op_of, IsCall, IsInside};
 ghost use Rattle.fls_model.specs.Memory.{in_memory, IsAskedOnce, IsBegun};
 
-use crate::call::{Call, erase_call, program_call};
+use crate::call::{Call, program_call};
 use crate::range::{erase_range, program_range};
 use crate::{AttachFault, Flash, FlashAnswer};
 use nv_base::Geometry;
@@ -65,10 +65,7 @@ pub fn mem_flash(alloc: Global, bytes: &[u8], calls: u32) -> Result<MemFlash, Al
 fn room_for(alloc: Global, calls: u32) -> Result<Vec<Call>, AllocError>
     ensures { IfOk result (λ v. length v.items ≡ calls) }
 {
-    let none = Call::Sector {
-        address: 0,
-        length: 0,
-    };
+    let none = Call::Sector { sector: 0 };
     vec![in alloc; none; calls as usize]
 }
 
@@ -93,11 +90,11 @@ fn enlarge(bytes: &mut Vec<u8>, size: usize) -> Result<(), AllocError>
     Ok(())
 }
 
-fn apply(bytes: &mut Vec<u8>, call: &Call)
+fn apply(bytes: &mut Vec<u8>, geometry: Geometry, call: &Call)
     requires call { IsCall call.now }
-    requires inside { IsInside (op_of call.now) (length bytes.old.items) }
-    ensures done { bytes.new.items ≡ after_op (op_of call.now) bytes.old.items }
-    ensures within { MayLeave (op_of call.now) bytes.old.items bytes.new.items }
+    requires inside { IsInside (op_of geometry call.now) (length bytes.old.items) }
+    ensures done { bytes.new.items ≡ after_op (op_of geometry call.now) bytes.old.items }
+    ensures within { MayLeave (op_of geometry call.now) bytes.old.items bytes.new.items }
     ensures size { length bytes.new.items ≡ length bytes.old.items }
 {
     match call {
@@ -106,8 +103,9 @@ fn apply(bytes: &mut Vec<u8>, call: &Call)
             length,
             page,
         } => program_range(bytes, *address as usize, &page[..*length as usize]),
-        Call::Sector { address, length } => {
-            erase_range(bytes, *address as usize, *length as usize)
+        Call::Sector { sector } => {
+            let length = geometry.sector as usize;
+            erase_range(bytes, *sector as usize * length, length)
         }
     }
 }
@@ -155,11 +153,11 @@ impl MemFlash {
     fn change(&mut self, call: Call)
         requires attached { 0 < self.old.told.geometry.page }
         requires call { IsCall call }
-        requires inside { IsInside (op_of call) (size_of self.old.told.geometry) }
-        ensures step { IsStep (op_of call) self.old.told FlashAnswer.Done self.new.told }
+        requires inside { IsInside (op_of self.old.told.geometry call) (size_of self.old.told.geometry) }
+        ensures step { IsStep (op_of self.old.told.geometry call) self.old.told FlashAnswer.Done self.new.told }
         ensures asked { IsAskedOnce self.old self.new }
     {
-        apply(&mut self.bytes, &call);
+        apply(&mut self.bytes, self.geometry, &call);
         note(&mut self.calls, self.asked, call);
         self.asked = self.asked.saturating_add(1);
         self.ops = self.ops.saturating_add(1);
@@ -227,8 +225,8 @@ impl Flash for MemFlash {
         ensures done { result ≡ FlashAnswer.Done }
         ensures asked { IsAskedOnce self.old self.new }
     {
-        let size = self.geometry.sector;
-        self.change(erase_call(sector * size, size));
+        let _geometry = self.geometry;
+        self.change(Call::Sector { sector });
         FlashAnswer::Done
     }
 }
@@ -259,6 +257,8 @@ mod tests {
         let mut flash = mem_flash(rt.alloc(), &[], 2)?;
         let attached = flash.attach(rt.alloc(), SMALLEST);
         assert!(rt; attached.is_ok());
+        flash.power_on();
+        flash.arm(1, 0);
         flash.program(16, &[0x0f; 16]);
         flash.program(16, &[0x3c; 16]);
         flash.program(64, &[0; 16]);

@@ -1,0 +1,14 @@
+// Worked cases of the definitions.
+ghost use Rattle.std.specs.Prelude.{◌≡◌, [], ◌∷◌};
+ghost use Rattle.fls_model.specs.Op.{after_op, MayLeave, Program, Erase};
+
+/// Worked cases of what operations do, and of what a cut may and may not leave.
+pub fn worked_cases()
+    ensures clears_bits { after_op (Program 1 (12 ∷ 10 ∷ [])) (255 ∷ 10 ∷ 7 ∷ 1 ∷ []) ≡ 255 ∷ 8 ∷ 2 ∷ 1 ∷ [] }
+    ensures clears_more { after_op (Program 0 (60 ∷ [])) (after_op (Program 0 (15 ∷ [])) (255 ∷ [])) ≡ 12 ∷ [] }
+    ensures sets_all_bits { after_op (Erase 1 2) (1 ∷ 2 ∷ 3 ∷ 4 ∷ []) ≡ 1 ∷ 255 ∷ 255 ∷ 4 ∷ [] }
+    ensures torn_program { MayLeave (Program 1 (0 ∷ [])) (255 ∷ 255 ∷ []) (255 ∷ 77 ∷ []) }
+    ensures torn_erase { MayLeave (Erase 0 1) (12 ∷ 5 ∷ []) (13 ∷ 5 ∷ []) }
+    ensures no_bit_cleared { ¬ MayLeave (Erase 0 1) (12 ∷ []) (8 ∷ []) }
+    ensures no_byte_beside { ¬ MayLeave (Program 0 (0 ∷ [])) (12 ∷ 5 ∷ []) (0 ∷ 4 ∷ []) }
+{}
