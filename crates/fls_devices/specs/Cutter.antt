@@ -1,0 +1,46 @@
+-- A flash whose power is cut on purpose.
+use Rattle.std.specs.Prelude.{◌≡◌, ◌-◌, ℕ, Bool, true, false, Option, Some, None, nat_le, ◌&&◌, if◌then◌else◌}
+use Rattle.fls_model.specs.declared.flash.FlashAnswer.{FlashAnswer}
+use Rattle.fls_model.specs.declared.flash.FlashAnswer.TheVariants.{Off}
+use Rattle.fls_model.specs.Told.{Told}
+use Rattle.fls_model.specs.Op.{Op}
+use Rattle.fls_devices.specs.declared.part.Harm.TheVariants.{Cut}
+use Rattle.fls_devices.specs.declared.cutter.Plan.{Plan}
+use Rattle.fls_devices.specs.Journal.{empty_journal}
+use Rattle.fls_devices.specs.Overlay.{Overlaid, overlaid, IsPassed, IsHarmed}
+
+-- the flash that it cuts, the plan that stands, and how many plans it takes yet
+pub record Cutting : Type 0 where
+  pub flash : Overlaid
+  pub plan : Option Plan
+  pub arms : ℕ
+
+-- a new one, of at most so many cuts
+abbrev pub cutting : Told → ℕ → Cutting
+cutting inner cuts = record { flash = overlaid inner (empty_journal cuts); plan = None; arms = cuts }
+
+-- how many bytes of the operation that comes now are done, where it is to be cut
+abbrev pub due : Bool → Option Plan → Option ℕ
+due true plan = None
+due false None = None
+due false (Some p) = if nat_le p.left 1 then Some p.keep else None
+
+-- the plan behind it
+abbrev pub plan_after : Bool → Option Plan → Option Plan
+plan_after true plan = plan
+plan_after false None = None
+plan_after false (Some p) = if nat_le p.left 1 then None else Some (record p { left = p.left - 1 })
+
+abbrev pub CutOrPassed : Option ℕ → Op → Overlaid → FlashAnswer → Overlaid → Type 0
+CutOrPassed (Some keep) op old answer new = (answer ≡ Off) × IsHarmed Cut keep op old answer new
+CutOrPassed None op old answer new = IsPassed op old answer new
+
+-- the operation that is due is cut, every other one is handed to the inner flash
+pub record IsCutOrPassed (op : Op) (old : Cutting) (answer : FlashAnswer) (new : Cutting) : Type 0 where
+  pub flash : CutOrPassed (due old.flash.off old.plan) op old.flash answer new.flash
+  pub plan : new.plan ≡ plan_after old.flash.off old.plan
+  pub arms : new.arms ≡ old.arms
+
+-- a plan while it takes plans, else nothing
+abbrev pub armed : ℕ → ℕ → Cutting → Cutting
+armed nth keep c = if nat_le 1 nth && nat_le 1 c.arms then record c { plan = Some (record { left = nth; keep = keep }); arms = c.arms - 1 } else c

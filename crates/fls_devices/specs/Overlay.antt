@@ -1,0 +1,101 @@
+-- A flash over another one.
+use Rattle.std.specs.Prelude.{◌≡◌, ◌<◌, ◌+◌, ℕ, Bool, true, false, List, [], ◌∷◌, length, min, nat_eq, Option, Some, None, Result, Ok, Err}
+use Rattle.nv_base.specs.Count.{last_count, next_count}
+use Rattle.fls_model.specs.declared.flash.FlashAnswer.{FlashAnswer}
+use Rattle.fls_model.specs.declared.flash.FlashAnswer.TheVariants.{Done, Off}
+use Rattle.fls_model.specs.Told.{Told, Change}
+use Rattle.fls_model.specs.Op.{Op}
+use Rattle.fls_model.specs.Step.{IsStep}
+use Rattle.fls_devices.specs.declared.journal.Event.{Event}
+use Rattle.fls_devices.specs.declared.part.Harm.{Harm}
+use Rattle.fls_devices.specs.Journal.{Journaled, all_changes, Clears, Passes, AddsOf}
+use Rattle.fls_devices.specs.Part.{part_of, harmed, cuts_after, faults_after, off_of}
+
+-- what the inner flash tells, whether a cut stands, the cuts and faults of its own, the operations that were kept
+-- from the inner flash, and the events
+pub record Overlaid : Type 0 where
+  pub inner : Told
+  pub off : Bool
+  pub cuts : ℕ
+  pub faults : ℕ
+  pub withheld : ℕ
+  pub journal : Journaled
+
+-- what is told of it
+abbrev pub told_over : Overlaid → Told
+told_over o = record {
+  geometry = o.inner.geometry;
+  bytes = o.inner.bytes;
+  ops = min (o.inner.ops + o.withheld) last_count;
+  faults = o.inner.faults + o.faults;
+  cuts = o.inner.cuts + o.cuts;
+  off = o.off;
+  changes = all_changes o.journal.kept o.inner.geometry o.journal.events o.inner.bytes o.inner.changes;
+}
+
+-- how many changes of the inner flash these events and what stands between them take
+abbrev pub reached_count : Bool → ℕ
+reached_count true = 1
+reached_count false = 0
+
+abbrev pub span : List Event → ℕ
+span [] = 0
+span (e ∷ es) = e.since + reached_count e.reached + span es
+
+abbrev pub FitsChanges : Journaled → Option (List Change) → Type 0
+FitsChanges j (Some changes) = length changes ≡ span j.events + j.since
+FitsChanges j None = Unit {0}
+
+-- where no cut stands none stands in the inner flash, and the events fit its changes
+pub record IsOverlaid (o : Overlaid) : Type 0 where
+  pub power : o.off ≡ false → o.inner.off ≡ false
+  pub fits : o.journal.kept ≡ true → FitsChanges o.journal o.inner.changes
+
+-- an operation is handed to the inner flash as it is
+pub record IsHandedOn (op : Op) (old : Overlaid) (answer : FlashAnswer) (new : Overlaid) : Type 0 where
+  pub step : IsStep op old.inner answer new.inner
+  pub passes : Passes old.journal new.journal
+  pub same : new ≡ record old { inner = new.inner; off = off_of answer; journal = new.journal }
+
+abbrev pub OffOrHandedOn : Bool → Op → Overlaid → FlashAnswer → Overlaid → Type 0
+OffOrHandedOn true op old answer new = (answer ≡ Off) × (new ≡ old)
+OffOrHandedOn false op old answer new = IsHandedOn op old answer new
+
+-- while a cut stands nothing happens
+abbrev pub IsPassed : Op → Overlaid → FlashAnswer → Overlaid → Type 0
+IsPassed op old answer new = OffOrHandedOn old.off op old answer new
+
+-- an operation is cut or fails, and nothing of it reaches the inner flash
+pub record IsWithheld (harm : Harm) (op : Op) (old : Overlaid) (answer : FlashAnswer) (new : Overlaid) : Type 0 where
+  pub answer_is : answer ≡ harmed harm Done
+  pub journal : AddsOf old.inner.geometry op false answer old.journal new.journal
+  pub same : new ≡ record { inner = old.inner; off = off_of answer; cuts = cuts_after harm old.cuts; faults = faults_after harm old.faults; withheld = next_count old.withheld; journal = new.journal }
+
+-- an operation is cut or fails, and the inner flash is asked for its part
+pub record IsPartDone (harm : Harm) (keep : ℕ) (op : Op) (old : Overlaid) (answer : FlashAnswer) (new : Overlaid) : Type 0 where
+  pub inner : FlashAnswer
+  pub part : IsStep (part_of keep op) old.inner inner new.inner
+  pub answer_is : answer ≡ harmed harm inner
+  pub journal : AddsOf old.inner.geometry op true answer old.journal new.journal
+  pub same : new ≡ record { inner = new.inner; off = off_of answer; cuts = cuts_after harm old.cuts; faults = faults_after harm old.faults; withheld = old.withheld; journal = new.journal }
+
+-- of 0 bytes nothing is done, else a part
+abbrev pub WithheldOrPart : Bool → Harm → ℕ → Op → Overlaid → FlashAnswer → Overlaid → Type 0
+WithheldOrPart true harm keep op old answer new = IsWithheld harm op old answer new
+WithheldOrPart false harm keep op old answer new = IsPartDone harm keep op old answer new
+
+abbrev pub IsHarmed : Harm → ℕ → Op → Overlaid → FlashAnswer → Overlaid → Type 0
+IsHarmed harm keep op old answer new = WithheldOrPart (nat_eq keep 0) harm keep op old answer new
+
+-- an attach of the inner flash begins the journal
+abbrev pub JournalAfter : {A E : Type 0} → Result A E → Journaled → Journaled → Type 0
+JournalAfter (Ok _) old new = Clears old new
+JournalAfter (Err _) old new = new ≡ old
+
+-- a new one, with the power on
+abbrev pub overlaid : Told → Journaled → Overlaid
+overlaid inner journal = record { inner = record inner { off = false }; off = false; cuts = 0; faults = 0; withheld = 0; journal = journal }
+
+-- the list of all changes stays told where the inner flash tells its own
+abbrev pub TellsOn : Overlaid → Overlaid → Type 0
+TellsOn old new = old.journal.since < last_count → new.journal.kept ≡ old.journal.kept

@@ -1,0 +1,19 @@
+//! Flashes over a flash: power cuts on purpose, and scripted faults.
+//!
+//! It promises which operation is cut or fails and what it leaves, over any flash and in any order, and the list of
+//! all changes where the inner flash tells its own. What a flash is stands in `fls_model`.
+#![tactic(auto)]
+
+mod cutter;
+mod fault_script;
+mod journal;
+mod overlay;
+mod part;
+
+pub use cutter::{Cutter, Plan};
+pub use fault_script::FaultScript;
+pub use journal::Event;
+pub use part::Harm;
+
+#[cfg(test)]
+mod tests;
