@@ -1,0 +1,26 @@
+-- Whether a job is taken.
+use Rattle.std.specs.Prelude.{◌≡◌, ℕ, true, false, Result, Ok, Err, None, IsSome}
+use Rattle.fls_jobs.specs.declared.answer.FlsRefusal.{FlsRefusal}
+use Rattle.fls_jobs.specs.declared.answer.FlsRefusal.TheVariants.{Busy, Uninit, BadAddress, BadLength}
+use Rattle.fls_jobs.specs.declared.reach.Reach.{Reach}
+use Rattle.fls_jobs.specs.Reach.{IsPlace, IsLength}
+use Rattle.fls_jobs.specs.State.{FlsState}
+
+-- no job is open, the flash is attached, and a job of this reach may begin there and have this length
+pub record CanStart (s : FlsState) (r : Reach) (at n : ℕ) : Type 0 where
+  pub idle : s.job ≡ None
+  pub attached : s.attached ≡ true
+  pub place : IsPlace r at
+  pub length : IsLength r at n
+
+-- the first refusal that holds
+abbrev pub IsRefusal : FlsState → Reach → ℕ → ℕ → FlsRefusal → Type 0
+IsRefusal s r at n Busy = IsSome s.job
+IsRefusal s r at n Uninit = (s.job ≡ None) × (s.attached ≡ false)
+IsRefusal s r at n BadAddress = (s.job ≡ None) × (s.attached ≡ true) × ¬ IsPlace r at
+IsRefusal s r at n BadLength = (s.job ≡ None) × (s.attached ≡ true) × IsPlace r at × ¬ IsLength r at n
+
+-- the answer to a start
+abbrev pub IsAnswer : FlsState → Reach → ℕ → ℕ → Result (Unit {0}) FlsRefusal → Type 0
+IsAnswer s r at n (Ok _) = CanStart s r at n
+IsAnswer s r at n (Err refusal) = IsRefusal s r at n refusal

@@ -1,0 +1,39 @@
+-- The driver as contracts see it.
+use Rattle.std.specs.Prelude.{◌≡◌, ◌≢◌, Bool, true, false, if◌then◌else◌, Option, Some, None, is_some}
+use Rattle.nv_base.specs.declared.geometry.Geometry.{Geometry}
+use Rattle.nv_base.specs.Geometry.{IsLegal}
+use Rattle.fls_model.specs.Told.{Told}
+use Rattle.fls_jobs.specs.declared.answer.FlsResult.{FlsResult}
+use Rattle.fls_jobs.specs.declared.answer.FlsResult.TheVariants.{JobOk, JobPending}
+use Rattle.fls_jobs.specs.declared.answer.FlsStatus.{FlsStatus}
+use Rattle.fls_jobs.specs.declared.answer.FlsStatus.TheVariants.{Uninit, Idle, Busy}
+use Rattle.fls_jobs.specs.declared.job.FlsJob.{FlsJob}
+use Rattle.fls_jobs.specs.Job.{IsJobIn}
+
+pub record FlsState : Type 0 where
+  -- what is told of the flash
+  pub flash : Told
+  pub geometry : Geometry
+  pub attached : Bool
+  -- the open job, with what it has left to do
+  pub job : Option FlsJob
+  -- what the last job came to
+  pub result : FlsResult
+
+-- a driver that was just made
+abbrev pub just_made : Told → Geometry → FlsState
+just_made flash g = record { flash = flash; geometry = g; attached = false; job = None; result = JobOk }
+
+abbrev pub status_of : FlsState → FlsStatus
+status_of s = if is_some s.job then Busy else (if s.attached then Idle else Uninit)
+
+-- WHAT HOLDS OF EACH DRIVER
+-- an open job is pending and lies in the attached flash; no other is pending
+abbrev pub IsSoundJob : FlsState → Option FlsJob → Type 0
+IsSoundJob s None = s.result ≢ JobPending
+IsSoundJob s (Some j) = (s.result ≡ JobPending) × (s.attached ≡ true) × IsJobIn s.geometry j
+
+pub record IsSound (s : FlsState) : Type 0 where
+  pub legal : IsLegal s.geometry
+  pub attached : s.attached ≡ true → s.flash.geometry ≡ s.geometry
+  pub job : IsSoundJob s s.job

@@ -1,0 +1,124 @@
+// A driver of a flash in memory of the smallest geometry.
+ghost use Rattle.std.specs.Prelude.{◌≤◌, OnOk, length};
+ghost use Rattle.fls_jobs.specs.Turn.{TakesInto};
+
+use crate::{Fls, FlsRefusal, FlsResult, FlsStatus};
+use fls_model::{MemFlash, mem_flash};
+use nv_base::Geometry;
+use std::alloc::{AllocError, Global};
+use std::test::Fail;
+
+const SMALLEST: Geometry = Geometry {
+    page: 16,
+    sector: 64,
+    sectors: 2,
+};
+
+#[derive(Clone, Copy, Debug)]
+enum Kind {
+    Read,
+    Write,
+    Erase,
+    Compare,
+    BlankCheck,
+}
+
+fn attached(alloc: Global) -> Result<Fls<MemFlash>, AllocError> {
+    let mut fls = Fls::make(mem_flash(alloc, &[], 0)?, SMALLEST);
+    match fls.attach(alloc) {
+        Ok(()) => {
+            fls.arm(1, 0);
+            fls.power_on();
+            Ok(fls)
+        }
+        Err(_) => Err(AllocError),
+    }
+}
+
+fn start(fls: &mut Fls<MemFlash>, kind: Kind, at: u32, content: &[u8]) -> Result<(), FlsRefusal>
+    requires { length content.now ≤ 129 }
+    ensures { OnOk result (TakesInto fls.new.job (length content.now)) }
+{
+    let count = content.len() as u32;
+    match kind {
+        Kind::Read => fls.start_read(at, count),
+        Kind::Write => fls.start_write(at, content),
+        Kind::Erase => fls.start_erase(at, count),
+        Kind::Compare => fls.start_compare(at, content),
+        Kind::BlankCheck => fls.start_blank_check(at, count),
+    }
+}
+
+#[test]
+fn refuses_by_numbers(rt: HostRuntime) -> Result<(), Fail> {
+    let mut fls = attached(rt.alloc())?;
+    let bytes = [0x3c; 129];
+    let address = FlsRefusal::BadAddress;
+    let length = FlsRefusal::BadLength;
+    for (kind, at, count, want) in [
+        (Kind::Read, 128, 0, address),
+        (Kind::Read, 0, 0, length),
+        (Kind::Read, 0, 129, length),
+        (Kind::Write, 8, 16, address),
+        (Kind::Write, 0, 15, length),
+        (Kind::Write, 0, 32, length),
+        (Kind::Erase, 2, 1, address),
+        (Kind::Erase, 1, 2, length),
+        (Kind::Compare, 128, 1, address),
+        (Kind::Compare, 0, 17, length),
+        (Kind::Compare, 127, 2, length),
+        (Kind::BlankCheck, 128, 1, address),
+        (Kind::BlankCheck, 127, 2, length),
+    ] {
+        let answer = start(&mut fls, kind, at, &bytes[..count.min(129)]);
+        assert_eq!(rt; answer, Err(want), "{kind:?} at {at}");
+    }
+    Ok(())
+}
+
+#[test]
+fn refuses_by_state(rt: HostRuntime) -> Result<(), Fail> {
+    let mut fls = Fls::make(mem_flash(rt.alloc(), &[], 0)?, SMALLEST);
+    assert_eq!(rt; fls.status(), FlsStatus::Uninit);
+    assert_eq!(rt; fls.start_read(128, 0), Err(FlsRefusal::Uninit));
+    let mut fls = attached(rt.alloc())?;
+    assert_eq!(rt; fls.status(), FlsStatus::Idle);
+    assert_eq!(rt; fls.start_erase(0, 2), Ok(()));
+    assert_eq!(rt; fls.status(), FlsStatus::Busy);
+    assert_eq!(rt; fls.start_read(128, 0), Err(FlsRefusal::Busy));
+    fls.cancel();
+    assert_eq!(rt; fls.result(), FlsResult::JobCanceled);
+    Ok(())
+}
+
+// One turn of a job, and what it came to. A read and a blank check take their bytes into `into`.
+fn one_turn(fls: &mut Fls<MemFlash>, kind: Kind, at: u32, into: &mut [u8]) -> FlsResult
+    requires { length into.old ≤ 129 }
+{
+    if start(fls, kind, at, into).is_ok() {
+        fls.turn(into);
+    }
+    fls.result()
+}
+
+#[test]
+fn does_jobs_of_each_kind(rt: HostRuntime) -> Result<(), Fail> {
+    let mut fls = attached(rt.alloc())?;
+    let mut bytes = [0x3c; 16];
+    for (kind, at, count, want) in [
+        (Kind::Write, 16, 16, FlsResult::JobOk),
+        (Kind::Compare, 16, 16, FlsResult::JobOk),
+        (Kind::Compare, 15, 2, FlsResult::Differs),
+        (Kind::Read, 14, 4, FlsResult::JobOk),
+        (Kind::BlankCheck, 0, 16, FlsResult::JobOk),
+        (Kind::BlankCheck, 1, 16, FlsResult::Differs),
+        (Kind::Erase, 0, 1, FlsResult::JobOk),
+        (Kind::BlankCheck, 1, 16, FlsResult::JobOk),
+        (Kind::Erase, 0, 2, FlsResult::JobPending),
+    ] {
+        let result = one_turn(&mut fls, kind, at, &mut bytes[..count.min(16)]);
+        assert_eq!(rt; result, want, "{kind:?} at {at}");
+    }
+    assert_eq!(rt; fls.into_flash().bytes().len(), 128);
+    Ok(())
+}
