@@ -56,6 +56,7 @@ pub has_page : (t : Told) (g : Geometry) (bank q : ℕ) → t.geometry ≡ g →
 has_page t g bank q is legal two lt = record {
   attached = rw is (omega (arith, legal.page_low));
   page = ap (λ (x : Geometry). x.page) (sym is);
+  small = omega (arith, legal.page_high);
   aligned = rw is (mul-mod_left (bank * bank_pages_of g + q) g.page);
   inside = rw is (page_inside g bank q legal two lt);
 }
