@@ -1,0 +1,4 @@
+pub mod FailedSets
+pub mod HistoryLaws
+pub mod Runs
+pub mod WrongWalks

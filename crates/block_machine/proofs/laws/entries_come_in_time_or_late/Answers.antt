@@ -1,0 +1,8 @@
+use Rattle.block_machine.proofs.HistoryLaws as law
+use Rattle.block_machine.proofs.laws.entries_come_in_time_or_late.Goals as goal
+
+pub returns-clause-late : goal.returns-clause-late
+returns-clause-late c = law.late_entries
+
+pub returns-clause-early : goal.returns-clause-early
+returns-clause-early c = law.early_entries

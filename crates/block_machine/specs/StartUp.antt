@@ -1,0 +1,54 @@
+-- The state before the first start-up, and the state that a start-up leaves.
+use Rattle.std.specs.Prelude.{ℕ, ◌==◌, ◌/◌, ◌%◌, true, false, List, [], ◌∷◌, map, find, replicate, unwrap_or, option_map, if◌then◌else◌, None}
+use Rattle.std.specs.List.{list_any, enumerate_from}
+use Rattle.nv_base.specs.declared.instance.DeviceNumber.{DeviceNumber}
+use Rattle.block_config.specs.Lengths.{lengths_of}
+use Rattle.block_machine.specs.Words.{Fine, Instance, Mark, Erased, BlockDesc, Configuration}
+use Rattle.block_machine.specs.State.{State, BlockState, InstanceState}
+use Rattle.block_machine.specs.Blocks.{untouched, keeps_ram, is_instance}
+
+-- before the first start-up there is nothing
+abbrev pub at_first : State
+at_first = record { started = false; off = false; count = 0; ops = 0; blocks = []; instances = []; jobs = []; hand = None; sweep = None }
+
+-- the mark that is listed for an instance, or Erased where none is
+abbrev pub listed_mark : List (Instance × Mark) → Instance → Mark
+listed_mark marks i = unwrap_or (option_map (λ x. x.1) (find (λ x. is_instance i.block i.index x.0) marks)) Erased
+
+abbrev pub instance_of : DeviceNumber → Instance
+instance_of n = record { block = n.0 / 64; index = n.0 % 64 }
+
+-- an instance is settled at what was found
+abbrev pub found_instance : List (Instance × Mark) → Instance → InstanceState
+found_instance marks i = record { instance = i; settled = listed_mark marks i; since = [] }
+
+-- all configured instances
+abbrev pub found_instances : Configuration → List (Instance × Mark) → List InstanceState
+found_instances c marks = map (λ x. found_instance marks (instance_of x.0)) (lengths_of c)
+
+-- A block is protected as it is configured, but a write-once block where one of its instances isn't erased. RAM that the
+-- manager keeps is zeros.
+abbrev pub started_block : Configuration → List (Instance × Mark) → ℕ → BlockDesc → BlockState
+started_block c marks id d = record {
+  status = Fine;
+  index = 0;
+  locked = false;
+  protected = if d.once then list_any (λ x. x.0.block == id) marks else d.protected;
+  ram = if keeps_ram c id then replicate d.length 0 else [];
+  valid = false;
+  changed = false;
+}
+
+-- A start-up that finds these marks: nothing is pending, and nothing is locked. The counts go on.
+abbrev pub started_with : Configuration → State → List (Instance × Mark) → State
+started_with c s marks = record {
+  started = true;
+  off = false;
+  count = s.count;
+  ops = s.ops;
+  blocks = untouched ∷ map (λ x. started_block c marks x.0 x.1) (enumerate_from 1 c.blocks);
+  instances = found_instances c marks;
+  jobs = [];
+  hand = None;
+  sweep = None;
+}
