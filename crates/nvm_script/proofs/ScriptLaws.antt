@@ -53,7 +53,7 @@ by_within : (at : ℕ) (text : List ℕ) (b : Bool) → nat_lt (position_or_len 
 by_within at text true within = slice_split_first (λ b. b == at) text 0 (ltb-true _ _ within)
 by_within at text false past = whole_split at text past
 
-split-cut : (at : ℕ) (text : List ℕ) → slice_split (λ b. b == at) text ≡ (cut_at at text).0 ∷ parts_left at (cut_at at text).1
+pub split-cut : (at : ℕ) (text : List ℕ) → slice_split (λ b. b == at) text ≡ (cut_at at text).0 ∷ parts_left at (cut_at at text).1
 split-cut at text = by_within at text (nat_lt (position_or_len (λ b. b == at) text) (length text)) refl
 
 left-parts : (o : Option (List ℕ)) → map without_return (parts_left 10 o) ≡ lines_left o

@@ -1,5 +1,5 @@
 -- The steps of a script, and its first wrong line.
-use Rattle.std.specs.Prelude.{◌≡◌, ◌⊎◌, ℕ, ◌+◌, ◌==◌, true, List, [], ◌∷◌, ◌++◌, map, drop}
+use Rattle.std.specs.Prelude.{◌≡◌, ◌⊎◌, ℕ, ◌+◌, ◌==◌, true, List, [], ◌∷◌, ◌++◌, map, drop, slice_get, unwrap_or}
 use Rattle.std.specs.List.{slice_split}
 use Rattle.block_config.specs.Config.{Configuration}
 use Rattle.nvm_script.specs.declared.step.Step.{Step}
@@ -11,6 +11,10 @@ use Rattle.nvm_script.specs.Owners.{owner_of, keeps_owner}
 -- the lines of an input, cut at newlines. Behind the last newline stands a line too, which does nothing if it is empty.
 abbrev pub lines_of : List ℕ → List (List ℕ)
 lines_of input = map without_return (slice_split (λ b. b == 10) input)
+
+-- the configuration's line
+abbrev pub first_line : List ℕ → List ℕ
+first_line input = unwrap_or (slice_get (lines_of input) 0) []
 
 -- line n, behind these steps, does nothing, or adds its step
 abbrev pub Follows : Configuration → Mode → ℕ → List ℕ → List Step → List Step → Type 0

@@ -20,7 +20,8 @@ mod word;
 mod words;
 
 pub use lines::{end_text, entry_text};
+pub use number::number as number_within;
 pub use readings::one_reading;
-pub use script::{Mode, ScriptFault, read_script};
+pub use script::{Mode, ScriptFault, first_line, read_script};
 pub use step::{Step, StepKind};
 pub use step_list::StepList;

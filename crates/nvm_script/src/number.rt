@@ -36,7 +36,8 @@ fn value(text: &[u8]) -> Option<u32>
     }
 }
 
-// The number within these bounds that the text spells.
+/// The number within these bounds, both included, that a text spells in decimal without sign and without leading
+/// zeros. None exactly where it spells none.
 #[tactic(auto, unfolding(crate::specs::Number::number_of))]
 pub fn number(text: &[u8], low: u32, high: u32) -> Option<u32>
     ensures number { result ≡ number_of low high text.now }

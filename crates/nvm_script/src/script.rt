@@ -1,7 +1,7 @@
 // The steps of a script.
 ghost use Rattle.std.specs.Prelude.{◌≡◌, ◌<◌, ◌≤◌, ◌+◌, [], length, IfOk, IfErr, OnOk};
 ghost use Rattle.nvm_script.specs.Line.{without_return, IsRead};
-ghost use Rattle.nvm_script.specs.Script.{IsScript, later_lines};
+ghost use Rattle.nvm_script.specs.Script.{IsScript, first_line, later_lines};
 ghost use Rattle.nvm_script.specs.ScriptReading.{Owns, AddsLine, NamesFirstWrong};
 
 use crate::caller::caller_of;
@@ -105,6 +105,14 @@ fn add_line(
             Ok(true)
         }
     }
+}
+
+/// The first line of an input, which is the configuration's.
+pub fn first_line(input: &[u8]) -> &[u8]
+    ensures { result.now ≡ first_line input.now }
+{
+    let (line, _) = cut(input, b'\n');
+    without_return(line)
 }
 
 /// The steps of the lines after the first, which is the configuration's, or the first line that is no step.
