@@ -1,8 +1,11 @@
 pub mod Bank
 pub mod Desk
 pub mod DeskKept
+pub mod Ends
 pub mod Input
 pub mod Output
 pub mod Play
+pub mod Reading
 pub mod Status
 pub mod Stop
+pub mod Words

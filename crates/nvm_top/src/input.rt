@@ -1,48 +1,31 @@
 // Reading the input to its end.
-ghost use Rattle.std.specs.Prelude.{◌≡◌, ◌<◌, IfOk, Err, List, ℕ, length};
-ghost use Rattle.std.specs.Io.KnownBytes.{Consumes, IsAtEnd};
-ghost use Rattle.nv_base.specs.Count.{Rose};
-ghost use Rattle.nvm_top.specs.Input.{IsLonger};
+ghost use Rattle.std.specs.Prelude.{◌≤◌, IfOk, IfErr, OnOk, vec_len};
+ghost use Rattle.std.specs.Io.KnownBytes.{IsAtEnd};
+ghost use Rattle.nvm_top.specs.Input.{IsAll};
+ghost use Rattle.nvm_top.specs.Reading.{IsInputStop};
 
+use crate::stop::Stop;
 use nv_base::{Source, SourceAnswer};
-use std::alloc::{AllocError, Global};
+use std::alloc::Global;
 
-/// The most bytes of input that are taken so far.
-pub const LIMIT: usize = 65536;
-
-/// Why the input wasn't read: a counted fault, more than `LIMIT` bytes, or want of memory.
-#[derive(Clone, Copy, Debug, PartialEq, Eq)]
-pub enum InputFault {
-    Failed,
-    TooLong,
-    Memory,
-}
-
-impl From<AllocError> for InputFault {
-    ghost use Rattle.nvm_top.specs.declared.input.InputFault.TheVariants.{Memory};
-
-    ghost from_gives = { λ _ fault. fault ≡ Memory };
-
-    fn from(_error: AllocError) -> InputFault {
-        InputFault::Memory
-    }
-}
+/// The most bytes of input that are taken: 16 MiB.
+pub const LIMIT: usize = 16_777_216;
 
 /// All bytes of the input.
-pub fn read_input<S: Source>(alloc: Global, input: &mut S) -> Result<Vec<u8>, InputFault>
-    ensures bytes { IfOk result (λ all. Consumes (S.left input.old) (S.left input.new) all.items) }
-    ensures end { IfOk result (λ all. IsAtEnd (S.left input.new)) }
-    ensures failed { result ≡ Err InputFault.Failed → Rose (S.faults input.old) (S.faults input.new) }
-    ensures too_long { result ≡ Err InputFault.TooLong → IsLonger (S.left input.old) LIMIT }
+pub fn read_input<S: Source>(alloc: Global, input: &mut S) -> Result<Vec<u8>, Stop>
+    ensures all { IfOk result (λ all. IsAll (S.left input.old) all.items) }
+    ensures short { IfOk result (λ all. vec_len all ≤ LIMIT) }
+    ensures end { OnOk result (IsAtEnd (S.left input.new)) }
+    ensures err { IfErr result (IsInputStop (S.left input.old) (S.faults input.old) (S.faults input.new)) }
 {
     let mut all = Vec::new(alloc);
     let mut buffer = [0; 4096];
     while all.len() <= LIMIT {
         match input.take(&mut buffer) {
-            SourceAnswer::Failed => return Err(InputFault::Failed),
+            SourceAnswer::Failed => return Err(Stop::ReadFault),
             SourceAnswer::Got(0) => return Ok(all),
             SourceAnswer::Got(count) => all.extend_from_slice(&buffer[..count])?,
         }
     }
-    Err(InputFault::TooLong)
+    Err(Stop::TooLong)
 }

@@ -6,20 +6,25 @@
 #![tactic(auto)]
 
 mod bank_device;
+mod check;
 mod commands;
+mod configuration;
 mod desk;
-mod first_steps;
 mod input;
 mod job;
 mod output;
 mod play;
+mod playable;
 mod stack;
 mod status;
 mod stop;
+mod words;
 
+pub use check::check_command;
 pub use commands::command;
 pub use play::play_command;
 pub use status::Status;
+pub use words::CommandKind;
 
 #[cfg(test)]
 mod tests;

@@ -1,7 +1,7 @@
 // Writing the lines of the output.
-ghost use Rattle.std.specs.Prelude.{◌≡◌, ◌≤◌, ◌⊎◌, Err, IfErr, OnOk};
+ghost use Rattle.std.specs.Prelude.{◌≡◌, IfErr, OnOk};
 ghost use Rattle.nv_base.specs.Count.{Rose};
-ghost use Rattle.nvm_top.specs.Output.{fault_status};
+ghost use Rattle.nvm_top.specs.Output.{fault_status, IsReport};
 ghost use Rattle.nvm_top.specs.Stop.{status_of};
 
 use crate::Status;
@@ -39,7 +39,8 @@ impl OutputFault {
     }
 }
 
-fn put_line<K: Sink>(output: &mut K, line: &[u8]) -> Result<(), OutputFault>
+/// Writes one line.
+pub fn put_line<K: Sink>(output: &mut K, line: &[u8]) -> Result<(), OutputFault>
     ensures ok { OnOk result (K.faults output.new ≡ K.faults output.old) }
     ensures failed { IfErr result (λ fault. (fault ≡ OutputFault.Failed) × Rose (K.faults output.old) (K.faults output.new)) }
 {
@@ -82,7 +83,7 @@ pub fn write_end<K: Sink>(
 
 /// Writes the line of a stop and gives its status, or the status of the fault in its place.
 pub fn report<K: Sink>(alloc: Global, stop: Stop, output: &mut K) -> Status
-    ensures status { (result ≡ status_of stop) ⊎ (result ≡ Status.Memory) ⊎ (result ≡ Status.WriteFault) }
+    ensures status { IsReport (status_of stop) result }
     ensures failed { result ≡ Status.WriteFault → Rose (K.faults output.old) (K.faults output.new) }
 {
     if stop == Stop::Memory {

@@ -1,30 +1,34 @@
 // The command `play`: the steps of a person over one flash, with their history.
-ghost use Rattle.std.specs.Prelude.{◌≡◌, ◌≤◌, ℕ, Err, IfErr, OnOk};
+ghost use Rattle.std.specs.Prelude.{◌≡◌, ◌≤◌, ℕ, Err, IfErr, IfOk, OnOk, map, string_bytes, true, false};
 ghost use Rattle.std.specs.Io.KnownBytes.{IsAtEnd};
 ghost use Rattle.nv_base.specs.Count.{Rose};
-ghost use Rattle.nv_base.specs.Geometry.{IsLegal};
+ghost use Rattle.nv_base.specs.Geometry.{IsLegal, size_of};
 ghost use Rattle.fls_model.specs.Told.{Told};
 ghost use Rattle.fls_model.specs.Attach.{IsAttach};
-ghost use Rattle.nvm_top.specs.Play.{IsWrongSize, IsBeforeStart, IsInputStop, IsAttachStop, IsRunStop, HasRunCause, IsPlayEnd, IsRunEnd};
+ghost use Rattle.nvm_top.specs.Ends.{PlaysBy};
+ghost use Rattle.nvm_top.specs.Output.{IsReport};
+ghost use Rattle.nvm_top.specs.Play.{IsWrongSize, IsBeforeStart, HasRunCause, IsPlayEnd, IsRunEnd};
+ghost use Rattle.nvm_top.specs.Stop.{status_of};
+ghost use Rattle.nvm_top.specs.Words.{command_of, is_play};
 
 use crate::Status;
 use crate::bank_device::BankDevice;
 use crate::desk::AskFault;
-use crate::first_steps::{BLOCK, Step, StepsFault, first_steps};
-use crate::input::{InputFault, read_input};
 use crate::output::{report, write_end, write_history};
+use crate::playable::{Playable, read_playable};
 use crate::stack::{Stack, Turned};
 use crate::stop::Stop;
-use block_config::demo;
+use crate::words::is_play;
 use fls_model::{AttachFault, Flash};
-use nv_base::{Geometry, History, Lengths, Reply, Sink, Source};
+use nv_base::{Geometry, History, Lengths, Reply, Request, Sink, Source};
+use nvm_script::{Step, StepKind, StepList};
 use std::alloc::Global;
 
 /// The most entries of a history.
 const CAP: u32 = 100_000;
 
-/// Plays the steps of the input on the flash and writes their history: `mem play`, a first line `@demo`, and steps
-/// on block 2. Other words are `Unbuilt`, and no input is read then.
+/// Plays the steps of the input on the flash and writes their history. So far it serves a first line `@demo`, and
+/// steps on block 2.
 pub fn play_command<S: Source, K: Sink, F: Flash>(
     alloc: Global,
     words: &[String],
@@ -32,6 +36,8 @@ pub fn play_command<S: Source, K: Sink, F: Flash>(
     output: &mut K,
     flash: F,
 ) -> (Status, F)
+    ensures bad_words { is_play (command_of (map string_bytes words.now)) ≡ false → IsReport Status.BadWords result.0 }
+    ensures by_input { is_play (command_of (map string_bytes words.now)) ≡ true → PlaysBy (S.left input.old) result.0 }
     ensures read_fault { result.0 ≡ Status.ReadFault → Rose (S.faults input.old) (S.faults input.new) }
     ensures write_fault { result.0 ≡ Status.WriteFault → Rose (K.faults output.old) (K.faults output.new) }
     ensures flash_fault { result.0 ≡ Status.FlashFault → Rose (F.told flash).faults (F.told result.1).faults }
@@ -39,65 +45,37 @@ pub fn play_command<S: Source, K: Sink, F: Flash>(
     ensures untouched { IsBeforeStart result.0 → F.told result.1 ≡ F.told flash }
     ensures ended { result.0 ≡ Status.Ok → IsAtEnd (S.left input.new) }
 {
-    match read_steps(alloc, words, input) {
-        Ok(steps) => play_steps(alloc, &steps, output, flash),
+    if !is_play(words) {
+        return (report(alloc, Stop::BadWords, output), flash);
+    }
+    match read_playable(alloc, input) {
+        Ok(playable) => play(alloc, &playable, output, flash),
         Err(stop) => (report(alloc, stop, output), flash),
     }
 }
 
-/// The steps of the input, where the words are `mem play`.
-fn read_steps<S: Source>(alloc: Global, words: &[String], input: &mut S) -> Result<Vec<Step>, Stop>
-    ensures ok { OnOk result (IsAtEnd (S.left input.new)) }
-    ensures err { IfErr result (IsInputStop (S.faults input.old) (S.faults input.new)) }
-{
-    if !is_play(words) {
-        return Err(Stop::Unbuilt { line: 0 });
-    }
-    let bytes = match read_input(alloc, input) {
-        Ok(bytes) => bytes,
-        Err(InputFault::Failed) => return Err(Stop::ReadFault),
-        Err(InputFault::TooLong) => return Err(Stop::Unbuilt { line: 0 }),
-        Err(InputFault::Memory) => return Err(Stop::Memory),
-    };
-    match first_steps(alloc, &bytes) {
-        Ok(steps) => Ok(steps),
-        Err(StepsFault::Unbuilt(line)) => Err(Stop::Unbuilt { line }),
-        Err(StepsFault::Memory) => Err(Stop::Memory),
-    }
-}
-
-fn is_play(words: &[String]) -> bool {
-    match words {
-        [image, command] => image.as_str() == "mem" && command.as_str() == "play",
-        _ => false,
-    }
-}
-
-fn play_steps<K: Sink, F: Flash>(
+fn play<K: Sink, F: Flash>(
     alloc: Global,
-    steps: &[Step],
+    playable: &Playable,
     output: &mut K,
     flash: F,
 ) -> (Status, F)
-    ensures end { IsPlayEnd 2048 (F.told flash) (F.told result.1) result.0 }
+    ensures end { IsPlayEnd (size_of playable.now.config.geometry) (F.told flash) (F.told result.1) result.0 }
     ensures write_fault { result.0 ≡ Status.WriteFault → Rose (K.faults output.old) (K.faults output.new) }
 {
-    let Ok(config) = demo(alloc) else {
+    let Ok(numbers) = playable.config.lengths(alloc) else {
         return (Status::Memory, flash);
     };
-    let Ok(numbers) = config.lengths(alloc) else {
-        return (Status::Memory, flash);
-    };
-    let geometry = config.geometry();
+    let geometry = playable.config.geometry();
     match BankDevice::make(alloc, flash, geometry, &numbers) {
-        Ok(device) => play_on(alloc, steps, output, device, numbers),
+        Ok(device) => play_on(alloc, &playable.steps, output, device, numbers),
         Err((fault, flash)) => (report(alloc, attach_stop(fault, geometry), output), flash),
     }
 }
 
 fn attach_stop(fault: AttachFault, geometry: Geometry) -> Stop
     requires { IsLegal geometry }
-    ensures { (s t : Told) → IsAttach geometry s (Err fault) t → IsAttachStop geometry s t result }
+    ensures { (s t : Told) → IsAttach geometry s (Err fault) t → IsPlayEnd (size_of geometry) s t (status_of result) }
 {
     match fault {
         AttachFault::Failed => Stop::FlashFault,
@@ -111,7 +89,7 @@ fn attach_stop(fault: AttachFault, geometry: Geometry) -> Stop
 
 fn play_on<K: Sink, F: Flash>(
     alloc: Global,
-    steps: &[Step],
+    steps: &StepList,
     output: &mut K,
     device: BankDevice<F>,
     numbers: Lengths,
@@ -130,25 +108,35 @@ fn play_on<K: Sink, F: Flash>(
     }
 }
 
-fn run_steps<F: Flash>(alloc: Global, steps: &[Step], stack: &mut Stack<F>) -> Result<(), Stop>
+fn run_steps<F: Flash>(alloc: Global, steps: &StepList, stack: &mut Stack<F>) -> Result<(), Stop>
     ensures cause { HasRunCause stack.old.faults stack.new.faults result }
     ensures counts { stack.old.faults ≤ stack.new.faults }
 {
-    for step in steps {
-        run_step(alloc, step, stack)?;
+    for i in 0..steps.len() {
+        if let Some(step) = steps.get(i) {
+            run_step(alloc, step, stack)?;
+        }
     }
     Ok(())
 }
 
+/// Makes a step; one that isn't served does nothing.
 fn run_step<F: Flash>(alloc: Global, step: &Step, stack: &mut Stack<F>) -> Result<(), Stop>
     ensures cause { HasRunCause stack.old.faults stack.new.faults result }
     ensures counts { stack.old.faults ≤ stack.new.faults }
 {
-    match step {
-        Step::Write(content) => answered(stack.ask_write(alloc, BLOCK, content.clone()?)),
-        Step::Read => answered(stack.ask_read(alloc, BLOCK)),
-        Step::Turn(count) => make_turns(stack, u64::from(*count)),
-        Step::Drain => make_turns(stack, u64::MAX),
+    match &step.kind {
+        StepKind::Ask(
+            Request::Write {
+                block,
+                content: Some(content),
+                ..
+            },
+        ) => answered(stack.ask_write(alloc, *block, content.clone()?)),
+        StepKind::Ask(Request::Read { block, .. }) => answered(stack.ask_read(alloc, *block)),
+        StepKind::Turn { count } => make_turns(stack, u64::from(*count)),
+        StepKind::Drain => make_turns(stack, u64::MAX),
+        _ => Ok(()),
     }
 }
 

@@ -2,7 +2,8 @@
 ghost use Rattle.std.specs.Prelude.{◌≡◌, ◌≤◌, IfOk, IfErr};
 ghost use Rattle.nv_base.specs.Count.{Rose};
 ghost use Rattle.nvm_top.specs.Desk.{ReadsSo};
-ghost use Rattle.nvm_top.specs.Play.{IsRunStop};
+ghost use Rattle.nvm_top.specs.Play.{IsRunEnd};
+ghost use Rattle.nvm_top.specs.Stop.{status_of};
 
 use crate::bank_device::{BankDevice, ReadTurn, StartFault, WriteTurn};
 use crate::desk::{AskFault, Desk};
@@ -54,7 +55,7 @@ impl<F: Flash> Stack<F> {
         requires numbers { lengths ≡ device.log.numbers }
         requires cap { 2 ≤ cap }
         ensures ok { IfOk result (λ s. device.told.faults ≤ s.faults) }
-        ensures err { IfErr result (λ e. IsRunStop device.told.faults (F.told e.1).faults e.0) }
+        ensures err { IfErr result (λ e. IsRunEnd device.told.faults (F.told e.1).faults (status_of e.0)) }
     {
         let mut device = device;
         let found = match device.start() {

@@ -5,11 +5,16 @@ ghost use Rattle.nvm_top.specs.Stop.{status_of};
 use crate::Status;
 use std::alloc::{AllocError, Global};
 
-/// Why a command stops: its input failed or isn't served, the flash failed or has a wrong size, a record or the
-/// history has no room, or want of memory.
+/// Why a command stops: its words are of no command, its first line breaks a rule, a line is no step, its input failed
+/// or is too long or isn't served, the flash failed or has a wrong size, a record or the history has no room, or want
+/// of memory.
 #[derive(Clone, Copy, Debug, PartialEq, Eq)]
 pub enum Stop {
+    BadWords,
+    BadConfig { rule: u8, block: u16 },
+    BadScript { line: u32 },
     ReadFault,
+    TooLong,
     Unbuilt { line: u32 },
     WrongSize { found: u64, need: u64 },
     FlashFault,
@@ -34,7 +39,11 @@ impl Stop {
         ensures { result ≡ status_of self }
     {
         match self {
+            Stop::BadWords => Status::BadWords,
+            Stop::BadConfig { .. } => Status::BadConfig,
+            Stop::BadScript { .. } => Status::BadScript,
             Stop::ReadFault => Status::ReadFault,
+            Stop::TooLong => Status::TooLong,
             Stop::Unbuilt { .. } => Status::Unbuilt,
             Stop::WrongSize { .. } => Status::WrongSize,
             Stop::FlashFault => Status::FlashFault,
@@ -47,7 +56,13 @@ impl Stop {
     /// The line that says so; none at want of memory.
     pub fn line(self, alloc: Global) -> Result<String, AllocError> {
         match self {
+            Stop::BadWords => String::from_str(alloc, "bad words\n"),
+            Stop::BadConfig { rule, block } => {
+                format!(in alloc; "config rule {rule} block {block}\n")
+            }
+            Stop::BadScript { line } => format!(in alloc; "script {line}\n"),
             Stop::ReadFault => String::from_str(alloc, "input fault\n"),
+            Stop::TooLong => String::from_str(alloc, "input too long\n"),
             Stop::Unbuilt { line } => format!(in alloc; "unbuilt {line}\n"),
             Stop::WrongSize { found, need } => format!(in alloc; "size {found} {need}\n"),
             Stop::FlashFault => String::from_str(alloc, "flash fault\n"),

@@ -8,4 +8,4 @@ invariant-loop-buffer g l =
     Consumes (g.S.Source.left l.initial.input) (g.S.Source.left l.input) l.all.items × (g.S.Source.faults l.input ≡ g.S.Source.faults l.initial.input)
 
 abbrev pub decreases-loop-buffer : goal.decreases-loop-buffer
-decreases-loop-buffer g l = 65537 - vec_len l.all
+decreases-loop-buffer g l = 16777217 - vec_len l.all

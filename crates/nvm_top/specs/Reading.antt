@@ -1,0 +1,50 @@
+-- Why the reading of a call stops.
+use Rattle.std.specs.Prelude.{◌≡◌, ℕ, List, [], Option, Err}
+use Rattle.nv_base.specs.Count.{Rose}
+use Rattle.block_config.specs.Config.{Configuration}
+use Rattle.block_config.specs.Reading.{meaning_of}
+use Rattle.block_config.specs.declared.fault.ConfigFault.TheVariants.{Broken}
+use Rattle.nvm_script.specs.Script.{IsFirstWrong}
+use Rattle.nvm_script.specs.declared.script.Mode.TheVariants.{Play}
+use Rattle.nvm_top.specs.Ends.{HasSteps, HasWrongLine, BreaksRule}
+use Rattle.nvm_top.specs.Input.{IsLonger, input_limit}
+use Rattle.nvm_top.specs.declared.stop.Stop.{Stop}
+use Rattle.nvm_top.specs.declared.stop.Stop.TheVariants.{BadWords, BadConfig, BadScript, ReadFault, TooLong, Unbuilt, Memory}
+
+-- why the input isn't read to its end, with its bytes and with its faults before and after
+abbrev pub IsInputStop : Option (List ℕ) → ℕ → ℕ → Stop → Type 0
+IsInputStop left before after ReadFault = Rose before after
+IsInputStop left before after TooLong = IsLonger left input_limit
+IsInputStop left before after Memory = Unit {0}
+IsInputStop left before after _ = ⊥
+
+-- why the first line is no configuration: the first broken rule with its block
+abbrev pub IsConfigStop : List ℕ → Stop → Type 0
+IsConfigStop line (BadConfig rule block) = meaning_of line ≡ Err (Broken rule block)
+IsConfigStop line Memory = Unit {0}
+IsConfigStop line _ = ⊥
+
+-- why the later lines are no steps: the first wrong line
+abbrev pub IsLineStop : Configuration → List (List ℕ) → Stop → Type 0
+IsLineStop c lines (BadScript line) = IsFirstWrong c Play 2 [] lines line
+IsLineStop c lines Memory = Unit {0}
+IsLineStop c lines _ = ⊥
+
+-- why an input isn't played
+abbrev pub IsPlayableStop : List ℕ → Stop → Type 0
+IsPlayableStop bytes (BadConfig rule block) = BreaksRule bytes
+IsPlayableStop bytes (BadScript line) = HasWrongLine bytes
+IsPlayableStop bytes (Unbuilt line) = HasSteps bytes
+IsPlayableStop bytes Memory = Unit {0}
+IsPlayableStop bytes _ = ⊥
+
+-- a call stops before its flash is attached
+abbrev pub IsEarly : Stop → Type 0
+IsEarly BadWords = Unit {0}
+IsEarly (BadConfig rule block) = Unit {0}
+IsEarly (BadScript line) = Unit {0}
+IsEarly ReadFault = Unit {0}
+IsEarly TooLong = Unit {0}
+IsEarly (Unbuilt line) = Unit {0}
+IsEarly Memory = Unit {0}
+IsEarly _ = ⊥

@@ -1,0 +1,48 @@
+-- What the words of a call mean.
+use Rattle.std.specs.Prelude.{ℕ, ◌==◌, ◌&&◌, Bool, true, false, not, if◌then◌else◌, List, [], ◌∷◌, codes, Option, Some, None}
+use Rattle.std.specs.Str.{bytes_eq}
+use Rattle.nvm_script.specs.Number.{number_of}
+use Rattle.nvm_top.specs.declared.words.CommandKind.{CommandKind}
+use Rattle.nvm_top.specs.declared.words.CommandKind.TheVariants.{Play, Run, Dump, Check, Soak}
+
+-- a word isn't empty and doesn't begin with `-` (45)
+abbrev pub is_word : List ℕ → Bool
+is_word [] = false
+is_word (b ∷ bs) = not (b == 45)
+
+-- `mem` stands for a flash in memory
+abbrev pub is_memory : List (List ℕ) → Bool
+is_memory [] = false
+is_memory (image ∷ rest) = bytes_eq image (codes "mem")
+
+-- the commands of one word
+abbrev pub command_named : List ℕ → Option CommandKind
+command_named word = if bytes_eq word (codes "play") then Some Play else (if bytes_eq word (codes "run") then Some Run else (if bytes_eq word (codes "dump") then Some Dump else (if bytes_eq word (codes "check") then Some Check else None)))
+
+-- `soak`, a seed and a count of rounds
+abbrev pub soak_of : Option ℕ → Option ℕ → Option CommandKind
+soak_of None count = None
+soak_of (Some seed) None = None
+soak_of (Some seed) (Some count) = Some (Soak seed count)
+
+abbrev pub soak_named : List ℕ → List ℕ → List ℕ → Option CommandKind
+soak_named word seed count = if bytes_eq word (codes "soak") then soak_of (number_of 0 4294967295 seed) (number_of 0 10000 count) else None
+
+-- the words of a command behind the image
+abbrev pub command_behind : List (List ℕ) → Option CommandKind
+command_behind (word ∷ []) = command_named word
+command_behind (word ∷ seed ∷ count ∷ []) = soak_named word seed count
+command_behind _ = None
+
+-- an image, and the words of a command behind it; None where the words are of no command
+abbrev pub command_of : List (List ℕ) → Option CommandKind
+command_of [] = None
+command_of (image ∷ rest) = if is_word image then command_behind rest else None
+
+abbrev pub is_play : Option CommandKind → Bool
+is_play (Some Play) = true
+is_play _ = false
+
+abbrev pub is_check : Option CommandKind → Bool
+is_check (Some Check) = true
+is_check _ = false

@@ -1,0 +1,95 @@
+// The words of a call.
+ghost use Rattle.std.specs.Prelude.{◌≡◌, map, string_bytes};
+ghost use Rattle.nvm_top.specs.Words.{is_word, is_memory, command_named, soak_named, command_behind, command_of, is_play, is_check};
+
+use nvm_script::number_within;
+
+/// What the words of a call ask for: one of the commands, `soak` with its seed and its count of rounds.
+#[derive(Clone, Copy, Debug, PartialEq, Eq)]
+pub enum CommandKind {
+    Play,
+    Run,
+    Dump,
+    Check,
+    Soak { seed: u32, count: u32 },
+}
+
+fn is_word(word: &[u8]) -> bool
+    ensures { result ≡ is_word word.now }
+{
+    !word.is_empty() && word[0] != b'-'
+}
+
+fn command_named(word: &str) -> Option<CommandKind>
+    ensures { result ≡ command_named word.now }
+{
+    match word {
+        "play" => Some(CommandKind::Play),
+        "run" => Some(CommandKind::Run),
+        "dump" => Some(CommandKind::Dump),
+        "check" => Some(CommandKind::Check),
+        _ => None,
+    }
+}
+
+fn soak_named(word: &str, seed: &str, count: &str) -> Option<CommandKind>
+    ensures { result ≡ soak_named word.now seed.now count.now }
+{
+    if word != "soak" {
+        return None;
+    }
+    let seed = number_within(seed.as_bytes(), 0, u32::MAX)?;
+    let count = number_within(count.as_bytes(), 0, 10_000)?;
+    Some(CommandKind::Soak { seed, count })
+}
+
+fn command_behind(words: &[String]) -> Option<CommandKind>
+    ensures { result ≡ command_behind (map string_bytes words.now) }
+{
+    match words {
+        [word] => command_named(word.as_str()),
+        [word, seed, count] => soak_named(word.as_str(), seed.as_str(), count.as_str()),
+        _ => None,
+    }
+}
+
+/// The command that the words ask for: `IMAGE play`, `IMAGE run`, `IMAGE dump`, `IMAGE check`, or
+/// `IMAGE soak SEED COUNT`. None exactly where they ask for none.
+pub fn command_of(words: &[String]) -> Option<CommandKind>
+    ensures { result ≡ command_of (map string_bytes words.now) }
+{
+    match words {
+        [image, rest @ ..] if is_word(image.as_bytes()) => command_behind(rest),
+        _ => None,
+    }
+}
+
+/// Whether the image is a flash in memory.
+pub fn is_memory(words: &[String]) -> bool
+    ensures { result ≡ is_memory (map string_bytes words.now) }
+{
+    match words {
+        [image, ..] => image.as_str() == "mem",
+        _ => false,
+    }
+}
+
+/// Whether the words ask for `play`.
+pub fn is_play(words: &[String]) -> bool
+    ensures { result ≡ is_play (command_of (map string_bytes words.now)) }
+{
+    match command_of(words) {
+        Some(CommandKind::Play) => true,
+        _ => false,
+    }
+}
+
+/// Whether the words ask for `check`.
+pub fn is_check(words: &[String]) -> bool
+    ensures { result ≡ is_check (command_of (map string_bytes words.now)) }
+{
+    match command_of(words) {
+        Some(CommandKind::Check) => true,
+        _ => false,
+    }
+}
