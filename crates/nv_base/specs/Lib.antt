@@ -5,6 +5,8 @@ pub mod Lengths
 pub mod Marks
 pub mod MemorySink
 pub mod MemorySource
+pub mod Pages
+pub mod Plan
 pub mod Refusal
 pub mod Result
 pub mod Sink

@@ -1,5 +1,6 @@
 -- Marks of instances.
-use Rattle.std.specs.Prelude.{◌≢◌, ℕ, ◌+◌, ◌*◌, ◌≤◌, List, [], ◌∷◌}
+use Rattle.std.specs.Prelude.{◌≢◌, ℕ, ◌+◌, ◌*◌, ◌/◌, ◌%◌, ◌≤◌, List, [], ◌∷◌}
+use Rattle.nv_base.specs.declared.instance.DeviceNumber.{DeviceNumber}
 use Rattle.nv_base.specs.declared.instance.Instance.{Instance}
 use Rattle.nv_base.specs.declared.mark.Mark.{Mark}
 use Rattle.nv_base.specs.declared.mark.Mark.TheVariants.{Erased}
@@ -7,6 +8,15 @@ use Rattle.nv_base.specs.declared.mark.Mark.TheVariants.{Erased}
 -- the place of an instance among all: its device number
 abbrev pub place_of : Instance → ℕ
 place_of i = i.block * 64 + i.index
+
+-- the instance of a device number
+abbrev pub instance_of : DeviceNumber → Instance
+instance_of n = record { block = n.0 / 64; index = n.0 % 64 }
+
+-- a mark of an instance before these, left out where it is Erased
+abbrev pub listed : Instance → Mark → List (Instance × Mark) → List (Instance × Mark)
+listed i Erased marks = marks
+listed i mark marks = (i, mark) ∷ marks
 
 -- instances that ascend from a place on, each with a mark
 abbrev pub AreMarks : ℕ → List (Instance × Mark) → Type 0
