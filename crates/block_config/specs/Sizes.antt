@@ -1,20 +1,16 @@
 -- The pages that a configuration needs.
-use Rattle.std.specs.Prelude.{ℕ, zero, suc, ◌+◌, ◌*◌, ◌≤◌, max, List, fold, sum_by}
-use Rattle.std.specs.Int.{div_ceil}
+use Rattle.std.specs.Prelude.{ℕ, zero, suc, ◌*◌, ◌≤◌, max, List, fold, sum_by}
+use Rattle.nv_base.specs.Pages.{record_pages_of}
 use Rattle.block_config.specs.declared.block.BlockDesc.{BlockDesc}
 use Rattle.block_config.specs.declared.sizes.Measures.{Measures}
 use Rattle.block_config.specs.Block.{instance_count, record_count}
-
--- the pages of a record with so many bytes: header page, header gate, body pages, commit gate
-abbrev pub record_pages : ℕ → ℕ → ℕ
-record_pages page n = 3 + div_ceil n page
 
 abbrev pub instances_of : BlockDesc → ℕ
 instances_of b = instance_count b.kind b.nv
 
 -- the size of each instance of a block
 abbrev pub size_of : ℕ → BlockDesc → ℕ
-size_of page b = record_pages page b.length
+size_of page b = record_pages_of b.length page
 
 -- the pages of one immediate write; only a block of priority 0 has such writes
 abbrev pub urgent_at : ℕ → ℕ → ℕ

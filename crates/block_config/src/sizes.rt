@@ -1,9 +1,10 @@
 // The pages that a configuration needs.
 ghost use Rattle.std.specs.Prelude.{◌≡◌, ◌≤◌, ◌+◌, ◌*◌, length, All};
 ghost use Rattle.block_config.specs.Block.{instance_count, record_count};
-ghost use Rattle.block_config.specs.Sizes.{record_pages, urgent_pages, measures_of, IsBounded};
+ghost use Rattle.block_config.specs.Sizes.{urgent_pages, measures_of, IsBounded};
 
 use crate::BlockDesc;
+use nv_base::record_pages;
 
 /// What is added up over all blocks: the instances, the pages of all of them, the pages of the greatest, and the
 /// most pages of one immediate write.
@@ -24,18 +25,10 @@ impl Measures {
     }
 }
 
-/// Pages of a record with so many bytes.
-fn record_pages(length: u16, page: u32) -> u32
-    requires { 16 ≤ page }
-    ensures value { result ≡ record_pages page length }
-    ensures most { length ≤ 4096 → result ≤ 259 }
-{
-    3 + u32::from(length).div_ceil(page)
-}
-
 /// Pages of one immediate write of a block, 0 where it has no such writes.
 fn urgent_pages(block: &BlockDesc, page: u32) -> u32
     requires page { 16 ≤ page }
+    requires small { page ≤ 256 }
     requires bounded { IsBounded block.now }
     ensures { result ≡ urgent_pages page block.now }
 {
@@ -49,6 +42,7 @@ fn urgent_pages(block: &BlockDesc, page: u32) -> u32
 /// The measures of these blocks on pages of this size.
 pub fn measures_of(blocks: &[BlockDesc], page: u32) -> Measures
     requires page { 16 ≤ page }
+    requires small { page ≤ 256 }
     requires few { length blocks.now ≤ 512 }
     requires bounded { All IsBounded blocks.now }
     ensures { result ≡ measures_of page blocks.now }
