@@ -1,3 +1,4 @@
 pub mod Bits
+pub mod Growth
 pub mod Replay
 pub mod Within

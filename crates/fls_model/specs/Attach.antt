@@ -36,6 +36,7 @@ pub record IsAttached (g : Geometry) (s t : Told) : Type 0 where
   pub faults : t.faults ≡ s.faults
   pub cuts : t.cuts ≡ s.cuts
   pub off : t.off ≡ s.off
+  pub planning : t.planning ≡ s.planning
 
 -- by its answer: attached, failed with a counted fault, of a wrong size, or without memory
 abbrev pub IsAttach : Geometry → Told → Result (Unit {0}) AttachFault → Told → Type 0

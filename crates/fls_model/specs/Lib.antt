@@ -4,6 +4,8 @@ pub mod Call
 pub mod Memory
 pub mod MemoryInside
 pub mod Op
+pub mod Plan
 pub mod Read
 pub mod Step
 pub mod Told
+pub mod Worked

@@ -1,6 +1,7 @@
 -- A flash in memory, as contracts see it.
 use Rattle.std.specs.Prelude.{◌≡◌, ◌↔◌, ◌≤◌, ℕ, List, [], IsSome, false, Some}
 use Rattle.nv_base.specs.Count.{next_count}
+use Rattle.nv_base.specs.Plan.{no_planning}
 use Rattle.fls_model.specs.Told.{Told}
 
 -- what is told of it, how many changing operations it has room to tell, and for how many it was asked since its attach
@@ -12,7 +13,7 @@ pub record InMemory : Type 0 where
 -- these bytes, not attached yet
 abbrev pub in_memory : List ℕ → ℕ → InMemory
 in_memory bytes calls = record {
-  told = record { geometry = record { page = 0; sector = 0; sectors = 0 }; bytes = Some bytes; ops = 0; faults = 0; cuts = 0; off = false; changes = Some [] };
+  told = record { geometry = record { page = 0; sector = 0; sectors = 0 }; bytes = Some bytes; ops = 0; faults = 0; cuts = 0; off = false; planning = no_planning; changes = Some [] };
   calls = calls;
   asked = 0;
 }

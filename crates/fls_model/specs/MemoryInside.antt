@@ -6,6 +6,7 @@ use Rattle.fls_model.specs.declared.flash.FlashAnswer.TheVariants.{Done}
 use Rattle.fls_model.specs.declared.call.Call.{Call}
 use Rattle.fls_model.specs.declared.memory.MemFlash.TheInside.{Inside}
 use Rattle.fls_model.specs.Op.{after_op}
+use Rattle.nv_base.specs.Plan.{no_planning}
 use Rattle.fls_model.specs.Told.{Change}
 use Rattle.fls_model.specs.Call.{op_of}
 use Rattle.fls_model.specs.Memory.{InMemory}
@@ -29,6 +30,7 @@ in_memory_of m = record {
     faults = 0;
     cuts = 0;
     off = false;
+    planning = no_planning;
     changes = if nat_le m.asked m.room then Some (replay m.geometry m.first.items (take m.asked m.calls.items)) else None;
   };
   calls = m.room;

@@ -5,6 +5,7 @@ use Rattle.nv_base.specs.declared.geometry.Geometry.{Geometry}
 use Rattle.fls_model.specs.declared.flash.FlashAnswer.{FlashAnswer}
 use Rattle.fls_model.specs.declared.flash.FlashAnswer.TheVariants.{Done, Failed, Off}
 use Rattle.fls_model.specs.Op.{Op, Program, Erase, after_op, MayLeave}
+use Rattle.fls_model.specs.Plan.{PlanGoes}
 use Rattle.fls_model.specs.Told.{Told, Change, IfBothTold, AreToldAlike}
 
 abbrev pub programs : ℕ → List ℕ → Op
@@ -41,6 +42,7 @@ pub record IsAsked (op : Op) (s : Told) (answer : FlashAnswer) (t : Told) : Type
   pub within : IfBothTold s.bytes t.bytes (MayLeave op)
   pub changes : Notes op answer s.bytes s.changes t.changes
   pub cause : HasCause answer s t
+  pub planning : PlanGoes answer s.planning t.planning
 
 abbrev pub OffOrAsked : Bool → Op → Told → FlashAnswer → Told → Type 0
 OffOrAsked true op s answer t = (answer ≡ Off) × (t ≡ s)

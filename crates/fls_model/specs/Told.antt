@@ -1,9 +1,10 @@
 -- What is told of a flash.
-use Rattle.std.specs.Prelude.{◌≡◌, ◌<◌, ◌≤◌, ◌+◌, ◌%◌, ℕ, Bool, List, Option, Some, None}
+use Rattle.std.specs.Prelude.{◌≡◌, ◌<◌, ◌≤◌, ◌+◌, ◌%◌, ℕ, Bool, false, List, Option, Some, None}
 use Rattle.nv_base.specs.declared.geometry.Geometry.{Geometry}
 use Rattle.nv_base.specs.Geometry.{size_of}
 use Rattle.fls_model.specs.declared.flash.FlashAnswer.{FlashAnswer}
 use Rattle.fls_model.specs.Op.{Op}
+use Rattle.nv_base.specs.Plan.{Planning, planned, dropped}
 
 -- a changing operation that was asked for, with the bytes before it and its answer
 pub record Change : Type 0 where
@@ -22,8 +23,18 @@ pub record Told : Type 0 where
   pub cuts : ℕ
   -- a cut stands
   pub off : Bool
+  -- the cuts that are planned, and those that came without a plan
+  pub planning : Planning
   -- each changing operation since it was attached, where it tells them
   pub changes : Option (List Change)
+
+-- behind a call of arm
+abbrev pub armed : ℕ → ℕ → Told → Told
+armed nth keep t = record t { planning = planned nth keep t.planning }
+
+-- the power is on, and no plan stands
+abbrev pub powered : Told → Told
+powered t = record t { off = false; planning = dropped t.planning }
 
 -- a fact on two things, where both are told
 abbrev pub IfBothTold : {A : Type 0} → Option A → Option A → (A → A → Type 0) → Type 0

@@ -1,7 +1,7 @@
 // The flash as drivers see it.
-ghost use Rattle.std.specs.Prelude.{◌≡◌, length, false};
+ghost use Rattle.std.specs.Prelude.{◌≡◌, length};
 ghost use Rattle.nv_base.specs.Geometry.{IsLegal};
-ghost use Rattle.fls_model.specs.Told.{Told, HasRange, HasPage, HasSector};
+ghost use Rattle.fls_model.specs.Told.{Told, armed, powered, HasRange, HasPage, HasSector};
 ghost use Rattle.fls_model.specs.Step.{IsStep, programs, erases};
 ghost use Rattle.fls_model.specs.Read.{IsRead};
 ghost use Rattle.fls_model.specs.Attach.{IsAttach};
@@ -38,13 +38,14 @@ pub trait Flash {
         requires { IsLegal geometry }
         ensures { IsAttach geometry (told self.old) result (told self.new) };
 
-    /// Ends a standing power cut.
+    /// Ends a standing power cut, and drops a plan.
     fn power_on(&mut self)
-        ensures { told self.new ≡ record (told self.old) { off = false } };
+        ensures { told self.new ≡ powered (told self.old) };
 
-    /// Plans a power cut at the nth changing operation from now, with so many bytes of it done, where the flash can.
+    /// Plans a power cut at the nth changing operation from now, with so many bytes of it done, while plans are taken
+    /// and nth isn't 0. A new plan replaces one that stands.
     fn arm(&mut self, nth: u32, keep: u32)
-        ensures { told self.new ≡ told self.old };
+        ensures { told self.new ≡ armed nth keep (told self.old) };
 
     /// Reads bytes of an attached flash.
     fn read(&mut self, address: u32, into: &mut [u8]) -> FlashAnswer

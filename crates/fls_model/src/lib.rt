@@ -6,11 +6,13 @@
 
 mod call;
 mod flash;
+mod image;
 mod memory;
 mod range;
 mod worked;
 
 pub use call::{Call, program_call};
 pub use flash::{AttachFault, Flash, FlashAnswer};
+pub use image::may_leave;
 pub use memory::{MemFlash, mem_flash};
-pub use worked::worked_cases;
+pub use worked::{planned_cases, worked_cases};

@@ -1,7 +1,7 @@
 // A flash in memory.
-ghost use Rattle.std.specs.Prelude.{◌≡◌, ◌≢◌, ◌≤◌, ◌<◌, ◌+◌, Some, IfOk, OnOk, OnErr, length, slice_set, false};
+ghost use Rattle.std.specs.Prelude.{◌≡◌, ◌≢◌, ◌≤◌, ◌<◌, ◌+◌, Some, IfOk, OnOk, OnErr, length, slice_set};
 ghost use Rattle.nv_base.specs.Geometry.{IsLegal, size_of};
-ghost use Rattle.fls_model.specs.Told.{HasRange, HasPage, HasSector};
+ghost use Rattle.fls_model.specs.Told.{armed, powered, HasRange, HasPage, HasSector};
 ghost use Rattle.fls_model.specs.Op.{after_op, MayLeave};
 ghost use Rattle.fls_model.specs.Step.{IsStep, programs, erases};
 ghost use Rattle.fls_model.specs.Read.{IsRead};
@@ -16,7 +16,7 @@ use nv_base::Geometry;
 use std::alloc::{AllocError, Global};
 use std::marker::Model;
 
-/// A flash in memory. It never fails and is never off. It tells the list of its changes exactly while it was asked
+/// A flash in memory. It never fails, is never off, and takes no plans of power cuts. It tells the list of its changes exactly while it was asked
 /// for at most as many changing operations since its attach as it was made to tell.
 #[derive(Drop)]
 pub struct MemFlash {
@@ -186,15 +186,18 @@ impl Flash for MemFlash {
     }
 
     fn power_on(&mut self)
-        ensures power { self.new.told ≡ record (self.old.told) { off = false } }
+        ensures power { self.new.told ≡ powered self.old.told }
         ensures same { self.new ≡ self.old }
     {
         let _geometry = self.geometry;
     }
 
     fn arm(&mut self, nth: u32, keep: u32)
-        ensures { self.new ≡ self.old }
-    {}
+        ensures arm { self.new.told ≡ armed nth keep self.old.told }
+        ensures same { self.new ≡ self.old }
+    {
+        let _ops = self.ops;
+    }
 
     fn read(&mut self, address: u32, into: &mut [u8]) -> FlashAnswer
         requires { HasRange self.old.told address (length into.old) }

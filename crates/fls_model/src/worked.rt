@@ -1,6 +1,10 @@
 // Worked cases of the definitions.
-ghost use Rattle.std.specs.Prelude.{◌≡◌, [], ◌∷◌};
+ghost use Rattle.std.specs.Prelude.{◌≡◌, [], ◌∷◌, None};
 ghost use Rattle.fls_model.specs.Op.{after_op, MayLeave, Program, Erase};
+ghost use Rattle.nv_base.specs.Plan.{Planning, planned, no_planning};
+ghost use Rattle.fls_model.specs.Plan.{PlanGoes};
+ghost use Rattle.fls_model.specs.Worked.{planned_at};
+ghost use Rattle.fls_model.specs.declared.flash.FlashAnswer.TheVariants.{Done, Off};
 
 /// Worked cases of what operations do, and of what a cut may and may not leave.
 pub fn worked_cases()
@@ -11,4 +15,16 @@ pub fn worked_cases()
     ensures torn_erase { MayLeave (Erase 0 1) (12 ∷ 5 ∷ []) (13 ∷ 5 ∷ []) }
     ensures no_bit_cleared { ¬ MayLeave (Erase 0 1) (12 ∷ []) (8 ∷ []) }
     ensures no_byte_beside { ¬ MayLeave (Program 0 (0 ∷ [])) (12 ∷ 5 ∷ []) (0 ∷ 4 ∷ []) }
+{}
+
+/// Worked cases of planned cuts.
+pub fn planned_cases()
+    ensures taken { planned 2 7 (record { plan = None; takes = 1; unplanned = 0 }) ≡ planned_at 2 }
+    ensures replaced { planned 1 7 (record { plan = (planned_at 2).plan; takes = 1; unplanned = 0 }) ≡ planned_at 1 }
+    ensures not_taken { planned 2 7 no_planning ≡ no_planning }
+    ensures nears { PlanGoes Done (planned_at 2) (planned_at 1) }
+    ensures comes { PlanGoes Off (planned_at 1) no_planning }
+    ensures not_later { (after : Planning) → ¬ PlanGoes Done (planned_at 1) after }
+    ensures not_earlier { ¬ PlanGoes Off (planned_at 2) no_planning }
+    ensures not_by_itself { ¬ PlanGoes Off no_planning no_planning }
 {}
