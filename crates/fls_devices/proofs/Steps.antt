@@ -1,11 +1,12 @@
 -- steps of a flash over another one
-use Rattle.std.proofs.Common.{◌≡◌, ◌≤◌, ℕ, ◌+◌, Bool, true, false, List, [], ◌∷◌, ◌++◌, length, Some, None, inl, inr, refl, sym, ap, ◌∙◌, subst, arith}
+use Rattle.std.proofs.Common.{◌≡◌, ◌≤◌, ℕ, ◌+◌, Bool, true, false, List, [], ◌∷◌, ◌++◌, length, Some, None, inl, inr, refl, ap, ◌∙◌, subst, arith}
 use Rattle.std.specs.Prelude.{Option}
 use Rattle.std.proofs.lemmas.Bool.{cases_Bool, cases_lt}
 use Rattle.std.proofs.lemmas.List.{length_push}
 use Rattle.nv_base.specs.Count.{Rose, last_count, next_count}
 use Rattle.fls_model.specs.declared.flash.FlashAnswer.{FlashAnswer}
 use Rattle.fls_model.specs.declared.flash.FlashAnswer.TheVariants.{Done, Failed, Off}
+use Rattle.nv_base.specs.Plan.{Planning}
 use Rattle.fls_model.specs.Told.{Told, Change, AreToldAlike, IfBothTold}
 use Rattle.fls_model.specs.Op.{Op, MayLeave}
 use Rattle.nv_base.specs.declared.geometry.Geometry.{Geometry}
@@ -16,7 +17,7 @@ use Rattle.fls_devices.specs.declared.part.Harm.{Harm}
 use Rattle.fls_devices.specs.declared.part.Harm.TheVariants.{Cut, Fault}
 use Rattle.fls_devices.specs.Journal.{Journaled, merged, all_changes, Passes, Adds}
 use Rattle.fls_devices.specs.Part.{part_of, harmed, cuts_after, faults_after, off_of}
-use Rattle.fls_devices.specs.Overlay.{Overlaid, IsOverlaid, FitsChanges, told_over, span, reached_count}
+use Rattle.fls_devices.specs.Overlay.{Overlaid, IsOverlaid, IsAskedOver, FitsChanges, told_over, span, reached_count}
 use Rattle.fls_devices.proofs.Merging.{merged_pass, merged_withheld, merged_reached}
 use Rattle.fls_devices.proofs.Parts.{part_within, may_stay}
 
@@ -104,16 +105,16 @@ no_fall Done s t cause = (omega arith, omega arith)
 no_fall Failed s t cause = (rose_le _ _ cause.0, omega arith)
 no_fall Off s t cause = (cause.0, rose_le _ _ cause.1)
 
-cause_pass : (a : FlashAnswer) (o n : Overlaid) → n.faults ≡ o.faults → n.cuts ≡ o.cuts → n.off ≡ off_of a → HasCause a o.inner n.inner → HasCause a (told_over o) (told_over n)
-cause_pass Done o n f c off cause = (omega arith, omega arith, off)
-cause_pass Failed o n f c off cause = (rw f (rose_beside _ _ o.faults cause.0), omega arith, off)
-cause_pass Off o n f c off cause = (omega arith, rw c (rose_beside _ _ o.cuts cause.1), off)
+cause_pass : (a : FlashAnswer) (o n : Overlaid) (p q : Planning) → n.faults ≡ o.faults → n.cuts ≡ o.cuts → n.off ≡ off_of a → HasCause a o.inner n.inner → HasCause a (told_over p o) (told_over q n)
+cause_pass Done o n p q f c off cause = (omega arith, omega arith, off)
+cause_pass Failed o n p q f c off cause = (rw f (rose_beside _ _ o.faults cause.0), omega arith, off)
+cause_pass Off o n p q f c off cause = (omega arith, rw c (rose_beside _ _ o.cuts cause.1), off)
 
-cause_harmed : (h : Harm) (a : FlashAnswer) (o n : Overlaid) → HasCounts o → n.faults ≡ faults_after h o.faults → n.cuts ≡ cuts_after h o.cuts → n.off ≡ off_of (harmed h a) → HasCause a o.inner n.inner → HasCause (harmed h a) (told_over o) (told_over n)
-cause_harmed Cut a o n counts f c off cause = (omega (arith, no_fall a o.inner n.inner cause), rw c (rose_own _ _ o.cuts counts.cuts (no_fall a o.inner n.inner cause).1), off)
-cause_harmed Fault Done o n counts f c off cause = (rw f (rose_own _ _ o.faults counts.faults (omega arith)), omega arith, off)
-cause_harmed Fault Failed o n counts f c off cause = (rw f (rose_own _ _ o.faults counts.faults (no_fall Failed o.inner n.inner cause).0), omega arith, off)
-cause_harmed Fault Off o n counts f c off cause = (omega arith, rw c (rose_beside _ _ o.cuts cause.1), off)
+cause_harmed : (h : Harm) (a : FlashAnswer) (o n : Overlaid) (p q : Planning) → HasCounts o → n.faults ≡ faults_after h o.faults → n.cuts ≡ cuts_after h o.cuts → n.off ≡ off_of (harmed h a) → HasCause a o.inner n.inner → HasCause (harmed h a) (told_over p o) (told_over q n)
+cause_harmed Cut a o n p q counts f c off cause = (omega (arith, no_fall a o.inner n.inner cause), rw c (rose_own _ _ o.cuts counts.cuts (no_fall a o.inner n.inner cause).1), off)
+cause_harmed Fault Done o n p q counts f c off cause = (rw f (rose_own _ _ o.faults counts.faults (omega arith)), omega arith, off)
+cause_harmed Fault Failed o n p q counts f c off cause = (rw f (rose_own _ _ o.faults counts.faults (no_fall Failed o.inner n.inner cause).0), omega arith, off)
+cause_harmed Fault Off o n p q counts f c off cause = (omega arith, rw c (rose_beside _ _ o.cuts cause.1), off)
 
 -- THE BYTES
 alike_same : (b : Option (List ℕ)) → AreToldAlike b b
@@ -139,50 +140,50 @@ leaves_harmed Fault Off op b b' may = may
 pub on_step : (op : Op) (s : Told) (a : FlashAnswer) (t : Told) → s.off ≡ false → IsStep op s a t → IsAsked op s a t
 on_step op s a t on step = subst (λ (off : Bool). OffOrAsked off op s a t) on step
 
-pub step_on : (op : Op) (s : Told) (a : FlashAnswer) (t : Told) → s.off ≡ false → IsAsked op s a t → IsStep op s a t
-step_on op s a t on asked = subst (λ (off : Bool). OffOrAsked off op s a t) (sym on) asked
-
 -- an operation that was handed on
-pub asked_pass : (op : Op) (o : Overlaid) (a : FlashAnswer) (i : Told) (j : Journaled) → IsOverlaid o → IsAsked op o.inner a i → Passes o.journal j → IsAsked op (told_over o) a (told_over (record o { inner = i; off = off_of a; journal = j }))
-asked_pass op o a i j kept asked passes = record {
+pub asked_pass : (op : Op) (o : Overlaid) (a : FlashAnswer) (i : Told) (j : Journaled) → IsOverlaid o → IsAsked op o.inner a i → Passes o.journal j → IsAskedOver op o a (record o { inner = i; off = off_of a; journal = j })
+asked_pass op o a i j kept asked passes = λ p q goes. record {
   geometry = asked.geometry;
   ops = omega (arith, asked.ops);
   told_alike = asked.told_alike;
   bytes = asked.bytes;
   within = asked.within;
   changes = rw asked.geometry (notes_pass o.inner.geometry op a o.journal j o.inner.bytes i.bytes o.inner.changes i.changes passes asked.told_alike asked.changes kept.fits);
-  cause = cause_pass a o (record o { inner = i; off = off_of a; journal = j }) refl refl refl asked.cause;
+  cause = cause_pass a o (record o { inner = i; off = off_of a; journal = j }) p q refl refl refl asked.cause;
+  planning = goes;
 }
 
 -- one of which nothing reached the inner flash
 pub asked_withheld : (h : Harm) (op : Op) (o : Overlaid) (e : Event) (j : Journaled) → IsOverlaid o → HasCounts o → o.off ≡ false → op_of o.inner.geometry e.call ≡ op → e.answer ≡ harmed h Done → e.since ≡ o.journal.since → e.reached ≡ false → Adds e o.journal j
-    → IsAsked op (told_over o) (harmed h Done) (told_over (record { inner = o.inner; off = off_of (harmed h Done); cuts = cuts_after h o.cuts; faults = faults_after h o.faults; withheld = next_count o.withheld; journal = j }))
+    → IsAskedOver op o (harmed h Done) (record { inner = o.inner; off = off_of (harmed h Done); cuts = cuts_after h o.cuts; faults = faults_after h o.faults; withheld = next_count o.withheld; journal = j })
 asked_withheld h op o e j kept counts on is answered since not adds =
     let n : Overlaid = record { inner = o.inner; off = off_of (harmed h Done); cuts = cuts_after h o.cuts; faults = faults_after h o.faults; withheld = next_count o.withheld; journal = j } in
-    record {
+    λ p q goes. record {
       geometry = refl;
       ops = omega arith;
       told_alike = alike_same o.inner.bytes;
       bytes = leaves_harmed h Done op o.inner.bytes o.inner.bytes (stays op o.inner.bytes);
       within = stays op o.inner.bytes;
       changes = notes_withheld o.inner.geometry op (harmed h Done) o.journal j e o.inner.bytes o.inner.changes adds is answered since not kept.fits;
-      cause = cause_harmed h Done o n counts refl refl refl (refl, refl, kept.power on);
+      cause = cause_harmed h Done o n p q counts refl refl refl (refl, refl, kept.power on);
+      planning = goes;
     }
 
 -- one of which a part reached it
 pub asked_reached : (h : Harm) (keep : ℕ) (op : Op) (a : FlashAnswer) (o : Overlaid) (i : Told) (e : Event) (j : Journaled) → IsOverlaid o → HasCounts o → IsAsked (part_of keep op) o.inner a i → op_of o.inner.geometry e.call ≡ op → e.answer ≡ harmed h a → e.since ≡ o.journal.since → e.reached ≡ true → Adds e o.journal j
-    → IsAsked op (told_over o) (harmed h a) (told_over (record { inner = i; off = off_of (harmed h a); cuts = cuts_after h o.cuts; faults = faults_after h o.faults; withheld = o.withheld; journal = j }))
+    → IsAskedOver op o (harmed h a) (record { inner = i; off = off_of (harmed h a); cuts = cuts_after h o.cuts; faults = faults_after h o.faults; withheld = o.withheld; journal = j })
 asked_reached h keep op a o i e j kept counts asked is answered since true_is adds =
     let n : Overlaid = record { inner = i; off = off_of (harmed h a); cuts = cuts_after h o.cuts; faults = faults_after h o.faults; withheld = o.withheld; journal = j } in
     let within : IfBothTold o.inner.bytes i.bytes (MayLeave op) = part_told keep op o.inner.bytes i.bytes asked.within in
-    record {
+    λ p q goes. record {
       geometry = asked.geometry;
       ops = omega (arith, asked.ops);
       told_alike = asked.told_alike;
       bytes = leaves_harmed h a op o.inner.bytes i.bytes within;
       within = within;
       changes = rw asked.geometry (notes_reached o.inner.geometry op (part_of keep op) (harmed h a) a o.journal j e o.inner.bytes i.bytes o.inner.changes i.changes adds is answered since true_is asked.told_alike asked.changes kept.fits);
-      cause = cause_harmed h a o n counts refl refl refl asked.cause;
+      cause = cause_harmed h a o n p q counts refl refl refl asked.cause;
+      planning = goes;
     }
 
 -- WHAT STAYS TRUE

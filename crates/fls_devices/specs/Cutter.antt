@@ -1,13 +1,14 @@
 -- A flash whose power is cut on purpose.
-use Rattle.std.specs.Prelude.{◌≡◌, ◌-◌, ℕ, Bool, true, false, Option, Some, None, nat_le, ◌&&◌, if◌then◌else◌}
+use Rattle.std.specs.Prelude.{◌≡◌, ◌-◌, ℕ, Bool, true, false, Option, Some, None, nat_le, if◌then◌else◌}
 use Rattle.fls_model.specs.declared.flash.FlashAnswer.{FlashAnswer}
 use Rattle.fls_model.specs.declared.flash.FlashAnswer.TheVariants.{Off}
+use Rattle.nv_base.specs.declared.plan.Plan.{Plan}
+use Rattle.nv_base.specs.Plan.{Planning}
 use Rattle.fls_model.specs.Told.{Told}
 use Rattle.fls_model.specs.Op.{Op}
 use Rattle.fls_devices.specs.declared.part.Harm.TheVariants.{Cut}
-use Rattle.fls_devices.specs.declared.cutter.Plan.{Plan}
 use Rattle.fls_devices.specs.Journal.{empty_journal}
-use Rattle.fls_devices.specs.Overlay.{Overlaid, overlaid, IsPassed, IsHarmed}
+use Rattle.fls_devices.specs.Overlay.{Overlaid, overlaid, told_over, IsPassed, IsHarmed}
 
 -- the flash that it cuts, the plan that stands, and how many plans it takes yet
 pub record Cutting : Type 0 where
@@ -18,6 +19,17 @@ pub record Cutting : Type 0 where
 -- a new one, of at most so many cuts
 abbrev pub cutting : Told → ℕ → Cutting
 cutting inner cuts = record { flash = overlaid inner (empty_journal cuts); plan = None; arms = cuts }
+
+-- its planned cuts; each cut of the inner flash is one that no plan asked for
+abbrev pub planning_of : Cutting → Planning
+planning_of c = record { plan = c.plan; takes = c.arms; unplanned = c.flash.inner.cuts }
+
+abbrev pub with_planning : Planning → Cutting → Cutting
+with_planning p c = record c { plan = p.plan; arms = p.takes }
+
+-- what is told of it
+abbrev pub told_cutting : Cutting → Told
+told_cutting c = told_over (planning_of c) c.flash
 
 -- how many bytes of the operation that comes now are done, where it is to be cut
 abbrev pub due : Bool → Option Plan → Option ℕ
@@ -40,7 +52,3 @@ pub record IsCutOrPassed (op : Op) (old : Cutting) (answer : FlashAnswer) (new :
   pub flash : CutOrPassed (due old.flash.off old.plan) op old.flash answer new.flash
   pub plan : new.plan ≡ plan_after old.flash.off old.plan
   pub arms : new.arms ≡ old.arms
-
--- a plan while it takes plans, else nothing
-abbrev pub armed : ℕ → ℕ → Cutting → Cutting
-armed nth keep c = if nat_le 1 nth && nat_le 1 c.arms then record c { plan = Some (record { left = nth; keep = keep }); arms = c.arms - 1 } else c

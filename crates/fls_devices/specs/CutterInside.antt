@@ -1,6 +1,6 @@
 -- The fields of a cutter.
 use Rattle.std.specs.Prelude.{◌≤◌, ◌+◌, ℕ, Option, Some, None}
-use Rattle.fls_devices.specs.declared.cutter.Plan.{Plan}
+use Rattle.nv_base.specs.declared.plan.Plan.{Plan}
 use Rattle.fls_devices.specs.Cutter.{Cutting}
 
 abbrev pub planned : Option Plan → ℕ

@@ -8,7 +8,7 @@ use Rattle.fls_model.specs.Op.{Op}
 use Rattle.fls_model.specs.Read.{IsRead}
 use Rattle.fls_devices.specs.declared.part.Harm.TheVariants.{Fault}
 use Rattle.fls_devices.specs.Journal.{empty_journal}
-use Rattle.fls_devices.specs.Overlay.{Overlaid, overlaid, IsPassed, IsHarmed}
+use Rattle.fls_devices.specs.Overlay.{Overlaid, overlaid, IsPassed, IsHarmed, told_over}
 
 -- the flash that fails, the changing operations that are still to fail with the bytes that are done of each, the read
 -- calls that fail, and the changing operations and read calls so far
@@ -22,6 +22,10 @@ pub record Scripted : Type 0 where
 -- a new one
 abbrev pub scripted : Told → List (ℕ × ℕ) → List ℕ → Scripted
 scripted inner changing reads = record { flash = overlaid inner (empty_journal (length changing)); changing = changing; reads = reads; asked = 0; read_calls = 0 }
+
+-- what is told of it; its planned cuts are those of the inner flash
+abbrev pub told_scripted : Scripted → Told
+told_scripted s = told_over s.flash.inner.planning s.flash
 
 -- the bytes that are done of the operation with this number, where it is listed
 abbrev pub kept_of : List (ℕ × ℕ) → ℕ → Option ℕ

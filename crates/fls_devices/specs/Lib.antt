@@ -2,6 +2,7 @@ pub mod Cutter
 pub mod CutterInside
 pub mod FaultScript
 pub mod FaultScriptInside
+pub mod FileFlash
 pub mod Journal
 pub mod Overlay
 pub mod Part

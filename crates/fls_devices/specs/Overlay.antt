@@ -3,9 +3,11 @@ use Rattle.std.specs.Prelude.{◌≡◌, ◌<◌, ◌+◌, ℕ, Bool, true, fals
 use Rattle.nv_base.specs.Count.{last_count, next_count}
 use Rattle.fls_model.specs.declared.flash.FlashAnswer.{FlashAnswer}
 use Rattle.fls_model.specs.declared.flash.FlashAnswer.TheVariants.{Done, Off}
-use Rattle.fls_model.specs.Told.{Told, Change}
+use Rattle.nv_base.specs.Plan.{Planning}
+use Rattle.fls_model.specs.Plan.{PlanGoes}
+use Rattle.fls_model.specs.Told.{Told, Change, powered}
 use Rattle.fls_model.specs.Op.{Op}
-use Rattle.fls_model.specs.Step.{IsStep}
+use Rattle.fls_model.specs.Step.{IsAsked}
 use Rattle.fls_devices.specs.declared.journal.Event.{Event}
 use Rattle.fls_devices.specs.declared.part.Harm.{Harm}
 use Rattle.fls_devices.specs.Journal.{Journaled, all_changes, Clears, Passes, AddsOf}
@@ -21,15 +23,16 @@ pub record Overlaid : Type 0 where
   pub withheld : ℕ
   pub journal : Journaled
 
--- what is told of it
-abbrev pub told_over : Overlaid → Told
-told_over o = record {
+-- what is told of it, with the planned cuts as the device over it tells them
+abbrev pub told_over : Planning → Overlaid → Told
+told_over p o = record {
   geometry = o.inner.geometry;
   bytes = o.inner.bytes;
   ops = min (o.inner.ops + o.withheld) last_count;
   faults = o.inner.faults + o.faults;
   cuts = o.inner.cuts + o.cuts;
   off = o.off;
+  planning = p;
   changes = all_changes o.journal.kept o.inner.geometry o.journal.events o.inner.bytes o.inner.changes;
 }
 
@@ -53,7 +56,7 @@ pub record IsOverlaid (o : Overlaid) : Type 0 where
 
 -- an operation is handed to the inner flash as it is
 pub record IsHandedOn (op : Op) (old : Overlaid) (answer : FlashAnswer) (new : Overlaid) : Type 0 where
-  pub step : IsStep op old.inner answer new.inner
+  pub asked : IsAsked op old.inner answer new.inner
   pub passes : Passes old.journal new.journal
   pub same : new ≡ record old { inner = new.inner; off = off_of answer; journal = new.journal }
 
@@ -74,7 +77,7 @@ pub record IsWithheld (harm : Harm) (op : Op) (old : Overlaid) (answer : FlashAn
 -- an operation is cut or fails, and the inner flash is asked for its part
 pub record IsPartDone (harm : Harm) (keep : ℕ) (op : Op) (old : Overlaid) (answer : FlashAnswer) (new : Overlaid) : Type 0 where
   pub inner : FlashAnswer
-  pub part : IsStep (part_of keep op) old.inner inner new.inner
+  pub part : IsAsked (part_of keep op) old.inner inner new.inner
   pub answer_is : answer ≡ harmed harm inner
   pub journal : AddsOf old.inner.geometry op true answer old.journal new.journal
   pub same : new ≡ record { inner = new.inner; off = off_of answer; cuts = cuts_after harm old.cuts; faults = faults_after harm old.faults; withheld = old.withheld; journal = new.journal }
@@ -87,6 +90,10 @@ WithheldOrPart false harm keep op old answer new = IsPartDone harm keep op old a
 abbrev pub IsHarmed : Harm → ℕ → Op → Overlaid → FlashAnswer → Overlaid → Type 0
 IsHarmed harm keep op old answer new = WithheldOrPart (nat_eq keep 0) harm keep op old answer new
 
+-- a changing operation, as it is told whatever becomes of the plans
+abbrev pub IsAskedOver : Op → Overlaid → FlashAnswer → Overlaid → Type 0
+IsAskedOver op old answer new = (p q : Planning) → PlanGoes answer p q → IsAsked op (told_over p old) answer (told_over q new)
+
 -- an attach of the inner flash begins the journal
 abbrev pub JournalAfter : {A E : Type 0} → Result A E → Journaled → Journaled → Type 0
 JournalAfter (Ok _) old new = Clears old new
@@ -94,7 +101,7 @@ JournalAfter (Err _) old new = new ≡ old
 
 -- a new one, with the power on
 abbrev pub overlaid : Told → Journaled → Overlaid
-overlaid inner journal = record { inner = record inner { off = false }; off = false; cuts = 0; faults = 0; withheld = 0; journal = journal }
+overlaid inner journal = record { inner = powered inner; off = false; cuts = 0; faults = 0; withheld = 0; journal = journal }
 
 -- the list of all changes stays told where the inner flash tells its own
 abbrev pub TellsOn : Overlaid → Overlaid → Type 0

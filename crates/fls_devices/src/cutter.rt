@@ -6,21 +6,15 @@ use crate::Harm;
 use crate::journal::Journal;
 use crate::overlay::Overlay;
 use fls_model::{AttachFault, Flash, FlashAnswer};
-use nv_base::Geometry;
+use nv_base::{Geometry, Plan};
 use std::alloc::{AllocFailed, Global};
 use std::marker::Model;
-
-/// A plan to cut the power: at which changing operation from now, from 1, and how many bytes of it are done.
-#[derive(Clone, Copy, Debug)]
-pub struct Plan {
-    pub left: u32,
-    pub keep: u32,
-}
 
 /// A flash over another one that cuts the power as `arm` plans it. A cut program leaves the first `keep` bytes of its
 /// page programmed, a cut erase is done where `keep` isn't 0. The cut call answers `Off`. A new plan replaces one that
 /// stands, `power_on` drops it, and a call of `arm` with nth 0, or after as many plans as it was made for, does
-/// nothing. Contracts see the inner flash, the cuts of its own, the plan and how many plans it takes yet. From its
+/// nothing. Contracts see the inner flash, the cuts of its own, the plan and how many plans it takes yet; each cut
+/// of the inner flash is one that no plan asked for. From its
 /// attach on it tells the list of all changes where the inner flash tells its own.
 #[derive(Drop)]
 pub struct Cutter<F: Flash> {
@@ -95,18 +89,19 @@ impl<F: Flash> Cutter<F> {
 impl<F: Flash> Flash for Cutter<F> {
     ghost use Rattle.std.specs.Prelude.{◌≡◌, length, None, false};
     ghost use Rattle.nv_base.specs.Geometry.{IsLegal};
-    ghost use Rattle.fls_model.specs.Told.{HasRange, HasPage, HasSector};
+    ghost use Rattle.fls_model.specs.Told.{armed, powered, HasRange, HasPage, HasSector};
+    ghost use Rattle.nv_base.specs.Plan.{planned};
     ghost use Rattle.fls_model.specs.Step.{IsStep, programs, erases};
     ghost use Rattle.fls_model.specs.Read.{IsRead};
     ghost use Rattle.fls_model.specs.Attach.{IsAttach};
-    ghost use Rattle.fls_devices.specs.Overlay.{told_over, JournalAfter, TellsOn};
-    ghost use Rattle.fls_devices.specs.Cutter.{armed, IsCutOrPassed};
+    ghost use Rattle.fls_devices.specs.Overlay.{JournalAfter, TellsOn};
+    ghost use Rattle.fls_devices.specs.Cutter.{told_cutting, planning_of, with_planning, IsCutOrPassed};
 
-    ghost told = { λ c. told_over c.flash };
+    ghost told = { told_cutting };
 
     fn attach(&mut self, alloc: Global, geometry: Geometry) -> Result<(), AttachFault>
         requires { IsLegal geometry }
-        ensures attach { IsAttach geometry (told_over self.old.flash) result (told_over self.new.flash) }
+        ensures attach { IsAttach geometry (told_cutting self.old) result (told_cutting self.new) }
         ensures inner { IsAttach geometry self.old.flash.inner result self.new.flash.inner }
         ensures journal { JournalAfter result self.old.flash.journal self.new.flash.journal }
         ensures same { self.new ≡ record self.old { flash = record self.old.flash { inner = self.new.flash.inner; journal = self.new.flash.journal } } }
@@ -115,7 +110,7 @@ impl<F: Flash> Flash for Cutter<F> {
     }
 
     fn power_on(&mut self)
-        ensures power { told_over self.new.flash ≡ record (told_over self.old.flash) { off = false } }
+        ensures power { told_cutting self.new ≡ powered (told_cutting self.old) }
         ensures disarmed { self.new.plan ≡ None }
         ensures arms { self.new.arms ≡ self.old.arms }
     {
@@ -124,8 +119,8 @@ impl<F: Flash> Flash for Cutter<F> {
     }
 
     fn arm(&mut self, nth: u32, keep: u32)
-        ensures told { told_over self.new.flash ≡ told_over self.old.flash }
-        ensures armed { self.new ≡ armed nth keep self.old }
+        ensures told { told_cutting self.new ≡ armed nth keep (told_cutting self.old) }
+        ensures armed { self.new ≡ with_planning (planned nth keep (planning_of self.old)) self.old }
     {
         if nth > 0 && self.arms > 0 {
             self.plan = Some(Plan { left: nth, keep });
@@ -134,8 +129,8 @@ impl<F: Flash> Flash for Cutter<F> {
     }
 
     fn read(&mut self, address: u32, into: &mut [u8]) -> FlashAnswer
-        requires { HasRange (told_over self.old.flash) address (length into.old) }
-        ensures read { IsRead address (told_over self.old.flash) into.old result into.new (told_over self.new.flash) }
+        requires { HasRange (told_cutting self.old) address (length into.old) }
+        ensures read { IsRead address (told_cutting self.old) into.old result into.new (told_cutting self.new) }
         ensures inner { self.old.flash.off ≡ false → IsRead address self.old.flash.inner into.old result into.new self.new.flash.inner }
         ensures same { self.new ≡ record self.old { flash = record self.old.flash { inner = self.new.flash.inner } } }
     {
@@ -143,8 +138,8 @@ impl<F: Flash> Flash for Cutter<F> {
     }
 
     fn program(&mut self, address: u32, page: &[u8]) -> FlashAnswer
-        requires { HasPage (told_over self.old.flash) address (length page.now) }
-        ensures step { IsStep (programs address page.now) (told_over self.old.flash) result (told_over self.new.flash) }
+        requires { HasPage (told_cutting self.old) address (length page.now) }
+        ensures step { IsStep (programs address page.now) (told_cutting self.old) result (told_cutting self.new) }
         ensures cut { IsCutOrPassed (programs address page.now) self.old result self.new }
         ensures tells { TellsOn self.old.flash self.new.flash }
     {
@@ -158,8 +153,8 @@ impl<F: Flash> Flash for Cutter<F> {
     }
 
     fn erase(&mut self, sector: u32) -> FlashAnswer
-        requires { HasSector (told_over self.old.flash) sector }
-        ensures step { IsStep (erases self.old.flash.inner.geometry sector) (told_over self.old.flash) result (told_over self.new.flash) }
+        requires { HasSector (told_cutting self.old) sector }
+        ensures step { IsStep (erases self.old.flash.inner.geometry sector) (told_cutting self.old) result (told_cutting self.new) }
         ensures cut { IsCutOrPassed (erases self.old.flash.inner.geometry sector) self.old result self.new }
         ensures tells { TellsOn self.old.flash self.new.flash }
     {

@@ -105,18 +105,18 @@ fn lists(
 impl<F: Flash> Flash for FaultScript<F> {
     ghost use Rattle.std.specs.Prelude.{◌≡◌, length, false};
     ghost use Rattle.nv_base.specs.Geometry.{IsLegal};
-    ghost use Rattle.fls_model.specs.Told.{HasRange, HasPage, HasSector};
+    ghost use Rattle.fls_model.specs.Told.{armed, powered, HasRange, HasPage, HasSector};
     ghost use Rattle.fls_model.specs.Step.{IsStep, programs, erases};
     ghost use Rattle.fls_model.specs.Read.{IsRead};
     ghost use Rattle.fls_model.specs.Attach.{IsAttach};
-    ghost use Rattle.fls_devices.specs.Overlay.{told_over, JournalAfter, TellsOn};
-    ghost use Rattle.fls_devices.specs.FaultScript.{OffOrCounted, OffOrReadCounted};
+    ghost use Rattle.fls_devices.specs.Overlay.{JournalAfter, TellsOn};
+    ghost use Rattle.fls_devices.specs.FaultScript.{told_scripted, OffOrCounted, OffOrReadCounted};
 
-    ghost told = { λ s. told_over s.flash };
+    ghost told = { told_scripted };
 
     fn attach(&mut self, alloc: Global, geometry: Geometry) -> Result<(), AttachFault>
         requires { IsLegal geometry }
-        ensures attach { IsAttach geometry (told_over self.old.flash) result (told_over self.new.flash) }
+        ensures attach { IsAttach geometry (told_scripted self.old) result (told_scripted self.new) }
         ensures inner { IsAttach geometry self.old.flash.inner result self.new.flash.inner }
         ensures journal { JournalAfter result self.old.flash.journal self.new.flash.journal }
         ensures same { self.new ≡ record self.old { flash = record self.old.flash { inner = self.new.flash.inner; journal = self.new.flash.journal } } }
@@ -125,21 +125,22 @@ impl<F: Flash> Flash for FaultScript<F> {
     }
 
     fn power_on(&mut self)
-        ensures power { told_over self.new.flash ≡ record (told_over self.old.flash) { off = false } }
-        ensures inner { self.new ≡ record self.old { flash = record self.old.flash { inner = record self.old.flash.inner { off = false }; off = false } } }
+        ensures power { told_scripted self.new ≡ powered (told_scripted self.old) }
+        ensures inner { self.new ≡ record self.old { flash = record self.old.flash { inner = powered self.old.flash.inner; off = false } } }
     {
         self.flash.power_on();
     }
 
     fn arm(&mut self, nth: u32, keep: u32)
-        ensures { self.new ≡ self.old }
+        ensures told { told_scripted self.new ≡ armed nth keep (told_scripted self.old) }
+        ensures inner { self.new ≡ record self.old { flash = record self.old.flash { inner = armed nth keep self.old.flash.inner } } }
     {
         self.flash.arm(nth, keep);
     }
 
     fn read(&mut self, address: u32, into: &mut [u8]) -> FlashAnswer
-        requires { HasRange (told_over self.old.flash) address (length into.old) }
-        ensures read { IsRead address (told_over self.old.flash) into.old result into.new (told_over self.new.flash) }
+        requires { HasRange (told_scripted self.old) address (length into.old) }
+        ensures read { IsRead address (told_scripted self.old) into.old result into.new (told_scripted self.new) }
         ensures counted { OffOrReadCounted self.old.flash.off address self.old into.old result into.new self.new }
     {
         if self.flash.is_off() {
@@ -154,8 +155,8 @@ impl<F: Flash> Flash for FaultScript<F> {
     }
 
     fn program(&mut self, address: u32, page: &[u8]) -> FlashAnswer
-        requires { HasPage (told_over self.old.flash) address (length page.now) }
-        ensures step { IsStep (programs address page.now) (told_over self.old.flash) result (told_over self.new.flash) }
+        requires { HasPage (told_scripted self.old) address (length page.now) }
+        ensures step { IsStep (programs address page.now) (told_scripted self.old) result (told_scripted self.new) }
         ensures counted { OffOrCounted self.old.flash.off (programs address page.now) self.old result self.new }
         ensures tells { TellsOn self.old.flash self.new.flash }
     {
@@ -170,8 +171,8 @@ impl<F: Flash> Flash for FaultScript<F> {
     }
 
     fn erase(&mut self, sector: u32) -> FlashAnswer
-        requires { HasSector (told_over self.old.flash) sector }
-        ensures step { IsStep (erases self.old.flash.inner.geometry sector) (told_over self.old.flash) result (told_over self.new.flash) }
+        requires { HasSector (told_scripted self.old) sector }
+        ensures step { IsStep (erases self.old.flash.inner.geometry sector) (told_scripted self.old) result (told_scripted self.new) }
         ensures counted { OffOrCounted self.old.flash.off (erases self.old.flash.inner.geometry sector) self.old result self.new }
         ensures tells { TellsOn self.old.flash self.new.flash }
     {

@@ -1,4 +1,4 @@
-//! Flashes over a flash: power cuts on purpose, and scripted faults.
+//! Flashes over a flash: power cuts on purpose, and scripted faults. And a flash in an image file.
 //!
 //! It promises which operation is cut or fails and what it leaves, over any flash and in any order, and the list of
 //! all changes where the inner flash tells its own. What a flash is stands in `fls_model`.
@@ -6,14 +6,18 @@
 
 mod cutter;
 mod fault_script;
+mod file_flash;
 mod journal;
 mod overlay;
 mod part;
 
-pub use cutter::{Cutter, Plan};
+pub use cutter::Cutter;
 pub use fault_script::FaultScript;
+pub use file_flash::FileFlash;
 pub use journal::Event;
 pub use part::Harm;
 
+#[cfg(test)]
+mod image_tests;
 #[cfg(test)]
 mod tests;

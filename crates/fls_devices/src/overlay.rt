@@ -2,13 +2,14 @@
 ghost use Rattle.std.specs.Prelude.{◌≡◌, ◌+◌, ◌≤◌, length, true, false};
 ghost use Rattle.nv_base.specs.Count.{Rose, next_count};
 ghost use Rattle.nv_base.specs.Geometry.{IsLegal};
-ghost use Rattle.fls_model.specs.Told.{HasRange, HasPage, HasSector};
+ghost use Rattle.fls_model.specs.Told.{armed, powered, HasRange, HasPage, HasSector};
 ghost use Rattle.fls_model.specs.Op.{Op};
-ghost use Rattle.fls_model.specs.Step.{IsStep, programs, erases};
+ghost use Rattle.nv_base.specs.Plan.{Planning};
+ghost use Rattle.fls_model.specs.Step.{programs, erases};
 ghost use Rattle.fls_model.specs.Read.{IsRead};
 ghost use Rattle.fls_model.specs.Attach.{IsAttach};
 ghost use Rattle.fls_model.specs.Call.{op_of};
-ghost use Rattle.fls_devices.specs.Overlay.{told_over, overlaid, IsPassed, IsWithheld, IsPartDone, IsHarmed, JournalAfter};
+ghost use Rattle.fls_devices.specs.Overlay.{told_over, overlaid, IsPassed, IsWithheld, IsPartDone, IsHarmed, IsAskedOver, JournalAfter};
 
 use crate::Harm;
 use crate::journal::Journal;
@@ -70,7 +71,7 @@ impl<F: Flash> Overlay<F> {
 
     pub fn attach(&mut self, alloc: Global, geometry: Geometry) -> Result<(), AttachFault>
         requires { IsLegal geometry }
-        ensures attach { IsAttach geometry (told_over self.old) result (told_over self.new) }
+        ensures attach { (p : Planning) → IsAttach geometry (told_over p self.old) result (told_over p self.new) }
         ensures inner { IsAttach geometry self.old.inner result self.new.inner }
         ensures journal { JournalAfter result self.old.journal self.new.journal }
         ensures same { self.new ≡ record self.old { inner = self.new.inner; journal = self.new.journal } }
@@ -84,24 +85,23 @@ impl<F: Flash> Overlay<F> {
     }
 
     pub fn power_on(&mut self)
-        ensures power { told_over self.new ≡ record (told_over self.old) { off = false } }
-        ensures inner { self.new ≡ record self.old { inner = record (self.old.inner) { off = false }; off = false } }
+        ensures { self.new ≡ record self.old { inner = powered self.old.inner; off = false } }
     {
         self.inner.power_on();
         self.off = false;
     }
 
     pub fn arm(&mut self, nth: u32, keep: u32)
-        ensures { self.new ≡ self.old }
+        ensures { self.new ≡ record self.old { inner = armed nth keep self.old.inner } }
     {
         self.inner.arm(nth, keep);
     }
 
     pub fn read(&mut self, address: u32, into: &mut [u8]) -> FlashAnswer
         requires { HasRange self.old.inner address (length into.old) }
-        ensures read { IsRead address (told_over self.old) into.old result into.new (told_over self.new) }
+        ensures read { (p : Planning) → IsRead address (told_over p self.old) into.old result into.new (told_over p self.new) }
         ensures inner { self.old.off ≡ false → IsRead address self.old.inner into.old result into.new self.new.inner }
-        ensures same { self.new ≡ record self.old { inner = self.new.inner } }
+        ensures same { self.new ≡ record self.old { inner = record self.old.inner { faults = self.new.inner.faults } } }
     {
         if self.off {
             return FlashAnswer::Off;
@@ -112,14 +112,14 @@ impl<F: Flash> Overlay<F> {
     // Counts a fault of its own.
     pub fn fail(&mut self)
         ensures counted { self.new ≡ record self.old { faults = next_count self.old.faults } }
-        ensures rose { Rose (told_over self.old).faults (told_over self.new).faults }
+        ensures rose { Rose (self.old.inner.faults + self.old.faults) (self.new.inner.faults + self.new.faults) }
     {
         self.faults = self.faults.saturating_add(1);
     }
 
     pub fn program(&mut self, address: u32, page: &[u8]) -> FlashAnswer
         requires { HasPage self.old.inner address (length page.now) }
-        ensures step { IsStep (programs address page.now) (told_over self.old) result (told_over self.new) }
+        ensures step { self.old.off ≡ false → IsAskedOver (programs address page.now) self.old result self.new }
         ensures passed { IsPassed (programs address page.now) self.old result self.new }
     {
         if self.off {
@@ -133,7 +133,7 @@ impl<F: Flash> Overlay<F> {
 
     pub fn erase(&mut self, sector: u32) -> FlashAnswer
         requires { HasSector self.old.inner sector }
-        ensures step { IsStep (erases self.old.inner.geometry sector) (told_over self.old) result (told_over self.new) }
+        ensures step { self.old.off ≡ false → IsAskedOver (erases self.old.inner.geometry sector) self.old result self.new }
         ensures passed { IsPassed (erases self.old.inner.geometry sector) self.old result self.new }
     {
         if self.off {
@@ -148,7 +148,7 @@ impl<F: Flash> Overlay<F> {
     // Cuts or fails an operation of which nothing is to be done.
     fn withhold(&mut self, harm: Harm, call: Call) -> FlashAnswer
         requires { self.old.off ≡ false }
-        ensures step { IsStep (op_of self.old.inner.geometry call) (told_over self.old) result (told_over self.new) }
+        ensures step { IsAskedOver (op_of self.old.inner.geometry call) self.old result self.new }
         ensures withheld { IsWithheld harm (op_of self.old.inner.geometry call) self.old result self.new }
     {
         let answer = harmed_answer(harm, FlashAnswer::Done);
@@ -164,7 +164,7 @@ impl<F: Flash> Overlay<F> {
     fn program_part(&mut self, harm: Harm, keep: u32, address: u32, page: &[u8]) -> FlashAnswer
         requires on { self.old.off ≡ false }
         requires page { HasPage self.old.inner address (length page.now) }
-        ensures step { IsStep (programs address page.now) (told_over self.old) result (told_over self.new) }
+        ensures step { IsAskedOver (programs address page.now) self.old result self.new }
         ensures part { IsPartDone harm keep (programs address page.now) self.old result self.new }
     {
         let part = kept_part(page, keep);
@@ -181,7 +181,7 @@ impl<F: Flash> Overlay<F> {
     fn erase_part(&mut self, harm: Harm, keep: u32, sector: u32) -> FlashAnswer
         requires on { self.old.off ≡ false }
         requires sector { HasSector self.old.inner sector }
-        ensures step { IsStep (erases self.old.inner.geometry sector) (told_over self.old) result (told_over self.new) }
+        ensures step { IsAskedOver (erases self.old.inner.geometry sector) self.old result self.new }
         ensures part { IsPartDone harm keep (erases self.old.inner.geometry sector) self.old result self.new }
     {
         let inner = self.inner.erase(sector);
@@ -197,7 +197,7 @@ impl<F: Flash> Overlay<F> {
     pub fn harm_program(&mut self, harm: Harm, keep: u32, address: u32, page: &[u8]) -> FlashAnswer
         requires on { self.old.off ≡ false }
         requires page { HasPage self.old.inner address (length page.now) }
-        ensures step { IsStep (programs address page.now) (told_over self.old) result (told_over self.new) }
+        ensures step { IsAskedOver (programs address page.now) self.old result self.new }
         ensures harmed { IsHarmed harm keep (programs address page.now) self.old result self.new }
     {
         if keep == 0 {
@@ -210,7 +210,7 @@ impl<F: Flash> Overlay<F> {
     pub fn harm_erase(&mut self, harm: Harm, keep: u32, sector: u32) -> FlashAnswer
         requires on { self.old.off ≡ false }
         requires sector { HasSector self.old.inner sector }
-        ensures step { IsStep (erases self.old.inner.geometry sector) (told_over self.old) result (told_over self.new) }
+        ensures step { IsAskedOver (erases self.old.inner.geometry sector) self.old result self.new }
         ensures harmed { IsHarmed harm keep (erases self.old.inner.geometry sector) self.old result self.new }
     {
         if keep == 0 {

@@ -1,6 +1,6 @@
 use Rattle.std.proofs.Common.{◌≡◌, false, refl, ap, ◌∙◌, arith}
 use Rattle.fls_devices.specs.Overlay.{Overlaid}
-use Rattle.fls_devices.proofs.Steps.{step_on, asked_withheld, kept_withheld}
+use Rattle.fls_devices.proofs.Steps.{asked_withheld, kept_withheld}
 use Rattle.fls_devices.proofs.overlay.Overlay.withhold.Goals as goal
 
 pub invariant_of-self : goal.invariant_of-self
@@ -13,4 +13,4 @@ pub returns-clause-step : goal.returns-clause-step
 returns-clause-step g c =
     let on : c.self.inside.off ≡ false = ap (λ (v : Overlaid). v.off) c.self.view_is ∙ c.requires in
     rw (← c.self.view_is, c.is_off-self-inside.ensures, c.count_cut-self-inside.ensures, c.count_fault-self-inside.ensures, c.saturating_add-self-inside.ensures, c.harmed_answer-answer.ensures)
-    (step_on _ _ _ _ on (asked_withheld _ _ _ _ _ c.self.invariant (record { cuts = omega arith; faults = omega arith }) on refl c.harmed_answer-answer.ensures refl refl c.add.ensures))
+    (asked_withheld _ _ _ _ _ c.self.invariant (record { cuts = omega arith; faults = omega arith }) on refl c.harmed_answer-answer.ensures refl refl c.add.ensures)
