@@ -2,6 +2,10 @@
 ghost use Rattle.std.specs.Prelude.{◌≡◌, ◌↔◌, ◌⊎◌, ◌<◌, true, false, length, None, Some, IsOk, IsSome, OnOk, OnErr};
 ghost use Rattle.nv_base.specs.Count.{Rose, next_count};
 ghost use Rattle.nv_base.specs.Geometry.{IsLegal};
+ghost use Rattle.fls_model.specs.declared.flash.FlashAnswer.TheVariants.{Off};
+ghost use Rattle.nv_base.specs.Plan.{Nears};
+ghost use Rattle.fls_model.specs.Plan.{PlanGoes};
+ghost use Rattle.fls_model.specs.Told.{armed, powered};
 ghost use Rattle.fls_model.specs.Attach.{IsAttach};
 ghost use Rattle.fls_jobs.specs.Reach.{read_reach, write_reach, compare_reach, erase_reach};
 ghost use Rattle.fls_jobs.specs.Start.{CanStart, IsAnswer};
@@ -77,18 +81,19 @@ impl<F: Flash> Fls<F> {
         Ok(())
     }
 
-    /// Ends a standing power cut.
+    /// Ends a standing power cut, and drops a plan.
     pub fn power_on(&mut self)
         requires { self.old.job ≡ None }
-        ensures { self.new ≡ record self.old { flash = record (self.old.flash) { off = false } } }
+        ensures { self.new ≡ record self.old { flash = powered self.old.flash } }
     {
         self.flash.power_on();
     }
 
-    /// Plans a power cut at the nth changing operation from now, where the flash can.
+    /// Plans a power cut at the nth changing operation from now, with so many bytes of it done, while the flash takes
+    /// plans and nth isn't 0.
     pub fn arm(&mut self, nth: u32, keep: u32)
         requires { self.old.job ≡ None }
-        ensures { self.new ≡ self.old }
+        ensures { self.new ≡ record self.old { flash = armed nth keep self.old.flash } }
     {
         self.flash.arm(nth, keep);
     }
@@ -200,13 +205,16 @@ impl<F: Flash> Fls<F> {
 
     /// Does one unit of the open job by one flash call: the read of a range into `into`, the program of a page, the
     /// erase of a sector, the read of bytes to compare, or the read of a range into `into` to see whether it is blank.
-    /// `Off` comes only while a power cut stands, and the job stays as it was.
+    /// `Off` comes only while a power cut stands, and the job stays as it was; where none stood before, it is the planned
+    /// one at its operation, or one more without a plan.
     pub fn turn(&mut self, into: &mut [u8]) -> FlsTurn
         requires { TakesInto self.old.job (length into.old) }
         ensures turn { IsTurn self.old into.old result into.new self.new }
         ensures idle { (result ≡ FlsTurn.Idle) ↔ (self.old.job ≡ None) }
         ensures failed { self.new.result ≡ FlsResult.JobFailed → result ≡ FlsTurn.Worked → Rose self.old.flash.faults self.new.flash.faults }
         ensures off { result ≡ FlsTurn.Off → self.new.flash.off ≡ true }
+        ensures off_paid { result ≡ FlsTurn.Off → self.old.flash.off ≡ false → PlanGoes Off self.old.flash.planning self.new.flash.planning }
+        ensures plan_waits { result ≡ FlsTurn.Worked → (self.new.flash.planning ≡ self.old.flash.planning) ⊎ (Nears self.old.flash.planning self.new.flash.planning × (self.new.flash.ops ≡ next_count self.old.flash.ops)) }
         ensures one_change { (self.new.flash.ops ≡ self.old.flash.ops) ⊎ (self.new.flash.ops ≡ next_count self.old.flash.ops) }
     {
         let Some(job) = &self.job else {
