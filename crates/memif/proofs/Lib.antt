@@ -1,0 +1,9 @@
+pub mod Ascending
+pub mod CallMade
+pub mod Places
+pub mod Plain
+pub mod PlainCalls
+pub mod PlainLooks
+pub mod PlainStarts
+pub mod PlainTurns
+pub mod Runs

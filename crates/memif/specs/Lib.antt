@@ -1,0 +1,15 @@
+pub mod Cancel
+pub mod Faults
+pub mod FoundMaps
+pub mod JobStart
+pub mod Kind
+pub mod Kept
+pub mod Marks
+pub mod Plain
+pub mod PlainInside
+pub mod Run
+pub mod StartUp
+pub mod Told
+pub mod Turn
+pub mod Urgent
+pub mod Worked

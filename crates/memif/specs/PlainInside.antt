@@ -1,0 +1,113 @@
+-- The fields of a device in memory.
+use Rattle.std.specs.Prelude.{◌≡◌, ◌<◌, ℕ, Bool, false, if◌then◌else◌, List, [], ◌∷◌, map, length, slice_get, slice_index_or, Option, Some, None, is_some}
+use Rattle.nv_base.specs.declared.instance.DeviceNumber.{DeviceNumber}
+use Rattle.nv_base.specs.declared.mark.Mark.{Mark}
+use Rattle.nv_base.specs.declared.mark.Mark.TheVariants as mark
+use Rattle.nv_base.specs.Lengths.{AreLengths}
+use Rattle.nv_base.specs.Plan.{no_planning}
+use Rattle.memif.specs.declared.answer.PlainMark.TheVariants as plain
+use Rattle.memif.specs.declared.answer.JobResult.{JobResult}
+use Rattle.memif.specs.declared.kept.Cell.{Cell}
+use Rattle.memif.specs.declared.kept.Kept.{Kept}
+use Rattle.memif.specs.declared.plain_store.PlainJob.{PlainJob}
+use Rattle.memif.specs.declared.plain_store.PlainStore.TheInside.{Inside}
+use Rattle.memif.specs.Told.{DeviceTold, Slot, Job, Always}
+use Rattle.memif.specs.Plain.{plain_fixed}
+
+-- a mark of a kind, with these bytes if it is a content
+abbrev pub mark_of : Cell → Mark
+mark_of c = elim c.kind [ plain.Content ↦ mark.Content c.content | plain.Invalid ↦ mark.Invalid | plain.Erased ↦ mark.Erased ]
+
+abbrev pub slot_of : Kept → Slot
+slot_of k = record { settled = mark_of k.settled; doubts = if k.doubted then mark_of k.next ∷ [] else [] }
+
+-- what was staged last
+abbrev pub next_of : Option Kept → Mark
+next_of (Some k) = mark_of k.next
+next_of None = mark.Erased
+
+abbrev pub job_of : List Kept → Option PlainJob → Option Job
+job_of kept None = None
+job_of kept (Some j) = Some (record {
+  number = j.number.0;
+  mark = if j.reads then None else Some (next_of (slice_get kept j.place));
+  urgent = j.urgent;
+  prompt = j.urgent;
+  worn = false;
+  faults_before = 0;
+})
+
+abbrev pub content_of : Option Kept → List ℕ
+content_of (Some k) = k.settled.content
+content_of None = []
+
+abbrev pub given_of : List Kept → Option ℕ → List ℕ
+given_of kept None = []
+given_of kept (Some place) = content_of (slice_get kept place)
+
+-- one turn for an open job
+abbrev pub turns_of : Bool → ℕ
+turns_of open_job = if open_job then 1 else 0
+
+abbrev pub is_urgent_job : Option PlainJob → Bool
+is_urgent_job None = false
+is_urgent_job (Some j) = j.urgent
+
+abbrev pub told_with : List (DeviceNumber × ℕ) → List Kept → Bool → Option PlainJob → JobResult → Option ℕ → DeviceTold
+told_with numbers kept started job last given = record {
+  fixed = plain_fixed numbers;
+  slots = Some (map slot_of kept);
+  started = started;
+  job = job_of kept job;
+  switching = false;
+  last = last;
+  given = given_of kept given;
+  ops = 0;
+  faults = 0;
+  first_faults = 0;
+  second_faults = 0;
+  off = false;
+  planning = no_planning;
+  left = turns_of (is_some job);
+  ready = Always;
+  wait = turns_of (is_urgent_job job);
+}
+
+abbrev pub told_of : Inside → DeviceTold
+told_of p = told_with p.numbers.items p.kept.items p.started p.job p.last p.given
+
+-- each number has room for its content, twice
+abbrev pub AreKept : List (DeviceNumber × ℕ) → List Kept → Type 0
+AreKept [] [] = Unit {0}
+AreKept (x ∷ xs) (k ∷ ks) = (length k.settled.content ≡ x.1) × (length k.next.content ≡ x.1) × AreKept xs ks
+AreKept [] (k ∷ ks) = ⊥
+AreKept (x ∷ xs) [] = ⊥
+
+-- a number stands at a place
+pub record IsAt (numbers : List (DeviceNumber × ℕ)) (number place : ℕ) : Type 0 where
+  pub within : place < length numbers
+  pub is : (d : DeviceNumber × ℕ) → (slice_index_or numbers place d).0.0 ≡ number
+
+abbrev pub IsSoundJob : List (DeviceNumber × ℕ) → Option PlainJob → Type 0
+IsSoundJob numbers None = Unit {0}
+IsSoundJob numbers (Some j) = IsAt numbers j.number.0 j.place
+
+abbrev pub IsSoundGiven : List (DeviceNumber × ℕ) → Option ℕ → Type 0
+IsSoundGiven numbers None = Unit {0}
+IsSoundGiven numbers (Some place) = place < length numbers
+
+-- a content is given behind a job, and not beside one
+abbrev pub GivesBehind : Option PlainJob → Option ℕ → Type 0
+GivesBehind (Some j) (Some place) = ⊥
+GivesBehind (Some j) None = Unit {0}
+GivesBehind None given = Unit {0}
+
+pub record IsSoundWith (numbers : List (DeviceNumber × ℕ)) (kept : List Kept) (job : Option PlainJob) (given : Option ℕ) : Type 0 where
+  pub ascending : AreLengths 0 numbers
+  pub room : AreKept numbers kept
+  pub at : IsSoundJob numbers job
+  pub gives : IsSoundGiven numbers given
+  pub behind : GivesBehind job given
+
+abbrev pub IsSound : Inside → Type 0
+IsSound p = IsSoundWith p.numbers.items p.kept.items p.job p.given

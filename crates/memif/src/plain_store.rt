@@ -1,0 +1,250 @@
+// A device in memory.
+ghost use Rattle.std.specs.Prelude.{◌≡◌, ◌≢◌, IfOk, Ok, MatchResult, Some, None, length, slice_index_or};
+ghost use Rattle.memif.specs.Told.{DeviceTold};
+ghost use Rattle.memif.specs.FoundMaps.{FoundMaps};
+ghost use Rattle.memif.specs.JobStart.{refusal_of};
+ghost use Rattle.memif.specs.StartUp.{IsStartUp};
+ghost use Rattle.memif.specs.Turn.{IsTurn};
+ghost use Rattle.memif.specs.Plain.{plain_store, no_maps, IsPlainTurn};
+ghost use Rattle.memif.specs.PlainInside.{IsAt};
+
+use crate::kept::{Kept, leave_no_doubt, mark, room_for, settle, stage};
+use crate::place::{numbers_of, place_of};
+use crate::{DeviceRefusal, DeviceTurn, JobResult, MemDevice, MemStatus, PlainMark, StartFault};
+use nv_base::{DeviceNumber, DeviceOp, Lengths};
+use std::alloc::{AllocError, Global};
+use std::marker::Model;
+
+/// The open job: of a number at a place, a read, or else a mark that was taken there.
+#[derive(Clone, Copy)]
+struct PlainJob {
+    number: DeviceNumber,
+    place: usize,
+    reads: bool,
+    urgent: bool,
+}
+
+/// A device in memory: the plain program of the contract. It tells its marks, each operation takes one turn, and it has
+/// no fault and no power cut. Contracts see what is told of it.
+#[derive(Drop)]
+pub struct PlainStore {
+    numbers: Vec<(DeviceNumber, u16)>,
+    kept: Vec<Kept>,
+    started: bool,
+    job: Option<PlainJob>,
+    last: JobResult,
+    given: Option<usize>,
+}
+
+impl Model for PlainStore {
+    ghost use Rattle.memif.specs.Told.{DeviceTold};
+
+    ghost Value = { DeviceTold };
+
+    ghost use Rattle.memif.specs.PlainInside.{told_of, IsSound};
+
+    ghost view = { told_of };
+
+    ghost invariant = { IsSound };
+}
+
+impl PlainStore {
+    /// A device of these numbers, each erased, that isn't started. It takes all the memory that it ever needs.
+    pub fn make(alloc: Global, numbers: &Lengths) -> Result<PlainStore, AllocError>
+        ensures { IfOk result (λ p. p ≡ plain_store numbers.now) }
+    {
+        let _ = numbers.len();
+        let numbers = numbers_of(alloc, numbers)?;
+        let kept = room_for(alloc, &numbers)?;
+        Ok(PlainStore {
+            numbers,
+            kept,
+            started: false,
+            job: None,
+            last: JobResult::JobOk,
+            given: None,
+        })
+    }
+
+    // The place of a number that a job may be taken for.
+    fn check(&self, number: DeviceNumber, length: Option<usize>) -> Result<usize, DeviceRefusal>
+        ensures refusal { MatchResult result (λ place. refusal_of self.now number.0 length ≡ None) (λ r. refusal_of self.now number.0 length ≡ Some r) }
+        ensures place { IfOk result (λ place. IsAt self.now.fixed.numbers number.0 place) }
+    {
+        if self.job.is_some() {
+            return Err(DeviceRefusal::Busy);
+        }
+        if !self.started {
+            return Err(DeviceRefusal::Uninit);
+        }
+        let Some(place) = place_of(&self.numbers, number.0) else {
+            return Err(DeviceRefusal::BadNumber);
+        };
+        match length {
+            Some(length) if length != usize::from(self.numbers[place].1) => {
+                Err(DeviceRefusal::BadLength)
+            }
+            _ => Ok(place),
+        }
+    }
+}
+
+impl MemDevice for PlainStore {
+    ghost told = { λ p. p };
+
+    ghost may_find = { λ p. no_maps };
+
+    fn start(&mut self) -> Result<(), StartFault>
+        ensures start { IsStartUp result self.old no_maps self.new no_maps }
+        ensures ok { (u : _) × (result ≡ Ok u) }
+        ensures no_fault { self.new.faults ≡ self.old.faults }
+    {
+        leave_no_doubt(&mut self.kept);
+        self.started = true;
+        self.job = None;
+        self.last = JobResult::JobOk;
+        self.given = None;
+        Ok(())
+    }
+
+    fn start_read(&mut self, number: DeviceNumber, length: u16) -> Result<(), DeviceRefusal> {
+        let place = self.check(number, Some(usize::from(length)))?;
+        self.job = Some(PlainJob {
+            number,
+            place,
+            reads: true,
+            urgent: false,
+        });
+        self.given = None;
+        Ok(())
+    }
+
+    fn start_write(
+        &mut self,
+        number: DeviceNumber,
+        content: &[u8],
+        urgent: bool,
+    ) -> Result<(), DeviceRefusal> {
+        let place = self.check(number, Some(content.len()))?;
+        stage(&mut self.kept, place, content);
+        self.job = Some(PlainJob {
+            number,
+            place,
+            reads: false,
+            urgent,
+        });
+        self.given = None;
+        Ok(())
+    }
+
+    fn start_invalidate(&mut self, number: DeviceNumber) -> Result<(), DeviceRefusal> {
+        let place = self.check(number, None)?;
+        mark(&mut self.kept, place, PlainMark::Invalid);
+        self.job = Some(PlainJob {
+            number,
+            place,
+            reads: false,
+            urgent: false,
+        });
+        self.given = None;
+        Ok(())
+    }
+
+    fn start_erase(&mut self, number: DeviceNumber) -> Result<(), DeviceRefusal> {
+        let place = self.check(number, None)?;
+        mark(&mut self.kept, place, PlainMark::Erased);
+        self.job = Some(PlainJob {
+            number,
+            place,
+            reads: false,
+            urgent: false,
+        });
+        self.given = None;
+        Ok(())
+    }
+
+    fn cancel(&mut self) {
+        if self.job.take().is_some() {
+            self.last = JobResult::JobCanceled;
+        }
+    }
+
+    fn arm(&mut self, which: u8, nth: u32, keep: u32) {
+        let _started = self.started;
+    }
+
+    fn turn(&mut self) -> DeviceTurn
+        ensures turn { IsTurn result self.old no_maps self.new no_maps }
+        ensures plain { IsPlainTurn result self.old self.new }
+    {
+        let Some(job) = self.job else {
+            return DeviceTurn::Idle;
+        };
+        self.job = None;
+        if !job.reads {
+            settle(&mut self.kept, job.place);
+            self.last = JobResult::JobOk;
+            return DeviceTurn::Worked;
+        }
+        match self.kept[job.place].settled.kind {
+            PlainMark::Content => {
+                self.given = Some(job.place);
+                self.last = JobResult::JobOk;
+            }
+            PlainMark::Invalid => self.last = JobResult::BlockInvalid,
+            PlainMark::Erased => self.last = JobResult::BlockInconsistent,
+        }
+        DeviceTurn::Worked
+    }
+
+    fn take_data(&self) -> &[u8] {
+        match self.given {
+            Some(place) => self.kept[place].settled.content.as_slice(),
+            None => &[],
+        }
+    }
+
+    fn mark_kind(&self, number: DeviceNumber) -> Option<PlainMark> {
+        match place_of(&self.numbers, number.0) {
+            Some(place) => Some(self.kept[place].settled.kind),
+            None => None,
+        }
+    }
+
+    fn status(&self) -> MemStatus {
+        if !self.started {
+            MemStatus::Uninit
+        } else if self.job.is_some() {
+            MemStatus::Busy
+        } else {
+            MemStatus::Idle
+        }
+    }
+
+    fn result(&self) -> JobResult {
+        if self.job.is_some() {
+            JobResult::JobPending
+        } else {
+            self.last
+        }
+    }
+
+    fn ops(&self) -> u64 {
+        let _started = self.started;
+        0
+    }
+
+    fn faults(&self) -> u64 {
+        let _started = self.started;
+        0
+    }
+
+    fn left(&self) -> u64 {
+        u64::from(self.job.is_some())
+    }
+
+    fn most(&self, number: DeviceNumber, op: DeviceOp) -> u64 {
+        let _started = self.started;
+        1
+    }
+}
