@@ -1,5 +1,6 @@
 -- Pages as lists of bytes.
-use Rattle.std.specs.Prelude.{ℕ, zero, suc, ◌+◌, ◌*◌, ◌-◌, ◌/◌, List, [], ◌++◌, length, take, drop, replicate}
+pub use Rattle.nv_base.specs.Pages.{body_pages_of, record_pages_of}
+use Rattle.std.specs.Prelude.{ℕ, zero, suc, ◌+◌, ◌*◌, List, [], ◌++◌, take, drop, replicate}
 
 -- what stands on page q of these bytes
 abbrev pub page_at : ℕ → List ℕ → ℕ → List ℕ
@@ -21,11 +22,3 @@ blank_page p = replicate p 255
 abbrev pub bytes_from : (ℕ → List ℕ) → ℕ → ℕ → List ℕ
 bytes_from P q zero = []
 bytes_from P q (suc n) = P q ++ bytes_from P (suc q) n
-
--- pages of a record's body
-abbrev pub body_pages_of : ℕ → ℕ → ℕ
-body_pages_of length page = (length + (page - 1)) / page
-
--- pages of a record of a length: header page, header gate, body pages, commit gate
-abbrev pub record_pages_of : ℕ → ℕ → ℕ
-record_pages_of length page = 3 + body_pages_of length page

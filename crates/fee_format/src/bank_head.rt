@@ -4,6 +4,7 @@ ghost use Rattle.fee_format.specs.BankHead.{IsLegalBankHead, guarded_bytes, bank
 ghost use Rattle.fee_format.specs.declared.bank_head.BankHead.{BankHead};
 
 use crate::bytes::all_are;
+use byteorder::{BigEndian, ByteOrder};
 
 /// The head of a bank: its format, which is 1, and its generation.
 #[derive(Clone, Copy, Debug, PartialEq, Eq)]
@@ -15,7 +16,9 @@ pub struct BankHead {
 fn bytes_of(head: BankHead) -> [u8; 12]
     ensures { result ≡ guarded_bytes head }
 {
-    let [g3, g2, g1, g0] = head.generation.to_be_bytes();
+    let mut generation = [0; 4];
+    BigEndian::write_u32(&mut generation, head.generation);
+    let [g3, g2, g1, g0] = generation;
     [
         0x42,
         head.format,
@@ -49,7 +52,7 @@ fn fields_of(page: &[u8]) -> BankHead
 {
     BankHead {
         format: page[1],
-        generation: u32::from_be_bytes([page[2], page[3], page[4], page[5]]),
+        generation: BigEndian::read_u32(&page[2..]),
     }
 }
 

@@ -1,17 +1,28 @@
-//! The bytes of a bank: the pages of its head, of its gates and of its records, and the record list that they make.
+//! The bytes of an image: the pages of a bank's head, of its gates and of its records, the record list that they
+//! make, the active bank of two, and the marks that a start-up finds in it.
 //!
-//! It promises writers and readers that are exact inverses of each other, over slices and without memory. Walking a
-//! bank and keeping a log of it are left to the crates above.
+//! It promises writers and readers that are exact inverses of each other, over slices and without memory, and laws of
+//! images: each has one found map, and no torn erase makes a bank stand. Walking a bank and keeping a log of it are
+//! left to the crates above.
 #![tactic(auto)]
 
 mod bank_head;
 mod bytes;
+mod cases;
 mod gate;
+mod laws;
 mod pages;
 mod rec_head;
 
 pub use bank_head::{BankHead, read_bank_head, write_bank_head};
+pub use cases::{
+    active_of_two, first_write, second_write_cut, sound_or_not, torn_erase, torn_programs,
+};
 pub use gate::{gate_stands, write_gate};
+pub use laws::{
+    blank_images, found_map_stays, one_active_bank, one_found, one_record_list,
+    programs_keep_soundness, torn_erases_keep_soundness, torn_erases_make_nothing,
+};
 pub use pages::pages_of;
 pub use rec_head::{RecHead, read_rec_head, write_rec_head};
 

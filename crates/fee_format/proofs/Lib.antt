@@ -1,0 +1,12 @@
+pub mod Blank
+pub mod Decided
+pub mod FoundLists
+pub mod HeadBytes
+pub mod OneFound
+pub mod OneList
+pub mod SamePages
+pub mod SomeList
+pub mod SoundCases
+pub mod Soundness
+pub mod Torn
+pub mod TwoWrites
