@@ -1,7 +1,12 @@
+pub mod ContentLaws
+pub mod CountLaws
 pub mod Cuts
+pub mod EntryLaws
+pub mod Fields
 pub mod LineLaws
 pub mod Numerals
 pub mod OwnerLaws
+pub mod Readers
 pub mod RuleLaws
 pub mod ScriptLaws
 pub mod SpellingLaws

@@ -1,8 +1,10 @@
+pub mod Counts
 pub mod Cut
 pub mod Line
 pub mod Lines
 pub mod Number
 pub mod Owners
+pub mod Printed
 pub mod Reading
 pub mod Readings
 pub mod Rules
@@ -10,5 +12,7 @@ pub mod Script
 pub mod ScriptReading
 pub mod Spelling
 pub mod Step
+pub mod Summary
+pub mod Values
 pub mod Word
 pub mod Words

@@ -1,27 +1,34 @@
-//! What people write and read: the steps of a script, and the line of each entry of a history.
+//! What people write and read: the steps of a script, the line of each entry of a history, and a history's summary.
 //!
-//! It promises that a line is exactly the text of its entry, and that a script gives exactly the steps that it spells,
-//! or names its first wrong line. Which entries a history may hold, and what becomes of a step, is left to the crates
-//! that take them.
+//! It promises that a line is exactly the text of its entry and tells the entry, that a summary counts every entry, and
+//! that a script gives exactly the steps that it spells, or names its first wrong line. Which entries a history may hold,
+//! and what becomes of a step, is left to the crates that take them.
 #![tactic(auto)]
 
 mod caller;
+mod counts;
 mod cut;
 mod lines;
 mod number;
 mod owners;
+mod printed;
 mod readings;
 mod rules;
 mod script;
 mod spelling;
 mod step;
 mod step_list;
+mod summary;
+mod values;
 mod word;
 mod words;
 
 pub use lines::{end_text, entry_text};
 pub use number::number as number_within;
+pub use printed::one_entry;
 pub use readings::one_reading;
 pub use script::{Mode, ScriptFault, first_line, read_script};
 pub use step::{Step, StepKind};
 pub use step_list::StepList;
+pub use summary::summary_text;
+pub use values::entry_value;

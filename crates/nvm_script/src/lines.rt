@@ -1,22 +1,38 @@
 // The lines of a history.
 ghost use Rattle.std.specs.Prelude.{◌≡◌, length, IfOk, string_bytes};
 ghost use Rattle.std.specs.List.{flat_map};
-ghost use Rattle.nvm_script.specs.Words.{mark_text};
+ghost use Rattle.nv_base.specs.Result.{code_of};
+ghost use Rattle.nvm_script.specs.Words.{mark_text, request_text, reply_text, job_text, taken_text, given_text, refused_text};
 ghost use Rattle.nvm_script.specs.Lines.{ask_line as ask_text, pick_line as pick_text, instance_text, wrote_line as wrote_text, post_line as post_text, found_text, found_line as found_line_text, entry_line, end_line};
 
 use crate::words::{
     given_words, job_word, mark_words, refused_words, reply_words, request_words, taken_words,
 };
-use nv_base::{Bytes, Entry, Instance, Mark, Marks, result_code};
+use nv_base::{
+    Bytes, Entry, Instance, JobKind, Mark, Marks, Reply, ReqResult, Request, Taken, result_code,
+};
 use std::alloc::{AllocError, Global};
 
-fn ask_line(alloc: Global, caller: u8, request: &str, reply: &str) -> Result<String, AllocError>
+fn ask_words(alloc: Global, caller: u8, request: &str, reply: &str) -> Result<String, AllocError>
     ensures { IfOk result (λ t. string_bytes t ≡ ask_text caller request.now reply.now) }
 {
     format!(in alloc; "ask {caller} {request} -> {reply}\n")
 }
 
-fn pick_line(
+fn ask_line(
+    alloc: Global,
+    caller: u8,
+    request: &Request,
+    reply: Reply,
+) -> Result<String, AllocError>
+    ensures { IfOk result (λ t. string_bytes t ≡ ask_text caller (request_text request.now) (reply_text reply)) }
+{
+    let request = request_words(alloc, request)?;
+    let reply = reply_words(alloc, reply)?;
+    ask_words(alloc, caller, request.as_str(), reply.as_str())
+}
+
+fn pick_words(
     alloc: Global,
     block: u16,
     job: &str,
@@ -28,6 +44,19 @@ fn pick_line(
     format!(in alloc; "pick {block} {job}{taken} ops {ops}\n")
 }
 
+fn pick_line(
+    alloc: Global,
+    block: u16,
+    job: JobKind,
+    taken: &Taken,
+    ops: u64,
+) -> Result<String, AllocError>
+    ensures { IfOk result (λ t. string_bytes t ≡ pick_text block (job_text job) (taken_text taken.now) ops) }
+{
+    let taken = taken_words(alloc, taken)?;
+    pick_words(alloc, block, job_word(job), taken.as_str(), ops)
+}
+
 fn instance_words(alloc: Global, instance: Instance, mark: &Mark) -> Result<String, AllocError>
     ensures { IfOk result (λ t. string_bytes t ≡ instance_text instance (mark_text mark.now)) }
 {
@@ -37,13 +66,19 @@ fn instance_words(alloc: Global, instance: Instance, mark: &Mark) -> Result<Stri
     format!(in alloc; "{block}.{index} {words}")
 }
 
-fn wrote_line(alloc: Global, words: &str, ops: u64) -> Result<String, AllocError>
-    ensures { IfOk result (λ t. string_bytes t ≡ wrote_text words.now ops) }
+fn wrote_line(
+    alloc: Global,
+    instance: Instance,
+    mark: &Mark,
+    ops: u64,
+) -> Result<String, AllocError>
+    ensures { IfOk result (λ t. string_bytes t ≡ wrote_text (instance_text instance (mark_text mark.now)) ops) }
 {
+    let words = instance_words(alloc, instance, mark)?;
     format!(in alloc; "wrote {words} ops {ops}\n")
 }
 
-fn post_line(
+fn post_words(
     alloc: Global,
     block: u16,
     code: u8,
@@ -54,6 +89,22 @@ fn post_line(
     ensures { IfOk result (λ t. string_bytes t ≡ post_text block code given.now refused.now ops) }
 {
     format!(in alloc; "post {block} {code}{given}{refused} ops {ops}\n")
+}
+
+fn post_line(
+    alloc: Global,
+    block: u16,
+    outcome: ReqResult,
+    given: &Option<Bytes>,
+    refused: u8,
+    ops: u64,
+) -> Result<String, AllocError>
+    ensures { IfOk result (λ t. string_bytes t ≡ post_text block (code_of outcome) (given_text given.now) (refused_text refused) ops) }
+{
+    let code = result_code(outcome);
+    let given = given_words(alloc, given)?;
+    let refused = refused_words(alloc, refused)?;
+    post_words(alloc, block, code, given.as_str(), refused.as_str(), ops)
 }
 
 fn found_words(alloc: Global, instance: Instance, mark: &Mark) -> Result<String, AllocError>
@@ -77,10 +128,12 @@ fn all_found_words(alloc: Global, marks: &Marks) -> Result<String, AllocError>
     Ok(text)
 }
 
-fn found_line(alloc: Global, count: u32, marks: &str, ops: u64) -> Result<String, AllocError>
-    ensures { IfOk result (λ t. string_bytes t ≡ found_line_text count marks.now ops) }
+fn found_line(alloc: Global, marks: &Marks, ops: u64) -> Result<String, AllocError>
+    ensures { IfOk result (λ t. string_bytes t ≡ found_line_text (length marks.now) (flat_map found_text marks.now) ops) }
 {
-    format!(in alloc; "found {count}{marks} ops {ops}\n")
+    let words = all_found_words(alloc, marks)?;
+    let count = marks.len();
+    format!(in alloc; "found {count}{words} ops {ops}\n")
 }
 
 fn line(alloc: Global, entry: &Entry) -> Result<String, AllocError>
@@ -91,51 +144,27 @@ fn line(alloc: Global, entry: &Entry) -> Result<String, AllocError>
             caller,
             request,
             reply,
-        } => {
-            let request = request_words(alloc, request)?;
-            let reply = reply_words(alloc, *reply)?;
-            ask_line(alloc, *caller, request.as_str(), reply.as_str())
-        }
+        } => ask_line(alloc, *caller, request, *reply),
         Entry::Pick {
             block,
             job,
             taken,
             ops,
-        } => {
-            let taken = taken_words(alloc, taken)?;
-            pick_line(alloc, *block, job_word(*job), taken.as_str(), *ops)
-        }
+        } => pick_line(alloc, *block, *job, taken, *ops),
         Entry::Wrote {
             instance,
             mark,
             ops,
-        } => {
-            let words = instance_words(alloc, *instance, mark)?;
-            wrote_line(alloc, words.as_str(), *ops)
-        }
+        } => wrote_line(alloc, *instance, mark, *ops),
         Entry::Post {
             block,
             result: outcome,
             given,
             refused,
             ops,
-        } => {
-            let given = given_words(alloc, given)?;
-            let refused = refused_words(alloc, *refused)?;
-            post_line(
-                alloc,
-                *block,
-                result_code(*outcome),
-                given.as_str(),
-                refused.as_str(),
-                *ops,
-            )
-        }
+        } => post_line(alloc, *block, *outcome, given, *refused, *ops),
         Entry::Off { ops } => format!(in alloc; "off ops {ops}\n"),
-        Entry::Found { marks, ops } => {
-            let words = all_found_words(alloc, marks)?;
-            found_line(alloc, marks.len(), words.as_str(), *ops)
-        }
+        Entry::Found { marks, ops } => found_line(alloc, marks, *ops),
     }
 }
 
@@ -158,7 +187,8 @@ pub fn end_text(alloc: Global, count: u32) -> Result<Bytes, AllocError>
 #[cfg(test)]
 mod tests {
     use super::*;
-    use nv_base::{JobKind, Refusal, Reply, ReqResult, Request, Taken, bytes_of};
+    use crate::values::entry_value;
+    use nv_base::{Refusal, bytes_of};
     use std::process::Abort;
     use std::test::Fail;
 
@@ -199,6 +229,7 @@ mod tests {
 
     fn expect_lines(rt: &impl Abort, alloc: Global, cases: &[(Entry, &str)]) -> Result<(), Fail> {
         for (entry, line) in cases {
+            entry_value(entry);
             let text = entry_text(alloc, entry)?;
             assert_eq!(rt; text.as_slice(), line.as_bytes(), "{line}");
         }
@@ -250,7 +281,7 @@ mod tests {
     }
 
     #[test]
-    fn lines_of_jobs(rt: HostRuntime) -> Result<(), Fail> {
+    fn lines_of_picks(rt: HostRuntime) -> Result<(), Fail> {
         let alloc = rt.alloc();
         let bytes = bytes_of(alloc, &[1, 2, 3, 4])?;
         let stored = Taken::Content { bytes, store: 1 };
@@ -262,8 +293,6 @@ mod tests {
             got: 2,
             count: 1,
         };
-        let same = Mark::Content(bytes_of(alloc, &[0x0a; 4])?);
-        let given = Some(bytes_of(alloc, &[0xa5; 20])?);
         let cases = [
             (
                 pick(JobKind::Write, stored, 0),
@@ -285,6 +314,16 @@ mod tests {
                 pick(JobKind::Read, Taken::Nothing, 10),
                 "pick 2 read ops 10\n",
             ),
+        ];
+        expect_lines(&rt, alloc, &cases)
+    }
+
+    #[test]
+    fn lines_of_writes_and_posts(rt: HostRuntime) -> Result<(), Fail> {
+        let alloc = rt.alloc();
+        let same = Mark::Content(bytes_of(alloc, &[0x0a; 4])?);
+        let given = Some(bytes_of(alloc, &[0xa5; 20])?);
+        let cases = [
             (wrote(1, same), "wrote 2.1 data 0a0a0a0a ops 14\n"),
             (wrote(0, Mark::Erased), "wrote 2.0 erased ops 14\n"),
             (
