@@ -1,4 +1,3 @@
 pub mod FailedSets
 pub mod HistoryLaws
-pub mod Runs
-pub mod WrongWalks
+pub mod Texts

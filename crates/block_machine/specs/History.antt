@@ -2,10 +2,11 @@
 use Rattle.std.specs.Prelude.{ℕ, nat_le, Bool, false, List, [], ◌∷◌, if◌then◌else◌, Option, Some, None}
 use Rattle.std.specs.List.{list_any}
 use Rattle.std.specs.Option.{option_map_or}
+use Rattle.nvm_script.specs.Summary.{ops_of}
 use Rattle.block_machine.specs.Words.{Instance, Mark, Entry, Configuration}
 use Rattle.block_machine.specs.State.{InstanceState}
 use Rattle.block_machine.specs.Blocks.{instance_at}
-use Rattle.block_machine.specs.Steps.{ops_of, after}
+use Rattle.block_machine.specs.Steps.{after}
 use Rattle.block_machine.specs.Legal.{MayStand}
 
 -- a driver entry that was made when the device was asked for at most k operations

@@ -1,5 +1,7 @@
 -- Laws of the block machine.
 use Rattle.std.specs.Prelude.{◌≡◌, ◌≢◌, ℕ, true, false, List, [], ◌∷◌, ◌++◌, length, ◌≤◌, Contains, IsSome, unwrap_or}
+use Rattle.nvm_script.specs.Values.{IsEntryValue}
+use Rattle.nvm_script.specs.Printed.{history_text, BeginsNoEntry}
 use Rattle.block_machine.specs.Words.{Request, Reply, Entry, Ask, Configuration}
 use Rattle.block_machine.specs.State.{State, Job}
 use Rattle.block_machine.specs.Blocks.{block_at}
@@ -42,3 +44,15 @@ abbrev pub FailedSetsAreLeast : Type 0
 FailedSetsAreLeast =
     (c : Configuration) (s : State) (j : Job) (failed : List ℕ) → Contains (open_sets c s j j.kind) failed
     → IsSome (failed_set c s j (result_of c s j failed)) × (length (unwrap_or (failed_set c s j (result_of c s j failed)) []) ≤ length failed)
+
+-- THE TEXT OF A HISTORY
+-- the numbers and bytes of all entries are as small as those of a program
+abbrev pub AreValues : List Entry → Type 0
+AreValues [] = Unit {0}
+AreValues (e ∷ es) = IsEntryValue e × AreValues es
+
+-- Two legal histories of one configuration with the same text, with or without its last line, are the same history.
+abbrev pub TextsTellLegalHistories : Type 0
+TextsTellLegalHistories =
+    (c : Configuration) (cap : ℕ) (a b : List Entry) (s t : List ℕ) → IsLegal c cap a → IsLegal c cap b → AreValues a → AreValues b → BeginsNoEntry s → BeginsNoEntry t
+    → history_text a ++ s ≡ history_text b ++ t → (a ≡ b) × (s ≡ t)

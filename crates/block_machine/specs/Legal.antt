@@ -1,8 +1,9 @@
 -- Which entry may come in a state, and which histories are legal.
-use Rattle.std.specs.Prelude.{◌≡◌, ◌⊎◌, ◌≤◌, ◌<◌, ℕ, zero, suc, ◌+◌, ◌==◌, ◌&&◌, not, nat_lt, Bool, true, false, List, [], ◌∷◌, ◌++◌, length, IsTrue, IsSome, Contains, Option, Some, None, if◌then◌else◌}
+use Rattle.std.specs.Prelude.{◌≡◌, ◌⊎◌, ◌≤◌, ◌<◌, ℕ, zero, suc, ◌+◌, ◌==◌, ◌&&◌, not, nat_lt, Bool, true, false, List, [], ◌∷◌, length, IsTrue, IsSome, Contains, Option, Some, None, if◌then◌else◌}
 use Rattle.std.specs.List.{list_all}
 use Rattle.std.specs.Option.{option_map_or}
-use Rattle.block_machine.specs.Words.{ReqResult, NotOk, Instance, Mark, Content, Erased, Request, Write, Reply, JobKind, WriteJob, ReadAllJob, WriteAllJob, Taken, TookNothing, TookContent, TookRefused, TookStale, Entry, Ask, Pick, Wrote, Post, Off, Found, BlockDesc, Configuration}
+use Rattle.nv_base.specs.Marks.{listed}
+use Rattle.block_machine.specs.Words.{ReqResult, NotOk, Instance, Mark, Content, Request, Write, Reply, JobKind, WriteJob, ReadAllJob, WriteAllJob, Taken, TookNothing, TookContent, TookRefused, TookStale, Entry, Ask, Pick, Wrote, Post, Off, Found, BlockDesc, Configuration}
 use Rattle.block_machine.specs.State.{State, InstanceState, Job, Sweep}
 use Rattle.block_machine.specs.Blocks.{desc_of, block_at, is_synchronized, indices_of, job_in_hand, mark_of}
 use Rattle.block_machine.specs.Sweeps.{member_job, sweep_result}
@@ -152,14 +153,10 @@ abbrev pub MayBeFound : List (Instance × Mark) → List InstanceState → Type 
 MayBeFound marks [] = Unit {0}
 MayBeFound marks (x ∷ xs) = MayStand x (listed_mark marks x.instance) × MayBeFound marks xs
 
-abbrev pub listed : Instance → Mark → List (Instance × Mark)
-listed i Erased = []
-listed i mark = (i, mark) ∷ []
-
 -- the marks of these instances, without the erased ones
 abbrev pub marks_of : List InstanceState → List (Instance × Mark)
 marks_of [] = []
-marks_of (x ∷ xs) = listed x.instance x.settled ++ marks_of xs
+marks_of (x ∷ xs) = listed x.instance x.settled (marks_of xs)
 
 -- a content has the length of its block
 abbrev pub has_length : Configuration → Instance → Mark → Bool

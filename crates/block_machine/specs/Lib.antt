@@ -13,6 +13,3 @@ pub mod Prices
 pub mod Walk
 pub mod Callers
 pub mod Laws
-pub mod Cases
-pub mod CornerCases
-pub mod RefutedCases

@@ -1,7 +1,7 @@
 -- The state before the first start-up, and the state that a start-up leaves.
-use Rattle.std.specs.Prelude.{ℕ, ◌==◌, ◌/◌, ◌%◌, true, false, List, [], ◌∷◌, map, find, replicate, unwrap_or, option_map, if◌then◌else◌, None}
+use Rattle.std.specs.Prelude.{ℕ, ◌==◌, true, false, List, [], ◌∷◌, map, find, replicate, unwrap_or, option_map, if◌then◌else◌, None}
 use Rattle.std.specs.List.{list_any, enumerate_from}
-use Rattle.nv_base.specs.declared.instance.DeviceNumber.{DeviceNumber}
+use Rattle.nv_base.specs.Marks.{instance_of}
 use Rattle.block_config.specs.Lengths.{lengths_of}
 use Rattle.block_machine.specs.Words.{Fine, Instance, Mark, Erased, BlockDesc, Configuration}
 use Rattle.block_machine.specs.State.{State, BlockState, InstanceState}
@@ -14,9 +14,6 @@ at_first = record { started = false; off = false; count = 0; ops = 0; blocks = [
 -- the mark that is listed for an instance, or Erased where none is
 abbrev pub listed_mark : List (Instance × Mark) → Instance → Mark
 listed_mark marks i = unwrap_or (option_map (λ x. x.1) (find (λ x. is_instance i.block i.index x.0) marks)) Erased
-
-abbrev pub instance_of : DeviceNumber → Instance
-instance_of n = record { block = n.0 / 64; index = n.0 % 64 }
 
 -- an instance is settled at what was found
 abbrev pub found_instance : List (Instance × Mark) → Instance → InstanceState

@@ -1,6 +1,7 @@
 -- The state after an entry.
 use Rattle.std.specs.Prelude.{ℕ, ◌+◌, ◌-◌, ◌==◌, ◌&&◌, ◌||◌, Bool, true, false, List, [], ◌∷◌, ◌++◌, drop, map, is_some, slice_set, unwrap_or, option_map, if◌then◌else◌, Option, Some, None}
 use Rattle.std.specs.List.{list_any}
+use Rattle.nvm_script.specs.Summary.{ops_of}
 use Rattle.block_machine.specs.Words.{ReqResult, Fine, Pending, Restored, Instance, Mark, Request, Read, Write, Restore, Erase, Invalidate, SetIndex, GetIndex, SetProtection, SetLock, SetRam, PutRam, Status, ReadAll, WriteAll, CancelWriteAll, Reply, Accepted, JobKind, ReadJob, WriteJob, RestoreJob, EraseJob, InvalidateJob, Taken, TookContent, Entry, Ask, Pick, Wrote, Post, Off, Found, BlockDesc, Configuration}
 use Rattle.block_machine.specs.State.{State, BlockState, InstanceState, Job, Sweep}
 use Rattle.block_machine.specs.Blocks.{desc_of, block_at, keeps_ram, is_instance, indices_of, job_in_hand, mark_of}
@@ -178,15 +179,6 @@ changed_by c s (Wrote i mark ops) = wrote s i mark (job_in_hand s)
 changed_by c s (Post block r given refused ops) = posted c s r given (job_in_hand s)
 changed_by c s (Off ops) = record s { off = true }
 changed_by c s (Found marks ops) = started_with c s marks
-
--- the operations that the device was asked for, of a driver entry
-abbrev pub ops_of : Entry → Option ℕ
-ops_of (Ask caller r reply) = None
-ops_of (Pick block kind t ops) = Some ops
-ops_of (Wrote i mark ops) = Some ops
-ops_of (Post block r given refused ops) = Some ops
-ops_of (Off ops) = Some ops
-ops_of (Found marks ops) = Some ops
 
 abbrev pub step : Configuration → State → Entry → State
 step c s e = record (changed_by c s e) { count = s.count + 1; ops = unwrap_or (ops_of e) s.ops }

@@ -95,14 +95,18 @@ IsPiece c before s caller kind piece = piece ≡ []
 
 -- THE WALK
 
--- one piece for each step, in order: the first n entries are the piece of the first step
-abbrev pub IsWalkFrom : Configuration → List Step → State → List Step → List Entry → Type 0
-IsWalkFrom c before s [] es = es ≡ []
-IsWalkFrom c before s (x ∷ xs) es =
-    (n : ℕ) × IsPiece c before s x.caller x.kind (take n es) × IsWalkFrom c (before ++ x ∷ []) (after_from c s (take n es)) xs (drop n es)
+-- one piece for each step, in order, with these lengths: the first n entries are the piece of the first step
+abbrev pub IsWalkBy : Configuration → List Step → State → List Step → List ℕ → List Entry → Type 0
+IsWalkBy c before s [] [] es = es ≡ []
+IsWalkBy c before s (x ∷ xs) (n ∷ ns) es =
+    IsPiece c before s x.caller x.kind (take n es) × IsWalkBy c (before ++ x ∷ []) (after_from c s (take n es)) xs ns (drop n es)
+IsWalkBy c before s _ _ es = ⊥
 
 -- a start-up, and then the pieces of the steps. Where no start-up was made, the history is empty and there is no step.
+abbrev pub IsWalkOf : Configuration → List Step → List ℕ → List Entry → Type 0
+IsWalkOf c steps pieces [] = steps ≡ []
+IsWalkOf c steps pieces (Found marks ops ∷ es) = IsWalkBy c [] (after c (Found marks ops ∷ [])) steps pieces es
+IsWalkOf c steps pieces (e ∷ es) = ⊥
+
 abbrev pub IsWalk : Configuration → List Step → List Entry → Type 0
-IsWalk c steps [] = steps ≡ []
-IsWalk c steps (Found marks ops ∷ es) = IsWalkFrom c [] (after c (Found marks ops ∷ [])) steps es
-IsWalk c steps (e ∷ es) = ⊥
+IsWalk c steps h = (pieces : List ℕ) × IsWalkOf c steps pieces h

@@ -1,5 +1,7 @@
 // Laws of the block machine.
-ghost use Rattle.block_machine.specs.Laws.{HistoriesStep, HistoriesStayLegal, EntriesAreCounted, AsksAreLocal, LateEntriesAreCutOff, EarlyEntriesAreKept, FailedSetsAreLeast};
+ghost use Rattle.block_machine.specs.Laws.{HistoriesStep, HistoriesStayLegal, EntriesAreCounted, AsksAreLocal, LateEntriesAreCutOff, EarlyEntriesAreKept, FailedSetsAreLeast, TextsTellLegalHistories};
+
+use nvm_script::one_entry;
 
 /// How a history grows by one entry.
 pub fn histories_grow()
@@ -23,3 +25,10 @@ pub fn entries_come_in_time_or_late()
 pub fn failures_are_explained()
     ensures { FailedSetsAreLeast }
 {}
+
+/// The text of a legal history tells the history.
+pub fn texts_tell_histories()
+    ensures { TextsTellLegalHistories }
+{
+    one_entry();
+}

@@ -1,5 +1,5 @@
-use Rattle.block_machine.proofs.Runs.{two_callers_run, impatient_caller_no_run}
-use Rattle.block_machine.proofs.cases.runs_keep_the_callers_order.Goals as goal
+use Rattle.machine_cases.proofs.Runs.{two_callers_run, impatient_caller_no_run}
+use Rattle.machine_cases.proofs.cases.runs_keep_the_callers_order.Goals as goal
 
 pub returns-clause-two_callers : goal.returns-clause-two_callers
 returns-clause-two_callers c = two_callers_run

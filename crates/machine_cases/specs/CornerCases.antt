@@ -2,7 +2,7 @@
 use Rattle.std.specs.Prelude.{List, [], ◌∷◌, Some, None, true}
 use Rattle.block_config.specs.Block.{plain_block}
 use Rattle.block_machine.specs.Words.{Fine, NotOk, IntegrityFailed, BlockSkipped, Canceled, RedundancyFailed, Restored, Content, Write, SetLock, SetRam, SetIndex, GetIndex, PutRam, ReadAll, WriteAll, CancelWriteAll, IndexIs, NotStarted, MultiPending, Protected, HistoryFull, ReadJob, WriteJob, ReadAllJob, WriteAllJob, TookStale, Entry, Ask, Pick, Post, Off, Found, Redundant, Dataset, Permanent, Sync, Configuration}
-use Rattle.block_machine.specs.Cases.{config_of, ok, refused, write, read, pick, pick_write, at, wrote, post, give, bytes_1, bytes_2, four}
+use Rattle.machine_cases.specs.Cases.{config_of, ok, refused, write, read, pick, pick_write, at, wrote, post, give, bytes_1, bytes_2, four}
 
 -- block 1 gives the configuration id, so the next member is read; what is valid and unchanged isn't written back
 abbrev pub id_is_same : List Entry

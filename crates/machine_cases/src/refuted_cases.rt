@@ -4,8 +4,8 @@ ghost use Rattle.block_config.specs.DemoConfig.{demo_config};
 ghost use Rattle.nvm_script.specs.declared.step.StepKind.TheVariants.{Turn};
 ghost use Rattle.block_machine.specs.Words.{Found};
 ghost use Rattle.block_machine.specs.Walk.{IsWalk};
-ghost use Rattle.block_machine.specs.Cases.{asks, does, drain, ok, write, pick_write, bytes_1, cap, redundant_config, sync_config, cancel_config};
-ghost use Rattle.block_machine.specs.RefutedCases.{FailsAtLast, post_before_wrote, read_of_older, standard_before_immediate, copy_1_before_copy_0, one_copy_posted_ok, immediates_config, immediate_interrupted, defaults_from_nowhere, refused_without_copies, found_unwritten, found_without_acknowledged, pick_while_off, ops_fall, found_unknown, found_other_length, ask_before_found, other_block_pending, refused_but_pending, once_config, once_written_twice, ask_past_cap, second_write_accepted, stale_store, other_than_ram, sweep_without_member, sweep_past_member, canceled_posted_ok, member_after_cancel};
+ghost use Rattle.machine_cases.specs.Cases.{asks, does, drain, ok, write, pick_write, bytes_1, cap, redundant_config, sync_config, cancel_config};
+ghost use Rattle.machine_cases.specs.RefutedCases.{FailsAtLast, post_before_wrote, read_of_older, standard_before_immediate, copy_1_before_copy_0, one_copy_posted_ok, immediates_config, immediate_interrupted, defaults_from_nowhere, refused_without_copies, found_unwritten, found_without_acknowledged, pick_while_off, ops_fall, found_unknown, found_other_length, ask_before_found, other_block_pending, refused_but_pending, once_config, once_written_twice, ask_past_cap, second_write_accepted, stale_store, other_than_ram, sweep_without_member, sweep_past_member, canceled_posted_ok, member_after_cancel};
 
 /// Jobs and their results.
 pub fn wrong_jobs_are_refuted()

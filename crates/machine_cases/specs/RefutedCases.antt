@@ -3,7 +3,7 @@ use Rattle.std.specs.Prelude.{ℕ, ◌-◌, List, [], ◌∷◌, ◌++◌, lengt
 use Rattle.block_config.specs.Block.{plain_block}
 use Rattle.block_machine.specs.Words.{Fine, NotOk, Pending, Restored, Content, Write, PutRam, Status, ReadAll, WriteAll, CancelWriteAll, Read, StatusIs, BadLength, ReadJob, WriteJob, ReadAllJob, WriteAllJob, TookContent, Entry, Ask, Pick, Post, Off, Found, Configuration}
 use Rattle.block_machine.specs.Legal.{IsLegal}
-use Rattle.block_machine.specs.Cases.{config_of, ok, refused, write, read, pick, pick_write, at, wrote, post, give, bytes_1, bytes_2, four, small, one_write, put_all}
+use Rattle.machine_cases.specs.Cases.{config_of, ok, refused, write, read, pick, pick_write, at, wrote, post, give, bytes_1, bytes_2, four, small, one_write, put_all}
 
 -- a history is legal without its last entry, and not with it
 abbrev pub FailsAtLast : Configuration → ℕ → List Entry → Type 0

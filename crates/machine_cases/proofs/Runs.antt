@@ -4,7 +4,7 @@ use Rattle.std.proofs.Common.{◌≡◌, ◌==◌, ℕ, zero, suc, false, IsTrue
 use Rattle.std.proofs.lemmas.Bool.{ne_eqb, false≢true}
 use Rattle.block_config.specs.DemoConfig.{demo_config}
 use Rattle.block_machine.specs.Callers.{program_of, requests_of, asks_of, is_over, WaitedFor, KeepsAwait, IsInOrder, IsRun, IsWholeRun}
-use Rattle.block_machine.specs.Cases.{callers_script, two_callers, impatient_caller}
+use Rattle.machine_cases.specs.Cases.{callers_script, two_callers, impatient_caller}
 
 awaits_1 : (n : ℕ) → KeepsAwait demo_config 1 (length (requests_of demo_config (take n (program_of 1 callers_script)))) two_callers (slice_get (program_of 1 callers_script) n)
 awaits_1 zero = tt
