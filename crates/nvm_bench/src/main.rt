@@ -2,9 +2,10 @@
 //! else is the commands'.
 #![tactic(auto)]
 
+use fls_devices::FileFlash;
 use fls_model::mem_flash;
 use nv_base::{StdSink, StdSource};
-use nvm_top::{Status, command};
+use nvm_top::{Status, command, image_path};
 use std::alloc::AllocError;
 use std::process::ExitCode;
 use std::{env, io};
@@ -20,11 +21,20 @@ fn words(rt: &HostRuntime) -> io::Result<Vec<String>> {
 
 fn main(rt: HostRuntime) -> ExitCode {
     let alloc = rt.alloc();
-    let (Ok(words), Ok(flash)) = (words(&rt), mem_flash(alloc, &[], 0)) else {
+    let Ok(words) = words(&rt) else {
         return ExitCode::from(Status::Memory.code());
     };
     let mut input = StdSource::make(rt.stdin());
     let mut output = StdSink::make(rt.stdout());
-    let (status, _flash) = command(&rt, alloc, &words, &mut input, &mut output, flash);
+    let status = match image_path(&words) {
+        Some(path) => {
+            let flash = FileFlash::make(&rt, path);
+            command(&rt, alloc, &words, &mut input, &mut output, flash).0
+        }
+        None => match mem_flash(alloc, &[], 0) {
+            Ok(flash) => command(&rt, alloc, &words, &mut input, &mut output, flash).0,
+            Err(_) => Status::Memory,
+        },
+    };
     ExitCode::from(status.code())
 }

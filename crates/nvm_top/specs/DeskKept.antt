@@ -1,5 +1,5 @@
 -- What a desk keeps true: every entry that is still owed has its memory and fits under the cap.
-use Rattle.std.specs.Prelude.{◌+◌, ◌≤◌, ℕ, length}
+use Rattle.std.specs.Prelude.{◌+◌, ◌≤◌, length}
 use Rattle.nvm_top.specs.declared.desk.Desk.TheInside.{Inside}
 use Rattle.nvm_top.specs.Desk.{hand_of, hand_owes, off_owes, JobFits}
 

@@ -1,50 +1,83 @@
 -- How a command ends, as its input decides. No two cases of a command hold of one input, but those of the faults and
 -- of the want of memory, which may come in place of any other.
-use Rattle.std.specs.Prelude.{◌≡◌, ◌≤◌, ℕ, List, [], length, Option, IfSome, IsErr, Ok}
+use Rattle.std.specs.Prelude.{◌≡◌, ◌≤◌, ℕ, List, [], length, Option, IfSome, Ok, Err}
 use Rattle.block_config.specs.Config.{Configuration}
 use Rattle.block_config.specs.Reading.{meaning_of}
+use Rattle.block_config.specs.declared.fault.ConfigFault.TheVariants.{Broken}
+use Rattle.fls_model.specs.Attach.{IfTold}
 use Rattle.nvm_script.specs.Script.{IsScript, IsFirstWrong, first_line, later_lines}
 use Rattle.nvm_script.specs.declared.step.Step.{Step}
 use Rattle.nvm_script.specs.declared.script.Mode.TheVariants.{Play}
 use Rattle.nvm_top.specs.Input.{IsLonger, input_limit}
 use Rattle.nvm_top.specs.declared.status.Status.{Status}
 use Rattle.nvm_top.specs.declared.status.Status.TheVariants as status
+use Rattle.nvm_top.specs.declared.stop.Stop.TheVariants as stop
+use Rattle.nvm_top.specs.Measures.{measures_line}
+use Rattle.nvm_top.specs.Stop.{IsStop, line_of}
 
 -- the input isn't too long, and its first line is this configuration
 pub record HasConfig (bytes : List ℕ) (c : Configuration) : Type 0 where
   pub short : length bytes ≤ input_limit
   pub config : meaning_of (first_line bytes) ≡ Ok c
 
--- the input isn't too long, and its first line breaks a rule
-pub record BreaksRule (bytes : List ℕ) : Type 0 where
+-- the input isn't too long, and this is the first rule that its first line breaks, with the first block that breaks it
+pub record BreaksRule (bytes : List ℕ) (rule block : ℕ) : Type 0 where
   pub short : length bytes ≤ input_limit
-  pub broken : IsErr (meaning_of (first_line bytes))
+  pub broken : meaning_of (first_line bytes) ≡ Err (Broken rule block)
 
 -- and its later lines are steps
 abbrev pub HasSteps : List ℕ → Type 0
 HasSteps bytes = (c : Configuration) × (steps : List Step) × HasConfig bytes c × IsScript c Play 2 [] (later_lines bytes) steps
 
 -- and of its later lines this is the first that is wrong
-abbrev pub HasWrongLine : List ℕ → Type 0
-HasWrongLine bytes = (c : Configuration) × (line : ℕ) × HasConfig bytes c × IsFirstWrong c Play 2 [] (later_lines bytes) line
+abbrev pub HasWrongLine : List ℕ → ℕ → Type 0
+HasWrongLine bytes number = (c : Configuration) × HasConfig bytes c × IsFirstWrong c Play 2 [] (later_lines bytes) number
 
--- `check`, with the bytes of its input, where they are told
-abbrev pub ChecksBy : Option (List ℕ) → Status → Type 0
-ChecksBy left status.Ok = IfSome left (λ bytes. (c : Configuration) × HasConfig bytes c)
-ChecksBy left status.BadConfig = IfSome left BreaksRule
-ChecksBy left status.TooLong = IsLonger left input_limit
-ChecksBy left status.ReadFault = Unit {0}
-ChecksBy left status.WriteFault = Unit {0}
-ChecksBy left status.Memory = Unit {0}
-ChecksBy left _ = ⊥
+-- the line names the first broken rule of the input, where that is told, with its first block
+abbrev pub NamesRule : Option (List ℕ) → List ℕ → Type 0
+NamesRule left line = (rule : ℕ) × (block : ℕ) × IfSome left (λ bytes. BreaksRule bytes rule block) × (line ≡ line_of (stop.BadConfig rule block))
+
+-- the line names the first wrong line of the input, where that is told
+abbrev pub NamesWrongLine : Option (List ℕ) → List ℕ → Type 0
+NamesWrongLine left line = (number : ℕ) × IfSome left (λ bytes. HasWrongLine bytes number) × (line ≡ line_of (stop.BadScript number))
+
+-- the line tells how many bytes the flash has, where they are told, and how many are needed
+abbrev pub TellsSize : ℕ → Option (List ℕ) → List ℕ → Type 0
+TellsSize need flash line = (found : ℕ) × IfTold flash (λ bytes. length bytes ≡ found) × (line ≡ line_of (stop.WrongSize found need))
+
+-- words of no command, or of another one
+abbrev pub IsBadWords : Status → List ℕ → Type 0
+IsBadWords x line = IsStop stop.BadWords x line
+
+-- `check`, with the bytes of its input, where they are told, and with the line that it writes
+abbrev pub ChecksBy : Option (List ℕ) → Status → List ℕ → Type 0
+ChecksBy left status.Ok line = (c : Configuration) × IfSome left (λ bytes. HasConfig bytes c) × (line ≡ measures_line c)
+ChecksBy left status.BadConfig line = NamesRule left line
+ChecksBy left status.TooLong line = IsLonger left input_limit × (line ≡ line_of stop.TooLong)
+ChecksBy left status.ReadFault line = line ≡ line_of stop.ReadFault
+ChecksBy left status.Memory line = line ≡ line_of stop.Memory
+ChecksBy left _ line = ⊥
 
 -- `play`, with the bytes of its input, where they are told
 abbrev pub PlaysBy : Option (List ℕ) → Status → Type 0
-PlaysBy left status.BadConfig = IfSome left BreaksRule
-PlaysBy left status.BadScript = IfSome left HasWrongLine
+PlaysBy left status.BadConfig = IfSome left (λ bytes. (rule : ℕ) × (block : ℕ) × BreaksRule bytes rule block)
+PlaysBy left status.BadScript = IfSome left (λ bytes. (number : ℕ) × HasWrongLine bytes number)
 PlaysBy left status.TooLong = IsLonger left input_limit
 PlaysBy left status.ReadFault = Unit {0}
 PlaysBy left status.WriteFault = Unit {0}
 PlaysBy left status.Memory = Unit {0}
 PlaysBy left status.BadWords = ⊥
 PlaysBy left _ = IfSome left HasSteps
+
+-- `play` where it stops before start-up, with the bytes of its input and of its flash, where they are told, and with
+-- the line that it writes
+abbrev pub StopsBy : Option (List ℕ) → Option (List ℕ) → Status → List ℕ → Type 0
+StopsBy left flash status.BadWords line = line ≡ line_of stop.BadWords
+StopsBy left flash status.BadConfig line = NamesRule left line
+StopsBy left flash status.BadScript line = NamesWrongLine left line
+StopsBy left flash status.ReadFault line = line ≡ line_of stop.ReadFault
+StopsBy left flash status.TooLong line = IsLonger left input_limit × (line ≡ line_of stop.TooLong)
+StopsBy left flash status.WrongSize line = TellsSize 2048 flash line
+StopsBy left flash status.Unbuilt line = (number : ℕ) × IfSome left HasSteps × (line ≡ line_of (stop.Unbuilt number))
+StopsBy left flash status.Memory line = line ≡ line_of stop.Memory
+StopsBy left flash _ line = ⊥

@@ -1,5 +1,10 @@
--- The statuses of outputs that fail.
-use Rattle.std.specs.Prelude.{◌≡◌, ◌⊎◌}
+-- What a command writes last, and the statuses of outputs that fail.
+use Rattle.std.specs.Prelude.{◌≡◌, ◌⊎◌, ℕ, List, ◌++◌, length, take, Option}
+use Rattle.std.specs.List.{flat_map}
+use Rattle.std.specs.Io.KnownBytes.{Appends}
+use Rattle.nv_base.specs.Sink.{AppendsPrefix}
+use Rattle.nv_base.specs.declared.entry.Entry.{Entry}
+use Rattle.nvm_script.specs.Lines.{entry_line, end_line}
 use Rattle.nvm_top.specs.declared.status.Status.{Status}
 use Rattle.nvm_top.specs.declared.status.Status.TheVariants as status
 use Rattle.nvm_top.specs.declared.output.OutputFault.{OutputFault}
@@ -12,3 +17,31 @@ fault_status Memory = status.Memory
 -- a status, or in its place a fault of the output or want of memory
 abbrev pub IsReport : Status → Status → Type 0
 IsReport meant x = (x ≡ meant) ⊎ (x ≡ status.Memory) ⊎ (x ≡ status.WriteFault)
+
+-- A command ends by a status and the line of it, and that line is all that it appended to the output, where that is
+-- told. At want of memory it wrote nothing. Where the output failed, a prefix was appended of the line of the status in
+-- whose place this one stands.
+abbrev pub Writes : (Status → List ℕ → Type 0) → Option (List ℕ) → Option (List ℕ) → Status → Type 0
+Writes IsEnd written written' status.Memory = written' ≡ written
+Writes IsEnd written written' status.WriteFault = (meant : Status) × (line : List ℕ) × IsEnd meant line × AppendsPrefix written written' line
+Writes IsEnd written written' x = (line : List ℕ) × IsEnd x line × Appends written written' line
+
+-- the lines of entries, in order
+abbrev pub entries_text : List Entry → List ℕ
+entries_text entries = flat_map entry_line entries
+
+-- `end` and the number of entries, where the run ended well
+abbrev pub IsEndOf : List Entry → Status → List ℕ → Type 0
+IsEndOf entries x line = (x ≡ status.Ok) × (line ≡ end_line (length entries))
+
+-- the lines of entries broke off: within them where the output failed, and behind a line at want of memory
+abbrev pub BreaksOff : OutputFault → List Entry → Option (List ℕ) → Option (List ℕ) → Type 0
+BreaksOff Failed entries written written' = AppendsPrefix written written' (entries_text entries)
+BreaksOff Memory entries written written' = (n : ℕ) × Appends written written' (entries_text (take n entries))
+
+-- As `Writes`, with the lines of entries before the line. At want of memory lines of entries stand there alone, each of
+-- them whole.
+abbrev pub Prints : (List Entry → Status → List ℕ → Type 0) → Option (List ℕ) → Option (List ℕ) → Status → Type 0
+Prints IsEnd written written' status.Memory = (entries : List Entry) × Appends written written' (entries_text entries)
+Prints IsEnd written written' status.WriteFault = (entries : List Entry) × (meant : Status) × (line : List ℕ) × IsEnd entries meant line × AppendsPrefix written written' (entries_text entries ++ line)
+Prints IsEnd written written' x = (entries : List Entry) × (line : List ℕ) × IsEnd entries x line × Appends written written' (entries_text entries ++ line)

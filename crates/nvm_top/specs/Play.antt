@@ -1,16 +1,33 @@
 -- How a run of `play` ends or stops, each fault with its cause.
-use Rattle.std.specs.Prelude.{◌≡◌, ◌≢◌, ℕ, List, length, Option, Result, Ok, Err}
+use Rattle.std.specs.Prelude.{◌≡◌, ◌≢◌, ◌⊎◌, ℕ, List, [], length, Option, IfSome, Result, Ok, Err}
+use Rattle.std.specs.Io.KnownBytes.{Appends}
 use Rattle.nv_base.specs.Count.{Rose}
 use Rattle.fls_model.specs.Attach.{IfTold}
 use Rattle.fls_model.specs.Told.{Told}
+use Rattle.nv_base.specs.declared.entry.Entry.{Entry}
+use Rattle.nvm_script.specs.Lines.{end_line}
 use Rattle.nvm_top.specs.declared.status.Status.{Status}
 use Rattle.nvm_top.specs.declared.status.Status.TheVariants as status
 use Rattle.nvm_top.specs.declared.stop.Stop.{Stop}
-use Rattle.nvm_top.specs.Stop.{status_of}
+use Rattle.nvm_top.specs.declared.stop.Stop.TheVariants as stop
+use Rattle.nvm_top.specs.Ends.{TellsSize, StopsBy, HasSteps}
+use Rattle.nvm_top.specs.Stop.{status_of, line_of, IsStop}
+use Rattle.nvm_top.specs.Output.{IsEndOf}
 
 -- a flash, where it tells its bytes, has neither none nor so many
 abbrev pub IsWrongSize : ℕ → Option (List ℕ) → Type 0
 IsWrongSize need bytes = IfTold bytes (λ b. (length b ≢ 0) × (length b ≢ need))
+
+-- why a flash isn't attached that is to have so many bytes, with its bytes, where they are told
+abbrev pub IsAttachStop : ℕ → Option (List ℕ) → Stop → Type 0
+IsAttachStop need bytes (stop.WrongSize found needed) = IfTold bytes (λ b. length b ≡ found) × (needed ≡ need)
+IsAttachStop need bytes stop.FlashFault = Unit {0}
+IsAttachStop need bytes stop.Memory = Unit {0}
+IsAttachStop need bytes _ = ⊥
+
+-- the output, where it is told, grew by the line of a wrong size
+abbrev pub WritesSize : ℕ → Option (List ℕ) → Option (List ℕ) → Option (List ℕ) → Type 0
+WritesSize need flash written written' = (line : List ℕ) × TellsSize need flash line × Appends written written' line
 
 -- the statuses of a call that stops before start-up
 abbrev pub IsBeforeStart : Status → Type 0
@@ -49,3 +66,24 @@ IsRunEnd before after _ = ⊥
 abbrev pub HasRunCause : ℕ → ℕ → Result (Unit {0}) Stop → Type 0
 HasRunCause before after (Ok _) = Unit {0}
 HasRunCause before after (Err stop) = IsRunEnd before after (status_of stop)
+
+-- HOW IT IS PRINTED
+-- a run that is over, or that stops, with its entries and its last line
+abbrev pub IsRunLine : Result (Unit {0}) Stop → List Entry → Status → List ℕ → Type 0
+IsRunLine (Ok _) entries x line = IsEndOf entries x line
+IsRunLine (Err stop) entries x line = IsStop stop x line
+
+-- from the attach of a flash on that is to have so many bytes, with the entries and the last line
+abbrev pub RunsBy : ℕ → Option (List ℕ) → List Entry → Status → List ℕ → Type 0
+RunsBy need flash entries status.Ok line = line ≡ end_line (length entries)
+RunsBy need flash entries status.FlashFault line = line ≡ line_of stop.FlashFault
+RunsBy need flash entries status.NoRoom line = line ≡ line_of stop.NoRoom
+RunsBy need flash entries status.HistoryFull line = line ≡ line_of stop.HistoryFull
+RunsBy need flash entries status.WrongSize line = (entries ≡ []) × TellsSize need flash line
+RunsBy need flash entries status.Memory line = line ≡ line_of stop.Memory
+RunsBy need flash entries _ line = ⊥
+
+-- as a whole, with the bytes of the input and of the flash, where they are told: it stops before start-up and prints no
+-- entry, or it runs
+abbrev pub PrintsBy : Option (List ℕ) → Option (List ℕ) → List Entry → Status → List ℕ → Type 0
+PrintsBy left flash entries x line = ((entries ≡ []) × StopsBy left flash x line) ⊎ (IfSome left HasSteps × RunsBy 2048 flash entries x line)

@@ -1,5 +1,5 @@
 -- Why the reading of a call stops.
-use Rattle.std.specs.Prelude.{◌≡◌, ℕ, List, [], Option, Err}
+use Rattle.std.specs.Prelude.{◌≡◌, ℕ, List, [], Option, IfSome, Err}
 use Rattle.nv_base.specs.Count.{Rose}
 use Rattle.block_config.specs.Config.{Configuration}
 use Rattle.block_config.specs.Reading.{meaning_of}
@@ -32,11 +32,29 @@ IsLineStop c lines _ = ⊥
 
 -- why an input isn't played
 abbrev pub IsPlayableStop : List ℕ → Stop → Type 0
-IsPlayableStop bytes (BadConfig rule block) = BreaksRule bytes
-IsPlayableStop bytes (BadScript line) = HasWrongLine bytes
+IsPlayableStop bytes (BadConfig rule block) = BreaksRule bytes rule block
+IsPlayableStop bytes (BadScript line) = HasWrongLine bytes line
 IsPlayableStop bytes (Unbuilt line) = HasSteps bytes
 IsPlayableStop bytes Memory = Unit {0}
 IsPlayableStop bytes _ = ⊥
+
+-- why `check` stops, with the bytes of its input, where they are told
+abbrev pub IsCheckStop : Option (List ℕ) → Stop → Type 0
+IsCheckStop left (BadConfig rule block) = IfSome left (λ bytes. BreaksRule bytes rule block)
+IsCheckStop left ReadFault = Unit {0}
+IsCheckStop left TooLong = IsLonger left input_limit
+IsCheckStop left Memory = Unit {0}
+IsCheckStop left _ = ⊥
+
+-- why `play` stops before its flash is attached, with the bytes of its input, where they are told
+abbrev pub IsPlayStop : Option (List ℕ) → Stop → Type 0
+IsPlayStop left (BadConfig rule block) = IfSome left (λ bytes. BreaksRule bytes rule block)
+IsPlayStop left (BadScript line) = IfSome left (λ bytes. HasWrongLine bytes line)
+IsPlayStop left ReadFault = Unit {0}
+IsPlayStop left TooLong = IsLonger left input_limit
+IsPlayStop left (Unbuilt line) = IfSome left HasSteps
+IsPlayStop left Memory = Unit {0}
+IsPlayStop left _ = ⊥
 
 -- a call stops before its flash is attached
 abbrev pub IsEarly : Stop → Type 0

@@ -1,4 +1,6 @@
--- The statuses of commands that stop.
+-- The statuses of commands that stop, and the lines that say so.
+use Rattle.std.specs.Prelude.{◌≡◌, ℕ, List, [], ◌++◌, codes}
+use Rattle.std.specs.Fmt.{decimal}
 use Rattle.nvm_top.specs.declared.status.Status.{Status}
 use Rattle.nvm_top.specs.declared.status.Status.TheVariants as status
 use Rattle.nvm_top.specs.declared.stop.Stop.{Stop}
@@ -16,3 +18,21 @@ status_of FlashFault = status.FlashFault
 status_of NoRoom = status.NoRoom
 status_of HistoryFull = status.HistoryFull
 status_of Memory = status.Memory
+
+-- the line, with its newline; none at want of memory
+abbrev pub line_of : Stop → List ℕ
+line_of BadWords = codes "bad words\n"
+line_of (BadConfig rule block) = codes "config rule " ++ (decimal rule ++ (codes " block " ++ (decimal block ++ codes "\n")))
+line_of (BadScript line) = codes "script " ++ (decimal line ++ codes "\n")
+line_of ReadFault = codes "input fault\n"
+line_of TooLong = codes "input too long\n"
+line_of (Unbuilt line) = codes "unbuilt " ++ (decimal line ++ codes "\n")
+line_of (WrongSize found need) = codes "size " ++ (decimal found ++ (codes " " ++ (decimal need ++ codes "\n")))
+line_of FlashFault = codes "flash fault\n"
+line_of NoRoom = codes "no room\n"
+line_of HistoryFull = codes "history full\n"
+line_of Memory = []
+
+-- a command that stops has this status, and writes this line last
+abbrev pub IsStop : Stop → Status → List ℕ → Type 0
+IsStop stop x line = (x ≡ status_of stop) × (line ≡ line_of stop)

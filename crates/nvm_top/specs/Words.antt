@@ -10,11 +10,6 @@ abbrev pub is_word : List ℕ → Bool
 is_word [] = false
 is_word (b ∷ bs) = not (b == 45)
 
--- `mem` stands for a flash in memory
-abbrev pub is_memory : List (List ℕ) → Bool
-is_memory [] = false
-is_memory (image ∷ rest) = bytes_eq image (codes "mem")
-
 -- the commands of one word
 abbrev pub command_named : List ℕ → Option CommandKind
 command_named word = if bytes_eq word (codes "play") then Some Play else (if bytes_eq word (codes "run") then Some Run else (if bytes_eq word (codes "dump") then Some Dump else (if bytes_eq word (codes "check") then Some Check else None)))
@@ -46,3 +41,19 @@ is_play _ = false
 abbrev pub is_check : Option CommandKind → Bool
 is_check (Some Check) = true
 is_check _ = false
+
+-- THE IMAGE
+-- `mem` stands for a flash in memory, any other word for the path of an image file
+abbrev pub is_memory : List ℕ → Bool
+is_memory image = bytes_eq image (codes "mem")
+
+-- a command works on the flash; `check` leaves it alone
+abbrev pub works_on_flash : Option CommandKind → Bool
+works_on_flash None = false
+works_on_flash (Some Check) = false
+works_on_flash (Some command) = true
+
+-- the path of the image file that the command works on, if it works on one
+abbrev pub image_path : List (List ℕ) → Option (List ℕ)
+image_path [] = None
+image_path (image ∷ rest) = if works_on_flash (command_of (image ∷ rest)) && not (is_memory image) then Some image else None

@@ -62,7 +62,7 @@ impl From<AllocError> for StartFault {
     }
 }
 
-/// Bank 0 of a flash. `image` holds the bank's bytes at a start-up, `body` and `data` have room for any content.
+/// Bank 0 of a flash. `image` holds the bank's bytes at a start-up, `body` and `content` have room for any content.
 pub struct BankDevice<F: Flash> {
     flash: F,
     log: Log,
@@ -71,7 +71,7 @@ pub struct BankDevice<F: Flash> {
     write: Option<Writing>,
     image: Vec<u8>,
     body: Vec<u8>,
-    data: Vec<u8>,
+    content: Vec<u8>,
     ops: u64,
 }
 
@@ -83,7 +83,7 @@ impl<F: Flash> Model for BankDevice<F> {
 
     ghost view = { λ d. record { told = F.told d.flash; log = d.log; format = d.format; write = d.write; ops = d.ops } };
 
-    ghost invariant = { λ d. IsKept (record { told = F.told d.flash; log = d.log; format = d.format; write = d.write; ops = d.ops }) × HasRoom d.log d.geometry (vec_len d.image) (vec_len d.body) (vec_len d.data) };
+    ghost invariant = { λ d. IsKept (record { told = F.told d.flash; log = d.log; format = d.format; write = d.write; ops = d.ops }) × HasRoom d.log d.geometry (vec_len d.image) (vec_len d.body) (vec_len d.content) };
 }
 
 /// Reads the sectors of bank 0, each whole, ascending.
@@ -151,7 +151,7 @@ impl<F: Flash> BankDevice<F> {
         ensures attach { IfErr result (λ e. IsAttach geometry (F.told flash) (Err e.0) (F.told e.1)) }
     {
         let mut flash = flash;
-        let Ok((log, image, body, data)) = room_of(alloc, numbers, geometry) else {
+        let Ok((log, image, body, content)) = room_of(alloc, numbers, geometry) else {
             return Err((AttachFault::Memory, flash));
         };
         if let Err(fault) = flash.attach(alloc, geometry) {
@@ -165,7 +165,7 @@ impl<F: Flash> BankDevice<F> {
             write: None,
             image,
             body,
-            data,
+            content,
             ops: 0,
         })
     }
@@ -182,7 +182,7 @@ impl<F: Flash> BankDevice<F> {
             write: _,
             image: _,
             body: _,
-            data: _,
+            content: _,
             ops: _,
         } = self;
         flash
@@ -267,7 +267,7 @@ impl<F: Flash> BankDevice<F> {
         requires { count ≤ 4096 }
         ensures { length result.now ≡ count }
     {
-        &self.data[..count]
+        &self.content[..count]
     }
 
     /// Reads the mark of a number, a content of its length by one flash call.
@@ -293,7 +293,7 @@ impl<F: Flash> BankDevice<F> {
         ensures off { result ≡ ReadTurn.Off → self.old.told.off ≡ true }
     {
         let address = self.log.content_address(at);
-        match read_front(&mut self.flash, address, &mut self.data, count) {
+        match read_front(&mut self.flash, address, &mut self.content, count) {
             FlashAnswer::Done => ReadTurn::Content,
             FlashAnswer::Failed => ReadTurn::Failed,
             FlashAnswer::Off => ReadTurn::Off,

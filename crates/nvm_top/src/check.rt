@@ -1,22 +1,24 @@
 // The command `check`: whether the first line of the input is a configuration.
-ghost use Rattle.std.specs.Prelude.{◌≡◌, IfErr, OnOk, Err, map, string_bytes, true, false};
+ghost use Rattle.std.specs.Prelude.{◌≡◌, IfOk, IfErr, IfSome, OnOk, Err, map, string_bytes, true, false};
 ghost use Rattle.std.specs.Io.KnownBytes.{IsAtEnd};
 ghost use Rattle.nv_base.specs.Count.{Rose};
-ghost use Rattle.nvm_top.specs.Ends.{ChecksBy};
-ghost use Rattle.nvm_top.specs.Output.{IsReport};
-ghost use Rattle.nvm_top.specs.Stop.{status_of};
+ghost use Rattle.nvm_top.specs.Ends.{ChecksBy, HasConfig, IsBadWords};
+ghost use Rattle.nvm_top.specs.Measures.{IsMeasured};
+ghost use Rattle.nvm_top.specs.Output.{Writes};
+ghost use Rattle.nvm_top.specs.Reading.{IsCheckStop};
 ghost use Rattle.nvm_top.specs.Words.{command_of, is_check};
 
 use crate::Status;
 use crate::configuration::read_config;
 use crate::input::read_input;
+use crate::measures::measures_line;
 use crate::output::{put_line, report};
 use crate::stop::Stop;
 use crate::words::is_check;
 use block_config::Config;
 use fls_model::Flash;
 use nv_base::{Sink, Source};
-use std::alloc::{AllocError, Global};
+use std::alloc::Global;
 
 /// Tells whether the first line of the input is a configuration: how many blocks and instances it has, how many pages
 /// a bank needs and how many it has, or the first rule that it breaks with its block. The lines after the first are
@@ -28,8 +30,8 @@ pub fn check_command<S: Source, K: Sink, F: Flash>(
     output: &mut K,
     flash: F,
 ) -> (Status, F)
-    ensures bad_words { is_check (command_of (map string_bytes words.now)) ≡ false → IsReport Status.BadWords result.0 }
-    ensures by_input { is_check (command_of (map string_bytes words.now)) ≡ true → ChecksBy (S.left input.old) result.0 }
+    ensures bad_words { is_check (command_of (map string_bytes words.now)) ≡ false → Writes IsBadWords (K.written output.old) (K.written output.new) result.0 }
+    ensures by_input { is_check (command_of (map string_bytes words.now)) ≡ true → Writes (ChecksBy (S.left input.old)) (K.written output.old) (K.written output.new) result.0 }
     ensures read_fault { result.0 ≡ Status.ReadFault → Rose (S.faults input.old) (S.faults input.new) }
     ensures write_fault { result.0 ≡ Status.WriteFault → Rose (K.faults output.old) (K.faults output.new) }
     ensures untouched { F.told result.1 ≡ F.told flash }
@@ -42,7 +44,7 @@ pub fn check_command<S: Source, K: Sink, F: Flash>(
 }
 
 fn check<S: Source, K: Sink>(alloc: Global, input: &mut S, output: &mut K) -> Status
-    ensures by_input { ChecksBy (S.left input.old) result }
+    ensures by_input { Writes (ChecksBy (S.left input.old)) (K.written output.old) (K.written output.new) result }
     ensures read_fault { result ≡ Status.ReadFault → Rose (S.faults input.old) (S.faults input.new) }
     ensures write_fault { result ≡ Status.WriteFault → Rose (K.faults output.old) (K.faults output.new) }
     ensures ended { result ≡ Status.Ok → IsAtEnd (S.left input.new) }
@@ -54,9 +56,9 @@ fn check<S: Source, K: Sink>(alloc: Global, input: &mut S, output: &mut K) -> St
 }
 
 fn read_checked<S: Source>(alloc: Global, input: &mut S) -> Result<Config, Stop>
-    ensures ok { OnOk result (ChecksBy (S.left input.old) Status.Ok) }
+    ensures ok { IfOk result (λ c. IfSome (S.left input.old) (λ bytes. HasConfig bytes c)) }
     ensures end { OnOk result (IsAtEnd (S.left input.new)) }
-    ensures err { IfErr result (λ stop. ChecksBy (S.left input.old) (status_of stop)) }
+    ensures err { IfErr result (IsCheckStop (S.left input.old)) }
     ensures read_fault { result ≡ Err Stop.ReadFault → Rose (S.faults input.old) (S.faults input.new) }
 {
     let bytes = read_input(alloc, input)?;
@@ -66,7 +68,7 @@ fn read_checked<S: Source>(alloc: Global, input: &mut S) -> Result<Config, Stop>
 
 /// Writes the measures of a configuration, and gives Ok or the status of the fault in its place.
 fn write_measures<K: Sink>(alloc: Global, config: &Config, output: &mut K) -> Status
-    ensures status { IsReport Status.Ok result }
+    ensures line { Writes (IsMeasured config.now) (K.written output.old) (K.written output.new) result }
     ensures write_fault { result ≡ Status.WriteFault → Rose (K.faults output.old) (K.faults output.new) }
 {
     let Ok(line) = measures_line(alloc, config) else {
@@ -76,12 +78,4 @@ fn write_measures<K: Sink>(alloc: Global, config: &Config, output: &mut K) -> St
         Ok(()) => Status::Ok,
         Err(fault) => fault.status(),
     }
-}
-
-fn measures_line(alloc: Global, config: &Config) -> Result<String, AllocError> {
-    let blocks = config.blocks();
-    let instances = config.instances();
-    let need = config.need_pages();
-    let bank = config.bank_pages();
-    format!(in alloc; "config ok blocks {blocks} instances {instances} need {need} bank {bank}\n")
 }

@@ -10,8 +10,10 @@ mod check;
 mod commands;
 mod configuration;
 mod desk;
+mod headline;
 mod input;
 mod job;
+mod measures;
 mod output;
 mod play;
 mod playable;
@@ -22,9 +24,12 @@ mod words;
 
 pub use check::check_command;
 pub use commands::command;
+pub use headline::{a_blank_start_keeps_it, wrong_runs_break_it};
 pub use play::play_command;
 pub use status::Status;
-pub use words::CommandKind;
+pub use words::{CommandKind, image_path};
 
+#[cfg(test)]
+mod image_tests;
 #[cfg(test)]
 mod tests;

@@ -1,8 +1,10 @@
 // Writing the lines of the output.
 ghost use Rattle.std.specs.Prelude.{◌≡◌, IfErr, OnOk};
+ghost use Rattle.std.specs.Io.KnownBytes.{Appends};
 ghost use Rattle.nv_base.specs.Count.{Rose};
-ghost use Rattle.nvm_top.specs.Output.{fault_status, IsReport};
-ghost use Rattle.nvm_top.specs.Stop.{status_of};
+ghost use Rattle.nv_base.specs.Sink.{AppendsPrefix};
+ghost use Rattle.nvm_top.specs.Output.{fault_status, IsReport, Writes, BreaksOff, IsEndOf, entries_text};
+ghost use Rattle.nvm_top.specs.Stop.{status_of, IsStop};
 
 use crate::Status;
 use crate::stop::Stop;
@@ -42,7 +44,9 @@ impl OutputFault {
 /// Writes one line.
 pub fn put_line<K: Sink>(output: &mut K, line: &[u8]) -> Result<(), OutputFault>
     ensures ok { OnOk result (K.faults output.new ≡ K.faults output.old) }
+    ensures line { OnOk result (Appends (K.written output.old) (K.written output.new) line.now) }
     ensures failed { IfErr result (λ fault. (fault ≡ OutputFault.Failed) × Rose (K.faults output.old) (K.faults output.new)) }
+    ensures prefix { IfErr result (λ _. AppendsPrefix (K.written output.old) (K.written output.new) line.now) }
 {
     match output.put(line) {
         SinkAnswer::Done => Ok(()),
@@ -57,33 +61,41 @@ pub fn write_history<K: Sink>(
     output: &mut K,
 ) -> Result<(), OutputFault>
     ensures ok { OnOk result (K.faults output.new ≡ K.faults output.old) }
+    ensures lines { OnOk result (Appends (K.written output.old) (K.written output.new) (entries_text history.now.entries)) }
     ensures failed { IfErr result (λ fault. fault ≡ OutputFault.Failed → Rose (K.faults output.old) (K.faults output.new)) }
+    ensures part { IfErr result (λ fault. BreaksOff fault history.now.entries (K.written output.old) (K.written output.new)) }
 {
     for i in 0..history.len() {
         if let Some(entry) = history.entry(i) {
             let text = entry_text(alloc, entry)?;
-            put_line(output, text.as_slice())?;
+            let Ok(()) = put_line(output, text.as_slice()) else {
+                return Err(OutputFault::Failed);
+            };
         }
     }
     Ok(())
 }
 
-/// Writes the last line of a whole history: how many entries it has.
-pub fn write_end<K: Sink>(
-    alloc: Global,
-    history: &History,
-    output: &mut K,
-) -> Result<(), OutputFault>
-    ensures ok { OnOk result (K.faults output.new ≡ K.faults output.old) }
-    ensures failed { IfErr result (λ fault. fault ≡ OutputFault.Failed → Rose (K.faults output.old) (K.faults output.new)) }
+/// Writes the last line of a whole history, how many entries it has, and gives Ok or the status of the fault in its
+/// place.
+pub fn write_end<K: Sink>(alloc: Global, history: &History, output: &mut K) -> Status
+    ensures status { IsReport Status.Ok result }
+    ensures line { Writes (IsEndOf history.now.entries) (K.written output.old) (K.written output.new) result }
+    ensures failed { result ≡ Status.WriteFault → Rose (K.faults output.old) (K.faults output.new) }
 {
-    let text = end_text(alloc, history.len())?;
-    put_line(output, text.as_slice())
+    let Ok(text) = end_text(alloc, history.len()) else {
+        return Status::Memory;
+    };
+    match put_line(output, text.as_slice()) {
+        Ok(()) => Status::Ok,
+        Err(fault) => fault.status(),
+    }
 }
 
 /// Writes the line of a stop and gives its status, or the status of the fault in its place.
 pub fn report<K: Sink>(alloc: Global, stop: Stop, output: &mut K) -> Status
     ensures status { IsReport (status_of stop) result }
+    ensures line { Writes (IsStop stop) (K.written output.old) (K.written output.new) result }
     ensures failed { result ≡ Status.WriteFault → Rose (K.faults output.old) (K.faults output.new) }
 {
     if stop == Stop::Memory {

@@ -1,13 +1,13 @@
 // The command `play`: the steps of a person over one flash, with their history.
-ghost use Rattle.std.specs.Prelude.{◌≡◌, ◌≤◌, ℕ, Err, IfErr, IfOk, OnOk, map, string_bytes, true, false};
+ghost use Rattle.std.specs.Prelude.{◌≡◌, ◌≤◌, ℕ, List, Option, Err, IfErr, IfOk, OnOk, map, string_bytes, true, false};
 ghost use Rattle.std.specs.Io.KnownBytes.{IsAtEnd};
 ghost use Rattle.nv_base.specs.Count.{Rose};
 ghost use Rattle.nv_base.specs.Geometry.{IsLegal, size_of};
 ghost use Rattle.fls_model.specs.Told.{Told};
 ghost use Rattle.fls_model.specs.Attach.{IsAttach};
-ghost use Rattle.nvm_top.specs.Ends.{PlaysBy};
-ghost use Rattle.nvm_top.specs.Output.{IsReport};
-ghost use Rattle.nvm_top.specs.Play.{IsWrongSize, IsBeforeStart, HasRunCause, IsPlayEnd, IsRunEnd};
+ghost use Rattle.nvm_top.specs.Ends.{PlaysBy, StopsBy, IsBadWords};
+ghost use Rattle.nvm_top.specs.Output.{Writes, Prints};
+ghost use Rattle.nvm_top.specs.Play.{IsWrongSize, IsBeforeStart, HasRunCause, IsPlayEnd, IsRunEnd, IsAttachStop, WritesSize, IsRunLine, RunsBy, PrintsBy};
 ghost use Rattle.nvm_top.specs.Stop.{status_of};
 ghost use Rattle.nvm_top.specs.Words.{command_of, is_play};
 
@@ -36,8 +36,10 @@ pub fn play_command<S: Source, K: Sink, F: Flash>(
     output: &mut K,
     flash: F,
 ) -> (Status, F)
-    ensures bad_words { is_play (command_of (map string_bytes words.now)) ≡ false → IsReport Status.BadWords result.0 }
+    ensures bad_words { is_play (command_of (map string_bytes words.now)) ≡ false → Writes IsBadWords (K.written output.old) (K.written output.new) result.0 }
     ensures by_input { is_play (command_of (map string_bytes words.now)) ≡ true → PlaysBy (S.left input.old) result.0 }
+    ensures line { IsBeforeStart result.0 → Writes (StopsBy (S.left input.old) (F.told flash).bytes) (K.written output.old) (K.written output.new) result.0 }
+    ensures print { Prints (PrintsBy (S.left input.old) (F.told flash).bytes) (K.written output.old) (K.written output.new) result.0 }
     ensures read_fault { result.0 ≡ Status.ReadFault → Rose (S.faults input.old) (S.faults input.new) }
     ensures write_fault { result.0 ≡ Status.WriteFault → Rose (K.faults output.old) (K.faults output.new) }
     ensures flash_fault { result.0 ≡ Status.FlashFault → Rose (F.told flash).faults (F.told result.1).faults }
@@ -61,6 +63,8 @@ fn play<K: Sink, F: Flash>(
     flash: F,
 ) -> (Status, F)
     ensures end { IsPlayEnd (size_of playable.now.config.geometry) (F.told flash) (F.told result.1) result.0 }
+    ensures size { result.0 ≡ Status.WrongSize → WritesSize (size_of playable.now.config.geometry) (F.told flash).bytes (K.written output.old) (K.written output.new) }
+    ensures print { Prints (RunsBy (size_of playable.now.config.geometry) (F.told flash).bytes) (K.written output.old) (K.written output.new) result.0 }
     ensures write_fault { result.0 ≡ Status.WriteFault → Rose (K.faults output.old) (K.faults output.new) }
 {
     let Ok(numbers) = playable.config.lengths(alloc) else {
@@ -75,7 +79,8 @@ fn play<K: Sink, F: Flash>(
 
 fn attach_stop(fault: AttachFault, geometry: Geometry) -> Stop
     requires { IsLegal geometry }
-    ensures { (s t : Told) → IsAttach geometry s (Err fault) t → IsPlayEnd (size_of geometry) s t (status_of result) }
+    ensures end { (s t : Told) → IsAttach geometry s (Err fault) t → IsPlayEnd (size_of geometry) s t (status_of result) }
+    ensures size { (s t : Told) → IsAttach geometry s (Err fault) t → IsAttachStop (size_of geometry) s.bytes result }
 {
     match fault {
         AttachFault::Failed => Stop::FlashFault,
@@ -96,6 +101,7 @@ fn play_on<K: Sink, F: Flash>(
 ) -> (Status, F)
     requires { numbers ≡ device.log.numbers }
     ensures end { IsRunEnd device.told.faults (F.told result.1).faults result.0 }
+    ensures print { (need : ℕ) (flash : Option (List ℕ)) → Prints (RunsBy need flash) (K.written output.old) (K.written output.new) result.0 }
     ensures write_fault { result.0 ≡ Status.WriteFault → Rose (K.faults output.old) (K.faults output.new) }
 {
     match Stack::start(alloc, device, numbers, CAP) {
@@ -174,6 +180,7 @@ fn write_run<K: Sink>(
     output: &mut K,
 ) -> Status
     ensures end { (before after : ℕ) → HasRunCause before after run → IsRunEnd before after result }
+    ensures print { Prints (IsRunLine run) (K.written output.old) (K.written output.new) result }
     ensures write_fault { result ≡ Status.WriteFault → Rose (K.faults output.old) (K.faults output.new) }
 {
     if run == Err(Stop::Memory) {
@@ -183,10 +190,7 @@ fn write_run<K: Sink>(
         return fault.status();
     }
     match run {
-        Ok(()) => match write_end(alloc, history, output) {
-            Ok(()) => Status::Ok,
-            Err(fault) => fault.status(),
-        },
+        Ok(()) => write_end(alloc, history, output),
         Err(stop) => report(alloc, stop, output),
     }
 }

@@ -5,9 +5,8 @@ ghost use Rattle.std.specs.Str.{bytes_eq};
 ghost use Rattle.nv_base.specs.Count.{Rose};
 ghost use Rattle.nv_base.specs.Geometry.{size_of};
 ghost use Rattle.nvm_script.specs.Script.{IsScript, later_lines};
-ghost use Rattle.nvm_top.specs.Ends.{HasSteps, PlaysBy};
-ghost use Rattle.nvm_top.specs.Reading.{IsEarly, IsLineStop, IsPlayableStop};
-ghost use Rattle.nvm_top.specs.Stop.{status_of};
+ghost use Rattle.nvm_top.specs.Ends.{HasSteps};
+ghost use Rattle.nvm_top.specs.Reading.{IsEarly, IsLineStop, IsPlayableStop, IsPlayStop};
 
 use crate::configuration::read_config;
 use crate::input::{LIMIT, read_input};
@@ -32,7 +31,7 @@ pub fn read_playable<S: Source>(alloc: Global, input: &mut S) -> Result<Playable
     ensures steps { OnOk result (IfSome (S.left input.old) HasSteps) }
     ensures size { IfOk result (λ p. size_of p.config.geometry ≡ 2048) }
     ensures end { OnOk result (IsAtEnd (S.left input.new)) }
-    ensures err { IfErr result (λ stop. PlaysBy (S.left input.old) (status_of stop)) }
+    ensures err { IfErr result (IsPlayStop (S.left input.old)) }
     ensures early { IfErr result IsEarly }
     ensures read_fault { result ≡ Err Stop.ReadFault → Rose (S.faults input.old) (S.faults input.new) }
 {

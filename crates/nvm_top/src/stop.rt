@@ -1,6 +1,6 @@
 // Why a command stops before its end.
-ghost use Rattle.std.specs.Prelude.{◌≡◌};
-ghost use Rattle.nvm_top.specs.Stop.{status_of};
+ghost use Rattle.std.specs.Prelude.{◌≡◌, IfOk, string_bytes};
+ghost use Rattle.nvm_top.specs.Stop.{status_of, line_of};
 
 use crate::Status;
 use std::alloc::{AllocError, Global};
@@ -53,8 +53,10 @@ impl Stop {
         }
     }
 
-    /// The line that says so; none at want of memory.
-    pub fn line(self, alloc: Global) -> Result<String, AllocError> {
+    /// The line that says so, with its newline; none at want of memory.
+    pub fn line(self, alloc: Global) -> Result<String, AllocError>
+        ensures { IfOk result (λ t. string_bytes t ≡ line_of self) }
+    {
         match self {
             Stop::BadWords => String::from_str(alloc, "bad words\n"),
             Stop::BadConfig { rule, block } => {

@@ -64,6 +64,17 @@ fn check<R: Abort + Threads + Wait + Sync>(
     Ok(())
 }
 
+fn check_all<R: Abort + Threads + Wait + Sync>(
+    rt: &R,
+    alloc: Global,
+    cases: &[Case<'_>],
+) -> Result<(), AllocError> {
+    for case in cases {
+        check(rt, alloc, case)?;
+    }
+    Ok(())
+}
+
 #[test]
 fn runs(rt: HostRuntime) -> Result<(), Fail> {
     let cases = [
@@ -94,6 +105,14 @@ fn runs(rt: HostRuntime) -> Result<(), Fail> {
             "found 0 ops 0\nask 0 read 2 -> ok\npick 2 read ops 0\npost 2 3 ops 0\nend 4\n",
             0,
         ),
+    ];
+    check_all(&rt, rt.alloc(), &cases)?;
+    Ok(())
+}
+
+#[test]
+fn refused_inputs(rt: HostRuntime) -> Result<(), Fail> {
+    let cases = [
         plain("no_first_line", "", "config rule 1 block 0\n", 3),
         plain(
             "other_configuration",
@@ -109,9 +128,7 @@ fn runs(rt: HostRuntime) -> Result<(), Fail> {
         ),
         plain("leading_zero", "@demo\nturn 1\nturn 01\n", "script 3\n", 4),
     ];
-    for case in &cases {
-        check(&rt, rt.alloc(), case)?;
-    }
+    check_all(&rt, rt.alloc(), &cases)?;
     Ok(())
 }
 
@@ -135,9 +152,7 @@ fn stops(rt: HostRuntime) -> Result<(), Fail> {
             ..plain("no_words", "", "bad words\n", 2)
         },
     ];
-    for case in &cases {
-        check(&rt, rt.alloc(), case)?;
-    }
+    check_all(&rt, rt.alloc(), &cases)?;
     Ok(())
 }
 
@@ -176,11 +191,10 @@ fn words(rt: HostRuntime) -> Result<(), Fail> {
         };
         check(&rt, rt.alloc(), &case)?;
     }
-    let unbuilt: [&[&str]; 4] = [
+    let unbuilt: [&[&str]; 3] = [
         &["mem", "run"],
         &["mem", "dump"],
         &["mem", "soak", "4294967295", "10000"],
-        &["unit.img", "play"],
     ];
     for words in unbuilt {
         let case = Case {
@@ -251,9 +265,7 @@ fn configurations(rt: HostRuntime) -> Result<(), Fail> {
             ..checked("output_fails_after_bad_config", "{}\n", "", 6)
         },
     ];
-    for case in &cases {
-        check(&rt, rt.alloc(), case)?;
-    }
+    check_all(&rt, rt.alloc(), &cases)?;
     Ok(())
 }
 

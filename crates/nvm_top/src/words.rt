@@ -1,6 +1,6 @@
 // The words of a call.
-ghost use Rattle.std.specs.Prelude.{◌≡◌, map, string_bytes};
-ghost use Rattle.nvm_top.specs.Words.{is_word, is_memory, command_named, soak_named, command_behind, command_of, is_play, is_check};
+ghost use Rattle.std.specs.Prelude.{◌≡◌, map, option_map, string_bytes};
+ghost use Rattle.nvm_top.specs.Words.{is_word, command_named, soak_named, command_behind, command_of, works_on_flash, image_path, is_play, is_check};
 
 use nvm_script::number_within;
 
@@ -64,14 +64,26 @@ pub fn command_of(words: &[String]) -> Option<CommandKind>
     }
 }
 
-/// Whether the image is a flash in memory.
-pub fn is_memory(words: &[String]) -> bool
-    ensures { result ≡ is_memory (map string_bytes words.now) }
+// Whether a command works on the flash. `check` leaves it alone.
+fn works_on_flash(command: Option<CommandKind>) -> bool
+    ensures { result ≡ works_on_flash command }
 {
-    match words {
-        [image, ..] => image.as_str() == "mem",
-        _ => false,
+    match command {
+        None | Some(CommandKind::Check) => false,
+        Some(_) => true,
     }
+}
+
+/// The path of the image file that the command of these words works on. None where they ask for no command, for one
+/// over a flash in memory (`mem`), or for `check`, which leaves the flash alone.
+pub fn image_path(words: &[String]) -> Option<&str>
+    ensures { option_map (λ path. path.now) result ≡ image_path (map string_bytes words.now) }
+{
+    let image = words.first()?.as_str();
+    if works_on_flash(command_of(words)) && image != "mem" {
+        return Some(image);
+    }
+    None
 }
 
 /// Whether the words ask for `play`.

@@ -1,7 +1,5 @@
-use Rattle.std.proofs.Common.{ℕ, ◌≡◌, ◌+◌, ◌-◌, ◌*◌, ◌≤◌, length, take, drop, ap, ◌∙◌, arith, length-drop}
+use Rattle.std.proofs.Common.{ℕ, ◌≡◌, ap, ◌∙◌, arith}
 use Rattle.std.proofs.lemmas.List.{length-take}
-use Rattle.nv_base.specs.Geometry.{size_of}
-use Rattle.nv_base.specs.declared.geometry.Geometry.{Geometry}
 use Rattle.fls_model.specs.Told.{Told}
 use Rattle.nvm_top.proofs.BankLemmas.{sector-inside, bank-inside}
 use Rattle.nvm_top.proofs.bank_device.read_bank.Goals as goal

@@ -1,4 +1,4 @@
-use Rattle.std.proofs.Common.{sym, ◌∙◌}
+use Rattle.std.proofs.Common.{sym}
 use Rattle.std.proofs.lemmas.Bool.{eqb-true}
 use Rattle.nvm_top.proofs.Lookup.{IsConfigured-get}
 use Rattle.nvm_top.proofs.desk.length_of.Goals as goal

@@ -1,4 +1,4 @@
-use Rattle.std.proofs.Common.{◌≡◌, ◌≤◌, ◌+◌, take}
+use Rattle.std.proofs.Common.{◌≤◌, ◌+◌, take}
 use Rattle.nv_base.specs.Lengths.{last_or}
 use Rattle.nv_base.specs.Marks.{next_or}
 use Rattle.nvm_top.specs.Bank.{ReadsOnly}

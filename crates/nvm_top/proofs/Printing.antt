@@ -1,0 +1,62 @@
+-- Lines of entries that are appended one behind the other.
+use Rattle.std.proofs.Common.{◌≡◌, ℕ, ◌+◌, List, [], ◌∷◌, ◌++◌, length, take, drop, Option, Some, slice_get, ap, sym, subst, ◌∙◌, arith, append-nil}
+use Rattle.std.proofs.KnownBytes.{Appends-nil, Appends-trans}
+use Rattle.std.proofs.Math.Seq.{take-append-add}
+use Rattle.std.proofs.lemmas.List.{take-append-le, take_more, take-append-drop, length-append}
+use Rattle.std.proofs.lemmas.List.Concat.{flat_map-append}
+use Rattle.std.proofs.lemmas.Option.{slice_get_within, get_or_from_slice_get}
+use Rattle.std.specs.List.{flat_map}
+use Rattle.std.specs.Io.KnownBytes.{Appends}
+use Rattle.nv_base.specs.Sink.{AppendsPrefix}
+use Rattle.nv_base.specs.declared.entry.Entry.{Entry}
+use Rattle.nvm_script.specs.Lines.{entry_line}
+use Rattle.nvm_top.specs.Output.{entries_text, Writes, Prints}
+use Rattle.nvm_top.specs.declared.status.Status.{Status}
+use Rattle.nvm_top.specs.declared.status.Status.TheVariants as status
+
+-- A PREFIX
+-- of a text is one of a longer text
+pub prefix-longer : (w w' : Option (List ℕ)) (a b : List ℕ) → AppendsPrefix w w' a → AppendsPrefix w w' (a ++ b)
+prefix-longer w w' a b is =
+    (is.0, omega (arith, is.1, length-append a b), subst (λ (l : List ℕ). Appends w w' l) (sym (take-append-le is.0 a b is.1)) is.2)
+
+-- behind a whole text
+pub prefix-behind : (w w1 w2 : Option (List ℕ)) (a b : List ℕ) → Appends w w1 a → AppendsPrefix w1 w2 b → AppendsPrefix w w2 (a ++ b)
+prefix-behind w w1 w2 a b whole is =
+    (length a + is.0, omega (arith, is.1, length-append a b), subst (λ (l : List ℕ). Appends w w2 l) (sym (take-append-add a b is.0)) (Appends-trans w w1 w2 a (take is.0 b) whole is.2))
+
+-- ENTRIES
+-- one more
+pub entries_text-more : (entries : List Entry) (i : ℕ) (e : Entry) → slice_get entries i ≡ Some e → entries_text (take (i + 1) entries) ≡ entries_text (take i entries) ++ entry_line e
+entries_text-more entries i e at =
+    rw (take_more entries i e (slice_get_within entries i e at), get_or_from_slice_get entries i e e at, flat_map-append entry_line (take i entries) (e ∷ [])) (ap (λ (l : List ℕ). flat_map entry_line (take i entries) ++ l) (append-nil (entry_line e)))
+
+pub entries-more : (w w1 w2 : Option (List ℕ)) (entries : List Entry) (i : ℕ) (e : Entry) → (piece : List ℕ) → slice_get entries i ≡ Some e → Appends w w1 (entries_text (take i entries)) → piece ≡ entry_line e → Appends w1 w2 piece → Appends w w2 (entries_text (take (i + 1) entries))
+entries-more w w1 w2 entries i e piece at before same line =
+    subst (λ (l : List ℕ). Appends w w2 l) (ap (λ (l : List ℕ). entries_text (take i entries) ++ l) same ∙ sym (entries_text-more entries i e at)) (Appends-trans w w1 w2 (entries_text (take i entries)) piece before line)
+
+-- a prefix of one more is one of all
+pub entries-prefix : (w w1 w2 : Option (List ℕ)) (entries : List Entry) (i : ℕ) (e : Entry) → (piece : List ℕ) → slice_get entries i ≡ Some e → Appends w w1 (entries_text (take i entries)) → piece ≡ entry_line e → AppendsPrefix w1 w2 piece → AppendsPrefix w w2 (entries_text entries)
+entries-prefix w w1 w2 entries i e piece at before same line =
+    let joined : entries_text (take i entries) ++ piece ≡ entries_text (take (i + 1) entries) = ap (λ (l : List ℕ). entries_text (take i entries) ++ l) same ∙ sym (entries_text-more entries i e at) in
+    let front : AppendsPrefix w w2 (entries_text (take (i + 1) entries)) = subst (λ (l : List ℕ). AppendsPrefix w w2 l) joined (prefix-behind w w1 w2 (entries_text (take i entries)) piece before line) in
+    let parts : entries_text entries ≡ entries_text (take (i + 1) entries) ++ entries_text (drop (i + 1) entries) =
+    ap entries_text (sym (take-append-drop (i + 1) entries)) ∙ flat_map-append entry_line (take (i + 1) entries) (drop (i + 1) entries) in
+    subst (λ (l : List ℕ). AppendsPrefix w w2 l) (sym parts) (prefix-longer w w2 _ _ front)
+
+-- ENDS
+-- a line behind entries
+pub Prints-behind : (P : Status → List ℕ → Type 0) (Q : List Entry → Status → List ℕ → Type 0) (entries : List Entry) (w w1 w2 : Option (List ℕ)) (x : Status) → ((y : Status) (line : List ℕ) → P y line → Q entries y line) → Appends w w1 (entries_text entries) → Writes P w1 w2 x → Prints Q w w2 x
+Prints-behind P Q entries w w1 w2 status.Memory leads before is = (entries, subst (λ (o : Option (List ℕ)). Appends w o (entries_text entries)) (sym is) before)
+Prints-behind P Q entries w w1 w2 status.WriteFault leads before is = (entries, is.0, is.1, leads is.0 is.1 is.2, prefix-behind w w1 w2 (entries_text entries) is.1 before is.3)
+Prints-behind P Q entries w w1 w2 x leads before is = (entries, is.0, leads x is.0 is.1, Appends-trans w w1 w2 (entries_text entries) is.0 before is.2)
+
+-- a line alone
+pub Prints-alone : (P : Status → List ℕ → Type 0) (Q : List Entry → Status → List ℕ → Type 0) (w w' : Option (List ℕ)) (x : Status) → ((y : Status) (line : List ℕ) → P y line → Q [] y line) → Writes P w w' x → Prints Q w w' x
+Prints-alone P Q w w' x leads is = Prints-behind P Q [] w w w' x leads (Appends-nil w) is
+
+-- an end of one kind is one of another
+pub Prints-as : (P Q : List Entry → Status → List ℕ → Type 0) (w w' : Option (List ℕ)) (x : Status) → ((entries : List Entry) (y : Status) (line : List ℕ) → P entries y line → Q entries y line) → Prints P w w' x → Prints Q w w' x
+Prints-as P Q w w' status.Memory leads is = is
+Prints-as P Q w w' status.WriteFault leads is = (is.0, is.1, is.2, leads is.0 is.1 is.2 is.3, is.4)
+Prints-as P Q w w' x leads is = (is.0, is.1, leads is.0 x is.1 is.2, is.3)

@@ -1,0 +1,16 @@
+use Rattle.std.proofs.Common.{◌≡◌, Ok, Err}
+use Rattle.nvm_top.proofs.RunLines.{broken-print, end-print, stop-print}
+use Rattle.nvm_top.proofs.play.write_run.Goals as goal
+
+pub returns-in-Err-clause-print : goal.returns-in-Err-clause-print
+returns-in-Err-clause-print g c = broken-print c.args.run c.in-Err.fault c.args.history.now.entries _ _ _ c.status.ensures c.in-Err.ensures.part
+
+pub returns-in-Ok-clause-print : goal.returns-in-Ok-clause-print
+returns-in-Ok-clause-print g c =
+    let is : c.args.run ≡ Ok c.in-Ok.field-0 = cc c.in-Ok.is in
+    end-print c.args.run c.in-Ok.field-0 c.args.history.now.entries _ _ _ _ is c.in_default.ensures.lines c.write_end.ensures.line
+
+pub returns-in-Err-run-clause-print : goal.returns-in-Err-run-clause-print
+returns-in-Err-run-clause-print g c =
+    let is : c.args.run ≡ Err c.in-Err-run.stop = cc c.in-Err-run.is in
+    stop-print c.args.run c.in-Err-run.stop c.args.history.now.entries _ _ _ _ is c.in_default.ensures.lines c.report.ensures.line

@@ -1,0 +1,22 @@
+-- The measures of a configuration.
+use Rattle.std.specs.Prelude.{◌≡◌, ℕ, List, ◌++◌, length, codes}
+use Rattle.std.specs.Fmt.{decimal}
+use Rattle.nv_base.specs.Geometry.{bank_pages_of}
+use Rattle.block_config.specs.Config.{Configuration}
+use Rattle.block_config.specs.Rules.{need_pages_of}
+use Rattle.block_config.specs.Sizes.{measures_of}
+use Rattle.nvm_top.specs.declared.status.Status.{Status}
+use Rattle.nvm_top.specs.declared.status.Status.TheVariants as status
+
+-- the line of these numbers, with its newline
+abbrev pub numbers_line : ℕ → ℕ → ℕ → ℕ → List ℕ
+numbers_line blocks instances need bank =
+    codes "config ok blocks " ++ (decimal blocks ++ (codes " instances " ++ (decimal instances ++ (codes " need " ++ (decimal need ++ (codes " bank " ++ (decimal bank ++ codes "\n")))))))
+
+-- how many blocks and instances a configuration has, how many pages a bank needs, and how many it has
+abbrev pub measures_line : Configuration → List ℕ
+measures_line c = numbers_line (length c.blocks) (measures_of c.geometry.page c.blocks).instances (need_pages_of c) (bank_pages_of c.geometry)
+
+-- a command ends well, and writes the measures last
+abbrev pub IsMeasured : Configuration → Status → List ℕ → Type 0
+IsMeasured c x line = (x ≡ status.Ok) × (line ≡ measures_line c)
