@@ -20,8 +20,6 @@ mod lengths;
 mod reading;
 mod rom_list;
 mod sizes;
-#[cfg(test)]
-mod tests;
 
 pub use block::{BlockDesc, BlockKind, RamKind};
 pub use config::Config;

@@ -56,32 +56,3 @@ impl StepList {
         Ok(())
     }
 }
-
-#[cfg(test)]
-mod tests {
-    use super::*;
-    use crate::StepKind;
-    use std::test::Fail;
-
-    #[test]
-    fn steps_in_order(rt: HostRuntime) -> Result<(), Fail> {
-        let mut steps = StepList::new(rt.alloc());
-        let drain = Step {
-            line: 2,
-            caller: 0,
-            kind: StepKind::Drain,
-        };
-        let turn = Step {
-            line: 4,
-            caller: 0,
-            kind: StepKind::Turn { count: 20 },
-        };
-        steps.add(drain)?;
-        steps.add(turn)?;
-        assert_eq!(rt; steps.len(), 2);
-        let turn = steps.get(1).ok_or("none")?;
-        assert_eq!(rt; turn.kind, StepKind::Turn { count: 20 });
-        assert!(rt; steps.get(2).is_none());
-        Ok(())
-    }
-}

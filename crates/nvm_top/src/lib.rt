@@ -28,8 +28,3 @@ pub use headline::{a_blank_start_keeps_it, wrong_runs_break_it};
 pub use play::play_command;
 pub use status::Status;
 pub use words::{CommandKind, image_path};
-
-#[cfg(test)]
-mod image_tests;
-#[cfg(test)]
-mod tests;

@@ -1,7 +1,7 @@
 // `play` over an image file.
-use crate::command;
 use fls_devices::FileFlash;
 use nv_base::{MemSink, mem_sink, mem_source};
+use nvm_top::command;
 use std::alloc::{AllocError, Global};
 use std::fs;
 use std::rt::Files;

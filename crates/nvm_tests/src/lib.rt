@@ -1,0 +1,13 @@
+//! Tests of several crates, a module for each: the happy path of each public call, each generic function and impl
+//! once at a concrete type, each allocation, read and write failing in turn, and the real files and streams.
+//!
+//! A crate with a test of its own is proved twice, so tests stand here, but for those that need private parts. It
+//! promises nothing.
+#![tactic(auto)]
+
+#[cfg(test)]
+mod commands;
+#[cfg(test)]
+mod configuration;
+#[cfg(test)]
+mod texts;

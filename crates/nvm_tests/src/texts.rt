@@ -1,0 +1,4 @@
+// What people read and write.
+mod lines;
+mod script;
+mod summary;
