@@ -8,5 +8,6 @@ pub mod SamePages
 pub mod SomeList
 pub mod SoundCases
 pub mod Soundness
+pub mod Stored
 pub mod Torn
 pub mod TwoWrites

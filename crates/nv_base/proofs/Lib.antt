@@ -1,2 +1,5 @@
 pub mod Lists
+pub mod Numerals
+pub mod Places
 pub mod Sent
+pub mod Shapes

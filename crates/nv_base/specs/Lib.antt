@@ -1,4 +1,7 @@
+pub mod Cell
 pub mod Count
+pub mod Decimal
+pub mod Entry
 pub mod Geometry
 pub mod History
 pub mod Lengths

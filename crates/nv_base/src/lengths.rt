@@ -1,6 +1,6 @@
 // The configured device numbers with their lengths.
-ghost use Rattle.std.specs.Prelude.{◌≡◌, ◌<◌, ◌≤◌, ◌++◌, ◌∷◌, [], length, Some, MatchOption, IfOk, OnOk, OnErr, slice_get};
-ghost use Rattle.nv_base.specs.Lengths.{AreLengths, last_or};
+ghost use Rattle.std.specs.Prelude.{◌≡◌, ◌≢◌, ◌↔◌, ◌<◌, ◌≤◌, ◌++◌, ◌∷◌, [], ℕ, All, IsTrue, length, Some, MatchOption, IfOk, OnOk, OnErr, slice_get};
+ghost use Rattle.nv_base.specs.Lengths.{AreLengths, IsPlace, last_or, place_of};
 
 use crate::DeviceNumber;
 use std::alloc::{AllocError, Global};
@@ -50,6 +50,24 @@ impl Lengths {
         self.items.get(i as usize).copied()
     }
 
+    /// Lends the numbers with their lengths.
+    pub fn as_slice(&self) -> &[(DeviceNumber, u16)]
+        ensures value { result.now ≡ self.now }
+        ensures bounds { AreLengths 0 self.now }
+    {
+        &self.items
+    }
+
+    /// The place of a number, from 0, by a binary search. None exactly where the number doesn't stand here.
+    pub fn place_of(&self, number: DeviceNumber) -> Option<usize>
+        ensures value { result ≡ place_of self.now number.0 }
+        ensures place { MatchOption result (All (λ x. x.0.0 ≢ number.0) self.now) (IsPlace self.now number.0) }
+        ensures only { (i : ℕ) → IsPlace self.now number.0 i → result ≡ Some i }
+    {
+        let wanted = number.0;
+        self.items.binary_search_by_key(&wanted, |x| x.0.0).ok()
+    }
+
     /// Adds a number above all others.
     pub fn add(&mut self, number: DeviceNumber, length: u16) -> Result<(), AllocError>
         requires above { last_or 0 self.old < number.0 }
@@ -62,6 +80,20 @@ impl Lengths {
         self.items.push((number, length))?;
         Ok(())
     }
+}
+
+/// Whether these numbers ascend, none is 0 or 65,535, and each length is 1 to 4,096.
+pub fn are_lengths(items: &[(DeviceNumber, u16)]) -> bool
+    ensures { IsTrue result ↔ AreLengths 0 items.now }
+{
+    let mut low = 0;
+    for item in items {
+        if item.0.0 <= low || item.0.0 == 65535 || item.1 == 0 || item.1 > 4096 {
+            return false;
+        }
+        low = item.0.0;
+    }
+    true
 }
 
 /// The list of these numbers with their lengths.

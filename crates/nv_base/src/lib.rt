@@ -1,12 +1,13 @@
-//! The words of the memory stack: blocks and their instances, marks, requests, results, the history, and where
-//! bytes come from and go to.
-//!
-//! It promises lists that keep their order and bounds, and sources and sinks whose every fault is counted. What a
-//! history may hold, and what a flash does, is said elsewhere.
+//! The words of the memory stack: blocks and their instances, marks, requests, results, the history, the shape of a
+//! flash, and where bytes come from and go to. It promises lists that keep their order and bounds, sums of a shape that
+//! are exact, and sources and sinks whose every fault is counted. What a history may hold, and what a flash does, is
+//! said elsewhere.
 #![tactic(auto)]
 
+mod alike;
 mod bytes;
 mod bytes_room;
+mod decimal;
 mod entry;
 mod geometry;
 mod history;
@@ -26,17 +27,17 @@ mod sink;
 mod source;
 mod std_sink;
 mod std_source;
-#[cfg(test)]
-mod tests;
 
+pub use alike::all_are;
 pub use bytes::{Bytes, bytes_of};
 pub use bytes_room::BytesRoom;
+pub use decimal::decimal_number;
 pub use entry::{Entry, Taken};
-pub use geometry::Geometry;
+pub use geometry::{Geometry, banks_share_the_flash};
 pub use history::History;
-pub use instance::{DeviceNumber, Instance, number_of};
+pub use instance::{DeviceNumber, Instance, instance_of, number_of};
 pub use job::{DeviceOp, GivenFrom, JobStep, Outcome};
-pub use lengths::{Lengths, lengths_of};
+pub use lengths::{Lengths, are_lengths, lengths_of};
 pub use mark::Mark;
 pub use marks::Marks;
 pub use marks_room::MarksRoom;

@@ -1,7 +1,6 @@
 // The marks of instances.
-ghost use Rattle.std.specs.Prelude.{◌≡◌, ◌≢◌, ◌≤◌, ◌+◌, ◌*◌, ◌++◌, ◌∷◌, [], length, Some, MatchOption, OnOk, OnErr, IfErr, slice_get};
-ghost use Rattle.nv_base.specs.Marks.{AreMarks, next_or};
-ghost use Rattle.nv_base.specs.declared.mark.Mark.TheVariants.{Erased};
+ghost use Rattle.std.specs.Prelude.{◌≡◌, ◌≤◌, ◌+◌, ◌*◌, ◌++◌, ◌∷◌, [], length, Some, MatchOption, OnOk, OnErr, IfErr, slice_get};
+ghost use Rattle.nv_base.specs.Marks.{AreMarks, IsStored, next_or};
 
 use crate::{Instance, Mark};
 use std::alloc::{AllocFailed, Global};
@@ -68,7 +67,7 @@ impl Marks {
         requires block { instance.block ≤ 1023 }
         requires index { instance.index ≤ 63 }
         requires above { next_or 0 self.old ≤ instance.block * 64 + instance.index }
-        requires stands { mark ≢ Erased }
+        requires stored { IsStored mark }
         ensures ok { OnOk result (self.new ≡ self.old ++ (instance, mark) ∷ []) }
         ensures err { OnErr result (self.new ≡ self.old) }
         ensures handed_back { IfErr result (λ failed. failed.value ≡ mark) }

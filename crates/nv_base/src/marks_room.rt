@@ -1,7 +1,6 @@
 // Memory for the marks of a start-up.
-ghost use Rattle.std.specs.Prelude.{◌≡◌, ◌≢◌, ◌≤◌, ◌<◌, ◌+◌, ◌-◌, ◌*◌, ◌++◌, ◌∷◌, [], IfOk};
-ghost use Rattle.nv_base.specs.Marks.{next_or};
-ghost use Rattle.nv_base.specs.declared.mark.Mark.TheVariants.{Erased};
+ghost use Rattle.std.specs.Prelude.{◌≡◌, ◌≤◌, ◌<◌, ◌+◌, ◌-◌, ◌*◌, ◌++◌, ◌∷◌, [], IfOk};
+ghost use Rattle.nv_base.specs.Marks.{IsStored, next_or};
 
 use crate::{Instance, Mark, Marks};
 use std::alloc::{AllocError, Global};
@@ -42,7 +41,7 @@ impl MarksRoom {
         requires block { instance.block ≤ 1023 }
         requires index { instance.index ≤ 63 }
         requires above { next_or 0 self.old.marks ≤ instance.block * 64 + instance.index }
-        requires stands { mark ≢ Erased }
+        requires stored { IsStored mark }
         ensures { self.new ≡ record { marks = self.old.marks ++ (instance, mark) ∷ []; room = self.old.room - 1 } }
     {
         self.items.push_reserved((instance, mark));

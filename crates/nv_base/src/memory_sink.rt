@@ -1,5 +1,5 @@
 // A sink in memory.
-ghost use Rattle.std.specs.Prelude.{◌≡◌, ℕ, List, [], Option, Some, IfOk};
+ghost use Rattle.std.specs.Prelude.{◌≡◌, false, ℕ, List, [], Option, Some, IfOk};
 ghost use Rattle.nv_base.specs.Sink.{IsPut, IsFailedPut};
 ghost use Rattle.nv_base.specs.MemorySink.{FailsAsListed};
 
@@ -8,13 +8,15 @@ use std::alloc::{AllocError, Global};
 use std::marker::Model;
 
 /// A sink in memory, for tests. Its listed calls fail and keep nothing, as does a call that finds no memory; every
-/// other call keeps its whole piece. Contracts see the bytes written, the listed calls, the calls so far and the faults.
+/// other call keeps its whole piece. Contracts see the bytes written, the listed calls, the calls so far, the faults, and
+/// whether the last call found no memory.
 #[derive(Debug, Drop)]
 pub struct MemSink {
     bytes: Vec<u8>,
     failing: Vec<u64>,
     calls: u64,
     faults: u64,
+    starved: bool,
 }
 
 impl Model for MemSink {
@@ -22,18 +24,19 @@ impl Model for MemSink {
 
     ghost Value = { SinkInMemory };
 
-    ghost view = { λ s. record { written = s.bytes.items; failing = s.failing.items; calls = s.calls; faults = s.faults } };
+    ghost view = { λ s. record { written = s.bytes.items; failing = s.failing.items; calls = s.calls; faults = s.faults; starved = s.starved } };
 }
 
 /// An empty sink whose calls with the listed numbers, from 1, fail.
 pub fn mem_sink(alloc: Global, failing: &[u64]) -> Result<MemSink, AllocError>
-    ensures { IfOk result (λ s. s ≡ record { written = []; failing = failing.now; calls = 0; faults = 0 }) }
+    ensures { IfOk result (λ s. s ≡ record { written = []; failing = failing.now; calls = 0; faults = 0; starved = false }) }
 {
     Ok(MemSink {
         bytes: Vec::new(alloc),
         failing: failing.to_vec(alloc)?,
         calls: 0,
         faults: 0,
+        starved: false,
     })
 }
 
@@ -57,10 +60,18 @@ impl Sink for MemSink {
         ensures listed { FailsAsListed result self.old self.new }
     {
         self.calls = self.calls.saturating_add(1);
-        if self.failing.contains(&self.calls) || self.bytes.extend_from_slice(piece).is_err() {
+        self.starved = false;
+        if self.failing.contains(&self.calls) {
             self.faults = self.faults.saturating_add(1);
             return SinkAnswer::Failed;
         }
-        SinkAnswer::Done
+        match self.bytes.extend_from_slice(piece) {
+            Ok(()) => SinkAnswer::Done,
+            Err(_) => {
+                self.starved = true;
+                self.faults = self.faults.saturating_add(1);
+                SinkAnswer::Failed
+            }
+        }
     }
 }

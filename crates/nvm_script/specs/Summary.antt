@@ -1,11 +1,12 @@
 -- The summary of a history: how many entries of each kind it has, as six kinds of lines.
-use Rattle.std.specs.Prelude.{ℕ, ◌==◌, Bool, true, false, List, ◌++◌, length, codes, Option, Some, None, unwrap_or}
+use Rattle.std.specs.Prelude.{ℕ, ◌==◌, Bool, true, false, List, ◌++◌, length, codes, unwrap_or}
 use Rattle.std.specs.List.{count_by, fold, flat_map, range_with_len}
 use Rattle.std.specs.Fmt.{decimal}
 use Rattle.nv_base.specs.Result.{code_of}
 use Rattle.nv_base.specs.declared.request.Reply.TheVariants.{Refused}
+pub use Rattle.nv_base.specs.Entry.{ops_of}
 use Rattle.nv_base.specs.declared.entry.Entry.{Entry}
-use Rattle.nv_base.specs.declared.entry.Entry.TheVariants.{Ask, Pick, Wrote, Post, Off, Found}
+use Rattle.nv_base.specs.declared.entry.Entry.TheVariants.{Ask, Post}
 
 -- a request, whatever its reply
 abbrev pub is_ask : Entry → Bool
@@ -26,15 +27,6 @@ is_post _ = false
 abbrev pub is_post_with : ℕ → Entry → Bool
 is_post_with code (Post block result_of given refused ops) = code_of result_of == code
 is_post_with code _ = false
-
--- the operations so far, which each entry but a request tells
-abbrev pub ops_of : Entry → Option ℕ
-ops_of (Ask caller request reply) = None
-ops_of (Pick block job taken ops) = Some ops
-ops_of (Wrote instance mark ops) = Some ops
-ops_of (Post block result_of given refused ops) = Some ops
-ops_of (Off ops) = Some ops
-ops_of (Found marks ops) = Some ops
 
 -- the operations so far by the last entry that tells them, and 0 where none does
 abbrev pub last_ops : List Entry → ℕ

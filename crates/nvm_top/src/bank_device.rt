@@ -242,6 +242,7 @@ impl<F: Flash> BankDevice<F> {
         marks: &mut Marks,
     ) -> Result<(), StartFault>
         requires configured { Contains self.old.log.numbers (number, length) }
+        requires some { 1 ≤ length }
         requires length { length ≤ 4096 }
         requires above { next_or 0 marks.old ≤ number.0 }
         requires on { self.old.told.off ≡ false }

@@ -11,5 +11,5 @@ loop-index-preserved c =
     let added = c.in_ok-add.ensures.ok in
     let more = map-range_with_len_more (length_at c.args.id c.args.block.now.length) 0 i i (omega arith) in
     let last = last_or-push 0 c.loop-index.lengths c.number_of.result c.args.block.now.length in
-    let number : c.number_of.result ≡ record { 0 = c.args.id * 64 + i } = ap (λ (n : ℕ). let d : DeviceNumber = record { 0 = n } in d) c.number_of.ensures in
-    (rw (more, added, c.loop-index.invariant.0, append_assoc, number) refl, rw (added, last, c.number_of.ensures) (omega arith))
+    let number : c.number_of.result ≡ record { 0 = c.args.id * 64 + i } = ap (λ (n : ℕ). let d : DeviceNumber = record { 0 = n } in d) c.number_of.ensures.value in
+    (rw (more, added, c.loop-index.invariant.0, append_assoc, number) refl, rw (added, last, c.number_of.ensures.value) (omega arith))

@@ -1,10 +1,14 @@
 use Rattle.std.proofs.Common.{◌≤◌, length, drop, arith, length-drop}
 use Rattle.std.proofs.lemmas.List.{take_rest}
-use Rattle.nv_base.proofs.Sent.{Appends-more}
+use Rattle.nv_base.proofs.Sent.{Appends-more, Appends-kept}
 use Rattle.nv_base.proofs.std_sink.StdSinkSink.put.Goals as goal
+use Rattle.nv_base.proofs.std_sink.StdSinkSink.put.Goals.{in-Ok, in-Err}
 
-pub loop-at-preserved : goal.loop-at-preserved
-loop-at-preserved g c =
-    let bound : c.in-Ok.count ≤ length (drop c.loop-at.at c.args.piece.now) = rw take_rest at c.in-Ok.ensures.bound in
-    let bytes = rw take_rest at c.in-Ok.ensures.bytes in
-    (omega (arith, bound, length-drop c.loop-at.at c.args.piece.now), Appends-more _ _ _ c.args.piece.now c.loop-at.at c.in-Ok.count c.loop-at.invariant.1 bytes, c.loop-at.invariant.2)
+pub loop-preserved : goal.loop-preserved
+loop-preserved g c = elim c.match-write.branch [
+  | in-Ok w ↦
+      let bound : w.in-Ok.count ≤ length (drop c.loop.at c.args.piece.now) = rw take_rest at w.in-Ok.ensures.bound in
+      let bytes = rw take_rest at w.in-Ok.ensures.bytes in
+      rw w.at-is (omega (arith, bound, c.loop.invariant.0, length-drop c.loop.at c.args.piece.now), Appends-more _ _ _ c.args.piece.now c.loop.at w.in-Ok.count c.loop.invariant.1 bytes, c.loop.invariant.2)
+  | in-Err w ↦ rw w.at-is (c.loop.invariant.0, Appends-kept _ _ _ _ c.loop.invariant.1 w.in-Err.ensures.bytes, c.loop.invariant.2)
+]

@@ -7,6 +7,9 @@ use Rattle.nvm_top.proofs.bank_device.BankDevice.found.Goals as goal
 pub find-requires-clause-length : goal.find-requires-clause-length
 find-requires-clause-length g c = (item 0 c.args.numbers.now c.loop-i.i (c.in-Some.number, c.in-Some.length) c.len-i-end.ensures.bounds c.in-Some.ensures).small
 
+pub find-requires-clause-some : goal.find-requires-clause-some
+find-requires-clause-some g c = (item 0 c.args.numbers.now c.loop-i.i (c.in-Some.number, c.in-Some.length) c.len-i-end.ensures.bounds c.in-Some.ensures).some
+
 pub find-requires-clause-above : goal.find-requires-clause-above
 find-requires-clause-above g c = omega (arith, c.loop-i.invariant.1, (item 0 c.args.numbers.now c.loop-i.i (c.in-Some.number, c.in-Some.length) c.len-i-end.ensures.bounds c.in-Some.ensures).above)
 
