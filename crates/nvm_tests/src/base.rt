@@ -1,5 +1,6 @@
 // The words of the stack: its lists, its numbers, and the sources and sinks.
 use nv_base::*;
+use std::alloc::Global;
 use std::io;
 use std::io::{Read, Write};
 use std::test::Fail;
@@ -21,7 +22,7 @@ fn source_and_sink_in_memory_fail_in_listed_calls(rt: HostRuntime) -> Result<(),
         let is_done = sink.put(&piece) == SinkAnswer::Done;
         assert_eq!(rt; is_done, answer != Failed);
     }
-    assert_eq!(rt; sink.bytes(), b"abcdezzz");
+    assert_eq!(rt; sink.bytes(), b"abcdezzz".as_slice());
     Ok(())
 }
 
@@ -67,7 +68,7 @@ impl Write for Tape {
     }
 }
 
-fn tape(alloc: Global, error: io::ErrorKind) -> Tape {
+fn make_tape(alloc: Global, error: io::ErrorKind) -> Tape {
     Tape {
         text: io::Cursor::new(b"abc"),
         kept: Vec::new(alloc),
@@ -84,7 +85,7 @@ fn source_over_a_reader_fails_with_it_and_goes_on(rt: HostRuntime) -> Result<(),
         (io::ErrorKind::Interrupted, [Got(2), Got(1), Got(0), Got(0)]),
     ];
     for (error, answers) in cases {
-        let mut source = StdSource::make(tape(rt.alloc(), error));
+        let mut source = StdSource::make(make_tape(rt.alloc(), error));
         for answer in answers {
             let mut piece = [0; 2];
             assert_eq!(rt; source.take(&mut piece), answer);
@@ -101,7 +102,7 @@ fn sink_over_a_writer_writes_whole_pieces_or_fails(rt: HostRuntime) -> Result<()
         (io::ErrorKind::Interrupted, Done, b"abcdefg"),
     ];
     for (error, first, kept) in cases {
-        let mut writer = tape(rt.alloc(), error);
+        let mut writer = make_tape(rt.alloc(), error);
         let mut sink = StdSink::make(&mut writer);
         assert_eq!(rt; sink.put(b"abcde"), first);
         assert_eq!(rt; sink.put(b""), Done);
@@ -157,7 +158,13 @@ fn history_keeps_entries_in_order(rt: HostRuntime) -> Result<(), Fail> {
 
 #[test]
 fn numbers_of_results_refusals_and_instances(rt: HostRuntime) {
-    assert_eq!(rt; (result_code(ReqResult::Fine), result_code(ReqResult::Restored)), (0, 8));
+    assert_eq!(rt;
+        (
+            result_code(ReqResult::Fine),
+            result_code(ReqResult::Restored)
+        ),
+        (0, 8)
+    );
     assert_eq!(rt; refusal_number(Refusal::MultiPending), 10);
     let last = Instance {
         block: 512,
@@ -174,6 +181,13 @@ fn numbers_of_results_refusals_and_instances(rt: HostRuntime) {
 fn sums_of_a_shape(rt: HostRuntime) {
     assert!(rt; SMALL.is_legal() && SMALL.has_banks(3) && !SMALL.has_banks(5));
     assert_eq!(rt; (SMALL.size(), SMALL.sector_pages()), (768, 4));
-    assert_eq!(rt; (SMALL.bank_sectors(3), SMALL.bank_pages(3), SMALL.bank_size(3)), (4, 16, 256));
+    assert_eq!(rt;
+        (
+            SMALL.bank_sectors(3),
+            SMALL.bank_pages(3),
+            SMALL.bank_size(3)
+        ),
+        (4, 16, 256)
+    );
     assert_eq!(rt; SMALL.page_address(3, 2, 1), 528);
 }
