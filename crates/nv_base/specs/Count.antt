@@ -12,3 +12,7 @@ next_count n = min (n + 1) last_count
 -- a count rose, or stood at its end already
 abbrev pub Rose : ℕ → ℕ → Type 0
 Rose before after = (before < after) ⊎ ((last_count ≤ before) × (before ≤ after))
+
+-- so many were counted between two values of a count, or it stands at its end
+abbrev pub WereCounted : ℕ → ℕ → ℕ → Type 0
+WereCounted n before after = (before + n ≤ after) ⊎ (last_count ≤ after)
