@@ -1,8 +1,9 @@
 -- A content as people write it.
-use Rattle.std.specs.Prelude.{ℕ, ◌+◌, ◌-◌, ◌*◌, ◌%◌, ◌==◌, ◌&&◌, nat_le, nat_lt, Bool, if◌then◌else◌, List, [], ◌∷◌, length, slice_index, take, drop, replicate, Option, Some, None, option_map, option_and_then}
+use Rattle.std.specs.Prelude.{ℕ, ◌%◌, ◌==◌, ◌&&◌, nat_le, nat_lt, Bool, if◌then◌else◌, List, length, slice_index, take, drop, replicate, Option, None, option_map, option_and_then}
 use Rattle.std.specs.List.{list_all}
 use Rattle.std.specs.Result.{result_ok}
 use Rattle.hex.specs.Hex.{is_hex_digit, decode_of}
+use Rattle.nv_base.specs.Decimal.{decimal_number_of}
 
 -- an even number of hexadecimal digits, two for each of 1 to 4,096 bytes
 abbrev pub is_plain : List ℕ → Bool
@@ -12,14 +13,9 @@ is_plain text = nat_le 2 (length text) && nat_le (length text) 8192 && (length t
 abbrev pub plain_of : List ℕ → Option (List ℕ)
 plain_of text = if is_plain text then result_ok (decode_of text) else None
 
--- the number that decimal digits make behind a number's digits, if it is at most 4,096
-abbrev pub count_behind : ℕ → List ℕ → Option ℕ
-count_behind n [] = Some n
-count_behind n (c ∷ cs) = if nat_le 48 c && nat_le c 57 && nat_le (n * 10 + (c - 48)) 4096 then count_behind (n * 10 + (c - 48)) cs else None
-
 -- a count of 1 to 4,096, in decimal without leading zeros
-abbrev pub count_of : List ℕ → Option ℕ
-count_of text = if nat_le 49 (slice_index text 0) then count_behind 0 text else None
+unfoldable pub count_of : List ℕ → Option ℕ
+count_of text = decimal_number_of 1 4096 text
 
 -- two digits and a count: so many bytes of this value
 abbrev pub run_of : List ℕ → List ℕ → Option (List ℕ)

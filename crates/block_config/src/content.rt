@@ -2,10 +2,10 @@
 ghost use Rattle.std.specs.Prelude.{◌≡◌, ◌≤◌, IfOk, IfSome, length, option_map};
 ghost use Rattle.std.specs.List.{list_all};
 ghost use Rattle.hex.specs.Hex.{is_hex_digit};
-ghost use Rattle.block_config.specs.Content.{is_plain, plain_of, count_of, count_behind, run_of, is_parted, content_of};
+ghost use Rattle.block_config.specs.Content.{is_plain, plain_of, count_of, run_of, is_parted, content_of};
 
 use hex::FromHexError;
-use nv_base::{Bytes, bytes_of};
+use nv_base::{Bytes, bytes_of, decimal_number};
 use std::alloc::{AllocError, Global};
 
 /// The content that a text is: an even number of hexadecimal digits in either case, at least two; or two digits, `*`
@@ -91,22 +91,11 @@ fn read_run(alloc: Global, pair: &[u8], count: &[u8]) -> Result<Option<Bytes>, A
 }
 
 /// A count of 1 to 4,096.
+#[tactic(auto, unfolding(crate::specs::Content::count_of))]
 fn count_of(text: &[u8]) -> Option<usize>
     ensures value { result ≡ count_of text.now }
     ensures most { IfSome result (λ n. n ≤ 4096) }
 {
-    if text.is_empty() || text[0] < b'1' {
-        return None;
-    }
-    let mut count = 0;
-    for digit in text {
-        if *digit < b'0' || *digit > b'9' {
-            return None;
-        }
-        count = count * 10 + usize::from(*digit - b'0');
-        if count > 4096 {
-            return None;
-        }
-    }
-    Some(count)
+    let count = decimal_number(text, 1, 4096)?;
+    Some(count as usize)
 }

@@ -18,11 +18,11 @@ use Rattle.nvm_script.specs.declared.word.Word.{Word}
 use Rattle.nvm_script.specs.declared.word.Word.TheVariants.{Read}
 use Rattle.nvm_script.specs.Cut.{cut_at}
 use Rattle.nvm_script.specs.Line.{IsIdle, IsCalled, IsStepLine, begins_with_digit, caller_before, called_of}
-use Rattle.nvm_script.specs.Number.{number_of}
+use Rattle.nv_base.specs.Decimal.{decimal_number_of}
 use Rattle.nvm_script.specs.Reading.{with_fields, spelled}
 use Rattle.nvm_script.specs.Word.{word_text, word_of}
 use Rattle.nvm_script.proofs.Cuts.{Joins, cut_at-joins, cut_at-append}
-use Rattle.nvm_script.proofs.Numerals.{model, and_parts, differs, number_of-spelled, number_of-decimal, decimal-lacks}
+use Rattle.nvm_script.proofs.Numerals.{model, and_parts, differs, decimal_number_of-spelled, decimal_number_of-decimal, decimal-lacks}
 use Rattle.nvm_script.proofs.WordLaws.{word_of-found}
 
 small : (n : ℕ) → n ≤ 15 → n < 2 ^ 64
@@ -46,9 +46,9 @@ bind_sound : (P : ℕ → Type 0) (o : Option ℕ) (f : ℕ → Option (Option �
 bind_sound P None f line has each = tt
 bind_sound P (Some x) f line has each = each x has
 
-by_digit : (line : List ℕ) (b : Bool) → IsSound (if b then option_and_then (λ caller. caller_before caller (cut_at 58 line).1) (number_of 0 15 (cut_at 58 line).0) else Some (None, line)) line
+by_digit : (line : List ℕ) (b : Bool) → IsSound (if b then option_and_then (λ caller. caller_before caller (cut_at 58 line).1) (decimal_number_of 0 15 (cut_at 58 line).0) else Some (None, line)) line
 by_digit line true =
-    bind_sound (λ n. (0 ≤ n) × (n ≤ 15) × ((cut_at 58 line).0 ≡ decimal n)) (number_of 0 15 (cut_at 58 line).0) (λ caller. caller_before caller (cut_at 58 line).1) line (number_of-spelled 0 15 (cut_at 58 line).0 (small 15 (omega arith)))
+    bind_sound (λ n. (0 ≤ n) × (n ≤ 15) × ((cut_at 58 line).0 ≡ decimal n)) (decimal_number_of 0 15 (cut_at 58 line).0) (λ caller. caller_before caller (cut_at 58 line).1) line (decimal_number_of-spelled 0 15 (cut_at 58 line).0 (small 15 (omega arith)))
     (λ n is. before_sound n line (cut_at 58 line).0 (cut_at 58 line).1 is.1 is.2 (cut_at-joins 58 line))
 by_digit line false = refl
 
@@ -84,7 +84,7 @@ named : (caller : ℕ) (text : List ℕ) → caller ≤ 15 → called_of (decima
 unfolding called_of
 named caller text le =
     let fits = small caller le in
-    rw (digits_begin (decimal caller) (58 ∷ (32 ∷ text)) (digits_decimal model caller fits) (decimal_nonempty caller fits), cut_at-append 58 (decimal caller) (32 ∷ text) (decimal-lacks 58 caller refl fits), number_of-decimal 0 15 caller (omega arith) le (small 15 (omega arith))) refl
+    rw (digits_begin (decimal caller) (58 ∷ (32 ∷ text)) (digits_decimal model caller fits) (decimal_nonempty caller fits), cut_at-append 58 (decimal caller) (32 ∷ text) (decimal-lacks 58 caller refl fits), decimal_number_of-decimal 0 15 caller (omega arith) le (small 15 (omega arith))) refl
 
 pub called_of-complete : (called : Option ℕ) (text line : List ℕ) → IsCalled called text line → begins_with_digit text ≡ false → called_of line ≡ Some (called, text)
 unfolding called_of

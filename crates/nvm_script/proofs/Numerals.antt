@@ -10,7 +10,7 @@ use Rattle.std.specs.Fmt.{decimal}
 use Rattle.std.specs.List.{list_all, list_any}
 use Rattle.std.specs.Str.{IsUtf8}
 use Rattle.std.specs.Str.Parse.{digits_value}
-use Rattle.nvm_script.specs.Number.{is_numeral, number_of}
+use Rattle.nv_base.specs.Decimal.{is_numeral, decimal_number_of}
 
 abbrev pub are_digits : List ℕ → Type 0
 are_digits ds = list_all is_ascii_digit ds ≡ true
@@ -67,14 +67,14 @@ differs d at true same digit other = let e : d ≡ at = eqb-true d at same in cc
 differs d at false same digit other = same
 
 -- what a number is read from is its decimal text
-pub number_of-spelled : (low high : ℕ) (text : List ℕ) → high < 2 ^ 64 → IfSome (number_of low high text) (λ n. (low ≤ n) × (n ≤ high) × (text ≡ decimal n))
-unfolding number_of
-number_of-spelled low high text small = by_numeral low high text (is_numeral text) refl small
+pub decimal_number_of-spelled : (low high : ℕ) (text : List ℕ) → high < 2 ^ 64 → IfSome (decimal_number_of low high text) (λ n. (low ≤ n) × (n ≤ high) × (text ≡ decimal n))
+unfolding decimal_number_of
+decimal_number_of-spelled low high text small = by_numeral low high text (is_numeral text) refl small
 
 -- a number within bounds is read from its decimal text
-pub number_of-decimal : (low high n : ℕ) → low ≤ n → n ≤ high → high < 2 ^ 64 → number_of low high (decimal n) ≡ Some n
-unfolding number_of
-number_of-decimal low high n above below small =
+pub decimal_number_of-decimal : (low high n : ℕ) → low ≤ n → n ≤ high → high < 2 ^ 64 → decimal_number_of low high (decimal n) ≡ Some n
+unfolding decimal_number_of
+decimal_number_of-decimal low high n above below small =
     let fits : n < 2 ^ 64 = omega arith in
     rw (is_numeral-decimal n fits, digits_value-decimal model n fits, le-leb low n above, le-leb n high below) refl
 

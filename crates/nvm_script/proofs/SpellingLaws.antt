@@ -11,13 +11,13 @@ use Rattle.nvm_script.specs.declared.step.StepKind.TheVariants as step
 use Rattle.nvm_script.specs.declared.word.Word.{Word}
 use Rattle.nvm_script.specs.declared.word.Word.TheVariants.{Read, ReadRam, Write, WriteRam, Restore, RestoreRam, Erase, Invalidate, SetIndex, GetIndex, Protect, Lock, SetRam, Ram, Status, ReadAll, WriteAll, Cancel, Turn, Drain, Restart, Cut, Refuse, Await}
 use Rattle.nvm_script.specs.Cut.{cut_at}
-use Rattle.nvm_script.specs.Number.{number_of}
+use Rattle.nv_base.specs.Decimal.{decimal_number_of}
 use Rattle.nvm_script.specs.Word.{word_text, word_of}
 use Rattle.nvm_script.specs.Words.{of_block_with as block_text_with, switch_text}
 use Rattle.nvm_script.specs.Reading.{without_fields, of_block, with_one, with_number, with_content, of_block_with, with_two, with_field, with_fields, spelled}
 use Rattle.nvm_script.specs.Spelling.{OfBlock, OfBlockWith, SpellsRequest, Spells}
 use Rattle.nvm_script.proofs.Cuts.{Joins, cut_at-joins, cut_at-append, cut_at-lacks}
-use Rattle.nvm_script.proofs.Numerals.{number_of-spelled, number_of-decimal, decimal-lacks}
+use Rattle.nvm_script.proofs.Numerals.{decimal_number_of-spelled, decimal_number_of-decimal, decimal-lacks}
 use Rattle.nvm_script.proofs.WordLaws.{word_of-word_text, word_text-lacks, word_of-found}
 
 -- a step that was read, if one was, is spelled by the text
@@ -60,13 +60,13 @@ IsNumber low high text n = (low ≤ n) × (n ≤ high) × (text ≡ decimal n)
 small : (n : ℕ) → n ≤ 1000000 → n < 2 ^ 64
 small n le = omega arith
 
-one_block : (w : Word) (field text : List ℕ) → text ≡ word_text w ++ 32 ∷ field → IsSound (option_and_then (of_block w) (number_of 0 65535 field)) text
+one_block : (w : Word) (field text : List ℕ) → text ≡ word_text w ++ 32 ∷ field → IsSound (option_and_then (of_block w) (decimal_number_of 0 65535 field)) text
 one_block w field text e =
-    bind_sound (IsNumber 0 65535 field) (number_of 0 65535 field) (of_block w) text (number_of-spelled 0 65535 field (small 65535 (omega arith))) (λ b is. block_sound w b text (is.1, e ∙ ap (λ (l : List ℕ). word_text w ++ 32 ∷ l) is.2))
+    bind_sound (IsNumber 0 65535 field) (decimal_number_of 0 65535 field) (of_block w) text (decimal_number_of-spelled 0 65535 field (small 65535 (omega arith))) (λ b is. block_sound w b text (is.1, e ∙ ap (λ (l : List ℕ). word_text w ++ 32 ∷ l) is.2))
 
 one_sound : (w : Word) (field text : List ℕ) → text ≡ word_text w ++ 32 ∷ field → IsSound (with_one w field) text
 one_sound Turn field text e =
-    map_sound (IsNumber 1 100000 field) (number_of 1 100000 field) (λ n. step.Turn n) text (number_of-spelled 1 100000 field (small 100000 (omega arith))) (λ n is. (is.0, is.1, e ∙ ap (λ (l : List ℕ). word_text Turn ++ 32 ∷ l) is.2))
+    map_sound (IsNumber 1 100000 field) (decimal_number_of 1 100000 field) (λ n. step.Turn n) text (decimal_number_of-spelled 1 100000 field (small 100000 (omega arith))) (λ n is. (is.0, is.1, e ∙ ap (λ (l : List ℕ). word_text Turn ++ 32 ∷ l) is.2))
 one_sound w field text e = one_block w field text e
 
 switch-decimal : (n : ℕ) → n ≤ 1 → decimal n ≡ switch_text (n == 1)
@@ -83,15 +83,15 @@ switch_is w block n field text is number = field_is w block field (switch_text (
 
 number_sound : (w : Word) (block : ℕ) (field text : List ℕ) → OfBlockWith w block field text → IsSound (with_number w block field) text
 number_sound SetIndex block field text is =
-    map_sound (IsNumber 0 255 field) (number_of 0 255 field) (λ i. step.Ask (request.SetIndex block i)) text (number_of-spelled 0 255 field (small 255 (omega arith))) (λ i number. (number.1, field_is SetIndex block field (decimal i) text is number.2))
+    map_sound (IsNumber 0 255 field) (decimal_number_of 0 255 field) (λ i. step.Ask (request.SetIndex block i)) text (decimal_number_of-spelled 0 255 field (small 255 (omega arith))) (λ i number. (number.1, field_is SetIndex block field (decimal i) text is number.2))
 number_sound Protect block field text is =
-    map_sound (IsNumber 0 1 field) (number_of 0 1 field) (λ n. step.Ask (request.SetProtection block (n == 1))) text (number_of-spelled 0 1 field (small 1 (omega arith))) (λ n number. switch_is Protect block n field text is number)
+    map_sound (IsNumber 0 1 field) (decimal_number_of 0 1 field) (λ n. step.Ask (request.SetProtection block (n == 1))) text (decimal_number_of-spelled 0 1 field (small 1 (omega arith))) (λ n number. switch_is Protect block n field text is number)
 number_sound Lock block field text is =
-    map_sound (IsNumber 0 1 field) (number_of 0 1 field) (λ n. step.Ask (request.SetLock block (n == 1))) text (number_of-spelled 0 1 field (small 1 (omega arith))) (λ n number. switch_is Lock block n field text is number)
+    map_sound (IsNumber 0 1 field) (decimal_number_of 0 1 field) (λ n. step.Ask (request.SetLock block (n == 1))) text (decimal_number_of-spelled 0 1 field (small 1 (omega arith))) (λ n number. switch_is Lock block n field text is number)
 number_sound SetRam block field text is =
-    map_sound (IsNumber 0 1 field) (number_of 0 1 field) (λ n. step.Ask (request.SetRam block (n == 1))) text (number_of-spelled 0 1 field (small 1 (omega arith))) (λ n number. switch_is SetRam block n field text is number)
+    map_sound (IsNumber 0 1 field) (decimal_number_of 0 1 field) (λ n. step.Ask (request.SetRam block (n == 1))) text (decimal_number_of-spelled 0 1 field (small 1 (omega arith))) (λ n number. switch_is SetRam block n field text is number)
 number_sound Refuse block field text is =
-    map_sound (IsNumber 1 1000 field) (number_of 1 1000 field) (λ n. step.Refuse block n) text (number_of-spelled 1 1000 field (small 1000 (omega arith))) (λ n number. (number.0, number.1, field_is Refuse block field (decimal n) text is number.2))
+    map_sound (IsNumber 1 1000 field) (decimal_number_of 1 1000 field) (λ n. step.Refuse block n) text (decimal_number_of-spelled 1 1000 field (small 1000 (omega arith))) (λ n number. (number.0, number.1, field_is Refuse block field (decimal n) text is number.2))
 number_sound _ block field text is = tt
 
 itself : {A : Type 0} (o : Option A) → IfSome o (λ x. o ≡ Some x)
@@ -111,14 +111,14 @@ with_sound Write block field text is = write_sound block field text is
 with_sound Ram block field text is = ram_sound block field text is
 with_sound w block field text is = number_sound w block field text is
 
-two_block : (w : Word) (first second text : List ℕ) → text ≡ word_text w ++ 32 ∷ (first ++ 32 ∷ second) → IsSound (option_and_then (λ block. of_block_with w block second) (number_of 0 65535 first)) text
+two_block : (w : Word) (first second text : List ℕ) → text ≡ word_text w ++ 32 ∷ (first ++ 32 ∷ second) → IsSound (option_and_then (λ block. of_block_with w block second) (decimal_number_of 0 65535 first)) text
 two_block w first second text e =
-    bind_sound (IsNumber 0 65535 first) (number_of 0 65535 first) (λ block. of_block_with w block second) text (number_of-spelled 0 65535 first (small 65535 (omega arith))) (λ b is. with_sound w b second text (is.1, e ∙ ap (λ (l : List ℕ). word_text w ++ 32 ∷ (l ++ 32 ∷ second)) is.2))
+    bind_sound (IsNumber 0 65535 first) (decimal_number_of 0 65535 first) (λ block. of_block_with w block second) text (decimal_number_of-spelled 0 65535 first (small 65535 (omega arith))) (λ b is. with_sound w b second text (is.1, e ∙ ap (λ (l : List ℕ). word_text w ++ 32 ∷ (l ++ 32 ∷ second)) is.2))
 
 two_sound : (w : Word) (first second text : List ℕ) → text ≡ word_text w ++ 32 ∷ (first ++ 32 ∷ second) → IsSound (with_two w first second) text
 two_sound Cut first second text e =
-    bind_sound (IsNumber 1 1000000 first) (number_of 1 1000000 first) (λ nth. option_map (λ keep. step.Cut nth keep) (number_of 0 256 second)) text (number_of-spelled 1 1000000 first (small 1000000 (omega arith))) (λ nth n.
-    map_sound (IsNumber 0 256 second) (number_of 0 256 second) (λ keep. step.Cut nth keep) text (number_of-spelled 0 256 second (small 256 (omega arith))) (λ keep k.
+    bind_sound (IsNumber 1 1000000 first) (decimal_number_of 1 1000000 first) (λ nth. option_map (λ keep. step.Cut nth keep) (decimal_number_of 0 256 second)) text (decimal_number_of-spelled 1 1000000 first (small 1000000 (omega arith))) (λ nth n.
+    map_sound (IsNumber 0 256 second) (decimal_number_of 0 256 second) (λ keep. step.Cut nth keep) text (decimal_number_of-spelled 0 256 second (small 256 (omega arith))) (λ keep k.
     (n.0, n.1, k.1, e ∙ ap (λ (l : List ℕ). word_text Cut ++ 32 ∷ (l ++ 32 ∷ second)) n.2 ∙ ap (λ (l : List ℕ). word_text Cut ++ 32 ∷ (decimal nth ++ 32 ∷ l)) k.2)))
 two_sound w first second text e = two_block w first second text e
 
@@ -164,23 +164,23 @@ two_read : (w : Word) (n : ℕ) (second : List ℕ) → n ≤ 1000000 → spelle
 two_read w n second le =
     fields_read w (decimal n ++ 32 ∷ second) ∙ ap (λ (p : List ℕ × Option (List ℕ)). with_field w p.0 p.1) (cut_at-append 32 (decimal n) second (decimal-lacks 32 n refl (small n le)))
 
-block_number : (block : ℕ) → block ≤ 65535 → number_of 0 65535 (decimal block) ≡ Some block
-block_number block le = number_of-decimal 0 65535 block (omega arith) le (small 65535 (omega arith))
+block_number : (block : ℕ) → block ≤ 65535 → decimal_number_of 0 65535 (decimal block) ≡ Some block
+block_number block le = decimal_number_of-decimal 0 65535 block (omega arith) le (small 65535 (omega arith))
 
-block_read : (w : Word) (block : ℕ) (text : List ℕ) → OfBlock w block text → with_one w (decimal block) ≡ option_and_then (of_block w) (number_of 0 65535 (decimal block)) → spelled text ≡ of_block w block
+block_read : (w : Word) (block : ℕ) (text : List ℕ) → OfBlock w block text → with_one w (decimal block) ≡ option_and_then (of_block w) (decimal_number_of 0 65535 (decimal block)) → spelled text ≡ of_block w block
 block_read w block text is e =
     ap spelled is.1 ∙ one_read w block (omega (arith, is.0)) ∙ e ∙ ap (λ (o : Option ℕ). option_and_then (of_block w) o) (block_number block is.0)
 
-with_read : (w : Word) (block : ℕ) (field text : List ℕ) → OfBlockWith w block field text → with_two w (decimal block) field ≡ option_and_then (λ b. of_block_with w b field) (number_of 0 65535 (decimal block)) → spelled text ≡ of_block_with w block field
+with_read : (w : Word) (block : ℕ) (field text : List ℕ) → OfBlockWith w block field text → with_two w (decimal block) field ≡ option_and_then (λ b. of_block_with w b field) (decimal_number_of 0 65535 (decimal block)) → spelled text ≡ of_block_with w block field
 with_read w block field text is e =
     ap spelled is.1 ∙ two_read w block field (omega (arith, is.0)) ∙ e ∙ ap (λ (o : Option ℕ). option_and_then (λ b. of_block_with w b field) o) (block_number block is.0)
 
-switch_number : (on : Bool) → (n : ℕ) × (number_of 0 1 (switch_text on) ≡ Some n) × ((n == 1) ≡ on)
-unfolding number_of
+switch_number : (on : Bool) → (n : ℕ) × (decimal_number_of 0 1 (switch_text on) ≡ Some n) × ((n == 1) ≡ on)
+unfolding decimal_number_of
 switch_number true = (1, refl, refl)
 switch_number false = (0, refl, refl)
 
-switched : (f : Bool → StepKind) (on : Bool) → option_map (λ n. f (n == 1)) (number_of 0 1 (switch_text on)) ≡ Some (f on)
+switched : (f : Bool → StepKind) (on : Bool) → option_map (λ n. f (n == 1)) (decimal_number_of 0 1 (switch_text on)) ≡ Some (f on)
 switched f on =
     let n = switch_number on in
     ap (λ (o : Option ℕ). option_map (λ n. f (n == 1)) o) n.1 ∙ ap (λ (b : Bool). Some (f b)) n.2
@@ -196,7 +196,7 @@ request_read (request.Restore block true) text is = block_read RestoreRam block 
 request_read (request.Erase block) text is = block_read Erase block text is refl
 request_read (request.Invalidate block) text is = block_read Invalidate block text is refl
 request_read (request.SetIndex block index) text is =
-    with_read SetIndex block (decimal index) text is.1 refl ∙ ap (λ (o : Option ℕ). option_map (λ i. step.Ask (request.SetIndex block i)) o) (number_of-decimal 0 255 index (omega arith) is.0 (small 255 (omega arith)))
+    with_read SetIndex block (decimal index) text is.1 refl ∙ ap (λ (o : Option ℕ). option_map (λ i. step.Ask (request.SetIndex block i)) o) (decimal_number_of-decimal 0 255 index (omega arith) is.0 (small 255 (omega arith)))
 request_read (request.GetIndex block) text is = block_read GetIndex block text is refl
 request_read (request.SetProtection block on) text is = with_read Protect block (switch_text on) text is refl ∙ switched (λ on. step.Ask (request.SetProtection block on)) on
 request_read (request.SetLock block on) text is = with_read Lock block (switch_text on) text is refl ∙ switched (λ on. step.Ask (request.SetLock block on)) on
@@ -213,13 +213,13 @@ pub spelled-complete : (kind : StepKind) (text : List ℕ) → Spells kind text 
 spelled-complete (step.Ask asked) text is = request_read asked text is
 spelled-complete (step.Store block content) text is = request_read (request.PutRam block content) text is
 spelled-complete (step.Turn count) text is =
-    ap spelled is.2 ∙ one_read Turn count (omega (arith, is.1)) ∙ ap (λ (o : Option ℕ). option_map (λ n. step.Turn n) o) (number_of-decimal 1 100000 count is.0 is.1 (small 100000 (omega arith)))
+    ap spelled is.2 ∙ one_read Turn count (omega (arith, is.1)) ∙ ap (λ (o : Option ℕ). option_map (λ n. step.Turn n) o) (decimal_number_of-decimal 1 100000 count is.0 is.1 (small 100000 (omega arith)))
 spelled-complete step.Drain text is = alone_read Drain text is
 spelled-complete step.Restart text is = alone_read Restart text is
 spelled-complete (step.Cut nth keep) text is =
     ap spelled is.3 ∙ two_read Cut nth (decimal keep) is.1
-    ∙ ap (λ (o : Option ℕ). option_and_then (λ nth. option_map (λ keep. step.Cut nth keep) (number_of 0 256 (decimal keep))) o) (number_of-decimal 1 1000000 nth is.0 is.1 (small 1000000 (omega arith)))
-    ∙ ap (λ (o : Option ℕ). option_map (λ keep. step.Cut nth keep) o) (number_of-decimal 0 256 keep (omega arith) is.2 (small 256 (omega arith)))
+    ∙ ap (λ (o : Option ℕ). option_and_then (λ nth. option_map (λ keep. step.Cut nth keep) (decimal_number_of 0 256 (decimal keep))) o) (decimal_number_of-decimal 1 1000000 nth is.0 is.1 (small 1000000 (omega arith)))
+    ∙ ap (λ (o : Option ℕ). option_map (λ keep. step.Cut nth keep) o) (decimal_number_of-decimal 0 256 keep (omega arith) is.2 (small 256 (omega arith)))
 spelled-complete (step.Refuse block count) text is =
-    with_read Refuse block (decimal count) text is.2 refl ∙ ap (λ (o : Option ℕ). option_map (λ n. step.Refuse block n) o) (number_of-decimal 1 1000 count is.0 is.1 (small 1000 (omega arith)))
+    with_read Refuse block (decimal count) text is.2 refl ∙ ap (λ (o : Option ℕ). option_map (λ n. step.Refuse block n) o) (decimal_number_of-decimal 1 1000 count is.0 is.1 (small 1000 (omega arith)))
 spelled-complete (step.Await block) text is = block_read Await block text is refl

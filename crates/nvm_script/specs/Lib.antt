@@ -2,7 +2,6 @@ pub mod Counts
 pub mod Cut
 pub mod Line
 pub mod Lines
-pub mod Number
 pub mod Owners
 pub mod Printed
 pub mod Reading

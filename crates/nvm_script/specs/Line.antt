@@ -8,7 +8,7 @@ use Rattle.nvm_script.specs.declared.script.Mode.{Mode}
 use Rattle.nvm_script.specs.declared.script.Line.{Line}
 use Rattle.nvm_script.specs.declared.script.Line.TheVariants.{Idle, Step, Wrong}
 use Rattle.nvm_script.specs.Cut.{cut_at}
-use Rattle.nvm_script.specs.Number.{number_of}
+use Rattle.nv_base.specs.Decimal.{decimal_number_of}
 use Rattle.nvm_script.specs.Step.{IsStep}
 
 -- a carriage return at a line's end is dropped
@@ -49,5 +49,5 @@ caller_before caller (Some (b ∷ bs)) = if b == 32 then Some (Some caller, bs) 
 -- the caller, where the line names one, and the rest of the line
 unfoldable pub called_of : List ℕ → Option (Option ℕ × List ℕ)
 called_of line =
-    if begins_with_digit line then option_and_then (λ caller. caller_before caller (cut_at 58 line).1) (number_of 0 15 (cut_at 58 line).0)
+    if begins_with_digit line then option_and_then (λ caller. caller_before caller (cut_at 58 line).1) (decimal_number_of 0 15 (cut_at 58 line).0)
     else Some (None, line)

@@ -7,7 +7,7 @@ use Rattle.nvm_script.specs.declared.word.Word.{Word}
 use Rattle.nvm_script.specs.declared.word.Word.TheVariants.{Read, ReadRam, Write, WriteRam, Restore, RestoreRam, Erase, Invalidate, SetIndex, GetIndex, Protect, Lock, SetRam, Ram, Status, ReadAll, WriteAll, Cancel, Turn, Drain, Restart, Cut, Refuse, Await}
 use Rattle.std.specs.Prelude.{true, false}
 use Rattle.nvm_script.specs.Cut.{cut_at}
-use Rattle.nvm_script.specs.Number.{number_of}
+use Rattle.nv_base.specs.Decimal.{decimal_number_of}
 use Rattle.block_config.specs.Content.{content_of}
 use Rattle.nvm_script.specs.Word.{word_of}
 
@@ -36,15 +36,15 @@ of_block _ block = None
 
 -- a word with one field
 abbrev pub with_one : Word → List ℕ → Option StepKind
-with_one Turn field = option_map (λ n. step.Turn n) (number_of 1 100000 field)
-with_one word field = option_and_then (of_block word) (number_of 0 65535 field)
+with_one Turn field = option_map (λ n. step.Turn n) (decimal_number_of 1 100000 field)
+with_one word field = option_and_then (of_block word) (decimal_number_of 0 65535 field)
 
 abbrev pub with_number : Word → ℕ → List ℕ → Option StepKind
-with_number SetIndex block field = option_map (λ i. step.Ask (request.SetIndex block i)) (number_of 0 255 field)
-with_number Protect block field = option_map (λ n. step.Ask (request.SetProtection block (n == 1))) (number_of 0 1 field)
-with_number Lock block field = option_map (λ n. step.Ask (request.SetLock block (n == 1))) (number_of 0 1 field)
-with_number SetRam block field = option_map (λ n. step.Ask (request.SetRam block (n == 1))) (number_of 0 1 field)
-with_number Refuse block field = option_map (λ n. step.Refuse block n) (number_of 1 1000 field)
+with_number SetIndex block field = option_map (λ i. step.Ask (request.SetIndex block i)) (decimal_number_of 0 255 field)
+with_number Protect block field = option_map (λ n. step.Ask (request.SetProtection block (n == 1))) (decimal_number_of 0 1 field)
+with_number Lock block field = option_map (λ n. step.Ask (request.SetLock block (n == 1))) (decimal_number_of 0 1 field)
+with_number SetRam block field = option_map (λ n. step.Ask (request.SetRam block (n == 1))) (decimal_number_of 0 1 field)
+with_number Refuse block field = option_map (λ n. step.Refuse block n) (decimal_number_of 1 1000 field)
 with_number _ block field = None
 
 abbrev pub with_content : Word → ℕ → List ℕ → Option StepKind
@@ -52,7 +52,7 @@ with_content Ram block field = option_map (λ content. step.Ask (request.PutRam 
 with_content word block field = option_map (λ content. step.Ask (request.Write block (Some content) 0)) (content_of field)
 
 abbrev pub cut_step : List ℕ → List ℕ → Option StepKind
-cut_step first second = option_and_then (λ nth. option_map (λ keep. step.Cut nth keep) (number_of 0 256 second)) (number_of 1 1000000 first)
+cut_step first second = option_and_then (λ nth. option_map (λ keep. step.Cut nth keep) (decimal_number_of 0 256 second)) (decimal_number_of 1 1000000 first)
 
 -- a word with a block and one field more
 abbrev pub of_block_with : Word → ℕ → List ℕ → Option StepKind
@@ -62,7 +62,7 @@ of_block_with word block field = with_number word block field
 
 abbrev pub with_two : Word → List ℕ → List ℕ → Option StepKind
 with_two Cut first second = cut_step first second
-with_two word first second = option_and_then (λ block. of_block_with word block second) (number_of 0 65535 first)
+with_two word first second = option_and_then (λ block. of_block_with word block second) (decimal_number_of 0 65535 first)
 
 -- a word with its first field, and the second where there is one
 abbrev pub with_field : Word → List ℕ → Option (List ℕ) → Option StepKind

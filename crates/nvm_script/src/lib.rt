@@ -9,7 +9,6 @@ mod caller;
 mod counts;
 mod cut;
 mod lines;
-mod number;
 mod owners;
 mod printed;
 mod readings;
@@ -24,7 +23,6 @@ mod word;
 mod words;
 
 pub use lines::{end_text, entry_text};
-pub use number::number as number_within;
 pub use printed::one_entry;
 pub use readings::one_reading;
 pub use script::{Mode, ScriptFault, first_line, read_script};

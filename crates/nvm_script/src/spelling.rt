@@ -5,12 +5,11 @@ ghost use Rattle.nvm_script.specs.Step.{IsStep};
 ghost use Rattle.nvm_script.specs.declared.step.StepKind.{StepKind as Kind};
 
 use crate::cut::cut;
-use crate::number::number;
 use crate::rules::settled;
 use crate::word::{Word, word_of};
 use crate::{Mode, StepKind};
 use block_config::{Config, read_content};
-use nv_base::Request;
+use nv_base::{Request, decimal_number};
 use std::alloc::{AllocError, Global};
 
 fn ask(request: Request) -> Option<StepKind>
@@ -61,10 +60,10 @@ fn with_one(word: Word, field: &[u8]) -> Option<StepKind>
     ensures { result ≡ read_one word field.now }
 {
     if word == Word::Turn {
-        let count = number(field, 1, 100_000)?;
+        let count = decimal_number(field, 1, 100_000)?;
         return Some(StepKind::Turn { count });
     }
-    let block = number(field, 0, 65_535)?;
+    let block = decimal_number(field, 0, 65_535)?;
     of_block(word, block as u16)
 }
 
@@ -74,26 +73,26 @@ fn with_number(word: Word, block: u16, field: &[u8]) -> Option<StepKind>
 {
     match word {
         Word::SetIndex => {
-            let index = number(field, 0, 255)?;
+            let index = decimal_number(field, 0, 255)?;
             ask(Request::SetIndex {
                 block,
                 index: index as u8,
             })
         }
         Word::Protect => {
-            let on = number(field, 0, 1)? == 1;
+            let on = decimal_number(field, 0, 1)? == 1;
             ask(Request::SetProtection { block, on })
         }
         Word::Lock => {
-            let on = number(field, 0, 1)? == 1;
+            let on = decimal_number(field, 0, 1)? == 1;
             ask(Request::SetLock { block, on })
         }
         Word::SetRam => {
-            let on = number(field, 0, 1)? == 1;
+            let on = decimal_number(field, 0, 1)? == 1;
             ask(Request::SetRam { block, on })
         }
         Word::Refuse => {
-            let count = number(field, 1, 1000)?;
+            let count = decimal_number(field, 1, 1000)?;
             Some(StepKind::Refuse { block, count })
         }
         _ => None,
@@ -126,8 +125,8 @@ fn with_content(
 fn cut_step(first: &[u8], second: &[u8]) -> Option<StepKind>
     ensures { result ≡ read_cut first.now second.now }
 {
-    let nth = number(first, 1, 1_000_000)?;
-    let keep = number(second, 0, 256)?;
+    let nth = decimal_number(first, 1, 1_000_000)?;
+    let keep = decimal_number(second, 0, 256)?;
     Some(StepKind::Cut { nth, keep })
 }
 
@@ -143,7 +142,7 @@ fn with_two(
     if word == Word::Cut {
         return Ok(cut_step(first, second));
     }
-    let Some(block) = number(first, 0, 65_535) else {
+    let Some(block) = decimal_number(first, 0, 65_535) else {
         return Ok(None);
     };
     match word {

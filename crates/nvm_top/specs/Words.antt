@@ -1,7 +1,7 @@
 -- What the words of a call mean.
 use Rattle.std.specs.Prelude.{ℕ, ◌==◌, ◌&&◌, Bool, true, false, not, if◌then◌else◌, List, [], ◌∷◌, codes, Option, Some, None}
 use Rattle.std.specs.Str.{bytes_eq}
-use Rattle.nvm_script.specs.Number.{number_of}
+use Rattle.nv_base.specs.Decimal.{decimal_number_of}
 use Rattle.nvm_top.specs.declared.words.CommandKind.{CommandKind}
 use Rattle.nvm_top.specs.declared.words.CommandKind.TheVariants.{Play, Run, Dump, Check, Soak}
 
@@ -21,7 +21,7 @@ soak_of (Some seed) None = None
 soak_of (Some seed) (Some count) = Some (Soak seed count)
 
 abbrev pub soak_named : List ℕ → List ℕ → List ℕ → Option CommandKind
-soak_named word seed count = if bytes_eq word (codes "soak") then soak_of (number_of 0 4294967295 seed) (number_of 0 10000 count) else None
+soak_named word seed count = if bytes_eq word (codes "soak") then soak_of (decimal_number_of 0 4294967295 seed) (decimal_number_of 0 10000 count) else None
 
 -- the words of a command behind the image
 abbrev pub command_behind : List (List ℕ) → Option CommandKind

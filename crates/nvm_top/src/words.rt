@@ -2,7 +2,7 @@
 ghost use Rattle.std.specs.Prelude.{◌≡◌, map, option_map, string_bytes};
 ghost use Rattle.nvm_top.specs.Words.{is_word, command_named, soak_named, command_behind, command_of, works_on_flash, image_path, is_play, is_check};
 
-use nvm_script::number_within;
+use nv_base::decimal_number;
 
 /// What the words of a call ask for: one of the commands, `soak` with its seed and its count of rounds.
 #[derive(Clone, Copy, Debug, PartialEq, Eq)]
@@ -38,8 +38,8 @@ fn soak_named(word: &str, seed: &str, count: &str) -> Option<CommandKind>
     if word != "soak" {
         return None;
     }
-    let seed = number_within(seed.as_bytes(), 0, u32::MAX)?;
-    let count = number_within(count.as_bytes(), 0, 10_000)?;
+    let seed = decimal_number(seed.as_bytes(), 0, u32::MAX)?;
+    let count = decimal_number(count.as_bytes(), 0, 10_000)?;
     Some(CommandKind::Soak { seed, count })
 }
 

@@ -1,5 +1,0 @@
-use Rattle.nvm_script.proofs.Numerals.{IsUtf8-numeral}
-use Rattle.nvm_script.proofs.number.value.Goals as goal
-
-pub returns-in-Err : goal.returns-in-Err
-returns-in-Err c = absurd (c.in-Err.ensures.cases.0 (IsUtf8-numeral _ c.requires))
