@@ -106,7 +106,7 @@ places_differ B j i k q lt lt2 other e = elim (cases_order j k) [
 pub programs_touch_one_page : ProgramsTouchOnePage
 programs_touch_one_page g old new page k q j i size leaves lt lt2 other =
     page_same g.page (k * bank_pages_of g + q) (j * bank_pages_of g + i) old new
-    (subst (λ (n : ℕ). SameOutside ((k * bank_pages_of g + q) * g.page) n old new) size leaves)
+    (subst (λ (n : ℕ). SameOutside ((k * bank_pages_of g + q) * g.page) n old new) size leaves.0)
     (places_differ (bank_pages_of g) j i k q lt2 lt other)
 
 -- a bank has room for its head and its gate

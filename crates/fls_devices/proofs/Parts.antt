@@ -28,7 +28,7 @@ length-kept_page keep page = simp (length-append, length-take, length-replicate)
 
 -- what a part of an operation may leave the operation may
 pub part_within : (keep : ℕ) (op : Op) (old new : List ℕ) → MayLeave (part_of keep op) old new → MayLeave op old new
-part_within keep (Program address page) old new may = subst (λ (n : ℕ). SameOutside address n old new) (length-kept_page keep page) may
+part_within keep (Program address page) old new may = (subst (λ (n : ℕ). SameOutside address n old new) (length-kept_page keep page) may.0, may.1)
 part_within keep (Erase address n) old new may = may
 
 grown_refl : (xs : List ℕ) → Grown xs xs
@@ -37,5 +37,5 @@ grown_refl (x ∷ xs) = (and_self x, λ h. h, grown_refl xs)
 
 -- a cut may leave all as it was
 pub may_stay : (op : Op) (bytes : List ℕ) → MayLeave op bytes bytes
-may_stay (Program address page) bytes = record { size = refl; front = refl; back = refl }
+may_stay (Program address page) bytes = (record { size = refl; front = refl; back = refl }, λ are. are)
 may_stay (Erase address n) bytes = (record { size = refl; front = refl; back = refl }, grown_refl (piece address n bytes))

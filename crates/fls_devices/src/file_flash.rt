@@ -110,7 +110,7 @@ fn size_or_enlarged<T: Write + Seek + OpenFile>(file: &mut T, size: u64) -> io::
 }
 
 impl<T: Read + Write + Seek + OpenFile + Drop> FileFlash<T> {
-    ghost use Rattle.std.specs.Prelude.{◌≡◌, ◌⊎◌, ◌≢◌, true, false};
+    ghost use Rattle.std.specs.Prelude.{◌≡◌, ◌⊎◌, ◌≢◌, ◌↔◌, IsTrue, true, false};
     ghost use Rattle.fls_model.specs.Op.{Op};
     ghost use Rattle.fls_model.specs.Step.{IsStep};
     ghost use Rattle.fls_devices.specs.FileFlash.{in_file};
@@ -139,6 +139,7 @@ impl<T: Read + Write + Seek + OpenFile + Drop> FileFlash<T> {
 
     // A changing operation was asked for. Counts a fault where it wasn't done.
     fn count(&mut self, done: bool) -> FlashAnswer
+        ensures done { (result ≡ FlashAnswer.Done) ↔ IsTrue done }
         ensures step { (op : Op) → IsStep op self.old.told result self.new.told }
         ensures never_off { result ≢ FlashAnswer.Off }
     {
@@ -167,7 +168,7 @@ impl<T: Read + Write + Seek + OpenFile + Drop> Flash for FileFlash<T> {
         ensures closed { self.old.opened ≡ false → result ≡ Err AttachFault.Failed }
         ensures opened { self.new.opened ≡ self.old.opened }
     {
-        let size = geometry.sector as u64 * geometry.sectors as u64;
+        let size = u64::from(geometry.size());
         let found = match &mut self.file {
             Some(file) => size_or_enlarged(file, size).ok(),
             None => None,

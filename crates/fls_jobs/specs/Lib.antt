@@ -1,6 +1,6 @@
+pub mod CallOf
 pub mod Job
 pub mod Reach
 pub mod Start
 pub mod State
 pub mod Turn
-pub mod Unit

@@ -1,7 +1,9 @@
 -- Whether a job is taken.
-use Rattle.std.specs.Prelude.{◌≡◌, ℕ, true, false, Result, Ok, Err, None, IsSome}
+use Rattle.std.specs.Prelude.{◌≡◌, ℕ, true, false, Result, Ok, Err, Some, None, IsSome}
 use Rattle.fls_jobs.specs.declared.answer.FlsRefusal.{FlsRefusal}
 use Rattle.fls_jobs.specs.declared.answer.FlsRefusal.TheVariants.{Busy, Uninit, BadAddress, BadLength}
+use Rattle.fls_jobs.specs.declared.answer.FlsResult.TheVariants.{JobPending}
+use Rattle.fls_jobs.specs.declared.job.FlsJob.{FlsJob}
 use Rattle.fls_jobs.specs.declared.reach.Reach.{Reach}
 use Rattle.fls_jobs.specs.Reach.{IsPlace, IsLength}
 use Rattle.fls_jobs.specs.State.{FlsState}
@@ -24,3 +26,13 @@ IsRefusal s r at n BadLength = (s.job ≡ None) × (s.attached ≡ true) × IsPl
 abbrev pub IsAnswer : FlsState → Reach → ℕ → ℕ → Result (Unit {0}) FlsRefusal → Type 0
 IsAnswer s r at n (Ok _) = CanStart s r at n
 IsAnswer s r at n (Err refusal) = IsRefusal s r at n refusal
+
+-- a job is open where it was taken, else nothing changed
+abbrev pub Starts : FlsJob → FlsState → Reach → ℕ → ℕ → Result (Unit {0}) FlsRefusal → FlsState → Type 0
+Starts job s r at n (Ok _) t = CanStart s r at n × (t ≡ record s { job = Some job; result = JobPending })
+Starts job s r at n (Err refusal) t = IsRefusal s r at n refusal × (t ≡ s)
+
+-- a driver without a job, whose flash is attached
+pub record IsIdle (s : FlsState) : Type 0 where
+  pub job : s.job ≡ None
+  pub attached : s.attached ≡ true

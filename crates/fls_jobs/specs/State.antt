@@ -2,6 +2,7 @@
 use Rattle.std.specs.Prelude.{◌≡◌, ◌≢◌, Bool, true, false, if◌then◌else◌, Option, Some, None, is_some}
 use Rattle.nv_base.specs.declared.geometry.Geometry.{Geometry}
 use Rattle.nv_base.specs.Geometry.{IsLegal}
+use Rattle.fls_model.specs.Attach.{IfTold, AreBytesOf}
 use Rattle.fls_model.specs.Told.{Told}
 use Rattle.fls_jobs.specs.declared.answer.FlsResult.{FlsResult}
 use Rattle.fls_jobs.specs.declared.answer.FlsResult.TheVariants.{JobOk, JobPending}
@@ -29,11 +30,16 @@ status_of s = if is_some s.job then Busy else (if s.attached then Idle else Unin
 
 -- WHAT HOLDS OF EACH DRIVER
 -- an open job is pending and lies in the attached flash; no other is pending
-abbrev pub IsSoundJob : FlsState → Option FlsJob → Type 0
-IsSoundJob s None = s.result ≢ JobPending
-IsSoundJob s (Some j) = (s.result ≡ JobPending) × (s.attached ≡ true) × IsJobIn s.geometry j
+abbrev pub IsOpenJob : FlsState → Option FlsJob → Type 0
+IsOpenJob s None = s.result ≢ JobPending
+IsOpenJob s (Some j) = (s.result ≡ JobPending) × (s.attached ≡ true) × IsJobIn s.geometry j
 
-pub record IsSound (s : FlsState) : Type 0 where
+-- the flash that is attached has this geometry, and the bytes that it tells fill it
+pub record IsFlashOf (g : Geometry) (flash : Told) : Type 0 where
+  pub geometry : flash.geometry ≡ g
+  pub bytes : IfTold flash.bytes (AreBytesOf g)
+
+pub record IsDriverState (s : FlsState) : Type 0 where
   pub legal : IsLegal s.geometry
-  pub attached : s.attached ≡ true → s.flash.geometry ≡ s.geometry
-  pub job : IsSoundJob s s.job
+  pub attached : s.attached ≡ true → IsFlashOf s.geometry s.flash
+  pub job : IsOpenJob s s.job

@@ -5,7 +5,7 @@ use Rattle.fls_jobs.specs.declared.answer.FlsTurn.TheVariants.{Idle, Worked, Off
 use Rattle.fls_jobs.specs.declared.job.FlsJob.{FlsJob}
 use Rattle.fls_jobs.specs.Job.{HasInto, job_left}
 use Rattle.fls_jobs.specs.State.{FlsState}
-use Rattle.fls_jobs.specs.Unit.{IsUnit}
+use Rattle.fls_jobs.specs.CallOf.{IsCallOf}
 
 -- a turn takes bytes for its open job
 abbrev pub TakesInto : Option FlsJob → ℕ → Type 0
@@ -15,9 +15,9 @@ TakesInto (Some j) size = HasInto j size
 -- one unit of a job: while the power is off it stays as it was, else it has one unit fewer, or has ended
 abbrev pub IsTurnOf : FlsJob → FlsState → List ℕ → FlsTurn → List ℕ → FlsState → Type 0
 IsTurnOf j s into Idle into' t = ⊥
-IsTurnOf j s into Off into' t = IsUnit j s.flash into None into' t.flash × (t ≡ record s { flash = t.flash })
+IsTurnOf j s into Off into' t = IsCallOf j s.flash into None into' t.flash × (t ≡ record s { flash = t.flash })
 IsTurnOf j s into Worked into' t =
-    IsUnit j s.flash into (Some t.result) into' t.flash × (t ≡ record s { flash = t.flash; job = job_left j t.result; result = t.result })
+    IsCallOf j s.flash into (Some t.result) into' t.flash × (t ≡ record s { flash = t.flash; job = job_left j t.result; result = t.result })
 
 abbrev pub IsTurnAt : Option FlsJob → FlsState → List ℕ → FlsTurn → List ℕ → FlsState → Type 0
 IsTurnAt None s into turn into' t = (turn ≡ Idle) × (t ≡ s) × (into' ≡ into)

@@ -8,15 +8,15 @@ ghost use Rattle.fls_model.specs.Plan.{PlanGoes};
 ghost use Rattle.fls_model.specs.Told.{armed, powered};
 ghost use Rattle.fls_model.specs.Attach.{IsAttach};
 ghost use Rattle.fls_jobs.specs.Reach.{read_reach, write_reach, compare_reach, erase_reach};
-ghost use Rattle.fls_jobs.specs.Start.{CanStart, IsAnswer};
-ghost use Rattle.fls_jobs.specs.State.{just_made, status_of};
+ghost use Rattle.fls_jobs.specs.Start.{CanStart, IsAnswer, Starts};
+ghost use Rattle.fls_jobs.specs.State.{just_made, status_of, IsDriverState};
 ghost use Rattle.fls_jobs.specs.Turn.{TakesInto, IsTurn};
 
+use crate::call::do_call;
 use crate::job::left_of;
 use crate::reach::{Reach, check_length, check_place, of_compare, of_erase, of_read, of_write};
-use crate::unit::do_unit;
 use crate::{FlsJob, FlsRefusal, FlsResult, FlsStatus, FlsTurn, Page};
-use fls_model::{AttachFault, Flash};
+use fls_model::{AttachFault, Flash, steps_keep_bytes};
 use nv_base::Geometry;
 use std::alloc::Global;
 use std::marker::Model;
@@ -32,7 +32,7 @@ pub struct Fls<F: Flash> {
 }
 
 impl<F: Flash> Model for Fls<F> {
-    ghost use Rattle.fls_jobs.specs.State.{FlsState, IsSound};
+    ghost use Rattle.fls_jobs.specs.State.{FlsState, IsDriverState};
 
     ghost Value = { FlsState };
 
@@ -44,7 +44,7 @@ impl<F: Flash> Model for Fls<F> {
       result = f.result;
     } };
 
-    ghost invariant = { λ f. IsSound (record {
+    ghost invariant = { λ f. IsDriverState (record {
       flash = F.told f.flash;
       geometry = f.geometry;
       attached = f.attached;
@@ -124,10 +124,8 @@ impl<F: Flash> Fls<F> {
 
     /// Begins a read of up to 65,536 bytes.
     pub fn start_read(&mut self, address: u32, length: u32) -> Result<(), FlsRefusal>
-        ensures answer { IsAnswer self.old (read_reach self.old.geometry) address length result }
+        ensures start { Starts (FlsJob.Read address length) self.old (read_reach self.old.geometry) address length result self.new }
         ensures accepted { CanStart self.old (read_reach self.old.geometry) address length → IsOk result }
-        ensures ok { OnOk result (self.new ≡ record self.old { job = Some (FlsJob.Read address length); result = FlsResult.JobPending }) }
-        ensures err { OnErr result (self.new ≡ self.old) }
     {
         self.check(of_read(self.geometry), address, length as usize)?;
         self.job = Some(FlsJob::Read { address, length });
@@ -137,10 +135,8 @@ impl<F: Flash> Fls<F> {
 
     /// Begins a write of one page.
     pub fn start_write(&mut self, address: u32, content: &[u8]) -> Result<(), FlsRefusal>
-        ensures answer { IsAnswer self.old (write_reach self.old.geometry) address (length content.now) result }
+        ensures start { Starts (FlsJob.Write address content.now) self.old (write_reach self.old.geometry) address (length content.now) result self.new }
         ensures accepted { CanStart self.old (write_reach self.old.geometry) address (length content.now) → IsOk result }
-        ensures ok { OnOk result (self.new ≡ record self.old { job = Some (FlsJob.Write address content.now); result = FlsResult.JobPending }) }
-        ensures err { OnErr result (self.new ≡ self.old) }
     {
         self.check(of_write(self.geometry), address, content.len())?;
         self.job = Some(FlsJob::Write {
@@ -153,10 +149,8 @@ impl<F: Flash> Fls<F> {
 
     /// Begins an erase of so many sectors.
     pub fn start_erase(&mut self, sector: u32, count: u32) -> Result<(), FlsRefusal>
-        ensures answer { IsAnswer self.old (erase_reach self.old.geometry) sector count result }
+        ensures start { Starts (FlsJob.Erase sector count) self.old (erase_reach self.old.geometry) sector count result self.new }
         ensures accepted { CanStart self.old (erase_reach self.old.geometry) sector count → IsOk result }
-        ensures ok { OnOk result (self.new ≡ record self.old { job = Some (FlsJob.Erase sector count); result = FlsResult.JobPending }) }
-        ensures err { OnErr result (self.new ≡ self.old) }
     {
         self.check(of_erase(self.geometry), sector, count as usize)?;
         self.job = Some(FlsJob::Erase { sector, count });
@@ -166,10 +160,8 @@ impl<F: Flash> Fls<F> {
 
     /// Begins a compare of up to a page of bytes with those of the flash.
     pub fn start_compare(&mut self, address: u32, content: &[u8]) -> Result<(), FlsRefusal>
-        ensures answer { IsAnswer self.old (compare_reach self.old.geometry) address (length content.now) result }
+        ensures start { Starts (FlsJob.Compare address content.now) self.old (compare_reach self.old.geometry) address (length content.now) result self.new }
         ensures accepted { CanStart self.old (compare_reach self.old.geometry) address (length content.now) → IsOk result }
-        ensures ok { OnOk result (self.new ≡ record self.old { job = Some (FlsJob.Compare address content.now); result = FlsResult.JobPending }) }
-        ensures err { OnErr result (self.new ≡ self.old) }
     {
         self.check(of_compare(self.geometry), address, content.len())?;
         self.job = Some(FlsJob::Compare {
@@ -182,10 +174,8 @@ impl<F: Flash> Fls<F> {
 
     /// Begins a check that up to 65,536 bytes are blank.
     pub fn start_blank_check(&mut self, address: u32, length: u32) -> Result<(), FlsRefusal>
-        ensures answer { IsAnswer self.old (read_reach self.old.geometry) address length result }
+        ensures start { Starts (FlsJob.BlankCheck address length) self.old (read_reach self.old.geometry) address length result self.new }
         ensures accepted { CanStart self.old (read_reach self.old.geometry) address length → IsOk result }
-        ensures ok { OnOk result (self.new ≡ record self.old { job = Some (FlsJob.BlankCheck address length); result = FlsResult.JobPending }) }
-        ensures err { OnErr result (self.new ≡ self.old) }
     {
         self.check(of_read(self.geometry), address, length as usize)?;
         self.job = Some(FlsJob::BlankCheck { address, length });
@@ -217,10 +207,11 @@ impl<F: Flash> Fls<F> {
         ensures plan_waits { result ≡ FlsTurn.Worked → (self.new.flash.planning ≡ self.old.flash.planning) ⊎ (Nears self.old.flash.planning self.new.flash.planning × (self.new.flash.ops ≡ next_count self.old.flash.ops)) }
         ensures one_change { (self.new.flash.ops ≡ self.old.flash.ops) ⊎ (self.new.flash.ops ≡ next_count self.old.flash.ops) }
     {
+        steps_keep_bytes();
         let Some(job) = &self.job else {
             return FlsTurn::Idle;
         };
-        let Some(result) = do_unit(&mut self.flash, job, into) else {
+        let Some(result) = do_call(&mut self.flash, job, into) else {
             return FlsTurn::Off;
         };
         self.job = left_of(job, result);
@@ -228,9 +219,17 @@ impl<F: Flash> Fls<F> {
         FlsTurn::Worked
     }
 
+    // Tells proofs what holds of each driver.
+    pub(crate) fn tell_state(&self)
+        ensures { IsDriverState self.now }
+    {
+        let _ = &self.flash;
+    }
+
     /// Whether the flash is attached, and whether a job is open.
     pub fn status(&self) -> FlsStatus
-        ensures { result ≡ status_of self.now }
+        ensures status { result ≡ status_of self.now }
+        ensures state { IsDriverState self.now }
     {
         if self.job.is_some() {
             FlsStatus::Busy

@@ -22,7 +22,7 @@ pub(crate) fn of_read(geometry: Geometry) -> Reach
     Reach {
         unit: 1,
         most: 65_536,
-        size: geometry.sector * geometry.sectors,
+        size: geometry.size(),
     }
 }
 
@@ -34,7 +34,7 @@ pub(crate) fn of_write(geometry: Geometry) -> Reach
     Reach {
         unit: geometry.page,
         most: geometry.page,
-        size: geometry.sector * geometry.sectors,
+        size: geometry.size(),
     }
 }
 
@@ -46,7 +46,7 @@ pub(crate) fn of_compare(geometry: Geometry) -> Reach
     Reach {
         unit: 1,
         most: geometry.page,
-        size: geometry.sector * geometry.sectors,
+        size: geometry.size(),
     }
 }
 

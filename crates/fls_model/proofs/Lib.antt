@@ -1,4 +1,5 @@
 pub mod Bits
 pub mod Growth
+pub mod Kept
 pub mod Replay
 pub mod Within

@@ -40,10 +40,10 @@ length-and_bytes (x ∷ xs) (y ∷ ys) le = ap suc (length-and_bytes xs ys (omeg
 length-piece : (a n : ℕ) (old : List ℕ) → a + n ≤ length old → length (piece a n old) ≡ n
 length-piece a n old le = length-take-le n (drop a old) (omega (arith, length-drop a old))
 
-pub within_program : (a : ℕ) (page old new : List ℕ) → new ≡ after_op (Program a page) old → a + length page ≤ length old → MayLeave (Program a page) old new
-within_program a page old new is le =
+pub within_program : (a : ℕ) (page old new : List ℕ) → new ≡ after_op (Program a page) old → a + length page ≤ length old → (AreBytes old → AreBytes new) → MayLeave (Program a page) old new
+within_program a page old new is le bytes =
     let n : length (piece a (length page) old) ≡ length page = length-piece a (length page) old le in
-    rw is (same_outside a (length page) old (and_bytes (piece a (length page) old) page) (length-and_bytes _ page (omega (arith, n)) ∙ n) le)
+    (rw is (same_outside a (length page) old (and_bytes (piece a (length page) old) page) (length-and_bytes _ page (omega (arith, n)) ∙ n) le), bytes)
 
 pub within_erase : (a n : ℕ) (old new : List ℕ) → new ≡ after_op (Erase a n) old → a + n ≤ length old → AreBytes old → MayLeave (Erase a n) old new
 within_erase a n old new is le small =

@@ -6,6 +6,7 @@ use Rattle.nv_base.specs.declared.geometry.Geometry.{Geometry}
 use Rattle.fls_model.specs.declared.flash.AttachFault.{AttachFault}
 use Rattle.fls_model.specs.declared.flash.AttachFault.TheVariants.{Failed, WrongSize, Memory}
 use Rattle.fls_model.specs.Told.{Told, Change, AreToldAlike, IfBothTold}
+use Rattle.fls_model.specs.Bytes.{AreBytes}
 
 -- a flash of no bytes is blank
 abbrev pub enlarged : ℕ → List ℕ → List ℕ
@@ -21,6 +22,11 @@ IfTold None P = Unit {0}
 abbrev pub HasSize : Geometry → List ℕ → Type 0
 HasSize g bytes = (bytes ≡ []) ⊎ (length bytes ≡ size_of g)
 
+-- the bytes of a flash of a geometry: as many as it has, each of eight bits
+pub record AreBytesOf (g : Geometry) (image : List ℕ) : Type 0 where
+  pub size : length image ≡ size_of g
+  pub bytes : AreBytes image
+
 -- the list of changes begins
 abbrev pub Begins : Option (List Change) → Type 0
 Begins (Some changes) = changes ≡ []
@@ -31,6 +37,7 @@ pub record IsAttached (g : Geometry) (s t : Told) : Type 0 where
   pub size : IfTold s.bytes (HasSize g)
   pub told_alike : AreToldAlike s.bytes t.bytes
   pub bytes : IfBothTold s.bytes t.bytes (λ old new. new ≡ enlarged (size_of g) old)
+  pub are_bytes : IfTold t.bytes (AreBytesOf g)
   pub changes : Begins t.changes
   pub ops : t.ops ≡ s.ops
   pub faults : t.faults ≡ s.faults

@@ -1,6 +1,7 @@
 pub mod Attach
 pub mod Bytes
 pub mod Call
+pub mod Laws
 pub mod Memory
 pub mod MemoryInside
 pub mod Op

@@ -1,6 +1,6 @@
 -- The changing operations of a flash, and what a cut before or within one may leave.
 use Rattle.std.specs.Prelude.{ℕ, List, length, replicate}
-use Rattle.fls_model.specs.Bytes.{piece, spliced, and_bytes, SameOutside, Grown}
+use Rattle.fls_model.specs.Bytes.{piece, spliced, and_bytes, AreBytes, SameOutside, Grown}
 
 pub data Op : Type 0 where
   Program : (address : ℕ) → (page : List ℕ) → Op
@@ -12,7 +12,7 @@ after_op (Program address page) bytes = spliced bytes address (and_bytes (piece 
 after_op (Erase address n) bytes = spliced bytes address (replicate n 255)
 
 -- what a cut before or within an operation may leave: any bytes in the page that it programs, in the sector that it
--- erases the old bits with any of the zero bits turned to one, and all else as it was
+-- erases the old bits with any of the zero bits turned to one, and all else as it was. Bytes stay numbers of eight bits.
 abbrev pub MayLeave : Op → List ℕ → List ℕ → Type 0
-MayLeave (Program address page) old new = SameOutside address (length page) old new
+MayLeave (Program address page) old new = SameOutside address (length page) old new × (AreBytes old → AreBytes new)
 MayLeave (Erase address n) old new = SameOutside address n old new × Grown (piece address n old) (piece address n new)

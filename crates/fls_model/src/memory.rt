@@ -10,14 +10,14 @@ ghost use Rattle.fls_model.specs.Call.{op_of, IsCall, IsInside};
 ghost use Rattle.fls_model.specs.Memory.{in_memory, IsAskedOnce, IsBegun};
 
 use crate::call::{Call, program_call};
-use crate::range::{erase_range, program_range};
+use crate::range::{below_256, erase_range, program_range};
 use crate::{AttachFault, Flash, FlashAnswer};
 use nv_base::Geometry;
 use std::alloc::{AllocError, Global};
 use std::marker::Model;
 
-/// A flash in memory. It never fails, is never off, and takes no plans of power cuts. It tells the list of its changes exactly while it was asked
-/// for at most as many changing operations since its attach as it was made to tell.
+/// A flash in memory. It never fails, is never off, and takes no plans of power cuts. It tells the list of its changes
+/// exactly while it was asked for at most as many changing operations since its attach as it was made to tell.
 #[derive(Drop)]
 pub struct MemFlash {
     geometry: Geometry,
@@ -142,6 +142,7 @@ impl MemFlash {
             Vec::new(alloc)
         };
         enlarge(&mut self.bytes, size)?;
+        below_256(&self.bytes);
         self.geometry = geometry;
         self.first = first;
         self.calls = calls;
@@ -174,7 +175,7 @@ impl Flash for MemFlash {
         ensures never_fails { result ≢ Err AttachFault.Failed }
         ensures err { OnErr result (self.new ≡ self.old) }
     {
-        let size = geometry.sector as usize * geometry.sectors as usize;
+        let size = geometry.size() as usize;
         let found = self.bytes.len();
         if found != 0 && found != size {
             return Err(AttachFault::WrongSize {
@@ -231,48 +232,5 @@ impl Flash for MemFlash {
         let _geometry = self.geometry;
         self.change(Call::Sector { sector });
         FlashAnswer::Done
-    }
-}
-
-#[cfg(test)]
-mod tests {
-    use super::*;
-
-    const SMALLEST: Geometry = Geometry {
-        page: 16,
-        sector: 64,
-        sectors: 2,
-    };
-
-    #[test]
-    fn attaches_by_its_size(rt: HostRuntime) -> Result<(), AllocError> {
-        let wrong = Err(AttachFault::WrongSize { found: 100 });
-        for (size, want) in [(0, Ok(())), (128, Ok(())), (100, wrong)] {
-            let bytes = vec![in rt.alloc(); 7u8; size]?;
-            let mut flash = mem_flash(rt.alloc(), &bytes, 1)?;
-            assert_eq!(rt; flash.attach(rt.alloc(), SMALLEST), want, "at {size}");
-        }
-        Ok(())
-    }
-
-    #[test]
-    fn clears_bits_and_sets_them(rt: HostRuntime) -> Result<(), AllocError> {
-        let mut flash = mem_flash(rt.alloc(), &[], 2)?;
-        let attached = flash.attach(rt.alloc(), SMALLEST);
-        assert!(rt; attached.is_ok());
-        flash.power_on();
-        flash.arm(1, 0);
-        flash.program(16, &[0x0f; 16]);
-        flash.program(16, &[0x3c; 16]);
-        flash.program(64, &[0; 16]);
-        flash.erase(1);
-        let mut page = [0; 16];
-        let answer = flash.read(16, &mut page);
-        assert_eq!(rt; answer, FlashAnswer::Done);
-        assert_eq!(rt; page, [0x0c; 16]);
-        assert_eq!(rt; flash.bytes().len(), 128);
-        assert_eq!(rt; flash.bytes()[15], 0xff);
-        assert_eq!(rt; flash.bytes()[64], 0xff);
-        Ok(())
     }
 }

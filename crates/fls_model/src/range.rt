@@ -20,7 +20,7 @@ fn fill_blank(target: &mut [u8])
 }
 
 // Tells proofs that bytes are below 256.
-fn below_256(bytes: &Vec<u8>)
+pub fn below_256(bytes: &Vec<u8>)
     ensures { AreBytes bytes.now.items }
 {}
 
@@ -32,6 +32,7 @@ pub fn program_range(bytes: &mut Vec<u8>, address: usize, page: &[u8])
     ensures size { length bytes.new.items ≡ length bytes.old.items }
 {
     and_into(&mut bytes[address..address + page.len()], page);
+    below_256(bytes);
 }
 
 // Sets all bits of a sector.

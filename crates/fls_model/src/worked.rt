@@ -12,6 +12,7 @@ pub fn worked_cases()
     ensures clears_more { after_op (Program 0 (60 ∷ [])) (after_op (Program 0 (15 ∷ [])) (255 ∷ [])) ≡ 12 ∷ [] }
     ensures sets_all_bits { after_op (Erase 1 2) (1 ∷ 2 ∷ 3 ∷ 4 ∷ []) ≡ 1 ∷ 255 ∷ 255 ∷ 4 ∷ [] }
     ensures torn_program { MayLeave (Program 1 (0 ∷ [])) (255 ∷ 255 ∷ []) (255 ∷ 77 ∷ []) }
+    ensures torn_to_no_byte { ¬ MayLeave (Program 0 (0 ∷ [])) (12 ∷ []) (300 ∷ []) }
     ensures torn_erase { MayLeave (Erase 0 1) (12 ∷ 5 ∷ []) (13 ∷ 5 ∷ []) }
     ensures no_bit_cleared { ¬ MayLeave (Erase 0 1) (12 ∷ []) (8 ∷ []) }
     ensures no_byte_beside { ¬ MayLeave (Program 0 (0 ∷ [])) (12 ∷ 5 ∷ []) (0 ∷ 4 ∷ []) }

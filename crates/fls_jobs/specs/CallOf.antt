@@ -1,4 +1,4 @@
--- One unit of a job: one flash call, and what the job comes to.
+-- The call of the flash that one unit of a job makes, and what the job comes to.
 use Rattle.std.specs.Prelude.{◌≡◌, ◌==◌, ℕ, if◌then◌else◌, List, length, replicate, Option, Some, None}
 use Rattle.fls_model.specs.declared.flash.FlashAnswer.{FlashAnswer}
 use Rattle.fls_model.specs.declared.flash.FlashAnswer.TheVariants.{Done, Failed, Off}
@@ -44,10 +44,31 @@ pub record Compares (a : ℕ) (content : List ℕ) (s : Told) (r : Option FlsRes
   pub read : IsRead a s before (answer_of r) bytes t
   pub verdict : IsVerdict (bytes ≡ content) r
 
--- the step of the flash that the next unit of a job makes, and what the job comes to
-abbrev pub IsUnit : FlsJob → Told → List ℕ → Option FlsResult → List ℕ → Told → Type 0
-IsUnit (Read a n) s into r into' t = IsRead a s into (answer_of r) into' t × ComesTo r JobOk
-IsUnit (Write a page) s into r into' t = IsStep (programs a page) s (answer_of r) t × ComesTo r JobOk × (into' ≡ into)
-IsUnit (Erase k n) s into r into' t = IsStep (erases s.geometry k) s (answer_of r) t × ComesTo r (erase_result n) × (into' ≡ into)
-IsUnit (Compare a content) s into r into' t = Compares a content s r t × (into' ≡ into)
-IsUnit (BlankCheck a n) s into r into' t = IsRead a s into (answer_of r) into' t × IsVerdict (into' ≡ replicate (length into') 255) r
+-- the next unit of a job is this call of the flash, and the job comes to this
+abbrev pub IsCallOf : FlsJob → Told → List ℕ → Option FlsResult → List ℕ → Told → Type 0
+IsCallOf (Read a n) s into r into' t = IsRead a s into (answer_of r) into' t × ComesTo r JobOk
+IsCallOf (Write a page) s into r into' t = IsStep (programs a page) s (answer_of r) t × ComesTo r JobOk × (into' ≡ into)
+IsCallOf (Erase k n) s into r into' t = IsStep (erases s.geometry k) s (answer_of r) t × ComesTo r (erase_result n) × (into' ≡ into)
+IsCallOf (Compare a content) s into r into' t = Compares a content s r t × (into' ≡ into)
+IsCallOf (BlankCheck a n) s into r into' t = IsRead a s into (answer_of r) into' t × IsVerdict (into' ≡ replicate (length into') 255) r
+
+-- ONE CALL ALONE
+-- a job of one call: a read, a write, or the erase of one sector
+abbrev pub IsOneCall : Option FlsJob → Type 0
+IsOneCall (Some (Read a n)) = Unit {0}
+IsOneCall (Some (Write a page)) = Unit {0}
+IsOneCall (Some (Erase k n)) = n ≡ 1
+IsOneCall _ = ⊥
+
+-- the flash's own answer to it
+abbrev pub MakesCall : Option FlsJob → Told → List ℕ → FlashAnswer → List ℕ → Told → Type 0
+MakesCall (Some (Read a n)) s into answer into' t = IsRead a s into answer into' t
+MakesCall (Some (Write a page)) s into answer into' t = IsStep (programs a page) s answer t
+MakesCall (Some (Erase k n)) s into answer into' t = IsStep (erases s.geometry k) s answer t
+MakesCall _ s into answer into' t = ⊥
+
+-- what the job came to that was closed behind it
+abbrev pub closed_as : FlashAnswer → FlsResult
+closed_as Done = JobOk
+closed_as Failed = JobFailed
+closed_as Off = JobCanceled

@@ -1,6 +1,6 @@
 use Rattle.std.proofs.Common.{refl, arith}
 use Rattle.std.proofs.lemmas.Grind.{common_steps}
-use Rattle.fls_jobs.proofs.unit.compare.Goals as goal
+use Rattle.fls_jobs.proofs.call.compare.Goals as goal
 
 pub returns-in-Off : goal.returns-in-Off
 returns-in-Off g c = record {

@@ -1,14 +1,15 @@
-// One unit of a job: one flash call.
-ghost use Rattle.std.specs.Prelude.{◌≡◌, ◌≢◌, ◌≤◌, ◌↔◌, IsTrue, length, replicate};
+// One unit of a job: one call of the flash.
+ghost use Rattle.std.specs.Prelude.{◌≡◌, ◌≢◌, ◌≤◌, length, replicate};
 ghost use Rattle.nv_base.specs.Geometry.{IsLegal};
 ghost use Rattle.fls_model.specs.Told.{HasRange, HasPage, HasSector};
 ghost use Rattle.fls_model.specs.Read.{IsRead};
 ghost use Rattle.fls_model.specs.Step.{IsStep, erases};
 ghost use Rattle.fls_jobs.specs.Job.{HasInto, IsJobIn};
-ghost use Rattle.fls_jobs.specs.Unit.{answer_of, ComesTo, IsVerdict, Compares, IsUnit, erase_result};
+ghost use Rattle.fls_jobs.specs.CallOf.{answer_of, ComesTo, IsVerdict, Compares, IsCallOf, erase_result};
 
 use crate::{FlsJob, FlsResult};
 use fls_model::{Flash, FlashAnswer};
+use nv_base::all_are;
 
 // What a job comes to by the answer to its call: nothing new while the power is off.
 fn came_to(answer: FlashAnswer, done: FlsResult) -> Option<FlsResult>
@@ -53,17 +54,6 @@ fn compare<F: Flash>(flash: &mut F, address: u32, content: &[u8]) -> Option<FlsR
     }
 }
 
-fn is_blank(bytes: &[u8]) -> bool
-    ensures { IsTrue result ↔ (bytes.now ≡ replicate (length bytes.now) 255) }
-{
-    for byte in bytes {
-        if *byte != 255 {
-            return false;
-        }
-    }
-    true
-}
-
 fn blank_check<F: Flash>(flash: &mut F, address: u32, into: &mut [u8]) -> Option<FlsResult>
     requires { HasRange (F.told flash.old) address (length into.old) }
     ensures read { IsRead address (F.told flash.old) into.old (answer_of result) into.new (F.told flash.new) }
@@ -71,7 +61,7 @@ fn blank_check<F: Flash>(flash: &mut F, address: u32, into: &mut [u8]) -> Option
 {
     match flash.read(address, into) {
         FlashAnswer::Done => {
-            if is_blank(into) {
+            if all_are(into, 255) {
                 return Some(FlsResult::JobOk);
             }
             Some(FlsResult::Differs)
@@ -82,11 +72,11 @@ fn blank_check<F: Flash>(flash: &mut F, address: u32, into: &mut [u8]) -> Option
 }
 
 /// Makes the flash call of a job's next unit, and answers what the job comes to, None while the power is off.
-pub(crate) fn do_unit<F: Flash>(flash: &mut F, job: &FlsJob, into: &mut [u8]) -> Option<FlsResult>
+pub(crate) fn do_call<F: Flash>(flash: &mut F, job: &FlsJob, into: &mut [u8]) -> Option<FlsResult>
     requires legal { IsLegal (F.told flash.old).geometry }
     requires inside { IsJobIn (F.told flash.old).geometry job.now }
     requires into { HasInto job.now (length into.old) }
-    ensures { IsUnit job.now (F.told flash.old) into.old result into.new (F.told flash.new) }
+    ensures { IsCallOf job.now (F.told flash.old) into.old result into.new (F.told flash.new) }
 {
     match job {
         FlsJob::Read { address, .. } => came_to(flash.read(*address, into), FlsResult::JobOk),
