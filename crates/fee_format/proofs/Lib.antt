@@ -1,13 +1,4 @@
-pub mod Blank
-pub mod Decided
-pub mod FoundLists
-pub mod HeadBytes
-pub mod OneFound
-pub mod OneList
-pub mod SamePages
-pub mod SomeList
-pub mod SoundCases
-pub mod Soundness
-pub mod Stored
+pub mod Heads
+pub mod SoundHeads
+pub mod Tests
 pub mod Torn
-pub mod TwoWrites

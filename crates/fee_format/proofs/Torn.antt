@@ -1,22 +1,17 @@
 -- What a torn erase leaves of heads and gates.
 use Rattle.std.specs.Prelude.{bit_and}
-use Rattle.std.specs.Int.{byte_at}
-use Rattle.std.specs.Int.Bits.{and_self}
-use Rattle.std.proofs.Common.{◌≡◌, ◌<◌, ◌≤◌, ℕ, zero, suc, ◌+◌, ◌-◌, List, [], ◌∷◌, ◌++◌, length, take, drop, refl, sym, ap, ◌∙◌, subst, arith}
-use Rattle.std.proofs.lemmas.List.{take-append-drop, drop-drop}
-use Rattle.std.proofs.lemmas.Nat.{and_le_r, and_assoc}
-use Rattle.fls_model.specs.Bytes.{piece, Grown}
+use Rattle.std.specs.Int.{w32, byte_at, to_be_bytes, from_be_bytes}
+use Rattle.std.proofs.Common.{◌≡◌, inl, inr, ◌<◌, ◌≤◌, ◌^◌, ℕ, zero, suc, ◌-◌, List, [], ◌∷◌, length, refl, sym, ap, ◌∙◌, subst, arith}
+use Rattle.std.proofs.lemmas.Bool.{cases_Bool, false≢true}
+use Rattle.std.proofs.lemmas.Nat.{and_le_r, and_assoc, from_be_bytes-to_be_bytes_4}
+use Rattle.fls_model.specs.Bytes.{Grown}
 use Rattle.fee_format.specs.declared.bank_head.BankHead.{BankHead}
-use Rattle.fee_format.specs.BankHead.{IsLegalBankHead, bank_head_page}
-use Rattle.fee_format.specs.Pages.{gate_page}
-use Rattle.fee_format.specs.Laws.{TornErasesSetBits, TornHeadsAreSame, TornGatesWereGates}
-use Rattle.fee_format.proofs.HeadBytes.{same_32}
+use Rattle.fee_format.specs.BankHead.{IsLegalBankHead, IsBankHead, bank_head_page}
+use Rattle.fee_format.specs.Pages.{gate_page, same_bytes}
+use Rattle.fee_format.specs.Laws.{TornHeadsAreSame, TornGatesWereGates, TornHeadsStaySound, BeginsBlank, BlankHeadsAreSound}
+use Rattle.fee_format.proofs.Tests.{bytes_are}
 
 -- MORE BITS
-pub grown_self : (xs : List ℕ) → Grown xs xs
-grown_self [] = tt
-grown_self (x ∷ xs) = (and_self x, λ lt. lt, grown_self xs)
-
 pub grown_through : (xs ys zs : List ℕ) → Grown xs ys → Grown ys zs → Grown xs zs
 grown_through [] [] [] one two = tt
 grown_through [] [] (z ∷ zs) one two = absurd two
@@ -33,26 +28,6 @@ grown_length [] (y ∷ ys) grown = absurd grown
 grown_length (x ∷ xs) [] grown = absurd grown
 grown_length (x ∷ xs) (y ∷ ys) grown = ap suc (grown_length xs ys grown.2)
 
-pub grown_append : (xs ys us vs : List ℕ) → Grown xs ys → Grown us vs → Grown (xs ++ us) (ys ++ vs)
-grown_append [] [] us vs one two = two
-grown_append [] (y ∷ ys) us vs one two = absurd one
-grown_append (x ∷ xs) [] us vs one two = absurd one
-grown_append (x ∷ xs) (y ∷ ys) us vs one two = (one.0, one.1, grown_append xs ys us vs one.2 two)
-
-pub grown_take : (n : ℕ) (xs ys : List ℕ) → Grown xs ys → Grown (take n xs) (take n ys)
-grown_take zero xs ys grown = tt
-grown_take (suc n) [] [] grown = tt
-grown_take (suc n) [] (y ∷ ys) grown = absurd grown
-grown_take (suc n) (x ∷ xs) [] grown = absurd grown
-grown_take (suc n) (x ∷ xs) (y ∷ ys) grown = (grown.0, grown.1, grown_take n xs ys grown.2)
-
-pub grown_drop : (n : ℕ) (xs ys : List ℕ) → Grown xs ys → Grown (drop n xs) (drop n ys)
-grown_drop zero xs ys grown = grown
-grown_drop (suc n) [] [] grown = tt
-grown_drop (suc n) [] (y ∷ ys) grown = absurd grown
-grown_drop (suc n) (x ∷ xs) [] grown = absurd grown
-grown_drop (suc n) (x ∷ xs) (y ∷ ys) grown = grown_drop n xs ys grown.2
-
 pub grown_le : (x y : ℕ) → bit_and x y ≡ x → x ≤ y
 grown_le x y is = omega (arith, is, and_le_r x y)
 
@@ -65,18 +40,10 @@ grown_back (x ∷ xs) (y ∷ ys) one two =
     let here : x ≡ y = omega (arith, grown_le x y one.0, grown_le y x two.0) in
     λ i. here i ∷ grown_back xs ys one.2 two.2 i
 
--- outside of the sector all bytes are the same
-pub torn_erases_set_bits : TornErasesSetBits
-torn_erases_set_bits address n old new (out, grown) =
-    let front : Grown (take address old) (take address new) = subst (Grown (take address old)) (sym out.front) (grown_self (take address old)) in
-    let back : Grown (drop (address + n) old) (drop (address + n) new) = subst (Grown (drop (address + n) old)) (sym out.back) (grown_self (drop (address + n) old)) in
-    let parts : (xs : List ℕ) → take address xs ++ (piece address n xs ++ drop (address + n) xs) ≡ xs =
-    λ xs. ap (λ (l : List ℕ). take address xs ++ (piece address n xs ++ l)) (sym (drop-drop n address xs)) ∙ ap (λ (l : List ℕ). take address xs ++ l) (take-append-drop n (drop address xs)) ∙ take-append-drop address xs in
-    let all = grown_append (take address old) (take address new) (piece address n old ++ drop (address + n) old) (piece address n new ++ drop (address + n) new) front
-    (grown_append (piece address n old) (piece address n new) (drop (address + n) old) (drop (address + n) new) grown back) in
-    subst (λ (l : List ℕ). Grown l new) (parts old) (subst (Grown (take address old ++ (piece address n old ++ drop (address + n) old))) (parts new) all)
-
 -- HEADS
+same_32 : (m n : ℕ) → m < 2 ^ 32 → n < 2 ^ 32 → to_be_bytes w32 m ≡ to_be_bytes w32 n → m ≡ n
+same_32 m n low high e = sym (from_be_bytes-to_be_bytes_4 m low) ∙ ap (from_be_bytes w32) e ∙ from_be_bytes-to_be_bytes_4 n high
+
 -- a byte beside its complement can't change
 held : (x y : ℕ) → x < 256 → y < 256 → bit_and x y ≡ x → bit_and (255 - x) (255 - y) ≡ 255 - x → x ≡ y
 held x y small small2 up down = omega (arith, grown_le x y up, grown_le (255 - x) (255 - y) down)
@@ -99,12 +66,25 @@ same_head p h i one two grown =
     λ j. record { format = (one.format ∙ sym two.format) j; generation = generation j }
 
 pub torn_heads_are_same : TornHeadsAreSame
-torn_heads_are_same page torn h i head grown head2 =
-    let size : length torn ≡ length page = grown_length page torn grown in
-    let at : torn ≡ bank_head_page (length page) i = head2.page_is ∙ ap (λ (n : ℕ). bank_head_page n i) size in
-    let same : h ≡ i = same_head (length page) h i head.legal head2.legal (subst (Grown (bank_head_page (length page) h)) at (subst (λ (l : List ℕ). Grown l torn) head.page_is grown)) in
-    (at ∙ ap (bank_head_page (length page)) (sym same) ∙ sym head.page_is, sym same)
+torn_heads_are_same p page torn h i head grown head2 =
+    let same : h ≡ i = same_head p h i head.legal head2.legal (subst (Grown (bank_head_page p h)) head2.page_is (subst (λ (l : List ℕ). Grown l torn) head.page_is grown)) in
+    (head2.page_is ∙ ap (bank_head_page p) (sym same) ∙ sym head.page_is, sym same)
 
+pub torn_heads_stay_sound : TornHeadsStaySound
+torn_heads_stay_sound page torn (inl (h, is)) grown = elim (cases_Bool (same_bytes torn page)) [
+  | inl t ↦
+      let same : torn ≡ page = (bytes_are torn page).0 t in
+      inl (h, subst (λ (l : List ℕ). IsBankHead (length l) l h) (sym same) is)
+  | inr f ↦ inr (λ later more i also.
+      let size : length torn ≡ length page = grown_length page torn grown in
+      let at : IsBankHead (length page) later i = subst (λ (n : ℕ). IsBankHead n later i) size also in
+      let stays : later ≡ page = (torn_heads_are_same (length page) page later h i is (grown_through page torn later grown more) at).0 in
+      let back : torn ≡ page = sym (grown_back page torn grown (subst (Grown torn) stays more)) in
+      false≢true (sym f ∙ (bytes_are torn page).1 back))
+]
+torn_heads_stay_sound page torn (inr none) grown = inr (λ later more. subst (λ (n : ℕ). (h : BankHead) → IsBankHead n later h → ⊥) (sym (grown_length page torn grown)) (none later (grown_through page torn later grown more)))
+
+-- GATES
 -- GATES
 gate_stood : (p : ℕ) (page : List ℕ) → Grown page (gate_page p) → page ≡ gate_page p
 gate_stood zero [] grown = refl
@@ -115,5 +95,17 @@ gate_stood (suc p) (x ∷ page) grown =
     λ i. none i ∷ gate_stood p page grown.2 i
 
 pub torn_gates_were_gates : TornGatesWereGates
-torn_gates_were_gates page torn grown gate =
-    gate_stood (length torn) page (subst (Grown page) gate grown) ∙ ap gate_page (grown_length page torn grown)
+torn_gates_were_gates p page torn grown gate = gate_stood p page (subst (Grown page) gate grown)
+
+-- BLANK PAGES
+blank_grown : (page torn : List ℕ) → BeginsBlank page → Grown page torn → BeginsBlank torn
+blank_grown [] [] blank grown = tt
+blank_grown [] (y ∷ torn) blank grown = absurd grown
+blank_grown (x ∷ page) [] blank grown = tt
+blank_grown (x ∷ page) (y ∷ torn) blank grown = omega (arith, grown_le x y grown.0)
+
+-- a bank head begins with 0x42
+pub blank_heads_are_sound : BlankHeadsAreSound
+blank_heads_are_sound page blank = inr (λ torn grown h is.
+    let none : 255 ≤ 0x42 = subst BeginsBlank is.page_is (blank_grown page torn blank grown) in
+    omega arith)

@@ -1,7 +1,8 @@
 -- The page that a bank begins with.
-use Rattle.std.specs.Prelude.{◌≡◌, ℕ, ◌-◌, ◌<◌, ◌^◌, List, ◌∷◌, ◌++◌, length, map, replicate}
-use Rattle.std.specs.Int.{bytes_high_first}
+use Rattle.std.specs.Prelude.{◌≡◌, ℕ, ◌-◌, ◌<◌, ◌^◌, ◌&&◌, nat_lt, if◌then◌else◌, List, ◌∷◌, ◌++◌, take, drop, map, replicate, Option, Some, None}
+use Rattle.std.specs.Int.{w32, bytes_high_first, from_be_bytes}
 use Rattle.fee_format.specs.declared.bank_head.BankHead.{BankHead}
+use Rattle.fee_format.specs.Pages.{same_bytes}
 
 -- the one format that there is, and a generation of 32 bits
 pub record IsLegalBankHead (h : BankHead) : Type 0 where
@@ -20,11 +21,21 @@ guarded_bytes h = bank_head_bytes h ++ map (λ b. 255 - b) (bank_head_bytes h)
 abbrev pub bank_head_page : ℕ → BankHead → List ℕ
 bank_head_page p h = guarded_bytes h ++ replicate (p - 12) 255
 
--- a page is the written form of a legal bank head
-pub record IsBankHead (page : List ℕ) (h : BankHead) : Type 0 where
+-- a page of p bytes is the written form of a legal bank head
+pub record IsBankHead (p : ℕ) (page : List ℕ) (h : BankHead) : Type 0 where
   pub legal : IsLegalBankHead h
-  pub page_is : page ≡ bank_head_page (length page) h
+  pub page_is : page ≡ bank_head_page p h
 
 -- a page is the written form of no legal bank head
-abbrev pub IsNoBankHead : List ℕ → Type 0
-IsNoBankHead page = (h : BankHead) → IsBankHead page h → ⊥
+abbrev pub IsNoBankHead : ℕ → List ℕ → Type 0
+IsNoBankHead p page = (h : BankHead) → IsBankHead p page h → ⊥
+
+-- THE SAME, COMPUTED
+-- the head that a page would have
+abbrev pub bank_head_in : List ℕ → BankHead
+bank_head_in page = record { format = 1; generation = from_be_bytes w32 (take 4 (drop 2 page)) }
+
+-- the head that a page of p bytes has
+abbrev pub bank_head_of : ℕ → List ℕ → Option BankHead
+bank_head_of p page =
+    if nat_lt (bank_head_in page).generation (2 ^ 32) && same_bytes page (bank_head_page p (bank_head_in page)) then Some (bank_head_in page) else None

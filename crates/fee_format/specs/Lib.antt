@@ -1,11 +1,7 @@
 pub mod BankHead
-pub mod Cases
-pub mod Found
 pub mod Gate
-pub mod Image
 pub mod Laws
 pub mod Pages
 pub mod RecHead
-pub mod RecordList
 pub mod RecordPages
-pub mod Sound
+pub mod SoundHead

@@ -1,14 +1,10 @@
 -- Pages as lists of bytes.
 pub use Rattle.nv_base.specs.Pages.{body_pages_of, record_pages_of}
-use Rattle.std.specs.Prelude.{ℕ, zero, suc, ◌+◌, ◌*◌, List, [], ◌++◌, take, drop, replicate}
+use Rattle.std.specs.Prelude.{ℕ, ◌*◌, ◌==◌, ◌&&◌, Bool, true, false, List, [], ◌∷◌, take, drop, replicate}
 
 -- what stands on page q of these bytes
 abbrev pub page_at : ℕ → List ℕ → ℕ → List ℕ
 page_at p bytes q = take p (drop (q * p) bytes)
-
--- what stands on page q of the bank that begins at a page of these bytes
-abbrev pub bank_page_at : ℕ → ℕ → List ℕ → ℕ → List ℕ
-bank_page_at p first bytes q = page_at p bytes (first + q)
 
 -- a gate that stands open
 abbrev pub gate_page : ℕ → List ℕ
@@ -18,7 +14,8 @@ gate_page p = replicate p 0
 abbrev pub blank_page : ℕ → List ℕ
 blank_page p = replicate p 255
 
--- n pages from page q on, one after another
-abbrev pub bytes_from : (ℕ → List ℕ) → ℕ → ℕ → List ℕ
-bytes_from P q zero = []
-bytes_from P q (suc n) = P q ++ bytes_from P (suc q) n
+-- whether two lists of bytes are the same
+abbrev pub same_bytes : List ℕ → List ℕ → Bool
+same_bytes [] [] = true
+same_bytes (x ∷ xs) (y ∷ ys) = (x == y) && same_bytes xs ys
+same_bytes _ _ = false

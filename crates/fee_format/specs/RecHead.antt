@@ -1,7 +1,8 @@
 -- The page that a record begins with.
-use Rattle.std.specs.Prelude.{◌≡◌, ◌⊎◌, ℕ, ◌-◌, ◌<◌, List, ◌∷◌, ◌++◌, length, replicate}
-use Rattle.std.specs.Int.{bytes_high_first}
+use Rattle.std.specs.Prelude.{◌≡◌, ◌⊎◌, ℕ, ◌-◌, ◌<◌, ◌==◌, ◌&&◌, ◌||◌, nat_lt, if◌then◌else◌, Bool, List, ◌∷◌, ◌++◌, take, drop, get_or, replicate, Option, Some, None}
+use Rattle.std.specs.Int.{w16, bytes_high_first, from_be_bytes}
 use Rattle.fee_format.specs.declared.rec_head.RecHead.{RecHead}
+use Rattle.fee_format.specs.Pages.{same_bytes}
 
 -- a number that is neither 0 nor 65,535; a content (kind 1) of 1 byte or more, or the mark of an invalidated (2) or
 -- erased (3) instance, which has no body
@@ -15,11 +16,26 @@ pub record IsLegalRecHead (h : RecHead) : Type 0 where
 abbrev pub rec_head_page : ℕ → RecHead → List ℕ
 rec_head_page p h = 0x52 ∷ h.kind ∷ (bytes_high_first 2 h.number ++ bytes_high_first 2 h.length ++ replicate (p - 6) 255)
 
--- a page is the written form of a legal record header
-pub record IsRecHead (page : List ℕ) (h : RecHead) : Type 0 where
+-- a page of p bytes is the written form of a legal record header
+pub record IsRecHead (p : ℕ) (page : List ℕ) (h : RecHead) : Type 0 where
   pub legal : IsLegalRecHead h
-  pub page_is : page ≡ rec_head_page (length page) h
+  pub page_is : page ≡ rec_head_page p h
 
 -- a page is the written form of no legal record header
-abbrev pub IsNoRecHead : List ℕ → Type 0
-IsNoRecHead page = (h : RecHead) → IsRecHead page h → ⊥
+abbrev pub IsNoRecHead : ℕ → List ℕ → Type 0
+IsNoRecHead p page = (h : RecHead) → IsRecHead p page h → ⊥
+
+-- THE SAME, COMPUTED
+-- the header that a page would have
+abbrev pub rec_head_in : List ℕ → RecHead
+rec_head_in page = record { number = from_be_bytes w16 (take 2 (drop 2 page)); kind = get_or page 1 0; length = from_be_bytes w16 (take 2 (drop 4 page)) }
+
+abbrev pub is_legal_rec_head : RecHead → Bool
+is_legal_rec_head h =
+    (nat_lt 0 h.number && nat_lt h.number 65535)
+    && ((((h.kind == 1) && nat_lt 0 h.length) || (((h.kind == 2) || (h.kind == 3)) && (h.length == 0))) && nat_lt h.length 65536)
+
+-- the header that a page of p bytes has
+abbrev pub rec_head_of : ℕ → List ℕ → Option RecHead
+rec_head_of p page =
+    if is_legal_rec_head (rec_head_in page) && same_bytes page (rec_head_page p (rec_head_in page)) then Some (rec_head_in page) else None

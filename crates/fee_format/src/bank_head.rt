@@ -47,8 +47,8 @@ pub fn write_bank_head(head: BankHead, page: &mut [u8])
 
 // The head that a page has, if it has one.
 fn fields_of(page: &[u8]) -> BankHead
-    requires { 16 ≤ length page.now }
-    ensures { (h : BankHead) → IsBankHead page.now h → result ≡ h }
+    requires { 12 ≤ length page.now }
+    ensures { (h : BankHead) → IsBankHead (length page.now) page.now h → result ≡ h }
 {
     BankHead {
         format: page[1],
@@ -57,17 +57,19 @@ fn fields_of(page: &[u8]) -> BankHead
 }
 
 fn has_head(page: &[u8], head: BankHead) -> bool
-    requires { 16 ≤ length page.now }
-    ensures { IsTrue result ↔ IsBankHead page.now head }
+    requires { 12 ≤ length page.now }
+    ensures { IsTrue result ↔ IsBankHead (length page.now) page.now head }
 {
     head.format == 1 && &page[..12] == bytes_of(head).as_slice() && all_are(&page[12..], 255)
 }
 
-/// Reads a bank head. None exactly where the page is no bank head's written form.
+/// Reads a bank head from a page of any length. None exactly where the page is no bank head's written form.
 pub fn read_bank_head(page: &[u8]) -> Option<BankHead>
-    requires { 16 ≤ length page.now }
-    ensures { MatchOption result (IsNoBankHead page.now) (λ h. IsBankHead page.now h) }
+    ensures { MatchOption result (IsNoBankHead (length page.now) page.now) (λ h. IsBankHead (length page.now) page.now h) }
 {
+    if page.len() < 12 {
+        return None;
+    }
     let head = fields_of(page);
     if has_head(page, head) {
         Some(head)

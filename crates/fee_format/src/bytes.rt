@@ -4,10 +4,5 @@ ghost use Rattle.std.specs.Prelude.{◌≡◌, ◌↔◌, length, replicate, IsT
 pub(crate) fn all_are(bytes: &[u8], value: u8) -> bool
     ensures { IsTrue result ↔ (bytes.now ≡ replicate (length bytes.now) value) }
 {
-    for byte in bytes {
-        if *byte != value {
-            return false;
-        }
-    }
-    true
+    bytes.iter().all(|byte| *byte == value)
 }

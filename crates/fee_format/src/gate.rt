@@ -14,7 +14,7 @@ pub fn write_gate(page: &mut [u8])
 
 /// Whether the page is a gate that stands open.
 pub fn gate_stands(page: &[u8]) -> bool
-    ensures { IsTrue result ↔ IsGate page.now }
+    ensures { IsTrue result ↔ IsGate (length page.now) page.now }
 {
     all_are(page, 0)
 }

@@ -46,8 +46,8 @@ pub fn write_rec_head(head: RecHead, page: &mut [u8])
 
 // The header that a page has, if it has one.
 fn fields_of(page: &[u8]) -> RecHead
-    requires { 16 ≤ length page.now }
-    ensures { (h : RecHead) → IsRecHead page.now h → result ≡ h }
+    requires { 6 ≤ length page.now }
+    ensures { (h : RecHead) → IsRecHead (length page.now) page.now h → result ≡ h }
 {
     RecHead {
         number: BigEndian::read_u16(&page[2..]),
@@ -57,17 +57,19 @@ fn fields_of(page: &[u8]) -> RecHead
 }
 
 fn has_head(page: &[u8], head: RecHead) -> bool
-    requires { 16 ≤ length page.now }
-    ensures { IsTrue result ↔ IsRecHead page.now head }
+    requires { 6 ≤ length page.now }
+    ensures { IsTrue result ↔ IsRecHead (length page.now) page.now head }
 {
     is_legal(head) && &page[..6] == bytes_of(head).as_slice() && all_are(&page[6..], 255)
 }
 
-/// Reads a record header. None exactly where the page is no header's written form.
+/// Reads a record header from a page of any length. None exactly where the page is no header's written form.
 pub fn read_rec_head(page: &[u8]) -> Option<RecHead>
-    requires { 16 ≤ length page.now }
-    ensures { MatchOption result (IsNoRecHead page.now) (λ h. IsRecHead page.now h) }
+    ensures { MatchOption result (IsNoRecHead (length page.now) page.now) (λ h. IsRecHead (length page.now) page.now h) }
 {
+    if page.len() < 6 {
+        return None;
+    }
     let head = fields_of(page);
     if has_head(page, head) {
         Some(head)

@@ -1,12 +1,5 @@
-pub mod Addresses
-pub mod AppendCuts
-pub mod AppendWhole
-pub mod Ascending
-pub mod BodyPages
-pub mod BankBytes
 pub mod FormatLemmas
-pub mod OneList
-pub mod PageLemmas
+pub mod Numbers
 pub mod PlacesLemmas
 pub mod Soundness
 pub mod StepCuts

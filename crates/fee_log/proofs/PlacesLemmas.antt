@@ -6,11 +6,11 @@ use Rattle.std.proofs.lemmas.Bool.Decides.{nat_tests}
 use Rattle.nv_base.specs.declared.instance.DeviceNumber.{DeviceNumber}
 use Rattle.nv_base.specs.Lengths.{AreLengths}
 use Rattle.fee_format.specs.declared.rec_head.RecHead.{RecHead}
-use Rattle.fee_format.specs.Found.{fits}
+use Rattle.fee_image.specs.Found.{fits}
 use Rattle.fee_log.specs.declared.place.Place.{Place}
 use Rattle.fee_log.specs.declared.place.Place.TheVariants.{Erased}
-use Rattle.fee_log.specs.Places.{place_at, place_of, noted, erased_places}
-use Rattle.fee_log.proofs.Ascending.{above}
+use Rattle.fee_log.specs.Places.{place_at, place_in, noted, erased_places}
+use Rattle.fee_log.proofs.Numbers.{above}
 
 -- nothing is found of any number
 pub erased : (ns : List (DeviceNumber × ℕ)) → replicate (length ns) Erased ≡ erased_places ns
@@ -18,17 +18,17 @@ erased [] = refl
 erased (n ∷ ns) = ap (λ (l : List Place). Erased ∷ l) (erased ns)
 
 -- the place of a number that stands at an index
-pub place_at_index : (low : ℕ) (ns : List (DeviceNumber × ℕ)) (places : List Place) (number i : ℕ) (d : Place) → AreLengths low ns → length places ≡ length ns → i < length ns → ((n : DeviceNumber × ℕ) → (get_or ns i n).0.0 ≡ number) → get_or places i d ≡ place_of ns places number
+pub place_at_index : (low : ℕ) (ns : List (DeviceNumber × ℕ)) (places : List Place) (number i : ℕ) (d : Place) → AreLengths low ns → length places ≡ length ns → i < length ns → ((n : DeviceNumber × ℕ) → (get_or ns i n).0.0 ≡ number) → get_or places i d ≡ place_in ns places number
 place_at_index low [] places number i d all each lt is = absurd (omega arith)
 place_at_index low (n ∷ ns) [] number i d all each lt is = absurd (omega arith)
 place_at_index low (n ∷ ns) (place ∷ places) number zero d all each lt is = grind (arith, nat_tests, is n)
 place_at_index low (n ∷ ns) (place ∷ places) number (suc i) d all each lt is = grind (arith, nat_tests, is n, above n.0.0 ns all.4 i n (omega arith), place_at_index n.0.0 ns places number i d all.4 (omega arith) (omega arith) is)
 
 -- a number that isn't configured
-pub place_of_none : (ns : List (DeviceNumber × ℕ)) (places : List Place) (number : ℕ) → All (λ n. n.0.0 ≢ number) ns → Erased ≡ place_of ns places number
-place_of_none [] places number none = refl
-place_of_none (n ∷ ns) [] number none = refl
-place_of_none (n ∷ ns) (place ∷ places) number none = grind (arith, nat_tests, none 0 n (omega arith), place_of_none ns places number (λ k d lt. none (suc k) d (omega arith)))
+pub place_in_none : (ns : List (DeviceNumber × ℕ)) (places : List Place) (number : ℕ) → All (λ n. n.0.0 ≢ number) ns → Erased ≡ place_in ns places number
+place_in_none [] places number none = refl
+place_in_none (n ∷ ns) [] number none = refl
+place_in_none (n ∷ ns) (place ∷ places) number none = grind (arith, nat_tests, none 0 n (omega arith), place_in_none ns places number (λ k d lt. none (suc k) d (omega arith)))
 
 -- a record of another number changes nothing
 not_fits : (number length : ℕ) (h : RecHead) → h.number ≢ number → fits number length h ≡ false

@@ -4,28 +4,28 @@ use Rattle.std.specs.Prelude.{Option}
 use Rattle.std.proofs.lemmas.Bool.{false≢true}
 use Rattle.nv_base.specs.declared.instance.DeviceNumber.{DeviceNumber}
 use Rattle.nv_base.specs.declared.geometry.Geometry.{Geometry}
-use Rattle.nv_base.specs.Geometry.{IsLegal}
+use Rattle.nv_base.specs.Geometry.{IsLegal, HasBanks, pages_of_bank}
 use Rattle.nv_base.specs.Lengths.{AreLengths}
 use Rattle.fee_format.specs.declared.rec_head.RecHead.{RecHead}
-use Rattle.fee_format.specs.Pages.{record_pages_of}
+use Rattle.nv_base.specs.Pages.{record_pages_of}
 use Rattle.fee_format.specs.RecHead.{IsLegalRecHead}
-use Rattle.fee_format.specs.RecordList.{pages_of_head, free_pages_of}
+use Rattle.fee_image.specs.RecordList.{pages_of_head, free_pages_of}
 use Rattle.fee_log.specs.declared.work.Work.{Work}
-use Rattle.fee_log.specs.Log.{LogState, IsSound, IsWorkIn, IsFor, pages_in, free_in, erased_log}
+use Rattle.fee_log.specs.Log.{LogState, IsLogState, IsWorkIn, IsFor, pages_in, free_in, erased_log}
 use Rattle.fee_log.specs.Places.{noted}
-use Rattle.fee_log.proofs.Addresses.{two_pages}
-use Rattle.fee_log.proofs.Ascending.{bounds, place_in}
+use Rattle.fee_log.proofs.Numbers.{bounds, contained}
 use Rattle.fee_log.proofs.Within.{erased_within, further, noted_within}
 
 -- the record in work of a log
-pub sound_work : (s : LogState) (w : Work) → IsSound s → s.work ≡ Some w → IsWorkIn s.geometry.page (pages_in s) s.end w
+pub sound_work : (s : LogState) (w : Work) → IsLogState s → s.work ≡ Some w → IsWorkIn s.geometry.page (pages_in s) s.end w
 sound_work s w sound is = subst (λ (o : Option Work). IfSome o (IsWorkIn s.geometry.page (pages_in s) s.end)) is sound.work
 
-pub given_up_sound : (s : LogState) (w : Work) → IsSound s → s.work ≡ Some w → IsSound (record s { work = None; end = s.end + pages_of_head s.geometry.page w.head })
+pub given_up_sound : (s : LogState) (w : Work) → IsLogState s → s.work ≡ Some w → IsLogState (record s { work = None; end = s.end + pages_of_head s.geometry.page w.head })
 given_up_sound s w sound is =
     let work = sound_work s w sound is in
     record {
       geometry = sound.geometry;
+      shared = sound.shared;
       bank = sound.bank;
       numbers = sound.numbers;
       places = further s.geometry.page s.end (s.end + pages_of_head s.geometry.page w.head) s.numbers s.places (omega arith) sound.places;
@@ -35,11 +35,12 @@ given_up_sound s w sound is =
       not_closed = tt;
     }
 
-pub committed_sound : (s : LogState) (w : Work) → IsSound s → s.work ≡ Some w → IsSound (record s { work = None; end = s.end + pages_of_head s.geometry.page w.head; places = noted s.numbers s.places s.end w.head })
+pub committed_sound : (s : LogState) (w : Work) → IsLogState s → s.work ≡ Some w → IsLogState (record s { work = None; end = s.end + pages_of_head s.geometry.page w.head; places = noted s.numbers s.places s.end w.head })
 committed_sound s w sound is =
     let work = sound_work s w sound is in
     record {
       geometry = sound.geometry;
+      shared = sound.shared;
       bank = sound.bank;
       numbers = sound.numbers;
       places = noted_within s.geometry.page s.end (s.end + pages_of_head s.geometry.page w.head) s.numbers s.places w.head sound.end_low (omega arith) sound.places;
@@ -53,7 +54,7 @@ committed_sound s w sound is =
 pub legal_for : (numbers : List (DeviceNumber × ℕ)) (h : RecHead) → AreLengths 0 numbers → IsFor numbers h → IsLegalRecHead h
 legal_for numbers h all for =
     let x : DeviceNumber × ℕ = (record { 0 = h.number }, for.length) in
-    let at = bounds 0 numbers all for.configured.0 x (place_in numbers x for.configured) in
+    let at = bounds 0 numbers all for.configured.0 x (contained numbers x for.configured) in
     record {
       number_low = at.0;
       number_high = at.1;
@@ -66,11 +67,12 @@ room_open : (B end n : ℕ) (closed : Bool) → 3 ≤ n → n ≤ free_pages_of 
 room_open B end n true three room = absurd (omega arith)
 room_open B end n false three room = (refl, omega arith)
 
-pub started_sound : (s : LogState) (h : RecHead) → IsSound s → s.work ≡ None → IsFor s.numbers h → record_pages_of h.length s.geometry.page ≤ free_in s → IsSound (record s { work = Some (record { head = h; done = 0 }) })
+pub started_sound : (s : LogState) (h : RecHead) → IsLogState s → s.work ≡ None → IsFor s.numbers h → record_pages_of h.length s.geometry.page ≤ free_in s → IsLogState (record s { work = Some (record { head = h; done = 0 }) })
 started_sound s h sound idle for room =
     let free = room_open (pages_in s) s.end (record_pages_of h.length s.geometry.page) s.closed (omega arith) (rw idle at room) in
     record {
       geometry = sound.geometry;
+      shared = sound.shared;
       bank = sound.bank;
       numbers = sound.numbers;
       places = sound.places;
@@ -84,14 +86,15 @@ started_sound s h sound idle for room =
       not_closed = free.0;
     }
 
-pub erased_sound : (g : Geometry) (bank : ℕ) (numbers : List (DeviceNumber × ℕ)) → IsLegal g → bank < 2 → AreLengths 0 numbers → IsSound (erased_log g bank numbers)
-erased_sound g bank numbers legal two all = record {
+pub erased_sound : (g : Geometry) (banks bank : ℕ) (numbers : List (DeviceNumber × ℕ)) → IsLegal g → HasBanks g banks → bank < banks → 2 ≤ pages_of_bank g banks → AreLengths 0 numbers → IsLogState (erased_log g banks bank numbers)
+erased_sound g banks bank numbers legal shared lt two all = record {
   geometry = legal;
-  bank = two;
+  shared = shared;
+  bank = lt;
   numbers = all;
   places = erased_within g.page 2 numbers;
   end_low = omega arith;
-  end_high = two_pages g legal;
+  end_high = two;
   work = tt;
   not_closed = tt;
 }

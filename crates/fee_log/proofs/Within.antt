@@ -6,12 +6,12 @@ use Rattle.std.proofs.lemmas.Bool.Decides.{nat_tests}
 use Rattle.nv_base.specs.declared.instance.DeviceNumber.{DeviceNumber}
 use Rattle.nv_base.specs.Lengths.{AreLengths}
 use Rattle.fee_format.specs.declared.rec_head.RecHead.{RecHead}
-use Rattle.fee_format.specs.Found.{fits}
-use Rattle.fee_format.specs.Pages.{record_pages_of}
+use Rattle.fee_image.specs.Found.{fits}
+use Rattle.nv_base.specs.Pages.{record_pages_of}
 use Rattle.fee_log.specs.declared.place.Place.{Place}
 use Rattle.fee_log.specs.declared.place.Place.TheVariants.{Content, Invalid, Erased}
-use Rattle.fee_log.specs.Places.{place_at, place_of, noted, erased_places, IsWithin, AreWithin}
-use Rattle.fee_log.proofs.Ascending.{bounds}
+use Rattle.fee_log.specs.Places.{place_at, place_in, noted, erased_places, IsWithin, AreWithin}
+use Rattle.fee_log.proofs.Numbers.{bounds}
 
 pub within_length : (p end : ℕ) (ns : List (DeviceNumber × ℕ)) (places : List Place) → AreWithin p end ns places → length places ≡ length ns
 within_length p end [] [] all = refl
@@ -64,7 +64,7 @@ taken_within true p end end' ns places h low le all = noted_within p end end' ns
 taken_within false p end end' ns places h low le all = further p end end' ns places (omega arith) all
 
 -- what is found of a number lies among the bank's records
-pub found_within : (low p end : ℕ) (ns : List (DeviceNumber × ℕ)) (places : List Place) (i : ℕ) (x : DeviceNumber × ℕ) → AreLengths low ns → AreWithin p end ns places → slice_get ns i ≡ Some x → IsWithin p end x.1 (place_of ns places x.0.0)
+pub found_within : (low p end : ℕ) (ns : List (DeviceNumber × ℕ)) (places : List Place) (i : ℕ) (x : DeviceNumber × ℕ) → AreLengths low ns → AreWithin p end ns places → slice_get ns i ≡ Some x → IsWithin p end x.1 (place_in ns places x.0.0)
 found_within low p end [] places i x all within is = cc
 found_within low p end (n ∷ ns) [] i x all within is = absurd within
 found_within low p end (n ∷ ns) (place ∷ places) zero x all within is =

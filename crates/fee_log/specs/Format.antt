@@ -1,7 +1,7 @@
 -- Making a bank stand.
-use Rattle.std.specs.Prelude.{◌≡◌, ◌<◌, ◌+◌, ◌*◌, ◌/◌, ◌==◌, ℕ, if◌then◌else◌, nat_lt}
+use Rattle.std.specs.Prelude.{◌≡◌, ◌<◌, ◌+◌, ◌*◌, ◌==◌, ℕ, if◌then◌else◌, nat_lt}
 use Rattle.nv_base.specs.declared.geometry.Geometry.{Geometry}
-use Rattle.nv_base.specs.Geometry.{bank_pages_of}
+use Rattle.nv_base.specs.Geometry.{sectors_of_bank, address_of_page}
 use Rattle.fls_model.specs.declared.flash.FlashAnswer.{FlashAnswer}
 use Rattle.fls_model.specs.declared.flash.FlashAnswer.TheVariants.{Done as FlashDone, Failed as FlashFailed, Off as FlashOff}
 use Rattle.fls_model.specs.Op.{Op}
@@ -11,16 +11,12 @@ use Rattle.fee_format.specs.Pages.{gate_page}
 use Rattle.fee_log.specs.declared.format.FormatStep.{FormatStep}
 use Rattle.fee_log.specs.declared.format.FormatStep.TheVariants.{More, Done, Failed, Off}
 
--- sectors of one bank
-abbrev pub bank_sectors_of : Geometry → ℕ
-bank_sectors_of g = g.sectors / 2
-
--- the operation after so many: the bank's sectors ascending, its head, its gate
-abbrev pub format_op : Geometry → ℕ → ℕ → ℕ → Op
-format_op g bank generation done =
-    if nat_lt done (bank_sectors_of g) then erases g (bank * bank_sectors_of g + done)
-    else (if done == bank_sectors_of g then programs (bank * bank_pages_of g * g.page) (bank_head_page g.page (record { format = 1; generation = generation }))
-    else programs ((bank * bank_pages_of g + 1) * g.page) (gate_page g.page))
+-- the operation after so many, on one of so many banks: the bank's sectors ascending, its head, its gate
+abbrev pub format_op : Geometry → ℕ → ℕ → ℕ → ℕ → Op
+format_op g banks bank generation done =
+    if nat_lt done (sectors_of_bank g banks) then erases g (bank * sectors_of_bank g banks + done)
+    else (if done == sectors_of_bank g banks then programs (address_of_page g banks bank 0) (bank_head_page g.page (record { format = 1; generation = generation }))
+    else programs (address_of_page g banks bank 1) (gate_page g.page))
 
 -- the flash's answer to that operation
 abbrev pub flash_answer_of : FormatStep → FlashAnswer
@@ -30,16 +26,16 @@ flash_answer_of Failed = FlashFailed
 flash_answer_of Off = FlashOff
 
 -- `Done` is the answer of the gate's step, `More` of any other
-abbrev pub IsFormatStepAt : Geometry → ℕ → FormatStep → Type 0
-IsFormatStepAt g done More = done < bank_sectors_of g + 1
-IsFormatStepAt g done Done = done ≡ bank_sectors_of g + 1
-IsFormatStepAt g done Failed = Unit {0}
-IsFormatStepAt g done Off = Unit {0}
+abbrev pub IsFormatStepAt : ℕ → ℕ → FormatStep → Type 0
+IsFormatStepAt sectors done More = done < sectors + 1
+IsFormatStepAt sectors done Done = done ≡ sectors + 1
+IsFormatStepAt sectors done Failed = Unit {0}
+IsFormatStepAt sectors done Off = Unit {0}
 
 -- how many operations are done after a step: a failed bank head goes back to the first sector, and any other failed
 -- operation is done again
-abbrev pub after_format : Geometry → ℕ → FormatStep → ℕ
-after_format g done More = done + 1
-after_format g done Done = done + 1
-after_format g done Failed = if done == bank_sectors_of g then 0 else done
-after_format g done Off = done
+abbrev pub after_format : ℕ → ℕ → FormatStep → ℕ
+after_format sectors done More = done + 1
+after_format sectors done Done = done + 1
+after_format sectors done Failed = if done == sectors then 0 else done
+after_format sectors done Off = done

@@ -1,8 +1,6 @@
-pub mod Append
 pub mod Cuts
 pub mod Format
 pub mod Log
 pub mod Places
 pub mod Step
-pub mod Tests
 pub mod Walk

@@ -1,20 +1,23 @@
 -- The log of one bank.
-use Rattle.std.specs.Prelude.{◌≡◌, ◌⊎◌, ◌↔◌, ◌<◌, ◌≤◌, ◌+◌, ◌*◌, ℕ, Bool, false, List, Option, Some, None, Contains, IfSome}
+use Rattle.std.specs.Prelude.{◌≡◌, ◌⊎◌, ◌↔◌, ◌<◌, ◌≤◌, ◌+◌, ℕ, Bool, false, List, Option, Some, None, Contains, IfSome}
 use Rattle.nv_base.specs.declared.geometry.Geometry.{Geometry}
 use Rattle.nv_base.specs.declared.instance.DeviceNumber.{DeviceNumber}
-use Rattle.nv_base.specs.Geometry.{IsLegal, bank_pages_of}
+use Rattle.nv_base.specs.Geometry.{IsLegal, HasBanks}
 use Rattle.nv_base.specs.Lengths.{AreLengths}
 use Rattle.fee_format.specs.declared.rec_head.RecHead.{RecHead}
-use Rattle.fee_format.specs.Pages.{page_at}
 use Rattle.fee_format.specs.RecHead.{IsLegalRecHead}
-use Rattle.fee_format.specs.RecordList.{Rec, IsLog, IsTailBlank, pages_of_head, free_pages_of}
+use Rattle.fee_image.specs.Bank.{Bank, moved}
+use Rattle.fee_image.specs.Image.{layout_of, bank_in}
+use Rattle.fee_image.specs.RecordList.{records_of, end_of, IsTailBlank, pages_of_head, free_pages_of}
 use Rattle.fee_log.specs.declared.place.Place.{Place}
 use Rattle.fee_log.specs.declared.work.Work.{Work}
-use Rattle.fee_log.specs.Places.{erased_places, places_after, AreWithin}
+use Rattle.fee_log.specs.Places.{erased_places, places_of, AreWithin}
 
 pub record LogState : Type 0 where
   pub geometry : Geometry
-  -- bank 0 or 1
+  -- how many banks share the flash
+  pub banks : ℕ
+  -- the number of this one, from 0
   pub bank : ℕ
   -- the configured numbers with their lengths, ascending
   pub numbers : List (DeviceNumber × ℕ)
@@ -27,13 +30,13 @@ pub record LogState : Type 0 where
   pub work : Option Work
 
 -- PAGES
+-- the log's bank, in the bytes of the whole flash: it writes records of format 1
+abbrev pub bank_of : LogState → Bank
+bank_of s = bank_in (layout_of s.geometry s.banks) 1 s.bank
+
 -- the bank's pages
 abbrev pub pages_in : LogState → ℕ
-pages_in s = bank_pages_of s.geometry
-
--- where a page of the bank begins on the flash, in bytes
-abbrev pub address_of : LogState → ℕ → ℕ
-address_of s q = (s.bank * pages_in s + q) * s.geometry.page
+pages_in s = (bank_of s).pages
 
 -- the page after the record in work
 abbrev pub end_with : ℕ → ℕ → Option Work → ℕ
@@ -51,9 +54,10 @@ pub record IsWorkIn (p B end : ℕ) (w : Work) : Type 0 where
   pub left : w.done < pages_of_head p w.head
   pub within : end + pages_of_head p w.head ≤ B
 
-pub record IsSound (s : LogState) : Type 0 where
+pub record IsLogState (s : LogState) : Type 0 where
   pub geometry : IsLegal s.geometry
-  pub bank : s.bank < 2
+  pub shared : HasBanks s.geometry s.banks
+  pub bank : s.bank < s.banks
   pub numbers : AreLengths 0 s.numbers
   pub places : AreWithin s.geometry.page s.end s.numbers s.places
   pub end_low : 2 ≤ s.end
@@ -63,17 +67,16 @@ pub record IsSound (s : LogState) : Type 0 where
 
 -- A START
 -- the log of an erased bank
-abbrev pub erased_log : Geometry → ℕ → List (DeviceNumber × ℕ) → LogState
-erased_log g bank numbers =
-    record { geometry = g; bank = bank; numbers = numbers; places = erased_places numbers; end = 2; closed = false; work = None }
+abbrev pub erased_log : Geometry → ℕ → ℕ → List (DeviceNumber × ℕ) → LogState
+erased_log g banks bank numbers =
+    record { geometry = g; banks = banks; bank = bank; numbers = numbers; places = erased_places numbers; end = 2; closed = false; work = None }
 
--- the log of a bank that has these bytes: its record list, whether its tail is blank, and the places that its records
+-- the log of a bank that has these bytes: its records' end, whether its tail is blank, and the places that its records
 -- give
 pub record IsLoaded (bytes : List ℕ) (old new : LogState) : Type 0 where
-  pub records : List Rec
-  pub log : IsLog old.geometry.page (pages_in old) (page_at old.geometry.page bytes) records new.end
-  pub closed : (new.closed ≡ false) ↔ IsTailBlank old.geometry.page (pages_in old) (page_at old.geometry.page bytes) new.end
-  pub places : new.places ≡ places_after old.geometry.page old.numbers records
+  pub end : new.end ≡ end_of (moved (bank_of old) 0) bytes
+  pub closed : (new.closed ≡ false) ↔ IsTailBlank (moved (bank_of old) 0) bytes new.end
+  pub places : new.places ≡ places_of old.numbers (records_of (moved (bank_of old) 0) bytes)
   pub same : new ≡ record old { places = new.places; end = new.end; closed = new.closed; work = None }
 
 -- A RECORD TO APPEND

@@ -3,7 +3,7 @@ use Rattle.std.specs.Prelude.{◌≡◌, ◌<◌, ◌+◌, ℕ, Bool, false, Lis
 use Rattle.nv_base.specs.declared.instance.DeviceNumber.{DeviceNumber}
 use Rattle.fls_model.specs.declared.flash.FlashAnswer.{FlashAnswer}
 use Rattle.fls_model.specs.declared.flash.FlashAnswer.TheVariants.{Done, Failed as FlashFailed, Off as FlashOff}
-use Rattle.fee_format.specs.RecordList.{pages_of_head}
+use Rattle.fee_image.specs.RecordList.{pages_of_head}
 use Rattle.fee_log.specs.declared.log_step.LogStep.{LogStep}
 use Rattle.fee_log.specs.declared.log_step.LogStep.TheVariants.{More, Committed, Failed, Off}
 use Rattle.fee_log.specs.declared.place.Place.{Place}

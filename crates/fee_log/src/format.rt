@@ -3,11 +3,10 @@ ghost use Rattle.std.specs.Prelude.{◌≡◌, ◌<◌, ◌≤◌, ◌+◌, leng
 ghost use Rattle.nv_base.specs.Count.{Rose};
 ghost use Rattle.fee_format.specs.BankHead.{bank_head_page};
 ghost use Rattle.fee_format.specs.Pages.{gate_page};
-ghost use Rattle.nv_base.specs.Geometry.{IsLegal};
+ghost use Rattle.nv_base.specs.Geometry.{IsLegal, HasBanks, sectors_of_bank};
 ghost use Rattle.fls_model.specs.Step.{IsStep};
-ghost use Rattle.fee_log.specs.Format.{bank_sectors_of, format_op, flash_answer_of, IsFormatStepAt, after_format};
+ghost use Rattle.fee_log.specs.Format.{format_op, flash_answer_of, IsFormatStepAt, after_format};
 
-use crate::log::bank_pages;
 use fee_format::{BankHead, write_bank_head, write_gate};
 use fls_model::{Flash, FlashAnswer};
 use nv_base::Geometry;
@@ -23,7 +22,7 @@ pub enum FormatStep {
     Off,
 }
 
-/// Makes a bank stand, one flash call a step: it erases the bank's sectors, ascending, and programs its head and its
+/// Makes one of so many banks stand, one flash call a step: it erases the bank's sectors, ascending, and programs its head and its
 /// gate. Contracts see the number of operations that are done.
 #[derive(Debug, Drop)]
 pub struct Format {
@@ -42,29 +41,32 @@ impl Model for Format {
 fn format_call<F: Flash>(
     flash: &mut F,
     geometry: Geometry,
+    banks: u32,
     bank: u32,
     generation: u32,
     done: u32,
 ) -> FlashAnswer
     requires legal { IsLegal geometry }
+    requires banks { HasBanks geometry banks }
     requires attached { (F.told flash.old).geometry ≡ geometry }
-    requires bank { bank < 2 }
-    requires left { done < bank_sectors_of geometry + 2 }
-    ensures { IsStep (format_op geometry bank generation done) (F.told flash.old) result (F.told flash.new) }
+    requires bank { bank < banks }
+    requires left { done < sectors_of_bank geometry banks + 2 }
+    ensures { IsStep (format_op geometry banks bank generation done) (F.told flash.old) result (F.told flash.new) }
 {
-    let sectors = geometry.sectors / 2;
+    let sectors = geometry.bank_sectors(banks);
     if done < sectors {
         return flash.erase(bank * sectors + done);
     }
     let mut buffer = [0; 256];
     let size = geometry.page as usize;
-    let first = bank * bank_pages(geometry);
+    let pages = geometry.bank_pages(banks);
+    prove!(2 <= pages);
     if done == sectors {
         fill_head(generation, size, &mut buffer);
-        flash.program(first * geometry.page, &buffer[..size])
+        flash.program(geometry.page_address(banks, bank, 0), &buffer[..size])
     } else {
         fill_gate(size, &mut buffer);
-        flash.program((first + 1) * geometry.page, &buffer[..size])
+        flash.program(geometry.page_address(banks, bank, 1), &buffer[..size])
     }
 }
 
@@ -106,22 +108,24 @@ impl Format {
         &mut self,
         flash: &mut F,
         geometry: Geometry,
+        banks: u32,
         bank: u32,
         generation: u32,
     ) -> FormatStep
         requires legal { IsLegal geometry }
+        requires banks { HasBanks geometry banks }
         requires attached { (F.told flash.old).geometry ≡ geometry }
-        requires bank { bank < 2 }
-        requires left { self.old < bank_sectors_of geometry + 2 }
-        ensures makes { IsStep (format_op geometry bank generation self.old) (F.told flash.old) (flash_answer_of result) (F.told flash.new) }
-        ensures last { IsFormatStepAt geometry self.old result }
-        ensures done { self.new ≡ after_format geometry self.old result }
+        requires bank { bank < banks }
+        requires left { self.old < sectors_of_bank geometry banks + 2 }
+        ensures makes { IsStep (format_op geometry banks bank generation self.old) (F.told flash.old) (flash_answer_of result) (F.told flash.new) }
+        ensures last { IsFormatStepAt (sectors_of_bank geometry banks) self.old result }
+        ensures done { self.new ≡ after_format (sectors_of_bank geometry banks) self.old result }
         ensures attached { (F.told flash.new).geometry ≡ geometry }
         ensures failed { result ≡ FormatStep.Failed → Rose (F.told flash.old).faults (F.told flash.new).faults }
         ensures off { result ≡ FormatStep.Off → (F.told flash.new).off ≡ true }
     {
-        let sectors = geometry.sectors / 2;
-        match format_call(flash, geometry, bank, generation, self.done) {
+        let sectors = geometry.bank_sectors(banks);
+        match format_call(flash, geometry, banks, bank, generation, self.done) {
             FlashAnswer::Off => FormatStep::Off,
             FlashAnswer::Failed => {
                 if self.done == sectors {

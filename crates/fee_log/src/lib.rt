@@ -7,7 +7,6 @@
 mod bank;
 mod format;
 mod index;
-mod laws;
 mod log;
 mod log_step;
 mod page;
@@ -15,13 +14,9 @@ mod place;
 mod walk;
 mod work;
 
-pub use bank::{bank_head_of, bank_size, bank_stands};
+pub use bank::{bank_head_of, bank_stands};
 pub use format::{Format, FormatStep};
-pub use laws::{cuts_of_append, whole_is_last};
 pub use log::Log;
 pub use log_step::LogStep;
 pub use place::Place;
 pub use work::Work;
-
-#[cfg(test)]
-mod tests;

@@ -2,16 +2,17 @@
 ghost use Rattle.std.specs.Prelude.{◌≡◌, ◌↔◌, ◌≤◌, ◌<◌, ◌+◌, ◌*◌, ◌^◌, ℕ, true, false, is_some, All, Contains, length, None, Some, IsSome, IsTrue, IfOk, IfSome, MatchOption};
 ghost use Rattle.std.specs.Option.{ForSome};
 ghost use Rattle.nv_base.specs.Count.{Rose};
-ghost use Rattle.nv_base.specs.Geometry.{IsLegal, bank_pages_of, size_of};
+ghost use Rattle.nv_base.specs.Geometry.{IsLegal, HasBanks, size_of};
 ghost use Rattle.fls_model.specs.Told.{HasPage};
-ghost use Rattle.fee_format.specs.Pages.{record_pages_of};
+ghost use Rattle.nv_base.specs.Pages.{record_pages_of};
 ghost use Rattle.fls_model.specs.Step.{IsStep, programs};
 ghost use Rattle.fee_format.specs.RecHead.{IsLegalRecHead};
 ghost use Rattle.fee_format.specs.RecordPages.{record_page};
 ghost use Rattle.fee_log.specs.declared.log_step.LogStep.TheVariants.{Failed, Off};
 ghost use Rattle.fee_log.specs.Cuts.{AddsOne, KeepsMarks, GoesOn};
-ghost use Rattle.fee_log.specs.Log.{IsSound, IsFor, IsLoaded, pages_in, address_of, free_in, erased_log};
-ghost use Rattle.fee_log.specs.Places.{place_of, IsWithin};
+ghost use Rattle.fee_image.specs.Bank.{place_of_page};
+ghost use Rattle.fee_log.specs.Log.{IsLogState, IsFor, IsLoaded, bank_of, pages_in, free_in, erased_log};
+ghost use Rattle.fee_log.specs.Places.{place_in, IsWithin};
 ghost use Rattle.fee_log.specs.Step.{flash_answer_of, IsStepAt, after_step};
 
 use crate::index::{erased_places, forget, look_up, note};
@@ -19,8 +20,9 @@ use crate::page::fill_page;
 use crate::walk::{is_tail_blank, take_records};
 use crate::{LogStep, Place, Work};
 use fee_format::{RecHead, pages_of};
+use fee_image::{appends_leave_one_more, programs_keep_soundness, records_stay};
 use fls_model::{Flash, FlashAnswer};
-use nv_base::{DeviceNumber, Geometry, Lengths};
+use nv_base::{DeviceNumber, Geometry, Lengths, banks_share_the_flash, lengths_of};
 use std::alloc::{AllocError, Global};
 use std::marker::Model;
 
@@ -28,8 +30,9 @@ use std::marker::Model;
 #[derive(Debug, Drop)]
 pub struct Log {
     geometry: Geometry,
+    banks: u32,
     bank: u32,
-    numbers: Vec<(DeviceNumber, u16)>,
+    numbers: Lengths,
     places: Vec<Place>,
     end: u32,
     closed: bool,
@@ -37,49 +40,31 @@ pub struct Log {
 }
 
 impl Model for Log {
-    ghost use Rattle.fee_log.specs.Log.{LogState, IsSound};
+    ghost use Rattle.fee_log.specs.Log.{LogState, IsLogState};
 
     ghost Value = { LogState };
 
     ghost view = { λ l. record {
       geometry = l.geometry;
+      banks = l.banks;
       bank = l.bank;
-      numbers = l.numbers.items;
+      numbers = l.numbers;
       places = l.places.items;
       end = l.end;
       closed = l.closed;
       work = l.work;
     } };
 
-    ghost invariant = { λ l. IsSound (record {
+    ghost invariant = { λ l. IsLogState (record {
       geometry = l.geometry;
+      banks = l.banks;
       bank = l.bank;
-      numbers = l.numbers.items;
+      numbers = l.numbers;
       places = l.places.items;
       end = l.end;
       closed = l.closed;
       work = l.work;
     }) };
-}
-
-/// Pages of one bank.
-pub(crate) fn bank_pages(geometry: Geometry) -> u32
-    requires { IsLegal geometry }
-    ensures { result ≡ bank_pages_of geometry }
-{
-    geometry.sector * geometry.sectors / 2 / geometry.page
-}
-
-fn numbers_of(alloc: Global, numbers: &Lengths) -> Result<Vec<(DeviceNumber, u16)>, AllocError>
-    ensures { IfOk result (λ v. v.items ≡ numbers.now) }
-{
-    let mut list = Vec::with_capacity(alloc, numbers.len() as usize)?;
-    let mut i = 0;
-    while let Some(number) = numbers.get(i) {
-        list.push(number)?;
-        i += 1;
-    }
-    Ok(list)
 }
 
 // Programs the next page of the record in work.
@@ -106,22 +91,28 @@ fn program_page<F: Flash>(
 }
 
 impl Log {
-    /// The log of bank 0 or 1 of a flash, as if it were erased. It takes all the memory that it ever needs.
+    /// The log of a bank, from 0, of a flash that so many banks share, as if it were erased. It takes all the memory
+    /// that it ever needs.
     pub fn make(
         alloc: Global,
         numbers: &Lengths,
         geometry: Geometry,
         bank: u32,
+        banks: u32,
     ) -> Result<Log, AllocError>
         requires legal { IsLegal geometry }
-        requires bank { bank < 2 }
-        ensures { IfOk result (λ l. l ≡ erased_log geometry bank numbers.now) }
+        requires banks { HasBanks geometry banks }
+        requires bank { bank < banks }
+        ensures { IfOk result (λ l. l ≡ erased_log geometry banks bank numbers.now) }
     {
+        let pages = geometry.bank_pages(banks);
+        prove!(2 <= pages);
+        let numbers = lengths_of(alloc, numbers.as_slice())?;
         let _ = numbers.len();
-        let numbers = numbers_of(alloc, numbers)?;
         let places = erased_places(alloc, &numbers)?;
         Ok(Log {
             geometry,
+            banks,
             bank,
             numbers,
             places,
@@ -134,7 +125,7 @@ impl Log {
     /// Reads the log of a bank from all its bytes, or that of an erased bank from None.
     pub fn load(&mut self, bank: Option<&[u8]>)
         requires { ForSome bank (λ b. length b.now ≡ pages_in self.old * self.old.geometry.page) }
-        ensures { MatchOption bank.entry (self.new ≡ erased_log self.old.geometry self.old.bank self.old.numbers) (λ b. IsLoaded b.now self.old self.new) }
+        ensures { MatchOption bank.entry (self.new ≡ erased_log self.old.geometry self.old.banks self.old.bank self.old.numbers) (λ b. IsLoaded b.now self.old self.new) }
     {
         match bank {
             Some(bytes) => self.load_bytes(bytes),
@@ -143,7 +134,7 @@ impl Log {
     }
 
     fn erase(&mut self)
-        ensures { self.new ≡ erased_log self.old.geometry self.old.bank self.old.numbers }
+        ensures { self.new ≡ erased_log self.old.geometry self.old.banks self.old.bank self.old.numbers }
     {
         forget(&self.numbers, &mut self.places);
         self.end = 2;
@@ -156,7 +147,7 @@ impl Log {
         ensures { IsLoaded bytes.now self.old self.new }
     {
         let page = self.geometry.page;
-        let pages = bank_pages(self.geometry);
+        let pages = self.geometry.bank_pages(self.banks);
         self.end = take_records(bytes, page, pages, &self.numbers, &mut self.places);
         self.closed = !is_tail_blank(bytes, page, pages, self.end);
         self.work = None;
@@ -165,7 +156,7 @@ impl Log {
     /// The pages behind the record in work, or behind all records, that a next one can take. None in a closed bank.
     pub fn free_pages(&self) -> u32
         ensures pages { result ≡ free_in self.now }
-        ensures sound { IsSound self.now }
+        ensures sound { IsLogState self.now }
     {
         if self.closed {
             return 0;
@@ -174,7 +165,7 @@ impl Log {
             Some(work) => self.end + pages_of(work.head.length, self.geometry.page),
             None => self.end,
         };
-        bank_pages(self.geometry) - end
+        self.geometry.bank_pages(self.banks) - end
     }
 
     /// Whether the bank takes no more records.
@@ -193,20 +184,22 @@ impl Log {
 
     /// Where the last committed record of a number stands. Erased where the number isn't configured.
     pub fn find(&self, number: DeviceNumber) -> Place
-        ensures place { result ≡ place_of self.now.numbers self.now.places number.0 }
+        ensures place { result ≡ place_in self.now.numbers self.now.places number.0 }
         ensures within { (length : ℕ) → Contains self.now.numbers (number, length) → IsWithin self.now.geometry.page self.now.end length result }
-        ensures sound { IsSound self.now }
+        ensures sound { IsLogState self.now }
     {
-        look_up(&self.numbers, &self.places, number.0)
+        look_up(&self.numbers, &self.places, number)
     }
 
     /// Where on the flash, in bytes, the content begins of the record whose header is at this page of the bank.
     pub fn content_address(&self, at: u32) -> u32
-        requires { at + 2 ≤ pages_in self.now }
-        ensures address { result ≡ address_of self.now (at + 2) }
+        requires { at + 2 < pages_in self.now }
+        ensures address { result ≡ place_of_page (bank_of self.now) (at + 2) }
         ensures inside { (length : ℕ) → at + record_pages_of length self.now.geometry.page ≤ pages_in self.now → result + length ≤ size_of self.now.geometry }
     {
-        (self.bank * bank_pages(self.geometry) + (at + 2)) * self.geometry.page
+        banks_share_the_flash();
+        records_stay();
+        self.geometry.page_address(self.banks, self.bank, at + 2)
     }
 
     /// Begins a record of a configured number: a content (kind 1) of its length, or the mark of an invalidated (2) or
@@ -231,7 +224,7 @@ impl Log {
         requires attached { (F.told flash.old).geometry ≡ self.old.geometry }
         requires work { IsSome self.old.work }
         requires body { ForSome self.old.work (λ w. length body.now ≡ w.head.length) }
-        ensures programs { IfSome self.old.work (λ w. IsStep (programs (address_of self.old (self.old.end + w.done)) (record_page self.old.geometry.page w.head body.now w.done)) (F.told flash.old) (flash_answer_of result) (F.told flash.new)) }
+        ensures programs { IfSome self.old.work (λ w. IsStep (programs (place_of_page (bank_of self.old) (self.old.end + w.done)) (record_page self.old.geometry.page w.head body.now w.done)) (F.told flash.old) (flash_answer_of result) (F.told flash.new)) }
         ensures last { IfSome self.old.work (λ w. IsStepAt self.old.geometry.page w result) }
         ensures log { self.new ≡ after_step self.old result }
         ensures attached { (F.told flash.new).geometry ≡ self.old.geometry }
@@ -244,7 +237,10 @@ impl Log {
             unreachable!();
         };
         let page = self.geometry.page;
-        let address = (self.bank * bank_pages(self.geometry) + (self.end + work.done)) * page;
+        appends_leave_one_more();
+        programs_keep_soundness();
+        let at = self.end + work.done;
+        let address = self.geometry.page_address(self.banks, self.bank, at);
         let answer = program_page(flash, page, address, work, body);
         self.settle(work, answer)
     }

@@ -1,15 +1,15 @@
 // The records of a bank, as its bytes show them.
 ghost use Rattle.std.specs.Prelude.{◌≡◌, ◌≤◌, ◌<◌, ◌+◌, ◌*◌, ◌↔◌, ◌^◌, length, if◌then◌else◌, IsTrue, MatchOption};
-ghost use Rattle.fee_format.specs.Pages.{page_at, blank_page};
-ghost use Rattle.fee_format.specs.RecordList.{Stops, Stands, IsTailBlank};
-ghost use Rattle.nv_base.specs.Lengths.{AreLengths};
+ghost use Rattle.fee_image.specs.Bank.{page_of};
+ghost use Rattle.fee_image.specs.RecordList.{Stops, Stands, IsTailBlank};
 ghost use Rattle.fee_log.specs.Places.{noted};
-ghost use Rattle.fee_log.specs.Walk.{rec_seen, TakesRecords};
+ghost use Rattle.fee_log.specs.Walk.{own_bank, rec_seen, TakesRecords};
 
 use crate::Place;
 use crate::index::{forget, note};
 use fee_format::{RecHead, gate_stands, pages_of, read_rec_head};
-use nv_base::DeviceNumber;
+use fee_image::{appends_leave_one_more, records_compute};
+use nv_base::{Lengths, all_are};
 
 /// The header of a record that stands in a bank, and whether its commit gate is open.
 #[derive(Clone, Copy)]
@@ -21,7 +21,7 @@ pub(crate) struct Seen {
 /// A page of these bytes.
 pub(crate) fn page_of(bytes: &[u8], page: u32, at: u32) -> &[u8]
     requires inside { at * page + page ≤ length bytes.now }
-    ensures page { result.now ≡ page_at page bytes.now at }
+    ensures page { result.now ≡ page_of (own_bank page 2) bytes.now at }
     ensures size { length result.now ≡ page }
 {
     let from = at as usize * page as usize;
@@ -35,7 +35,7 @@ pub(crate) fn record_at(bank: &[u8], page: u32, pages: u32, at: u32) -> Option<S
     requires whole { pages * page ≤ length bank.now }
     requires few { pages ≤ 2 ^ 22 }
     requires place { at ≤ pages }
-    ensures { MatchOption result (Stops page pages (page_at page bank.now) at) (λ s. Stands page pages (page_at page bank.now) at (rec_seen page (page_at page bank.now) at s)) }
+    ensures { MatchOption result (Stops (own_bank page pages) bank.now at) (λ s. Stands (own_bank page pages) bank.now at (rec_seen (own_bank page pages) bank.now at s)) }
 {
     if pages < at + 3 || !gate_stands(page_of(bank, page, at + 1)) {
         return None;
@@ -49,32 +49,20 @@ pub(crate) fn record_at(bank: &[u8], page: u32, pages: u32, at: u32) -> Option<S
     Some(Seen { head, committed })
 }
 
-fn is_blank(page: &[u8]) -> bool
-    ensures { IsTrue result ↔ (page.now ≡ blank_page (length page.now)) }
-{
-    for byte in page {
-        if *byte != 255 {
-            return false;
-        }
-    }
-    true
-}
-
 /// Whether all pages from one on are blank.
 pub(crate) fn is_tail_blank(bank: &[u8], page: u32, pages: u32, end: u32) -> bool
     requires whole { pages * page ≤ length bank.now }
-    ensures { IsTrue result ↔ IsTailBlank page pages (page_at page bank.now) end }
+    ensures { IsTrue result ↔ IsTailBlank (own_bank page pages) bank.now end }
 {
     for at in end..pages {
-        if !is_blank(page_of(bank, page, at)) {
+        if !all_are(page_of(bank, page, at), 255) {
             return false;
         }
     }
     true
 }
 
-fn take_record(numbers: &[(DeviceNumber, u16)], places: &mut [Place], at: u32, seen: Seen)
-    requires ascending { AreLengths 0 numbers.now }
+fn take_record(numbers: &Lengths, places: &mut [Place], at: u32, seen: Seen)
     requires each { length places.old ≡ length numbers.now }
     ensures { places.new ≡ (if seen.committed then noted numbers.now places.old at seen.head else places.old) }
 {
@@ -88,7 +76,7 @@ pub(crate) fn take_records(
     bank: &[u8],
     page: u32,
     pages: u32,
-    numbers: &[(DeviceNumber, u16)],
+    numbers: &Lengths,
     places: &mut [Place],
 ) -> u32
     requires low { 16 ≤ page }
@@ -96,10 +84,11 @@ pub(crate) fn take_records(
     requires whole { pages * page ≤ length bank.now }
     requires two { 2 ≤ pages }
     requires few { pages ≤ 2 ^ 22 }
-    requires ascending { AreLengths 0 numbers.now }
     requires each { length places.old ≡ length numbers.now }
-    ensures { TakesRecords page pages (page_at page bank.now) numbers.now places.new result }
+    ensures { TakesRecords (own_bank page pages) bank.now numbers.now places.new result }
 {
+    records_compute();
+    appends_leave_one_more();
     forget(numbers, places);
     let mut at = 2;
     while let Some(seen) = record_at(bank, page, pages, at) {

@@ -34,13 +34,13 @@ if_write Off write P holds = holds
 
 kept-step : (s : BankState) (step : LogStep) (told : Told) (ops : ℕ) → IsKept s → told.geometry ≡ s.log.geometry → IsKept (record { told = told; log = after_step s.log step; format = s.format; write = write_after step s.write; ops = ops })
 kept-step s More told ops kept same =
-    record { legal = kept.legal; attached = same; bank = kept.bank; format = kept.format; configured = kept.configured; length = kept.length; work = work-advanced s.write s.log.work kept.work }
+    record { legal = kept.legal; attached = same; banks = kept.banks; bank = kept.bank; format = kept.format; configured = kept.configured; length = kept.length; work = work-advanced s.write s.log.work kept.work }
 kept-step s Committed told ops kept same =
-    record { legal = kept.legal; attached = same; bank = kept.bank; format = kept.format; configured = tt; length = tt; work = tt }
+    record { legal = kept.legal; attached = same; banks = kept.banks; bank = kept.bank; format = kept.format; configured = tt; length = tt; work = tt }
 kept-step s Failed told ops kept same =
-    record { legal = kept.legal; attached = same; bank = kept.bank; format = kept.format; configured = tt; length = tt; work = tt }
+    record { legal = kept.legal; attached = same; banks = kept.banks; bank = kept.bank; format = kept.format; configured = tt; length = tt; work = tt }
 kept-step s Off told ops kept same =
-    record { legal = kept.legal; attached = same; bank = kept.bank; format = kept.format; configured = kept.configured; length = kept.length; work = kept.work }
+    record { legal = kept.legal; attached = same; banks = kept.banks; bank = kept.bank; format = kept.format; configured = kept.configured; length = kept.length; work = kept.work }
 
 room-step : (log : LogState) (step : LogStep) (g : Geometry) (image body kept : ℕ) → HasRoom log g image body kept → HasRoom (after_step log step) g image body kept
 room-step log More g image body kept room = record { same = room.same; image_is = room.image_is; body_is = room.body_is; data_is = room.data_is }

@@ -8,8 +8,8 @@ use Rattle.nv_base.specs.declared.mark.Mark.TheVariants.{Erased}
 use Rattle.nv_base.specs.Geometry.{size_of}
 use Rattle.block_config.specs.DemoConfig.{demo_config}
 use Rattle.block_config.specs.Lengths.{lengths_of}
-use Rattle.fee_format.specs.Image.{IsFoundIn, AreFound}
-use Rattle.fee_format.specs.Laws.{BlankHasErased, OneFoundMark}
+use Rattle.fee_image.specs.Image.{Layout, layout_of, IsFoundIn, AreFound}
+use Rattle.fee_image.specs.Laws.{BlankHasErased, FoundComputes}
 use Rattle.block_machine.specs.Words.{Instance, Mark, Entry, Found}
 use Rattle.block_machine.specs.State.{InstanceState}
 use Rattle.block_machine.specs.Blocks.{is_instance, instance_at}
@@ -91,19 +91,24 @@ not_older k i mark may = subst (λ (h : List Entry). IsNotOlder demo_config h i 
 abbrev pub blank : List ℕ
 blank = replicate (size_of demo_config.geometry) 255
 
-pub lists_found : BlankHasErased → AreFound demo_config.geometry (lengths_of demo_config) blank []
-lists_found erased =
-    let found : (number length : ℕ) → IsFoundIn demo_config.geometry blank number length Erased = erased demo_config.geometry (size_of demo_config.geometry) in
+abbrev pub halves : Layout
+halves = layout_of demo_config.geometry 2
+
+pub erased_in : BlankHasErased → FoundComputes → (number length : ℕ) → IsFoundIn halves blank number length Erased
+erased_in erased one number length = (one halves blank number length Erased).1 (sym (erased halves (size_of demo_config.geometry) number length))
+
+pub lists_found : BlankHasErased → FoundComputes → AreFound halves (lengths_of demo_config) blank []
+lists_found erased one =
+    let found : (number length : ℕ) → IsFoundIn halves blank number length Erased = erased_in erased one in
     (Erased, [], found 64 2, (Erased, [], found 65 2, (Erased, [], found 128 4, (Erased, [], found 192 20, refl, refl), refl), refl), refl)
 
-finds : BlankHasErased → (e : Entry) → Contains (first ∷ []) e → ListsFound blank_start e
-finds erased e (zero, small, is) = subst (λ (x : Entry). ListsFound blank_start x) is (lists_found erased)
-finds erased e (suc k, small, is) = absurd (omega (arith, small))
+finds : BlankHasErased → FoundComputes → (e : Entry) → Contains (first ∷ []) e → ListsFound blank_start e
+finds erased one e (zero, small, is) = subst (λ (x : Entry). ListsFound blank_start x) is (lists_found erased one)
+finds erased one e (suc k, small, is) = absurd (omega (arith, small))
 
-found_is_erased : BlankHasErased → OneFoundMark → (number length : ℕ) (mark : Mark) → IsFoundIn demo_config.geometry blank number length mark → mark ≡ Erased
+found_is_erased : BlankHasErased → FoundComputes → (number length : ℕ) (mark : Mark) → IsFoundIn halves blank number length mark → mark ≡ Erased
 found_is_erased erased one number length mark found =
-    let only = (one demo_config.geometry blank number length).2 in
-    only mark found ∙ sym (only Erased (erased demo_config.geometry (size_of demo_config.geometry) number length))
+    (one halves blank number length mark).0 found ∙ erased halves (size_of demo_config.geometry) number length
 
 erased_stands : (x : DeviceNumber × ℕ) → Contains (lengths_of demo_config) x → MayStandIn (instance_at (after demo_config (first ∷ [])) (instance_of x.0).block (instance_of x.0).index) Erased
 erased_stands x (zero, small, is) = subst (λ (y : DeviceNumber × ℕ). MayStandIn (instance_at (after demo_config (first ∷ [])) (instance_of y.0).block (instance_of y.0).index) Erased) is (inl refl)
@@ -112,7 +117,7 @@ erased_stands x (suc (suc zero), small, is) = subst (λ (y : DeviceNumber × ℕ
 erased_stands x (suc (suc (suc zero)), small, is) = subst (λ (y : DeviceNumber × ℕ). MayStandIn (instance_at (after demo_config (first ∷ [])) (instance_of y.0).block (instance_of y.0).index) Erased) is (inl refl)
 erased_stands x (suc (suc (suc (suc k))), small, is) = absurd (omega (arith, small))
 
-stays : BlankHasErased → OneFoundMark → ExitIsKept blank_start
+stays : BlankHasErased → FoundComputes → ExitIsKept blank_start
 stays erased one x mark has found =
     subst (λ (m : Mark). MayStandIn (instance_at (after demo_config (first ∷ [])) (instance_of x.0).block (instance_of x.0).index) m)
     (sym (found_is_erased erased one x.0.0 x.1 mark found)) (erased_stands x has)
@@ -121,13 +126,13 @@ refusals : (id : ℕ) → RefusalsExplain demo_config blank_start.course (first 
 refusals id zero = omega arith
 refusals id (suc n) = omega arith
 
-pub keeps : BlankHasErased → OneFoundMark → Headline blank_start
+pub keeps : BlankHasErased → FoundComputes → Headline blank_start
 keeps erased one = record {
   order = (refl, refl);
   operations = known_operations;
   power_cut = λ known k x image at. absurd (cc at);
   off = inl (omega arith);
-  start_up_finds = λ known. finds erased;
+  start_up_finds = λ known. finds erased one;
   at_exit = λ known. stays erased one;
   one_whole_accepted_mark = accepted;
   not_older = not_older;

@@ -1,12 +1,11 @@
 -- The device of one bank.
 use Rattle.std.specs.Prelude.{◌≡◌, ◌<◌, ◌≤◌, ◌+◌, ◌*◌, ◌/◌, ℕ, Option, Some, None, IfSome, Contains}
 use Rattle.nv_base.specs.Count.{Rose}
-use Rattle.nv_base.specs.Geometry.{IsLegal}
+use Rattle.nv_base.specs.Geometry.{IsLegal, sectors_of_bank}
 use Rattle.nv_base.specs.declared.geometry.Geometry.{Geometry}
 use Rattle.fls_model.specs.Told.{Told}
 use Rattle.fee_log.specs.declared.work.Work.{Work}
 use Rattle.fee_log.specs.Log.{LogState}
-use Rattle.fee_log.specs.Format.{bank_sectors_of}
 use Rattle.nvm_top.specs.declared.bank_device.Writing.{Writing}
 
 pub record BankState : Type 0 where
@@ -26,8 +25,9 @@ IsWorkOf (Some write) (Some work) = work.head ≡ record { number = write.number
 pub record IsKept (s : BankState) : Type 0 where
   pub legal : IsLegal s.log.geometry
   pub attached : s.told.geometry ≡ s.log.geometry
+  pub banks : s.log.banks ≡ 2
   pub bank : s.log.bank ≡ 0
-  pub format : IfSome s.format (λ done. done < bank_sectors_of s.log.geometry + 2)
+  pub format : IfSome s.format (λ done. done < sectors_of_bank s.log.geometry 2 + 2)
   pub configured : IfSome s.write (λ w. Contains s.log.numbers (w.number, w.length))
   pub length : IfSome s.write (λ w. w.length ≤ 4096)
   pub work : IsWorkOf s.write s.log.work

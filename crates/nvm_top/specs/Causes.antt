@@ -4,7 +4,7 @@ use Rattle.std.specs.Option.{option_and_then}
 use Rattle.nv_base.specs.Count.{last_count}
 use Rattle.fls_model.specs.Attach.{IfTold}
 use Rattle.fee_format.specs.declared.bank_head.BankHead.{BankHead}
-use Rattle.fee_format.specs.Image.{IsActive}
+use Rattle.fee_image.specs.Image.{layout_of, IsActive}
 use Rattle.nvm_script.specs.declared.step.Step.{Step}
 use Rattle.nvm_script.specs.declared.step.StepKind.{StepKind}
 use Rattle.nvm_script.specs.declared.step.StepKind.TheVariants.{Cut, Refuse, Restart}
@@ -61,7 +61,7 @@ offs_of_flash (Ran steps) h = count_by is_off h
 -- FAULTS
 -- the active bank has the last generation, so that no switch can begin, as far as the flash tells its bytes
 abbrev pub IsWornOut : Run → ℕ → Type 0
-IsWornOut r ops = IfTold (bytes_after r ops) (λ image. (k : ℕ) × (h : BankHead) × IsActive r.configuration.geometry image k h × (h.generation ≡ 4294967295))
+IsWornOut r ops = IfTold (bytes_after r ops) (λ image. (k : ℕ) × (h : BankHead) × IsActive (layout_of r.configuration.geometry 2) image k h × (h.generation ≡ 4294967295))
 
 -- a write, invalidate or erase ends over a bank that is worn out
 abbrev pub NeedsNoFault : Run → State → Entry → Type 0

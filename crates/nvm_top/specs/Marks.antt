@@ -5,7 +5,7 @@ use Rattle.block_config.specs.Lengths.{lengths_of}
 use Rattle.fls_model.specs.Op.{MayLeave}
 use Rattle.fls_model.specs.Told.{Change}
 use Rattle.fls_model.specs.Attach.{IfTold}
-use Rattle.fee_format.specs.Image.{IsFoundIn, AreFound}
+use Rattle.fee_image.specs.Image.{layout_of, IsFoundIn, AreFound}
 use Rattle.block_machine.specs.Words.{ReqResult, Fine, RedundancyFailed, Instance, Mark, Entry, Pick, Post, Found, Configuration}
 use Rattle.block_machine.specs.State.{State, Job}
 use Rattle.block_machine.specs.Blocks.{instance_at, indices_of, job_in_hand, mark_by, mark_of}
@@ -22,7 +22,7 @@ use Rattle.nvm_top.specs.Operations.{bytes_after}
 abbrev pub IsKept : Run → ℕ → List ℕ → Type 0
 IsKept r k image =
     (x : DeviceNumber × ℕ) (mark : Mark) → Contains (lengths_of r.configuration) x
-    → IsFoundIn r.configuration.geometry image x.0.0 x.1 mark → IsAllowedAt r.configuration r.history k (instance_of x.0) mark
+    → IsFoundIn (layout_of r.configuration.geometry 2) image x.0.0 x.1 mark → IsAllowedAt r.configuration r.history k (instance_of x.0) mark
 
 -- whatever a cut before or within an operation leaves keeps the marks that could stand before it
 abbrev pub CutsKeepMarks : Run → Type 0
@@ -31,7 +31,7 @@ CutsKeepMarks r = (k : ℕ) (x : Change) (image : List ℕ) → slice_get r.oper
 -- START-UP
 -- a Found lists what stood in the flash when it was made
 abbrev pub ListsFound : Run → Entry → Type 0
-ListsFound r (Found marks ops) = IfTold (bytes_after r ops) (λ image. AreFound r.configuration.geometry (lengths_of r.configuration) image marks)
+ListsFound r (Found marks ops) = IfTold (bytes_after r ops) (λ image. AreFound (layout_of r.configuration.geometry 2) (lengths_of r.configuration) image marks)
 ListsFound r e = Unit {0}
 
 abbrev pub StartUpsFind : Run → Type 0
@@ -41,7 +41,7 @@ StartUpsFind r = (e : Entry) → Contains r.history e → ListsFound r e
 abbrev pub ExitIsKept : Run → Type 0
 ExitIsKept r =
     IfTold r.exit.bytes (λ image. (x : DeviceNumber × ℕ) (mark : Mark) → Contains (lengths_of r.configuration) x
-    → IsFoundIn r.configuration.geometry image x.0.0 x.1 mark
+    → IsFoundIn (layout_of r.configuration.geometry 2) image x.0.0 x.1 mark
     → MayStandIn (instance_at (after r.configuration r.history) (instance_of x.0).block (instance_of x.0).index) mark)
 
 -- ACCEPTED MARKS

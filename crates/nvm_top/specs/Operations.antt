@@ -6,7 +6,8 @@ use Rattle.nv_base.specs.Geometry.{size_of}
 use Rattle.fls_model.specs.Op.{Op, Program, Erase}
 use Rattle.fls_model.specs.Told.{Change}
 use Rattle.fls_model.specs.Attach.{enlarged}
-use Rattle.fee_format.specs.Sound.{IsSound}
+use Rattle.fee_image.specs.Image.{layout_of}
+use Rattle.fee_image.specs.Sound.{IsSoundImage}
 use Rattle.block_machine.specs.Words.{Entry, Off, Found}
 use Rattle.nvm_script.specs.Summary.{ops_of}
 use Rattle.nvm_top.specs.Run.{Run, Course, Played, Ran}
@@ -49,7 +50,7 @@ pub record IsKnown (r : Run) : Type 0 where
   pub started : r.history ≢ []
   pub image : List ℕ
   pub bytes : r.entry.bytes ≡ Some image
-  pub sound : IsSound r.configuration.geometry (enlarged (size_of r.configuration.geometry) image)
+  pub sound : IsSoundImage (layout_of r.configuration.geometry 2) (enlarged (size_of r.configuration.geometry) image)
   pub changes : List Change
   pub told : r.exit.changes ≡ Some changes
 

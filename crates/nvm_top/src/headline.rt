@@ -2,14 +2,14 @@
 ghost use Rattle.nvm_top.specs.Headline.{Headline};
 ghost use Rattle.nvm_top.specs.HeadlineCases.{blank_start, made_up_mark, lost_write, off_without_a_cut, failure_without_a_fault};
 
-use fee_format::{blank_images, one_found};
+use fee_image::{blank_images, found_computes};
 
 /// A start on a flash of no bytes keeps the promise.
 pub fn a_blank_start_keeps_it()
     ensures { Headline blank_start }
 {
     blank_images();
-    one_found();
+    found_computes();
 }
 
 /// Runs that find what was never written, lose an acknowledged write at a cut, go off without a cut, or fail without a
@@ -21,5 +21,5 @@ pub fn wrong_runs_break_it()
     ensures failure_without_a_fault { Headline failure_without_a_fault → ⊥ }
 {
     blank_images();
-    one_found();
+    found_computes();
 }

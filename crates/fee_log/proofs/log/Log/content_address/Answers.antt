@@ -1,6 +1,17 @@
-use Rattle.fee_log.proofs.Addresses.{content_inside}
+use Rattle.std.proofs.Common.{◌+◌, arith}
+use Rattle.nv_base.specs.Pages.{body_pages_of}
 use Rattle.fee_log.proofs.log.Log.content_address.Goals as goal
 
 pub returns-clause-inside : goal.returns-clause-inside
 returns-clause-inside c =
-    rw (← c.self.view_is, c.bank_pages.ensures) (λ length le. content_inside c.self.inside.geometry c.self.inside.bank c.args.at length c.self.invariant.geometry c.self.invariant.bank le)
+    let s = c.self.inside in
+    let sound = c.self.invariant in
+    rw (← c.self.view_is)
+    (λ length le.
+    let n = body_pages_of length s.geometry.page in
+    omega (
+      arith,
+      c.page_address.ensures.value,
+      c.records_stay.ensures.room length s.geometry.page (omega (arith, sound.geometry.page_low)),
+      c.banks_share_the_flash.ensures.inside s.geometry s.banks s.bank (c.args.at + 2) n sound.geometry sound.shared sound.bank (omega (arith, le)),
+    ))

@@ -7,15 +7,14 @@ use Rattle.fee_log.proofs.log.Log.load_bytes.Goals as goal
 pub take_records-self-inside-requires-clause-each :
     goal.take_records-self-inside-requires-clause-each
 take_records-self-inside-requires-clause-each c =
-    rw (c.deref.ensures.value, c.deref_mut.ensures.value) (within_length _ _ _ _ c.self.invariant.places)
+    rw c.deref_mut.ensures.value (within_length _ _ _ _ c.self.invariant.places)
 
 pub returns : goal.returns
 returns c =
     let taken = c.take_records-self-inside.ensures in
     rw (← c.self.view_is) (record {
-      records = taken.records;
-      log = rw (← c.bank_pages-pages.ensures) taken.log;
-      closed = rw (← c.bank_pages-pages.ensures) (open_is_blank c.is_tail_blank.result _ c.is_tail_blank.ensures);
-      places = rw (take_at c.take_records-self-inside.new.places _ c.self.inside.places.len (omega arith), taken.places_are, c.deref.ensures.value) refl;
+      end = rw (← c.bank_pages-pages.ensures.value) taken.end_is;
+      closed = rw (← c.bank_pages-pages.ensures.value) (open_is_blank c.is_tail_blank.result _ c.is_tail_blank.ensures);
+      places = rw (take_at c.take_records-self-inside.new.places _ c.self.inside.places.len (omega arith), ← c.bank_pages-pages.ensures.value) taken.places_are;
       same = refl;
     })

@@ -9,13 +9,13 @@ pub invariant_of-self-else-work-lt2 : goal.invariant_of-self-else-work-lt2
 invariant_of-self-else-work-lt2 c =
     rw c.pages_of-pages.ensures (given_up_sound _ c.args.work c.self.invariant (ap (λ (s : LogState). s.work) c.self.view_is ∙ c.requires))
 
-pub note-requires-clause-each : goal.note-requires-clause-each
-note-requires-clause-each c =
-    rw (c.deref.ensures.value, c.deref_mut.ensures.value) (within_length _ _ _ _ c.self.invariant.places)
+pub note-requires : goal.note-requires
+note-requires c =
+    rw c.deref_mut.ensures.value (within_length _ _ _ _ c.self.invariant.places)
 
 pub invariant_of-self-in-Done : goal.invariant_of-self-in-Done
 invariant_of-self-in-Done c =
-    rw (take_at c.note.new.places _ c.self.inside.places.len (omega arith), c.note.ensures, c.deref.ensures.value, c.deref_mut.ensures.value, c.pages_of-pages.ensures)
+    rw (take_at c.note.new.places _ c.self.inside.places.len (omega arith), c.note.ensures, c.deref_mut.ensures.value, c.pages_of-pages.ensures)
     (committed_sound _ c.args.work c.self.invariant (ap (λ (s : LogState). s.work) c.self.view_is ∙ c.requires))
 
 pub returns-then-work-pages-clause-log : goal.returns-then-work-pages-clause-log
@@ -37,4 +37,4 @@ returns-else-work-lt2-clause-log c =
 pub returns-else-work-pages-clause-log : goal.returns-else-work-pages-clause-log
 returns-else-work-pages-clause-log c =
     let is = ap (λ (s : LogState). s.work) c.self.view_is ∙ c.requires in
-    rw (← c.self.view_is, is, take_at c.note.new.places _ c.self.inside.places.len (omega arith), c.note.ensures, c.deref.ensures.value, c.deref_mut.ensures.value, c.pages_of-pages.ensures) refl
+    rw (← c.self.view_is, is, take_at c.note.new.places _ c.self.inside.places.len (omega arith), c.note.ensures, c.deref_mut.ensures.value, c.pages_of-pages.ensures) refl

@@ -1,0 +1,66 @@
+-- Heads from their bytes.
+use Rattle.std.specs.Prelude.{◌==◌, ◌&&◌, ◌||◌, nat_lt, if◌then◌else◌}
+use Rattle.std.proofs.Common.{◌≡◌, ◌⊎◌, ◌↔◌, ◌<◌, ◌^◌, ℕ, Bool, true, false, IsTrue, List, Some, None, refl, sym, ap, ◌∙◌, subst, arith}
+use Rattle.std.specs.Int.{w16, w32, to_be_bytes, from_be_bytes}
+use Rattle.std.proofs.lemmas.Bool.{false≢true}
+use Rattle.std.proofs.lemmas.Nat.{from_be_bytes-to_be_bytes_2, from_be_bytes-to_be_bytes_4}
+use Rattle.fee_format.specs.declared.bank_head.BankHead.{BankHead}
+use Rattle.fee_format.specs.declared.rec_head.RecHead.{RecHead}
+use Rattle.fee_format.specs.BankHead.{IsLegalBankHead, IsBankHead, bank_head_page, bank_head_in}
+use Rattle.fee_format.specs.RecHead.{IsLegalRecHead, IsRecHead, rec_head_page, rec_head_in, is_legal_rec_head}
+use Rattle.fee_format.specs.Pages.{same_bytes}
+use Rattle.fee_format.specs.Laws.{BankHeadsCompute, RecHeadsCompute}
+use Rattle.fee_format.proofs.Tests.{both, either, lt_is, eq_is, bytes_are}
+
+-- what is read under a test is the one thing that passes it
+read_is : {A : Type 0} (b : Bool) (x y : A) (Is : A → Type 0) → IsTrue b ↔ Is x → (Is y → x ≡ y) → Is y ↔ ((if b then Some x else None) ≡ Some y)
+read_is true x y Is test one = (λ is. ap Some (one is), λ e. let same : x ≡ y = cc e in subst Is same (test.0 refl))
+read_is false x y Is test one = (λ is. absurd (false≢true (test.1 (subst Is (sym (one is)) is))), λ e. cc e)
+
+-- BANK HEADS
+pub bank_head_in_is : (p : ℕ) (h : BankHead) → IsLegalBankHead h → bank_head_in (bank_head_page p h) ≡ h
+bank_head_in_is p h legal =
+    let generation : from_be_bytes w32 (to_be_bytes w32 h.generation) ≡ h.generation = from_be_bytes-to_be_bytes_4 h.generation legal.generation in
+    λ i. record { format = sym legal.format i; generation = generation i }
+
+bank_test : (p : ℕ) (page : List ℕ) → IsTrue (nat_lt (bank_head_in page).generation (2 ^ 32) && same_bytes page (bank_head_page p (bank_head_in page))) ↔ IsBankHead p page (bank_head_in page)
+bank_test p page =
+    let h = bank_head_in page in
+    let all = both (nat_lt h.generation (2 ^ 32)) (same_bytes page (bank_head_page p h)) (h.generation < 2 ^ 32) (page ≡ bank_head_page p h) (lt_is h.generation (2 ^ 32)) (bytes_are page (bank_head_page p h)) in
+    (λ t. let a = all.0 t in record { legal = record { format = refl; generation = a.0 }; page_is = a.1 }, λ is. all.1 (is.legal.generation, is.page_is))
+
+pub bank_heads_compute : BankHeadsCompute
+bank_heads_compute p page h =
+    read_is (nat_lt (bank_head_in page).generation (2 ^ 32) && same_bytes page (bank_head_page p (bank_head_in page))) (bank_head_in page) h (IsBankHead p page) (bank_test p page)
+    (λ is. ap bank_head_in is.page_is ∙ bank_head_in_is p h is.legal)
+
+-- RECORD HEADERS
+rec_head_in_is : (p : ℕ) (h : RecHead) → IsLegalRecHead h → rec_head_in (rec_head_page p h) ≡ h
+rec_head_in_is p h legal =
+    let number : from_be_bytes w16 (to_be_bytes w16 h.number) ≡ h.number = from_be_bytes-to_be_bytes_2 h.number (omega (arith, legal.number_high)) in
+    let length : from_be_bytes w16 (to_be_bytes w16 h.length) ≡ h.length = from_be_bytes-to_be_bytes_2 h.length legal.length in
+    λ i. record { number = number i; kind = h.kind; length = length i }
+
+legal_is : (h : RecHead) → IsTrue (is_legal_rec_head h) ↔ IsLegalRecHead h
+legal_is h =
+    let number = both (nat_lt 0 h.number) (nat_lt h.number 65535) (0 < h.number) (h.number < 65535) (lt_is 0 h.number) (lt_is h.number 65535) in
+    let content = both (h.kind == 1) (nat_lt 0 h.length) (h.kind ≡ 1) (0 < h.length) (eq_is h.kind 1) (lt_is 0 h.length) in
+    let marks = either (h.kind == 2) (h.kind == 3) (h.kind ≡ 2) (h.kind ≡ 3) (eq_is h.kind 2) (eq_is h.kind 3) in
+    let other = both ((h.kind == 2) || (h.kind == 3)) (h.length == 0) ((h.kind ≡ 2) ⊎ (h.kind ≡ 3)) (h.length ≡ 0) marks (eq_is h.length 0) in
+    let kind = either ((h.kind == 1) && nat_lt 0 h.length) (((h.kind == 2) || (h.kind == 3)) && (h.length == 0)) ((h.kind ≡ 1) × (0 < h.length)) (((h.kind ≡ 2) ⊎ (h.kind ≡ 3)) × (h.length ≡ 0)) content other in
+    let rest = both (((h.kind == 1) && nat_lt 0 h.length) || (((h.kind == 2) || (h.kind == 3)) && (h.length == 0))) (nat_lt h.length 65536) (((h.kind ≡ 1) × (0 < h.length)) ⊎ (((h.kind ≡ 2) ⊎ (h.kind ≡ 3)) × (h.length ≡ 0))) (h.length < 65536) kind (lt_is h.length 65536) in
+    let all = both (nat_lt 0 h.number && nat_lt h.number 65535) ((((h.kind == 1) && nat_lt 0 h.length) || (((h.kind == 2) || (h.kind == 3)) && (h.length == 0))) && nat_lt h.length 65536) ((0 < h.number) × (h.number < 65535)) ((((h.kind ≡ 1) × (0 < h.length)) ⊎ (((h.kind ≡ 2) ⊎ (h.kind ≡ 3)) × (h.length ≡ 0))) × (h.length < 65536)) number rest in (
+      λ t. let l = all.0 t in record { number_low = l.0.0; number_high = l.0.1; kind = l.1.0; length = l.1.1 },
+      λ l. all.1 ((l.number_low, l.number_high), (l.kind, l.length)),
+    )
+
+rec_test : (p : ℕ) (page : List ℕ) → IsTrue (is_legal_rec_head (rec_head_in page) && same_bytes page (rec_head_page p (rec_head_in page))) ↔ IsRecHead p page (rec_head_in page)
+rec_test p page =
+    let h = rec_head_in page in
+    let all = both (is_legal_rec_head h) (same_bytes page (rec_head_page p h)) (IsLegalRecHead h) (page ≡ rec_head_page p h) (legal_is h) (bytes_are page (rec_head_page p h)) in
+    (λ t. let a = all.0 t in record { legal = a.0; page_is = a.1 }, λ is. all.1 (is.legal, is.page_is))
+
+pub rec_heads_compute : RecHeadsCompute
+rec_heads_compute p page h =
+    read_is (is_legal_rec_head (rec_head_in page) && same_bytes page (rec_head_page p (rec_head_in page))) (rec_head_in page) h (IsRecHead p page) (rec_test p page)
+    (λ is. ap rec_head_in is.page_is ∙ rec_head_in_is p h is.legal)

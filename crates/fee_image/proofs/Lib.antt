@@ -1,0 +1,12 @@
+pub mod Appends
+pub mod Banks
+pub mod Bodies
+pub mod FoundMaps
+pub mod Picks
+pub mod Reading
+pub mod Ranges
+pub mod Records
+pub mod Sectors
+pub mod Soundness
+pub mod Stored
+pub mod Walks
