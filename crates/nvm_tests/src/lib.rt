@@ -12,4 +12,6 @@ mod commands;
 #[cfg(test)]
 mod configuration;
 #[cfg(test)]
+mod format;
+#[cfg(test)]
 mod texts;
