@@ -11,7 +11,7 @@ use Rattle.memif.specs.declared.answer.DeviceRefusal.{DeviceRefusal}
 use Rattle.memif.specs.declared.kept.Kept.{Kept}
 use Rattle.memif.specs.declared.plain_store.PlainJob.{PlainJob}
 use Rattle.memif.specs.Told.{Slot, no_slot, slot_at, length_of}
-use Rattle.memif.specs.JobStart.{refusal_of, length_refusal}
+use Rattle.memif.specs.Calls.{refusal_of, length_refusal}
 use Rattle.memif.specs.Kept.{undoubted}
 use Rattle.memif.specs.PlainInside.{slot_of, told_with, AreKept, IsAt}
 use Rattle.memif.proofs.Places.{at_place, at_set, length_at, map_set}

@@ -1,41 +1,40 @@
 -- The fields of a device in memory.
-use Rattle.std.specs.Prelude.{◌≡◌, ◌<◌, ℕ, Bool, false, if◌then◌else◌, List, [], ◌∷◌, map, length, slice_get, slice_index_or, Option, Some, None, is_some}
+use Rattle.std.specs.Prelude.{◌≡◌, ◌≢◌, ◌<◌, ℕ, Bool, false, if◌then◌else◌, List, [], ◌∷◌, map, length, slice_get, slice_index_or, Option, Some, None, is_some}
 use Rattle.nv_base.specs.declared.instance.DeviceNumber.{DeviceNumber}
 use Rattle.nv_base.specs.declared.mark.Mark.{Mark}
 use Rattle.nv_base.specs.declared.mark.Mark.TheVariants as mark
 use Rattle.nv_base.specs.Lengths.{AreLengths}
-use Rattle.nv_base.specs.Plan.{no_planning}
 use Rattle.memif.specs.declared.answer.PlainMark.TheVariants as plain
 use Rattle.memif.specs.declared.answer.JobResult.{JobResult}
+use Rattle.memif.specs.declared.answer.JobResult.TheVariants.{JobPending}
 use Rattle.memif.specs.declared.kept.Cell.{Cell}
 use Rattle.memif.specs.declared.kept.Kept.{Kept}
 use Rattle.memif.specs.declared.plain_store.PlainJob.{PlainJob}
 use Rattle.memif.specs.declared.plain_store.PlainStore.TheInside.{Inside}
-use Rattle.memif.specs.Told.{DeviceTold, Slot, Job, Always}
+use Rattle.memif.specs.Told.{DeviceTold, Slot, Held, Job, Stand, Open, Ended, no_part}
 use Rattle.memif.specs.Plain.{plain_fixed}
 
 -- a mark of a kind, with these bytes if it is a content
 abbrev pub mark_of : Cell → Mark
 mark_of c = elim c.kind [ plain.Content ↦ mark.Content c.content | plain.Invalid ↦ mark.Invalid | plain.Erased ↦ mark.Erased ]
 
+abbrev pub held_of : Cell → Held
+held_of c = record { mark = mark_of c }
+
 abbrev pub slot_of : Kept → Slot
-slot_of k = record { settled = mark_of k.settled; doubts = if k.doubted then mark_of k.next ∷ [] else [] }
+slot_of k = record { settled = held_of k.settled; doubts = if k.doubted then held_of k.next ∷ [] else [] }
 
 -- what was staged last
 abbrev pub next_of : Option Kept → Mark
 next_of (Some k) = mark_of k.next
 next_of None = mark.Erased
 
-abbrev pub job_of : List Kept → Option PlainJob → Option Job
-job_of kept None = None
-job_of kept (Some j) = Some (record {
+abbrev pub job_of : List Kept → PlainJob → Job
+job_of kept j = record {
   number = j.number.0;
   mark = if j.reads then None else Some (next_of (slice_get kept j.place));
   urgent = j.urgent;
-  prompt = j.urgent;
-  worn = false;
-  faults_before = 0;
-})
+}
 
 abbrev pub content_of : Option Kept → List ℕ
 content_of (Some k) = k.settled.content
@@ -44,6 +43,10 @@ content_of None = []
 abbrev pub given_of : List Kept → Option ℕ → List ℕ
 given_of kept None = []
 given_of kept (Some place) = content_of (slice_get kept place)
+
+abbrev pub stand_of : List Kept → Option PlainJob → JobResult → Option ℕ → Stand
+stand_of kept (Some j) last given = Open (job_of kept j)
+stand_of kept None last given = Ended last (given_of kept given)
 
 -- one turn for an open job
 abbrev pub turns_of : Bool → ℕ
@@ -58,19 +61,13 @@ told_with numbers kept started job last given = record {
   fixed = plain_fixed numbers;
   slots = Some (map slot_of kept);
   started = started;
-  job = job_of kept job;
+  stand = stand_of kept job last given;
   switching = false;
-  last = last;
-  given = given_of kept given;
-  ops = 0;
-  faults = 0;
-  first_faults = 0;
-  second_faults = 0;
-  off = false;
-  planning = no_planning;
+  first = no_part;
+  second = no_part;
   left = turns_of (is_some job);
-  ready = Always;
-  wait = turns_of (is_urgent_job job);
+  ready = 262144;
+  wait = Some (turns_of (is_urgent_job job));
 }
 
 abbrev pub told_of : Inside → DeviceTold
@@ -102,12 +99,13 @@ GivesBehind (Some j) (Some place) = ⊥
 GivesBehind (Some j) None = Unit {0}
 GivesBehind None given = Unit {0}
 
-pub record IsSoundWith (numbers : List (DeviceNumber × ℕ)) (kept : List Kept) (job : Option PlainJob) (given : Option ℕ) : Type 0 where
+pub record IsSoundWith (numbers : List (DeviceNumber × ℕ)) (kept : List Kept) (job : Option PlainJob) (last : JobResult) (given : Option ℕ) : Type 0 where
   pub ascending : AreLengths 0 numbers
   pub room : AreKept numbers kept
   pub at : IsSoundJob numbers job
   pub gives : IsSoundGiven numbers given
   pub behind : GivesBehind job given
+  pub ended : last ≢ JobPending
 
 abbrev pub IsSound : Inside → Type 0
-IsSound p = IsSoundWith p.numbers.items p.kept.items p.job p.given
+IsSound p = IsSoundWith p.numbers.items p.kept.items p.job p.last p.given

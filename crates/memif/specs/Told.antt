@@ -1,9 +1,10 @@
 -- What is told of a memory device.
-use Rattle.std.specs.Prelude.{◌≡◌, ◌==◌, ◌≤◌, ◌&&◌, ℕ, Bool, true, false, not, if◌then◌else◌, List, [], ◌∷◌, Option, Some, None, is_some}
+use Rattle.std.specs.Prelude.{◌≡◌, ◌==◌, ◌+◌, ◌&&◌, ◌||◌, ℕ, Bool, true, false, not, min, if◌then◌else◌, List, [], ◌∷◌, Option, Some, None, is_some}
 use Rattle.nv_base.specs.declared.instance.DeviceNumber.{DeviceNumber}
 use Rattle.nv_base.specs.declared.mark.Mark.{Mark}
 use Rattle.nv_base.specs.declared.mark.Mark.TheVariants.{Content, Invalid, Erased}
-use Rattle.nv_base.specs.Plan.{Planning, planned}
+use Rattle.nv_base.specs.Count.{last_count}
+use Rattle.nv_base.specs.Plan.{Planning, planned, no_planning}
 use Rattle.nv_base.specs.declared.job.DeviceOp.{DeviceOp}
 use Rattle.nv_base.specs.declared.job.DeviceOp.TheVariants.{Read, Write, Invalidate, Erase}
 use Rattle.memif.specs.declared.answer.MemStatus.{MemStatus}
@@ -12,7 +13,7 @@ use Rattle.memif.specs.declared.answer.JobResult.{JobResult}
 use Rattle.memif.specs.declared.answer.JobResult.TheVariants.{JobPending}
 
 -- WHAT NEVER CHANGES
--- the two parts of a device, each with a count of faults of its own
+-- the two parts of a device, each over a flash of its own, if it has one
 pub data Part : Type 0 where
   First : Part
   Second : Part
@@ -31,66 +32,105 @@ pub record Fixed : Type 0 where
   pub numbers : List (DeviceNumber × ℕ)
   -- the figures of each, in the same order
   pub figures : List Figures
-  -- the pages that are kept for urgent writes
+  -- the pages that are kept for urgent writes; a device says in its own contract when they are ready
   pub reserve : ℕ
+  -- the most turns of work of its own
+  pub own : ℕ
+  -- it has a second part; else that part is `no_part`, and stays so
+  pub two : Bool
 
 -- WHAT CHANGES
--- of one number: the mark that it holds for certain, and the marks beside it that a start-up may find
+-- what a number holds; a field more of what is stored with a mark would stand here, and no clause would change
+pub record Held : Type 0 where
+  pub mark : Mark
+
+-- what it holds once this mark is settled, behind what it held before
+abbrev pub held_next : Mark → Held → Held
+held_next mark before = record { mark = mark }
+
+-- of one number: what it holds for certain, and what a start-up may find beside it
 pub record Slot : Type 0 where
-  pub settled : Mark
-  pub doubts : List Mark
+  pub settled : Held
+  pub doubts : List Held
 
 pub record Job : Type 0 where
   pub number : ℕ
   -- the mark that it is to settle; none in a read
   pub mark : Option Mark
   pub urgent : Bool
-  -- it is urgent, and was ready when it was taken
-  pub prompt : Bool
-  -- the device is worn out for it, so it may fail without a fault
-  pub worn : Bool
-  -- the faults of its number's part when it was taken
-  pub faults_before : ℕ
 
--- for how many pages of urgent writes the device is ready, where it tells
-pub data Ready : Type 0 where
-  Untold : Ready
-  UpTo : (pages : ℕ) → Ready
-  Always : Ready
+-- where the jobs stand: one is open, or the last one came to this result and gave this content
+pub data Stand : Type 0 where
+  Open : (job : Job) → Stand
+  Ended : (result : JobResult) → (given : List ℕ) → Stand
 
-pub record DeviceTold : Type 0 where
-  pub fixed : Fixed
-  -- the marks of the numbers, in their order, where they are told
-  pub slots : Option (List Slot)
-  -- the last start-up answered Ok
-  pub started : Bool
-  pub job : Option Job
-  -- it is at work of its own, behind or beside the jobs
-  pub switching : Bool
-  -- what the last job came to that ended
-  pub last : JobResult
-  -- the content that the last job read
-  pub given : List ℕ
-  -- the changing operations of its flash that it asked for
+-- what each part has of its own
+pub record PartTold : Type 0 where
+  -- the changing operations of its flash that were asked for
   pub ops : ℕ
+  -- its faults, and those that its flash counts
   pub faults : ℕ
-  pub first_faults : ℕ
-  pub second_faults : ℕ
+  pub flash_faults : ℕ
   -- a power cut stands
   pub off : Bool
   -- the power cuts of its flash that are planned, and those that came without a plan
   pub planning : Planning
+
+pub record DeviceTold : Type 0 where
+  pub fixed : Fixed
+  -- what the numbers hold, in their order, where it is told
+  pub slots : Option (List Slot)
+  -- the last start-up answered Ok
+  pub started : Bool
+  pub stand : Stand
+  -- it is at work of its own, behind or beside the jobs
+  pub switching : Bool
+  pub first : PartTold
+  pub second : PartTold
   -- the turns that the open work takes, where no fault comes
   pub left : ℕ
-  pub ready : Ready
-  -- with no urgent job open, the turns that an urgent write waits before its own pages; with one, those to its end
-  pub wait : ℕ
+  -- for how many pages of urgent writes the device is ready, of those that are kept; 0 where it doesn't tell
+  pub ready : ℕ
+  -- with no urgent job open, the turns that an urgent write waits before its own pages; with one, those to its end,
+  -- and none where nothing is promised of it
+  pub wait : Option ℕ
 
--- behind a call of arm: flash 0 takes a plan, if it can
+-- PARTS
+abbrev pub HasPart : Fixed → Part → Type 0
+HasPart f First = Unit {0}
+HasPart f Second = f.two ≡ true
+
+abbrev pub part_at : Part → DeviceTold → PartTold
+part_at First d = d.first
+part_at Second d = d.second
+
+abbrev pub with_part : Part → PartTold → DeviceTold → DeviceTold
+with_part First p d = record d { first = p }
+with_part Second p d = record d { second = p }
+
+-- a part that has no flash: no operation, no fault, no cut, and it takes no plan
+abbrev pub no_part : PartTold
+no_part = record { ops = 0; faults = 0; flash_faults = 0; off = false; planning = no_planning }
+
+-- the counts of the device are the sums of its parts', and stand still at their end
+abbrev pub ops_of : DeviceTold → ℕ
+ops_of d = min (d.first.ops + d.second.ops) last_count
+
+abbrev pub faults_of : DeviceTold → ℕ
+faults_of d = min (d.first.faults + d.second.faults) last_count
+
+-- a power cut stands in a part
+abbrev pub is_off : DeviceTold → Bool
+is_off d = d.first.off || d.second.off
+
+-- behind a call of arm: the part of this number takes a plan, if it can
+abbrev pub plans : ℕ → ℕ → PartTold → PartTold
+plans nth keep p = record p { planning = planned nth keep p.planning }
+
 abbrev pub armed : ℕ → ℕ → ℕ → DeviceTold → DeviceTold
-armed which nth keep d = if which == 0 then record d { planning = planned nth keep d.planning } else d
+armed which nth keep d = if which == 0 then record d { first = plans nth keep d.first } else (if which == 1 then record d { second = plans nth keep d.second } else d)
 
--- WHAT FOLLOWS
+-- NUMBERS
 -- what stands for a number, of things in the order of the numbers; this one where it isn't configured
 abbrev pub at_number : {A : Type 0} → A → List (DeviceNumber × ℕ) → List A → ℕ → A
 at_number none [] things n = none
@@ -104,7 +144,7 @@ length_of (x ∷ xs) n = if x.0.0 == n then Some x.1 else length_of xs n
 
 -- a number that isn't configured is erased, with no doubt
 abbrev pub no_slot : Slot
-no_slot = record { settled = Erased; doubts = [] }
+no_slot = record { settled = record { mark = Erased }; doubts = [] }
 
 abbrev pub slot_at : List (DeviceNumber × ℕ) → List Slot → ℕ → Slot
 slot_at numbers slots n = at_number no_slot numbers slots n
@@ -115,6 +155,40 @@ no_figures = record { part = First; pages = 0; read = 0; write = 0; invalidate =
 abbrev pub figures_at : Fixed → ℕ → Figures
 figures_at f n = at_number no_figures f.numbers f.figures n
 
+-- the part of a job is that of its number
+abbrev pub part_of : Fixed → Job → Part
+part_of f j = (figures_at f j.number).part
+
+-- a number is configured
+abbrev pub IsConfigured : DeviceTold → ℕ → Type 0
+IsConfigured d n = is_some (length_of d.fixed.numbers n) ≡ true
+
+-- WHAT IS OPEN
+abbrev pub is_open : Stand → Bool
+is_open (Open j) = true
+is_open (Ended result given) = false
+
+abbrev pub is_urgent : Stand → Bool
+is_urgent (Open j) = j.urgent
+is_urgent (Ended result given) = false
+
+-- no job and no work of its own is open
+abbrev pub nothing_open : DeviceTold → Bool
+nothing_open d = not (is_open d.stand) && not d.switching
+
+abbrev pub status_of : DeviceTold → MemStatus
+status_of d = if d.started then (if is_open d.stand then Busy else (if d.switching then BusyInternal else Idle)) else Uninit
+
+-- a job that is open is pending, and gave nothing yet
+abbrev pub result_of : Stand → JobResult
+result_of (Open j) = JobPending
+result_of (Ended result given) = result
+
+abbrev pub given_by : Stand → List ℕ
+given_by (Open j) = []
+given_by (Ended result given) = given
+
+-- TURNS
 -- the most turns of an operation
 abbrev pub most_of : Figures → DeviceOp → ℕ
 most_of f Read = f.read
@@ -129,38 +203,12 @@ op_of (Some (Content bytes)) = Write
 op_of (Some Invalid) = Invalidate
 op_of (Some Erased) = Erase
 
--- the count of a part
-abbrev pub faults_of : DeviceTold → Part → ℕ
-faults_of d First = d.first_faults
-faults_of d Second = d.second_faults
-
--- no job and no work of its own is open
-abbrev pub nothing_open : DeviceTold → Bool
-nothing_open d = not (is_some d.job) && not d.switching
-
-abbrev pub status_of : DeviceTold → MemStatus
-status_of d = if d.started then (if is_some d.job then Busy else (if d.switching then BusyInternal else Idle)) else Uninit
-
--- a job that is open is pending
-abbrev pub result_of : DeviceTold → JobResult
-result_of d = if is_some d.job then JobPending else d.last
-
--- a number is configured
-abbrev pub IsConfigured : DeviceTold → ℕ → Type 0
-IsConfigured d n = is_some (length_of d.fixed.numbers n) ≡ true
-
--- an urgent job is open
-abbrev pub is_urgent : Option Job → Bool
-is_urgent None = false
-is_urgent (Some j) = j.urgent
+-- the most turns that an open job adds
+abbrev pub most_open : Fixed → Stand → ℕ
+most_open f (Open j) = most_of (figures_at f j.number) (op_of j.mark)
+most_open f (Ended result given) = 0
 
 -- one fact where a test holds, and another where it doesn't
 abbrev pub IfElse : Bool → Type 0 → Type 0 → Type 0
 IfElse true P Q = P
 IfElse false P Q = Q
-
--- so many pages of urgent writes are ready
-abbrev pub IsReady : Ready → ℕ → Type 0
-IsReady Untold pages = ⊥
-IsReady (UpTo most) pages = pages ≤ most
-IsReady Always pages = Unit {0}

@@ -1,6 +1,6 @@
 // What a memory device answers.
 ghost use Rattle.std.specs.Prelude.{◌≡◌};
-ghost use Rattle.memif.specs.JobStart.{number_of_refusal};
+ghost use Rattle.memif.specs.Refusal.{number_of_refusal};
 
 /// Why a job wasn't taken, numbered 1 to 4 in the order of the tests: a job is open, no start-up answered Ok last,
 /// the number isn't configured, the length isn't the number's.

@@ -8,20 +8,14 @@ mod answer;
 mod device;
 mod kept;
 mod mem_if;
-mod no_device;
 mod place;
 mod plain_store;
-mod run;
-#[cfg(test)]
-mod tests;
-mod worked;
+mod trials;
 
 pub use answer::{
     DeviceRefusal, DeviceTurn, JobResult, MemStatus, PlainMark, StartFault, device_refusal_number,
 };
 pub use device::MemDevice;
 pub use mem_if::MemIf;
-pub use no_device::NoDevice;
 pub use plain_store::PlainStore;
-pub use run::{DeviceCall, DeviceStep, run_calls};
-pub use worked::{worked_answers, worked_marks, worked_run};
+pub use trials::{Rest, erase, make_turns, start_up};

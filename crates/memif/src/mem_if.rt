@@ -1,13 +1,9 @@
 // The memory interface: two devices by number.
-ghost use Rattle.std.specs.Prelude.{◌≡◌, ◌≤◌, ◌<◌, ◌≢◌, length, None, Some, Err, false};
+ghost use Rattle.std.specs.Prelude.{◌≡◌, ◌≤◌, ◌<◌, length, None, Some, Err, false};
 ghost use Rattle.nv_base.specs.declared.mark.Mark.TheVariants as mark;
-ghost use Rattle.memif.specs.Told.{armed, IsConfigured, figures_at, most_of, status_of, result_of, is_urgent};
-ghost use Rattle.memif.specs.FoundMaps.{SameMaps};
-ghost use Rattle.memif.specs.StartUp.{IsStartUp};
-ghost use Rattle.memif.specs.JobStart.{IsStart};
-ghost use Rattle.memif.specs.Cancel.{IsCancel};
-ghost use Rattle.memif.specs.Turn.{IsTurn};
-ghost use Rattle.memif.specs.Kind.{IsKind};
+ghost use Rattle.memif.specs.Told.{IsConfigured, figures_at, most_of, status_of, result_of, given_by, ops_of, faults_of, is_urgent};
+ghost use Rattle.memif.specs.Calls.{StartsUp, Accepts, Cancels, Arms, Turns, IsKind, InOrder};
+ghost use Rattle.memif.specs.MemIf.{OnDevice, OfDevice};
 
 use crate::{DeviceRefusal, DeviceTurn, JobResult, MemDevice, MemStatus, PlainMark, StartFault};
 use nv_base::{DeviceNumber, DeviceOp};
@@ -41,10 +37,7 @@ impl<A: MemDevice, B: MemDevice> MemIf<A, B> {
     /// Starts the device up.
     pub fn start(&mut self, device: u8) -> Result<(), StartFault>
         requires { device < 2 }
-        ensures first { device ≡ 0 → IsStartUp result (A.told self.old.first) (A.may_find self.old.first) (A.told self.new.first) (A.may_find self.new.first) }
-        ensures second { device ≡ 1 → IsStartUp result (B.told self.old.second) (B.may_find self.old.second) (B.told self.new.second) (B.may_find self.new.second) }
-        ensures first_same { device ≢ 0 → self.new.first ≡ self.old.first }
-        ensures second_same { device ≢ 1 → self.new.second ≡ self.old.second }
+        ensures { OnDevice device (StartsUp result) A.told A.clock B.told B.clock self.old self.new }
     {
         match device {
             0 => self.first.start(),
@@ -59,11 +52,8 @@ impl<A: MemDevice, B: MemDevice> MemIf<A, B> {
         number: DeviceNumber,
         length: u16,
     ) -> Result<(), DeviceRefusal>
-        ensures first { device ≡ 0 → IsStart (record { number = number.0; length = Some length; mark = None; urgent = false }) result (A.told self.old.first) (A.may_find self.old.first) (A.told self.new.first) (A.may_find self.new.first) }
-        ensures second { device ≡ 1 → IsStart (record { number = number.0; length = Some length; mark = None; urgent = false }) result (B.told self.old.second) (B.may_find self.old.second) (B.told self.new.second) (B.may_find self.new.second) }
+        ensures device { OnDevice device (Accepts (record { job = record { number = number.0; mark = None; urgent = false }; length = Some length }) result) A.told A.clock B.told B.clock self.old self.new }
         ensures none { 2 ≤ device → result ≡ Err DeviceRefusal.BadNumber }
-        ensures first_same { device ≢ 0 → self.new.first ≡ self.old.first }
-        ensures second_same { device ≢ 1 → self.new.second ≡ self.old.second }
     {
         match device {
             0 => self.first.start_read(number, length),
@@ -80,11 +70,8 @@ impl<A: MemDevice, B: MemDevice> MemIf<A, B> {
         content: &[u8],
         urgent: bool,
     ) -> Result<(), DeviceRefusal>
-        ensures first { device ≡ 0 → IsStart (record { number = number.0; length = Some (length content.now); mark = Some (mark.Content content.now); urgent = urgent }) result (A.told self.old.first) (A.may_find self.old.first) (A.told self.new.first) (A.may_find self.new.first) }
-        ensures second { device ≡ 1 → IsStart (record { number = number.0; length = Some (length content.now); mark = Some (mark.Content content.now); urgent = urgent }) result (B.told self.old.second) (B.may_find self.old.second) (B.told self.new.second) (B.may_find self.new.second) }
+        ensures device { OnDevice device (Accepts (record { job = record { number = number.0; mark = Some (mark.Content content.now); urgent = urgent }; length = Some (length content.now) }) result) A.told A.clock B.told B.clock self.old self.new }
         ensures none { 2 ≤ device → result ≡ Err DeviceRefusal.BadNumber }
-        ensures first_same { device ≢ 0 → self.new.first ≡ self.old.first }
-        ensures second_same { device ≢ 1 → self.new.second ≡ self.old.second }
     {
         match device {
             0 => self.first.start_write(number, content, urgent),
@@ -99,11 +86,8 @@ impl<A: MemDevice, B: MemDevice> MemIf<A, B> {
         device: u8,
         number: DeviceNumber,
     ) -> Result<(), DeviceRefusal>
-        ensures first { device ≡ 0 → IsStart (record { number = number.0; length = None; mark = Some mark.Invalid; urgent = false }) result (A.told self.old.first) (A.may_find self.old.first) (A.told self.new.first) (A.may_find self.new.first) }
-        ensures second { device ≡ 1 → IsStart (record { number = number.0; length = None; mark = Some mark.Invalid; urgent = false }) result (B.told self.old.second) (B.may_find self.old.second) (B.told self.new.second) (B.may_find self.new.second) }
+        ensures device { OnDevice device (Accepts (record { job = record { number = number.0; mark = Some mark.Invalid; urgent = false }; length = None }) result) A.told A.clock B.told B.clock self.old self.new }
         ensures none { 2 ≤ device → result ≡ Err DeviceRefusal.BadNumber }
-        ensures first_same { device ≢ 0 → self.new.first ≡ self.old.first }
-        ensures second_same { device ≢ 1 → self.new.second ≡ self.old.second }
     {
         match device {
             0 => self.first.start_invalidate(number),
@@ -114,11 +98,8 @@ impl<A: MemDevice, B: MemDevice> MemIf<A, B> {
 
     /// Takes an erase.
     pub fn start_erase(&mut self, device: u8, number: DeviceNumber) -> Result<(), DeviceRefusal>
-        ensures first { device ≡ 0 → IsStart (record { number = number.0; length = None; mark = Some mark.Erased; urgent = false }) result (A.told self.old.first) (A.may_find self.old.first) (A.told self.new.first) (A.may_find self.new.first) }
-        ensures second { device ≡ 1 → IsStart (record { number = number.0; length = None; mark = Some mark.Erased; urgent = false }) result (B.told self.old.second) (B.may_find self.old.second) (B.told self.new.second) (B.may_find self.new.second) }
+        ensures device { OnDevice device (Accepts (record { job = record { number = number.0; mark = Some mark.Erased; urgent = false }; length = None }) result) A.told A.clock B.told B.clock self.old self.new }
         ensures none { 2 ≤ device → result ≡ Err DeviceRefusal.BadNumber }
-        ensures first_same { device ≢ 0 → self.new.first ≡ self.old.first }
-        ensures second_same { device ≢ 1 → self.new.second ≡ self.old.second }
     {
         match device {
             0 => self.first.start_erase(number),
@@ -130,12 +111,8 @@ impl<A: MemDevice, B: MemDevice> MemIf<A, B> {
     /// Ends an open job, which isn't urgent.
     pub fn cancel(&mut self, device: u8)
         requires device { device < 2 }
-        requires first { device ≡ 0 → is_urgent (A.told self.old.first).job ≡ false }
-        requires second { device ≡ 1 → is_urgent (B.told self.old.second).job ≡ false }
-        ensures first { device ≡ 0 → IsCancel (A.told self.old.first) (A.may_find self.old.first) (A.told self.new.first) (A.may_find self.new.first) }
-        ensures second { device ≡ 1 → IsCancel (B.told self.old.second) (B.may_find self.old.second) (B.told self.new.second) (B.may_find self.new.second) }
-        ensures first_same { device ≢ 0 → self.new.first ≡ self.old.first }
-        ensures second_same { device ≢ 1 → self.new.second ≡ self.old.second }
+        requires job { OfDevice device (λ d c. is_urgent d.stand ≡ false) A.told A.clock B.told B.clock self.old }
+        ensures { OnDevice device (Cancels) A.told A.clock B.told B.clock self.old self.new }
     {
         match device {
             0 => self.first.cancel(),
@@ -143,15 +120,10 @@ impl<A: MemDevice, B: MemDevice> MemIf<A, B> {
         }
     }
 
-    /// Plans a power cut of the device's flash 0, where it has one.
+    /// Plans a power cut of a flash of the device, where it has one.
     pub fn arm(&mut self, device: u8, which: u8, nth: u32, keep: u32)
         requires { device < 2 }
-        ensures first { device ≡ 0 → A.told self.new.first ≡ armed which nth keep (A.told self.old.first) }
-        ensures second { device ≡ 1 → B.told self.new.second ≡ armed which nth keep (B.told self.old.second) }
-        ensures first_maps { device ≡ 0 → SameMaps (A.may_find self.old.first) (A.may_find self.new.first) }
-        ensures second_maps { device ≡ 1 → SameMaps (B.may_find self.old.second) (B.may_find self.new.second) }
-        ensures first_same { device ≢ 0 → self.new.first ≡ self.old.first }
-        ensures second_same { device ≢ 1 → self.new.second ≡ self.old.second }
+        ensures { OnDevice device (Arms which nth keep) A.told A.clock B.told B.clock self.old self.new }
     {
         match device {
             0 => self.first.arm(which, nth, keep),
@@ -162,10 +134,7 @@ impl<A: MemDevice, B: MemDevice> MemIf<A, B> {
     /// Makes a turn of the device.
     pub fn turn(&mut self, device: u8) -> DeviceTurn
         requires { device < 2 }
-        ensures first { device ≡ 0 → IsTurn result (A.told self.old.first) (A.may_find self.old.first) (A.told self.new.first) (A.may_find self.new.first) }
-        ensures second { device ≡ 1 → IsTurn result (B.told self.old.second) (B.may_find self.old.second) (B.told self.new.second) (B.may_find self.new.second) }
-        ensures first_same { device ≢ 0 → self.new.first ≡ self.old.first }
-        ensures second_same { device ≢ 1 → self.new.second ≡ self.old.second }
+        ensures { OnDevice device (Turns result) A.told A.clock B.told B.clock self.old self.new }
     {
         match device {
             0 => self.first.turn(),
@@ -176,8 +145,7 @@ impl<A: MemDevice, B: MemDevice> MemIf<A, B> {
     /// Lends the content that the device's last job read.
     pub fn take_data(&self, device: u8) -> &[u8]
         requires { device < 2 }
-        ensures first { device ≡ 0 → result.now ≡ (A.told self.now.first).given }
-        ensures second { device ≡ 1 → result.now ≡ (B.told self.now.second).given }
+        ensures { OfDevice device (λ d c. result.now ≡ given_by d.stand) A.told A.clock B.told B.clock self.now }
     {
         match device {
             0 => self.first.take_data(),
@@ -188,8 +156,7 @@ impl<A: MemDevice, B: MemDevice> MemIf<A, B> {
     /// What a number holds, without its content.
     pub fn mark_kind(&self, device: u8, number: DeviceNumber) -> Option<PlainMark>
         requires { device < 2 }
-        ensures first { device ≡ 0 → IsKind (A.told self.now.first) number.0 result }
-        ensures second { device ≡ 1 → IsKind (B.told self.now.second) number.0 result }
+        ensures { OfDevice device (λ d c. IsKind d number.0 result) A.told A.clock B.told B.clock self.now }
     {
         match device {
             0 => self.first.mark_kind(number),
@@ -200,8 +167,7 @@ impl<A: MemDevice, B: MemDevice> MemIf<A, B> {
     /// What the device is at.
     pub fn status(&self, device: u8) -> MemStatus
         requires { device < 2 }
-        ensures first { device ≡ 0 → result ≡ status_of (A.told self.now.first) }
-        ensures second { device ≡ 1 → result ≡ status_of (B.told self.now.second) }
+        ensures { OfDevice device (λ d c. result ≡ status_of d) A.told A.clock B.told B.clock self.now }
     {
         match device {
             0 => self.first.status(),
@@ -212,8 +178,7 @@ impl<A: MemDevice, B: MemDevice> MemIf<A, B> {
     /// What the device's last job came to.
     pub fn result(&self, device: u8) -> JobResult
         requires { device < 2 }
-        ensures first { device ≡ 0 → result ≡ result_of (A.told self.now.first) }
-        ensures second { device ≡ 1 → result ≡ result_of (B.told self.now.second) }
+        ensures { OfDevice device (λ d c. result ≡ result_of d.stand) A.told A.clock B.told B.clock self.now }
     {
         match device {
             0 => self.first.result(),
@@ -224,8 +189,7 @@ impl<A: MemDevice, B: MemDevice> MemIf<A, B> {
     /// The changing operations that the device asked for so far.
     pub fn ops(&self, device: u8) -> u64
         requires { device < 2 }
-        ensures first { device ≡ 0 → result ≡ (A.told self.now.first).ops }
-        ensures second { device ≡ 1 → result ≡ (B.told self.now.second).ops }
+        ensures { OfDevice device (λ d c. result ≡ ops_of d) A.told A.clock B.told B.clock self.now }
     {
         match device {
             0 => self.first.ops(),
@@ -236,8 +200,7 @@ impl<A: MemDevice, B: MemDevice> MemIf<A, B> {
     /// The device's faults so far.
     pub fn faults(&self, device: u8) -> u64
         requires { device < 2 }
-        ensures first { device ≡ 0 → result ≡ (A.told self.now.first).faults }
-        ensures second { device ≡ 1 → result ≡ (B.told self.now.second).faults }
+        ensures { OfDevice device (λ d c. result ≡ faults_of d) A.told A.clock B.told B.clock self.now }
     {
         match device {
             0 => self.first.faults(),
@@ -248,8 +211,7 @@ impl<A: MemDevice, B: MemDevice> MemIf<A, B> {
     /// The turns that the device's open work takes at most, where no fault comes.
     pub fn left(&self, device: u8) -> u64
         requires { device < 2 }
-        ensures first { device ≡ 0 → result ≡ (A.told self.now.first).left }
-        ensures second { device ≡ 1 → result ≡ (B.told self.now.second).left }
+        ensures { OfDevice device (λ d c. (result ≡ d.left) × InOrder d c) A.told A.clock B.told B.clock self.now }
     {
         match device {
             0 => self.first.left(),
@@ -260,10 +222,8 @@ impl<A: MemDevice, B: MemDevice> MemIf<A, B> {
     /// By how much a start of an operation on a number raises `left` at most.
     pub fn most(&self, device: u8, number: DeviceNumber, op: DeviceOp) -> u64
         requires device { device < 2 }
-        requires first { device ≡ 0 → IsConfigured (A.told self.now.first) number.0 }
-        requires second { device ≡ 1 → IsConfigured (B.told self.now.second) number.0 }
-        ensures first { device ≡ 0 → result ≡ most_of (figures_at (A.told self.now.first).fixed number.0) op }
-        ensures second { device ≡ 1 → result ≡ most_of (figures_at (B.told self.now.second).fixed number.0) op }
+        requires number { OfDevice device (λ d c. IsConfigured d number.0) A.told A.clock B.told B.clock self.now }
+        ensures { OfDevice device (λ d c. result ≡ most_of (figures_at d.fixed number.0) op) A.told A.clock B.told B.clock self.now }
     {
         match device {
             0 => self.first.most(number, op),

@@ -1,11 +1,8 @@
 // A device in memory.
 ghost use Rattle.std.specs.Prelude.{◌≡◌, ◌≢◌, IfOk, Ok, MatchResult, Some, None, length, slice_index_or};
 ghost use Rattle.memif.specs.Told.{DeviceTold};
-ghost use Rattle.memif.specs.FoundMaps.{FoundMaps};
-ghost use Rattle.memif.specs.JobStart.{refusal_of};
-ghost use Rattle.memif.specs.StartUp.{IsStartUp};
-ghost use Rattle.memif.specs.Turn.{IsTurn};
-ghost use Rattle.memif.specs.Plain.{plain_store, no_maps, IsPlainTurn};
+ghost use Rattle.memif.specs.Calls.{refusal_of, StartsUp, Turns, InOrder};
+ghost use Rattle.memif.specs.Plain.{plain_store, no_clock, IsPlainTurn};
 ghost use Rattle.memif.specs.PlainInside.{IsAt};
 
 use crate::kept::{Kept, leave_no_doubt, mark, room_for, settle, stage};
@@ -67,9 +64,11 @@ impl PlainStore {
     }
 
     // The place of a number that a job may be taken for.
+    #[tactic(auto, using(crate::proofs::PlainCalls::in_order))]
     fn check(&self, number: DeviceNumber, length: Option<usize>) -> Result<usize, DeviceRefusal>
         ensures refusal { MatchResult result (λ place. refusal_of self.now number.0 length ≡ None) (λ r. refusal_of self.now number.0 length ≡ Some r) }
         ensures place { IfOk result (λ place. IsAt self.now.fixed.numbers number.0 place) }
+        ensures order { InOrder self.now no_clock }
     {
         if self.job.is_some() {
             return Err(DeviceRefusal::Busy);
@@ -92,12 +91,12 @@ impl PlainStore {
 impl MemDevice for PlainStore {
     ghost told = { λ p. p };
 
-    ghost may_find = { λ p. no_maps };
+    ghost clock = { λ p. no_clock };
 
     fn start(&mut self) -> Result<(), StartFault>
-        ensures start { IsStartUp result self.old no_maps self.new no_maps }
+        ensures start { StartsUp result self.old no_clock self.new no_clock }
         ensures ok { (u : _) × (result ≡ Ok u) }
-        ensures no_fault { self.new.faults ≡ self.old.faults }
+        ensures no_fault { self.new.first ≡ self.old.first }
     {
         leave_no_doubt(&mut self.kept);
         self.started = true;
@@ -174,7 +173,7 @@ impl MemDevice for PlainStore {
     }
 
     fn turn(&mut self) -> DeviceTurn
-        ensures turn { IsTurn result self.old no_maps self.new no_maps }
+        ensures turn { Turns result self.old no_clock self.new no_clock }
         ensures plain { IsPlainTurn result self.old self.new }
     {
         let Some(job) = self.job else {

@@ -3,9 +3,10 @@ use Rattle.std.specs.Prelude.{is_some}
 use Rattle.std.proofs.lemmas.Bool.{ne_eqb, eq-eqb}
 use Rattle.memif.specs.declared.answer.DeviceRefusal.TheVariants.{BadNumber, BadLength}
 use Rattle.memif.specs.Told.{length_of}
-use Rattle.memif.specs.JobStart.{length_refusal}
+use Rattle.memif.specs.Calls.{length_refusal}
 use Rattle.memif.proofs.Places.{length_none, length_at}
 use Rattle.memif.proofs.Plain.{refusal_is}
+use Rattle.memif.proofs.PlainCalls.{in_order}
 use Rattle.memif.proofs.plain_store.PlainStore.check.Goals as goal
 
 pub returns-in_default-clause-refusal : goal.returns-in_default-clause-refusal
@@ -38,3 +39,6 @@ returns-in_default-length-2-clause-refusal c =
     let size = length_at 0 _ _ _ (record { 0 = 0 }, 0) c.self.invariant.ascending at.within at.is in
     let why : length_refusal c.args.length (length_of c.self.inside.numbers.items c.args.number.0) ≡ None = rw (size, c.in_default-length.is) refl in
     rw (← c.self.view_is) (refusal_is c.self.inside.numbers.items c.self.inside.kept.items c.self.inside.started c.self.inside.job c.self.inside.last c.self.inside.given c.args.number.0 c.args.length (None) closed c.if-not-self.false why)
+
+pub returns-then-is_some-clause-order : goal.returns-then-is_some-clause-order
+returns-then-is_some-clause-order c = in_order _ _ _ _ _ _ _ c.self.view_is c.self.invariant

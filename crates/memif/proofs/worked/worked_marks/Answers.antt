@@ -1,6 +1,0 @@
-use Rattle.std.proofs.Common.{arith, refl}
-use Rattle.memif.specs.Worked.{new_content}
-use Rattle.memif.proofs.worked.worked_marks.Goals as goal
-
-pub returns-clause-adds_a_doubt : goal.returns-clause-adds_a_doubt
-returns-clause-adds_a_doubt c = λ keeps. let has = keeps.doubts new_content (0, omega arith, refl) in absurd (omega (arith, has.1))
