@@ -7,4 +7,5 @@ pub mod PlainCalls
 pub mod PlainLooks
 pub mod PlainStarts
 pub mod PlainTurns
+pub mod Runs
 pub mod Turning

@@ -14,11 +14,12 @@ use Rattle.memif.specs.declared.kept.Kept.{Kept}
 use Rattle.memif.specs.declared.plain_store.PlainJob.{PlainJob}
 use Rattle.memif.specs.Told.{DeviceTold, Slot, Held, Job, Figures, First, Second, Open, slot_at, length_of, figures_at, no_figures, no_part, part_of, result_of, op_of, most_of, IfElse}
 use Rattle.memif.specs.Marks.{Keeps, Doubts, DoubtsAt, SettlesAs}
-use Rattle.memif.specs.Clock.{SamePart, SameClock, FindsNow, Ticks, untold}
+use Rattle.memif.specs.Clock.{FindsNow, Ticks}
 use Rattle.memif.specs.Calls.{InOrder, ClockStays, Arms, IsPrompt, Nearer, is_first, StartsUp, PowersUp, Opens, Turns, PartTurns, Reads, Gives, EndsAs}
 use Rattle.memif.specs.Plain.{plain_figures, plain_fixed, no_clock}
 use Rattle.memif.specs.Kept.{settled, undoubted}
 use Rattle.memif.specs.PlainInside.{mark_of, held_of, slot_of, next_of, turns_of, job_of, told_with, given_of, AreKept, IsAt, IsSoundWith}
+use Rattle.memif.proofs.Found.{same_clock}
 use Rattle.memif.proofs.Places.{at_same, length_at}
 use Rattle.memif.proofs.Plain.{blank, slot_is, slot_set, get_is, get_set}
 
@@ -48,15 +49,9 @@ slots_undoubted (x ∷ xs) [] n = (refl, refl)
 slots_undoubted (x ∷ xs) (k ∷ ks) n = elim (cases_Bool (x.0.0 == n)) [ inl e ↦ rw e (refl, refl) | inr e ↦ rw e (slots_undoubted xs ks n) ]
 
 -- nothing is told by the clock
-same_part : SamePart untold untold
-same_part = record { may_find = λ w m. (λ h. h, λ h. h); off_in = λ k. (λ h. h, λ h. h); worn = λ k n. (λ h. h, λ h. h) }
-
 finds_now : (d : DeviceTold) → FindsNow d no_clock
 finds_now d First m finds = absurd finds
 finds_now d Second m finds = absurd finds
-
-same_clock : SameClock no_clock no_clock
-same_clock = record { first = same_part; second = same_part }
 
 -- IN ORDER
 pub order_none : (numbers : List (DeviceNumber × ℕ)) (kept : List Kept) (started : Bool) (last : JobResult) (given : Option ℕ) → InOrder (told_with numbers kept started None last given) no_clock
@@ -87,14 +82,14 @@ in_order numbers kept started None last given now view sound = subst (λ (d : De
 in_order numbers kept started (Some j) last given now view sound = subst (λ (d : DeviceTold). InOrder d no_clock) view (order_open numbers kept started j last given sound.ascending sound.at)
 
 pub stays : (d : DeviceTold) → InOrder d no_clock → ClockStays no_clock d no_clock
-stays d order = record { same = same_clock; order = order }
+stays d order = record { same = same_clock no_clock; order = order }
 
 pub ticks : (old new : DeviceTold) → Ticks First Worked old no_clock new no_clock
 ticks old new = record {
   past = record { after = λ k m le h. h; cut = λ k m lt h. h; worn = λ k n le h. h };
   cut = λ k m le lt h. absurd h;
   off = λ k h. absurd h;
-  other = same_part;
+  other = (same_clock no_clock).second;
 }
 
 powers_up : PowersUp no_part no_part

@@ -6,5 +6,7 @@ pub mod MemIf
 pub mod Plain
 pub mod PlainInside
 pub mod Refusal
+pub mod Run
 pub mod Told
 pub mod Trials
+pub mod Worked

@@ -4,7 +4,7 @@ use Rattle.nv_base.specs.Count.{Rose}
 use Rattle.memif.specs.declared.trials.Rest.{Rest}
 use Rattle.memif.specs.declared.trials.Rest.TheVariants.{Idle, Off, Fault}
 use Rattle.memif.specs.Told.{DeviceTold, Slot, Held, Part, part_at, slot_at, figures_at, is_off, is_open, nothing_open}
-use Rattle.memif.specs.Clock.{Clock, After, clock_at}
+use Rattle.memif.specs.Clock.{Clock, After, Past, clock_at}
 
 abbrev pub Rests : Rest → DeviceTold → Type 0
 Rests Idle new = nothing_open new ≡ true
@@ -24,10 +24,7 @@ AreSettled p d None m = Unit {0}
 abbrev pub FindsSettled : DeviceTold → Clock → Type 0
 FindsSettled d c = (p : Part) (m : ℕ → Held) → (clock_at p c).may_find (After (part_at p d).ops) m → AreSettled p d d.slots m
 
--- what was told of the operations before gets no map more
-abbrev pub LastsAt : Part → DeviceTold → Clock → DeviceTold → Clock → Type 0
-LastsAt p old clock new clock_new = (k : ℕ) (m : ℕ → Held) → k ≤ (part_at p old).ops → (clock_at p clock_new).may_find (After k) m → (clock_at p clock).may_find (After k) m
-
+-- no count of operations falls, and what was told of those before gets no map more
 pub record Lasts (old : DeviceTold) (clock : Clock) (new : DeviceTold) (clock_new : Clock) : Type 0 where
   pub ops : (p : Part) → (part_at p old).ops ≤ (part_at p new).ops
-  pub maps : (p : Part) → LastsAt p old clock new clock_new
+  pub past : (p : Part) → Past (part_at p old).ops (clock_at p clock) (clock_at p clock_new)

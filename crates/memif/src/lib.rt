@@ -10,7 +10,9 @@ mod kept;
 mod mem_if;
 mod place;
 mod plain_store;
+mod run;
 mod trials;
+mod worked;
 
 pub use answer::{
     DeviceRefusal, DeviceTurn, JobResult, MemStatus, PlainMark, StartFault, device_refusal_number,
@@ -18,4 +20,6 @@ pub use answer::{
 pub use device::MemDevice;
 pub use mem_if::MemIf;
 pub use plain_store::PlainStore;
+pub use run::{DeviceCall, DeviceStep, run_calls};
 pub use trials::{Rest, erase, make_turns, start_up};
+pub use worked::{worked_answers, worked_marks, worked_run, wrong_devices};

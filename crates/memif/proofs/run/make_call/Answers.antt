@@ -1,0 +1,28 @@
+use Rattle.std.proofs.Common.{refl}
+use Rattle.memif.proofs.Runs.{start_made, may_cancel, skip_made, cancel_made, turn_made}
+use Rattle.memif.proofs.Found.{same_clock}
+use Rattle.memif.proofs.run.make_call.Goals as goal
+
+pub returns-in-Read : goal.returns-in-Read
+returns-in-Read g c = rw (c.in-Read.is, c.is_ok.ensures.value) (start_made _ _ _ _ _ _ _ refl c.start_read.ensures)
+
+pub returns-in-Write : goal.returns-in-Write
+returns-in-Write g c = rw (c.in-Write.is, c.is_ok-in-Write.ensures.value, ← c.as_slice.ensures) (start_made _ _ _ _ _ _ _ refl c.start_write.ensures)
+
+pub returns-in-Invalidate : goal.returns-in-Invalidate
+returns-in-Invalidate g c = rw (c.in-Invalidate.is, c.is_ok-in-Invalidate.ensures.value) (start_made _ _ _ _ _ _ _ refl c.start_invalidate.ensures)
+
+pub returns-in-Erase : goal.returns-in-Erase
+returns-in-Erase g c = rw (c.in-Erase.is, c.is_ok-in-Erase.ensures.value) (start_made _ _ _ _ _ _ _ refl c.start_erase.ensures)
+
+pub returns-then-not-urgent : goal.returns-then-not-urgent
+returns-then-not-urgent g c = rw c.in-Cancel.is (cancel_made _ _ _ _ c.cancel.ensures)
+
+pub returns-in-Turn : goal.returns-in-Turn
+returns-in-Turn g c = rw c.in-Turn.is (turn_made _ _ _ _ _ c.turn.ensures)
+
+pub cancel-requires : goal.cancel-requires
+cancel-requires g c = may_cancel c.args.urgent _ c.if-not-urgent.true c.requires
+
+pub returns-else-not-urgent : goal.returns-else-not-urgent
+returns-else-not-urgent g c = rw c.in-Cancel.is (skip_made _ _ (same_clock _) (rw c.if-not-urgent.false at c.requires))
