@@ -1,14 +1,14 @@
 -- The failed set that is found is the least.
-use Rattle.std.specs.Prelude.{slice_index_or, find, unwrap_or, IsSome, Option, Some, None, nat_le}
+use Rattle.std.specs.Prelude.{slice_index_or, find, map, unwrap_or, IsSome, Option, Some, None, nat_le}
 use Rattle.std.specs.Option.{option_eq}
 use Rattle.std.specs.Str.{bytes_eq}
 use Rattle.std.proofs.Common.{◌≡◌, ℕ, zero, suc, ◌<◌, ◌≤◌, ◌==◌, Bool, true, List, [], ◌∷◌, length, refl, sym, subst, inl, inr, arith}
 use Rattle.std.proofs.lemmas.Bool.{cases_Bool, eqb-false}
 use Rattle.nv_base.specs.Result.{code_of}
-use Rattle.block_machine.specs.Words.{JobKind, ReadJob, WriteJob, RestoreJob, EraseJob, InvalidateJob, ReadAllJob, WriteAllJob, BlockKind, Native, Redundant, Dataset, Configuration}
+use Rattle.block_machine.specs.Words.{Mark, JobKind, ReadJob, WriteJob, RestoreJob, EraseJob, InvalidateJob, ReadAllJob, WriteAllJob, BlockKind, Native, Redundant, Dataset, Configuration}
 use Rattle.block_machine.specs.State.{State, Job}
-use Rattle.block_machine.specs.Blocks.{desc_of, block_at, indices_by}
-use Rattle.block_machine.specs.Results.{Posted, result_of, sets_of, open_sets, same_posted}
+use Rattle.block_machine.specs.Blocks.{desc_of, block_at, settled_at, indices_by, job_block, kind_of}
+use Rattle.block_machine.specs.Results.{Answer, own_of, result_of, sets_of, open_sets, same_answer}
 use Rattle.block_machine.specs.Laws.{FailedSetsAreLeast}
 
 -- SAME
@@ -27,7 +27,7 @@ given_self : (given : Option (List ℕ)) → option_eq bytes_eq given given ≡ 
 given_self None = refl
 given_self (Some bytes) = bytes_self bytes
 
-same_self : (p : Posted) → same_posted p p ≡ true
+same_self : (p : Answer) → same_answer p p ≡ true
 same_self p = rw (eqb_self (code_of p.0), given_self p.1) refl
 
 -- FIND
@@ -61,16 +61,16 @@ find_least test (y ∷ ys) x (suc k) ascends within is passes = elim (cases_Bool
 
 -- THE OPEN SETS
 
-ascending_by : (kind : BlockKind) (nv index : ℕ) → Ascends (sets_of (indices_by kind nv index))
-ascending_by Native nv index = (((omega arith), tt), (tt, tt))
-ascending_by Redundant nv index = ((omega arith, (omega arith, (omega arith, tt))), ((omega arith, (omega arith, tt)), ((omega arith, tt), (tt, tt))))
-ascending_by Dataset nv index = elim (cases_Bool (nat_le nv index)) [
+ascending_by : (f : ℕ → Mark) (kind : BlockKind) (nv index : ℕ) → Ascends (sets_of (map (λ (x : ℕ × Mark). x.0) (map (λ n. (n, f n)) (indices_by kind nv index))))
+ascending_by f Native nv index = (((omega arith), tt), (tt, tt))
+ascending_by f Redundant nv index = ((omega arith, (omega arith, (omega arith, tt))), ((omega arith, (omega arith, tt)), ((omega arith, tt), (tt, tt))))
+ascending_by f Dataset nv index = elim (cases_Bool (nat_le nv index)) [
   | inl rom ↦ rw rom (tt, tt)
   | inr stored ↦ rw stored ((omega arith, tt), (tt, tt))
 ]
 
-ascending_open : (c : Configuration) (s : State) (j : Job) (kind : JobKind) → Ascends (open_sets c s j kind)
-ascending_open c s j ReadJob = ascending_by (desc_of c j.block).kind (desc_of c j.block).nv (block_at s j.block).index
+ascending_open : (c : Configuration) (s : State) (j : Job) (kind : JobKind) → Ascends (open_sets (own_of c s (job_block j)) j kind)
+ascending_open c s j ReadJob = ascending_by (λ n. settled_at s (record { block = job_block j; index = n })) (desc_of c (job_block j)).kind (desc_of c (job_block j)).nv (block_at s (job_block j)).index
 ascending_open c s j RestoreJob = (tt, tt)
 ascending_open c s j WriteJob = (tt, tt)
 ascending_open c s j EraseJob = (tt, tt)
@@ -80,4 +80,5 @@ ascending_open c s j WriteAllJob = (tt, tt)
 
 pub failed_sets_are_least : FailedSetsAreLeast
 failed_sets_are_least c s j failed open_set =
-    find_least (λ f. same_posted (result_of c s j f) (result_of c s j failed)) (open_sets c s j j.kind) failed open_set.0 (ascending_open c s j j.kind) open_set.1 open_set.2 (same_self (result_of c s j failed))
+    let o = own_of c s (job_block j) in
+    find_least (λ f. same_answer (result_of o j f) (result_of o j failed)) (open_sets o j (kind_of j)) failed open_set.0 (ascending_open c s j (kind_of j)) open_set.1 open_set.2 (same_self (result_of o j failed))

@@ -1,3 +1,2 @@
 pub mod FailedSets
 pub mod HistoryLaws
-pub mod Texts

@@ -1,15 +1,15 @@
 -- Which entry may come in a state, and which histories are legal.
-use Rattle.std.specs.Prelude.{◌≡◌, ◌⊎◌, ◌≤◌, ◌<◌, ℕ, zero, suc, ◌+◌, ◌==◌, ◌&&◌, not, nat_lt, Bool, true, false, List, [], ◌∷◌, length, IsTrue, IsSome, Contains, Option, Some, None, if◌then◌else◌}
+use Rattle.std.specs.Prelude.{◌≡◌, ◌⊎◌, ◌≤◌, ◌<◌, ℕ, ◌+◌, ◌==◌, ◌&&◌, not, nat_lt, Bool, true, false, List, [], ◌∷◌, length, IsTrue, IsSome, Option, Some, None, ◌||◌, if◌then◌else◌}
 use Rattle.std.specs.List.{list_all}
-use Rattle.std.specs.Option.{option_map_or}
+use Rattle.nv_base.specs.Cell.{MayStand}
 use Rattle.nv_base.specs.Marks.{listed}
-use Rattle.block_machine.specs.Words.{ReqResult, NotOk, Instance, Mark, Content, Request, Write, Reply, JobKind, WriteJob, ReadAllJob, WriteAllJob, Taken, TookNothing, TookContent, TookRefused, TookStale, Entry, Ask, Pick, Wrote, Post, Off, Found, BlockDesc, Configuration}
-use Rattle.block_machine.specs.State.{State, InstanceState, Job, Sweep}
-use Rattle.block_machine.specs.Blocks.{desc_of, block_at, is_synchronized, indices_of, job_in_hand, mark_of}
+use Rattle.block_machine.specs.Words.{NotOk, Instance, Mark, Content, Request, Write, Reply, JobKind, WriteJob, ReadAllJob, WriteAllJob, Taken, TookNothing, TookContent, TookRefused, TookStale, Entry, Ask, Pick, Wrote, Post, Off, Found, BlockDesc, Configuration}
+use Rattle.block_machine.specs.State.{State, BlockState, InstanceState, Job, Sweep}
+use Rattle.block_machine.specs.Blocks.{desc_of, block_at, is_synchronized, is_in, indices_of, job_block, kind_of, names_ram, asked_store, rank_of, records_of, mark_of}
 use Rattle.block_machine.specs.Sweeps.{member_job, sweep_result}
 use Rattle.block_machine.specs.Reply.{reply_of, fits}
 use Rattle.block_machine.specs.Next.{Next, PickJob, BeginSweep, PickMember, PostMember, EndSweep, next_of}
-use Rattle.block_machine.specs.Results.{result_of, failed_set, skipped_result, unwritten}
+use Rattle.block_machine.specs.Results.{Answer, own_of, result_of, failed_set, unpicked_result}
 use Rattle.block_machine.specs.StartUp.{at_first, found_instances, listed_mark}
 use Rattle.block_machine.specs.Steps.{step}
 
@@ -31,7 +31,7 @@ pub record IsAsk (c : Configuration) (cap : ℕ) (s : State) (caller : ℕ) (r :
 -- DRIVER ENTRIES
 
 -- the driver works from a start-up to the next Off, and the operations never fall
-pub record IsDriverTime (s : State) (ops : ℕ) : Type 0 where
+pub record IsDriving (s : State) (ops : ℕ) : Type 0 where
   pub started : IsTrue s.started
   pub on : IsTrue (not s.off)
   pub grows : s.ops ≤ ops
@@ -47,34 +47,38 @@ TakesCopy d store (TookStale asked got count) = (asked ≡ store) × (got < stor
 
 -- A write takes its own content, or the one that it took before it was interrupted; a RAM write takes a copy where the
 -- RAM is synchronized, else the RAM block as it is.
-abbrev pub TakesForWrite : Configuration → State → Job → Option (List ℕ × ℕ) → Bool → Taken → Type 0
-TakesForWrite c s j (Some x) synchronized t = t ≡ TookContent x.0 x.1
-TakesForWrite c s j None true t = TakesCopy (desc_of c j.block) j.store t
-TakesForWrite c s j None false t = t ≡ TookContent (block_at s j.block).ram 0
+abbrev pub TakesForWrite : BlockDesc → BlockState → Job → Option (List ℕ × ℕ) → (synchronized : Bool) → Taken → Type 0
+TakesForWrite d b j (Some x) synchronized t = t ≡ TookContent x.0 x.1
+TakesForWrite d b j None true t = TakesCopy d (asked_store j.request) t
+TakesForWrite d b j None false t = t ≡ TookContent b.ram 0
 
 -- only a write takes something
-abbrev pub Takes : Configuration → State → Job → JobKind → Taken → Type 0
-Takes c s j WriteJob t = TakesForWrite c s j j.content (is_synchronized (desc_of c j.block).ram) t
-Takes c s j kind t = t ≡ TookNothing
+abbrev pub TakesBy : BlockDesc → BlockState → Job → JobKind → Taken → Type 0
+TakesBy d b j WriteJob t = TakesForWrite d b j j.content (is_synchronized d.ram) t
+TakesBy d b j kind t = t ≡ TookNothing
+
+-- a record is left to write, or the job writes none at all
+abbrev pub is_unfinished : Configuration → Job → Bool
+is_unfinished c j = nat_lt (length j.written) (records_of c j) || (records_of c j == 0)
 
 -- A job in hand may be interrupted by an immediate one, where it isn't immediate itself, and is no write that has written
 -- all of its instances.
-pub record MayInterrupt (c : Configuration) (s : State) (h : Job) (j : Job) : Type 0 where
-  pub immediate : IsTrue j.immediate
-  pub standard : IsTrue (not h.immediate)
-  pub unfinished : IsTrue (option_map_or (λ mark. nat_lt 0 (length (unwritten c s h))) (mark_of h) true)
+pub record MayInterrupt (c : Configuration) (h : Job) (j : Job) : Type 0 where
+  pub immediate : IsTrue (rank_of c j).immediate
+  pub standard : IsTrue (not (rank_of c h).immediate)
+  pub unfinished : IsTrue (is_unfinished c h)
 
 -- no job is in hand, or this one may interrupt it
-abbrev pub HandIsFree : Configuration → State → Option Job → Job → Type 0
-HandIsFree c s None j = Unit {0}
-HandIsFree c s (Some h) j = MayInterrupt c s h j
+abbrev pub HandIsFree : Configuration → Option Job → Job → Type 0
+HandIsFree c None j = Unit {0}
+HandIsFree c (Some h) j = MayInterrupt c h j
 
 -- the Pick of a job on one block
 pub record IsPick (c : Configuration) (s : State) (j : Job) (block : ℕ) (kind : JobKind) (t : Taken) : Type 0 where
-  pub free : HandIsFree c s (job_in_hand s) j
-  pub same_block : block ≡ j.block
-  pub same_kind : kind ≡ j.kind
-  pub takes : Takes c s j j.kind t
+  pub free : HandIsFree c s.hand j
+  pub same_block : block ≡ job_block j
+  pub same_kind : kind ≡ kind_of j
+  pub takes : TakesBy (desc_of c (job_block j)) (block_at s (job_block j)) j (kind_of j) t
 
 -- the Pick of a request on all blocks
 pub record IsSweepPick (sw : Sweep) (block : ℕ) (kind : JobKind) (t : Taken) : Type 0 where
@@ -92,8 +96,8 @@ MayPick c s block kind t next = ⊥
 
 -- a job in hand wrote its mark to one of its instances: once since its Pick, and copy 0 not after copy 1
 pub record IsWrote (c : Configuration) (s : State) (j : Job) (i : Instance) (mark : Mark) : Type 0 where
-  pub same_block : i.block ≡ j.block
-  pub one_of_its : Contains (indices_of c s j.block) i.index
+  pub same_block : i.block ≡ job_block j
+  pub one_of_its : IsTrue (is_in (indices_of c s (job_block j)) i.index)
   pub in_order : IsTrue (list_all (λ index. nat_lt index i.index) j.written)
   pub marks : mark_of j ≡ Some mark
 
@@ -103,60 +107,54 @@ MayWrite c s i mark None = ⊥
 
 -- POST
 
+-- a result and what it gives keep to the table of results, and no copy was refused
+abbrev pub ByTable : ℕ → Type 0 → Type 0
+ByTable refused Keeps = (refused ≡ 0) × Keeps
+
 -- there was a content for synchronized RAM, and each copy in was refused
-pub record IsCopyRefused (d : BlockDesc) (ram : Bool) (offered : Option (List ℕ)) (r : ReqResult) (given : Option (List ℕ)) (refused : ℕ) : Type 0 where
+pub record IsCopyRefused (d : BlockDesc) (ram : Bool) (offered : Option (List ℕ)) (answer : Answer) (refused : ℕ) : Type 0 where
   pub synchronized : IsTrue (ram && is_synchronized d.ram)
   pub something : IsSome offered
-  pub not_ok : r ≡ NotOk
-  pub nothing : given ≡ None
+  pub fails : answer ≡ (NotOk, None)
   pub each_try : refused ≡ d.repeats + 1
 
--- what is posted keeps to the table, or else each copy in was refused
-abbrev pub IsPosted : BlockDesc → Bool → Option (List ℕ) → ReqResult → Option (List ℕ) → ℕ → Type 0 → Type 0
-IsPosted d ram offered r given zero ByTable = ByTable
-IsPosted d ram offered r given (suc n) ByTable = IsCopyRefused d ram offered r given (suc n)
-
--- the Post of a job in hand: some failed set explains it
-pub record IsPost (c : Configuration) (s : State) (j : Job) (block : ℕ) (r : ReqResult) (given : Option (List ℕ)) (refused : ℕ) : Type 0 where
-  pub same_block : block ≡ j.block
-  pub results : IsPosted (desc_of c j.block) j.ram (result_of c s j []).1 r given refused (IsSome (failed_set c s j (r, given)))
+-- the Post of a job in hand: some failed set explains it, or else each copy in was refused
+pub record IsPost (c : Configuration) (s : State) (j : Job) (block : ℕ) (answer : Answer) (refused : ℕ) : Type 0 where
+  pub same_block : block ≡ job_block j
+  pub results : ByTable refused (IsSome (failed_set (own_of c s (job_block j)) j answer))
+      ⊎ IsCopyRefused (desc_of c (job_block j)) (names_ram j.request) (result_of (own_of c s (job_block j)) j []).1 answer refused
 
 -- the Post of a member that isn't picked
-pub record IsMemberPost (c : Configuration) (sw : Sweep) (id block : ℕ) (r : ReqResult) (given : Option (List ℕ)) (refused : ℕ) : Type 0 where
+pub record IsMemberPost (c : Configuration) (s : State) (sw : Sweep) (id block : ℕ) (answer : Answer) (refused : ℕ) : Type 0 where
   pub same_block : block ≡ id
-  pub results : IsPosted (desc_of c id) true (skipped_result c sw id).1 r given refused ((r, given) ≡ skipped_result c sw id)
+  pub results : ByTable refused (answer ≡ unpicked_result (own_of c s id) sw.writes) ⊎ IsCopyRefused (desc_of c id) true (unpicked_result (own_of c s id) sw.writes).1 answer refused
 
 -- the Post of id 0
-pub record IsSweepPost (sw : Sweep) (block : ℕ) (r : ReqResult) (given : Option (List ℕ)) (refused : ℕ) : Type 0 where
+pub record IsSweepPost (sw : Sweep) (block : ℕ) (answer : Answer) (refused : ℕ) : Type 0 where
   pub all_blocks : block ≡ 0
-  pub results : r ≡ sweep_result sw
-  pub nothing : given ≡ None
+  pub results : answer ≡ (sweep_result sw, None)
   pub no_copy : refused ≡ 0
 
-abbrev pub MayPostNext : Configuration → ℕ → ReqResult → Option (List ℕ) → ℕ → Next → Type 0
-MayPostNext c block r given refused (PostMember sw id) = IsMemberPost c sw id block r given refused
-MayPostNext c block r given refused (EndSweep sw) = IsSweepPost sw block r given refused
-MayPostNext c block r given refused next = ⊥
+abbrev pub MayPostNext : Configuration → State → ℕ → Answer → ℕ → Next → Type 0
+MayPostNext c s block answer refused (PostMember sw id) = IsMemberPost c s sw id block answer refused
+MayPostNext c s block answer refused (EndSweep sw) = IsSweepPost sw block answer refused
+MayPostNext c s block answer refused next = ⊥
 
-abbrev pub MayPost : Configuration → State → ℕ → ReqResult → Option (List ℕ) → ℕ → Option Job → Type 0
-MayPost c s block r given refused (Some j) = IsPost c s j block r given refused
-MayPost c s block r given refused None = MayPostNext c block r given refused (next_of c s)
+abbrev pub MayPost : Configuration → State → ℕ → Answer → ℕ → Option Job → Type 0
+MayPost c s block answer refused (Some j) = IsPost c s j block answer refused
+MayPost c s block answer refused None = MayPostNext c s block answer refused (next_of c s)
 
 -- FOUND
-
--- a mark may stand in an instance: it is settled, or a job took it since
-abbrev pub MayStand : InstanceState → Mark → Type 0
-MayStand x mark = (mark ≡ x.settled) ⊎ Contains x.since mark
 
 -- what is found of each of these instances may stand there
 abbrev pub MayBeFound : List (Instance × Mark) → List InstanceState → Type 0
 MayBeFound marks [] = Unit {0}
-MayBeFound marks (x ∷ xs) = MayStand x (listed_mark marks x.instance) × MayBeFound marks xs
+MayBeFound marks (x ∷ xs) = MayStand x.cell (listed_mark marks x.instance) × MayBeFound marks xs
 
 -- the marks of these instances, without the erased ones
 abbrev pub marks_of : List InstanceState → List (Instance × Mark)
 marks_of [] = []
-marks_of (x ∷ xs) = listed x.instance x.settled (marks_of xs)
+marks_of (x ∷ xs) = listed x.instance x.cell.settled (marks_of xs)
 
 -- a content has the length of its block
 abbrev pub has_length : Configuration → Instance → Mark → Bool
@@ -178,10 +176,10 @@ pub record IsFound (c : Configuration) (cap : ℕ) (s : State) (marks : List (In
 -- this entry may come in this state
 abbrev pub IsAllowed : Configuration → ℕ → State → Entry → Type 0
 IsAllowed c cap s (Ask caller r reply) = IsAsk c cap s caller r reply
-IsAllowed c cap s (Pick block kind t ops) = IsDriverTime s ops × MayPick c s block kind t (next_of c s)
-IsAllowed c cap s (Wrote i mark ops) = IsDriverTime s ops × MayWrite c s i mark (job_in_hand s)
-IsAllowed c cap s (Post block r given refused ops) = IsDriverTime s ops × MayPost c s block r given refused (job_in_hand s)
-IsAllowed c cap s (Off ops) = IsDriverTime s ops
+IsAllowed c cap s (Pick block kind t ops) = IsDriving s ops × MayPick c s block kind t (next_of c s)
+IsAllowed c cap s (Wrote i mark ops) = IsDriving s ops × MayWrite c s i mark s.hand
+IsAllowed c cap s (Post block r given refused ops) = IsDriving s ops × MayPost c s block (r, given) refused s.hand
+IsAllowed c cap s (Off ops) = IsDriving s ops
 IsAllowed c cap s (Found marks ops) = IsFound c cap s marks ops
 
 -- these entries may come one after the other

@@ -10,6 +10,8 @@ pub mod Steps
 pub mod Legal
 pub mod History
 pub mod Prices
-pub mod Walk
-pub mod Callers
+pub mod Order
+pub mod ResultTable
+pub mod Accepted
+pub mod Cases
 pub mod Laws

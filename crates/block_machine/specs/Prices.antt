@@ -3,23 +3,23 @@ use Rattle.std.specs.Prelude.{ℕ, zero, suc, ◌+◌, ◌*◌, ◌==◌, List, 
 use Rattle.std.specs.Option.{option_and_then, option_map_or}
 use Rattle.block_machine.specs.Words.{JobKind, ReadJob, Taken, TookRefused, Entry, Post, BlockDesc, Configuration}
 use Rattle.block_machine.specs.State.{State, Job}
-use Rattle.block_machine.specs.Blocks.{desc_of, job_in_hand}
-use Rattle.block_machine.specs.Results.{Posted, failed_set}
+use Rattle.block_machine.specs.Blocks.{job_block, kind_of}
+use Rattle.block_machine.specs.Results.{Answer, Own, own_of, failed_set}
 use Rattle.block_machine.specs.StartUp.{at_first}
 use Rattle.block_machine.specs.Steps.{step}
 
 -- the tries of one device operation, the first and the configured further ones
-abbrev pub tries_of : BlockDesc → JobKind → ℕ
-tries_of d ReadJob = d.reads + 1
-tries_of d kind = d.writes + 1
+abbrev pub device_tries : BlockDesc → JobKind → ℕ
+device_tries d ReadJob = d.reads + 1
+device_tries d kind = d.writes + 1
 
 -- each instance of the failed set failed at every try
-abbrev pub faults_of : Configuration → State → Posted → Job → ℕ
-faults_of c s posted j = tries_of (desc_of c j.block) j.kind * length (unwrap_or (failed_set c s j posted) [])
+abbrev pub faults_of : Own → Answer → Job → ℕ
+faults_of o answer j = device_tries o.desc (kind_of j) * length (unwrap_or (failed_set o j answer) [])
 
 -- in faults, where no copy in was refused
 abbrev pub price_in_faults : Configuration → State → Entry → ℕ
-price_in_faults c s (Post block r given zero ops) = option_map_or (faults_of c s (r, given)) (job_in_hand s) 0
+price_in_faults c s (Post block r given zero ops) = option_map_or (λ j. faults_of (own_of c s (job_block j)) (r, given) j) s.hand 0
 price_in_faults c s e = 0
 
 -- the refused copies out of which a job's last Pick tells; of stale ones it tells none
@@ -29,7 +29,7 @@ refused_copies t = 0
 
 -- in refused copies: those in, else those out
 abbrev pub price_in_refusals : State → Entry → ℕ
-price_in_refusals s (Post block r given zero ops) = refused_copies (option_and_then (λ j. j.taken) (job_in_hand s))
+price_in_refusals s (Post block r given zero ops) = refused_copies (option_and_then (λ j. j.taken) s.hand)
 price_in_refusals s (Post block r given (suc n) ops) = suc n
 price_in_refusals s e = 0
 

@@ -2,53 +2,25 @@
 use Rattle.std.specs.Prelude.{ℕ, ◌+◌, ◌==◌, ◌&&◌, ◌||◌, not, nat_lt, nat_le, Bool, true, false, List, [], ◌∷◌, length, count_by, sum_by, find, is_none, if◌then◌else◌, Some, None}
 use Rattle.std.specs.Option.{option_map_or}
 use Rattle.block_machine.specs.Words.{Request, Read, Write, Restore, Erase, Invalidate, SetIndex, GetIndex, SetProtection, SetLock, SetRam, PutRam, Status, ReadAll, WriteAll, CancelWriteAll, Reply, Accepted, Refused, StatusIs, IndexIs, Refusal, UnknownBlock, NotStarted, WrongType, BadIndex, BadLength, NoRam, NoDefaults, NotImmediate, WriteOnce, MultiPending, BlockPending, Locked, Protected, RomIndex, NothingToCancel, QueueFull, HistoryFull, BlockDesc, RamKind, NoRamBlock, Configuration}
-use Rattle.block_machine.specs.State.{State, Job, Sweep}
-use Rattle.block_machine.specs.Blocks.{desc_of, block_at, status_of, is_pending, is_dataset, is_permanent, names_rom}
-use Rattle.block_machine.specs.Sweeps.{sweep_share, sweep_at, records_of}
+use Rattle.block_machine.specs.State.{State, Job, Sweep, jobs_of}
+use Rattle.block_machine.specs.Blocks.{desc_of, block_at, status_of, is_pending, is_dataset, is_permanent, names_rom, asked_block, job_kind, is_immediate, rank_of, records_by}
+use Rattle.block_machine.specs.Sweeps.{sweep_entries, sweep_at}
 
--- the block that a request names, or 0 where it names all
-abbrev pub asked_block : Request → ℕ
-asked_block (Read block ram) = block
-asked_block (Write block content store) = block
-asked_block (Restore block ram) = block
-asked_block (Erase block) = block
-asked_block (Invalidate block) = block
-asked_block (SetIndex block index) = block
-asked_block (GetIndex block) = block
-asked_block (SetProtection block on) = block
-asked_block (SetLock block on) = block
-asked_block (SetRam block on) = block
-asked_block (PutRam block content) = block
-asked_block (Status block) = block
-asked_block ReadAll = 0
-asked_block WriteAll = 0
-asked_block CancelWriteAll = 0
+-- RESERVED ENTRIES
 
 abbrev pub asked_desc : Configuration → Request → BlockDesc
 asked_desc c r = desc_of c (asked_block r)
 
--- a write of a block of priority 0 is immediate, and every other request is standard
-abbrev pub is_immediate : Configuration → Request → Bool
-is_immediate c (Write block content store) = (desc_of c block).priority == 0
-is_immediate c r = false
-
--- RESERVED ENTRIES
-
--- The entries that the request reserves, if it is accepted as entry n: for a job its Pick, a Wrote for each record and its
--- Post, and for an immediate write the second Pick and a repeated Wrote of the job that it may interrupt.
-abbrev pub needed : Configuration → ℕ → Request → ℕ
-needed c n (Read block ram) = 2
-needed c n (Restore block ram) = 2
-needed c n (Write block content store) = 2 + records_of c block + (if is_immediate c (Write block content store) then 2 else 0)
-needed c n (Erase block) = 2 + records_of c block
-needed c n (Invalidate block) = 2 + records_of c block
-needed c n ReadAll = sweep_share c (sweep_at c n false)
-needed c n WriteAll = sweep_share c (sweep_at c n true)
-needed c n r = 0
+-- The entries that a request reserves if it is accepted: for a job its Pick, a Wrote for each record and its Post, and for
+-- an immediate write the second Pick and a repeated Wrote of the job that it may interrupt.
+abbrev pub needed : Configuration → Request → ℕ
+needed c ReadAll = sweep_entries c (sweep_at c 0 false)
+needed c WriteAll = sweep_entries c (sweep_at c 0 true)
+needed c r = option_map_or (λ kind. 2 + records_by (asked_desc c r).kind kind + (if is_immediate c r then 2 else 0)) (job_kind r) 0
 
 -- all that are reserved: one for an Off while the power is on, those of the pending jobs, and those of the sweep
 abbrev pub reserved_entries : Configuration → State → ℕ
-reserved_entries c s = (if s.started && not s.off then 1 else 0) + sum_by (λ j. j.reserved) s.jobs + option_map_or (sweep_share c) s.sweep 0
+reserved_entries c s = (if s.started && not s.off then 1 else 0) + sum_by (λ j. j.reserved) (jobs_of s) + option_map_or (sweep_entries c) s.sweep 0
 
 -- so many more fit under the cap, beside the entries so far and the reserved ones
 abbrev pub fits : Configuration → ℕ → State → ℕ → Bool
@@ -62,8 +34,8 @@ has_no_ram ram = false
 
 -- as many jobs as this queue has room for were accepted and not yet picked
 abbrev pub is_queue_full : Configuration → List Job → Bool → Bool
-is_queue_full c jobs true = nat_le c.immediate (count_by (λ j. j.immediate && is_none j.taken) jobs)
-is_queue_full c jobs false = nat_le c.standard (count_by (λ j. not j.immediate && is_none j.taken) jobs)
+is_queue_full c jobs true = nat_le c.immediate (count_by (λ j. (rank_of c j).immediate && is_none j.taken) jobs)
+is_queue_full c jobs false = nat_le c.standard (count_by (λ j. not (rank_of c j).immediate && is_none j.taken) jobs)
 
 -- a WriteAll is pending that wasn't canceled
 abbrev pub can_cancel : Sweep → Bool
@@ -106,13 +78,13 @@ holds c cap s Locked r = (block_at s (asked_block r)).locked
 -- 13: the block is protected.
 holds c cap s Protected r = (block_at s (asked_block r)).protected
 -- 14: the block is a dataset whose index names ROM.
-holds c cap s RomIndex r = names_rom c s (asked_block r)
+holds c cap s RomIndex r = names_rom (asked_desc c r) (block_at s (asked_block r))
 -- 15: no WriteAll is pending, or it was canceled already.
 holds c cap s NothingToCancel r = not (option_map_or can_cancel s.sweep false)
 -- 16: as many jobs as the queue has room for were accepted and not yet picked.
-holds c cap s QueueFull r = is_queue_full c s.jobs (is_immediate c r)
+holds c cap s QueueFull r = is_queue_full c s.waiting (is_immediate c r)
 -- 17: this entry and those that the job reserves don't fit.
-holds c cap s HistoryFull r = not (fits c cap s (1 + needed c s.count r))
+holds c cap s HistoryFull r = not (fits c cap s (1 + needed c r))
 
 -- The refusals that each request is tested for, ascending.
 abbrev pub tested : Request → List Refusal
@@ -138,10 +110,10 @@ tested CancelWriteAll = NotStarted ∷ NothingToCancel ∷ []
 -- THE REPLY
 
 -- where nothing refuses the request
-abbrev pub granted : State → Request → Reply
-granted s (Status block) = StatusIs (status_of s block)
-granted s (GetIndex block) = IndexIs (block_at s block).index
-granted s r = Accepted
+abbrev pub answer_to : State → Request → Reply
+answer_to s (Status block) = StatusIs (status_of s block)
+answer_to s (GetIndex block) = IndexIs (block_at s block).index
+answer_to s r = Accepted
 
 abbrev pub reply_of : Configuration → ℕ → State → Request → Reply
-reply_of c cap s r = option_map_or Refused (find (λ x. holds c cap s x r) (tested r)) (granted s r)
+reply_of c cap s r = option_map_or Refused (find (λ x. holds c cap s x r) (tested r)) (answer_to s r)

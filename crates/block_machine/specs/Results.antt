@@ -1,82 +1,60 @@
--- The table of results: what a job is posted with, and what it gives.
-use Rattle.std.specs.Prelude.{ℕ, ◌-◌, ◌==◌, ◌&&◌, not, Bool, true, false, List, [], ◌∷◌, ◌++◌, length, map, filter, find, slice_get, if◌then◌else◌, Option, Some, None}
-use Rattle.std.specs.List.{list_any}
-use Rattle.std.specs.Option.{option_eq, option_map_or}
+-- What a job is posted with: the table of results over what its block is and holds, and the device operations that failed.
+use Rattle.std.specs.Prelude.{ℕ, ◌-◌, ◌==◌, ◌&&◌, not, Bool, true, false, List, [], ◌∷◌, ◌++◌, map, filter, find, slice_get, is_some, if◌then◌else◌, Option, Some, None}
+use Rattle.std.specs.Option.{option_eq, option_and_then}
 use Rattle.std.specs.Str.{bytes_eq}
 use Rattle.nv_base.specs.Result.{code_of}
-use Rattle.block_config.specs.Block.{id_bytes}
-use Rattle.block_machine.specs.Words.{ReqResult, Fine, NotOk, IntegrityFailed, BlockSkipped, Invalidated, RedundancyFailed, Restored, Mark, Content, Invalid, Erased, Taken, TookRefused, TookStale, JobKind, ReadJob, RestoreJob, BlockDesc, BlockKind, Native, Redundant, Dataset, Configuration}
-use Rattle.block_machine.specs.State.{State, Job, Sweep}
-use Rattle.block_machine.specs.Blocks.{desc_of, block_at, names_rom, indices_of, settled_at}
+use Rattle.block_machine.specs.Words.{ReqResult, NotOk, Restored, Mark, Content, Invalid, Erased, Taken, TookRefused, TookStale, JobKind, ReadJob, RestoreJob, Outcome, WroteMark, ReadContent, FoundErased, FoundInvalid, Failed, GivenFrom, FromNowhere, FromDevice, FromDefaults, FromRom, BlockDesc, Configuration}
+use Rattle.block_machine.specs.State.{State, BlockState, Job}
+use Rattle.block_machine.specs.Blocks.{desc_of, block_at, is_in, indices_of, settled_at, job_block, kind_of}
+use Rattle.block_machine.specs.ResultTable.{table, unpicked}
 
 -- a result, and the content that is given with it, if one is
-abbrev pub Posted : Type 0
-Posted = ReqResult × Option (List ℕ)
+abbrev pub Answer : Type 0
+Answer = ReqResult × Option (List ℕ)
 
--- the defaults with result 8, or nothing with this result where there are none
-abbrev pub defaults_or : Option (List ℕ) → ReqResult → Posted
-defaults_or (Some content) r = (Restored, Some content)
-defaults_or None r = (r, None)
+-- all that a result depends on, beside the job: its block's description and state, and the settled marks of the instances
+-- that it works on, by index
+pub record Own : Type 0 where
+  pub desc : BlockDesc
+  pub state : BlockState
+  pub marks : List (ℕ × Mark)
 
--- READS
+abbrev pub own_of : Configuration → State → ℕ → Own
+own_of c s id = record { desc = desc_of c id; state = block_at s id; marks = map (λ index. (index, settled_at s (record { block = id; index = index }))) (indices_of c s id) }
 
--- what the reads of an instance find: its mark, or nothing where they failed. Only a content can fail to be read.
-abbrev pub read_of : Mark → Bool → Option Mark
-read_of (Content content) true = None
-read_of mark failed = Some mark
+-- OUTCOMES
 
--- the result of reading one instance, with the block's defaults
-abbrev pub read_one : Option (List ℕ) → Option Mark → Posted
-read_one defaults (Some (Content content)) = (Fine, Some content)
-read_one defaults (Some Invalid) = (Invalidated, None)
-read_one defaults (Some Erased) = defaults_or defaults IntegrityFailed
-read_one defaults None = defaults_or defaults NotOk
+-- the outcome of a device operation, where it failed at every try or didn't. Only a content can fail to be read.
+abbrev pub outcome_of : JobKind → Mark → Bool → Outcome
+outcome_of ReadJob Invalid failed = FoundInvalid
+outcome_of ReadJob Erased failed = FoundErased
+outcome_of ReadJob (Content bytes) failed = if failed then Failed else ReadContent
+outcome_of kind mark failed = if failed then Failed else WroteMark
 
--- the result of reading copy 0 and, where that gave neither a content nor Invalid, copy 1
-abbrev pub read_copies : Option (List ℕ) → Option Mark → Option Mark → Posted
-read_copies defaults (Some (Content content)) copy_1 = (Fine, Some content)
-read_copies defaults (Some Invalid) copy_1 = (Invalidated, None)
-read_copies defaults (Some Erased) (Some (Content content)) = (Fine, Some content)
-read_copies defaults None (Some (Content content)) = (RedundancyFailed, Some content)
-read_copies defaults copy_0 (Some Invalid) = (Invalidated, None)
-read_copies defaults (Some Erased) (Some Erased) = defaults_or defaults IntegrityFailed
-read_copies defaults copy_0 copy_1 = defaults_or defaults NotOk
+-- those of a job whose operations failed on the instances of this set
+abbrev pub outcomes_of : JobKind → List (ℕ × Mark) → List ℕ → List Outcome
+outcomes_of kind marks failed = map (λ x. outcome_of kind x.1 (is_in failed x.0)) marks
 
--- what is found at an index of a block, where the reads at these indices failed
-abbrev pub found_at : State → ℕ → List ℕ → ℕ → Option Mark
-found_at s id failed index = read_of (settled_at s id index) (list_any (λ i. i == index) failed)
+-- WHAT IS GIVEN
 
-abbrev pub read_stored : State → ℕ → BlockDesc → BlockKind → List ℕ → Posted
-read_stored s id d Native failed = read_one d.defaults (found_at s id failed 0)
-read_stored s id d Redundant failed = read_copies d.defaults (found_at s id failed 0) (found_at s id failed 1)
-read_stored s id d Dataset failed = read_one d.defaults (found_at s id failed (block_at s id).index)
+abbrev pub content_of : Mark → Option (List ℕ)
+content_of (Content bytes) = Some bytes
+content_of mark = None
 
--- a ROM dataset is given as it is
-abbrev pub read_block : Configuration → State → ℕ → List ℕ → Posted
-read_block c s id failed =
-    let d = desc_of c id in
-    if names_rom c s id then (Fine, slice_get d.rom ((block_at s id).index - d.nv)) else read_stored s id d d.kind failed
+-- what the device gave: the first content whose read didn't fail
+abbrev pub device_content : List (ℕ × Mark) → List ℕ → Option (List ℕ)
+device_content marks failed = option_and_then (λ x. content_of x.1) (find (λ x. is_some (content_of x.1) && not (is_in failed x.0)) marks)
 
--- in a ReadAll block 1 is posted as read where it gives the configuration id, and else is restored to it
-abbrev pub checked_id : List ℕ → Posted → Posted
-checked_id id (r, Some content) = if bytes_eq content id then (r, Some content) else (Restored, Some id)
-checked_id id (r, None) = (Restored, Some id)
+abbrev pub given_by : Own → List ℕ → GivenFrom → Option (List ℕ)
+given_by o failed FromNowhere = None
+given_by o failed FromDevice = device_content o.marks failed
+given_by o failed FromDefaults = o.desc.defaults
+given_by o failed FromRom = slice_get o.desc.rom (o.state.index - o.desc.nv)
 
-abbrev pub read_result : Configuration → State → ℕ → List ℕ → Posted
-read_result c s id failed =
-    let read = read_block c s id failed in
-    if (id == 1) && option_map_or (λ sw. sw.under_way) s.sweep false then checked_id (id_bytes c.id) read else read
+abbrev pub with_content : Own → List ℕ → ReqResult × GivenFrom → Answer
+with_content o failed e = (e.0, given_by o failed e.1)
 
--- WRITES
-
--- the instances of the job that have no Wrote since its last Pick
-abbrev pub unwritten : Configuration → State → Job → List ℕ
-unwritten c s j = filter (λ index. not (list_any (λ i. i == index) j.written)) (indices_of c s j.block)
-
--- none of the instances failed, all of them, or one of two
-abbrev pub write_result : List ℕ → List ℕ → ReqResult
-write_result indices failed =
-    if length failed == 0 then Fine else (if length failed == length indices then NotOk else RedundancyFailed)
+-- RESULTS
 
 -- a RAM write whose last Pick got no content, since every copy out was refused or stale
 abbrev pub took_none : Option Taken → Bool
@@ -84,20 +62,27 @@ took_none (Some (TookRefused count)) = true
 took_none (Some (TookStale asked got count)) = true
 took_none t = false
 
--- THE TABLE
+-- Block 1 holds the configuration id, which is its defaults too. In a ReadAll it is posted as read where it gives just
+-- that id, and else is restored to it.
+abbrev pub checked_id : Option (List ℕ) → Answer → Answer
+checked_id id (r, given) = if option_eq bytes_eq given id then (r, given) else (Restored, id)
 
--- what a job of this kind is posted with, where the operations on these instances failed
-abbrev pub result_by : Configuration → State → Job → JobKind → List ℕ → Posted
-result_by c s j ReadJob failed = read_result c s j.block failed
-result_by c s j RestoreJob failed = (Fine, (desc_of c j.block).defaults)
-result_by c s j kind failed = (if took_none j.taken then NotOk else write_result (indices_of c s j.block) failed, None)
+abbrev pub checks_id : Job → JobKind → Bool
+checks_id j ReadJob = j.member && (job_block j == 1)
+checks_id j kind = false
 
-abbrev pub result_of : Configuration → State → Job → List ℕ → Posted
-result_of c s j failed = result_by c s j j.kind failed
+abbrev pub result_by : Own → Job → JobKind → List ℕ → Answer
+result_by o j kind failed =
+    let a = with_content o failed (table (is_some o.desc.defaults) kind (outcomes_of kind o.marks failed)) in
+    if took_none j.taken then (NotOk, None) else (if checks_id j kind then checked_id o.desc.defaults a else a)
 
--- what a member is posted with that isn't picked: a WriteAll skips it, a ReadAll gives its defaults where it has some
-abbrev pub skipped_result : Configuration → Sweep → ℕ → Posted
-skipped_result c sw id = if sw.writes then (BlockSkipped, None) else defaults_or (desc_of c id).defaults IntegrityFailed
+-- what a job is posted with, where the operations on these instances failed
+abbrev pub result_of : Own → Job → List ℕ → Answer
+result_of o j failed = result_by o j (kind_of j) failed
+
+-- what a member is posted with that isn't picked
+abbrev pub unpicked_result : Own → Bool → Answer
+unpicked_result o writes = with_content o [] (unpicked writes (is_some o.desc.defaults))
 
 -- THE FAILED SET
 
@@ -106,16 +91,23 @@ abbrev pub sets_of : List ℕ → List (List ℕ)
 sets_of [] = [] ∷ []
 sets_of (x ∷ xs) = sets_of xs ++ map (λ ys. x ∷ ys) (sets_of xs)
 
+abbrev pub own_indices : Own → List ℕ
+own_indices o = map (λ x. x.0) o.marks
+
+-- the instances of the job that have no Wrote since its last Pick
+abbrev pub unwritten : Own → Job → List ℕ
+unwritten o j = filter (λ index. not (is_in j.written index)) (own_indices o)
+
 -- The failed sets that the history leaves open: of a read any, of a write, invalidate or erase the instances that weren't
 -- written, and of a job without an operation of the device none.
-abbrev pub open_sets : Configuration → State → Job → JobKind → List (List ℕ)
-open_sets c s j ReadJob = sets_of (indices_of c s j.block)
-open_sets c s j RestoreJob = [] ∷ []
-open_sets c s j kind = (if took_none j.taken then [] else unwritten c s j) ∷ []
+abbrev pub open_sets : Own → Job → JobKind → List (List ℕ)
+open_sets o j ReadJob = sets_of (own_indices o)
+open_sets o j RestoreJob = [] ∷ []
+open_sets o j kind = (if took_none j.taken then [] else unwritten o j) ∷ []
 
-abbrev pub same_posted : Posted → Posted → Bool
-same_posted a b = (code_of a.0 == code_of b.0) && option_eq bytes_eq a.1 b.1
+abbrev pub same_answer : Answer → Answer → Bool
+same_answer a b = (code_of a.0 == code_of b.0) && option_eq bytes_eq a.1 b.1
 
 -- the least failed set that explains what a job is posted with, if one does
-abbrev pub failed_set : Configuration → State → Job → Posted → Option (List ℕ)
-failed_set c s j posted = find (λ failed. same_posted (result_of c s j failed) posted) (open_sets c s j j.kind)
+abbrev pub failed_set : Own → Job → Answer → Option (List ℕ)
+failed_set o j answer = find (λ failed. same_answer (result_of o j failed) answer) (open_sets o j (kind_of j))

@@ -1,23 +1,24 @@
 -- The state before the first start-up, and the state that a start-up leaves.
 use Rattle.std.specs.Prelude.{ℕ, ◌==◌, true, false, List, [], ◌∷◌, map, find, replicate, unwrap_or, option_map, if◌then◌else◌, None}
 use Rattle.std.specs.List.{list_any, enumerate_from}
+use Rattle.nv_base.specs.Cell.{settled_as}
 use Rattle.nv_base.specs.Marks.{instance_of}
 use Rattle.block_config.specs.Lengths.{lengths_of}
 use Rattle.block_machine.specs.Words.{Fine, Instance, Mark, Erased, BlockDesc, Configuration}
 use Rattle.block_machine.specs.State.{State, BlockState, InstanceState}
-use Rattle.block_machine.specs.Blocks.{untouched, keeps_ram, is_instance}
+use Rattle.block_machine.specs.Blocks.{no_block, keeps_ram, same_instance}
 
 -- before the first start-up there is nothing
 abbrev pub at_first : State
-at_first = record { started = false; off = false; count = 0; ops = 0; blocks = []; instances = []; jobs = []; hand = None; sweep = None }
+at_first = record { started = false; off = false; count = 0; ops = 0; blocks = []; instances = []; waiting = []; hand = None; sweep = None }
 
 -- the mark that is listed for an instance, or Erased where none is
 abbrev pub listed_mark : List (Instance × Mark) → Instance → Mark
-listed_mark marks i = unwrap_or (option_map (λ x. x.1) (find (λ x. is_instance i.block i.index x.0) marks)) Erased
+listed_mark marks i = unwrap_or (option_map (λ x. x.1) (find (λ x. same_instance i x.0) marks)) Erased
 
 -- an instance is settled at what was found
 abbrev pub found_instance : List (Instance × Mark) → Instance → InstanceState
-found_instance marks i = record { instance = i; settled = listed_mark marks i; since = [] }
+found_instance marks i = record { instance = i; cell = settled_as (listed_mark marks i) }
 
 -- all configured instances
 abbrev pub found_instances : Configuration → List (Instance × Mark) → List InstanceState
@@ -43,9 +44,9 @@ started_with c s marks = record {
   off = false;
   count = s.count;
   ops = s.ops;
-  blocks = untouched ∷ map (λ x. started_block c marks x.0 x.1) (enumerate_from 1 c.blocks);
+  blocks = no_block ∷ map (λ x. started_block c marks x.0 x.1) (enumerate_from 1 c.blocks);
   instances = found_instances c marks;
-  jobs = [];
+  waiting = [];
   hand = None;
   sweep = None;
 }

@@ -1,6 +1,7 @@
 -- The state of the block machine: what the NVRAM Manager is, without its queues, its device and its flash.
-use Rattle.std.specs.Prelude.{ℕ, Bool, List, Option}
-use Rattle.block_machine.specs.Words.{ReqResult, JobKind, Instance, Mark, Taken}
+use Rattle.std.specs.Prelude.{ℕ, Bool, List, ◌++◌, option_to_list, Option}
+use Rattle.nv_base.specs.Cell.{Cell}
+use Rattle.block_machine.specs.Words.{ReqResult, Request, Instance, Taken}
 
 -- A block. Id 0 stands for the requests on all blocks, and of it only the status means something.
 pub record BlockState : Type 0 where
@@ -15,27 +16,21 @@ pub record BlockState : Type 0 where
   pub valid : Bool
   pub changed : Bool
 
--- A stored instance: the mark that it holds for certain, and the marks that jobs took for it since that one was settled.
+-- A stored instance: the mark that it holds for certain, and beside it those that jobs took for it since that one was settled.
 pub record InstanceState : Type 0 where
   pub instance : Instance
-  pub settled : Mark
-  pub since : List Mark
+  pub cell : Cell
 
 -- A job on one block, from the acceptance of its request, or as a member of a sweep from its Pick, to its Post.
 pub record Job : Type 0 where
   -- the number of the entry that accepted its request; of a member, that of the request on all blocks
   pub number : ℕ
-  pub block : ℕ
-  pub kind : JobKind
-  -- it names RAM, and not a buffer of the caller
-  pub ram : Bool
-  -- it is a write of a block of priority 0, and no member of a sweep
-  pub immediate : Bool
-  pub priority : ℕ
+  -- what was asked for; for a member a read to RAM, or a write of RAM
+  pub request : Request
+  -- it is a member of a sweep
+  pub member : Bool
   -- of a write: what it writes, with the number of its store. A write that names RAM has none before it took one.
   pub content : Option (List ℕ × ℕ)
-  -- of a write of synchronized RAM: the caller's last store
-  pub store : ℕ
   -- the entries that are still reserved for it
   pub reserved : ℕ
   -- what its last Pick took; none before the first
@@ -73,7 +68,11 @@ pub record State : Type 0 where
   pub blocks : List BlockState
   -- ascending by device number
   pub instances : List InstanceState
-  -- all jobs on one block that are pending, in the order of their acceptance; and which of them is in hand
-  pub jobs : List Job
-  pub hand : Option ℕ
+  -- the jobs on one block that wait, and the one in hand
+  pub waiting : List Job
+  pub hand : Option Job
   pub sweep : Option Sweep
+
+-- all jobs on one block that are pending
+abbrev pub jobs_of : State → List Job
+jobs_of s = option_to_list s.hand ++ s.waiting

@@ -13,6 +13,10 @@ pub use Rattle.nv_base.specs.declared.request.Refusal.{Refusal}
 pub use Rattle.nv_base.specs.declared.request.Refusal.TheVariants.{UnknownBlock, NotStarted, WrongType, BadIndex, BadLength, NoRam, NoDefaults, NotImmediate, WriteOnce, MultiPending, Pending as BlockPending, Locked, Protected, RomIndex, NothingToCancel, QueueFull, HistoryFull}
 pub use Rattle.nv_base.specs.declared.request.JobKind.{JobKind}
 pub use Rattle.nv_base.specs.declared.request.JobKind.TheVariants.{Read as ReadJob, Write as WriteJob, Restore as RestoreJob, Erase as EraseJob, Invalidate as InvalidateJob, ReadAll as ReadAllJob, WriteAll as WriteAllJob}
+pub use Rattle.nv_base.specs.declared.job.Outcome.{Outcome}
+pub use Rattle.nv_base.specs.declared.job.Outcome.TheVariants.{Wrote as WroteMark, Read as ReadContent, Inconsistent as FoundErased, Invalid as FoundInvalid, Failed}
+pub use Rattle.nv_base.specs.declared.job.GivenFrom.{GivenFrom}
+pub use Rattle.nv_base.specs.declared.job.GivenFrom.TheVariants.{Nothing as FromNowhere, Device as FromDevice, Defaults as FromDefaults, Rom as FromRom}
 pub use Rattle.nv_base.specs.declared.entry.Taken.{Taken}
 pub use Rattle.nv_base.specs.declared.entry.Taken.TheVariants.{Nothing as TookNothing, Content as TookContent, Refused as TookRefused, Stale as TookStale}
 pub use Rattle.nv_base.specs.declared.entry.Entry.{Entry}

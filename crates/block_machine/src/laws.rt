@@ -1,12 +1,12 @@
 // Laws of the block machine.
-ghost use Rattle.block_machine.specs.Laws.{HistoriesStep, HistoriesStayLegal, EntriesAreCounted, AsksAreLocal, LateEntriesAreCutOff, EarlyEntriesAreKept, FailedSetsAreLeast, TextsTellLegalHistories};
+ghost use Rattle.block_machine.specs.Laws.{HistoriesStep, HistoriesGoOn, HistoriesStayLegal, BeginningsAreLegal, EntriesAreCounted, AsksAreLocal, LateEntriesAreCutOff, EarlyEntriesAreKept, UpToIsABeginning, FailedSetsAreLeast};
 
-use nvm_script::one_entry;
-
-/// How a history grows by one entry.
+/// How a history grows.
 pub fn histories_grow()
     ensures steps { HistoriesStep }
+    ensures goes_on { HistoriesGoOn }
     ensures stays_legal { HistoriesStayLegal }
+    ensures begins_legal { BeginningsAreLegal }
     ensures counted { EntriesAreCounted }
 {}
 
@@ -19,16 +19,10 @@ pub fn asks_are_local()
 pub fn entries_come_in_time_or_late()
     ensures late { LateEntriesAreCutOff }
     ensures early { EarlyEntriesAreKept }
+    ensures beginning { UpToIsABeginning }
 {}
 
 /// Each failure of the device has an explanation, and none that is dearer than it was.
 pub fn failures_are_explained()
     ensures { FailedSetsAreLeast }
 {}
-
-/// The text of a legal history tells the history.
-pub fn texts_tell_histories()
-    ensures { TextsTellLegalHistories }
-{
-    one_entry();
-}

@@ -1,14 +1,23 @@
 //! The block machine: what the NVRAM Manager is, as a state and a history of entries, in which everything about blocks is claimed.
-//!
-//! It has definitions and no machinery, and promises a few laws of them. That they agree with the worked cases, and refuse
-//! histories that no run may have, is shown in `machine_cases`; that a program's history is legal is left to the crates that
-//! make one. Read in `specs/`, in this order: `State`, `Blocks`, `Sweeps`, `Reply`, `Next`, `Results`, `StartUp`, `Steps`,
-//! `Legal`, `History`, `Prices`, `Walk`, `Callers`.
 #![tactic(auto)]
 
 mod laws;
+mod table_cases;
+mod worked_cases;
+mod wrong_cases;
 
 pub use laws::{
     asks_are_local, entries_come_in_time_or_late, failures_are_explained, histories_grow,
-    texts_tell_histories,
+};
+pub use table_cases::{
+    entries_are_reserved, jobs_in_order, ram_by_the_table, requests_are_refused_by_the_table,
+    results_by_the_table, sweeps_by_their_members,
+};
+pub use worked_cases::{
+    cases_of_order_are_legal, cases_of_ram_are_legal, cases_with_faults_are_legal,
+    corner_cases_are_legal, failures_have_their_price, marks_at_a_cut, simple_cases_are_legal,
+};
+pub use wrong_cases::{
+    wrong_copies_are_refuted, wrong_jobs_are_refuted, wrong_posts_are_refuted,
+    wrong_replies_are_refuted, wrong_start_ups_are_refuted, wrong_sweeps_are_refuted,
 };

@@ -6,3 +6,6 @@ returns-clause-late c = law.late_entries
 
 pub returns-clause-early : goal.returns-clause-early
 returns-clause-early c = law.early_entries
+
+pub returns-clause-beginning : goal.returns-clause-beginning
+returns-clause-beginning c = law.up_to_is_a_beginning

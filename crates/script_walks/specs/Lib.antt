@@ -1,0 +1,4 @@
+pub mod Walk
+pub mod Callers
+pub mod Texts
+pub mod Cases

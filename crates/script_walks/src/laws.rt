@@ -1,0 +1,20 @@
+// Laws of walks and texts.
+ghost use Rattle.script_walks.specs.Walk.{WalksGrow};
+ghost use Rattle.script_walks.specs.Texts.{TextsTellLegalHistories};
+
+use block_machine::histories_grow;
+use nvm_script::one_entry;
+
+/// A walk with the piece of one more step behind it is a walk.
+pub fn walks_grow()
+    ensures { WalksGrow }
+{
+    histories_grow();
+}
+
+/// The text of a legal history tells the history.
+pub fn texts_tell_histories()
+    ensures { TextsTellLegalHistories }
+{
+    one_entry();
+}

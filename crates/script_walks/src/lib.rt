@@ -1,0 +1,13 @@
+//! Scripts and histories: which histories a script may have, in `play` and in `run`.
+#![tactic(auto)]
+
+mod cases;
+mod laws;
+mod run_cases;
+
+pub use cases::{
+    cases_of_order_are_walks, cases_of_ram_are_walks, cases_with_faults_are_walks,
+    simple_cases_are_walks,
+};
+pub use laws::{texts_tell_histories, walks_grow};
+pub use run_cases::{runs_keep_the_callers_order, walks_take_stores, wrong_walks_are_refuted};
