@@ -1,2 +1,3 @@
 pub mod FailedSets
 pub mod HistoryLaws
+pub mod NextLaws

@@ -1,11 +1,16 @@
 -- Laws of the block machine.
-use Rattle.std.specs.Prelude.{◌≡◌, ◌≢◌, ℕ, true, false, List, [], ◌∷◌, ◌++◌, length, ◌≤◌, Contains, IsSome, unwrap_or}
-use Rattle.block_machine.specs.Words.{Request, Reply, Entry, Ask, Configuration}
-use Rattle.block_machine.specs.State.{State, Job}
-use Rattle.block_machine.specs.Blocks.{block_at, asked_block, job_block, kind_of}
+use Rattle.std.specs.Prelude.{◌≡◌, ◌≢◌, ◌↔◌, ℕ, ◌+◌, ◌-◌, true, false, List, [], ◌∷◌, ◌++◌, length, ◌≤◌, Contains, IsSome, is_some, unwrap_or, if◌then◌else◌, Option, Some, None}
+use Rattle.block_machine.specs.Words.{ReqResult, Instance, Mark, Request, Reply, Accepted, Refusal, JobKind, Taken, Entry, Ask, Pick, Wrote, Post, Found, Configuration}
+use Rattle.block_machine.specs.State.{State, Job, Sweep}
+use Rattle.block_machine.specs.Order.{goes_before}
+use Rattle.block_machine.specs.Blocks.{block_at, asked_block, job_block, kind_of, rank_of}
+use Rattle.block_machine.specs.Sweeps.{member_job}
+use Rattle.block_machine.specs.Reply.{reserved_entries, fits, holds, tested, reply_of}
+use Rattle.block_machine.specs.Next.{PickJob, PickMember, next_in, next_of}
 use Rattle.block_machine.specs.Results.{own_of, result_of, open_sets, failed_set}
-use Rattle.block_machine.specs.Steps.{step, after, after_from}
-use Rattle.block_machine.specs.Legal.{IsAllowed, IsLegal}
+use Rattle.block_machine.specs.StartUp.{found_instances}
+use Rattle.block_machine.specs.Steps.{step, after, after_from, picked_job}
+use Rattle.block_machine.specs.Legal.{IsAllowed, IsLegal, marks_of}
 use Rattle.block_machine.specs.History.{is_driver_until, up_to}
 
 -- HISTORIES
@@ -59,3 +64,48 @@ abbrev pub FailedSetsAreLeast : Type 0
 FailedSetsAreLeast =
     (c : Configuration) (s : State) (j : Job) (failed : List ℕ) → let o = own_of c s (job_block j) in
     Contains (open_sets o j (kind_of j)) failed → IsSome (failed_set o j (result_of o j failed)) × (length (unwrap_or (failed_set o j (result_of o j failed)) []) ≤ length failed)
+
+-- REPLIES
+
+-- an accepted request has passed each test of its row
+abbrev pub AcceptedPass : Type 0
+AcceptedPass = (c : Configuration) (cap : ℕ) (s : State) (r : Request) (x : Refusal) → reply_of c cap s r ≡ Accepted → Contains (tested r) x → holds c cap s x r ≡ false
+
+-- so many entries more have room beside those so far and the reserved ones
+abbrev pub FittingHasRoom : Type 0
+FittingHasRoom = (c : Configuration) (cap : ℕ) (s : State) (more : ℕ) → (fits c cap s more ≡ true) ↔ (s.count + reserved_entries c s + more ≤ cap)
+
+-- THE NEXT JOB AND THE JOB IN HAND
+
+-- the next job is one of those that wait
+abbrev pub NextIsWaiting : Type 0
+NextIsWaiting = (c : Configuration) (jobs : List Job) (j : Job) → next_in c jobs ≡ Some j → (before after : List Job) × (jobs ≡ before ++ j ∷ after)
+
+-- and none of them goes before it
+abbrev pub NextGoesFirst : Type 0
+NextGoesFirst = (c : Configuration) (jobs : List Job) (j x : Job) → next_in c jobs ≡ Some j → Contains jobs x → goes_before (rank_of c x) (rank_of c j) ≡ false
+
+-- where there is none, no job waits
+abbrev pub NoneWaits : Type 0
+NoneWaits = (c : Configuration) (jobs : List Job) → next_in c jobs ≡ None → jobs ≡ []
+
+-- a Pick takes the next job in hand, one of a member the member
+abbrev pub PickTakesInHand : Type 0
+PickTakesInHand =
+    (c : Configuration) (s : State) (j : Job) (sw : Sweep) (id block ops : ℕ) (kind : JobKind) (t : Taken)
+    → (next_of c s ≡ PickJob j → (step c s (Pick block kind t ops)).hand ≡ Some (picked_job t (if is_some s.hand then 2 else 0) j))
+    × (next_of c s ≡ PickMember sw id → (step c s (Pick block kind t ops)).hand ≡ Some (picked_job t (if is_some s.hand then 2 else 0) (member_job c sw id)))
+
+-- a Wrote uses an entry of the job in hand, and a Post ends it
+abbrev pub EntriesOfTheJobInHand : Type 0
+EntriesOfTheJobInHand =
+    (c : Configuration) (s : State) (j : Job) (i : Instance) (mark : Mark) (block refused ops : ℕ) (r : ReqResult) (given : Option (List ℕ)) → s.hand ≡ Some j
+    → ((step c s (Wrote i mark ops)).hand ≡ Some (record j { reserved = j.reserved - 1; written = j.written ++ i.index ∷ [] })) × ((step c s (Post block r given refused ops)).hand ≡ None)
+
+-- START-UP
+
+-- what a start-up lists is what is settled behind it
+abbrev pub FoundIsSettled : Type 0
+FoundIsSettled =
+    (c : Configuration) (cap : ℕ) (s : State) (marks : List (Instance × Mark)) (ops : ℕ) → IsAllowed c cap s (Found marks ops)
+    → (marks ≡ marks_of (step c s (Found marks ops)).instances) × ((step c s (Found marks ops)).instances ≡ found_instances c marks)

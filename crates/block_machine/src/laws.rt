@@ -1,5 +1,5 @@
 // Laws of the block machine.
-ghost use Rattle.block_machine.specs.Laws.{HistoriesStep, HistoriesGoOn, HistoriesStayLegal, BeginningsAreLegal, EntriesAreCounted, AsksAreLocal, LateEntriesAreCutOff, EarlyEntriesAreKept, UpToIsABeginning, FailedSetsAreLeast};
+ghost use Rattle.block_machine.specs.Laws.{HistoriesStep, HistoriesGoOn, HistoriesStayLegal, BeginningsAreLegal, EntriesAreCounted, AsksAreLocal, LateEntriesAreCutOff, EarlyEntriesAreKept, UpToIsABeginning, FailedSetsAreLeast, AcceptedPass, FittingHasRoom, NextIsWaiting, NextGoesFirst, NoneWaits, PickTakesInHand, EntriesOfTheJobInHand, FoundIsSettled};
 
 /// How a history grows.
 pub fn histories_grow()
@@ -25,4 +25,28 @@ pub fn entries_come_in_time_or_late()
 /// Each failure of the device has an explanation, and none that is dearer than it was.
 pub fn failures_are_explained()
     ensures { FailedSetsAreLeast }
+{}
+
+/// What a reply that accepts tells, and what room means.
+pub fn accepted_requests_pass()
+    ensures pass { AcceptedPass }
+    ensures room { FittingHasRoom }
+{}
+
+/// The next job waits, and none that waits goes before it.
+pub fn the_next_job_goes_first()
+    ensures waits { NextIsWaiting }
+    ensures first { NextGoesFirst }
+    ensures none { NoneWaits }
+{}
+
+/// The job in hand after a Pick, a Wrote and a Post.
+pub fn a_pick_takes_in_hand()
+    ensures picks { PickTakesInHand }
+    ensures goes_on { EntriesOfTheJobInHand }
+{}
+
+/// A start-up settles what it lists.
+pub fn what_is_found_is_settled()
+    ensures { FoundIsSettled }
 {}

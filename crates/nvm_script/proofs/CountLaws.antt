@@ -13,8 +13,7 @@ use Rattle.nv_base.specs.declared.entry.Entry.{Entry}
 use Rattle.nv_base.specs.declared.entry.Entry.TheVariants.{Ask, Post}
 use Rattle.nvm_script.specs.declared.counts.Counts.{Counts}
 use Rattle.nvm_script.specs.Counts.{AreCounts, HasRoom, one_more}
-use Rattle.nvm_script.specs.Summary.{is_ask, is_refused, is_post, is_post_with, last_ops}
-use Rattle.nv_base.specs.Entry.{ops_of}
+use Rattle.nvm_script.specs.Summary.{is_ask, is_refused, is_post, is_post_with, ops_of, last_ops}
 
 pub code_small : (r : ReqResult) → code_of r < 9
 code_small outcome.Fine = omega arith

@@ -3,7 +3,6 @@ use Rattle.std.specs.Prelude.{ℕ, ◌==◌, Bool, true, false, List, ◌++◌, 
 use Rattle.std.specs.List.{count_by, fold, flat_map, range_with_len}
 use Rattle.std.specs.Fmt.{decimal}
 use Rattle.nv_base.specs.Result.{code_of}
-use Rattle.nv_base.specs.Entry.{ops_of}
 use Rattle.nv_base.specs.declared.request.Reply.TheVariants.{Refused}
 pub use Rattle.nv_base.specs.Entry.{ops_of}
 use Rattle.nv_base.specs.declared.entry.Entry.{Entry}
