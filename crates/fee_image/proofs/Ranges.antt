@@ -37,7 +37,7 @@ page_same p q j old new out other = elim (cases_order j q) [
 -- PROGRAMS
 pub programs_touch_their_bank : ProgramsTouchTheirBank
 programs_touch_their_bank b old new page q size leaves j lt other =
-    page_same b.page (b.at + q) (b.at + j) old new (subst (λ (n : ℕ). SameOutside (place_of_page b q) n old new) size leaves) (λ same. other (omega arith))
+    page_same b.page (b.at + q) (b.at + j) old new (subst (λ (n : ℕ). SameOutside (place_of_page b q) n old new) size leaves.0) (λ same. other (omega arith))
 
 -- pages of different banks, or different pages of one, have different places
 below_next : (B j i k q : ℕ) → j < k → i < B → j * B + i < k * B + q
@@ -56,7 +56,7 @@ places_differ B j i k q lt lt2 other e = elim (cases_order j k) [
 pub programs_touch_one_page : ProgramsTouchOnePage
 programs_touch_one_page l old new page k q j i size leaves lt lt2 other =
     page_same l.page (k * l.pages + q) (j * l.pages + i) old new
-    (subst (λ (n : ℕ). SameOutside ((k * l.pages + q) * l.page) n old new) size leaves)
+    (subst (λ (n : ℕ). SameOutside ((k * l.pages + q) * l.page) n old new) size leaves.0)
     (places_differ l.pages j i k q lt2 lt other)
 
 -- as the two first pages of a bank were

@@ -12,13 +12,14 @@ use Rattle.fee_image.specs.Image.{Layout, layout_of, IsFoundIn, AreFound}
 use Rattle.fee_image.specs.Laws.{BlankHasErased, FoundComputes}
 use Rattle.block_machine.specs.Words.{Instance, Mark, Entry, Found}
 use Rattle.block_machine.specs.State.{InstanceState}
-use Rattle.block_machine.specs.Blocks.{is_instance, instance_at}
+use Rattle.block_machine.specs.Blocks.{same_instance, instance_at}
 use Rattle.nv_base.specs.Marks.{instance_of}
 use Rattle.block_machine.specs.Steps.{after}
-use Rattle.block_machine.specs.Legal.{MayStand}
+use Rattle.nv_base.specs.Cell.{MayStand}
 use Rattle.block_machine.specs.History.{MayStandIn, IsAllowedAt, up_to}
 use Rattle.nvm_top.specs.Operations.{IsKnown, AreItsOperations}
-use Rattle.nvm_top.specs.Marks.{ListsFound, Acknowledges, IsAccepted, IsNotOlder, ExitIsKept}
+use Rattle.block_machine.specs.Accepted.{IsAccepted, IsNotOlder}
+use Rattle.nvm_top.specs.Marks.{ListsFound, ExitIsKept}
 use Rattle.nvm_top.specs.Causes.{RefusalsExplain}
 use Rattle.nvm_top.specs.Headline.{Headline}
 use Rattle.nvm_top.specs.HeadlineCases.{blank_start}
@@ -38,12 +39,12 @@ known_operations known = record {
 -- THE MARKS: ALL ARE ERASED
 abbrev AreErased : List InstanceState → Type 0
 AreErased [] = Unit {0}
-AreErased (x ∷ xs) = ((x.settled ≡ Erased) × (x.since ≡ [])) × AreErased xs
+AreErased (x ∷ xs) = ((x.cell.settled ≡ Erased) × (x.cell.doubts ≡ [])) × AreErased xs
 
 none_in : (mark : Mark) → Contains [] mark → ⊥
 none_in mark (k, small, is) = omega (arith, small)
 
-stands_erased : (x : InstanceState) (mark : Mark) → x.settled ≡ Erased → x.since ≡ [] → MayStand x mark → mark ≡ Erased
+stands_erased : (x : InstanceState) (mark : Mark) → x.cell.settled ≡ Erased → x.cell.doubts ≡ [] → MayStand x.cell mark → mark ≡ Erased
 stands_erased x mark settled since (inl is) = is ∙ settled
 stands_erased x mark settled since (inr has) = absurd (none_in mark (subst (λ (ms : List Mark). Contains ms mark) since has))
 
@@ -63,29 +64,23 @@ up_to_first k = ap (λ (b : Bool). cond (b || false) (first ∷ []) []) (leb-zer
 
 allowed_is_erased : (k : ℕ) (i : Instance) (mark : Mark) → IsAllowedAt demo_config (first ∷ []) k i mark → mark ≡ Erased
 allowed_is_erased k i mark may =
-    erased_at (after demo_config (first ∷ [])).instances (λ x. is_instance i.block i.index x.instance) mark are_erased
-    (subst (λ (h : List Entry). MayStandIn (instance_at (after demo_config h) i.block i.index) mark) (up_to_first k) may)
+    erased_at (after demo_config (first ∷ [])).instances (λ x. same_instance i x.instance) mark are_erased
+    (subst (λ (h : List Entry). MayStandIn (instance_at (after demo_config h) i) mark) (up_to_first k) may)
 
 erased_accepted : (i : Instance) → IsAccepted demo_config (first ∷ []) i Erased
-erased_accepted i = record { whole = refl; entry = first; before = (0, omega arith, refl); brings = refl }
+erased_accepted i = record { whole = refl; brought = inl refl }
 
 accepted : (k : ℕ) (i : Instance) (mark : Mark) → IsAllowedAt demo_config (first ∷ []) k i mark → IsAccepted demo_config (up_to k (first ∷ [])) i mark
 accepted k i mark may =
     subst (λ (h : List Entry). IsAccepted demo_config h i mark) (sym (up_to_first k))
     (subst (λ (m : Mark). IsAccepted demo_config (first ∷ []) i m) (sym (allowed_is_erased k i mark may)) (erased_accepted i))
 
-heads_same : {x y : Entry} {xs ys : List Entry} → (x ∷ xs) ≡ (y ∷ ys) → x ≡ y
-heads_same is = cc is
-
--- nothing was acknowledged
-none_older : (i : Instance) (mark : Mark) → IsNotOlder demo_config (first ∷ []) i mark
-none_older i mark [] behind e acknowledged is told =
-    absurd (subst (λ (x : Entry). Acknowledges demo_config (after demo_config []) i acknowledged x) (sym (heads_same is)) told)
-none_older i mark (x ∷ []) behind e acknowledged is told = absurd (cc is)
-none_older i mark (x ∷ y ∷ before) behind e acknowledged is told = absurd (cc is)
+-- nothing but that was acknowledged
+none_older : (i : Instance) (mark : Mark) → mark ≡ Erased → IsNotOlder demo_config (first ∷ []) i mark
+none_older i mark erased = ((λ acknowledged found. inl (erased ∙ found)), tt)
 
 not_older : (k : ℕ) (i : Instance) (mark : Mark) → IsAllowedAt demo_config (first ∷ []) k i mark → IsNotOlder demo_config (up_to k (first ∷ [])) i mark
-not_older k i mark may = subst (λ (h : List Entry). IsNotOlder demo_config h i mark) (sym (up_to_first k)) (none_older i mark)
+not_older k i mark may = subst (λ (h : List Entry). IsNotOlder demo_config h i mark) (sym (up_to_first k)) (none_older i mark (allowed_is_erased k i mark may))
 
 -- START-UP
 abbrev pub blank : List ℕ
@@ -110,16 +105,16 @@ found_is_erased : BlankHasErased → FoundComputes → (number length : ℕ) (ma
 found_is_erased erased one number length mark found =
     (one halves blank number length mark).0 found ∙ erased halves (size_of demo_config.geometry) number length
 
-erased_stands : (x : DeviceNumber × ℕ) → Contains (lengths_of demo_config) x → MayStandIn (instance_at (after demo_config (first ∷ [])) (instance_of x.0).block (instance_of x.0).index) Erased
-erased_stands x (zero, small, is) = subst (λ (y : DeviceNumber × ℕ). MayStandIn (instance_at (after demo_config (first ∷ [])) (instance_of y.0).block (instance_of y.0).index) Erased) is (inl refl)
-erased_stands x (suc zero, small, is) = subst (λ (y : DeviceNumber × ℕ). MayStandIn (instance_at (after demo_config (first ∷ [])) (instance_of y.0).block (instance_of y.0).index) Erased) is (inl refl)
-erased_stands x (suc (suc zero), small, is) = subst (λ (y : DeviceNumber × ℕ). MayStandIn (instance_at (after demo_config (first ∷ [])) (instance_of y.0).block (instance_of y.0).index) Erased) is (inl refl)
-erased_stands x (suc (suc (suc zero)), small, is) = subst (λ (y : DeviceNumber × ℕ). MayStandIn (instance_at (after demo_config (first ∷ [])) (instance_of y.0).block (instance_of y.0).index) Erased) is (inl refl)
+erased_stands : (x : DeviceNumber × ℕ) → Contains (lengths_of demo_config) x → MayStandIn (instance_at (after demo_config (first ∷ [])) (instance_of x.0)) Erased
+erased_stands x (zero, small, is) = subst (λ (y : DeviceNumber × ℕ). MayStandIn (instance_at (after demo_config (first ∷ [])) (instance_of y.0)) Erased) is (inl refl)
+erased_stands x (suc zero, small, is) = subst (λ (y : DeviceNumber × ℕ). MayStandIn (instance_at (after demo_config (first ∷ [])) (instance_of y.0)) Erased) is (inl refl)
+erased_stands x (suc (suc zero), small, is) = subst (λ (y : DeviceNumber × ℕ). MayStandIn (instance_at (after demo_config (first ∷ [])) (instance_of y.0)) Erased) is (inl refl)
+erased_stands x (suc (suc (suc zero)), small, is) = subst (λ (y : DeviceNumber × ℕ). MayStandIn (instance_at (after demo_config (first ∷ [])) (instance_of y.0)) Erased) is (inl refl)
 erased_stands x (suc (suc (suc (suc k))), small, is) = absurd (omega (arith, small))
 
 stays : BlankHasErased → FoundComputes → ExitIsKept blank_start
 stays erased one x mark has found =
-    subst (λ (m : Mark). MayStandIn (instance_at (after demo_config (first ∷ [])) (instance_of x.0).block (instance_of x.0).index) m)
+    subst (λ (m : Mark). MayStandIn (instance_at (after demo_config (first ∷ [])) (instance_of x.0)) m)
     (sym (found_is_erased erased one x.0.0 x.1 mark found)) (erased_stands x has)
 
 refusals : (id : ℕ) → RefusalsExplain demo_config blank_start.course (first ∷ []) id
@@ -128,7 +123,7 @@ refusals id (suc n) = omega arith
 
 pub keeps : BlankHasErased → FoundComputes → Headline blank_start
 keeps erased one = record {
-  order = (refl, refl);
+  order = ((refl, tt), refl);
   operations = known_operations;
   power_cut = λ known k x image at. absurd (cc at);
   off = inl (omega arith);

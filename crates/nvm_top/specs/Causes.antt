@@ -1,5 +1,5 @@
 -- What pays for the failures and the power cuts of a history.
-use Rattle.std.specs.Prelude.{◌≡◌, ◌⊎◌, ◌≤◌, ◌+◌, ◌-◌, ◌==◌, ℕ, Bool, true, false, nat_le, ◌||◌, if◌then◌else◌, List, [], ◌∷◌, take, drop, fold, sum_by, count_by, unwrap_or, IsSome, IfSome, Option, Some, None}
+use Rattle.std.specs.Prelude.{◌≡◌, ◌⊎◌, ◌≤◌, ◌+◌, ◌-◌, ◌==◌, ℕ, Bool, true, false, nat_le, ◌||◌, if◌then◌else◌, List, [], ◌∷◌, length, take, sum_by, count_by, unwrap_or, IsSome, IfSome, Option, Some, None}
 use Rattle.std.specs.Option.{option_and_then}
 use Rattle.nv_base.specs.Count.{last_count}
 use Rattle.fls_model.specs.Attach.{IfTold}
@@ -10,9 +10,10 @@ use Rattle.nvm_script.specs.declared.step.StepKind.{StepKind}
 use Rattle.nvm_script.specs.declared.step.StepKind.TheVariants.{Cut, Refuse, Restart}
 use Rattle.block_machine.specs.Words.{Entry, Off, Configuration}
 use Rattle.block_machine.specs.State.{State}
-use Rattle.block_machine.specs.Blocks.{job_in_hand, mark_of}
+use Rattle.block_machine.specs.Blocks.{mark_of}
 use Rattle.block_machine.specs.StartUp.{at_first}
-use Rattle.nvm_script.specs.Summary.{ops_of}
+use Rattle.nv_base.specs.Entry.{ops_of, ops_behind}
+use Rattle.script_walks.specs.Walk.{joined}
 use Rattle.block_machine.specs.Steps.{step}
 use Rattle.block_machine.specs.Prices.{price_in_faults, prices_in_refusals}
 use Rattle.nvm_top.specs.Run.{Run, Course, Played, Ran}
@@ -42,20 +43,16 @@ abbrev pub unpaid_off : Option ℕ → Entry → ℕ
 unpaid_off plan (Off ops) = if is_paid plan ops then 0 else 1
 unpaid_off plan e = 0
 
--- the operations of the last driver entry of these, or so many where there is none
-abbrev pub ops_behind : ℕ → List Entry → ℕ
-ops_behind ops es = fold (λ n e. unwrap_or (ops_of e) n) ops es
-
 -- the Offs of these steps' pieces that no step planned
-abbrev pub unpaid_offs : Option ℕ → ℕ → List Step → List ℕ → List Entry → ℕ
-unpaid_offs plan ops (x ∷ xs) (n ∷ ns) es =
+abbrev pub unpaid_offs : Option ℕ → ℕ → List Step → List (List Entry) → ℕ
+unpaid_offs plan ops (x ∷ xs) (p ∷ ps) =
     let planned = plan_after x.kind plan ops in
-    sum_by (unpaid_off planned) (take n es) + unpaid_offs planned (ops_behind ops (take n es)) xs ns (drop n es)
-unpaid_offs plan ops xs ns es = 0
+    sum_by (unpaid_off planned) p + unpaid_offs planned (ops_behind ops p) xs ps
+unpaid_offs plan ops xs ps = 0
 
 -- the Offs of a run that the flash itself must have counted
 abbrev pub offs_of_flash : Course → List Entry → ℕ
-offs_of_flash (Played made pieces left) h = unpaid_offs None 0 made pieces (drop 1 h)
+offs_of_flash (Played made pieces left) h = unpaid_offs None 0 made pieces
 offs_of_flash (Ran steps) h = count_by is_off h
 
 -- FAULTS
@@ -65,7 +62,7 @@ IsWornOut r ops = IfTold (bytes_after r ops) (λ image. (k : ℕ) × (h : BankHe
 
 -- a write, invalidate or erase ends over a bank that is worn out
 abbrev pub NeedsNoFault : Run → State → Entry → Type 0
-NeedsNoFault r s e = IsSome (option_and_then mark_of (job_in_hand s)) × IfSome (ops_of e) (IsWornOut r)
+NeedsNoFault r s e = IsSome (option_and_then mark_of s.hand) × IfSome (ops_of e) (IsWornOut r)
 
 -- so many faults are enough to explain the Posts of these entries
 abbrev pub AreExplained : Run → ℕ → State → List Entry → Type 0
@@ -85,8 +82,8 @@ refusals_of id (Refuse block count) = if block == id then count else 0
 refusals_of id kind = 0
 
 -- the entries up to and with the n-th step's
-abbrev pub entries_of : ℕ → List ℕ → List Entry → List Entry
-entries_of n pieces h = take (1 + sum_by (λ x. x) (take n pieces)) h
+abbrev pub entries_of : ℕ → List (List Entry) → List Entry → List Entry
+entries_of n pieces h = take (1 + length (joined (take n pieces))) h
 
 -- Up to each step, the Posts of a block tell of no more refused copies than its `refuse` steps asked for. In `run` no copy
 -- is refused.

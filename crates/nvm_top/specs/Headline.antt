@@ -10,7 +10,8 @@ use Rattle.block_machine.specs.Legal.{IsLegal}
 use Rattle.block_machine.specs.History.{up_to, IsAllowedAt}
 use Rattle.nvm_top.specs.Run.{Run, cap, HasOrder}
 use Rattle.nvm_top.specs.Operations.{IsKnown, AreItsOperations}
-use Rattle.nvm_top.specs.Marks.{CutsKeepMarks, StartUpsFind, ExitIsKept, IsAccepted, IsNotOlder}
+use Rattle.block_machine.specs.Accepted.{IsAccepted, IsNotOlder}
+use Rattle.nvm_top.specs.Marks.{CutsKeepMarks, StartUpsFind, ExitIsKept}
 use Rattle.nvm_top.specs.Causes.{WereCounted, offs_of_flash, FaultsExplain, RefusalsExplain}
 
 pub record Headline (r : Run) : Type 0 where

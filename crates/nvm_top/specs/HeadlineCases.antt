@@ -1,5 +1,5 @@
 -- Runs that keep the promise, and runs that don't.
-use Rattle.std.specs.Prelude.{ℕ, false, List, [], ◌∷◌, replicate, Option, Some, None}
+use Rattle.std.specs.Prelude.{ℕ, drop, false, List, [], ◌∷◌, replicate, Option, Some, None}
 use Rattle.nv_base.specs.declared.geometry.Geometry.{Geometry}
 use Rattle.nv_base.specs.Geometry.{size_of}
 use Rattle.block_config.specs.DemoConfig.{demo_config}
@@ -11,6 +11,7 @@ use Rattle.nvm_script.specs.declared.step.StepKind.{StepKind}
 use Rattle.nvm_script.specs.declared.step.StepKind.TheVariants.{Ask as AskStep, Drain}
 use Rattle.nvm_script.specs.declared.step.Step.{Step}
 use Rattle.block_machine.specs.Words.{Fine, NotOk, Content, Write, Accepted, WriteJob, TookContent, Entry, Ask, Pick, Wrote, Post, Off, Found}
+use Rattle.script_walks.specs.Cases.{pieces_of}
 use Rattle.nvm_top.specs.declared.status.Status.TheVariants.{Ok}
 use Rattle.nvm_top.specs.Run.{Run, Played}
 
@@ -38,13 +39,16 @@ made_up_mark = record blank_start { history = Found ((record { block = 2; index 
 
 -- the power goes off, though nothing cut it
 abbrev pub off_without_a_cut : Run
-off_without_a_cut = record blank_start { course = Played (line Drain ∷ []) (1 ∷ []) []; history = Found [] 0 ∷ Off 0 ∷ [] }
+off_without_a_cut = record blank_start { course = Played (line Drain ∷ []) ((Off 0 ∷ []) ∷ []) []; history = Found [] 0 ∷ Off 0 ∷ [] }
+
+abbrev pub failed_write : List Entry
+failed_write = Found [] 0 ∷ Ask 0 (Write 3 (Some (replicate 20 1)) 0) Accepted ∷ Pick 3 WriteJob (TookContent (replicate 20 1) 0) 0 ∷ Post 3 NotOk None 0 0 ∷ []
 
 -- a write fails without a fault
 abbrev pub failure_without_a_fault : Run
 failure_without_a_fault = record blank_start {
-  course = Played (line (AskStep (Write 3 (Some (replicate 20 1)) 0)) ∷ line Drain ∷ []) (1 ∷ 2 ∷ []) [];
-  history = Found [] 0 ∷ Ask 0 (Write 3 (Some (replicate 20 1)) 0) Accepted ∷ Pick 3 WriteJob (TookContent (replicate 20 1) 0) 0 ∷ Post 3 NotOk None 0 0 ∷ [];
+  course = Played (line (AskStep (Write 3 (Some (replicate 20 1)) 0)) ∷ line Drain ∷ []) (pieces_of (1 ∷ 2 ∷ []) (drop 1 failed_write)) [];
+  history = failed_write;
 }
 
 abbrev pub one_write : List Entry
@@ -59,7 +63,7 @@ over_blank = record { op = Program 0 (replicate 16 0); before = replicate (size_
 -- a write was acknowledged with the tenth operation, and a cut of the eleventh finds nothing of it
 abbrev pub lost_write : Run
 lost_write = record blank_start {
-  course = Played (line (AskStep (Write 2 (Some (1 ∷ 2 ∷ 3 ∷ 4 ∷ [])) 0)) ∷ line Drain ∷ []) (1 ∷ 3 ∷ []) [];
+  course = Played (line (AskStep (Write 2 (Some (1 ∷ 2 ∷ 3 ∷ 4 ∷ [])) 0)) ∷ line Drain ∷ []) (pieces_of (1 ∷ 3 ∷ []) (drop 1 one_write)) [];
   history = one_write;
   operations = replicate 11 over_blank;
 }

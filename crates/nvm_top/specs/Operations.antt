@@ -9,7 +9,7 @@ use Rattle.fls_model.specs.Attach.{enlarged}
 use Rattle.fee_image.specs.Image.{layout_of}
 use Rattle.fee_image.specs.Sound.{IsSoundImage}
 use Rattle.block_machine.specs.Words.{Entry, Off, Found}
-use Rattle.nvm_script.specs.Summary.{ops_of}
+use Rattle.nv_base.specs.Entry.{ops_of}
 use Rattle.nvm_top.specs.Run.{Run, Course, Played, Ran}
 
 -- the same page, or the same sectors

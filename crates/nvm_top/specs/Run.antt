@@ -8,8 +8,8 @@ use Rattle.block_machine.specs.Words.{Entry, Configuration}
 use Rattle.block_machine.specs.State.{State}
 use Rattle.block_machine.specs.Reply.{fits}
 use Rattle.block_machine.specs.Steps.{after}
-use Rattle.block_machine.specs.Walk.{IsWalkOf}
-use Rattle.block_machine.specs.Callers.{IsRun, IsWholeRun}
+use Rattle.script_walks.specs.Walk.{IsWalkOf}
+use Rattle.script_walks.specs.Callers.{IsRun, IsWholeRun}
 use Rattle.nvm_top.specs.declared.status.Status.{Status}
 use Rattle.nvm_top.specs.declared.status.Status.TheVariants.{Ok, WriteFault, FlashFault, Memory, HistoryFull}
 
@@ -19,8 +19,8 @@ cap = 100000
 
 -- How a script was followed.
 pub data Course : Type 0 where
-  -- `play`: the steps that were made, with the number of entries that each added, and those that were left
-  Played : (made : List Step) → (pieces : List ℕ) → (left : List Step) → Course
+  -- `play`: the steps that were made, with the entries that each added, and those that were left
+  Played : (made : List Step) → (pieces : List (List Entry)) → (left : List Step) → Course
   -- `run`: the steps of all callers, side by side
   Ran : (steps : List Step) → Course
 
