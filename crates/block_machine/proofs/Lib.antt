@@ -1,3 +1,4 @@
 pub mod FailedSets
 pub mod HistoryLaws
 pub mod NextLaws
+pub mod JobLists

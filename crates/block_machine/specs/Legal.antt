@@ -94,11 +94,12 @@ MayPick c s block kind t next = ⊥
 
 -- WROTE
 
--- a job in hand wrote its mark to one of its instances: once since its Pick, and copy 0 not after copy 1
+-- a job in hand wrote its mark to one of its instances: once since its Pick, copy 0 not after copy 1, no more than its records
 pub record IsWrote (c : Configuration) (s : State) (j : Job) (i : Instance) (mark : Mark) : Type 0 where
   pub same_block : i.block ≡ job_block j
   pub one_of_its : IsTrue (is_in (indices_of c s (job_block j)) i.index)
   pub in_order : IsTrue (list_all (λ index. nat_lt index i.index) j.written)
+  pub left : length j.written < records_of c j
   pub marks : mark_of j ≡ Some mark
 
 abbrev pub MayWrite : Configuration → State → Instance → Mark → Option Job → Type 0

@@ -15,3 +15,4 @@ pub mod ResultTable
 pub mod Accepted
 pub mod Cases
 pub mod Laws
+pub mod Consistent

@@ -1,4 +1,9 @@
-//! The block machine: what the NVRAM Manager is, as a state and a history of entries, in which everything about blocks is claimed.
+//! The block machine: what the NVRAM Manager is, as a state and a history of entries, in which everything about blocks is
+//! claimed. It promises that its definitions allow the worked histories and refuse the wrong ones, row by row, and laws that
+//! follow from them. That a program's history is legal, and which histories a script may have, is left to the crates above.
+//!
+//! Read in `specs/`, in this order: `State`, `Blocks`, `Order`, `Sweeps`, `Reply`, `Next`, `ResultTable`, `Results`, `StartUp`,
+//! `Steps`, `Legal`, `History`, `Accepted`, `Prices`, `Laws`; the cases are in `Cases` and in the clauses of `src/*_cases.rt`.
 #![tactic(auto)]
 
 mod laws;

@@ -1,4 +1,6 @@
-//! Scripts and histories: which histories a script may have, in `play` and in `run`.
+//! Scripts and histories: which histories a script may have, step by step in `play`, and beside each other in `run`.
+//! It promises that the worked cases are walks of their scripts and that wrong ones aren't, that a walk grows by a step's
+//! piece, and that the text of a legal history tells the history. What a history means is left to `block_machine`.
 #![tactic(auto)]
 
 mod cases;
