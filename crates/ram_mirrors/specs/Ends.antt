@@ -1,0 +1,46 @@
+-- What contracts see of a mirror and of its two ends, and what a look does to a taker.
+use Rattle.std.specs.Prelude.{◌≡◌, ℕ, ◌+◌, ◌-◌, ◌^◌, ◌<◌, min, List, [], ◌∷◌, ◌++◌, length, replicate}
+use Rattle.atomic_table.specs.Seated.{TableId}
+use Rattle.ram_mirrors.specs.Stores.{Contents, store_number}
+
+-- which mirror it is, and the length of its contents
+pub record MirrorValue : Type 0 where
+  pub table : TableId
+  pub size : ℕ
+
+-- which mirror the owner belongs to, and all that it stored
+pub record OwnerValue : Type 0 where
+  pub table : TableId
+  pub size : ℕ
+  pub stores : Contents
+
+-- which mirror the taker belongs to, the pairs that it got, how many stores there were at its last look, how often it looked, and the content of its last take
+pub record TakerValue : Type 0 where
+  pub table : TableId
+  pub size : ℕ
+  pub got : List (ℕ × List ℕ)
+  pub shown : ℕ
+  pub looks : ℕ
+  pub content : List ℕ
+
+abbrev pub IsOwnerOf : MirrorValue → OwnerValue → Type 0
+IsOwnerOf m o = (o.table ≡ m.table) × (o.size ≡ m.size)
+
+abbrev pub IsTakerOf : MirrorValue → TakerValue → Type 0
+IsTakerOf m t = (t.table ≡ m.table) × (t.size ≡ m.size)
+
+-- a count of looks as the taker keeps it. It stands still at its type's end
+abbrev pub counted : ℕ → ℕ
+counted n = min n (2 ^ 64 - 1)
+
+-- a taker that has not looked yet
+abbrev pub IsFresh : ℕ → TakerValue → Type 0
+IsFresh size t = (t.got ≡ []) × (t.shown ≡ 0) × (t.looks ≡ 0) × (t.content ≡ replicate size 0)
+
+-- the taker looked once, and the word showed no store since the last take
+abbrev pub NothingNewer : TakerValue → TakerValue → Type 0
+NothingNewer t u = (u.got ≡ t.got) × (u.shown ≡ t.shown) × (u.looks ≡ t.looks + 1) × (u.content ≡ t.content)
+
+-- the taker looked once, and got the newest store, which came after its last take
+abbrev pub TakesNewest : TakerValue → ℕ → TakerValue → Type 0
+TakesNewest t n u = (t.shown < u.shown) × (n ≡ store_number u.shown) × (u.got ≡ t.got ++ (n, u.content) ∷ []) × (length u.content ≡ u.size) × (u.looks ≡ t.looks + 1)

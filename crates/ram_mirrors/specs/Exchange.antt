@@ -1,0 +1,117 @@
+-- The rule of the exchange: one word, three slots, and what each kind of step tells.
+-- The word is `home` after a take, and `home + 4 + 8 * number` after a store: `home` is the slot that neither end has, below 3.
+use Rattle.std.specs.Prelude.{◌≡◌, ◌≢◌, ℕ, ◌+◌, ◌*◌, ◌/◌, ◌%◌, ◌<◌, ◌≤◌, ◌⊎◌, List, [], ◌∷◌, ◌++◌, length, Bool, true, false}
+use mathlib.Core.Option.{Option, some, none}
+use lib.ListN.{get_elem?}
+use Rattle.atomic_table.specs.Table.{State, Me, Step}
+use Rattle.ram_mirrors.specs.declared.view.View.{View}
+use Rattle.ram_mirrors.specs.Stores.{Contents, store_number, AllStored}
+
+-- x is the newest store
+abbrev pub IsLast : Contents → List ℕ → Type 0
+IsLast log x = (front : Contents) × (log ≡ front ++ x ∷ [])
+
+-- the view of the seat that the table is made with
+abbrev pub maker : ℕ → View
+maker size = record { size = size; owns = true; takes = true; owner_out = false; taker_out = false; owner_slot = 0; taker_slot = 1; stores = []; got = []; taken = 0; shown = 0; looks = 0 }
+
+-- the views after a store, a look and a take
+abbrev pub stored : View → List ℕ → ℕ → View
+stored v x slot = record v { stores = v.stores ++ x ∷ []; owner_slot = slot }
+
+abbrev pub looked : View → ℕ → View
+looked v n = record v { shown = n; looks = v.looks + 1 }
+
+abbrev pub took : View → ℕ → List ℕ → ℕ → View
+took v n x slot = record v { got = v.got ++ (store_number n, x) ∷ []; taken = n; shown = n; taker_slot = slot }
+
+-- a look: the n-th store is the newest, and the word is 4 or more exactly where it came after the last take
+abbrev pub Looks : {S : Type 0} → Step S → Me S View → ℕ → Me S View → Type 0
+Looks st m r m' = (n : ℕ) × (m'.1 ≡ m.1) × (m'.0 ≡ looked m.0 n) × (m.0.shown ≤ n) × (m.0.taken ≤ n) × (r < 4 → n ≡ m.0.taken) × (4 ≤ r → m.0.taken < n)
+
+module _ {S : Type 0} (bytes : S → List ℕ) where
+  -- a slot is out with its seat, or at home
+  abbrev pub Lies : List (Option S) → ℕ → Bool → Type 0
+  Lies homes k true = get_elem? homes k ≡ some none
+  Lies homes k false = (y : S) × (get_elem? homes k ≡ some (some y))
+
+  -- what is so of each view v, of the seat j: the stores are the owner's, the takes are the taker's, and each has its slot
+  pub record Fits (size : ℕ) (log : Contents) (taken owner taker owner_id taker_id : ℕ) (homes : List (Option S)) (j : ℕ) (v : View) : Type 0 where
+    pub owns : v.owns ≡ true → (j ≡ owner_id) × (v.stores ≡ log) × Lies homes owner v.owner_out × (v.owner_slot ≡ owner) × (v.size ≡ size)
+    pub takes : v.takes ≡ true → (j ≡ taker_id) × (v.taken ≡ taken) × Lies homes taker v.taker_out × (v.taker_slot ≡ taker) × (v.size ≡ size)
+    pub shown : v.shown ≤ length log
+    pub agrees : AllStored log v.got
+
+  -- the home slot has the newest store, which was not taken yet, or some old one
+  abbrev pub Newest : List ℕ → Contents → ℕ → ℕ → S → Type 0
+  Newest words log taken home y =
+      ((words ≡ home ∷ []) × (taken ≡ length log))
+      ⊎ ((words ≡ (home + 4 + 8 * store_number (length log)) ∷ []) × (taken < length log) × IsLast log (bytes y))
+
+  -- the rule: the three slots are the one at home, the owner's and the taker's
+  pub record Mirrored (size : ℕ) (s : State S View) : Type 0 where
+    pub log : Contents
+    pub taken : ℕ
+    pub home : ℕ
+    pub owner : ℕ
+    pub taker : ℕ
+    pub owner_id : ℕ
+    pub taker_id : ℕ
+    pub three : length s.homes ≡ 3
+    pub home_in : home < 3
+    pub owner_in : owner < 3
+    pub taker_in : taker < 3
+    pub home_owner : home ≢ owner
+    pub home_taker : home ≢ taker
+    pub owner_taker : owner ≢ taker
+    pub lies : (y : S) × (get_elem? s.homes home ≡ some (some y)) × (length (bytes y) ≡ size) × Newest s.words log taken home y
+    pub each : (j : ℕ) (v : View) → get_elem? s.views j ≡ some v → Fits size log taken owner taker owner_id taker_id s.homes j v
+
+  -- the slots of a new mirror: any two, and one of the right length
+  abbrev pub IsMade : ℕ → List S → Type 0
+  IsMade size xs = (a : S) × (b : S) × (y : S) × (xs ≡ a ∷ b ∷ y ∷ []) × (length (bytes y) ≡ size)
+
+  -- what is in the slot that was taken last
+  abbrev pub carried : List (ℕ × S) → List ℕ
+  carried [] = []
+  carried (x ∷ xs) = bytes x.1
+
+  -- the content that was carried becomes the newest store, and the owner has the slot that was at home
+  abbrev pub Stores : Step S → Me S View → ℕ → Me S View → Type 0
+  Stores st m r m' = (y : S) × (m'.1 ≡ (r % 4, y) ∷ []) × (length (bytes y) ≡ m.0.size) × (m'.0 ≡ stored m.0 (carried m.1) (r % 4))
+
+  -- the taker has the slot that was at home, with the newest store
+  abbrev pub Takes : Step S → Me S View → ℕ → Me S View → Type 0
+  Takes st m r m' = (n : ℕ) × (y : S) × (m'.1 ≡ (r % 4, y) ∷ []) × (length (bytes y) ≡ m.0.size) × (m.0.shown ≤ n) × (r / 8 ≡ store_number n) × (m'.0 ≡ took m.0 n (bytes y) (r % 4))
+
+-- the owner's half of a maker, and the taker's
+abbrev pub owner_half : View → View
+owner_half v = record v { takes = false; got = []; shown = 0 }
+
+abbrev pub taker_half : View → View
+taker_half v = record v { owns = false; stores = [] }
+
+-- an owner that takes in what the taker got and was shown
+abbrev pub whole_of : View → View → View
+whole_of v w = record v { got = w.got; shown = w.shown }
+
+abbrev pub nobody : View
+nobody = record { size = 0; owns = false; takes = false; owner_out = false; taker_out = false; owner_slot = 0; taker_slot = 0; stores = []; got = []; taken = 0; shown = 0; looks = 0 }
+
+abbrev pub owner_begins : View → View
+owner_begins v = record v { owner_out = true }
+
+abbrev pub taker_begins : View → View
+taker_begins v = record v { taker_out = true }
+
+abbrev pub taker_ends : View → View
+taker_ends v = record v { takes = false; taker_out = false }
+
+abbrev pub BeginsOwner : {S : Type 0} → Step S → Me S View → ℕ → Me S View → Type 0
+BeginsOwner {S} st m r m' = (y : S) × (m'.1 ≡ (m.0.owner_slot, y) ∷ []) × (m'.0 ≡ owner_begins m.0)
+
+abbrev pub BeginsTaker : {S : Type 0} → Step S → Me S View → ℕ → Me S View → Type 0
+BeginsTaker {S} st m r m' = (y : S) × (m'.1 ≡ (m.0.taker_slot, y) ∷ []) × (m'.0 ≡ taker_begins m.0)
+
+abbrev pub EndsTaker : {S : Type 0} → Step S → Me S View → ℕ → Me S View → Type 0
+EndsTaker st m r m' = (m'.1 ≡ []) × (m'.0 ≡ taker_ends m.0)

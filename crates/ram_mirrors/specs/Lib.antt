@@ -1,0 +1,3 @@
+pub mod Stores
+pub mod Ends
+pub mod Exchange

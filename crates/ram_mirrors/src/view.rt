@@ -1,0 +1,18 @@
+//! What a seat at the table knows.
+use std::collections::LinkedList;
+
+/// What the owner's or the taker's seat knows. No value of it is made: it exists in proofs alone.
+pub struct View {
+    pub size: u64,
+    pub owns: bool,
+    pub takes: bool,
+    pub owner_out: bool,
+    pub taker_out: bool,
+    pub owner_slot: u64,
+    pub taker_slot: u64,
+    pub stores: LinkedList<LinkedList<u8>>,
+    pub got: LinkedList<(u64, LinkedList<u8>)>,
+    pub taken: u64,
+    pub shown: u64,
+    pub looks: u64,
+}
