@@ -1,12 +1,13 @@
 -- What programs and erases leave of pages.
 use Rattle.std.specs.Prelude.{bit_and}
-use Rattle.std.proofs.Common.{◌≡◌, inl, inr, ◌<◌, ◌≤◌, ℕ, suc, ◌+◌, ◌*◌, ◌-◌, List, [], ◌∷◌, ◌++◌, length, take, drop, replicate, refl, sym, ap, ◌∙◌, subst, arith, length-append, length-drop}
+use Rattle.std.proofs.Common.{◌≡◌, inl, inr, ◌<◌, ◌≤◌, ℕ, zero, suc, ◌+◌, ◌*◌, ◌-◌, List, [], ◌∷◌, ◌++◌, length, take, drop, replicate, refl, sym, ap, ◌∙◌, subst, arith, length-append, length-drop}
 use Rattle.std.proofs.lemmas.Bool.{cases_order, cases_eq}
 use Rattle.std.proofs.lemmas.List.{take_at, drop_at, drop-drop, drop-take, take-take, length-take-le, append_assoc, take-append-le, length-replicate, take-replicate, drop-replicate}
 use Rattle.std.proofs.lemmas.Nat.{and_mask, and_comm}
 use Rattle.std.proofs.Math.Nat.{mul-le-mul_right, mod-eq_of_lt}
 use Rattle.std.specs.List.{All}
-use Rattle.fls_model.specs.Bytes.{SameOutside, and_bytes, spliced}
+use Rattle.fls_model.specs.Bytes.{AreBytes, SameOutside, and_bytes, spliced}
+use Rattle.fls_model.specs.Laws.{RangesKeepBytes}
 use Rattle.fee_format.specs.Gate.{IsGate}
 use Rattle.fee_format.specs.Pages.{page_at}
 use Rattle.fee_format.specs.SoundHead.{IsSoundHead}
@@ -106,15 +107,23 @@ and_blank (x ∷ xs) all =
     let rest : All (λ (y : ℕ). y < 256) xs = λ k d lt. all (suc k) d (omega arith) in
     λ i. and_ff x here i ∷ and_blank xs rest i
 
-pub programs_stand : ProgramsStand
-programs_stand b bytes page q size small fits blank =
+are_bytes : (page : List ℕ) → All (λ x. x < 256) page → AreBytes page
+are_bytes [] all k = omega arith
+are_bytes (x ∷ xs) all zero = all 0 0 (omega arith)
+are_bytes (x ∷ xs) all (suc k) = are_bytes xs (λ i d lt. all (suc i) d (omega arith)) k
+
+pub programs_stand : RangesKeepBytes → ProgramsStand
+programs_stand keep b bytes page q size small fits blank =
     let a = place_of_page b q in
     let old = take (length page) (drop a bytes) in
     let was : old ≡ replicate (length page) 255 = ap (λ (n : ℕ). take n (drop a bytes)) size ∙ blank ∙ ap (λ (n : ℕ). replicate n 255) (sym size) in
     let same : and_bytes old page ≡ page = ap (λ (l : List ℕ). and_bytes l page) was ∙ and_blank page small in
-    let long : length (and_bytes old page) ≡ length page = ap length same in (
-      spliced_piece bytes (and_bytes old page) a b.page (long ∙ size) (omega (arith, fits)) ∙ same,
-      spliced_outside bytes (and_bytes old page) a (length page) long (omega (arith, fits, size)),
+    let long : length (and_bytes old page) ≡ length page = ap length same in
+    let new = spliced bytes a (and_bytes old page) in
+    let stands = spliced_piece bytes (and_bytes old page) a b.page (long ∙ size) (omega (arith, fits)) ∙ same in
+    let outside = spliced_outside bytes (and_bytes old page) a (length page) long (omega (arith, fits, size)) in (
+      stands,
+      (outside, λ were. keep a (length page) bytes new outside were (subst AreBytes (sym (ap (λ (n : ℕ). take n (drop a new)) size ∙ stands)) (are_bytes page small))),
     )
 
 -- ERASES

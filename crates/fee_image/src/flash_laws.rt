@@ -3,6 +3,7 @@ ghost use Rattle.fee_image.specs.Laws.{TornErasesSetBits, TornErasesKeepSound, T
 
 use crate::images_compute;
 use fee_format::torn_erases_make_nothing;
+use fls_model::ranges_keep_bytes;
 
 /// What a torn erase leaves of a sound image: a sound one, in which no bank stands that didn't stand before.
 pub fn torn_erases_keep_soundness()
@@ -31,7 +32,9 @@ pub fn programs_keep_soundness()
     ensures own_bank { ProgramsTouchTheirBank }
     ensures stands { ProgramsStand }
     ensures sound { ProgramsKeepSound }
-{}
+{
+    ranges_keep_bytes();
+}
 
 /// A blank image is sound, and every number is erased in it.
 pub fn blank_images()

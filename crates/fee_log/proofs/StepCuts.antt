@@ -62,7 +62,7 @@ module _ (cuts : CutsOfAppend) (more : AppendsGoOn) (own : ProgramsTouchTheirBan
   staged_next bytes records small staged fits =
       let at = sound_work s w sound work in
       let done = stand b bytes page q size small (omega (arith, inside, fits)) (staged.blank q (omega arith) within) in
-      (more b bytes (after_op (Program place page) bytes) records s.end w.head body w.done staged at.left (own b bytes (after_op (Program place page) bytes) page q size done.1) done.0, done.1.size)
+      (more b bytes (after_op (Program place page) bytes) records s.end w.head body w.done staged at.left (own b bytes (after_op (Program place page) bytes) page q size done.1) done.0, done.1.0.size)
 
   goes : (old new : Option (List ℕ)) (answer : FlashAnswer) → All (λ (x : ℕ). x < 256) page → answer ≡ Done → IfBothTold old new (Leaves (Program place page) answer) → AreToldAlike old new → GoesOn s w body old new
   goes (Some old) (Some new) answer small done leaves alike = λ records staged fits.

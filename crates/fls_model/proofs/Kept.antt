@@ -31,7 +31,7 @@ piece_bytes : (a n : ℕ) (bytes : List ℕ) → AreBytes bytes → AreBytes (pi
 piece_bytes a n bytes small = take_bytes n (drop a bytes) (λ i. rw (get_or-drop a bytes i 0) (small (a + i)))
 
 -- in front of the range, in it, and behind it
-outside_bytes : (a n : ℕ) (old new : List ℕ) → SameOutside a n old new → AreBytes old → AreBytes (piece a n new) → AreBytes new
+pub outside_bytes : (a n : ℕ) (old new : List ℕ) → SameOutside a n old new → AreBytes old → AreBytes (piece a n new) → AreBytes new
 outside_bytes a n old new same small inside k = elim (cases_lt k a) [
   | inl front ↦ rw (← get_or-take a new k 0 front) (same_at k (take a new) (take a old) same.front (rw (get_or-take a old k 0 front) (small k)))
   | inr from ↦ elim (cases_lt k (a + n)) [

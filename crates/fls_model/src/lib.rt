@@ -15,6 +15,6 @@ mod worked;
 pub use call::{Call, program_call};
 pub use flash::{AttachFault, Flash, FlashAnswer};
 pub use image::may_leave;
-pub use laws::steps_keep_bytes;
+pub use laws::{ranges_keep_bytes, steps_keep_bytes};
 pub use memory::{MemFlash, mem_flash};
 pub use worked::{planned_cases, worked_cases};

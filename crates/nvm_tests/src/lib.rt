@@ -12,6 +12,8 @@ mod commands;
 #[cfg(test)]
 mod configuration;
 #[cfg(test)]
+mod driver;
+#[cfg(test)]
 mod format;
 #[cfg(test)]
 mod texts;

@@ -8,7 +8,7 @@ pub returns-clause-own_bank : goal.returns-clause-own_bank
 returns-clause-own_bank c = programs_touch_their_bank
 
 pub returns-clause-stands : goal.returns-clause-stands
-returns-clause-stands c = programs_stand
+returns-clause-stands c = programs_stand c.ranges_keep_bytes.ensures
 
 pub returns-clause-sound : goal.returns-clause-sound
 returns-clause-sound c = programs_keep_sound
