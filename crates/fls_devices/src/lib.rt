@@ -1,7 +1,6 @@
-//! Flashes over a flash: power cuts on purpose, and scripted faults. And a flash in an image file.
-//!
-//! It promises which operation is cut or fails and what it leaves, over any flash and in any order, and the list of
-//! all changes where the inner flash tells its own. What a flash is stands in `fls_model`.
+//! Flashes over a flash: power cuts on purpose, and scripted faults. And a flash in an image file. It promises which
+//! operation is cut or fails and what it leaves, over any flash and in any order, and the list of all changes where the
+//! inner flash tells its own. What a flash is stands in `fls_model`.
 #![tactic(auto)]
 
 mod cutter;
@@ -16,8 +15,3 @@ pub use fault_script::FaultScript;
 pub use file_flash::FileFlash;
 pub use journal::Event;
 pub use part::Harm;
-
-#[cfg(test)]
-mod image_tests;
-#[cfg(test)]
-mod tests;

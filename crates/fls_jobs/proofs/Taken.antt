@@ -1,5 +1,5 @@
 -- A call that the flash may take is a job that the driver takes.
-use Rattle.std.proofs.Common.{◌≡◌, ◌<◌, ◌≤◌, ℕ, ◌+◌, ◌*◌, ◌%◌, true, sym, ap, ◌∙◌, subst, arith}
+use Rattle.std.proofs.Common.{◌≡◌, ◌<◌, ◌≤◌, ℕ, ◌+◌, ◌*◌, ◌%◌, ap, ◌∙◌, subst, arith}
 use Rattle.std.proofs.Math.Nat.{mul-mod_left}
 use Rattle.nv_base.specs.declared.geometry.Geometry.{Geometry}
 use Rattle.nv_base.specs.Geometry.{size_of}

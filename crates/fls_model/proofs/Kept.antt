@@ -1,5 +1,5 @@
 -- Operations keep the bytes of a flash bytes, and as many.
-use Rattle.std.proofs.Common.{◌≡◌, inl, inr, ◌<◌, ◌≤◌, ℕ, zero, suc, ◌+◌, ◌-◌, Bool, true, false, List, [], ◌∷◌, length, take, drop, get_or, Option, Some, None, sym, ap, ◌∙◌, subst, arith}
+use Rattle.std.proofs.Common.{◌≡◌, inl, inr, ◌<◌, ℕ, zero, suc, ◌+◌, ◌-◌, Bool, true, false, List, [], ◌∷◌, take, drop, get_or, Option, Some, None, sym, ◌∙◌, subst, arith}
 use Rattle.std.proofs.lemmas.Bool.{cases_lt}
 use Rattle.std.proofs.lemmas.List.{get_or-take, get_or-drop}
 use Rattle.nv_base.specs.declared.geometry.Geometry.{Geometry}
@@ -8,7 +8,7 @@ use Rattle.fls_model.specs.Attach.{IfTold, AreBytesOf}
 use Rattle.fls_model.specs.Bytes.{AreBytes, SameOutside, Grown, piece}
 use Rattle.fls_model.specs.Laws.{StepsKeepBytes}
 use Rattle.fls_model.specs.Op.{Op, Program, Erase, MayLeave}
-use Rattle.fls_model.specs.Step.{OffOrAsked, IsAsked}
+use Rattle.fls_model.specs.Step.{OffOrAsked}
 use Rattle.fls_model.specs.Told.{Told, AreToldAlike, IfBothTold}
 
 grown_bytes : (xs ys : List ℕ) → Grown xs ys → AreBytes xs → AreBytes ys

@@ -2,8 +2,8 @@
 ghost use Rattle.std.specs.Prelude.{◌≤◌, OnOk, length};
 ghost use Rattle.fls_jobs.specs.Turn.{TakesInto};
 
-use crate::{Fls, FlsRefusal, FlsResult, FlsStatus};
-use fls_model::{MemFlash, mem_flash};
+use fls_jobs::{Fls, FlsRefusal, FlsResult, FlsStatus};
+use fls_model::{FlashAnswer, MemFlash, mem_flash};
 use nv_base::Geometry;
 use std::alloc::{AllocError, Global};
 use std::test::Fail;
@@ -50,33 +50,6 @@ fn start(fls: &mut Fls<MemFlash>, kind: Kind, at: u32, content: &[u8]) -> Result
 }
 
 #[test]
-fn refuses_by_numbers(rt: HostRuntime) -> Result<(), Fail> {
-    let mut fls = attached(rt.alloc())?;
-    let bytes = [0x3c; 129];
-    let address = FlsRefusal::BadAddress;
-    let length = FlsRefusal::BadLength;
-    for (kind, at, count, want) in [
-        (Kind::Read, 128, 0, address),
-        (Kind::Read, 0, 0, length),
-        (Kind::Read, 0, 129, length),
-        (Kind::Write, 8, 16, address),
-        (Kind::Write, 0, 15, length),
-        (Kind::Write, 0, 32, length),
-        (Kind::Erase, 2, 1, address),
-        (Kind::Erase, 1, 2, length),
-        (Kind::Compare, 128, 1, address),
-        (Kind::Compare, 0, 17, length),
-        (Kind::Compare, 127, 2, length),
-        (Kind::BlankCheck, 128, 1, address),
-        (Kind::BlankCheck, 127, 2, length),
-    ] {
-        let answer = start(&mut fls, kind, at, &bytes[..count.min(129)]);
-        assert_eq!(rt; answer, Err(want), "{kind:?} at {at}");
-    }
-    Ok(())
-}
-
-#[test]
 fn refuses_by_state(rt: HostRuntime) -> Result<(), Fail> {
     let mut fls = Fls::make(mem_flash(rt.alloc(), &[], 0)?, SMALLEST);
     assert_eq!(rt; fls.status(), FlsStatus::Uninit);
@@ -120,5 +93,23 @@ fn does_jobs_of_each_kind(rt: HostRuntime) -> Result<(), Fail> {
         assert_eq!(rt; result, want, "{kind:?} at {at}");
     }
     assert_eq!(rt; fls.into_flash().bytes().len(), 128);
+    Ok(())
+}
+
+#[test]
+fn single_calls_leave_no_job_open(rt: HostRuntime) -> Result<(), Fail> {
+    let mut fls = Fls::make(mem_flash(rt.alloc(), &[], 0)?, SMALLEST);
+    let mut page = [0; 16];
+    if fls.attach(rt.alloc()).is_ok() {
+        assert_eq!(rt; fls.program_page(16, &[0x3c; 16]), FlashAnswer::Done);
+        assert_eq!(rt; fls.read_range(16, &mut page), FlashAnswer::Done);
+        assert_eq!(rt; page, [0x3c; 16]);
+        assert_eq!(rt; fls.erase_sector(0), FlashAnswer::Done);
+        assert_eq!(rt;
+            (fls.status(), fls.result()),
+            (FlsStatus::Idle, FlsResult::JobOk)
+        );
+    }
+    assert_eq!(rt; fls.into_flash().bytes(), [0xff; 128].as_slice());
     Ok(())
 }

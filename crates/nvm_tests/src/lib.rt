@@ -12,7 +12,11 @@ mod commands;
 #[cfg(test)]
 mod configuration;
 #[cfg(test)]
+mod devices;
+#[cfg(test)]
 mod driver;
+#[cfg(test)]
+mod flash;
 #[cfg(test)]
 mod format;
 #[cfg(test)]

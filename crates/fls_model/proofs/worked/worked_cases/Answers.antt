@@ -1,4 +1,4 @@
-use Rattle.std.proofs.Common.{◌<◌, ◌^◌, ℕ, zero, suc, [], ◌∷◌, get_or, refl, arith}
+use Rattle.std.proofs.Common.{◌<◌, zero, suc, [], ◌∷◌, refl, arith}
 use Rattle.fls_model.specs.Bytes.{AreBytes}
 use Rattle.fls_model.proofs.worked.worked_cases.Goals as goal
 

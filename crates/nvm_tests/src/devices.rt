@@ -1,10 +1,11 @@
-// Cuts and faults over a small flash in memory.
+// Cuts and faults over a small flash in memory, and a flash in a file.
 ghost use Rattle.std.specs.Prelude.{◌≡◌, IsTrue};
 
-use crate::{Cutter, FaultScript};
-use fls_model::{Flash, FlashAnswer, mem_flash};
+use fls_devices::{Cutter, FaultScript, FileFlash};
+use fls_model::{AttachFault, Flash, FlashAnswer, mem_flash};
 use nv_base::Geometry;
 use std::alloc::{AllocError, Global};
+use std::fs;
 use std::test::Fail;
 
 const SMALLEST: Geometry = Geometry {
@@ -126,5 +127,48 @@ fn one_over_the_other(rt: HostRuntime) -> Result<(), Fail> {
     flash.power_on();
     assert_eq!(rt; program(&mut flash, 0x00), FlashAnswer::Done);
     assert_eq!(rt; flash.into_inner().into_inner().bytes()[31], 0x00);
+    Ok(())
+}
+
+const PATH: &str = "fls_devices_test.img";
+
+// Programs the second page twice.
+fn change_twice<F: Flash>(alloc: Global, flash: &mut F) -> Result<(), AttachFault> {
+    flash.attach(alloc, SMALLEST)?;
+    flash.program(16, &[0x0f; 16]);
+    flash.program(16, &[0x3c; 16]);
+    Ok(())
+}
+
+// Reads the second page, and erases its sector.
+fn erase_and_read<F: Flash>(alloc: Global, flash: &mut F) -> Result<[u8; 16], AttachFault> {
+    flash.attach(alloc, SMALLEST)?;
+    let mut page = [0; 16];
+    flash.read(16, &mut page);
+    flash.erase(0);
+    Ok(page)
+}
+
+#[test]
+fn keeps_an_image_in_a_file(rt: HostRuntime) -> Result<(), Fail> {
+    let _ = fs::remove_file(&rt, PATH);
+    let mut flash = FileFlash::make(&rt, PATH);
+    assert_eq!(rt; change_twice(rt.alloc(), &mut flash), Ok(()));
+    drop(flash);
+    let mut flash = FileFlash::make(&rt, PATH);
+    assert_eq!(rt; erase_and_read(rt.alloc(), &mut flash), Ok([0x0c; 16]));
+    drop(flash);
+    let image = fs::read(&rt, PATH)?;
+    assert_eq!(rt; image[..], [0xff; 128][..]);
+    fs::write(&rt, PATH, [7; 100].as_slice())?;
+    let mut flash = FileFlash::make(&rt, PATH);
+    let wrong = Err(AttachFault::WrongSize { found: 100 });
+    assert_eq!(rt; change_twice(rt.alloc(), &mut flash), wrong);
+    fs::remove_file(&rt, PATH)?;
+    let mut flash = FileFlash::make(&rt, "no_such_folder/x.img");
+    assert_eq!(rt;
+        change_twice(rt.alloc(), &mut flash),
+        Err(AttachFault::Failed)
+    );
     Ok(())
 }
