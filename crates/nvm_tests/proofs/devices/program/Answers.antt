@@ -1,6 +1,6 @@
 use Rattle.std.proofs.Common.{◌∙◌}
 use Rattle.fls_devices.proofs.Steps.{step_geometry}
-use Rattle.fls_devices.proofs.tests.program.Goals as goal
+use Rattle.nvm_tests.proofs.devices.program.Goals as goal
 
 pub returns : goal.returns
 returns g c = step_geometry _ _ _ _ c.program.ensures ∙ c.requires
