@@ -1,4 +1,3 @@
-pub mod Ascending
 pub mod Erasing
 pub mod Found
 pub mod Places

@@ -5,8 +5,8 @@ use Rattle.std.proofs.lemmas.Bool.{cases_Bool}
 use Rattle.std.proofs.lemmas.Bool.Decides.{nat_tests}
 use Rattle.nv_base.specs.declared.instance.DeviceNumber.{DeviceNumber}
 use Rattle.nv_base.specs.Lengths.{AreLengths}
+use Rattle.nv_base.proofs.Places.{above}
 use Rattle.memif.specs.Told.{at_number, length_of}
-use Rattle.memif.proofs.Ascending.{above}
 
 module _ {A : Type 0} (none : A) where
   -- what stands for the number at a place

@@ -3,7 +3,7 @@ use Rattle.std.specs.Prelude.{◌==◌, slice_get, is_some}
 use Rattle.std.proofs.Common.{◌≡◌, ◌<◌, ℕ, zero, suc, Bool, true, false, if◌then◌else◌, List, [], ◌∷◌, length, get_or, set, map, Option, Some, None, refl, ap, ◌∙◌, arith}
 use Rattle.std.proofs.lemmas.List.{get_or-set_same, get_or-map, length-set, length-map}
 use Rattle.std.proofs.lemmas.Option.{slice_get-get_or}
-use Rattle.nv_base.specs.Lengths.{AreLengths}
+use Rattle.nv_base.specs.Lengths.{AreLengths, IsPlace}
 use Rattle.nv_base.specs.declared.instance.DeviceNumber.{DeviceNumber}
 use Rattle.memif.specs.declared.answer.PlainMark.TheVariants as plain
 use Rattle.memif.specs.declared.answer.JobResult.{JobResult}
@@ -13,7 +13,7 @@ use Rattle.memif.specs.declared.plain_store.PlainJob.{PlainJob}
 use Rattle.memif.specs.Told.{Slot, no_slot, slot_at, length_of}
 use Rattle.memif.specs.Calls.{refusal_of, length_refusal}
 use Rattle.memif.specs.Kept.{undoubted}
-use Rattle.memif.specs.PlainInside.{slot_of, told_with, AreKept, IsAt}
+use Rattle.memif.specs.PlainInside.{slot_of, told_with, AreKept}
 use Rattle.memif.proofs.Places.{at_place, at_set, length_at, map_set}
 
 pub blank : Kept
@@ -55,7 +55,7 @@ none_open numbers kept started None last given number size none = refl
 none_open numbers kept started (Some j) last given number size none = cc
 
 -- THE MARKS
-module _ (numbers : List (DeviceNumber × ℕ)) (kept : List Kept) (number place : ℕ) (all : AreLengths 0 numbers) (room : AreKept numbers kept) (at : IsAt numbers number place) where
+module _ (numbers : List (DeviceNumber × ℕ)) (kept : List Kept) (number place : ℕ) (all : AreLengths 0 numbers) (room : AreKept numbers kept) (at : IsPlace numbers number place) where
   lt : place < length kept
   lt = omega (arith, at.within, kept_length numbers kept room)
 

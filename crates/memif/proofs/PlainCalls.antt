@@ -3,7 +3,7 @@ use Rattle.std.specs.Prelude.{◌==◌, ◌&&◌, slice_get, is_none}
 use Rattle.std.proofs.Common.{◌≡◌, ◌≢◌, ◌⊎◌, inl, inr, ◌<◌, ◌≤◌, ℕ, zero, suc, Bool, true, false, if◌then◌else◌, List, [], ◌∷◌, get_or, set, map, Option, Some, None, Ok, refl, sym, ap, ◌∙◌, subst, arith}
 use Rattle.std.proofs.lemmas.Bool.{cases_Bool, eqb-true}
 use Rattle.std.specs.List.{Contains}
-use Rattle.nv_base.specs.Lengths.{AreLengths}
+use Rattle.nv_base.specs.Lengths.{AreLengths, IsPlace}
 use Rattle.nv_base.specs.declared.instance.DeviceNumber.{DeviceNumber}
 use Rattle.nv_base.specs.declared.mark.Mark.{Mark}
 use Rattle.nv_base.specs.declared.mark.Mark.TheVariants as mark
@@ -18,7 +18,7 @@ use Rattle.memif.specs.Clock.{FindsNow, Ticks}
 use Rattle.memif.specs.Calls.{InOrder, ClockStays, Arms, IsPrompt, Nearer, is_first, StartsUp, PowersUp, Opens, Turns, PartTurns, Reads, Gives, EndsAs}
 use Rattle.memif.specs.Plain.{plain_figures, plain_fixed, no_clock}
 use Rattle.memif.specs.Kept.{settled, undoubted}
-use Rattle.memif.specs.PlainInside.{mark_of, held_of, slot_of, next_of, turns_of, job_of, told_with, given_of, AreKept, IsAt, IsSoundWith}
+use Rattle.memif.specs.PlainInside.{mark_of, held_of, slot_of, next_of, turns_of, job_of, told_with, given_of, AreKept, IsSoundWith}
 use Rattle.memif.proofs.Found.{same_clock}
 use Rattle.memif.proofs.Places.{at_same, length_at}
 use Rattle.memif.proofs.Plain.{blank, slot_is, slot_set, get_is, get_set}
@@ -64,10 +64,10 @@ order_none numbers kept started last given = record {
   now = finds_now (told_with numbers kept started None last given);
 }
 
-figures_of : (numbers : List (DeviceNumber × ℕ)) (j : PlainJob) → AreLengths 0 numbers → IsAt numbers j.number.0 j.place → figures_at (plain_fixed numbers) j.number.0 ≡ plain_figures
+figures_of : (numbers : List (DeviceNumber × ℕ)) (j : PlainJob) → AreLengths 0 numbers → IsPlace numbers j.number.0 j.place → figures_at (plain_fixed numbers) j.number.0 ≡ plain_figures
 figures_of numbers j all at = at_same no_figures numbers plain_figures j.number.0 _ (length_at 0 numbers j.number.0 j.place (record { 0 = 0 }, 0) all at.within at.is)
 
-pub order_open : (numbers : List (DeviceNumber × ℕ)) (kept : List Kept) (started : Bool) (j : PlainJob) (last : JobResult) (given : Option ℕ) → AreLengths 0 numbers → IsAt numbers j.number.0 j.place → InOrder (told_with numbers kept started (Some j) last given) no_clock
+pub order_open : (numbers : List (DeviceNumber × ℕ)) (kept : List Kept) (started : Bool) (j : PlainJob) (last : JobResult) (given : Option ℕ) → AreLengths 0 numbers → IsPlace numbers j.number.0 j.place → InOrder (told_with numbers kept started (Some j) last given) no_clock
 order_open numbers kept started j last given all at = record {
   bounded = rw (figures_of numbers j all at) (omega (arith, most_one (job_of kept j).mark));
   fits = omega arith;
@@ -105,7 +105,7 @@ starts_up numbers kept started job last given = record {
   clock_stays = stays (told_with numbers (map undoubted kept) true None JobOk None) (order_none numbers (map undoubted kept) true JobOk None);
 }
 
-module _ (numbers : List (DeviceNumber × ℕ)) (kept : List Kept) (started : Bool) (last : JobResult) (given : Option ℕ) (j : PlainJob) (all : AreLengths 0 numbers) (room : AreKept numbers kept) (at : IsAt numbers j.number.0 j.place) where
+module _ (numbers : List (DeviceNumber × ℕ)) (kept : List Kept) (started : Bool) (last : JobResult) (given : Option ℕ) (j : PlainJob) (all : AreLengths 0 numbers) (room : AreKept numbers kept) (at : IsPlace numbers j.number.0 j.place) where
   abbrev one : Kept
   one = get_or kept j.place blank
 

@@ -3,6 +3,7 @@ use Rattle.std.specs.Prelude.{slice_get, is_some}
 use Rattle.std.proofs.Common.{◌≡◌, ◌≢◌, ◌<◌, ℕ, Bool, true, List, All, length, get_or, map, Option, Some, None, refl, sym, ap, ◌∙◌, subst, arith}
 use Rattle.std.proofs.lemmas.List.{get_or_default}
 use Rattle.std.proofs.lemmas.Option.{slice_get-get_or}
+use Rattle.nv_base.specs.Lengths.{IsPlace}
 use Rattle.nv_base.specs.declared.instance.DeviceNumber.{DeviceNumber}
 use Rattle.nv_base.specs.declared.job.DeviceOp.{DeviceOp}
 use Rattle.nv_base.specs.declared.job.DeviceOp.TheVariants.{Read, Write, Invalidate, Erase}
@@ -15,7 +16,7 @@ use Rattle.memif.specs.declared.plain_store.PlainJob.{PlainJob}
 use Rattle.memif.specs.Told.{DeviceTold, Slot, length_of, slot_at, figures_at, no_figures, most_of, given_by, IsConfigured}
 use Rattle.memif.specs.Calls.{IsKind, kind_of}
 use Rattle.memif.specs.Plain.{plain_figures, plain_fixed}
-use Rattle.memif.specs.PlainInside.{mark_of, slot_of, told_with, stand_of, given_of, content_of, GivesBehind, IsAt, IsSoundGiven, IsSoundWith}
+use Rattle.memif.specs.PlainInside.{mark_of, slot_of, told_with, stand_of, given_of, content_of, GivesBehind, IsSoundGiven, IsSoundWith}
 use Rattle.memif.proofs.Places.{at_same, length_none}
 use Rattle.memif.proofs.Plain.{blank, kept_length, slot_is, size_is}
 
@@ -36,7 +37,7 @@ module _ (numbers : List (DeviceNumber × ℕ)) (kept : List Kept) (started : Bo
       let at : IsKind (told_with numbers kept started job last given) n None = record { configured = rw (length_none numbers n none) refl; kind = tt } in
       subst (λ (d : DeviceTold). IsKind d n None) view at
 
-  pub kind_some : (n place : ℕ) (k : Kept) → IsSoundWith numbers kept job last given → IsAt numbers n place → k ≡ get_or kept place k → IsKind now n (Some k.settled.kind)
+  pub kind_some : (n place : ℕ) (k : Kept) → IsSoundWith numbers kept job last given → IsPlace numbers n place → k ≡ get_or kept place k → IsKind now n (Some k.settled.kind)
   kind_some n place k sound at item =
       let lt : place < length kept = omega (arith, at.within, kept_length numbers kept sound.room) in
       let one : k ≡ get_or kept place blank = item ∙ get_or_default kept place k blank lt in

@@ -2,7 +2,7 @@
 use Rattle.std.specs.Prelude.{◌==◌}
 use Rattle.std.proofs.Common.{◌≡◌, ◌≢◌, inl, inr, ◌<◌, ℕ, Bool, true, false, List, length, get_or, set, Option, Some, None, Ok, refl, sym, ap, ◌∙◌, subst, arith}
 use Rattle.std.proofs.lemmas.Bool.{cases_Bool, eqb-true}
-use Rattle.nv_base.specs.Lengths.{AreLengths}
+use Rattle.nv_base.specs.Lengths.{AreLengths, IsPlace}
 use Rattle.nv_base.specs.declared.instance.DeviceNumber.{DeviceNumber}
 use Rattle.memif.specs.declared.answer.JobResult.{JobResult}
 use Rattle.memif.specs.declared.answer.JobResult.TheVariants.{JobPending}
@@ -12,7 +12,7 @@ use Rattle.memif.specs.declared.plain_store.PlainJob.{PlainJob}
 use Rattle.memif.specs.Told.{DeviceTold, length_of}
 use Rattle.memif.specs.Calls.{refusal_of, length_refusal, Opens, Accepts, ClockStays}
 use Rattle.memif.specs.Plain.{no_clock}
-use Rattle.memif.specs.PlainInside.{mark_of, told_with, AreKept, IsAt, IsSoundWith}
+use Rattle.memif.specs.PlainInside.{mark_of, told_with, AreKept, IsSoundWith}
 use Rattle.memif.proofs.Plain.{blank, none_open, kept_length, size_is, room_at, room_set}
 use Rattle.memif.proofs.PlainCalls.{read_taken, mark_taken, stays, order_open}
 
@@ -22,9 +22,9 @@ same_size given size none = elim (cases_Bool (given == size)) [ inl same ↦ eqb
     some_none : Some BadLength ≡ None → ⊥
     some_none is = cc
 
-module _ (numbers : List (DeviceNumber × ℕ)) (kept : List Kept) (started : Bool) (job : Option PlainJob) (last : JobResult) (given : Option ℕ) (now : DeviceTold) (view : told_with numbers kept started job last given ≡ now) (j : PlainJob) (size : Option ℕ) (all : AreLengths 0 numbers) (room : AreKept numbers kept) (none : refusal_of now j.number.0 size ≡ None) (ended : last ≢ JobPending) (at : IsAt now.fixed.numbers j.number.0 j.place) where
-  here : IsAt numbers j.number.0 j.place
-  here = subst (λ (d : DeviceTold). IsAt d.fixed.numbers j.number.0 j.place) (sym view) at
+module _ (numbers : List (DeviceNumber × ℕ)) (kept : List Kept) (started : Bool) (job : Option PlainJob) (last : JobResult) (given : Option ℕ) (now : DeviceTold) (view : told_with numbers kept started job last given ≡ now) (j : PlainJob) (size : Option ℕ) (all : AreLengths 0 numbers) (room : AreKept numbers kept) (none : refusal_of now j.number.0 size ≡ None) (ended : last ≢ JobPending) (at : IsPlace now.fixed.numbers j.number.0 j.place) where
+  here : IsPlace numbers j.number.0 j.place
+  here = subst (λ (d : DeviceTold). IsPlace d.fixed.numbers j.number.0 j.place) (sym view) at
 
   open_none : job ≡ None
   open_none = none_open numbers kept started job last given j.number.0 size (subst (λ (d : DeviceTold). refusal_of d j.number.0 size ≡ None) (sym view) none)

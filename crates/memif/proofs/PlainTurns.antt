@@ -2,6 +2,7 @@
 use Rattle.std.specs.Prelude.{not}
 use Rattle.std.proofs.Common.{◌≡◌, ◌≢◌, ◌<◌, ℕ, Bool, true, false, List, [], length, get_or, set, Option, Some, None, refl, sym, ap, ◌∙◌, subst, arith}
 use Rattle.std.proofs.lemmas.List.{get_or_default}
+use Rattle.nv_base.specs.Lengths.{IsPlace}
 use Rattle.nv_base.specs.declared.instance.DeviceNumber.{DeviceNumber}
 use Rattle.memif.specs.declared.answer.PlainMark.TheVariants as plain
 use Rattle.memif.specs.declared.answer.JobResult.{JobResult}
@@ -13,7 +14,7 @@ use Rattle.memif.specs.Told.{DeviceTold, length_of}
 use Rattle.memif.specs.Calls.{Turns, Reads, Gives}
 use Rattle.memif.specs.Plain.{no_clock}
 use Rattle.memif.specs.Kept.{settled}
-use Rattle.memif.specs.PlainInside.{mark_of, told_with, given_of, content_of, AreKept, IsAt, IsSoundJob, GivesBehind, IsSoundWith}
+use Rattle.memif.specs.PlainInside.{mark_of, told_with, given_of, content_of, AreKept, IsSoundJob, GivesBehind, IsSoundWith}
 use Rattle.memif.proofs.Plain.{blank, kept_length, size_is, room_at, room_set, get_is}
 use Rattle.memif.proofs.PlainCalls.{write_turns, read_turns}
 
@@ -30,7 +31,7 @@ behind_none j None behind = refl
 behind_none j (Some place) behind = absurd behind
 
 module _ (numbers : List (DeviceNumber × ℕ)) (kept : List Kept) (started : Bool) (job : Option PlainJob) (last : JobResult) (given : Option ℕ) (now : DeviceTold) (view : told_with numbers kept started job last given ≡ now) (j : PlainJob) (is : job ≡ Some j) (sound : IsSoundWith numbers kept job last given) where
-  here : IsAt numbers j.number.0 j.place
+  here : IsPlace numbers j.number.0 j.place
   here = subst (IsSoundJob numbers) is sound.at
 
   pub none : given ≡ None

@@ -12,7 +12,7 @@ use Rattle.memif.specs.declared.answer.DeviceRefusal.{DeviceRefusal}
 use Rattle.memif.specs.declared.answer.DeviceTurn.{DeviceTurn}
 use Rattle.memif.specs.declared.answer.DeviceTurn.TheVariants.{Idle, Worked, Off}
 use Rattle.memif.specs.declared.answer.JobResult.{JobResult}
-use Rattle.memif.specs.declared.answer.JobResult.TheVariants.{JobOk, JobFailed, JobPending, JobCanceled, BlockInconsistent, BlockInvalid}
+use Rattle.memif.specs.declared.answer.JobResult.TheVariants.{JobOk, JobFailed, JobPending, JobCanceled}
 use Rattle.memif.specs.declared.run.DeviceCall.{DeviceCall}
 use Rattle.memif.specs.declared.run.DeviceCall.TheVariants as call
 use Rattle.memif.specs.declared.run.DeviceStep.{DeviceStep}
@@ -75,10 +75,7 @@ stays : (d : DeviceTold) (stand : Stand) (k : Known) → d.stand ≡ stand → T
 stays d (Open j) k is ties = ties
 stays d (Ended JobPending given) k is ties = ties
 stays d (Ended JobOk given) k is ties = subst (λ (j : Option Job). Ties d (settles j k)) (ap open_job (sym is) ∙ ties.job) ties
-stays d (Ended JobFailed given) k is ties = record { slots = ties.slots; job = ap open_job is }
-stays d (Ended JobCanceled given) k is ties = record { slots = ties.slots; job = ap open_job is }
-stays d (Ended BlockInconsistent given) k is ties = record { slots = ties.slots; job = ap open_job is }
-stays d (Ended BlockInvalid given) k is ties = record { slots = ties.slots; job = ap open_job is }
+stays d (Ended result given) k is ties = record { slots = ties.slots; job = ap open_job is }
 
 -- what is known, at the numbers of a device before
 known_at : (old new : DeviceTold) (known : ℕ → Slot) → new.fixed ≡ old.fixed → AreKnown old.fixed.numbers new.slots known → AreKnown new.fixed.numbers new.slots known
@@ -176,19 +173,12 @@ module _ (old : DeviceTold) (clock : Clock) (new : DeviceTold) (clock_new : Cloc
   -- a job that ended settled its mark, or all is as it is known
   read_ends : (j : Job) (r : JobResult) (size : Option ℕ) (given : List ℕ) (known : ℕ → Slot) → Gives r size given → AreKnown old.fixed.numbers new.slots known → AreKnown old.fixed.numbers new.slots (comes_to r (record { slots = known; job = Some (record j { mark = None }) })).slots
   read_ends j JobOk size given known gives is = same_known old.fixed.numbers known j.number new.slots is
-  read_ends j JobFailed size given known gives is = is
-  read_ends j BlockInconsistent size given known gives is = is
-  read_ends j BlockInvalid size given known gives is = is
-  read_ends j JobPending size given known gives is = is
-  read_ends j JobCanceled size given known gives is = is
+  read_ends j result size given known gives is = is
 
   write_ends : (j : Job) (mark : Mark) (r : JobResult) (known : ℕ → Slot) → Writes r j.number mark old new → AreKnown old.fixed.numbers old.slots known → AreKnown old.fixed.numbers new.slots (comes_to r (record { slots = known; job = Some (record j { mark = Some mark }) })).slots
   write_ends j mark JobOk known writes is = changes_known old.fixed.numbers known j.number (settled_by (Some mark)) (SettlesAs mark) (settles_more mark) old.slots new.slots writes is
   write_ends j mark JobFailed known writes is = keeps_known old.fixed.numbers known old.slots new.slots writes is
-  write_ends j mark JobPending known writes is = absurd writes
-  write_ends j mark JobCanceled known writes is = absurd writes
-  write_ends j mark BlockInconsistent known writes is = absurd writes
-  write_ends j mark BlockInvalid known writes is = absurd writes
+  write_ends j mark result known writes is = absurd writes
 
   ends_known : (j : Job) (mark : Option Mark) (r : JobResult) (given : List ℕ) (known : ℕ → Slot) → EndsAs mark j.number r given old new → (is_none mark ≡ true → new.slots ≡ old.slots) → AreKnown old.fixed.numbers old.slots known
       → AreKnown old.fixed.numbers new.slots (comes_to r (record { slots = known; job = Some (record j { mark = mark }) })).slots
@@ -196,13 +186,9 @@ module _ (old : DeviceTold) (clock : Clock) (new : DeviceTold) (clock_new : Cloc
   ends_known j (Some mark) r given known ends same is = write_ends j mark r known ends.0 is
 
   ends_job : (j : Job) (mark : Option Mark) (r : JobResult) (given : List ℕ) (k : Known) → EndsAs mark j.number r given old new → None ≡ (comes_to r (record k { job = Some j })).job
-  ends_job j mark JobOk given k ends = refl
-  ends_job j mark JobFailed given k ends = refl
-  ends_job j mark JobCanceled given k ends = refl
-  ends_job j mark BlockInconsistent given k ends = refl
-  ends_job j mark BlockInvalid given k ends = refl
   ends_job j None JobPending given k ends = absurd ends.1
   ends_job j (Some mark) JobPending given k ends = absurd ends.0
+  ends_job j mark result given k ends = refl
 
   turn_ties : (p : Part) (a b : Stand) → old.stand ≡ a → new.stand ≡ b → new.fixed ≡ old.fixed → JobTurns p a b old new clock_new → (is_read a ≡ true → new.slots ≡ old.slots) → (k : Known) → Ties old k → Ties new (comes_to (result_of b) k)
   turn_ties p (Open j) (Open j') was is fixed turns same k ties = record {

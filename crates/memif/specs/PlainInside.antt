@@ -1,9 +1,9 @@
 -- The fields of a device in memory.
-use Rattle.std.specs.Prelude.{◌≡◌, ◌≢◌, ◌<◌, ℕ, Bool, false, if◌then◌else◌, List, [], ◌∷◌, map, length, slice_get, slice_index_or, Option, Some, None, is_some}
+use Rattle.std.specs.Prelude.{◌≡◌, ◌≢◌, ◌<◌, ℕ, Bool, false, if◌then◌else◌, List, [], ◌∷◌, map, length, slice_get, Option, Some, None, is_some}
 use Rattle.nv_base.specs.declared.instance.DeviceNumber.{DeviceNumber}
 use Rattle.nv_base.specs.declared.mark.Mark.{Mark}
 use Rattle.nv_base.specs.declared.mark.Mark.TheVariants as mark
-use Rattle.nv_base.specs.Lengths.{AreLengths}
+use Rattle.nv_base.specs.Lengths.{AreLengths, IsPlace}
 use Rattle.memif.specs.declared.answer.PlainMark.TheVariants as plain
 use Rattle.memif.specs.declared.answer.JobResult.{JobResult}
 use Rattle.memif.specs.declared.answer.JobResult.TheVariants.{JobPending}
@@ -71,7 +71,7 @@ told_with numbers kept started job last given = record {
 }
 
 abbrev pub told_of : Inside → DeviceTold
-told_of p = told_with p.numbers.items p.kept.items p.started p.job p.last p.given
+told_of p = told_with p.numbers p.kept.items p.started p.job p.last p.given
 
 -- each number has room for its content, twice
 abbrev pub AreKept : List (DeviceNumber × ℕ) → List Kept → Type 0
@@ -80,14 +80,9 @@ AreKept (x ∷ xs) (k ∷ ks) = (length k.settled.content ≡ x.1) × (length k.
 AreKept [] (k ∷ ks) = ⊥
 AreKept (x ∷ xs) [] = ⊥
 
--- a number stands at a place
-pub record IsAt (numbers : List (DeviceNumber × ℕ)) (number place : ℕ) : Type 0 where
-  pub within : place < length numbers
-  pub is : (d : DeviceNumber × ℕ) → (slice_index_or numbers place d).0.0 ≡ number
-
 abbrev pub IsSoundJob : List (DeviceNumber × ℕ) → Option PlainJob → Type 0
 IsSoundJob numbers None = Unit {0}
-IsSoundJob numbers (Some j) = IsAt numbers j.number.0 j.place
+IsSoundJob numbers (Some j) = IsPlace numbers j.number.0 j.place
 
 abbrev pub IsSoundGiven : List (DeviceNumber × ℕ) → Option ℕ → Type 0
 IsSoundGiven numbers None = Unit {0}
@@ -108,4 +103,4 @@ pub record IsSoundWith (numbers : List (DeviceNumber × ℕ)) (kept : List Kept)
   pub ended : last ≢ JobPending
 
 abbrev pub IsSound : Inside → Type 0
-IsSound p = IsSoundWith p.numbers.items p.kept.items p.job p.last p.given
+IsSound p = IsSoundWith p.numbers p.kept.items p.job p.last p.given

@@ -8,7 +8,6 @@ mod answer;
 mod device;
 mod kept;
 mod mem_if;
-mod place;
 mod plain_store;
 mod run;
 mod trials;

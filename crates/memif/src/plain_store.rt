@@ -1,14 +1,13 @@
 // A device in memory.
-ghost use Rattle.std.specs.Prelude.{◌≡◌, ◌≢◌, IfOk, Ok, MatchResult, Some, None, length, slice_index_or};
+ghost use Rattle.std.specs.Prelude.{◌≡◌, ◌≢◌, [], IfOk, Ok, MatchResult, Some, None, length, slice_index_or};
 ghost use Rattle.memif.specs.Told.{DeviceTold};
 ghost use Rattle.memif.specs.Calls.{refusal_of, StartsUp, Turns, InOrder};
 ghost use Rattle.memif.specs.Plain.{plain_store, no_clock, IsPlainTurn};
-ghost use Rattle.memif.specs.PlainInside.{IsAt};
+ghost use Rattle.nv_base.specs.Lengths.{IsPlace};
 
 use crate::kept::{Kept, leave_no_doubt, mark, room_for, settle, stage};
-use crate::place::{numbers_of, place_of};
 use crate::{DeviceRefusal, DeviceTurn, JobResult, MemDevice, MemStatus, PlainMark, StartFault};
-use nv_base::{DeviceNumber, DeviceOp, Lengths};
+use nv_base::{DeviceNumber, DeviceOp, Lengths, lengths_of};
 use std::alloc::{AllocError, Global};
 use std::marker::Model;
 
@@ -25,7 +24,7 @@ struct PlainJob {
 /// no fault and no power cut. Contracts see what is told of it.
 #[derive(Drop)]
 pub struct PlainStore {
-    numbers: Vec<(DeviceNumber, u16)>,
+    numbers: Lengths,
     kept: Vec<Kept>,
     started: bool,
     job: Option<PlainJob>,
@@ -50,9 +49,8 @@ impl PlainStore {
     pub fn make(alloc: Global, numbers: &Lengths) -> Result<PlainStore, AllocError>
         ensures { IfOk result (λ p. p ≡ plain_store numbers.now) }
     {
-        let _ = numbers.len();
-        let numbers = numbers_of(alloc, numbers)?;
-        let kept = room_for(alloc, &numbers)?;
+        let numbers = lengths_of(alloc, numbers.as_slice())?;
+        let kept = room_for(alloc, numbers.as_slice())?;
         Ok(PlainStore {
             numbers,
             kept,
@@ -63,11 +61,25 @@ impl PlainStore {
         })
     }
 
+    /// A device without numbers, that isn't started: the second of two devices where there is but one.
+    pub fn without_numbers(alloc: Global) -> PlainStore
+        ensures { result ≡ plain_store [] }
+    {
+        PlainStore {
+            numbers: Lengths::new(alloc),
+            kept: Vec::new(alloc),
+            started: false,
+            job: None,
+            last: JobResult::JobOk,
+            given: None,
+        }
+    }
+
     // The place of a number that a job may be taken for.
     #[tactic(auto, using(crate::proofs::PlainCalls::in_order))]
     fn check(&self, number: DeviceNumber, length: Option<usize>) -> Result<usize, DeviceRefusal>
         ensures refusal { MatchResult result (λ place. refusal_of self.now number.0 length ≡ None) (λ r. refusal_of self.now number.0 length ≡ Some r) }
-        ensures place { IfOk result (λ place. IsAt self.now.fixed.numbers number.0 place) }
+        ensures place { IfOk result (λ place. IsPlace self.now.fixed.numbers number.0 place) }
         ensures order { InOrder self.now no_clock }
     {
         if self.job.is_some() {
@@ -76,11 +88,11 @@ impl PlainStore {
         if !self.started {
             return Err(DeviceRefusal::Uninit);
         }
-        let Some(place) = place_of(&self.numbers, number.0) else {
+        let Some(place) = self.numbers.place_of(number) else {
             return Err(DeviceRefusal::BadNumber);
         };
         match length {
-            Some(length) if length != usize::from(self.numbers[place].1) => {
+            Some(length) if length != usize::from(self.numbers.as_slice()[place].1) => {
                 Err(DeviceRefusal::BadLength)
             }
             _ => Ok(place),
@@ -204,7 +216,7 @@ impl MemDevice for PlainStore {
     }
 
     fn mark_kind(&self, number: DeviceNumber) -> Option<PlainMark> {
-        match place_of(&self.numbers, number.0) {
+        match self.numbers.place_of(number) {
             Some(place) => Some(self.kept[place].settled.kind),
             None => None,
         }

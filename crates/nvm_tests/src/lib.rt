@@ -18,6 +18,8 @@ mod driver;
 #[cfg(test)]
 mod flash;
 #[cfg(test)]
+mod floor;
+#[cfg(test)]
 mod format;
 #[cfg(test)]
 mod texts;

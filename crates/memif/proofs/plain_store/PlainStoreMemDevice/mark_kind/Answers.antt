@@ -4,10 +4,10 @@ use Rattle.memif.proofs.PlainLooks.{kind_none, kind_some}
 use Rattle.memif.proofs.plain_store.PlainStoreMemDevice.mark_kind.Goals as goal
 
 pub index-requires : goal.index-requires
-index-requires c = let at = rw c.deref.ensures.value at c.in-Some.ensures in omega (arith, at.within, kept_length _ _ c.self.invariant.room, c.self.inside.kept.ok)
+index-requires c = let at = c.in-Some.ensures.place in omega (arith, at.within, kept_length _ _ c.self.invariant.room, c.self.inside.kept.ok)
 
 pub returns-in-Some : goal.returns-in-Some
-returns-in-Some c = let at = rw c.deref.ensures.value at c.in-Some.ensures in kind_some _ _ _ _ _ _ _ c.self.view_is _ _ _ c.self.invariant at c.index.ensures
+returns-in-Some c = let at = c.in-Some.ensures.place in kind_some _ _ _ _ _ _ _ c.self.view_is _ _ _ c.self.invariant at c.index.ensures
 
 pub returns-in-None : goal.returns-in-None
-returns-in-None c = kind_none _ _ _ _ _ _ _ c.self.view_is _ (rw c.deref.ensures.value at c.in-None.ensures)
+returns-in-None c = kind_none _ _ _ _ _ _ _ c.self.view_is _ c.in-None.ensures.place

@@ -7,4 +7,4 @@ invariant_of-self c = record { ascending = c.self.invariant.ascending; room = rw
 
 pub returns-clause-start : goal.returns-clause-start
 returns-clause-start c =
-    rw (← c.self.view_is, c.leave_no_doubt.ensures) (starts_up c.self.inside.numbers.items c.self.inside.kept.items c.self.inside.started c.self.inside.job c.self.inside.last c.self.inside.given)
+    rw (← c.self.view_is, c.leave_no_doubt.ensures) (starts_up c.self.inside.numbers c.self.inside.kept.items c.self.inside.started c.self.inside.job c.self.inside.last c.self.inside.given)
