@@ -1,6 +1,6 @@
 // A device in memory.
-ghost use Rattle.std.specs.Prelude.{◌≡◌, ◌≢◌, [], IfOk, Ok, MatchResult, Some, None, length, slice_index_or};
-ghost use Rattle.memif.specs.Told.{DeviceTold};
+ghost use Rattle.std.specs.Prelude.{◌≡◌, ◌≢◌, [], IfOk, Ok, MatchResult, Some, None, false, length, slice_index_or};
+ghost use Rattle.memif.specs.Told.{DeviceTold, is_open};
 ghost use Rattle.memif.specs.Calls.{refusal_of, StartsUp, Turns, InOrder};
 ghost use Rattle.memif.specs.Plain.{plain_store, no_clock, IsPlainTurn};
 ghost use Rattle.nv_base.specs.Lengths.{IsPlace};
@@ -109,6 +109,7 @@ impl MemDevice for PlainStore {
         ensures start { StartsUp result self.old no_clock self.new no_clock }
         ensures ok { (u : _) × (result ≡ Ok u) }
         ensures no_fault { self.new.first ≡ self.old.first }
+        ensures rests { is_open self.new.stand ≡ false }
     {
         leave_no_doubt(&mut self.kept);
         self.started = true;

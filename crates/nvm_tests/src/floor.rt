@@ -1,4 +1,6 @@
 // The floor: each call of a device once, alone and as one of two, runs of calls, and work over any device.
+ghost use Rattle.std.specs.Prelude.{◌≡◌, IfOk};
+ghost use Rattle.memif.specs.Plain.{plain_store};
 
 use memif::*;
 use nv_base::{DeviceNumber, DeviceOp, bytes_of, lengths_of};
@@ -11,15 +13,19 @@ const TWO: DeviceNumber = DeviceNumber(129);
 
 const NUMBERS: [(DeviceNumber, u16); 2] = [(FOUR, 4), (TWO, 2)];
 
-fn store(alloc: Global) -> Result<PlainStore, AllocError> {
+fn store(alloc: Global) -> Result<PlainStore, AllocError>
+    ensures { IfOk result (λ p. p ≡ plain_store NUMBERS) }
+{
     PlainStore::make(alloc, &lengths_of(alloc, &NUMBERS)?)
 }
 
 #[test]
 fn each_call_of_one_device_of_two(rt: HostRuntime) -> Result<(), Fail> {
     let mut devices = MemIf::make(store(rt.alloc())?, PlainStore::without_numbers(rt.alloc()));
-    assert_eq!(rt; (devices.start(0), devices.start(1)), (Ok(()), Ok(())));
+    assert_eq!(rt; devices.most(0, TWO, DeviceOp::Write), 1);
+    devices.cancel(0);
     devices.arm(0, 0, 1, 0);
+    assert_eq!(rt; (devices.start(0), devices.start(1)), (Ok(()), Ok(())));
     assert_eq!(rt; devices.start_write(0, TWO, b"ab", false), Ok(()));
     assert_eq!(rt;
         (devices.status(0), devices.result(0), devices.left(0)),
@@ -36,8 +42,8 @@ fn each_call_of_one_device_of_two(rt: HostRuntime) -> Result<(), Fail> {
     assert_eq!(rt; devices.turn(0), DeviceTurn::Worked);
     assert_eq!(rt; devices.mark_kind(0, TWO), Some(PlainMark::Invalid));
     assert_eq!(rt; devices.start_erase(0, TWO), Ok(()));
-    devices.cancel(0);
-    assert_eq!(rt; devices.result(0), JobResult::JobCanceled);
+    assert_eq!(rt; devices.turn(0), DeviceTurn::Worked);
+    assert_eq!(rt; devices.result(0), JobResult::JobOk);
     assert_eq!(rt; (devices.ops(0), devices.faults(0)), (0, 0));
     for (device, refusal) in [(1, DeviceRefusal::BadNumber), (2, DeviceRefusal::BadNumber)] {
         assert_eq!(rt; devices.start_read(device, FOUR, 4), Err(refusal));
