@@ -12,6 +12,7 @@ use Rattle.block_machine.specs.StartUp.{found_instances}
 use Rattle.block_machine.specs.Steps.{step, after, after_from, picked_job}
 use Rattle.block_machine.specs.Legal.{IsAllowed, IsLegal, marks_of}
 use Rattle.block_machine.specs.History.{is_driver_until, up_to}
+use Rattle.block_machine.specs.Consistent.{IsConsistent}
 
 -- HISTORIES
 
@@ -109,3 +110,13 @@ abbrev pub FoundIsSettled : Type 0
 FoundIsSettled =
     (c : Configuration) (cap : ℕ) (s : State) (marks : List (Instance × Mark)) (ops : ℕ) → IsAllowed c cap s (Found marks ops)
     → (marks ≡ marks_of (step c s (Found marks ops)).instances) × ((step c s (Found marks ops)).instances ≡ found_instances c marks)
+
+-- THE STATE AFTER A LEGAL HISTORY
+
+-- an allowed entry leaves a consistent state consistent
+abbrev pub AllowedStepsStayConsistent : Type 0
+AllowedStepsStayConsistent = (c : Configuration) (cap : ℕ) (s : State) (e : Entry) → IsConsistent c s → IsAllowed c cap s e → IsConsistent c (step c s e)
+
+-- so the state after a legal history is
+abbrev pub LegalStatesAreConsistent : Type 0
+LegalStatesAreConsistent = (c : Configuration) (cap : ℕ) (h : List Entry) → IsLegal c cap h → IsConsistent c (after c h)

@@ -1,5 +1,5 @@
 // Laws of the block machine.
-ghost use Rattle.block_machine.specs.Laws.{HistoriesStep, HistoriesGoOn, HistoriesStayLegal, BeginningsAreLegal, EntriesAreCounted, AsksAreLocal, LateEntriesAreCutOff, EarlyEntriesAreKept, UpToIsABeginning, FailedSetsAreLeast, AcceptedPass, FittingHasRoom, NextIsWaiting, NextGoesFirst, NoneWaits, PickTakesInHand, EntriesOfTheJobInHand, FoundIsSettled};
+ghost use Rattle.block_machine.specs.Laws.{HistoriesStep, HistoriesGoOn, HistoriesStayLegal, BeginningsAreLegal, EntriesAreCounted, AsksAreLocal, LateEntriesAreCutOff, EarlyEntriesAreKept, UpToIsABeginning, FailedSetsAreLeast, AcceptedPass, FittingHasRoom, NextIsWaiting, NextGoesFirst, NoneWaits, PickTakesInHand, EntriesOfTheJobInHand, FoundIsSettled, AllowedStepsStayConsistent, LegalStatesAreConsistent};
 
 /// How a history grows.
 pub fn histories_grow()
@@ -49,4 +49,10 @@ pub fn a_pick_takes_in_hand()
 /// A start-up settles what it lists.
 pub fn what_is_found_is_settled()
     ensures { FoundIsSettled }
+{}
+
+/// The state after a legal history is consistent.
+pub fn legal_states_are_consistent()
+    ensures steps { AllowedStepsStayConsistent }
+    ensures histories { LegalStatesAreConsistent }
 {}
