@@ -194,5 +194,8 @@ along : (c : Configuration) (cap : ℕ) (s : State) (es : List Entry) → IsCons
 along c cap s [] h legal = h
 along c cap s (e ∷ es) h legal = along c cap (step c s e) es (steps_stay_consistent c cap s e h legal.0) legal.1
 
+pub at_first_consistent : (c : Configuration) → IsConsistent c at_first
+at_first_consistent c = record { blocks = λ on. cc; waiting = tt; apart = tt; hand = tt; sweep = tt }
+
 pub legal_states : LegalStatesAreConsistent
-legal_states c cap h legal = along c cap at_first h (record { blocks = λ on. cc; waiting = tt; apart = tt; hand = tt; sweep = tt }) legal
+legal_states c cap h legal = along c cap at_first h (at_first_consistent c) legal

@@ -5,3 +5,4 @@ pub mod JobLists
 pub mod Consistency
 pub mod NextFacts
 pub mod ConsistentSteps
+pub mod EntryRoom

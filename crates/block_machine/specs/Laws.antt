@@ -1,5 +1,5 @@
 -- Laws of the block machine.
-use Rattle.std.specs.Prelude.{◌≡◌, ◌≢◌, ◌↔◌, ℕ, ◌+◌, ◌-◌, true, false, List, [], ◌∷◌, ◌++◌, length, ◌≤◌, Contains, IsSome, is_some, unwrap_or, if◌then◌else◌, Option, Some, None}
+use Rattle.std.specs.Prelude.{◌≡◌, ◌≢◌, ◌↔◌, ℕ, ◌+◌, ◌-◌, true, false, List, [], ◌∷◌, ◌++◌, length, ◌≤◌, ◌<◌, Bool, Contains, IsSome, is_some, unwrap_or, if◌then◌else◌, Option, Some, None}
 use Rattle.block_machine.specs.Words.{ReqResult, Instance, Mark, Request, Reply, Accepted, Refusal, JobKind, Taken, Entry, Ask, Pick, Wrote, Post, Found, Configuration}
 use Rattle.block_machine.specs.State.{State, Job, Sweep}
 use Rattle.block_machine.specs.Order.{goes_before}
@@ -120,3 +120,16 @@ AllowedStepsStayConsistent = (c : Configuration) (cap : ℕ) (s : State) (e : En
 -- so the state after a legal history is
 abbrev pub LegalStatesAreConsistent : Type 0
 LegalStatesAreConsistent = (c : Configuration) (cap : ℕ) (h : List Entry) → IsLegal c cap h → IsConsistent c (after c h)
+
+-- each entry of the driver but a start-up uses one that was reserved
+abbrev pub uses_reserved : Entry → Bool
+uses_reserved (Ask caller r reply) = false
+uses_reserved (Found marks ops) = false
+uses_reserved e = true
+
+abbrev pub DriverEntriesAreReserved : Type 0
+DriverEntriesAreReserved = (c : Configuration) (cap : ℕ) (s : State) (e : Entry) → IsConsistent c s → IsAllowed c cap s e → uses_reserved e ≡ true → reserved_entries c (step c s e) < reserved_entries c s
+
+-- so the entries of a legal history and the reserved ones are within the cap
+abbrev pub EntriesFit : Type 0
+EntriesFit = (c : Configuration) (cap : ℕ) (h : List Entry) → IsLegal c cap h → length h + reserved_entries c (after c h) ≤ cap

@@ -1,5 +1,5 @@
 // Laws of the block machine.
-ghost use Rattle.block_machine.specs.Laws.{HistoriesStep, HistoriesGoOn, HistoriesStayLegal, BeginningsAreLegal, EntriesAreCounted, AsksAreLocal, LateEntriesAreCutOff, EarlyEntriesAreKept, UpToIsABeginning, FailedSetsAreLeast, AcceptedPass, FittingHasRoom, NextIsWaiting, NextGoesFirst, NoneWaits, PickTakesInHand, EntriesOfTheJobInHand, FoundIsSettled, AllowedStepsStayConsistent, LegalStatesAreConsistent};
+ghost use Rattle.block_machine.specs.Laws.{HistoriesStep, HistoriesGoOn, HistoriesStayLegal, BeginningsAreLegal, EntriesAreCounted, AsksAreLocal, LateEntriesAreCutOff, EarlyEntriesAreKept, UpToIsABeginning, FailedSetsAreLeast, AcceptedPass, FittingHasRoom, NextIsWaiting, NextGoesFirst, NoneWaits, PickTakesInHand, EntriesOfTheJobInHand, FoundIsSettled, AllowedStepsStayConsistent, LegalStatesAreConsistent, DriverEntriesAreReserved, EntriesFit};
 
 /// How a history grows.
 pub fn histories_grow()
@@ -55,4 +55,10 @@ pub fn what_is_found_is_settled()
 pub fn legal_states_are_consistent()
     ensures steps { AllowedStepsStayConsistent }
     ensures histories { LegalStatesAreConsistent }
+{}
+
+/// The entries of a legal history and the reserved ones are within the cap.
+pub fn entries_fit()
+    ensures reserved { DriverEntriesAreReserved }
+    ensures fit { EntriesFit }
 {}
