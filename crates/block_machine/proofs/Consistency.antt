@@ -1,23 +1,21 @@
 -- The state stays consistent with each allowed entry.
-use Rattle.std.specs.Prelude.{slice_index_or, slice_set, get_or, Contains, option_to_list}
-use Rattle.std.specs.Option.{option_map_or}
+use Rattle.std.specs.Prelude.{slice_set, get_or}
 use Rattle.std.specs.List.{enumerate_from}
-use Rattle.std.proofs.Common.{◌≡◌, ◌≢◌, ℕ, zero, suc, ◌==◌, ◌+◌, ◌-◌, ◌<◌, ◌≤◌, ◌||◌, not, nat_lt, Bool, true, false, cond, if◌then◌else◌, List, [], ◌∷◌, ◌++◌, drop, length, filter, map, refl, sym, ap, ◌∙◌, subst, ◌⊎◌, inl, inr, arith, Option, Some, None, IfSome, IsTrue, is_some, option_map}
+use Rattle.std.proofs.Common.{◌≡◌, ◌≢◌, ℕ, zero, suc, ◌==◌, ◌+◌, ◌-◌, ◌<◌, ◌≤◌, ◌||◌, not, nat_lt, Bool, true, false, if◌then◌else◌, List, [], ◌∷◌, ◌++◌, drop, length, filter, map, refl, sym, ap, ◌∙◌, subst, ◌⊎◌, inl, inr, arith, Option, Some, None, IfSome, IsTrue, is_some, option_map}
 use Rattle.std.proofs.lemmas.List.{get_or-set_same, get_or-set_other, length-set}
-use Rattle.std.proofs.lemmas.Bool.{cases_Bool, eq-eqb}
+use Rattle.std.proofs.lemmas.Bool.{cases_Bool}
 use Rattle.std.proofs.lemmas.Bool.Decides.{eqb_tells, nat_tests}
-use Rattle.block_machine.specs.Words.{ReqResult, Pending, Instance, Mark, Request, Read, Write, Restore, Erase, Invalidate, SetIndex, GetIndex, SetProtection, SetLock, SetRam, PutRam, Status, ReadAll, WriteAll, CancelWriteAll, Reply, Accepted, Refused, StatusIs, IndexIs, Refusal, UnknownBlock, MultiPending, JobKind, ReadJob, WriteJob, RestoreJob, EraseJob, InvalidateJob, ReadAllJob, WriteAllJob, Taken, Entry, Ask, Pick, Wrote, Post, Off, Found, BlockKind, Native, Redundant, Dataset, Configuration}
+use Rattle.block_machine.specs.Words.{Pending, Request, Read, Write, Restore, Erase, Invalidate, SetIndex, SetProtection, SetLock, SetRam, PutRam, ReadAll, WriteAll, CancelWriteAll, Reply, Accepted, Refused, StatusIs, IndexIs, UnknownBlock, JobKind, ReadJob, RestoreJob, Taken, BlockKind, Native, Redundant, Dataset, Configuration}
 use Rattle.block_machine.specs.State.{State, BlockState, InstanceState, Job, Sweep}
-use Rattle.block_machine.specs.Blocks.{block_at, no_block, status_of, is_pending, asked_block, job_kind, is_immediate, job_block, kind_of, rank_of, records_by, records_of, desc_of}
-use Rattle.block_machine.specs.Sweeps.{members_of, ids_where, sweep_at, member_job, member_request, member_kind, member_entries, after_member}
+use Rattle.block_machine.specs.Blocks.{block_at, no_block, status_of, is_pending, asked_block, job_kind, job_block, kind_of, rank_of, records_by, records_of, desc_of}
+use Rattle.block_machine.specs.Sweeps.{members_of, ids_where}
 use Rattle.block_machine.specs.Reply.{reply_of, needed}
-use Rattle.block_machine.specs.Next.{Next, Nothing, PickJob, BeginSweep, PickMember, PostMember, EndSweep, next_in, next_by, next_of}
-use Rattle.block_machine.specs.StartUp.{at_first}
-use Rattle.block_machine.specs.Steps.{step, after, after_from, with_block, with_status, with_sweep, with_member, changed, accepted_by, job_at, asked, picked_job, interrupted, in_hand, picked, wrote, posted, posted_next, with_ended, ended, without_job}
-use Rattle.block_machine.specs.Legal.{IsAsk, IsDriving, MayInterrupt, HandIsFree, IsPick, MayPick, IsWrote, MayWrite, MayPost, IsAllowed, IsLegalFrom, is_unfinished}
+use Rattle.block_machine.specs.Next.{next_in}
+use Rattle.block_machine.specs.Steps.{after, with_block, with_status, with_sweep, changed, accepted_by, job_at, asked, picked_job, in_hand, without_job}
+use Rattle.block_machine.specs.Legal.{IsAsk, MayInterrupt, HandIsFree}
 use Rattle.block_machine.specs.Consistent.{Each, HaveOthers, AreApart, IsWaitingJob, IsJobInHand, IsPendingSweep, IsConsistent}
 use Rattle.block_machine.proofs.JobLists.{each_more, each_push, each_parts, apart_push, apart_parts, without_split}
-use Rattle.block_machine.proofs.NextLaws.{accepted_pass, next_is_waiting, none_waits}
+use Rattle.block_machine.proofs.NextLaws.{accepted_pass, next_is_waiting}
 
 -- ONE ENTRY MORE
 

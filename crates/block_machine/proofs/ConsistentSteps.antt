@@ -1,21 +1,20 @@
 -- The state after a legal history is consistent.
 use Rattle.std.specs.Prelude.{slice_set, get_or}
-use Rattle.std.proofs.Common.{◌≡◌, ◌≢◌, ℕ, ◌+◌, ◌-◌, ◌<◌, ◌≤◌, Bool, true, false, if◌then◌else◌, List, [], ◌∷◌, ◌++◌, drop, length, refl, sym, ap, ◌∙◌, subst, arith, Option, Some, None, IfSome, IsTrue, option_map, unwrap_or, length-append}
+use Rattle.std.proofs.Common.{◌≡◌, ◌≢◌, ℕ, ◌+◌, ◌≤◌, Bool, true, false, List, [], ◌∷◌, ◌++◌, drop, length, refl, ap, ◌∙◌, subst, arith, Option, Some, None, IfSome, option_map, unwrap_or, length-append}
 use Rattle.std.proofs.lemmas.List.{length-set}
 use Rattle.block_machine.specs.Words.{ReqResult, Pending, Instance, Mark, JobKind, ReadJob, Taken, Entry, Ask, Pick, Wrote, Post, Off, Found, Configuration}
-use Rattle.block_machine.specs.State.{State, BlockState, InstanceState, Job, Sweep}
-use Rattle.block_machine.specs.Blocks.{block_at, no_block, keeps_ram, asked_block, job_kind, job_block, kind_of, names_ram, records_by, records_of, desc_of}
+use Rattle.block_machine.specs.State.{State, InstanceState, Job, Sweep}
+use Rattle.block_machine.specs.Blocks.{block_at, no_block, keeps_ram, asked_block, job_kind, job_block, kind_of, names_ram, records_by, desc_of}
 use Rattle.block_machine.specs.Sweeps.{member_job, member_request, member_kind, after_member}
 use Rattle.block_machine.specs.Next.{Next, Nothing, PickJob, BeginSweep, PickMember, PostMember, EndSweep, next_in, next_of}
-use Rattle.block_machine.specs.StartUp.{at_first, found_instances}
-use Rattle.block_machine.specs.Results.{Answer}
-use Rattle.block_machine.specs.Steps.{step, after_from, with_member, picked_job, in_hand, picked, wrote, posted, posted_next, ended, settled_in}
-use Rattle.block_machine.specs.Legal.{HandIsFree, MayPick, IsWrote, MayWrite, MayPost, MayPostNext, IsAllowed, IsLegalFrom}
+use Rattle.block_machine.specs.StartUp.{at_first}
+use Rattle.block_machine.specs.Steps.{step, after_from, with_member, picked_job, in_hand, picked, wrote, posted, posted_next, ended}
+use Rattle.block_machine.specs.Legal.{MayPick, MayWrite, MayPost, MayPostNext, IsLegalFrom}
 use Rattle.block_machine.specs.Laws.{LegalStatesAreConsistent, AllowedStepsStayConsistent}
-use Rattle.block_machine.specs.Consistent.{Each, HaveOthers, AreApart, IsWaitingJob, IsJobInHand, IsPendingSweep, IsConsistent}
+use Rattle.block_machine.specs.Consistent.{Each, AreApart, IsWaitingJob, IsJobInHand, IsPendingSweep, IsConsistent}
 use Rattle.block_machine.proofs.NextLaws.{none_waits}
 use Rattle.block_machine.proofs.NextFacts.{sweep_in, member_in, job_in, next_job_by, next_sweep_by, next_left}
-use Rattle.block_machine.proofs.Consistency.{waits_longer, hand_kept, sweep_kept, status_apart, counted, ask_consistent, pick_consistent, plain_entries}
+use Rattle.block_machine.proofs.Consistency.{waits_longer, hand_kept, sweep_kept, status_apart, ask_consistent, pick_consistent}
 
 -- A STEP OF THE SWEEP
 

@@ -1,7 +1,7 @@
 -- The entries of a legal history and the reserved ones are within the cap.
 use Rattle.std.specs.Prelude.{Contains, option_to_list}
 use Rattle.std.specs.Option.{option_map_or}
-use Rattle.std.proofs.Common.{◌≡◌, ℕ, ◌+◌, ◌-◌, ◌<◌, ◌≤◌, ◌&&◌, not, Bool, true, false, if◌then◌else◌, List, [], ◌∷◌, ◌++◌, drop, length, refl, sym, ap, ◌∙◌, subst, arith, Option, Some, None, IfSome, IsTrue, is_some, option_map, sum_by}
+use Rattle.std.proofs.Common.{◌≡◌, ℕ, ◌+◌, ◌-◌, ◌<◌, ◌≤◌, ◌&&◌, not, Bool, true, false, if◌then◌else◌, List, [], ◌∷◌, ◌++◌, drop, length, refl, sym, ap, ◌∙◌, subst, arith, Option, Some, None, IfSome, IsTrue, option_map, sum_by}
 use Rattle.std.proofs.lemmas.Bool.{true≢false}
 use Rattle.std.proofs.lemmas.List.Sums.{sum_by-append, sum_by-cons}
 use Rattle.block_machine.specs.Words.{ReqResult, Instance, Mark, Request, Read, Write, Restore, Erase, Invalidate, SetIndex, SetProtection, SetLock, SetRam, PutRam, Status, GetIndex, ReadAll, WriteAll, CancelWriteAll, Reply, Accepted, Refused, StatusIs, IndexIs, MultiPending, HistoryFull, JobKind, Taken, Entry, Ask, Pick, Wrote, Post, Off, Found, Configuration}
@@ -9,18 +9,17 @@ use Rattle.block_machine.specs.State.{State, Job, Sweep, jobs_of}
 use Rattle.block_machine.specs.Blocks.{status_of, is_pending, job_kind, job_block, rank_of, records_of}
 use Rattle.block_machine.specs.Sweeps.{member_entries, member_job, sweep_entries, sweep_at, after_member}
 use Rattle.block_machine.specs.Reply.{reserved_entries, fits, holds, tested, needed, reply_of}
-use Rattle.block_machine.specs.Next.{Next, Nothing, PickJob, BeginSweep, PickMember, PostMember, EndSweep, next_in, next_by, next_of, next_member, next_in_sweep}
+use Rattle.block_machine.specs.Next.{Next, Nothing, PickJob, BeginSweep, PickMember, PostMember, EndSweep, next_in, next_by, next_of, next_member}
 use Rattle.block_machine.specs.StartUp.{at_first}
-use Rattle.block_machine.specs.Steps.{step, after, after_from, job_at, with_sweep, changed, accepted_by, asked, without_job, picked_job, in_hand, with_member, picked, wrote, posted, posted_next}
-use Rattle.block_machine.specs.Legal.{IsAsk, IsDriving, HandIsFree, MayPick, MayWrite, MayPost, MayPostNext, IsAllowed, IsLegalFrom}
+use Rattle.block_machine.specs.Steps.{step, after, after_from, job_at, with_sweep, changed, accepted_by, without_job, picked_job, in_hand, with_member, picked, wrote, posted, posted_next}
+use Rattle.block_machine.specs.Legal.{IsAsk, HandIsFree, MayPick, MayWrite, MayPost, MayPostNext, IsAllowed, IsLegalFrom}
 use Rattle.block_machine.specs.Consistent.{Each, AreApart, IsWaitingJob, IsJobInHand, IsPendingSweep, IsConsistent}
 use Rattle.block_machine.specs.Laws.{DriverEntriesAreReserved, EntriesFit}
 use Rattle.block_machine.proofs.JobLists.{each_parts, apart_parts, without_split, sum_split}
 use Rattle.block_machine.proofs.NextLaws.{accepted_pass, next_is_waiting, fitting_has_room}
 use Rattle.block_machine.proofs.HistoryLaws.{entries_are_counted}
 use Rattle.block_machine.proofs.NextFacts.{job_in, next_job_by}
-use Rattle.block_machine.proofs.Consistency.{job_entries}
-use Rattle.block_machine.proofs.ConsistentSteps.{IsIdle, idle, left_of, steps_stay_consistent, at_first_consistent}
+use Rattle.block_machine.proofs.ConsistentSteps.{idle, left_of, steps_stay_consistent, at_first_consistent}
 
 abbrev reserved : Job → ℕ
 reserved j = j.reserved

@@ -69,10 +69,13 @@ next_sweep_by c s None None (Some x) sw is = (refl, refl, sym (any_sweep c s x) 
 
 member_left_by : (c : Configuration) (s : State) (sw : Sweep) (ids : List ℕ) (id : ℕ) → member_in (next_member c s sw ids) ≡ Some id → (rest : List ℕ) × (ids ≡ id ∷ rest)
 member_left_by c s sw [] id is = cc
-member_left_by c s sw (x ∷ ids) id is = (ids, ap (λ n. n ∷ ids) (same_id x id (sym (elim (cases_Bool (is_picked (desc_of c x) (block_at s x) sw x)) [
-  | inl holds ↦ rw holds refl
-  | inr fails ↦ rw fails refl
-]) ∙ is)))
+member_left_by c s sw (x ∷ ids) id is = (
+  ids,
+  ap (λ n. n ∷ ids) (same_id x id (sym (elim (cases_Bool (is_picked (desc_of c x) (block_at s x) sw x)) [
+    | inl holds ↦ rw holds refl
+    | inr fails ↦ rw fails refl
+  ]) ∙ is)),
+)
 
 left_by : (c : Configuration) (s : State) (sw : Sweep) (canceled : Bool) (id : ℕ) → member_in (next_member c s sw (if canceled then [] else sw.left)) ≡ Some id → (rest : List ℕ) × (sw.left ≡ id ∷ rest)
 left_by c s sw true id is = cc

@@ -1,17 +1,16 @@
 -- Replies that accept, the next job, and the job in hand.
-use Rattle.std.specs.Prelude.{slice_index_or, Contains}
+use Rattle.std.specs.Prelude.{slice_index_or}
 use Rattle.std.specs.Option.{option_map_or}
-use Rattle.std.proofs.Common.{◌≡◌, ℕ, zero, suc, ◌==◌, ◌+◌, ◌<◌, ◌&&◌, ◌||◌, nat_lt, Bool, true, false, cond, if◌then◌else◌, List, [], ◌∷◌, ◌++◌, length, refl, sym, ap, subst, arith, Option, Some, None, find, fold, is_some, ◌⊎◌, inl, inr}
+use Rattle.std.proofs.Common.{◌≡◌, ℕ, zero, suc, ◌==◌, ◌+◌, ◌<◌, ◌&&◌, ◌||◌, nat_lt, Bool, true, false, cond, if◌then◌else◌, List, [], ◌∷◌, ◌++◌, length, refl, ap, subst, arith, Option, Some, None, find, fold, ◌⊎◌, inl, inr}
 use Rattle.std.proofs.lemmas.Bool.{leb-true, cases_Bool}
 use Rattle.std.proofs.lemmas.Bool.Decides.{nat_tests}
-use Rattle.block_machine.specs.Words.{Reply, Accepted, Refused, Refusal, Request, Taken, JobKind, Configuration}
-use Rattle.block_machine.specs.State.{State, Job, Sweep}
+use Rattle.block_machine.specs.Words.{Reply, Accepted, Refused, Refusal, Configuration}
+use Rattle.block_machine.specs.State.{Job}
 use Rattle.block_machine.specs.Order.{Rank, goes_before}
 use Rattle.block_machine.specs.Blocks.{rank_of}
-use Rattle.block_machine.specs.Sweeps.{member_job}
 use Rattle.block_machine.specs.Reply.{reserved_entries, holds, tested, answer_to}
-use Rattle.block_machine.specs.Next.{Next, PickJob, PickMember, first_of_two, next_in, next_of}
-use Rattle.block_machine.specs.Steps.{picked, picked_job}
+use Rattle.block_machine.specs.Next.{Next, first_of_two}
+use Rattle.block_machine.specs.Steps.{picked}
 use Rattle.block_machine.specs.Laws.{AcceptedPass, FittingHasRoom, NextIsWaiting, NextGoesFirst, NoneWaits, PickTakesInHand, EntriesOfTheJobInHand}
 
 -- REPLIES
