@@ -47,7 +47,7 @@ none_apart jobs is = rw is tt
 
 -- PICK OF A MEMBER
 
-member_block : (writes : Bool) (id : ℕ) → asked_block (member_request writes id) ≡ id
+pub member_block : (writes : Bool) (id : ℕ) → asked_block (member_request writes id) ≡ id
 member_block true id = refl
 member_block false id = refl
 

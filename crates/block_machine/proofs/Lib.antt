@@ -6,3 +6,4 @@ pub mod Consistency
 pub mod NextFacts
 pub mod ConsistentSteps
 pub mod EntryRoom
+pub mod Locality

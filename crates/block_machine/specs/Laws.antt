@@ -9,10 +9,10 @@ use Rattle.block_machine.specs.Reply.{reserved_entries, fits, holds, tested, rep
 use Rattle.block_machine.specs.Next.{PickJob, PickMember, next_in, next_of}
 use Rattle.block_machine.specs.Results.{own_of, result_of, open_sets, failed_set}
 use Rattle.block_machine.specs.StartUp.{found_instances}
-use Rattle.block_machine.specs.Steps.{step, after, after_from, picked_job}
+use Rattle.block_machine.specs.Steps.{step, after, after_from, without_job, picked_job}
 use Rattle.block_machine.specs.Legal.{IsAllowed, IsLegal, marks_of}
 use Rattle.block_machine.specs.History.{is_driver_until, up_to}
-use Rattle.block_machine.specs.Consistent.{IsConsistent}
+use Rattle.block_machine.specs.Consistent.{AreApart, IsConsistent}
 
 -- HISTORIES
 
@@ -121,6 +121,10 @@ AllowedStepsStayConsistent = (c : Configuration) (cap : ℕ) (s : State) (e : En
 abbrev pub LegalStatesAreConsistent : Type 0
 LegalStatesAreConsistent = (c : Configuration) (cap : ℕ) (h : List Entry) → IsLegal c cap h → IsConsistent c (after c h)
 
+abbrev pub is_found : Entry → Bool
+is_found (Found marks ops) = true
+is_found e = false
+
 -- each entry of the driver but a start-up uses one that was reserved
 abbrev pub uses_reserved : Entry → Bool
 uses_reserved (Ask caller r reply) = false
@@ -133,3 +137,18 @@ DriverEntriesAreReserved = (c : Configuration) (cap : ℕ) (s : State) (e : Entr
 -- so the entries of a legal history and the reserved ones are within the cap
 abbrev pub EntriesFit : Type 0
 EntriesFit = (c : Configuration) (cap : ℕ) (h : List Entry) → IsLegal c cap h → length h + reserved_entries c (after c h) ≤ cap
+
+-- the block whose state an entry may change, where it changes one
+abbrev pub entry_block : Entry → ℕ
+entry_block (Ask caller r reply) = asked_block r
+entry_block (Pick block kind t ops) = block
+entry_block (Post block r given refused ops) = block
+entry_block e = 0
+
+-- every other one, with its status, stays as it was, but at a start-up
+abbrev pub EntriesAreLocal : Type 0
+EntriesAreLocal = (c : Configuration) (cap : ℕ) (s : State) (e : Entry) (id : ℕ) → IsAllowed c cap s e → is_found e ≡ false → id ≢ entry_block e → block_at (step c s e) id ≡ block_at s id
+
+-- of jobs with numbers of their own one is taken out, and nothing else
+abbrev pub JobsSplit : Type 0
+JobsSplit = (before : List Job) (j : Job) (after : List Job) → AreApart (before ++ j ∷ after) → (without_job j.number (before ++ j ∷ after) ≡ before ++ after) × AreApart (before ++ after)

@@ -1,0 +1,54 @@
+-- An entry changes the state of one block at most.
+use Rattle.std.specs.Prelude.{slice_set, get_or}
+use Rattle.std.proofs.Common.{◌≡◌, ◌≢◌, ℕ, true, false, List, ◌∷◌, ◌++◌, refl, sym, ap, ◌∙◌, subst, Option, Some, None}
+use Rattle.std.proofs.lemmas.List.{get_or-set_other}
+use Rattle.block_machine.specs.Words.{ReqResult, Pending, JobKind, Taken, Entry, Ask, Pick, Wrote, Post, Off, Found, Mark, Instance, Configuration}
+use Rattle.block_machine.specs.State.{State, BlockState, Job}
+use Rattle.block_machine.specs.Blocks.{block_at, no_block, keeps_ram, names_ram, desc_of, job_block, kind_of}
+use Rattle.block_machine.specs.Sweeps.{member_kind}
+use Rattle.block_machine.specs.Next.{Next, Nothing, PickJob, BeginSweep, PickMember, PostMember, EndSweep, next_of}
+use Rattle.block_machine.specs.Steps.{picked, posted, posted_next, wrote, ended}
+use Rattle.block_machine.specs.Legal.{MayPick, MayPost, MayPostNext}
+use Rattle.block_machine.specs.Laws.{EntriesAreLocal, JobsSplit}
+use Rattle.block_machine.proofs.HistoryLaws.{asks_are_local}
+use Rattle.block_machine.proofs.JobLists.{apart_parts, without_split}
+use Rattle.block_machine.proofs.ConsistentSteps.{member_block}
+
+other : (s : State) (n : ℕ) (b : BlockState) (id : ℕ) → id ≢ n → get_or (slice_set s.blocks n b) id no_block ≡ block_at s id
+other s n b id apart = get_or-set_other s.blocks n id b no_block apart
+
+picked_local : (c : Configuration) (s : State) (block : ℕ) (kind : JobKind) (t : Taken) (id : ℕ) (n : Next) → MayPick c s block kind t n → id ≢ block → block_at (picked c s t n) id ≡ block_at s id
+picked_local c s block kind t id (PickJob j) may apart = refl
+picked_local c s block kind t id (PickMember sw member) may apart = other s member (record (block_at s member) { status = Pending }) id (subst (λ (n : ℕ). id ≢ n) (may.same_block ∙ member_block sw.writes member) apart)
+picked_local c s block kind t id (BeginSweep sw) may apart = refl
+picked_local c s block kind t id (PostMember sw member) may apart = absurd may
+picked_local c s block kind t id (EndSweep sw) may apart = absurd may
+picked_local c s block kind t id Nothing may apart = absurd may
+
+next_local : (c : Configuration) (s : State) (block : ℕ) (r : ReqResult) (given : Option (List ℕ)) (refused id : ℕ) (n : Next) → MayPostNext c s block (r, given) refused n → id ≢ block → block_at (posted_next c s r given n) id ≡ block_at s id
+next_local c s block r given refused id (PostMember sw member) may apart = other s member (ended (desc_of c member) (keeps_ram c member) (member_kind sw.writes) true r given (block_at s member)) id (subst (λ (n : ℕ). id ≢ n) may.same_block apart)
+next_local c s block r given refused id (EndSweep sw) may apart = other s 0 (record (block_at s 0) { status = r }) id (subst (λ (n : ℕ). id ≢ n) may.all_blocks apart)
+next_local c s block r given refused id (PickJob j) may apart = absurd may
+next_local c s block r given refused id (PickMember sw member) may apart = absurd may
+next_local c s block r given refused id (BeginSweep sw) may apart = absurd may
+next_local c s block r given refused id Nothing may apart = absurd may
+
+posted_local : (c : Configuration) (s : State) (block : ℕ) (r : ReqResult) (given : Option (List ℕ)) (refused id : ℕ) (o : Option Job) → MayPost c s block (r, given) refused o → id ≢ block → block_at (posted c s r given o) id ≡ block_at s id
+posted_local c s block r given refused id (Some j) may apart =
+    other s (job_block j) (ended (desc_of c (job_block j)) (keeps_ram c (job_block j)) (kind_of j) (names_ram j.request) r given (block_at s (job_block j))) id (subst (λ (n : ℕ). id ≢ n) may.same_block apart)
+posted_local c s block r given refused id None may apart = next_local c s block r given refused id (next_of c s) may apart
+
+wrote_local : (s : State) (i : Instance) (mark : Mark) (o : Option Job) (id : ℕ) → block_at (wrote s i mark o) id ≡ block_at s id
+wrote_local s i mark None id = refl
+wrote_local s i mark (Some j) id = refl
+
+pub entries_are_local : EntriesAreLocal
+entries_are_local c cap s (Ask caller r reply) id allowed found apart = (asks_are_local c s caller r reply).1 id apart
+entries_are_local c cap s (Pick block kind t ops) id allowed found apart = picked_local c s block kind t id (next_of c s) allowed.1 apart
+entries_are_local c cap s (Wrote i mark ops) id allowed found apart = wrote_local s i mark s.hand id
+entries_are_local c cap s (Post block r given refused ops) id allowed found apart = posted_local c s block r given refused id s.hand allowed.1 apart
+entries_are_local c cap s (Off ops) id allowed found apart = refl
+entries_are_local c cap s (Found marks ops) id allowed found apart = cc
+
+pub jobs_split : JobsSplit
+jobs_split before j after apart = let (others, rest) = apart_parts before j after apart in (without_split before j after others, rest)

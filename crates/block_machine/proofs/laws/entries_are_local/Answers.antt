@@ -1,0 +1,8 @@
+use Rattle.block_machine.proofs.Locality as law
+use Rattle.block_machine.proofs.laws.entries_are_local.Goals as goal
+
+pub returns-clause-blocks : goal.returns-clause-blocks
+returns-clause-blocks c = law.entries_are_local
+
+pub returns-clause-jobs : goal.returns-clause-jobs
+returns-clause-jobs c = law.jobs_split
