@@ -1,8 +1,8 @@
 -- An entry changes the state of one block at most.
 use Rattle.std.specs.Prelude.{slice_set, get_or}
-use Rattle.std.proofs.Common.{◌≡◌, ◌≢◌, ℕ, true, false, List, ◌∷◌, ◌++◌, refl, sym, ap, ◌∙◌, subst, Option, Some, None}
+use Rattle.std.proofs.Common.{◌≡◌, ◌≢◌, ℕ, true, List, refl, ◌∙◌, subst, Option, Some, None}
 use Rattle.std.proofs.lemmas.List.{get_or-set_other}
-use Rattle.block_machine.specs.Words.{ReqResult, Pending, JobKind, Taken, Entry, Ask, Pick, Wrote, Post, Off, Found, Mark, Instance, Configuration}
+use Rattle.block_machine.specs.Words.{ReqResult, Pending, JobKind, Taken, Ask, Pick, Wrote, Post, Off, Found, Mark, Instance, Configuration}
 use Rattle.block_machine.specs.State.{State, BlockState, Job}
 use Rattle.block_machine.specs.Blocks.{block_at, no_block, keeps_ram, names_ram, desc_of, job_block, kind_of}
 use Rattle.block_machine.specs.Sweeps.{member_kind}

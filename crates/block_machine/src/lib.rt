@@ -12,9 +12,9 @@ mod worked_cases;
 mod wrong_cases;
 
 pub use laws::{
-    a_pick_takes_in_hand, accepted_requests_pass, asks_are_local, entries_are_local, entries_come_in_time_or_late,
-    entries_fit, failures_are_explained, histories_grow, legal_states_are_consistent,
-    the_next_job_goes_first, what_is_found_is_settled,
+    a_pick_takes_in_hand, accepted_requests_pass, asks_are_local, entries_are_local,
+    entries_come_in_time_or_late, entries_fit, failures_are_explained, histories_grow,
+    legal_states_are_consistent, the_next_job_goes_first, what_is_found_is_settled,
 };
 pub use table_cases::{
     entries_are_reserved, jobs_in_order, ram_by_the_table, requests_are_refused_by_the_table,
