@@ -14,5 +14,6 @@ pub mod Order
 pub mod ResultTable
 pub mod Accepted
 pub mod Cases
+pub mod ReplyCases
 pub mod Laws
 pub mod Consistent

@@ -7,6 +7,8 @@
 #![tactic(auto)]
 
 mod laws;
+mod near_cases;
+mod reply_cases;
 mod table_cases;
 mod worked_cases;
 mod wrong_cases;
@@ -15,6 +17,13 @@ pub use laws::{
     a_pick_takes_in_hand, accepted_requests_pass, asks_are_local, entries_are_local,
     entries_come_in_time_or_late, entries_fit, failures_are_explained, histories_grow,
     legal_states_are_consistent, the_next_job_goes_first, what_is_found_is_settled,
+};
+pub use near_cases::{
+    misplaced_posts_are_refuted, near_histories_are_legal, other_blocks_stay, other_instances_stay,
+    wrong_picks_are_refuted, wrong_times_are_refuted, wrong_writes_are_refuted,
+};
+pub use reply_cases::{
+    each_block_has_its_replies, each_state_has_its_replies, each_time_has_its_replies,
 };
 pub use table_cases::{
     entries_are_reserved, jobs_in_order, ram_by_the_table, requests_are_refused_by_the_table,

@@ -6,6 +6,7 @@
 mod cases;
 mod laws;
 mod run_cases;
+mod wrong_cases;
 
 pub use cases::{
     cases_of_order_are_walks, cases_of_ram_are_walks, cases_with_faults_are_walks,
@@ -13,3 +14,6 @@ pub use cases::{
 };
 pub use laws::{texts_tell_histories, walks_grow};
 pub use run_cases::{runs_keep_the_callers_order, walks_take_stores, wrong_walks_are_refuted};
+pub use wrong_cases::{
+    near_walks_are_walks, other_pieces_are_refuted, unfinished_runs_are_refuted,
+};
