@@ -17,6 +17,7 @@ use std::mem;
 const LAST_NUMBER: u64 = 1 << 60;
 
 /// The place of one word and three slots. Contracts see which one it is, and the length of its contents in bytes.
+#[derive(Drop)]
 pub struct Mirror {
     table: Table<Vec<u8>, View, usize, ThreeBuffers, Global>,
 }

@@ -93,30 +93,8 @@ module _ {V E R : Type 0} (entries : V → List E) (gives : E → ℕ → Option
       let x = rest v in
       let first = set s.views id w in
       let K : ℕ → Vw → Type 0 = Knows gives is_open r.log base (get_or s.words 0 0) (get_or s.words 1 0) in
-      let mine : (j : ℕ) → K j w = λ j. record {
-        own_seen = f.own_seen;
-        starts = f.starts;
-        waits = f.waits;
-        inside = f.inside;
-        agree = f.agree;
-        mark = f.mark;
-        served = f.served;
-        same = λ _. f.same (omega arith);
-        some_seen = λ _. f.some_seen (omega arith);
-        idle = λ p. absurd (omega arith);
-      } in
-      let new : (j : ℕ) → K j x = λ j. record {
-        starts = f.starts;
-        served = f.served;
-        same = λ _. f.same (omega arith);
-        some_seen = λ _. f.some_seen (omega arith);
-        idle = λ p. absurd (omega arith);
-        own_seen = λ k h. absurd (some-ne-none k (sym h.1));
-        waits = λ p. absurd (true≢false (sym p));
-        inside = λ p. absurd (true≢false (sym p));
-        agree = λ i m e. absurd (some-ne-none m (sym e));
-        mark = λ p. absurd (true≢false (sym p));
-      } in
+      let mine : (j : ℕ) → K j w = λ j. record { own_seen = f.own_seen; starts = f.starts; waits = f.waits; inside = f.inside; agree = f.agree; mark = f.mark; served = f.served; same = λ _. f.same (omega arith); some_seen = λ _. f.some_seen (omega arith); idle = λ p. absurd (omega arith) } in
+      let new : (j : ℕ) → K j x = λ j. record { starts = f.starts; served = f.served; same = λ _. f.same (omega arith); some_seen = λ _. f.some_seen (omega arith); idle = λ p. absurd (omega arith); own_seen = λ k h. absurd (some-ne-none k (sym h.1)); waits = λ p. absurd (true≢false (sym p)); inside = λ p. absurd (true≢false (sym p)); agree = λ i m e. absurd (some-ne-none m (sym e)); mark = λ p. absurd (true≢false (sym p)) } in
       let long = inside_length s.views id v at in
       reviewed s r (first ++ x ∷ [])
       (λ j u e. ⊎_elim
@@ -219,18 +197,7 @@ module _ {V E R : Type 0} (entries : V → List E) (gives : E → ℕ → Option
         agree = λ i z e. ⊎_elim (f.agree i z) (λ (t : (j : ℕ) × (get_elem? w.notes j ≡ maybe.some z)). g.agree t.0 z t.1) (at_append v.notes w.notes i z e);
         mark = λ p i a low e. ⊎_elim (λ (t : v.mark ≡ true). f.mark t i a (let c = m.0 in omega arith) e) (λ (t : w.mark ≡ true). g.mark t i a (let c = m.1 in omega arith) e) (or_true v.mark w.mark p);
       } in
-      let spent_is : (j : ℕ) → K j gone = λ j. record {
-        same = λ p. absurd (omega arith);
-        some_seen = λ p. absurd (omega arith);
-        idle = λ _. (refl, refl, refl);
-        own_seen = λ k h. absurd (some-ne-none k (sym h.1));
-        starts = (r.log, refl);
-        waits = λ p. absurd (true≢false (sym p));
-        inside = λ p. absurd (true≢false (sym p));
-        agree = λ i z e. absurd (some-ne-none z (sym e));
-        mark = λ p. absurd (true≢false (sym p));
-        served = omega arith;
-      } in
+      let spent_is : (j : ℕ) → K j gone = λ j. record { same = λ p. absurd (omega arith); some_seen = λ p. absurd (omega arith); idle = λ _. (refl, refl, refl); own_seen = λ k h. absurd (some-ne-none k (sym h.1)); starts = (r.log, refl); waits = λ p. absurd (true≢false (sym p)); inside = λ p. absurd (true≢false (sym p)); agree = λ i z e. absurd (some-ne-none z (sym e)); mark = λ p. absurd (true≢false (sym p)); served = omega arith } in
       let ours : (j : ℕ) (u : Vw) → get_elem? (set first other gone) j ≡ maybe.some u → ((j ≡ other) × (gone ≡ u)) ⊎ (((j ≡ id) × (b ≡ u)) ⊎ ((j ≢ id) × (get_elem? s.views j ≡ maybe.some u))) = λ j u e. ⊎_elim inl (λ (t : (j ≢ other) × (get_elem? first j ≡ maybe.some u)). inr (at_set s.views id j b u t.1)) (at_set first other j gone u e) in
       let at_id : get_elem? (set first other gone) id ≡ maybe.some b = set_else first other id gone (λ e. apart (sym e)) ∙ set_here s.views id b (inside_length s.views id v at) in
       let marked : (i : ℕ) (u : Vw) → get_elem? (set first other gone) i ≡ maybe.some u → u.mark ≡ true → (k : ℕ) × (z : Vw) × (get_elem? s.views k ≡ maybe.some z) × (z.mark ≡ true) × ((k ≡ i) ⊎ ((k ≡ other) × (i ≡ id))) = λ i u e p. ⊎_elim
@@ -324,18 +291,7 @@ module _ {V E R : Type 0} (entries : V → List E) (gives : E → ℕ → Option
         small = omega arith;
         each_word = λ w l. subst (Tells gives (entries x) w) (sym (at0 (w + 2)))
             ((e, ap (λ (l : List E). get_elem? l 0) begins.1, begins.2 w l), λ j y g. let h = inside_length (entries x) j g.0 g.1 in omega arith);
-        each = λ j u h. subst (Knows gives is_open (entries x) base (get_or words 0 0) (get_or words 1 0) j) (only j u h).1 record {
-          same = λ _. ap Some (sym base_is);
-          some_seen = λ _. omega arith;
-          idle = λ p. absurd (omega arith);
-          own_seen = λ k h. absurd (some-ne-none k (sym h.1));
-          starts = ([], sym (append-nil (entries x)));
-          waits = λ p. absurd (true≢false (sym p));
-          inside = λ p. absurd (true≢false (sym p));
-          agree = λ i m h. absurd (some-ne-none m (sym h));
-          mark = λ _ i a l h. absurd (let g = inside_length (entries x) i a h in omega arith);
-          served = omega arith;
-        };
+        each = λ j u h. subst (Knows gives is_open (entries x) base (get_or words 0 0) (get_or words 1 0) j) (only j u h).1 record { same = λ _. ap Some (sym base_is); some_seen = λ _. omega arith; idle = λ p. absurd (omega arith); own_seen = λ k h. absurd (some-ne-none k (sym h.1)); starts = ([], sym (append-nil (entries x))); waits = λ p. absurd (true≢false (sym p)); inside = λ p. absurd (true≢false (sym p)); agree = λ i m h. absurd (some-ne-none m (sym h)); mark = λ _ i a l h. absurd (let g = inside_length (entries x) i a h in omega arith); served = omega arith };
         apart = λ i j u v a b p q same. (only i u a).0 ∙ sym (only j v b).0;
         one_mark = λ i j u v a b p q. (only i u a).0 ∙ sym (only j v b).0;
         rests = λ _. (x, refl, refl, sym base_is);

@@ -112,18 +112,7 @@ module _ {V E R : Type 0} (entries : V → List E) (gives : E → ℕ → Option
         u,
         keeps,
         tt,
-        noticed s r w id cs v u at record {
-          same = f.same;
-          some_seen = f.some_seen;
-          idle = f.idle;
-          own_seen = f.own_seen;
-          starts = f.starts;
-          waits = f.waits;
-          inside = f.inside;
-          mark = f.mark;
-          served = f.served;
-          agree = λ j m e. ⊎_elim (f.agree j m) (λ (t : note i (x / 256) (x % 256) ≡ m). subst (λ (z : Note). Gave gives r.log z.0 z.1 z.2) t tells.0) (at_snoc v.notes (note i (x / 256) (x % 256)) m j e);
-        } refl refl refl refl refl refl,
+        noticed s r w id cs v u at record { same = f.same; some_seen = f.some_seen; idle = f.idle; own_seen = f.own_seen; starts = f.starts; waits = f.waits; inside = f.inside; mark = f.mark; served = f.served; agree = λ j m e. ⊎_elim (f.agree j m) (λ (t : note i (x / 256) (x % 256) ≡ m). subst (λ (z : Note). Gave gives r.log z.0 z.1 z.2) t tells.0) (at_snoc v.notes (note i (x / 256) (x % 256)) m j e) } refl refl refl refl refl refl,
         (refl, refl, ((λ j y g. tells.1 j y (given_later gives r.log v.seen i j y f.starts g)), (λ j k y e. tells.1 k y (f.agree j (note i k y) e))), (let z = inside_length r.log (x / 256) tells.0.0 tells.0.1 in let y = r.short in omega arith)),
       )
 
@@ -149,18 +138,7 @@ module _ {V E R : Type 0} (entries : V → List E) (gives : E → ℕ → Option
         ap (λ h. get_elem? h 0) home.1,
         subst (λ (ws : List ℕ). Rule record { words = ws; homes = homes; views = set s.views id w }) (sym (set-get_or s.words 0 0))
             (put s r s.words homes r.log id v w at r.short (length-set s.homes 0 maybe.none ∙ r.one) r.wide r.below r.small r.each_word (λ j u other e. r.each j u e)
-            record {
-              same = f.same;
-              waits = f.waits;
-              agree = f.agree;
-              served = f.served;
-              some_seen = λ p. let a = f.some_seen p in let h = starts_longer r.log v.seen f.starts in omega arith;
-              idle = λ p. absurd (true≢false (sym waits ∙ (f.idle p).1));
-              own_seen = λ k h. let a = f.own_seen k h in let b = starts_longer r.log v.seen f.starts in omega arith;
-              starts = ([], sym (append-nil r.log));
-              inside = λ _. (waits, sym served, refl);
-              mark = λ m j e l g. f.mark m j e (let h = starts_longer r.log v.seen f.starts in omega arith) g;
-            }
+            record { same = f.same; waits = f.waits; agree = f.agree; served = f.served; some_seen = λ p. let a = f.some_seen p in let h = starts_longer r.log v.seen f.starts in omega arith; idle = λ p. absurd (true≢false (sym waits ∙ (f.idle p).1)); own_seen = λ k h. let a = f.own_seen k h in let b = starts_longer r.log v.seen f.starts in omega arith; starts = ([], sym (append-nil r.log)); inside = λ _. (waits, sym served, refl); mark = λ m j e l g. f.mark m j e (let h = starts_longer r.log v.seen f.starts in omega arith) g }
             (λ j u other e p q same. other (r.apart j id u v e at p q same))
             (λ m. m)
             refl (λ k h. h) (λ k a b. absurd (omega arith))
@@ -197,18 +175,7 @@ module _ {V E R : Type 0} (entries : V → List E) (gives : E → ℕ → Option
         w,
         keeps,
         tt,
-        noticed s r 0 id cs v w at record {
-          same = f.same;
-          some_seen = f.some_seen;
-          idle = f.idle;
-          own_seen = f.own_seen;
-          starts = f.starts;
-          waits = f.waits;
-          inside = f.inside;
-          agree = f.agree;
-          mark = f.mark;
-          served = omega arith;
-        } refl refl refl refl refl refl,
+        noticed s r 0 id cs v w at record { same = f.same; some_seen = f.some_seen; idle = f.idle; own_seen = f.own_seen; starts = f.starts; waits = f.waits; inside = f.inside; agree = f.agree; mark = f.mark; served = omega arith } refl refl refl refl refl refl,
         (refl, refl),
       )
 
@@ -239,30 +206,8 @@ module _ {V E R : Type 0} (entries : V → List E) (gives : E → ℕ → Option
         ap (λ h. get_elem? h 0) home.1,
         put s r ws homes r.log id v w at r.short (length-set s.homes 0 maybe.none ∙ r.one) (length-set s.words 1 (old + 1) ∙ r.wide) (omega arith) (omega arith)
             (λ i l. subst (Tells gives r.log i) (sym (get_or-set_other s.words 1 (i + 2) (old + 1) 0 (λ e. omega arith))) (r.each_word i l))
-            (λ j u other e. let g = r.each j u e in record {
-              same = g.same;
-              some_seen = g.some_seen;
-              idle = g.idle;
-              own_seen = g.own_seen;
-              starts = g.starts;
-              agree = g.agree;
-              mark = g.mark;
-              waits = λ p. absurd (none_waits j u e p);
-              inside = λ p. absurd (none_waits j u e (g.inside p).0);
-              served = let a = g.served in omega arith;
-            })
-            record {
-              same = f.same;
-              agree = f.agree;
-              some_seen = λ p. let a = f.some_seen p in let h = starts_longer r.log v.seen f.starts in omega arith;
-              idle = λ p. absurd (omega arith);
-              own_seen = λ k h. let a = f.own_seen k h in let b = starts_longer r.log v.seen f.starts in omega arith;
-              starts = ([], sym (append-nil r.log));
-              waits = λ _. (omega arith, omega arith);
-              inside = λ _. (refl, sym now ∙ sym zero_is, refl);
-              mark = λ m j e l g. f.mark m j e (let h = starts_longer r.log v.seen f.starts in omega arith) g;
-              served = let a = f.served in omega arith;
-            }
+            (λ j u other e. let g = r.each j u e in record { same = g.same; some_seen = g.some_seen; idle = g.idle; own_seen = g.own_seen; starts = g.starts; agree = g.agree; mark = g.mark; waits = λ p. absurd (none_waits j u e p); inside = λ p. absurd (none_waits j u e (g.inside p).0); served = let a = g.served in omega arith })
+            record { same = f.same; agree = f.agree; some_seen = λ p. let a = f.some_seen p in let h = starts_longer r.log v.seen f.starts in omega arith; idle = λ p. absurd (omega arith); own_seen = λ k h. let a = f.own_seen k h in let b = starts_longer r.log v.seen f.starts in omega arith; starts = ([], sym (append-nil r.log)); waits = λ _. (omega arith, omega arith); inside = λ _. (refl, sym now ∙ sym zero_is, refl); mark = λ m j e l g. f.mark m j e (let h = starts_longer r.log v.seen f.starts in omega arith) g; served = let a = f.served in omega arith }
             (λ j u other e p _ _. none_waits j u e p)
             (λ m. m)
             refl (λ k h. h) (λ k a b. absurd (omega arith))
@@ -312,30 +257,8 @@ module _ {V E R : Type 0} (entries : V → List E) (gives : E → ℕ → Option
         tt,
         put s r ws s.homes r.log id v w at r.short r.one (length-set s.words 1 (old + 1) ∙ r.wide) (omega arith) (omega arith)
             (λ i l. subst (Tells gives r.log i) (sym (get_or-set_other s.words 1 (i + 2) (old + 1) 0 (λ e. omega arith))) (r.each_word i l))
-            (λ j u other e. let g = r.each j u e in record {
-              same = g.same;
-              some_seen = g.some_seen;
-              idle = g.idle;
-              own_seen = g.own_seen;
-              starts = g.starts;
-              agree = g.agree;
-              mark = g.mark;
-              waits = λ p. let q = g.waits p in (omega arith, omega arith);
-              inside = λ p. let q = g.inside p in (q.0, q.1 ∙ sym zero_is, q.2);
-              served = let a = g.served in omega arith;
-            })
-            record {
-              same = f.same;
-              some_seen = f.some_seen;
-              own_seen = f.own_seen;
-              starts = f.starts;
-              agree = f.agree;
-              mark = f.mark;
-              idle = λ p. absurd (omega arith);
-              waits = λ _. (omega arith, omega arith);
-              inside = λ p. absurd (true≢false (sym p ∙ out));
-              served = let a = f.served in omega arith;
-            }
+            (λ j u other e. let g = r.each j u e in record { same = g.same; some_seen = g.some_seen; idle = g.idle; own_seen = g.own_seen; starts = g.starts; agree = g.agree; mark = g.mark; waits = λ p. let q = g.waits p in (omega arith, omega arith); inside = λ p. let q = g.inside p in (q.0, q.1 ∙ sym zero_is, q.2); served = let a = g.served in omega arith })
+            record { same = f.same; some_seen = f.some_seen; own_seen = f.own_seen; starts = f.starts; agree = f.agree; mark = f.mark; idle = λ p. absurd (omega arith); waits = λ _. (omega arith, omega arith); inside = λ p. absurd (true≢false (sym p ∙ out)); served = let a = f.served in omega arith }
             (λ j u other e p q same. let g = (r.each j u e).waits p in omega arith)
             (λ m. m)
             refl (λ k h. h) (λ k a b. absurd (omega arith))
