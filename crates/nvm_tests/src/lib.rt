@@ -22,4 +22,8 @@ mod floor;
 #[cfg(test)]
 mod format;
 #[cfg(test)]
+mod lock;
+#[cfg(test)]
+mod mirrors;
+#[cfg(test)]
 mod texts;
