@@ -1,9 +1,7 @@
 pub mod BankLemmas
-pub mod BlankStart
 pub mod Flash
 pub mod Lookup
 pub mod Numbers
 pub mod PlayLemmas
 pub mod Printing
 pub mod RunLines
-pub mod WrongRuns

@@ -10,7 +10,6 @@ mod check;
 mod commands;
 mod configuration;
 mod desk;
-mod headline;
 mod input;
 mod job;
 mod measures;
@@ -24,7 +23,6 @@ mod words;
 
 pub use check::check_command;
 pub use commands::command;
-pub use headline::{a_blank_start_keeps_it, wrong_runs_break_it};
 pub use play::play_command;
 pub use status::Status;
 pub use words::{CommandKind, image_path};
