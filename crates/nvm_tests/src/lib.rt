@@ -26,4 +26,6 @@ mod lock;
 #[cfg(test)]
 mod mirrors;
 #[cfg(test)]
+mod promise;
+#[cfg(test)]
 mod texts;

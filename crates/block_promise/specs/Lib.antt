@@ -1,0 +1,4 @@
+pub mod Marks
+pub mod Payment
+pub mod OverDevice
+pub mod Cases

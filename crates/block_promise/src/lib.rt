@@ -1,0 +1,9 @@
+//! What a history keeps over any memory device, in the words of the block machine and of the device alone.
+//!
+//! It has definitions with their cases, and no machinery: `KeepsOver` is the block side's half of the promise of a whole run.
+//! That the stack keeps it, and what a device's words mean for the bytes of a flash, are left to other crates.
+#![tactic(auto)]
+
+mod cases;
+
+pub use cases::{failures_that_are_not_paid, failures_that_are_paid};

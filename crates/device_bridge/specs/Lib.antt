@@ -1,0 +1,4 @@
+pub mod Image
+pub mod FlashRun
+pub mod Bridge
+pub mod Cases

@@ -1,0 +1,10 @@
+//! What ties the words of a memory device to the bytes of its flash: which images its maps of found marks stand for,
+//! whose operations and faults it counts, and when it is worn out.
+//!
+//! It has definitions with their cases, and no machinery: `Bridges` is the device's half of the promise of a whole run.
+//! It names no block. That a device over a flash keeps it is left to that device's crate.
+#![tactic(auto)]
+
+mod cases;
+
+pub use cases::{operations_of_another_flash, operations_of_the_flash};

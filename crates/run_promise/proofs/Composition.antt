@@ -1,0 +1,112 @@
+-- The promise from its two halves.
+use Rattle.std.specs.Prelude.{Contains, slice_get, min}
+use Rattle.std.specs.Option.{option_map_or}
+use Rattle.std.proofs.Common.{◌≡◌, ℕ, zero, suc, ◌<◌, ◌≤◌, ◌+◌, ◌-◌, IsTrue, Bool, List, [], ◌∷◌, length, Option, Some, None, refl, sym, subst, ap, ◌∙◌, inl, inr, arith}
+use Rattle.nv_base.specs.Count.{last_count, WereCounted}
+use Rattle.fls_model.specs.Op.{MayLeave}
+use Rattle.fls_model.specs.Told.{Change}
+use Rattle.fls_model.specs.Attach.{IfTold}
+use Rattle.memif.specs.Told.{PartTold, Held}
+use Rattle.memif.specs.Clock.{PartClock, After, CutIn}
+use Rattle.block_machine.specs.Words.{Instance, Mark, Entry, Ask, Pick, Wrote, Post, Off, Found, Configuration}
+use Rattle.block_machine.specs.State.{State}
+use Rattle.block_machine.specs.StartUp.{at_first}
+use Rattle.block_machine.specs.Steps.{step}
+use Rattle.block_machine.specs.Prices.{price_in_faults}
+use Rattle.block_promise.specs.Marks.{Lists}
+use Rattle.block_promise.specs.Payment.{Worn, WasWorn, IsExcused, ArePaid, IsPaid}
+use Rattle.block_promise.specs.OverDevice.{HasStarted, HasOffAt, TellsAtMost}
+use Rattle.device_bridge.specs.Image.{held_in, IsSoundFlash}
+use Rattle.device_bridge.specs.FlashRun.{FlashRun, TellsBytes, TellsOperations, StartsSound, IsCutImage, bytes_after, StaysBack, AreSeen, AreOperations}
+use Rattle.device_bridge.specs.Bridge.{IsWornOut}
+use Rattle.run_promise.specs.Run.{Run, cap, has_cutter}
+use Rattle.run_promise.specs.Promise.{Promise, Keeps, StartUpsFind, making_of}
+use Rattle.run_promise.specs.Halves.{BlockHalf, DeviceHalf, HalvesMakeIt}
+
+-- PAYMENT
+excused_too : (c : Configuration) (worn other : Worn) (s : State) (e : Entry) → ((k n : ℕ) → worn k n → other k n) → IsExcused c worn s e → IsExcused c other s e
+excused_too c worn other s (Post block r given refused ops) more (j, hand, some, was) =
+    (j, hand, some, record { index = was.index; failed = was.failed; moment = was.moment; by_then = was.by_then; is = more was.moment _ was.is })
+excused_too c worn other s (Ask caller r reply) more none = none
+excused_too c worn other s (Pick block kind t ops) more none = none
+excused_too c worn other s (Wrote i mark ops) more none = none
+excused_too c worn other s (Off ops) more none = none
+excused_too c worn other s (Found marks ops) more none = none
+
+paid_too : (c : Configuration) (worn other : Worn) (n : ℕ) (s : State) (es : List Entry) → ((k m : ℕ) → worn k m → other k m) → ArePaid c worn n s es → ArePaid c other n s es
+paid_too c worn other n s [] more paid = tt
+paid_too c worn other n s (e ∷ es) more (inl (cheap, rest)) = inl (cheap, paid_too c worn other (n - price_in_faults c s e) (step c s e) es more rest)
+paid_too c worn other n s (e ∷ es) more (inr (excused, rest)) = inr (excused_too c worn other s e more excused, paid_too c worn other n (step c s e) es more rest)
+
+pays : (c : Configuration) (worn other : Worn) (before after first last : ℕ) (h : List Entry) → ((k n : ℕ) → worn k n → other k n)
+    → ((n : ℕ) → WereCounted n before after → WereCounted n first last) → IsPaid c worn before after h → IsPaid c other first last h
+pays c worn other before after first last h more counts paid = record { faults = paid.faults; counted = counts paid.faults paid.counted; pay = paid_too c worn other paid.faults at_first h more paid.pay }
+
+-- OPERATIONS
+seen_too : (kept other : ℕ → Type 0) (k : ℕ) (last : List ℕ) (xs ys : List Change) → ((n : ℕ) → kept n → other n) → AreSeen kept k last xs ys → AreSeen other k last xs ys
+seen_too kept other k last [] ys more seen = seen
+seen_too kept other k last (x ∷ xs) [] more ((is, same), rest) = ((more k is, same), seen_too kept other (k + 1) last xs [] more rest)
+seen_too kept other k last (x ∷ xs) (y ∷ ys) more (inl (place, same, rest)) = inl (place, same, seen_too kept other (k + 1) last xs ys more rest)
+seen_too kept other k last (x ∷ xs) (y ∷ ys) more (inr ((is, same), rest)) = inr ((more k is, same), seen_too kept other (k + 1) last xs (y ∷ ys) more rest)
+
+-- behind all operations the bytes are those of the exit
+past : {A : Type 0} (xs : List A) → slice_get xs (length xs) ≡ None
+past [] = refl
+past (x ∷ xs) = past xs
+
+if_told : (bytes : Option (List ℕ)) (P Q : List ℕ → Type 0) → ((image : List ℕ) → P image → Q image) → IfTold bytes P → IfTold bytes Q
+if_told (Some image) P Q more is = more image is
+if_told None P Q more is = tt
+
+both_told : (bytes : Option (List ℕ)) (P Q R : List ℕ → Type 0) → ((image : List ℕ) → P image → Q image → R image) → IfTold bytes P → IfTold bytes Q → IfTold bytes R
+both_told (Some image) P Q R more p q = more image p q
+both_told None P Q R more p q = tt
+
+-- THE MARKS
+lists : (r : Run) (before now : PartTold) (clock : PartClock) → BlockHalf r before now clock → DeviceHalf r before now clock
+    → TellsBytes r.flash → StartsSound r.configuration.geometry r.flash → StartUpsFind r
+lists r before now clock block device tells sound marks ops has small =
+    let c = r.configuration in
+    let least : min (length r.flash.operations) last_count ≤ length r.flash.operations = omega arith in
+    let within : ops ≤ length r.flash.operations = omega (arith, block.over.counted (Found marks ops) ops has refl, device.ops) in
+    if_told (bytes_after r.flash ops) (λ image. clock.may_find (After ops) (held_in c.geometry (making_of c).numbers image)) _
+    (λ image finds. block.over.found marks ops (held_in c.geometry (making_of c).numbers image) has small finds)
+    (device.after tells sound ops within small)
+
+exits : (r : Run) (before now : PartTold) (clock : PartClock) → BlockHalf r before now clock → DeviceHalf r before now clock
+    → TellsBytes r.flash → StartsSound r.configuration.geometry r.flash → HasStarted r.history → length r.flash.operations < last_count → IfTold r.flash.exit.bytes (Keeps r.configuration r.history)
+exits r before now clock block device tells sound started small =
+    let c = r.configuration in
+    let n : ℕ = length r.flash.operations in
+    let all : now.ops ≡ n = omega (arith, device.ops) in
+    let told : bytes_after r.flash n ≡ r.flash.exit.bytes = ap (λ (o : Option Change). option_map_or (λ x. Some x.before) o r.flash.exit.bytes) (past r.flash.operations) in
+    let finds : IfTold r.flash.exit.bytes (λ image. clock.may_find (After n) (held_in c.geometry (making_of c).numbers image)) =
+    subst (λ (b : Option (List ℕ)). IfTold b (λ image. clock.may_find (After n) (held_in c.geometry (making_of c).numbers image))) told (device.after tells sound n (omega arith) small) in
+    both_told r.flash.exit.bytes (λ image. clock.may_find (After n) (held_in c.geometry (making_of c).numbers image)) (IsSoundFlash c.geometry) (Keeps c r.history)
+    (λ image is whole. record {
+      marks = block.over.at_end (held_in c.geometry (making_of c).numbers image) started (omega (arith, device.ops)) (subst (λ (k : ℕ). clock.may_find (After k) (held_in c.geometry (making_of c).numbers image)) (sym all) is);
+      sound = whole;
+    })
+    finds (device.sound tells sound)
+
+pub promised : (clock : PartClock) → HalvesMakeIt clock
+promised clock r before now block device = record {
+  order = block.order;
+  power_cut = λ tells sound k image small cut. record {
+    marks = block.over.cut k (held_in r.configuration.geometry (making_of r.configuration).numbers image) small (device.cut tells sound k image small cut);
+    sound = device.sound_cut tells sound k image small cut;
+  };
+  found = lists r before now clock block device;
+  at_exit = exits r before now clock block device;
+  block_machine = block.over.legal;
+  faults = pays r.configuration clock.worn (IsWornOut (making_of r.configuration) r.flash) before.faults now.faults r.flash.entry.faults r.flash.exit.faults r.history device.worn device.faults block.over.paid;
+  refusals = block.refusals;
+  off = device.cuts _ block.off;
+  operations = λ started. record {
+    told_alike = device.operations.told_alike;
+    chain = device.operations.chain;
+    seen = λ t. seen_too (λ k. IsTrue (has_cutter r.course) × clock.off_in k) _ 0 t.bytes.last r.flash.operations t.changes (λ k is. (is.0, block.over.off k is.1)) (device.operations.seen t);
+  };
+  begins = block.over.begins;
+  counted = λ e ops has is. omega (arith, block.over.counted e ops has is, device.ops);
+}

@@ -1,0 +1,193 @@
+-- Runs that keep the promise.
+use Rattle.std.specs.Prelude.{Contains, unwrap_or}
+use Rattle.std.proofs.Common.{◌≡◌, ◌==◌, ◌||◌, ℕ, zero, suc, ◌<◌, ◌≤◌, ◌+◌, Bool, true, false, IsTrue, List, [], ◌∷◌, length, replicate, Option, Some, None, refl, sym, ap, subst, ◌∙◌, inl, inr, arith}
+use Rattle.nv_base.specs.declared.instance.DeviceNumber.{DeviceNumber}
+use Rattle.nv_base.specs.Count.{next_count}
+use Rattle.nv_base.specs.Entry.{ops_of}
+use Rattle.nv_base.specs.Marks.{instance_of}
+use Rattle.block_config.specs.Lengths.{lengths_of}
+use Rattle.fls_model.specs.Bytes.{Grown}
+use Rattle.fls_model.specs.Op.{Erase, MayLeave}
+use Rattle.fls_model.specs.declared.flash.FlashAnswer.TheVariants.{Off as FlashOff}
+use Rattle.fls_model.specs.Told.{Change}
+use Rattle.memif.specs.Told.{length_of}
+use Rattle.block_machine.specs.Words.{Instance, Mark, Erased, Entry, Found}
+use Rattle.block_machine.specs.Blocks.{instance_at}
+use Rattle.block_machine.specs.History.{MayStandIn, up_to}
+use Rattle.block_machine.specs.Accepted.{IsAccepted, IsNotOlder}
+use Rattle.block_machine.specs.Steps.{after}
+use Rattle.block_machine.specs.StartUp.{listed_mark}
+use Rattle.block_machine.specs.Legal.{IsLegal}
+use Rattle.fee_format.specs.declared.bank_head.BankHead.{BankHead}
+use Rattle.fee_image.specs.Image.{active_of, found_mark, mark_of_bank}
+use Rattle.fee_image.specs.Laws.{BlankIsSound, BlankHasErased, NoActiveComputes, TornErasesSetBits, TornErasesKeepSound, TornErasesMakeNoBank}
+use Rattle.block_promise.specs.Marks.{KeepsMarks, Lists}
+use Rattle.block_promise.specs.OverDevice.{HasOffAt, TellsAtMost}
+use Rattle.device_bridge.specs.Image.{two_banks, attached}
+use Rattle.device_bridge.specs.FlashRun.{IsCutImage, IsChain, AreSeen}
+use Rattle.fee_image.specs.Sound.{IsSoundImage}
+use Rattle.run_promise.specs.Run.{cap, RefusalsExplain}
+use Rattle.run_promise.specs.Promise.{Promise, Keeps, StartUpsFind, found_by}
+use Rattle.run_promise.specs.Cases.{small, blank, taken, kept_write}
+
+-- a fact on each entry of a list
+abbrev Every : (Entry → Type 0) → List Entry → Type 0
+Every P [] = Unit {0}
+Every P (x ∷ xs) = P x × Every P xs
+
+every : (P : Entry → Type 0) (h : List Entry) → Every P h → (e : Entry) → Contains h e → P e
+every P [] all e (k, few, is) = absurd (omega (arith, few))
+every P (x ∷ xs) (p, ps) e (zero, few, is) = subst P is p
+every P (x ∷ xs) (p, ps) e (suc k, few, is) = every P xs ps e (k, omega (arith, few), is)
+
+-- the entries tell of no more operations
+abbrev Tells : ℕ → Entry → Type 0
+Tells n e = (ops : ℕ) → ops_of e ≡ Some ops → ops ≤ n
+
+at_most : (n : ℕ) (h : List Entry) → Every (Tells n) h → TellsAtMost n h
+at_most n h all e ops has is = every (Tells n) h all e has ops is
+
+some_is : (a b : ℕ) → Some a ≡ Some b → a ≡ b
+some_is a b is = cc
+
+some_list : (a b : List ℕ) → Some a ≡ Some b → a ≡ b
+some_list a b is = cc
+
+some_change : (a b : Change) → Some a ≡ Some b → a ≡ b
+some_change a b is = cc
+
+some_changes : (a b : List Change) → Some a ≡ Some b → a ≡ b
+some_changes a b is = cc
+
+tells : (n m : ℕ) → m ≤ n → (ops : ℕ) → Some m ≡ Some ops → ops ≤ n
+tells n m small_enough ops is = omega (arith, some_is m ops is)
+
+-- MARKS THAT ARE ALL ERASED
+each : (P : DeviceNumber × ℕ → Type 0) → P (record { 0 = 64 }, 2) → P (record { 0 = 65 }, 2) → P (record { 0 = 128 }, 4) → (x : DeviceNumber × ℕ) → Contains (lengths_of small) x → P x
+each P a b c x (zero, few, is) = subst P is a
+each P a b c x (suc zero, few, is) = subst P is b
+each P a b c x (suc (suc zero), few, is) = subst P is c
+each P a b c x (suc (suc (suc k)), few, is) = absurd (omega (arith, few))
+
+abbrev Stands : List Entry → DeviceNumber × ℕ → Type 0
+Stands h x = MayStandIn (instance_at (after small h) (instance_of x.0)) Erased
+
+keeps_erased : (h : List Entry) (found : ℕ → Mark) → ((n : ℕ) → found n ≡ Erased) → ((x : DeviceNumber × ℕ) → Contains (lengths_of small) x → Stands h x)
+    → ((i : Instance) → IsAccepted small h i Erased) → ((i : Instance) → IsNotOlder small h i Erased) → KeepsMarks small h found
+keeps_erased h found erased stands accepted newest = record {
+  stands = λ x has. subst (λ (m : Mark). MayStandIn (instance_at (after small h) (instance_of x.0)) m) (sym (erased x.0.0)) (stands x has);
+  accepted = λ x has. subst (λ (m : Mark). IsAccepted small h (instance_of x.0) m) (sym (erased x.0.0)) (accepted (instance_of x.0));
+  newest = λ x has. subst (λ (m : Mark). IsNotOlder small h (instance_of x.0) m) (sym (erased x.0.0)) (newest (instance_of x.0));
+}
+
+blank_found : BlankHasErased → (n : ℕ) → found_by small blank n ≡ Erased
+blank_found erased n = erased (two_banks small.geometry) 320 n (unwrap_or (length_of (lengths_of small) n) 0)
+
+-- A TORN ERASE OF A BLANK FLASH
+grown_same : (n : ℕ) → Grown (replicate n 255) (replicate n 255)
+grown_same zero = tt
+grown_same (suc n) = (refl, (λ is. is), grown_same n)
+
+not_empty : (image : List ℕ) → Grown blank image → attached small.geometry image ≡ image
+not_empty [] grown = absurd grown
+not_empty (x ∷ xs) grown = refl
+
+finds_none : NoActiveComputes → TornErasesMakeNoBank → BlankIsSound → (image : List ℕ) → Grown blank image → active_of (two_banks small.geometry) image ≡ None
+finds_none computes makes sound image grown =
+    let l = two_banks small.geometry in
+    (computes l image).0 (λ k h few stands. (computes l blank).1 refl k h few (makes l blank image k h (omega arith) (sound l 320) grown few stands))
+
+torn_found : NoActiveComputes → TornErasesMakeNoBank → BlankIsSound → (image : List ℕ) → Grown blank image → (n : ℕ) → found_by small image n ≡ Erased
+torn_found computes makes sound image grown n =
+    let l = two_banks small.geometry in
+    let len = unwrap_or (length_of (lengths_of small) n) 0 in
+    subst (λ (bytes : List ℕ). found_mark l bytes n len ≡ Erased) (sym (not_empty image grown))
+    (ap (λ (a : Option (ℕ × BankHead)). mark_of_bank l image n len a) (finds_none computes makes sound image grown))
+
+-- THE WRITE
+abbrev whole : List Entry
+whole = kept_write.history
+
+torn_keeps : NoActiveComputes → TornErasesMakeNoBank → TornErasesKeepSound → BlankIsSound → (image : List ℕ) → Grown blank image → Keeps small taken image
+torn_keeps computes makes stays sound image grown = record {
+  marks = keeps_erased taken (found_by small image) (torn_found computes makes sound image grown) (each (Stands taken) (inl refl) (inl refl) (inl refl))
+      (λ i. record { whole = refl; brought = inl refl }) (λ i. (λ a is. inl is, (λ a none. absurd none, (λ a none. absurd none, tt))));
+  sound = subst (λ (bytes : List ℕ). IsSoundImage (two_banks small.geometry) bytes) (sym (not_empty image grown)) (stays (two_banks small.geometry) blank image (sound (two_banks small.geometry) 320) grown);
+}
+
+cuts_keep : NoActiveComputes → TornErasesMakeNoBank → TornErasesKeepSound → TornErasesSetBits → BlankIsSound → (k : ℕ) (image : List ℕ) → IsCutImage kept_write.flash k image → Keeps small (up_to k whole) image
+cuts_keep computes makes stays bits sound zero image (x, at, may) =
+    let same : record { op = Erase 0 160; before = blank; answer = FlashOff } ≡ x = some_change _ x at in
+    torn_keeps computes makes stays sound image (bits 0 160 blank image (subst (λ (y : Change). MayLeave y.op y.before image) (sym same) may))
+cuts_keep computes makes stays bits sound (suc k) image (x, at, may) = absurd (cc at)
+
+exit_keeps : BlankIsSound → BlankHasErased → Keeps small whole blank
+exit_keeps sound erased = record {
+  marks = keeps_erased whole (found_by small blank) (blank_found erased) (each (Stands whole) (inl refl) (inl refl) (inl refl))
+      (λ i. record { whole = refl; brought = inl refl })
+      (λ i. (λ a is. inl is, (λ a none. absurd none, (λ a none. absurd none, (λ a none. absurd none, (λ a is. inl is, tt))))));
+  sound = sound (two_banks small.geometry) 320;
+}
+
+abbrev FindsNothing : Entry → Type 0
+FindsNothing e = (marks : List (Instance × Mark)) (ops : ℕ) → e ≡ Found marks ops → marks ≡ []
+
+founds : (e : Entry) → Contains whole e → FindsNothing e
+founds = every FindsNothing whole
+    ((λ marks ops is. sym (cc is)), ((λ marks ops is. absurd (cc is)), ((λ marks ops is. absurd (cc is)), ((λ marks ops is. absurd (cc is)), ((λ marks ops is. sym (cc is)), tt)))))
+
+lists_nothing : BlankHasErased → (marks : List (Instance × Mark)) → marks ≡ [] → Lists small marks (found_by small blank)
+lists_nothing erased marks none x has = ap (λ (ms : List (Instance × Mark)). listed_mark ms (instance_of x.0)) none ∙ sym (blank_found erased x.0.0)
+
+start_ups_find : BlankHasErased → StartUpsFind kept_write
+start_ups_find erased marks zero has few = lists_nothing erased marks (founds (Found marks zero) has marks zero refl)
+start_ups_find erased marks (suc ops) has few = lists_nothing erased marks (founds (Found marks (suc ops)) has marks (suc ops) refl)
+
+chains : (first last : List ℕ) → [] ≡ first → blank ≡ last → IsChain (attached small.geometry first) kept_write.flash.operations last
+chains first last a b = subst (λ (f : List ℕ). IsChain (attached small.geometry f) kept_write.flash.operations last) a
+    (subst (λ (l : List ℕ). IsChain blank kept_write.flash.operations l) b (refl, (blank, (record { size = refl; front = refl; back = refl }, grown_same 160), refl)))
+
+stays_back : (last : List ℕ) (changes : List Change) → blank ≡ last → [] ≡ changes → AreSeen (λ k. IsTrue true × HasOffAt whole (next_count k)) 0 last kept_write.flash.operations changes
+stays_back last changes a b = subst (λ (cs : List Change). AreSeen (λ k. IsTrue true × HasOffAt whole (next_count k)) 0 last kept_write.flash.operations cs) b (((refl, refl), sym a), refl)
+
+no_refusals : (id : ℕ) → RefusalsExplain small kept_write.course whole id
+no_refusals id zero = omega arith
+no_refusals id (suc zero) = omega arith
+no_refusals id (suc (suc zero)) = omega arith
+no_refusals id (suc (suc (suc zero))) = omega arith
+no_refusals id (suc (suc (suc (suc zero)))) = omega arith
+no_refusals id (suc (suc (suc (suc (suc n))))) = omega arith
+
+is_legal : IsLegal small cap whole
+is_legal = (
+  record { room = omega arith; grows = omega arith; lists = refl; lengths = refl; stands = tt },
+  (
+    record { started = refl; caller_small = omega arith; store = refl; room = refl; replies = refl },
+    (
+      (record { started = refl; on = refl; grows = omega arith }, record { free = tt; same_block = refl; same_kind = refl; takes = refl }),
+      (
+        record { started = refl; on = refl; grows = omega arith },
+        (record { room = omega arith; grows = omega arith; lists = refl; lengths = refl; stands = (inl refl, (inl refl, (inl refl, tt))) }, tt),
+      ),
+    ),
+  ),
+)
+
+pub write_keeps : NoActiveComputes → TornErasesMakeNoBank → TornErasesKeepSound → TornErasesSetBits → BlankIsSound → BlankHasErased → Promise kept_write
+write_keeps computes makes stays bits sound erased = record {
+  order = ((refl, ((refl, tt), (((refl, refl), (tt, tt)), ((record { played = refl; ends = refl }, (tt, (tt, tt))), ((tt, (tt, tt)), tt))))), refl);
+  power_cut = λ told from k image few cut. cuts_keep computes makes stays bits sound k image cut;
+  found = λ told from. start_ups_find erased;
+  at_exit = λ told from started few. exit_keeps sound erased;
+  block_machine = is_legal;
+  faults = record { faults = 0; counted = inl (omega arith); pay = inl (omega arith, inl (omega arith, inl (omega arith, inl (omega arith, inl (omega arith, tt))))) };
+  refusals = no_refusals;
+  off = inl (omega arith);
+  operations = λ started. record {
+    told_alike = tt;
+    chain = λ t. chains t.first t.last (some_list [] t.first t.entry) (some_list blank t.last t.exit);
+    seen = λ t. stays_back t.bytes.last t.changes (some_list blank t.bytes.last t.bytes.exit) (some_changes [] t.changes t.told);
+  };
+  begins = refl;
+  counted = at_most 1 whole (tells 1 0 (omega arith), ((λ ops is. absurd (cc is)), (tells 1 0 (omega arith), (tells 1 1 (omega arith), (tells 1 1 (omega arith), tt)))));
+}

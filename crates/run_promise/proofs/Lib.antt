@@ -1,0 +1,6 @@
+mod Composition
+mod Spells
+mod WrongOrders
+mod WrongMarks
+mod WrongCauses
+mod KeptRuns

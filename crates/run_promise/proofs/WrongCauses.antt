@@ -1,0 +1,118 @@
+-- Runs that break the promise by what they say caused a failure or a cut.
+use Rattle.std.specs.Prelude.{Contains, unwrap_or}
+use Rattle.std.proofs.Common.{◌≡◌, ◌⊎◌, ◌+◌, ℕ, zero, suc, ◌<◌, ◌≤◌, List, [], ◌∷◌, replicate, Option, Some, None, refl, sym, ap, subst, ◌∙◌, inl, inr, arith}
+use Rattle.nv_base.specs.Count.{WereCounted}
+use Rattle.nv_base.specs.Marks.{number_of}
+use Rattle.block_machine.specs.Words.{NotOk}
+use Rattle.block_machine.specs.State.{Job}
+use Rattle.block_machine.specs.Results.{own_of, failed_set}
+use Rattle.block_machine.specs.Steps.{after}
+use Rattle.block_machine.specs.StartUp.{at_first}
+use Rattle.block_promise.specs.Payment.{ArePaid}
+use Rattle.fee_format.specs.declared.bank_head.BankHead.{BankHead}
+use Rattle.fee_image.specs.RecordList.{IsTailBlank, IsClosed, end_of}
+use Rattle.fee_image.specs.Image.{bank_in}
+use Rattle.device_bridge.specs.Image.{two_banks, HasNoRoomFor}
+use Rattle.device_bridge.specs.Bridge.{IsWornOut}
+use Rattle.run_promise.specs.Promise.{Promise, FailuresArePaid, making_of}
+use Rattle.run_promise.proofs.WrongMarks.{only_zero}
+use Rattle.run_promise.specs.Cases.{small, image_of, taken, off_without_a_cut, worn_but_roomy, worn_and_full}
+
+none_counted : (n : ℕ) → WereCounted n 0 0 → n ≡ 0
+none_counted n (inl is) = omega (arith, is)
+none_counted n (inr full) = omega (arith, full)
+
+pub no_off_without_a_cut : Promise off_without_a_cut → ⊥
+no_off_without_a_cut p = omega (arith, none_counted 1 p.off)
+
+-- THE WORN BANK
+abbrev roomy : List ℕ
+roomy = image_of 4294967295 (replicate 128 255)
+
+all_blank : IsTailBlank (bank_in (two_banks small.geometry) 1 0) roomy 2
+all_blank zero low high = absurd (omega (arith, low))
+all_blank (suc zero) low high = absurd (omega (arith, low))
+all_blank (suc (suc zero)) low high = refl
+all_blank (suc (suc (suc zero))) low high = refl
+all_blank (suc (suc (suc (suc zero)))) low high = refl
+all_blank (suc (suc (suc (suc (suc zero))))) low high = refl
+all_blank (suc (suc (suc (suc (suc (suc zero)))))) low high = refl
+all_blank (suc (suc (suc (suc (suc (suc (suc zero))))))) low high = refl
+all_blank (suc (suc (suc (suc (suc (suc (suc (suc zero)))))))) low high = refl
+all_blank (suc (suc (suc (suc (suc (suc (suc (suc (suc zero))))))))) low high = refl
+all_blank (suc (suc (suc (suc (suc (suc (suc (suc (suc (suc q)))))))))) low high = absurd (omega (arith, high))
+
+abbrev head : BankHead
+head = record { format = 1; generation = 4294967295 }
+
+abbrev Full : ℕ × BankHead → Type 0
+Full x = IsClosed (bank_in (two_banks small.geometry) x.1.format x.0) roomy (end_of (bank_in (two_banks small.geometry) x.1.format x.0) roomy)
+    ⊎ (10 < end_of (bank_in (two_banks small.geometry) x.1.format x.0) roomy + 4)
+
+not_full : Full (0, head) → ⊥
+not_full (inl closed) = closed all_blank
+not_full (inr few) = let f : 10 < 6 = few in omega arith
+
+same_pair : (x y : ℕ × BankHead) → Some x ≡ Some y → x ≡ y
+same_pair x y is = cc
+
+has_room : HasNoRoomFor 4 small.geometry roomy → ⊥
+has_room (k, h, active, why) =
+    let same : (0, head) ≡ (k, h) = same_pair (0, head) (k, h) active in
+    not_full (subst Full (sym same) why)
+
+-- the job's one instance is 0
+instance_is : (j : Job) (index : ℕ) → (after small taken).hand ≡ Some j → Contains (unwrap_or (failed_set (own_of small (after small taken) 2) j (NotOk, None)) []) index → index ≡ 0
+instance_is j index hand has =
+    let is : unwrap_or (after small taken).hand j ≡ j = ap (λ (o : Option Job). unwrap_or o j) hand in
+    only_zero index (subst (λ (x : Job). Contains (unwrap_or (failed_set (own_of small (after small taken) 2) x (NotOk, None)) []) index) (sym is) has)
+
+not_worn : (moment index : ℕ) → moment ≤ 0 → index ≡ 0 → IsWornOut (making_of small) worn_but_roomy.flash moment (number_of (record { block = 2; index = index })) → ⊥
+not_worn moment index soon is worn =
+    let there : IsWornOut (making_of small) worn_but_roomy.flash moment 128 =
+    subst (λ (i : ℕ). IsWornOut (making_of small) worn_but_roomy.flash moment (number_of (record { block = 2; index = i }))) is worn in
+    elim (there.full (omega (arith, soon))) [
+      | inl full ↦ has_room full
+      | inr (inl rose) ↦ omega (arith, rose)
+      | inr (inr (end, more)) ↦ omega (arith, end)
+    ]
+
+unpaid : (n : ℕ) → n ≡ 0 → ArePaid small (IsWornOut (making_of small) worn_but_roomy.flash) n at_first worn_but_roomy.history → ⊥
+unpaid n is (inr (none, rest)) = none
+unpaid n is (inl (p0, inr (none, rest))) = none
+unpaid n is (inl (p0, inl (p1, inr (none, rest)))) = none
+unpaid n is (inl (p0, inl (p1, inl (p2, inl (p3, rest))))) = omega (arith, p3, is)
+unpaid n is (inl (p0, inl (p1, inl (p2, inr ((j, hand, some, was), rest))))) = not_worn was.moment was.index was.by_then (instance_is j was.index hand was.failed) was.is
+
+pub no_worn_but_roomy : Promise worn_but_roomy → ⊥
+no_worn_but_roomy p = unpaid p.faults.faults (none_counted p.faults.faults p.faults.counted) p.faults.pay
+
+pub full_is_worn : FailuresArePaid worn_and_full
+full_is_worn = record {
+  faults = 0;
+  counted = inl (omega arith);
+  pay = inl (
+    omega arith,
+    inl (
+      omega arith,
+      inl (
+        omega arith,
+        inr (
+          (
+            _,
+            refl,
+            refl,
+            record {
+              index = 0;
+              failed = (0, omega arith, refl);
+              moment = 0;
+              by_then = omega arith;
+              is = record { last = (0, _, refl, refl); no_erase = λ few. refl; full = λ few. inl (0, _, refl, inr (omega arith)) };
+            },
+          ),
+          tt,
+        ),
+      ),
+    ),
+  );
+}

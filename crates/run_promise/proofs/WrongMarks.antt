@@ -1,0 +1,66 @@
+-- Runs that break the promise by their marks.
+use Rattle.std.specs.Prelude.{Contains}
+use Rattle.std.proofs.Common.{◌≡◌, ℕ, zero, suc, ◌<◌, List, [], ◌∷◌, ◌++◌, drop, get_or, replicate, Some, refl, sym, ap, ◌∙◌, inl, inr, arith}
+use Rattle.nv_base.specs.declared.instance.DeviceNumber.{DeviceNumber}
+use Rattle.fls_model.specs.Bytes.{SameOutside, AreBytes}
+use Rattle.block_machine.specs.Words.{Mark, Content, Erased}
+use Rattle.fee_image.specs.Laws.{BlankIsSound, BlankHasErased}
+use Rattle.device_bridge.specs.Image.{two_banks}
+use Rattle.device_bridge.specs.FlashRun.{FlashRun, TellsBytes, TellsOperations}
+use Rattle.run_promise.specs.Promise.{Promise, found_by}
+use Rattle.run_promise.specs.Cases.{small, blank, one, image_of, record_of, made_up_mark, other_dataset, lost_write}
+
+from_blank : (f : FlashRun) (last : List ℕ) → f.entry.bytes ≡ Some [] → f.exit.bytes ≡ Some last → TellsBytes f
+from_blank f last entry exit = record { first = []; entry = entry; last = last; exit = exit }
+
+pub no_made_up_mark : BlankIsSound → BlankHasErased → Promise made_up_mark → ⊥
+no_made_up_mark sound erased p =
+    let listed = p.found (from_blank made_up_mark.flash blank refl refl) (sound (two_banks small.geometry) 320) _ 0 (0, omega arith, refl) (omega arith) (record { 0 = 128 }, 4) (2, omega arith, refl) in
+    let none : found_by small blank 128 ≡ Erased = erased (two_banks small.geometry) 320 128 4 in
+    cc (listed ∙ none)
+
+pub only_zero : (n : ℕ) → Contains (0 ∷ []) n → n ≡ 0
+only_zero n (zero, few, is) = sym is
+only_zero n (suc k, few, is) = omega (arith, few)
+
+-- no Pick took it for dataset 1
+pub no_other_dataset : BlankIsSound → Promise other_dataset → ⊥
+no_other_dataset sound p =
+    let keeps = p.at_exit (from_blank other_dataset.flash _ refl refl) (sound (two_banks small.geometry) 320) tt (omega arith) in
+    elim (keeps.marks.accepted (record { 0 = 129 }, 4) (3, omega arith, refl)).brought [
+      | inl found ↦ cc found
+      | inr (inl none) ↦ none
+      | inr (inr (inl took)) ↦ omega (arith, only_zero 1 took.index)
+      | inr (inr (inr none)) ↦ none
+    ]
+
+zeros : (n : ℕ) → AreBytes (replicate n 0)
+zeros zero k = omega arith
+zeros (suc n) zero = omega arith
+zeros (suc n) (suc k) = zeros n k
+
+joined_bytes : (a b : List ℕ) → AreBytes a → AreBytes b → AreBytes (a ++ b)
+joined_bytes [] b p q k = q k
+joined_bytes (x ∷ a) b p q zero = p zero
+joined_bytes (x ∷ a) b p q (suc k) = joined_bytes a b (λ j. p (suc j)) q k
+
+dropped_bytes : (n : ℕ) (xs : List ℕ) → AreBytes xs → AreBytes (drop n xs)
+dropped_bytes zero xs p = p
+dropped_bytes (suc n) [] p = p
+dropped_bytes (suc n) (x ∷ xs) p = dropped_bytes n xs (λ j. p (suc j))
+
+abbrev written : List ℕ
+written = image_of 1 (record_of 128 one ++ replicate 64 255)
+
+-- a cut of the fifth operation may leave any bytes on the page of the head, as those of an open gate
+abbrev torn : List ℕ
+torn = replicate 16 0 ++ drop 16 written
+
+pub no_lost_write : BlankIsSound → Promise lost_write → ⊥
+no_lost_write sound p =
+    let keeps = p.power_cut (record { bytes = from_blank lost_write.flash _ refl refl; changes = []; told = refl }) (sound (two_banks small.geometry) 320) 4 torn (omega arith)
+    (_, refl, (record { size = refl; front = refl; back = refl }, λ were. joined_bytes (replicate 16 0) (drop 16 written) (zeros 16) (dropped_bytes 16 written were))) in
+    elim (keeps.marks.stands (record { 0 = 128 }, 4) (2, omega arith, refl)) [
+      | inl is ↦ cc is
+      | inr (k, few, is) ↦ omega (arith, few)
+    ]

@@ -1,0 +1,102 @@
+-- What is served in `play`, and by when: where nothing fails, each job comes to its Post.
+use Rattle.std.specs.Prelude.{◌≡◌, ◌≢◌, ◌+◌, ◌-◌, ◌==◌, ◌&&◌, ◌||◌, ℕ, suc, not, nat_le, nat_lt, Bool, true, false, IsTrue, List, [], ◌∷◌, ◌++◌, take, option_map, if◌then◌else◌, Option, Some, None, IfSome}
+use Rattle.std.specs.List.{list_all, list_any}
+use Rattle.nv_base.specs.Count.{Rose}
+use Rattle.nvm_script.specs.declared.step.Step.{Step}
+use Rattle.nvm_script.specs.declared.step.StepKind.{StepKind}
+use Rattle.nvm_script.specs.declared.step.StepKind.TheVariants.{Turn, Drain, Restart}
+use Rattle.block_machine.specs.Words.{Request, Accepted, TookRefused, TookStale, Entry, Ask, Pick, Post, Off, Configuration}
+use Rattle.block_machine.specs.State.{State, Job, jobs_of}
+use Rattle.block_machine.specs.Blocks.{desc_of, job_block, asked_block, is_immediate}
+use Rattle.block_machine.specs.Steps.{after, after_from}
+use Rattle.block_config.specs.Sizes.{urgent_pages}
+use Rattle.script_walks.specs.Walk.{is_at_rest}
+use Rattle.device_bridge.specs.Image.{HasNoRoomFor}
+use Rattle.device_bridge.specs.FlashRun.{bytes_after}
+use Rattle.run_promise.specs.Run.{Run, Course, Played, Ran, FlashFault}
+
+-- NOTHING FAILS
+abbrev pub is_calm_entry : Entry → Bool
+is_calm_entry (Off ops) = false
+is_calm_entry (Pick block kind (TookRefused count) ops) = false
+is_calm_entry (Pick block kind (TookStale asked got count) ops) = false
+is_calm_entry (Post block r given (suc refused) ops) = false
+is_calm_entry e = true
+
+-- no fault was counted, the power stayed on, and no copy was refused or stale
+pub record IsCalm (r : Run) : Type 0 where
+  pub no_fault : ¬ Rose r.flash.entry.faults r.flash.exit.faults
+  pub entries : IsTrue (list_all is_calm_entry r.history)
+
+-- WITHIN SO MANY TURNS
+abbrev pub turns_of : StepKind → ℕ
+turns_of (Turn count) = count
+turns_of kind = 0
+
+abbrev pub is_drain : StepKind → Bool
+is_drain Drain = true
+is_drain kind = false
+
+abbrev pub is_restart : StepKind → Bool
+is_restart Restart = true
+is_restart kind = false
+
+-- the entries of these steps' pieces until so many turns were made or a `drain` was; none where a restart or the end comes first
+abbrev pub entries_within : ℕ → List Step → List (List Entry) → Option (List Entry)
+entries_within n (x ∷ xs) (p ∷ ps) =
+    if is_restart x.kind then None
+    else (if is_drain x.kind || nat_lt 0 n && nat_le n (turns_of x.kind) then Some p else option_map (λ es. p ++ es) (entries_within (n - turns_of x.kind) xs ps))
+entries_within n xs ps = None
+
+-- a job of this block is posted in these entries, or another Pick interrupts it
+abbrev pub ends_job : ℕ → Entry → Bool
+ends_job id (Post block r given refused ops) = block == id
+ends_job id (Pick block kind t ops) = true
+ends_job id e = false
+
+abbrev pub posts_block : ℕ → Entry → Bool
+posts_block id (Post block r given refused ops) = block == id
+posts_block id e = false
+
+-- What each step of a run keeps: a fact on the steps before it, the state before its piece, its own piece, and the steps
+-- and pieces behind it.
+abbrev pub EachPiece : Configuration → (State → Step → List Entry → List Step → List (List Entry) → Type 0) → State → List Step → List (List Entry) → Type 0
+EachPiece c P s (x ∷ xs) (p ∷ ps) = P s x p xs ps × EachPiece c P (after_from c s p) xs ps
+EachPiece c P s xs ps = Unit {0}
+
+-- a job that is in hand behind a step is posted, or interrupted, within so many turns
+abbrev pub PostsInHand : Configuration → ℕ → State → Step → List Entry → List Step → List (List Entry) → Type 0
+PostsInHand c most s x p xs ps = (j : Job) → (after_from c s p).hand ≡ Some j → IfSome (entries_within most xs ps) (λ es. IsTrue (list_any (ends_job (job_block j)) es))
+
+-- the pages of all records of an immediate write
+abbrev pub urgent_pages_of : Configuration → Request → ℕ
+urgent_pages_of c request = urgent_pages c.geometry.page (desc_of c (asked_block request))
+
+-- behind a `drain` nothing is pending
+abbrev pub DrainsAll : Configuration → State → Step → List Entry → List Step → List (List Entry) → Type 0
+DrainsAll c s x p xs ps = x.kind ≡ Drain → IsTrue (is_at_rest (after_from c s p))
+
+-- an immediate write while no other immediate job is pending, whose records have room in the bytes of that moment
+pub record IsUrgent (r : Run) (s : State) (request : Request) : Type 0 where
+  pub immediate : IsTrue (is_immediate r.configuration request)
+  pub alone : IsTrue (list_all (λ j. j.member || not (is_immediate r.configuration j.request)) (jobs_of s))
+  pub image : List ℕ
+  pub bytes : bytes_after r.flash s.ops ≡ Some image
+  pub room : ¬ HasNoRoomFor (urgent_pages_of r.configuration request) r.configuration.geometry image
+
+-- it is posted within the pages of its records and four turns more
+abbrev pub PostsUrgent : Run → State → Step → List Entry → List Step → List (List Entry) → Type 0
+PostsUrgent r s x (Ask caller request Accepted ∷ []) xs ps =
+    IsUrgent r s request → IfSome (entries_within (urgent_pages_of r.configuration request + 4) xs ps) (λ es. IsTrue (list_any (posts_block (asked_block request)) es))
+PostsUrgent r s x p xs ps = Unit {0}
+
+-- Completeness of a run of `play` in which nothing fails. `most` is the greatest number of turns that a job takes.
+pub record IsComplete (most : ℕ) (r : Run) (made : List Step) (pieces : List (List Entry)) : Type 0 where
+  pub ends : r.end ≢ FlashFault
+  pub posts : EachPiece r.configuration (PostsInHand r.configuration most) (after r.configuration (take 1 r.history)) made pieces
+  pub drains : EachPiece r.configuration (DrainsAll r.configuration) (after r.configuration (take 1 r.history)) made pieces
+  pub urgent : EachPiece r.configuration (PostsUrgent r) (after r.configuration (take 1 r.history)) made pieces
+
+abbrev pub Completeness : ℕ → Run → Course → Type 0
+Completeness most r (Played made pieces left) = IsCalm r → IsComplete most r made pieces
+Completeness most r (Ran steps) = IsCalm r → r.end ≢ FlashFault

@@ -1,0 +1,24 @@
+-- The two halves of the promise: what is said over any device, and what ties the device to its flash.
+use Rattle.std.specs.Prelude.{ℕ}
+use Rattle.nv_base.specs.Count.{WereCounted}
+use Rattle.memif.specs.Told.{PartTold}
+use Rattle.memif.specs.Clock.{PartClock}
+use Rattle.block_promise.specs.OverDevice.{KeepsOver}
+use Rattle.device_bridge.specs.Bridge.{Bridges}
+use Rattle.run_promise.specs.Run.{Run, cap, HasOrder, offs_of_flash, has_cutter, RefusalsExplain}
+use Rattle.run_promise.specs.Promise.{Promise, making_of}
+
+-- what the stack promises of a run over any device of one part, as it is told before the first start-up and at the end
+pub record BlockHalf (r : Run) (before now : PartTold) (clock : PartClock) : Type 0 where
+  pub order : HasOrder r r.history
+  pub over : KeepsOver r.configuration cap r.history before now clock
+  pub refusals : (id : ℕ) → RefusalsExplain r.configuration r.course r.history id
+  pub off : WereCounted (offs_of_flash r.course r.history) before.planning.unplanned now.planning.unplanned
+
+-- what its device over the run's flash promises
+abbrev pub DeviceHalf : Run → PartTold → PartTold → PartClock → Type 0
+DeviceHalf r before now clock = Bridges (making_of r.configuration) (has_cutter r.course) r.flash before now clock
+
+-- both halves make the promise
+abbrev pub HalvesMakeIt : PartClock → Type 0
+HalvesMakeIt clock = (r : Run) (before now : PartTold) → BlockHalf r before now clock → DeviceHalf r before now clock → Promise r

@@ -1,0 +1,7 @@
+pub mod Run
+pub mod Promise
+pub mod Halves
+pub mod Life
+pub mod Call
+pub mod Completeness
+pub mod Cases

@@ -1,0 +1,59 @@
+-- What the stack promises of each run. Its fields, read one after another, are one sentence, and behind it the bookkeeping.
+use Rattle.std.specs.Prelude.{◌≡◌, ◌<◌, ℕ, IsTrue, List, length, Contains, Some}
+use Rattle.nv_base.specs.Count.{last_count, next_count, WereCounted}
+use Rattle.block_config.specs.Lengths.{lengths_of}
+use Rattle.block_config.specs.Sizes.{measures_of}
+use Rattle.fls_model.specs.Attach.{IfTold}
+use Rattle.block_machine.specs.Words.{Instance, Mark, Entry, Found, Configuration}
+use Rattle.block_machine.specs.Legal.{IsLegal}
+use Rattle.block_machine.specs.History.{up_to}
+use Rattle.block_promise.specs.Marks.{KeepsMarks, Lists}
+use Rattle.block_promise.specs.Payment.{IsPaid}
+use Rattle.block_promise.specs.OverDevice.{HasStarted, BeginsBefore, TellsAtMost, HasOffAt}
+use Rattle.device_bridge.specs.Image.{IsSoundFlash, found_in}
+use Rattle.device_bridge.specs.FlashRun.{TellsBytes, TellsOperations, StartsSound, IsCutImage, bytes_after, AreOperations}
+use Rattle.device_bridge.specs.Bridge.{Making, IsWornOut}
+use Rattle.run_promise.specs.Run.{Run, cap, HasOrder, offs_of_flash, has_cutter, RefusalsExplain}
+
+-- what a start-up finds in an image
+abbrev pub found_by : Configuration → List ℕ → ℕ → Mark
+found_by c image = found_in c.geometry (lengths_of c) image
+
+-- an image keeps to a history: what is found in it of each instance does, and it is sound
+pub record Keeps (c : Configuration) (h : List Entry) (image : List ℕ) : Type 0 where
+  pub marks : KeepsMarks c h (found_by c image)
+  pub sound : IsSoundFlash c.geometry image
+
+-- each start-up lists what it found in the bytes of its moment
+abbrev pub StartUpsFind : Run → Type 0
+StartUpsFind r =
+    (marks : List (Instance × Mark)) (ops : ℕ) → Contains r.history (Found marks ops) → ops < last_count
+    → IfTold (bytes_after r.flash ops) (λ image. Lists r.configuration marks (found_by r.configuration image))
+
+-- the device is made for this configuration
+abbrev pub making_of : Configuration → Making
+making_of c = record { geometry = c.geometry; numbers = lengths_of c; reserve = (measures_of c.geometry.page c.blocks).urgent }
+
+-- the flash's faults pay for each failure, but where the flash is worn out
+abbrev pub FailuresArePaid : Run → Type 0
+FailuresArePaid r = IsPaid r.configuration (IsWornOut (making_of r.configuration) r.flash) r.flash.entry.faults r.flash.exit.faults r.history
+
+pub record Promise (r : Run) : Type 0 where
+  -- For every order of callers' requests and main-function turns,
+  pub order : HasOrder r r.history
+  -- and a power cut before or within any flash operation, start-up finds in each stored instance one whole accepted mark,
+  -- not older than the last acknowledged by then;
+  pub power_cut : TellsOperations r.flash → StartsSound r.configuration.geometry r.flash → (k : ℕ) (image : List ℕ) → k < last_count → IsCutImage r.flash k image → Keeps r.configuration (up_to k r.history) image
+  pub found : TellsBytes r.flash → StartsSound r.configuration.geometry r.flash → StartUpsFind r
+  pub at_exit : TellsBytes r.flash → StartsSound r.configuration.geometry r.flash → HasStarted r.history → length r.flash.operations < last_count → IfTold r.flash.exit.bytes (Keeps r.configuration r.history)
+  -- every reply, choice and result is the block machine's over the one history;
+  pub block_machine : IsLegal r.configuration cap r.history
+  -- a failure result comes only from counted faults, refused copies or what the flash holds written.
+  pub faults : FailuresArePaid r
+  pub refusals : (id : ℕ) → RefusalsExplain r.configuration r.course r.history id
+  -- An Off is planned, or the flash counted a cut.
+  pub off : WereCounted (offs_of_flash r.course r.history) r.flash.entry.cuts r.flash.exit.cuts
+  -- The operations are those of the flash, but for one at each Off that a planned cut kept from it; the entries count them.
+  pub operations : HasStarted r.history → AreOperations r.configuration.geometry r.flash (λ k. IsTrue (has_cutter r.course) × HasOffAt r.history (next_count k))
+  pub begins : BeginsBefore r.history
+  pub counted : TellsAtMost (length r.flash.operations) r.history

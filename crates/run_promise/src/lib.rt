@@ -1,0 +1,16 @@
+//! The promise of a whole run of the program: one record, `Promise`, whose fields are one sentence.
+//!
+//! It proves that the promise follows from its two halves, what the stack keeps over any device and what the device
+//! keeps over its flash, and what it comes to in the life of a unit; worked runs show what keeps it and what breaks it.
+//! That the stack, its device and the commands keep their parts is left to their crates.
+#![tactic(auto)]
+
+mod cases;
+mod halves;
+mod life;
+
+pub use cases::{
+    runs_that_keep_it, wrong_causes_break_it, wrong_marks_break_it, wrong_orders_break_it,
+};
+pub use halves::halves_make_the_promise;
+pub use life::units_hold_marks;
