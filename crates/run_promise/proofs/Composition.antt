@@ -1,26 +1,24 @@
 -- The promise from its two halves.
-use Rattle.std.specs.Prelude.{Contains, slice_get, min}
+use Rattle.std.specs.Prelude.{slice_get, min}
 use Rattle.std.specs.Option.{option_map_or}
-use Rattle.std.proofs.Common.{◌≡◌, ℕ, zero, suc, ◌<◌, ◌≤◌, ◌+◌, ◌-◌, IsTrue, Bool, List, [], ◌∷◌, length, Option, Some, None, refl, sym, subst, ap, ◌∙◌, inl, inr, arith}
+use Rattle.std.proofs.Common.{◌≡◌, ℕ, ◌<◌, ◌≤◌, ◌+◌, ◌-◌, IsTrue, List, [], ◌∷◌, length, Option, Some, None, refl, sym, subst, ap, inl, inr, arith}
 use Rattle.nv_base.specs.Count.{last_count, WereCounted}
-use Rattle.fls_model.specs.Op.{MayLeave}
 use Rattle.fls_model.specs.Told.{Change}
 use Rattle.fls_model.specs.Attach.{IfTold}
-use Rattle.memif.specs.Told.{PartTold, Held}
-use Rattle.memif.specs.Clock.{PartClock, After, CutIn}
-use Rattle.block_machine.specs.Words.{Instance, Mark, Entry, Ask, Pick, Wrote, Post, Off, Found, Configuration}
+use Rattle.memif.specs.Told.{PartTold}
+use Rattle.memif.specs.Clock.{PartClock, After}
+use Rattle.block_machine.specs.Words.{Entry, Ask, Pick, Wrote, Post, Off, Found, Configuration}
 use Rattle.block_machine.specs.State.{State}
 use Rattle.block_machine.specs.StartUp.{at_first}
 use Rattle.block_machine.specs.Steps.{step}
 use Rattle.block_machine.specs.Prices.{price_in_faults}
-use Rattle.block_promise.specs.Marks.{Lists}
-use Rattle.block_promise.specs.Payment.{Worn, WasWorn, IsExcused, ArePaid, IsPaid}
-use Rattle.block_promise.specs.OverDevice.{HasStarted, HasOffAt, TellsAtMost}
+use Rattle.block_promise.specs.Payment.{Worn, IsExcused, ArePaid, IsPaid}
+use Rattle.block_promise.specs.OverDevice.{HasStarted}
 use Rattle.device_bridge.specs.Image.{held_in, IsSoundFlash}
-use Rattle.device_bridge.specs.FlashRun.{FlashRun, TellsBytes, TellsOperations, StartsSound, IsCutImage, bytes_after, StaysBack, AreSeen, AreOperations}
+use Rattle.device_bridge.specs.FlashRun.{TellsBytes, StartsSound, bytes_after, AreSeen}
 use Rattle.device_bridge.specs.Bridge.{IsWornOut}
-use Rattle.run_promise.specs.Run.{Run, cap, has_cutter}
-use Rattle.run_promise.specs.Promise.{Promise, Keeps, StartUpsFind, making_of}
+use Rattle.run_promise.specs.Run.{Run, has_cutter}
+use Rattle.run_promise.specs.Promise.{Keeps, StartUpsFind, making_of}
 use Rattle.run_promise.specs.Halves.{BlockHalf, DeviceHalf, HalvesMakeIt}
 
 -- PAYMENT

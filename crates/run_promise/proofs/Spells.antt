@@ -2,15 +2,14 @@
 use Rattle.std.specs.Prelude.{Contains, slice_get, unwrap_or, cond}
 use Rattle.std.specs.List.{list_any}
 use Rattle.std.specs.Option.{option_map_or}
-use Rattle.std.proofs.Common.{◌≡◌, ◌⊎◌, ◌||◌, ℕ, zero, suc, ◌<◌, ◌≤◌, ◌+◌, Bool, true, false, List, [], ◌∷◌, length, replicate, Option, Some, None, refl, sym, subst, ap, ◌∙◌, inl, inr, arith}
+use Rattle.std.proofs.Common.{◌≡◌, ◌⊎◌, ◌||◌, ℕ, zero, suc, Bool, List, [], ◌∷◌, Option, Some, None, refl, sym, subst, ap, ◌∙◌, inl, inr, arith}
 use Rattle.std.proofs.Math.Dec.{leb-zero}
-use Rattle.nv_base.specs.Count.{last_count}
 use Rattle.nv_base.specs.Geometry.{size_of}
 use Rattle.nv_base.specs.declared.geometry.Geometry.{Geometry}
 use Rattle.nv_base.specs.declared.instance.DeviceNumber.{DeviceNumber}
 use Rattle.nv_base.specs.Marks.{instance_of}
 use Rattle.block_config.specs.Lengths.{lengths_of}
-use Rattle.fls_model.specs.Told.{Change, AreToldAlike, IfBothTold}
+use Rattle.fls_model.specs.Told.{Change, IfBothTold}
 use Rattle.fls_model.specs.Attach.{enlarged, IfTold}
 use Rattle.memif.specs.Told.{length_of}
 use Rattle.block_machine.specs.Words.{Instance, Mark, Entry, Ask, Pick, Wrote, Post, Off, Found, Configuration}
@@ -22,10 +21,10 @@ use Rattle.block_promise.specs.OverDevice.{BeginsBefore, HasStarted}
 use Rattle.fee_image.specs.Image.{found_mark}
 use Rattle.fee_image.specs.Sound.{IsSoundImage}
 use Rattle.device_bridge.specs.Image.{two_banks, IsSoundFlash}
-use Rattle.device_bridge.specs.FlashRun.{FlashRun, TellsBytes, TellsOperations, StartsSound, IsCutImage, bytes_after, IsChain}
+use Rattle.device_bridge.specs.FlashRun.{TellsBytes, StartsSound, bytes_after, IsChain}
 use Rattle.run_promise.specs.Run.{Run, HasOrder}
 use Rattle.run_promise.specs.Promise.{Promise, Keeps, found_by}
-use Rattle.run_promise.specs.Life.{Spell, IsSpell, IsLife, LeavesImage, history_by, histories_of, IsTakenInOne, IsNewestOfAll, Holds, UnitsHoldMarks}
+use Rattle.run_promise.specs.Life.{Spell, IsSpell, LeavesImage, history_by, Holds, UnitsHoldMarks}
 
 -- a flash that was enlarged is large enough
 twice : (n : ℕ) (bytes : List ℕ) → enlarged n (enlarged n bytes) ≡ enlarged n bytes

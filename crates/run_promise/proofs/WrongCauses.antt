@@ -1,6 +1,6 @@
 -- Runs that break the promise by what they say caused a failure or a cut.
 use Rattle.std.specs.Prelude.{Contains, unwrap_or}
-use Rattle.std.proofs.Common.{◌≡◌, ◌⊎◌, ◌+◌, ℕ, zero, suc, ◌<◌, ◌≤◌, List, [], ◌∷◌, replicate, Option, Some, None, refl, sym, ap, subst, ◌∙◌, inl, inr, arith}
+use Rattle.std.proofs.Common.{◌≡◌, ◌⊎◌, ◌+◌, ℕ, zero, suc, ◌<◌, ◌≤◌, List, [], replicate, Option, Some, None, refl, sym, ap, subst, inl, inr, arith}
 use Rattle.nv_base.specs.Count.{WereCounted}
 use Rattle.nv_base.specs.Marks.{number_of}
 use Rattle.block_machine.specs.Words.{NotOk}

@@ -1,12 +1,11 @@
 -- Runs that break the promise by their marks.
 use Rattle.std.specs.Prelude.{Contains}
-use Rattle.std.proofs.Common.{◌≡◌, ℕ, zero, suc, ◌<◌, List, [], ◌∷◌, ◌++◌, drop, get_or, replicate, Some, refl, sym, ap, ◌∙◌, inl, inr, arith}
-use Rattle.nv_base.specs.declared.instance.DeviceNumber.{DeviceNumber}
-use Rattle.fls_model.specs.Bytes.{SameOutside, AreBytes}
-use Rattle.block_machine.specs.Words.{Mark, Content, Erased}
+use Rattle.std.proofs.Common.{◌≡◌, ℕ, zero, suc, List, [], ◌∷◌, ◌++◌, drop, replicate, Some, refl, sym, ◌∙◌, inl, inr, arith}
+use Rattle.fls_model.specs.Bytes.{AreBytes}
+use Rattle.block_machine.specs.Words.{Erased}
 use Rattle.fee_image.specs.Laws.{BlankIsSound, BlankHasErased}
 use Rattle.device_bridge.specs.Image.{two_banks}
-use Rattle.device_bridge.specs.FlashRun.{FlashRun, TellsBytes, TellsOperations}
+use Rattle.device_bridge.specs.FlashRun.{FlashRun, TellsBytes}
 use Rattle.run_promise.specs.Promise.{Promise, found_by}
 use Rattle.run_promise.specs.Cases.{small, blank, one, image_of, record_of, made_up_mark, other_dataset, lost_write}
 

@@ -1,8 +1,7 @@
 -- Runs that break the promise by their order.
-use Rattle.std.proofs.Common.{◌≡◌, ◌⊎◌, ℕ, List, [], ◌∷◌, get_or, Some, refl, sym, ap, ◌∙◌, inl, inr, arith}
-use Rattle.device_bridge.specs.Image.{attached}
+use Rattle.std.proofs.Common.{◌≡◌, ℕ, List, get_or, refl, ap, inl, inr, arith}
 use Rattle.run_promise.specs.Promise.{Promise}
-use Rattle.run_promise.specs.Cases.{small, blank, wiped, empty_at_11, stale_in_play, invented_store, second_found}
+use Rattle.run_promise.specs.Cases.{blank, wiped, empty_at_11, stale_in_play, invented_store, second_found}
 
 differ : (a b : List ℕ) → get_or a 0 0 ≡ 255 → get_or b 0 0 ≡ 66 → a ≡ b → ⊥
 differ a b is was same = omega (arith, is, was, ap (λ (bytes : List ℕ). get_or bytes 0 0) same)

@@ -11,7 +11,7 @@ use Rattle.fee_format.specs.RecHead.{rec_head_page}
 use Rattle.nvm_script.specs.declared.step.StepKind.{StepKind}
 use Rattle.nvm_script.specs.declared.step.StepKind.TheVariants.{Ask as AskStep, Store, Turn, Drain, Restart, Cut}
 use Rattle.nvm_script.specs.declared.step.Step.{Step}
-use Rattle.block_machine.specs.Words.{Fine, NotOk, Mark, Content, Instance, Write, SetLock, Status, Accepted, StatusIs, WriteJob, TookContent, TookStale, Entry, Ask, Pick, Wrote, Post, Off, Found, BlockDesc, Dataset, Sync, Configuration}
+use Rattle.block_machine.specs.Words.{Fine, NotOk, Content, Write, SetLock, Status, Accepted, StatusIs, WriteJob, TookContent, TookStale, Entry, Ask, Pick, Wrote, Post, Off, Found, BlockDesc, Dataset, Sync, Configuration}
 use Rattle.device_bridge.specs.FlashRun.{FlashRun}
 use Rattle.run_promise.specs.Run.{Run, Played, Ran, Whole, HistoryFull, Memory}
 

@@ -1,5 +1,5 @@
 -- What the stack promises of each run. Its fields, read one after another, are one sentence, and behind it the bookkeeping.
-use Rattle.std.specs.Prelude.{◌≡◌, ◌<◌, ℕ, IsTrue, List, length, Contains, Some}
+use Rattle.std.specs.Prelude.{◌<◌, ℕ, IsTrue, List, length, Contains}
 use Rattle.nv_base.specs.Count.{last_count, next_count, WereCounted}
 use Rattle.block_config.specs.Lengths.{lengths_of}
 use Rattle.block_config.specs.Sizes.{measures_of}

@@ -2,8 +2,8 @@
 use Rattle.std.specs.Prelude.{◌≡◌, ◌⊎◌, ◌<◌, ◌≤◌, ◌+◌, ℕ, not, Bool, true, false, IsTrue, List, [], ◌∷◌, ◌++◌, length, take, nat_le, ◌||◌, ◌==◌, if◌then◌else◌, sum_by, count_by, Option, Some, None}
 use Rattle.nv_base.specs.Count.{last_count, Rose}
 use Rattle.nv_base.specs.declared.geometry.Geometry.{Geometry}
-use Rattle.nv_base.specs.Entry.{ops_of, ops_behind}
-use Rattle.fls_model.specs.Told.{Told, Change, IfBothTold}
+use Rattle.nv_base.specs.Entry.{ops_behind}
+use Rattle.fls_model.specs.Told.{IfBothTold}
 use Rattle.nvm_script.specs.declared.step.Step.{Step}
 use Rattle.nvm_script.specs.declared.step.StepKind.{StepKind}
 use Rattle.nvm_script.specs.declared.step.StepKind.TheVariants.{Ask as AskStep, Cut, Refuse, Restart}
