@@ -19,39 +19,59 @@ fn store(alloc: Global) -> Result<PlainStore, AllocError>
     PlainStore::make(alloc, &lengths_of(alloc, &NUMBERS)?)
 }
 
+// A call of a test.
+#[derive(Clone, Copy)]
+enum Do {
+    Read(DeviceNumber, u16),
+    Write(DeviceNumber, &'static [u8]),
+    Invalidate(DeviceNumber),
+    Erase(DeviceNumber),
+}
+
+// Starts a job of a device, and tells whether it was taken.
+fn starts<A: MemDevice, B: MemDevice>(devices: &mut MemIf<A, B>, device: u8, call: &Do) -> bool {
+    match call {
+        Do::Read(number, length) => devices.start_read(device, *number, *length),
+        Do::Write(number, content) => devices.start_write(device, *number, *content, false),
+        Do::Invalidate(number) => devices.start_invalidate(device, *number),
+        Do::Erase(number) => devices.start_erase(device, *number),
+    }
+    .is_ok()
+}
+
 #[test]
-fn each_call_of_one_device_of_two(rt: HostRuntime) -> Result<(), Fail> {
+fn each_job_of_one_device_of_two(rt: HostRuntime) -> Result<(), Fail> {
+    let mut devices = MemIf::make(store(rt.alloc())?, PlainStore::without_numbers(rt.alloc()));
+    assert_eq!(rt; (devices.start(0), devices.start(1)), (Ok(()), Ok(())));
+    for (call, came_to) in [
+        (Do::Write(TWO, b"ab"), JobResult::JobOk),
+        (Do::Read(TWO, 2), JobResult::JobOk),
+        (Do::Invalidate(TWO), JobResult::JobOk),
+        (Do::Read(TWO, 2), JobResult::BlockInvalid),
+        (Do::Erase(TWO), JobResult::JobOk),
+        (Do::Read(TWO, 2), JobResult::BlockInconsistent),
+    ] {
+        assert!(rt; !starts(&mut devices, 1, &call) && !starts(&mut devices, 2, &call));
+        assert!(rt; starts(&mut devices, 0, &call));
+        assert_eq!(rt; (devices.status(0), devices.left(0)), (MemStatus::Busy, 1));
+        assert_eq!(rt; devices.turn(0), DeviceTurn::Worked);
+        assert_eq!(rt; devices.result(0), came_to);
+    }
+    assert_eq!(rt; devices.take_data(0).len(), 0);
+    Ok(())
+}
+
+#[test]
+fn looks_at_one_device_of_two(rt: HostRuntime) -> Result<(), Fail> {
     let mut devices = MemIf::make(store(rt.alloc())?, PlainStore::without_numbers(rt.alloc()));
     assert_eq!(rt; devices.most(0, TWO, DeviceOp::Write), 1);
     devices.cancel(0);
     devices.arm(0, 0, 1, 0);
-    assert_eq!(rt; (devices.start(0), devices.start(1)), (Ok(()), Ok(())));
-    assert_eq!(rt; devices.start_write(0, TWO, b"ab", false), Ok(()));
-    assert_eq!(rt;
-        (devices.status(0), devices.result(0), devices.left(0)),
-        (MemStatus::Busy, JobResult::JobPending, 1)
-    );
-    assert_eq!(rt;
-        (devices.turn(0), devices.turn(1)),
-        (DeviceTurn::Worked, DeviceTurn::Idle)
-    );
-    assert_eq!(rt; devices.start_read(0, TWO, 2), Ok(()));
-    assert_eq!(rt; devices.turn(0), DeviceTurn::Worked);
-    assert_eq!(rt; devices.take_data(0), b"ab".as_slice());
-    assert_eq!(rt; devices.start_invalidate(0, TWO), Ok(()));
-    assert_eq!(rt; devices.turn(0), DeviceTurn::Worked);
-    assert_eq!(rt; devices.mark_kind(0, TWO), Some(PlainMark::Invalid));
-    assert_eq!(rt; devices.start_erase(0, TWO), Ok(()));
-    assert_eq!(rt; devices.turn(0), DeviceTurn::Worked);
-    assert_eq!(rt; devices.result(0), JobResult::JobOk);
     assert_eq!(rt; (devices.ops(0), devices.faults(0)), (0, 0));
-    for (device, refusal) in [(1, DeviceRefusal::BadNumber), (2, DeviceRefusal::BadNumber)] {
-        assert_eq!(rt; devices.start_read(device, FOUR, 4), Err(refusal));
-    }
     let (first, second) = devices.into_parts();
     assert_eq!(rt;
-        (first.status(), second.mark_kind(FOUR)),
-        (MemStatus::Idle, None)
+        (first.mark_kind(TWO), second.mark_kind(TWO)),
+        (Some(PlainMark::Erased), None)
     );
     assert_eq!(rt; device_refusal_number(DeviceRefusal::BadNumber), 3);
     Ok(())
