@@ -1,5 +1,5 @@
 use Rattle.std.proofs.Common.{◌∙◌}
-use Rattle.fls_devices.proofs.Steps.{step_geometry}
+use Rattle.nvm_tests.proofs.Steps.{step_geometry}
 use Rattle.nvm_tests.proofs.devices.program.Goals as goal
 
 pub returns : goal.returns
