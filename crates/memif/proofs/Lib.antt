@@ -1,10 +1,4 @@
-pub mod Erasing
-pub mod Found
-pub mod Places
 pub mod Plain
 pub mod PlainCalls
-pub mod PlainLooks
-pub mod PlainStarts
-pub mod PlainTurns
 pub mod Runs
 pub mod Turning

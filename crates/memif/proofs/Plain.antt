@@ -1,20 +1,54 @@
--- What the calls of a device in memory do.
-use Rattle.std.specs.Prelude.{◌==◌, slice_get, is_some}
-use Rattle.std.proofs.Common.{◌≡◌, ◌<◌, ℕ, zero, suc, Bool, true, false, if◌then◌else◌, List, [], ◌∷◌, length, get_or, set, map, Option, Some, None, refl, ap, ◌∙◌, arith}
-use Rattle.std.proofs.lemmas.List.{get_or-set_same, get_or-map, length-set, length-map}
-use Rattle.std.proofs.lemmas.Option.{slice_get-get_or}
-use Rattle.nv_base.specs.Lengths.{AreLengths, IsPlace}
+-- What a device in memory keeps, in the order of the numbers, and what stands at a place.
+use Rattle.std.specs.Prelude.{◌==◌, if◌then◌else◌, slice_get, is_some}
+use Rattle.std.proofs.Common.{◌≡◌, ◌≢◌, ℕ, zero, suc, ◌<◌, List, [], ◌∷◌, length, get_or, set, map, All, Some, None, refl, ap, arith, inl, inr, Bool, true, false, if◌then◌else◌, Option, ◌∙◌}
+use Rattle.std.proofs.lemmas.Bool.{cases_Bool}
+use Rattle.std.proofs.lemmas.Bool.Decides.{nat_tests}
 use Rattle.nv_base.specs.declared.instance.DeviceNumber.{DeviceNumber}
+use Rattle.nv_base.specs.Lengths.{AreLengths, IsPlace}
+use Rattle.nv_base.proofs.Places.{above}
+use Rattle.memif.specs.Told.{at_number, length_of, Slot, no_slot, slot_at}
+use Rattle.std.proofs.lemmas.List.{map-set, get_or-set_same, get_or-map, length-set, length-map}
+use Rattle.std.proofs.lemmas.Option.{slice_get-get_or}
 use Rattle.memif.specs.declared.answer.PlainMark.TheVariants as plain
 use Rattle.memif.specs.declared.answer.JobResult.{JobResult}
 use Rattle.memif.specs.declared.answer.DeviceRefusal.{DeviceRefusal}
 use Rattle.memif.specs.declared.kept.Kept.{Kept}
 use Rattle.memif.specs.declared.plain_store.PlainJob.{PlainJob}
-use Rattle.memif.specs.Told.{Slot, no_slot, slot_at, length_of}
 use Rattle.memif.specs.Calls.{refusal_of, length_refusal}
 use Rattle.memif.specs.Kept.{undoubted}
 use Rattle.memif.specs.PlainInside.{slot_of, told_with, AreKept}
-use Rattle.memif.proofs.Places.{at_place, at_set, length_at, map_set}
+
+-- PLACES
+module _ {A : Type 0} (none : A) where
+  -- what stands for the number at a place
+  pub at_place : (low : ℕ) (ns : List (DeviceNumber × ℕ)) (things : List A) (number i : ℕ) (d : A) → AreLengths low ns → length things ≡ length ns → i < length ns → ((n : DeviceNumber × ℕ) → (get_or ns i n).0.0 ≡ number) → at_number none ns things number ≡ get_or things i d
+  at_place low [] things number i d all each lt is = absurd (omega arith)
+  at_place low (n ∷ ns) [] number i d all each lt is = absurd (omega arith)
+  at_place low (n ∷ ns) (thing ∷ things) number zero d all each lt is = grind (arith, nat_tests, is n)
+  at_place low (n ∷ ns) (thing ∷ things) number (suc i) d all each lt is = grind (arith, nat_tests, is n, above n.0.0 ns all.4 i n (omega arith), at_place n.0.0 ns things number i d all.4 (omega arith) (omega arith) is)
+
+  -- another thing at that place
+  pub at_set : (low : ℕ) (ns : List (DeviceNumber × ℕ)) (things : List A) (number i : ℕ) (thing : A) (n : ℕ) → AreLengths low ns → length things ≡ length ns → i < length ns → ((x : DeviceNumber × ℕ) → (get_or ns i x).0.0 ≡ number) → at_number none ns (set things i thing) n ≡ (if n == number then thing else at_number none ns things n)
+  at_set low [] things number i thing n all each lt is = absurd (omega arith)
+  at_set low (x ∷ ns) [] number i thing n all each lt is = absurd (omega arith)
+  at_set low (x ∷ ns) (y ∷ things) number zero thing n all each lt is = grind (arith, nat_tests, is x)
+  at_set low (x ∷ ns) (y ∷ things) number (suc i) thing n all each lt is = grind (arith, nat_tests, is x, above x.0.0 ns all.4 i x (omega arith), at_set x.0.0 ns things number i thing n all.4 (omega arith) (omega arith) is)
+
+  -- one thing for all
+  pub at_same : (ns : List (DeviceNumber × ℕ)) (thing : A) (number size : ℕ) → length_of ns number ≡ Some size → at_number none ns (map (λ n. thing) ns) number ≡ thing
+  at_same [] thing number size is = cc
+  at_same (n ∷ ns) thing number size is = elim (cases_Bool (n.0.0 == number)) [ inl e ↦ rw e refl | inr e ↦ rw e (at_same ns thing number size (rw e at is)) ]
+
+-- the length of the number at a place
+pub length_at : (low : ℕ) (ns : List (DeviceNumber × ℕ)) (number i : ℕ) (d : DeviceNumber × ℕ) → AreLengths low ns → i < length ns → ((n : DeviceNumber × ℕ) → (get_or ns i n).0.0 ≡ number) → length_of ns number ≡ Some (get_or ns i d).1
+length_at low [] number i d all lt is = absurd (omega arith)
+length_at low (n ∷ ns) number zero d all lt is = grind (arith, nat_tests, is n)
+length_at low (n ∷ ns) number (suc i) d all lt is = grind (arith, nat_tests, is n, above n.0.0 ns all.4 i n (omega arith), length_at n.0.0 ns number i d all.4 (omega arith) is)
+
+-- a number that isn't configured
+pub length_none : (ns : List (DeviceNumber × ℕ)) (number : ℕ) → All (λ n. n.0.0 ≢ number) ns → length_of ns number ≡ None
+length_none [] number none = refl
+length_none (n ∷ ns) number none = grind (arith, nat_tests, none 0 n (omega arith), length_none ns number (λ k d lt. none (suc k) d (omega arith)))
 
 pub blank : Kept
 blank = record { settled = record { kind = plain.Erased; content = [] }; next = record { kind = plain.Erased; content = [] }; doubted = false }
@@ -66,7 +100,7 @@ module _ (numbers : List (DeviceNumber × ℕ)) (kept : List Kept) (number place
   slot_is = at_place no_slot 0 numbers (map slot_of kept) number place no_slot all slots_length at.within at.is ∙ get_or-map slot_of kept place blank no_slot lt
 
   pub slot_set : (v : Kept) (n : ℕ) → slot_at numbers (map slot_of (set kept place v)) n ≡ (if n == number then slot_of v else slot_at numbers (map slot_of kept) n)
-  slot_set v n = ap (λ (l : List Slot). slot_at numbers l n) (map_set slot_of kept place v) ∙ at_set no_slot 0 numbers (map slot_of kept) number place (slot_of v) n all slots_length at.within at.is
+  slot_set v n = ap (λ (l : List Slot). slot_at numbers l n) (map-set slot_of kept place v) ∙ at_set no_slot 0 numbers (map slot_of kept) number place (slot_of v) n all slots_length at.within at.is
 
   pub size_is : (d : DeviceNumber × ℕ) → length_of numbers number ≡ Some (get_or numbers place d).1
   size_is d = length_at 0 numbers number place d all at.within at.is

@@ -1,46 +1,47 @@
 -- What the calls of a device in memory do.
-use Rattle.std.specs.Prelude.{◌==◌, ◌&&◌, slice_get, is_none}
-use Rattle.std.proofs.Common.{◌≡◌, ◌≢◌, ◌⊎◌, inl, inr, ◌<◌, ◌≤◌, ℕ, zero, suc, Bool, true, false, if◌then◌else◌, List, [], ◌∷◌, get_or, set, map, Option, Some, None, Ok, refl, sym, ap, ◌∙◌, subst, arith}
-use Rattle.std.proofs.lemmas.Bool.{cases_Bool, eqb-true}
+use Rattle.std.specs.Prelude.{◌==◌, ◌&&◌, slice_get, is_none, not, is_some}
+use Rattle.std.proofs.Common.{◌≡◌, ◌≢◌, ◌⊎◌, inl, inr, ◌<◌, ◌≤◌, ℕ, zero, suc, Bool, true, false, if◌then◌else◌, List, [], ◌∷◌, get_or, set, map, Option, Some, None, Ok, refl, sym, ap, ◌∙◌, subst, arith, length, All}
+use Rattle.std.proofs.lemmas.Bool.{not-true, not-false, cases_Bool, eqb-true}
 use Rattle.std.specs.List.{Contains}
 use Rattle.nv_base.specs.Lengths.{AreLengths, IsPlace}
 use Rattle.nv_base.specs.declared.instance.DeviceNumber.{DeviceNumber}
 use Rattle.nv_base.specs.declared.mark.Mark.{Mark}
-use Rattle.nv_base.specs.declared.mark.Mark.TheVariants as mark
 use Rattle.memif.specs.declared.answer.JobResult.{JobResult}
-use Rattle.memif.specs.declared.answer.JobResult.TheVariants.{JobOk, JobFailed}
+use Rattle.memif.specs.declared.answer.JobResult.TheVariants.{JobOk, JobFailed, BlockInconsistent, BlockInvalid}
 use Rattle.memif.specs.declared.answer.DeviceTurn.TheVariants.{Worked}
 use Rattle.memif.specs.declared.kept.Kept.{Kept}
 use Rattle.memif.specs.declared.plain_store.PlainJob.{PlainJob}
-use Rattle.memif.specs.Told.{DeviceTold, Slot, Held, Job, Figures, First, Second, Open, slot_at, length_of, figures_at, no_figures, no_part, part_of, result_of, op_of, most_of, IfElse}
+use Rattle.memif.specs.Told.{DeviceTold, Slot, Held, Job, Figures, First, Second, Open, slot_at, length_of, figures_at, no_figures, no_part, part_of, result_of, op_of, most_of, IfElse, given_by, IsConfigured}
 use Rattle.memif.specs.Marks.{Keeps, Doubts, DoubtsAt, SettlesAs}
 use Rattle.memif.specs.Clock.{FindsNow, Ticks}
-use Rattle.memif.specs.Calls.{InOrder, ClockStays, Arms, IsPrompt, Nearer, is_first, StartsUp, PowersUp, Opens, Turns, PartTurns, Reads, Gives, EndsAs}
+use Rattle.memif.specs.Calls.{InOrder, ClockStays, Arms, IsPrompt, Nearer, is_first, StartsUp, PowersUp, Opens, Turns, PartTurns, Reads, Gives, EndsAs, refusal_of, length_refusal, Accepts, IsKind, kind_of}
 use Rattle.memif.specs.Plain.{plain_figures, plain_fixed, no_clock}
 use Rattle.memif.specs.Kept.{settled, undoubted}
-use Rattle.memif.specs.PlainInside.{mark_of, held_of, slot_of, next_of, turns_of, job_of, told_with, given_of, AreKept, IsSoundWith}
-use Rattle.memif.proofs.Found.{same_clock}
-use Rattle.memif.proofs.Places.{at_same, length_at}
-use Rattle.memif.proofs.Plain.{blank, slot_is, slot_set, get_is, get_set}
+use Rattle.memif.specs.PlainInside.{mark_of, held_of, slot_of, next_of, turns_of, job_of, told_with, given_of, AreKept, IsSoundWith, content_of, IsSoundJob, GivesBehind, stand_of, IsSoundGiven}
+use Rattle.memif.proofs.Turning.{none_in, same_clock}
+use Rattle.memif.proofs.Plain.{at_same, length_at, length_none, refusal_is, blank, slot_is, slot_set, get_is, get_set, none_open, kept_length, size_is, room_at, room_set}
+use Rattle.memif.specs.declared.answer.DeviceRefusal.{DeviceRefusal}
+use Rattle.memif.specs.declared.answer.DeviceRefusal.TheVariants.{BadLength}
+use Rattle.std.proofs.lemmas.List.{get_or_default}
+use Rattle.memif.specs.declared.answer.PlainMark.TheVariants as plain
+use Rattle.std.proofs.lemmas.Option.{slice_get-get_or}
+use Rattle.nv_base.specs.declared.job.DeviceOp.{DeviceOp}
+use Rattle.nv_base.specs.declared.job.DeviceOp.TheVariants.{Read, Write, Invalidate, Erase}
+use Rattle.memif.specs.declared.answer.PlainMark.{PlainMark}
+use Rattle.memif.specs.declared.kept.Cell.{Cell}
 
 keeps_same : (s : Slot) → Keeps s s
 keeps_same s = record { settled = refl; doubts = λ m has. has }
-
-none_in : (h : Held) → Contains [] h → ⊥
-none_in h has = absurd (omega (arith, has.1))
-
-some_none : (m : Mark) → Some m ≡ None → ⊥
-some_none m is = cc
 
 turns_few : (b : Bool) → turns_of b ≤ 2
 turns_few true = omega arith
 turns_few false = omega arith
 
-most_one : (m : Option Mark) → 1 ≤ most_of plain_figures (op_of m)
-most_one None = omega arith
-most_one (Some (mark.Content bytes)) = omega arith
-most_one (Some mark.Invalid) = omega arith
-most_one (Some mark.Erased) = omega arith
+most_is : (op : DeviceOp) → 1 ≡ most_of plain_figures op
+most_is Read = refl
+most_is Write = refl
+most_is Invalidate = refl
+most_is Erase = refl
 
 -- A START-UP
 slots_undoubted : (numbers : List (DeviceNumber × ℕ)) (kept : List Kept) (n : ℕ) → ((slot_at numbers (map slot_of (map undoubted kept)) n).settled ≡ (slot_at numbers (map slot_of kept) n).settled) × ((slot_at numbers (map slot_of (map undoubted kept)) n).doubts ≡ [])
@@ -69,7 +70,7 @@ figures_of numbers j all at = at_same no_figures numbers plain_figures j.number.
 
 pub order_open : (numbers : List (DeviceNumber × ℕ)) (kept : List Kept) (started : Bool) (j : PlainJob) (last : JobResult) (given : Option ℕ) → AreLengths 0 numbers → IsPlace numbers j.number.0 j.place → InOrder (told_with numbers kept started (Some j) last given) no_clock
 order_open numbers kept started j last given all at = record {
-  bounded = rw (figures_of numbers j all at) (omega (arith, most_one (job_of kept j).mark));
+  bounded = rw (figures_of numbers j all at) (omega (arith, most_is (op_of (job_of kept j).mark)));
   fits = omega arith;
   ready = omega arith;
   wait = λ h. (turns_of j.urgent, refl, turns_few j.urgent);
@@ -139,7 +140,7 @@ module _ (numbers : List (DeviceNumber × ℕ)) (kept : List Kept) (started : Bo
     only = λ i. record (told_with numbers after started (Some j) last None) { stand = Open (record { number = j.number.0; mark = is i; urgent = j.urgent }) };
     marks = marks;
     left_low = omega arith;
-    left_high = rw figures_are (omega (arith, most_one m));
+    left_high = rw figures_are (omega (arith, most_is (op_of m)));
     ready = starts_ready after j.urgent refl (is_first (figures_at (plain_fixed numbers) j.number.0).part);
   }
 
@@ -209,15 +210,11 @@ module _ (numbers : List (DeviceNumber × ℕ)) (kept : List Kept) (started : Bo
     order_none numbers k started r g,
   )
 
-  gives_none : (g : Option ℕ) → g ≡ None → given_of (set kept j.place (settled one)) g ≡ []
-  gives_none None none = refl
-  gives_none (Some place) none = cc
-
   pub write_turns : j.reads ≡ false → given ≡ None → Turns Worked (told_with numbers kept started (Some j) last given) no_clock (told_with numbers (set kept j.place (settled one)) started None JobOk given) no_clock
   write_turns reads none =
       let e : the_job.mark ≡ Some (mark_of one.next) = rw (reads, get_is numbers kept j.number.0 j.place all room at) refl in
       let after : List Kept = set kept j.place (settled one) in
-      ends after JobOk given (subst (λ (m : Option Mark). EndsAs m j.number.0 JobOk (given_of after given) before (told_with numbers after started None JobOk given)) (sym e) (each_set (SettlesAs (mark_of one.next)) (settled one) (record { settled = refl; doubts = refl }), gives_none given none)) (λ is. cc) (λ is. absurd (some_none _ (sym e ∙ is)))
+      ends after JobOk given (subst (λ (m : Option Mark). EndsAs m j.number.0 JobOk (given_of after given) before (told_with numbers after started None JobOk given)) (sym e) (each_set (SettlesAs (mark_of one.next)) (settled one) (record { settled = refl; doubts = refl }), ap (given_of after) none)) (λ is. cc) (λ is. cc)
 
   pub read_turns : (r : JobResult) (g : Option ℕ) → j.reads ≡ true → Reads (mark_of one.settled) r (given_of kept g) → Gives r (length_of numbers j.number.0) (given_of kept g) → r ≢ JobFailed → Turns Worked (told_with numbers kept started (Some j) last given) no_clock (told_with numbers kept started None r g) no_clock
   read_turns r g is_read reads gives done =
@@ -236,3 +233,188 @@ pub arms : (which nth keep : ℕ) (numbers : List (DeviceNumber × ℕ)) (kept :
 arms which nth keep numbers kept started job last given now view sound =
     let d : DeviceTold = told_with numbers kept started job last given in
     subst (λ (x : DeviceTold). Arms which nth keep x no_clock x no_clock) view (unarmed (which == 0) (which == 1) d, stays d (in_order numbers kept started job last given d refl sound))
+
+-- STARTS
+same_size : (given size : ℕ) → length_refusal (Some given) (Some size) ≡ None → given ≡ size
+same_size given size none = elim (cases_Bool (given == size)) [
+  | inl same ↦ eqb-true given size same
+  | inr other ↦ let refused : Some BadLength ≡ None = rw other at none in cc
+]
+
+-- the bytes of a mark without content don't count
+pub same_mark : (k : PlainMark) (a b : List ℕ) → k ≢ plain.Content → mark_of (record { kind = k; content = a }) ≡ mark_of (record { kind = k; content = b })
+same_mark plain.Content a b other = absurd (other refl)
+same_mark plain.Invalid a b other = refl
+same_mark plain.Erased a b other = refl
+
+module _ (numbers : List (DeviceNumber × ℕ)) (kept : List Kept) (started : Bool) (job : Option PlainJob) (last : JobResult) (given : Option ℕ) (now : DeviceTold) (view : told_with numbers kept started job last given ≡ now) (number : DeviceNumber) (place : ℕ) (size : Option ℕ) (sound : IsSoundWith numbers kept job last given) (none : refusal_of now number.0 size ≡ None) (at : IsPlace now.fixed.numbers number.0 place) where
+  abbrev job_with : Bool → Bool → PlainJob
+  job_with reads urgent = record { number = number; place = place; reads = reads; urgent = urgent }
+
+  here : IsPlace numbers number.0 place
+  here = subst (λ (d : DeviceTold). IsPlace d.fixed.numbers number.0 place) (sym view) at
+
+  open_none : job ≡ None
+  open_none = none_open numbers kept started job last given number.0 size (subst (λ (d : DeviceTold). refusal_of d number.0 size ≡ None) (sym view) none)
+
+  told_none : told_with numbers kept started None last given ≡ now
+  told_none = ap (λ (o : Option PlainJob). told_with numbers kept started o last given) (sym open_none) ∙ view
+
+  opened : (after : List Kept) (reads urgent : Bool) → ClockStays no_clock (told_with numbers after started (Some (job_with reads urgent)) last None) no_clock
+  opened after reads urgent =
+      let j : PlainJob = job_with reads urgent in
+      stays (told_with numbers after started (Some j) last None) (order_open numbers after started j last None sound.ascending here)
+
+  pub within : place < length kept
+  within = omega (arith, here.within, kept_length numbers kept sound.room)
+
+  pub read_starts : Accepts (record { job = record { number = number.0; mark = None; urgent = false }; length = size }) (Ok tt) now no_clock (told_with numbers kept started (Some (job_with true false)) last None) no_clock
+  read_starts =
+      let j : PlainJob = job_with true false in
+      ((none, subst (λ (d : DeviceTold). Opens (record { number = number.0; mark = None; urgent = false }) d (told_with numbers kept started (Some j) last None)) told_none (read_taken numbers kept started last given j sound.ascending sound.room here refl)), opened kept true false)
+
+  pub mark_starts : (u : Bool) (v : Kept) (after : List Kept) → after ≡ set kept place v → mark_of v.settled ≡ mark_of (get_or kept place blank).settled → v.doubted ≡ true
+      → Accepts (record { job = record { number = number.0; mark = Some (mark_of v.next); urgent = u }; length = size }) (Ok tt) now no_clock (told_with numbers after started (Some (job_with false u)) last None) no_clock
+  mark_starts u v after is same doubted =
+      let j : PlainJob = job_with false u in
+      let taken = mark_taken numbers kept started last given j sound.ascending sound.room here v refl same doubted in
+      let moved = subst (λ (d : DeviceTold). Opens (record { number = number.0; mark = Some (mark_of v.next); urgent = u }) d (told_with numbers (set kept place v) started (Some j) last None)) told_none taken in
+      ((none, subst (λ (l : List Kept). Opens (record { number = number.0; mark = Some (mark_of v.next); urgent = u }) now (told_with numbers l started (Some j) last None)) (sym is) moved), opened after false u)
+
+  -- a content that wasn't refused fits
+  pub fits : (n : ℕ) → size ≡ Some n → (d : Kept) → length (get_or kept place d).next.content ≡ n
+  fits n is d =
+      let first : DeviceNumber × ℕ = (record { 0 = 0 }, 0) in
+      let known : length_of numbers number.0 ≡ Some (get_or numbers place first).1 = size_is numbers kept number.0 place sound.ascending sound.room here first in
+      let taken = accepted started (subst (λ (d : DeviceTold). refusal_of d number.0 size ≡ None) (sym told_none) none) in
+      (room_at numbers kept place first d sound.room here.within).1 ∙ sym (same_size n _ (rw (is, known) at taken))
+    where
+      accepted : (s : Bool) → refusal_of (told_with numbers kept s None last given) number.0 size ≡ None → length_refusal size (length_of numbers number.0) ≡ None
+      accepted true is = is
+      accepted false is = cc
+
+  pub sound_after : (u : Bool) (v : Kept) (after : List Kept) → after ≡ set kept place v → length v.settled.content ≡ length (get_or kept place blank).settled.content → length v.next.content ≡ length (get_or kept place blank).next.content → IsSoundWith numbers after (Some (job_with false u)) last None
+  sound_after u v after is one two = record {
+    ascending = sound.ascending;
+    room = subst (AreKept numbers) (sym is) (room_set numbers kept place v sound.room (λ d. (one ∙ (room_at numbers kept place d blank sound.room here.within).0, two ∙ (room_at numbers kept place d blank sound.room here.within).1)));
+    at = here;
+    gives = tt;
+    behind = tt;
+    ended = sound.ended;
+  }
+
+-- TURNS
+behind_none : (j : PlainJob) (given : Option ℕ) → GivesBehind (Some j) given → given ≡ None
+behind_none j None behind = refl
+behind_none j (Some place) behind = absurd behind
+
+module _ (numbers : List (DeviceNumber × ℕ)) (kept : List Kept) (started : Bool) (job : Option PlainJob) (last : JobResult) (given : Option ℕ) (now : DeviceTold) (view : told_with numbers kept started job last given ≡ now) (j : PlainJob) (is : job ≡ Some j) (sound : IsSoundWith numbers kept job last given) where
+  stands : IsPlace numbers j.number.0 j.place
+  stands = subst (IsSoundJob numbers) is sound.at
+
+  none_given : given ≡ None
+  none_given = behind_none j given (subst (λ (o : Option PlainJob). GivesBehind o given) is sound.behind)
+
+  told_some : told_with numbers kept started (Some j) last given ≡ now
+  told_some = ap (λ (o : Option PlainJob). told_with numbers kept started o last given) (sym is) ∙ view
+
+  pub turn_within : j.place < length kept
+  turn_within = omega (arith, stands.within, kept_length numbers kept sound.room)
+
+  first : DeviceNumber × ℕ
+  first = (record { 0 = 0 }, 0)
+
+  pub turn_room : (d : Kept) → length (get_or kept j.place d).next.content ≡ length (get_or kept j.place d).settled.content
+  turn_room d = (room_at numbers kept j.place first d sound.room stands.within).1 ∙ sym (room_at numbers kept j.place first d sound.room stands.within).0
+
+  pub write_sound : (after : List Kept) → after ≡ set kept j.place (settled (get_or kept j.place blank)) → IsSoundWith numbers after None JobOk given
+  write_sound after same = record {
+    ascending = sound.ascending;
+    room = subst (AreKept numbers) (sym same) (room_set numbers kept j.place (settled (get_or kept j.place blank)) sound.room (λ d. let r = (room_at numbers kept j.place d blank sound.room stands.within).1 in (r, r)));
+    at = tt;
+    gives = sound.gives;
+    behind = tt;
+    ended = λ h. cc;
+  }
+
+  pub write_is : (after : List Kept) → after ≡ set kept j.place (settled (get_or kept j.place blank)) → not j.reads ≡ true → Turns Worked now no_clock (told_with numbers after started None JobOk given) no_clock
+  write_is after same writes =
+      let turned = write_turns numbers kept started last given j sound.ascending sound.room stands (not-true j.reads writes) none_given in
+      let moved = subst (λ (d : DeviceTold). Turns Worked d no_clock (told_with numbers (set kept j.place (settled (get_or kept j.place blank))) started None JobOk given) no_clock) told_some turned in
+      subst (λ (l : List Kept). Turns Worked now no_clock (told_with numbers l started None JobOk given) no_clock) (sym same) moved
+
+  -- the mark that is read
+  module _ (k : Kept) (item : k ≡ get_or kept j.place k) (reads : not j.reads ≡ false) where
+    the_one : k ≡ get_or kept j.place blank
+    the_one = item ∙ get_or_default kept j.place k blank turn_within
+
+    read_is : (r : JobResult) (g : Option ℕ) → Reads (mark_of k.settled) r (given_of kept g) → Gives r (length_of numbers j.number.0) (given_of kept g) → r ≢ JobFailed → Turns Worked now no_clock (told_with numbers kept started None r g) no_clock
+    read_is r g shows gives done =
+        let turned = read_turns numbers kept started last given j sound.ascending sound.room stands r g (not-false j.reads reads) (subst (λ (x : Kept). Reads (mark_of x.settled) r (given_of kept g)) the_one shows) gives done in
+        subst (λ (d : DeviceTold). Turns Worked d no_clock (told_with numbers kept started None r g) no_clock) told_some turned
+
+    pub content_is : k.settled.kind ≡ plain.Content → Turns Worked now no_clock (told_with numbers kept started None JobOk (Some j.place)) no_clock
+    content_is kind =
+        let lent : given_of kept (Some j.place) ≡ k.settled.content = ap content_of (get_is numbers kept j.number.0 j.place sound.ascending sound.room stands) ∙ ap (λ (x : Kept). x.settled.content) (sym the_one) in
+        let size : length_of numbers j.number.0 ≡ Some (get_or numbers j.place first).1 = size_is numbers kept j.number.0 j.place sound.ascending sound.room stands first in
+        let long : length k.settled.content ≡ (get_or numbers j.place first).1 = ap (λ (x : Kept). length x.settled.content) the_one ∙ (room_at numbers kept j.place first blank sound.room stands.within).0 in
+        read_is JobOk (Some j.place) (rw kind lent) (rw size (ap length lent ∙ long)) (λ h. cc)
+
+    nothing : given_of kept given ≡ []
+    nothing = ap (given_of kept) none_given
+
+    pub invalid_is : k.settled.kind ≡ plain.Invalid → Turns Worked now no_clock (told_with numbers kept started None BlockInvalid given) no_clock
+    invalid_is kind = read_is BlockInvalid given (rw kind nothing) nothing (λ h. cc)
+
+    pub erased_is : k.settled.kind ≡ plain.Erased → Turns Worked now no_clock (told_with numbers kept started None BlockInconsistent given) no_clock
+    erased_is kind = read_is BlockInconsistent given (rw kind nothing) nothing (λ h. cc)
+
+-- WHAT IS TOLD
+kind_at : (c : Cell) (k : PlainMark) → c.kind ≡ k → k ≡ kind_of (mark_of c)
+kind_at c plain.Content is = rw is refl
+kind_at c plain.Invalid is = rw is refl
+kind_at c plain.Erased is = rw is refl
+
+module _ (numbers : List (DeviceNumber × ℕ)) (kept : List Kept) (started : Bool) (job : Option PlainJob) (last : JobResult) (given : Option ℕ) (now : DeviceTold) (view : told_with numbers kept started job last given ≡ now) where
+  pub refused_as : (n : ℕ) (size : Option ℕ) (r : Option DeviceRefusal) → is_some job ≡ false → started ≡ true → length_refusal size (length_of numbers n) ≡ r → refusal_of now n size ≡ r
+  refused_as n size r none on why = subst (λ (d : DeviceTold). refusal_of d n size ≡ r) view (refusal_is numbers kept started job last given n size r none on why)
+
+  pub kind_none : (n : ℕ) → All (λ x. x.0.0 ≢ n) numbers → IsKind now n None
+  kind_none n none =
+      let at : IsKind (told_with numbers kept started job last given) n None = record { configured = rw (length_none numbers n none) refl; kind = tt } in
+      subst (λ (d : DeviceTold). IsKind d n None) view at
+
+  pub kind_some : (n place : ℕ) (k : Kept) → IsSoundWith numbers kept job last given → IsPlace numbers n place → k ≡ get_or kept place k → IsKind now n (Some k.settled.kind)
+  kind_some n place k sound at item =
+      let lt : place < length kept = omega (arith, at.within, kept_length numbers kept sound.room) in
+      let one : k ≡ get_or kept place blank = item ∙ get_or_default kept place k blank lt in
+      let slot : slot_at numbers (map slot_of kept) n ≡ slot_of k = slot_is numbers kept n place sound.ascending sound.room at ∙ ap slot_of (sym one) in
+      let shows : k.settled.kind ≡ kind_of (slot_at numbers (map slot_of kept) n).settled.mark = kind_at k.settled k.settled.kind refl ∙ ap (λ (s : Slot). kind_of s.settled.mark) (sym slot) in
+      let size = size_is numbers kept n place sound.ascending sound.room at (record { 0 = 0 }, 0) in
+      let told : IsKind (told_with numbers kept started job last given) n (Some k.settled.kind) = record { configured = rw size refl; kind = λ on. shows } in
+      subst (λ (d : DeviceTold). IsKind d n (Some k.settled.kind)) view told
+
+  pub most_turns : (n : ℕ) (op : DeviceOp) → IsConfigured now n → 1 ≡ most_of (figures_at now.fixed n) op
+  most_turns n op configured =
+      let known : is_some (length_of numbers n) ≡ true = subst (λ (d : DeviceTold). is_some (length_of d.fixed.numbers n) ≡ true) (sym view) configured in
+      subst (λ (d : DeviceTold). 1 ≡ most_of (figures_at d.fixed n) op) view (most_with (length_of numbers n) refl known)
+    where
+      most_with : (o : Option ℕ) → length_of numbers n ≡ o → is_some o ≡ true → 1 ≡ most_of (figures_at (plain_fixed numbers) n) op
+      most_with (Some size) is known = most_is op ∙ ap (λ f. most_of f op) (sym (at_same no_figures numbers plain_figures n size is))
+      most_with None is known = cc
+
+  pub lent_within : (place : ℕ) → IsSoundWith numbers kept job last given → given ≡ Some place → place < length kept
+  lent_within place sound is =
+      let at : place < length numbers = subst (IsSoundGiven numbers) is sound.gives in
+      omega (arith, kept_length numbers kept sound.room)
+
+  pub lent_is : (place : ℕ) (k : Kept) (bytes : List ℕ) → IsSoundWith numbers kept job last given → given ≡ Some place → k ≡ get_or kept place k → bytes ≡ k.settled.content → bytes ≡ given_by now.stand
+  lent_is place k bytes sound is item same =
+      let there : slice_get kept place ≡ Some k = slice_get-get_or kept place k (lent_within place sound is) ∙ ap Some (sym item) in
+      let lent : given_of kept given ≡ k.settled.content = ap (given_of kept) is ∙ ap content_of there in
+      same ∙ sym lent ∙ shown job given sound.behind is ∙ ap (λ (d : DeviceTold). given_by d.stand) view
+    where
+      shown : (o : Option PlainJob) (g : Option ℕ) → GivesBehind o g → g ≡ Some place → given_of kept g ≡ given_by (stand_of kept o last g)
+      shown None g behind is = refl
+      shown (Some x) (Some y) behind is = absurd behind
+      shown (Some x) None behind is = cc

@@ -21,13 +21,9 @@ use Rattle.memif.specs.Marks.{IsPossible, Keeps, Doubts, SettlesAs, IfTold, Doub
 use Rattle.memif.specs.Clock.{Clock, SameClock, ArePossible}
 use Rattle.memif.specs.Calls.{Wish, refusal_of, Opens, Accepts, IsCanceled, Cancels, Turns, IsCut, JobTurns, EndsAs, Writes, Gives, is_read}
 use Rattle.memif.specs.Run.{Made, Known, wish_of, doubted, settled_by, at_one, settles, comes_to, after_call, known_after, known_by, known_of, known_slots, AreKnown, open_job, Ties, CutsAreAllowed, Makes, IsMade, AreMade, IsUrgentKnown, IsCallMade, AllBy}
-use Rattle.memif.proofs.Found.{still_lasts, still_leaves, turn_lasts}
-use Rattle.memif.proofs.Turning.{works_fixed, is_off_at_off}
+use Rattle.memif.proofs.Turning.{none_in, still_lasts, still_leaves, turn_lasts, works_fixed, is_off_at_off}
 
 -- ONE NUMBER
-none_in : (h : Held) → Contains [] h → ⊥
-none_in h has = absurd (omega (arith, has.1))
-
 keeps_more : (a b c : Slot) → Keeps a b → Keeps b c → Keeps a c
 keeps_more a b c one two = record { settled = two.settled ∙ one.settled; doubts = λ h has. one.doubts h (two.doubts h has) }
 
@@ -107,10 +103,7 @@ module _ (c : DeviceCall) (old : DeviceTold) (clock : Clock) (new : DeviceTold) 
   parts_stay w opens Second = ap (λ (d : DeviceTold). d.second.ops) opens.only
 
   refused : (r : Option DeviceRefusal) (refusal : DeviceRefusal) → r ≡ Some refusal → r ≢ None
-  refused r refusal is none = some_none (sym is ∙ none)
-    where
-      some_none : Some refusal ≡ None → ⊥
-      some_none e = cc
+  refused r refusal is none = cc
 
   pub start_made : (w : Wish) (answer : Result (Unit {0}) DeviceRefusal) → wish_of c ≡ Some w → Accepts w answer old clock new clock_new → IsCallMade c (is_ok answer) old clock new clock_new
   start_made w (Ok u) is accepts =
@@ -128,10 +121,6 @@ module _ (c : DeviceCall) (old : DeviceTold) (clock : Clock) (new : DeviceTold) 
   start_made w (Err refusal) is accepts = nothing_made accepts.0.1 accepts.1.same (rw is (refused (refusal_of old w.job.number w.length) refusal accepts.0.0, accepts.0.1))
 
 -- A CANCEL
-pub may_cancel : (u : Bool) (stand : Stand) → u ≡ false → IsUrgentKnown u stand → is_urgent stand ≡ false
-may_cancel u (Open j) off known = known ∙ off
-may_cancel u (Ended result given) off known = refl
-
 pub skip_made : (old : DeviceTold) (clock : Clock) → SameClock clock clock → IsUrgentKnown true old.stand → IsCallMade call.Cancel false old clock old clock
 skip_made old clock same known = nothing_made call.Cancel old clock old clock refl same (refl, skips old.stand known)
   where

@@ -1,11 +1,131 @@
--- What a turn of any device keeps, and by what its work falls.
+-- What is found behind a start-up, and what the turns of any device keep.
+use Rattle.std.proofs.Common.{◌≡◌, inl, inr, ◌<◌, ◌≤◌, ℕ, Bool, true, false, refl, List, [], Option, Some, None, Ok, sym, ap, subst, arith, ◌+◌, if◌then◌else◌, ◌∙◌}
+use Rattle.std.specs.List.{Contains}
+use Rattle.memif.specs.declared.answer.DeviceTurn.TheVariants.{Idle, Worked, Off}
+use Rattle.memif.specs.declared.answer.DeviceTurn.{DeviceTurn}
+use Rattle.memif.specs.Told.{DeviceTold, PartTold, Fixed, Slot, Held, Part, First, Second, part_at, with_part, slot_at, Stand, Open, Ended, is_open, is_off, figures_at}
+use Rattle.memif.specs.Marks.{IfTold}
+use Rattle.memif.specs.Clock.{Clock, PartClock, SamePart, SameClock, Past, After, CutIn, Ticks, ArePossible, clock_at}
+use Rattle.memif.specs.Calls.{StartsUp, Works, IsCut, Turns, InOrder, JobTurns}
+use Rattle.memif.specs.Trials.{AreSettled, FindsSettled, Lasts, IsFaultless}
 use Rattle.std.specs.Prelude.{◌||◌}
-use Rattle.std.proofs.Common.{◌≡◌, inl, inr, ◌<◌, ◌≤◌, ◌+◌, ℕ, Bool, true, false, if◌then◌else◌, refl, ap, ◌∙◌, arith}
-use Rattle.memif.specs.declared.answer.DeviceTurn.TheVariants.{Off}
-use Rattle.memif.specs.Told.{DeviceTold, PartTold, Part, First, Second, Stand, Open, Ended, part_at, is_open, is_off}
-use Rattle.memif.specs.Clock.{Clock}
-use Rattle.memif.specs.Calls.{InOrder, JobTurns, Works, IsCut, Turns}
+use Rattle.std.proofs.Math.Nat.{eq-or-lt_of_le}
+use Rattle.nv_base.specs.Count.{Rose}
 
+-- WHAT IS FOUND, AND WHAT OF IT LASTS
+pub none_in : (h : Held) → Contains [] h → ⊥
+none_in h has = absurd (omega (arith, has.1))
+
+settled_at : (p : Part) (d : DeviceTold) (old new : Option (List Slot)) (m : ℕ → Held) → IfTold old new (λ s t. (n : ℕ) → (slot_at d.fixed.numbers t n).doubts ≡ []) → ArePossible p d new m → AreSettled p d new m
+settled_at p d (Some s) (Some t) m clear possible = λ n of. elim (possible n of) [
+  | inl same ↦ same
+  | inr has ↦ absurd (none_in (m n) (subst (λ (l : List Held). Contains l (m n)) (clear n) has))
+]
+settled_at p d (Some s) None m clear possible = absurd clear
+settled_at p d None (Some t) m clear possible = absurd clear
+settled_at p d None None m clear possible = tt
+
+pub finds_settled : (old : DeviceTold) (clock : Clock) (new : DeviceTold) (clock_new : Clock) → StartsUp (Ok tt) old clock new clock_new → FindsSettled new clock_new
+finds_settled old clock new clock_new up p m finds =
+    let fixed : new.fixed ≡ old.fixed = ap (λ (d : DeviceTold). d.fixed) up.only in
+    settled_at p new old.slots new.slots m (subst (λ (f : Fixed). IfTold old.slots new.slots (λ s t. (n : ℕ) → (slot_at f.numbers t n).doubts ≡ [])) (sym fixed) up.comes_to.3) (up.clock_stays.order.now p m finds)
+
+-- nothing was done
+pub lasts_none : (d : DeviceTold) (clock : Clock) → Lasts d clock d clock
+lasts_none d clock = record { ops = λ p. omega arith; past = λ p. record { after = λ k m le finds. finds; cut = λ k m lt finds. finds; worn = λ k n le is. is } }
+
+pub lasts_more : (a : DeviceTold) (ca : Clock) (b : DeviceTold) (cb : Clock) (c : DeviceTold) (ct : Clock) → Lasts a ca b cb → Lasts b cb c ct → Lasts a ca c ct
+lasts_more a ca b cb c ct one two = record {
+  ops = λ p. omega (arith, one.ops p, two.ops p);
+  past = λ p. record {
+    after = λ k m le finds. (one.past p).after k m le ((two.past p).after k m (omega (arith, le, one.ops p)) finds);
+    cut = λ k m lt finds. (one.past p).cut k m lt ((two.past p).cut k m (omega (arith, lt, one.ops p)) finds);
+    worn = λ k n le is. (two.past p).worn k n (omega (arith, le, one.ops p)) ((one.past p).worn k n le is);
+  };
+}
+
+pub same_clock : (c : Clock) → SameClock c c
+same_clock c = record { first = same c.first; second = same c.second }
+  where
+    same : (p : PartClock) → SamePart p p
+    same p = record { may_find = λ w m. (λ h. h, λ h. h); off_in = λ k. (λ h. h, λ h. h); worn = λ k n. (λ h. h, λ h. h) }
+
+past_same : (ops : ℕ) (old new : PartClock) → SamePart old new → Past ops old new
+past_same ops old new same = record {
+  after = λ k m le finds. (same.may_find (After k) m).0 finds;
+  cut = λ k m lt finds. (same.may_find (CutIn k) m).0 finds;
+  worn = λ k n le is. (same.worn k n).1 is;
+}
+
+-- no operation was made, and the clock is as it was
+pub still_lasts : (old : DeviceTold) (clock : Clock) (new : DeviceTold) (clock_new : Clock) → ((p : Part) → (part_at p new).ops ≡ (part_at p old).ops) → SameClock clock clock_new → Lasts old clock new clock_new
+still_lasts old clock new clock_new still same = record { ops = λ p. omega (arith, still p); past = past }
+  where
+    past : (p : Part) → Past (part_at p old).ops (clock_at p clock) (clock_at p clock_new)
+    past First = past_same old.first.ops clock.first clock_new.first same.first
+    past Second = past_same old.second.ops clock.second clock_new.second same.second
+
+-- a turn that works on a part
+ticks_last : (p : Part) (answer : DeviceTurn) (old : DeviceTold) (clock : Clock) (new : DeviceTold) (clock_new : Clock) → Ticks p answer old clock new clock_new → ((q : Part) → (part_at q old).ops ≤ (part_at q new).ops) → Lasts old clock new clock_new
+ticks_last First answer old clock new clock_new ticks grows = record { ops = grows; past = past }
+  where
+    past : (p : Part) → Past (part_at p old).ops (clock_at p clock) (clock_at p clock_new)
+    past First = ticks.past
+    past Second = past_same old.second.ops clock.second clock_new.second ticks.other
+ticks_last Second answer old clock new clock_new ticks grows = record { ops = grows; past = past }
+  where
+    past : (p : Part) → Past (part_at p old).ops (clock_at p clock) (clock_at p clock_new)
+    past First = past_same old.first.ops clock.first clock_new.first ticks.other
+    past Second = ticks.past
+
+-- on both parts, by a turn that works on one or is cut there
+on_parts : (p : Part) (old new : DeviceTold) (P : PartTold → PartTold → Type 0) → ((t : PartTold) → P t t) → P (part_at p old) (part_at p new) → ((q : Part) → part_at q new ≡ part_at q (with_part p (part_at p new) old)) → (q : Part) → P (part_at q old) (part_at q new)
+on_parts First old new P same here rest First = here
+on_parts First old new P same here rest Second = subst (P old.second) (sym (rest Second)) (same old.second)
+on_parts Second old new P same here rest First = subst (P old.first) (sym (rest First)) (same old.first)
+on_parts Second old new P same here rest Second = here
+
+ops_grow : (p : Part) (old new : DeviceTold) → (part_at p old).ops ≤ (part_at p new).ops
+    → ((q : Part) → part_at q new ≡ part_at q (with_part p (part_at p new) old)) → (q : Part) → (part_at q old).ops ≤ (part_at q new).ops
+ops_grow p old new = on_parts p old new (λ a b. a.ops ≤ b.ops) (λ t. omega arith)
+
+works_rest : (p : Part) (old new : DeviceTold) (clock : Clock) → Works p old new clock → (q : Part) → part_at q new ≡ part_at q (with_part p (part_at p new) old)
+works_rest p old new clock works First = ap (λ (d : DeviceTold). d.first) works.only
+works_rest p old new clock works Second = ap (λ (d : DeviceTold). d.second) works.only
+
+cut_rest : (p : Part) (old new : DeviceTold) → IsCut p old new → (q : Part) → part_at q new ≡ part_at q (with_part p (part_at p new) old)
+cut_rest p old new cut First = ap (λ (d : DeviceTold). d.first) cut.only
+cut_rest p old new cut Second = ap (λ (d : DeviceTold). d.second) cut.only
+
+-- what a cut may leave was possible before the turn
+abbrev pub Leaves : DeviceTold → DeviceTold → Clock → Type 0
+Leaves old new clock = (p : Part) (o : ℕ) (m : ℕ → Held) → (part_at p old).ops ≤ o → o < (part_at p new).ops → (clock_at p clock).may_find (CutIn o) m → ArePossible p old old.slots m
+
+pub still_leaves : (old new : DeviceTold) (clock : Clock) → ((p : Part) → (part_at p new).ops ≡ (part_at p old).ops) → Leaves old new clock
+still_leaves old new clock still p o m le lt finds = absurd (omega (arith, still p))
+
+ticks_leave : (p : Part) (answer : DeviceTurn) (old : DeviceTold) (clock : Clock) (new : DeviceTold) (clock_new : Clock) → Ticks p answer old clock new clock_new → ((q : Part) → part_at q new ≡ part_at q (with_part p (part_at p new) old)) → Leaves old new clock_new
+ticks_leave First answer old clock new clock_new ticks rest First o m le lt finds = ticks.cut o m le lt finds
+ticks_leave First answer old clock new clock_new ticks rest Second o m le lt finds = absurd (omega (arith, ap (λ (t : PartTold). t.ops) (rest Second)))
+ticks_leave Second answer old clock new clock_new ticks rest First o m le lt finds = absurd (omega (arith, ap (λ (t : PartTold). t.ops) (rest First)))
+ticks_leave Second answer old clock new clock_new ticks rest Second o m le lt finds = ticks.cut o m le lt finds
+
+pub turn_lasts : (answer : DeviceTurn) (old : DeviceTold) (clock : Clock) (new : DeviceTold) (clock_new : Clock) → Turns answer old clock new clock_new → Lasts old clock new clock_new × Leaves old new clock_new
+turn_lasts Idle old clock new clock_new turns = (still_lasts old clock new clock_new (λ p. ap (λ (d : DeviceTold). (part_at p d).ops) turns.0.1) turns.0.2, still_leaves old new clock_new (λ p. ap (λ (d : DeviceTold). (part_at p d).ops) turns.0.1))
+turn_lasts Worked old clock new clock_new turns =
+    let rest = works_rest turns.0.1.0 old new clock_new turns.0.1.1 in
+    (ticks_last turns.0.1.0 Worked old clock new clock_new turns.0.1.2 (ops_grow turns.0.1.0 old new turns.0.1.1.part.later rest), ticks_leave turns.0.1.0 Worked old clock new clock_new turns.0.1.2 rest)
+turn_lasts Off old clock new clock_new turns = elim turns.0.1.1 [
+  | inl still ↦ (still_lasts old clock new clock_new (λ p. ap (λ (d : DeviceTold). (part_at p d).ops) still.2) still.3, still_leaves old new clock_new (λ p. ap (λ (d : DeviceTold). (part_at p d).ops) still.2))
+  | inr cut ↦
+      let rest = cut_rest turns.0.1.0 old new cut.0 in
+      (ticks_last turns.0.1.0 Off old clock new clock_new cut.1 (ops_grow turns.0.1.0 old new cut.0.part.later rest), ticks_leave turns.0.1.0 Off old clock new clock_new cut.1 rest)
+]
+
+pub lasts_on : (answer : DeviceTurn) (a : DeviceTold) (ca : Clock) (b : DeviceTold) (cb : Clock) (c : DeviceTold) (ct : Clock) → Lasts a ca b cb → Turns answer b cb c ct → Lasts a ca c ct
+lasts_on answer a ca b cb c ct one turns = lasts_more a ca b cb c ct one (turn_lasts answer b cb c ct turns).0
+
+-- BY WHAT THE WORK FALLS
 -- the turns that are left, and behind an open job those of the device's own work
 abbrev pub work_left : DeviceTold → ℕ
 work_left d = d.left + (if is_open d.stand then d.fixed.own + 1 else 0)
@@ -53,3 +173,43 @@ is_off_at_off old clock new clock_new turns = elim turns.0.1.1 [
   | inl still ↦ ap is_off still.2 ∙ off_at turns.0.1.0 old still.0
   | inr cut ↦ off_at turns.0.1.0 new (cut_off turns.0.1.0 old new cut.0)
 ]
+
+-- AN ERASE, BY THE TURNS THAT IT TOOK SO FAR
+-- while the job is open the turns so far and those that are left are at most the figure; once it ended so are the turns,
+-- unless a fault was counted
+pub record IsErasing (number turns : ℕ) (begun now : DeviceTold) : Type 0 where
+  pub first : begun.first.faults ≤ now.first.faults
+  pub second : begun.second.faults ≤ now.second.faults
+  pub going : is_open now.stand ≡ true → turns + now.left ≤ begun.fixed.own + (figures_at begun.fixed number).erase
+  pub ended : is_open now.stand ≡ false → IsFaultless begun now → turns ≤ begun.fixed.own + (figures_at begun.fixed number).erase
+
+-- no part's faults fall
+faults_grow : (p : Part) (old new : DeviceTold) (clock : Clock) → Works p old new clock → (q : Part) → (part_at q old).faults ≤ (part_at q new).faults
+faults_grow p old new clock works = on_parts p old new (λ a b. a.faults ≤ b.faults) (λ t. omega arith) works.part.faults.faults (works_rest p old new clock works)
+
+rose_since : (a b c : ℕ) → a ≤ b → Rose b c → Rose a c
+rose_since a b c le (inl lt) = inl (omega arith)
+rose_since a b c le (inr end) =
+    let up : a ≤ c = omega (arith, le, end.1) in
+    elim (eq-or-lt_of_le up) [ inl same ↦ inr (omega (arith, end.0, end.1, le, same), up) | inr lt ↦ inl lt ]
+
+-- a fault of this turn is one since the begin
+faulty : (p : Part) (begun old new : DeviceTold) → begun.first.faults ≤ old.first.faults → begun.second.faults ≤ old.second.faults → IsFaultless begun new → Rose (part_at p old).faults (part_at p new).faults → ⊥
+faulty First begun old new first second calm rose = calm.first (rose_since begun.first.faults old.first.faults new.first.faults first rose)
+faulty Second begun old new first second calm rose = calm.second (rose_since begun.second.faults old.second.faults new.second.faults second rose)
+
+less_at : (p : Part) (a b : Stand) (old new : DeviceTold) (clock : Clock) → is_open a ≡ true → is_open b ≡ true → JobTurns p a b old new clock → new.left < old.left
+less_at p (Open j) (Open k) old new clock up on turns = turns.2
+less_at p (Open j) (Ended result given) old new clock up on turns = cc
+less_at p (Ended result given) b old new clock up on turns = cc
+
+pub goes_on : (number turns after : ℕ) (begun old new : DeviceTold) (clock : Clock) (p : Part) → IsErasing number turns begun old → is_open old.stand ≡ true → Works p old new clock → after ≤ turns + 1 → IsErasing number after begun new
+goes_on number turns after begun old new clock p so up works more = record {
+  first = omega (arith, so.first, faults_grow p old new clock works First);
+  second = omega (arith, so.second, faults_grow p old new clock works Second);
+  going = λ on. omega (arith, more, so.going up, less_at p old.stand new.stand old new clock up on works.job);
+  ended = λ off calm. elim works.nearer [
+    | inl less ↦ omega (arith, more, so.going up, less)
+    | inr rose ↦ absurd (faulty p begun old new so.first so.second calm rose)
+  ];
+}

@@ -11,8 +11,8 @@ use Rattle.memif.specs.declared.kept.Cell.{Cell}
 use Rattle.memif.specs.declared.kept.Kept.{Kept}
 use Rattle.memif.specs.declared.plain_store.PlainJob.{PlainJob}
 use Rattle.memif.specs.declared.plain_store.PlainStore.TheInside.{Inside}
-use Rattle.memif.specs.Told.{DeviceTold, Slot, Held, Job, Stand, Open, Ended, no_part}
-use Rattle.memif.specs.Plain.{plain_fixed}
+use Rattle.memif.specs.Told.{DeviceTold, Slot, Held, Job, Stand, Open, Ended}
+use Rattle.memif.specs.Plain.{plain_store}
 
 -- a mark of a kind, with these bytes if it is a content
 abbrev pub mark_of : Cell → Mark
@@ -57,16 +57,11 @@ is_urgent_job None = false
 is_urgent_job (Some j) = j.urgent
 
 abbrev pub told_with : List (DeviceNumber × ℕ) → List Kept → Bool → Option PlainJob → JobResult → Option ℕ → DeviceTold
-told_with numbers kept started job last given = record {
-  fixed = plain_fixed numbers;
+told_with numbers kept started job last given = record (plain_store numbers) {
   slots = Some (map slot_of kept);
   started = started;
   stand = stand_of kept job last given;
-  switching = false;
-  first = no_part;
-  second = no_part;
   left = turns_of (is_some job);
-  ready = 262144;
   wait = Some (turns_of (is_urgent_job job));
 }
 

@@ -1,7 +1,8 @@
 // A device in memory.
 ghost use Rattle.std.specs.Prelude.{◌≡◌, ◌≢◌, [], IfOk, Ok, MatchResult, Some, None, false, length, slice_index_or};
 ghost use Rattle.memif.specs.Told.{DeviceTold, is_open};
-ghost use Rattle.memif.specs.Calls.{refusal_of, StartsUp, Turns, InOrder};
+ghost use Rattle.memif.specs.Calls.{Accepts, refusal_of, StartsUp, Turns, InOrder};
+ghost use Rattle.memif.specs.PlainInside.{mark_of};
 ghost use Rattle.memif.specs.Plain.{plain_store, no_clock, IsPlainTurn};
 ghost use Rattle.nv_base.specs.Lengths.{IsPlace};
 
@@ -98,6 +99,23 @@ impl PlainStore {
             _ => Ok(place),
         }
     }
+
+    // Takes a mark without content.
+    fn take_mark(&mut self, number: DeviceNumber, kind: PlainMark) -> Result<(), DeviceRefusal>
+        requires { kind ≢ PlainMark.Content }
+        ensures { Accepts (record { job = record { number = number.0; mark = Some (mark_of (record { kind = kind; content = [] })); urgent = false }; length = None }) result self.old no_clock self.new no_clock }
+    {
+        let place = self.check(number, None)?;
+        mark(&mut self.kept, place, kind);
+        self.job = Some(PlainJob {
+            number,
+            place,
+            reads: false,
+            urgent: false,
+        });
+        self.given = None;
+        Ok(())
+    }
 }
 
 impl MemDevice for PlainStore {
@@ -105,6 +123,7 @@ impl MemDevice for PlainStore {
 
     ghost clock = { λ p. no_clock };
 
+    #[tactic(auto, using(crate::proofs::Plain::room_map))]
     fn start(&mut self) -> Result<(), StartFault>
         ensures start { StartsUp result self.old no_clock self.new no_clock }
         ensures ok { (u : _) × (result ≡ Ok u) }
@@ -150,29 +169,11 @@ impl MemDevice for PlainStore {
     }
 
     fn start_invalidate(&mut self, number: DeviceNumber) -> Result<(), DeviceRefusal> {
-        let place = self.check(number, None)?;
-        mark(&mut self.kept, place, PlainMark::Invalid);
-        self.job = Some(PlainJob {
-            number,
-            place,
-            reads: false,
-            urgent: false,
-        });
-        self.given = None;
-        Ok(())
+        self.take_mark(number, PlainMark::Invalid)
     }
 
     fn start_erase(&mut self, number: DeviceNumber) -> Result<(), DeviceRefusal> {
-        let place = self.check(number, None)?;
-        mark(&mut self.kept, place, PlainMark::Erased);
-        self.job = Some(PlainJob {
-            number,
-            place,
-            reads: false,
-            urgent: false,
-        });
-        self.given = None;
-        Ok(())
+        self.take_mark(number, PlainMark::Erased)
     }
 
     fn cancel(&mut self) {

@@ -39,6 +39,7 @@ pub struct DeviceStep {
 }
 
 // Makes a call, but no cancel of an urgent job.
+#[tactic(auto, using(crate::proofs::Runs::skip_made, crate::proofs::Turning::same_clock, crate::proofs::Runs::turn_made))]
 fn make_call<D: MemDevice>(device: &mut D, call: &DeviceCall, urgent: bool) -> bool
     requires { IsUrgentKnown urgent (D.told device.old).stand }
     ensures { IsCallMade call.now result (D.told device.old) (D.clock device.old) (D.told device.new) (D.clock device.new) }

@@ -31,6 +31,7 @@ fn is_pending<D: MemDevice>(device: &D) -> bool
 }
 
 /// Makes turns until nothing is open, the power is off, or a fault comes while no job is open.
+#[tactic(auto, using(crate::proofs::Turning::lasts_on, crate::proofs::Turning::falls_open, crate::proofs::Turning::falls_closed))]
 pub fn make_turns<D: MemDevice>(device: &mut D) -> Rest
     ensures rests { Rests result (D.told device.new) }
     ensures lasts { Lasts (D.told device.old) (D.clock device.old) (D.told device.new) (D.clock device.new) }
@@ -50,6 +51,7 @@ pub fn make_turns<D: MemDevice>(device: &mut D) -> Rest
 }
 
 /// Erases a number, and tells in how many turns it ended, or came to a power cut.
+#[tactic(auto, using(crate::proofs::Turning::falls_open))]
 pub fn erase<D: MemDevice>(device: &mut D, number: DeviceNumber) -> Result<u64, DeviceRefusal>
     ensures within { IfOk result (λ turns. IsFaultless (D.told device.old) (D.told device.new) → turns ≤ (D.told device.old).fixed.own + (figures_at (D.told device.old).fixed number.0).erase) }
     ensures ended { IfOk result (λ turns. (is_open (D.told device.new).stand ≡ false) ⊎ (is_off (D.told device.new) ≡ true)) }

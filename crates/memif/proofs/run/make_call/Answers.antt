@@ -1,6 +1,5 @@
 use Rattle.std.proofs.Common.{refl}
-use Rattle.memif.proofs.Runs.{start_made, may_cancel, skip_made, cancel_made, turn_made}
-use Rattle.memif.proofs.Found.{same_clock}
+use Rattle.memif.proofs.Runs.{start_made, cancel_made}
 use Rattle.memif.proofs.run.make_call.Goals as goal
 
 pub returns-in-Read : goal.returns-in-Read
@@ -17,12 +16,3 @@ returns-in-Erase g c = rw (c.in-Erase.is, c.is_ok-in-Erase.ensures.value) (start
 
 pub returns-then-not-urgent : goal.returns-then-not-urgent
 returns-then-not-urgent g c = rw c.in-Cancel.is (cancel_made _ _ _ _ c.cancel.ensures)
-
-pub returns-in-Turn : goal.returns-in-Turn
-returns-in-Turn g c = rw c.in-Turn.is (turn_made _ _ _ _ _ c.turn.ensures)
-
-pub cancel-requires : goal.cancel-requires
-cancel-requires g c = may_cancel c.args.urgent _ c.if-not-urgent.true c.requires
-
-pub returns-else-not-urgent : goal.returns-else-not-urgent
-returns-else-not-urgent g c = rw c.in-Cancel.is (skip_made _ _ (same_clock _) (rw c.if-not-urgent.false at c.requires))

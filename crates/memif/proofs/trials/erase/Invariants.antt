@@ -1,5 +1,4 @@
-use Rattle.memif.proofs.Turning.{work_left}
-use Rattle.memif.proofs.Erasing.{IsErasing}
+use Rattle.memif.proofs.Turning.{work_left, IsErasing}
 use Rattle.memif.proofs.trials.erase.Given as goal
 
 abbrev pub invariant-loop-device : goal.invariant-loop-device

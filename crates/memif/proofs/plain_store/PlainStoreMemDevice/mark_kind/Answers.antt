@@ -1,6 +1,6 @@
 use Rattle.std.proofs.Common.{arith}
 use Rattle.memif.proofs.Plain.{kept_length}
-use Rattle.memif.proofs.PlainLooks.{kind_none, kind_some}
+use Rattle.memif.proofs.PlainCalls.{kind_none, kind_some}
 use Rattle.memif.proofs.plain_store.PlainStoreMemDevice.mark_kind.Goals as goal
 
 pub index-requires : goal.index-requires

@@ -1,4 +1,4 @@
-use Rattle.memif.proofs.PlainLooks.{most_turns}
+use Rattle.memif.proofs.PlainCalls.{most_turns}
 use Rattle.memif.proofs.plain_store.PlainStoreMemDevice.most.Goals as goal
 
 pub returns : goal.returns

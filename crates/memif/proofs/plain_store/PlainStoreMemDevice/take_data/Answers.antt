@@ -1,5 +1,5 @@
 use Rattle.std.proofs.Common.{arith}
-use Rattle.memif.proofs.PlainLooks.{lent_within, lent_is}
+use Rattle.memif.proofs.PlainCalls.{lent_within, lent_is}
 use Rattle.memif.proofs.plain_store.PlainStoreMemDevice.take_data.Goals as goal
 
 pub index-requires : goal.index-requires
