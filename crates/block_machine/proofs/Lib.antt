@@ -7,3 +7,8 @@ pub mod NextFacts
 pub mod ConsistentSteps
 pub mod EntryRoom
 pub mod Locality
+pub mod PendingJobs
+pub mod MarkCells
+pub mod MarkSteps
+pub mod FinePosts
+pub mod MarkOrigins

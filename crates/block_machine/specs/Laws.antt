@@ -3,15 +3,16 @@ use Rattle.std.specs.Prelude.{◌≡◌, ◌≢◌, ◌↔◌, ℕ, ◌+◌, ◌
 use Rattle.block_machine.specs.Words.{ReqResult, Instance, Mark, Request, Reply, Accepted, Refusal, JobKind, Taken, Entry, Ask, Pick, Wrote, Post, Found, Configuration}
 use Rattle.block_machine.specs.State.{State, Job, Sweep}
 use Rattle.block_machine.specs.Order.{goes_before}
-use Rattle.block_machine.specs.Blocks.{block_at, asked_block, job_block, kind_of, rank_of}
+use Rattle.block_machine.specs.Blocks.{block_at, instance_at, asked_block, job_block, kind_of, rank_of}
 use Rattle.block_machine.specs.Sweeps.{member_job}
 use Rattle.block_machine.specs.Reply.{reserved_entries, fits, holds, tested, reply_of}
 use Rattle.block_machine.specs.Next.{PickJob, PickMember, next_in, next_of}
 use Rattle.block_machine.specs.Results.{own_of, result_of, open_sets, failed_set}
-use Rattle.block_machine.specs.StartUp.{found_instances}
+use Rattle.block_machine.specs.StartUp.{at_first, found_instances}
 use Rattle.block_machine.specs.Steps.{step, after, after_from, without_job, picked_job}
 use Rattle.block_machine.specs.Legal.{IsAllowed, IsLegal, marks_of}
-use Rattle.block_machine.specs.History.{is_driver_until, up_to}
+use Rattle.block_machine.specs.History.{is_driver_until, up_to, MayStandIn}
+use Rattle.block_machine.specs.Accepted.{IsBroughtBy, IsNotOlder}
 use Rattle.block_machine.specs.Consistent.{AreApart, IsConsistent}
 
 -- HISTORIES
@@ -152,3 +153,13 @@ EntriesAreLocal = (c : Configuration) (cap : ℕ) (s : State) (e : Entry) (id : 
 -- of jobs with numbers of their own one is taken out, and nothing else
 abbrev pub JobsSplit : Type 0
 JobsSplit = (before : List Job) (j : Job) (after : List Job) → AreApart (before ++ j ∷ after) → (without_job j.number (before ++ j ∷ after) ≡ before ++ after) × AreApart (before ++ after)
+
+-- MARKS
+
+-- a mark that may stand in an instance after a legal history was found there, or a job took it behind its accepted Ask
+abbrev pub MarksAreBrought : Type 0
+MarksAreBrought = (c : Configuration) (cap : ℕ) (h : List Entry) (i : Instance) (mark : Mark) → IsLegal c cap h → MayStandIn (instance_at (after c h) i) mark → IsBroughtBy c h at_first i mark h
+
+-- and it is not older than the last that was acknowledged
+abbrev pub MarksAreNotOlder : Type 0
+MarksAreNotOlder = (c : Configuration) (cap : ℕ) (h : List Entry) (i : Instance) (mark : Mark) → IsLegal c cap h → MayStandIn (instance_at (after c h) i) mark → IsNotOlder c h i mark

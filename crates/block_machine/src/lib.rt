@@ -16,7 +16,8 @@ mod wrong_cases;
 pub use laws::{
     a_pick_takes_in_hand, accepted_requests_pass, asks_are_local, entries_are_local,
     entries_come_in_time_or_late, entries_fit, failures_are_explained, histories_grow,
-    legal_states_are_consistent, the_next_job_goes_first, what_is_found_is_settled,
+    legal_states_are_consistent, marks_that_stand, the_next_job_goes_first,
+    what_is_found_is_settled,
 };
 pub use near_cases::{
     misplaced_posts_are_refuted, near_histories_are_legal, other_blocks_stay, other_instances_stay,

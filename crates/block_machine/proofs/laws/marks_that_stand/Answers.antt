@@ -1,0 +1,8 @@
+use Rattle.block_machine.proofs.MarkOrigins as law
+use Rattle.block_machine.proofs.laws.marks_that_stand.Goals as goal
+
+pub returns-clause-brought : goal.returns-clause-brought
+returns-clause-brought c = law.marks_are_brought
+
+pub returns-clause-newest : goal.returns-clause-newest
+returns-clause-newest c = law.marks_are_not_older
