@@ -12,3 +12,6 @@ pub mod MarkCells
 pub mod MarkSteps
 pub mod FinePosts
 pub mod MarkOrigins
+pub mod JobBlocks
+pub mod WholeContents
+pub mod WholeSteps

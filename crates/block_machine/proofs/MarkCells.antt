@@ -42,7 +42,7 @@ from_in (x ∷ ns) n is = elim (cases_Bool (x == n)) [
   | inr other ↦ let (k, within, at) = from_in ns n (rw other at is) in (suc k, omega arith, at)
 ]
 
-same_parts : (a b : Instance) → same_instance a b ≡ true → (a.block ≡ b.block) × (a.index ≡ b.index)
+pub same_parts : (a b : Instance) → same_instance a b ≡ true → (a.block ≡ b.block) × (a.index ≡ b.index)
 same_parts a b is = (grind (arith, nat_tests), grind (arith, nat_tests))
 
 pair_same : (a b m n : ℕ) → a ≡ b → m ≡ n → let x : Instance = record { block = a; index = m } in let y : Instance = record { block = b; index = n } in x ≡ y

@@ -63,11 +63,11 @@ next_stays c s r given (PostMember sw id) = (refl, refl)
 next_stays c s r given (EndSweep sw) = (refl, refl)
 next_stays c s r given n = (refl, refl)
 
-posted_stays : (c : Configuration) (s : State) (r : ReqResult) (given : Option (List ℕ)) (o : Option Job) → ((posted c s r given o).started ≡ s.started) × ((posted c s r given o).instances ≡ s.instances)
+pub posted_stays : (c : Configuration) (s : State) (r : ReqResult) (given : Option (List ℕ)) (o : Option Job) → ((posted c s r given o).started ≡ s.started) × ((posted c s r given o).instances ≡ s.instances)
 posted_stays c s r given (Some j) = (refl, refl)
 posted_stays c s r given None = next_stays c s r given (next_of c s)
 
-starts : (c : Configuration) (cap : ℕ) (s : State) (e : Entry) → IsAllowed c cap s e → IsTrue (step c s e).started
+pub starts : (c : Configuration) (cap : ℕ) (s : State) (e : Entry) → IsAllowed c cap s e → IsTrue (step c s e).started
 starts c cap s (Ask caller r reply) allowed = asked_stays c s r reply ∙ allowed.started
 starts c cap s (Pick block kind t ops) allowed = picked_stays c s t (next_of c s) ∙ allowed.0.started
 starts c cap s (Wrote i mark ops) allowed = wrote_stays s i mark s.hand ∙ allowed.0.started
@@ -152,15 +152,15 @@ acknowledged_alone c cap h s e i a allowed f acknowledges = absurd acknowledges
 -- ALONG A HISTORY
 
 -- these are the entries of a history from a number on
-abbrev IsRest : List Entry → ℕ → List Entry → Type 0
+abbrev pub IsRest : List Entry → ℕ → List Entry → Type 0
 IsRest h n es = (before : List Entry) × (h ≡ before ++ es) × (length before ≡ n)
 
-head_of : (h : List Entry) (n : ℕ) (e : Entry) (es : List Entry) → IsRest h n (e ∷ es) → slice_get h n ≡ Some e
+pub head_of : (h : List Entry) (n : ℕ) (e : Entry) (es : List Entry) → IsRest h n (e ∷ es) → slice_get h n ≡ Some e
 head_of h n e es (before, is, size) =
     let within : n < length (before ++ e ∷ es) = let l = length-append before (e ∷ es) in omega (arith, l, size) in
     rw is (slice_get-get_or (before ++ e ∷ es) n e within ∙ ap Some (get_or_at before e es e n size))
 
-rest_of : (h : List Entry) (n : ℕ) (e : Entry) (es : List Entry) → IsRest h n (e ∷ es) → IsRest h (n + 1) es
+pub rest_of : (h : List Entry) (n : ℕ) (e : Entry) (es : List Entry) → IsRest h n (e ∷ es) → IsRest h (n + 1) es
 rest_of h n e es (before, is, size) = (before ++ e ∷ [], is ∙ sym (append_assoc before (e ∷ []) es), let l = length-append before (e ∷ []) in omega (arith, l, size))
 
 takes_along : (c : Configuration) (cap : ℕ) (h : List Entry) (s : State) (es : List Entry) (i : Instance) (m : Mark) → IsTrue s.started → IsLegalFrom c cap s es → IsRest h s.count es → Follows c h s

@@ -96,7 +96,7 @@ blocks_push : (jobs : List Job) (j : Job) → AreOnOtherBlocks jobs → HaveOthe
 blocks_push [] j h apart = (tt, tt)
 blocks_push (x ∷ jobs) j h apart = (each_push (λ y. job_block y ≢ job_block x) jobs j h.0 (λ e. apart.0 (sym e)), blocks_push jobs j h.1 apart.1)
 
-blocks_parts : (before : List Job) (j : Job) (after : List Job) → AreOnOtherBlocks (before ++ j ∷ after) → HaveOtherBlocks (job_block j) (before ++ after) × AreOnOtherBlocks (before ++ after)
+pub blocks_parts : (before : List Job) (j : Job) (after : List Job) → AreOnOtherBlocks (before ++ j ∷ after) → HaveOtherBlocks (job_block j) (before ++ after) × AreOnOtherBlocks (before ++ after)
 blocks_parts [] j after h = (h.0, h.1)
 blocks_parts (x ∷ before) j after h =
     let (others, rest) = blocks_parts before j after h.1 in

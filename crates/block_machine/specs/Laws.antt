@@ -1,9 +1,12 @@
 -- Laws of the block machine.
-use Rattle.std.specs.Prelude.{◌≡◌, ◌≢◌, ◌↔◌, ℕ, ◌+◌, ◌-◌, true, false, List, [], ◌∷◌, ◌++◌, length, ◌≤◌, ◌<◌, Bool, Contains, IsSome, is_some, unwrap_or, if◌then◌else◌, Option, Some, None}
+use Rattle.std.specs.Prelude.{◌≡◌, ◌≢◌, ◌↔◌, ℕ, ◌+◌, ◌-◌, true, false, List, [], ◌∷◌, ◌++◌, length, ◌≤◌, ◌<◌, Bool, Contains, IsSome, IsTrue, map, is_some, unwrap_or, if◌then◌else◌, Option, Some, None}
+use Rattle.nv_base.specs.Marks.{instance_of}
+use Rattle.block_config.specs.Lengths.{lengths_of}
+use Rattle.block_config.specs.Rules.{IsLegalConfig}
 use Rattle.block_machine.specs.Words.{ReqResult, Instance, Mark, Request, Reply, Accepted, Refusal, JobKind, Taken, Entry, Ask, Pick, Wrote, Post, Found, Configuration}
-use Rattle.block_machine.specs.State.{State, Job, Sweep}
+use Rattle.block_machine.specs.State.{State, Job, Sweep, jobs_of}
 use Rattle.block_machine.specs.Order.{goes_before}
-use Rattle.block_machine.specs.Blocks.{block_at, instance_at, asked_block, job_block, kind_of, rank_of}
+use Rattle.block_machine.specs.Blocks.{block_at, status_of, is_pending, instance_at, asked_block, job_block, kind_of, rank_of}
 use Rattle.block_machine.specs.Sweeps.{member_job}
 use Rattle.block_machine.specs.Reply.{reserved_entries, fits, holds, tested, reply_of}
 use Rattle.block_machine.specs.Next.{PickJob, PickMember, next_in, next_of}
@@ -12,8 +15,8 @@ use Rattle.block_machine.specs.StartUp.{at_first, found_instances}
 use Rattle.block_machine.specs.Steps.{step, after, after_from, without_job, picked_job}
 use Rattle.block_machine.specs.Legal.{IsAllowed, IsLegal, marks_of}
 use Rattle.block_machine.specs.History.{is_driver_until, up_to, MayStandIn}
-use Rattle.block_machine.specs.Accepted.{IsBroughtBy, IsNotOlder}
-use Rattle.block_machine.specs.Consistent.{AreApart, IsConsistent}
+use Rattle.block_machine.specs.Accepted.{IsAccepted, IsBroughtBy, IsNotOlder}
+use Rattle.block_machine.specs.Consistent.{Each, AreApart, IsConsistent}
 
 -- HISTORIES
 
@@ -163,3 +166,23 @@ MarksAreBrought = (c : Configuration) (cap : ℕ) (h : List Entry) (i : Instance
 -- and it is not older than the last that was acknowledged
 abbrev pub MarksAreNotOlder : Type 0
 MarksAreNotOlder = (c : Configuration) (cap : ℕ) (h : List Entry) (i : Instance) (mark : Mark) → IsLegal c cap h → MayStandIn (instance_at (after c h) i) mark → IsNotOlder c h i mark
+
+-- with a configuration that keeps its rules it is whole, and so accepted
+abbrev pub MarksAreAccepted : Type 0
+MarksAreAccepted = (c : Configuration) (cap : ℕ) (h : List Entry) (i : Instance) (mark : Mark) → IsLegalConfig c → IsLegal c cap h → MayStandIn (instance_at (after c h) i) mark → IsAccepted c h i mark
+
+-- JOBS AND THEIR BLOCKS
+
+-- after a legal history the block of each job is PENDING
+abbrev pub JobsArePending : Type 0
+JobsArePending = (c : Configuration) (cap : ℕ) (h : List Entry) (j : Job) → IsLegal c cap h → Contains (jobs_of (after c h)) j → job_block j < length (after c h).blocks → is_pending (status_of (after c h) (job_block j)) ≡ true
+
+-- and no other job is on it
+abbrev pub JobsHaveTheirBlocks : Type 0
+JobsHaveTheirBlocks = (c : Configuration) (cap : ℕ) (h : List Entry) (before : List Job) (j : Job) (more : List Job) → IsLegal c cap h → jobs_of (after c h) ≡ before ++ j ∷ more → Each (λ x. job_block x ≢ job_block j) (before ++ more)
+
+-- there are the configured blocks beside id 0, and the configured instances in their order
+abbrev pub PlacesAreConfigured : Type 0
+PlacesAreConfigured =
+    (c : Configuration) (cap : ℕ) (h : List Entry) → IsLegal c cap h → IsTrue (after c h).started
+    → (length (after c h).blocks ≡ length c.blocks + 1) × (map (λ x. x.instance) (after c h).instances ≡ map (λ x. instance_of x.0) (lengths_of c))

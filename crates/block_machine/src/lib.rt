@@ -16,7 +16,7 @@ mod wrong_cases;
 pub use laws::{
     a_pick_takes_in_hand, accepted_requests_pass, asks_are_local, entries_are_local,
     entries_come_in_time_or_late, entries_fit, failures_are_explained, histories_grow,
-    legal_states_are_consistent, marks_that_stand, the_next_job_goes_first,
+    jobs_are_pending, legal_states_are_consistent, marks_that_stand, the_next_job_goes_first,
     what_is_found_is_settled,
 };
 pub use near_cases::{

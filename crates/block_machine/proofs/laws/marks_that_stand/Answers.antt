@@ -1,4 +1,5 @@
 use Rattle.block_machine.proofs.MarkOrigins as law
+use Rattle.block_machine.proofs.WholeSteps as whole
 use Rattle.block_machine.proofs.laws.marks_that_stand.Goals as goal
 
 pub returns-clause-brought : goal.returns-clause-brought
@@ -6,3 +7,6 @@ returns-clause-brought c = law.marks_are_brought
 
 pub returns-clause-newest : goal.returns-clause-newest
 returns-clause-newest c = law.marks_are_not_older
+
+pub returns-clause-accepted : goal.returns-clause-accepted
+returns-clause-accepted c = whole.marks_are_accepted

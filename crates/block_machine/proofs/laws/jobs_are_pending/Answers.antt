@@ -1,0 +1,11 @@
+use Rattle.block_machine.proofs.JobBlocks as law
+use Rattle.block_machine.proofs.laws.jobs_are_pending.Goals as goal
+
+pub returns-clause-pending : goal.returns-clause-pending
+returns-clause-pending c = law.jobs_are_pending
+
+pub returns-clause-alone : goal.returns-clause-alone
+returns-clause-alone c = law.jobs_have_blocks
+
+pub returns-clause-places : goal.returns-clause-places
+returns-clause-places c = law.places_are_configured
