@@ -19,7 +19,7 @@ follows_along c cap h s (e ∷ es) legal rest f = follows_along c cap h (step c 
 follows : (c : Configuration) (cap : ℕ) (h : List Entry) → IsLegal c cap h → Follows c h (after c h)
 follows c cap h legal = follows_along c cap h at_first h legal ([], refl, refl) (at_first_follows c h (at_first_consistent c))
 
-one_of : {X : Type 0} (P : X → Type 0) (xs : List X) (x : X) → Each P xs → Contains xs x → P x
+pub one_of : {X : Type 0} (P : X → Type 0) (xs : List X) (x : X) → Each P xs → Contains xs x → P x
 one_of P [] x each (k, within, is) = absurd (omega (arith, within))
 one_of P (y ∷ xs) x each (zero, within, is) = subst P is each.0
 one_of P (y ∷ xs) x each (suc k, within, is) = one_of P xs x each.1 (k, omega arith, is)

@@ -15,3 +15,4 @@ pub mod MarkOrigins
 pub mod JobBlocks
 pub mod WholeContents
 pub mod WholeSteps
+pub mod LateEntries

@@ -17,14 +17,15 @@ use Rattle.block_machine.specs.Results.{Answer, own_of, unpicked_result}
 use Rattle.block_machine.specs.ResultTable.{unpicked}
 use Rattle.block_machine.specs.StartUp.{at_first, listed_mark, found_instance}
 use Rattle.block_machine.specs.Steps.{step, after, after_from, with_member, with_sweep, changed, accepted_by, asked, job_at, picked_job, interrupted, without_job, in_hand, picked, wrote, posted, posted_next, ended}
-use Rattle.block_machine.specs.Legal.{IsAsk, IsPick, IsPost, MayPick, MayWrite, MayPost, MayPostNext, IsAllowed, IsLegalFrom}
-use Rattle.block_machine.specs.Laws.{MarksAreAccepted}
+use Rattle.block_machine.specs.Legal.{IsLegal, IsAsk, IsPick, IsPost, MayPick, MayWrite, MayPost, MayPostNext, IsAllowed, IsLegalFrom}
+use Rattle.block_machine.specs.Laws.{MarksAreAccepted, ContentsHaveLengths}
 use Rattle.block_machine.specs.Consistent.{Each}
 use Rattle.block_machine.proofs.JobLists.{each_push, each_parts}
 use Rattle.block_machine.proofs.NextLaws.{accepted_pass, next_is_waiting}
 use Rattle.block_machine.proofs.NextFacts.{job_in, next_job_by}
 use Rattle.block_machine.proofs.ConsistentSteps.{idle, left_of}
 use Rattle.block_machine.proofs.MarkCells.{only_settled}
+use Rattle.block_machine.proofs.JobBlocks.{one_of}
 use Rattle.block_machine.proofs.MarkOrigins.{marks_are_brought}
 use Rattle.block_machine.proofs.WholeContents.{HasLength, MarkLength, MayTakeRam, FitsContent, RamFits, WholeCell, GivesLength, has_from, mark_length, doubts_whole, settled_whole, stands_whole, listed_whole, ram_set, started_ram, takes_ram, fits_after, unpicked_whole, explained_whole, ended_ram, desc_fits, sweep_takes}
 
@@ -246,7 +247,15 @@ along : (c : Configuration) (cap : ℕ) (s : State) (es : List Entry) → IsLega
 along c cap s [] config legal w = w
 along c cap s (e ∷ es) config legal w = along c cap (step c s e) es config legal.1 (steps_whole c cap s e config legal.0 w)
 
+whole_after : (c : Configuration) (cap : ℕ) (h : List Entry) → IsLegalConfig c → IsLegal c cap h → AreWhole c (after c h)
+whole_after c cap h config legal = along c cap at_first h config legal (record { ram = λ on. cc; jobs = tt; cells = tt; sweep = tt })
+
+pub contents_have_lengths : ContentsHaveLengths
+contents_have_lengths c cap h config legal =
+    let w = whole_after c cap h config legal in
+    (λ j x has is. subst (FitsContent c (job_block j) (kind_of j)) is (one_of (FitsJobContent c) (jobs_of (after c h)) j w.jobs has), λ on id keeps. w.ram on id keeps)
+
 pub marks_are_accepted : MarksAreAccepted
 marks_are_accepted c cap h i mark config legal stands =
-    let w = along c cap at_first h config legal (record { ram = λ on. cc; jobs = tt; cells = tt; sweep = tt }) in
+    let w = whole_after c cap h config legal in
     record { whole = has_from c i mark (stands_whole c i (after c h).instances mark w.cells stands); brought = marks_are_brought c cap h i mark legal stands }

@@ -6,7 +6,7 @@ use Rattle.block_config.specs.Rules.{IsLegalConfig}
 use Rattle.block_machine.specs.Words.{ReqResult, Instance, Mark, Request, Reply, Accepted, Refusal, JobKind, Taken, Entry, Ask, Pick, Wrote, Post, Found, Configuration}
 use Rattle.block_machine.specs.State.{State, Job, Sweep, jobs_of}
 use Rattle.block_machine.specs.Order.{goes_before}
-use Rattle.block_machine.specs.Blocks.{block_at, status_of, is_pending, instance_at, asked_block, job_block, kind_of, rank_of}
+use Rattle.block_machine.specs.Blocks.{desc_of, keeps_ram, block_at, status_of, is_pending, instance_at, asked_block, job_block, kind_of, rank_of}
 use Rattle.block_machine.specs.Sweeps.{member_job}
 use Rattle.block_machine.specs.Reply.{reserved_entries, fits, holds, tested, reply_of}
 use Rattle.block_machine.specs.Next.{PickJob, PickMember, next_in, next_of}
@@ -14,7 +14,7 @@ use Rattle.block_machine.specs.Results.{own_of, result_of, open_sets, failed_set
 use Rattle.block_machine.specs.StartUp.{at_first, found_instances}
 use Rattle.block_machine.specs.Steps.{step, after, after_from, without_job, picked_job}
 use Rattle.block_machine.specs.Legal.{IsAllowed, IsLegal, marks_of}
-use Rattle.block_machine.specs.History.{is_driver_until, up_to, MayStandIn}
+use Rattle.block_machine.specs.History.{is_driver_until, up_to, MayStandIn, IsAllowedAt}
 use Rattle.block_machine.specs.Accepted.{IsAccepted, IsBroughtBy, IsNotOlder}
 use Rattle.block_machine.specs.Consistent.{Each, AreApart, IsConsistent}
 
@@ -60,6 +60,10 @@ EarlyEntriesAreKept = (k : ℕ) (h : List Entry) (e : Entry) → is_driver_until
 -- it is a beginning of the history
 abbrev pub UpToIsABeginning : Type 0
 UpToIsABeginning = (k : ℕ) (h : List Entry) → (more : List Entry) × (h ≡ up_to k h ++ more)
+
+-- from the operations of the last driver entry on, the marks that are allowed are those that may stand now
+abbrev pub AllowedStandNow : Type 0
+AllowedStandNow = (c : Configuration) (h : List Entry) (k : ℕ) (i : Instance) (mark : Mark) → (after c h).ops ≤ k → IsAllowedAt c h k i mark ↔ MayStandIn (instance_at (after c h) i) mark
 
 -- RESULTS
 
@@ -186,3 +190,10 @@ abbrev pub PlacesAreConfigured : Type 0
 PlacesAreConfigured =
     (c : Configuration) (cap : ℕ) (h : List Entry) → IsLegal c cap h → IsTrue (after c h).started
     → (length (after c h).blocks ≡ length c.blocks + 1) × (map (λ x. x.instance) (after c h).instances ≡ map (λ x. instance_of x.0) (lengths_of c))
+
+-- with a configuration that keeps its rules, what a job writes and the RAM that the manager keeps have their block's length
+abbrev pub ContentsHaveLengths : Type 0
+ContentsHaveLengths =
+    (c : Configuration) (cap : ℕ) (h : List Entry) → IsLegalConfig c → IsLegal c cap h
+    → ((j : Job) (x : List ℕ × ℕ) → Contains (jobs_of (after c h)) j → j.content ≡ Some x → length x.0 ≡ (desc_of c (job_block j)).length)
+    × (IsTrue (after c h).started → (id : ℕ) → keeps_ram c id ≡ true → length (block_at (after c h) id).ram ≡ (desc_of c id).length)

@@ -1,5 +1,5 @@
 // Laws of the block machine.
-ghost use Rattle.block_machine.specs.Laws.{HistoriesStep, HistoriesGoOn, HistoriesStayLegal, BeginningsAreLegal, EntriesAreCounted, AsksAreLocal, LateEntriesAreCutOff, EarlyEntriesAreKept, UpToIsABeginning, FailedSetsAreLeast, AcceptedPass, FittingHasRoom, NextIsWaiting, NextGoesFirst, NoneWaits, PickTakesInHand, EntriesOfTheJobInHand, FoundIsSettled, AllowedStepsStayConsistent, LegalStatesAreConsistent, DriverEntriesAreReserved, EntriesFit, EntriesAreLocal, JobsSplit, MarksAreBrought, MarksAreNotOlder, MarksAreAccepted, JobsArePending, JobsHaveTheirBlocks, PlacesAreConfigured};
+ghost use Rattle.block_machine.specs.Laws.{HistoriesStep, HistoriesGoOn, HistoriesStayLegal, BeginningsAreLegal, EntriesAreCounted, AsksAreLocal, LateEntriesAreCutOff, EarlyEntriesAreKept, UpToIsABeginning, AllowedStandNow, FailedSetsAreLeast, AcceptedPass, FittingHasRoom, NextIsWaiting, NextGoesFirst, NoneWaits, PickTakesInHand, EntriesOfTheJobInHand, FoundIsSettled, AllowedStepsStayConsistent, LegalStatesAreConsistent, DriverEntriesAreReserved, EntriesFit, EntriesAreLocal, JobsSplit, MarksAreBrought, MarksAreNotOlder, MarksAreAccepted, JobsArePending, JobsHaveTheirBlocks, PlacesAreConfigured, ContentsHaveLengths};
 
 /// How a history grows.
 pub fn histories_grow()
@@ -20,6 +20,7 @@ pub fn entries_come_in_time_or_late()
     ensures late { LateEntriesAreCutOff }
     ensures early { EarlyEntriesAreKept }
     ensures beginning { UpToIsABeginning }
+    ensures now { AllowedStandNow }
 {}
 
 /// Each failure of the device has an explanation, and none that is dearer than it was.
@@ -81,4 +82,5 @@ pub fn jobs_are_pending()
     ensures pending { JobsArePending }
     ensures alone { JobsHaveTheirBlocks }
     ensures places { PlacesAreConfigured }
+    ensures lengths { ContentsHaveLengths }
 {}

@@ -1,4 +1,5 @@
 use Rattle.block_machine.proofs.HistoryLaws as law
+use Rattle.block_machine.proofs.LateEntries.{allowed_stand_now}
 use Rattle.block_machine.proofs.laws.entries_come_in_time_or_late.Goals as goal
 
 pub returns-clause-late : goal.returns-clause-late
@@ -9,3 +10,6 @@ returns-clause-early c = law.early_entries
 
 pub returns-clause-beginning : goal.returns-clause-beginning
 returns-clause-beginning c = law.up_to_is_a_beginning
+
+pub returns-clause-now : goal.returns-clause-now
+returns-clause-now c = allowed_stand_now
