@@ -16,3 +16,4 @@ pub mod JobBlocks
 pub mod WholeContents
 pub mod WholeSteps
 pub mod LateEntries
+pub mod WrittenOrder

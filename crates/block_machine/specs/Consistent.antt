@@ -45,3 +45,8 @@ pub record IsConsistent (c : Configuration) (s : State) : Type 0 where
   pub apart : AreApart s.waiting
   pub hand : IfSome s.hand (IsJobInHand c s)
   pub sweep : IfSome s.sweep (IsPendingSweep s)
+
+-- each is below those that follow
+abbrev pub Ascend : List ℕ → Type 0
+Ascend [] = Unit {0}
+Ascend (n ∷ ns) = Each (λ m. n < m) ns × Ascend ns

@@ -16,7 +16,7 @@ use Rattle.block_machine.specs.Steps.{step, after, after_from, without_job, pick
 use Rattle.block_machine.specs.Legal.{IsAllowed, IsLegal, marks_of}
 use Rattle.block_machine.specs.History.{is_driver_until, up_to, MayStandIn, IsAllowedAt}
 use Rattle.block_machine.specs.Accepted.{IsAccepted, IsBroughtBy, IsNotOlder}
-use Rattle.block_machine.specs.Consistent.{Each, AreApart, IsConsistent}
+use Rattle.block_machine.specs.Consistent.{Each, Ascend, AreApart, IsConsistent}
 
 -- HISTORIES
 
@@ -197,3 +197,7 @@ ContentsHaveLengths =
     (c : Configuration) (cap : ℕ) (h : List Entry) → IsLegalConfig c → IsLegal c cap h
     → ((j : Job) (x : List ℕ × ℕ) → Contains (jobs_of (after c h)) j → j.content ≡ Some x → length x.0 ≡ (desc_of c (job_block j)).length)
     × (IsTrue (after c h).started → (id : ℕ) → keeps_ram c id ≡ true → length (block_at (after c h) id).ram ≡ (desc_of c id).length)
+
+-- the job in hand writes its instances in order
+abbrev pub WrittenAscends : Type 0
+WrittenAscends = (c : Configuration) (cap : ℕ) (h : List Entry) (j : Job) → IsLegal c cap h → (after c h).hand ≡ Some j → Ascend j.written

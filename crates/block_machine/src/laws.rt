@@ -1,5 +1,5 @@
 // Laws of the block machine.
-ghost use Rattle.block_machine.specs.Laws.{HistoriesStep, HistoriesGoOn, HistoriesStayLegal, BeginningsAreLegal, EntriesAreCounted, AsksAreLocal, LateEntriesAreCutOff, EarlyEntriesAreKept, UpToIsABeginning, AllowedStandNow, FailedSetsAreLeast, AcceptedPass, FittingHasRoom, NextIsWaiting, NextGoesFirst, NoneWaits, PickTakesInHand, EntriesOfTheJobInHand, FoundIsSettled, AllowedStepsStayConsistent, LegalStatesAreConsistent, DriverEntriesAreReserved, EntriesFit, EntriesAreLocal, JobsSplit, MarksAreBrought, MarksAreNotOlder, MarksAreAccepted, JobsArePending, JobsHaveTheirBlocks, PlacesAreConfigured, ContentsHaveLengths};
+ghost use Rattle.block_machine.specs.Laws.{HistoriesStep, HistoriesGoOn, HistoriesStayLegal, BeginningsAreLegal, EntriesAreCounted, AsksAreLocal, LateEntriesAreCutOff, EarlyEntriesAreKept, UpToIsABeginning, AllowedStandNow, FailedSetsAreLeast, AcceptedPass, FittingHasRoom, NextIsWaiting, NextGoesFirst, NoneWaits, PickTakesInHand, EntriesOfTheJobInHand, FoundIsSettled, AllowedStepsStayConsistent, LegalStatesAreConsistent, DriverEntriesAreReserved, EntriesFit, EntriesAreLocal, JobsSplit, MarksAreBrought, MarksAreNotOlder, MarksAreAccepted, JobsArePending, JobsHaveTheirBlocks, PlacesAreConfigured, ContentsHaveLengths, WrittenAscends};
 
 /// How a history grows.
 pub fn histories_grow()
@@ -83,4 +83,5 @@ pub fn jobs_are_pending()
     ensures alone { JobsHaveTheirBlocks }
     ensures places { PlacesAreConfigured }
     ensures lengths { ContentsHaveLengths }
+    ensures written { WrittenAscends }
 {}

@@ -1,5 +1,6 @@
 use Rattle.block_machine.proofs.JobBlocks as law
 use Rattle.block_machine.proofs.WholeSteps.{contents_have_lengths}
+use Rattle.block_machine.proofs.WrittenOrder.{written_ascends}
 use Rattle.block_machine.proofs.laws.jobs_are_pending.Goals as goal
 
 pub returns-clause-pending : goal.returns-clause-pending
@@ -13,3 +14,6 @@ returns-clause-places c = law.places_are_configured
 
 pub returns-clause-lengths : goal.returns-clause-lengths
 returns-clause-lengths c = contents_have_lengths
+
+pub returns-clause-written : goal.returns-clause-written
+returns-clause-written c = written_ascends
