@@ -99,8 +99,7 @@ AcceptsAs w (Err refusal) old new = (refusal_of old w.job.number w.length ≡ So
 abbrev pub Accepts : Wish → Result (Unit {0}) DeviceRefusal → DeviceTold → Clock → DeviceTold → Clock → Type 0
 Accepts w answer old clock new clock_new = AcceptsAs w answer old new × ClockStays clock new clock_new
 
--- CANCEL
--- an open job ends, and its mark stays a doubt or is none any more
+-- CANCEL: an open job ends, and its mark stays a doubt or is none any more
 pub record IsCanceled (old new : DeviceTold) : Type 0 where
   pub only : new ≡ record old { slots = new.slots; stand = Ended JobCanceled []; left = new.left; ready = new.ready; wait = new.wait }
   pub marks : KeepsAll old new
@@ -111,15 +110,13 @@ pub record IsCanceled (old new : DeviceTold) : Type 0 where
 abbrev pub Cancels : DeviceTold → Clock → DeviceTold → Clock → Type 0
 Cancels old clock new clock_new = IfElse (is_open old.stand) (IsCanceled old new) (new ≡ old) × ClockStays clock new clock_new
 
--- COUNTS OF FAULTS
--- no count falls; the part's rises at most as its flash's, or that one stands at its end
+-- COUNTS OF FAULTS: no count falls; the part's rises at most as its flash's, or that one stands at its end
 pub record FaultsGrow (old new : PartTold) : Type 0 where
   pub faults : old.faults ≤ new.faults
   pub flash : old.flash_faults ≤ new.flash_faults
   pub tied : (new.faults + old.flash_faults ≤ old.faults + new.flash_faults) ⊎ (last_count ≤ new.flash_faults)
 
--- A START-UP
--- it makes no changing operation, begins no cut, and drops a plan
+-- A START-UP makes no changing operation, begins no cut, and drops a plan
 pub record PowersUp (old new : PartTold) : Type 0 where
   pub only : new ≡ record old { faults = new.faults; flash_faults = new.flash_faults; off = new.off; planning = dropped old.planning }
   pub faults : FaultsGrow old new

@@ -1,5 +1,6 @@
 // Work from above, over any device.
-ghost use Rattle.std.specs.Prelude.{◌≡◌, ◌≤◌, ◌+◌, ◌⊎◌, None, Some, IfOk, true, false};
+ghost use Rattle.std.specs.Prelude.{◌≡◌, ◌≤◌, ◌+◌, ◌⊎◌, None, Some, IfOk, IfErr, true, false};
+ghost use Rattle.memif.specs.Calls.{StartsUp, refusal_of};
 ghost use Rattle.nv_base.specs.Count.{Rose};
 ghost use Rattle.nv_base.specs.declared.mark.Mark.TheVariants as mark;
 ghost use Rattle.memif.specs.Told.{figures_at, is_off, is_open, nothing_open};
@@ -18,7 +19,8 @@ pub enum Rest {
 
 /// Starts the device up. What it found is settled, as the clock tells at this count of operations.
 pub fn start_up<D: MemDevice>(device: &mut D) -> Result<(), StartFault>
-    ensures { IfOk result (λ u. FindsSettled (D.told device.new) (D.clock device.new)) }
+    ensures settled { IfOk result (λ u. FindsSettled (D.told device.new) (D.clock device.new)) }
+    ensures starts { StartsUp result (D.told device.old) (D.clock device.old) (D.told device.new) (D.clock device.new) }
 {
     device.start()
 }
@@ -53,6 +55,7 @@ pub fn make_turns<D: MemDevice>(device: &mut D) -> Rest
 /// Erases a number, and tells in how many turns it ended, or came to a power cut.
 #[tactic(auto, using(crate::proofs::Turning::falls_open))]
 pub fn erase<D: MemDevice>(device: &mut D, number: DeviceNumber) -> Result<u64, DeviceRefusal>
+    ensures refused { IfErr result (λ r. (refusal_of (D.told device.old) number.0 None ≡ Some r) × (D.told device.new ≡ D.told device.old)) }
     ensures within { IfOk result (λ turns. IsFaultless (D.told device.old) (D.told device.new) → turns ≤ (D.told device.old).fixed.own + (figures_at (D.told device.old).fixed number.0).erase) }
     ensures ended { IfOk result (λ turns. (is_open (D.told device.new).stand ≡ false) ⊎ (is_off (D.told device.new) ≡ true)) }
 {

@@ -8,27 +8,27 @@ use std::alloc::{AllocError, Global};
 use std::fs;
 use std::test::Fail;
 
-const SMALLEST: Geometry = Geometry {
+pub const SMALLEST: Geometry = Geometry {
     page: 16,
     sector: 64,
     sectors: 2,
 };
 
-fn attach<F: Flash>(alloc: Global, flash: &mut F) -> bool
+pub fn attach<F: Flash>(alloc: Global, flash: &mut F) -> bool
     ensures { IsTrue result → (F.told flash.new).geometry ≡ SMALLEST }
 {
     flash.attach(alloc, SMALLEST).is_ok()
 }
 
 // Programs the second page.
-fn program<F: Flash>(flash: &mut F, byte: u8) -> FlashAnswer
+pub fn program<F: Flash>(flash: &mut F, byte: u8) -> FlashAnswer
     requires { (F.told flash.old).geometry ≡ SMALLEST }
     ensures { (F.told flash.new).geometry ≡ SMALLEST }
 {
     flash.program(16, &[byte; 16])
 }
 
-fn erase<F: Flash>(flash: &mut F) -> FlashAnswer
+pub fn erase<F: Flash>(flash: &mut F) -> FlashAnswer
     requires { (F.told flash.old).geometry ≡ SMALLEST }
     ensures { (F.told flash.new).geometry ≡ SMALLEST }
 {
@@ -36,7 +36,7 @@ fn erase<F: Flash>(flash: &mut F) -> FlashAnswer
 }
 
 // Reads the second page.
-fn read<F: Flash>(flash: &mut F, page: &mut [u8; 16]) -> FlashAnswer
+pub fn read<F: Flash>(flash: &mut F, page: &mut [u8; 16]) -> FlashAnswer
     requires { (F.told flash.old).geometry ≡ SMALLEST }
     ensures { (F.told flash.new).geometry ≡ SMALLEST }
 {

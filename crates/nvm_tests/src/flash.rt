@@ -1,34 +1,29 @@
 // A flash in memory of the smallest geometry.
+use crate::devices::{SMALLEST, attach, erase, program, read};
 use fls_model::{AttachFault, Call, Flash, FlashAnswer, may_leave, mem_flash, program_call};
-use nv_base::Geometry;
 use std::test::Fail;
 
-const SMALLEST: Geometry = Geometry {
-    page: 16,
-    sector: 64,
-    sectors: 2,
-};
+#[test]
+fn attaches_by_its_size(rt: HostRuntime) -> Result<(), Fail> {
+    let mut flash = mem_flash(rt.alloc(), &[7; 100], 0)?;
+    let found = Err(AttachFault::WrongSize { found: 100 });
+    assert_eq!(rt; flash.attach(rt.alloc(), SMALLEST), found);
+    Ok(())
+}
 
 #[test]
 fn clears_bits_and_sets_them(rt: HostRuntime) -> Result<(), Fail> {
-    let mut wrong = mem_flash(rt.alloc(), &[7; 100], 0)?;
-    let found = Err(AttachFault::WrongSize { found: 100 });
-    assert_eq!(rt; wrong.attach(rt.alloc(), SMALLEST), found);
     let mut flash = mem_flash(rt.alloc(), &[], 2)?;
-    if flash.attach(rt.alloc(), SMALLEST).is_ok() {
-        flash.power_on();
-        flash.arm(1, 0);
-        flash.program(16, &[0x0f; 16]);
-        flash.program(16, &[0x3c; 16]);
-        flash.program(64, &[0; 16]);
-        flash.erase(1);
-        let mut page = [0; 16];
-        assert_eq!(rt; flash.read(16, &mut page), FlashAnswer::Done);
-        assert_eq!(rt; page, [0x0c; 16]);
-    }
-    let bytes = flash.bytes();
-    assert_eq!(rt; bytes.len(), 128);
-    assert_eq!(rt; [bytes[15], bytes[64]], [0xff, 0xff]);
+    assert!(rt; attach(rt.alloc(), &mut flash));
+    program(&mut flash, 0x0f);
+    program(&mut flash, 0x3c);
+    let mut page = [0; 16];
+    assert_eq!(rt; read(&mut flash, &mut page), FlashAnswer::Done);
+    assert_eq!(rt; page, [0x0c; 16]);
+    erase(&mut flash);
+    assert_eq!(rt; read(&mut flash, &mut page), FlashAnswer::Done);
+    assert_eq!(rt; page, [0xff; 16]);
+    assert_eq!(rt; flash.bytes().len(), 128);
     Ok(())
 }
 
