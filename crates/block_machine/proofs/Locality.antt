@@ -1,15 +1,15 @@
 -- An entry changes the state of one block at most.
 use Rattle.std.specs.Prelude.{slice_set, get_or}
-use Rattle.std.proofs.Common.{◌≡◌, ◌≢◌, ℕ, true, List, refl, ◌∙◌, subst, Option, Some, None}
-use Rattle.std.proofs.lemmas.List.{get_or-set_other}
-use Rattle.block_machine.specs.Words.{ReqResult, Pending, JobKind, Taken, Ask, Pick, Wrote, Post, Off, Found, Mark, Instance, Configuration}
+use Rattle.std.proofs.Common.{◌≡◌, ◌≢◌, ◌<◌, ℕ, true, List, length, refl, sym, ap, is_some, ◌∙◌, subst, Option, Some, None}
+use Rattle.std.proofs.lemmas.List.{get_or-set_same, get_or-set_other}
+use Rattle.block_machine.specs.Words.{ReqResult, Pending, Request, JobKind, Taken, Ask, Pick, Wrote, Post, Off, Found, Mark, Instance, Configuration}
 use Rattle.block_machine.specs.State.{State, BlockState, Job}
-use Rattle.block_machine.specs.Blocks.{block_at, no_block, keeps_ram, names_ram, desc_of, job_block, kind_of}
+use Rattle.block_machine.specs.Blocks.{status_of, is_pending, asked_block, job_kind, block_at, no_block, keeps_ram, names_ram, desc_of, job_block, kind_of}
 use Rattle.block_machine.specs.Sweeps.{member_kind}
 use Rattle.block_machine.specs.Next.{Next, Nothing, PickJob, BeginSweep, PickMember, PostMember, EndSweep, next_of}
-use Rattle.block_machine.specs.Steps.{picked, posted, posted_next, wrote, ended}
+use Rattle.block_machine.specs.Steps.{accepted_by, picked, posted, posted_next, wrote, ended}
 use Rattle.block_machine.specs.Legal.{MayPick, MayPost, MayPostNext}
-use Rattle.block_machine.specs.Laws.{EntriesAreLocal, JobsSplit}
+use Rattle.block_machine.specs.Laws.{EntriesAreLocal, JobsSplit, EntriesGiveStatus}
 use Rattle.block_machine.proofs.HistoryLaws.{asks_are_local}
 use Rattle.block_machine.proofs.JobLists.{apart_parts, without_split}
 use Rattle.block_machine.proofs.ConsistentSteps.{member_block}
@@ -52,3 +52,35 @@ entries_are_local c cap s (Found marks ops) id allowed found apart = cc
 
 pub jobs_split : JobsSplit
 jobs_split before j after apart = let (others, rest) = apart_parts before j after apart in (without_split before j after others, rest)
+
+-- THE STATUS
+
+status_set : (s : State) (id : ℕ) (b : BlockState) (r : ReqResult) → id < length s.blocks → b.status ≡ r → (get_or (slice_set s.blocks id b) id no_block).status ≡ r
+status_set s id b r within is = ap (λ (x : BlockState). x.status) (get_or-set_same s.blocks id b no_block within) ∙ is
+
+next_status : (c : Configuration) (s : State) (block : ℕ) (r : ReqResult) (given : Option (List ℕ)) (refused : ℕ) (n : Next) → MayPostNext c s block (r, given) refused n → block < length s.blocks → status_of (posted_next c s r given n) block ≡ r
+next_status c s block r given refused (PostMember sw id) may within =
+    let inside : id < length s.blocks = subst (λ (n : ℕ). n < length s.blocks) may.same_block within in
+    subst (λ (n : ℕ). status_of (posted_next c s r given (PostMember sw id)) n ≡ r) (sym may.same_block) (status_set s id (ended (desc_of c id) (keeps_ram c id) (member_kind sw.writes) true r given (block_at s id)) r inside refl)
+next_status c s block r given refused (EndSweep sw) may within =
+    let inside : 0 < length s.blocks = subst (λ (n : ℕ). n < length s.blocks) may.all_blocks within in
+    subst (λ (n : ℕ). status_of (posted_next c s r given (EndSweep sw)) n ≡ r) (sym may.all_blocks) (status_set s 0 (record (block_at s 0) { status = r }) r inside refl)
+next_status c s block r given refused (PickJob j) may within = absurd may
+next_status c s block r given refused (PickMember sw id) may within = absurd may
+next_status c s block r given refused (BeginSweep sw) may within = absurd may
+next_status c s block r given refused Nothing may within = absurd may
+
+posted_status : (c : Configuration) (s : State) (block : ℕ) (r : ReqResult) (given : Option (List ℕ)) (refused : ℕ) (o : Option Job) → MayPost c s block (r, given) refused o → block < length s.blocks → status_of (posted c s r given o) block ≡ r
+posted_status c s block r given refused (Some j) may within =
+    let id = job_block j in
+    let inside : job_block j < length s.blocks = subst (λ (n : ℕ). n < length s.blocks) may.same_block within in
+    subst (λ (n : ℕ). status_of (posted c s r given (Some j)) n ≡ r) (sym may.same_block) (status_set s id (ended (desc_of c id) (keeps_ram c id) (kind_of j) (names_ram j.request) r given (block_at s id)) r inside refl)
+posted_status c s block r given refused None may within = next_status c s block r given refused (next_of c s) may within
+
+asked_status : (c : Configuration) (s : State) (r : Request) (kind : Option JobKind) → is_some kind ≡ true → asked_block r < length s.blocks → is_pending (status_of (accepted_by c s r kind) (asked_block r)) ≡ true
+asked_status c s r None some within = cc
+asked_status c s r (Some kind) some within = ap is_pending (status_set s (asked_block r) (record (block_at s (asked_block r)) { status = Pending }) Pending within refl)
+
+pub entries_give_status : EntriesGiveStatus
+entries_give_status c cap s block refused ops caller r given request =
+    (λ allowed within. posted_status c s block r given refused s.hand allowed.1 within, λ some within. asked_status c s request (job_kind request) some within)

@@ -6,7 +6,7 @@ use Rattle.block_config.specs.Rules.{IsLegalConfig}
 use Rattle.block_machine.specs.Words.{ReqResult, Instance, Mark, Request, Reply, Accepted, Refusal, JobKind, Taken, Entry, Ask, Pick, Wrote, Post, Found, Configuration}
 use Rattle.block_machine.specs.State.{State, Job, Sweep, jobs_of}
 use Rattle.block_machine.specs.Order.{goes_before}
-use Rattle.block_machine.specs.Blocks.{desc_of, keeps_ram, block_at, status_of, is_pending, instance_at, asked_block, job_block, kind_of, rank_of}
+use Rattle.block_machine.specs.Blocks.{desc_of, keeps_ram, block_at, status_of, is_pending, instance_at, asked_block, job_kind, job_block, kind_of, rank_of}
 use Rattle.block_machine.specs.Sweeps.{member_job}
 use Rattle.block_machine.specs.Reply.{reserved_entries, fits, holds, tested, reply_of}
 use Rattle.block_machine.specs.Next.{PickJob, PickMember, next_in, next_of}
@@ -201,3 +201,8 @@ ContentsHaveLengths =
 -- the job in hand writes its instances in order
 abbrev pub WrittenAscends : Type 0
 WrittenAscends = (c : Configuration) (cap : ℕ) (h : List Entry) (j : Job) → IsLegal c cap h → (after c h).hand ≡ Some j → Ascend j.written
+
+-- a Post gives its result to its block as status, and an accepted request for a job PENDING
+abbrev pub EntriesGiveStatus : Type 0
+EntriesGiveStatus = (c : Configuration) (cap : ℕ) (s : State) (block refused ops caller : ℕ) (r : ReqResult) (given : Option (List ℕ)) (request : Request)
+    → (IsAllowed c cap s (Post block r given refused ops) → block < length s.blocks → status_of (step c s (Post block r given refused ops)) block ≡ r) × (is_some (job_kind request) ≡ true → asked_block request < length s.blocks → is_pending (status_of (step c s (Ask caller request Accepted)) (asked_block request)) ≡ true)

@@ -1,5 +1,5 @@
 // Laws of the block machine.
-ghost use Rattle.block_machine.specs.Laws.{HistoriesStep, HistoriesGoOn, HistoriesStayLegal, BeginningsAreLegal, EntriesAreCounted, AsksAreLocal, LateEntriesAreCutOff, EarlyEntriesAreKept, UpToIsABeginning, AllowedStandNow, FailedSetsAreLeast, AcceptedPass, FittingHasRoom, NextIsWaiting, NextGoesFirst, NoneWaits, PickTakesInHand, EntriesOfTheJobInHand, FoundIsSettled, AllowedStepsStayConsistent, LegalStatesAreConsistent, DriverEntriesAreReserved, EntriesFit, EntriesAreLocal, JobsSplit, MarksAreBrought, MarksAreNotOlder, MarksAreAccepted, JobsArePending, JobsHaveTheirBlocks, PlacesAreConfigured, ContentsHaveLengths, WrittenAscends};
+ghost use Rattle.block_machine.specs.Laws.{HistoriesStep, HistoriesGoOn, HistoriesStayLegal, BeginningsAreLegal, EntriesAreCounted, AsksAreLocal, LateEntriesAreCutOff, EarlyEntriesAreKept, UpToIsABeginning, AllowedStandNow, FailedSetsAreLeast, AcceptedPass, FittingHasRoom, NextIsWaiting, NextGoesFirst, NoneWaits, PickTakesInHand, EntriesOfTheJobInHand, FoundIsSettled, AllowedStepsStayConsistent, LegalStatesAreConsistent, DriverEntriesAreReserved, EntriesFit, EntriesAreLocal, JobsSplit, MarksAreBrought, MarksAreNotOlder, MarksAreAccepted, JobsArePending, JobsHaveTheirBlocks, PlacesAreConfigured, ContentsHaveLengths, WrittenAscends, EntriesGiveStatus};
 
 /// How a history grows.
 pub fn histories_grow()
@@ -68,6 +68,7 @@ pub fn entries_fit()
 pub fn entries_are_local()
     ensures blocks { EntriesAreLocal }
     ensures jobs { JobsSplit }
+    ensures status { EntriesGiveStatus }
 {}
 
 /// Where a mark comes from that may stand after a legal history, and that it is not older than the last acknowledged.

@@ -6,3 +6,6 @@ returns-clause-blocks c = law.entries_are_local
 
 pub returns-clause-jobs : goal.returns-clause-jobs
 returns-clause-jobs c = law.jobs_split
+
+pub returns-clause-status : goal.returns-clause-status
+returns-clause-status c = law.entries_give_status
