@@ -1,5 +1,4 @@
 pub mod Lists
 pub mod Numerals
 pub mod Places
-pub mod Sent
 pub mod Shapes

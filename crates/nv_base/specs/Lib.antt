@@ -6,11 +6,7 @@ pub mod Geometry
 pub mod History
 pub mod Lengths
 pub mod Marks
-pub mod MemorySink
-pub mod MemorySource
 pub mod Pages
 pub mod Plan
 pub mod Refusal
 pub mod Result
-pub mod Sink
-pub mod Source

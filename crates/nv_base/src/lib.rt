@@ -1,7 +1,6 @@
-//! The words of the memory stack: blocks and their instances, marks, requests, results, the history, the shape of a
-//! flash, and where bytes come from and go to. It promises lists that keep their order and bounds, sums of a shape that
-//! are exact, and sources and sinks whose every fault is counted. What a history may hold, and what a flash does, is
-//! said elsewhere.
+//! The words of the memory stack: blocks and their instances, marks, requests, results, the history and the shape of a
+//! flash. It promises lists that keep their order and bounds, and sums of a shape that are exact. What a history may
+//! hold, and what a flash does, is said elsewhere.
 #![tactic(auto)]
 
 mod alike;
@@ -17,16 +16,10 @@ mod lengths;
 mod mark;
 mod marks;
 mod marks_room;
-mod memory_sink;
-mod memory_source;
 mod pages;
 mod plan;
 mod request;
 mod result;
-mod sink;
-mod source;
-mod std_sink;
-mod std_source;
 
 pub use alike::all_are;
 pub use bytes::{Bytes, bytes_of};
@@ -41,14 +34,8 @@ pub use lengths::{Lengths, are_lengths, lengths_of};
 pub use mark::Mark;
 pub use marks::Marks;
 pub use marks_room::MarksRoom;
-pub use memory_sink::{MemSink, mem_sink};
-pub use memory_source::{MemSource, mem_source};
 pub use pages::record_pages;
 pub use plan::Plan;
 pub use request::{JobKind, Refusal, Reply, Request, refusal_number};
 pub use result::{ReqResult, result_code};
-pub use sink::{Sink, SinkAnswer};
-pub use source::{Source, SourceAnswer};
 pub use std::alloc::AllocFailed;
-pub use std_sink::StdSink;
-pub use std_source::StdSource;

@@ -4,7 +4,7 @@
 
 use fls_devices::FileFlash;
 use fls_model::mem_flash;
-use nv_base::{StdSink, StdSource};
+use nv_streams::{StdSink, StdSource};
 use nvm_top::{Status, command, image_path};
 use std::alloc::AllocError;
 use std::process::ExitCode;

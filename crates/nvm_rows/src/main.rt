@@ -12,7 +12,7 @@ use anyhow::Context;
 use case::Case;
 use fls_devices::FaultScript;
 use fls_model::mem_flash;
-use nv_base::{mem_sink, mem_source};
+use nv_streams::{mem_sink, mem_source};
 use nvm_top::command;
 use show::{show_flash, show_text};
 use std::alloc::AllocError;

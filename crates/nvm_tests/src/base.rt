@@ -1,5 +1,6 @@
 // The words of the stack: its lists, its numbers, and the sources and sinks.
 use nv_base::*;
+use nv_streams::*;
 use std::alloc::Global;
 use std::io;
 use std::io::{Read, Write};

@@ -1,6 +1,6 @@
 // `play` over an image file.
 use fls_devices::FileFlash;
-use nv_base::{MemSink, mem_sink, mem_source};
+use nv_streams::{MemSink, mem_sink, mem_source};
 use nvm_top::command;
 use std::alloc::{AllocError, Global};
 use std::fs;

@@ -1,7 +1,7 @@
 -- The last lines of `play`.
 use Rattle.std.proofs.Common.{◌≡◌, ℕ, List, [], length, take, Option, IfSome, Result, Ok, Err, inl, inr, refl, sym, subst}
 use Rattle.std.specs.Io.KnownBytes.{Appends}
-use Rattle.nv_base.specs.Sink.{AppendsPrefix}
+use Rattle.nv_streams.specs.Sink.{AppendsPrefix}
 use Rattle.nv_base.specs.declared.entry.Entry.{Entry}
 use Rattle.nvm_script.specs.Lines.{end_line}
 use Rattle.nvm_top.specs.Output.{Writes, Prints, BreaksOff, IsEndOf, entries_text, fault_status}

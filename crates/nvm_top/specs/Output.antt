@@ -2,7 +2,7 @@
 use Rattle.std.specs.Prelude.{◌≡◌, ◌⊎◌, ℕ, List, ◌++◌, length, take, Option}
 use Rattle.std.specs.List.{flat_map}
 use Rattle.std.specs.Io.KnownBytes.{Appends}
-use Rattle.nv_base.specs.Sink.{AppendsPrefix}
+use Rattle.nv_streams.specs.Sink.{AppendsPrefix}
 use Rattle.nv_base.specs.declared.entry.Entry.{Entry}
 use Rattle.nvm_script.specs.Lines.{entry_line, end_line}
 use Rattle.nvm_top.specs.declared.status.Status.{Status}

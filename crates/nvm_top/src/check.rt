@@ -17,7 +17,7 @@ use crate::stop::Stop;
 use crate::words::is_check;
 use block_config::Config;
 use fls_model::Flash;
-use nv_base::{Sink, Source};
+use nv_streams::{Sink, Source};
 use std::alloc::Global;
 
 /// Tells whether the first line of the input is a configuration: how many blocks and instances it has, how many pages

@@ -14,7 +14,7 @@ use crate::play::play_command;
 use crate::stop::Stop;
 use crate::words::{CommandKind, command_of};
 use fls_model::Flash;
-use nv_base::{Sink, Source};
+use nv_streams::{Sink, Source};
 use std::alloc::Global;
 use std::sync::Wait;
 use std::thread::Threads;

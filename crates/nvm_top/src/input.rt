@@ -5,7 +5,7 @@ ghost use Rattle.nvm_top.specs.Input.{IsAll};
 ghost use Rattle.nvm_top.specs.Reading.{IsInputStop};
 
 use crate::stop::Stop;
-use nv_base::{Source, SourceAnswer};
+use nv_streams::{Source, SourceAnswer};
 use std::alloc::Global;
 
 /// The most bytes of input that are taken: 16 MiB.

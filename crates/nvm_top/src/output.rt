@@ -2,13 +2,14 @@
 ghost use Rattle.std.specs.Prelude.{◌≡◌, IfErr, OnOk};
 ghost use Rattle.std.specs.Io.KnownBytes.{Appends};
 ghost use Rattle.nv_base.specs.Count.{Rose};
-ghost use Rattle.nv_base.specs.Sink.{AppendsPrefix};
+ghost use Rattle.nv_streams.specs.Sink.{AppendsPrefix};
 ghost use Rattle.nvm_top.specs.Output.{fault_status, IsReport, Writes, BreaksOff, IsEndOf, entries_text};
 ghost use Rattle.nvm_top.specs.Stop.{status_of, IsStop};
 
 use crate::Status;
 use crate::stop::Stop;
-use nv_base::{History, Sink, SinkAnswer};
+use nv_base::History;
+use nv_streams::{Sink, SinkAnswer};
 use nvm_script::{end_text, entry_text};
 use std::alloc::{AllocError, Global};
 

@@ -20,7 +20,8 @@ use crate::stack::{Stack, Turned};
 use crate::stop::Stop;
 use crate::words::is_play;
 use fls_model::{AttachFault, Flash};
-use nv_base::{Geometry, History, Lengths, Reply, Request, Sink, Source};
+use nv_base::{Geometry, History, Lengths, Reply, Request};
+use nv_streams::{Sink, Source};
 use nvm_script::{Step, StepKind, StepList};
 use std::alloc::Global;
 

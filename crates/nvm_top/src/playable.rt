@@ -12,7 +12,8 @@ use crate::configuration::read_config;
 use crate::input::{LIMIT, read_input};
 use crate::stop::Stop;
 use block_config::Config;
-use nv_base::{Request, Source};
+use nv_base::Request;
+use nv_streams::Source;
 use nvm_script::{Mode, ScriptFault, Step, StepKind, StepList, first_line, read_script};
 use std::alloc::Global;
 

@@ -1,7 +1,7 @@
 -- The call that a run belongs to.
 use Rattle.std.specs.Prelude.{◌≡◌, ◌⊎◌, ℕ, List, [], ◌++◌, length, codes, Option, IfSome, Ok}
 use Rattle.std.specs.Io.KnownBytes.{Appends}
-use Rattle.nv_base.specs.Sink.{AppendsPrefix}
+use Rattle.nv_streams.specs.Sink.{AppendsPrefix}
 use Rattle.block_config.specs.Reading.{meaning_of}
 use Rattle.fls_model.specs.Told.{Told}
 use Rattle.nvm_script.specs.declared.script.Mode.{Mode}

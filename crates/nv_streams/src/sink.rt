@@ -1,6 +1,6 @@
 // Where bytes go.
 ghost use Rattle.std.specs.Prelude.{ℕ, List, Option};
-ghost use Rattle.nv_base.specs.Sink.{IsPut, IsFailedPut};
+ghost use Rattle.nv_streams.specs.Sink.{IsPut, IsFailedPut};
 
 /// The answer of a sink: the whole piece was written, or a fault of its own.
 #[derive(Clone, Copy, Debug, PartialEq, Eq)]

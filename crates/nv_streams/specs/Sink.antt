@@ -1,8 +1,8 @@
 -- What a put of a sink does. The bytes written are told or not; from there on they stay told.
 use Rattle.std.specs.Prelude.{◌≡◌, ◌≤◌, ℕ, List, length, take, Option}
 use Rattle.std.specs.Io.KnownBytes.{Appends}
-use Rattle.nv_base.specs.declared.sink.SinkAnswer.{SinkAnswer}
-use Rattle.nv_base.specs.declared.sink.SinkAnswer.TheVariants.{Done, Failed}
+use Rattle.nv_streams.specs.declared.sink.SinkAnswer.{SinkAnswer}
+use Rattle.nv_streams.specs.declared.sink.SinkAnswer.TheVariants.{Done, Failed}
 use Rattle.nv_base.specs.Count.{Rose}
 
 -- the first bytes of a piece were appended, maybe none

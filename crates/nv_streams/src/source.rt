@@ -1,7 +1,7 @@
 // Where bytes come from.
 ghost use Rattle.std.specs.Prelude.{ℕ, List, Option};
-ghost use Rattle.nv_base.specs.Source.{IsGiven, IsFailedTake};
-ghost use Rattle.nv_base.specs.declared.source.SourceAnswer.{SourceAnswer};
+ghost use Rattle.nv_streams.specs.Source.{IsGiven, IsFailedTake};
+ghost use Rattle.nv_streams.specs.declared.source.SourceAnswer.{SourceAnswer};
 
 /// The answer of a source: so many bytes, 0 at the end, or a fault of its own.
 #[derive(Clone, Copy, Debug, PartialEq, Eq)]

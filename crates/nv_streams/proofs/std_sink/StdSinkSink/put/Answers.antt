@@ -1,8 +1,8 @@
 use Rattle.std.proofs.Common.{◌≤◌, length, drop, arith, length-drop}
 use Rattle.std.proofs.lemmas.List.{take_rest}
-use Rattle.nv_base.proofs.Sent.{Appends-more, Appends-kept}
-use Rattle.nv_base.proofs.std_sink.StdSinkSink.put.Goals as goal
-use Rattle.nv_base.proofs.std_sink.StdSinkSink.put.Goals.{in-Ok, in-Err}
+use Rattle.nv_streams.proofs.Sent.{Appends-more, Appends-kept}
+use Rattle.nv_streams.proofs.std_sink.StdSinkSink.put.Goals as goal
+use Rattle.nv_streams.proofs.std_sink.StdSinkSink.put.Goals.{in-Ok, in-Err}
 
 pub loop-preserved : goal.loop-preserved
 loop-preserved g c = elim c.match-write.branch [

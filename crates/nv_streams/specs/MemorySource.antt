@@ -1,7 +1,7 @@
 -- A source in memory.
 use Rattle.std.specs.Prelude.{◌≡◌, ◌↔◌, ℕ, List, Contains, min, length}
-use Rattle.nv_base.specs.declared.source.SourceAnswer.{SourceAnswer}
-use Rattle.nv_base.specs.declared.source.SourceAnswer.TheVariants.{Got, Failed}
+use Rattle.nv_streams.specs.declared.source.SourceAnswer.{SourceAnswer}
+use Rattle.nv_streams.specs.declared.source.SourceAnswer.TheVariants.{Got, Failed}
 use Rattle.nv_base.specs.Count.{next_count}
 
 -- the bytes left, the calls that fail, and the calls and faults so far

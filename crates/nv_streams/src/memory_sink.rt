@@ -1,7 +1,7 @@
 // A sink in memory.
 ghost use Rattle.std.specs.Prelude.{◌≡◌, false, ℕ, List, [], Option, Some, IfOk};
-ghost use Rattle.nv_base.specs.Sink.{IsPut, IsFailedPut};
-ghost use Rattle.nv_base.specs.MemorySink.{FailsAsListed};
+ghost use Rattle.nv_streams.specs.Sink.{IsPut, IsFailedPut};
+ghost use Rattle.nv_streams.specs.MemorySink.{FailsAsListed};
 
 use crate::{Sink, SinkAnswer};
 use std::alloc::{AllocError, Global};
@@ -20,7 +20,7 @@ pub struct MemSink {
 }
 
 impl Model for MemSink {
-    ghost use Rattle.nv_base.specs.MemorySink.{SinkInMemory};
+    ghost use Rattle.nv_streams.specs.MemorySink.{SinkInMemory};
 
     ghost Value = { SinkInMemory };
 

@@ -1,7 +1,7 @@
 -- A sink in memory.
 use Rattle.std.specs.Prelude.{◌≡◌, ◌↔◌, ◌⊎◌, ℕ, Bool, true, List, Contains}
-use Rattle.nv_base.specs.declared.sink.SinkAnswer.{SinkAnswer}
-use Rattle.nv_base.specs.declared.sink.SinkAnswer.TheVariants.{Failed}
+use Rattle.nv_streams.specs.declared.sink.SinkAnswer.{SinkAnswer}
+use Rattle.nv_streams.specs.declared.sink.SinkAnswer.TheVariants.{Failed}
 use Rattle.nv_base.specs.Count.{next_count}
 
 -- the bytes written, the calls that fail, the calls and faults so far, and whether the last call found no memory

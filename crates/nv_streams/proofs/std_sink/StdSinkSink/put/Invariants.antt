@@ -1,6 +1,6 @@
 use Rattle.std.proofs.Common.{◌≡◌, ◌≤◌, length, take}
 use Rattle.std.specs.Io.KnownBytes.{Appends}
-use Rattle.nv_base.proofs.std_sink.StdSinkSink.put.Given as goal
+use Rattle.nv_streams.proofs.std_sink.StdSinkSink.put.Given as goal
 
 -- the first `at` bytes of the piece were appended, with no fault
 abbrev pub invariant-loop : goal.invariant-loop

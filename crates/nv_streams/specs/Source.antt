@@ -1,8 +1,8 @@
 -- What a take of a source does. The bytes left are told or not; from there on they stay told.
 use Rattle.std.specs.Prelude.{◌≡◌, ◌<◌, ◌≤◌, ℕ, List, length, take, Option}
 use Rattle.std.specs.Io.KnownBytes.{Consumes, Keeps, IsAtEnd}
-use Rattle.nv_base.specs.declared.source.SourceAnswer.{SourceAnswer}
-use Rattle.nv_base.specs.declared.source.SourceAnswer.TheVariants.{Got, Failed}
+use Rattle.nv_streams.specs.declared.source.SourceAnswer.{SourceAnswer}
+use Rattle.nv_streams.specs.declared.source.SourceAnswer.TheVariants.{Got, Failed}
 use Rattle.nv_base.specs.Count.{Rose}
 
 -- the first n bytes of the piece are the next ones, none for a nonempty piece only at the end, and no fault came

@@ -1,7 +1,7 @@
 // A source in memory.
 ghost use Rattle.std.specs.Prelude.{◌≡◌, ℕ, List, Option, Some, IfOk, length};
-ghost use Rattle.nv_base.specs.Source.{IsGiven, IsFailedTake};
-ghost use Rattle.nv_base.specs.MemorySource.{FailsAsListed};
+ghost use Rattle.nv_streams.specs.Source.{IsGiven, IsFailedTake};
+ghost use Rattle.nv_streams.specs.MemorySource.{FailsAsListed};
 
 use crate::{Source, SourceAnswer};
 use std::alloc::{AllocError, Global};
@@ -20,7 +20,7 @@ pub struct MemSource {
 
 impl Model for MemSource {
     ghost use Rattle.std.specs.Prelude.{◌≤◌, drop, vec_len};
-    ghost use Rattle.nv_base.specs.MemorySource.{SourceInMemory};
+    ghost use Rattle.nv_streams.specs.MemorySource.{SourceInMemory};
 
     ghost Value = { SourceInMemory };
 

@@ -1,6 +1,6 @@
 use Rattle.std.proofs.Common.{◌≡◌, length}
 use Rattle.std.specs.Io.KnownBytes.{Keeps}
-use Rattle.nv_base.proofs.std_source.StdSourceSource.take.Given as goal
+use Rattle.nv_streams.proofs.std_source.StdSourceSource.take.Given as goal
 
 -- nothing was taken, and no fault came
 abbrev pub invariant-loop : goal.invariant-loop

@@ -1,0 +1,18 @@
+//! Where the stack's bytes come from and where they go to: traits of a source and of a sink, with those of std and of
+//! memory. It promises that each gives or takes the bytes in order, and that its every fault is counted. What the bytes
+//! mean is said elsewhere.
+#![tactic(auto)]
+
+mod memory_sink;
+mod memory_source;
+mod sink;
+mod source;
+mod std_sink;
+mod std_source;
+
+pub use memory_sink::{MemSink, mem_sink};
+pub use memory_source::{MemSource, mem_source};
+pub use sink::{Sink, SinkAnswer};
+pub use source::{Source, SourceAnswer};
+pub use std_sink::StdSink;
+pub use std_source::StdSource;
