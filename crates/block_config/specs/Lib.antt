@@ -1,3 +1,4 @@
+pub mod Banks
 pub mod Block
 pub mod Config
 pub mod Content

@@ -4,7 +4,7 @@ use Rattle.std.specs.List.{range_with_len}
 use Rattle.std.specs.Str.{bytes_eq, is_utf8}
 use Rattle.serde_json.specs.Data.{Data}
 use Rattle.serde_json.specs.Read.{read as json_value}
-use Rattle.nv_base.specs.Geometry.{bank_pages_of}
+use Rattle.block_config.specs.Banks.{bank_pages_of}
 use Rattle.block_config.specs.declared.fault.ConfigFault.{ConfigFault}
 use Rattle.block_config.specs.declared.fault.ConfigFault.TheVariants.{Broken}
 use Rattle.block_config.specs.declared.head.Head.{Head}

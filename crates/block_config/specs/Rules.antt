@@ -1,7 +1,8 @@
 -- The rules of a configuration, by their numbers, as facts on its numbers and blocks. The rules on the text that it is
 -- read from stand in Reading (1, 23 and 24), Head (2 to 10) and Item (11 to 22).
 use Rattle.std.specs.Prelude.{◌≡◌, ℕ, ◌+◌, ◌*◌, ◌≤◌, Bool, false, List, [], ◌∷◌, length, Option, Some, None, All}
-use Rattle.nv_base.specs.Geometry.{IsLegal, bank_pages_of}
+use Rattle.nv_base.specs.Geometry.{IsLegal}
+use Rattle.block_config.specs.Banks.{bank_pages_of}
 use Rattle.block_config.specs.declared.block.BlockDesc.{BlockDesc}
 use Rattle.block_config.specs.declared.block.BlockKind.{BlockKind}
 use Rattle.block_config.specs.declared.block.BlockKind.TheVariants.{Native, Redundant, Dataset}

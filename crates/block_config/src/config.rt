@@ -1,6 +1,7 @@
 // The configuration.
 ghost use Rattle.std.specs.Prelude.{◌≡◌, ◌≤◌, ◌<◌, ◌⊎◌, ◌↔◌, length, IsNone, IfOk, IfSome, option_copied};
-ghost use Rattle.nv_base.specs.Geometry.{IsLegal, bank_pages_of};
+ghost use Rattle.nv_base.specs.Geometry.{IsLegal};
+ghost use Rattle.block_config.specs.Banks.{bank_pages_of};
 ghost use Rattle.block_config.specs.Block.{manager_block};
 ghost use Rattle.block_config.specs.Config.{block_of};
 ghost use Rattle.block_config.specs.Sizes.{measures_of};
@@ -11,7 +12,7 @@ ghost use Rattle.block_config.specs.Lengths.{lengths_of};
 use crate::head::{Head, broken};
 use crate::lengths::add_block;
 use crate::sizes::{Measures, measures_of};
-use crate::{BlockDesc, ConfigFault};
+use crate::{BANKS, BlockDesc, ConfigFault};
 use nv_base::{Geometry, Lengths};
 use std::alloc::{AllocError, Global};
 use std::marker::Model;
@@ -186,5 +187,5 @@ fn bank_pages(geometry: Geometry) -> u32
     requires { IsLegal geometry }
     ensures { result ≡ bank_pages_of geometry }
 {
-    geometry.sector * geometry.sectors / 2 / geometry.page
+    geometry.bank_pages(BANKS)
 }

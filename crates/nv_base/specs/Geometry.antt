@@ -24,10 +24,6 @@ size_of_bank g banks = g.sectors / banks * g.sector
 abbrev pub address_of_page : Geometry → ℕ → ℕ → ℕ → ℕ
 address_of_page g banks bank page = (bank * pages_of_bank g banks + page) * g.page
 
--- pages of one of two banks
-abbrev pub bank_pages_of : Geometry → ℕ
-bank_pages_of g = pages_of_bank g 2
-
 -- LEGAL SHAPES
 pub record IsPageSize (page : ℕ) : Type 0 where
   pub size : Contains (16 ∷ 32 ∷ 64 ∷ 128 ∷ 256 ∷ []) page

@@ -1,8 +1,9 @@
 -- The device of one bank.
-use Rattle.std.specs.Prelude.{◌≡◌, ◌<◌, ◌≤◌, ◌+◌, ◌*◌, ◌/◌, ℕ, Option, Some, None, IfSome, Contains}
+use Rattle.std.specs.Prelude.{◌≡◌, ◌<◌, ◌≤◌, ◌+◌, ℕ, Option, Some, None, IfSome, Contains}
 use Rattle.nv_base.specs.Count.{Rose}
-use Rattle.nv_base.specs.Geometry.{IsLegal, sectors_of_bank}
+use Rattle.nv_base.specs.Geometry.{IsLegal, sectors_of_bank, size_of_bank}
 use Rattle.nv_base.specs.declared.geometry.Geometry.{Geometry}
+use Rattle.block_config.specs.Banks.{bank_count}
 use Rattle.fls_model.specs.Told.{Told}
 use Rattle.fee_log.specs.declared.work.Work.{Work}
 use Rattle.fee_log.specs.Log.{LogState}
@@ -25,9 +26,9 @@ IsWorkOf (Some write) (Some work) = work.head ≡ record { number = write.number
 pub record IsKept (s : BankState) : Type 0 where
   pub legal : IsLegal s.log.geometry
   pub attached : s.told.geometry ≡ s.log.geometry
-  pub banks : s.log.banks ≡ 2
+  pub banks : s.log.banks ≡ bank_count
   pub bank : s.log.bank ≡ 0
-  pub format : IfSome s.format (λ done. done < sectors_of_bank s.log.geometry 2 + 2)
+  pub format : IfSome s.format (λ done. done < sectors_of_bank s.log.geometry bank_count + 2)
   pub configured : IfSome s.write (λ w. Contains s.log.numbers (w.number, w.length))
   pub length : IfSome s.write (λ w. w.length ≤ 4096)
   pub work : IsWorkOf s.write s.log.work
@@ -39,7 +40,7 @@ pub record GoesOn (s t : BankState) : Type 0 where
 
 -- bytes of one bank
 abbrev pub bank_size_of : Geometry → ℕ
-bank_size_of g = g.sectors / 2 * g.sector
+bank_size_of g = size_of_bank g bank_count
 
 -- the memory beside the log: a bank's bytes, a body's and a content's
 pub record HasRoom (log : LogState) (g : Geometry) (image body data' : ℕ) : Type 0 where

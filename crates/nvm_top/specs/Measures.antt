@@ -1,7 +1,7 @@
 -- The measures of a configuration.
 use Rattle.std.specs.Prelude.{◌≡◌, ℕ, List, ◌++◌, length, codes}
 use Rattle.std.specs.Fmt.{decimal}
-use Rattle.nv_base.specs.Geometry.{bank_pages_of}
+use Rattle.block_config.specs.Banks.{bank_pages_of}
 use Rattle.block_config.specs.Config.{Configuration}
 use Rattle.block_config.specs.Rules.{need_pages_of}
 use Rattle.block_config.specs.Sizes.{measures_of}

@@ -1,13 +1,15 @@
 // The device of one bank: marks of configured numbers, one flash call a turn.
 ghost use Rattle.std.specs.Prelude.{◌≡◌, ◌≤◌, ◌<◌, ◌+◌, ◌*◌, IsSome, IfOk, IfErr, OnOk, OnErr, Err, None, Some, Contains, length, vec_len, true, false};
 ghost use Rattle.nv_base.specs.Count.{Rose};
-ghost use Rattle.nv_base.specs.Geometry.{IsLegal, bank_pages_of, size_of};
+ghost use Rattle.nv_base.specs.Geometry.{IsLegal, size_of};
 ghost use Rattle.nv_base.specs.Marks.{next_or};
+ghost use Rattle.block_config.specs.Banks.{bank_count, bank_pages_of};
 ghost use Rattle.fls_model.specs.Attach.{IsAttach};
 ghost use Rattle.nv_base.specs.Pages.{record_pages_of};
 ghost use Rattle.fee_log.specs.Log.{erased_log};
 ghost use Rattle.nvm_top.specs.Bank.{GoesOn, ReadsOnly, IsReadFault, bank_size_of};
 
+use block_config::BANKS;
 use fee_format::pages_of;
 use fee_log::{Format, FormatStep, Log, LogStep, Place, bank_stands};
 use fls_model::{AttachFault, Flash, FlashAnswer};
@@ -101,7 +103,7 @@ fn read_bank<F: Flash>(
     ensures cause { IfErr result (λ fault. fault ≡ StartFault.Failed) }
 {
     let size = geometry.sector;
-    for sector in 0..geometry.sectors / 2 {
+    for sector in 0..geometry.sectors / BANKS {
         let from = sector * size;
         let piece = &mut image[from as usize..(from + size) as usize];
         match flash.read(from, piece) {
@@ -205,7 +207,7 @@ impl<F: Flash> BankDevice<F> {
         self.flash.power_on();
         read_bank(&mut self.flash, self.geometry, &mut self.image)?;
         self.write = None;
-        let bank = &self.image[..self.geometry.bank_size(2) as usize];
+        let bank = &self.image[..self.geometry.bank_size(BANKS) as usize];
         if bank_stands(bank, self.geometry.page) {
             self.log.load(Some(bank));
             self.format = None;
@@ -341,7 +343,7 @@ impl<F: Flash> BankDevice<F> {
             unreachable!();
         };
         self.ops = self.ops.saturating_add(1);
-        match format.step(&mut self.flash, self.geometry, 2, 0, 1) {
+        match format.step(&mut self.flash, self.geometry, BANKS, 0, 1) {
             FormatStep::More => WriteTurn::More,
             FormatStep::Done => {
                 self.format = None;
@@ -399,11 +401,11 @@ fn room_of(
     geometry: Geometry,
 ) -> Result<(Log, Vec<u8>, Vec<u8>, Vec<u8>), AllocError>
     requires { IsLegal geometry }
-    ensures { IfOk result (λ r. (r.0 ≡ erased_log geometry 2 0 numbers.now) × (vec_len r.1 ≡ bank_size_of geometry) × (vec_len r.2 ≡ 4096) × (vec_len r.3 ≡ 4096)) }
+    ensures { IfOk result (λ r. (r.0 ≡ erased_log geometry bank_count 0 numbers.now) × (vec_len r.1 ≡ bank_size_of geometry) × (vec_len r.2 ≡ 4096) × (vec_len r.3 ≡ 4096)) }
 {
     Ok((
-        Log::make(alloc, numbers, geometry, 0, 2)?,
-        vec![in alloc; 0; geometry.bank_size(2) as usize]?,
+        Log::make(alloc, numbers, geometry, 0, BANKS)?,
+        vec![in alloc; 0; geometry.bank_size(BANKS) as usize]?,
         vec![in alloc; 0; MOST]?,
         vec![in alloc; 0; MOST]?,
     ))
