@@ -1,5 +1,5 @@
 -- From the words of a device to the bytes of its flash.
-use Rattle.std.specs.Prelude.{◌≡◌, ◌⊎◌, ◌<◌, ◌≤◌, ◌+◌, ℕ, min, Bool, true, false, IsTrue, List, length, drop, unwrap_or}
+use Rattle.std.specs.Prelude.{◌≡◌, ◌⊎◌, ◌<◌, ◌≤◌, ◌+◌, ℕ, min, Bool, true, false, IsTrue, List, length, drop, unwrap_or, IfSome}
 use Rattle.std.specs.List.{list_all}
 use Rattle.nv_base.specs.Count.{last_count, Rose, WereCounted}
 use Rattle.nv_base.specs.Pages.{record_pages_of}
@@ -8,7 +8,7 @@ use Rattle.nv_base.specs.declared.instance.DeviceNumber.{DeviceNumber}
 use Rattle.memif.specs.Told.{PartTold, length_of}
 use Rattle.memif.specs.Clock.{PartClock, After, CutIn}
 use Rattle.fls_model.specs.Op.{Op, Program, Erase}
-use Rattle.fls_model.specs.Attach.{IfTold}
+use Rattle.fls_model.specs.Told.{bytes_now}
 use Rattle.device_bridge.specs.Image.{IsSoundFlash, held_in, IsOfLastGeneration, HasNoRoomFor}
 use Rattle.device_bridge.specs.FlashRun.{FlashRun, TellsBytes, TellsOperations, StartsSound, IsCutImage, bytes_after, AreOperations}
 
@@ -30,18 +30,18 @@ wanted_pages m n = record_pages_of (unwrap_or (length_of m.numbers n) 0) m.geome
 -- Once k operations were made a device is worn out for a number, which it stays: the active bank has the last generation,
 -- at the end still, nothing is erased from then on, and a record has no room, or a fault was counted that closed the bank.
 pub record IsWornOut (m : Making) (f : FlashRun) (k n : ℕ) : Type 0 where
-  pub last : IfTold f.exit.bytes (IsOfLastGeneration m.geometry)
+  pub last : IfSome (bytes_now f.exit) (IsOfLastGeneration m.geometry)
   pub no_erase : k < last_count → IsTrue (list_all (λ x. is_program x.op) (drop k f.operations))
-  pub full : k < last_count → IfTold (bytes_after f k) (HasNoRoomFor (wanted_pages m n) m.geometry) ⊎ Rose f.entry.faults f.exit.faults
+  pub full : k < last_count → IfSome (bytes_after f k) (HasNoRoomFor (wanted_pages m n) m.geometry) ⊎ Rose f.entry.faults f.exit.faults
 
 -- What a device over a flash tells is so: its part before the first start-up and now, its clock now. A `cutter` between
 -- them keeps an operation from the flash where the power goes off in it.
 pub record Bridges (m : Making) (cutter : Bool) (f : FlashRun) (before now : PartTold) (clock : PartClock) : Type 0 where
   -- its maps are those of the images: of the bytes once k operations were made, and of each that a cut may leave
-  pub after : TellsBytes f → StartsSound m.geometry f → (k : ℕ) → k ≤ length f.operations → k < last_count → IfTold (bytes_after f k) (λ image. clock.may_find (After k) (held_in m.geometry m.numbers image))
+  pub after : TellsBytes f → StartsSound m.geometry f → (k : ℕ) → k ≤ length f.operations → k < last_count → IfSome (bytes_after f k) (λ image. clock.may_find (After k) (held_in m.geometry m.numbers image))
   pub cut : TellsOperations f → StartsSound m.geometry f → (k : ℕ) (image : List ℕ) → k < last_count → IsCutImage f k image → clock.may_find (CutIn k) (held_in m.geometry m.numbers image)
   -- a sound image stays sound
-  pub sound : TellsBytes f → StartsSound m.geometry f → IfTold f.exit.bytes (IsSoundFlash m.geometry)
+  pub sound : TellsBytes f → StartsSound m.geometry f → IfSome (bytes_now f.exit) (IsSoundFlash m.geometry)
   pub sound_cut : TellsOperations f → StartsSound m.geometry f → (k : ℕ) (image : List ℕ) → k < last_count → IsCutImage f k image → IsSoundFlash m.geometry image
   -- its operations are the run's
   pub operations : AreOperations m.geometry f (λ k. IsTrue cutter × clock.off_in k)

@@ -1,12 +1,11 @@
 -- A run of a flash: what it tells, and the changing operations that it was asked for.
-use Rattle.std.specs.Prelude.{◌≡◌, ◌⊎◌, ◌+◌, ℕ, List, [], ◌∷◌, length, slice_get, Option, Some}
+use Rattle.std.specs.Prelude.{◌≡◌, ◌⊎◌, ◌+◌, ℕ, List, [], ◌∷◌, length, slice_get, Option, Some, IfSome}
 use Rattle.std.specs.Option.{option_map_or}
 use Rattle.nv_base.specs.declared.geometry.Geometry.{Geometry}
 use Rattle.fls_model.specs.declared.flash.FlashAnswer.{FlashAnswer}
 use Rattle.fls_model.specs.declared.flash.FlashAnswer.TheVariants.{Done}
 use Rattle.fls_model.specs.Op.{Op, Program, Erase, after_op, MayLeave}
-use Rattle.fls_model.specs.Told.{Told, Change, AreToldAlike}
-use Rattle.fls_model.specs.Attach.{IfTold}
+use Rattle.fls_model.specs.Told.{Told, Change, IfBothTold, bytes_now, changes_in}
 use Rattle.device_bridge.specs.Image.{attached, IsSoundFlash}
 
 pub record FlashRun : Type 0 where
@@ -18,7 +17,7 @@ pub record FlashRun : Type 0 where
 
 -- the bytes once n operations were made, until the next one begins
 abbrev pub bytes_after : FlashRun → ℕ → Option (List ℕ)
-bytes_after f n = option_map_or (λ x. Some x.before) (slice_get f.operations n) f.exit.bytes
+bytes_after f n = option_map_or (λ x. Some x.before) (slice_get f.operations n) (bytes_now f.exit)
 
 -- an image that a power cut before or within operation k may leave, numbered from 0
 abbrev pub IsCutImage : FlashRun → ℕ → List ℕ → Type 0
@@ -27,18 +26,18 @@ IsCutImage f k image = (x : Change) × (slice_get f.operations k ≡ Some x) × 
 -- PREMISES
 pub record TellsBytes (f : FlashRun) : Type 0 where
   pub first : List ℕ
-  pub entry : f.entry.bytes ≡ Some first
+  pub entry : bytes_now f.entry ≡ Some first
   pub last : List ℕ
-  pub exit : f.exit.bytes ≡ Some last
+  pub exit : bytes_now f.exit ≡ Some last
 
 pub record TellsOperations (f : FlashRun) : Type 0 where
   pub bytes : TellsBytes f
   pub changes : List Change
-  pub told : f.exit.changes ≡ Some changes
+  pub told : changes_in f.exit.bytes ≡ Some changes
 
 -- the image at the entry is sound
 abbrev pub StartsSound : Geometry → FlashRun → Type 0
-StartsSound g f = IfTold f.entry.bytes (IsSoundFlash g)
+StartsSound g f = IfSome (bytes_now f.entry) (IsSoundFlash g)
 
 -- OPERATIONS AND BYTES
 -- an operation with this answer leaves these bytes: it was done, or left what a cut within it may leave
@@ -76,6 +75,6 @@ AreSeen kept k last (x ∷ xs) (y ∷ ys) =
 
 -- The operations are the run's own. `kept` says which were kept from the flash.
 pub record AreOperations (g : Geometry) (f : FlashRun) (kept : ℕ → Type 0) : Type 0 where
-  pub told_alike : AreToldAlike f.entry.bytes f.exit.bytes
+  pub told_alike : IfBothTold f.entry.bytes f.exit.bytes (λ first last. Unit {0})
   pub chain : (t : TellsBytes f) → IsChain (attached g t.first) f.operations t.last
   pub seen : (t : TellsOperations f) → AreSeen kept 0 t.bytes.last f.operations t.changes

@@ -15,9 +15,9 @@ abbrev pub IsStaged : LogState → Work → List ℕ → ℕ → List ℕ → Li
 IsStaged s w body k bytes records = Staged (bank_of s) bytes records s.end w.head body k
 
 -- whatever a cut of this change may leave, each number has its old mark or, at the record's last page, the new one
-abbrev pub KeepsMarks : LogState → Work → List ℕ → Option (List ℕ) → Change → Type 0
+abbrev pub KeepsMarks : LogState → Work → List ℕ → List ℕ → Change → Type 0
 KeepsMarks s w body bytes c =
-    (bytes ≡ Some c.before)
+    (c.before ≡ bytes)
     × ((records : List Rec) → IsStaged s w body w.done c.before records → (image : List ℕ) → MayLeave c.op c.before image
     → (number length : ℕ) (m : Mark) → IsFound (bank_of s) image number length m
     → IsOldOrNew s.geometry.page records s.end w.head body w.done number length m)
@@ -29,9 +29,7 @@ AddsOne P None (Some new) = ⊥
 AddsOne P old None = Unit {0}
 
 -- one page more of the record stands
-abbrev pub GoesOn : LogState → Work → List ℕ → Option (List ℕ) → Option (List ℕ) → Type 0
-GoesOn s w body (Some old) (Some new) =
+abbrev pub GoesOn : LogState → Work → List ℕ → List ℕ → List ℕ → Type 0
+GoesOn s w body old new =
     (records : List Rec) → IsStaged s w body w.done old records → length old ≡ size_of s.geometry
     → IsStaged s w body (w.done + 1) new records × (length new ≡ length old)
-GoesOn s w body None None = Unit {0}
-GoesOn s w body old new = ⊥

@@ -3,7 +3,7 @@ ghost use Rattle.std.specs.Prelude.{◌≡◌, ◌↔◌, ◌≤◌, ◌<◌, �
 ghost use Rattle.std.specs.Option.{ForSome};
 ghost use Rattle.nv_base.specs.Count.{Rose};
 ghost use Rattle.nv_base.specs.Geometry.{IsLegal, HasBanks, size_of};
-ghost use Rattle.fls_model.specs.Told.{HasPage};
+ghost use Rattle.fls_model.specs.Told.{HasPage, IfBothTold};
 ghost use Rattle.nv_base.specs.Pages.{record_pages_of};
 ghost use Rattle.fls_model.specs.Step.{IsStep, programs};
 ghost use Rattle.fee_format.specs.RecHead.{IsLegalRecHead};
@@ -228,8 +228,8 @@ impl Log {
         ensures last { IfSome self.old.work (λ w. IsStepAt self.old.geometry.page w result) }
         ensures log { self.new ≡ after_step self.old result }
         ensures attached { (F.told flash.new).geometry ≡ self.old.geometry }
-        ensures cuts { (F.told flash.old).off ≡ false → IfSome self.old.work (λ w. AddsOne (KeepsMarks self.old w body.now (F.told flash.old).bytes) (F.told flash.old).changes (F.told flash.new).changes) }
-        ensures stands { flash_answer_of result ≡ FlashAnswer.Done → IfSome self.old.work (λ w. GoesOn self.old w body.now (F.told flash.old).bytes (F.told flash.new).bytes) }
+        ensures cuts { (F.told flash.old).off ≡ false → IfSome self.old.work (λ w. IfBothTold (F.told flash.old).bytes (F.told flash.new).bytes (λ o n. AddsOne (KeepsMarks self.old w body.now o.now) o.changes n.changes)) }
+        ensures stands { flash_answer_of result ≡ FlashAnswer.Done → IfSome self.old.work (λ w. IfBothTold (F.told flash.old).bytes (F.told flash.new).bytes (λ o n. GoesOn self.old w body.now o.now n.now)) }
         ensures failed { result ≡ Failed → Rose (F.told flash.old).faults (F.told flash.new).faults }
         ensures off { result ≡ Off → (F.told flash.new).off ≡ true }
     {

@@ -1,88 +1,96 @@
 -- steps of a flash over another one
 use Rattle.std.proofs.Common.{◌≡◌, ◌≤◌, ℕ, ◌+◌, Bool, true, false, List, [], ◌∷◌, ◌++◌, length, Some, None, inl, inr, refl, ap, ◌∙◌, subst, arith}
-use Rattle.std.specs.Prelude.{Option}
+use Rattle.std.specs.Prelude.{Option, IfSome, option_map}
 use Rattle.std.proofs.lemmas.Bool.{cases_Bool, cases_lt}
 use Rattle.std.proofs.lemmas.List.{length_push}
 use Rattle.nv_base.specs.Count.{Rose, last_count, next_count}
 use Rattle.fls_model.specs.declared.flash.FlashAnswer.{FlashAnswer}
 use Rattle.fls_model.specs.declared.flash.FlashAnswer.TheVariants.{Done, Failed, Off}
 use Rattle.nv_base.specs.Plan.{Planning}
-use Rattle.fls_model.specs.Told.{Told, Change, AreToldAlike, IfBothTold}
+use Rattle.fls_model.specs.Told.{Told, ToldBytes, Change, IfBothTold, changes_in}
 use Rattle.fls_model.specs.Op.{Op, MayLeave}
 use Rattle.nv_base.specs.declared.geometry.Geometry.{Geometry}
 use Rattle.fls_model.specs.Call.{op_of}
-use Rattle.fls_model.specs.Step.{IsStep, IsAsked, OffOrAsked, Notes, HasCause, Leaves}
+use Rattle.fls_model.specs.Step.{IsStep, IsAsked, IsChanged, OffOrAsked, Notes, HasCause, Leaves}
 use Rattle.fls_devices.specs.declared.journal.Event.{Event}
 use Rattle.fls_devices.specs.declared.part.Harm.{Harm}
 use Rattle.fls_devices.specs.declared.part.Harm.TheVariants.{Cut, Fault}
-use Rattle.fls_devices.specs.Journal.{Journaled, merged, all_changes, Passes, Adds}
+use Rattle.fls_devices.specs.Journal.{Journaled, change_of, merged, all_changes, bytes_over, Passes, Adds}
 use Rattle.fls_devices.specs.Part.{part_of, harmed, cuts_after, faults_after, off_of}
 use Rattle.fls_devices.specs.Overlay.{Overlaid, IsOverlaid, IsAskedOver, FitsChanges, told_over, span, reached_count}
 use Rattle.fls_devices.proofs.Merging.{merged_pass, merged_withheld, merged_reached}
 use Rattle.fls_devices.proofs.Parts.{part_within, may_stay}
 
 -- THE LIST OF CHANGES
-notes_none : (op : Op) (a : FlashAnswer) (b : Option (List ℕ)) (c : Option (List Change)) → Notes op a b c None
-notes_none op a None c = tt
-notes_none op a (Some x) None = tt
-notes_none op a (Some x) (Some y) = tt
+notes_none : (change : Change) (c : Option (List Change)) → Notes change c None
+notes_none change None = tt
+notes_none change (Some cs) = tt
 
-abbrev FitsBy : Option (List Change) → ℕ → Type 0
-FitsBy (Some cs) n = length cs ≡ n
-FitsBy None n = Unit {0}
+told_pass : (g : Geometry) (change : Change) (es : List Event) (k : ℕ) (now later : List ℕ) (c c' : Option (List Change)) → change.before ≡ now → Notes change c c' → IfSome c (λ cs. length cs ≡ span es + k)
+    → Notes change (option_map (λ cs. merged g es cs now) c) (option_map (λ cs. merged g es cs later) c')
+told_pass g change es k now later c None is notes fits = notes_none change (option_map (λ cs. merged g es cs now) c)
+told_pass g change es k now later None (Some cs') is notes fits = absurd notes
+told_pass g change es k now later (Some cs) (Some cs') is notes fits = ap (λ (l : List Change). merged g es l later) notes ∙ merged_pass g es cs change now later k fits is
 
-fits_by : (j : Journaled) (c : Option (List Change)) → FitsChanges j c → FitsBy c (span j.events + j.since)
-fits_by j (Some cs) fits = fits
-fits_by j None fits = tt
+told_withheld : (g : Geometry) (es : List Event) (e : Event) (now : List ℕ) (c : Option (List Change)) → e.reached ≡ false → IfSome c (λ cs. length cs ≡ span es + e.since)
+    → Notes (change_of g e now) (option_map (λ cs. merged g es cs now) c) (option_map (λ cs. merged g (es ++ e ∷ []) cs now) c)
+told_withheld g es e now None not fits = tt
+told_withheld g es e now (Some cs) not fits = merged_withheld g es cs e now fits not
 
-told_pass : (g : Geometry) (op : Op) (a : FlashAnswer) (es : List Event) (k : ℕ) (b b' : Option (List ℕ)) (c c' : Option (List Change)) → AreToldAlike b b' → Notes op a b c c' → FitsBy c (span es + k) → Notes op a b (all_changes true g es b c) (all_changes true g es b' c')
-told_pass g op a es k None None c c' alike notes fits = tt
-told_pass g op a es k None (Some x) c c' alike notes fits = absurd alike
-told_pass g op a es k (Some x) None c c' alike notes fits = absurd alike
-told_pass g op a es k (Some now) (Some later) None None alike notes fits = tt
-told_pass g op a es k (Some now) (Some later) None (Some y) alike notes fits = absurd notes
-told_pass g op a es k (Some now) (Some later) (Some cs) None alike notes fits = tt
-told_pass g op a es k (Some now) (Some later) (Some cs) (Some cs') alike notes fits =
-    ap (λ (l : List Change). merged g es l later) notes ∙ merged_pass g es cs (record { op = op; before = now; answer = a }) now later k fits refl
+told_reached : (g : Geometry) (part : Change) (es : List Event) (e : Event) (now later : List ℕ) (c c' : Option (List Change)) → e.reached ≡ true → part.before ≡ now → Notes part c c' → IfSome c (λ cs. length cs ≡ span es + e.since)
+    → Notes (change_of g e now) (option_map (λ cs. merged g es cs now) c) (option_map (λ cs. merged g (es ++ e ∷ []) cs later) c')
+told_reached g part es e now later c None true_is is notes fits = notes_none (change_of g e now) (option_map (λ cs. merged g es cs now) c)
+told_reached g part es e now later None (Some cs') true_is is notes fits = absurd notes
+told_reached g part es e now later (Some cs) (Some cs') true_is is notes fits = ap (λ (l : List Change). merged g (es ++ e ∷ []) l later) notes ∙ merged_reached g es cs e part now later fits true_is is
 
-told_withheld : (g : Geometry) (op : Op) (a : FlashAnswer) (es : List Event) (e : Event) (b : Option (List ℕ)) (c : Option (List Change)) → op_of g e.call ≡ op → e.answer ≡ a → e.reached ≡ false → FitsBy c (span es + e.since) → Notes op a b (all_changes true g es b c) (all_changes true g (es ++ e ∷ []) b c)
-told_withheld g op a es e None c is answered not fits = tt
-told_withheld g op a es e (Some now) None is answered not fits = tt
-told_withheld g op a es e (Some now) (Some cs) is answered not fits =
-    merged_withheld g es cs e now fits not ∙ (λ i. merged g es cs now ++ record { op = is i; before = now; answer = answered i } ∷ [])
+-- THE BYTES WITH THE LIST
+-- what an event's operation is told as
+told_as : (g : Geometry) (op : Op) (a : FlashAnswer) (e : Event) (now : List ℕ) → op_of g e.call ≡ op → e.answer ≡ a → change_of g e now ≡ record { op = op; before = now; answer = a }
+told_as g op a e now is answered = λ i. record { op = is i; before = now; answer = answered i }
 
-told_reached : (g : Geometry) (op part : Op) (a inner : FlashAnswer) (es : List Event) (e : Event) (b b' : Option (List ℕ)) (c c' : Option (List Change)) → op_of g e.call ≡ op → e.answer ≡ a → e.reached ≡ true → AreToldAlike b b' → Notes part inner b c c' → FitsBy c (span es + e.since) → Notes op a b (all_changes true g es b c) (all_changes true g (es ++ e ∷ []) b' c')
-told_reached g op part a inner es e None None c c' is answered true_is alike notes fits = tt
-told_reached g op part a inner es e None (Some x) c c' is answered true_is alike notes fits = absurd alike
-told_reached g op part a inner es e (Some x) None c c' is answered true_is alike notes fits = absurd alike
-told_reached g op part a inner es e (Some now) (Some later) None None is answered true_is alike notes fits = tt
-told_reached g op part a inner es e (Some now) (Some later) None (Some y) is answered true_is alike notes fits = absurd notes
-told_reached g op part a inner es e (Some now) (Some later) (Some cs) None is answered true_is alike notes fits = tt
-told_reached g op part a inner es e (Some now) (Some later) (Some cs) (Some cs') is answered true_is alike notes fits =
-    ap (λ (l : List Change). merged g (es ++ e ∷ []) l later) notes
-    ∙ merged_reached g es cs e (record { op = part; before = now; answer = inner }) now later fits true_is refl
-    ∙ (λ i. merged g es cs now ++ record { op = is i; before = now; answer = answered i } ∷ [])
+leaves_harmed : (h : Harm) (a : FlashAnswer) (op : Op) (old new : List ℕ) → MayLeave op old new → Leaves op (harmed h a) old new
+leaves_harmed Cut a op old new may = may
+leaves_harmed Fault Done op old new may = may
+leaves_harmed Fault Failed op old new may = may
+leaves_harmed Fault Off op old new may = may
 
-notes_pass : (g : Geometry) (op : Op) (a : FlashAnswer) (j j' : Journaled) (b b' : Option (List ℕ)) (c c' : Option (List Change)) → Passes j j' → AreToldAlike b b' → Notes op a b c c' → (j.kept ≡ true → FitsChanges j c) → Notes op a b (all_changes j.kept g j.events b c) (all_changes j'.kept g j'.events b' c')
-notes_pass g op a j j' b b' c c' passes alike notes fits =
-    elim (cases_Bool j'.kept) [
-      | inl e ↦ rw (e, passes.kept e, passes.events) (told_pass g op a j.events j.since b b' c c' alike notes (fits_by j c (fits (passes.kept e))))
-      | inr e ↦ rw e (notes_none op a b (all_changes j.kept g j.events b c))
-    ]
+over_pass : (g : Geometry) (op : Op) (a : FlashAnswer) (j j' : Journaled) (b b' : Option ToldBytes) → Passes j j' → IfBothTold b b' (IsChanged op a) → (j.kept ≡ true → FitsChanges j (changes_in b)) → IfBothTold (bytes_over j g b) (bytes_over j' g b') (IsChanged op a)
+over_pass g op a j j' None None passes changed fits = tt
+over_pass g op a j j' None (Some y) passes changed fits = absurd changed
+over_pass g op a j j' (Some x) None passes changed fits = absurd changed
+over_pass g op a j j' (Some x) (Some y) passes changed fits =
+    let change : Change = record { op = op; before = x.now; answer = a } in
+    let notes : Notes change (all_changes j.kept g j.events x) (all_changes j'.kept g j'.events y) = elim (cases_Bool j'.kept) [
+      | inl e ↦ rw (e, passes.kept e, passes.events) (told_pass g change j.events j.since x.now y.now x.changes y.changes refl changed.changes (fits (passes.kept e)))
+      | inr e ↦ rw e (notes_none change (all_changes j.kept g j.events x))
+    ] in
+    record { bytes = changed.bytes; within = changed.within; changes = notes }
 
-notes_withheld : (g : Geometry) (op : Op) (a : FlashAnswer) (j j' : Journaled) (e : Event) (b : Option (List ℕ)) (c : Option (List Change)) → Adds e j j' → op_of g e.call ≡ op → e.answer ≡ a → e.since ≡ j.since → e.reached ≡ false → (j.kept ≡ true → FitsChanges j c) → Notes op a b (all_changes j.kept g j.events b c) (all_changes j'.kept g j'.events b c)
-notes_withheld g op a j j' e b c adds is answered since not fits =
-    elim (cases_Bool j'.kept) [
-      | inl y ↦ rw (y, adds.kept y, adds.events y) (told_withheld g op a j.events e b c is answered not (rw since (fits_by j c (fits (adds.kept y)))))
-      | inr y ↦ rw y (notes_none op a b (all_changes j.kept g j.events b c))
-    ]
+over_withheld : (g : Geometry) (op : Op) (h : Harm) (j j' : Journaled) (e : Event) (b : Option ToldBytes) → Adds e j j' → op_of g e.call ≡ op → e.answer ≡ harmed h Done → e.since ≡ j.since → e.reached ≡ false → (j.kept ≡ true → FitsChanges j (changes_in b))
+    → IfBothTold (bytes_over j g b) (bytes_over j' g b) (IsChanged op (harmed h Done))
+over_withheld g op h j j' e None adds is answered since not fits = tt
+over_withheld g op h j j' e (Some x) adds is answered since not fits =
+    let change : Change = record { op = op; before = x.now; answer = harmed h Done } in
+    let notes : Notes change (all_changes j.kept g j.events x) (all_changes j'.kept g j'.events x) = elim (cases_Bool j'.kept) [
+      | inl y ↦ rw (y, adds.kept y, adds.events y) (rw (← told_as g op (harmed h Done) e x.now is answered) (told_withheld g j.events e x.now x.changes not (rw since (fits (adds.kept y)))))
+      | inr y ↦ rw y (notes_none change (all_changes j.kept g j.events x))
+    ] in
+    record { bytes = leaves_harmed h Done op x.now x.now (may_stay op x.now); within = may_stay op x.now; changes = notes }
 
-notes_reached : (g : Geometry) (op part : Op) (a inner : FlashAnswer) (j j' : Journaled) (e : Event) (b b' : Option (List ℕ)) (c c' : Option (List Change)) → Adds e j j' → op_of g e.call ≡ op → e.answer ≡ a → e.since ≡ j.since → e.reached ≡ true → AreToldAlike b b' → Notes part inner b c c' → (j.kept ≡ true → FitsChanges j c) → Notes op a b (all_changes j.kept g j.events b c) (all_changes j'.kept g j'.events b' c')
-notes_reached g op part a inner j j' e b b' c c' adds is answered since true_is alike notes fits =
-    elim (cases_Bool j'.kept) [
-      | inl y ↦ rw (y, adds.kept y, adds.events y) (told_reached g op part a inner j.events e b b' c c' is answered true_is alike notes (rw since (fits_by j c (fits (adds.kept y)))))
-      | inr y ↦ rw y (notes_none op a b (all_changes j.kept g j.events b c))
-    ]
+over_reached : (g : Geometry) (op : Op) (h : Harm) (keep : ℕ) (a : FlashAnswer) (j j' : Journaled) (e : Event) (b b' : Option ToldBytes) → Adds e j j' → op_of g e.call ≡ op → e.answer ≡ harmed h a → e.since ≡ j.since → e.reached ≡ true
+    → IfBothTold b b' (IsChanged (part_of keep op) a) → (j.kept ≡ true → FitsChanges j (changes_in b)) → IfBothTold (bytes_over j g b) (bytes_over j' g b') (IsChanged op (harmed h a))
+over_reached g op h keep a j j' e None None adds is answered since true_is changed fits = tt
+over_reached g op h keep a j j' e None (Some y) adds is answered since true_is changed fits = absurd changed
+over_reached g op h keep a j j' e (Some x) None adds is answered since true_is changed fits = absurd changed
+over_reached g op h keep a j j' e (Some x) (Some y) adds is answered since true_is changed fits =
+    let change : Change = record { op = op; before = x.now; answer = harmed h a } in
+    let part : Change = record { op = part_of keep op; before = x.now; answer = a } in
+    let within = part_within keep op x.now y.now changed.within in
+    let notes : Notes change (all_changes j.kept g j.events x) (all_changes j'.kept g j'.events y) = elim (cases_Bool j'.kept) [
+      | inl k ↦ rw (k, adds.kept k, adds.events k) (rw (← told_as g op (harmed h a) e x.now is answered) (told_reached g part j.events e x.now y.now x.changes y.changes true_is refl changed.changes (rw since (fits (adds.kept k)))))
+      | inr k ↦ rw k (notes_none change (all_changes j.kept g j.events x))
+    ] in
+    record { bytes = leaves_harmed h a op x.now y.now within; within = within; changes = notes }
 
 -- THE COUNTS
 pub record HasCounts (o : Overlaid) : Type 0 where
@@ -116,26 +124,6 @@ cause_harmed Fault Done o n p q counts f c off cause = (rw f (rose_own _ _ o.fau
 cause_harmed Fault Failed o n p q counts f c off cause = (rw f (rose_own _ _ o.faults counts.faults (no_fall Failed o.inner n.inner cause).0), omega arith, off)
 cause_harmed Fault Off o n p q counts f c off cause = (omega arith, rw c (rose_beside _ _ o.cuts cause.1), off)
 
--- THE BYTES
-alike_same : (b : Option (List ℕ)) → AreToldAlike b b
-alike_same None = tt
-alike_same (Some x) = tt
-
-stays : (op : Op) (b : Option (List ℕ)) → IfBothTold b b (MayLeave op)
-stays op None = tt
-stays op (Some x) = may_stay op x
-
-part_told : (keep : ℕ) (op : Op) (b b' : Option (List ℕ)) → IfBothTold b b' (MayLeave (part_of keep op)) → IfBothTold b b' (MayLeave op)
-part_told keep op None b' may = tt
-part_told keep op (Some x) None may = tt
-part_told keep op (Some x) (Some y) may = part_within keep op x y may
-
-leaves_harmed : (h : Harm) (a : FlashAnswer) (op : Op) (b b' : Option (List ℕ)) → IfBothTold b b' (MayLeave op) → IfBothTold b b' (Leaves op (harmed h a))
-leaves_harmed Cut a op b b' may = may
-leaves_harmed Fault Done op b b' may = may
-leaves_harmed Fault Failed op b b' may = may
-leaves_harmed Fault Off op b b' may = may
-
 -- THE STEPS
 pub on_step : (op : Op) (s : Told) (a : FlashAnswer) (t : Told) → s.off ≡ false → IsStep op s a t → IsAsked op s a t
 on_step op s a t on step = subst (λ (off : Bool). OffOrAsked off op s a t) on step
@@ -145,10 +133,7 @@ pub asked_pass : (op : Op) (o : Overlaid) (a : FlashAnswer) (i : Told) (j : Jour
 asked_pass op o a i j kept asked passes = λ p q goes. record {
   geometry = asked.geometry;
   ops = omega (arith, asked.ops);
-  told_alike = asked.told_alike;
-  bytes = asked.bytes;
-  within = asked.within;
-  changes = rw asked.geometry (notes_pass o.inner.geometry op a o.journal j o.inner.bytes i.bytes o.inner.changes i.changes passes asked.told_alike asked.changes kept.fits);
+  bytes = rw asked.geometry (over_pass o.inner.geometry op a o.journal j o.inner.bytes i.bytes passes asked.bytes kept.fits);
   cause = cause_pass a o (record o { inner = i; off = off_of a; journal = j }) p q refl refl refl asked.cause;
   planning = goes;
 }
@@ -161,10 +146,7 @@ asked_withheld h op o e j kept counts on is answered since not adds =
     λ p q goes. record {
       geometry = refl;
       ops = omega arith;
-      told_alike = alike_same o.inner.bytes;
-      bytes = leaves_harmed h Done op o.inner.bytes o.inner.bytes (stays op o.inner.bytes);
-      within = stays op o.inner.bytes;
-      changes = notes_withheld o.inner.geometry op (harmed h Done) o.journal j e o.inner.bytes o.inner.changes adds is answered since not kept.fits;
+      bytes = over_withheld o.inner.geometry op h o.journal j e o.inner.bytes adds is answered since not kept.fits;
       cause = cause_harmed h Done o n p q counts refl refl refl (refl, refl, kept.power on);
       planning = goes;
     }
@@ -174,14 +156,10 @@ pub asked_reached : (h : Harm) (keep : ℕ) (op : Op) (a : FlashAnswer) (o : Ove
     → IsAskedOver op o (harmed h a) (record { inner = i; off = off_of (harmed h a); cuts = cuts_after h o.cuts; faults = faults_after h o.faults; withheld = o.withheld; journal = j })
 asked_reached h keep op a o i e j kept counts asked is answered since true_is adds =
     let n : Overlaid = record { inner = i; off = off_of (harmed h a); cuts = cuts_after h o.cuts; faults = faults_after h o.faults; withheld = o.withheld; journal = j } in
-    let within : IfBothTold o.inner.bytes i.bytes (MayLeave op) = part_told keep op o.inner.bytes i.bytes asked.within in
     λ p q goes. record {
       geometry = asked.geometry;
       ops = omega (arith, asked.ops);
-      told_alike = asked.told_alike;
-      bytes = leaves_harmed h a op o.inner.bytes i.bytes within;
-      within = within;
-      changes = rw asked.geometry (notes_reached o.inner.geometry op (part_of keep op) (harmed h a) a o.journal j e o.inner.bytes i.bytes o.inner.changes i.changes adds is answered since true_is asked.told_alike asked.changes kept.fits);
+      bytes = rw asked.geometry (over_reached o.inner.geometry op h keep a o.journal j e o.inner.bytes i.bytes adds is answered since true_is asked.bytes kept.fits);
       cause = cause_harmed h a o n p q counts refl refl refl asked.cause;
       planning = goes;
     }
@@ -195,12 +173,17 @@ fits_withheld : (j j' : Journaled) (e : Event) (c : Option (List Change)) → Ad
 fits_withheld j j' e None adds since not kept fits = tt
 fits_withheld j j' e (Some cs) adds since not kept fits = omega (arith, ap span (adds.events kept), span_push j.events e, adds.since kept, ap reached_count not)
 
-fits_reached : (op : Op) (a : FlashAnswer) (b : Option (List ℕ)) (j j' : Journaled) (e : Event) (c c' : Option (List Change)) → Adds e j j' → e.since ≡ j.since → e.reached ≡ true → j'.kept ≡ true → Notes op a b c c' → FitsChanges j c → FitsChanges j' c'
-fits_reached op a b j j' e c None adds since true_is kept notes fits = tt
-fits_reached op a None j j' e c (Some cs') adds since true_is kept notes fits = absurd notes
-fits_reached op a (Some x) j j' e None (Some cs') adds since true_is kept notes fits = absurd notes
-fits_reached op a (Some x) j j' e (Some cs) (Some cs') adds since true_is kept notes fits =
-    omega (arith, ap length notes, length_push cs (record { op = op; before = x; answer = a }), ap span (adds.events kept), span_push j.events e, adds.since kept, ap reached_count true_is)
+fits_more : (change : Change) (c c' : Option (List Change)) (n m : ℕ) → m ≡ n + 1 → Notes change c c' → IfSome c (λ cs. length cs ≡ n) → IfSome c' (λ cs. length cs ≡ m)
+fits_more change c None n m more notes fits = tt
+fits_more change None (Some cs') n m more notes fits = absurd notes
+fits_more change (Some cs) (Some cs') n m more notes fits = omega (arith, ap length notes, length_push cs change)
+
+fits_reached : (op : Op) (a : FlashAnswer) (j j' : Journaled) (e : Event) (b b' : Option ToldBytes) → Adds e j j' → e.since ≡ j.since → e.reached ≡ true → j'.kept ≡ true → IfBothTold b b' (IsChanged op a) → FitsChanges j (changes_in b) → FitsChanges j' (changes_in b')
+fits_reached op a j j' e b None adds since true_is kept changed fits = tt
+fits_reached op a j j' e None (Some y) adds since true_is kept changed fits = absurd changed
+fits_reached op a j j' e (Some x) (Some y) adds since true_is kept changed fits =
+    fits_more (record { op = op; before = x.now; answer = a }) x.changes y.changes (span j.events + j.since) (span j'.events + j'.since)
+    (omega (arith, ap span (adds.events kept), span_push j.events e, adds.since kept, ap reached_count true_is)) changed.changes fits
 
 power_harmed : (h : Harm) (a : FlashAnswer) (s t : Told) → HasCause a s t → off_of (harmed h a) ≡ false → t.off ≡ false
 power_harmed Cut a s t cause on = cc
@@ -212,14 +195,14 @@ pub kept_withheld : (h : Harm) (o : Overlaid) (e : Event) (j : Journaled) → Is
     → IsOverlaid (record { inner = o.inner; off = off_of (harmed h Done); cuts = cuts_after h o.cuts; faults = faults_after h o.faults; withheld = next_count o.withheld; journal = j })
 kept_withheld h o e j kept on since not adds = record {
   power = λ _. kept.power on;
-  fits = λ y. fits_withheld o.journal j e o.inner.changes adds since not y (kept.fits (adds.kept y));
+  fits = λ y. fits_withheld o.journal j e (changes_in o.inner.bytes) adds since not y (kept.fits (adds.kept y));
 }
 
 pub kept_reached : (h : Harm) (part : Op) (a : FlashAnswer) (o : Overlaid) (i : Told) (e : Event) (j : Journaled) → IsOverlaid o → IsAsked part o.inner a i → e.since ≡ o.journal.since → e.reached ≡ true → Adds e o.journal j
     → IsOverlaid (record { inner = i; off = off_of (harmed h a); cuts = cuts_after h o.cuts; faults = faults_after h o.faults; withheld = o.withheld; journal = j })
 kept_reached h part a o i e j kept asked since true_is adds = record {
   power = power_harmed h a o.inner i asked.cause;
-  fits = λ y. fits_reached part a o.inner.bytes o.journal j e o.inner.changes i.changes adds since true_is y asked.changes (kept.fits (adds.kept y));
+  fits = λ y. fits_reached part a o.journal j e o.inner.bytes i.bytes adds since true_is y asked.bytes (kept.fits (adds.kept y));
 }
 
 -- a step changes no geometry

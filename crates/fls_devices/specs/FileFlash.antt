@@ -11,7 +11,7 @@ pub record InFile : Type 0 where
 
 -- no bytes and no changes are told, no cut ever stands, and no plan is taken
 abbrev pub told_in_file : Geometry → ℕ → ℕ → Told
-told_in_file g ops faults = record { geometry = g; bytes = None; ops = ops; faults = faults; cuts = 0; off = false; planning = no_planning; changes = None }
+told_in_file g ops faults = record { geometry = g; bytes = None; ops = ops; faults = faults; cuts = 0; off = false; planning = no_planning }
 
 -- not attached yet
 abbrev pub in_file : Bool → InFile

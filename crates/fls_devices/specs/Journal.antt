@@ -1,8 +1,8 @@
 -- The operations that a device cut or failed, and the list of all changes.
-use Rattle.std.specs.Prelude.{◌≡◌, ◌<◌, ◌+◌, ℕ, Bool, true, false, List, [], ◌∷◌, ◌++◌, take, drop, length, Option, Some, None}
+use Rattle.std.specs.Prelude.{◌≡◌, ◌<◌, ◌+◌, ℕ, Bool, true, false, List, [], ◌∷◌, ◌++◌, take, drop, length, Option, None, option_map}
 use Rattle.nv_base.specs.Count.{last_count}
 use Rattle.nv_base.specs.declared.geometry.Geometry.{Geometry}
-use Rattle.fls_model.specs.Told.{Change}
+use Rattle.fls_model.specs.Told.{Change, ToldBytes}
 use Rattle.fls_model.specs.declared.flash.FlashAnswer.{FlashAnswer}
 use Rattle.fls_model.specs.Op.{Op}
 use Rattle.fls_model.specs.Call.{op_of}
@@ -71,9 +71,11 @@ abbrev pub merged : Geometry → List Event → List Change → List ℕ → Lis
 merged g [] changes now = changes
 merged g (e ∷ es) changes now = take e.since changes ++ change_of g e (before_all (drop e.since changes) now) ∷ merged g es (without_part e.reached (drop e.since changes)) now
 
--- told where they are kept, and the inner flash tells its bytes and its own
-abbrev pub all_changes : Bool → Geometry → List Event → Option (List ℕ) → Option (List Change) → Option (List Change)
-all_changes true g es (Some now) (Some changes) = Some (merged g es changes now)
-all_changes true g es (Some now) None = None
-all_changes true g es None changes = None
-all_changes false g es bytes changes = None
+-- told where they are kept, and the inner flash tells its own
+abbrev pub all_changes : Bool → Geometry → List Event → ToldBytes → Option (List Change)
+all_changes true g es b = option_map (λ changes. merged g es changes b.now) b.changes
+all_changes false g es b = None
+
+-- the inner flash's bytes with the list of all changes, where it tells its bytes
+abbrev pub bytes_over : Journaled → Geometry → Option ToldBytes → Option ToldBytes
+bytes_over j g bytes = option_map (λ b. record { now = b.now; changes = all_changes j.kept g j.events b }) bytes

@@ -1,16 +1,16 @@
 -- A flash over another one.
-use Rattle.std.specs.Prelude.{◌≡◌, ◌<◌, ◌+◌, ℕ, Bool, true, false, List, [], ◌∷◌, length, min, nat_eq, Option, Some, None, Result, Ok, Err}
+use Rattle.std.specs.Prelude.{◌≡◌, ◌<◌, ◌+◌, ℕ, Bool, true, false, List, [], ◌∷◌, length, min, nat_eq, Option, IfSome, Result, Ok, Err}
 use Rattle.nv_base.specs.Count.{last_count, next_count}
 use Rattle.fls_model.specs.declared.flash.FlashAnswer.{FlashAnswer}
 use Rattle.fls_model.specs.declared.flash.FlashAnswer.TheVariants.{Done, Off}
 use Rattle.nv_base.specs.Plan.{Planning}
 use Rattle.fls_model.specs.Plan.{PlanGoes}
-use Rattle.fls_model.specs.Told.{Told, Change, powered}
+use Rattle.fls_model.specs.Told.{Told, Change, changes_in, powered}
 use Rattle.fls_model.specs.Op.{Op}
 use Rattle.fls_model.specs.Step.{IsAsked}
 use Rattle.fls_devices.specs.declared.journal.Event.{Event}
 use Rattle.fls_devices.specs.declared.part.Harm.{Harm}
-use Rattle.fls_devices.specs.Journal.{Journaled, all_changes, Clears, Passes, AddsOf}
+use Rattle.fls_devices.specs.Journal.{Journaled, bytes_over, Clears, Passes, AddsOf}
 use Rattle.fls_devices.specs.Part.{part_of, harmed, cuts_after, faults_after, off_of}
 
 -- what the inner flash tells, whether a cut stands, the cuts and faults of its own, the operations that were kept
@@ -27,13 +27,12 @@ pub record Overlaid : Type 0 where
 abbrev pub told_over : Planning → Overlaid → Told
 told_over p o = record {
   geometry = o.inner.geometry;
-  bytes = o.inner.bytes;
+  bytes = bytes_over o.journal o.inner.geometry o.inner.bytes;
   ops = min (o.inner.ops + o.withheld) last_count;
   faults = o.inner.faults + o.faults;
   cuts = o.inner.cuts + o.cuts;
   off = o.off;
   planning = p;
-  changes = all_changes o.journal.kept o.inner.geometry o.journal.events o.inner.bytes o.inner.changes;
 }
 
 -- how many changes of the inner flash these events and what stands between them take
@@ -46,13 +45,12 @@ span [] = 0
 span (e ∷ es) = e.since + reached_count e.reached + span es
 
 abbrev pub FitsChanges : Journaled → Option (List Change) → Type 0
-FitsChanges j (Some changes) = length changes ≡ span j.events + j.since
-FitsChanges j None = Unit {0}
+FitsChanges j changes = IfSome changes (λ changes. length changes ≡ span j.events + j.since)
 
 -- where no cut stands none stands in the inner flash, and the events fit its changes
 pub record IsOverlaid (o : Overlaid) : Type 0 where
   pub power : o.off ≡ false → o.inner.off ≡ false
-  pub fits : o.journal.kept ≡ true → FitsChanges o.journal o.inner.changes
+  pub fits : o.journal.kept ≡ true → FitsChanges o.journal (changes_in o.inner.bytes)
 
 -- an operation is handed to the inner flash as it is
 pub record IsHandedOn (op : Op) (old : Overlaid) (answer : FlashAnswer) (new : Overlaid) : Type 0 where

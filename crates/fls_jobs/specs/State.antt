@@ -1,8 +1,8 @@
 -- The driver as contracts see it.
-use Rattle.std.specs.Prelude.{◌≡◌, ◌≢◌, Bool, true, false, if◌then◌else◌, Option, Some, None, is_some}
+use Rattle.std.specs.Prelude.{◌≡◌, ◌≢◌, Bool, true, false, if◌then◌else◌, Option, Some, None, is_some, IfSome}
 use Rattle.nv_base.specs.declared.geometry.Geometry.{Geometry}
 use Rattle.nv_base.specs.Geometry.{IsLegal}
-use Rattle.fls_model.specs.Attach.{IfTold, AreBytesOf}
+use Rattle.fls_model.specs.Attach.{AreBytesOf}
 use Rattle.fls_model.specs.Told.{Told}
 use Rattle.fls_jobs.specs.declared.answer.FlsResult.{FlsResult}
 use Rattle.fls_jobs.specs.declared.answer.FlsResult.TheVariants.{JobOk, JobPending}
@@ -37,7 +37,7 @@ IsOpenJob s (Some j) = (s.result ≡ JobPending) × (s.attached ≡ true) × IsJ
 -- the flash that is attached has this geometry, and the bytes that it tells fill it
 pub record IsFlashOf (g : Geometry) (flash : Told) : Type 0 where
   pub geometry : flash.geometry ≡ g
-  pub bytes : IfTold flash.bytes (AreBytesOf g)
+  pub bytes : IfSome flash.bytes (λ b. AreBytesOf g b.now)
 
 pub record IsDriverState (s : FlsState) : Type 0 where
   pub legal : IsLegal s.geometry

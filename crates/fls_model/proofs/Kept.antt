@@ -1,15 +1,15 @@
 -- Operations keep the bytes of a flash bytes, and as many.
-use Rattle.std.proofs.Common.{◌≡◌, inl, inr, ◌<◌, ℕ, zero, suc, ◌+◌, ◌-◌, Bool, true, false, List, [], ◌∷◌, take, drop, get_or, Option, Some, None, sym, ◌∙◌, subst, arith}
+use Rattle.std.proofs.Common.{◌≡◌, inl, inr, ◌<◌, ℕ, zero, suc, ◌+◌, ◌-◌, Bool, true, false, List, [], ◌∷◌, take, drop, get_or, Option, Some, None, IfSome, sym, ◌∙◌, subst, arith}
 use Rattle.std.proofs.lemmas.Bool.{cases_lt}
 use Rattle.std.proofs.lemmas.List.{get_or-take, get_or-drop}
 use Rattle.nv_base.specs.declared.geometry.Geometry.{Geometry}
 use Rattle.fls_model.specs.declared.flash.FlashAnswer.{FlashAnswer}
-use Rattle.fls_model.specs.Attach.{IfTold, AreBytesOf}
+use Rattle.fls_model.specs.Attach.{AreBytesOf}
 use Rattle.fls_model.specs.Bytes.{AreBytes, SameOutside, Grown, piece}
 use Rattle.fls_model.specs.Laws.{StepsKeepBytes}
 use Rattle.fls_model.specs.Op.{Op, Program, Erase, MayLeave}
-use Rattle.fls_model.specs.Step.{OffOrAsked}
-use Rattle.fls_model.specs.Told.{Told, AreToldAlike, IfBothTold}
+use Rattle.fls_model.specs.Step.{OffOrAsked, IsChanged}
+use Rattle.fls_model.specs.Told.{Told, ToldBytes, IfBothTold}
 
 grown_bytes : (xs ys : List ℕ) → Grown xs ys → AreBytes xs → AreBytes ys
 grown_bytes [] [] grown small k = small k
@@ -54,15 +54,15 @@ leaves_bytes g (Erase a n) old new leaves are = record {
   bytes = outside_bytes a n old new leaves.0 are.bytes (grown_bytes (piece a n old) (piece a n new) leaves.1 (piece_bytes a n old are.bytes));
 }
 
-told_bytes : (g : Geometry) (op : Op) (old new : Option (List ℕ)) → AreToldAlike old new → IfBothTold old new (MayLeave op) → IfTold old (AreBytesOf g) → IfTold new (AreBytesOf g)
-told_bytes g op None None alike leaves are = tt
-told_bytes g op None (Some new) alike leaves are = absurd alike
-told_bytes g op (Some old) None alike leaves are = absurd alike
-told_bytes g op (Some old) (Some new) alike leaves are = leaves_bytes g op old new leaves are
+told_bytes : (g : Geometry) (op : Op) (a : FlashAnswer) (old new : Option ToldBytes) → IfBothTold old new (IsChanged op a) → IfSome old (λ b. AreBytesOf g b.now) → IfSome new (λ b. AreBytesOf g b.now)
+told_bytes g op a None None changed are = tt
+told_bytes g op a None (Some new) changed are = absurd changed
+told_bytes g op a (Some old) None changed are = absurd changed
+told_bytes g op a (Some old) (Some new) changed are = leaves_bytes g op old.now new.now changed.within are
 
-by_off : (off : Bool) (g : Geometry) (op : Op) (s : Told) (answer : FlashAnswer) (t : Told) → OffOrAsked off op s answer t → IfTold s.bytes (AreBytesOf g) → IfTold t.bytes (AreBytesOf g)
-by_off true g op s answer t step are = subst (λ (u : Told). IfTold u.bytes (AreBytesOf g)) (sym step.1) are
-by_off false g op s answer t step are = told_bytes g op s.bytes t.bytes step.told_alike step.within are
+by_off : (off : Bool) (g : Geometry) (op : Op) (s : Told) (answer : FlashAnswer) (t : Told) → OffOrAsked off op s answer t → IfSome s.bytes (λ b. AreBytesOf g b.now) → IfSome t.bytes (λ b. AreBytesOf g b.now)
+by_off true g op s answer t step are = subst (λ (u : Told). IfSome u.bytes (λ b. AreBytesOf g b.now)) (sym step.1) are
+by_off false g op s answer t step are = told_bytes g op answer s.bytes t.bytes step.bytes are
 
 pub steps_keep_bytes : StepsKeepBytes
 steps_keep_bytes g op s answer t step are = by_off s.off g op s answer t step are

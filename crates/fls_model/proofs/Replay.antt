@@ -1,6 +1,6 @@
 -- a change of a flash in memory
 use Rattle.std.specs.Prelude.{nat_le, true, false}
-use Rattle.std.proofs.Common.{Some, inl, inr, ◌≡◌, ◌<◌, ◌≤◌, ℕ, ◌+◌, List, [], ◌∷◌, ◌++◌, length, take, set, refl, ap, sym, ◌∙◌, arith, ◌^◌}
+use Rattle.std.proofs.Common.{inl, inr, ◌≡◌, ◌<◌, ◌≤◌, ℕ, ◌+◌, List, [], ◌∷◌, ◌++◌, length, take, set, refl, ap, sym, ◌∙◌, arith, ◌^◌}
 use Rattle.std.proofs.lemmas.List.{length-set, take_more_set}
 use Rattle.std.proofs.lemmas.Bool.{cases_lt, cases_Bool, le-leb, lt-leb}
 use Rattle.nv_base.specs.Count.{next_count}
@@ -10,7 +10,7 @@ use Rattle.fls_model.specs.declared.call.Call.{Call}
 use Rattle.nv_base.specs.declared.geometry.Geometry.{Geometry}
 use Rattle.fls_model.specs.Call.{op_of}
 use Rattle.fls_model.specs.Op.{after_op, MayLeave}
-use Rattle.fls_model.specs.Told.{Change}
+use Rattle.fls_model.specs.Told.{Change, changes_in}
 use Rattle.fls_model.specs.Step.{Notes, IsAsked}
 use Rattle.fls_model.specs.MemoryInside.{replay, replayed, IsKept, in_memory_of}
 
@@ -51,7 +51,7 @@ kept_same m n call kept changes le =
     ∙ sym (ap (λ (l : List Call). replayed m.geometry m.first.items (take (m.asked + 1) l)) changes.calls)
     ∙ (λ i. replayed (sym changes.geometry i) (sym changes.first i).items (take (sym is i) n.calls.items))
 
-pub notes_more : (m n : Inside) (call : Call) → IsKept m → Changes m n call → Notes (op_of m.geometry call) Done (Some m.bytes.items) (in_memory_of m).told.changes (in_memory_of n).told.changes
+pub notes_more : (m n : Inside) (call : Call) → IsKept m → Changes m n call → Notes (record { op = op_of m.geometry call; before = m.bytes.items; answer = Done }) (changes_in (in_memory_of m).told.bytes) (changes_in (in_memory_of n).told.bytes)
 notes_more m n call kept changes =
     let full : length m.calls.items ≡ m.room = kept.room changes.attached in
     elim (cases_lt m.asked m.room) [
@@ -72,10 +72,7 @@ pub asked_more : (m n : Inside) (call : Call) → IsKept m → Changes m n call 
 asked_more m n call kept changes = record {
   geometry = changes.geometry;
   ops = changes.ops;
-  told_alike = tt;
-  bytes = changes.bytes;
-  within = changes.within;
-  changes = notes_more m n call kept changes;
+  bytes = record { bytes = changes.bytes; within = changes.within; changes = notes_more m n call kept changes };
   cause = (refl, refl, refl);
   planning = record { early = λ due. due; planning = refl };
 }

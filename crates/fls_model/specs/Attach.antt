@@ -1,22 +1,17 @@
 -- What an attach does.
-use Rattle.std.specs.Prelude.{◌≡◌, ◌≢◌, ◌⊎◌, ℕ, List, [], ◌∷◌, length, replicate, Option, Some, None, Result, Ok, Err}
+use Rattle.std.specs.Prelude.{◌≡◌, ◌≢◌, ◌⊎◌, ℕ, List, [], ◌∷◌, length, replicate, IfSome, Result, Ok, Err}
 use Rattle.nv_base.specs.Count.{Rose}
 use Rattle.nv_base.specs.Geometry.{size_of}
 use Rattle.nv_base.specs.declared.geometry.Geometry.{Geometry}
 use Rattle.fls_model.specs.declared.flash.AttachFault.{AttachFault}
 use Rattle.fls_model.specs.declared.flash.AttachFault.TheVariants.{Failed, WrongSize, Memory}
-use Rattle.fls_model.specs.Told.{Told, Change, AreToldAlike, IfBothTold}
+use Rattle.fls_model.specs.Told.{Told, ToldBytes, IfBothTold}
 use Rattle.fls_model.specs.Bytes.{AreBytes}
 
 -- a flash of no bytes is blank
 abbrev pub enlarged : ℕ → List ℕ → List ℕ
 enlarged size [] = replicate size 255
 enlarged size (x ∷ xs) = x ∷ xs
-
--- a fact on the bytes, where they are told
-abbrev pub IfTold : Option (List ℕ) → (List ℕ → Type 0) → Type 0
-IfTold (Some bytes) P = P bytes
-IfTold None P = Unit {0}
 
 -- blank, or as large as a geometry
 abbrev pub HasSize : Geometry → List ℕ → Type 0
@@ -27,18 +22,16 @@ pub record AreBytesOf (g : Geometry) (image : List ℕ) : Type 0 where
   pub size : length image ≡ size_of g
   pub bytes : AreBytes image
 
--- the list of changes begins
-abbrev pub Begins : Option (List Change) → Type 0
-Begins (Some changes) = changes ≡ []
-Begins None = Unit {0}
+-- what is told of the bytes at an attach: they have the geometry's size from here on, and the list of changes begins
+pub record IsFilled (g : Geometry) (old new : ToldBytes) : Type 0 where
+  pub size : HasSize g old.now
+  pub bytes : new.now ≡ enlarged (size_of g) old.now
+  pub are_bytes : AreBytesOf g new.now
+  pub changes : IfSome new.changes (λ changes. changes ≡ [])
 
 pub record IsAttached (g : Geometry) (s t : Told) : Type 0 where
   pub geometry : t.geometry ≡ g
-  pub size : IfTold s.bytes (HasSize g)
-  pub told_alike : AreToldAlike s.bytes t.bytes
-  pub bytes : IfBothTold s.bytes t.bytes (λ old new. new ≡ enlarged (size_of g) old)
-  pub are_bytes : IfTold t.bytes (AreBytesOf g)
-  pub changes : Begins t.changes
+  pub bytes : IfBothTold s.bytes t.bytes (IsFilled g)
   pub ops : t.ops ≡ s.ops
   pub faults : t.faults ≡ s.faults
   pub cuts : t.cuts ≡ s.cuts
@@ -49,5 +42,5 @@ pub record IsAttached (g : Geometry) (s t : Told) : Type 0 where
 abbrev pub IsAttach : Geometry → Told → Result (Unit {0}) AttachFault → Told → Type 0
 IsAttach g s (Ok _) t = IsAttached g s t
 IsAttach g s (Err Failed) t = Rose s.faults t.faults × (t ≡ record s { faults = t.faults })
-IsAttach g s (Err (WrongSize found)) t = IfTold s.bytes (λ bytes. (length bytes ≡ found) × (found ≢ 0) × (found ≢ size_of g)) × (t ≡ s)
+IsAttach g s (Err (WrongSize found)) t = IfSome s.bytes (λ b. (length b.now ≡ found) × (found ≢ 0) × (found ≢ size_of g)) × (t ≡ s)
 IsAttach g s (Err Memory) t = t ≡ s

@@ -1,8 +1,8 @@
 -- Laws of each flash.
-use Rattle.std.specs.Prelude.{ℕ, List}
+use Rattle.std.specs.Prelude.{ℕ, List, IfSome}
 use Rattle.nv_base.specs.declared.geometry.Geometry.{Geometry}
 use Rattle.fls_model.specs.declared.flash.FlashAnswer.{FlashAnswer}
-use Rattle.fls_model.specs.Attach.{IfTold, AreBytesOf}
+use Rattle.fls_model.specs.Attach.{AreBytesOf}
 use Rattle.fls_model.specs.Bytes.{AreBytes, SameOutside, piece}
 use Rattle.fls_model.specs.Op.{Op}
 use Rattle.fls_model.specs.Step.{IsStep}
@@ -11,7 +11,7 @@ use Rattle.fls_model.specs.Told.{Told}
 -- a changing operation keeps the size of the bytes that are told, and that each has eight bits
 abbrev pub StepsKeepBytes : Type 0
 StepsKeepBytes = (g : Geometry) (op : Op) (s : Told) (answer : FlashAnswer) (t : Told)
-    → IsStep op s answer t → IfTold s.bytes (AreBytesOf g) → IfTold t.bytes (AreBytesOf g)
+    → IsStep op s answer t → IfSome s.bytes (λ b. AreBytesOf g b.now) → IfSome t.bytes (λ b. AreBytesOf g b.now)
 
 -- where only a range changed, and each of its bytes has eight bits, all have
 abbrev pub RangesKeepBytes : Type 0

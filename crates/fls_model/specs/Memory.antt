@@ -2,7 +2,7 @@
 use Rattle.std.specs.Prelude.{◌≡◌, ◌↔◌, ◌≤◌, ℕ, List, [], IsSome, false, Some}
 use Rattle.nv_base.specs.Count.{next_count}
 use Rattle.nv_base.specs.Plan.{no_planning}
-use Rattle.fls_model.specs.Told.{Told}
+use Rattle.fls_model.specs.Told.{Told, changes_in}
 
 -- what is told of it, how many changing operations it has room to tell, and for how many it was asked since its attach
 pub record InMemory : Type 0 where
@@ -13,14 +13,14 @@ pub record InMemory : Type 0 where
 -- these bytes, not attached yet
 abbrev pub in_memory : List ℕ → ℕ → InMemory
 in_memory bytes calls = record {
-  told = record { geometry = record { page = 0; sector = 0; sectors = 0 }; bytes = Some bytes; ops = 0; faults = 0; cuts = 0; off = false; planning = no_planning; changes = Some [] };
+  told = record { geometry = record { page = 0; sector = 0; sectors = 0 }; bytes = Some (record { now = bytes; changes = Some [] }); ops = 0; faults = 0; cuts = 0; off = false; planning = no_planning };
   calls = calls;
   asked = 0;
 }
 
 -- the list of changes is told exactly while it has room
 abbrev pub TellsInRoom : InMemory → Type 0
-TellsInRoom m = IsSome m.told.changes ↔ (m.asked ≤ m.calls)
+TellsInRoom m = IsSome (changes_in m.told.bytes) ↔ (m.asked ≤ m.calls)
 
 -- one more operation was asked for
 pub record IsAskedOnce (old new : InMemory) : Type 0 where
@@ -32,4 +32,4 @@ pub record IsAskedOnce (old new : InMemory) : Type 0 where
 pub record IsBegun (old new : InMemory) : Type 0 where
   pub calls : new.calls ≡ old.calls
   pub asked : new.asked ≡ 0
-  pub tells : new.told.changes ≡ Some []
+  pub tells : changes_in new.told.bytes ≡ Some []

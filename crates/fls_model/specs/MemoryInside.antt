@@ -25,13 +25,12 @@ abbrev pub in_memory_of : Inside → InMemory
 in_memory_of m = record {
   told = record {
     geometry = m.geometry;
-    bytes = Some m.bytes.items;
+    bytes = Some (record { now = m.bytes.items; changes = if nat_le m.asked m.room then Some (replay m.geometry m.first.items (take m.asked m.calls.items)) else None });
     ops = m.ops;
     faults = 0;
     cuts = 0;
     off = false;
     planning = no_planning;
-    changes = if nat_le m.asked m.room then Some (replay m.geometry m.first.items (take m.asked m.calls.items)) else None;
   };
   calls = m.room;
   asked = m.asked;

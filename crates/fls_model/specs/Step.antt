@@ -6,7 +6,7 @@ use Rattle.fls_model.specs.declared.flash.FlashAnswer.{FlashAnswer}
 use Rattle.fls_model.specs.declared.flash.FlashAnswer.TheVariants.{Done, Failed, Off}
 use Rattle.fls_model.specs.Op.{Op, Program, Erase, after_op, MayLeave}
 use Rattle.fls_model.specs.Plan.{PlanGoes}
-use Rattle.fls_model.specs.Told.{Told, Change, IfBothTold, AreToldAlike}
+use Rattle.fls_model.specs.Told.{Told, ToldBytes, Change, IfBothTold}
 
 abbrev pub programs : ℕ → List ℕ → Op
 programs = Program
@@ -21,10 +21,17 @@ Leaves op Failed old new = MayLeave op old new
 Leaves op Off old new = MayLeave op old new
 
 -- the list of changes goes on by one, or isn't told any more
-abbrev pub Notes : Op → FlashAnswer → Option (List ℕ) → Option (List Change) → Option (List Change) → Type 0
-Notes op answer (Some bytes) (Some old) (Some new) = new ≡ old ++ record { op = op; before = bytes; answer = answer } ∷ []
-Notes op answer _ _ (Some new) = ⊥
-Notes op answer _ _ None = Unit {0}
+abbrev pub Notes : Change → Option (List Change) → Option (List Change) → Type 0
+Notes change (Some old) (Some new) = new ≡ old ++ change ∷ []
+Notes change None (Some new) = ⊥
+Notes change old None = Unit {0}
+
+-- what is told of the bytes, one changing operation further
+pub record IsChanged (op : Op) (answer : FlashAnswer) (old new : ToldBytes) : Type 0 where
+  pub bytes : Leaves op answer old.now new.now
+  -- whatever the answer, the bytes are some that a cut may leave, all else is as it was
+  pub within : MayLeave op old.now new.now
+  pub changes : Notes (record { op = op; before = old.now; answer = answer }) old.changes new.changes
 
 -- a fault and a cut have their counts, and a cut stands from its operation on; a cut may hide a fault
 abbrev pub HasCause : FlashAnswer → Told → Told → Type 0
@@ -36,11 +43,7 @@ HasCause Off s t = (s.faults ≤ t.faults) × Rose s.cuts t.cuts × (t.off ≡ t
 pub record IsAsked (op : Op) (s : Told) (answer : FlashAnswer) (t : Told) : Type 0 where
   pub geometry : t.geometry ≡ s.geometry
   pub ops : t.ops ≡ next_count s.ops
-  pub told_alike : AreToldAlike s.bytes t.bytes
-  pub bytes : IfBothTold s.bytes t.bytes (Leaves op answer)
-  -- whatever the answer, the bytes are some that a cut may leave, all else is as it was
-  pub within : IfBothTold s.bytes t.bytes (MayLeave op)
-  pub changes : Notes op answer s.bytes s.changes t.changes
+  pub bytes : IfBothTold s.bytes t.bytes (IsChanged op answer)
   pub cause : HasCause answer s t
   pub planning : PlanGoes answer s.planning t.planning
 

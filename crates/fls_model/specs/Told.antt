@@ -1,5 +1,5 @@
 -- What is told of a flash.
-use Rattle.std.specs.Prelude.{◌≡◌, ◌<◌, ◌≤◌, ◌+◌, ◌%◌, ℕ, Bool, false, List, Option, Some, None}
+use Rattle.std.specs.Prelude.{◌≡◌, ◌<◌, ◌≤◌, ◌+◌, ◌%◌, ℕ, Bool, false, List, Option, Some, None, option_map}
 use Rattle.nv_base.specs.declared.geometry.Geometry.{Geometry}
 use Rattle.nv_base.specs.Geometry.{size_of}
 use Rattle.fls_model.specs.declared.flash.FlashAnswer.{FlashAnswer}
@@ -12,11 +12,16 @@ pub record Change : Type 0 where
   pub before : List ℕ
   pub answer : FlashAnswer
 
+-- what is told of the bytes: the bytes now, and each changing operation since the attach, where these are told too
+pub record ToldBytes : Type 0 where
+  pub now : List ℕ
+  pub changes : Option (List Change)
+
 pub record Told : Type 0 where
   -- all zeros until it is attached
   pub geometry : Geometry
-  -- the bytes now, where it tells them
-  pub bytes : Option (List ℕ)
+  -- where it tells its bytes
+  pub bytes : Option ToldBytes
   -- the changing operations that it was asked for
   pub ops : ℕ
   pub faults : ℕ
@@ -25,8 +30,15 @@ pub record Told : Type 0 where
   pub off : Bool
   -- the cuts that are planned, and those that came without a plan
   pub planning : Planning
-  -- each changing operation since it was attached, where it tells them
-  pub changes : Option (List Change)
+
+-- the bytes now, where they are told
+abbrev pub bytes_now : Told → Option (List ℕ)
+bytes_now t = option_map (λ b. b.now) t.bytes
+
+-- the list of changes, where it is told
+abbrev pub changes_in : Option ToldBytes → Option (List Change)
+changes_in (Some b) = b.changes
+changes_in None = None
 
 -- behind a call of arm
 abbrev pub armed : ℕ → ℕ → Told → Told
@@ -36,16 +48,11 @@ armed nth keep t = record t { planning = planned nth keep t.planning }
 abbrev pub powered : Told → Told
 powered t = record t { off = false; planning = dropped t.planning }
 
--- a fact on two things, where both are told
+-- both are told and a fact holds of them, or neither is told
 abbrev pub IfBothTold : {A : Type 0} → Option A → Option A → (A → A → Type 0) → Type 0
 IfBothTold (Some a) (Some b) P = P a b
-IfBothTold _ _ P = Unit {0}
-
--- both are told, or neither is
-abbrev pub AreToldAlike : {A : Type 0} → Option A → Option A → Type 0
-AreToldAlike (Some a) (Some b) = Unit {0}
-AreToldAlike None None = Unit {0}
-AreToldAlike _ _ = ⊥
+IfBothTold None None P = Unit {0}
+IfBothTold _ _ P = ⊥
 
 -- WHERE A CALL MAY REACH
 pub record HasRange (t : Told) (address n : ℕ) : Type 0 where

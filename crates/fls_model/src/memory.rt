@@ -1,11 +1,11 @@
 // A flash in memory.
-ghost use Rattle.std.specs.Prelude.{◌≡◌, ◌≢◌, ◌≤◌, ◌<◌, ◌+◌, Some, IfOk, OnOk, OnErr, length, slice_set};
+ghost use Rattle.std.specs.Prelude.{◌≡◌, ◌≢◌, ◌≤◌, ◌<◌, ◌+◌, Some, IfOk, IfSome, OnOk, OnErr, length, slice_set};
 ghost use Rattle.nv_base.specs.Geometry.{IsLegal, size_of};
-ghost use Rattle.fls_model.specs.Told.{armed, powered, HasRange, HasPage, HasSector};
+ghost use Rattle.fls_model.specs.Told.{bytes_now, armed, powered, HasRange, HasPage, HasSector};
 ghost use Rattle.fls_model.specs.Op.{after_op, MayLeave};
 ghost use Rattle.fls_model.specs.Step.{IsStep, programs, erases};
 ghost use Rattle.fls_model.specs.Read.{IsRead};
-ghost use Rattle.fls_model.specs.Attach.{IsAttach, IsAttached, IfTold, HasSize, enlarged};
+ghost use Rattle.fls_model.specs.Attach.{IsAttach, IsAttached, HasSize, enlarged};
 ghost use Rattle.fls_model.specs.Call.{op_of, IsCall, IsInside};
 ghost use Rattle.fls_model.specs.Memory.{in_memory, IsAskedOnce, IsBegun};
 
@@ -121,7 +121,7 @@ fn note(calls: &mut Vec<Call>, at: u64, call: Call)
 impl MemFlash {
     /// Lends the bytes as they are now.
     pub fn bytes(&self) -> &[u8]
-        ensures { self.now.told.bytes ≡ Some result.now }
+        ensures { bytes_now self.now.told ≡ Some result.now }
     {
         &self.bytes
     }
@@ -130,7 +130,7 @@ impl MemFlash {
     fn begin(&mut self, alloc: Global, geometry: Geometry, size: usize) -> Result<(), AllocError>
         requires legal { IsLegal geometry }
         requires size { size ≡ size_of geometry }
-        requires found { IfTold self.old.told.bytes (HasSize geometry) }
+        requires found { IfSome self.old.told.bytes (λ b. HasSize geometry b.now) }
         ensures attach { OnOk result (IsAttached geometry self.old.told self.new.told) }
         ensures begun { OnOk result (IsBegun self.old self.new) }
         ensures err { OnErr result (self.new ≡ self.old) }

@@ -4,10 +4,10 @@ use Rattle.std.specs.Prelude.{◌≡◌, ◌≤◌, ℕ, List, [], length, Optio
 use Rattle.block_config.specs.Config.{Configuration}
 use Rattle.block_config.specs.Reading.{meaning_of}
 use Rattle.block_config.specs.declared.fault.ConfigFault.TheVariants.{Broken}
-use Rattle.fls_model.specs.Attach.{IfTold}
 use Rattle.nvm_script.specs.Script.{IsScript, IsFirstWrong, first_line, later_lines}
 use Rattle.nvm_script.specs.declared.step.Step.{Step}
 use Rattle.nvm_script.specs.declared.script.Mode.TheVariants.{Play}
+use Rattle.fls_model.specs.Told.{ToldBytes}
 use Rattle.nvm_top.specs.Input.{IsLonger, input_limit}
 use Rattle.nvm_top.specs.declared.status.Status.{Status}
 use Rattle.nvm_top.specs.declared.status.Status.TheVariants as status
@@ -42,8 +42,8 @@ abbrev pub NamesWrongLine : Option (List ℕ) → List ℕ → Type 0
 NamesWrongLine left line = (number : ℕ) × IfSome left (λ bytes. HasWrongLine bytes number) × (line ≡ line_of (stop.BadScript number))
 
 -- the line tells how many bytes the flash has, where they are told, and how many are needed
-abbrev pub TellsSize : ℕ → Option (List ℕ) → List ℕ → Type 0
-TellsSize need flash line = (found : ℕ) × IfTold flash (λ bytes. length bytes ≡ found) × (line ≡ line_of (stop.WrongSize found need))
+abbrev pub TellsSize : ℕ → Option ToldBytes → List ℕ → Type 0
+TellsSize need flash line = (found : ℕ) × IfSome flash (λ b. length b.now ≡ found) × (line ≡ line_of (stop.WrongSize found need))
 
 -- words of no command, or of another one
 abbrev pub IsBadWords : Status → List ℕ → Type 0
@@ -71,7 +71,7 @@ PlaysBy left _ = IfSome left HasSteps
 
 -- `play` where it stops before start-up, with the bytes of its input and of its flash, where they are told, and with
 -- the line that it writes
-abbrev pub StopsBy : Option (List ℕ) → Option (List ℕ) → Status → List ℕ → Type 0
+abbrev pub StopsBy : Option (List ℕ) → Option ToldBytes → Status → List ℕ → Type 0
 StopsBy left flash status.BadWords line = line ≡ line_of stop.BadWords
 StopsBy left flash status.BadConfig line = NamesRule left line
 StopsBy left flash status.BadScript line = NamesWrongLine left line

@@ -2,8 +2,7 @@
 use Rattle.std.specs.Prelude.{◌≡◌, ◌≢◌, ◌⊎◌, ℕ, List, [], length, Option, IfSome, Result, Ok, Err}
 use Rattle.std.specs.Io.KnownBytes.{Appends}
 use Rattle.nv_base.specs.Count.{Rose}
-use Rattle.fls_model.specs.Attach.{IfTold}
-use Rattle.fls_model.specs.Told.{Told}
+use Rattle.fls_model.specs.Told.{Told, ToldBytes}
 use Rattle.nv_base.specs.declared.entry.Entry.{Entry}
 use Rattle.nvm_script.specs.Lines.{end_line}
 use Rattle.nvm_top.specs.declared.status.Status.{Status}
@@ -15,18 +14,18 @@ use Rattle.nvm_top.specs.Stop.{status_of, line_of, IsStop}
 use Rattle.nvm_top.specs.Output.{IsEndOf}
 
 -- a flash, where it tells its bytes, has neither none nor so many
-abbrev pub IsWrongSize : ℕ → Option (List ℕ) → Type 0
-IsWrongSize need bytes = IfTold bytes (λ b. (length b ≢ 0) × (length b ≢ need))
+abbrev pub IsWrongSize : ℕ → Option ToldBytes → Type 0
+IsWrongSize need bytes = IfSome bytes (λ b. (length b.now ≢ 0) × (length b.now ≢ need))
 
 -- why a flash isn't attached that is to have so many bytes, with its bytes, where they are told
-abbrev pub IsAttachStop : ℕ → Option (List ℕ) → Stop → Type 0
-IsAttachStop need bytes (stop.WrongSize found needed) = IfTold bytes (λ b. length b ≡ found) × (needed ≡ need)
+abbrev pub IsAttachStop : ℕ → Option ToldBytes → Stop → Type 0
+IsAttachStop need bytes (stop.WrongSize found needed) = IfSome bytes (λ b. length b.now ≡ found) × (needed ≡ need)
 IsAttachStop need bytes stop.FlashFault = Unit {0}
 IsAttachStop need bytes stop.Memory = Unit {0}
 IsAttachStop need bytes _ = ⊥
 
 -- the output, where it is told, grew by the line of a wrong size
-abbrev pub WritesSize : ℕ → Option (List ℕ) → Option (List ℕ) → Option (List ℕ) → Type 0
+abbrev pub WritesSize : ℕ → Option ToldBytes → Option (List ℕ) → Option (List ℕ) → Type 0
 WritesSize need flash written written' = (line : List ℕ) × TellsSize need flash line × Appends written written' line
 
 -- the statuses of a call that stops before start-up
@@ -74,7 +73,7 @@ IsRunLine (Ok _) entries x line = IsEndOf entries x line
 IsRunLine (Err stop) entries x line = IsStop stop x line
 
 -- from the attach of a flash on that is to have so many bytes, with the entries and the last line
-abbrev pub RunsBy : ℕ → Option (List ℕ) → List Entry → Status → List ℕ → Type 0
+abbrev pub RunsBy : ℕ → Option ToldBytes → List Entry → Status → List ℕ → Type 0
 RunsBy need flash entries status.Ok line = line ≡ end_line (length entries)
 RunsBy need flash entries status.FlashFault line = line ≡ line_of stop.FlashFault
 RunsBy need flash entries status.NoRoom line = line ≡ line_of stop.NoRoom
@@ -85,5 +84,5 @@ RunsBy need flash entries _ line = ⊥
 
 -- as a whole, with the bytes of the input and of the flash, where they are told: it stops before start-up and prints no
 -- entry, or it runs
-abbrev pub PrintsBy : Option (List ℕ) → Option (List ℕ) → List Entry → Status → List ℕ → Type 0
+abbrev pub PrintsBy : Option (List ℕ) → Option ToldBytes → List Entry → Status → List ℕ → Type 0
 PrintsBy left flash entries x line = ((entries ≡ []) × StopsBy left flash x line) ⊎ (IfSome left HasSteps × RunsBy 2048 flash entries x line)

@@ -3,7 +3,7 @@ ghost use Rattle.std.specs.Prelude.{◌≡◌, ◌≤◌, ℕ, List, Option, Err
 ghost use Rattle.std.specs.Io.KnownBytes.{IsAtEnd};
 ghost use Rattle.nv_base.specs.Count.{Rose};
 ghost use Rattle.nv_base.specs.Geometry.{IsLegal, size_of};
-ghost use Rattle.fls_model.specs.Told.{Told};
+ghost use Rattle.fls_model.specs.Told.{Told, ToldBytes};
 ghost use Rattle.fls_model.specs.Attach.{IsAttach};
 ghost use Rattle.nvm_top.specs.Ends.{PlaysBy, StopsBy, IsBadWords};
 ghost use Rattle.nvm_top.specs.Output.{Writes, Prints};
@@ -102,7 +102,7 @@ fn play_on<K: Sink, F: Flash>(
 ) -> (Status, F)
     requires { numbers ≡ device.log.numbers }
     ensures end { IsRunEnd device.told.faults (F.told result.1).faults result.0 }
-    ensures print { (need : ℕ) (flash : Option (List ℕ)) → Prints (RunsBy need flash) (K.written output.old) (K.written output.new) result.0 }
+    ensures print { (need : ℕ) (flash : Option ToldBytes) → Prints (RunsBy need flash) (K.written output.old) (K.written output.new) result.0 }
     ensures write_fault { result.0 ≡ Status.WriteFault → Rose (K.faults output.old) (K.faults output.new) }
 {
     match Stack::start(alloc, device, numbers, CAP) {

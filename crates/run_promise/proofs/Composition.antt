@@ -1,10 +1,9 @@
 -- The promise from its two halves.
-use Rattle.std.specs.Prelude.{slice_get, min}
+use Rattle.std.specs.Prelude.{slice_get, min, IfSome}
 use Rattle.std.specs.Option.{option_map_or}
 use Rattle.std.proofs.Common.{◌≡◌, ℕ, ◌<◌, ◌≤◌, ◌+◌, ◌-◌, IsTrue, List, [], ◌∷◌, length, Option, Some, None, refl, sym, subst, ap, inl, inr, arith}
 use Rattle.nv_base.specs.Count.{last_count, WereCounted}
-use Rattle.fls_model.specs.Told.{Change}
-use Rattle.fls_model.specs.Attach.{IfTold}
+use Rattle.fls_model.specs.Told.{Change, bytes_now}
 use Rattle.memif.specs.Told.{PartTold}
 use Rattle.memif.specs.Clock.{PartClock, After}
 use Rattle.block_machine.specs.Words.{Entry, Ask, Pick, Wrote, Post, Off, Found, Configuration}
@@ -52,11 +51,11 @@ past : {A : Type 0} (xs : List A) → slice_get xs (length xs) ≡ None
 past [] = refl
 past (x ∷ xs) = past xs
 
-if_told : (bytes : Option (List ℕ)) (P Q : List ℕ → Type 0) → ((image : List ℕ) → P image → Q image) → IfTold bytes P → IfTold bytes Q
+if_told : (bytes : Option (List ℕ)) (P Q : List ℕ → Type 0) → ((image : List ℕ) → P image → Q image) → IfSome bytes P → IfSome bytes Q
 if_told (Some image) P Q more is = more image is
 if_told None P Q more is = tt
 
-both_told : (bytes : Option (List ℕ)) (P Q R : List ℕ → Type 0) → ((image : List ℕ) → P image → Q image → R image) → IfTold bytes P → IfTold bytes Q → IfTold bytes R
+both_told : (bytes : Option (List ℕ)) (P Q R : List ℕ → Type 0) → ((image : List ℕ) → P image → Q image → R image) → IfSome bytes P → IfSome bytes Q → IfSome bytes R
 both_told (Some image) P Q R more p q = more image p q
 both_told None P Q R more p q = tt
 
@@ -72,15 +71,15 @@ lists r before now clock block device tells sound marks ops has small =
     (device.after tells sound ops within small)
 
 exits : (r : Run) (before now : PartTold) (clock : PartClock) → BlockHalf r before now clock → DeviceHalf r before now clock
-    → TellsBytes r.flash → StartsSound r.configuration.geometry r.flash → HasStarted r.history → length r.flash.operations < last_count → IfTold r.flash.exit.bytes (Keeps r.configuration r.history)
+    → TellsBytes r.flash → StartsSound r.configuration.geometry r.flash → HasStarted r.history → length r.flash.operations < last_count → IfSome (bytes_now r.flash.exit) (Keeps r.configuration r.history)
 exits r before now clock block device tells sound started small =
     let c = r.configuration in
     let n : ℕ = length r.flash.operations in
     let all : now.ops ≡ n = omega (arith, device.ops) in
-    let told : bytes_after r.flash n ≡ r.flash.exit.bytes = ap (λ (o : Option Change). option_map_or (λ x. Some x.before) o r.flash.exit.bytes) (past r.flash.operations) in
-    let finds : IfTold r.flash.exit.bytes (λ image. clock.may_find (After n) (held_in c.geometry (making_of c).numbers image)) =
-    subst (λ (b : Option (List ℕ)). IfTold b (λ image. clock.may_find (After n) (held_in c.geometry (making_of c).numbers image))) told (device.after tells sound n (omega arith) small) in
-    both_told r.flash.exit.bytes (λ image. clock.may_find (After n) (held_in c.geometry (making_of c).numbers image)) (IsSoundFlash c.geometry) (Keeps c r.history)
+    let told : bytes_after r.flash n ≡ bytes_now r.flash.exit = ap (λ (o : Option Change). option_map_or (λ x. Some x.before) o (bytes_now r.flash.exit)) (past r.flash.operations) in
+    let finds : IfSome (bytes_now r.flash.exit) (λ image. clock.may_find (After n) (held_in c.geometry (making_of c).numbers image)) =
+    subst (λ (b : Option (List ℕ)). IfSome b (λ image. clock.may_find (After n) (held_in c.geometry (making_of c).numbers image))) told (device.after tells sound n (omega arith) small) in
+    both_told (bytes_now r.flash.exit) (λ image. clock.may_find (After n) (held_in c.geometry (making_of c).numbers image)) (IsSoundFlash c.geometry) (Keeps c r.history)
     (λ image is whole. record {
       marks = block.over.at_end (held_in c.geometry (making_of c).numbers image) started (omega (arith, device.ops)) (subst (λ (k : ℕ). clock.may_find (After k) (held_in c.geometry (making_of c).numbers image)) (sym all) is);
       sound = whole;

@@ -1,5 +1,5 @@
 -- The life of a unit, spell by spell.
-use Rattle.std.specs.Prelude.{Contains, slice_get, unwrap_or, cond}
+use Rattle.std.specs.Prelude.{Contains, slice_get, unwrap_or, cond, IfSome}
 use Rattle.std.specs.List.{list_any}
 use Rattle.std.specs.Option.{option_map_or}
 use Rattle.std.proofs.Common.{◌≡◌, ◌⊎◌, ◌||◌, ℕ, zero, suc, Bool, List, [], ◌∷◌, Option, Some, None, refl, sym, subst, ap, ◌∙◌, inl, inr, arith}
@@ -9,8 +9,8 @@ use Rattle.nv_base.specs.declared.geometry.Geometry.{Geometry}
 use Rattle.nv_base.specs.declared.instance.DeviceNumber.{DeviceNumber}
 use Rattle.nv_base.specs.Marks.{instance_of}
 use Rattle.block_config.specs.Lengths.{lengths_of}
-use Rattle.fls_model.specs.Told.{Change, IfBothTold}
-use Rattle.fls_model.specs.Attach.{enlarged, IfTold}
+use Rattle.fls_model.specs.Told.{Change, IfBothTold, bytes_now}
+use Rattle.fls_model.specs.Attach.{enlarged}
 use Rattle.memif.specs.Told.{length_of}
 use Rattle.block_machine.specs.Words.{Instance, Mark, Entry, Ask, Pick, Wrote, Post, Off, Found, Configuration}
 use Rattle.block_machine.specs.StartUp.{at_first, listed_mark}
@@ -83,9 +83,9 @@ lists_first r t marks es promise sound is x has =
     let first : Contains r.history (Found marks 0) = subst (λ (h : List Entry). Contains h (Found marks 0)) (sym is) (0, omega arith, refl) in
     let started : HasStarted r.history = subst (λ (h : List Entry). HasStarted h) (sym is) tt in
     let told : bytes_after r.flash 0 ≡ Some (enlarged (size_of c.geometry) t.first) =
-    starts_with r.flash.operations r.flash.exit.bytes (enlarged (size_of c.geometry) t.first) t.last t.exit ((promise.operations started).chain t) in
+    starts_with r.flash.operations (bytes_now r.flash.exit) (enlarged (size_of c.geometry) t.first) t.last t.exit ((promise.operations started).chain t) in
     let listed : Lists c marks (found_by c (enlarged (size_of c.geometry) t.first)) =
-    subst (λ (bytes : Option (List ℕ)). IfTold bytes (λ image. Lists c marks (found_by c image))) told (promise.found t sound marks 0 first (omega arith)) in
+    subst (λ (bytes : Option (List ℕ)). IfSome bytes (λ image. Lists c marks (found_by c image))) told (promise.found t sound marks 0 first (omega arith)) in
     listed x has ∙ same_found c (enlarged (size_of c.geometry) t.first) t.first x.0.0 (twice (size_of c.geometry) t.first)
 
 -- ONE SPELL
@@ -102,12 +102,12 @@ both_are g entry exit first image a b both =
     ]
 
 -- without a start-up no operation can be cut
-idle_spell : (r : Run) (cut : Option ℕ) (first image : List ℕ) → Promise r → r.flash.entry.bytes ≡ Some first → LeavesImage r cut image
+idle_spell : (r : Run) (cut : Option ℕ) (first image : List ℕ) → Promise r → bytes_now r.flash.entry ≡ Some first → LeavesImage r cut image
     → IsSoundFlash r.configuration.geometry first → r.history ≡ [] → Passes r.configuration first (history_by cut r.history) image
 idle_spell r None first image promise starts leaves sound empty =
     let order : HasOrder r [] = subst (λ (h : List Entry). HasOrder r h) empty promise.order in
     subst (λ (h : List Entry). Passes r.configuration first h image) (sym empty)
-    (idles r.configuration first image sound (both_are r.configuration.geometry r.flash.entry.bytes r.flash.exit.bytes first image starts leaves.0 order.2.bytes))
+    (idles r.configuration first image sound (both_are r.configuration.geometry (bytes_now r.flash.entry) (bytes_now r.flash.exit) first image starts leaves.0 order.2.bytes))
 idle_spell r (Some k) first image promise starts leaves sound empty =
     let order : HasOrder r [] = subst (λ (h : List Entry). HasOrder r h) empty promise.order in
     let none : slice_get r.flash.operations k ≡ None = ap (λ (ops : List Change). slice_get ops k) order.2.none in
@@ -117,17 +117,17 @@ idle_spell r (Some k) first image promise starts leaves sound empty =
 begins_too : (k : ℕ) (marks : List (Instance × Mark)) (es : List Entry) → up_to k (Found marks 0 ∷ es) ≡ Found marks 0 ∷ up_to k es
 begins_too k marks es = ap (λ (b : Bool). cond (b || list_any (is_driver_until k) es) (Found marks 0 ∷ up_to k es) []) (leb-zero k)
 
-sound_start : (r : Run) (first : List ℕ) → r.flash.entry.bytes ≡ Some first → IsSoundFlash r.configuration.geometry first → StartsSound r.configuration.geometry r.flash
-sound_start r first starts sound = subst (λ (bytes : Option (List ℕ)). IfTold bytes (IsSoundFlash r.configuration.geometry)) (sym starts) sound
+sound_start : (r : Run) (first : List ℕ) → bytes_now r.flash.entry ≡ Some first → IsSoundFlash r.configuration.geometry first → StartsSound r.configuration.geometry r.flash
+sound_start r first starts sound = subst (λ (bytes : Option (List ℕ)). IfSome bytes (IsSoundFlash r.configuration.geometry)) (sym starts) sound
 
-busy_spell : (r : Run) (cut : Option ℕ) (first image : List ℕ) (marks : List (Instance × Mark)) (es : List Entry) → Promise r → r.flash.entry.bytes ≡ Some first → LeavesImage r cut image
+busy_spell : (r : Run) (cut : Option ℕ) (first image : List ℕ) (marks : List (Instance × Mark)) (es : List Entry) → Promise r → bytes_now r.flash.entry ≡ Some first → LeavesImage r cut image
     → IsSoundFlash r.configuration.geometry first → r.history ≡ Found marks 0 ∷ es → Passes r.configuration first (history_by cut r.history) image
 busy_spell r None first image marks es promise starts leaves sound is =
     let t : TellsBytes r.flash = record { first = first; entry = starts; last = image; exit = leaves.0 } in
     let from : StartsSound r.configuration.geometry r.flash = sound_start r first starts sound in
     let started : HasStarted r.history = subst (λ (h : List Entry). HasStarted h) (sym is) tt in
     let keeps : Keeps r.configuration r.history image =
-    subst (λ (bytes : Option (List ℕ)). IfTold bytes (Keeps r.configuration r.history)) leaves.0 (promise.at_exit t from started leaves.1) in
+    subst (λ (bytes : Option (List ℕ)). IfSome bytes (Keeps r.configuration r.history)) leaves.0 (promise.at_exit t from started leaves.1) in
     subst (λ (h : List Entry). Passes r.configuration first h image) (sym is)
     (keeps_on r.configuration first image marks es (subst (λ (h : List Entry). Keeps r.configuration h image) is keeps) (lists_first r t marks es promise from is))
 busy_spell r (Some k) first image marks es promise starts leaves sound is =
@@ -138,7 +138,7 @@ busy_spell r (Some k) first image marks es promise starts leaves sound is =
     subst (λ (h : List Entry). Passes r.configuration first h image) (sym same)
     (keeps_on r.configuration first image marks (up_to k es) (subst (λ (h : List Entry). Keeps r.configuration h image) same keeps) (lists_first r t marks es promise from is))
 
-passes_by : (r : Run) (cut : Option ℕ) (first image : List ℕ) → Promise r → r.flash.entry.bytes ≡ Some first → LeavesImage r cut image
+passes_by : (r : Run) (cut : Option ℕ) (first image : List ℕ) → Promise r → bytes_now r.flash.entry ≡ Some first → LeavesImage r cut image
     → IsSoundFlash r.configuration.geometry first → Passes r.configuration first (history_by cut r.history) image
 passes_by r cut first image promise starts leaves sound = elim (begins_with r.history promise.begins) [
   | inl empty ↦ idle_spell r cut first image promise starts leaves sound empty

@@ -4,12 +4,13 @@ use Rattle.std.proofs.Common.{◌≡◌, ℕ, zero, suc, List, [], ◌∷◌, �
 use Rattle.fls_model.specs.Bytes.{AreBytes}
 use Rattle.block_machine.specs.Words.{Erased}
 use Rattle.fee_image.specs.Laws.{BlankIsSound, BlankHasErased}
+use Rattle.fls_model.specs.Told.{bytes_now}
 use Rattle.device_bridge.specs.Image.{two_banks}
 use Rattle.device_bridge.specs.FlashRun.{FlashRun, TellsBytes}
 use Rattle.run_promise.specs.Promise.{Promise, found_by}
 use Rattle.run_promise.specs.Cases.{small, blank, one, image_of, record_of, made_up_mark, other_dataset, lost_write}
 
-from_blank : (f : FlashRun) (last : List ℕ) → f.entry.bytes ≡ Some [] → f.exit.bytes ≡ Some last → TellsBytes f
+from_blank : (f : FlashRun) (last : List ℕ) → bytes_now f.entry ≡ Some [] → bytes_now f.exit ≡ Some last → TellsBytes f
 from_blank f last entry exit = record { first = []; entry = entry; last = last; exit = exit }
 
 pub no_made_up_mark : BlankIsSound → BlankHasErased → Promise made_up_mark → ⊥

@@ -43,7 +43,7 @@ two = 0x55 ∷ 0x66 ∷ 0x77 ∷ 0x88 ∷ []
 -- RUNS
 -- a flash of the small shape with these bytes, and the changes since it was attached
 abbrev pub tells : List ℕ → Option (List Change) → Told
-tells bytes changes = record { geometry = small.geometry; bytes = Some bytes; ops = 0; faults = 0; cuts = 0; off = false; planning = no_planning; changes = changes }
+tells bytes changes = record { geometry = small.geometry; bytes = Some (record { now = bytes; changes = changes }); ops = 0; faults = 0; cuts = 0; off = false; planning = no_planning }
 
 -- no operation reaches the flash
 abbrev pub unchanged : List ℕ → List ℕ → FlashRun

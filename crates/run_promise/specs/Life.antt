@@ -9,6 +9,7 @@ use Rattle.block_machine.specs.StartUp.{at_first}
 use Rattle.block_machine.specs.History.{up_to}
 use Rattle.block_machine.specs.Accepted.{IsNotOlder, IsTakenIn}
 use Rattle.block_promise.specs.Marks.{EachInstance}
+use Rattle.fls_model.specs.Told.{bytes_now}
 use Rattle.device_bridge.specs.Image.{IsSoundFlash}
 use Rattle.device_bridge.specs.FlashRun.{TellsOperations, IsCutImage}
 use Rattle.run_promise.specs.Run.{Run}
@@ -30,14 +31,14 @@ histories_of life = map (λ x. history_by x.cut x.run.history) life
 
 -- it leaves this image
 abbrev pub LeavesImage : Run → Option ℕ → List ℕ → Type 0
-LeavesImage r None image = (r.flash.exit.bytes ≡ Some image) × (length r.flash.operations < last_count)
+LeavesImage r None image = (bytes_now r.flash.exit ≡ Some image) × (length r.flash.operations < last_count)
 LeavesImage r (Some k) image = TellsOperations r.flash × (k < last_count) × IsCutImage r.flash k image
 
 -- a run that keeps the promise, from one image to another
 pub record IsSpell (c : Configuration) (first : List ℕ) (x : Spell) (image : List ℕ) : Type 0 where
   pub same_unit : x.run.configuration ≡ c
   pub promise : Promise x.run
-  pub starts : x.run.flash.entry.bytes ≡ Some first
+  pub starts : bytes_now x.run.flash.entry ≡ Some first
   pub leaves : LeavesImage x.run x.cut image
 
 -- each begins with the image that the one before it left

@@ -1,15 +1,15 @@
 -- What the stack promises of each run. Its fields, read one after another, are one sentence, and behind it the bookkeeping.
-use Rattle.std.specs.Prelude.{◌<◌, ℕ, IsTrue, List, length, Contains}
+use Rattle.std.specs.Prelude.{◌<◌, ℕ, IsTrue, List, length, Contains, IfSome}
 use Rattle.nv_base.specs.Count.{last_count, next_count, WereCounted}
 use Rattle.block_config.specs.Lengths.{lengths_of}
 use Rattle.block_config.specs.Sizes.{measures_of}
-use Rattle.fls_model.specs.Attach.{IfTold}
 use Rattle.block_machine.specs.Words.{Instance, Mark, Entry, Found, Configuration}
 use Rattle.block_machine.specs.Legal.{IsLegal}
 use Rattle.block_machine.specs.History.{up_to}
 use Rattle.block_promise.specs.Marks.{KeepsMarks, Lists}
 use Rattle.block_promise.specs.Payment.{IsPaid}
 use Rattle.block_promise.specs.OverDevice.{HasStarted, BeginsBefore, TellsAtMost, HasOffAt}
+use Rattle.fls_model.specs.Told.{bytes_now}
 use Rattle.device_bridge.specs.Image.{IsSoundFlash, found_in}
 use Rattle.device_bridge.specs.FlashRun.{TellsBytes, TellsOperations, StartsSound, IsCutImage, bytes_after, AreOperations}
 use Rattle.device_bridge.specs.Bridge.{Making, IsWornOut}
@@ -28,7 +28,7 @@ pub record Keeps (c : Configuration) (h : List Entry) (image : List ℕ) : Type 
 abbrev pub StartUpsFind : Run → Type 0
 StartUpsFind r =
     (marks : List (Instance × Mark)) (ops : ℕ) → Contains r.history (Found marks ops) → ops < last_count
-    → IfTold (bytes_after r.flash ops) (λ image. Lists r.configuration marks (found_by r.configuration image))
+    → IfSome (bytes_after r.flash ops) (λ image. Lists r.configuration marks (found_by r.configuration image))
 
 -- the device is made for this configuration
 abbrev pub making_of : Configuration → Making
@@ -45,7 +45,7 @@ pub record Promise (r : Run) : Type 0 where
   -- not older than the last acknowledged by then;
   pub power_cut : TellsOperations r.flash → StartsSound r.configuration.geometry r.flash → (k : ℕ) (image : List ℕ) → k < last_count → IsCutImage r.flash k image → Keeps r.configuration (up_to k r.history) image
   pub found : TellsBytes r.flash → StartsSound r.configuration.geometry r.flash → StartUpsFind r
-  pub at_exit : TellsBytes r.flash → StartsSound r.configuration.geometry r.flash → HasStarted r.history → length r.flash.operations < last_count → IfTold r.flash.exit.bytes (Keeps r.configuration r.history)
+  pub at_exit : TellsBytes r.flash → StartsSound r.configuration.geometry r.flash → HasStarted r.history → length r.flash.operations < last_count → IfSome (bytes_now r.flash.exit) (Keeps r.configuration r.history)
   -- every reply, choice and result is the block machine's over the one history;
   pub block_machine : IsLegal r.configuration cap r.history
   -- a failure result comes only from counted faults, refused copies or what the flash holds written.

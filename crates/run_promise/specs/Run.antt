@@ -3,7 +3,7 @@ use Rattle.std.specs.Prelude.{◌≡◌, ◌⊎◌, ◌<◌, ◌≤◌, ◌+◌,
 use Rattle.nv_base.specs.Count.{last_count, Rose}
 use Rattle.nv_base.specs.declared.geometry.Geometry.{Geometry}
 use Rattle.nv_base.specs.Entry.{ops_behind}
-use Rattle.fls_model.specs.Told.{IfBothTold}
+use Rattle.fls_model.specs.Told.{IfBothTold, bytes_now}
 use Rattle.nvm_script.specs.declared.step.Step.{Step}
 use Rattle.nvm_script.specs.declared.step.StepKind.{StepKind}
 use Rattle.nvm_script.specs.declared.step.StepKind.TheVariants.{Ask as AskStep, Cut, Refuse, Restart}
@@ -53,7 +53,7 @@ EndsAtStart f end = ⊥
 pub record LeavesFlash (g : Geometry) (f : FlashRun) : Type 0 where
   pub none : f.operations ≡ []
   pub ops : f.exit.ops ≡ f.entry.ops
-  pub bytes : IfBothTold f.entry.bytes f.exit.bytes (λ old new. (new ≡ old) ⊎ (new ≡ attached g old))
+  pub bytes : IfBothTold (bytes_now f.entry) (bytes_now f.exit) (λ old new. (new ≡ old) ⊎ (new ≡ attached g old))
 
 -- `PLAY`
 -- the next step has no room in the history
