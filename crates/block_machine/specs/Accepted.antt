@@ -7,6 +7,11 @@ use Rattle.block_machine.specs.StartUp.{at_first, listed_mark}
 use Rattle.block_machine.specs.Steps.{step}
 use Rattle.block_machine.specs.Legal.{has_length}
 
+-- from a state on, a fact on an entry and the state before it holds of one of these
+abbrev pub AtOne : Configuration → (State → Entry → Type 0) → State → List Entry → Type 0
+AtOne c P s [] = ⊥
+AtOne c P s (e ∷ es) = P s e ⊎ AtOne c P (step c s e) es
+
 -- ACCEPTED
 -- a request asks for this mark of a block: for its own content, for what RAM holds when it is taken, for Invalid or Erased
 abbrev pub AsksFor : Request → ℕ → Mark → Type 0
@@ -44,10 +49,9 @@ abbrev pub Brings : Configuration → List Entry → State → Instance → Mark
 Brings c h s i mark (Found marks ops) = listed_mark marks i ≡ mark
 Brings c h s i mark e = Takes c h s i mark e
 
--- from a state on, one of these entries of a history brings it
+-- from a state on, one of these entries brings it
 abbrev pub IsBroughtBy : Configuration → List Entry → State → Instance → Mark → List Entry → Type 0
-IsBroughtBy c h s i mark [] = ⊥
-IsBroughtBy c h s i mark (e ∷ es) = Brings c h s i mark e ⊎ IsBroughtBy c h (step c s e) i mark es
+IsBroughtBy c h s i mark es = AtOne c (λ s e. Brings c h s i mark e) s es
 
 -- a mark is whole, and an entry of the history brought it
 pub record IsAccepted (c : Configuration) (h : List Entry) (i : Instance) (mark : Mark) : Type 0 where
@@ -69,8 +73,7 @@ Acknowledges c s i mark e = ⊥
 
 -- from a state on, a job took the mark in one of these entries
 abbrev pub IsTakenIn : Configuration → List Entry → State → Instance → Mark → List Entry → Type 0
-IsTakenIn c h s i mark [] = ⊥
-IsTakenIn c h s i mark (e ∷ es) = Takes c h s i mark e ⊎ IsTakenIn c h (step c s e) i mark es
+IsTakenIn c h s i mark es = AtOne c (λ s e. Takes c h s i mark e) s es
 
 -- from a state on, each mark that one of these entries acknowledges is this one, or a job took this one later
 abbrev pub IsNotOlderFrom : Configuration → List Entry → State → Instance → Mark → List Entry → Type 0

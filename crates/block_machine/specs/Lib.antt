@@ -15,5 +15,3 @@ pub mod ResultTable
 pub mod Accepted
 pub mod Cases
 pub mod ReplyCases
-pub mod Laws
-pub mod Consistent

@@ -1,24 +1,17 @@
 //! The block machine: what the NVRAM Manager is, as a state and a history of entries, in which everything about blocks is
-//! claimed. It promises that its definitions allow the worked histories and refuse the wrong ones, row by row, and laws that
-//! follow from them. That a program's history is legal, and which histories a script may have, is left to the crates above.
+//! claimed. It promises that its definitions allow the worked histories and refuse the wrong ones, row by row. Their laws, that
+//! a program's history is legal, and which histories a script may have, are left to the crates above.
 //!
 //! Read in `specs/`, in this order: `State`, `Blocks`, `Order`, `Sweeps`, `Reply`, `Next`, `ResultTable`, `Results`, `StartUp`,
-//! `Steps`, `Legal`, `History`, `Accepted`, `Prices`, `Laws`; the cases are in `Cases` and in the clauses of `src/*_cases.rt`.
+//! `Steps`, `Legal`, `History`, `Accepted`, `Prices`; the cases are in `Cases` and in the clauses of `src/*_cases.rt`.
 #![tactic(auto)]
 
-mod laws;
 mod near_cases;
 mod reply_cases;
 mod table_cases;
 mod worked_cases;
 mod wrong_cases;
 
-pub use laws::{
-    a_pick_takes_in_hand, accepted_requests_pass, asks_are_local, entries_are_local,
-    entries_come_in_time_or_late, entries_fit, failures_are_explained, histories_grow,
-    jobs_are_pending, legal_states_are_consistent, marks_that_stand, the_next_job_goes_first,
-    what_is_found_is_settled,
-};
 pub use near_cases::{
     misplaced_posts_are_refuted, near_histories_are_legal, other_blocks_stay, other_instances_stay,
     wrong_picks_are_refuted, wrong_times_are_refuted, wrong_writes_are_refuted,

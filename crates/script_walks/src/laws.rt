@@ -2,7 +2,7 @@
 ghost use Rattle.script_walks.specs.Walk.{WalksGrow};
 ghost use Rattle.script_walks.specs.Texts.{TextsTellLegalHistories};
 
-use block_machine::histories_grow;
+use machine_laws::histories_grow;
 use nvm_script::one_entry;
 
 /// A walk with the piece of one more step behind it is a walk.

@@ -1,0 +1,12 @@
+use Rattle.machine_laws.proofs.MarkOrigins as law
+use Rattle.machine_laws.proofs.WholeSteps as whole
+use Rattle.machine_laws.proofs.laws.marks_that_stand.Goals as goal
+
+pub returns-clause-brought : goal.returns-clause-brought
+returns-clause-brought c = law.marks_are_brought
+
+pub returns-clause-newest : goal.returns-clause-newest
+returns-clause-newest c = law.marks_are_not_older
+
+pub returns-clause-accepted : goal.returns-clause-accepted
+returns-clause-accepted c = whole.marks_are_accepted
