@@ -1,0 +1,4 @@
+pub mod Logs
+pub mod Marks
+pub mod Placed
+pub mod Steps

@@ -1,0 +1,8 @@
+use Rattle.log_image.proofs.Placed.{places_show_last, each_is_placed}
+use Rattle.log_image.proofs.place_laws.places_show_marks.Goals as goal
+
+pub returns-clause-last : goal.returns-clause-last
+returns-clause-last c = places_show_last c.records_stay.ensures.range c.records_stay.ensures.room
+
+pub returns-clause-each : goal.returns-clause-each
+returns-clause-each c = each_is_placed

@@ -1,0 +1,13 @@
+// Laws: what places show. Their function does nothing.
+ghost use Rattle.log_image.specs.Laws.{PlacesShowLast, EachIsPlaced};
+
+use fee_image::records_stay;
+
+/// What is read at the place of a number's last record is that record's mark; each number has one place, whose mark may
+/// be found.
+pub fn places_show_marks()
+    ensures last { PlacesShowLast }
+    ensures each { EachIsPlaced }
+{
+    records_stay();
+}
