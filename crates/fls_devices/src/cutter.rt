@@ -2,9 +2,9 @@
 ghost use Rattle.std.specs.Prelude.{◌≡◌};
 ghost use Rattle.fls_devices.specs.Cutter.{due, plan_after};
 
-use crate::Harm;
 use crate::journal::Journal;
 use crate::overlay::Overlay;
+use crate::part::Harm;
 use fls_model::{AttachFault, Flash, FlashAnswer};
 use nv_base::{Geometry, Plan};
 use std::alloc::{AllocFailed, Global};

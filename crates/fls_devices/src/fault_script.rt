@@ -3,9 +3,9 @@ ghost use Rattle.std.specs.Prelude.{◌≡◌, ◌+◌, length, IfOk, IfNone, On
 ghost use Rattle.fls_devices.specs.Journal.{empty_journal};
 ghost use Rattle.fls_devices.specs.FaultScript.{kept_of, without};
 
-use crate::Harm;
 use crate::journal::Journal;
 use crate::overlay::Overlay;
+use crate::part::Harm;
 use fls_model::{AttachFault, Flash, FlashAnswer};
 use nv_base::Geometry;
 use std::alloc::{AllocError, AllocFailed, Global};

@@ -13,5 +13,3 @@ mod part;
 pub use cutter::Cutter;
 pub use fault_script::FaultScript;
 pub use file_flash::FileFlash;
-pub use journal::Event;
-pub use part::Harm;

@@ -11,9 +11,8 @@ ghost use Rattle.fls_model.specs.Attach.{IsAttach};
 ghost use Rattle.fls_model.specs.Call.{op_of};
 ghost use Rattle.fls_devices.specs.Overlay.{told_over, overlaid, IsPassed, IsWithheld, IsPartDone, IsHarmed, IsAskedOver, JournalAfter};
 
-use crate::Harm;
 use crate::journal::Journal;
-use crate::part::{count_cut, count_fault, harmed_answer, is_off, kept_part};
+use crate::part::{Harm, count_cut, count_fault, harmed_answer, is_off, kept_part};
 use fls_model::{AttachFault, Call, Flash, FlashAnswer, program_call};
 use nv_base::Geometry;
 use std::alloc::Global;

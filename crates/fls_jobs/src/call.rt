@@ -1,11 +1,9 @@
 // One unit of a job: one call of the flash.
-ghost use Rattle.std.specs.Prelude.{◌≡◌, ◌≢◌, ◌≤◌, length, replicate};
+ghost use Rattle.std.specs.Prelude.{◌≡◌, ◌≤◌, length, if◌then◌else◌};
 ghost use Rattle.nv_base.specs.Geometry.{IsLegal};
-ghost use Rattle.fls_model.specs.Told.{HasRange, HasPage, HasSector};
-ghost use Rattle.fls_model.specs.Read.{IsRead};
-ghost use Rattle.fls_model.specs.Step.{IsStep, erases};
+ghost use Rattle.fls_model.specs.Told.{HasRange};
 ghost use Rattle.fls_jobs.specs.Job.{HasInto, IsJobIn};
-ghost use Rattle.fls_jobs.specs.CallOf.{answer_of, ComesTo, IsVerdict, Compares, IsCallOf, erase_result};
+ghost use Rattle.fls_jobs.specs.CallOf.{result_after, Compares, IsCallOf, erase_result};
 
 use crate::{FlsJob, FlsResult};
 use fls_model::{Flash, FlashAnswer};
@@ -13,9 +11,7 @@ use nv_base::all_are;
 
 // What a job comes to by the answer to its call: nothing new while the power is off.
 fn came_to(answer: FlashAnswer, done: FlsResult) -> Option<FlsResult>
-    requires { done ≢ FlsResult.JobFailed }
-    ensures answer { answer_of result ≡ answer }
-    ensures done { ComesTo result done }
+    ensures { result ≡ result_after answer done }
 {
     match answer {
         FlashAnswer::Done => Some(done),
@@ -24,51 +20,38 @@ fn came_to(answer: FlashAnswer, done: FlsResult) -> Option<FlsResult>
     }
 }
 
-fn erase<F: Flash>(flash: &mut F, sector: u32, count: u32) -> Option<FlsResult>
-    requires { HasSector (F.told flash.old) sector }
-    ensures step { IsStep (erases (F.told flash.old).geometry sector) (F.told flash.old) (answer_of result) (F.told flash.new) }
-    ensures done { ComesTo result (erase_result count) }
+// What an erase of so many sectors comes to where its first is done.
+fn erased(count: u32) -> FlsResult
+    ensures { result ≡ erase_result count }
 {
-    let answer = flash.erase(sector);
     if count == 1 {
-        return came_to(answer, FlsResult::JobOk);
+        FlsResult::JobOk
+    } else {
+        FlsResult::JobPending
     }
-    came_to(answer, FlsResult::JobPending)
 }
 
-fn compare<F: Flash>(flash: &mut F, address: u32, content: &[u8]) -> Option<FlsResult>
+// What a test of bytes comes to.
+fn verdict(holds: bool) -> FlsResult
+    ensures { result ≡ (if holds then FlsResult.JobOk else FlsResult.Differs) }
+{
+    if holds {
+        FlsResult::JobOk
+    } else {
+        FlsResult::Differs
+    }
+}
+
+// Reads as many bytes as there are to compare, and tells whether they are the same.
+fn compare<F: Flash>(flash: &mut F, address: u32, content: &[u8]) -> (FlashAnswer, FlsResult)
     requires few { length content.now ≤ 256 }
     requires inside { HasRange (F.told flash.old) address (length content.now) }
-    ensures { Compares address content.now (F.told flash.old) result (F.told flash.new) }
+    ensures { Compares address content.now (F.told flash.old) result.0 result.1 (F.told flash.new) }
 {
     let mut buffer = [0; 256];
     let found = &mut buffer[..content.len()];
-    match flash.read(address, found) {
-        FlashAnswer::Done => Some(if *found == *content {
-            FlsResult::JobOk
-        } else {
-            FlsResult::Differs
-        }),
-        FlashAnswer::Failed => Some(FlsResult::JobFailed),
-        FlashAnswer::Off => None,
-    }
-}
-
-fn blank_check<F: Flash>(flash: &mut F, address: u32, into: &mut [u8]) -> Option<FlsResult>
-    requires { HasRange (F.told flash.old) address (length into.old) }
-    ensures read { IsRead address (F.told flash.old) into.old (answer_of result) into.new (F.told flash.new) }
-    ensures verdict { IsVerdict (into.new ≡ replicate (length into.new) 255) result }
-{
-    match flash.read(address, into) {
-        FlashAnswer::Done => {
-            if all_are(into, 255) {
-                return Some(FlsResult::JobOk);
-            }
-            Some(FlsResult::Differs)
-        }
-        FlashAnswer::Failed => Some(FlsResult::JobFailed),
-        FlashAnswer::Off => None,
-    }
+    let answer = flash.read(address, found);
+    (answer, verdict(*found == *content))
 }
 
 /// Makes the flash call of a job's next unit, and answers what the job comes to, None while the power is off.
@@ -83,8 +66,14 @@ pub(crate) fn do_call<F: Flash>(flash: &mut F, job: &FlsJob, into: &mut [u8]) ->
         FlsJob::Write { address, page } => {
             came_to(flash.program(*address, page.as_slice()), FlsResult::JobOk)
         }
-        FlsJob::Erase { sector, count } => erase(flash, *sector, *count),
-        FlsJob::Compare { address, content } => compare(flash, *address, content.as_slice()),
-        FlsJob::BlankCheck { address, .. } => blank_check(flash, *address, into),
+        FlsJob::Erase { sector, count } => came_to(flash.erase(*sector), erased(*count)),
+        FlsJob::Compare { address, content } => {
+            let (answer, done) = compare(flash, *address, content.as_slice());
+            came_to(answer, done)
+        }
+        FlsJob::BlankCheck { address, .. } => {
+            let answer = flash.read(*address, into);
+            came_to(answer, verdict(all_are(into, 255)))
+        }
     }
 }

@@ -1,9 +1,9 @@
 // Single calls of the flash: a job that is started, turned once and closed.
-ghost use Rattle.std.specs.Prelude.{◌≡◌, ◌<◌, ◌≤◌, length, None};
+ghost use Rattle.std.specs.Prelude.{◌≡◌, ◌<◌, ◌≤◌, length, None, IfSome};
 ghost use Rattle.fls_model.specs.Told.{HasRange, HasPage, HasSector};
 ghost use Rattle.fls_model.specs.Read.{IsRead};
 ghost use Rattle.fls_model.specs.Step.{IsStep, programs, erases};
-ghost use Rattle.fls_jobs.specs.CallOf.{IsOneCall, MakesCall, closed_as};
+ghost use Rattle.fls_jobs.specs.CallOf.{IsOneCall, Makes, closed_as};
 ghost use Rattle.fls_jobs.specs.Start.{IsIdle};
 ghost use Rattle.fls_jobs.specs.State.{IsDriverState};
 ghost use Rattle.fls_jobs.specs.Turn.{TakesInto};
@@ -17,7 +17,7 @@ impl<F: Flash> Fls<F> {
         requires one { IsOneCall self.old.job }
         requires into { TakesInto self.old.job (length into.old) }
         ensures after { IsDriverState self.new }
-        ensures call { MakesCall self.old.job self.old.flash into.old result into.new self.new.flash }
+        ensures call { IfSome self.old.job (λ j. Makes j self.old.flash into.old result FlsResult.JobOk into.new self.new.flash) }
         ensures same { self.new ≡ record self.old { flash = self.new.flash; job = None; result = closed_as result } }
     {
         match self.turn(into) {
