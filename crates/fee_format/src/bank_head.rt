@@ -3,8 +3,8 @@ ghost use Rattle.std.specs.Prelude.{◌≡◌, ◌≤◌, ◌↔◌, length, IsT
 ghost use Rattle.fee_format.specs.BankHead.{IsLegalBankHead, guarded_bytes, bank_head_page, IsBankHead, IsNoBankHead};
 ghost use Rattle.fee_format.specs.declared.bank_head.BankHead.{BankHead};
 
-use crate::bytes::all_are;
 use byteorder::{BigEndian, ByteOrder};
+use nv_base::all_are;
 
 /// The head of a bank: its format, which is 1, and its generation.
 #[derive(Clone, Copy, Debug, PartialEq, Eq)]

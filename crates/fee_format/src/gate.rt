@@ -3,7 +3,7 @@ ghost use Rattle.std.specs.Prelude.{◌≡◌, ◌↔◌, length, IsTrue};
 ghost use Rattle.fee_format.specs.Gate.{IsGate};
 ghost use Rattle.fee_format.specs.Pages.{gate_page};
 
-use crate::bytes::all_are;
+use nv_base::all_are;
 
 /// Writes an open gate, which fills the page.
 pub fn write_gate(page: &mut [u8])

@@ -6,7 +6,6 @@
 #![tactic(auto)]
 
 mod bank_head;
-mod bytes;
 mod gate;
 mod laws;
 mod pages;

@@ -4,8 +4,8 @@ ghost use Rattle.std.specs.Int.{bytes_high_first};
 ghost use Rattle.fee_format.specs.declared.rec_head.RecHead.{RecHead};
 ghost use Rattle.fee_format.specs.RecHead.{IsLegalRecHead, rec_head_page, IsRecHead, IsNoRecHead};
 
-use crate::bytes::all_are;
 use byteorder::{BigEndian, ByteOrder};
+use nv_base::all_are;
 
 /// The header of a record: the device number of its instance, its kind (1 a content, 2 an invalidated instance, 3 an
 /// erased one), and the length of its content in bytes, 0 for the kinds 2 and 3.
