@@ -1,3 +1,4 @@
 pub mod Texts
 pub mod Walks
 pub mod Runs
+pub mod RunsGrow

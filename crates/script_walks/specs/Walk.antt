@@ -130,3 +130,9 @@ abbrev pub WalksGrow : Type 0
 WalksGrow =
     (c : Configuration) (steps : List Step) (pieces : List (List Entry)) (e : Entry) (h : List Entry) (x : Step) (piece : List Entry)
     → IsWalkOf c steps pieces (e ∷ h) → IsPiece c steps (after c (e ∷ h)) x piece → IsWalkOf c (steps ++ x ∷ []) (pieces ++ piece ∷ []) (e ∷ h ++ piece)
+
+-- what is taken of synchronized RAM stays stored with one entry more
+abbrev pub StoresGrow : Type 0
+StoresGrow =
+    (c : Configuration) (steps : List Step) (s : State) (es : List Entry) (e : Entry)
+    → TakesStores c steps s es → TakesStore c steps (copies_by c (next_of c (after_from c s es))) e → TakesStores c steps s (es ++ e ∷ [])

@@ -1,5 +1,6 @@
 // Laws of walks and texts.
-ghost use Rattle.script_walks.specs.Walk.{WalksGrow};
+ghost use Rattle.script_walks.specs.Walk.{WalksGrow, StoresGrow};
+ghost use Rattle.script_walks.specs.Callers.{RunsGrow};
 ghost use Rattle.script_walks.specs.Texts.{TextsTellLegalHistories};
 
 use machine_laws::histories_grow;
@@ -11,6 +12,12 @@ pub fn walks_grow()
 {
     histories_grow();
 }
+
+/// A run of callers with an entry behind it that may follow is a run.
+pub fn runs_grow()
+    ensures runs { RunsGrow }
+    ensures stores { StoresGrow }
+{}
 
 /// The text of a legal history tells the history.
 pub fn texts_tell_histories()

@@ -1,0 +1,170 @@
+-- How the runs of callers grow.
+use Rattle.std.specs.Prelude.{slice_get, take}
+use Rattle.std.specs.List.{list_all}
+use Rattle.std.proofs.Common.{◌≡◌, ◌==◌, ◌<◌, ◌≤◌, ◌+◌, ◌⊎◌, ℕ, zero, suc, not, Bool, true, false, IsTrue, List, [], ◌∷◌, ◌++◌, length, refl, sym, ap, ◌∙◌, subst, inl, inr, arith, Option, Some, None, length-append, append-nil}
+use Rattle.std.proofs.lemmas.Bool.{cases_Bool}
+use Rattle.std.proofs.lemmas.Bool.Decides.{nat_tests}
+use Rattle.nvm_script.specs.declared.step.Step.{Step}
+use Rattle.nvm_script.specs.declared.step.StepKind.{StepKind}
+use Rattle.nvm_script.specs.declared.step.StepKind.TheVariants.{Await}
+use Rattle.block_machine.specs.Words.{Request, Reply, Entry, Ask, Pick, Wrote, Post, Off, Found, Configuration}
+use Rattle.block_machine.specs.State.{State}
+use Rattle.block_machine.specs.Next.{next_of}
+use Rattle.block_machine.specs.StartUp.{at_first}
+use Rattle.block_machine.specs.Steps.{step, after, after_from}
+use Rattle.script_walks.specs.Walk.{TakesStore, TakesStores, copies_by}
+use Rattle.script_walks.specs.Callers.{program_of, requests_of, asks_of, is_over, WaitedFor, KeepsAwait, KeepsAwaitBy, IsInOrder, is_found, IsRun, IsNextAsk, RunsGrow}
+
+-- STORES
+
+pub stores_push : (c : Configuration) (steps : List Step) (s : State) (es : List Entry) (e : Entry) → TakesStores c steps s es → TakesStore c steps (copies_by c (next_of c (after_from c s es))) e → TakesStores c steps s (es ++ e ∷ [])
+stores_push c steps s [] e all one = (one, tt)
+stores_push c steps s (x ∷ es) e all one = (all.0, stores_push c steps (step c s x) es e all.1 one)
+
+ask_takes : (c : Configuration) (steps : List Step) (copies : Bool) (caller : ℕ) (r : Request) (reply : Reply) → TakesStore c steps copies (Ask caller r reply)
+ask_takes c steps true caller r reply = tt
+ask_takes c steps false caller r reply = tt
+
+-- LISTS
+
+no_more : (k : ℕ) → k < 0 → ⊥
+no_more k within = omega arith
+
+some_same : {X : Type 0} (x y : X) → Some x ≡ Some y → x ≡ y
+some_same x y is = cc
+
+take_more : {X : Type 0} (n : ℕ) (xs : List X) (x : X) → slice_get xs n ≡ Some x → take (suc n) xs ≡ take n xs ++ x ∷ []
+take_more n [] x is = cc
+take_more zero (y ∷ ys) x is = ap (λ z. z ∷ []) (some_same y x is)
+take_more (suc n) (y ∷ ys) x is = ap (λ zs. y ∷ zs) (take_more n ys x is)
+
+take_front : {X : Type 0} (n : ℕ) (xs ys : List X) → n ≤ length xs → take n (xs ++ ys) ≡ take n xs
+take_front zero xs ys few = refl
+take_front (suc n) [] ys few = absurd (no_more n few)
+take_front (suc n) (x ∷ xs) ys few = ap (λ zs. x ∷ zs) (take_front n xs ys (omega arith))
+
+all_push : (P : Entry → Bool) (es : List Entry) (e : Entry) → list_all P es ≡ true → P e ≡ true → list_all P (es ++ e ∷ []) ≡ true
+all_push P [] e all one = rw one refl
+all_push P (x ∷ es) e all one = elim (cases_Bool (P x)) [
+  | inl on ↦ rw on (all_push P es e (rw on at all) one)
+  | inr off ↦ let no_ : false ≡ true = rw off at all in cc
+]
+
+-- REQUESTS
+
+asks_more : (caller : ℕ) (es more : List Entry) → asks_of caller (es ++ more) ≡ asks_of caller es ++ asks_of caller more
+asks_more caller [] more = refl
+asks_more caller (Ask who r reply ∷ es) more = elim (cases_Bool (who == caller)) [
+  | inl own ↦ rw own (ap (λ rs. r ∷ rs) (asks_more caller es more))
+  | inr other ↦ rw other (asks_more caller es more)
+]
+asks_more caller (Pick block kind t ops ∷ es) more = asks_more caller es more
+asks_more caller (Wrote i mark ops ∷ es) more = asks_more caller es more
+asks_more caller (Post block r given refused ops ∷ es) more = asks_more caller es more
+asks_more caller (Off ops ∷ es) more = asks_more caller es more
+asks_more caller (Found marks ops ∷ es) more = asks_more caller es more
+
+less_or_same : (k n : ℕ) → k < n + 1 → (k < n) ⊎ (k ≡ n)
+less_or_same zero zero less = inr refl
+less_or_same zero (suc n) less = inl (omega arith)
+less_or_same (suc k) zero less = absurd (no_more k (omega arith))
+less_or_same (suc k) (suc n) less = elim (less_or_same k n (omega arith)) [ inl below ↦ inl (omega arith) | inr same ↦ inr (ap (λ m. suc m) same) ]
+
+-- WAITS
+
+longer : (c : Configuration) (caller block k : ℕ) (h : List Entry) (e : Entry) → WaitedFor c caller block k h → WaitedFor c caller block k (h ++ e ∷ [])
+longer c caller block k h e w = let l : length (h ++ e ∷ []) ≡ length h + 1 = length-append h (e ∷ []) in let m = w.within in record {
+  entries = w.entries;
+  some = w.some;
+  within = omega (arith, l, m);
+  asked = rw (take_front w.entries h (e ∷ []) w.within) w.asked;
+  over = rw (take_front w.entries h (e ∷ []) w.within) w.over;
+}
+
+take_all : {X : Type 0} (xs ys : List X) → take (length xs) (xs ++ ys) ≡ xs
+take_all [] ys = refl
+take_all (x ∷ xs) ys = ap (λ zs. x ∷ zs) (take_all xs ys)
+
+waited : (c : Configuration) (caller block k : ℕ) (x : Entry) (h : List Entry) (e : Entry) → k ≡ length (asks_of caller (x ∷ h)) → IsTrue (is_over c block (x ∷ h)) → WaitedFor c caller block k (x ∷ h ++ e ∷ [])
+waited c caller block k x h e is over = let l : length (h ++ e ∷ []) ≡ length h + 1 = length-append h (e ∷ []) in record {
+  entries = length (x ∷ h);
+  some = omega arith;
+  within = omega (arith, l);
+  asked = rw (take_all h (e ∷ [])) (sym is);
+  over = rw (take_all h (e ∷ [])) over;
+}
+
+keeps_by : (c : Configuration) (caller k : ℕ) (h : List Entry) (e : Entry) (kind : StepKind) → asks_of caller (h ++ e ∷ []) ≡ asks_of caller h → KeepsAwaitBy c caller k h kind → KeepsAwaitBy c caller k (h ++ e ∷ []) kind
+keeps_by c caller k h e (Await block) same keeps = λ more. longer c caller block k h e (keeps (subst (λ (rs : List Request). k < length rs) same more))
+keeps_by c caller k h e kind same keeps = tt
+
+keeps : (c : Configuration) (caller k : ℕ) (h : List Entry) (e : Entry) (o : Option Step) → asks_of caller (h ++ e ∷ []) ≡ asks_of caller h → KeepsAwait c caller k h o → KeepsAwait c caller k (h ++ e ∷ []) o
+keeps c caller k h e None same was = tt
+keeps c caller k h e (Some x) same was = keeps_by c caller k h e x.kind same was
+
+waits_by : (c : Configuration) (caller k : ℕ) (x : Entry) (h : List Entry) (e : Entry) (r : Request) (kind : StepKind) → asks_of caller (x ∷ h ++ e ∷ []) ≡ asks_of caller (x ∷ h) ++ r ∷ []
+    → ((block : ℕ) → kind ≡ Await block → k ≡ length (asks_of caller (x ∷ h)) → IsTrue (is_over c block (x ∷ h))) → KeepsAwaitBy c caller k (x ∷ h) kind → KeepsAwaitBy c caller k (x ∷ h ++ e ∷ []) kind
+waits_by c caller k x h e r (Await block) same over was =
+    λ more. let l : length (asks_of caller (x ∷ h) ++ r ∷ []) ≡ length (asks_of caller (x ∷ h)) + 1 = length-append (asks_of caller (x ∷ h)) (r ∷ []) in
+    let less : k < length (asks_of caller (x ∷ h) ++ r ∷ []) = subst (λ (rs : List Request). k < length rs) same more in
+    elim (less_or_same k (length (asks_of caller (x ∷ h))) (omega (arith, l, less))) [
+      | inl before ↦ longer c caller block k (x ∷ h) e (was before)
+      | inr now ↦ waited c caller block k x h e now (over block refl now)
+    ]
+waits_by c caller k x h e r kind same over was = tt
+
+waits : (c : Configuration) (caller k : ℕ) (x : Entry) (h : List Entry) (e : Entry) (r : Request) (o : Option Step) → asks_of caller (x ∷ h ++ e ∷ []) ≡ asks_of caller (x ∷ h) ++ r ∷ []
+    → ((block : ℕ) (y : Step) → o ≡ Some y → y.kind ≡ Await block → k ≡ length (asks_of caller (x ∷ h)) → IsTrue (is_over c block (x ∷ h))) → KeepsAwait c caller k (x ∷ h) o → KeepsAwait c caller k (x ∷ h ++ e ∷ []) o
+waits c caller k x h e r None same over was = tt
+waits c caller k x h e r (Some y) same over was = waits_by c caller k x h e r y.kind same (λ block kind now. over block y refl kind now) was
+
+-- THE ORDER
+
+same_order : (c : Configuration) (steps : List Step) (caller : ℕ) (h : List Entry) (e : Entry) → asks_of caller (e ∷ []) ≡ [] → IsInOrder c caller (program_of caller steps) h → IsInOrder c caller (program_of caller steps) (h ++ e ∷ [])
+same_order c steps caller h e none order =
+    let same : asks_of caller (h ++ e ∷ []) ≡ asks_of caller h = asks_more caller h (e ∷ []) ∙ ap (λ rs. asks_of caller h ++ rs) none ∙ append-nil (asks_of caller h) in
+    record {
+      requests = subst (λ (rs : List Request). rs ≡ take (length rs) (requests_of c (program_of caller steps))) (sym same) order.requests;
+      awaits = λ n. keeps c caller (length (requests_of c (take n (program_of caller steps)))) h e (slice_get (program_of caller steps) n) same (order.awaits n);
+    }
+
+next_order : (c : Configuration) (steps : List Step) (caller : ℕ) (x : Entry) (h : List Entry) (r : Request) (reply : Reply) (e : Entry) → asks_of caller (e ∷ []) ≡ r ∷ [] → IsNextAsk c steps (x ∷ h) caller r
+    → IsInOrder c caller (program_of caller steps) (x ∷ h) → IsInOrder c caller (program_of caller steps) (x ∷ h ++ e ∷ [])
+next_order c steps caller x h r reply e one ask order =
+    let asks = asks_of caller (x ∷ h) in
+    let reqs = requests_of c (program_of caller steps) in
+    let same : asks_of caller (x ∷ h ++ e ∷ []) ≡ asks ++ r ∷ [] = asks_more caller (x ∷ h) (e ∷ []) ∙ ap (λ rs. asks ++ rs) one in
+    let l : length (asks ++ r ∷ []) ≡ suc (length asks) = let m : length (asks ++ r ∷ []) ≡ length asks + 1 = length-append asks (r ∷ []) in omega (arith, m) in
+    let all : asks ++ r ∷ [] ≡ take (length (asks ++ r ∷ [])) reqs = ap (λ rs. rs ++ r ∷ []) order.requests ∙ sym (take_more (length asks) reqs r ask.next) ∙ ap (λ n. take n reqs) (sym l) in
+    record {
+      requests = subst (λ (rs : List Request). rs ≡ take (length rs) reqs) (sym same) all;
+      awaits = λ n. waits c caller (length (requests_of c (take n (program_of caller steps)))) x h e r (slice_get (program_of caller steps) n) same (λ block y at kind now. ask.waited n block y at kind now) (order.awaits n);
+    }
+
+ask_order : (c : Configuration) (steps : List Step) (x : Entry) (h : List Entry) (who : ℕ) (r : Request) (reply : Reply) → IsNextAsk c steps (x ∷ h) who r → ((caller : ℕ) → IsInOrder c caller (program_of caller steps) (x ∷ h))
+    → (caller : ℕ) → IsInOrder c caller (program_of caller steps) (x ∷ h ++ Ask who r reply ∷ [])
+ask_order c steps x h who r reply ask order caller = elim (cases_Bool (who == caller)) [
+  | inl own ↦
+      let is : who ≡ caller = grind (arith, nat_tests, own) in
+      next_order c steps caller x h r reply (Ask who r reply) (rw own refl) (subst (λ (n : ℕ). IsNextAsk c steps (x ∷ h) n r) is ask) (order caller)
+  | inr other ↦ same_order c steps caller (x ∷ h) (Ask who r reply) (rw other refl) (order caller)
+]
+
+driven : (c : Configuration) (steps : List Step) (x : Entry) (h : List Entry) (e : Entry) → is_found e ≡ false → ((caller : ℕ) → asks_of caller (e ∷ []) ≡ []) → TakesStore c steps (copies_by c (next_of c (after c (x ∷ h)))) e → IsRun c steps (x ∷ h) → IsRun c steps (x ∷ h ++ e ∷ [])
+driven c steps x h e driver none takes run = record {
+  one_start = all_push (λ e. not (is_found e)) h e run.one_start (ap not driver);
+  order = λ caller. same_order c steps caller (x ∷ h) e (none caller) (run.order caller);
+  stores = stores_push c steps at_first (x ∷ h) e run.stores takes;
+}
+
+pub runs_grow : RunsGrow
+runs_grow c steps x h (Ask who r reply) run follow = record {
+  one_start = all_push (λ e. not (is_found e)) h (Ask who r reply) run.one_start refl;
+  order = ask_order c steps x h who r reply follow run.order;
+  stores = stores_push c steps at_first (x ∷ h) (Ask who r reply) run.stores (ask_takes c steps (copies_by c (next_of c (after c (x ∷ h)))) who r reply);
+}
+runs_grow c steps x h (Pick block kind t ops) run follow = driven c steps x h (Pick block kind t ops) refl (λ caller. refl) follow run
+runs_grow c steps x h (Wrote i mark ops) run follow = driven c steps x h (Wrote i mark ops) refl (λ caller. refl) follow run
+runs_grow c steps x h (Post block r given refused ops) run follow = driven c steps x h (Post block r given refused ops) refl (λ caller. refl) follow run
+runs_grow c steps x h (Off ops) run follow = driven c steps x h (Off ops) refl (λ caller. refl) follow run
+runs_grow c steps x h (Found marks ops) run follow = absurd follow
