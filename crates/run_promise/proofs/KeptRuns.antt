@@ -31,45 +31,45 @@ use Rattle.run_promise.specs.Promise.{Promise, Keeps, StartUpsFind, found_by}
 use Rattle.run_promise.specs.Cases.{small, blank, taken, kept_write}
 
 -- a fact on each entry of a list
-abbrev Every : (Entry → Type 0) → List Entry → Type 0
+abbrev pub Every : (Entry → Type 0) → List Entry → Type 0
 Every P [] = Unit {0}
 Every P (x ∷ xs) = P x × Every P xs
 
-every : (P : Entry → Type 0) (h : List Entry) → Every P h → (e : Entry) → Contains h e → P e
+pub every : (P : Entry → Type 0) (h : List Entry) → Every P h → (e : Entry) → Contains h e → P e
 every P [] all e (k, few, is) = absurd (omega (arith, few))
 every P (x ∷ xs) (p, ps) e (zero, few, is) = subst P is p
 every P (x ∷ xs) (p, ps) e (suc k, few, is) = every P xs ps e (k, omega (arith, few), is)
 
 -- the entries tell of no more operations
-abbrev Tells : ℕ → Entry → Type 0
+abbrev pub Tells : ℕ → Entry → Type 0
 Tells n e = (ops : ℕ) → ops_of e ≡ Some ops → ops ≤ n
 
-at_most : (n : ℕ) (h : List Entry) → Every (Tells n) h → TellsAtMost n h
+pub at_most : (n : ℕ) (h : List Entry) → Every (Tells n) h → TellsAtMost n h
 at_most n h all e ops has is = every (Tells n) h all e has ops is
 
 some_is : (a b : ℕ) → Some a ≡ Some b → a ≡ b
 some_is a b is = cc
 
-some_list : (a b : List ℕ) → Some a ≡ Some b → a ≡ b
+pub some_list : (a b : List ℕ) → Some a ≡ Some b → a ≡ b
 some_list a b is = cc
 
 some_change : (a b : Change) → Some a ≡ Some b → a ≡ b
 some_change a b is = cc
 
-some_changes : (a b : List Change) → Some a ≡ Some b → a ≡ b
+pub some_changes : (a b : List Change) → Some a ≡ Some b → a ≡ b
 some_changes a b is = cc
 
-tells : (n m : ℕ) → m ≤ n → (ops : ℕ) → Some m ≡ Some ops → ops ≤ n
+pub tells : (n m : ℕ) → m ≤ n → (ops : ℕ) → Some m ≡ Some ops → ops ≤ n
 tells n m small_enough ops is = omega (arith, some_is m ops is)
 
 -- MARKS THAT ARE ALL ERASED
-each : (P : DeviceNumber × ℕ → Type 0) → P (record { 0 = 64 }, 2) → P (record { 0 = 65 }, 2) → P (record { 0 = 128 }, 4) → (x : DeviceNumber × ℕ) → Contains (lengths_of small) x → P x
+pub each : (P : DeviceNumber × ℕ → Type 0) → P (record { 0 = 64 }, 2) → P (record { 0 = 65 }, 2) → P (record { 0 = 128 }, 4) → (x : DeviceNumber × ℕ) → Contains (lengths_of small) x → P x
 each P a b c x (zero, few, is) = subst P is a
 each P a b c x (suc zero, few, is) = subst P is b
 each P a b c x (suc (suc zero), few, is) = subst P is c
 each P a b c x (suc (suc (suc k)), few, is) = absurd (omega (arith, few))
 
-abbrev Stands : List Entry → DeviceNumber × ℕ → Type 0
+abbrev pub Stands : List Entry → DeviceNumber × ℕ → Type 0
 Stands h x = MayStandIn (instance_at (after small h) (instance_of x.0)) Erased
 
 keeps_erased : (h : List Entry) (found : ℕ → Mark) → ((n : ℕ) → found n ≡ Erased) → ((x : DeviceNumber × ℕ) → Contains (lengths_of small) x → Stands h x)

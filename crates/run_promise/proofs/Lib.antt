@@ -4,3 +4,5 @@ mod WrongOrders
 mod WrongMarks
 mod WrongCauses
 mod KeptRuns
+mod LostWrite
+mod WrongCalls

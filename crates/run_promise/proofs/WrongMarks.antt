@@ -3,12 +3,12 @@ use Rattle.std.specs.Prelude.{Contains}
 use Rattle.std.proofs.Common.{◌≡◌, ℕ, zero, suc, List, [], ◌∷◌, ◌++◌, drop, replicate, Some, refl, sym, ◌∙◌, inl, inr, arith}
 use Rattle.fls_model.specs.Bytes.{AreBytes}
 use Rattle.block_machine.specs.Words.{Erased}
-use Rattle.fee_image.specs.Laws.{BlankIsSound, BlankHasErased}
+use Rattle.fee_image.specs.Laws.{BlankIsSound, BlankHasErased, SoundImagesCompute}
 use Rattle.fls_model.specs.Told.{bytes_now}
 use Rattle.device_bridge.specs.Image.{two_banks}
 use Rattle.device_bridge.specs.FlashRun.{FlashRun, TellsBytes}
 use Rattle.run_promise.specs.Promise.{Promise, found_by}
-use Rattle.run_promise.specs.Cases.{small, blank, one, image_of, record_of, made_up_mark, other_dataset, lost_write}
+use Rattle.run_promise.specs.Cases.{small, blank, begun, operations, made_up_mark, other_dataset, lost_write}
 
 from_blank : (f : FlashRun) (last : List ℕ) → bytes_now f.entry ≡ Some [] → bytes_now f.exit ≡ Some last → TellsBytes f
 from_blank f last entry exit = record { first = []; entry = entry; last = last; exit = exit }
@@ -50,15 +50,15 @@ dropped_bytes (suc n) [] p = p
 dropped_bytes (suc n) (x ∷ xs) p = dropped_bytes n xs (λ j. p (suc j))
 
 abbrev written : List ℕ
-written = image_of 1 (record_of 128 one ++ replicate 64 255)
+written = begun 4
 
 -- a cut of the fifth operation may leave any bytes on the page of the head, as those of an open gate
 abbrev torn : List ℕ
 torn = replicate 16 0 ++ drop 16 written
 
-pub no_lost_write : BlankIsSound → Promise lost_write → ⊥
-no_lost_write sound p =
-    let keeps = p.power_cut (record { bytes = from_blank lost_write.flash _ refl refl; changes = []; told = refl }) (sound (two_banks small.geometry) 320) 4 torn (omega arith)
+pub no_lost_write : SoundImagesCompute → Promise lost_write → ⊥
+no_lost_write computes p =
+    let keeps = p.power_cut (record { bytes = record { first = begun 0; entry = refl; last = begun 4; exit = refl }; changes = operations; told = refl }) ((computes (two_banks small.geometry) (begun 0)).0 refl) 4 torn (omega arith)
     (_, refl, (record { size = refl; front = refl; back = refl }, λ were. joined_bytes (replicate 16 0) (drop 16 written) (zeros 16) (dropped_bytes 16 written were))) in
     elim (keeps.marks.stands (record { 0 = 128 }, 4) (2, omega arith, refl)) [
       | inl is ↦ cc is

@@ -1,6 +1,7 @@
--- Runs on a small flash, of 10 pages a bank, that keep the promise and that break it.
-use Rattle.std.specs.Prelude.{ℕ, true, false, List, [], ◌∷◌, ◌++◌, replicate, Option, Some, None}
+-- Runs on a small flash, of 10 pages a bank, that keep the promise and that break it, and a call of the demo.
+use Rattle.std.specs.Prelude.{ℕ, ◌+◌, ◌-◌, ◌*◌, true, false, List, [], ◌∷◌, ◌++◌, map, flat_map, take, drop, replicate, codes, Option, Some, None}
 use Rattle.nv_base.specs.Plan.{no_planning}
+use Rattle.block_config.specs.DemoConfig.{demo_config}
 use Rattle.block_config.specs.Block.{plain_block, manager_block}
 use Rattle.fls_model.specs.declared.flash.FlashAnswer.TheVariants.{Done, Off as FlashOff}
 use Rattle.fls_model.specs.Op.{Program, Erase}
@@ -8,11 +9,12 @@ use Rattle.fls_model.specs.Told.{Told, Change}
 use Rattle.fee_format.specs.Pages.{gate_page}
 use Rattle.fee_format.specs.BankHead.{bank_head_page}
 use Rattle.fee_format.specs.RecHead.{rec_head_page}
+use Rattle.nvm_script.specs.declared.script.Mode.TheVariants as mode
 use Rattle.nvm_script.specs.declared.step.StepKind.{StepKind}
 use Rattle.nvm_script.specs.declared.step.StepKind.TheVariants.{Ask as AskStep, Store, Turn, Drain, Restart, Cut}
-use Rattle.nvm_script.specs.declared.step.Step.{Step}
 use Rattle.block_machine.specs.Words.{Fine, NotOk, Content, Write, SetLock, Status, Accepted, StatusIs, WriteJob, TookContent, TookStale, Entry, Ask, Pick, Wrote, Post, Off, Found, BlockDesc, Dataset, Sync, Configuration}
 use Rattle.device_bridge.specs.FlashRun.{FlashRun}
+use Rattle.run_promise.specs.Call.{Call}
 use Rattle.run_promise.specs.Run.{Run, Played, Ran, Whole, HistoryFull, Memory}
 
 -- IMAGES
@@ -49,12 +51,19 @@ tells bytes changes = record { geometry = small.geometry; bytes = Some (record {
 abbrev pub unchanged : List ℕ → List ℕ → FlashRun
 unchanged before after = record { entry = tells before None; exit = tells after (Some []); operations = [] }
 
-abbrev pub step_of : ℕ → StepKind → Step
-step_of caller kind = record { line = 0; caller = caller; kind = kind }
+-- a run of `play` on this flash: a start-up that finds nothing, and steps of caller 0, each with its piece
+abbrev pub plays : List (StepKind × List Entry) → FlashRun → Run
+plays steps flash = record {
+  configuration = small;
+  course = Played (map (λ x. record { line = 0; caller = 0; kind = x.0 }) steps) (map (λ x. x.1) steps) [];
+  end = Whole;
+  history = Found [] 0 ∷ flat_map (λ x. x.1) steps;
+  flash = flash;
+}
 
 -- a start-up on a flash of no bytes, and no step
 abbrev pub quiet : Run
-quiet = record { configuration = small; course = Played [] [] []; end = Whole; history = Found [] 0 ∷ []; flash = unchanged [] blank }
+quiet = plays [] (unchanged [] blank)
 
 -- the image is wiped, and memory is wanting before a start-up
 abbrev pub wiped : Run
@@ -70,16 +79,11 @@ made_up_mark = record quiet { history = Found ((record { block = 2; index = 0 },
 
 -- the power goes off, though nothing cut it
 abbrev pub off_without_a_cut : Run
-off_without_a_cut = record quiet { course = Played (step_of 0 Drain ∷ []) ((Off 0 ∷ []) ∷ []) []; history = Found [] 0 ∷ Off 0 ∷ [] }
+off_without_a_cut = plays ((Drain, Off 0 ∷ []) ∷ []) (unchanged [] blank)
 
--- SYNCHRONIZED RAM
--- the application stores `one` and asks for a write; the Pick takes what it says, and then come these entries
+-- the application stores `one` and asks for a write of synchronized RAM; the Pick takes what it says
 abbrev pub copied : Entry → Run
-copied pick = record quiet {
-  configuration = with_block_2 (record (plain_block 4) { ram = Sync });
-  course = Played (step_of 0 (Store 2 one) ∷ step_of 0 (AskStep (Write 2 None 0)) ∷ step_of 0 (Turn 1) ∷ []) ([] ∷ (Ask 0 (Write 2 None 1) Accepted ∷ []) ∷ (pick ∷ []) ∷ []) [];
-  history = Found [] 0 ∷ Ask 0 (Write 2 None 1) Accepted ∷ pick ∷ [];
-}
+copied pick = record (plays ((Store 2 one, []) ∷ (AskStep (Write 2 None 0), Ask 0 (Write 2 None 1) Accepted ∷ []) ∷ (Turn 1, pick ∷ []) ∷ []) (unchanged [] blank)) { configuration = with_block_2 (record (plain_block 4) { ram = Sync }) }
 
 -- a copy is older than the store before it
 abbrev pub stale_in_play : Run
@@ -89,31 +93,28 @@ stale_in_play = copied (Pick 2 WriteJob (TookStale 1 0 1) 0)
 abbrev pub invented_store : Run
 invented_store = copied (Pick 2 WriteJob (TookContent two 1) 0)
 
--- in `run` a second start-up comes
-abbrev pub second_found : Run
-second_found = record quiet { course = Ran []; history = Found [] 0 ∷ Found [] 0 ∷ [] }
-
 -- WRITES
--- a job writes `one` to block 2
+-- `one` is asked to be written to block 2, which is accepted; a Pick takes it
+abbrev pub asks_one : StepKind × List Entry
+asks_one = (AskStep (Write 2 (Some one) 0), Ask 0 (Write 2 (Some one) 0) Accepted ∷ [])
+
+abbrev pub picks_one : Entry
+picks_one = Pick 2 WriteJob (TookContent one 0) 0
+
 abbrev pub taken : List Entry
-taken = Found [] 0 ∷ Ask 0 (Write 2 (Some one) 0) Accepted ∷ Pick 2 WriteJob (TookContent one 0) 0 ∷ []
+taken = Found [] 0 ∷ Ask 0 (Write 2 (Some one) 0) Accepted ∷ picks_one ∷ []
+
+-- with these operations of the flash it is written and posted
+abbrev pub written_at : ℕ → List Entry
+written_at ops = Wrote (record { block = 2; index = 0 }) (Content one) ops ∷ Post 2 Fine None 0 ops ∷ []
 
 -- block 2 is a dataset of two, the job writes dataset 0, and the flash holds it as dataset 1
 abbrev pub other_dataset : Run
-other_dataset = record quiet {
-  configuration = with_block_2 (record (plain_block 4) { kind = Dataset; nv = 2 });
-  course = Played (step_of 0 (AskStep (Write 2 (Some one) 0)) ∷ step_of 0 (Turn 1) ∷ []) ((Ask 0 (Write 2 (Some one) 0) Accepted ∷ []) ∷ (Pick 2 WriteJob (TookContent one 0) 0 ∷ []) ∷ []) [];
-  history = taken;
-  flash = unchanged [] (image_of 1 (record_of 129 one ++ replicate 64 255));
-}
+other_dataset = record (plays (asks_one ∷ (Turn 1, picks_one ∷ []) ∷ []) (unchanged [] (image_of 1 (record_of 129 one ++ replicate 64 255)))) { configuration = with_block_2 (record (plain_block 4) { kind = Dataset; nv = 2 }) }
 
 -- a write fails without a fault on this image
 abbrev pub failed_on : List ℕ → Run
-failed_on image = record quiet {
-  course = Played (step_of 0 (AskStep (Write 2 (Some one) 0)) ∷ step_of 0 Drain ∷ []) ((Ask 0 (Write 2 (Some one) 0) Accepted ∷ []) ∷ (Pick 2 WriteJob (TookContent one 0) 0 ∷ Post 2 NotOk None 0 0 ∷ []) ∷ []) [];
-  history = taken ++ Post 2 NotOk None 0 0 ∷ [];
-  flash = unchanged image image;
-}
+failed_on image = plays (asks_one ∷ (Drain, picks_one ∷ Post 2 NotOk None 0 0 ∷ []) ∷ []) (unchanged image image)
 
 -- the active bank has the last generation, and room for the record
 abbrev pub worn_but_roomy : Run
@@ -123,34 +124,50 @@ worn_but_roomy = failed_on (image_of 4294967295 (replicate 128 255))
 abbrev pub worn_and_full : Run
 worn_and_full = failed_on (image_of 4294967295 (record_of 77 one ++ record_of 77 one))
 
--- A WRITE, A CUT AND A RESTART
 -- on a flash of no bytes a write begins with the erase of bank 0, which a planned cut keeps from the flash; then a restart
 abbrev pub kept_write : Run
-kept_write = record quiet {
-  course = Played (step_of 0 (Cut 1 0) ∷ step_of 0 (AskStep (Write 2 (Some one) 0)) ∷ step_of 0 Drain ∷ step_of 0 Restart ∷ [])
-      ([] ∷ (Ask 0 (Write 2 (Some one) 0) Accepted ∷ []) ∷ (Pick 2 WriteJob (TookContent one 0) 0 ∷ Off 1 ∷ []) ∷ (Found [] 1 ∷ []) ∷ []) [];
-  history = taken ++ Off 1 ∷ Found [] 1 ∷ [];
-  flash = record { entry = tells [] None; exit = tells blank (Some []); operations = record { op = Erase 0 160; before = blank; answer = FlashOff } ∷ [] };
-}
+kept_write = plays ((Cut 1 0, []) ∷ asks_one ∷ (Drain, picks_one ∷ Off 1 ∷ []) ∷ (Restart, Found [] 1 ∷ []) ∷ []) (record { entry = tells [] None; exit = tells blank (Some []); operations = record { op = Erase 0 160; before = blank; answer = FlashOff } ∷ [] })
 
--- `one` is written and acknowledged with the fourth operation; the fifth programs over the head of its bank, so that a cut
+-- the first pages of the record in a bank that stands, and the program of the next one
+abbrev pub begun : ℕ → List ℕ
+begun pages = image_of 1 (take (16 * pages) (record_of 128 one) ++ replicate (128 - 16 * pages) 255)
+
+abbrev pub programs : ℕ → Change
+programs pages = record { op = Program (32 + 16 * pages) (take 16 (drop (16 * pages) (record_of 128 one))); before = begun pages; answer = Done }
+
+-- `one` is written and acknowledged with the fourth operation; the fifth programs the head of its bank again, so that a cut
 -- within it may lose what was acknowledged
+abbrev pub operations : List Change
+operations = programs 0 ∷ programs 1 ∷ programs 2 ∷ programs 3 ∷ record { op = Program 0 (bank_head_page 16 (record { format = 1; generation = 1 })); before = begun 4; answer = Done } ∷ []
+
 abbrev pub lost_write : Run
-lost_write = record quiet {
-  course = Played (step_of 0 (AskStep (Write 2 (Some one) 0)) ∷ step_of 0 Drain ∷ [])
-      ((Ask 0 (Write 2 (Some one) 0) Accepted ∷ []) ∷ (Pick 2 WriteJob (TookContent one 0) 0 ∷ Wrote (record { block = 2; index = 0 }) (Content one) 4 ∷ Post 2 Fine None 0 4 ∷ []) ∷ []) [];
-  history = taken ++ Wrote (record { block = 2; index = 0 }) (Content one) 4 ∷ Post 2 Fine None 0 4 ∷ [];
-  flash = record {
-    entry = tells [] None;
-    exit = tells (image_of 1 (record_of 128 one ++ replicate 64 255)) (Some []);
-    operations = replicate 5 (record { op = Program 0 (gate_page 16); before = image_of 1 (record_of 128 one ++ replicate 64 255); answer = Done });
-  };
-}
+lost_write = plays (asks_one ∷ (Drain, picks_one ∷ written_at 4) ∷ []) (record { entry = tells (begun 0) None; exit = tells (begun 4) (Some operations); operations = operations })
 
 -- TWO CALLERS
 -- one locks block 2 and the other asks for its status
 abbrev pub two_callers : Run
 two_callers = record quiet {
-  course = Ran (step_of 1 (AskStep (SetLock 2 true)) ∷ step_of 2 (AskStep (Status 2)) ∷ []);
+  course = Ran (record { line = 0; caller = 1; kind = AskStep (SetLock 2 true) } ∷ record { line = 0; caller = 2; kind = AskStep (Status 2) } ∷ []);
   history = Found [] 0 ∷ Ask 2 (Status 2) (StatusIs Fine) ∷ Ask 1 (SetLock 2 true) Accepted ∷ [];
 }
+
+-- in `run` a second start-up comes
+abbrev pub second_found : Run
+second_found = record quiet { course = Ran []; history = Found [] 0 ∷ Found [] 0 ∷ [] }
+
+-- TURNS
+-- a write of block 2, of this priority, is in hand after one turn, and eight turns later this has come
+abbrev pub turned : ℕ → List Entry → Run
+turned priority es = record (plays (asks_one ∷ (Turn 1, picks_one ∷ []) ∷ (Turn 8, es) ∷ []) (unchanged [] blank)) { configuration = with_block_2 (record (plain_block 4) { priority = priority }) }
+
+-- a drain leaves a job in hand
+abbrev pub not_drained : Run
+not_drained = plays (asks_one ∷ (Drain, picks_one ∷ []) ∷ []) (unchanged [] blank)
+
+-- A CALL
+-- `play` of the demo configuration without a step, with this status and this output
+abbrev pub demo_run : Run
+demo_run = record quiet { configuration = demo_config }
+
+abbrev pub demo_call : ℕ → List ℕ → Call
+demo_call status text = record { mode = mode.Play; input = Some (codes "@demo"); status = status; entry = demo_run.flash.entry; exit = demo_run.flash.exit; written = Some []; written_after = Some text }

@@ -1,8 +1,17 @@
 // Runs that keep the promise, and runs that break it.
-ghost use Rattle.run_promise.specs.Cases.{quiet, wiped, empty_at_11, made_up_mark, off_without_a_cut, stale_in_play, invented_store, second_found, other_dataset, worn_but_roomy, worn_and_full, kept_write, lost_write, two_callers};
-ghost use Rattle.run_promise.specs.Promise.{Promise, FailuresArePaid};
+ghost use Rattle.std.specs.Prelude.{ℕ, [], IsTrue};
+ghost use Rattle.nv_base.specs.Count.{WereCounted, next_count};
+ghost use Rattle.nvm_script.specs.Printed.{history_text};
+ghost use Rattle.block_machine.specs.Legal.{IsLegal};
+ghost use Rattle.block_promise.specs.OverDevice.{BeginsBefore, TellsAtMost, HasOffAt};
+ghost use Rattle.device_bridge.specs.FlashRun.{AreOperations};
+ghost use Rattle.run_promise.specs.Run.{cap, HasOrder, RefusalsExplain, has_cutter, offs_of_flash};
+ghost use Rattle.run_promise.specs.Promise.{Promise, Keeps, StartUpsFind, FailuresArePaid};
+ghost use Rattle.run_promise.specs.Call.{IsRunOf, text_of};
+ghost use Rattle.run_promise.specs.Completeness.{Completeness};
+ghost use Rattle.run_promise.specs.Cases.{small, quiet, wiped, empty_at_11, made_up_mark, off_without_a_cut, stale_in_play, invented_store, second_found, other_dataset, worn_but_roomy, worn_and_full, kept_write, begun, lost_write, two_callers, written_at, turned, not_drained, demo_run, demo_call};
 
-use fee_image::{blank_images, images_compute, torn_erases_keep_soundness};
+use fee_image::{blank_images, images_compute, soundness_computes, torn_erases_keep_soundness};
 
 /// A start-up alone keeps it, and so do a write that a cut breaks off with a restart behind it, and the requests of two
 /// callers.
@@ -26,12 +35,11 @@ pub fn wrong_orders_break_it()
     ensures second_found { Promise second_found → ⊥ }
 {}
 
-/// A start-up that finds what was never written breaks it, an image that holds a mark in another dataset than the one
-/// that was written, and one that lost an acknowledged write at a cut.
+/// A start-up that finds what was never written breaks it, and an image that holds a mark in another dataset than the one
+/// that was written.
 pub fn wrong_marks_break_it()
     ensures made_up_mark { Promise made_up_mark → ⊥ }
     ensures other_dataset { Promise other_dataset → ⊥ }
-    ensures lost_write { Promise lost_write → ⊥ }
 {
     blank_images();
 }
@@ -42,4 +50,37 @@ pub fn wrong_causes_break_it()
     ensures off_without_a_cut { Promise off_without_a_cut → ⊥ }
     ensures worn_but_roomy { Promise worn_but_roomy → ⊥ }
     ensures worn_and_full { FailuresArePaid worn_and_full }
+{}
+
+/// A run that may lose an acknowledged write at a cut breaks it, and by its power cut alone: all other fields hold.
+pub fn a_lost_write_breaks_it()
+    ensures breaks { Promise lost_write → ⊥ }
+    ensures order { HasOrder lost_write lost_write.history }
+    ensures found { StartUpsFind lost_write }
+    ensures at_exit { Keeps small lost_write.history (begun 4) }
+    ensures block_machine { IsLegal small cap lost_write.history }
+    ensures faults { FailuresArePaid lost_write }
+    ensures refusals { (id : ℕ) → RefusalsExplain small lost_write.course lost_write.history id }
+    ensures off { WereCounted (offs_of_flash lost_write.course lost_write.history) 0 0 }
+    ensures operations { AreOperations small.geometry lost_write.flash (λ k. IsTrue (has_cutter lost_write.course) × HasOffAt lost_write.history (next_count k)) }
+    ensures begins { BeginsBefore lost_write.history }
+    ensures counted { TellsAtMost 5 lost_write.history }
+{
+    soundness_computes();
+}
+
+/// A call is told by its run where configuration, steps, status and output are the run's.
+pub fn runs_of_calls()
+    ensures own { IsRunOf (demo_call 0 (text_of demo_run)) demo_run }
+    ensures other_status { IsRunOf (demo_call 7 (text_of demo_run)) demo_run → ⊥ }
+    ensures no_last_line { IsRunOf (demo_call 0 (history_text demo_run.history)) demo_run → ⊥ }
+    ensures other_configuration { IsRunOf (demo_call 0 (text_of quiet)) quiet → ⊥ }
+{}
+
+/// Where nothing fails a job is posted within its turns, a drain leaves none, and an immediate write is posted soon.
+pub fn runs_that_are_served()
+    ensures served { Completeness 8 (turned 0 (written_at 4)) (turned 0 (written_at 4)).course }
+    ensures not_posted { Completeness 8 (turned 10 []) (turned 10 []).course → ⊥ }
+    ensures not_urgent { Completeness 100 (turned 0 []) (turned 0 []).course → ⊥ }
+    ensures not_drained { Completeness 100 not_drained not_drained.course → ⊥ }
 {}

@@ -1,4 +1,4 @@
-use Rattle.run_promise.proofs.WrongMarks.{no_made_up_mark, no_other_dataset, no_lost_write}
+use Rattle.run_promise.proofs.WrongMarks.{no_made_up_mark, no_other_dataset}
 use Rattle.run_promise.proofs.cases.wrong_marks_break_it.Goals as goal
 
 pub returns-clause-made_up_mark : goal.returns-clause-made_up_mark
@@ -6,6 +6,3 @@ returns-clause-made_up_mark c = no_made_up_mark c.blank_images.ensures.sound c.b
 
 pub returns-clause-other_dataset : goal.returns-clause-other_dataset
 returns-clause-other_dataset c = no_other_dataset c.blank_images.ensures.sound
-
-pub returns-clause-lost_write : goal.returns-clause-lost_write
-returns-clause-lost_write c = no_lost_write c.blank_images.ensures.sound
