@@ -1,9 +1,6 @@
-// The floor: each call of a device once, alone and as one of two, runs of calls, and work over any device.
-ghost use Rattle.std.specs.Prelude.{◌≡◌, IfOk};
-ghost use Rattle.memif.specs.Plain.{plain_store};
-
+// The floor: two devices in memory behind one interface, a run of calls, and work over any device.
 use memif::*;
-use nv_base::{DeviceNumber, DeviceOp, bytes_of, lengths_of};
+use nv_base::{DeviceNumber, Lengths, bytes_of, lengths_of};
 use std::alloc::{AllocError, Global};
 use std::test::Fail;
 
@@ -11,127 +8,60 @@ const FOUR: DeviceNumber = DeviceNumber(128);
 
 const TWO: DeviceNumber = DeviceNumber(129);
 
-const NUMBERS: [(DeviceNumber, u16); 2] = [(FOUR, 4), (TWO, 2)];
-
-fn store(alloc: Global) -> Result<PlainStore, AllocError>
-    ensures { IfOk result (λ p. p ≡ plain_store NUMBERS) }
-{
-    PlainStore::make(alloc, &lengths_of(alloc, &NUMBERS)?)
+fn numbers(alloc: Global) -> Result<Lengths, AllocError> {
+    lengths_of(alloc, &[(FOUR, 4), (TWO, 2)])
 }
 
-// A call of a test.
-#[derive(Clone, Copy)]
-enum Do {
-    Read(DeviceNumber, u16),
-    Write(DeviceNumber, &'static [u8]),
-    Invalidate(DeviceNumber),
-    Erase(DeviceNumber),
-}
-
-// Starts a job of a device, and tells whether it was taken.
-fn starts<A: MemDevice, B: MemDevice>(devices: &mut MemIf<A, B>, device: u8, call: &Do) -> bool {
-    match call {
-        Do::Read(number, length) => devices.start_read(device, *number, *length),
-        Do::Write(number, content) => devices.start_write(device, *number, *content, false),
-        Do::Invalidate(number) => devices.start_invalidate(device, *number),
-        Do::Erase(number) => devices.start_erase(device, *number),
+// Writes a content to a device of two, and tells what a read of it gives.
+fn write_and_read<A: MemDevice, B: MemDevice>(devices: &mut MemIf<A, B>, length: u16) -> JobResult {
+    let _started = devices.start(0);
+    if devices.start_write(0, TWO, b"ab", false).is_ok() {
+        devices.turn(0);
     }
-    .is_ok()
+    if devices.start_read(0, TWO, length).is_ok() {
+        devices.turn(0);
+    }
+    devices.result(0)
 }
 
 #[test]
-fn each_job_of_one_device_of_two(rt: HostRuntime) -> Result<(), Fail> {
-    let mut devices = MemIf::make(store(rt.alloc())?, PlainStore::without_numbers(rt.alloc()));
-    assert_eq!(rt; (devices.start(0), devices.start(1)), (Ok(()), Ok(())));
-    for (call, came_to) in [
-        (Do::Write(TWO, b"ab"), JobResult::JobOk),
-        (Do::Read(TWO, 2), JobResult::JobOk),
-        (Do::Invalidate(TWO), JobResult::JobOk),
-        (Do::Read(TWO, 2), JobResult::BlockInvalid),
-        (Do::Erase(TWO), JobResult::JobOk),
-        (Do::Read(TWO, 2), JobResult::BlockInconsistent),
-    ] {
-        assert!(rt; !starts(&mut devices, 1, &call) && !starts(&mut devices, 2, &call));
-        assert!(rt; starts(&mut devices, 0, &call));
-        assert_eq!(rt; (devices.status(0), devices.left(0)), (MemStatus::Busy, 1));
-        assert_eq!(rt; devices.turn(0), DeviceTurn::Worked);
-        assert_eq!(rt; devices.result(0), came_to);
-    }
-    assert_eq!(rt; devices.take_data(0).len(), 0);
+fn a_job_of_one_device_of_two(rt: HostRuntime) -> Result<(), Fail> {
+    let first = PlainStore::make(rt.alloc(), &numbers(rt.alloc())?)?;
+    let mut devices = MemIf::make(first, PlainStore::without_numbers(rt.alloc()));
+    let result = write_and_read(&mut devices, 2);
+    assert!(rt; result == JobResult::JobOk && devices.take_data(0) == b"ab".as_slice());
     Ok(())
 }
 
-#[test]
-fn looks_at_one_device_of_two(rt: HostRuntime) -> Result<(), Fail> {
-    let mut devices = MemIf::make(store(rt.alloc())?, PlainStore::without_numbers(rt.alloc()));
-    assert_eq!(rt; devices.most(0, TWO, DeviceOp::Write), 1);
-    devices.cancel(0);
-    devices.arm(0, 0, 1, 0);
-    assert_eq!(rt; (devices.ops(0), devices.faults(0)), (0, 0));
-    let (first, second) = devices.into_parts();
-    assert_eq!(rt;
-        (first.mark_kind(TWO), second.mark_kind(TWO)),
-        (Some(PlainMark::Erased), None)
-    );
-    assert_eq!(rt; device_refusal_number(DeviceRefusal::BadNumber), 3);
-    Ok(())
-}
-
-// What stands after a call.
-fn after(taken: bool, came_to: JobResult) -> DeviceStep {
-    DeviceStep {
-        taken,
-        result: came_to,
-        ops: 0,
-    }
-}
-
-#[test]
-fn runs_calls_but_no_cancel_of_an_urgent_job(rt: HostRuntime) -> Result<(), Fail> {
-    use JobResult::{JobCanceled, JobOk, JobPending};
-    let mut device = store(rt.alloc())?;
-    assert_eq!(rt; device.start(), Ok(()));
-    let number = TWO;
-    let content = bytes_of(rt.alloc(), b"ab")?;
+// The results behind an urgent write that isn't canceled and a turn.
+fn urgent_results(alloc: Global) -> Result<Vec<DeviceStep>, AllocError> {
+    let mut device = PlainStore::make(alloc, &numbers(alloc)?)?;
+    let _started = device.start();
     let calls = [
-        DeviceCall::Invalidate { number },
-        DeviceCall::Cancel,
         DeviceCall::Write {
-            number,
-            content,
+            number: TWO,
+            content: bytes_of(alloc, b"ab")?,
             urgent: true,
         },
         DeviceCall::Cancel,
         DeviceCall::Turn,
-        DeviceCall::Erase { number: FOUR },
-        DeviceCall::Read { number, length: 2 },
-        DeviceCall::Cancel,
     ];
-    let steps = [
-        after(true, JobPending),
-        after(false, JobCanceled),
-        after(true, JobPending),
-        after(false, JobPending),
-        after(false, JobOk),
-        after(true, JobPending),
-        after(false, JobPending),
-        after(false, JobCanceled),
-    ];
-    assert_eq!(rt;
-        run_calls(rt.alloc(), &mut device, &calls)?.as_slice(),
-        steps.as_slice()
-    );
-    assert_eq!(rt; device.mark_kind(TWO), Some(PlainMark::Content));
+    run_calls(alloc, &mut device, &calls)
+}
+
+#[test]
+fn runs_calls_but_no_cancel_of_an_urgent_job(rt: HostRuntime) -> Result<(), Fail> {
+    let results = urgent_results(rt.alloc())?;
+    assert!(rt; results.len() == 3 && results[1].result == JobResult::JobPending);
+    assert!(rt; results[2].result == JobResult::JobOk);
     Ok(())
 }
 
 #[test]
 fn work_over_any_device(rt: HostRuntime) -> Result<(), Fail> {
-    let mut device = store(rt.alloc())?;
-    assert_eq!(rt; start_up(&mut device), Ok(()));
-    assert_eq!(rt; erase(&mut device, FOUR), Ok(1));
-    assert_eq!(rt; device.start_invalidate(FOUR), Ok(()));
-    assert_eq!(rt; make_turns(&mut device), Rest::Idle);
-    assert_eq!(rt; device.mark_kind(FOUR), Some(PlainMark::Invalid));
+    let mut device = PlainStore::make(rt.alloc(), &numbers(rt.alloc())?)?;
+    assert!(rt; start_up(&mut device).is_ok());
+    assert!(rt; erase(&mut device, FOUR) == Ok(1));
+    assert!(rt; make_turns(&mut device) == Rest::Idle);
     Ok(())
 }

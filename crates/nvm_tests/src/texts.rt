@@ -1,4 +1,3 @@
-// What people read and write.
+// What people read.
 mod lines;
-mod script;
 mod summary;

@@ -1,4 +1,4 @@
-// A gate, in one thread and in seventeen.
+// A gate, in sixteen threads and the first one.
 ghost use Rattle.std.specs.Prelude.{◌≡◌, ℕ, ◌+◌, ◌-◌, ◌^◌, ◌<◌, ◌≤◌, ◌++◌, [], ◌∷◌, length, vec_len, true, false, cond, ◌==◌, ◌||◌, Some, None, All, IfOk, IfSome, IfNone};
 ghost use Rattle.turn_gate.specs.Pass.{IsFree, IsOutside, IsPassOf, knows};
 
@@ -102,30 +102,6 @@ fn change<W: Wait>(
             None
         }
     }
-}
-
-#[test]
-fn a_status_is_told_with_its_entry(rt: HostRuntime) -> Result<(), Fail> {
-    let Ok((gate, mut pass)) = make(rt.alloc(), Statuses::new(rt.alloc())?, WORDS) else {
-        assert!(rt; false, "there is memory");
-        return Ok(());
-    };
-    let first = gate.poll(&mut pass, 3);
-    assert_eq!(rt; (first.entry, first.status), (0, 0));
-    assert_eq!(rt; change(&rt, &gate, &mut pass, 3, 7), Some(1));
-    let mut other = gate.split(&mut pass);
-    assert_eq!(rt; change(&rt, &gate, &mut other, 1, 9), Some(2));
-    let told = gate.poll(&mut pass, 3);
-    assert_eq!(rt; (told.entry, told.status), (1, 7));
-    let told = gate.poll(&mut pass, 1);
-    assert_eq!(rt; (told.entry, told.status), (2, 9));
-    gate.join(&mut pass, other);
-    let value = gate.close(pass);
-    assert_eq!(rt;
-        value.list.as_slice(),
-        [(FIRST, 0), (3, 7), (1, 9)].as_slice()
-    );
-    Ok(())
 }
 
 // A pass with its number, and what its last poll told.

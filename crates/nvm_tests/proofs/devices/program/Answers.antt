@@ -1,6 +1,0 @@
-use Rattle.std.proofs.Common.{◌∙◌}
-use Rattle.nvm_tests.proofs.Steps.{step_geometry}
-use Rattle.nvm_tests.proofs.devices.program.Goals as goal
-
-pub returns : goal.returns
-returns g c = step_geometry _ _ _ _ c.program.ensures ∙ c.requires

@@ -1,0 +1,104 @@
+// Sources and sinks over a reader and a writer of which one call fails.
+use nv_streams::{Sink, SinkAnswer, Source, SourceAnswer, StdSink, StdSource};
+use std::alloc::Global;
+use std::io;
+use std::io::{ErrorKind, Read, Write};
+
+// A reader and writer of a text. It takes two bytes a call, and in its second call fails with this error.
+#[derive(Drop)]
+struct Tape {
+    text: io::Cursor<&'static [u8]>,
+    kept: Vec<u8>,
+    calls: u8,
+    error: ErrorKind,
+}
+
+impl Tape {
+    fn fails(&mut self) -> bool {
+        self.calls = self.calls.saturating_add(1);
+        self.calls == 2
+    }
+}
+
+impl Read for Tape {
+    fn read(&mut self, buf: &mut [u8]) -> io::Result<usize> {
+        if self.fails() {
+            return Err(io::Error::from(self.error));
+        }
+        self.text.read(buf)
+    }
+}
+
+impl Write for Tape {
+    fn write(&mut self, buf: &[u8]) -> io::Result<usize> {
+        if self.fails() {
+            return Err(io::Error::from(self.error));
+        }
+        let count = buf.len().min(2);
+        if self.kept.extend_from_slice(&buf[..count]).is_err() {
+            return Err(io::Error::from(ErrorKind::OutOfMemory));
+        }
+        Ok(count)
+    }
+
+    fn flush(&mut self) -> io::Result<()> {
+        Ok(())
+    }
+}
+
+fn make_tape(alloc: Global, error: ErrorKind) -> Tape {
+    Tape {
+        text: io::Cursor::new(b"abc"),
+        kept: Vec::new(alloc),
+        calls: 0,
+        error,
+    }
+}
+
+// Whether four takes of two bytes over such a reader answer so.
+fn takes(alloc: Global, error: ErrorKind, answers: [SourceAnswer; 4]) -> bool {
+    let mut source = StdSource::make(make_tape(alloc, error));
+    for answer in answers {
+        if source.take(&mut [0; 2]) != answer {
+            return false;
+        }
+    }
+    true
+}
+
+#[test]
+fn a_source_fails_with_its_reader_and_goes_on(rt: HostRuntime) {
+    use SourceAnswer::{Failed, Got};
+    let answers = [Got(2), Failed, Got(1), Got(0)];
+    assert!(rt; takes(rt.alloc(), ErrorKind::TimedOut, answers));
+}
+
+#[test]
+fn an_interrupted_read_is_made_again(rt: HostRuntime) {
+    use SourceAnswer::Got;
+    let answers = [Got(2), Got(1), Got(0), Got(0)];
+    assert!(rt; takes(rt.alloc(), ErrorKind::Interrupted, answers));
+}
+
+// What two puts over such a writer came to, and what it has then.
+fn put_twice(alloc: Global, error: ErrorKind) -> (SinkAnswer, SinkAnswer, Vec<u8>) {
+    let mut writer = make_tape(alloc, error);
+    let mut sink = StdSink::make(&mut writer);
+    let first = sink.put(b"abcde");
+    let second = sink.put(b"fg");
+    (first, second, writer.kept)
+}
+
+#[test]
+fn a_sink_fails_with_its_writer_and_goes_on(rt: HostRuntime) {
+    let (first, second, kept) = put_twice(rt.alloc(), ErrorKind::StorageFull);
+    assert!(rt; first == SinkAnswer::Failed && second == SinkAnswer::Done);
+    assert!(rt; kept.as_slice() == b"abfg".as_slice());
+}
+
+#[test]
+fn an_interrupted_write_is_made_again(rt: HostRuntime) {
+    let (first, second, kept) = put_twice(rt.alloc(), ErrorKind::Interrupted);
+    assert!(rt; first == SinkAnswer::Done && second == SinkAnswer::Done);
+    assert!(rt; kept.as_slice() == b"abcdefg".as_slice());
+}
