@@ -18,4 +18,6 @@ mod floor;
 #[cfg(test)]
 mod streams;
 #[cfg(test)]
+mod queues;
+#[cfg(test)]
 mod texts;

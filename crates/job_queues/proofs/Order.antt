@@ -1,0 +1,109 @@
+-- The queues and the machine's order.
+use Rattle.std.proofs.Common.{◌≡◌, ◌≢◌, ℕ, ◌==◌, not, Bool, true, false, if◌then◌else◌, List, [], ◌∷◌, ◌++◌, map, fold, refl, ap, ◌∙◌, Option, Some, None, option_map}
+use Rattle.block_machine.specs.Words.{Configuration}
+use Rattle.block_machine.specs.State.{Job}
+use Rattle.block_machine.specs.Order.{goes_before}
+use Rattle.block_machine.specs.Next.{first_of_two as machine_two}
+use Rattle.block_machine.specs.Steps.{without_job}
+use Rattle.job_queues.specs.declared.waiting.Waiting.{Waiting}
+use Rattle.job_queues.specs.Order.{first_of, first_of_two, rank_of}
+use Rattle.job_queues.specs.Jobs.{either, without}
+use Rattle.job_queues.specs.Laws.{only, OneOrder, FirstIsNext, TakenLeaves, NoneIsEmpty, waiting_of}
+
+-- ONE ORDER
+
+abbrev Are : Bool → Option Waiting → Type 0
+Are t None = Unit {0}
+Are t (Some w) = w.immediate ≡ t
+
+two_are_by : (t u : Bool) (b w : Waiting) → b.immediate ≡ t → w.immediate ≡ t → Are t (if u then Some w else Some b)
+two_are_by t true b w hb hw = hw
+two_are_by t false b w hb hw = hb
+
+two_are : (t : Bool) (o : Option Waiting) (w : Waiting) → Are t o → w.immediate ≡ t → Are t (first_of_two o w)
+two_are t None w h e = e
+two_are t (Some b) w h e = two_are_by t (goes_before (rank_of w) (rank_of b)) b w h e
+
+either_by : (u : Bool) (b w : Waiting) (s : Option Waiting) → (if u then Some w else Some b) ≡ either (if u then Some w else Some b) s
+either_by true b w s = refl
+either_by false b w s = refl
+
+immediate_two : (i s : Option Waiting) (w : Waiting) → Are false s → w.immediate ≡ true → first_of_two (either i s) w ≡ either (first_of_two i w) s
+immediate_two None None w hs e = refl
+immediate_two None (Some b) w hs e = rw (e, hs) refl
+immediate_two (Some b) s w hs e = either_by (goes_before (rank_of w) (rank_of b)) b w s
+
+standard_two : (i s : Option Waiting) (w : Waiting) → Are true i → w.immediate ≡ false → first_of_two (either i s) w ≡ either i (first_of_two s w)
+standard_two None s w hi e = refl
+standard_two (Some b) s w hi e = rw (e, hi) refl
+
+both_by : (t : Bool) (w : Waiting) (ws : List Waiting) (i s : Option Waiting) → w.immediate ≡ t → Are true i → Are false s
+    → ((i' s' : Option Waiting) → Are true i' → Are false s' → fold first_of_two (either i' s') ws ≡ either (fold first_of_two i' (only true ws)) (fold first_of_two s' (only false ws)))
+    → fold first_of_two (first_of_two (either i s) w) ws ≡ either (fold first_of_two i (if t then w ∷ only true ws else only true ws)) (fold first_of_two s (if not t then w ∷ only false ws else only false ws))
+both_by true w ws i s e hi hs h = ap (λ o. fold first_of_two o ws) (immediate_two i s w hs e) ∙ h (first_of_two i w) s (two_are true i w hi e) hs
+both_by false w ws i s e hi hs h = ap (λ o. fold first_of_two o ws) (standard_two i s w hi e) ∙ h i (first_of_two s w) hi (two_are false s w hs e)
+
+both : (ws : List Waiting) (i s : Option Waiting) → Are true i → Are false s → fold first_of_two (either i s) ws ≡ either (fold first_of_two i (only true ws)) (fold first_of_two s (only false ws))
+both [] i s hi hs = refl
+both (w ∷ ws) i s hi hs = both_by w.immediate w ws i s refl hi hs (both ws)
+
+pub one_order : OneOrder
+one_order ws = both ws None None tt tt
+
+-- NONE
+
+some_by : (t : Bool) (ws : List Waiting) (w x : Waiting) → ((y : Waiting) → fold first_of_two (Some y) ws ≢ None) → fold first_of_two (if t then Some x else Some w) ws ≢ None
+some_by true ws w x h = h x
+some_by false ws w x h = h w
+
+some_left : (ws : List Waiting) (w : Waiting) → fold first_of_two (Some w) ws ≢ None
+some_left [] w e = cc
+some_left (x ∷ ws) w e = some_by (goes_before (rank_of x) (rank_of w)) ws w x (λ y. some_left ws y) e
+
+either_some : (o p : Option Waiting) → o ≢ None → either o p ≢ None
+either_some None p h e = h refl
+either_some (Some w) p h e = cc
+
+none_by : (i s : List Waiting) → either (first_of i) (first_of s) ≡ None → i ++ s ≡ []
+none_by [] [] e = refl
+none_by [] (w ∷ s) e = absurd (some_left s w e)
+none_by (w ∷ i) s e = absurd (either_some (fold first_of_two (Some w) i) (first_of s) (some_left i w) e)
+
+empty_by : (i s : List Waiting) → i ++ s ≡ [] → either (first_of i) (first_of s) ≡ None
+empty_by [] [] e = refl
+empty_by [] (w ∷ s) e = cc
+empty_by (w ∷ i) s e = cc
+
+pub none_is_empty : NoneIsEmpty
+none_is_empty q = (none_by q.immediate q.standard, empty_by q.immediate q.standard)
+
+-- THE MACHINE'S NEXT JOB
+
+key_by : (t : Bool) (c : Configuration) (j b : Job) → option_map (waiting_of c) (if t then Some j else Some b) ≡ (if t then Some (waiting_of c j) else Some (waiting_of c b))
+key_by true c j b = refl
+key_by false c j b = refl
+
+key_two : (c : Configuration) (o : Option Job) (j : Job) → option_map (waiting_of c) (machine_two c o j) ≡ first_of_two (option_map (waiting_of c) o) (waiting_of c j)
+key_two c None j = refl
+key_two c (Some b) j = key_by (goes_before (rank_of (waiting_of c j)) (rank_of (waiting_of c b))) c j b
+
+key_fold : (c : Configuration) (jobs : List Job) (o : Option Job) → option_map (waiting_of c) (fold (machine_two c) o jobs) ≡ fold first_of_two (option_map (waiting_of c) o) (map (waiting_of c) jobs)
+key_fold c [] o = refl
+key_fold c (j ∷ jobs) o = key_fold c jobs (machine_two c o j) ∙ ap (λ o. fold first_of_two o (map (waiting_of c) jobs)) (key_two c o j)
+
+pub first_is_next : FirstIsNext
+first_is_next c jobs i s = key_fold c jobs None ∙ one_order (map (waiting_of c) jobs)
+
+-- A JOB THAT LEAVES
+
+leaves_by : (t u k : Bool) (c : Configuration) (j : Job) (jobs : List Job) (n : ℕ) → (j.number == n) ≡ t → (if k then (waiting_of c j).immediate else not (waiting_of c j).immediate) ≡ u
+    → only k (map (waiting_of c) (without_job n jobs)) ≡ without n (only k (map (waiting_of c) jobs))
+    → only k (map (waiting_of c) (if not t then j ∷ without_job n jobs else without_job n jobs)) ≡ without n (if u then waiting_of c j ∷ only k (map (waiting_of c) jobs) else only k (map (waiting_of c) jobs))
+leaves_by true true k c j jobs n e f h = rw e h
+leaves_by true false k c j jobs n e f h = h
+leaves_by false true k c j jobs n e f h = rw (f, e) (ap (λ ws. waiting_of c j ∷ ws) h)
+leaves_by false false k c j jobs n e f h = rw f h
+
+pub taken_leaves : TakenLeaves
+taken_leaves c [] n k = refl
+taken_leaves c (j ∷ jobs) n k = leaves_by (j.number == n) (if k then (waiting_of c j).immediate else not (waiting_of c j).immediate) k c j jobs n refl refl (taken_leaves c jobs n k)
