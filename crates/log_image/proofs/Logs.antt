@@ -1,5 +1,5 @@
 -- What becomes of a log in memory, what it reads, and how it begins.
-use Rattle.std.proofs.Common.{◌≡◌, inl, inr, ◌<◌, ◌≤◌, ℕ, suc, ◌+◌, List, [], ◌∷◌, ◌++◌, length, Some, refl, sym, ap, ◌∙◌, subst, arith}
+use Rattle.std.proofs.Common.{◌≡◌, inl, inr, ◌<◌, ◌≤◌, ℕ, suc, ◌+◌, List, [], ◌∷◌, ◌++◌, length, Option, Some, None, refl, sym, ap, ◌∙◌, subst, arith}
 use Rattle.std.proofs.lemmas.List.{append-nil}
 use Rattle.nv_base.specs.declared.mark.Mark.{Mark}
 use Rattle.fee_format.specs.declared.rec_head.RecHead.{RecHead}
@@ -10,7 +10,7 @@ use Rattle.fee_image.specs.Laws.{LogsCompute, RecordsStay, PagesAreOneRange, Bod
 use Rattle.fee_image.specs.RecordList.{Rec, Walks, records_of, end_of, end_after, pages_of_head}
 use Rattle.log_image.specs.Laws.{RecordsBegin, FreePagesAreRoom, LogsWiden, HasWork, LogsTighten, LogsStay, LoadedLogsHold, ErasedLogsHold, PlacesShowLast, IsLoadedTail}
 use Rattle.log_image.specs.Log.{Tail, Open, Writes, Owes, Closed, Log, free_behind, IsOpen, HasTail}
-use Rattle.log_image.specs.May.{May, IsAmong, IsWider, exactly, doubting}
+use Rattle.log_image.specs.May.{May, IsAmong, IsWider, exactly, beside, doubting}
 use Rattle.log_image.proofs.Marks.{stops, untouched}
 use Rattle.log_image.proofs.Placed.{placed_loaded, placed_wider, placed_stay}
 
@@ -71,28 +71,30 @@ logs_widen b numbers bytes may wide log more holds = record {
 }
 
 -- DOUBTS
-first_among : (m : Mark) (marks : List Mark) → IsAmong (Some (m ∷ marks)) m
-first_among m marks = (0, (let lt : 0 < suc (length marks) = omega arith in lt), refl)
+first_among : (m : Mark) (o : Option (List Mark)) → IsAmong (beside m o) m
+first_among m None = tt
+first_among m (Some marks) = (0, (let lt : 0 < suc (length marks) = omega arith in lt), refl)
 
-later_among : (m n : Mark) (marks : List Mark) → IsAmong (Some marks) n → IsAmong (Some (m ∷ marks)) n
-later_among m n marks (k, lt, is) = (suc k, (let l : suc k < suc (length marks) = omega arith in l), is)
+later_among : (m n : Mark) (o : Option (List Mark)) → IsAmong o n → IsAmong (beside m o) n
+later_among m n None is = tt
+later_among m n (Some marks) (k, lt, is) = (suc k, (let l : suc k < suc (length marks) = omega arith in l), is)
 
-beside : (b : Bank) (bytes : List ℕ) (more : ℕ → ℕ → List Mark) → IsWider (λ number length. Some (more number length)) (doubting b bytes more)
-beside b bytes more number length m is = later_among (mark_in b bytes number length) m (more number length) is
+more_wide : (b : Bank) (bytes : List ℕ) (more : May) → IsWider more (doubting b bytes more)
+more_wide b bytes more number length m is = later_among (mark_in b bytes number length) m (more number length) is
 
-tail_tightens : (b : Bank) (bytes : List ℕ) (may : May) (more : ℕ → ℕ → List Mark) (end : ℕ) (tail : Tail) → HasTail b bytes may end tail → HasWork more tail → HasTail b bytes (doubting b bytes more) end tail
+tail_tightens : (b : Bank) (bytes : List ℕ) (may more : May) (end : ℕ) (tail : Tail) → HasTail b bytes may end tail → HasWork more tail → HasTail b bytes (doubting b bytes more) end tail
 tail_tightens b bytes may more end Open o work = o
-tail_tightens b bytes may more end (Writes h body k) w work = record { records = w.records; staged = w.staged; left = w.left; commit = λ number length fit. beside b bytes more number length _ (work number length fit) }
+tail_tightens b bytes may more end (Writes h body k) w work = record { records = w.records; staged = w.staged; left = w.left; commit = λ number length fit. more_wide b bytes more number length _ (work number length fit) }
 tail_tightens b bytes may more end (Owes h) o work = o
 tail_tightens b bytes may more end Closed o work = o
 
 pub logs_tighten : LogsTighten
-logs_tighten b numbers bytes may log more holds placed work = record {
+logs_tighten b numbers bytes may more log holds placed work = record {
   low = holds.low;
   high = holds.high;
   shows = λ number length. first_among (mark_in b bytes number length) (more number length);
   tail = tail_tightens b bytes may more log.end log.tail holds.tail work;
-  placed = placed_wider b bytes (λ number length. Some (more number length)) (doubting b bytes more) log.end numbers log.places (beside b bytes more) placed;
+  placed = placed_wider b bytes more (doubting b bytes more) log.end numbers log.places (more_wide b bytes more) placed;
 }
 
 -- STAYS
@@ -157,7 +159,7 @@ loaded_tail b bytes may tail (inr is) = subst (HasTail b bytes may (end_of b byt
 pub loaded_logs_hold : LogsCompute → PlacesShowLast → LoadedLogsHold
 loaded_logs_hold logs last b numbers bytes tail big two is =
     let walk = ((logs b bytes (records_of b bytes) (end_of b bytes)).1 (refl, refl)).walk in
-    let give : (number length : ℕ) → IsAmong (exactly b bytes number length) (mark_in b bytes number length) = λ number length. first_among (mark_in b bytes number length) [] in
+    let give : (number length : ℕ) → IsAmong (exactly b bytes number length) (mark_in b bytes number length) = λ number length. first_among (mark_in b bytes number length) (Some []) in
     record {
       low = walk_low b bytes (records_of b bytes) 2 (end_of b bytes) walk;
       high = walk_high b bytes (records_of b bytes) 2 (end_of b bytes) two walk;

@@ -1,7 +1,6 @@
 -- Laws of a log and its bank's pages, for the layers above.
 use Rattle.std.specs.Prelude.{◌≡◌, ◌⊎◌, ◌<◌, ◌≤◌, ◌+◌, ℕ, List, Some, slice_get}
 use Rattle.nv_base.specs.declared.instance.DeviceNumber.{DeviceNumber}
-use Rattle.nv_base.specs.declared.mark.Mark.{Mark}
 use Rattle.nv_base.specs.declared.mark.Mark.TheVariants.{Erased}
 use Rattle.fee_format.specs.declared.rec_head.RecHead.{RecHead}
 use Rattle.fee_format.specs.Pages.{blank_page}
@@ -64,17 +63,17 @@ LogsWiden =
     (b : Bank) (numbers : List (DeviceNumber × ℕ)) (bytes : List ℕ) (may wide : May) (log : Log)
     → IsWider may wide → HoldsLog b numbers bytes may log → HoldsLog b numbers bytes wide log
 
--- these marks have the record in work's
-abbrev pub HasWork : (ℕ → ℕ → List Mark) → Tail → Type 0
-HasWork more (Writes h body done) = MayCommit (λ number length. Some (more number length)) h body
+-- the mark of a record in work may be found
+abbrev pub HasWork : May → Tail → Type 0
+HasWork more (Writes h body done) = MayCommit more h body
 HasWork more _ = Unit {0}
 
 -- whatever was known of what may be found: what the bank shows, the marks at the places and the record in work's are
 -- enough
 abbrev pub LogsTighten : Type 0
 LogsTighten =
-    (b : Bank) (numbers : List (DeviceNumber × ℕ)) (bytes : List ℕ) (may : May) (log : Log) (more : ℕ → ℕ → List Mark)
-    → HoldsLog b numbers bytes may log → ArePlaced b bytes (λ number length. Some (more number length)) log.end numbers log.places → HasWork more log.tail
+    (b : Bank) (numbers : List (DeviceNumber × ℕ)) (bytes : List ℕ) (may more : May) (log : Log)
+    → HoldsLog b numbers bytes may log → ArePlaced b bytes more log.end numbers log.places → HasWork more log.tail
     → HoldsLog b numbers bytes (doubting b bytes more) log
 
 -- WHAT A LOG READS

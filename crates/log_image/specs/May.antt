@@ -39,6 +39,11 @@ settling may h body number length = if fits number length h then Some (mark_writ
 abbrev pub exactly : Bank → List ℕ → May
 exactly b bytes number length = Some (mark_in b bytes number length ∷ [])
 
--- what a bank shows, or one of these marks
-abbrev pub doubting : Bank → List ℕ → (ℕ → ℕ → List Mark) → May
-doubting b bytes more number length = Some (mark_in b bytes number length ∷ more number length)
+-- a mark and these
+abbrev pub beside : Mark → Option (List Mark) → Option (List Mark)
+beside m None = None
+beside m (Some marks) = Some (m ∷ marks)
+
+-- what a bank shows, or what may be found anyway
+abbrev pub doubting : Bank → List ℕ → May → May
+doubting b bytes more number length = beside (mark_in b bytes number length) (more number length)
