@@ -1,0 +1,5 @@
+pub mod Banks
+pub mod Cases
+pub mod Copies
+pub mod Doubts
+pub mod Laws

@@ -1,0 +1,22 @@
+// Laws: the head and the gate of a switch's target. Their function does nothing.
+ghost use Rattle.bank_image.specs.Laws.{HeadsDone, GatesFail, GatesDone, GatesStand, SealsKeepSettled};
+
+use fee_image::{images_compute, programs_keep_soundness};
+use fls_model::ranges_keep_bytes;
+use log_image::{logs_stay, places_show_marks};
+
+/// The head comes where each number is copied. Whatever a program of the gate leaves, the banks are held as before, and
+/// where it is done the target is active and shows the copies alone, each at its place.
+pub fn seals_hold()
+    ensures head { HeadsDone }
+    ensures gate_fails { GatesFail }
+    ensures gate_done { GatesDone }
+    ensures gate_stands { GatesStand }
+    ensures settled { SealsKeepSettled }
+{
+    ranges_keep_bytes();
+    images_compute();
+    programs_keep_soundness();
+    logs_stay();
+    places_show_marks();
+}
