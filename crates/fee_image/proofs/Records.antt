@@ -9,9 +9,9 @@ use Rattle.fee_format.specs.RecHead.{IsRecHead, rec_head_of}
 use Rattle.fee_format.specs.Pages.{body_pages_of}
 use Rattle.fee_format.specs.Laws.{GatesCompute, RecHeadsCompute}
 use Rattle.fee_image.specs.Bank.{Bank, page_of}
-use Rattle.fee_image.specs.RecordList.{Rec, HasHead, Stands, Stops, Walks, IsLog, pages_of_head, rec_of, rec_within, record_at, and_behind, records_from, records_of, end_after, end_of}
+use Rattle.fee_image.specs.RecordList.{Rec, HasHead, Stands, Stops, Walks, IsLog, pages_of_head, rec_of, rec_within, record_at, and_behind, records_from, records_left, records_of, end_after, end_of}
 use Rattle.fee_image.specs.Found.{last_mark}
-use Rattle.fee_image.specs.Laws.{LogsCompute, MarksCompute}
+use Rattle.fee_image.specs.Laws.{LogsCompute, ListsUnfold, MarksCompute}
 use Rattle.fee_image.proofs.Picks.{then_is, if_some, some_is, none_some, same_bool}
 
 le_true : (m n : ℕ) → m ≤ n → IsTrue (nat_le m n)
@@ -124,6 +124,15 @@ module _ (gates : GatesCompute) (heads : RecHeadsCompute) (b : Bank) (bytes : Li
   one_log rs e log =
       let same : rs ≡ records_of b bytes = sym (walked rs 2 e b.pages (omega arith) log.walk log.stop) in
       (same, ends rs 2 e log.walk ∙ ap (end_after p 2) same)
+
+pub lists_unfold : GatesCompute → RecHeadsCompute → ListsUnfold
+lists_unfold gates heads b bytes q = record {
+  none = λ stops. walked gates heads b bytes [] q q b.pages (omega arith) refl stops;
+  first = λ r stands. (
+      let q2 = q + pages_of_head b.page r.head in
+      let rest = walk_of gates heads b bytes b.pages q2 (omega arith) in
+      walked gates heads b bytes (r ∷ records_left b bytes q2) q (end_after b.page q2 (records_left b bytes q2)) b.pages (omega arith) (stands, rest.0) rest.1);
+}
 
 pub logs_compute : GatesCompute → RecHeadsCompute → LogsCompute
 logs_compute gates heads b bytes rs e = (

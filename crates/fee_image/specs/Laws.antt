@@ -17,7 +17,7 @@ use Rattle.fee_format.specs.SoundHead.{IsSoundHead}
 use Rattle.std.specs.List.{All}
 use Rattle.fee_image.specs.Append.{Touches}
 use Rattle.fee_image.specs.Bank.{Bank, page_of, place_of_page, pages_from, moved}
-use Rattle.fee_image.specs.RecordList.{Rec, Stands, Walks, IsLog, pages_of_head, records_of, end_of}
+use Rattle.fee_image.specs.RecordList.{Rec, Stands, Stops, Walks, IsLog, pages_of_head, records_left, records_of, end_of}
 use Rattle.fee_image.specs.Found.{IsFound, mark_in}
 use Rattle.fee_image.specs.Image.{Layout, IsLegalLayout, layout_of, bank_in, image_page, BankStands, IsActive, HasNoActive, IsFoundIn, AreFound, head_of_bank, active_of, found_mark, found_list}
 use Rattle.fee_image.specs.Sound.{IsSoundImage, is_sound_image}
@@ -31,6 +31,14 @@ abbrev pub WalksGoOn : Type 0
 WalksGoOn =
     (b : Bank) (bytes : List ℕ) (q e : ℕ) (records : List Rec) (r : Rec)
     → Walks b bytes q records e → Stands b bytes e r → Walks b bytes q (records ++ r ∷ []) (e + pages_of_head b.page r.head)
+
+-- from a page on there are none where the list stops, and else the record there and those behind it
+pub record RecordsUnfold (b : Bank) (bytes : List ℕ) (q : ℕ) : Type 0 where
+  pub none : Stops b bytes q → records_left b bytes q ≡ []
+  pub first : (r : Rec) → Stands b bytes q r → records_left b bytes q ≡ r ∷ records_left b bytes (q + pages_of_head b.page r.head)
+
+abbrev pub ListsUnfold : Type 0
+ListsUnfold = (b : Bank) (bytes : List ℕ) (q : ℕ) → RecordsUnfold b bytes q
 
 abbrev pub MarksCompute : Type 0
 MarksCompute = (b : Bank) (bytes : List ℕ) (number length : ℕ) (m : Mark) → IsFound b bytes number length m ↔ (m ≡ mark_in b bytes number length)

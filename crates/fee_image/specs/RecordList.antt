@@ -90,8 +90,12 @@ abbrev pub records_from : Bank → List ℕ → ℕ → ℕ → List Rec
 records_from b bytes zero q = []
 records_from b bytes (suc n) q = and_behind (record_at b bytes q) (λ r. records_from b bytes n (q + pages_of_head b.page r.head))
 
+-- all that stand from page q on
+abbrev pub records_left : Bank → List ℕ → ℕ → List Rec
+records_left b bytes q = records_from b bytes b.pages q
+
 abbrev pub records_of : Bank → List ℕ → List Rec
-records_of b bytes = records_from b bytes b.pages 2
+records_of b bytes = records_left b bytes 2
 
 -- the page behind these records, the first of which stands at page q
 abbrev pub end_after : ℕ → ℕ → List Rec → ℕ

@@ -1,11 +1,12 @@
 // Laws: the relations of an image are functions that compute. Their functions do nothing.
-ghost use Rattle.fee_image.specs.Laws.{LogsCompute, WalksGoOn, MarksCompute, HeadsCompute, ActiveComputes, NoActiveComputes, FoundComputes, FoundListsCompute, FoundListsAreMarks, SoundImagesCompute};
+ghost use Rattle.fee_image.specs.Laws.{LogsCompute, ListsUnfold, WalksGoOn, MarksCompute, HeadsCompute, ActiveComputes, NoActiveComputes, FoundComputes, FoundListsCompute, FoundListsAreMarks, SoundImagesCompute};
 
 use fee_format::pages_compute;
 
-/// A bank has one record list with one end, and each number has one mark in it.
+/// A bank has one record list with one end, which a walk from page to page gives, and each number has one mark in it.
 pub fn records_compute()
     ensures logs { LogsCompute }
+    ensures unfold { ListsUnfold }
     ensures walks { WalksGoOn }
     ensures marks { MarksCompute }
 {
