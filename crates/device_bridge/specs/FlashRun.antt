@@ -2,9 +2,8 @@
 use Rattle.std.specs.Prelude.{◌≡◌, ◌⊎◌, ◌+◌, ℕ, List, [], ◌∷◌, length, slice_get, Option, Some, IfSome}
 use Rattle.std.specs.Option.{option_map_or}
 use Rattle.nv_base.specs.declared.geometry.Geometry.{Geometry}
-use Rattle.fls_model.specs.declared.flash.FlashAnswer.{FlashAnswer}
-use Rattle.fls_model.specs.declared.flash.FlashAnswer.TheVariants.{Done}
-use Rattle.fls_model.specs.Op.{Op, Program, Erase, after_op, MayLeave}
+use Rattle.fls_model.specs.Op.{Op, Program, Erase, MayLeave}
+use Rattle.fls_model.specs.Step.{Leaves}
 use Rattle.fls_model.specs.Told.{Told, Change, IfBothTold, bytes_now, changes_in}
 use Rattle.device_bridge.specs.Image.{attached, IsSoundFlash}
 
@@ -40,15 +39,10 @@ abbrev pub StartsSound : Geometry → FlashRun → Type 0
 StartsSound g f = IfSome (bytes_now f.entry) (IsSoundFlash g)
 
 -- OPERATIONS AND BYTES
--- an operation with this answer leaves these bytes: it was done, or left what a cut within it may leave
-abbrev pub Leaves : FlashAnswer → Op → List ℕ → List ℕ → Type 0
-Leaves Done op before next = next ≡ after_op op before
-Leaves answer op before next = MayLeave op before next
-
 -- each operation finds the bytes that the one before it left, from the first bytes on to the last
 abbrev pub IsChain : List ℕ → List Change → List ℕ → Type 0
 IsChain first [] last = last ≡ first
-IsChain first (x ∷ xs) last = (x.before ≡ first) × ((next : List ℕ) × Leaves x.answer x.op x.before next × IsChain next xs last)
+IsChain first (x ∷ xs) last = (x.before ≡ first) × ((next : List ℕ) × Leaves x.op x.answer x.before next × IsChain next xs last)
 
 -- the same page, or the same sectors
 abbrev pub HasSamePlace : Op → Op → Type 0
