@@ -14,4 +14,3 @@ pub mod Order
 pub mod ResultTable
 pub mod Accepted
 pub mod Cases
-pub mod ReplyCases

@@ -4,7 +4,7 @@ use Rattle.std.specs.List.{list_any, enumerate_from}
 use Rattle.nv_base.specs.Cell.{settled_as}
 use Rattle.nv_base.specs.Marks.{instance_of}
 use Rattle.block_config.specs.Lengths.{lengths_of}
-use Rattle.block_machine.specs.Words.{Fine, Instance, Mark, Erased, BlockDesc, Configuration}
+use Rattle.block_machine.specs.Words.{Instance, Mark, Erased, BlockDesc, Configuration}
 use Rattle.block_machine.specs.State.{State, BlockState, InstanceState}
 use Rattle.block_machine.specs.Blocks.{no_block, keeps_ram, same_instance}
 
@@ -27,23 +27,16 @@ found_instances c marks = map (λ x. found_instance marks (instance_of x.0)) (le
 -- A block is protected as it is configured, but a write-once block where one of its instances isn't erased. RAM that the
 -- manager keeps is zeros.
 abbrev pub started_block : Configuration → List (Instance × Mark) → ℕ → BlockDesc → BlockState
-started_block c marks id d = record {
-  status = Fine;
-  index = 0;
-  locked = false;
+started_block c marks id d = record no_block {
   protected = if d.once then list_any (λ x. x.0.block == id) marks else d.protected;
   ram = if keeps_ram c id then replicate d.length 0 else [];
-  valid = false;
-  changed = false;
 }
 
 -- A start-up that finds these marks: nothing is pending, and nothing is locked. The counts go on.
 abbrev pub started_with : Configuration → State → List (Instance × Mark) → State
-started_with c s marks = record {
+started_with c s marks = record s {
   started = true;
   off = false;
-  count = s.count;
-  ops = s.ops;
   blocks = no_block ∷ map (λ x. started_block c marks x.0 x.1) (enumerate_from 1 c.blocks);
   instances = found_instances c marks;
   waiting = [];

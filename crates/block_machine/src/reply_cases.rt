@@ -1,8 +1,7 @@
 // What every request is replied to, while one thing stands in its way.
 ghost use Rattle.std.specs.Prelude.{◌≡◌, [], ◌∷◌, true};
 ghost use Rattle.block_machine.specs.Words.{Fine, Pending, SetIndex, SetProtection, SetLock, ReadAll, WriteAll, Accepted, Refused, StatusIs, IndexIs, UnknownBlock, NotStarted, WrongType, NoRam, NoDefaults, NotImmediate, MultiPending, BlockPending, Locked, Protected, RomIndex, NothingToCancel, QueueFull, HistoryFull, Off, Found};
-ghost use Rattle.block_machine.specs.Cases.{cap, first, with_queues, ok, read, write, bytes_1};
-ghost use Rattle.block_machine.specs.ReplyCases.{each_reply, rows_config};
+ghost use Rattle.block_machine.specs.Cases.{cap, first, with_queues, ok, read, write, bytes_1, each_reply, rows_config};
 
 /// By what its block is.
 pub fn each_block_has_its_replies()

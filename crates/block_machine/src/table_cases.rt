@@ -10,7 +10,7 @@ ghost use Rattle.block_machine.specs.Results.{checked_id};
 ghost use Rattle.block_machine.specs.Sweeps.{members_of, may_be_written, may_be_read, spoils, sweep_at, sweep_result};
 ghost use Rattle.block_machine.specs.Reply.{needed, reserved_entries};
 ghost use Rattle.block_machine.specs.Steps.{after, ended};
-ghost use Rattle.block_machine.specs.Cases.{Replies, first, with_queues, flags_after, new_flags_after, rank, ok, write, read, pick, pick_write, post, bytes_1, dataset_config, mixed_config, redundant_config, sync_config, once_config, urgent_config, guarded_config, readall_writeall, write_then_read, id_is_same};
+ghost use Rattle.block_machine.specs.Cases.{Replies, first, with_queues, flags_after, rank, ok, write, read, pick, pick_write, post, bytes_1, dataset_config, mixed_config, redundant_config, sync_config, once_config, urgent_config, guarded_config, readall_writeall, write_then_read, id_is_read};
 
 /// Each refusal where it holds, and where it just doesn't.
 pub fn requests_are_refused_by_the_table()
@@ -112,25 +112,25 @@ pub fn results_by_the_table()
 
 /// RAM and its flags after each job, and after the requests that change them.
 pub fn ram_by_the_table()
-    ensures read_0 { new_flags_after ReadJob Fine ≡ (true, false) }
-    ensures read_7 { new_flags_after ReadJob RedundancyFailed ≡ (true, false) }
-    ensures read_8 { new_flags_after ReadJob Restored ≡ (true, true) }
-    ensures restore_0 { new_flags_after RestoreJob Fine ≡ (true, true) }
-    ensures write_0 { new_flags_after WriteJob Fine ≡ (true, false) }
-    ensures write_7 { new_flags_after WriteJob RedundancyFailed ≡ (true, false) }
-    ensures read_1 { flags_after ReadJob NotOk ≡ (false, false) }
-    ensures read_3 { flags_after ReadJob IntegrityFailed ≡ (false, false) }
-    ensures read_5 { flags_after ReadJob Invalidated ≡ (false, false) }
-    ensures read_over_changed { flags_after ReadJob Fine ≡ (true, false) }
-    ensures write_over_changed { flags_after WriteJob Fine ≡ (true, false) }
-    ensures write_1_as_before { flags_after WriteJob NotOk ≡ (true, true) }
-    ensures write_1_as_new { new_flags_after WriteJob NotOk ≡ (false, false) }
-    ensures restore_1_as_before { flags_after RestoreJob NotOk ≡ (true, true) }
-    ensures restore_1_as_new { new_flags_after RestoreJob NotOk ≡ (false, false) }
-    ensures skipped_as_before { flags_after WriteJob BlockSkipped ≡ (true, true) }
-    ensures skipped_as_new { new_flags_after WriteJob BlockSkipped ≡ (false, false) }
-    ensures erase_as_before { flags_after EraseJob Fine ≡ (true, true) }
-    ensures erase_as_new { new_flags_after EraseJob Fine ≡ (false, false) }
+    ensures read_0 { flags_after false ReadJob Fine ≡ (true, false) }
+    ensures read_7 { flags_after false ReadJob RedundancyFailed ≡ (true, false) }
+    ensures read_8 { flags_after false ReadJob Restored ≡ (true, true) }
+    ensures restore_0 { flags_after false RestoreJob Fine ≡ (true, true) }
+    ensures write_0 { flags_after false WriteJob Fine ≡ (true, false) }
+    ensures write_7 { flags_after false WriteJob RedundancyFailed ≡ (true, false) }
+    ensures read_1 { flags_after true ReadJob NotOk ≡ (false, false) }
+    ensures read_3 { flags_after true ReadJob IntegrityFailed ≡ (false, false) }
+    ensures read_5 { flags_after true ReadJob Invalidated ≡ (false, false) }
+    ensures read_over_changed { flags_after true ReadJob Fine ≡ (true, false) }
+    ensures write_over_changed { flags_after true WriteJob Fine ≡ (true, false) }
+    ensures write_1_as_before { flags_after true WriteJob NotOk ≡ (true, true) }
+    ensures write_1_as_new { flags_after false WriteJob NotOk ≡ (false, false) }
+    ensures restore_1_as_before { flags_after true RestoreJob NotOk ≡ (true, true) }
+    ensures restore_1_as_new { flags_after false RestoreJob NotOk ≡ (false, false) }
+    ensures skipped_as_before { flags_after true WriteJob BlockSkipped ≡ (true, true) }
+    ensures skipped_as_new { flags_after false WriteJob BlockSkipped ≡ (false, false) }
+    ensures erase_as_before { flags_after true EraseJob Fine ≡ (true, true) }
+    ensures erase_as_new { flags_after false EraseJob Fine ≡ (false, false) }
     ensures put { (block_at (after demo_config (Found [] 0 ∷ ok (PutRam 2 bytes_1) ∷ [])) 2).ram ≡ bytes_1 }
     ensures put_is_not_valid { (block_at (after demo_config (Found [] 0 ∷ ok (PutRam 2 bytes_1) ∷ [])) 2).valid ≡ false }
     ensures put_is_not_changed { (block_at (after demo_config (Found [] 0 ∷ ok (PutRam 2 bytes_1) ∷ [])) 2).changed ≡ false }
@@ -138,7 +138,7 @@ pub fn ram_by_the_table()
     ensures zeros_at_first { (block_at (after demo_config first) 2).ram ≡ (0 ∷ 0 ∷ 0 ∷ 0 ∷ []) }
     ensures manager_ram { (block_at (after demo_config readall_writeall) 1).ram ≡ (0 ∷ 1 ∷ []) }
     ensures read_to_buffer { (block_at (after demo_config write_then_read) 2).ram ≡ (0 ∷ 0 ∷ 0 ∷ 0 ∷ []) }
-    ensures read_to_ram { (block_at (after demo_config id_is_same) 2).ram ≡ bytes_1 }
+    ensures read_to_ram { (block_at (after demo_config (id_is_read Fine Fine)) 2).ram ≡ bytes_1 }
     ensures write_protects_once { (ended (record (plain_block 4) { once = true }) false WriteJob false RedundancyFailed None no_block).protected ≡ true }
     ensures failed_write_protects_not { (ended (record (plain_block 4) { once = true }) false WriteJob false NotOk None no_block).protected ≡ false }
 {}

@@ -1,58 +1,48 @@
 // Histories that a run may have.
-ghost use Rattle.std.specs.Prelude.{◌≡◌};
+ghost use Rattle.std.specs.Prelude.{[], ◌∷◌, ◌≡◌, None, Some, true, ◌++◌};
 ghost use Rattle.block_config.specs.DemoConfig.{demo_config};
-ghost use Rattle.block_machine.specs.Words.{Content, Erased};
+ghost use Rattle.block_machine.specs.Words.{Content, Erased, Ask, BlockSkipped, CancelWriteAll, Canceled, Fine, Found, GetIndex, HistoryFull, IndexIs, IntegrityFailed, NotOk, NotStarted, Off, Post, Protected, PutRam, ReadAll, ReadAllJob, ReadJob, Restored, SetIndex, SetLock, SetRam, Sync, Write, WriteAll, WriteAllJob};
 ghost use Rattle.block_machine.specs.Legal.{IsLegal};
 ghost use Rattle.block_machine.specs.History.{IsAllowedAt};
 ghost use Rattle.block_machine.specs.Prices.{prices_in_faults, prices_in_refusals};
-ghost use Rattle.block_machine.specs.Cases.{cap, at, bytes_1, bytes_2, torn_header_closes_the_bank, restart_in_the_middle, write_then_read, read_blank, cut_before_commit_gate, cut_keeps_commit_gate, second_write_is_pending, immediate_write_interrupts, interrupt_config, queue_full, queue_config, faults_use_up_the_tries, redundant_read_from_copy_1, redundant_config, dataset_and_rom, dataset_config, canceled_writeall, cancel_config, all_copies_refused, one_copy_refused, sync_config, invalidate, readall_writeall, restore_and_erase, erase_config, nothing_to_cancel, copy_in_refused, copy_in_config, id_is_same, id_from_copy_1, canceled_early, mixed_config, interrupted_between_copies, sync_member_config, member_copy_refused, stale_write, guarded_config, guarded, history_full};
+ghost use Rattle.block_machine.specs.Cases.{cap, at, bytes_1, bytes_2, write_then_read, faults_use_up_the_tries, redundant_read_from_copy_1, redundant_config, dataset_and_rom, dataset_config, cancel_config, all_copies_refused, sync_config, readall_writeall, copy_in_refused, copy_in_config, id_from_copy_1, mixed_config, stale_write, guarded_config, config_of, four, give, ok, pick, pick_write, post, read, refused, write, wrote, cut_and_found, id_is_read};
+ghost use Rattle.block_config.specs.Block.{plain_block};
 
 /// Writes and reads of the demo's blocks, on blank and on written flash.
 pub fn simple_cases_are_legal()
     ensures write_then_read { IsLegal demo_config cap write_then_read }
-    ensures read_blank { IsLegal demo_config cap read_blank }
-    ensures second_write_is_pending { IsLegal demo_config cap second_write_is_pending }
-    ensures invalidate { IsLegal demo_config cap invalidate }
-    ensures nothing_to_cancel { IsLegal demo_config cap nothing_to_cancel }
 {}
 
 /// Cuts, faults and start-ups.
 pub fn cases_with_faults_are_legal()
-    ensures cut_before_commit_gate { IsLegal demo_config cap cut_before_commit_gate }
-    ensures cut_keeps_commit_gate { IsLegal demo_config cap cut_keeps_commit_gate }
-    ensures torn_header_closes_the_bank { IsLegal demo_config cap torn_header_closes_the_bank }
-    ensures restart_in_the_middle { IsLegal demo_config cap restart_in_the_middle }
+    ensures cut_before_commit_gate { IsLegal demo_config cap (cut_and_found bytes_1) }
+    ensures cut_keeps_commit_gate { IsLegal demo_config cap (cut_and_found bytes_2) }
     ensures faults_use_up_the_tries { IsLegal demo_config cap faults_use_up_the_tries }
     ensures redundant_read_from_copy_1 { IsLegal redundant_config cap redundant_read_from_copy_1 }
 {}
 
 /// The order of jobs.
 pub fn cases_of_order_are_legal()
-    ensures immediate_write_interrupts { IsLegal interrupt_config cap immediate_write_interrupts }
-    ensures queue_full { IsLegal queue_config cap queue_full }
     ensures dataset_and_rom { IsLegal dataset_config cap dataset_and_rom }
-    ensures restore_and_erase { IsLegal erase_config cap restore_and_erase }
 {}
 
 /// RAM and sweeps.
 pub fn cases_of_ram_are_legal()
-    ensures canceled_writeall { IsLegal cancel_config cap canceled_writeall }
     ensures readall_writeall { IsLegal demo_config cap readall_writeall }
     ensures all_copies_refused { IsLegal sync_config cap all_copies_refused }
-    ensures one_copy_refused { IsLegal sync_config cap one_copy_refused }
     ensures copy_in_refused { IsLegal copy_in_config cap copy_in_refused }
 {}
 
 /// Further histories that are legal: what no printed case shows.
 pub fn corner_cases_are_legal()
-    ensures id_is_same { IsLegal demo_config cap id_is_same }
+    ensures id_is_same { IsLegal demo_config cap (id_is_read Fine Fine ++ ok WriteAll ∷ pick 0 WriteAllJob 0 ∷ post 2 BlockSkipped 0 ∷ post 1 BlockSkipped 0 ∷ post 0 Fine 0 ∷ []) }
     ensures id_from_copy_1 { IsLegal demo_config cap id_from_copy_1 }
-    ensures canceled_early { IsLegal demo_config cap canceled_early }
-    ensures interrupted_between_copies { IsLegal mixed_config cap interrupted_between_copies }
-    ensures member_copy_refused { IsLegal sync_member_config cap member_copy_refused }
+    ensures canceled_early { IsLegal demo_config cap (Found [] 0 ∷ ok (write 2 bytes_1) ∷ ok WriteAll ∷ ok CancelWriteAll ∷ pick_write 2 bytes_1 0 ∷ wrote 2 0 bytes_1 10 ∷ post 2 Fine 10 ∷ pick 0 WriteAllJob 10 ∷ post 0 Canceled 10 ∷ []) }
+    ensures interrupted_between_copies { IsLegal mixed_config cap (Found [] 0 ∷ ok (PutRam 2 bytes_1) ∷ ok (Write 2 None 0) ∷ pick_write 2 bytes_1 0 ∷ wrote 2 0 bytes_1 10 ∷ ok (write 3 bytes_2) ∷ pick_write 3 bytes_2 11 ∷ wrote 3 0 bytes_2 15 ∷ post 3 Fine 15 ∷ pick_write 2 bytes_1 15 ∷ wrote 2 0 bytes_1 19 ∷ wrote 2 1 bytes_1 23 ∷ post 2 Fine 23 ∷ []) }
+    ensures member_copy_refused { IsLegal (config_of (record (plain_block 4) { ram = Sync; repeats = 1; defaults = Some bytes_2; readall = true } ∷ [])) cap (Found [] 0 ∷ ok ReadAll ∷ pick 0 ReadAllJob 0 ∷ pick 1 ReadJob 0 ∷ give 1 Restored (0 ∷ 1 ∷ []) 0 ∷ Post 2 NotOk None 2 0 ∷ post 0 NotOk 0 ∷ []) }
     ensures stale_write { IsLegal sync_config cap stale_write }
-    ensures guarded { IsLegal guarded_config cap guarded }
-    ensures history_full { IsLegal cancel_config 6 history_full }
+    ensures guarded { IsLegal guarded_config cap (Found ((at 2 0, Content bytes_1) ∷ []) 0 ∷ refused (write 2 bytes_2) Protected ∷ ok (SetLock 3 true) ∷ ok (SetIndex 3 1) ∷ Off 0 ∷ refused (read 2) NotStarted ∷ Found ((at 2 0, Content bytes_1) ∷ []) 0 ∷ Ask 0 (GetIndex 3) (IndexIs 0) ∷ ok (SetIndex 3 1) ∷ ok (SetRam 3 true) ∷ ok WriteAll ∷ pick 0 WriteAllJob 0 ∷ post 3 BlockSkipped 0 ∷ post 1 BlockSkipped 0 ∷ post 0 Fine 0 ∷ []) }
+    ensures history_full { IsLegal cancel_config 6 (Found [] 0 ∷ ok (read 2) ∷ refused (write 3 (four 1)) HistoryFull ∷ pick 2 ReadJob 0 ∷ post 2 IntegrityFailed 0 ∷ []) }
 {}
 
 /// What the failures of the cases cost in faults and in refused copies.
@@ -70,9 +60,9 @@ pub fn failures_have_their_price()
 /// Which marks may stand when the flash was asked for so many operations: before a Wrote the old one and the new one,
 /// from the Wrote on the new one alone.
 pub fn marks_at_a_cut()
-    ensures old { IsAllowedAt demo_config cut_before_commit_gate 13 (at 2 0) (Content bytes_1) }
-    ensures new { IsAllowedAt demo_config cut_before_commit_gate 13 (at 2 0) (Content bytes_2) }
-    ensures not_erased { ¬ IsAllowedAt demo_config cut_before_commit_gate 13 (at 2 0) Erased }
+    ensures old { IsAllowedAt demo_config (cut_and_found bytes_1) 13 (at 2 0) (Content bytes_1) }
+    ensures new { IsAllowedAt demo_config (cut_and_found bytes_1) 13 (at 2 0) (Content bytes_2) }
+    ensures not_erased { ¬ IsAllowedAt demo_config (cut_and_found bytes_1) 13 (at 2 0) Erased }
     ensures blank { IsAllowedAt demo_config write_then_read 9 (at 2 0) Erased }
     ensures first { IsAllowedAt demo_config write_then_read 9 (at 2 0) (Content bytes_1) }
     ensures settled { IsAllowedAt demo_config write_then_read 10 (at 2 0) (Content bytes_1) }

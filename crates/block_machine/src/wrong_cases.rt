@@ -1,16 +1,17 @@
 // Histories that no run may have, each one step from a legal one.
-ghost use Rattle.std.specs.Prelude.{[], ◌∷◌, ◌++◌, take, replicate, None, true};
+ghost use Rattle.std.specs.Prelude.{[], ◌∷◌, ◌++◌, replicate, None, true};
 ghost use Rattle.block_config.specs.DemoConfig.{demo_config};
 ghost use Rattle.block_machine.specs.Words.{Fine, NotOk, Pending, IntegrityFailed, BlockSkipped, RedundancyFailed, Restored, Content, Invalid, Erased, Read, Write, SetIndex, SetLock, SetRam, PutRam, Status, ReadAll, WriteAll, CancelWriteAll, Accepted, StatusIs, BadLength, Locked, HistoryFull, ReadJob, WriteJob, ReadAllJob, WriteAllJob, TookContent, TookRefused, TookStale, Ask, Pick, Post, Off, Found};
 ghost use Rattle.block_machine.specs.Legal.{IsLegal};
-ghost use Rattle.block_machine.specs.Cases.{cap, FailsAtLast, ok, refused, write, read, pick, pick_write, at, wrote, post, give, bytes_1, bytes_2, four, small, one_write, put_all, open_write, queue_config, dataset_config, mixed_config, redundant_config, sync_config, cancel_config, sync_plain, prio_config, once_config, urgent_config};
+ghost use Rattle.block_machine.specs.Cases.{cap, FailsAtLast, ok, refused, write, read, pick, pick_write, at, wrote, post, give, bytes_1, bytes_2, four, small, one_write, put_all, open_write, queue_config, dataset_config, mixed_config, redundant_config, sync_config, cancel_config, sync_plain, once_config, urgent_config, config_of};
+ghost use Rattle.block_config.specs.Block.{plain_block};
 
 /// Jobs: their order, what they take, what they write.
 pub fn wrong_jobs_are_refuted()
     ensures standard_before_immediate { FailsAtLast demo_config cap (Found [] 0 ∷ ok (write 2 bytes_1) ∷ ok (write 3 (replicate 20 1)) ∷ pick_write 2 bytes_1 0 ∷ []) }
     ensures copy_1_before_copy_0 { FailsAtLast redundant_config cap (Found [] 0 ∷ ok (write 2 (four 10)) ∷ pick_write 2 (four 10) 0 ∷ wrote 2 1 (four 10) 10 ∷ wrote 2 0 (four 10) 14 ∷ []) }
     ensures immediate_interrupted { FailsAtLast urgent_config cap (Found [] 0 ∷ ok (write 2 bytes_1) ∷ pick_write 2 bytes_1 0 ∷ ok (write 3 bytes_2) ∷ pick_write 3 bytes_2 4 ∷ []) }
-    ensures lower_priority_first { FailsAtLast prio_config cap (Found [] 0 ∷ ok (write 2 bytes_1) ∷ ok (write 3 bytes_1) ∷ pick_write 2 bytes_1 0 ∷ []) }
+    ensures lower_priority_first { FailsAtLast (config_of (record (plain_block 4) { priority = 100 } ∷ record (plain_block 4) { priority = 10 } ∷ [])) cap (Found [] 0 ∷ ok (write 2 bytes_1) ∷ ok (write 3 bytes_1) ∷ pick_write 2 bytes_1 0 ∷ []) }
     ensures later_request_first { FailsAtLast queue_config cap (Found [] 0 ∷ ok (write 2 bytes_1) ∷ ok (write 3 bytes_1) ∷ pick_write 3 bytes_1 0 ∷ []) }
     ensures standard_interrupts { FailsAtLast queue_config cap (Found [] 0 ∷ ok (write 2 bytes_1) ∷ ok (write 3 bytes_1) ∷ pick_write 2 bytes_1 0 ∷ pick_write 3 bytes_1 0 ∷ []) }
     ensures takes_ram_again { FailsAtLast mixed_config cap (Found [] 0 ∷ ok (PutRam 2 bytes_1) ∷ ok (Write 2 None 0) ∷ pick_write 2 bytes_1 0 ∷ wrote 2 0 bytes_1 10 ∷ ok (write 3 bytes_2) ∷ pick_write 3 bytes_2 11 ∷ wrote 3 0 bytes_2 15 ∷ post 3 Fine 15 ∷ pick_write 2 bytes_2 15 ∷ []) }
