@@ -1,6 +1,3 @@
-pub mod Bank
-pub mod Desk
-pub mod DeskKept
 pub mod Ends
 pub mod Input
 pub mod Measures

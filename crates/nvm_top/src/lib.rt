@@ -5,13 +5,10 @@
 //! left to the other crates; the program only makes the real input, output and flash.
 #![tactic(auto)]
 
-mod bank_device;
 mod check;
 mod commands;
 mod configuration;
-mod desk;
 mod input;
-mod job;
 mod measures;
 mod output;
 mod play;

@@ -12,8 +12,7 @@ ghost use Rattle.nvm_top.specs.Stop.{status_of};
 ghost use Rattle.nvm_top.specs.Words.{command_of, is_play};
 
 use crate::Status;
-use crate::bank_device::BankDevice;
-use crate::desk::AskFault;
+use first_run::{AskFault, BankDevice};
 use crate::output::{report, write_end, write_history};
 use crate::playable::{Playable, read_playable};
 use crate::stack::{Stack, Turned};

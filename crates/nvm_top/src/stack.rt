@@ -1,13 +1,11 @@
 // The turn: one entry of the history or one flash call at most.
 ghost use Rattle.std.specs.Prelude.{◌≡◌, ◌≤◌, IfOk, IfErr};
 ghost use Rattle.nv_base.specs.Count.{Rose};
-ghost use Rattle.nvm_top.specs.Desk.{ReadsSo};
+ghost use Rattle.first_run.specs.Desk.{ReadsSo};
 ghost use Rattle.nvm_top.specs.Play.{IsRunEnd};
 ghost use Rattle.nvm_top.specs.Stop.{status_of};
 
-use crate::bank_device::{BankDevice, ReadTurn, StartFault, WriteTurn};
-use crate::desk::{AskFault, Desk};
-use crate::job::InHand;
+use first_run::{AskFault, BankDevice, Desk, InHand, ReadTurn, StartFault, WriteTurn};
 use crate::stop::Stop;
 use fls_model::Flash;
 use nv_base::{Bytes, History, Lengths, Reply, ReqResult};

@@ -1,6 +1,6 @@
 use Rattle.fee_log.specs.declared.log_step.LogStep.TheVariants.{More, Failed, Off}
-use Rattle.nvm_top.proofs.BankLemmas.{kept-append}
-use Rattle.nvm_top.proofs.bank_device.BankDevice.append_step.Goals as goal
+use Rattle.first_run.proofs.BankLemmas.{kept-append}
+use Rattle.first_run.proofs.bank_device.BankDevice.append_step.Goals as goal
 
 pub invariant_of-self : goal.invariant_of-self
 invariant_of-self g c = kept-append _ More c.step.new.self _ _ _ _ _ _ c.self.invariant.0 c.self.invariant.1 c.in-More.ensures.log c.in-More.ensures.attached

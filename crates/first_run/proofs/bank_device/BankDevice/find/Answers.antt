@@ -1,8 +1,8 @@
 use Rattle.std.proofs.Common.{◌≡◌, length, ap, arith}
 use Rattle.nv_base.specs.Marks.{next_or}
-use Rattle.nvm_top.proofs.Numbers.{next_or-push}
-use Rattle.nvm_top.proofs.bank_device.BankDevice.find.Goals as goal
-use Rattle.nvm_top.proofs.bank_device.BankDevice.find.Goals.{in-Content+in_ok-bytes_of-in-Content, in-Invalid}
+use Rattle.first_run.proofs.Numbers.{next_or-push}
+use Rattle.first_run.proofs.bank_device.BankDevice.find.Goals as goal
+use Rattle.first_run.proofs.bank_device.BankDevice.find.Goals.{in-Content+in_ok-bytes_of-in-Content, in-Invalid}
 
 pub returns-in-Ok-clause-next : goal.returns-in-Ok-clause-next
 returns-in-Ok-clause-next g c =

@@ -2,11 +2,11 @@
 use Rattle.std.specs.Prelude.{◌≡◌, ◌≤◌, ℕ, Bool, true, false, ◌+◌, List, length, Option, Some, None, Contains}
 use Rattle.nv_base.specs.History.{Listed}
 use Rattle.nv_base.specs.declared.instance.DeviceNumber.{DeviceNumber}
-use Rattle.nvm_top.specs.declared.job.Job.{Job}
-use Rattle.nvm_top.specs.declared.job.Stage.{Stage}
-use Rattle.nvm_top.specs.declared.job.Stage.TheVariants.{WriteWaits, ReadWaits, Writing, Reading, Ended}
-use Rattle.nvm_top.specs.declared.job.InHand.{InHand}
-use Rattle.nvm_top.specs.declared.job.InHand.TheVariants as hand
+use Rattle.first_run.specs.declared.job.Job.{Job}
+use Rattle.first_run.specs.declared.job.Stage.{Stage}
+use Rattle.first_run.specs.declared.job.Stage.TheVariants.{WriteWaits, ReadWaits, Writing, Reading, Ended}
+use Rattle.first_run.specs.declared.job.InHand.{InHand}
+use Rattle.first_run.specs.declared.job.InHand.TheVariants as hand
 
 -- what is pending: nothing, a job that waits for its Pick, one that the device has to write or read for, or one that
 -- waits for its Post

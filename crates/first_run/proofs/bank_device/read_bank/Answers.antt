@@ -1,8 +1,8 @@
 use Rattle.std.proofs.Common.{ℕ, ◌≡◌, ap, ◌∙◌, arith}
 use Rattle.std.proofs.lemmas.List.{length-take}
 use Rattle.fls_model.specs.Told.{Told}
-use Rattle.nvm_top.proofs.BankLemmas.{sector-inside, bank-inside}
-use Rattle.nvm_top.proofs.bank_device.read_bank.Goals as goal
+use Rattle.first_run.proofs.BankLemmas.{sector-inside, bank-inside}
+use Rattle.first_run.proofs.bank_device.read_bank.Goals as goal
 
 pub read-requires : goal.read-requires
 read-requires g c =

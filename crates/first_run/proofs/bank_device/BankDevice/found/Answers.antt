@@ -1,8 +1,8 @@
 use Rattle.std.proofs.Common.{◌≡◌, ℕ, suc, ◌+◌, take, ap, ◌∙◌, add-one, arith}
 use Rattle.nv_base.specs.Lengths.{last_or}
-use Rattle.nvm_top.proofs.Numbers.{item}
-use Rattle.nvm_top.proofs.BankLemmas.{reads-reads}
-use Rattle.nvm_top.proofs.bank_device.BankDevice.found.Goals as goal
+use Rattle.first_run.proofs.Numbers.{item}
+use Rattle.first_run.proofs.BankLemmas.{reads-reads}
+use Rattle.first_run.proofs.bank_device.BankDevice.found.Goals as goal
 
 pub find-requires-clause-length : goal.find-requires-clause-length
 find-requires-clause-length g c = (item 0 c.args.numbers.now c.loop-i.i (c.in-Some.number, c.in-Some.length) c.len-i-end.ensures.bounds c.in-Some.ensures).small

@@ -10,8 +10,8 @@ use Rattle.fee_log.specs.declared.log_step.LogStep.{LogStep}
 use Rattle.fee_log.specs.declared.log_step.LogStep.TheVariants.{More, Committed, Failed, Off}
 use Rattle.fee_log.specs.Log.{LogState}
 use Rattle.fee_log.specs.Step.{after_step, advanced}
-use Rattle.nvm_top.specs.declared.bank_device.Writing.{Writing}
-use Rattle.nvm_top.specs.Bank.{BankState, IsKept, IsWorkOf, HasRoom, ReadsOnly, bank_size_of}
+use Rattle.first_run.specs.declared.bank_device.Writing.{Writing}
+use Rattle.first_run.specs.Bank.{BankState, IsKept, IsWorkOf, HasRoom, ReadsOnly, bank_size_of}
 
 -- A STEP OF AN APPEND
 -- an open write goes on, and one that is over is gone

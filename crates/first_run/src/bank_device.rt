@@ -7,7 +7,7 @@ ghost use Rattle.block_config.specs.Banks.{bank_count, bank_pages_of};
 ghost use Rattle.fls_model.specs.Attach.{IsAttach};
 ghost use Rattle.nv_base.specs.Pages.{record_pages_of};
 ghost use Rattle.fee_log.specs.Log.{erased_log};
-ghost use Rattle.nvm_top.specs.Bank.{GoesOn, ReadsOnly, IsReadFault, bank_size_of};
+ghost use Rattle.first_run.specs.Bank.{GoesOn, ReadsOnly, IsReadFault, bank_size_of};
 
 use block_config::BANKS;
 use fee_format::pages_of;
@@ -55,7 +55,7 @@ pub enum StartFault {
 }
 
 impl From<AllocError> for StartFault {
-    ghost use Rattle.nvm_top.specs.declared.bank_device.StartFault.TheVariants.{Memory};
+    ghost use Rattle.first_run.specs.declared.bank_device.StartFault.TheVariants.{Memory};
 
     ghost from_gives = { λ _ fault. fault ≡ Memory };
 
@@ -79,7 +79,7 @@ pub struct BankDevice<F: Flash> {
 
 impl<F: Flash> Model for BankDevice<F> {
     ghost use Rattle.std.specs.Prelude.{◌≡◌, vec_len};
-    ghost use Rattle.nvm_top.specs.Bank.{BankState, IsKept, HasRoom};
+    ghost use Rattle.first_run.specs.Bank.{BankState, IsKept, HasRoom};
 
     ghost Value = { BankState };
 

@@ -3,8 +3,8 @@ use Rattle.std.proofs.Common.{◌≡◌, ℕ, zero, suc, List, [], ◌∷◌, So
 use Rattle.std.specs.Prelude.{Contains, slice_get}
 use Rattle.nv_base.specs.declared.instance.DeviceNumber.{DeviceNumber}
 use Rattle.nv_base.specs.Lengths.{AreLengths}
-use Rattle.nvm_top.specs.Desk.{IsConfigured}
-use Rattle.nvm_top.proofs.Numbers.{item}
+use Rattle.first_run.specs.Desk.{IsConfigured}
+use Rattle.first_run.proofs.Numbers.{item}
 
 pub Contains-get : {X : Type 0} (xs : List X) (i : ℕ) (x : X) → slice_get xs i ≡ Some x → Contains xs x
 Contains-get [] i x is = absurd (cc is)

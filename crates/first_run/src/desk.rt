@@ -1,7 +1,7 @@
 // The block side: which request is answered how, which job is pending, and the history of it all.
 ghost use Rattle.std.specs.Prelude.{◌≡◌, ◌≤◌, ◌+◌, ◌<◌, IfOk, OnOk, IfSome, IsTrue, unwrap_or, length, true, false, ◌++◌, ◌∷◌, [], MatchOption, ◌↔◌};
 ghost use Rattle.nv_base.specs.declared.instance.DeviceNumber.{DeviceNumber};
-ghost use Rattle.nvm_top.specs.Desk.{hand_of, hand_at, hand_owes, owed, HandIs, IsConfigured, IsOneOf, StageFits, ReadsSo, NoJob};
+ghost use Rattle.first_run.specs.Desk.{hand_of, hand_at, hand_owes, owed, HandIs, IsConfigured, IsOneOf, StageFits, ReadsSo, NoJob};
 
 use crate::job::{InHand, Job, Stage};
 use nv_base::{
@@ -35,11 +35,11 @@ pub struct Desk {
 }
 
 impl Model for Desk {
-    ghost use Rattle.nvm_top.specs.Desk.{DeskShown, hand_of};
+    ghost use Rattle.first_run.specs.Desk.{DeskShown, hand_of};
 
     ghost Value = { DeskShown };
 
-    ghost use Rattle.nvm_top.specs.DeskKept.{IsKept};
+    ghost use Rattle.first_run.specs.DeskKept.{IsKept};
 
     ghost view = { λ d. record { lengths = d.lengths; history = d.history; hand = hand_of d.job; off = d.off } };
 

@@ -1,8 +1,8 @@
 use Rattle.std.proofs.Common.{◌≤◌, ◌+◌, take}
 use Rattle.nv_base.specs.Lengths.{last_or}
 use Rattle.nv_base.specs.Marks.{next_or}
-use Rattle.nvm_top.specs.Bank.{ReadsOnly}
-use Rattle.nvm_top.proofs.bank_device.BankDevice.found.Given as goal
+use Rattle.first_run.specs.Bank.{ReadsOnly}
+use Rattle.first_run.proofs.bank_device.BankDevice.found.Given as goal
 
 -- only reads were made, and the marks so far are of the numbers so far
 abbrev pub invariant-loop-i : goal.invariant-loop-i

@@ -1,6 +1,6 @@
 // A pending job.
 ghost use Rattle.std.specs.Prelude.{◌≡◌, length};
-ghost use Rattle.nvm_top.specs.Desk.{hand_owes, hand_at, HandIs};
+ghost use Rattle.first_run.specs.Desk.{hand_owes, hand_at, HandIs};
 
 use nv_base::{Bytes, DeviceNumber, Instance, ReqResult};
 

@@ -1,5 +1,5 @@
 use Rattle.std.proofs.Common.{◌≤◌, ◌-◌}
-use Rattle.nvm_top.proofs.desk.length_of.Given as goal
+use Rattle.first_run.proofs.desk.length_of.Given as goal
 
 abbrev pub invariant-loop-low : goal.invariant-loop-low
 invariant-loop-low l = l.low ≤ l.high

@@ -7,7 +7,7 @@ use Rattle.block_config.specs.Banks.{bank_count}
 use Rattle.fls_model.specs.Told.{Told}
 use Rattle.fee_log.specs.declared.work.Work.{Work}
 use Rattle.fee_log.specs.Log.{LogState}
-use Rattle.nvm_top.specs.declared.bank_device.Writing.{Writing}
+use Rattle.first_run.specs.declared.bank_device.Writing.{Writing}
 
 pub record BankState : Type 0 where
   pub told : Told
