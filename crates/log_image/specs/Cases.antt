@@ -28,3 +28,7 @@ second_log = record { end = 10; tail = Open; places = Content 6 ∷ Erased ∷ [
 
 abbrev pub behind_second : Log
 behind_second = record { end = 10; tail = Open; places = Content 2 ∷ Erased ∷ [] }
+
+-- the first one with the place of its record for the other number
+abbrev pub wrong_log : Log
+wrong_log = record { end = 6; tail = Open; places = Content 2 ∷ Content 2 ∷ [] }

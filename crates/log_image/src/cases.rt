@@ -4,12 +4,12 @@ ghost use Rattle.nv_base.specs.declared.instance.DeviceNumber.{DeviceNumber};
 ghost use Rattle.nv_base.specs.declared.mark.Mark.TheVariants.{Content};
 ghost use Rattle.fee_image.specs.Cases.{small_bank, pages, torn_header, content_1, content_2, body, after_first};
 ghost use Rattle.log_image.specs.declared.place.Place.TheVariants.{Content as ContentPlace};
-ghost use Rattle.log_image.specs.May.{May};
+ghost use Rattle.log_image.specs.May.{May, exactly};
 ghost use Rattle.log_image.specs.Places.{mark_at};
 ghost use Rattle.log_image.specs.Log.{Tail, Open, Writes, Owes, Closed, Log, free_of, HoldsLog};
 ghost use Rattle.log_image.specs.Laws.{loaded_log, erased_log};
 ghost use Rattle.log_image.specs.Step.{page_due, bytes_due, log_done, may_done, log_failed, log_given_up};
-ghost use Rattle.log_image.specs.Cases.{numbers, head_128, first_log, second, second_log, behind_second};
+ghost use Rattle.log_image.specs.Cases.{numbers, head_128, first_log, second, second_log, behind_second, wrong_log};
 
 /// What is loaded from a blank bank, and from the one that the first write left.
 pub fn loaded_logs()
@@ -44,8 +44,10 @@ pub fn second_write_given_up()
     ensures body_stands { log_given_up 16 (second 3) ≡ behind_second }
 {}
 
-/// What isn't held: a bank shows no content that may not be found, and a log isn't open over a torn header.
+/// What isn't held: a bank shows no content that may not be found, a log isn't open over a torn header, and no number has
+/// the place of a record that isn't its own.
 pub fn refused()
     ensures other_content { (ns : List (DeviceNumber × ℕ)) (log : Log) → HoldsLog small_bank ns (after_first (pages 4 0xff)) (λ number length. Some (Content content_2 ∷ [])) log → ⊥ }
     ensures torn_header { (ns : List (DeviceNumber × ℕ)) (may : May) → HoldsLog small_bank ns (after_first (torn_header ++ pages 3 0xff)) may (first_log Open) → ⊥ }
+    ensures wrong_place { HoldsLog small_bank numbers (after_first (pages 4 0xff)) (exactly small_bank (after_first (pages 4 0xff))) wrong_log → ⊥ }
 {}
