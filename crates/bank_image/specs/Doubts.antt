@@ -38,4 +38,6 @@ BanksTighten =
 
 -- what the old bank shows could be found before: after a step it is the settled mark, or a doubt that was
 abbrev pub OldBanksShow : Type 0
-OldBanksShow = (l : Layout) (numbers : List (DeviceNumber × ℕ)) (bytes : List ℕ) (s : Banks) → Holds l numbers bytes s → (number length : ℕ) → IsAmong (s.may number length) (shown_of l bytes s.old number length)
+OldBanksShow =
+    (l : Layout) (numbers : List (DeviceNumber × ℕ)) (bytes : List ℕ) (s : Banks)
+    → Holds l numbers bytes s → (number length : ℕ) → IsAmong (s.may number length) (shown_of l bytes s.old number length)
