@@ -2,8 +2,8 @@
 ghost use Rattle.std.specs.Prelude.{◌≡◌, [], ◌∷◌, map, true, false, Some, None};
 ghost use Rattle.block_config.specs.Block.{plain_block};
 ghost use Rattle.block_config.specs.DemoConfig.{demo_config};
-ghost use Rattle.block_machine.specs.Words.{Fine, NotOk, IntegrityFailed, BlockSkipped, Invalidated, Canceled, RedundancyFailed, Restored, Read, Write, Restore, Erase, Invalidate, SetIndex, GetIndex, SetProtection, SetLock, SetRam, PutRam, Status, ReadAll, WriteAll, CancelWriteAll, Accepted, Refused, StatusIs, UnknownBlock, NotStarted, WrongType, BadIndex, BadLength, NoRam, NoDefaults, NotImmediate, WriteOnce, MultiPending, BlockPending, Locked, Protected, RomIndex, NothingToCancel, QueueFull, ReadJob, WriteJob, RestoreJob, EraseJob, InvalidateJob, WriteAllJob, WroteMark, ReadContent, FoundErased, FoundInvalid, Failed, FromNowhere, FromDevice, FromDefaults, FromRom, Dataset, Off, Found};
-ghost use Rattle.block_machine.specs.Blocks.{no_block, block_at, names_rom};
+ghost use Rattle.block_machine.specs.Words.{Fine, NotOk, IntegrityFailed, BlockSkipped, Invalidated, Canceled, RedundancyFailed, Restored, Read, Write, Restore, Erase, Invalidate, SetIndex, GetIndex, SetProtection, SetLock, SetRam, PutRam, Status, ReadAll, WriteAll, CancelWriteAll, Accepted, Refused, StatusIs, UnknownBlock, NotStarted, WrongType, BadIndex, BadLength, NoRam, NoDefaults, NotImmediate, WriteOnce, MultiPending, BlockPending, Locked, Protected, RomIndex, NothingToCancel, QueueFull, ReadJob, WriteJob, RestoreJob, EraseJob, InvalidateJob, WriteAllJob, WroteMark, ReadContent, FoundErased, FoundInvalid, Failed, FromNowhere, FromDevice, FromDefaults, FromRom, Dataset, Off, Found, Erased, Invalid};
+ghost use Rattle.block_machine.specs.Blocks.{mark_by, no_block, block_at, names_rom};
 ghost use Rattle.block_machine.specs.Order.{goes_before};
 ghost use Rattle.block_machine.specs.ResultTable.{table, unpicked};
 ghost use Rattle.block_machine.specs.Results.{checked_id};
@@ -102,6 +102,8 @@ pub fn results_by_the_table()
     ensures copy_0_written { table false WriteJob (WroteMark ∷ Failed ∷ []) ≡ (RedundancyFailed, FromNowhere) }
     ensures copy_1_written { table false WriteJob (Failed ∷ WroteMark ∷ []) ≡ (RedundancyFailed, FromNowhere) }
     ensures neither_written { table false WriteJob (Failed ∷ Failed ∷ []) ≡ (NotOk, FromNowhere) }
+    ensures erases { mark_by EraseJob None ≡ Some Erased }
+    ensures invalidates { mark_by InvalidateJob None ≡ Some Invalid }
     ensures skipped { unpicked true true ≡ (BlockSkipped, FromNowhere) }
     ensures offered { unpicked false true ≡ (Restored, FromDefaults) }
     ensures nothing_to_offer { unpicked false false ≡ (IntegrityFailed, FromNowhere) }
