@@ -4,17 +4,18 @@ use std::alloc::AllocGlobal;
 /// The lines of a text, each behind `> `; a last one without its newline behind `>. `.
 pub fn show_text<R: Print + AllocGlobal>(rt: &R, text: &[u8]) -> anyhow::Result<()> {
     for line in text.split_inclusive(|byte| *byte == b'\n') {
-        match line.strip_suffix(b"\n") {
-            Some(line) => {
-                let line = String::from_utf8_lossy(rt.alloc(), line)?;
-                println!(rt; "> {line}")?;
-            }
-            None => {
-                let line = String::from_utf8_lossy(rt.alloc(), line)?;
-                println!(rt; ">. {line}")?;
-            }
-        }
+        show_line(rt, line)?;
     }
+    Ok(())
+}
+
+fn show_line<R: Print + AllocGlobal>(rt: &R, line: &[u8]) -> anyhow::Result<()> {
+    let (mark, line) = match line.strip_suffix(b"\n") {
+        Some(line) => (">", line),
+        None => (">.", line),
+    };
+    let line = String::from_utf8_lossy(rt.alloc(), line)?;
+    println!(rt; "{mark} {line}")?;
     Ok(())
 }
 
@@ -24,10 +25,14 @@ pub fn show_flash<R: Print + AllocGlobal>(rt: &R, flash: &[u8]) -> anyhow::Resul
     println!(rt; "flash {size}")?;
     for (i, row) in flash.chunks(16).enumerate() {
         if row.iter().any(|byte| *byte != 255) {
-            let address = i.saturating_mul(16);
-            let bytes = hex::encode(rt.alloc(), row)?;
-            println!(rt; "at {address:04x} {bytes}")?;
+            show_row(rt, i.saturating_mul(16), row)?;
         }
     }
+    Ok(())
+}
+
+fn show_row<R: Print + AllocGlobal>(rt: &R, address: usize, row: &[u8]) -> anyhow::Result<()> {
+    let bytes = hex::encode(rt.alloc(), row)?;
+    println!(rt; "at {address:04x} {bytes}")?;
     Ok(())
 }
