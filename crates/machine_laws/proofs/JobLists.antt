@@ -1,9 +1,10 @@
 -- Lists of jobs with numbers of their own.
-use Rattle.std.proofs.Common.{◌≡◌, ◌≢◌, ℕ, ◌==◌, ◌+◌, ◌<◌, not, List, [], ◌∷◌, ◌++◌, filter, refl, sym, ap, arith, sum_by}
-use Rattle.std.proofs.lemmas.Bool.{eq-eqb, ne_eqb}
+use Rattle.std.specs.Prelude.{option_to_list}
+use Rattle.std.proofs.Common.{◌≡◌, ◌≢◌, ℕ, ◌==◌, ◌+◌, ◌<◌, not, List, [], ◌∷◌, ◌++◌, filter, refl, sym, ap, arith, sum_by, Option, Some, None, inl, inr}
+use Rattle.std.proofs.lemmas.Bool.{cases_Bool, eq-eqb, ne_eqb}
 use Rattle.std.proofs.lemmas.List.Sums.{sum_by-append, sum_by-cons}
 use Rattle.block_machine.specs.State.{Job}
-use Rattle.block_machine.specs.Steps.{without_job}
+use Rattle.block_machine.specs.Steps.{interrupted, without_job}
 use Rattle.machine_laws.specs.Consistent.{Each, HaveOthers, AreApart}
 
 pub each_more : {X : Type 0} (P Q : X → Type 0) (xs : List X) → ((x : X) → P x → Q x) → Each P xs → Each Q xs
@@ -42,3 +43,19 @@ without_split (x ∷ before) j after h = rw (ne_eqb x.number j.number h.0) (ap (
 
 pub sum_split : (f : Job → ℕ) (before : List Job) (j : Job) (after : List Job) → sum_by f (before ++ j ∷ after) ≡ f j + sum_by f (before ++ after)
 sum_split f before j after = rw (sum_by-append f before (j ∷ after), sum_by-append f before after, sum_by-cons f j after) (omega arith)
+
+-- what holds of the job in hand and of those that wait, behind a Pick that takes one of these
+pub each_without : (P : Job → Type 0) (n : ℕ) (jobs : List Job) → Each P jobs → Each P (without_job n jobs)
+each_without P n [] each = tt
+each_without P n (j ∷ jobs) each = elim (cases_Bool (j.number == n)) [
+  | inl on ↦ rw on (each_without P n jobs each.1)
+  | inr off ↦ rw off (each.0, each_without P n jobs each.1)
+]
+
+pub each_waits : (P : Job → Type 0) → ((x : Job) → P x → P (record x { reserved = x.reserved + 2 })) → (n : ℕ) (o : Option Job) (waiting : List Job) → Each P (option_to_list o ++ waiting) → Each P (interrupted o (without_job n waiting))
+each_waits P stays n None waiting each = each_without P n waiting each
+each_waits P stays n (Some x) waiting each = (stays x each.0, each_without P n waiting each.1)
+
+pub waiting_of : (P : Job → Type 0) (o : Option Job) (waiting : List Job) → Each P (option_to_list o ++ waiting) → Each P waiting
+waiting_of P None waiting each = each
+waiting_of P (Some x) waiting each = each.1

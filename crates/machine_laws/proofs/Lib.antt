@@ -21,3 +21,4 @@ pub mod PostedResults
 pub mod Along
 pub mod PendingBlocks
 pub mod CellChanges
+pub mod JobPlaces

@@ -1,7 +1,6 @@
 -- What may stand after a legal history has its block's length.
 use Rattle.std.specs.Prelude.{slice_set, get_or, option_to_list, unwrap_or}
 use Rattle.std.proofs.Common.{◌≡◌, ℕ, zero, suc, ◌==◌, ◌+◌, ◌&&◌, not, Bool, true, false, if◌then◌else◌, List, [], ◌∷◌, ◌++◌, drop, length, map, refl, sym, ap, ◌∙◌, subst, inl, inr, arith, append_assoc, Option, Some, None, IfSome, IsTrue, is_some, option_map}
-use Rattle.std.proofs.lemmas.Bool.{cases_Bool}
 use Rattle.std.proofs.lemmas.Bool.Decides.{nat_tests}
 use Rattle.nv_base.specs.Marks.{instance_of}
 use Rattle.nv_base.specs.declared.instance.DeviceNumber.{DeviceNumber}
@@ -16,12 +15,12 @@ use Rattle.block_machine.specs.Next.{Next, Nothing, PickJob, BeginSweep, PickMem
 use Rattle.block_machine.specs.Results.{Answer, own_of, unpicked_result}
 use Rattle.block_machine.specs.ResultTable.{unpicked}
 use Rattle.block_machine.specs.StartUp.{at_first, listed_mark, found_instance}
-use Rattle.block_machine.specs.Steps.{step, after, with_member, with_sweep, changed, accepted_by, asked, job_at, picked_job, interrupted, without_job, in_hand, picked, wrote, posted, posted_next, ended}
+use Rattle.block_machine.specs.Steps.{step, after, with_member, with_sweep, changed, accepted_by, asked, job_at, picked_job, in_hand, picked, wrote, posted, posted_next, ended}
 use Rattle.block_machine.specs.Legal.{IsLegal, IsAsk, IsPick, IsPost, MayPick, MayWrite, MayPost, MayPostNext, IsAllowed}
 use Rattle.machine_laws.specs.Laws.{MarksAreAccepted, ContentsHaveLengths}
 use Rattle.machine_laws.specs.Consistent.{Each}
 use Rattle.machine_laws.proofs.Along.{kept_along}
-use Rattle.machine_laws.proofs.JobLists.{each_push, each_parts}
+use Rattle.machine_laws.proofs.JobLists.{each_push, each_parts, each_waits, waiting_of}
 use Rattle.machine_laws.proofs.NextLaws.{accepted_pass, next_is_waiting}
 use Rattle.machine_laws.proofs.NextFacts.{job_in, next_job_by}
 use Rattle.machine_laws.proofs.ConsistentSteps.{idle, left_of}
@@ -93,30 +92,15 @@ ask_whole c cap s caller r (IndexIs x) m legal ask w = blocks_whole c s s.blocks
 
 -- PICK
 
-each_without : (P : Job → Type 0) (n : ℕ) (jobs : List Job) → Each P jobs → Each P (without_job n jobs)
-each_without P n [] each = tt
-each_without P n (j ∷ jobs) each = elim (cases_Bool (j.number == n)) [
-  | inl on ↦ rw on (each_without P n jobs each.1)
-  | inr off ↦ rw off (each.0, each_without P n jobs each.1)
-]
-
-each_waits : (c : Configuration) (n : ℕ) (o : Option Job) (waiting : List Job) → Each (FitsJobContent c) (option_to_list o ++ waiting) → Each (FitsJobContent c) (interrupted o (without_job n waiting))
-each_waits c n None waiting each = each_without (FitsJobContent c) n waiting each
-each_waits c n (Some x) waiting each = (each.0, each_without (FitsJobContent c) n waiting each.1)
-
-waiting_of : (c : Configuration) (o : Option Job) (waiting : List Job) → Each (FitsJobContent c) (option_to_list o ++ waiting) → Each (FitsJobContent c) waiting
-waiting_of c None waiting each = each
-waiting_of c (Some x) waiting each = each.1
-
 job_picked : (c : Configuration) (s : State) (j : Job) (block : ℕ) (kind : JobKind) (t : Taken) (m : ℕ) → IsTrue s.started → next_in c s.waiting ≡ Some j → IsPick c s j block kind t → AreWhole c s → AreWhole c (record (in_hand c s j t) { count = s.count + 1; ops = m })
 job_picked c s j block kind t m on next may w =
     let (before, after, is) = next_is_waiting c s.waiting j next in
-    let fits = (each_parts (FitsJobContent c) before j after (subst (Each (FitsJobContent c)) is (waiting_of c s.hand s.waiting w.jobs))).0 in
+    let fits = (each_parts (FitsJobContent c) before j after (subst (Each (FitsJobContent c)) is (waiting_of (FitsJobContent c) s.hand s.waiting w.jobs))).0 in
     let n = if is_some s.hand then 2 else 0 in
     let own = fits_after c (job_block j) (block_at s (job_block j)) j (kind_of j) t may.takes fits (w.ram on (job_block j)) in
     record {
       ram = w.ram;
-      jobs = (own, each_waits c j.number s.hand s.waiting w.jobs);
+      jobs = (own, each_waits (FitsJobContent c) (λ x fits. fits) j.number s.hand s.waiting w.jobs);
       cells = doubts_whole c (job_block j) _ (mark_of (picked_job t n j)) s.instances (λ k takes. mark_length c (job_block j) (kind_of j) (picked_job t n j).content k own takes) w.cells;
       sweep = w.sweep;
     }
@@ -137,7 +121,7 @@ member_picked c s sw id block kind t m on is may w =
     let b = record (block_at s id) { status = Pending } in
     record {
       ram = set_whole c s id b (λ on. w.ram on id) w;
-      jobs = (own, each_waits c sw.number s.hand s.waiting w.jobs);
+      jobs = (own, each_waits (FitsJobContent c) (λ x fits. fits) sw.number s.hand s.waiting w.jobs);
       cells = doubts_whole c (job_block j) _ (mark_of (picked_job t n j)) s.instances (λ k takes. mark_length c (job_block j) (kind_of j) (picked_job t n j).content k own takes) w.cells;
       sweep = λ e. rw left (all e).1;
     }

@@ -185,6 +185,10 @@ MarksAreAccepted = (c : Configuration) (cap : ℕ) (h : List Entry) (i : Instanc
 abbrev pub JobsArePending : Type 0
 JobsArePending = (c : Configuration) (cap : ℕ) (h : List Entry) (j : Job) → IsLegal c cap h → Contains (jobs_of (after c h)) j → job_block j < length (after c h).blocks → is_pending (status_of (after c h) (job_block j)) ≡ true
 
+-- which is a configured one
+abbrev pub JobsAreConfigured : Type 0
+JobsAreConfigured = (c : Configuration) (cap : ℕ) (h : List Entry) (j : Job) → IsLegalConfig c → IsLegal c cap h → Contains (jobs_of (after c h)) j → job_block j ≤ length c.blocks
+
 -- and no other job is on it
 abbrev pub JobsHaveTheirBlocks : Type 0
 JobsHaveTheirBlocks = (c : Configuration) (cap : ℕ) (h : List Entry) (before : List Job) (j : Job) (more : List Job) → IsLegal c cap h → jobs_of (after c h) ≡ before ++ j ∷ more → Each (λ x. job_block x ≢ job_block j) (before ++ more)

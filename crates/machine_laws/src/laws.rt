@@ -1,5 +1,5 @@
 // Laws of the block machine.
-ghost use Rattle.machine_laws.specs.Laws.{HistoriesStep, HistoriesGoOn, HistoriesStayLegal, BeginningsAreLegal, EntriesAreCounted, AsksAreLocal, LateEntriesAreCutOff, EarlyEntriesAreKept, UpToIsABeginning, AllowedStandNow, FailedSetsAreLeast, AcceptedPass, FittingHasRoom, NextIsWaiting, NextGoesFirst, NoneWaits, PickTakesInHand, EntriesOfTheJobInHand, FoundIsSettled, AllowedStepsStayConsistent, LegalStatesAreConsistent, DriverEntriesAreReserved, EntriesFit, EntriesAreLocal, JobsSplit, MarksAreBrought, MarksAreNotOlder, MarksAreAccepted, JobsArePending, JobsHaveTheirBlocks, PlacesAreConfigured, ContentsHaveLengths, WrittenAscends, EntriesGiveStatus, PostsAreNotPending, PendingHaveJobs, ReadsGiveSettled, CellsChange, FoundCells, SumsGrow, JobIsFound};
+ghost use Rattle.machine_laws.specs.Laws.{HistoriesStep, HistoriesGoOn, HistoriesStayLegal, BeginningsAreLegal, EntriesAreCounted, AsksAreLocal, LateEntriesAreCutOff, EarlyEntriesAreKept, UpToIsABeginning, AllowedStandNow, FailedSetsAreLeast, AcceptedPass, FittingHasRoom, NextIsWaiting, NextGoesFirst, NoneWaits, PickTakesInHand, EntriesOfTheJobInHand, FoundIsSettled, AllowedStepsStayConsistent, LegalStatesAreConsistent, DriverEntriesAreReserved, EntriesFit, EntriesAreLocal, JobsSplit, MarksAreBrought, MarksAreNotOlder, MarksAreAccepted, JobsArePending, JobsAreConfigured, JobsHaveTheirBlocks, PlacesAreConfigured, ContentsHaveLengths, WrittenAscends, EntriesGiveStatus, PostsAreNotPending, PendingHaveJobs, ReadsGiveSettled, CellsChange, FoundCells, SumsGrow, JobIsFound};
 
 /// How a history grows.
 pub fn histories_grow()
@@ -86,6 +86,7 @@ pub fn marks_that_stand()
 pub fn jobs_are_pending()
     ensures pending { JobsArePending }
     ensures owed { PendingHaveJobs }
+    ensures configured { JobsAreConfigured }
     ensures alone { JobsHaveTheirBlocks }
     ensures places { PlacesAreConfigured }
     ensures lengths { ContentsHaveLengths }

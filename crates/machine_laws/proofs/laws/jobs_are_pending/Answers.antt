@@ -1,4 +1,5 @@
 use Rattle.machine_laws.proofs.JobBlocks as law
+use Rattle.machine_laws.proofs.JobPlaces.{jobs_are_configured}
 use Rattle.machine_laws.proofs.PendingBlocks.{pending_have_jobs}
 use Rattle.machine_laws.proofs.WholeSteps.{contents_have_lengths}
 use Rattle.machine_laws.proofs.WrittenOrder.{written_ascends}
@@ -21,3 +22,6 @@ returns-clause-written c = written_ascends
 
 pub returns-clause-owed : goal.returns-clause-owed
 returns-clause-owed c = pending_have_jobs
+
+pub returns-clause-configured : goal.returns-clause-configured
+returns-clause-configured c = jobs_are_configured
