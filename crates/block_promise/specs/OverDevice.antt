@@ -39,7 +39,8 @@ pub record KeepsOver (c : Configuration) (cap : ℕ) (h : List Entry) (before no
   -- a power cut before or within any operation leaves marks that the history up to then allows
   pub cut : (k : ℕ) (held : ℕ → Held) → k < last_count → clock.may_find (CutIn k) held → KeepsMarks c (up_to k h) (marks_in held)
   -- each start-up lists what is found in its moment
-  pub found : (marks : List (Instance × Mark)) (ops : ℕ) (held : ℕ → Held) → Contains h (Found marks ops) → ops < last_count → clock.may_find (After ops) held → Lists c marks (marks_in held)
+  pub found : (marks : List (Instance × Mark)) (ops : ℕ) (held : ℕ → Held) → Contains h (Found marks ops) → ops < last_count → clock.may_find (After ops) held
+      → Lists c marks (marks_in held)
   -- and what would be found now is allowed too
   pub at_end : (held : ℕ → Held) → HasStarted h → now.ops < last_count → clock.may_find (After now.ops) held → KeepsMarks c h (marks_in held)
   -- every reply, choice and result is the block machine's

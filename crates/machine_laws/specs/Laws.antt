@@ -67,7 +67,9 @@ UpToIsABeginning = (k : ℕ) (h : List Entry) → (more : List Entry) × (h ≡ 
 
 -- from the operations of the last driver entry on, the marks that are allowed are those that may stand now
 abbrev pub AllowedStandNow : Type 0
-AllowedStandNow = (c : Configuration) (h : List Entry) (k : ℕ) (i : Instance) (mark : Mark) → (after c h).ops ≤ k → IsAllowedAt c h k i mark ↔ MayStandIn (instance_at (after c h) i) mark
+AllowedStandNow =
+    (c : Configuration) (h : List Entry) (k : ℕ) (i : Instance) (mark : Mark) → (after c h).ops ≤ k
+    → IsAllowedAt c h k i mark ↔ MayStandIn (instance_at (after c h) i) mark
 
 -- RESULTS
 
@@ -76,13 +78,15 @@ AllowedStandNow = (c : Configuration) (h : List Entry) (k : ℕ) (i : Instance) 
 abbrev pub FailedSetsAreLeast : Type 0
 FailedSetsAreLeast =
     (c : Configuration) (s : State) (j : Job) (failed : List ℕ) → let o = own_of c s (job_block j) in
-    Contains (open_sets o j (kind_of j)) failed → IsSome (failed_set o j (result_of o j failed)) × (length (unwrap_or (failed_set o j (result_of o j failed)) []) ≤ length failed)
+    Contains (open_sets o j (kind_of j)) failed
+    → IsSome (failed_set o j (result_of o j failed)) × (length (unwrap_or (failed_set o j (result_of o j failed)) []) ≤ length failed)
 
 -- REPLIES
 
 -- an accepted request has passed each test of its row
 abbrev pub AcceptedPass : Type 0
-AcceptedPass = (c : Configuration) (cap : ℕ) (s : State) (r : Request) (x : Refusal) → reply_of c cap s r ≡ Accepted → Contains (tested r) x → holds c cap s x r ≡ false
+AcceptedPass =
+    (c : Configuration) (cap : ℕ) (s : State) (r : Request) (x : Refusal) → reply_of c cap s r ≡ Accepted → Contains (tested r) x → holds c cap s x r ≡ false
 
 -- so many entries more have room beside those so far and the reserved ones
 abbrev pub FittingHasRoom : Type 0
@@ -113,7 +117,8 @@ PickTakesInHand =
 abbrev pub EntriesOfTheJobInHand : Type 0
 EntriesOfTheJobInHand =
     (c : Configuration) (s : State) (j : Job) (i : Instance) (mark : Mark) (block refused ops : ℕ) (r : ReqResult) (given : Option (List ℕ)) → s.hand ≡ Some j
-    → ((step c s (Wrote i mark ops)).hand ≡ Some (record j { reserved = j.reserved - 1; written = j.written ++ i.index ∷ [] })) × ((step c s (Post block r given refused ops)).hand ≡ None)
+    → ((step c s (Wrote i mark ops)).hand ≡ Some (record j { reserved = j.reserved - 1; written = j.written ++ i.index ∷ [] }))
+    × ((step c s (Post block r given refused ops)).hand ≡ None)
 
 -- START-UP
 
@@ -144,7 +149,9 @@ uses_reserved (Found marks ops) = false
 uses_reserved e = true
 
 abbrev pub DriverEntriesAreReserved : Type 0
-DriverEntriesAreReserved = (c : Configuration) (cap : ℕ) (s : State) (e : Entry) → IsConsistent c s → IsAllowed c cap s e → uses_reserved e ≡ true → reserved_entries c (step c s e) < reserved_entries c s
+DriverEntriesAreReserved =
+    (c : Configuration) (cap : ℕ) (s : State) (e : Entry) → IsConsistent c s → IsAllowed c cap s e → uses_reserved e ≡ true
+    → reserved_entries c (step c s e) < reserved_entries c s
 
 -- so the entries of a legal history and the reserved ones are within the cap
 abbrev pub EntriesFit : Type 0
@@ -159,39 +166,55 @@ entry_block e = 0
 
 -- every other one, with its status, stays as it was, but at a start-up
 abbrev pub EntriesAreLocal : Type 0
-EntriesAreLocal = (c : Configuration) (cap : ℕ) (s : State) (e : Entry) (id : ℕ) → IsAllowed c cap s e → is_found e ≡ false → id ≢ entry_block e → block_at (step c s e) id ≡ block_at s id
+EntriesAreLocal =
+    (c : Configuration) (cap : ℕ) (s : State) (e : Entry) (id : ℕ) → IsAllowed c cap s e → is_found e ≡ false → id ≢ entry_block e
+    → block_at (step c s e) id ≡ block_at s id
 
 -- of jobs with numbers of their own one is taken out, and nothing else
 abbrev pub JobsSplit : Type 0
-JobsSplit = (before : List Job) (j : Job) (after : List Job) → AreApart (before ++ j ∷ after) → (without_job j.number (before ++ j ∷ after) ≡ before ++ after) × AreApart (before ++ after)
+JobsSplit =
+    (before : List Job) (j : Job) (after : List Job) → AreApart (before ++ j ∷ after)
+    → (without_job j.number (before ++ j ∷ after) ≡ before ++ after) × AreApart (before ++ after)
 
 -- MARKS
 
 -- a mark that may stand in an instance after a legal history was found there, or a job took it behind its accepted Ask
 abbrev pub MarksAreBrought : Type 0
-MarksAreBrought = (c : Configuration) (cap : ℕ) (h : List Entry) (i : Instance) (mark : Mark) → IsLegal c cap h → MayStandIn (instance_at (after c h) i) mark → IsBroughtBy c h at_first i mark h
+MarksAreBrought =
+    (c : Configuration) (cap : ℕ) (h : List Entry) (i : Instance) (mark : Mark) → IsLegal c cap h → MayStandIn (instance_at (after c h) i) mark
+    → IsBroughtBy c h at_first i mark h
 
 -- and it is not older than the last that was acknowledged
 abbrev pub MarksAreNotOlder : Type 0
-MarksAreNotOlder = (c : Configuration) (cap : ℕ) (h : List Entry) (i : Instance) (mark : Mark) → IsLegal c cap h → MayStandIn (instance_at (after c h) i) mark → IsNotOlder c h i mark
+MarksAreNotOlder =
+    (c : Configuration) (cap : ℕ) (h : List Entry) (i : Instance) (mark : Mark) → IsLegal c cap h → MayStandIn (instance_at (after c h) i) mark
+    → IsNotOlder c h i mark
 
 -- with a configuration that keeps its rules it is whole, and so accepted
 abbrev pub MarksAreAccepted : Type 0
-MarksAreAccepted = (c : Configuration) (cap : ℕ) (h : List Entry) (i : Instance) (mark : Mark) → IsLegalConfig c → IsLegal c cap h → MayStandIn (instance_at (after c h) i) mark → IsAccepted c h i mark
+MarksAreAccepted =
+    (c : Configuration) (cap : ℕ) (h : List Entry) (i : Instance) (mark : Mark) → IsLegalConfig c → IsLegal c cap h
+    → MayStandIn (instance_at (after c h) i) mark → IsAccepted c h i mark
 
 -- JOBS AND THEIR BLOCKS
 
 -- after a legal history the block of each job is PENDING
 abbrev pub JobsArePending : Type 0
-JobsArePending = (c : Configuration) (cap : ℕ) (h : List Entry) (j : Job) → IsLegal c cap h → Contains (jobs_of (after c h)) j → job_block j < length (after c h).blocks → is_pending (status_of (after c h) (job_block j)) ≡ true
+JobsArePending =
+    (c : Configuration) (cap : ℕ) (h : List Entry) (j : Job) → IsLegal c cap h → Contains (jobs_of (after c h)) j → job_block j < length (after c h).blocks
+    → is_pending (status_of (after c h) (job_block j)) ≡ true
 
 -- which is a configured one
 abbrev pub JobsAreConfigured : Type 0
-JobsAreConfigured = (c : Configuration) (cap : ℕ) (h : List Entry) (j : Job) → IsLegalConfig c → IsLegal c cap h → Contains (jobs_of (after c h)) j → job_block j ≤ length c.blocks
+JobsAreConfigured =
+    (c : Configuration) (cap : ℕ) (h : List Entry) (j : Job) → IsLegalConfig c → IsLegal c cap h → Contains (jobs_of (after c h)) j
+    → job_block j ≤ length c.blocks
 
 -- and no other job is on it
 abbrev pub JobsHaveTheirBlocks : Type 0
-JobsHaveTheirBlocks = (c : Configuration) (cap : ℕ) (h : List Entry) (before : List Job) (j : Job) (more : List Job) → IsLegal c cap h → jobs_of (after c h) ≡ before ++ j ∷ more → Each (λ x. job_block x ≢ job_block j) (before ++ more)
+JobsHaveTheirBlocks =
+    (c : Configuration) (cap : ℕ) (h : List Entry) (before : List Job) (j : Job) (more : List Job) → IsLegal c cap h
+    → jobs_of (after c h) ≡ before ++ j ∷ more → Each (λ x. job_block x ≢ job_block j) (before ++ more)
 
 -- there are the configured blocks beside id 0, and the configured instances in their order
 abbrev pub PlacesAreConfigured : Type 0
@@ -213,11 +236,14 @@ WrittenAscends = (c : Configuration) (cap : ℕ) (h : List Entry) (j : Job) → 
 -- a Post gives its result to its block as status, and an accepted request for a job PENDING
 abbrev pub EntriesGiveStatus : Type 0
 EntriesGiveStatus = (c : Configuration) (cap : ℕ) (s : State) (block refused ops caller : ℕ) (r : ReqResult) (given : Option (List ℕ)) (request : Request)
-    → (IsAllowed c cap s (Post block r given refused ops) → block < length s.blocks → status_of (step c s (Post block r given refused ops)) block ≡ r) × (is_some (job_kind request) ≡ true → asked_block request < length s.blocks → is_pending (status_of (step c s (Ask caller request Accepted)) (asked_block request)) ≡ true)
+    → (IsAllowed c cap s (Post block r given refused ops) → block < length s.blocks → status_of (step c s (Post block r given refused ops)) block ≡ r)
+    × (is_some (job_kind request) ≡ true → asked_block request < length s.blocks → is_pending (status_of (step c s (Ask caller request Accepted)) (asked_block request)) ≡ true)
 
 -- a Post never has the result PENDING
 abbrev pub PostsAreNotPending : Type 0
-PostsAreNotPending = (c : Configuration) (cap : ℕ) (s : State) (block refused ops : ℕ) (r : ReqResult) (given : Option (List ℕ)) → IsAllowed c cap s (Post block r given refused ops) → is_pending r ≡ false
+PostsAreNotPending =
+    (c : Configuration) (cap : ℕ) (s : State) (block refused ops : ℕ) (r : ReqResult) (given : Option (List ℕ))
+    → IsAllowed c cap s (Post block r given refused ops) → is_pending r ≡ false
 
 -- a PENDING block has a job that makes it so, id 0 a request on all blocks
 abbrev pub PendingHaveJobs : Type 0
@@ -234,7 +260,8 @@ GivesSettled c s id given =
 -- a read that is posted 0 or 7 does so
 abbrev pub ReadsGiveSettled : Type 0
 ReadsGiveSettled =
-    (c : Configuration) (cap : ℕ) (s : State) (j : Job) (block refused ops : ℕ) (r : ReqResult) (given : Option (List ℕ)) → IsAllowed c cap s (Post block r given refused ops) → s.hand ≡ Some j
+    (c : Configuration) (cap : ℕ) (s : State) (j : Job) (block refused ops : ℕ) (r : ReqResult) (given : Option (List ℕ))
+    → IsAllowed c cap s (Post block r given refused ops) → s.hand ≡ Some j
     → kind_of j ≡ ReadJob → is_done r ≡ true → GivesSettled c s block given
 
 -- the cell of an instance behind an entry that is no start-up: a Pick adds the mark of the job that it takes in hand to the
@@ -247,7 +274,8 @@ cell_by c s i cell e = cell
 
 abbrev pub CellsChange : Type 0
 CellsChange =
-    (c : Configuration) (cap : ℕ) (s : State) (e : Entry) (i : Instance) (x : InstanceState) → IsAllowed c cap s e → is_found e ≡ false → instance_at s i ≡ Some x
+    (c : Configuration) (cap : ℕ) (s : State) (e : Entry) (i : Instance) (x : InstanceState) → IsAllowed c cap s e → is_found e ≡ false
+    → instance_at s i ≡ Some x
     → instance_at (step c s e) i ≡ Some (record x { cell = cell_by c s i x.cell e })
 
 -- and a start-up settles each configured instance at the mark that it lists
@@ -258,8 +286,12 @@ FoundCells =
 
 -- the sum of a price over the entries grows by that of one more
 abbrev pub SumsGrow : Type 0
-SumsGrow = (c : Configuration) (price : State → Entry → ℕ) (s : State) (es : List Entry) (e : Entry) → sum_from c price s (es ++ e ∷ []) ≡ sum_from c price s es + price (after_from c s es) e
+SumsGrow =
+    (c : Configuration) (price : State → Entry → ℕ) (s : State) (es : List Entry) (e : Entry)
+    → sum_from c price s (es ++ e ∷ []) ≡ sum_from c price s es + price (after_from c s es) e
 
 -- the job on a block that is found among jobs is one of them
 abbrev pub JobIsFound : Type 0
-JobIsFound = (jobs : List Job) (id : ℕ) (j : Job) → find (λ x. job_block x == id) jobs ≡ Some j → (job_block j ≡ id) × ((before after : List Job) × (jobs ≡ before ++ j ∷ after))
+JobIsFound =
+    (jobs : List Job) (id : ℕ) (j : Job) → find (λ x. job_block x == id) jobs ≡ Some j
+    → (job_block j ≡ id) × ((before after : List Job) × (jobs ≡ before ++ j ∷ after))

@@ -83,7 +83,9 @@ off_without_a_cut = plays ((Drain, Off 0 ∷ []) ∷ []) (unchanged [] blank)
 
 -- the application stores `one` and asks for a write of synchronized RAM; the Pick takes what it says
 abbrev pub copied : Entry → Run
-copied pick = record (plays ((Store 2 one, []) ∷ (AskStep (Write 2 None 0), Ask 0 (Write 2 None 1) Accepted ∷ []) ∷ (Turn 1, pick ∷ []) ∷ []) (unchanged [] blank)) { configuration = with_block_2 (record (plain_block 4) { ram = Sync }) }
+copied pick =
+    record (plays ((Store 2 one, []) ∷ (AskStep (Write 2 None 0), Ask 0 (Write 2 None 1) Accepted ∷ []) ∷ (Turn 1, pick ∷ []) ∷ []) (unchanged [] blank))
+    { configuration = with_block_2 (record (plain_block 4) { ram = Sync }) }
 
 -- a copy is older than the store before it
 abbrev pub stale_in_play : Run
@@ -110,7 +112,9 @@ written_at ops = Wrote (record { block = 2; index = 0 }) (Content one) ops ∷ P
 
 -- block 2 is a dataset of two, the job writes dataset 0, and the flash holds it as dataset 1
 abbrev pub other_dataset : Run
-other_dataset = record (plays (asks_one ∷ (Turn 1, picks_one ∷ []) ∷ []) (unchanged [] (image_of 1 (record_of 129 one ++ replicate 64 255)))) { configuration = with_block_2 (record (plain_block 4) { kind = Dataset; nv = 2 }) }
+other_dataset =
+    record (plays (asks_one ∷ (Turn 1, picks_one ∷ []) ∷ []) (unchanged [] (image_of 1 (record_of 129 one ++ replicate 64 255))))
+    { configuration = with_block_2 (record (plain_block 4) { kind = Dataset; nv = 2 }) }
 
 -- a write fails without a fault on this image
 abbrev pub failed_on : List ℕ → Run
@@ -126,22 +130,29 @@ worn_and_full = failed_on (image_of 4294967295 (record_of 77 one ++ record_of 77
 
 -- on a flash of no bytes a write begins with the erase of bank 0, which a planned cut keeps from the flash; then a restart
 abbrev pub kept_write : Run
-kept_write = plays ((Cut 1 0, []) ∷ asks_one ∷ (Drain, picks_one ∷ Off 1 ∷ []) ∷ (Restart, Found [] 1 ∷ []) ∷ []) (record { entry = tells [] None; exit = tells blank (Some []); operations = record { op = Erase 0 160; before = blank; answer = FlashOff } ∷ [] })
+kept_write =
+    plays ((Cut 1 0, []) ∷ asks_one ∷ (Drain, picks_one ∷ Off 1 ∷ []) ∷ (Restart, Found [] 1 ∷ []) ∷ [])
+    (record { entry = tells [] None; exit = tells blank (Some []); operations = record { op = Erase 0 160; before = blank; answer = FlashOff } ∷ [] })
 
 -- the first pages of the record in a bank that stands, and the program of the next one
 abbrev pub begun : ℕ → List ℕ
 begun pages = image_of 1 (take (16 * pages) (record_of 128 one) ++ replicate (128 - 16 * pages) 255)
 
 abbrev pub programs : ℕ → Change
-programs pages = record { op = Program (32 + 16 * pages) (take 16 (drop (16 * pages) (record_of 128 one))); before = begun pages; answer = Done }
+programs pages =
+    record { op = Program (32 + 16 * pages) (take 16 (drop (16 * pages) (record_of 128 one))); before = begun pages; answer = Done }
 
 -- `one` is written and acknowledged with the fourth operation; the fifth programs the head of its bank again, so that a cut
 -- within it may lose what was acknowledged
 abbrev pub operations : List Change
-operations = programs 0 ∷ programs 1 ∷ programs 2 ∷ programs 3 ∷ record { op = Program 0 (bank_head_page 16 (record { format = 1; generation = 1 })); before = begun 4; answer = Done } ∷ []
+operations =
+    programs 0 ∷ programs 1 ∷ programs 2 ∷ programs 3
+    ∷ record { op = Program 0 (bank_head_page 16 (record { format = 1; generation = 1 })); before = begun 4; answer = Done } ∷ []
 
 abbrev pub lost_write : Run
-lost_write = plays (asks_one ∷ (Drain, picks_one ∷ written_at 4) ∷ []) (record { entry = tells (begun 0) None; exit = tells (begun 4) (Some operations); operations = operations })
+lost_write =
+    plays (asks_one ∷ (Drain, picks_one ∷ written_at 4) ∷ [])
+    (record { entry = tells (begun 0) None; exit = tells (begun 4) (Some operations); operations = operations })
 
 -- TWO CALLERS
 -- one locks block 2 and the other asks for its status
@@ -158,7 +169,9 @@ second_found = record quiet { course = Ran []; history = Found [] 0 ∷ Found []
 -- TURNS
 -- a write of block 2, of this priority, is in hand after one turn, and eight turns later this has come
 abbrev pub turned : ℕ → List Entry → Run
-turned priority es = record (plays (asks_one ∷ (Turn 1, picks_one ∷ []) ∷ (Turn 8, es) ∷ []) (unchanged [] blank)) { configuration = with_block_2 (record (plain_block 4) { priority = priority }) }
+turned priority es =
+    record (plays (asks_one ∷ (Turn 1, picks_one ∷ []) ∷ (Turn 8, es) ∷ []) (unchanged [] blank))
+    { configuration = with_block_2 (record (plain_block 4) { priority = priority }) }
 
 -- a drain leaves a job in hand
 abbrev pub not_drained : Run
@@ -170,4 +183,5 @@ abbrev pub demo_run : Run
 demo_run = record quiet { configuration = demo_config }
 
 abbrev pub demo_call : ℕ → List ℕ → Call
-demo_call status text = record { mode = mode.Play; input = Some (codes "@demo"); status = status; entry = demo_run.flash.entry; exit = demo_run.flash.exit; written = Some []; written_after = Some text }
+demo_call status text =
+    record { mode = mode.Play; input = Some (codes "@demo"); status = status; entry = demo_run.flash.entry; exit = demo_run.flash.exit; written = Some []; written_after = Some text }

@@ -66,7 +66,8 @@ EachPiece c P s xs ps = Unit {0}
 
 -- a job that is in hand behind a step is posted, or interrupted, within so many turns
 abbrev pub PostsInHand : Configuration → ℕ → State → Step → List Entry → List Step → List (List Entry) → Type 0
-PostsInHand c most s x p xs ps = (j : Job) → (after_from c s p).hand ≡ Some j → IfSome (entries_within most xs ps) (λ es. IsTrue (list_any (ends_job (job_block j)) es))
+PostsInHand c most s x p xs ps =
+    (j : Job) → (after_from c s p).hand ≡ Some j → IfSome (entries_within most xs ps) (λ es. IsTrue (list_any (ends_job (job_block j)) es))
 
 -- the pages of all records of an immediate write
 abbrev pub urgent_pages_of : Configuration → Request → ℕ
@@ -87,7 +88,8 @@ pub record IsUrgent (r : Run) (s : State) (request : Request) : Type 0 where
 -- it is posted within the pages of its records and four turns more
 abbrev pub PostsUrgent : Run → State → Step → List Entry → List Step → List (List Entry) → Type 0
 PostsUrgent r s x (Ask caller request Accepted ∷ []) xs ps =
-    IsUrgent r s request → IfSome (entries_within (urgent_pages_of r.configuration request + 4) xs ps) (λ es. IsTrue (list_any (posts_block (asked_block request)) es))
+    IsUrgent r s request
+    → IfSome (entries_within (urgent_pages_of r.configuration request + 4) xs ps) (λ es. IsTrue (list_any (posts_block (asked_block request)) es))
 PostsUrgent r s x p xs ps = Unit {0}
 
 -- Completeness of a run of `play` in which nothing fails. `most` is the greatest number of turns that a job takes.

@@ -62,9 +62,12 @@ pub record Holds (c : Configuration) (first : List ℕ) (life : List Spell) (las
   -- the mark that was acknowledged last in whichever run, or one that was taken since
   pub newest : EachInstance c (found_by c last) (λ i mark. IsNewestOfAll c i mark (histories_of life))
   -- and that one was taken in one of the runs, or stood in the first image
-  pub taken : (x : DeviceNumber × ℕ) → Contains (lengths_of c) x → (found_by c last x.0.0 ≡ found_by c first x.0.0) ⊎ IsTakenInOne c (instance_of x.0) (found_by c last x.0.0) (histories_of life)
+  pub taken : (x : DeviceNumber × ℕ) → Contains (lengths_of c) x
+      → (found_by c last x.0.0 ≡ found_by c first x.0.0) ⊎ IsTakenInOne c (instance_of x.0) (found_by c last x.0.0) (histories_of life)
   -- in an image that the next run can go on with
   pub sound : IsSoundFlash c.geometry last
 
 abbrev pub UnitsHoldMarks : Type 0
-UnitsHoldMarks = (c : Configuration) (first : List ℕ) (life : List Spell) (last : List ℕ) → IsSoundFlash c.geometry first → IsLife c first life last → Holds c first life last
+UnitsHoldMarks =
+    (c : Configuration) (first : List ℕ) (life : List Spell) (last : List ℕ) → IsSoundFlash c.geometry first → IsLife c first life last
+    → Holds c first life last

@@ -43,9 +43,11 @@ pub record Promise (r : Run) : Type 0 where
   pub order : HasOrder r r.history
   -- and a power cut before or within any flash operation, start-up finds in each stored instance one whole accepted mark,
   -- not older than the last acknowledged by then;
-  pub power_cut : TellsOperations r.flash → StartsSound r.configuration.geometry r.flash → (k : ℕ) (image : List ℕ) → k < last_count → IsCutImage r.flash k image → Keeps r.configuration (up_to k r.history) image
+  pub power_cut : TellsOperations r.flash → StartsSound r.configuration.geometry r.flash → (k : ℕ) (image : List ℕ) → k < last_count
+      → IsCutImage r.flash k image → Keeps r.configuration (up_to k r.history) image
   pub found : TellsBytes r.flash → StartsSound r.configuration.geometry r.flash → StartUpsFind r
-  pub at_exit : TellsBytes r.flash → StartsSound r.configuration.geometry r.flash → HasStarted r.history → length r.flash.operations < last_count → IfSome (bytes_now r.flash.exit) (Keeps r.configuration r.history)
+  pub at_exit : TellsBytes r.flash → StartsSound r.configuration.geometry r.flash → HasStarted r.history → length r.flash.operations < last_count
+      → IfSome (bytes_now r.flash.exit) (Keeps r.configuration r.history)
   -- every reply, choice and result is the block machine's over the one history;
   pub block_machine : IsLegal r.configuration cap r.history
   -- a failure result comes only from counted faults, refused copies or what the flash holds written.

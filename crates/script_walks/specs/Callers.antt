@@ -91,4 +91,6 @@ MayFollow c steps h e = TakesStore c steps (copies_by c (next_of c (after c h)))
 
 -- a run with it behind it is a run
 abbrev pub RunsGrow : Type 0
-RunsGrow = (c : Configuration) (steps : List Step) (x : Entry) (h : List Entry) (e : Entry) → IsRun c steps (x ∷ h) → MayFollow c steps (x ∷ h) e → IsRun c steps (x ∷ h ++ e ∷ [])
+RunsGrow =
+    (c : Configuration) (steps : List Step) (x : Entry) (h : List Entry) (e : Entry) → IsRun c steps (x ∷ h) → MayFollow c steps (x ∷ h) e
+    → IsRun c steps (x ∷ h ++ e ∷ [])

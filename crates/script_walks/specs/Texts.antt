@@ -13,5 +13,6 @@ AreValues (e ∷ es) = IsEntryValue e × AreValues es
 -- Two legal histories of one configuration with the same text, with or without its last line, are the same history.
 abbrev pub TextsTellLegalHistories : Type 0
 TextsTellLegalHistories =
-    (c : Configuration) (cap : ℕ) (a b : List Entry) (s t : List ℕ) → IsLegal c cap a → IsLegal c cap b → AreValues a → AreValues b → BeginsNoEntry s → BeginsNoEntry t
+    (c : Configuration) (cap : ℕ) (a b : List Entry) (s t : List ℕ) → IsLegal c cap a → IsLegal c cap b → AreValues a → AreValues b → BeginsNoEntry s
+    → BeginsNoEntry t
     → history_text a ++ s ≡ history_text b ++ t → (a ≡ b) × (s ≡ t)
