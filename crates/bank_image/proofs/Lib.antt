@@ -3,6 +3,7 @@ pub mod Doubts
 pub mod Erases
 pub mod Frames
 pub mod Gates
+pub mod Pages
 pub mod Seals
 pub mod Shows
 pub mod Starts

@@ -16,6 +16,7 @@ use Rattle.fee_image.specs.Sound.{IsSoundImage}
 use Rattle.log_image.specs.Laws.{loaded_log, IsLoadedTail, erased_log, IsPlaced}
 use Rattle.log_image.specs.Log.{Tail, Log, HoldsLog}
 use Rattle.log_image.specs.May.{May, IsAmong, IsWider}
+use Rattle.log_image.specs.Step.{IsDue, page_due, bytes_due, log_done, may_done, log_failed}
 use Rattle.bank_image.specs.Banks.{Old, NoBank, OldBank, Phase, Idle, Erasing, Copying, Sealing, Banks, Holds, ImageShows, generation_of, next_head}
 
 -- a program of page q of bank k
@@ -101,6 +102,32 @@ CopiesChange =
     (l : Layout) (numbers : List (DeviceNumber × ℕ)) (bytes : List ℕ) (s : Banks) (log next : Log) (copied : May)
     → Holds l numbers bytes s → s.phase ≡ Copying log → HoldsLog (bank_in l 1 s.target) numbers bytes copied next
     → Holds l numbers bytes (record s { phase = Copying next; copied = copied })
+
+-- a page of an append, or an owed gate, that failed or was cut
+abbrev pub AppendsFail : Type 0
+AppendsFail =
+    (l : Layout) (numbers : List (DeviceNumber × ℕ)) (old new : List ℕ) (s : Banks) (k : ℕ) (h : BankHead) (log : Log)
+    → IsLegalLayout l → Holds l numbers old s → s.old ≡ OldBank k h log → TakesAppends s.phase
+    → IsDue log.tail → length (bytes_due l.page log) ≡ l.page → MayLeave (program_of l k (page_due log) (bytes_due l.page log)) old new
+    → Holds l numbers new (record s { old = OldBank k h (log_failed l.page log) })
+
+-- and that is done: at its last page a record's mark alone may be found
+abbrev pub AppendsDone : Type 0
+AppendsDone =
+    (l : Layout) (numbers : List (DeviceNumber × ℕ)) (old new : List ℕ) (s : Banks) (k : ℕ) (h : BankHead) (log : Log)
+    → IsLegalLayout l → Holds l numbers old s → s.old ≡ OldBank k h log → TakesAppends s.phase
+    → IsDue log.tail → length (bytes_due l.page log) ≡ l.page → MayLeave (program_of l k (page_due log) (bytes_due l.page log)) old new
+    → image_page l new k (page_due log) ≡ bytes_due l.page log
+    → Holds l numbers new (record s { old = OldBank k h (log_done l.page numbers log); may = may_done l.page s.may log })
+
+-- a page of a copy that is done
+abbrev pub CopiesDone : Type 0
+CopiesDone =
+    (l : Layout) (numbers : List (DeviceNumber × ℕ)) (old new : List ℕ) (s : Banks) (log : Log)
+    → IsLegalLayout l → Holds l numbers old s → s.phase ≡ Copying log
+    → IsDue log.tail → length (bytes_due l.page log) ≡ l.page → MayLeave (program_of l s.target (page_due log) (bytes_due l.page log)) old new
+    → image_page l new s.target (page_due log) ≡ bytes_due l.page log
+    → Holds l numbers new (record s { phase = Copying (log_done l.page numbers log); copied = may_done l.page s.copied log })
 
 -- whatever a program of the target's head or of a page of a copy leaves, the switch may begin again with an erase
 abbrev pub CopiesFail : Type 0

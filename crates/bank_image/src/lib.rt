@@ -18,6 +18,6 @@ pub use cases::{blank_flash, copied_flags, refused, sealed_copy};
 pub use copy_laws::{copies_have_room, flags_tell_copies};
 pub use erase_laws::erases_hold;
 pub use found_laws::{banks_load, banks_show};
-pub use log_laws::logs_go_on;
+pub use log_laws::{logs_go_on, pages_hold};
 pub use memory_laws::doubts_compute;
 pub use seal_laws::seals_hold;
