@@ -15,13 +15,14 @@ use Rattle.fee_format.specs.Pages.{gate_page}
 use Rattle.fee_image.specs.Bank.{place_of_page}
 use Rattle.fee_image.specs.Image.{Layout, IsLegalLayout, layout_of, bank_in, image_page}
 use Rattle.fee_image.specs.Laws.{LayoutsAreLegal, ProgramsStand}
+use Rattle.fee_image.specs.Sound.{IsSoundImage}
 use Rattle.log_image.specs.Log.{Log}
-use Rattle.bank_image.specs.Banks.{Erasing, Copying, Sealing, Banks, Holds, HoldsPhase, IsCopying, next_head}
-use Rattle.bank_image.specs.Laws.{program_of, ErasesFail, ErasesDone, CopiesFail, HeadsDone, GatesFail, GatesDone, GatesStand}
+use Rattle.bank_image.specs.Banks.{Erasing, Copying, Sealing, Banks, Holds, HoldsPhase, ImageShows, IsCopying, next_head}
+use Rattle.bank_image.specs.Laws.{program_of, BanksShow, ErasesFail, ErasesDone, CopiesFail, HeadsDone, GatesFail, GatesDone, GatesStand}
 use Rattle.fee_switch.specs.declared.target.Stage.{Stage}
 use Rattle.fee_switch.specs.declared.target.Stage.TheVariants.{Erase, Head, Gate}
 use Rattle.fee_switch.specs.declared.target.Target.{Target}
-use Rattle.fee_switch.specs.Target.{IsTarget, IsWorking, head_of, op_at, phase_of, IsReady, banks_at, TargetsHold}
+use Rattle.fee_switch.specs.Target.{IsTarget, IsWorking, head_of, op_at, phase_of, IsReady, banks_at, TargetsHold, CutsShow}
 
 -- A HEAD'S BYTES
 abbrev Small : List ℕ → Type 0
@@ -62,7 +63,7 @@ page_inside l bytes k q size low lt =
     let c : (k * B + q) * p ≡ k * (B * p) + q * p = grind arith in
     omega (arith, size, one, two, turn, a, b, c)
 
-module _ (erases_fail : ErasesFail) (erases_done : ErasesDone) (copies_fail : CopiesFail) (heads_done : HeadsDone) (gates_fail : GatesFail) (gates_done : GatesDone) (gates_stand : GatesStand) (stand : ProgramsStand) (legal : LayoutsAreLegal) (t : Target) (numbers : List (DeviceNumber × ℕ)) (old new : List ℕ) (s : Banks) (log : Log) (next : ℕ) (is : IsTarget t) (banks : Holds (layout_of t.geometry t.banks) numbers old s) (at : s.target ≡ t.bank) (inside : next < t.banks) (other : next ≡ t.bank → ⊥) where
+module _ (erases_fail : ErasesFail) (erases_done : ErasesDone) (copies_fail : CopiesFail) (heads_done : HeadsDone) (gates_fail : GatesFail) (gates_done : GatesDone) (gates_stand : GatesStand) (stand : ProgramsStand) (legal : LayoutsAreLegal) (t : Target) (numbers : List (DeviceNumber × ℕ)) (old new : List ℕ) (s : Banks) (log : Log) (is : IsTarget t) (banks : Holds (layout_of t.geometry t.banks) numbers old s) (at : s.target ≡ t.bank) where
   abbrev l : Layout
   l = layout_of t.geometry t.banks
 
@@ -95,27 +96,39 @@ module _ (erases_fail : ErasesFail) (erases_done : ErasesDone) (copies_fail : Co
       let last : (next_head s.old).generation < 2 ^ 32 = subst (λ (h : BankHead). h.generation < 2 ^ 32) ready.0 ready.1 in
       heads_done l numbers old new s log shape banks phase last ready.2 (subst (λ (x : List ℕ). MayLeave (program_of l s.target 0 x) old new) same (own Head leaves)) (here ∙ same)
 
-  gate_stands : s.phase ≡ Sealing log → MayLeave (op_at t Gate) old new → new ≡ after_op (op_at t Gate) old → Holds l numbers new (banks_at t Gate s log next Done)
-  gate_stands phase leaves done =
+  gate_stands : (next : ℕ) → next < t.banks → (next ≡ t.bank → ⊥) → s.phase ≡ Sealing log → MayLeave (op_at t Gate) old new → new ≡ after_op (op_at t Gate) old → Holds l numbers new (banks_at t Gate s log next Done)
+  gate_stands next inside other phase leaves done =
       let b = bank_in l 1 s.target in
       let done_own : new ≡ after_op (op_at (record t { bank = s.target }) Gate) old = subst (λ (k : ℕ). new ≡ after_op (op_at (record t { bank = k }) Gate) old) (sym at) done in
       let stood = gates_stand b old 1 (page_inside l old s.target 1 banks.size banks.target (omega (arith, shape.pages))) in
       let here : image_page l new s.target 1 ≡ gate_page l.page = subst (λ (bytes : List ℕ). image_page l bytes s.target 1 ≡ gate_page l.page) (sym done_own) stood.0 in
       gates_done l numbers old new s log next shape banks phase (own Gate leaves) here inside (λ e. other (e ∙ at))
 
-  by_stage : (stage : Stage) (answer : FlashAnswer) → IsWorking (t.geometry.sectors / t.banks) stage → s.phase ≡ phase_of t stage log → IsReady t stage s → MayLeave (op_at t stage) old new → Leaves (op_at t stage) answer old new
+  by_stage : (next : ℕ) → next < t.banks → (next ≡ t.bank → ⊥) → (stage : Stage) (answer : FlashAnswer) → IsWorking (t.geometry.sectors / t.banks) stage → s.phase ≡ phase_of t stage log → IsReady t stage s → MayLeave (op_at t stage) old new → Leaves (op_at t stage) answer old new
       → Holds l numbers new (banks_at t stage s log next answer)
-  by_stage (Erase n) Done lt phase ready leaves done =
+  by_stage next inside other (Erase n) Done lt phase ready leaves done =
       erases_done t.geometry t.banks numbers old new s n is.legal is.shared banks phase lt (own (Erase n) leaves) (subst (λ (k : ℕ). new ≡ after_op (op_at (record t { bank = k }) (Erase n)) old) (sym at) done)
-  by_stage (Erase n) Failed lt phase ready leaves also = erase_fails n lt phase leaves
-  by_stage (Erase n) Off lt phase ready leaves also = erase_fails n lt phase leaves
-  by_stage Head Done lt phase ready leaves done = head_stands phase ready leaves done
-  by_stage Head Failed lt phase ready leaves also = head_fails phase leaves
-  by_stage Head Off lt phase ready leaves also = head_fails phase leaves
-  by_stage Gate Done lt phase ready leaves done = gate_stands phase leaves done
-  by_stage Gate Failed lt phase ready leaves also = gates_fail l numbers old new s log shape banks phase (own Gate leaves)
-  by_stage Gate Off lt phase ready leaves also = gates_fail l numbers old new s log shape banks phase (own Gate leaves)
+  by_stage next inside other (Erase n) Failed lt phase ready leaves also = erase_fails n lt phase leaves
+  by_stage next inside other (Erase n) Off lt phase ready leaves also = erase_fails n lt phase leaves
+  by_stage next inside other Head Done lt phase ready leaves done = head_stands phase ready leaves done
+  by_stage next inside other Head Failed lt phase ready leaves also = head_fails phase leaves
+  by_stage next inside other Head Off lt phase ready leaves also = head_fails phase leaves
+  by_stage next inside other Gate Done lt phase ready leaves done = gate_stands next inside other phase leaves done
+  by_stage next inside other Gate Failed lt phase ready leaves also = gates_fail l numbers old new s log shape banks phase (own Gate leaves)
+  by_stage next inside other Gate Off lt phase ready leaves also = gates_fail l numbers old new s log shape banks phase (own Gate leaves)
+
+  -- CUTS
+  shown : BanksShow → (x : Banks) → Holds l numbers new x → ImageShows l new x.may × IsSoundImage l new
+  shown show x h = (show l numbers new x shape h, h.sound)
+
+  cut_by_stage : BanksShow → (stage : Stage) → IsWorking (t.geometry.sectors / t.banks) stage → s.phase ≡ phase_of t stage log → MayLeave (op_at t stage) old new → ImageShows l new s.may × IsSoundImage l new
+  cut_by_stage show (Erase n) lt phase leaves = shown show s (erase_fails n lt phase leaves)
+  cut_by_stage show Head lt phase leaves = shown show (record s { phase = Erasing 0 }) (head_fails phase leaves)
+  cut_by_stage show Gate lt phase leaves = shown show s (gates_fail l numbers old new s log shape banks phase (own Gate leaves))
 
 pub targets_hold : ErasesFail → ErasesDone → CopiesFail → HeadsDone → GatesFail → GatesDone → GatesStand → ProgramsStand → LayoutsAreLegal → TargetsHold
 targets_hold ef ed cf hd gf gd gs ps ll t numbers old new s log next answer is holds inside other leaves after =
-    by_stage ef ed cf hd gf gd gs ps ll t numbers old new s log next is holds.banks holds.target inside other t.stage answer is.working holds.phase holds.ready leaves after
+    by_stage ef ed cf hd gf gd gs ps ll t numbers old new s log is holds.banks holds.target next inside other t.stage answer is.working holds.phase holds.ready leaves after
+
+pub cuts_show : ErasesFail → ErasesDone → CopiesFail → HeadsDone → GatesFail → GatesDone → GatesStand → ProgramsStand → LayoutsAreLegal → BanksShow → CutsShow
+cuts_show ef ed cf hd gf gd gs ps ll show t numbers old image s log is holds leaves = cut_by_stage ef ed cf hd gf gd gs ps ll t numbers old image s log is holds.banks holds.target show t.stage is.working holds.phase leaves

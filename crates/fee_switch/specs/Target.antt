@@ -10,9 +10,10 @@ use Rattle.fee_format.specs.declared.bank_head.BankHead.{BankHead}
 use Rattle.fee_format.specs.BankHead.{bank_head_page}
 use Rattle.fee_format.specs.Pages.{gate_page}
 use Rattle.fee_image.specs.Image.{layout_of}
+use Rattle.fee_image.specs.Sound.{IsSoundImage}
 use Rattle.log_image.specs.Log.{Log}
 use Rattle.log_image.specs.May.{IsWider}
-use Rattle.bank_image.specs.Banks.{OldBank, Phase, Idle, Erasing, Copying, Sealing, Banks, Holds, next_head}
+use Rattle.bank_image.specs.Banks.{OldBank, Phase, Idle, Erasing, Copying, Sealing, Banks, Holds, ImageShows, next_head}
 use Rattle.bank_image.specs.Laws.{erase_of}
 use Rattle.fee_switch.specs.declared.target.Stage.{Stage}
 use Rattle.fee_switch.specs.declared.target.Stage.TheVariants.{Erase, Head, Gate}
@@ -88,3 +89,10 @@ TargetsHold =
     → IsTarget t → HoldsTarget t numbers old s log → next < t.banks → (next ≡ t.bank → ⊥)
     → MayLeave (op_of t) old new → Leaves (op_of t) answer old new
     → Holds (layout_of t.geometry t.banks) numbers new (banks_after t s log next answer)
+
+-- so a start-up on whatever a cut before or within a step leaves finds what may be found, in sound bytes
+abbrev pub CutsShow : Type 0
+CutsShow =
+    (t : Target) (numbers : List (DeviceNumber × ℕ)) (old image : List ℕ) (s : Banks) (log : Log)
+    → IsTarget t → HoldsTarget t numbers old s log → MayLeave (op_of t) old image
+    → let l = layout_of t.geometry t.banks in ImageShows l image s.may × IsSoundImage l image
