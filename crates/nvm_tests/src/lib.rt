@@ -16,8 +16,10 @@ mod driver;
 #[cfg(test)]
 mod floor;
 #[cfg(test)]
+mod queues;
+#[cfg(test)]
 mod streams;
 #[cfg(test)]
-mod queues;
+mod switches;
 #[cfg(test)]
 mod texts;
