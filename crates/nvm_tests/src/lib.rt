@@ -18,6 +18,8 @@ mod floor;
 #[cfg(test)]
 mod queues;
 #[cfg(test)]
+mod ram;
+#[cfg(test)]
 mod streams;
 #[cfg(test)]
 mod switches;

@@ -1,0 +1,4 @@
+pub mod Copies
+pub mod Kept
+pub mod Plain
+pub mod Told
