@@ -16,6 +16,8 @@ mod driver;
 #[cfg(test)]
 mod floor;
 #[cfg(test)]
+mod programs;
+#[cfg(test)]
 mod queues;
 #[cfg(test)]
 mod ram;

@@ -1,0 +1,29 @@
+-- Job programs against the machine.
+use Rattle.std.specs.Prelude.{◌≡◌, ℕ, List, [], ◌∷◌, is_some, None, ◌⊎◌, if◌then◌else◌}
+use Rattle.block_machine.specs.Words.{Mark, JobKind, Outcome}
+use Rattle.block_machine.specs.ResultTable.{table}
+use Rattle.block_machine.specs.Results.{Own, own_indices, outcome_of, outcomes_of}
+use Rattle.job_programs.specs.Program.{Program, outcomes_in, next_in, is_failed}
+
+-- the instances whose operation failed at every try
+abbrev pub failed_of : List ℕ → List Outcome → List ℕ
+failed_of (i ∷ is) (o ∷ os) = if is_failed o then i ∷ failed_of is os else failed_of is os
+failed_of is os = []
+
+-- What the device gives fits the settled marks: a read finds what is settled, or fails of a content; any other operation
+-- writes its mark, or fails.
+abbrev pub Fit : JobKind → List (ℕ × Mark) → List Outcome → Type 0
+Fit kind marks [] = Unit {0}
+Fit kind [] (o ∷ os) = ⊥
+Fit kind (m ∷ marks) (o ∷ os) = (outcome_of kind m.1 (is_failed o) ≡ o) × Fit kind marks os
+
+-- a job works on no instance, on one, or on both copies
+abbrev pub Works : List ℕ → Type 0
+Works indices = (indices ≡ []) ⊎ ((i : ℕ) × (indices ≡ i ∷ [])) ⊎ (indices ≡ 0 ∷ 1 ∷ [])
+
+-- A program that is over has the machine's result and source, for what the block is and holds and for the operations
+-- that failed at every try.
+abbrev pub EndsByTheMachine : Type 0
+EndsByTheMachine =
+    (o : Own) (p : Program) → own_indices o ≡ p.indices → Works p.indices → is_some o.desc.defaults ≡ p.defaults → Fit p.kind o.marks p.done → next_in p ≡ None
+    → table p.defaults p.kind (outcomes_in p) ≡ table (is_some o.desc.defaults) p.kind (outcomes_of p.kind o.marks (failed_of p.indices p.done))

@@ -1,0 +1,5 @@
+use Rattle.multi_jobs.proofs.Taken.{takes_the_first}
+use Rattle.multi_jobs.proofs.laws.sweeps_follow_the_machine.Goals as goal
+
+pub returns-clause-takes : goal.returns-clause-takes
+returns-clause-takes c = takes_the_first

@@ -1,0 +1,9 @@
+// Sweeps against the machine's.
+ghost use Rattle.multi_jobs.specs.Laws.{BeginsWithAll, TakesTheFirst, StepIsNext};
+
+/// Members come in the machine's order, and each step is what the machine turns to next.
+pub fn sweeps_follow_the_machine()
+    ensures begins { BeginsWithAll }
+    ensures takes { TakesTheFirst }
+    ensures next { StepIsNext }
+{}

@@ -1,0 +1,137 @@
+// A job on two copies.
+ghost use Rattle.std.specs.Prelude.{◌≡◌, is_some};
+ghost use Rattle.block_config.specs.declared.block.BlockKind.TheVariants as kind;
+ghost use Rattle.job_programs.specs.Program.{program_of, after, step_of, operation};
+ghost use Rattle.nv_base.specs.declared.job.JobStep.TheVariants.{Device};
+ghost use Rattle.redundant_blocks.specs.declared.program.RedundantProgram.TheInside.{Inside};
+ghost use Rattle.redundant_blocks.specs.Inside.{shown};
+
+use block_config::BlockDesc;
+use job_programs::{end_of_none, end_of_two, is_again, operation, retries, settles, works};
+use nv_base::{Instance, JobKind, JobStep, Outcome};
+use std::marker::Model;
+
+/// Where a job stands: it needs no operation; it is at copy 0, after so many failed tries; copy 0 is done, and it is at
+/// copy 1, if it needs that; or both are done.
+#[derive(Clone, Copy, Debug)]
+enum Stand {
+    Needless,
+    AtFirst { failures: u8 },
+    AtSecond { copy_0: Outcome, failures: u8 },
+    Done { copy_0: Outcome, copy_1: Outcome },
+}
+
+impl Stand {
+    // Where the job stands behind an outcome.
+    fn behind(self, outcome: Outcome, job: JobKind, retries: u8) -> Stand
+        ensures { (p : Inside) → p.stand ≡ self → p.job ≡ job → p.retries ≡ retries → shown (record p { stand = result }) ≡ after (shown p) outcome }
+    {
+        match self {
+            Stand::AtFirst { failures } if outcome != Outcome::First => {
+                if is_again(outcome, failures, retries) {
+                    Stand::AtFirst {
+                        failures: failures + 1,
+                    }
+                } else {
+                    Stand::AtSecond {
+                        copy_0: outcome,
+                        failures: 0,
+                    }
+                }
+            }
+            Stand::AtSecond { copy_0, failures }
+                if outcome != Outcome::First && !settles(job, copy_0) => {
+                if is_again(outcome, failures, retries) {
+                    Stand::AtSecond {
+                        copy_0,
+                        failures: failures + 1,
+                    }
+                } else {
+                    Stand::Done {
+                        copy_0,
+                        copy_1: outcome,
+                    }
+                }
+            }
+            stand => stand,
+        }
+    }
+}
+
+/// A job on a redundant block. Contracts see what is done of it.
+#[derive(Debug, Drop)]
+pub struct RedundantProgram {
+    block: u16,
+    job: JobKind,
+    defaults: bool,
+    retries: u8,
+    stand: Stand,
+}
+
+impl Model for RedundantProgram {
+    ghost use Rattle.job_programs.specs.Program.{Program};
+
+    ghost Value = { Program };
+
+    ghost use Rattle.redundant_blocks.specs.Inside.{shown};
+
+    ghost view = { shown };
+}
+
+impl RedundantProgram {
+    /// A job on a block. The data index means nothing here.
+    pub fn begin(desc: &BlockDesc, block: u16, index: u8, job: JobKind) -> RedundantProgram
+        requires { desc.now.kind ≡ kind.Redundant }
+        ensures { result ≡ program_of desc.now (is_some desc.now.defaults) block index job }
+    {
+        let stand = if works(job) {
+            Stand::AtFirst { failures: 0 }
+        } else {
+            Stand::Needless
+        };
+        RedundantProgram {
+            block,
+            job,
+            defaults: desc.defaults.is_some(),
+            retries: retries(desc, job),
+            stand,
+        }
+    }
+
+    /// Takes the outcome of the last step, `First` before any, and answers the next one.
+    pub fn next(&mut self, outcome: Outcome) -> JobStep
+        ensures after { self.new ≡ after self.old outcome }
+        ensures step { result ≡ step_of self.new }
+    {
+        self.stand = self.stand.behind(outcome, self.job, self.retries);
+        self.step()
+    }
+
+    fn step(&self) -> JobStep
+        ensures { result ≡ step_of self.now }
+    {
+        match self.stand {
+            Stand::Needless => end_of_none(self.defaults, self.job),
+            Stand::AtFirst { .. } => self.operation_on(0),
+            Stand::AtSecond { copy_0, .. } if !settles(self.job, copy_0) => self.operation_on(1),
+            Stand::AtSecond { copy_0, .. } => {
+                end_of_two(self.defaults, self.job, copy_0, Outcome::Failed)
+            }
+            Stand::Done { copy_0, copy_1 } => {
+                end_of_two(self.defaults, self.job, copy_0, copy_1)
+            }
+        }
+    }
+
+    fn operation_on(&self, index: u8) -> JobStep
+        ensures { result ≡ Device (operation self.now.kind) (record { block = self.now.block; index = index }) }
+    {
+        JobStep::Device {
+            op: operation(self.job),
+            instance: Instance {
+                block: self.block,
+                index,
+            },
+        }
+    }
+}
