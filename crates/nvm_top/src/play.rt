@@ -12,12 +12,12 @@ ghost use Rattle.nvm_top.specs.Stop.{status_of};
 ghost use Rattle.nvm_top.specs.Words.{command_of, is_play};
 
 use crate::Status;
-use first_run::{AskFault, BankDevice};
 use crate::output::{report, write_end, write_history};
 use crate::playable::{Playable, read_playable};
 use crate::stack::{Stack, Turned};
 use crate::stop::Stop;
 use crate::words::is_play;
+use first_run::{AskFault, BankDevice};
 use fls_model::{AttachFault, Flash};
 use nv_base::{Geometry, History, Lengths, Reply, Request};
 use nv_streams::{Sink, Source};

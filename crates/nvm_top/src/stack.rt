@@ -5,8 +5,8 @@ ghost use Rattle.first_run.specs.Desk.{ReadsSo};
 ghost use Rattle.nvm_top.specs.Play.{IsRunEnd};
 ghost use Rattle.nvm_top.specs.Stop.{status_of};
 
-use first_run::{AskFault, BankDevice, Desk, InHand, ReadTurn, StartFault, WriteTurn};
 use crate::stop::Stop;
+use first_run::{AskFault, BankDevice, Desk, InHand, ReadTurn, StartFault, WriteTurn};
 use fls_model::Flash;
 use nv_base::{Bytes, History, Lengths, Reply, ReqResult};
 use std::alloc::{AllocError, Global};
