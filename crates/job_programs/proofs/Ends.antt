@@ -9,7 +9,7 @@ use Rattle.block_machine.specs.Results.{outcome_of, outcomes_of}
 use Rattle.job_programs.specs.Program.{settles, is_failed}
 use Rattle.job_programs.specs.Laws.{failed_of, Fit, Works, EndsByTheMachine}
 
-abbrev indices_in : List (ℕ × Mark) → List ℕ
+abbrev pub indices_in : List (ℕ × Mark) → List ℕ
 indices_in marks = map (λ x. x.0) marks
 
 -- one outcome is the machine's
@@ -53,7 +53,7 @@ both kind a b o p e f g =
     let second : outcome_of kind b.1 (is_in (failed_of (a.0 ∷ b.0 ∷ []) (o ∷ p ∷ [])) b.0) ≡ p = ap (outcome_of kind b.1) (behind_by (is_failed o) a.0 b.0 rest e) ∙ one_outcome kind b p g in
     cc
 
-apart : (a b : ℕ) (xs : List ℕ) → Works (a ∷ b ∷ xs) → (a ≢ b) × (xs ≡ [])
+pub apart : (a b : ℕ) (xs : List ℕ) → Works (a ∷ b ∷ xs) → (a ≢ b) × (xs ≡ [])
 apart a b xs (inl e) = cc
 apart a b xs (inr (inl (i, e))) = cc
 apart a b xs (inr (inr e)) = ((λ h. let f : a ≡ 0 = cc in let g : b ≡ 1 = cc in cc), cc)

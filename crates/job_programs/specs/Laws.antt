@@ -1,9 +1,10 @@
 -- Job programs against the machine.
-use Rattle.std.specs.Prelude.{◌≡◌, ℕ, List, [], ◌∷◌, is_some, None, ◌⊎◌, if◌then◌else◌}
-use Rattle.block_machine.specs.Words.{Mark, JobKind, Outcome}
+use Rattle.std.specs.Prelude.{◌≡◌, ℕ, ◌-◌, false, List, [], ◌∷◌, length, slice_get, is_some, Option, None, ◌⊎◌, if◌then◌else◌}
+use Rattle.std.specs.Option.{option_and_then}
+use Rattle.block_machine.specs.Words.{Mark, JobKind, Outcome, FromDevice}
 use Rattle.block_machine.specs.ResultTable.{table}
-use Rattle.block_machine.specs.Results.{Own, own_indices, outcome_of, outcomes_of}
-use Rattle.job_programs.specs.Program.{Program, outcomes_in, next_in, is_failed}
+use Rattle.block_machine.specs.Results.{Own, own_indices, outcome_of, outcomes_of, content_of, device_content}
+use Rattle.job_programs.specs.Program.{Program, outcomes_in, next_in, after, settles, is_failed}
 
 -- the instances whose operation failed at every try
 abbrev pub failed_of : List ℕ → List Outcome → List ℕ
@@ -27,3 +28,24 @@ abbrev pub EndsByTheMachine : Type 0
 EndsByTheMachine =
     (o : Own) (p : Program) → own_indices o ≡ p.indices → Works p.indices → is_some o.desc.defaults ≡ p.defaults → Fit p.kind o.marks p.done → next_in p ≡ None
     → table p.defaults p.kind (outcomes_in p) ≡ table (is_some o.desc.defaults) p.kind (outcomes_of p.kind o.marks (failed_of p.indices p.done))
+
+-- WHAT IS GIVEN
+
+-- the content of the instance whose operation was the last of so many
+abbrev pub last_content : List (ℕ × Mark) → ℕ → Option (List ℕ)
+last_content marks n = option_and_then (λ x. content_of x.1) (slice_get marks (n - 1))
+
+-- a job went on to a further copy only where it needed that
+abbrev pub GoesOnlyAsNeeded : JobKind → List Outcome → Type 0
+GoesOnlyAsNeeded kind (o ∷ p ∷ os) = (settles kind o ≡ false) × GoesOnlyAsNeeded kind (p ∷ os)
+GoesOnlyAsNeeded kind os = Unit {0}
+
+-- which every program keeps to
+abbrev pub ProgramsGoAsNeeded : Type 0
+ProgramsGoAsNeeded = (p : Program) (outcome : Outcome) → GoesOnlyAsNeeded p.kind p.done → GoesOnlyAsNeeded p.kind (after p outcome).done
+
+-- Where a program that is over gives what the device read, that is what its last operation read, and the machine's.
+abbrev pub GivesTheLastRead : Type 0
+GivesTheLastRead =
+    (o : Own) (p : Program) → own_indices o ≡ p.indices → Works p.indices → Fit p.kind o.marks p.done → next_in p ≡ None → GoesOnlyAsNeeded p.kind p.done
+    → (table p.defaults p.kind (outcomes_in p)).1 ≡ FromDevice → device_content o.marks (failed_of p.indices p.done) ≡ last_content o.marks (length p.done)

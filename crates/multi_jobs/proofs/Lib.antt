@@ -1,2 +1,3 @@
 pub mod Ids
 pub mod Taken
+pub mod Noted

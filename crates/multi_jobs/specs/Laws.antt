@@ -1,14 +1,14 @@
 -- Sweeps against the machine's.
-use Rattle.std.specs.Prelude.{◌≡◌, ℕ, true, false, drop, Option, Some, None}
-use Rattle.block_machine.specs.Words.{JobKind, Configuration}
+use Rattle.std.specs.Prelude.{◌≡◌, ℕ, Bool, true, false, drop, Option, Some, None}
+use Rattle.block_machine.specs.Words.{ReqResult, JobKind, Configuration}
 use Rattle.block_machine.specs.State.{State, Sweep}
 use Rattle.block_machine.specs.Blocks.{desc_of, block_at, names_rom}
-use Rattle.block_machine.specs.Sweeps.{members_of, sweep_result}
+use Rattle.block_machine.specs.Sweeps.{members_of, sweep_result, is_done, after_member}
 use Rattle.block_machine.specs.Next.{Next, PickMember, PostMember, EndSweep, next_in_sweep}
 use Rattle.multi_jobs.specs.declared.sweep.MemberFacts.{MemberFacts}
 use Rattle.multi_jobs.specs.declared.sweep.SweepStep.{SweepStep}
 use Rattle.multi_jobs.specs.declared.sweep.SweepStep.TheVariants.{Member, Skip, Defaults, Ended}
-use Rattle.multi_jobs.specs.Sweep.{SweepState, sweep_of, writes_all, left_of, next_member, moved, step_of}
+use Rattle.multi_jobs.specs.Sweep.{SweepState, sweep_of, writes_all, left_of, next_member, noted, moved, step_of}
 
 -- a sweep begins with all of the machine's members
 abbrev pub BeginsWithAll : Type 0
@@ -45,3 +45,8 @@ IsNext (Ended r) sw next = (next ≡ EndSweep sw) × (r ≡ sweep_result sw)
 -- The next step of the machine's sweep is the machine's, by the facts of the next member.
 abbrev pub StepIsNext : Type 0
 StepIsNext = (c : Configuration) (st : State) (s : SweepState) (sw : Sweep) (f : MemberFacts) → Agree c s sw → AreFacts c st (next_member c s) f → IsNext (step_of c s f) sw (next_in_sweep c st sw)
+
+-- Behind a member the sweep is the machine's again, once its result is noted. Of block 1 that tells whether it gave the id.
+abbrev pub MembersAreNoted : Type 0
+MembersAreNoted = (c : Configuration) (s : SweepState) (sw : Sweep) (id : ℕ) (r : ReqResult) (same_id : Bool) → Agree c s sw → next_member c s ≡ Some id → (id ≡ 1 → same_id ≡ is_done r)
+    → Agree c (noted (Some r) same_id (moved c s)) (after_member id r (record sw { left = drop 1 sw.left }))

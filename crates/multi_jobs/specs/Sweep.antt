@@ -45,13 +45,16 @@ next_member c s = if s.canceled then None else slice_get (left_of c s) 0
 
 -- THE RESULT OF THE LAST MEMBER
 
--- behind block 1 of a ReadAll, what it gave counts
-abbrev pub is_behind_id : SweepState → Bool
-is_behind_id s = elim s.place [ First ↦ false | Behind passed ↦ if s.writes then false else passed == 0 | Over ↦ false ]
+-- a ReadAll behind block 1
+abbrev pub is_behind_id : Bool → Place → Bool
+is_behind_id true place = false
+is_behind_id false (Behind passed) = passed == 0
+is_behind_id false place = false
 
+-- behind block 1 of a ReadAll what it gave counts
 abbrev pub noted : Option ReqResult → Bool → SweepState → SweepState
 noted None same_id s = s
-noted (Some r) same_id s = record s { same = if is_behind_id s then same_id else s.same; spoiled = s.spoiled || spoils r }
+noted (Some r) same_id s = record s { same = if is_behind_id s.writes s.place then same_id else s.same; spoiled = s.spoiled || spoils r }
 
 abbrev pub result_of : SweepState → ReqResult
 result_of s = if s.canceled then Canceled else (if s.spoiled then NotOk else Fine)

@@ -1,9 +1,10 @@
 // Sweeps against the machine's.
-ghost use Rattle.multi_jobs.specs.Laws.{BeginsWithAll, TakesTheFirst, StepIsNext};
+ghost use Rattle.multi_jobs.specs.Laws.{BeginsWithAll, TakesTheFirst, StepIsNext, MembersAreNoted};
 
 /// Members come in the machine's order, and each step is what the machine turns to next.
 pub fn sweeps_follow_the_machine()
     ensures begins { BeginsWithAll }
     ensures takes { TakesTheFirst }
     ensures next { StepIsNext }
+    ensures noted { MembersAreNoted }
 {}

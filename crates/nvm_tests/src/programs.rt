@@ -1,5 +1,5 @@
 // Job programs and sweeps: each call once.
-use block_config::{BlockKind, demo};
+use block_config::{BlockDesc, BlockKind, demo};
 use multi_jobs::{MemberFacts, Sweep, SweepStep};
 use nv_base::{DeviceOp, GivenFrom, Instance, JobKind, JobStep, Outcome, ReqResult};
 use plain_blocks::PlainProgram;
@@ -20,9 +20,14 @@ fn ended(code: ReqResult, source: GivenFrom) -> JobStep {
     }
 }
 
+fn kind_of(desc: Option<&BlockDesc>) -> Option<BlockKind> {
+    desc.map(|desc| desc.kind)
+}
+
 #[test]
 fn a_native_write_is_tried_again(rt: HostRuntime) -> Result<(), Fail> {
     let config = demo(rt.alloc())?;
+    assert_eq!(rt; kind_of(config.block(2)), Some(BlockKind::Native));
     let Some(desc) = config.block(2) else {
         return Ok(());
     };
@@ -42,6 +47,7 @@ fn a_native_write_is_tried_again(rt: HostRuntime) -> Result<(), Fail> {
 #[test]
 fn a_redundant_read_goes_on_to_copy_1(rt: HostRuntime) -> Result<(), Fail> {
     let config = demo(rt.alloc())?;
+    assert_eq!(rt; kind_of(config.block(1)), Some(BlockKind::Redundant));
     let Some(desc) = config.block(1) else {
         return Ok(());
     };
