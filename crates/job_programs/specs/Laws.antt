@@ -1,10 +1,12 @@
 -- Job programs against the machine.
-use Rattle.std.specs.Prelude.{◌≡◌, ℕ, ◌-◌, false, List, [], ◌∷◌, length, slice_get, is_some, Option, None, ◌⊎◌, if◌then◌else◌}
+use Rattle.std.specs.Prelude.{◌≡◌, ℕ, ◌-◌, Bool, true, false, List, [], ◌∷◌, length, slice_get, is_some, Option, None, ◌⊎◌, if◌then◌else◌}
 use Rattle.std.specs.Option.{option_and_then}
-use Rattle.block_machine.specs.Words.{Mark, JobKind, Outcome, FromDevice}
+use Rattle.block_machine.specs.Words.{Mark, JobKind, RestoreJob, Outcome, FromDevice, BlockDesc, Configuration}
+use Rattle.block_machine.specs.State.{State}
+use Rattle.block_machine.specs.Blocks.{desc_of, block_at}
 use Rattle.block_machine.specs.ResultTable.{table}
-use Rattle.block_machine.specs.Results.{Own, own_indices, outcome_of, outcomes_of, content_of, device_content}
-use Rattle.job_programs.specs.Program.{Program, outcomes_in, next_in, after, settles, is_failed}
+use Rattle.block_machine.specs.Results.{Own, own_of, own_indices, outcome_of, outcomes_of, content_of, device_content}
+use Rattle.job_programs.specs.Program.{Program, works, program_of, outcomes_in, next_in, after, settles, is_failed}
 
 -- the instances whose operation failed at every try
 abbrev pub failed_of : List ℕ → List Outcome → List ℕ
@@ -49,3 +51,19 @@ abbrev pub GivesTheLastRead : Type 0
 GivesTheLastRead =
     (o : Own) (p : Program) → own_indices o ≡ p.indices → Works p.indices → Fit p.kind o.marks p.done → next_in p ≡ None → GoesOnlyAsNeeded p.kind p.done
     → (table p.defaults p.kind (outcomes_in p)).1 ≡ FromDevice → device_content o.marks (failed_of p.indices p.done) ≡ last_content o.marks (length p.done)
+
+-- THE JOB
+
+-- it works on no instance, on one, or on both copies
+abbrev pub ProgramsWork : Type 0
+ProgramsWork = (d : BlockDesc) (defaults : Bool) (block index : ℕ) (kind : JobKind) → Works (program_of d defaults block index kind).indices
+
+-- which are those of its block in the machine's state, where it works on the device
+abbrev pub ProgramsWorkOnTheirOwn : Type 0
+ProgramsWorkOnTheirOwn =
+    (c : Configuration) (s : State) (id block : ℕ) (defaults : Bool) (kind : JobKind) → works kind ≡ true
+    → own_indices (own_of c s id) ≡ (program_of (desc_of c id) defaults block (block_at s id).index kind).indices
+
+-- a restore ends by the machine whatever the device holds
+abbrev pub RestoresEnd : Type 0
+RestoresEnd = (p : Program) (defaults : Bool) (outcomes : List Outcome) → p.kind ≡ RestoreJob → table p.defaults p.kind (outcomes_in p) ≡ table defaults RestoreJob outcomes

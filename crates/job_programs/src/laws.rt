@@ -1,9 +1,16 @@
 // Job programs against the machine.
-ghost use Rattle.job_programs.specs.Laws.{EndsByTheMachine, ProgramsGoAsNeeded, GivesTheLastRead};
+ghost use Rattle.job_programs.specs.Laws.{EndsByTheMachine, ProgramsGoAsNeeded, GivesTheLastRead, ProgramsWork, ProgramsWorkOnTheirOwn, RestoresEnd};
 
 /// What a program ends with is the machine's, and what it gives is what its last operation read.
 pub fn programs_end_by_the_machine()
     ensures ends { EndsByTheMachine }
     ensures needed { ProgramsGoAsNeeded }
     ensures gives { GivesTheLastRead }
+{}
+
+/// The instances that a program works on are those of its block in the machine's state.
+pub fn programs_work_on_their_own()
+    ensures shape { ProgramsWork }
+    ensures own { ProgramsWorkOnTheirOwn }
+    ensures restores { RestoresEnd }
 {}

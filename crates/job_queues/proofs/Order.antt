@@ -12,7 +12,7 @@ use Rattle.job_queues.specs.Laws.{only, OneOrder, FirstIsNext, TakenLeaves, None
 
 -- ONE ORDER
 
-abbrev Are : Bool → Option Waiting → Type 0
+abbrev pub Are : Bool → Option Waiting → Type 0
 Are t None = Unit {0}
 Are t (Some w) = w.immediate ≡ t
 
@@ -20,7 +20,7 @@ two_are_by : (t u : Bool) (b w : Waiting) → b.immediate ≡ t → w.immediate 
 two_are_by t true b w hb hw = hw
 two_are_by t false b w hb hw = hb
 
-two_are : (t : Bool) (o : Option Waiting) (w : Waiting) → Are t o → w.immediate ≡ t → Are t (first_of_two o w)
+pub two_are : (t : Bool) (o : Option Waiting) (w : Waiting) → Are t o → w.immediate ≡ t → Are t (first_of_two o w)
 two_are t None w h e = e
 two_are t (Some b) w h e = two_are_by t (goes_before (rank_of w) (rank_of b)) b w h e
 

@@ -1,5 +1,5 @@
 -- The queues against the machine.
-use Rattle.std.specs.Prelude.{◌≡◌, ◌↔◌, ℕ, not, Bool, true, false, List, [], ◌∷◌, ◌++◌, filter, map, option_map, if◌then◌else◌, None}
+use Rattle.std.specs.Prelude.{◌≡◌, ◌↔◌, ℕ, not, Bool, true, false, List, [], ◌∷◌, ◌++◌, filter, map, option_map, if◌then◌else◌, Some, None}
 use Rattle.block_machine.specs.Words.{Configuration}
 use Rattle.block_machine.specs.State.{Job}
 use Rattle.block_machine.specs.Blocks.{job_block, rank_of}
@@ -7,7 +7,7 @@ use Rattle.block_machine.specs.Next.{next_in}
 use Rattle.block_machine.specs.Steps.{without_job}
 use Rattle.job_queues.specs.declared.waiting.Waiting.{Waiting}
 use Rattle.job_queues.specs.Order.{first_of}
-use Rattle.job_queues.specs.Jobs.{Jobs, either, first_in, without, with_job, with_job_first}
+use Rattle.job_queues.specs.Jobs.{Jobs, either, first_in, without, with_job, with_job_first, without_first}
 
 -- the immediate jobs of a list, or the standard ones
 abbrev pub only : Bool → List Waiting → List Waiting
@@ -49,3 +49,14 @@ PutBackWaits = (c : Configuration) (jobs : List Job) (j : Job) (i s : ℕ) → q
 -- a job that leaves the machine's list leaves both queues, and so the one that it is in
 abbrev pub TakenLeaves : Type 0
 TakenLeaves = (c : Configuration) (jobs : List Job) (n : ℕ) (immediate : Bool) → only immediate (map (waiting_of c) (without_job n jobs)) ≡ without n (only immediate (map (waiting_of c) jobs))
+
+-- of these jobs, no other one has this one's number
+abbrev pub TellsJob : Job → List Job → Type 0
+TellsJob j [] = Unit {0}
+TellsJob j (x ∷ xs) = (x.number ≡ j.number → x ≡ j) × TellsJob j xs
+
+-- the next job is taken out of the queues as out of the machine's list
+abbrev pub NextLeaves : Type 0
+NextLeaves =
+    (c : Configuration) (jobs : List Job) (j : Job) (i s : ℕ)
+    → TellsJob j jobs → next_in c jobs ≡ Some j → without_first (queues_of c jobs i s) ≡ queues_of c (without_job j.number jobs) i s
