@@ -5,6 +5,7 @@ use Rattle.std.specs.Int.Bits.{and_self}
 use Rattle.std.proofs.Common.{◌≡◌, inl, inr, ◌↔◌, ◌<◌, ◌≤◌, ◌^◌, ℕ, zero, suc, ◌-◌, Bool, true, false, IsTrue, List, [], ◌∷◌, length, drop, replicate, Option, Some, None, refl, sym, ap, ◌∙◌, subst, arith}
 use Rattle.std.proofs.lemmas.Bool.{false≢true}
 use Rattle.std.proofs.lemmas.Nat.{and_le_r, and_le_l, and_comm, and_assoc, and-not, be_bytes_4}
+use Rattle.std.proofs.lemmas.Option.{none-some}
 use Rattle.fls_model.specs.Bytes.{Grown}
 use Rattle.fee_format.specs.declared.bank_head.BankHead.{BankHead}
 use Rattle.fee_format.specs.BankHead.{IsLegalBankHead, IsBankHead, IsNoBankHead, bank_head_page, bank_head_of}
@@ -12,6 +13,7 @@ use Rattle.fee_format.specs.SoundHead.{IsSoundHead, GrowsNoBankHead, IsSomeBankH
 use Rattle.fee_format.specs.Laws.{SoundHeadsCompute}
 use Rattle.fee_format.proofs.Heads.{bank_heads_compute}
 use Rattle.fee_format.proofs.Tests.{both, either, same, lt_is, le_is, eq_is}
+use Rattle.fee_format.proofs.Torn.{grown_le, byte_small}
 
 -- BYTES AND COMPLEMENTS
 apart_grows : (x y : ℕ) → x < 256 → y < 256 → bit_and x y ≡ 0 → bit_and y (255 - x) ≡ y
@@ -25,13 +27,6 @@ grows_apart x y v small small2 up down =
     let all : bit_and x y ≡ bit_and x (bit_and v y) = ap (λ (n : ℕ). bit_and n y) (sym up) ∙ and_assoc y x v in
     all ∙ ap (bit_and x) none ∙ (let z : bit_and x 0 ≡ 0 = omega (arith, and_le_r x 0) in z)
 
-part_le : (x v : ℕ) → bit_and x v ≡ x → x ≤ v
-part_le x v is = omega (arith, is, and_le_r x v)
-
-byte_small : (k n : ℕ) → byte_at k n < 256
-byte_small zero n = omega arith
-byte_small (suc k) n = omega arith
-
 full : (x : ℕ) → x < 256 → bit_and x 255 ≡ x
 full x small = apart_grows 0 x (omega arith) small (let z : bit_and 0 x ≡ 0 = omega (arith, and_le_l 0 x) in z)
 
@@ -43,7 +38,7 @@ rest_grows (x ∷ xs) t =
 
 grown_rest : (xs : List ℕ) → Grown xs (replicate (length xs) 255) → IsTrue (are_bytes xs)
 grown_rest [] grown = refl
-grown_rest (x ∷ xs) grown = (both (nat_lt x 256) (are_bytes xs) (x < 256) (IsTrue (are_bytes xs)) (lt_is x 256) (λ a. a, λ a. a)).1 ((let le = part_le x 255 grown.0 in let lt : x < 256 = omega arith in lt), grown_rest xs grown.2)
+grown_rest (x ∷ xs) grown = (both (nat_lt x 256) (are_bytes xs) (x < 256) (IsTrue (are_bytes xs)) (lt_is x 256) (λ a. a, λ a. a)).1 ((let le = grown_le x 255 grown.0 in let lt : x < 256 = omega arith in lt), grown_rest xs grown.2)
 
 apart_is : (x y : ℕ) → IsTrue (is_apart x y) ↔ (((x < 256) × (y < 256)) × (bit_and x y ≡ 0))
 apart_is x y = both (nat_lt x 256 && nat_lt y 256) (bit_and x y == 0) ((x < 256) × (y < 256)) (bit_and x y ≡ 0) (both (nat_lt x 256) (nat_lt y 256) (x < 256) (y < 256) (lt_is x 256) (lt_is y 256)) (eq_is (bit_and x y) 0)
@@ -166,8 +161,8 @@ module _ (x0 x1 x2 x3 x4 x5 y0 y1 y2 y3 y4 y5 : ℕ) (rest : List ℕ) where
       let guard = from.2.2.2.2 in
       let low = guard.2.2 in
       let pair : (x y k : ℕ) → bit_and x (byte_at k h.generation) ≡ x → bit_and y (255 - byte_at k h.generation) ≡ y → (((x < 256) × (y < 256)) × (bit_and x y ≡ 0)) = λ x y k up down.
-      let lx : x < 256 = omega (arith, part_le x (byte_at k h.generation) up, byte_small k h.generation) in
-      let ly : y < 256 = omega (arith, part_le y (255 - byte_at k h.generation) down) in
+      let lx : x < 256 = omega (arith, grown_le x (byte_at k h.generation) up, byte_small k h.generation) in
+      let ly : y < 256 = omega (arith, grown_le y (255 - byte_at k h.generation) down) in
       ((lx, ly), grows_apart x y (byte_at k h.generation) (byte_small k h.generation) ly up down) in
       let format : bit_and x1 1 ≡ x1 = subst (λ (n : ℕ). bit_and x1 n ≡ x1) legal.format grown.2.0 in
       let guarded : bit_and y1 0xfe ≡ y1 = subst (λ (n : ℕ). bit_and y1 (255 - n) ≡ y1) legal.format guard.2.0 in (
@@ -193,12 +188,9 @@ grows_is (_ ∷ _ ∷ _ ∷ _ ∷ _ ∷ _ ∷ _ ∷ _ ∷ _ ∷ _ ∷ []) = (λ 
 grows_is (_ ∷ _ ∷ _ ∷ _ ∷ _ ∷ _ ∷ _ ∷ _ ∷ _ ∷ _ ∷ _ ∷ []) = (λ t. absurd (false≢true t), λ g. absurd g.2.2.2.2.2.2.2.2.2.2.2.2)
 
 -- SOUND HEADS
-no_head : (h : BankHead) → None ≡ Some h → ⊥
-no_head h e = cc e
-
 some_head : (bytes : List ℕ) (found : Option BankHead) → ((h : BankHead) → IsBankHead (length bytes) bytes h ↔ (found ≡ Some h)) → IsTrue (is_some found) ↔ IsSomeBankHead bytes
 some_head bytes (Some h) is = (λ t. (h, (is h).1 refl), λ some. refl)
-some_head bytes None is = (λ t. absurd (false≢true t), λ (h, head). absurd (no_head h ((is h).0 head)))
+some_head bytes None is = (λ t. absurd (false≢true t), λ (h, head). absurd (none-some h ((is h).0 head)))
 
 not_pick : (b : Bool) (page : List ℕ) → IsTrue b ↔ GrowsTo page → IsTrue (not b) ↔ GrowsNoBankHead page
 not_pick true page is = (λ t. absurd (false≢true t), λ none. let g = is.0 refl in absurd (none (bank_head_page (length page) g.0) g.2 g.0 (record { legal = g.1; page_is = refl })))

@@ -8,7 +8,7 @@ use Rattle.fls_model.specs.Bytes.{Grown}
 use Rattle.fee_format.specs.declared.bank_head.BankHead.{BankHead}
 use Rattle.fee_format.specs.BankHead.{IsLegalBankHead, IsBankHead, bank_head_page}
 use Rattle.fee_format.specs.Pages.{gate_page, same_bytes}
-use Rattle.fee_format.specs.Laws.{TornHeadsAreSame, TornGatesWereGates, TornHeadsStaySound, BeginsBlank, BlankHeadsAreSound}
+use Rattle.fee_format.specs.Laws.{TornPagesKeepSize, TornHeadsAreSame, TornGatesWereGates, TornHeadsStaySound, BeginsBlank, BlankHeadsAreSound}
 use Rattle.fee_format.proofs.Tests.{bytes_are}
 
 -- MORE BITS
@@ -22,7 +22,7 @@ grown_through (x ∷ xs) (y ∷ ys) (z ∷ zs) one two =
     let bits : bit_and x z ≡ x = ap (λ (n : ℕ). bit_and n z) (sym one.0) ∙ and_assoc z x y ∙ ap (bit_and x) two.0 ∙ one.0 in
     (bits, λ lt. two.1 (one.1 lt), grown_through xs ys zs one.2 two.2)
 
-pub grown_length : (xs ys : List ℕ) → Grown xs ys → length ys ≡ length xs
+pub grown_length : TornPagesKeepSize
 grown_length [] [] grown = refl
 grown_length [] (y ∷ ys) grown = absurd grown
 grown_length (x ∷ xs) [] grown = absurd grown
@@ -48,7 +48,7 @@ same_32 m n low high e = sym (from_be_bytes-to_be_bytes_4 m low) ∙ ap (from_be
 held : (x y : ℕ) → x < 256 → y < 256 → bit_and x y ≡ x → bit_and (255 - x) (255 - y) ≡ 255 - x → x ≡ y
 held x y small small2 up down = omega (arith, grown_le x y up, grown_le (255 - x) (255 - y) down)
 
-byte_small : (k n : ℕ) → byte_at k n < 256
+pub byte_small : (k n : ℕ) → byte_at k n < 256
 byte_small zero n = omega arith
 byte_small (suc k) n = omega arith
 
@@ -84,7 +84,6 @@ torn_heads_stay_sound page torn (inl (h, is)) grown = elim (cases_Bool (same_byt
 ]
 torn_heads_stay_sound page torn (inr none) grown = inr (λ later more. subst (λ (n : ℕ). (h : BankHead) → IsBankHead n later h → ⊥) (sym (grown_length page torn grown)) (none later (grown_through page torn later grown more)))
 
--- GATES
 -- GATES
 gate_stood : (p : ℕ) (page : List ℕ) → Grown page (gate_page p) → page ≡ gate_page p
 gate_stood zero [] grown = refl

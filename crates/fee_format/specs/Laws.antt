@@ -1,5 +1,5 @@
 -- Laws of pages, for the layers above.
-use Rattle.std.specs.Prelude.{◌≡◌, ◌↔◌, ◌≤◌, ℕ, IsTrue, List, [], ◌∷◌, Some}
+use Rattle.std.specs.Prelude.{◌≡◌, ◌↔◌, ◌≤◌, ℕ, IsTrue, List, [], ◌∷◌, length, Some}
 use Rattle.fls_model.specs.Bytes.{Grown}
 use Rattle.fee_format.specs.declared.bank_head.BankHead.{BankHead}
 use Rattle.fee_format.specs.declared.rec_head.RecHead.{RecHead}
@@ -22,6 +22,10 @@ abbrev pub SoundHeadsCompute : Type 0
 SoundHeadsCompute = (page : List ℕ) → IsTrue (is_sound_head page) ↔ IsSoundHead page
 
 -- WHAT A TORN ERASE LEAVES
+-- of a page one of as many bytes
+abbrev pub TornPagesKeepSize : Type 0
+TornPagesKeepSize = (page torn : List ℕ) → Grown page torn → length torn ≡ length page
+
 -- of a bank head the same page, or none
 abbrev pub TornHeadsAreSame : Type 0
 TornHeadsAreSame = (p : ℕ) (page torn : List ℕ) (h i : BankHead) → IsBankHead p page h → Grown page torn → IsBankHead p torn i → (torn ≡ page) × (i ≡ h)

@@ -1,5 +1,8 @@
-use Rattle.fee_format.proofs.Torn.{torn_heads_are_same, torn_gates_were_gates, torn_heads_stay_sound, blank_heads_are_sound}
+use Rattle.fee_format.proofs.Torn.{grown_length, torn_heads_are_same, torn_gates_were_gates, torn_heads_stay_sound, blank_heads_are_sound}
 use Rattle.fee_format.proofs.laws.torn_erases_make_nothing.Goals as goal
+
+pub returns-clause-size : goal.returns-clause-size
+returns-clause-size c = grown_length
 
 pub returns-clause-heads : goal.returns-clause-heads
 returns-clause-heads c = torn_heads_are_same
