@@ -3,13 +3,14 @@ use Rattle.std.specs.Prelude.{nat_lt, if◌then◌else◌}
 use Rattle.std.proofs.Common.{◌≡◌, inl, inr, ◌↔◌, ◌<◌, ℕ, zero, suc, Bool, true, false, IsTrue, List, Option, Some, None, refl, sym, ◌∙◌, subst, arith}
 use Rattle.std.proofs.lemmas.Bool.{cases_eq, cases_order}
 use Rattle.std.proofs.lemmas.Bool.Decides.{nat_tests}
+use Rattle.std.proofs.lemmas.Option.{none-some, same_Some}
 use Rattle.fee_format.specs.declared.bank_head.BankHead.{BankHead}
 use Rattle.fee_format.specs.BankHead.{bank_head_of}
 use Rattle.fee_format.specs.Gate.{is_gate}
 use Rattle.fee_format.specs.Laws.{GatesCompute, BankHeadsCompute}
 use Rattle.fee_image.specs.Image.{Layout, image_page, BankStands, ComesFirst, IsActive, HasNoActive, head_of_bank, first_with, first_of, active_below, active_of}
 use Rattle.fee_image.specs.Laws.{HeadsCompute, ActiveComputes, NoActiveComputes, ActiveStays, SealedIsActive, FirstIsActive}
-use Rattle.fee_image.proofs.Picks.{then_is, if_some, some_is, none_some}
+use Rattle.fee_image.proofs.Picks.{then_is, if_some}
 
 pub heads_compute : GatesCompute → BankHeadsCompute → HeadsCompute
 heads_compute gates heads l bytes k h =
@@ -33,7 +34,7 @@ module _ (heads : HeadsCompute) (l : Layout) (bytes : List ℕ) where
   Stand k h = BankStands l bytes k h
 
   one_head : (k : ℕ) (h i : BankHead) → Stand k h → Stand k i → h ≡ i
-  one_head k h i one two = some_is h i (sym ((heads l bytes k h).0 one) ∙ (heads l bytes k i).0 two)
+  one_head k h i one two = same_Some h i (sym ((heads l bytes k h).0 one) ∙ (heads l bytes k i).0 two)
 
   pub one_active : (k j : ℕ) (h i : BankHead) → IsActive l bytes k h → IsActive l bytes j i → (k ≡ j) × (h ≡ i)
   one_active k j h i one two = elim (cases_eq k j) [
@@ -109,7 +110,7 @@ module _ (heads : HeadsCompute) (l : Layout) (bytes : List ℕ) where
   with_head n h (Some x) stands best = with_pick n h x (nat_lt x.1.generation h.generation) (lt_test x.1.generation h.generation) stands best
 
   next : (n : ℕ) (o : Option (ℕ × BankHead)) (head : Option BankHead) → head_of_bank l bytes n ≡ head → Best n o → Best (suc n) (first_of o n head)
-  next n o None is best = without n o (λ h stands. none_some h (sym is ∙ (heads l bytes n h).0 stands)) best
+  next n o None is best = without n o (λ h stands. none-some h (sym is ∙ (heads l bytes n h).0 stands)) best
   next n o (Some h) is best = with_head n h o ((heads l bytes n h).1 is) best
 
   best_below : (n : ℕ) → Best n (active_below l bytes n)
@@ -121,15 +122,15 @@ module _ (heads : HeadsCompute) (l : Layout) (bytes : List ℕ) where
   active_best x best = record { bank = best.bank; stands = best.stands; first = best.first }
 
   is_active : (k : ℕ) (h : BankHead) (o : Option (ℕ × BankHead)) → Best l.banks o → IsActive l bytes k h ↔ (o ≡ Some (k, h))
-  is_active k h None best = (λ active. absurd (best k h active.bank active.stands), λ e. absurd (none_some (k, h) e))
+  is_active k h None best = (λ active. absurd (best k h active.bank active.stands), λ e. absurd (none-some (k, h) e))
   is_active k h (Some x) best = (
     λ active. let same = one_active x.0 k x.1 h (active_best x best) active in λ i. Some (same.0 i, same.1 i),
-    λ e. subst (λ (y : ℕ × BankHead). IsActive l bytes y.0 y.1) (some_is x (k, h) e) (active_best x best),
+    λ e. subst (λ (y : ℕ × BankHead). IsActive l bytes y.0 y.1) (same_Some x (k, h) e) (active_best x best),
   )
 
   no_active : (o : Option (ℕ × BankHead)) → Best l.banks o → HasNoActive l bytes ↔ (o ≡ None)
   no_active None best = (λ none. refl, λ e. best)
-  no_active (Some x) best = (λ none. absurd (none x.0 x.1 best.bank best.stands), λ e. absurd (none_some x (sym e)))
+  no_active (Some x) best = (λ none. absurd (none x.0 x.1 best.bank best.stands), λ e. absurd (none-some x (sym e)))
 
 pub active_computes : HeadsCompute → ActiveComputes
 active_computes heads l bytes k h = is_active heads l bytes k h (active_of l bytes) (best_below heads l bytes l.banks)

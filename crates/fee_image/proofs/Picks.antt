@@ -11,12 +11,6 @@ pub if_some : {A : Type 0} (b : Bool) (x : Option A) (r : A) → (if b then x el
 if_some true x r is = (refl, is)
 if_some false x r is = cc is
 
-pub some_is : {A : Type 0} (x y : A) → Some x ≡ Some y → x ≡ y
-some_is x y e = cc e
-
-pub none_some : {A : Type 0} (x : A) → None ≡ Some x → ⊥
-none_some x e = cc e
-
 pub same_bool : (a b : Bool) (T : Type 0) → IsTrue a ↔ T → IsTrue b ↔ T → a ≡ b
 same_bool true true T f g = refl
 same_bool false false T f g = refl

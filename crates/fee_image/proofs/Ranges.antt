@@ -1,20 +1,21 @@
 -- What programs and erases leave of pages.
 use Rattle.std.specs.Prelude.{bit_and}
-use Rattle.std.proofs.Common.{◌≡◌, inl, inr, ◌<◌, ◌≤◌, ℕ, zero, suc, ◌+◌, ◌*◌, ◌-◌, List, [], ◌∷◌, ◌++◌, length, take, drop, replicate, refl, sym, ap, ◌∙◌, subst, arith, length-append, length-drop}
+use Rattle.std.proofs.Common.{◌≡◌, inl, inr, ◌<◌, ◌≤◌, ℕ, zero, suc, ◌+◌, ◌*◌, ◌-◌, List, [], ◌∷◌, ◌++◌, length, take, drop, get_or, replicate, refl, sym, ap, ◌∙◌, subst, arith, length-append, length-drop}
 use Rattle.std.proofs.lemmas.Bool.{cases_order, cases_eq}
 use Rattle.std.proofs.lemmas.List.{take_at, drop_at, drop-drop, drop-take, take-take, length-take-le, append_assoc, take-append-le, length-replicate, take-replicate, drop-replicate}
-use Rattle.std.proofs.lemmas.Nat.{and_mask, and_comm}
+use Rattle.std.proofs.lemmas.Nat.{and_le_r, and_mask, and_comm}
 use Rattle.std.proofs.Math.Nat.{mul-le-mul_right, mod-eq_of_lt}
 use Rattle.std.specs.List.{All}
 use Rattle.fls_model.specs.Bytes.{AreBytes, SameOutside, and_bytes, spliced}
 use Rattle.fls_model.specs.Laws.{RangesKeepBytes}
+use Rattle.fls_model.specs.Op.{MayLeave, Program, after_op}
 use Rattle.fee_format.specs.Gate.{IsGate}
-use Rattle.fee_format.specs.Pages.{page_at}
+use Rattle.fee_format.specs.Pages.{gate_page, page_at}
 use Rattle.fee_format.specs.SoundHead.{IsSoundHead}
-use Rattle.fee_image.specs.Bank.{place_of_page}
-use Rattle.fee_image.specs.Image.{Layout, image_page}
+use Rattle.fee_image.specs.Bank.{Bank, page_of, place_of_page}
+use Rattle.fee_image.specs.Image.{Layout, bank_in, image_page}
 use Rattle.fee_image.specs.Sound.{IsSoundImage}
-use Rattle.fee_image.specs.Laws.{OtherBanksStay, ErasedIsBlank, KeepsSound, ProgramsTouchOnePage, ProgramsTouchTheirBank, ProgramsStand, ProgramsKeepSound}
+use Rattle.fee_image.specs.Laws.{PagesOutsideStay, OtherBanksStay, ErasedIsBlank, KeepsSound, ProgramsTouchOnePage, ProgramsTouchTheirBank, ProgramsStand, GatesStand, ProgramsKeepSound}
 
 -- a page inside a front that is kept
 page_front : (n m p : ℕ) (old new : List ℕ) → take n new ≡ take n old → m + p ≤ n → take p (drop m new) ≡ take p (drop m old)
@@ -112,19 +113,55 @@ are_bytes [] all k = omega arith
 are_bytes (x ∷ xs) all zero = all 0 0 (omega arith)
 are_bytes (x ∷ xs) all (suc k) = are_bytes xs (λ i d lt. all (suc i) d (omega arith)) k
 
+and_zeros : (n : ℕ) (xs : List ℕ) → length xs ≡ n → and_bytes xs (replicate n 0) ≡ replicate n 0
+and_zeros zero [] is = refl
+and_zeros zero (x ∷ xs) is = absurd (omega (arith, is))
+and_zeros (suc n) [] is = absurd (omega (arith, is))
+and_zeros (suc n) (x ∷ xs) is =
+    let here : bit_and x 0 ≡ 0 = omega (arith, and_le_r x 0) in
+    let rest = and_zeros n xs (omega (arith, is)) in
+    λ i. here i ∷ rest i
+
+zeros_are_bytes : (n k : ℕ) → get_or (replicate n 0) k 0 < 256
+zeros_are_bytes zero k = omega arith
+zeros_are_bytes (suc n) zero = omega arith
+zeros_are_bytes (suc n) (suc k) = zeros_are_bytes n k
+
+-- a page each of whose bits is set in what stood in its place, or stays clear
+module _ (keep : RangesKeepBytes) (b : Bank) (bytes page : List ℕ) (q : ℕ) (size : length page ≡ b.page) (small : AreBytes page) (fits : place_of_page b q + b.page ≤ length bytes) where
+  abbrev a : ℕ
+  a = place_of_page b q
+
+  abbrev over : List ℕ
+  over = and_bytes (take (length page) (drop a bytes)) page
+
+  pub stands_over : over ≡ page → (page_of b (after_op (Program a page) bytes) q ≡ page) × MayLeave (Program a page) bytes (after_op (Program a page) bytes)
+  stands_over same =
+      let long : length over ≡ length page = ap length same in
+      let stands = spliced_piece bytes over a b.page (long ∙ size) (omega (arith, fits)) ∙ same in
+      let outside = spliced_outside bytes over a (length page) long (omega (arith, fits, size)) in (
+        stands,
+        (outside, λ were. keep a (length page) bytes (spliced bytes a over) outside were (subst AreBytes (sym (ap (λ (n : ℕ). take n (drop a (spliced bytes a over))) size ∙ stands)) small)),
+      )
+
 pub programs_stand : RangesKeepBytes → ProgramsStand
 programs_stand keep b bytes page q size small fits blank =
-    let a = place_of_page b q in
-    let old = take (length page) (drop a bytes) in
-    let was : old ≡ replicate (length page) 255 = ap (λ (n : ℕ). take n (drop a bytes)) size ∙ blank ∙ ap (λ (n : ℕ). replicate n 255) (sym size) in
-    let same : and_bytes old page ≡ page = ap (λ (l : List ℕ). and_bytes l page) was ∙ and_blank page small in
-    let long : length (and_bytes old page) ≡ length page = ap length same in
-    let new = spliced bytes a (and_bytes old page) in
-    let stands = spliced_piece bytes (and_bytes old page) a b.page (long ∙ size) (omega (arith, fits)) ∙ same in
-    let outside = spliced_outside bytes (and_bytes old page) a (length page) long (omega (arith, fits, size)) in (
-      stands,
-      (outside, λ were. keep a (length page) bytes new outside were (subst AreBytes (sym (ap (λ (n : ℕ). take n (drop a new)) size ∙ stands)) (are_bytes page small))),
-    )
+    let was : take (length page) (drop (place_of_page b q) bytes) ≡ replicate (length page) 255 =
+    ap (λ (n : ℕ). take n (drop (place_of_page b q) bytes)) size ∙ blank ∙ ap (λ (n : ℕ). replicate n 255) (sym size) in
+    stands_over keep b bytes page q size (are_bytes page small) fits (ap (λ (l : List ℕ). and_bytes l page) was ∙ and_blank page small)
+
+pub gates_stand : RangesKeepBytes → GatesStand
+gates_stand keep b bytes q fits =
+    let p = b.page in
+    let size : length (gate_page p) ≡ p = length-replicate p 0 in
+    let rest = drop (place_of_page b q) bytes in
+    let whole : length (take (length (gate_page p)) rest) ≡ p = length-take-le (length (gate_page p)) rest (omega (arith, length-drop (place_of_page b q) bytes, fits, size)) ∙ size in
+    stands_over keep b bytes (gate_page p) q size (zeros_are_bytes p) fits (and_zeros p (take (length (gate_page p)) rest) whole)
+
+-- RANGES
+pub pages_outside_stay : PagesOutsideStay
+pages_outside_stay b old new address n q out (inl before) = page_front address (place_of_page b q) b.page old new out.front before
+pages_outside_stay b old new address n q out (inr behind) = page_back (address + n) (place_of_page b q) b.page old new out.back behind
 
 -- ERASES
 pub other_banks_stay : OtherBanksStay
@@ -139,11 +176,11 @@ other_banks_stay l old new k address n j q out inside other lt =
       | inr (inl less) ↦
           let le = mul-le-mul_right H (let t : suc j ≤ k = omega arith in t) in
           let one : suc j * H ≡ j * H + H = omega arith in
-          page_front address ((j * B + q) * p) p old new out.front (omega (arith, place, page_in, le, one, inside.low))
+          pages_outside_stay (bank_in l 1 j) old new address n q out (inl (omega (arith, place, page_in, le, one, inside.low)))
       | inr (inr more) ↦
           let le = mul-le-mul_right H (let t : suc k ≤ j = omega arith in t) in
           let one : suc k * H ≡ k * H + H = omega arith in
-          page_back (address + n) ((j * B + q) * p) p old new out.back (omega (arith, place, le, one, inside.high))
+          pages_outside_stay (bank_in l 1 j) old new address n q out (inr (omega (arith, place, le, one, inside.high)))
     ]
 
 -- a page inside erased bytes

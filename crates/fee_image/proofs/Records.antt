@@ -3,6 +3,7 @@ use Rattle.std.specs.Prelude.{◌==◌, ◌&&◌, nat_le}
 use Rattle.std.proofs.Common.{◌≡◌, inl, inr, ◌≤◌, ℕ, zero, suc, ◌+◌, Bool, IsTrue, List, [], ◌∷◌, Option, Some, None, refl, sym, ap, ◌∙◌, subst, arith}
 use Rattle.std.proofs.lemmas.Bool.{cases_lt, cases_Bool, false≢true, and_from, and_parts}
 use Rattle.std.proofs.lemmas.Bool.Decides.{nat_tests}
+use Rattle.std.proofs.lemmas.Option.{none-some, same_Some}
 use Rattle.fee_format.specs.declared.rec_head.RecHead.{RecHead}
 use Rattle.fee_format.specs.Gate.{IsGate, is_gate}
 use Rattle.fee_format.specs.RecHead.{IsRecHead, rec_head_of}
@@ -12,7 +13,7 @@ use Rattle.fee_image.specs.Bank.{Bank, page_of}
 use Rattle.fee_image.specs.RecordList.{Rec, HasHead, Stands, Stops, Walks, IsLog, pages_of_head, rec_of, rec_within, record_at, and_behind, records_from, records_left, records_of, end_after, end_of}
 use Rattle.fee_image.specs.Found.{last_mark}
 use Rattle.fee_image.specs.Laws.{LogsCompute, ListsUnfold, MarksCompute}
-use Rattle.fee_image.proofs.Picks.{then_is, if_some, some_is, none_some, same_bool}
+use Rattle.fee_image.proofs.Picks.{then_is, if_some, same_bool}
 
 le_true : (m n : ℕ) → m ≤ n → IsTrue (nat_le m n)
 le_true m n le = grind (arith, nat_tests)
@@ -58,13 +59,13 @@ module _ (gates : GatesCompute) (heads : RecHeadsCompute) (b : Bank) (bytes : Li
       seen q r.head stands.head stands.gate ∙ ap Some same
 
   within_stands : (q : ℕ) (r : Rec) (o : Option RecHead) → ((h : RecHead) → o ≡ Some h → IsRecHead p (P q) h) → IsTrue (test q) → rec_within b bytes q o ≡ Some r → Stands b bytes q r
-  within_stands q r None head passed e = absurd (none_some r e)
+  within_stands q r None head passed e = absurd (none-some r e)
   within_stands q r (Some h) head passed e =
       let one = and_parts (b.format == 1) (nat_le (q + 3) b.pages && gate_at q) passed in
       let two = and_parts (nat_le (q + 3) b.pages) (gate_at q) one.1 in
       let fit = if_some (nat_le (q + pages_of_head p h) b.pages) (Some (rec_of b bytes q h)) r e in
       let has : HasHead b bytes q h = record { format = true_eq b.format 1 one.0; page = head h refl; within = true_le (q + pages_of_head p h) b.pages fit.0 } in
-      subst (Stands b bytes q) (some_is (rec_of b bytes q h) r fit.1) (built q h has ((gates p (P (q + 1))).0 two.1))
+      subst (Stands b bytes q) (same_Some (rec_of b bytes q h) r fit.1) (built q h has ((gates p (P (q + 1))).0 two.1))
 
   pub seen_stands : (q : ℕ) (r : Rec) → record_at b bytes q ≡ Some r → Stands b bytes q r
   seen_stands q r e =
@@ -88,7 +89,7 @@ module _ (gates : GatesCompute) (heads : RecHeadsCompute) (b : Bank) (bytes : Li
     | inl few ↦ inl few
     | inr room ↦ elim (cases_Bool (gate_at q)) [
       | inr shut ↦ inr (inl (λ gate. false≢true (sym shut ∙ (gates p (P (q + 1))).1 gate)))
-      | inl gate ↦ inr (inr (λ h has. none_some (rec_of b bytes q h) (sym none ∙ seen q h has ((gates p (P (q + 1))).0 gate))))
+      | inl gate ↦ inr (inr (λ h has. none-some (rec_of b bytes q h) (sym none ∙ seen q h has ((gates p (P (q + 1))).0 gate))))
     ]
   ]
 

@@ -1,15 +1,15 @@
 -- What keeps an image sound.
-use Rattle.std.specs.Prelude.{◌&&◌, if◌then◌else◌}
+use Rattle.std.specs.Prelude.{if◌then◌else◌}
 use Rattle.std.specs.Int.Bits.{and_self}
 use Rattle.std.proofs.Common.{◌≡◌, inl, inr, ◌↔◌, ◌<◌, ◌≤◌, ℕ, zero, suc, ◌+◌, ◌-◌, ◌*◌, Bool, true, false, IsTrue, List, [], ◌∷◌, ◌++◌, length, take, drop, replicate, refl, sym, ap, ◌∙◌, subst, arith}
-use Rattle.std.proofs.lemmas.Bool.{cases_eq, false≢true}
+use Rattle.std.proofs.lemmas.Bool.{and_from, and_parts, cases_eq, false≢true}
 use Rattle.std.proofs.lemmas.List.{take-append-drop, drop-drop, length-replicate}
 use Rattle.fls_model.specs.Bytes.{piece, Grown}
 use Rattle.fee_format.specs.declared.bank_head.BankHead.{BankHead}
 use Rattle.fee_format.specs.BankHead.{IsBankHead}
 use Rattle.fee_format.specs.Gate.{IsGate, is_gate}
 use Rattle.fee_format.specs.SoundHead.{IsSoundHead, is_sound_head}
-use Rattle.fee_format.specs.Laws.{GatesCompute, SoundHeadsCompute, TornHeadsAreSame, TornGatesWereGates, TornHeadsStaySound, BeginsBlank, BlankHeadsAreSound}
+use Rattle.fee_format.specs.Laws.{GatesCompute, SoundHeadsCompute, TornPagesKeepSize, TornHeadsAreSame, TornGatesWereGates, TornHeadsStaySound, BeginsBlank, BlankHeadsAreSound}
 use Rattle.fee_image.specs.Image.{Layout, image_page, mark_of_bank}
 use Rattle.fee_image.specs.Sound.{IsSoundBank, is_sound_bank, are_sound_below}
 use Rattle.fee_image.specs.Laws.{SoundImagesCompute, NoActiveComputes, TornErasesSetBits, TornErasesKeepSound, TornErasesMakeNoBank, TornErasesKeepActive, BlankIsSound, BlankHasErased}
@@ -18,10 +18,6 @@ use Rattle.fee_image.specs.Laws.{SoundImagesCompute, NoActiveComputes, TornErase
 bank_pick : (b c : Bool) (G H : Type 0) → IsTrue b ↔ G → IsTrue c ↔ H → IsTrue (if b then c else true) ↔ (G → H)
 bank_pick true c G H f g = (λ t x. g.0 t, λ all. g.1 (all (f.0 refl)))
 bank_pick false c G H f g = (λ t x. absurd (false≢true (f.1 x)), λ all. refl)
-
-both : (a b : Bool) (A B : Type 0) → IsTrue a ↔ A → IsTrue b ↔ B → IsTrue (a && b) ↔ (A × B)
-both true b A B f g = (λ t. (f.0 refl, g.0 t), λ x. g.1 x.1)
-both false b A B f g = (λ t. absurd (false≢true t), λ x. f.1 x.0)
 
 module _ (gates : GatesCompute) (heads : SoundHeadsCompute) (l : Layout) (bytes : List ℕ) where
   bank_is : (k : ℕ) → IsTrue (is_sound_bank l bytes k) ↔ IsSoundBank l bytes k
@@ -41,8 +37,11 @@ module _ (gates : GatesCompute) (heads : SoundHeadsCompute) (l : Layout) (bytes 
   below_is : (n : ℕ) → IsTrue (are_sound_below l bytes n) ↔ Below n
   below_is zero = (λ t k lt. absurd (omega arith), λ all. refl)
   below_is (suc n) =
-      let all = both (is_sound_bank l bytes n) (are_sound_below l bytes n) (IsSoundBank l bytes n) (Below n) (bank_is n) (below_is n) in
-      (λ t. below_and n (all.0 t), λ sound. all.1 (sound n (omega arith), λ k lt. sound k (omega arith)))
+      let b = is_sound_bank l bytes n in
+      let rest = are_sound_below l bytes n in (
+        λ t. let parts = and_parts b rest t in below_and n ((bank_is n).0 parts.0, (below_is n).0 parts.1),
+        λ sound. and_from b rest ((bank_is n).1 (sound n (omega arith))) ((below_is n).1 (λ k lt. sound k (omega arith))),
+      )
 
 pub sound_images_compute : GatesCompute → SoundHeadsCompute → SoundImagesCompute
 sound_images_compute gates heads l bytes = below_is gates heads l bytes l.banks
@@ -51,12 +50,6 @@ sound_images_compute gates heads l bytes = below_is gates heads l bytes l.banks
 pub grown_self : (xs : List ℕ) → Grown xs xs
 grown_self [] = tt
 grown_self (x ∷ xs) = (and_self x, λ lt. lt, grown_self xs)
-
-grown_length : (xs ys : List ℕ) → Grown xs ys → length ys ≡ length xs
-grown_length [] [] grown = refl
-grown_length [] (y ∷ ys) grown = absurd grown
-grown_length (x ∷ xs) [] grown = absurd grown
-grown_length (x ∷ xs) (y ∷ ys) grown = ap suc (grown_length xs ys grown.2)
 
 grown_append : (xs ys us vs : List ℕ) → Grown xs ys → Grown us vs → Grown (xs ++ us) (ys ++ vs)
 grown_append [] [] us vs one two = two
@@ -101,11 +94,11 @@ torn_erases_keep_sound gates heads l old new sound grown k lt gate =
 head_length : (p : ℕ) (page : List ℕ) (h : BankHead) → 16 ≤ p → IsBankHead p page h → length page ≡ p
 head_length p page h le is = ap length is.page_is ∙ omega (arith, length-replicate {A = ℕ} (p - 12) 255)
 
-pub torn_erases_make_no_bank : TornHeadsAreSame → TornGatesWereGates → TornErasesMakeNoBank
-torn_erases_make_no_bank same gates l old new k h big sound grown lt stands =
+pub torn_erases_make_no_bank : TornPagesKeepSize → TornHeadsAreSame → TornGatesWereGates → TornErasesMakeNoBank
+torn_erases_make_no_bank sizes same gates l old new k h big sound grown lt stands =
     let grown0 = grown_page l old new k 0 grown in
     let gate : IsGate l.page (image_page l old k 1) = gates l.page (image_page l old k 1) (image_page l new k 1) (grown_page l old new k 1 grown) stands.gate in
-    let long : length (image_page l old k 0) ≡ l.page = sym (grown_length (image_page l old k 0) (image_page l new k 0) grown0) ∙ head_length l.page (image_page l new k 0) h big stands.head in
+    let long : length (image_page l old k 0) ≡ l.page = sym (sizes (image_page l old k 0) (image_page l new k 0) grown0) ∙ head_length l.page (image_page l new k 0) h big stands.head in
     elim (sound k lt gate) [
       | inl (i, is) ↦
           let head : IsBankHead l.page (image_page l old k 0) i = subst (λ (n : ℕ). IsBankHead n (image_page l old k 0) i) long is in
@@ -114,11 +107,11 @@ torn_erases_make_no_bank same gates l old new k h big sound grown lt stands =
       | inr none ↦ absurd (none (image_page l new k 0) grown0 h (subst (λ (n : ℕ). IsBankHead n (image_page l new k 0) h) (sym long) stands.head))
     ]
 
-pub torn_erases_keep_active : TornHeadsAreSame → TornGatesWereGates → TornErasesKeepActive
-torn_erases_keep_active same gates l old new k h big sound grown active stands = record {
+pub torn_erases_keep_active : TornErasesMakeNoBank → TornErasesKeepActive
+torn_erases_keep_active no_bank l old new k h big sound grown active stands = record {
   bank = active.bank;
   stands = stands;
-  first = λ j other lt ne also. active.first j other lt ne (torn_erases_make_no_bank same gates l old new j other big sound grown lt also);
+  first = λ j other lt ne also. active.first j other lt ne (no_bank l old new j other big sound grown lt also);
 }
 
 -- BLANK IMAGES

@@ -1,7 +1,7 @@
 -- A content that is found has at least one byte.
-use Rattle.std.proofs.Common.{◌≡◌, inl, inr, ℕ, zero, suc, ◌<◌, ◌≤◌, ◌+◌, ◌-◌, ◌*◌, ◌==◌, ◌&&◌, Bool, true, false, if◌then◌else◌, List, [], ◌∷◌, Option, Some, length, drop, refl, ap, ◌∙◌, arith, length-drop, length-append}
+use Rattle.std.proofs.Common.{◌≡◌, inl, inr, ℕ, zero, suc, ◌<◌, ◌≤◌, ◌+◌, ◌-◌, ◌*◌, ◌==◌, Bool, true, false, if◌then◌else◌, List, [], ◌∷◌, Option, Some, length, drop, refl, ap, ◌∙◌, arith, length-drop, length-append}
 use Rattle.std.proofs.Math.Nat.{mul-le-mul_right}
-use Rattle.std.proofs.lemmas.Bool.{eqb-true}
+use Rattle.std.proofs.lemmas.Bool.{and_parts, eqb-true}
 use Rattle.std.proofs.lemmas.List.{length-take, length-replicate}
 use Rattle.std.proofs.lemmas.Nat.{le-div}
 use Rattle.nv_base.specs.declared.mark.Mark.{Mark}
@@ -44,10 +44,6 @@ payload_some b bytes q r stands committed some =
     let from : 0 < length (pages_from b bytes (q + 2) n) = some_from b bytes (q + 2) n body here in
     rw (stands.payload, length-take r.head.length (pages_from b bytes (q + 2) n)) (omega (arith, from, some))
 
-both : (a b : Bool) → (a && b) ≡ true → a ≡ true
-both true b e = refl
-both false b e = e
-
 has_none : (b : Bool) → HasBytes (if b then Invalid else Erased)
 has_none true = tt
 has_none false = tt
@@ -59,7 +55,7 @@ kind_some r false kind legal some = has_none (r.head.kind == 2)
 -- the last record that counts has a mark with bytes, or no content
 pick_some : (number size : ℕ) (r : Rec) (o : Option Rec) (c : Bool) → counts number size r ≡ c → IsLegalRecHead r.head → (r.committed ≡ true → 0 < r.head.length → 0 < length r.payload) → HasBytes (mark_shown o) → HasBytes (mark_shown (if c then Some r else o))
 pick_some number size r o false count legal some has = has
-pick_some number size r o true count legal some has = kind_some r (r.head.kind == 1) refl legal (some (both r.committed (fits number size r.head) count))
+pick_some number size r o true count legal some has = kind_some r (r.head.kind == 1) refl legal (some (and_parts r.committed (fits number size r.head) count).0)
 
 last_some : (b : Bank) (bytes : List ℕ) (number size q e : ℕ) (o : Option Rec) (rs : List Rec) → Walks b bytes q rs e → HasBytes (mark_shown o) → HasBytes (mark_shown (last_from number size o rs))
 last_some b bytes number size q e o [] walk has = has

@@ -12,7 +12,7 @@ use Rattle.fls_model.specs.Bytes.{Grown, SameOutside, piece}
 use Rattle.fls_model.specs.Op.{MayLeave, Program, Erase, after_op}
 use Rattle.fee_format.specs.declared.bank_head.BankHead.{BankHead}
 use Rattle.fee_format.specs.Gate.{IsGate}
-use Rattle.fee_format.specs.Pages.{blank_page, body_pages_of}
+use Rattle.fee_format.specs.Pages.{blank_page, body_pages_of, gate_page}
 use Rattle.fee_format.specs.SoundHead.{IsSoundHead}
 use Rattle.std.specs.List.{All}
 use Rattle.fee_image.specs.Append.{Touches}
@@ -151,6 +151,12 @@ pub record IsInBank (l : Layout) (k address n : ℕ) : Type 0 where
   pub low : k * (l.pages * l.page) ≤ address
   pub high : address + n ≤ k * (l.pages * l.page) + l.pages * l.page
 
+-- whatever is left of a range of bytes, a page before it or behind it is as it was
+abbrev pub PagesOutsideStay : Type 0
+PagesOutsideStay =
+    (b : Bank) (old new : List ℕ) (address n q : ℕ)
+    → SameOutside address n old new → (place_of_page b q + b.page ≤ address) ⊎ (address + n ≤ place_of_page b q) → page_of b new q ≡ page_of b old q
+
 -- whatever is left of what lies in one bank, all other banks' pages are as they were
 abbrev pub OtherBanksStay : Type 0
 OtherBanksStay =
@@ -215,6 +221,13 @@ ProgramsStand =
     (b : Bank) (bytes page : List ℕ) (q : ℕ)
     → length page ≡ b.page → All (λ (x : ℕ). x < 256) page → place_of_page b q + b.page ≤ length bytes → page_of b bytes q ≡ blank_page b.page
     → (page_of b (after_op (Program (place_of_page b q) page) bytes) q ≡ page) × MayLeave (Program (place_of_page b q) page) bytes (after_op (Program (place_of_page b q) page) bytes)
+
+-- a gate stands where its program is done, whatever stood there
+abbrev pub GatesStand : Type 0
+GatesStand =
+    (b : Bank) (bytes : List ℕ) (q : ℕ) → place_of_page b q + b.page ≤ length bytes
+    → let op = Program (place_of_page b q) (gate_page b.page) in
+    (page_of b (after_op op bytes) q ≡ gate_page b.page) × MayLeave op bytes (after_op op bytes)
 
 -- and a sound image is sound
 abbrev pub ProgramsKeepSound : Type 0

@@ -1,5 +1,5 @@
 // Laws: what erases and programs leave of an image. Their functions do nothing.
-ghost use Rattle.fee_image.specs.Laws.{TornErasesSetBits, TornErasesKeepSound, TornErasesMakeNoBank, TornErasesKeepActive, OtherBanksStay, ErasedIsBlank, SectorsLieInBanks, SectorsHavePages, SectorsFillBanks, LayoutsAreLegal, ProgramsTouchOnePage, ProgramsTouchTheirBank, ProgramsStand, ProgramsKeepSound, BlankIsSound, BlankHasErased};
+ghost use Rattle.fee_image.specs.Laws.{TornErasesSetBits, TornErasesKeepSound, TornErasesMakeNoBank, TornErasesKeepActive, PagesOutsideStay, OtherBanksStay, ErasedIsBlank, SectorsLieInBanks, SectorsHavePages, SectorsFillBanks, LayoutsAreLegal, ProgramsTouchOnePage, ProgramsTouchTheirBank, ProgramsStand, GatesStand, ProgramsKeepSound, BlankIsSound, BlankHasErased};
 
 use crate::images_compute;
 use fee_format::torn_erases_make_nothing;
@@ -15,9 +15,10 @@ pub fn torn_erases_keep_soundness()
     torn_erases_make_nothing();
 }
 
-/// Whatever an erase leaves, all other banks are as they were; done, its pages are blank. Where the sectors of a bank
-/// lie, and which pages they have.
+/// Whatever an erase leaves, all pages beside it and all other banks are as they were; done, its pages are blank. Where
+/// the sectors of a bank lie, and which pages they have.
 pub fn erases_keep_other_banks()
+    ensures beside { PagesOutsideStay }
     ensures other_banks { OtherBanksStay }
     ensures blank { ErasedIsBlank }
     ensures sectors { SectorsLieInBanks }
@@ -31,6 +32,7 @@ pub fn programs_keep_soundness()
     ensures one_page { ProgramsTouchOnePage }
     ensures own_bank { ProgramsTouchTheirBank }
     ensures stands { ProgramsStand }
+    ensures gates { GatesStand }
     ensures sound { ProgramsKeepSound }
 {
     ranges_keep_bytes();

@@ -8,7 +8,7 @@ pub returns-clause-sound : goal.returns-clause-sound
 returns-clause-sound c = torn_erases_keep_sound c.torn_erases_make_nothing.ensures.gates c.torn_erases_make_nothing.ensures.sound
 
 pub returns-clause-no_bank : goal.returns-clause-no_bank
-returns-clause-no_bank c = torn_erases_make_no_bank c.torn_erases_make_nothing.ensures.heads c.torn_erases_make_nothing.ensures.gates
+returns-clause-no_bank c = let torn = c.torn_erases_make_nothing.ensures in torn_erases_make_no_bank torn.size torn.heads torn.gates
 
 pub returns-clause-active : goal.returns-clause-active
-returns-clause-active c = torn_erases_keep_active c.torn_erases_make_nothing.ensures.heads c.torn_erases_make_nothing.ensures.gates
+returns-clause-active c = let torn = c.torn_erases_make_nothing.ensures in torn_erases_keep_active (torn_erases_make_no_bank torn.size torn.heads torn.gates)
