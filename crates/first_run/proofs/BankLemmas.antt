@@ -5,11 +5,11 @@ use Rattle.std.proofs.Math.Nat.{mul-le-mul_right}
 use Rattle.nv_base.specs.Geometry.{size_of}
 use Rattle.nv_base.specs.declared.geometry.Geometry.{Geometry}
 use Rattle.fls_model.specs.Told.{Told}
-use Rattle.fee_log.specs.declared.work.Work.{Work}
-use Rattle.fee_log.specs.declared.log_step.LogStep.{LogStep}
-use Rattle.fee_log.specs.declared.log_step.LogStep.TheVariants.{More, Committed, Failed, Off}
-use Rattle.fee_log.specs.Log.{LogState}
-use Rattle.fee_log.specs.Step.{after_step, advanced}
+use Rattle.first_log.specs.declared.work.Work.{Work}
+use Rattle.first_log.specs.declared.log_step.LogStep.{LogStep}
+use Rattle.first_log.specs.declared.log_step.LogStep.TheVariants.{More, Committed, Failed, Off}
+use Rattle.first_log.specs.Log.{LogState}
+use Rattle.first_log.specs.Step.{after_step, advanced}
 use Rattle.first_run.specs.declared.bank_device.Writing.{Writing}
 use Rattle.first_run.specs.Bank.{BankState, IsKept, IsWorkOf, HasRoom, ReadsOnly, bank_size_of}
 

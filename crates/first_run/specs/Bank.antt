@@ -5,8 +5,8 @@ use Rattle.nv_base.specs.Geometry.{IsLegal, sectors_of_bank, size_of_bank}
 use Rattle.nv_base.specs.declared.geometry.Geometry.{Geometry}
 use Rattle.block_config.specs.Banks.{bank_count}
 use Rattle.fls_model.specs.Told.{Told}
-use Rattle.fee_log.specs.declared.work.Work.{Work}
-use Rattle.fee_log.specs.Log.{LogState}
+use Rattle.first_log.specs.declared.work.Work.{Work}
+use Rattle.first_log.specs.Log.{LogState}
 use Rattle.first_run.specs.declared.bank_device.Writing.{Writing}
 
 pub record BankState : Type 0 where

@@ -6,12 +6,12 @@ ghost use Rattle.nv_base.specs.Marks.{next_or};
 ghost use Rattle.block_config.specs.Banks.{bank_count, bank_pages_of};
 ghost use Rattle.fls_model.specs.Attach.{IsAttach};
 ghost use Rattle.nv_base.specs.Pages.{record_pages_of};
-ghost use Rattle.fee_log.specs.Log.{erased_log};
+ghost use Rattle.first_log.specs.Log.{erased_log};
 ghost use Rattle.first_run.specs.Bank.{GoesOn, ReadsOnly, IsReadFault, bank_size_of};
 
 use block_config::BANKS;
 use fee_format::pages_of;
-use fee_log::{Format, FormatStep, Log, LogStep, Place, bank_stands};
+use first_log::{Format, FormatStep, Log, LogStep, Place, bank_stands};
 use fls_model::{AttachFault, Flash, FlashAnswer};
 use nv_base::{DeviceNumber, Geometry, Instance, Lengths, Mark, Marks, bytes_of};
 use std::alloc::{AllocError, Global};

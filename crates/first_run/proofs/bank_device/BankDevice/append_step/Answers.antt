@@ -1,4 +1,4 @@
-use Rattle.fee_log.specs.declared.log_step.LogStep.TheVariants.{More, Failed, Off}
+use Rattle.first_log.specs.declared.log_step.LogStep.TheVariants.{More, Failed, Off}
 use Rattle.first_run.proofs.BankLemmas.{kept-append}
 use Rattle.first_run.proofs.bank_device.BankDevice.append_step.Goals as goal
 
