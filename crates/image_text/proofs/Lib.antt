@@ -1,0 +1,2 @@
+pub mod BankLines
+pub mod Slices
