@@ -1,8 +1,9 @@
 -- What a device of two banks finds in an image.
-use Rattle.std.specs.Prelude.{◌≡◌, ◌⊎◌, ◌<◌, ◌+◌, ℕ, List, unwrap_or, Some}
+use Rattle.std.specs.Prelude.{◌≡◌, ◌⊎◌, ◌<◌, ◌+◌, ℕ, List, Option, Some, None}
 use Rattle.nv_base.specs.declared.geometry.Geometry.{Geometry}
 use Rattle.nv_base.specs.declared.instance.DeviceNumber.{DeviceNumber}
 use Rattle.nv_base.specs.declared.mark.Mark.{Mark}
+use Rattle.nv_base.specs.declared.mark.Mark.TheVariants.{Erased}
 use Rattle.nv_base.specs.Geometry.{size_of}
 use Rattle.memif.specs.Told.{Held, length_of}
 use Rattle.fls_model.specs.Attach.{enlarged}
@@ -19,9 +20,14 @@ two_banks g = layout_of g 2
 abbrev pub attached : Geometry → List ℕ → List ℕ
 attached g image = enlarged (size_of g) image
 
+-- the mark of a number of this length; one that isn't configured is Erased, whatever records it has
+abbrev pub found_as : Layout → List ℕ → ℕ → Option ℕ → Mark
+found_as l image n None = Erased
+found_as l image n (Some length) = found_mark l image n length
+
 -- the mark of each number, with the lengths that are configured
 abbrev pub found_in : Geometry → List (DeviceNumber × ℕ) → List ℕ → ℕ → Mark
-found_in g numbers image n = found_mark (two_banks g) (attached g image) n (unwrap_or (length_of numbers n) 0)
+found_in g numbers image n = found_as (two_banks g) (attached g image) n (length_of numbers n)
 
 abbrev pub held_in : Geometry → List (DeviceNumber × ℕ) → List ℕ → ℕ → Held
 held_in g numbers image n = record { mark = found_in g numbers image n }

@@ -15,7 +15,7 @@ use Rattle.fee_image.specs.Laws.{PagesAreOneRange, BodiesHaveRoom}
 use Rattle.fee_image.specs.RecordList.{Rec, Stands, Walks, pages_of_head}
 use Rattle.log_image.specs.declared.place.Place.{Place}
 use Rattle.log_image.specs.declared.place.Place.TheVariants.{Content as PlaceContent, Invalid as PlaceInvalid, Erased as PlaceErased}
-use Rattle.log_image.specs.Laws.{PlacesShowLast, EachIsPlaced}
+use Rattle.log_image.specs.Laws.{PlacesShowLast, EachIsPlaced, PlacesStay}
 use Rattle.log_image.specs.May.{May, IsAmong, IsWider, settling, mark_written}
 use Rattle.log_image.specs.Places.{place_at, place_shown, mark_at, places_of, noted, IsWithin, ArePlaced}
 
@@ -167,3 +167,6 @@ each_is_placed b bytes may end zero (x ∷ xs) (place ∷ places) n all is =
 each_is_placed b bytes may end (suc i) (x ∷ xs) (place ∷ places) n all is =
     let rest = each_is_placed b bytes may end i xs places n all.2 is in
     record { place = rest.place; is = rest.is; within = rest.within; among = rest.among }
+
+pub places_stay : PagesAreOneRange → BodiesHaveRoom → PlacesStay
+places_stay range room b old new at end length place big same within = stays_at range room b old new at end (omega arith) same length place within

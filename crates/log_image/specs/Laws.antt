@@ -127,3 +127,10 @@ abbrev pub EachIsPlaced : Type 0
 EachIsPlaced =
     (b : Bank) (bytes : List ℕ) (may : May) (end i : ℕ) (numbers : List (DeviceNumber × ℕ)) (places : List Place) (n : DeviceNumber × ℕ)
     → ArePlaced b bytes may end numbers places → slice_get numbers i ≡ Some n → IsPlaced b bytes may end n places i
+
+-- where the pages before an end are as they were, what is read at a place before it is too
+abbrev pub PlacesStay : Type 0
+PlacesStay =
+    (b : Bank) (old new : List ℕ) (at end length : ℕ) (place : Place)
+    → 16 ≤ b.page → ((q : ℕ) → 2 ≤ q → q < end → page_of (moved b at) new q ≡ page_of b old q)
+    → IsWithin b.page end length place → mark_at (moved b at) new length place ≡ mark_at b old length place

@@ -1,5 +1,5 @@
 -- Runs that keep the promise.
-use Rattle.std.specs.Prelude.{Contains, unwrap_or}
+use Rattle.std.specs.Prelude.{Contains}
 use Rattle.std.proofs.Common.{◌≡◌, ℕ, zero, suc, ◌≤◌, true, IsTrue, List, [], ◌∷◌, replicate, Option, Some, None, refl, sym, ap, subst, ◌∙◌, inl, arith}
 use Rattle.nv_base.specs.declared.instance.DeviceNumber.{DeviceNumber}
 use Rattle.nv_base.specs.Count.{next_count}
@@ -19,11 +19,11 @@ use Rattle.block_machine.specs.Steps.{after}
 use Rattle.block_machine.specs.StartUp.{listed_mark}
 use Rattle.block_machine.specs.Legal.{IsLegal}
 use Rattle.fee_format.specs.declared.bank_head.BankHead.{BankHead}
-use Rattle.fee_image.specs.Image.{active_of, found_mark, mark_of_bank}
+use Rattle.fee_image.specs.Image.{Layout, active_of, found_mark, mark_of_bank}
 use Rattle.fee_image.specs.Laws.{BlankIsSound, BlankHasErased, NoActiveComputes, TornErasesSetBits, TornErasesKeepSound, TornErasesMakeNoBank}
 use Rattle.block_promise.specs.Marks.{KeepsMarks, Lists}
 use Rattle.block_promise.specs.OverDevice.{HasOffAt, TellsAtMost}
-use Rattle.device_bridge.specs.Image.{two_banks, attached}
+use Rattle.device_bridge.specs.Image.{two_banks, attached, found_as}
 use Rattle.device_bridge.specs.FlashRun.{IsCutImage, IsChain, AreSeen}
 use Rattle.fee_image.specs.Sound.{IsSoundImage}
 use Rattle.run_promise.specs.Run.{cap, RefusalsExplain}
@@ -80,8 +80,12 @@ keeps_erased h found erased stands accepted newest = record {
   newest = λ x has. subst (λ (m : Mark). IsNotOlder small h (instance_of x.0) m) (sym (erased x.0.0)) (newest (instance_of x.0));
 }
 
+all_erased : (l : Layout) (image : List ℕ) (n : ℕ) (length : Option ℕ) → ((size : ℕ) → found_mark l image n size ≡ Erased) → found_as l image n length ≡ Erased
+all_erased l image n None erased = refl
+all_erased l image n (Some size) erased = erased size
+
 blank_found : BlankHasErased → (n : ℕ) → found_by small blank n ≡ Erased
-blank_found erased n = erased (two_banks small.geometry) 320 n (unwrap_or (length_of (lengths_of small) n) 0)
+blank_found erased n = all_erased (two_banks small.geometry) blank n (length_of (lengths_of small) n) (erased (two_banks small.geometry) 320 n)
 
 -- A TORN ERASE OF A BLANK FLASH
 grown_same : (n : ℕ) → Grown (replicate n 255) (replicate n 255)
@@ -100,9 +104,8 @@ finds_none computes makes sound image grown =
 torn_found : NoActiveComputes → TornErasesMakeNoBank → BlankIsSound → (image : List ℕ) → Grown blank image → (n : ℕ) → found_by small image n ≡ Erased
 torn_found computes makes sound image grown n =
     let l = two_banks small.geometry in
-    let len = unwrap_or (length_of (lengths_of small) n) 0 in
-    subst (λ (bytes : List ℕ). found_mark l bytes n len ≡ Erased) (sym (not_empty image grown))
-    (ap (λ (a : Option (ℕ × BankHead)). mark_of_bank l image n len a) (finds_none computes makes sound image grown))
+    subst (λ (bytes : List ℕ). found_as l bytes n (length_of (lengths_of small) n) ≡ Erased) (sym (not_empty image grown))
+    (all_erased l image n (length_of (lengths_of small) n) (λ size. ap (λ (a : Option (ℕ × BankHead)). mark_of_bank l image n size a) (finds_none computes makes sound image grown)))
 
 -- THE WRITE
 abbrev whole : List Entry

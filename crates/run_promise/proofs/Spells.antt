@@ -1,5 +1,5 @@
 -- The life of a unit, spell by spell.
-use Rattle.std.specs.Prelude.{Contains, slice_get, unwrap_or, cond, IfSome}
+use Rattle.std.specs.Prelude.{Contains, slice_get, cond, IfSome}
 use Rattle.std.specs.List.{list_any}
 use Rattle.std.specs.Option.{option_map_or}
 use Rattle.std.proofs.Common.{◌≡◌, ◌⊎◌, ◌||◌, ℕ, zero, suc, Bool, List, [], ◌∷◌, Option, Some, None, refl, sym, subst, ap, ◌∙◌, inl, inr, arith}
@@ -18,9 +18,8 @@ use Rattle.block_machine.specs.History.{up_to, is_driver_until}
 use Rattle.block_machine.specs.Accepted.{IsNotOlder, IsTakenIn}
 use Rattle.block_promise.specs.Marks.{Lists}
 use Rattle.block_promise.specs.OverDevice.{BeginsBefore, HasStarted}
-use Rattle.fee_image.specs.Image.{found_mark}
 use Rattle.fee_image.specs.Sound.{IsSoundImage}
-use Rattle.device_bridge.specs.Image.{two_banks, IsSoundFlash}
+use Rattle.device_bridge.specs.Image.{two_banks, found_as, IsSoundFlash}
 use Rattle.device_bridge.specs.FlashRun.{TellsBytes, StartsSound, bytes_after, IsChain}
 use Rattle.run_promise.specs.Run.{Run, HasOrder}
 use Rattle.run_promise.specs.Promise.{Promise, Keeps, found_by}
@@ -39,7 +38,7 @@ record Passes (c : Configuration) (first : List ℕ) (h : List Entry) (image : L
   taken : (x : DeviceNumber × ℕ) → Contains (lengths_of c) x → (found_by c image x.0.0 ≡ found_by c first x.0.0) ⊎ IsTakenIn c h at_first (instance_of x.0) (found_by c image x.0.0) h
 
 same_found : (c : Configuration) (a b : List ℕ) (n : ℕ) → enlarged (size_of c.geometry) a ≡ enlarged (size_of c.geometry) b → found_by c a n ≡ found_by c b n
-same_found c a b n same = ap (λ (bytes : List ℕ). found_mark (two_banks c.geometry) bytes n (unwrap_or (length_of (lengths_of c) n) 0)) same
+same_found c a b n same = ap (λ (bytes : List ℕ). found_as (two_banks c.geometry) bytes n (length_of (lengths_of c) n)) same
 
 -- where no start-up was made the image is the same, once it is enlarged
 idles : (c : Configuration) (first image : List ℕ) → IsSoundFlash c.geometry first → enlarged (size_of c.geometry) image ≡ enlarged (size_of c.geometry) first → Passes c first [] image

@@ -1,4 +1,4 @@
-use Rattle.log_image.proofs.Placed.{places_show_last, each_is_placed}
+use Rattle.log_image.proofs.Placed.{places_show_last, each_is_placed, places_stay}
 use Rattle.log_image.proofs.place_laws.places_show_marks.Goals as goal
 
 pub returns-clause-last : goal.returns-clause-last
@@ -6,3 +6,6 @@ returns-clause-last c = places_show_last c.records_stay.ensures.range c.records_
 
 pub returns-clause-each : goal.returns-clause-each
 returns-clause-each c = each_is_placed
+
+pub returns-clause-stay : goal.returns-clause-stay
+returns-clause-stay c = places_stay c.records_stay.ensures.range c.records_stay.ensures.room
