@@ -1,0 +1,8 @@
+use Rattle.device_image.proofs.Held.{held_anew, images_find}
+use Rattle.device_image.proofs.mark_laws.marks_are_found.Goals as goal
+
+pub returns-clause-anew : goal.returns-clause-anew
+returns-clause-anew c = held_anew c.doubts_compute.ensures.tighten c.doubts_compute.ensures.widen
+
+pub returns-clause-find : goal.returns-clause-find
+returns-clause-find c = images_find c.banks_show.ensures
