@@ -159,10 +159,6 @@ marking_holds (f ∷ fs) h body all number length n among =
     ])
 
 -- ROOM
-if_le : (b : Bool) (n : ℕ) → (if b then 0 else n) ≤ n
-if_le true n = omega arith
-if_le false n = omega arith
-
 if_none : (b : Bool) (n : ℕ) → b ≡ false → (if b then 0 else n) ≡ n
 if_none b n is = subst (λ (x : Bool). (if x then 0 else n) ≡ n) (sym is) refl
 

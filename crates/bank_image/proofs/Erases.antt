@@ -1,7 +1,6 @@
 -- A switch begins, and erases its target.
-use Rattle.std.proofs.Common.{◌≡◌, inl, inr, ◌<◌, ◌≤◌, ℕ, suc, ◌+◌, ◌*◌, List, take, drop, sym, ap, ◌∙◌, subst, arith}
+use Rattle.std.proofs.Common.{◌≡◌, inl, inr, ◌<◌, ◌≤◌, ℕ, suc, ◌+◌, ◌*◌, List, sym, ap, ◌∙◌, subst, arith}
 use Rattle.std.proofs.lemmas.Bool.{cases_eq, cases_lt}
-use Rattle.std.proofs.lemmas.List.{drop-take, take-take}
 use Rattle.std.proofs.Math.Nat.{div-add-mod, mul_comm, mul-le-mul_right}
 use Rattle.nv_base.specs.declared.geometry.Geometry.{Geometry}
 use Rattle.nv_base.specs.declared.instance.DeviceNumber.{DeviceNumber}
@@ -11,7 +10,7 @@ use Rattle.fls_model.specs.Op.{MayLeave}
 use Rattle.fee_format.specs.Pages.{blank_page}
 use Rattle.fee_image.specs.Bank.{place_of_page}
 use Rattle.fee_image.specs.Image.{Layout, layout_of, bank_in, image_page}
-use Rattle.fee_image.specs.Laws.{TornErasesSetBits, TornErasesKeepSound, TornErasesMakeNoBank, OtherBanksStay, ErasedIsBlank, LayoutsAreLegal, SectorsLieInBanks, SectorsHavePages, SectorsFillBanks, place_of_sector}
+use Rattle.fee_image.specs.Laws.{TornErasesSetBits, TornErasesKeepSound, TornErasesMakeNoBank, PagesOutsideStay, OtherBanksStay, ErasedIsBlank, LayoutsAreLegal, SectorsLieInBanks, SectorsHavePages, SectorsFillBanks, place_of_sector}
 use Rattle.log_image.specs.Laws.{LogsStay, ErasedLogsHold}
 use Rattle.bank_image.specs.Banks.{Old, NoBank, OldBank, Idle, Erasing, Banks, Holds, HoldsOld, HoldsPhase, StandsBehind, AreBlank}
 use Rattle.bank_image.specs.Laws.{IsOther, SwitchesBegin, erase_of, ErasesFail, ErasesDone, CopiesBegin}
@@ -52,12 +51,7 @@ sector_at fill g banks k s legal shared =
     let one : (k * m + s) * (R * p) ≡ (k * (m * R) + s * R) * p = grind arith in
     ap (λ (x : ℕ). (k * m + s) * x) whole ∙ one ∙ ap (λ (x : ℕ). (k * x + s * R) * p) (sym pages)
 
-page_front : (n m p : ℕ) (old new : List ℕ) → take n new ≡ take n old → m + p ≤ n → take p (drop m new) ≡ take p (drop m old)
-page_front n m p old new same le =
-    sym (drop-take m p new) ∙ ap (drop m) (sym (take-take (m + p) n new le)) ∙ ap (λ (l : List ℕ). drop m (take (m + p) l)) same
-    ∙ ap (drop m) (take-take (m + p) n old le) ∙ drop-take m p old
-
-module _ (set_bits : TornErasesSetBits) (keep_sound : TornErasesKeepSound) (no_bank : TornErasesMakeNoBank) (others_stay : OtherBanksStay) (are_legal : LayoutsAreLegal) (lie : SectorsLieInBanks) (fill : SectorsFillBanks) (stay : LogsStay) (g : Geometry) (banks : ℕ) (numbers : List (DeviceNumber × ℕ)) (old new : List ℕ) (s : Banks) (sector : ℕ) (legal : IsLegal g) (shared : HasBanks g banks) (holds : Holds (layout_of g banks) numbers old s) (is : s.phase ≡ Erasing (sector * pages_of_sector g)) (lt : sector < sectors_of_bank g banks) (leaves : MayLeave (erase_of g banks s.target sector) old new) where
+module _ (set_bits : TornErasesSetBits) (keep_sound : TornErasesKeepSound) (no_bank : TornErasesMakeNoBank) (beside_stay : PagesOutsideStay) (others_stay : OtherBanksStay) (are_legal : LayoutsAreLegal) (lie : SectorsLieInBanks) (fill : SectorsFillBanks) (stay : LogsStay) (g : Geometry) (banks : ℕ) (numbers : List (DeviceNumber × ℕ)) (old new : List ℕ) (s : Banks) (sector : ℕ) (legal : IsLegal g) (shared : HasBanks g banks) (holds : Holds (layout_of g banks) numbers old s) (is : s.phase ≡ Erasing (sector * pages_of_sector g)) (lt : sector < sectors_of_bank g banks) (leaves : MayLeave (erase_of g banks s.target sector) old new) where
   abbrev l : Layout
   l = layout_of g banks
 
@@ -80,7 +74,7 @@ module _ (set_bits : TornErasesSetBits) (keep_sound : TornErasesKeepSound) (no_b
       let b = bank_in l 1 s.target in
       let le = mul-le-mul_right p (let t : suc (b.at + q) ≤ b.at + sector * pages_of_sector g = omega arith in t) in
       let one : suc (b.at + q) * p ≡ (b.at + q) * p + p = omega arith in
-      page_front (place_of_sector g banks s.target sector) ((b.at + q) * p) p old new leaves.0.front (omega (arith, at, le, one)) ∙ was.1 q below inside
+      beside_stay b old new (place_of_sector g banks s.target sector) g.sector q leaves.0 (inl (omega (arith, at, le, one))) ∙ was.1 q below inside
 
   pub erase_steps : (n : ℕ) → AreBlank l new s.target n → Holds l numbers new (record s { phase = Erasing n })
   erase_steps n blank =
@@ -99,9 +93,9 @@ module _ (set_bits : TornErasesSetBits) (keep_sound : TornErasesKeepSound) (no_b
       let h = erase_steps (sector * pages_of_sector g) still_blank in
       record { size = h.size; sound = h.sound; target = h.target; old = h.old; behind = h.behind; phase = subst (HoldsPhase l numbers new s) (sym is) h.phase }
 
-module _ (set_bits : TornErasesSetBits) (keep_sound : TornErasesKeepSound) (no_bank : TornErasesMakeNoBank) (others_stay : OtherBanksStay) (are_legal : LayoutsAreLegal) (lie : SectorsLieInBanks) (fill : SectorsFillBanks) (stay : LogsStay) where
+module _ (set_bits : TornErasesSetBits) (keep_sound : TornErasesKeepSound) (no_bank : TornErasesMakeNoBank) (beside_stay : PagesOutsideStay) (others_stay : OtherBanksStay) (are_legal : LayoutsAreLegal) (lie : SectorsLieInBanks) (fill : SectorsFillBanks) (stay : LogsStay) where
   pub erases_fail : ErasesFail
-  erases_fail g banks numbers old new s sector legal shared holds is lt leaves = fails set_bits keep_sound no_bank others_stay are_legal lie fill stay g banks numbers old new s sector legal shared holds is lt leaves
+  erases_fail g banks numbers old new s sector legal shared holds is lt leaves = fails set_bits keep_sound no_bank beside_stay others_stay are_legal lie fill stay g banks numbers old new s sector legal shared holds is lt leaves
 
   pub erases_done : ErasedIsBlank → SectorsHavePages → ErasesDone
   erases_done erased have g banks numbers old new s sector legal shared holds is lt leaves done =
@@ -112,8 +106,8 @@ module _ (set_bits : TornErasesSetBits) (keep_sound : TornErasesKeepSound) (no_b
       let inside = (lie g banks s.target sector legal shared lt).high in
       let H = l.pages * l.page in
       let within : s.target * H + H ≤ H * l.banks = (let le = mul-le-mul_right H (let t : suc s.target ≤ l.banks = holds.target in t) in let one : suc s.target * H ≡ s.target * H + H = omega arith in let turn : H * l.banks ≡ l.banks * H = mul_comm H l.banks in omega (arith, le, one, turn)) in
-      let still = still_blank set_bits keep_sound no_bank others_stay are_legal lie fill stay g banks numbers old new s sector legal shared holds is lt leaves in
-      erase_steps set_bits keep_sound no_bank others_stay are_legal lie fill stay g banks numbers old new s sector legal shared holds is lt leaves ((sector + 1) * R) (λ q below all. elim (cases_lt q (sector * R)) [
+      let still = still_blank set_bits keep_sound no_bank beside_stay others_stay are_legal lie fill stay g banks numbers old new s sector legal shared holds is lt leaves in
+      erase_steps set_bits keep_sound no_bank beside_stay others_stay are_legal lie fill stay g banks numbers old new s sector legal shared holds is lt leaves ((sector + 1) * R) (λ q below all. elim (cases_lt q (sector * R)) [
         | inl earlier ↦ still q earlier all
         | inr here ↦
             let pages = have g banks 1 s.target sector q legal shared here (omega (arith, next)) in

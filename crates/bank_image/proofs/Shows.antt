@@ -1,6 +1,7 @@
 -- What a start-up would find.
-use Rattle.std.proofs.Common.{◌≡◌, inl, inr, ◌<◌, ◌≤◌, ℕ, zero, suc, ◌+◌, List, Some, refl, sym, ap, ◌∙◌, subst, arith}
+use Rattle.std.proofs.Common.{◌≡◌, inl, inr, ◌<◌, ◌≤◌, ℕ, zero, suc, ◌+◌, List, refl, sym, ap, ◌∙◌, subst, arith}
 use Rattle.std.proofs.lemmas.Bool.{cases_Bool, cases_eq, false≢true}
+use Rattle.std.proofs.lemmas.Option.{same_Some}
 use Rattle.nv_base.specs.declared.instance.DeviceNumber.{DeviceNumber}
 use Rattle.fee_format.specs.declared.bank_head.BankHead.{BankHead}
 use Rattle.fee_format.specs.Gate.{IsGate, is_gate}
@@ -25,15 +26,12 @@ copying_shut l numbers bytes t log copied h legal c stands = blank_shut l.page (
 pub sealed_stands : (l : Layout) (numbers : List (DeviceNumber × ℕ)) (bytes : List ℕ) (s : Banks) (log : Log) → IsSealing l numbers bytes s log → IsGate l.page (image_page l bytes s.target 1) → BankStands l bytes s.target (next_head s.old)
 sealed_stands l numbers bytes s log c gate = record { head = record { legal = record { format = refl; generation = c.last }; page_is = c.head }; gate = gate }
 
-some_is : {A : Type 0} (x y : A) → Some x ≡ Some y → x ≡ y
-some_is x y e = cc e
-
 newer : HeadsCompute → (l : Layout) (numbers : List (DeviceNumber × ℕ)) (bytes : List ℕ) (t j : ℕ) (o : Old) (may : May) (other : BankHead) → HoldsOld l numbers bytes t o may → IsBehind o j other → BankStands l bytes j other → ComesFirst t (next_head o) j other
 newer heads l numbers bytes t j NoBank may other holds behind stands = absurd behind
 newer heads l numbers bytes t j (OldBank k h log) may other holds behind stands = elim (cases_eq j k) [
   | inl same ↦
       let at = subst (λ (n : ℕ). BankStands l bytes n other) same stands in
-      let is : h ≡ other = some_is h other (sym ((heads l bytes k h).0 holds.1.stands) ∙ (heads l bytes k other).0 at) in
+      let is : h ≡ other = same_Some h other (sym ((heads l bytes k h).0 holds.1.stands) ∙ (heads l bytes k other).0 at) in
       inl (subst (λ (x : BankHead). x.generation < h.generation + 1) is (omega arith))
   | inr differs ↦ elim (behind differs) [ inl less ↦ inl (omega arith) | inr tie ↦ inl (omega (arith, tie.0)) ]
 ]

@@ -9,8 +9,8 @@ use Rattle.fls_model.specs.Op.{Op, MayLeave, Program, Erase, after_op}
 use Rattle.fee_format.specs.declared.bank_head.BankHead.{BankHead}
 use Rattle.fee_format.specs.BankHead.{bank_head_page}
 use Rattle.fee_format.specs.Pages.{gate_page}
-use Rattle.fee_image.specs.Bank.{Bank, page_of, place_of_page}
 use Rattle.fee_image.specs.Image.{Layout, IsLegalLayout, layout_of, bank_in, image_page, active_of, found_mark}
+pub use Rattle.fee_image.specs.Laws.{GatesStand}
 use Rattle.fee_image.specs.Laws.{place_in_image, place_of_sector}
 use Rattle.fee_image.specs.Sound.{IsSoundImage}
 use Rattle.log_image.specs.Laws.{loaded_log, IsLoadedTail, erased_log, IsPlaced}
@@ -159,13 +159,6 @@ GatesDone =
     → IsLegalLayout l → Holds l numbers old s → s.phase ≡ Sealing log → MayLeave (program_of l s.target 1 (gate_page l.page)) old new
     → image_page l new s.target 1 ≡ gate_page l.page → t < l.banks → (t ≡ s.target → ⊥)
     → Holds l numbers new (record { old = OldBank s.target (next_head s.old) log; target = t; phase = Idle; may = s.copied; copied = s.copied })
-
--- a gate stands where its program is done, whatever stood there
-abbrev pub GatesStand : Type 0
-GatesStand =
-    (b : Bank) (bytes : List ℕ) (q : ℕ) → place_of_page b q + b.page ≤ length bytes
-    → let op = Program (place_of_page b q) (gate_page b.page) in
-    (page_of b (after_op op bytes) q ≡ gate_page b.page) × MayLeave op bytes (after_op op bytes)
 
 -- IN MEMORY ALONE
 -- of a target that is sealed, all that it may show may be found

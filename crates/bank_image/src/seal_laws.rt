@@ -2,7 +2,6 @@
 ghost use Rattle.bank_image.specs.Laws.{HeadsDone, GatesFail, GatesDone, GatesStand, SealsKeepSettled};
 
 use fee_image::{images_compute, programs_keep_soundness};
-use fls_model::ranges_keep_bytes;
 use log_image::{logs_stay, places_show_marks};
 
 /// The head comes where each number is copied. Whatever a program of the gate leaves, the banks are held as before, and
@@ -14,7 +13,6 @@ pub fn seals_hold()
     ensures gate_stands { GatesStand }
     ensures settled { SealsKeepSettled }
 {
-    ranges_keep_bytes();
     images_compute();
     programs_keep_soundness();
     logs_stay();
