@@ -1,0 +1,5 @@
+pub mod Changes
+pub mod Numbers
+pub mod Soundness
+pub mod Walking
+pub mod Within

@@ -1,0 +1,114 @@
+// The places and flags by number.
+ghost use Rattle.std.specs.Prelude.{◌≡◌, false, length, IfOk};
+ghost use Rattle.fee_image.specs.Found.{fits};
+ghost use Rattle.log_image.specs.Places.{place_at, noted, erased_places};
+ghost use Rattle.fee_log.specs.Index.{place_in, flag_in, with_flag, clear_flags};
+
+use log_image::Place;
+use nv_base::{DeviceNumber, Lengths};
+use std::alloc::{AllocError, Global};
+
+/// Places for all numbers, of which nothing is found.
+pub(crate) fn erased_places(alloc: Global, numbers: &Lengths) -> Result<Vec<Place>, AllocError>
+    ensures { IfOk result (λ v. v.items ≡ erased_places numbers.now) }
+{
+    let numbers = numbers.as_slice();
+    numbers.iter().map(|_| Place::Erased).collect(alloc)
+}
+
+/// Clear flags for all numbers.
+pub(crate) fn clear_flags(alloc: Global, numbers: &Lengths) -> Result<Vec<bool>, AllocError>
+    ensures { IfOk result (λ v. v.items ≡ clear_flags numbers.now) }
+{
+    let numbers = numbers.as_slice();
+    numbers.iter().map(|_| false).collect(alloc)
+}
+
+/// Nothing is found of any number from now on.
+pub(crate) fn forget(numbers: &Lengths, places: &mut [Place])
+    requires { length places.old ≡ length numbers.now }
+    ensures { places.new ≡ erased_places numbers.now }
+{
+    places.fill(Place::Erased);
+}
+
+/// No flag is set from now on.
+pub(crate) fn clear_all(numbers: &Lengths, flags: &mut [bool])
+    requires { length flags.old ≡ length numbers.now }
+    ensures { flags.new ≡ clear_flags numbers.now }
+{
+    flags.fill(false);
+}
+
+/// The place of a number, of the places in the order of the numbers. Erased where it isn't configured.
+pub(crate) fn place_of(numbers: &Lengths, places: &[Place], number: DeviceNumber) -> Place
+    requires { length places.now ≡ length numbers.now }
+    ensures { result ≡ place_in numbers.now places.now number.0 }
+{
+    match numbers.place_of(number) {
+        Some(i) => places[i],
+        None => Place::Erased,
+    }
+}
+
+/// The flag of a number, of the flags in the order of the numbers. Clear where it isn't configured.
+pub(crate) fn flag_of(numbers: &Lengths, flags: &[bool], number: DeviceNumber) -> bool
+    requires { length flags.now ≡ length numbers.now }
+    ensures { result ≡ flag_in numbers.now flags.now number.0 }
+{
+    match numbers.place_of(number) {
+        Some(i) => flags[i],
+        None => false,
+    }
+}
+
+/// Sets or clears the flag of a number, where it is configured.
+pub(crate) fn put_flag(numbers: &Lengths, flags: &mut [bool], number: DeviceNumber, on: bool)
+    requires { length flags.old ≡ length numbers.now }
+    ensures { flags.new ≡ with_flag numbers.now flags.old number.0 on }
+{
+    let _ = numbers.len();
+    let Some(i) = numbers.place_of(number) else {
+        return;
+    };
+    flags[i] = on;
+}
+
+fn place_at(at: u32, kind: u8) -> Place
+    ensures { (h : _) → h.kind ≡ kind → result ≡ place_at at h }
+{
+    match kind {
+        1 => Place::Content { at },
+        2 => Place::Invalid,
+        _ => Place::Erased,
+    }
+}
+
+// Whether a record of this number is one of its length, for a content.
+fn fits(wanted: (DeviceNumber, u16), number: DeviceNumber, kind: u8, size: usize) -> bool
+    ensures { result ≡ fits wanted.0.0 wanted.1 (record { number = number.0; kind = kind; length = size }) }
+{
+    number.0 == wanted.0.0 && (kind != 1 || size == usize::from(wanted.1))
+}
+
+/// Takes a committed record into the places, where it fits a number.
+pub(crate) fn note(
+    numbers: &Lengths,
+    places: &mut [Place],
+    at: u32,
+    number: DeviceNumber,
+    kind: u8,
+    size: usize,
+)
+    requires { length places.old ≡ length numbers.now }
+    ensures { places.new ≡ noted numbers.now places.old at (record { number = number.0; kind = kind; length = size }) }
+{
+    let Some(i) = numbers.place_of(number) else {
+        return;
+    };
+    let list = numbers.as_slice();
+    if !fits(list[i], number, kind, size) {
+        return;
+    }
+    places[i] = place_at(at, kind);
+}

@@ -1,0 +1,408 @@
+// The log of one bank.
+ghost use Rattle.std.specs.Prelude.{◌≡◌, ◌≤◌, ◌<◌, ◌+◌, ℕ, None, Some, Contains, length, IfOk, IsSome, MatchOption};
+ghost use Rattle.std.specs.Option.{ForSome};
+ghost use Rattle.nv_base.specs.Geometry.{IsLegal, HasBanks, size_of, address_of_page};
+ghost use Rattle.nv_base.specs.Pages.{record_pages_of};
+ghost use Rattle.fls_model.specs.Step.{IsStep, programs};
+ghost use Rattle.fls_jobs.specs.CallOf.{closed_as};
+ghost use Rattle.fls_jobs.specs.Start.{IsIdle};
+ghost use Rattle.log_image.specs.Places.{IsWithin};
+ghost use Rattle.fee_log.specs.Index.{place_in, flag_in, with_flag};
+ghost use Rattle.fee_log.specs.Log.{IsLogState, IsViewOf, IsLoaded, IsFor, work_in, is_closed, free_in, left_in, pages_in, erased_state, begun};
+ghost use Rattle.fee_log.specs.Step.{IsPageOf, IsStepAt, due_bytes, due_page, op_of, answer_of, after_step, given_up};
+
+use crate::index::{
+    clear_all, clear_flags, erased_places, flag_of, forget, note, place_of, put_flag,
+};
+use crate::page::{fill_gate, fill_page};
+use crate::tail::{tail_begun, tail_seen};
+use crate::walk::take_records;
+use crate::{LogStep, Tail};
+use fee_format::{RecHead, pages_of};
+use fee_image::records_stay;
+use fee_view::BankView;
+use fls_jobs::Fls;
+use fls_model::{Flash, FlashAnswer};
+use log_image::{Place, logs_begin};
+use nv_base::{DeviceNumber, Geometry, Lengths, banks_share_the_flash, lengths_of};
+use std::alloc::{AllocError, Global};
+use std::marker::Model;
+
+/// One bank as a log of records, with the place and a flag of each configured number. At most one record is in work.
+#[derive(Debug, Drop)]
+pub struct Log {
+    geometry: Geometry,
+    banks: u32,
+    bank: u32,
+    format: u8,
+    numbers: Lengths,
+    places: Vec<Place>,
+    flags: Vec<bool>,
+    end: u32,
+    tail: Tail,
+}
+
+impl Model for Log {
+    ghost use Rattle.fee_log.specs.Log.{LogState, IsLogState};
+
+    ghost Value = { LogState };
+
+    ghost view = { λ l. record {
+      geometry = l.geometry;
+      banks = l.banks;
+      bank = l.bank;
+      format = l.format;
+      numbers = l.numbers;
+      places = l.places.items;
+      flags = l.flags.items;
+      end = l.end;
+      tail = l.tail;
+    } };
+
+    ghost invariant = { λ l. IsLogState (record {
+      geometry = l.geometry;
+      banks = l.banks;
+      bank = l.bank;
+      format = l.format;
+      numbers = l.numbers;
+      places = l.places.items;
+      flags = l.flags.items;
+      end = l.end;
+      tail = l.tail;
+    }) };
+}
+
+impl Log {
+    /// The log of a bank, from 0, of a flash that so many banks share, as if it were erased. It takes all the memory
+    /// that it ever needs.
+    pub fn make(
+        alloc: Global,
+        numbers: &Lengths,
+        geometry: Geometry,
+        bank: u32,
+        banks: u32,
+    ) -> Result<Log, AllocError>
+        requires legal { IsLegal geometry }
+        requires banks { HasBanks geometry banks }
+        requires bank { bank < banks }
+        ensures { IfOk result (λ l. l ≡ erased_state geometry banks bank numbers.now) }
+    {
+        let pages = geometry.bank_pages(banks);
+        prove!(2 <= pages);
+        let numbers = lengths_of(alloc, numbers.as_slice())?;
+        let _ = numbers.len();
+        let places = erased_places(alloc, &numbers)?;
+        let flags = clear_flags(alloc, &numbers)?;
+        Ok(Log {
+            geometry,
+            banks,
+            bank,
+            format: 1,
+            numbers,
+            places,
+            flags,
+            end: 2,
+            tail: Tail::Open,
+        })
+    }
+
+    /// The pages behind the records, the one in work among them, that a next one can take. None in a closed bank.
+    pub fn free_pages(&self) -> u32
+        ensures pages { result ≡ free_in self.now }
+        ensures state { IsLogState self.now }
+    {
+        let page = self.geometry.page;
+        let taken = match self.tail {
+            Tail::Open => 0,
+            Tail::Writes { head, .. } => pages_of(head.length, page),
+            Tail::Owes { head, next: None } => pages_of(head.length, page),
+            Tail::Owes {
+                head,
+                next: Some(next),
+            } => pages_of(head.length, page) + pages_of(next.length, page),
+            Tail::Closed => return 0,
+        };
+        self.geometry.bank_pages(self.banks) - (self.end + taken)
+    }
+
+    /// Whether the bank takes no more records.
+    pub fn closed(&self) -> bool
+        ensures { result ≡ is_closed self.now.tail }
+    {
+        match self.tail {
+            Tail::Closed => true,
+            _ => false,
+        }
+    }
+
+    /// The record in work: it is being written, or waits for an owed gate.
+    pub fn work(&self) -> Option<RecHead>
+        ensures { result ≡ work_in self.now.tail }
+    {
+        match self.tail {
+            Tail::Writes { head, .. } => Some(head),
+            Tail::Owes { next, .. } => next,
+            _ => None,
+        }
+    }
+
+    /// The pages that are still to program, those of the record in work and of a gate that it waits for.
+    pub fn pages_left(&self) -> u32
+        ensures { result ≡ left_in self.now.geometry.page self.now.tail }
+    {
+        let page = self.geometry.page;
+        match self.tail {
+            Tail::Writes { head, done } => pages_of(head.length, page) - done,
+            Tail::Owes {
+                next: Some(next),
+                ..
+            } => 1 + pages_of(next.length, page),
+            _ => 0,
+        }
+    }
+
+    /// Where the last committed record of a number stands. Erased where the number isn't configured.
+    pub fn find(&self, number: DeviceNumber) -> Place
+        ensures place { result ≡ place_in self.now.numbers self.now.places number.0 }
+        ensures within { (length : ℕ) → Contains self.now.numbers (number, length) → IsWithin self.now.geometry.page self.now.end length result }
+        ensures state { IsLogState self.now }
+    {
+        place_of(&self.numbers, &self.places, number)
+    }
+
+    /// Where on the flash, in bytes, the content begins of the record whose header is at this page of the bank.
+    pub fn content_address(&self, at: u32) -> u32
+        requires { at + 2 < pages_in self.now }
+        ensures address { result ≡ address_of_page self.now.geometry self.now.banks self.now.bank (at + 2) }
+        ensures inside { (length : ℕ) → at + record_pages_of length self.now.geometry.page ≤ pages_in self.now → result + length ≤ size_of self.now.geometry }
+    {
+        banks_share_the_flash();
+        records_stay();
+        self.geometry.page_address(self.banks, self.bank, at + 2)
+    }
+
+    /// The flag of a number.
+    pub fn flag(&self, number: DeviceNumber) -> bool
+        ensures { result ≡ flag_in self.now.numbers self.now.flags number.0 }
+    {
+        flag_of(&self.numbers, &self.flags, number)
+    }
+
+    /// Sets or clears the flag of a number.
+    pub fn set_flag(&mut self, number: DeviceNumber, on: bool)
+        ensures { self.new ≡ record self.old { flags = with_flag self.old.numbers self.old.flags number.0 on } }
+    {
+        put_flag(&self.numbers, &mut self.flags, number, on);
+    }
+
+    /// Reads the log of a bank that stands from all its bytes, or that of an erased bank from None.
+    pub fn load(&mut self, view: Option<BankView<'_>>)
+        requires view { ForSome view (λ v. IsViewOf self.old v) }
+        ensures log { MatchOption view.entry (self.new ≡ erased_state self.old.geometry self.old.banks self.old.bank self.old.numbers) (λ v. IsLoaded v self.old self.new) }
+    {
+        match view {
+            Some(view) => self.load_view(&view),
+            None => self.erase(),
+        }
+    }
+
+    fn erase(&mut self)
+        ensures { self.new ≡ erased_state self.old.geometry self.old.banks self.old.bank self.old.numbers }
+    {
+        forget(&self.numbers, &mut self.places);
+        clear_all(&self.numbers, &mut self.flags);
+        self.format = 1;
+        self.end = 2;
+        self.tail = Tail::Open;
+    }
+
+    fn load_view(&mut self, view: &BankView<'_>)
+        requires view { IsViewOf self.old view.now }
+        ensures log { IsLoaded view.now self.old self.new }
+    {
+        logs_begin();
+        take_records(view, &self.numbers, &mut self.places);
+        clear_all(&self.numbers, &mut self.flags);
+        self.format = view.head().format;
+        self.end = view.end_page();
+        self.tail = tail_seen(view);
+    }
+
+    /// Begins a record of a configured number: a content (kind 1) of its length, or the mark of an invalidated (2) or
+    /// erased (3) instance, of length 0. Behind an owed gate it waits for that gate. The number's flag is cleared.
+    pub fn append_start(&mut self, number: DeviceNumber, kind: u8, length: u16)
+        requires idle { work_in self.old.tail ≡ None }
+        requires format { self.old.format ≡ 1 }
+        requires configured { IsFor self.old.numbers (record { number = number.0; kind = kind; length = length }) }
+        requires room { record_pages_of length self.old.geometry.page ≤ free_in self.old }
+        ensures { self.new ≡ begun self.old (record { number = number.0; kind = kind; length = length }) }
+    {
+        put_flag(&self.numbers, &mut self.flags, number, false);
+        let record = RecHead {
+            number: number.0,
+            kind,
+            length,
+        };
+        self.tail = tail_begun(self.tail, record);
+    }
+
+    /// Programs the page that is due, by one call of the flash, and leaves no job open: the next page of the record in work,
+    /// whose content is `body`, the same at each of its steps, or the gate that it waits for. A failed header, header gate
+    /// or owed gate closes the bank, and behind any other failed page the next record goes behind this one. `Failed`
+    /// comes only where the flash's faults rose in this call, `Off` only while a power cut stands.
+    pub fn step<F: Flash>(&mut self, fls: &mut Fls<F>, body: &[u8]) -> LogStep
+        requires work { IsSome (work_in self.old.tail) }
+        requires body { ForSome (work_in self.old.tail) (λ h. length body.now ≡ h.length) }
+        requires idle { IsIdle fls.old }
+        requires geometry { fls.old.geometry ≡ self.old.geometry }
+        ensures state { IsLogState self.old }
+        ensures step { IsStep (op_of self.old body.now) fls.old.flash (answer_of result) fls.new.flash }
+        ensures page { IsPageOf self.old.geometry.page (due_bytes self.old body.now) }
+        ensures last { IsStepAt self.old result }
+        ensures after { self.new ≡ after_step self.old (answer_of result) }
+        ensures same { fls.new ≡ record fls.old { flash = fls.new.flash; result = closed_as (answer_of result) } }
+    {
+        let answer = self.program_due(fls, body);
+        self.settle(answer)
+    }
+
+    // Programs the page that is due.
+    fn program_due<F: Flash>(&self, fls: &mut Fls<F>, body: &[u8]) -> FlashAnswer
+        requires work { IsSome (work_in self.now.tail) }
+        requires body { ForSome (work_in self.now.tail) (λ h. length body.now ≡ h.length) }
+        requires idle { IsIdle fls.old }
+        requires geometry { fls.old.geometry ≡ self.now.geometry }
+        ensures state { IsLogState self.now }
+        ensures step { IsStep (op_of self.now body.now) fls.old.flash result fls.new.flash }
+        ensures page { IsPageOf self.now.geometry.page (due_bytes self.now body.now) }
+        ensures same { fls.new ≡ record fls.old { flash = fls.new.flash; result = closed_as result } }
+    {
+        let mut buffer = [0; 256];
+        let size = self.geometry.page as usize;
+        let done = match self.tail {
+            Tail::Writes { head, done } => {
+                fill_page(head, body, done, size, &mut buffer);
+                done
+            }
+            _ => {
+                fill_gate(size, &mut buffer);
+                1
+            }
+        };
+        let address = self
+            .geometry
+            .page_address(self.banks, self.bank, self.end + done);
+        fls.status();
+        fls.program_page(address, &buffer[..size])
+    }
+
+    // What an answer leaves of the log.
+    fn settle(&mut self, answer: FlashAnswer) -> LogStep
+        requires work { IsSome (work_in self.old.tail) }
+        ensures answer { answer_of result ≡ answer }
+        ensures last { IsStepAt self.old result }
+        ensures after { self.new ≡ after_step self.old answer }
+    {
+        match answer {
+            FlashAnswer::Done => self.note_done(),
+            FlashAnswer::Failed => {
+                self.note_failed();
+                LogStep::Failed
+            }
+            FlashAnswer::Off => LogStep::Off,
+        }
+    }
+
+    fn note_done(&mut self) -> LogStep
+        requires work { IsSome (work_in self.old.tail) }
+        ensures answer { answer_of result ≡ FlashAnswer.Done }
+        ensures last { IsStepAt self.old result }
+        ensures after { self.new ≡ after_step self.old FlashAnswer.Done }
+    {
+        match self.tail {
+            Tail::Writes { head, done } => self.note_page(head, done),
+            Tail::Owes { head, next } => {
+                let Some(next) = next else {
+                    unreachable!();
+                };
+                self.note_gate(head, next);
+                LogStep::More
+            }
+            _ => unreachable!(),
+        }
+    }
+
+    // One more page of a record is done.
+    fn note_page(&mut self, head: RecHead, done: u32) -> LogStep
+        requires work { self.old.tail ≡ Tail.Writes head done }
+        ensures answer { answer_of result ≡ FlashAnswer.Done }
+        ensures last { IsStepAt self.old result }
+        ensures after { self.new ≡ after_step self.old FlashAnswer.Done }
+    {
+        let pages = pages_of(head.length, self.geometry.page);
+        if done + 1 < pages {
+            self.tail = Tail::Writes {
+                head,
+                done: done + 1,
+            };
+            return LogStep::More;
+        }
+        note(
+            &self.numbers,
+            &mut self.places,
+            self.end,
+            DeviceNumber(head.number),
+            head.kind,
+            usize::from(head.length),
+        );
+        self.end += pages;
+        self.tail = Tail::Open;
+        LogStep::Committed
+    }
+
+    // An owed gate is done.
+    fn note_gate(&mut self, head: RecHead, next: RecHead)
+        requires work { self.old.tail ≡ Tail.Owes head (Some next) }
+        ensures after { self.new ≡ after_step self.old FlashAnswer.Done }
+    {
+        self.end += pages_of(head.length, self.geometry.page);
+        self.tail = Tail::Writes {
+            head: next,
+            done: 0,
+        };
+    }
+
+    fn note_failed(&mut self)
+        requires work { IsSome (work_in self.old.tail) }
+        ensures after { self.new ≡ after_step self.old FlashAnswer.Failed }
+    {
+        match self.tail {
+            Tail::Writes { head, done } if done >= 2 => {
+                self.end += pages_of(head.length, self.geometry.page);
+                self.tail = Tail::Open;
+            }
+            _ => self.tail = Tail::Closed,
+        }
+    }
+
+    /// Gives up the record in work, if there is one: before its header nothing is left of it, behind its header its gate is
+    /// owed, and behind that gate the next record goes behind this one. A record that waits for an owed gate waits no more.
+    pub fn abandon(&mut self)
+        ensures { self.new ≡ given_up self.old }
+    {
+        match self.tail {
+            Tail::Writes { head, done } => {
+                if done == 0 {
+                    self.tail = Tail::Open;
+                } else if done == 1 {
+                    self.tail = Tail::Owes { head, next: None };
+                } else {
+                    self.end += pages_of(head.length, self.geometry.page);
+                    self.tail = Tail::Open;
+                }
+            }
+            Tail::Owes { head, .. } => self.tail = Tail::Owes { head, next: None },
+            _ => {}
+        }
+    }
+}
