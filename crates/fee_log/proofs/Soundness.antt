@@ -1,5 +1,5 @@
 -- What each change of a log keeps.
-use Rattle.std.proofs.Common.{◌≡◌, ℕ, ◌<◌, ◌≤◌, ◌+◌, ◌-◌, Bool, false, List, length, Option, Some, None, IfSome, inl, inr, refl, subst, arith}
+use Rattle.std.proofs.Common.{◌≡◌, ℕ, ◌<◌, ◌≤◌, ◌+◌, ◌-◌, false, List, Option, Some, None, inl, inr, refl, subst, arith}
 use Rattle.nv_base.specs.declared.instance.DeviceNumber.{DeviceNumber}
 use Rattle.nv_base.specs.declared.geometry.Geometry.{Geometry}
 use Rattle.nv_base.specs.Geometry.{IsLegal, HasBanks, pages_of_bank}
@@ -15,7 +15,7 @@ use Rattle.log_image.specs.May.{exactly}
 use Rattle.log_image.specs.Places.{noted, places_of}
 use Rattle.fee_log.specs.declared.tail.Tail.{Tail}
 use Rattle.fee_log.specs.declared.tail.Tail.TheVariants.{Open, Writes, Owes, Closed}
-use Rattle.fee_log.specs.Index.{with_flag, clear_flags, AreWithin}
+use Rattle.fee_log.specs.Index.{clear_flags, AreWithin}
 use Rattle.fee_log.specs.Log.{LogState, IsLogState, IsTail, IsTailSeen, IsViewOf, IsFor, pages_in, free_in, free_behind, work_in, tail_begun, begun, erased_state}
 use Rattle.fee_log.proofs.Changes.{clear_length, flag_length}
 use Rattle.fee_log.proofs.Numbers.{bounds, contained}

@@ -1,5 +1,5 @@
 -- One step of an append.
-use Rattle.std.specs.Prelude.{◌≡◌, ◌<◌, ℕ, Bool, true, false, List, [], length, Some, None}
+use Rattle.std.specs.Prelude.{◌≡◌, ◌<◌, ℕ, Bool, true, false, List, [], length, Some}
 use Rattle.std.specs.List.{All}
 use Rattle.nv_base.specs.Geometry.{address_of_page}
 use Rattle.fls_model.specs.declared.flash.FlashAnswer.{FlashAnswer}

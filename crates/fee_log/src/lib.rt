@@ -7,11 +7,13 @@
 
 mod index;
 mod log;
+mod log_laws;
 mod log_step;
 mod page;
 mod tail;
 mod walk;
 
 pub use log::Log;
+pub use log_laws::{answers_hold, loads_agree, states_follow, states_hold};
 pub use log_step::LogStep;
 pub use tail::Tail;

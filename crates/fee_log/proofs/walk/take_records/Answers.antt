@@ -1,8 +1,8 @@
-use Rattle.std.proofs.Common.{◌≡◌, ◌∷◌, [], ◌++◌, List, sym, refl, ap, ◌∙◌, subst, append_assoc, append-nil}
+use Rattle.std.proofs.Common.{◌≡◌, ◌∷◌, [], ◌++◌, List, sym, refl, ap, ◌∙◌, append_assoc, append-nil}
 use Rattle.fee_image.specs.RecordList.{Rec, records_of}
 use Rattle.fee_view.specs.View.{bank_of}
 use Rattle.fee_view.specs.Record.{rec_shown, records_in}
-use Rattle.log_image.specs.Places.{noted, places_of}
+use Rattle.log_image.specs.Places.{places_of}
 use Rattle.fee_log.proofs.Walking.{places_push}
 use Rattle.fee_log.proofs.walk.take_records.Goals as goal
 

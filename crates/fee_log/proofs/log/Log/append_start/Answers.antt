@@ -1,6 +1,5 @@
 use Rattle.std.proofs.Common.{arith}
 use Rattle.std.proofs.lemmas.List.{take_at}
-use Rattle.fee_log.proofs.Changes.{flag_length}
 use Rattle.fee_log.proofs.Soundness.{begun_sound}
 use Rattle.fee_log.proofs.log.Log.append_start.Goals as goal
 

@@ -1,4 +1,3 @@
-use Rattle.std.proofs.Common.{arith}
 use Rattle.fee_log.proofs.Soundness.{behind_sound}
 use Rattle.fee_log.proofs.log.Log.note_failed.Goals as goal
 
