@@ -75,7 +75,8 @@ again_by p o true e le =
     rw both.0 (let less : p.failures < p.retries = ltb-true p.failures p.retries both.1 in omega (arith, less), omega arith)
 again_by p o false e le = (
   omega arith,
-  last_by (is_failed o) (nat_lt p.failures p.retries) p.retries p.failures (length (failed_of p.indices p.done)) (length (failed_of p.indices (p.done ++ o ∷ [])))
+  last_by (is_failed o) (nat_lt p.failures p.retries) p.retries p.failures (length (failed_of p.indices p.done))
+      (length (failed_of p.indices (p.done ++ o ∷ [])))
       (ltb-false p.failures p.retries) e (one_more p.indices p.done o),
 )
 

@@ -1,6 +1,6 @@
 -- Runs that break the promise by what they say caused a failure or a cut.
 use Rattle.std.specs.Prelude.{Contains, unwrap_or}
-use Rattle.std.proofs.Common.{◌≡◌, ◌⊎◌, ◌+◌, ℕ, zero, suc, ◌<◌, ◌≤◌, List, [], replicate, Option, Some, None, refl, sym, ap, subst, inl, inr, arith}
+use Rattle.std.proofs.Common.{◌≡◌, ◌⊎◌, ◌+◌, ℕ, zero, suc, ◌<◌, ◌≤◌, IsTrue, List, [], take, replicate, Option, Some, None, refl, sym, ap, subst, inl, inr, arith}
 use Rattle.nv_base.specs.Count.{WereCounted}
 use Rattle.nv_base.specs.Marks.{number_of}
 use Rattle.block_machine.specs.Words.{NotOk}
@@ -13,17 +13,18 @@ use Rattle.fee_format.specs.declared.bank_head.BankHead.{BankHead}
 use Rattle.fee_image.specs.RecordList.{IsTailBlank, IsClosed, end_of}
 use Rattle.fee_image.specs.Image.{bank_in}
 use Rattle.device_bridge.specs.Image.{two_banks, HasNoRoomFor}
-use Rattle.device_bridge.specs.Bridge.{IsWornOut}
-use Rattle.run_promise.specs.Promise.{Promise, FailuresArePaid, making_of}
+use Rattle.device_bridge.specs.Bridge.{has_failed, IsWornOut}
+use Rattle.run_promise.specs.Run.{offs_of_flash}
+use Rattle.run_promise.specs.Promise.{FailuresArePaid, making_of}
 use Rattle.run_promise.proofs.WrongMarks.{only_zero}
-use Rattle.run_promise.specs.Cases.{small, image_of, taken, off_without_a_cut, worn_but_roomy, worn_and_full}
+use Rattle.run_promise.specs.Cases.{small, tried_twice, image_of, taken, off_without_a_cut, worn_but_roomy, worn_and_full}
 
-none_counted : (n : ℕ) → WereCounted n 0 0 → n ≡ 0
-none_counted n (inl is) = omega (arith, is)
-none_counted n (inr full) = omega (arith, full)
+few_counted : (n m : ℕ) → m ≤ 1 → WereCounted n 0 m → n ≤ m
+few_counted n m few (inl is) = omega (arith, is)
+few_counted n m few (inr full) = omega (arith, full, few)
 
-pub no_off_without_a_cut : Promise off_without_a_cut → ⊥
-no_off_without_a_cut p = omega (arith, none_counted 1 p.off)
+pub no_off_without_a_cut : WereCounted (offs_of_flash off_without_a_cut.course off_without_a_cut.history) 0 0 → ⊥
+no_off_without_a_cut counted = let few : 1 ≤ 0 = few_counted 1 0 (omega arith) counted in omega (arith, few)
 
 -- THE WORN BANK
 abbrev roomy : List ℕ
@@ -62,30 +63,33 @@ has_room (k, h, active, why) =
     not_full (subst Full (sym same) why)
 
 -- the job's one instance is 0
-instance_is : (j : Job) (index : ℕ) → (after small taken).hand ≡ Some j → Contains (unwrap_or (failed_set (own_of small (after small taken) 2) j (NotOk, None)) []) index → index ≡ 0
+instance_is : (j : Job) (index : ℕ) → (after tried_twice taken).hand ≡ Some j → Contains (unwrap_or (failed_set (own_of tried_twice (after tried_twice taken) 2) j (NotOk, None)) []) index → index ≡ 0
 instance_is j index hand has =
-    let is : unwrap_or (after small taken).hand j ≡ j = ap (λ (o : Option Job). unwrap_or o j) hand in
-    only_zero index (subst (λ (x : Job). Contains (unwrap_or (failed_set (own_of small (after small taken) 2) x (NotOk, None)) []) index) (sym is) has)
+    let is : unwrap_or (after tried_twice taken).hand j ≡ j = ap (λ (o : Option Job). unwrap_or o j) hand in
+    only_zero index (subst (λ (x : Job). Contains (unwrap_or (failed_set (own_of tried_twice (after tried_twice taken) 2) x (NotOk, None)) []) index) (sym is) has)
 
-not_worn : (moment index : ℕ) → moment ≤ 0 → index ≡ 0 → IsWornOut (making_of small) worn_but_roomy.flash moment (number_of (record { block = 2; index = index })) → ⊥
+none_failed : (moment : ℕ) → IsTrue (has_failed (take moment [])) → ⊥
+none_failed zero failed = cc failed
+none_failed (suc n) failed = cc failed
+
+not_worn : (moment index : ℕ) → moment ≤ 0 → index ≡ 0 → IsWornOut (making_of tried_twice) worn_but_roomy.flash moment (number_of (record { block = 2; index = index })) → ⊥
 not_worn moment index soon is worn =
-    let there : IsWornOut (making_of small) worn_but_roomy.flash moment 128 =
-    subst (λ (i : ℕ). IsWornOut (making_of small) worn_but_roomy.flash moment (number_of (record { block = 2; index = i }))) is worn in
+    let there : IsWornOut (making_of tried_twice) worn_but_roomy.flash moment 128 =
+    subst (λ (i : ℕ). IsWornOut (making_of tried_twice) worn_but_roomy.flash moment (number_of (record { block = 2; index = i }))) is worn in
     elim (there.full (omega (arith, soon))) [
       | inl full ↦ has_room full
-      | inr (inl rose) ↦ omega (arith, rose)
-      | inr (inr (end, more)) ↦ omega (arith, end)
+      | inr (rose, failed) ↦ none_failed moment failed
     ]
 
-unpaid : (n : ℕ) → n ≡ 0 → ArePaid small (IsWornOut (making_of small) worn_but_roomy.flash) n at_first worn_but_roomy.history → ⊥
+unpaid : (n : ℕ) → n ≤ 1 → ArePaid tried_twice (IsWornOut (making_of tried_twice) worn_but_roomy.flash) n at_first worn_but_roomy.history → ⊥
 unpaid n is (inr (none, rest)) = none
 unpaid n is (inl (p0, inr (none, rest))) = none
 unpaid n is (inl (p0, inl (p1, inr (none, rest)))) = none
 unpaid n is (inl (p0, inl (p1, inl (p2, inl (p3, rest))))) = omega (arith, p3, is)
 unpaid n is (inl (p0, inl (p1, inl (p2, inr ((j, hand, some, was), rest))))) = not_worn was.moment was.index was.by_then (instance_is j was.index hand was.failed) was.is
 
-pub no_worn_but_roomy : Promise worn_but_roomy → ⊥
-no_worn_but_roomy p = unpaid p.faults.faults (none_counted p.faults.faults p.faults.counted) p.faults.pay
+pub no_worn_but_roomy : FailuresArePaid worn_but_roomy → ⊥
+no_worn_but_roomy paid = unpaid paid.faults (few_counted paid.faults 1 (omega arith) paid.counted) paid.pay
 
 pub full_is_worn : FailuresArePaid worn_and_full
 full_is_worn = record {

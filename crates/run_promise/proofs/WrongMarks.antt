@@ -7,32 +7,38 @@ use Rattle.fee_image.specs.Laws.{BlankIsSound, BlankHasErased, SoundImagesComput
 use Rattle.fls_model.specs.Told.{bytes_now}
 use Rattle.device_bridge.specs.Image.{two_banks}
 use Rattle.device_bridge.specs.FlashRun.{FlashRun, TellsBytes}
-use Rattle.run_promise.specs.Promise.{Promise, found_by}
-use Rattle.run_promise.specs.Cases.{small, blank, begun, operations, made_up_mark, other_dataset, lost_write}
+use Rattle.run_promise.specs.Promise.{StartUpsFind, CutsKeep, ExitKeeps, found_by}
+use Rattle.run_promise.specs.Cases.{BreaksBy, small, blank, begun, operations, made_up_mark, other_dataset, lost_write}
 
 from_blank : (f : FlashRun) (last : List ℕ) → bytes_now f.entry ≡ Some [] → bytes_now f.exit ≡ Some last → TellsBytes f
 from_blank f last entry exit = record { first = []; entry = entry; last = last; exit = exit }
 
-pub no_made_up_mark : BlankIsSound → BlankHasErased → Promise made_up_mark → ⊥
-no_made_up_mark sound erased p =
-    let listed = p.found (from_blank made_up_mark.flash blank refl refl) (sound (two_banks small.geometry) 320) _ 0 (0, omega arith, refl) (omega arith) (record { 0 = 128 }, 4) (2, omega arith, refl) in
+no_made_up_mark : BlankHasErased → StartUpsFind made_up_mark → ⊥
+no_made_up_mark erased finds =
+    let listed = finds _ 0 (0, omega arith, refl) (omega arith) (record { 0 = 128 }, 4) (2, omega arith, refl) in
     let none : found_by small blank 128 ≡ Erased = erased (two_banks small.geometry) 320 128 4 in
     cc (listed ∙ none)
+
+pub made_up_mark_breaks : BlankIsSound → BlankHasErased → BreaksBy made_up_mark (StartUpsFind made_up_mark)
+made_up_mark_breaks sound erased = (λ p. p.found (from_blank made_up_mark.flash blank refl refl) (sound (two_banks small.geometry) 320), no_made_up_mark erased)
 
 pub only_zero : (n : ℕ) → Contains (0 ∷ []) n → n ≡ 0
 only_zero n (zero, few, is) = sym is
 only_zero n (suc k, few, is) = omega (arith, few)
 
 -- no Pick took it for dataset 1
-pub no_other_dataset : BlankIsSound → Promise other_dataset → ⊥
-no_other_dataset sound p =
-    let keeps = p.at_exit (from_blank other_dataset.flash _ refl refl) (sound (two_banks small.geometry) 320) tt (omega arith) in
+no_other_dataset : ExitKeeps other_dataset → ⊥
+no_other_dataset exit =
+    let keeps = exit tt (omega arith) in
     elim (keeps.marks.accepted (record { 0 = 129 }, 4) (3, omega arith, refl)).brought [
       | inl found ↦ cc found
       | inr (inl none) ↦ none
       | inr (inr (inl took)) ↦ omega (arith, only_zero 1 took.index)
       | inr (inr (inr none)) ↦ none
     ]
+
+pub other_dataset_breaks : BlankIsSound → BreaksBy other_dataset (ExitKeeps other_dataset)
+other_dataset_breaks sound = (λ p. p.at_exit (from_blank other_dataset.flash _ refl refl) (sound (two_banks small.geometry) 320), no_other_dataset)
 
 zeros : (n : ℕ) → AreBytes (replicate n 0)
 zeros zero k = omega arith
@@ -56,11 +62,18 @@ written = begun 4
 abbrev torn : List ℕ
 torn = replicate 16 0 ++ drop 16 written
 
-pub no_lost_write : SoundImagesCompute → Promise lost_write → ⊥
-no_lost_write computes p =
-    let keeps = p.power_cut (record { bytes = record { first = begun 0; entry = refl; last = begun 4; exit = refl }; changes = operations; told = refl }) ((computes (two_banks small.geometry) (begun 0)).0 refl) 4 torn (omega arith)
+no_lost_write : CutsKeep lost_write → ⊥
+no_lost_write cuts =
+    let keeps = cuts 4 torn (omega arith)
     (_, refl, (record { size = refl; front = refl; back = refl }, λ were. joined_bytes (replicate 16 0) (drop 16 written) (zeros 16) (dropped_bytes 16 written were))) in
     elim (keeps.marks.stands (record { 0 = 128 }, 4) (2, omega arith, refl)) [
       | inl is ↦ cc is
       | inr (k, few, is) ↦ omega (arith, few)
     ]
+
+pub lost_write_breaks : SoundImagesCompute → BreaksBy lost_write (CutsKeep lost_write)
+lost_write_breaks computes = (
+  λ p. p.power_cut (record { bytes = record { first = begun 0; entry = refl; last = begun 4; exit = refl }; changes = operations; told = refl })
+      ((computes (two_banks small.geometry) (begun 0)).0 refl),
+  no_lost_write,
+)

@@ -15,6 +15,7 @@ use Rattle.nvm_script.specs.declared.step.StepKind.TheVariants.{Ask as AskStep, 
 use Rattle.block_machine.specs.Words.{Fine, NotOk, Content, Write, SetLock, Status, Accepted, StatusIs, WriteJob, TookContent, TookStale, Entry, Ask, Pick, Wrote, Post, Off, Found, BlockDesc, Dataset, Sync, Configuration}
 use Rattle.device_bridge.specs.FlashRun.{FlashRun}
 use Rattle.run_promise.specs.Call.{Call}
+use Rattle.run_promise.specs.Promise.{Promise}
 use Rattle.run_promise.specs.Run.{Run, Played, Ran, Whole, HistoryFull, Memory}
 
 -- IMAGES
@@ -43,9 +44,14 @@ abbrev pub two : List ℕ
 two = 0x55 ∷ 0x66 ∷ 0x77 ∷ 0x88 ∷ []
 
 -- RUNS
+-- the promise says this of a run, and it doesn't hold
+abbrev pub BreaksBy : Run → Type 0 → Type 0
+BreaksBy r P = (Promise r → P) × (P → ⊥)
+
 -- a flash of the small shape with these bytes, and the changes since it was attached
 abbrev pub tells : List ℕ → Option (List Change) → Told
-tells bytes changes = record { geometry = small.geometry; bytes = Some (record { now = bytes; changes = changes }); ops = 0; faults = 0; cuts = 0; off = false; planning = no_planning }
+tells now all =
+    record { geometry = small.geometry; bytes = Some (record { now = now; changes = all }); ops = 0; faults = 0; cuts = 0; off = false; planning = no_planning }
 
 -- no operation reaches the flash
 abbrev pub unchanged : List ℕ → List ℕ → FlashRun
@@ -116,9 +122,15 @@ other_dataset =
     record (plays (asks_one ∷ (Turn 1, picks_one ∷ []) ∷ []) (unchanged [] (image_of 1 (record_of 129 one ++ replicate 64 255))))
     { configuration = with_block_2 (record (plain_block 4) { kind = Dataset; nv = 2 }) }
 
--- a write fails without a fault on this image
+-- a write that is tried twice fails on this image, with one fault and none of an operation
+abbrev pub tried_twice : Configuration
+tried_twice = with_block_2 (record (plain_block 4) { writes = 1 })
+
 abbrev pub failed_on : List ℕ → Run
-failed_on image = plays (asks_one ∷ (Drain, picks_one ∷ Post 2 NotOk None 0 0 ∷ []) ∷ []) (unchanged image image)
+failed_on image =
+    let flash = unchanged image image in
+    record (plays (asks_one ∷ (Drain, picks_one ∷ Post 2 NotOk None 0 0 ∷ []) ∷ []) (record flash { exit = record flash.exit { faults = 1 } }))
+    { configuration = tried_twice }
 
 -- the active bank has the last generation, and room for the record
 abbrev pub worn_but_roomy : Run
@@ -184,4 +196,5 @@ demo_run = record quiet { configuration = demo_config }
 
 abbrev pub demo_call : ℕ → List ℕ → Call
 demo_call status text =
-    record { mode = mode.Play; input = Some (codes "@demo"); status = status; entry = demo_run.flash.entry; exit = demo_run.flash.exit; written = Some []; written_after = Some text }
+    let f = demo_run.flash in
+    record { mode = mode.Play; input = Some (codes "@demo"); status = status; entry = f.entry; exit = f.exit; written = Some []; written_after = Some text }

@@ -45,7 +45,8 @@ is_restart kind = false
 abbrev pub entries_within : ℕ → List Step → List (List Entry) → Option (List Entry)
 entries_within n (x ∷ xs) (p ∷ ps) =
     if is_restart x.kind then None
-    else (if is_drain x.kind || nat_lt 0 n && nat_le n (turns_of x.kind) then Some p else option_map (λ es. p ++ es) (entries_within (n - turns_of x.kind) xs ps))
+    else (if is_drain x.kind || nat_lt 0 n && nat_le n (turns_of x.kind) then Some p
+    else option_map (λ es. p ++ es) (entries_within (n - turns_of x.kind) xs ps))
 entries_within n xs ps = None
 
 -- a job of this block is posted in these entries, or another Pick interrupts it

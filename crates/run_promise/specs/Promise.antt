@@ -30,6 +30,14 @@ StartUpsFind r =
     (marks : List (Instance × Mark)) (ops : ℕ) → Contains r.history (Found marks ops) → ops < last_count
     → IfSome (bytes_after r.flash ops) (λ image. Lists r.configuration marks (found_by r.configuration image))
 
+-- each image that a power cut may leave keeps to the history up to then
+abbrev pub CutsKeep : Run → Type 0
+CutsKeep r = (k : ℕ) (image : List ℕ) → k < last_count → IsCutImage r.flash k image → Keeps r.configuration (up_to k r.history) image
+
+-- the bytes at the exit keep to the whole history
+abbrev pub ExitKeeps : Run → Type 0
+ExitKeeps r = HasStarted r.history → length r.flash.operations < last_count → IfSome (bytes_now r.flash.exit) (Keeps r.configuration r.history)
+
 -- the device is made for this configuration
 abbrev pub making_of : Configuration → Making
 making_of c = record { geometry = c.geometry; numbers = lengths_of c; reserve = (measures_of c.geometry.page c.blocks).urgent }
@@ -43,11 +51,9 @@ pub record Promise (r : Run) : Type 0 where
   pub order : HasOrder r r.history
   -- and a power cut before or within any flash operation, start-up finds in each stored instance one whole accepted mark,
   -- not older than the last acknowledged by then;
-  pub power_cut : TellsOperations r.flash → StartsSound r.configuration.geometry r.flash → (k : ℕ) (image : List ℕ) → k < last_count
-      → IsCutImage r.flash k image → Keeps r.configuration (up_to k r.history) image
+  pub power_cut : TellsOperations r.flash → StartsSound r.configuration.geometry r.flash → CutsKeep r
   pub found : TellsBytes r.flash → StartsSound r.configuration.geometry r.flash → StartUpsFind r
-  pub at_exit : TellsBytes r.flash → StartsSound r.configuration.geometry r.flash → HasStarted r.history → length r.flash.operations < last_count
-      → IfSome (bytes_now r.flash.exit) (Keeps r.configuration r.history)
+  pub at_exit : TellsBytes r.flash → StartsSound r.configuration.geometry r.flash → ExitKeeps r
   -- every reply, choice and result is the block machine's over the one history;
   pub block_machine : IsLegal r.configuration cap r.history
   -- a failure result comes only from counted faults, refused copies or what the flash holds written.

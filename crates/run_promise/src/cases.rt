@@ -6,10 +6,10 @@ ghost use Rattle.block_machine.specs.Legal.{IsLegal};
 ghost use Rattle.block_promise.specs.OverDevice.{BeginsBefore, TellsAtMost, HasOffAt};
 ghost use Rattle.device_bridge.specs.FlashRun.{AreOperations};
 ghost use Rattle.run_promise.specs.Run.{cap, HasOrder, RefusalsExplain, has_cutter, offs_of_flash};
-ghost use Rattle.run_promise.specs.Promise.{Promise, Keeps, StartUpsFind, FailuresArePaid};
+ghost use Rattle.run_promise.specs.Promise.{Promise, StartUpsFind, CutsKeep, ExitKeeps, FailuresArePaid};
 ghost use Rattle.run_promise.specs.Call.{IsRunOf, text_of};
 ghost use Rattle.run_promise.specs.Completeness.{Completeness};
-ghost use Rattle.run_promise.specs.Cases.{small, quiet, wiped, empty_at_11, made_up_mark, off_without_a_cut, stale_in_play, invented_store, second_found, other_dataset, worn_but_roomy, worn_and_full, kept_write, begun, lost_write, two_callers, written_at, turned, not_drained, demo_run, demo_call};
+ghost use Rattle.run_promise.specs.Cases.{BreaksBy, small, quiet, wiped, empty_at_11, made_up_mark, off_without_a_cut, stale_in_play, invented_store, second_found, other_dataset, worn_but_roomy, worn_and_full, kept_write, lost_write, two_callers, written_at, turned, not_drained, demo_run, demo_call};
 
 use fee_image::{blank_images, images_compute, soundness_computes, torn_erases_keep_soundness};
 
@@ -25,39 +25,39 @@ pub fn runs_that_keep_it()
     torn_erases_keep_soundness();
 }
 
-/// A run that wipes the flash or ends with a full history before a start-up breaks it, and so does one that takes an old
-/// copy or one that nobody stored, or that starts twice beside its callers: by its order.
+/// A run that wipes the flash or ends with a full history before a start-up breaks it by its order, and so does one that
+/// takes an old copy or one that nobody stored, or that starts twice beside its callers.
 pub fn wrong_orders_break_it()
-    ensures wiped { Promise wiped → ⊥ }
-    ensures empty_at_11 { Promise empty_at_11 → ⊥ }
-    ensures stale_in_play { Promise stale_in_play → ⊥ }
-    ensures invented_store { Promise invented_store → ⊥ }
-    ensures second_found { Promise second_found → ⊥ }
+    ensures wiped { BreaksBy wiped (HasOrder wiped wiped.history) }
+    ensures empty_at_11 { BreaksBy empty_at_11 (HasOrder empty_at_11 empty_at_11.history) }
+    ensures stale_in_play { BreaksBy stale_in_play (HasOrder stale_in_play stale_in_play.history) }
+    ensures invented_store { BreaksBy invented_store (HasOrder invented_store invented_store.history) }
+    ensures second_found { BreaksBy second_found (HasOrder second_found second_found.history) }
 {}
 
-/// A start-up that finds what was never written breaks it, and an image that holds a mark in another dataset than the one
-/// that was written.
+/// A start-up that lists what was never written breaks it by what start-ups find, and an image that holds a mark in another
+/// dataset than the one that was written by what the exit keeps.
 pub fn wrong_marks_break_it()
-    ensures made_up_mark { Promise made_up_mark → ⊥ }
-    ensures other_dataset { Promise other_dataset → ⊥ }
+    ensures made_up_mark { BreaksBy made_up_mark (StartUpsFind made_up_mark) }
+    ensures other_dataset { BreaksBy other_dataset (ExitKeeps other_dataset) }
 {
     blank_images();
 }
 
-/// A power cut that nothing brought breaks it, and a failure without a fault over a bank of the last generation that has
-/// room. Over one that has none the failure is paid.
+/// A power cut that nothing brought breaks it by its cuts, and a failure with a fault too few, over a bank of the last
+/// generation that has room, by its faults. Over one that has none the failure is paid.
 pub fn wrong_causes_break_it()
-    ensures off_without_a_cut { Promise off_without_a_cut → ⊥ }
-    ensures worn_but_roomy { Promise worn_but_roomy → ⊥ }
+    ensures off_without_a_cut { BreaksBy off_without_a_cut (WereCounted 1 0 0) }
+    ensures worn_but_roomy { BreaksBy worn_but_roomy (FailuresArePaid worn_but_roomy) }
     ensures worn_and_full { FailuresArePaid worn_and_full }
 {}
 
 /// A run that may lose an acknowledged write at a cut breaks it, and by its power cut alone: all other fields hold.
 pub fn a_lost_write_breaks_it()
-    ensures breaks { Promise lost_write → ⊥ }
+    ensures breaks { BreaksBy lost_write (CutsKeep lost_write) }
     ensures order { HasOrder lost_write lost_write.history }
     ensures found { StartUpsFind lost_write }
-    ensures at_exit { Keeps small lost_write.history (begun 4) }
+    ensures at_exit { ExitKeeps lost_write }
     ensures block_machine { IsLegal small cap lost_write.history }
     ensures faults { FailuresArePaid lost_write }
     ensures refusals { (id : ℕ) → RefusalsExplain small lost_write.course lost_write.history id }

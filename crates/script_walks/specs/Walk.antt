@@ -122,9 +122,6 @@ IsWalkOf c steps pieces [] = (steps ≡ []) × (pieces ≡ [])
 IsWalkOf c steps pieces (Found marks ops ∷ es) = (es ≡ joined pieces) × IsWalkBy c [] (after c (Found marks ops ∷ [])) steps pieces
 IsWalkOf c steps pieces (e ∷ es) = ⊥
 
-abbrev pub IsWalk : Configuration → List Step → List Entry → Type 0
-IsWalk c steps h = (pieces : List (List Entry)) × IsWalkOf c steps pieces h
-
 -- a walk with the piece of one more step behind it is a walk
 abbrev pub WalksGrow : Type 0
 WalksGrow =

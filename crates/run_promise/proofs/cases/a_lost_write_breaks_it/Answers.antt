@@ -1,9 +1,9 @@
 use Rattle.run_promise.proofs.LostWrite as law
-use Rattle.run_promise.proofs.WrongMarks.{no_lost_write}
+use Rattle.run_promise.proofs.WrongMarks.{lost_write_breaks}
 use Rattle.run_promise.proofs.cases.a_lost_write_breaks_it.Goals as goal
 
 pub returns-clause-breaks : goal.returns-clause-breaks
-returns-clause-breaks c = no_lost_write c.soundness_computes.ensures
+returns-clause-breaks c = lost_write_breaks c.soundness_computes.ensures
 
 pub returns-clause-order : goal.returns-clause-order
 returns-clause-order c = law.keeps_order
@@ -12,7 +12,7 @@ pub returns-clause-found : goal.returns-clause-found
 returns-clause-found c = law.start_ups_find
 
 pub returns-clause-at_exit : goal.returns-clause-at_exit
-returns-clause-at_exit c = law.exit_keeps c.soundness_computes.ensures
+returns-clause-at_exit c = λ started few. law.exit_keeps c.soundness_computes.ensures
 
 pub returns-clause-block_machine : goal.returns-clause-block_machine
 returns-clause-block_machine c = law.is_legal
