@@ -1,0 +1,60 @@
+-- The flags of the numbers, beside their places.
+use Rattle.std.specs.Prelude.{◌≡◌, ◌==◌, ◌&&◌, not, if◌then◌else◌, ℕ, Bool, true, false, IsTrue, List, [], ◌∷◌, map}
+use Rattle.nv_base.specs.declared.instance.DeviceNumber.{DeviceNumber}
+use Rattle.fee_format.specs.declared.rec_head.RecHead.{RecHead}
+use Rattle.log_image.specs.declared.place.Place.{Place}
+use Rattle.log_image.specs.declared.place.Place.TheVariants.{Erased}
+use Rattle.log_image.specs.Log.{Tail, Writes}
+use Rattle.log_image.specs.May.{mark_written}
+use Rattle.log_image.specs.Step.{is_last}
+use Rattle.bank_image.specs.Banks.{Banks}
+use Rattle.bank_image.specs.Copies.{Flag, is_erased, is_done, copied_of, cleared, settled_at, marked, Each, Copies}
+
+-- the target may show what the flags say
+abbrev pub flagged : Banks → List Flag → Banks
+flagged s fs = record s { copied = copied_of fs }
+
+abbrev pub is_erased_at : Place → Bool
+is_erased_at Erased = true
+is_erased_at _ = false
+
+-- these flags are those of the numbers with their places: a settled mark is erased exactly where its place is
+abbrev pub AreFlagsOf : List (DeviceNumber × ℕ) → List Place → List Bool → List Flag → Type 0
+AreFlagsOf [] [] [] [] = Unit {0}
+AreFlagsOf (n ∷ ns) (place ∷ places) (done ∷ copied) (f ∷ fs) =
+    (f.number ≡ n.0.0) × (f.length ≡ n.1) × (f.copied ≡ done) × (is_erased f.settled ≡ is_erased_at place) × AreFlagsOf ns places copied fs
+AreFlagsOf _ _ _ _ = ⊥
+
+-- a copy is left to make of a number
+abbrev pub IsOpenFor : ℕ → List Flag → Type 0
+IsOpenFor number fs = Each (λ f. IsTrue (f.number == number) → is_done f ≡ false) fs
+
+-- no number is copied
+abbrev pub all_clear : List Flag → List Flag
+all_clear fs = map {A = Flag} (λ f. record f { copied = false }) fs
+
+-- A COPY
+-- the record in work copies the settled mark of its number, or, where it sets no flag, a copy of that is left to make
+abbrev pub CopiesOrNot : Bool → RecHead → List ℕ → List Flag → Type 0
+CopiesOrNot true h body fs = Each (Copies h body) fs
+CopiesOrNot false h body fs = IsOpenFor h.number fs
+
+abbrev pub IsCopyOf : Bool → Tail → List Flag → Type 0
+IsCopyOf sets (Writes h body done) fs = CopiesOrNot sets h body fs
+IsCopyOf sets _ fs = Unit {0}
+
+-- its last page sets the flag
+abbrev pub flags_copied : ℕ → Bool → Tail → List Flag → List Flag
+flags_copied p sets (Writes h body done) fs = if is_last p h done && sets then marked h.number fs else fs
+flags_copied p sets _ fs = fs
+
+-- AN APPEND
+-- the record in work has a content or an invalidated mark, and its number's flag is clear
+abbrev pub IsAppendTo : Tail → List Flag → Type 0
+IsAppendTo (Writes h body done) fs = IsTrue (not (is_erased (mark_written h body))) × (cleared h.number fs ≡ fs)
+IsAppendTo _ fs = Unit {0}
+
+-- its last page settles its mark
+abbrev pub flags_appended : ℕ → Tail → List Flag → List Flag
+flags_appended p (Writes h body done) fs = if is_last p h done then settled_at h.number (mark_written h body) fs else fs
+flags_appended p _ fs = fs

@@ -1,0 +1,20 @@
+// Laws: appends to the old bank beside a switch. Their function does nothing.
+ghost use Rattle.switch_image.specs.Laws.{FlagsMayClear, AppendsMayBegin, AppendedPagesHold};
+
+use bank_image::{doubts_compute, flags_tell_copies, logs_go_on, pages_hold};
+use log_image::{logs_begin, memory_alone};
+
+/// A record begins in the old bank, which clears its number's flag. Each page of it that is done is held, the last one with
+/// its mark settled.
+pub fn appends_keep_banks()
+    ensures clear { FlagsMayClear }
+    ensures begin { AppendsMayBegin }
+    ensures page { AppendedPagesHold }
+{
+    flags_tell_copies();
+    doubts_compute();
+    logs_go_on();
+    pages_hold();
+    logs_begin();
+    memory_alone();
+}
