@@ -38,12 +38,12 @@ abbrev pub wanted_pages : Making → ℕ → ℕ
 wanted_pages m n = record_pages_of (unwrap_or (length_of m.numbers n) 0) m.geometry.page + m.reserve
 
 -- Once k operations were made a device is worn out for a number, which it stays: the active bank has the last generation,
--- at the end still, nothing is erased from then on, and a record has no room, or an operation failed before, which closed
--- the bank.
+-- at the end still, nothing is erased from then on, and a record has no room in the bytes, where they are told, or an
+-- operation failed before, which closed the bank.
 pub record IsWornOut (m : Making) (f : FlashRun) (k n : ℕ) : Type 0 where
   pub last : IfSome (bytes_now f.exit) (IsOfLastGeneration m.geometry)
   pub no_erase : k < last_count → IsTrue (list_all (λ x. is_program x.op) (drop k f.operations))
-  pub full : k < last_count → IfSome (bytes_after f k) (HasNoRoomFor (wanted_pages m n) m.geometry)
+  pub full : TellsBytes f → k < last_count → IfSome (bytes_after f k) (HasNoRoomFor (wanted_pages m n) m.geometry)
       ⊎ (Rose f.entry.faults f.exit.faults × IsTrue (has_failed (take k f.operations)))
 
 -- What a device over a flash tells is so: its part before the first start-up and now, its clock now. A `cutter` between

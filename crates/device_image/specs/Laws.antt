@@ -17,7 +17,8 @@ use Rattle.log_image.specs.Places.{noted}
 use Rattle.log_image.specs.May.{May, IsWider, settling, mark_written}
 use Rattle.bank_image.specs.Banks.{Old, NoBank, OldBank, Banks, Holds}
 use Rattle.bank_image.specs.Laws.{found_alone, program_of, erase_of}
-use Rattle.device_image.specs.Slots.{Memory, banks_with, HasJob, slots_held, slots_found, settled_in, settled_at, held_of, may_of, may_told, AreCopied, IsCopied}
+use Rattle.device_image.specs.Slots.{Memory, banks_with, HasJob, slots_held, slots_found, settled_in, settled_at, held_of, may_of, may_told}
+use Rattle.device_image.specs.Slots.{AreCopied, IsCopied}
 
 -- WHAT IS TOLD HOLDS
 -- the bytes hold the banks, with no more that may be found than is told

@@ -1,2 +1,4 @@
+pub mod Clock
+pub mod Device
 pub mod Laws
 pub mod Slots

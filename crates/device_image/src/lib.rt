@@ -5,8 +5,10 @@
 //! device must. The program of the device, and what its turns cost, are left to the crates above.
 #![tactic(auto)]
 
+mod clock_laws;
 mod mark_laws;
 mod place_laws;
 
+pub use clock_laws::clocks_tick;
 pub use mark_laws::{jobs_doubt, marks_are_found, marks_stay, starts_settle};
 pub use place_laws::places_stay;

@@ -76,7 +76,7 @@ not_worn : (moment index : ℕ) → moment ≤ 0 → index ≡ 0 → IsWornOut (
 not_worn moment index soon is worn =
     let there : IsWornOut (making_of tried_twice) worn_but_roomy.flash moment 128 =
     subst (λ (i : ℕ). IsWornOut (making_of tried_twice) worn_but_roomy.flash moment (number_of (record { block = 2; index = i }))) is worn in
-    elim (there.full (omega (arith, soon))) [
+    elim (there.full (record { first = _; entry = refl; last = _; exit = refl }) (omega (arith, soon))) [
       | inl full ↦ has_room full
       | inr (rose, failed) ↦ none_failed moment failed
     ]
@@ -111,7 +111,7 @@ full_is_worn = record {
               failed = (0, omega arith, refl);
               moment = 0;
               by_then = omega arith;
-              is = record { last = (0, _, refl, refl); no_erase = λ few. refl; full = λ few. inl (0, _, refl, inr (omega arith)) };
+              is = record { last = (0, _, refl, refl); no_erase = λ few. refl; full = λ told few. inl (0, _, refl, inr (omega arith)) };
             },
           ),
           tt,

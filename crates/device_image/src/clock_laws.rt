@@ -1,0 +1,12 @@
+// Laws: what is told by the operations of the flash. Their function does nothing.
+ghost use Rattle.device_image.specs.Clock.{ClocksStay, ClocksPass, ClocksTick, ClocksFindNow, WornNow};
+
+/// Without an operation the clock stays. An operation adds no map to an earlier moment, and its own are possible where each
+/// image that a cut of it may leave is. What a start-up would find now is possible where the bytes are.
+pub fn clocks_tick()
+    ensures stay { ClocksStay }
+    ensures pass { ClocksPass }
+    ensures tick { ClocksTick }
+    ensures now { ClocksFindNow }
+    ensures worn { WornNow }
+{}
