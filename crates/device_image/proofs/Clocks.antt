@@ -32,7 +32,7 @@ get_end : {X : Type 0} (xs : List X) → slice_get xs (length xs) ≡ None
 get_end [] = refl
 get_end (y ∷ xs) = get_end xs
 
-get_below : {X : Type 0} (xs : List X) (k : ℕ) (x : X) → slice_get xs k ≡ Some x → k < length xs
+pub get_below : {X : Type 0} (xs : List X) (k : ℕ) (x : X) → slice_get xs k ≡ Some x → k < length xs
 get_below [] k x is = cc
 get_below (y ∷ xs) zero x is = omega arith
 get_below (y ∷ xs) (suc k) x is = let lt : k < length xs = get_below xs k x is in omega arith
@@ -47,7 +47,7 @@ pub record IsTold (o : Option (List ℕ)) : Type 0 where
   pub bytes : List ℕ
   pub is : o ≡ Some bytes
 
-abbrev now_of : ToldBytes → List ℕ
+abbrev pub now_of : ToldBytes → List ℕ
 now_of b = b.now
 
 alike_told : (g : Geometry) (first now : Option ToldBytes) → IfBothTold first now (λ a b. Unit {0}) → IsTrue (is_told_sound g (option_map now_of first)) → IsTold (option_map now_of now)
@@ -75,7 +75,7 @@ possible_by : (d : Device) (o : Option (List Slot)) (m : ℕ → Held) → ((slo
 possible_by d None m holds = tt
 possible_by d (Some slots) m holds = λ n part. holds slots refl n
 
-some_is : {A : Type 0} (x y : A) → Some x ≡ Some y → x ≡ y
+pub some_is : {A : Type 0} (x y : A) → Some x ≡ Some y → x ≡ y
 some_is x y e = cc e
 
 pub possible_in : (d : Device) (bytes image : List ℕ) (m : ℕ → Held) → IsTrue (tells d) → bytes_now d.flash ≡ Some bytes → ImageIsPossible d bytes image → IsMapOf d image m → ArePossible First (told_of d) (slots_told d) m
@@ -99,7 +99,7 @@ clocks_find_now d holds Second m finds = absurd finds
 pub same_part : (c : PartClock) → SamePart c c
 same_part c = record { may_find = λ w m. (λ is. is, λ is. is); off_in = λ k. (λ is. is, λ is. is); worn = λ k n. (λ is. is, λ is. is) }
 
-tells_of : (d t : Device) → t.making ≡ d.making → t.entry ≡ d.entry → tells t ≡ tells d
+pub tells_of : (d t : Device) → t.making ≡ d.making → t.entry ≡ d.entry → tells t ≡ tells d
 tells_of d t making entry = λ i. is_told_sound (making i).geometry (bytes_now (entry i))
 
 map_of : (d t : Device) (image : List ℕ) (m : ℕ → Held) → t.making ≡ d.making → IsMapOf t image m → IsMapOf d image m
@@ -198,13 +198,13 @@ module _ (op : Op) (answer : FlashAnswer) (d t : Device) (alike : ToldAlike d) (
   abbrev count : ℕ
   count = length d.operations
 
-  one_more : length t.operations ≡ count + 1
+  pub one_more : length t.operations ≡ count + 1
   one_more = ap (length {A = Change}) makes.operations ∙ length-append d.operations (change ∷ [])
 
-  early : (k : ℕ) → k < count → slice_get t.operations k ≡ slice_get d.operations k
+  pub early : (k : ℕ) → k < count → slice_get t.operations k ≡ slice_get d.operations k
   early k lt = ap (λ (l : List Change). slice_get l k) makes.operations ∙ get_front d.operations change k lt
 
-  last : slice_get t.operations count ≡ Some change
+  pub last : slice_get t.operations count ≡ Some change
   last = ap (λ (l : List Change). slice_get l count) makes.operations ∙ get_last d.operations change
 
   -- the bytes before its operation are those of now
@@ -253,7 +253,7 @@ module _ (op : Op) (answer : FlashAnswer) (d t : Device) (alike : ToldAlike d) (
   }
 
   -- where it is told at the end, it was before
-  told_before : (x y : Option ToldBytes) (bytes : List ℕ) → IfBothTold x y (IsChanged op answer) → option_map now_of y ≡ Some bytes → IsTold (option_map now_of x)
+  pub told_before : (x y : Option ToldBytes) (bytes : List ℕ) → IfBothTold x y (IsChanged op answer) → option_map now_of y ≡ Some bytes → IsTold (option_map now_of x)
   told_before (Some x) (Some y) bytes both is = record { bytes = x.now; is = refl }
   told_before (Some x) None bytes both is = absurd both
   told_before None (Some y) bytes both is = absurd both

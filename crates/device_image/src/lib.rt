@@ -8,7 +8,9 @@
 mod clock_laws;
 mod mark_laws;
 mod place_laws;
+mod run_laws;
 
 pub use clock_laws::clocks_tick;
 pub use mark_laws::{jobs_doubt, marks_are_found, marks_stay, starts_settle};
 pub use place_laws::places_stay;
+pub use run_laws::{runs_bridge, runs_go_on};
