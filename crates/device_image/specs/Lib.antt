@@ -1,5 +1,2 @@
-pub mod Clock
-pub mod Device
 pub mod Laws
-pub mod Runs
 pub mod Slots

@@ -11,8 +11,8 @@ use Rattle.fls_model.specs.Told.{Told, bytes_now, changes_in}
 use Rattle.device_bridge.specs.Bridge.{Bridges, is_program}
 use Rattle.device_bridge.specs.FlashRun.{TellsBytes, IsChain, IsCutImage}
 use Rattle.device_bridge.specs.Image.{IsSoundFlash, IsOfLastGeneration, attached}
-use Rattle.device_image.specs.Device.{WornSince, Device, run_of, tells, part_of}
-use Rattle.device_image.specs.Clock.{clock_of, MakesNone, Makes, ToldAlike}
+use Rattle.device_clock.specs.Device.{WornSince, Device, run_of, tells, part_of}
+use Rattle.device_clock.specs.Clock.{clock_of, MakesNone, Makes, ToldAlike}
 
 -- a flash counts each cut that no plan asked for
 abbrev pub CountsCuts : Told → Told → Type 0

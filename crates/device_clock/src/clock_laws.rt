@@ -1,5 +1,5 @@
 // Laws: what is told by the operations of the flash. Their function does nothing.
-ghost use Rattle.device_image.specs.Clock.{ClocksStay, ClocksPass, ClocksTick, ClocksFindNow, WornNow};
+ghost use Rattle.device_clock.specs.Clock.{ClocksStay, ClocksPass, ClocksTick, ClocksFindNow, WornNow};
 
 /// Without an operation the clock stays. An operation adds no map to an earlier moment, and its own are possible where each
 /// image that a cut of it may leave is. What a start-up would find now is possible where the bytes are.

@@ -1,5 +1,5 @@
 // Laws: a device and its flash. Their functions do nothing.
-ghost use Rattle.device_image.specs.Runs.{RunsBridge, RunsBegin, RunsStay, RunsGoOn};
+ghost use Rattle.device_clock.specs.Runs.{RunsBridge, RunsBegin, RunsStay, RunsGoOn};
 
 use fee_image::soundness_computes;
 

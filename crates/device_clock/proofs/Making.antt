@@ -17,11 +17,11 @@ use Rattle.fee_image.specs.Sound.{IsSoundImage}
 use Rattle.device_bridge.specs.Bridge.{Making, is_program}
 use Rattle.device_bridge.specs.FlashRun.{TellsBytes, IsChain, IsCutImage}
 use Rattle.device_bridge.specs.Image.{two_banks, attached, IsSoundFlash, IsOfLastGeneration}
-use Rattle.device_image.specs.Device.{WornSince, Device, run_of, tells}
-use Rattle.device_image.specs.Clock.{MakesNone, Makes, change_of}
-use Rattle.device_image.specs.Runs.{CountsCuts, IsWornSince, HasRun, RunsBegin, KeepsRun, RunsStay, counts_fault, LeavesSound, KeepsWorn, RunsGoOn}
-use Rattle.device_image.proofs.Clocks.{some_if, if_some, IsTold, now_of, told_now, tells_of, early, last, one_more, get_below, some_is, told_before, before_is}
-use Rattle.device_image.proofs.Runs.{told_sound}
+use Rattle.device_clock.specs.Device.{WornSince, Device, run_of, tells}
+use Rattle.device_clock.specs.Clock.{MakesNone, Makes, change_of}
+use Rattle.device_clock.specs.Runs.{CountsCuts, IsWornSince, HasRun, RunsBegin, KeepsRun, RunsStay, counts_fault, LeavesSound, KeepsWorn, RunsGoOn}
+use Rattle.device_clock.proofs.Clocks.{some_if, if_some, IsTold, now_of, told_now, tells_of, early, last, one_more, get_below, some_is, told_before, before_is}
+use Rattle.device_clock.proofs.Runs.{told_sound}
 
 -- IT IS MADE
 twice : (n : ℕ) (bytes : List ℕ) → enlarged n (enlarged n bytes) ≡ enlarged n bytes

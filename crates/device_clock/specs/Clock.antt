@@ -14,7 +14,7 @@ use Rattle.fls_model.specs.Told.{Told, Change, IfBothTold, bytes_now}
 use Rattle.device_bridge.specs.Bridge.{wanted_pages}
 use Rattle.device_bridge.specs.FlashRun.{TellsBytes, IsCutImage, bytes_after}
 use Rattle.device_bridge.specs.Image.{HasNoRoomFor, held_in}
-use Rattle.device_image.specs.Device.{WornSince, Device, run_of, tells, slots_in, part_of, told_of}
+use Rattle.device_clock.specs.Device.{WornSince, Device, run_of, tells, slots_in, part_of, told_of}
 
 -- THE CLOCK
 -- a map is what a start-up finds in an image

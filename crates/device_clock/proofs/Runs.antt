@@ -10,10 +10,10 @@ use Rattle.fee_image.specs.Laws.{SoundImagesCompute}
 use Rattle.device_bridge.specs.Bridge.{is_program, IsWornOut}
 use Rattle.device_bridge.specs.FlashRun.{TellsBytes, StartsSound, HasSamePlace, AreSeen, bytes_after}
 use Rattle.device_bridge.specs.Image.{two_banks, attached, IsSoundFlash}
-use Rattle.device_image.specs.Device.{Device, run_of, is_told_sound, tells}
-use Rattle.device_image.specs.Clock.{IsWornFor}
-use Rattle.device_image.specs.Runs.{HasRun, RunsBridge}
-use Rattle.device_image.proofs.Clocks.{some_if, if_some}
+use Rattle.device_clock.specs.Device.{Device, run_of, is_told_sound, tells}
+use Rattle.device_clock.specs.Clock.{IsWornFor}
+use Rattle.device_clock.specs.Runs.{HasRun, RunsBridge}
+use Rattle.device_clock.proofs.Clocks.{some_if, if_some}
 
 -- THE BRIDGE
 sound_told : SoundImagesCompute → (d : Device) → TellsBytes (run_of d) → StartsSound d.making.geometry (run_of d) → IsTrue (tells d)

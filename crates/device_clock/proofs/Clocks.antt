@@ -15,8 +15,8 @@ use Rattle.fls_model.specs.Told.{ToldBytes, Change, IfBothTold, bytes_now}
 use Rattle.device_bridge.specs.Bridge.{Making, wanted_pages}
 use Rattle.device_bridge.specs.FlashRun.{TellsBytes, bytes_after}
 use Rattle.device_bridge.specs.Image.{held_in, HasNoRoomFor}
-use Rattle.device_image.specs.Device.{Device, run_of, is_told_sound, tells, slots_in, slots_told, told_of}
-use Rattle.device_image.specs.Clock.{IsMapOf, FindsAfter, FindsInCut, IsWornFor, may_find_of, off_in_of, MakesNone, ClocksStay, ClocksPass, WornNow, change_of, Makes, turn_of, ImageIsPossible, CutsArePossible, ToldAlike, ClocksTick, ClocksFindNow}
+use Rattle.device_clock.specs.Device.{Device, run_of, is_told_sound, tells, slots_in, slots_told, told_of}
+use Rattle.device_clock.specs.Clock.{IsMapOf, FindsAfter, FindsInCut, IsWornFor, may_find_of, off_in_of, MakesNone, ClocksStay, ClocksPass, WornNow, change_of, Makes, turn_of, ImageIsPossible, CutsArePossible, ToldAlike, ClocksTick, ClocksFindNow}
 
 -- LISTS
 get_front : {X : Type 0} (xs : List X) (c : X) (k : ℕ) → k < length xs → slice_get (xs ++ c ∷ []) k ≡ slice_get xs k
