@@ -68,6 +68,17 @@ impl Queues {
         }
     }
 
+    /// The job that goes before all others; it stays. None exactly where both queues are empty. It looks at each job of
+    /// the immediate queue once, or where that is empty at each of the standard queue.
+    pub fn first(&self) -> Option<Waiting>
+        ensures { result ≡ first_in self.now }
+    {
+        match first_of(&self.immediate) {
+            Some(first) => Some(first),
+            None => first_of(&self.standard),
+        }
+    }
+
     /// Takes the job that goes before all others. None exactly where both queues are empty. It looks at each job of the
     /// immediate queue once, or where that is empty at each of the standard queue, and closes the gap.
     pub fn next(&mut self) -> Option<Waiting>
@@ -96,6 +107,14 @@ impl Queues {
         let job = job_of(&self.standard, block)?;
         take_out(&mut self.standard, job.number);
         Some(job)
+    }
+
+    /// No job waits any more.
+    pub fn clear(&mut self)
+        ensures { self.new ≡ record self.old { immediate = []; standard = [] } }
+    {
+        self.immediate.clear();
+        self.standard.clear();
     }
 
     /// How many jobs more the immediate or the standard queue has room for. It looks at no job.

@@ -1,0 +1,5 @@
+pub mod Took
+pub mod Written
+pub mod Job
+pub mod Slots
+pub mod Pending
