@@ -1,4 +1,5 @@
 pub mod Copies
 pub mod Kept
 pub mod Plain
+pub mod Ram
 pub mod Told

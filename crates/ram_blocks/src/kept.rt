@@ -1,9 +1,8 @@
 // The RAM that the manager keeps.
-ghost use Rattle.std.specs.Prelude.{◌≡◌, length, get_or, slice_set, IfOk, option_copied};
-ghost use Rattle.ram_blocks.specs.Kept.{no_ram, ram_by, kept_of};
+ghost use Rattle.std.specs.Prelude.{◌≡◌, length, map, get_or, slice_set, IfOk, option_copied};
+ghost use Rattle.ram_blocks.specs.Kept.{zeros, no_ram, ram_by, kept_of};
 
 use block_config::{BlockDesc, Config, RamKind};
-use nv_base::Bytes;
 use std::alloc::{AllocError, Global};
 use std::marker::Model;
 
@@ -14,11 +13,68 @@ pub struct RamFlags {
     pub changed: bool,
 }
 
+const FRESH: RamFlags = RamFlags {
+    valid: false,
+    changed: false,
+};
+
 /// A block's RAM: its content, of no bytes where the manager keeps none, and its flags.
 #[derive(Drop)]
 pub struct RamBlock {
-    pub content: Bytes,
-    pub flags: RamFlags,
+    content: Vec<u8>,
+    flags: RamFlags,
+}
+
+impl Model for RamBlock {
+    ghost use Rattle.ram_blocks.specs.Ram.{Ram};
+
+    ghost Value = { Ram };
+
+    ghost view = { λ r. record { content = r.content.items; flags = r.flags } };
+}
+
+impl RamBlock {
+    // So many zeros, neither valid nor changed.
+    fn zeros(alloc: Global, count: usize) -> Result<RamBlock, AllocError>
+        ensures { IfOk result (λ b. b ≡ zeros count) }
+    {
+        Ok(RamBlock {
+            content: vec![in alloc; 0; count]?,
+            flags: FRESH,
+        })
+    }
+
+    fn content(&self) -> &[u8]
+        ensures { result.now ≡ self.now.content }
+    {
+        &self.content
+    }
+
+    fn flags(&self) -> RamFlags
+        ensures { result ≡ self.now.flags }
+    {
+        self.flags
+    }
+
+    fn put(&mut self, content: &[u8])
+        requires { length content.now ≡ length self.old.content }
+        ensures { self.new ≡ record self.old { content = content.now } }
+    {
+        self.content.copy_from_slice(content);
+    }
+
+    fn set_flags(&mut self, flags: RamFlags)
+        ensures { self.new ≡ record self.old { flags = flags } }
+    {
+        self.flags = flags;
+    }
+
+    fn clear(&mut self)
+        ensures { self.new ≡ zeros (length self.old.content) }
+    {
+        self.content.fill(0);
+        self.flags = FRESH;
+    }
 }
 
 /// The RAM of all blocks. The manager keeps that of permanent RAM blocks and of block 1, its own. Contracts see a block
@@ -55,7 +111,7 @@ impl RamBlocks {
         ensures { result.now ≡ (get_or self.now block no_ram).content }
     {
         match self.blocks.get(usize::from(block)) {
-            Some(one) => one.content.as_slice(),
+            Some(one) => one.content(),
             None => &[],
         }
     }
@@ -66,9 +122,7 @@ impl RamBlocks {
         ensures { self.new ≡ slice_set self.old block (record (get_or self.old block no_ram) { content = content.now }) }
     {
         if usize::from(block) < self.blocks.len() {
-            self.blocks[usize::from(block)]
-                .content
-                .copy_from_slice(content);
+            self.blocks[usize::from(block)].put(content);
         }
     }
 
@@ -77,11 +131,8 @@ impl RamBlocks {
         ensures { result ≡ (get_or self.now block no_ram).flags }
     {
         match self.blocks.get(usize::from(block)) {
-            Some(one) => one.flags,
-            None => RamFlags {
-                valid: false,
-                changed: false,
-            },
+            Some(one) => one.flags(),
+            None => FRESH,
         }
     }
 
@@ -90,7 +141,16 @@ impl RamBlocks {
         ensures { self.new ≡ slice_set self.old block (record (get_or self.old block no_ram) { flags = flags }) }
     {
         if usize::from(block) < self.blocks.len() {
-            self.blocks[usize::from(block)].flags = flags;
+            self.blocks[usize::from(block)].set_flags(flags);
+        }
+    }
+
+    /// Puts zeros into the RAM of each block, which is neither valid nor changed then.
+    pub fn clear(&mut self)
+        ensures { self.new ≡ map (λ r. zeros (length r.content)) self.old }
+    {
+        for i in 0..self.blocks.len() {
+            self.blocks[i].clear();
         }
     }
 }
@@ -103,11 +163,5 @@ fn ram_of(alloc: Global, id: u16, desc: Option<&BlockDesc>) -> Result<RamBlock, 
         Some(desc) if id == 1 || desc.ram == RamKind::Permanent => desc.length,
         _ => 0,
     };
-    Ok(RamBlock {
-        content: Bytes::zeros(alloc, usize::from(length))?,
-        flags: RamFlags {
-            valid: false,
-            changed: false,
-        },
-    })
+    RamBlock::zeros(alloc, usize::from(length))
 }
