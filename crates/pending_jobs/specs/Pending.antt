@@ -1,9 +1,10 @@
 -- The jobs that are kept, and how they agree with the machine's.
-use Rattle.std.specs.Prelude.{◌≡◌, ◌≢◌, ◌<◌, ℕ, ◌+◌, ◌-◌, ◌==◌, ◌&&◌, not, Bool, List, [], ◌∷◌, ◌++◌, length, find, count_by, sum_by, is_none, IsSome, IfSome, option_to_list, Contains, if◌then◌else◌, Option, Some, None}
+use Rattle.std.specs.Prelude.{◌≡◌, ◌≢◌, ◌<◌, ℕ, ◌+◌, ◌==◌, ◌&&◌, not, List, [], ◌∷◌, ◌++◌, length, find, count_by, sum_by, is_none, IsSome, IfSome, option_to_list, Contains, Option, Some}
 use Rattle.std.specs.Option.{option_map_or}
 use Rattle.block_machine.specs.Words.{Configuration}
 use Rattle.block_machine.specs.State.{Job}
 use Rattle.block_machine.specs.Blocks.{job_block, rank_of}
+use Rattle.block_machine.specs.Steps.{without_job}
 use Rattle.machine_laws.specs.Consistent.{Each}
 use Rattle.job_queues.specs.Jobs.{Jobs as Queues}
 use Rattle.job_queues.specs.Laws.{queues_of}
@@ -47,17 +48,6 @@ unpicked_of c jobs = record {
   immediate = count_by (λ j. (rank_of c j).immediate && is_none j.taken) jobs;
 }
 
--- the same with one job less, which was picked before or wasn't
-abbrev pub unpicked_without : (immediate again : Bool) → Unpicked → Unpicked
-unpicked_without immediate again u = if again then u else (if immediate then record u { immediate = u.immediate - 1 } else record u { standard = u.standard - 1 })
-
-abbrev pub unpicked_in : Bool → Unpicked → ℕ
-unpicked_in immediate u = if immediate then u.immediate else u.standard
-
--- with one more
-abbrev pub unpicked_with : Bool → Unpicked → Unpicked
-unpicked_with immediate u = if immediate then record u { immediate = u.immediate + 1 } else record u { standard = u.standard + 1 }
-
 abbrev pub reserved_by : List Job → ℕ
 reserved_by jobs = sum_by (λ j. j.reserved) jobs
 
@@ -80,10 +70,18 @@ pub record Agree (c : Configuration) (p : Pending) (waiting : List Job) (held : 
   pub unpicked : p.unpicked ≡ unpicked_of c waiting
   pub reserved : p.reserved ≡ reserved_by waiting
   pub apart : StandApart waiting
-  pub held : IfSome held (IsHeld (length p.slots) waiting)
+  pub hand_apart : IfSome held (IsHeld (length p.slots) waiting)
   -- every other slot is empty
   pub room : length waiting + count_by is_none p.slots ≡ length p.slots
 
 -- a new job has neither the block nor the number of one that is pending
 abbrev pub IsNew : Job → List Job → Option Job → Type 0
 IsNew j waiting held = (x : Job) → Contains (option_to_list held ++ waiting) x → IsOther x j
+
+-- the job that goes next was taken out of those that wait
+pub record IsTakenOut (c : Configuration) (old new : Pending) (waiting : List Job) (held : Option Job) (j : Job) (taken : Option Job) : Type 0 where
+  pub job : taken ≡ Some j
+  pub agrees : Agree c new (without_job j.number waiting) held
+  pub place : job_block j < length old.slots
+  pub apart : StandsApart j (without_job j.number waiting)
+  pub other : IfSome held (λ h. IsOther h j)

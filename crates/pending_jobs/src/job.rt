@@ -1,5 +1,6 @@
 // A job.
-ghost use Rattle.std.specs.Prelude.{◌≡◌, ◌≤◌, ◌<◌, ◌+◌, ◌-◌, ◌++◌, ◌∷◌, ◌^◌, [], length, is_some, IfSome, Some, None, true, false, if◌then◌else◌};
+ghost use Rattle.std.specs.Prelude.{◌≡◌, ◌≤◌, ◌<◌, ◌+◌, ◌-◌, ◌++◌, ◌∷◌, ◌^◌, [], length, is_some, IfSome, option_map, Some, None, true, false, if◌then◌else◌};
+ghost use Rattle.std.specs.Option.{option_map_or};
 ghost use Rattle.block_machine.specs.Blocks.{asked_content, job_block, kind_of, is_in};
 ghost use Rattle.block_machine.specs.Sweeps.{member_request};
 ghost use Rattle.block_machine.specs.Steps.{picked_job};
@@ -99,6 +100,32 @@ impl Job {
         ensures { result ≡ self.now.member }
     {
         self.member
+    }
+
+    /// What it writes, if it has a content: the one that it took, or that its request brought.
+    pub fn content(&self) -> Option<&[u8]>
+        ensures { option_map (λ b. b.now) result ≡ option_map (λ x. x.0) self.now.content }
+    {
+        if let Some(staged) = &self.staged {
+            return Some(staged.bytes.as_slice());
+        }
+        match &self.request {
+            Request::Write {
+                content: Some(bytes),
+                ..
+            } => Some(bytes.as_slice()),
+            _ => None,
+        }
+    }
+
+    /// The number of the store that its content is of, or 0.
+    pub fn store(&self) -> u64
+        ensures { result ≡ option_map_or (λ x. x.1) self.now.content 0 }
+    {
+        match &self.staged {
+            Some(staged) => staged.store,
+            None => 0,
+        }
     }
 
     /// The entries that are still reserved for it.

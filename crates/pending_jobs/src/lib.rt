@@ -4,6 +4,7 @@
 //! them takes memory. Which of these may come, the blocks' states and the history are left to the crate above.
 #![tactic(auto)]
 
+mod interrupt;
 mod job;
 mod pending;
 mod request;
