@@ -107,7 +107,8 @@ impl PendingJobs {
 
     /// The entries that are reserved for all jobs.
     pub fn reserved(&self) -> u64
-        ensures { result ≡ reserved_in self.now }
+        ensures value { result ≡ reserved_in self.now }
+        ensures few { result < 2 ^ 33 }
     {
         match &self.hand {
             Some(job) => u64::from(job.reserved()) + u64::from(self.reserved),
