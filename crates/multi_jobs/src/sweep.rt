@@ -107,15 +107,43 @@ impl Sweep {
         ensures step { result ≡ step_of config.now (noted last same_id self.old) facts }
         ensures moved { self.new ≡ moved config.now (noted last same_id self.old) }
     {
-        self.note(last, same_id);
-        let Some(block) = self.peek(config) else {
-            return SweepStep::Ended {
-                result: self.result(),
-            };
-        };
-        let step = self.step_on(config, block, facts);
-        self.pass(block);
+        if let Some(last) = last {
+            self.note(last, same_id);
+        }
+        let step = self.step(config, facts);
+        self.take(config);
         step
+    }
+
+    /// What comes next, by the facts of the next member. Nothing changes.
+    pub fn step(&self, config: &Config, facts: MemberFacts) -> SweepStep
+        ensures { result ≡ step_of config.now self.now facts }
+    {
+        match self.peek(config) {
+            Some(block) => self.step_on(config, block, facts),
+            None => SweepStep::Ended {
+                result: self.result(),
+            },
+        }
+    }
+
+    /// The next member isn't to come any more.
+    pub fn take(&mut self, config: &Config)
+        ensures { self.new ≡ moved config.now self.old }
+    {
+        if let Some(block) = self.peek(config) {
+            self.pass(block);
+        }
+    }
+
+    /// The result of the last member counts, with whether block 1 gave the configuration id.
+    pub fn note(&mut self, last: ReqResult, same_id: bool)
+        ensures { self.new ≡ noted (Some last) same_id self.old }
+    {
+        if matches!(self.place, Place::Behind { passed: 0 }) && !self.writes {
+            self.same = same_id;
+        }
+        self.spoiled = self.spoiled || spoils(last);
     }
 
     /// Takes no further member. The one in hand ends.
@@ -123,19 +151,6 @@ impl Sweep {
         ensures { self.new ≡ record self.old { canceled = true } }
     {
         self.canceled = true;
-    }
-
-    // The result of the last member counts.
-    fn note(&mut self, last: Option<ReqResult>, same_id: bool)
-        ensures { self.new ≡ noted last same_id self.old }
-    {
-        let Some(last) = last else {
-            return;
-        };
-        if matches!(self.place, Place::Behind { passed: 0 }) && !self.writes {
-            self.same = same_id;
-        }
-        self.spoiled = self.spoiled || spoils(last);
     }
 
     fn result(&self) -> ReqResult
