@@ -48,7 +48,9 @@ PutBackWaits = (c : Configuration) (jobs : List Job) (j : Job) (i s : ℕ) → q
 
 -- a job that leaves the machine's list leaves both queues, and so the one that it is in
 abbrev pub TakenLeaves : Type 0
-TakenLeaves = (c : Configuration) (jobs : List Job) (n : ℕ) (immediate : Bool) → only immediate (map (waiting_of c) (without_job n jobs)) ≡ without n (only immediate (map (waiting_of c) jobs))
+TakenLeaves =
+    (c : Configuration) (jobs : List Job) (n : ℕ) (immediate : Bool)
+    → only immediate (map (waiting_of c) (without_job n jobs)) ≡ without n (only immediate (map (waiting_of c) jobs))
 
 -- of these jobs, no other one has this one's number
 abbrev pub TellsJob : Job → List Job → Type 0

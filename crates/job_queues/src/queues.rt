@@ -80,7 +80,8 @@ impl Queues {
     }
 
     /// Takes the job that goes before all others. None exactly where both queues are empty. It looks at each job of the
-    /// immediate queue once, or where that is empty at each of the standard queue, and closes the gap.
+    /// immediate queue once, or where that is empty at each of the standard queue, whatever their priorities, and turns
+    /// that queue once, which closes the gap.
     pub fn next(&mut self) -> Option<Waiting>
         ensures first { result ≡ first_in self.old }
         ensures taken { self.new ≡ without_first self.old }
@@ -94,8 +95,8 @@ impl Queues {
         Some(first)
     }
 
-    /// Takes the job of a block. None exactly where neither queue has one. It looks at each job once at most, and closes
-    /// the gap.
+    /// Takes the job of a block. None exactly where neither queue has one. It looks at each job once at most, and turns
+    /// its queue once, which closes the gap.
     pub fn remove(&mut self, block: u16) -> Option<Waiting>
         ensures found { result ≡ found_in block self.old }
         ensures taken { self.new ≡ without_block block self.old }
