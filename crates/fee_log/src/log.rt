@@ -7,7 +7,7 @@ ghost use Rattle.fls_model.specs.Step.{IsStep, programs};
 ghost use Rattle.fls_jobs.specs.CallOf.{closed_as};
 ghost use Rattle.fls_jobs.specs.Start.{IsIdle};
 ghost use Rattle.log_image.specs.Places.{IsWithin};
-ghost use Rattle.fee_log.specs.Index.{place_in, flag_in, with_flag};
+ghost use Rattle.fee_log.specs.Index.{place_in, flag_in, with_flag, clear_flags};
 ghost use Rattle.fee_log.specs.Log.{IsLogState, IsViewOf, IsLoaded, IsFor, work_in, is_closed, free_in, left_in, pages_in, erased_state, begun};
 ghost use Rattle.fee_log.specs.Step.{IsPageOf, IsStepAt, due_bytes, due_page, op_of, answer_of, after_step, given_up};
 
@@ -193,6 +193,33 @@ impl Log {
         ensures { self.new ≡ record self.old { flags = with_flag self.old.numbers self.old.flags number.0 on } }
     {
         put_flag(&self.numbers, &mut self.flags, number, on);
+    }
+
+    /// Lends the configured numbers, the place and the flag of each in that order.
+    pub fn lists(&self) -> (&Lengths, &[Place], &[bool])
+        ensures numbers { result.0.now ≡ self.now.numbers }
+        ensures places { result.1.now ≡ self.now.places }
+        ensures flags { result.2.now ≡ self.now.flags }
+        ensures places_count { length self.now.places ≡ length self.now.numbers }
+        ensures state { IsLogState self.now }
+    {
+        (&self.numbers, &self.places, &self.flags)
+    }
+
+    /// Clears all flags.
+    pub fn clear_flags(&mut self)
+        ensures { self.new ≡ record self.old { flags = clear_flags self.old.numbers } }
+    {
+        clear_all(&self.numbers, &mut self.flags);
+    }
+
+    /// Makes it the log of a bank, from 0, as if that were erased.
+    pub fn move_to(&mut self, bank: u32)
+        requires { bank < self.old.banks }
+        ensures { self.new ≡ erased_state self.old.geometry self.old.banks bank self.old.numbers }
+    {
+        self.bank = bank;
+        self.erase();
     }
 
     /// Reads the log of a bank that stands from all its bytes, or that of an erased bank from None.
