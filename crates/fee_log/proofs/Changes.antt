@@ -26,7 +26,8 @@ pub clear_length : (ns : List (DeviceNumber × ℕ)) → length (clear_flags ns)
 clear_length [] = refl
 clear_length (n ∷ ns) = ap suc (clear_length ns)
 
-pub flag_length : (ns : List (DeviceNumber × ℕ)) (flags : List Bool) (number : ℕ) (on : Bool) → length (with_flag ns flags number on) ≡ length flags
+pub flag_length : (ns : List (DeviceNumber × ℕ)) (flags : List Bool) (number : ℕ) (on : Bool)
+    → length (with_flag ns flags number on) ≡ length flags
 flag_length [] flags number on = refl
 flag_length (n ∷ ns) [] number on = refl
 flag_length (n ∷ ns) (flag ∷ flags) number on = ap suc (flag_length ns flags number on)
@@ -45,7 +46,8 @@ module _ {A : Type 0} where
 not_fits : (number length : ℕ) (h : RecHead) → h.number ≢ number → fits number length h ≡ false
 not_fits number length h differs = rw (ne_eqb h.number number differs) refl
 
-pub noted_none : (ns : List (DeviceNumber × ℕ)) (places : List Place) (at : ℕ) (h : RecHead) → All (λ n. n.0.0 ≢ h.number) ns → places ≡ noted ns places at h
+pub noted_none : (ns : List (DeviceNumber × ℕ)) (places : List Place) (at : ℕ) (h : RecHead)
+    → All (λ n. n.0.0 ≢ h.number) ns → places ≡ noted ns places at h
 noted_none [] places at h none = refl
 noted_none (n ∷ ns) [] at h none = refl
 noted_none (n ∷ ns) (place ∷ places) at h none =
@@ -53,7 +55,9 @@ noted_none (n ∷ ns) (place ∷ places) at h none =
     (ap (λ (l : List Place). place ∷ l) (noted_none ns places at h (λ k d lt. none (suc k) d (omega arith))))
 
 -- a record of the number at an index changes its place, where it fits
-pub noted_at : (low : ℕ) (ns : List (DeviceNumber × ℕ)) (places : List Place) (at : ℕ) (h : RecHead) (i : ℕ) (d : DeviceNumber × ℕ) → AreLengths low ns → length places ≡ length ns → i < length ns → ((n : DeviceNumber × ℕ) → (get_or ns i n).0.0 ≡ h.number)
+pub noted_at : (low : ℕ) (ns : List (DeviceNumber × ℕ)) (places : List Place) (at : ℕ) (h : RecHead) (i : ℕ) (d : DeviceNumber × ℕ)
+    → AreLengths low ns → length places ≡ length ns → i < length ns
+    → ((n : DeviceNumber × ℕ) → (get_or ns i n).0.0 ≡ h.number)
     → noted ns places at h ≡ (if fits (get_or ns i d).0.0 (get_or ns i d).1 h then set places i (place_at at h) else places)
 noted_at low [] places at h i d all each lt is = absurd (omega arith)
 noted_at low (n ∷ ns) [] at h i d all each lt is = absurd (omega arith)
@@ -61,18 +65,25 @@ noted_at low (n ∷ ns) (place ∷ places) at h zero d all each lt is =
     rw (← noted_none ns places at h (λ k e within same. omega (arith, above n.0.0 ns all.4 k e within, is n)))
     (pick_cons (fits n.0.0 n.1 h) (place_at at h) place places)
 noted_at low (n ∷ ns) (place ∷ places) at h (suc i) d all each lt is =
-    rw (not_fits n.0.0 n.1 h (λ e. omega (arith, above n.0.0 ns all.4 i n (omega arith), is n)), noted_at n.0.0 ns places at h i d all.4 (omega arith) (omega arith) is)
+    rw (
+      not_fits n.0.0 n.1 h (λ e. omega (arith, above n.0.0 ns all.4 i n (omega arith), is n)),
+      noted_at n.0.0 ns
+          places at h i d all.4 (omega arith) (omega arith) is,
+    )
     (cons_pick (fits (get_or ns i d).0.0 (get_or ns i d).1 h) place (set places i (place_at at h)) places)
 
 -- FLAGS
-pub flags_none : (ns : List (DeviceNumber × ℕ)) (flags : List Bool) (number : ℕ) (on : Bool) → All (λ n. n.0.0 ≢ number) ns → flags ≡ with_flag ns flags number on
+pub flags_none : (ns : List (DeviceNumber × ℕ)) (flags : List Bool) (number : ℕ) (on : Bool)
+    → All (λ n. n.0.0 ≢ number) ns → flags ≡ with_flag ns flags number on
 flags_none [] flags number on none = refl
 flags_none (n ∷ ns) [] number on none = refl
 flags_none (n ∷ ns) (flag ∷ flags) number on none =
     rw (ne_eqb n.0.0 number (none 0 n (omega arith)))
     (ap (λ (l : List Bool). flag ∷ l) (flags_none ns flags number on (λ k d lt. none (suc k) d (omega arith))))
 
-pub flags_at : (low : ℕ) (ns : List (DeviceNumber × ℕ)) (flags : List Bool) (number : ℕ) (on : Bool) (i : ℕ) → AreLengths low ns → length flags ≡ length ns → i < length ns → ((n : DeviceNumber × ℕ) → (get_or ns i n).0.0 ≡ number) → set flags i on ≡ with_flag ns flags number on
+pub flags_at : (low : ℕ) (ns : List (DeviceNumber × ℕ)) (flags : List Bool) (number : ℕ) (on : Bool) (i : ℕ)
+    → AreLengths low ns → length flags ≡ length ns → i < length ns
+    → ((n : DeviceNumber × ℕ) → (get_or ns i n).0.0 ≡ number) → set flags i on ≡ with_flag ns flags number on
 flags_at low [] flags number on i all each lt is = absurd (omega arith)
 flags_at low (n ∷ ns) [] number on i all each lt is = absurd (omega arith)
 flags_at low (n ∷ ns) (flag ∷ flags) number on zero all each lt is =

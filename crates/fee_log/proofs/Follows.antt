@@ -14,7 +14,8 @@ use Rattle.fee_log.specs.Log.{LogState, log_of, with_log, work_in}
 use Rattle.fee_log.specs.Step.{log_after, after_step, given_up, due_page}
 
 -- one of two logs
-picked : (s : LogState) (body : List ℕ) (b : Bool) (x y x' y' : Log) → log_of (with_log s x) body ≡ x' → log_of (with_log s y) body ≡ y' → log_of (with_log s (if b then x else y)) body ≡ (if b then x' else y')
+picked : (s : LogState) (body : List ℕ) (b : Bool) (x y x' y' : Log) → log_of (with_log s x) body ≡ x'
+    → log_of (with_log s y) body ≡ y' → log_of (with_log s (if b then x else y)) body ≡ (if b then x' else y')
 picked s body true x y x' y' first second = first
 picked s body false x y x' y' first second = second
 
@@ -27,7 +28,8 @@ module _ (s : LogState) (body : List ℕ) where
 
   -- the log behind a record that is committed, and one page further in it
   abbrev committed : RecHead → ℕ → List ℕ → Log
-  committed h k content = record (log_behind p (log_of (at (Writes h k)) content) h) { places = noted s.numbers s.places s.end h }
+  committed h k content =
+      record (log_behind p (log_of (at (Writes h k)) content) h) { places = noted s.numbers s.places s.end h }
 
   abbrev further : RecHead → ℕ → List ℕ → Log
   further h k content = record (log_of (at (Writes h k)) content) { tail = LogWrites h content (k + 1) }
@@ -35,13 +37,16 @@ module _ (s : LogState) (body : List ℕ) where
   abbrev closed : Tail → List ℕ → Log
   closed tail content = record (log_of (at tail) content) { tail = LogClosed }
 
-  follows : (tail : Tail) (answer : FlashAnswer) → log_of (after_step (at tail) answer) body ≡ log_after (at tail) body answer
+  follows : (tail : Tail) (answer : FlashAnswer)
+      → log_of (after_step (at tail) answer) body ≡ log_after (at tail) body answer
   follows tail Off = refl
   follows Open Done = refl
   follows Open Failed = refl
-  follows (Writes h k) Done = picked (at (Writes h k)) body (is_last p h k) (committed h k []) (further h k []) (committed h k body) (further h k body) refl refl
+  follows (Writes h k) Done =
+      picked (at (Writes h k)) body (is_last p h k) (committed h k []) (further h k []) (committed h k body) (further h k body) refl refl
   follows (Writes h k) Failed =
-      picked (at (Writes h k)) body (nat_lt k 2) (closed (Writes h k) []) (log_behind p (log_of (at (Writes h k)) []) h) (closed (Writes h k) body) (log_behind p (log_of (at (Writes h k)) body) h) refl refl
+      picked (at (Writes h k)) body (nat_lt k 2) (closed (Writes h k) [])
+      (log_behind p (log_of (at (Writes h k)) []) h) (closed (Writes h k) body) (log_behind p (log_of (at (Writes h k)) body) h) refl refl
   follows (Owes h None) Done = refl
   follows (Owes h (Some next)) Done = refl
   follows (Owes h next) Failed = refl
@@ -56,7 +61,8 @@ module _ (s : LogState) (body : List ℕ) where
   given (Owes h next) = refl
   given Closed = refl
 
-  due : (tail : Tail) → IsSome (work_in tail) → IsDue (log_of (at tail) body).tail × (due_page (at tail) ≡ page_due (log_of (at tail) body))
+  due : (tail : Tail) → IsSome (work_in tail)
+      → IsDue (log_of (at tail) body).tail × (due_page (at tail) ≡ page_due (log_of (at tail) body))
   due Open work = cc
   due (Writes h k) work = (tt, refl)
   due (Owes h next) work = (tt, refl)

@@ -25,7 +25,8 @@ seen_follows may v body (Writes h k) seen = tt
 seen_follows may v body (Owes h next) seen = absurd seen
 seen_follows may v body Closed seen = tt
 
-bank_is : (format p n p' n' at : ℕ) → p ≡ p' → n ≡ n' → (let b : Bank = record { page = p; pages = n; format = format; at = at } in b) ≡ record { page = p'; pages = n'; format = format; at = at }
+bank_is : (format p n p' n' at : ℕ) → p ≡ p' → n ≡ n'
+    → (let b : Bank = record { page = p; pages = n; format = format; at = at } in b) ≡ record { page = p'; pages = n'; format = format; at = at }
 bank_is format p n p' n' at one two = λ i. record { page = one i; pages = two i; format = format; at = at }
 
 pub loads_hold : LoadedLogsHold → LogsStay → LoadsAreLoaded → LoadsHold
@@ -40,29 +41,35 @@ loads_hold loaded stay are v old new body bytes sound view of is size same =
     let pages : (q : ℕ) → 2 ≤ q → q < v.pages → page_of (moved b at) bytes q ≡ page_of b v.bytes q = λ q low lt.
     subst (λ (c : Bank). page_of c bytes q ≡ page_of b v.bytes q) (sym same_bank) (same q low (subst (λ (n : ℕ). q < n) of.pages lt)) in
     let in_view : HoldsLog b old.numbers v.bytes may log = loaded b old.numbers v.bytes tail view.page.low view.two (are v old new body is).1 in
-    let in_image : HoldsLog image old.numbers bytes may log = subst (λ (c : Bank). HoldsLog c old.numbers bytes may log) same_bank (stay b old.numbers v.bytes bytes at may log view.page.low pages in_view) in
-    subst (λ (s : LogState). HoldsState s body bytes may) (sym is.same) (record { size = size; holds = in_image; follows = seen_follows may v body new.tail is.tail })
+    let in_image : HoldsLog image old.numbers bytes may log = subst
+    (λ (c : Bank). HoldsLog c old.numbers bytes may log) same_bank (stay b old.numbers v.bytes bytes at may log view.page.low pages in_view) in
+    subst (λ (s : LogState). HoldsState s body bytes may) (sym is.same)
+    (record { size = size; holds = in_image; follows = seen_follows may v body new.tail is.tail })
 
 pub erased_holds : ErasedLogsHold → ErasedHolds
 erased_holds erased g banks bank numbers body bytes may sound size blank each = record {
   size = size;
-  holds = erased (bank_in (layout_of g banks) 1 bank) numbers bytes may sound.geometry.page_low sound.end_high blank each;
+  holds =
+      erased (bank_in (layout_of g banks) 1 bank) numbers bytes may sound.geometry.page_low sound.end_high blank each;
   follows = tt;
 }
 
 -- A RECORD BEGINS
 begins_at : RecordsBegin → (s : LogState) (tail : Tail) (head : RecHead) (before body bytes : List ℕ) (may : May)
     → IsLogState s → s.format ≡ 1 → IsLegalRecHead head → length body ≡ head.length → MayCommit may head body
-    → work_in tail ≡ None → record_pages_of head.length s.geometry.page ≤ free_behind s.geometry.page (pages_in s) s.end tail
+    → work_in tail ≡ None
+    → record_pages_of head.length s.geometry.page ≤ free_behind s.geometry.page (pages_in s) s.end tail
     → HoldsLog (bank_of s) s.numbers bytes may (log_of (record s { tail = tail }) before)
     → HoldsLog (bank_of s) s.numbers bytes may (log_of (record s { tail = tail_begun tail head }) body) × MayFollow may (tail_begun tail head) body
 begins_at begin s Open head before body bytes may sound format legal size commit idle room holds =
     let is : IsRecord (bank_of s) s.end head body = record { format = format; legal = legal; size = size; room = omega (arith, room, sound.end_high) } in
     (begin (bank_of s) s.numbers bytes may (log_of (record s { tail = Open }) before) head body holds refl is commit, tt)
 begins_at begin s (Writes h k) head before body bytes may sound format legal size commit idle room holds = cc
-begins_at begin s (Owes h None) head before body bytes may sound format legal size commit idle room holds = (holds, (size, commit))
+begins_at begin s (Owes h None) head before body bytes may sound format legal size commit idle room holds =
+    (holds, (size, commit))
 begins_at begin s (Owes h (Some next)) head before body bytes may sound format legal size commit idle room holds = cc
-begins_at begin s Closed head before body bytes may sound format legal size commit idle room holds = absurd (omega (arith, room))
+begins_at begin s Closed head before body bytes may sound format legal size commit idle room holds =
+    absurd (omega (arith, room))
 
 pub begins_hold : RecordsBegin → BeginsHold
 begins_hold begin s head before body bytes may sound holds idle format is room size commit =
@@ -71,7 +78,8 @@ begins_hold begin s head before body bytes may sound holds idle format is room s
 
 -- A RECORD IS GIVEN UP
 module _ (s : LogState) where
-  given_same : (tail : Tail) (body after : List ℕ) → log_of (given_up (record s { tail = tail })) body ≡ log_of (given_up (record s { tail = tail })) after
+  given_same : (tail : Tail) (body after : List ℕ)
+      → log_of (given_up (record s { tail = tail })) body ≡ log_of (given_up (record s { tail = tail })) after
   given_same Open body after = refl
   given_same (Writes h zero) body after = refl
   given_same (Writes h (suc zero)) body after = refl
@@ -79,7 +87,8 @@ module _ (s : LogState) where
   given_same (Owes h next) body after = refl
   given_same Closed body after = refl
 
-  given_waits : (tail : Tail) (may : May) (body : List ℕ) → MayFollow may (given_up (record s { tail = tail })).tail body
+  given_waits : (tail : Tail) (may : May) (body : List ℕ)
+      → MayFollow may (given_up (record s { tail = tail })).tail body
   given_waits Open may body = tt
   given_waits (Writes h zero) may body = tt
   given_waits (Writes h (suc zero)) may body = tt
@@ -90,7 +99,10 @@ module _ (s : LogState) where
 pub given_up_holds : LogsGivenUp → GivenUpFollows → GivenUpHolds
 given_up_holds give follow s body after bytes may sound holds = record {
   size = holds.size;
-  holds = subst (λ (l : Log). HoldsLog (bank_of s) s.numbers bytes may l) (sym (follow s body) ∙ given_same s s.tail body after) (give (bank_of s) s.numbers bytes may (log_of s body) sound.geometry.page_low holds.holds);
+  holds =
+      subst (λ (l : Log). HoldsLog (bank_of s) s.numbers bytes may l)
+      (sym (follow s body) ∙ given_same s s.tail body after)
+      (give (bank_of s) s.numbers bytes may (log_of s body) sound.geometry.page_low holds.holds);
   follows = given_waits s s.tail may after;
 }
 

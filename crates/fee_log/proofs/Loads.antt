@@ -12,7 +12,8 @@ use Rattle.fee_log.specs.declared.tail.Tail.TheVariants.{Open, Writes, Owes, Clo
 use Rattle.fee_log.specs.Laws.{LoadsAreLoaded, LoadedLogsMove}
 use Rattle.fee_log.specs.Log.{LogState, IsTailSeen, log_of, tail_with}
 
-seen_tail : (v : View) (body : List ℕ) (tail : Tail) → IsTailSeen v tail → IsLoadedTail (viewed_bank v) v.bytes (tail_with tail body)
+seen_tail : (v : View) (body : List ℕ) (tail : Tail) → IsTailSeen v tail
+    → IsLoadedTail (viewed_bank v) v.bytes (tail_with tail body)
 seen_tail v body Open seen = inl (refl, seen)
 seen_tail v body (Writes h k) seen = absurd seen
 seen_tail v body (Owes h next) seen = absurd seen
@@ -33,7 +34,11 @@ loaded_logs_move stay b numbers own image at tail same is =
     let end : end_of (moved b at) image ≡ end_of b own = ap (end_after b.page 2) records in (
       log,
       elim is as (λ _. IsLoadedTail (moved b at) image tail) [
-        | inl blank ↦ inl (blank.0, λ q low lt. same q (omega (arith, low, end_low b.page 2 (records_of (moved b at) image))) lt ∙ blank.1 q (omega (arith, low, end)) lt)
+        | inl blank ↦ inl (
+          blank.0,
+          λ q low lt. same q (omega
+              (arith, low, end_low b.page 2 (records_of (moved b at) image))) lt ∙ blank.1 q (omega (arith, low, end)) lt,
+        )
         | inr closed ↦ inr closed
       ],
     )

@@ -22,11 +22,13 @@ use Rattle.fee_log.proofs.Numbers.{bounds, contained}
 use Rattle.fee_log.proofs.Within.{erased_within, placed_within, further, noted_within}
 
 -- what holds of a log's tail
-tail_sound : (s : LogState) (tail : Tail) → IsLogState s → s.tail ≡ tail → IsTail s.geometry.page (pages_in s) s.end tail
+tail_sound : (s : LogState) (tail : Tail) → IsLogState s → s.tail ≡ tail
+    → IsTail s.geometry.page (pages_in s) s.end tail
 tail_sound s tail sound is = subst (IsTail s.geometry.page (pages_in s) s.end) is sound.tail
 
 -- the next record goes behind one that was in work
-pub behind_sound : (s : LogState) (h : RecHead) (k : ℕ) → IsLogState s → s.tail ≡ Writes h k → IsLogState (record s { end = s.end + pages_of_head s.geometry.page h; tail = Open })
+pub behind_sound : (s : LogState) (h : RecHead) (k : ℕ) → IsLogState s → s.tail ≡ Writes h k
+    → IsLogState (record s { end = s.end + pages_of_head s.geometry.page h; tail = Open })
 behind_sound s h k sound is =
     let tail = tail_sound s (Writes h k) sound is in
     record {
@@ -34,7 +36,8 @@ behind_sound s h k sound is =
       shared = sound.shared;
       bank = sound.bank;
       numbers = sound.numbers;
-      places = further s.geometry.page s.end (s.end + pages_of_head s.geometry.page h) s.numbers s.places (omega arith) sound.places;
+      places =
+          further s.geometry.page s.end (s.end + pages_of_head s.geometry.page h) s.numbers s.places (omega arith) sound.places;
       flags = sound.flags;
       end_low = omega (arith, sound.end_low);
       end_high = tail.2;
@@ -42,7 +45,8 @@ behind_sound s h k sound is =
     }
 
 -- which is its number's last one
-pub committed_sound : (s : LogState) (h : RecHead) (k : ℕ) → IsLogState s → s.tail ≡ Writes h k → IsLogState (record s { end = s.end + pages_of_head s.geometry.page h; tail = Open; places = noted s.numbers s.places s.end h })
+pub committed_sound : (s : LogState) (h : RecHead) (k : ℕ) → IsLogState s → s.tail ≡ Writes h k
+    → IsLogState (record s { end = s.end + pages_of_head s.geometry.page h; tail = Open; places = noted s.numbers s.places s.end h })
 committed_sound s h k sound is =
     let tail = tail_sound s (Writes h k) sound is in
     record {
@@ -50,7 +54,8 @@ committed_sound s h k sound is =
       shared = sound.shared;
       bank = sound.bank;
       numbers = sound.numbers;
-      places = noted_within s.geometry.page s.end (s.end + pages_of_head s.geometry.page h) s.numbers s.places h sound.end_low (omega arith) sound.places;
+      places =
+          noted_within s.geometry.page s.end (s.end + pages_of_head s.geometry.page h) s.numbers s.places h sound.end_low (omega arith) sound.places;
       flags = sound.flags;
       end_low = omega (arith, sound.end_low);
       end_high = tail.2;
@@ -58,7 +63,8 @@ committed_sound s h k sound is =
     }
 
 -- a record that waited for an owed gate begins
-pub followed_sound : (s : LogState) (h next : RecHead) → IsLogState s → s.tail ≡ Owes h (Some next) → IsLogState (record s { end = s.end + pages_of_head s.geometry.page h; tail = Writes next 0 })
+pub followed_sound : (s : LogState) (h next : RecHead) → IsLogState s → s.tail ≡ Owes h (Some next)
+    → IsLogState (record s { end = s.end + pages_of_head s.geometry.page h; tail = Writes next 0 })
 followed_sound s h next sound is =
     let tail = tail_sound s (Owes h (Some next)) sound is in
     record {
@@ -66,7 +72,8 @@ followed_sound s h next sound is =
       shared = sound.shared;
       bank = sound.bank;
       numbers = sound.numbers;
-      places = further s.geometry.page s.end (s.end + pages_of_head s.geometry.page h) s.numbers s.places (omega arith) sound.places;
+      places =
+          further s.geometry.page s.end (s.end + pages_of_head s.geometry.page h) s.numbers s.places (omega arith) sound.places;
       flags = sound.flags;
       end_low = omega (arith, sound.end_low);
       end_high = omega (arith, tail.0);
@@ -74,7 +81,8 @@ followed_sound s h next sound is =
     }
 
 -- a record's gate is owed
-pub owing_sound : (s : LogState) (h : RecHead) (k : ℕ) → IsLogState s → s.tail ≡ Writes h k → IsLogState (record s { tail = Owes h None })
+pub owing_sound : (s : LogState) (h : RecHead) (k : ℕ) → IsLogState s → s.tail ≡ Writes h k
+    → IsLogState (record s { tail = Owes h None })
 owing_sound s h k sound is =
     let tail = tail_sound s (Writes h k) sound is in
     record {
@@ -91,24 +99,35 @@ owing_sound s h k sound is =
 
 -- A RECORD BEGINS
 -- a record of a configured number has a legal header
-pub legal_for : (numbers : List (DeviceNumber × ℕ)) (h : RecHead) → AreLengths 0 numbers → IsFor numbers h → IsLegalRecHead h
+pub legal_for : (numbers : List (DeviceNumber × ℕ)) (h : RecHead) → AreLengths 0 numbers → IsFor numbers h
+    → IsLegalRecHead h
 legal_for numbers h all is =
     let x : DeviceNumber × ℕ = (record { 0 = h.number }, is.length) in
     let up = bounds 0 numbers all is.configured.0 x (contained numbers x is.configured) in
     elim is.kind as (λ _. IsLegalRecHead h) [
-      | inl content ↦ record { number_low = up.0; number_high = up.1; kind = inl (content.0, omega (arith, content.1, up.2)); length = omega (arith, content.1, up.3) }
+      | inl content ↦ record {
+        number_low = up.0;
+        number_high = up.1;
+        kind = inl
+            (content.0, omega (arith, content.1, up.2));
+        length = omega (arith, content.1, up.3);
+      }
       | inr mark ↦ record { number_low = up.0; number_high = up.1; kind = inr mark; length = omega (arith, mark.1) }
     ]
 
-begun_tail : (p pages end : ℕ) (tail : Tail) (h : RecHead) → end ≤ pages → IsTail p pages end tail → work_in tail ≡ None → record_pages_of h.length p ≤ free_behind p pages end tail → IsLegalRecHead h → IsTail p pages end (tail_begun tail h)
+begun_tail : (p pages end : ℕ) (tail : Tail) (h : RecHead) → end ≤ pages → IsTail p pages end tail
+    → work_in tail ≡ None → record_pages_of h.length p ≤ free_behind p pages end tail → IsLegalRecHead h
+    → IsTail p pages end (tail_begun tail h)
 begun_tail p pages end Open h high is idle room legal = (legal, omega arith, omega (arith, high, room))
 begun_tail p pages end (Writes head done) h high is idle room legal = cc
 begun_tail p pages end (Owes head next) h high is idle room legal =
-    let free : record_pages_of h.length p ≤ pages - (end + (pages_of_head p head + 0)) = subst (λ (o : Option RecHead). record_pages_of h.length p ≤ free_behind p pages end (Owes head o)) idle room in
+    let free : record_pages_of h.length p ≤ pages - (end + (pages_of_head p head + 0)) = subst
+    (λ (o : Option RecHead). record_pages_of h.length p ≤ free_behind p pages end (Owes head o)) idle room in
     (omega (arith, free), legal)
 begun_tail p pages end Closed h high is idle room legal = absurd (omega (arith, room))
 
-pub begun_sound : (s : LogState) (h : RecHead) → IsLogState s → work_in s.tail ≡ None → IsFor s.numbers h → record_pages_of h.length s.geometry.page ≤ free_in s → IsLogState (begun s h)
+pub begun_sound : (s : LogState) (h : RecHead) → IsLogState s → work_in s.tail ≡ None → IsFor s.numbers h
+    → record_pages_of h.length s.geometry.page ≤ free_in s → IsLogState (begun s h)
 begun_sound s h sound idle is room = record {
   geometry = sound.geometry;
   shared = sound.shared;
@@ -118,11 +137,13 @@ begun_sound s h sound idle is room = record {
   flags = rw (flag_length s.numbers s.flags h.number false) sound.flags;
   end_low = sound.end_low;
   end_high = sound.end_high;
-  tail = begun_tail s.geometry.page (pages_in s) s.end s.tail h sound.end_high sound.tail idle room (legal_for s.numbers h sound.numbers is);
+  tail =
+      begun_tail s.geometry.page (pages_in s) s.end s.tail h sound.end_high sound.tail idle room (legal_for s.numbers h sound.numbers is);
 }
 
 -- STARTS
-pub erased_sound : (g : Geometry) (banks bank : ℕ) (numbers : List (DeviceNumber × ℕ)) → IsLegal g → HasBanks g banks → bank < banks → 2 ≤ pages_of_bank g banks → AreLengths 0 numbers → IsLogState (erased_state g banks bank numbers)
+pub erased_sound : (g : Geometry) (banks bank : ℕ) (numbers : List (DeviceNumber × ℕ)) → IsLegal g → HasBanks g banks
+    → bank < banks → 2 ≤ pages_of_bank g banks → AreLengths 0 numbers → IsLogState (erased_state g banks bank numbers)
 erased_sound g banks bank numbers legal shared lt two all = record {
   geometry = legal;
   shared = shared;
@@ -141,9 +162,16 @@ seen_tail p pages end v (Writes head done) seen = absurd seen
 seen_tail p pages end v (Owes head next) seen = absurd seen
 seen_tail p pages end v Closed seen = tt
 
-pub loaded_sound : LoadedLogsHold → (s : LogState) (v : View) (tail : Tail) → IsLogState s → IsView v → IsViewOf s v → IsTailSeen v tail
+pub loaded_sound : LoadedLogsHold → (s : LogState) (v : View) (tail : Tail) → IsLogState s → IsView v → IsViewOf s v
+    → IsTailSeen v tail
     → let b = viewed_bank v in let end = end_of b v.bytes in 2 ≤ end → end ≤ v.pages
-    → IsLogState (record s { format = v.head.format; places = places_of s.numbers (records_of b v.bytes); flags = clear_flags s.numbers; end = end; tail = tail })
+    → IsLogState (record s {
+      format = v.head.format;
+      places = places_of s.numbers (records_of b v.bytes);
+      flags = clear_flags s.numbers;
+      end = end;
+      tail = tail;
+    })
 loaded_sound loaded s v tail sound view is seen low high =
     let b = viewed_bank v in
     let end = end_of b v.bytes in
@@ -154,7 +182,8 @@ loaded_sound loaded s v tail sound view is seen low high =
       shared = sound.shared;
       bank = sound.bank;
       numbers = sound.numbers;
-      places = subst (λ (p : ℕ). AreWithin p end s.numbers places) is.page (placed_within b v.bytes (exactly b v.bytes) end s.numbers places holds.placed);
+      places =
+          subst (λ (p : ℕ). AreWithin p end s.numbers places) is.page (placed_within b v.bytes (exactly b v.bytes) end s.numbers places holds.placed);
       flags = clear_length s.numbers;
       end_low = low;
       end_high = subst (λ (n : ℕ). end ≤ n) is.pages high;

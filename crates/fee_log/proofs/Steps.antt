@@ -34,7 +34,8 @@ page_inside B p banks k q n size low lt =
     omega (arith, size, one, two, turn, a, b, c)
 
 -- NO RECORD WAITS BEHIND A STEP
-picked : (s : LogState) (may : May) (body : List ℕ) (b : Bool) (x y : Log) → MayFollow may (with_log s x).tail body → MayFollow may (with_log s y).tail body → MayFollow may (with_log s (if b then x else y)).tail body
+picked : (s : LogState) (may : May) (body : List ℕ) (b : Bool) (x y : Log) → MayFollow may (with_log s x).tail body
+    → MayFollow may (with_log s y).tail body → MayFollow may (with_log s (if b then x else y)).tail body
 picked s may body true x y first second = first
 picked s may body false x y first second = second
 
@@ -46,7 +47,8 @@ module _ (s : LogState) (body : List ℕ) (may : May) where
   done_waits Open = tt
   done_waits (Writes h k) =
       let l = log_of (at (Writes h k)) [] in
-      picked s may body (is_last s.geometry.page h k) (record (log_behind s.geometry.page l h) { places = noted s.numbers s.places s.end h }) (record l { tail = LogWrites h [] (k + 1) }) tt tt
+      picked s may body (is_last s.geometry.page h k) (record (log_behind s.geometry.page l h)
+      { places = noted s.numbers s.places s.end h }) (record l { tail = LogWrites h [] (k + 1) }) tt tt
   done_waits (Owes h None) = tt
   done_waits (Owes h (Some next)) = tt
   done_waits Closed = tt
@@ -60,20 +62,25 @@ module _ (s : LogState) (body : List ℕ) (may : May) where
   failed_waits Closed = tt
 
 -- a record that waited for an owed gate begins behind it
-followed_holds : RecordsBegin → (s : LogState) (body old new : List ℕ) (may : May) (tail : Tail) → IsLogState s → IsTail s.geometry.page (pages_in s) s.end tail → MayFollow may tail body
+followed_holds : RecordsBegin → (s : LogState) (body old new : List ℕ) (may : May) (tail : Tail) → IsLogState s
+    → IsTail s.geometry.page (pages_in s) s.end tail → MayFollow may tail body
     → HoldsLog (bank_of s) s.numbers old may (log_of (record s { tail = tail }) body)
-    → HoldsLog (bank_of s) s.numbers new (may_after (record s { tail = tail }) body Done may) (log_done s.geometry.page s.numbers (log_of (record s { tail = tail }) body))
+    → HoldsLog (bank_of s) s.numbers new (may_after (record s { tail = tail }) body Done may)
+    (log_done s.geometry.page s.numbers (log_of (record s { tail = tail }) body))
     → HoldsLog (bank_of s) s.numbers new (may_after (record s { tail = tail }) body Done may) (log_after (record s { tail = tail }) body Done)
 followed_holds begin s body old new may Open sound lies follows before holds = holds
 followed_holds begin s body old new may (Writes h k) sound lies follows before holds = holds
 followed_holds begin s body old new may (Owes h None) sound lies follows before holds = holds
 followed_holds begin s body old new may (Owes h (Some next)) sound lies follows before holds =
     let owing : IsOwing (bank_of s) old s.end h = before.tail in
-    let is : IsRecord (bank_of s) (s.end + pages_of_head s.geometry.page h) next body = record { format = owing.staged.format; legal = lies.1; size = follows.0; room = omega (arith, lies.0) } in
+    let is : IsRecord (bank_of s) (s.end + pages_of_head s.geometry.page h) next body = record
+    { format = owing.staged.format; legal = lies.1; size = follows.0; room = omega (arith, lies.0) } in
     begin (bank_of s) s.numbers new may (log_behind s.geometry.page (log_of (record s { tail = Owes h (Some next) }) body) h) next body holds refl is follows.1
 followed_holds begin s body old new may Closed sound lies follows before holds = holds
 
-module _ (failed : FailedStepsHold) (done : DoneStepsHold) (next : NextIsFresh) (begin : RecordsBegin) (own : ProgramsTouchTheirBank) (stand : ProgramsStand) (follow : StepsFollow) (is_due : WorkIsDue) (s : LogState) (body old new : List ℕ) (may : May) (due : IsDueOn s body old may) where
+module _ (failed : FailedStepsHold) (done : DoneStepsHold) (next : NextIsFresh) (begin : RecordsBegin)
+    (own : ProgramsTouchTheirBank) (stand : ProgramsStand) (follow : StepsFollow) (is_due : WorkIsDue) (s : LogState)
+    (body old new : List ℕ) (may : May) (due : IsDueOn s body old may) where
   abbrev log : Log
   log = log_of s body
 
@@ -81,34 +88,42 @@ module _ (failed : FailedStepsHold) (done : DoneStepsHold) (next : NextIsFresh) 
   is = is_due s body due.work
 
   touched : MayLeave (op_of s body) old new → Touches (bank_of s) (page_due log) old new
-  touched leaves = subst (λ (q : ℕ). Touches (bank_of s) q old new) is.1 (own (bank_of s) old new (due_bytes s body) (due_page s) due.page.size leaves)
+  touched leaves =
+      subst (λ (q : ℕ). Touches (bank_of s) q old new) is.1 (own (bank_of s) old new (due_bytes s body) (due_page s) due.page.size leaves)
 
   pub cuts : MayLeave (op_of s body) old new → HoldsLog (bank_of s) s.numbers new may (log_failed s.geometry.page log)
-  cuts leaves = failed (bank_of s) s.numbers old new may log due.state.geometry.page_low due.holds.holds is.0 (touched leaves)
+  cuts leaves =
+      failed (bank_of s) s.numbers old new may log due.state.geometry.page_low due.holds.holds is.0 (touched leaves)
 
   pub stands : Leaves (op_of s body) Done old new → page_of (bank_of s) new (due_page s) ≡ due_bytes s body
   stands leaves =
       let fresh = next (bank_of s) s.numbers old may log due.holds.holds is.0 in
       let q = due_page s in
       let lt : q < pages_in s = subst (λ (q : ℕ). q < pages_in s) (sym is.1) fresh.high in
-      let blank : page_of (bank_of s) old q ≡ blank_page s.geometry.page = subst (λ (q : ℕ). page_of (bank_of s) old q ≡ blank_page s.geometry.page) (sym is.1) fresh.blank in
+      let blank : page_of (bank_of s) old q ≡ blank_page s.geometry.page = subst
+      (λ (q : ℕ). page_of (bank_of s) old q ≡ blank_page s.geometry.page) (sym is.1) fresh.blank in
       let inside = page_inside (pages_in s) s.geometry.page s.banks s.bank q (length old) due.holds.size due.state.bank lt in
-      subst (λ (bytes : List ℕ). page_of (bank_of s) bytes q ≡ due_bytes s body) (sym leaves) (stand (bank_of s) old (due_bytes s body) q due.page.size due.page.bytes inside blank).0
+      subst (λ (bytes : List ℕ). page_of (bank_of s) bytes q ≡ due_bytes s body) (sym leaves)
+      (stand (bank_of s) old (due_bytes s body) q due.page.size due.page.bytes inside blank).0
 
-  done_holds : MayLeave (op_of s body) old new → Leaves (op_of s body) Done old new → HoldsLog (bank_of s) s.numbers new (may_after s body Done may) (log_done s.geometry.page s.numbers log)
+  done_holds : MayLeave (op_of s body) old new → Leaves (op_of s body) Done old new
+      → HoldsLog (bank_of s) s.numbers new (may_after s body Done may) (log_done s.geometry.page s.numbers log)
   done_holds leaves stood =
-      let page : page_of (bank_of s) new (page_due log) ≡ due_bytes s body = subst (λ (q : ℕ). page_of (bank_of s) new q ≡ due_bytes s body) is.1 (stands stood) in
+      let page : page_of (bank_of s) new (page_due log) ≡ due_bytes s body = subst
+      (λ (q : ℕ). page_of (bank_of s) new q ≡ due_bytes s body) is.1 (stands stood) in
       done (bank_of s) s.numbers old new may log due.state.geometry.page_low due.holds.holds is.0 (touched leaves) page
 
   size : MayLeave (op_of s body) old new → pages_in s * s.geometry.page * s.banks ≤ length new
   size leaves = omega (arith, due.holds.size, leaves.0.size)
 
-  pub answers : (answer : FlashAnswer) → (answer ≡ Off → ⊥) → MayLeave (op_of s body) old new → Leaves (op_of s body) answer old new → HoldsState (after_step s answer) body new (may_after s body answer may)
+  pub answers : (answer : FlashAnswer) → (answer ≡ Off → ⊥) → MayLeave (op_of s body) old new
+      → Leaves (op_of s body) answer old new → HoldsState (after_step s answer) body new (may_after s body answer may)
   answers Done on leaves stood =
       let both = followed_holds begin s body old new may s.tail due.state due.state.tail due.holds.follows due.holds.holds (done_holds leaves stood) in
       record {
         size = size leaves;
-        holds = subst (λ (l : Log). HoldsLog (bank_of s) s.numbers new (may_after s body Done may) l) (sym (follow s body Done)) both;
+        holds =
+            subst (λ (l : Log). HoldsLog (bank_of s) s.numbers new (may_after s body Done may) l) (sym (follow s body Done)) both;
         follows = done_waits s body (may_after s body Done may) s.tail;
       }
   answers Failed on leaves also = record {
@@ -118,11 +133,17 @@ module _ (failed : FailedStepsHold) (done : DoneStepsHold) (next : NextIsFresh) 
   }
   answers Off on leaves also = absurd (on refl)
 
-pub cuts_hold : FailedStepsHold → DoneStepsHold → NextIsFresh → RecordsBegin → ProgramsTouchTheirBank → ProgramsStand → StepsFollow → WorkIsDue → CutsHold
-cuts_hold failed done next begin own stand follow is_due s body old new may due leaves = cuts failed done next begin own stand follow is_due s body old new may due leaves
+pub cuts_hold : FailedStepsHold → DoneStepsHold → NextIsFresh → RecordsBegin → ProgramsTouchTheirBank → ProgramsStand
+    → StepsFollow → WorkIsDue → CutsHold
+cuts_hold failed done next begin own stand follow is_due s body old new may due leaves =
+    cuts failed done next begin own stand follow is_due s body old new may due leaves
 
-pub answers_hold : FailedStepsHold → DoneStepsHold → NextIsFresh → RecordsBegin → ProgramsTouchTheirBank → ProgramsStand → StepsFollow → WorkIsDue → AnswersHold
-answers_hold failed done next begin own stand follow is_due s body old new may answer due on leaves left = answers failed done next begin own stand follow is_due s body old new may due answer on leaves left
+pub answers_hold : FailedStepsHold → DoneStepsHold → NextIsFresh → RecordsBegin → ProgramsTouchTheirBank
+    → ProgramsStand → StepsFollow → WorkIsDue → AnswersHold
+answers_hold failed done next begin own stand follow is_due s body old new may answer due on leaves left =
+    answers failed done next begin own stand follow is_due s body old new may due answer on leaves left
 
-pub pages_stand : FailedStepsHold → DoneStepsHold → NextIsFresh → RecordsBegin → ProgramsTouchTheirBank → ProgramsStand → StepsFollow → WorkIsDue → PagesStand
-pages_stand failed done next begin own stand follow is_due s body old new may due left = stands failed done next begin own stand follow is_due s body old new may due left
+pub pages_stand : FailedStepsHold → DoneStepsHold → NextIsFresh → RecordsBegin → ProgramsTouchTheirBank
+    → ProgramsStand → StepsFollow → WorkIsDue → PagesStand
+pages_stand failed done next begin own stand follow is_due s body old new may due left =
+    stands failed done next begin own stand follow is_due s body old new may due left

@@ -13,7 +13,8 @@ use Rattle.log_image.specs.May.{May}
 use Rattle.log_image.specs.Places.{place_at, noted, erased_places, IsWithin, ArePlaced}
 use Rattle.fee_log.specs.Index.{AreWithin, or_else}
 
-pub within_length : (p end : ℕ) (ns : List (DeviceNumber × ℕ)) (places : List Place) → AreWithin p end ns places → length places ≡ length ns
+pub within_length : (p end : ℕ) (ns : List (DeviceNumber × ℕ)) (places : List Place) → AreWithin p end ns places
+    → length places ≡ length ns
 within_length p end [] [] all = refl
 within_length p end [] (place ∷ places) all = absurd all
 within_length p end (n ∷ ns) [] all = absurd all
@@ -23,30 +24,36 @@ pub erased_within : (p end : ℕ) (ns : List (DeviceNumber × ℕ)) → AreWithi
 erased_within p end [] = tt
 erased_within p end (n ∷ ns) = (tt, erased_within p end ns)
 
-pub placed_within : (b : Bank) (bytes : List ℕ) (may : May) (end : ℕ) (ns : List (DeviceNumber × ℕ)) (places : List Place) → ArePlaced b bytes may end ns places → AreWithin b.page end ns places
+pub placed_within : (b : Bank) (bytes : List ℕ) (may : May) (end : ℕ) (ns : List (DeviceNumber × ℕ)) (places : List Place)
+    → ArePlaced b bytes may end ns places → AreWithin b.page end ns places
 placed_within b bytes may end [] [] all = tt
 placed_within b bytes may end [] (place ∷ places) all = absurd all
 placed_within b bytes may end (n ∷ ns) [] all = absurd all
 placed_within b bytes may end (n ∷ ns) (place ∷ places) all = (all.0, placed_within b bytes may end ns places all.2)
 
-further_one : (p end end' length : ℕ) (place : Place) → end ≤ end' → IsWithin p end length place → IsWithin p end' length place
+further_one : (p end end' length : ℕ) (place : Place) → end ≤ end' → IsWithin p end length place
+    → IsWithin p end' length place
 further_one p end end' length (Content at) le within = (within.0, omega (arith, within.1))
 further_one p end end' length Invalid le within = tt
 further_one p end end' length Erased le within = tt
 
 -- a log that goes on keeps its places
-pub further : (p end end' : ℕ) (ns : List (DeviceNumber × ℕ)) (places : List Place) → end ≤ end' → AreWithin p end ns places → AreWithin p end' ns places
+pub further : (p end end' : ℕ) (ns : List (DeviceNumber × ℕ)) (places : List Place) → end ≤ end'
+    → AreWithin p end ns places → AreWithin p end' ns places
 further p end end' [] [] le all = tt
 further p end end' [] (place ∷ places) le all = absurd all
 further p end end' (n ∷ ns) [] le all = absurd all
-further p end end' (n ∷ ns) (place ∷ places) le all = (further_one p end end' n.1 place le all.0, further p end end' ns places le all.1)
+further p end end' (n ∷ ns) (place ∷ places) le all =
+    (further_one p end end' n.1 place le all.0, further p end end' ns places le all.1)
 
-kind_within : (p end length at : ℕ) (b c : Bool) → (b ≡ true → (2 ≤ at) × (at + record_pages_of length p ≤ end)) → IsWithin p end length (if b then Content at else (if c then Invalid else Erased))
+kind_within : (p end length at : ℕ) (b c : Bool) → (b ≡ true → (2 ≤ at) × (at + record_pages_of length p ≤ end))
+    → IsWithin p end length (if b then Content at else (if c then Invalid else Erased))
 kind_within p end length at true c content = content refl
 kind_within p end length at false true content = tt
 kind_within p end length at false false content = tt
 
-pick_within : (p end length : ℕ) (b : Bool) (x y : Place) → (b ≡ true → IsWithin p end length x) → IsWithin p end length y → IsWithin p end length (if b then x else y)
+pick_within : (p end length : ℕ) (b : Bool) (x y : Place) → (b ≡ true → IsWithin p end length x)
+    → IsWithin p end length y → IsWithin p end length (if b then x else y)
 pick_within p end length true x y one two = one refl
 pick_within p end length false x y one two = two
 
@@ -54,7 +61,9 @@ fits_length : (number length : ℕ) (h : RecHead) → fits number length h ≡ t
 fits_length number length h fit kind = grind (arith, nat_tests)
 
 -- a record that is taken in lies among the bank's records
-pub noted_within : (p end end' : ℕ) (ns : List (DeviceNumber × ℕ)) (places : List Place) (h : RecHead) → 2 ≤ end → end + record_pages_of h.length p ≤ end' → AreWithin p end ns places → AreWithin p end' ns (noted ns places end h)
+pub noted_within : (p end end' : ℕ) (ns : List (DeviceNumber × ℕ)) (places : List Place) (h : RecHead) → 2 ≤ end
+    → end + record_pages_of h.length p ≤ end' → AreWithin p end ns places
+    → AreWithin p end' ns (noted ns places end h)
 noted_within p end end' [] [] h low le all = tt
 noted_within p end end' [] (place ∷ places) h low le all = absurd all
 noted_within p end end' (n ∷ ns) [] h low le all = absurd all
@@ -66,7 +75,8 @@ noted_within p end end' (n ∷ ns) (place ∷ places) h low le all = (
 )
 
 -- what stands at an index lies among them
-pub index_within : (p end : ℕ) (ns : List (DeviceNumber × ℕ)) (places : List Place) (i : ℕ) (x : DeviceNumber × ℕ) → AreWithin p end ns places → slice_get ns i ≡ Some x → IsWithin p end x.1 (or_else Erased (slice_get places i))
+pub index_within : (p end : ℕ) (ns : List (DeviceNumber × ℕ)) (places : List Place) (i : ℕ) (x : DeviceNumber × ℕ)
+    → AreWithin p end ns places → slice_get ns i ≡ Some x → IsWithin p end x.1 (or_else Erased (slice_get places i))
 index_within p end [] places i x within is = cc
 index_within p end (n ∷ ns) [] i x within is = absurd within
 index_within p end (n ∷ ns) (place ∷ places) zero x within is =

@@ -87,8 +87,8 @@ ErasedHolds =
 abbrev pub BeginsHold : Type 0
 BeginsHold =
     (s : LogState) (head : RecHead) (before body bytes : List ℕ) (may : May)
-    → IsLogState s → HoldsState s before bytes may → work_in s.tail ≡ None → s.format ≡ 1 → IsFor s.numbers head → record_pages_of head.length s.geometry.page ≤ free_in s
-    → length body ≡ head.length → MayCommit may head body
+    → IsLogState s → HoldsState s before bytes may → work_in s.tail ≡ None → s.format ≡ 1 → IsFor s.numbers head
+    → record_pages_of head.length s.geometry.page ≤ free_in s → length body ≡ head.length → MayCommit may head body
     → HoldsState (begun s head) body bytes may
 
 -- a record is given up

@@ -1,5 +1,6 @@
 // Laws: what a log is to the bytes of its bank. Their functions do nothing.
-ghost use Rattle.fee_log.specs.Laws.{StepsFollow, GivenUpFollows, BeginsOpen, BeginsOwing, WorkIsDue, LoadsAreLoaded, LoadedLogsMove, LoadsHold, ErasedHolds, BeginsHold, GivenUpHolds, FlagsHold, CutsHold, AnswersHold, PagesStand};
+ghost use Rattle.fee_log.specs.Laws.{StepsFollow, GivenUpFollows, BeginsOpen, BeginsOwing, WorkIsDue, LoadsAreLoaded, LoadedLogsMove};
+ghost use Rattle.fee_log.specs.Laws.{LoadsHold, ErasedHolds, BeginsHold, GivenUpHolds, FlagsHold, CutsHold, AnswersHold, PagesStand};
 
 use fee_image::{programs_keep_soundness, records_stay};
 use log_image::{logs_begin, logs_stay, memory_alone, steps_hold};

@@ -19,8 +19,11 @@ loop-item-preserved c =
     let r = rec_shown c.in-Some.item in
     record {
       taken = inv.taken ++ r ∷ [];
-      all = append_assoc inv.taken (r ∷ []) (records_in c.next.new.self) ∙ ap (λ (rest : List Rec). inv.taken ++ rest) (sym c.in-Some.ensures.steps.0) ∙ inv.all;
-      places_are = rw (c.take_record.ensures, inv.places_are) (sym (places_push c.appends_leave_one_more.ensures.last c.args.numbers.now inv.taken r c.in-Some.item.committed refl));
+      all =
+          append_assoc inv.taken (r ∷ []) (records_in c.next.new.self) ∙ ap (λ (rest : List Rec). inv.taken ++ rest) (sym c.in-Some.ensures.steps.0) ∙ inv.all;
+      places_are =
+          rw (c.take_record.ensures, inv.places_are) (sym (places_push c.appends_leave_one_more.ensures.last
+          c.args.numbers.now inv.taken r c.in-Some.item.committed refl));
     }
 
 pub returns : goal.returns

@@ -9,5 +9,12 @@ forget-requires c = rw c.deref_mut.ensures.value (within_length _ _ _ _ c.self.i
 
 pub invariant_of-self : goal.invariant_of-self
 invariant_of-self c =
-    rw (take_at c.forget.new.places _ c.self.inside.places.len (omega arith), c.forget.ensures, take_at c.clear_all.new.flags _ c.self.inside.flags.len (omega arith), c.clear_all.ensures)
-    (erased_sound c.self.inside.geometry c.self.inside.banks c.self.inside.bank c.self.inside.numbers c.self.invariant.geometry c.self.invariant.shared c.self.invariant.bank (omega (arith, c.self.invariant.end_low, c.self.invariant.end_high)) c.self.invariant.numbers)
+    rw (
+      take_at c.forget.new.places _ c.self.inside.places.len (omega arith),
+      c.forget.ensures,
+      take_at c.clear_all.new.flags _ c.self.inside.flags.len (omega arith),
+      c.clear_all.ensures,
+    )
+    (erased_sound c.self.inside.geometry c.self.inside.banks c.self.inside.bank c.self.inside.numbers
+    c.self.invariant.geometry c.self.invariant.shared c.self.invariant.bank
+    (omega (arith, c.self.invariant.end_low, c.self.invariant.end_high)) c.self.invariant.numbers)

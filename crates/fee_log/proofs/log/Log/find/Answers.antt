@@ -14,4 +14,5 @@ returns-clause-within c =
     (λ length has.
     let x : DeviceNumber × ℕ = (c.args.number, length) in
     let at = contained s.numbers x has in
-    rw (placed 0 s.numbers has.0 x c.self.invariant.numbers at) (index_within s.geometry.page s.end s.numbers s.places.items has.0 x c.self.invariant.places at))
+    rw (placed 0 s.numbers has.0 x c.self.invariant.numbers at)
+    (index_within s.geometry.page s.end s.numbers s.places.items has.0 x c.self.invariant.places at))

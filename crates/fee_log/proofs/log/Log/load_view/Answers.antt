@@ -11,5 +11,13 @@ pub invariant_of-self : goal.invariant_of-self
 invariant_of-self c =
     let end = c.end_page-self-inside.ensures in
     let r = rw (← c.self.view_is) at c.requires in
-    rw (take_at c.take_records.new.places _ c.self.inside.places.len (omega arith), c.take_records.ensures, take_at c.clear_all.new.flags _ c.self.inside.flags.len (omega arith), c.clear_all.ensures, c.head.ensures.head, end.end)
-    (loaded_sound c.logs_begin.ensures.loaded _ c.args.view.now c.tail_seen-self-inside.result c.self.invariant c.head.ensures.view r.view c.tail_seen-self-inside.ensures (rw end.end at end.low) (rw end.end at end.high))
+    rw (
+      take_at c.take_records.new.places _ c.self.inside.places.len (omega arith),
+      c.take_records.ensures,
+      take_at c.clear_all.new.flags _ c.self.inside.flags.len (omega arith),
+      c.clear_all.ensures,
+      c.head.ensures.head,
+      end.end,
+    )
+    (loaded_sound c.logs_begin.ensures.loaded _ c.args.view.now c.tail_seen-self-inside.result c.self.invariant
+    c.head.ensures.view r.view c.tail_seen-self-inside.ensures (rw end.end at end.low) (rw end.end at end.high))
