@@ -7,6 +7,7 @@ ghost use Rattle.nv_base.specs.Plan.{Nears};
 ghost use Rattle.fls_model.specs.Plan.{PlanGoes};
 ghost use Rattle.fls_model.specs.Told.{armed, powered};
 ghost use Rattle.fls_model.specs.Attach.{IsAttach};
+ghost use Rattle.fls_jobs.specs.Job.{IsJobIn};
 ghost use Rattle.fls_jobs.specs.Reach.{read_reach, write_reach, compare_reach, erase_reach};
 ghost use Rattle.fls_jobs.specs.Start.{CanStart, IsAnswer, Starts};
 ghost use Rattle.fls_jobs.specs.State.{just_made, status_of, IsDriverState};
@@ -122,14 +123,23 @@ impl<F: Flash> Fls<F> {
         check_length(reach, at, length)
     }
 
+    // Opens a job that may begin.
+    fn open(&mut self, job: FlsJob)
+        requires attached { self.old.attached ≡ true }
+        requires inside { IsJobIn self.old.geometry job }
+        ensures { self.new ≡ record self.old { job = Some job; result = FlsResult.JobPending } }
+    {
+        self.job = Some(job);
+        self.result = FlsResult::JobPending;
+    }
+
     /// Begins a read of up to 65,536 bytes.
     pub fn start_read(&mut self, address: u32, length: u32) -> Result<(), FlsRefusal>
         ensures start { Starts (FlsJob.Read address length) self.old (read_reach self.old.geometry) address length result self.new }
         ensures accepted { CanStart self.old (read_reach self.old.geometry) address length → IsOk result }
     {
         self.check(of_read(self.geometry), address, length as usize)?;
-        self.job = Some(FlsJob::Read { address, length });
-        self.result = FlsResult::JobPending;
+        self.open(FlsJob::Read { address, length });
         Ok(())
     }
 
@@ -139,11 +149,10 @@ impl<F: Flash> Fls<F> {
         ensures accepted { CanStart self.old (write_reach self.old.geometry) address (length content.now) → IsOk result }
     {
         self.check(of_write(self.geometry), address, content.len())?;
-        self.job = Some(FlsJob::Write {
+        self.open(FlsJob::Write {
             address,
             page: Page::of(content),
         });
-        self.result = FlsResult::JobPending;
         Ok(())
     }
 
@@ -153,8 +162,7 @@ impl<F: Flash> Fls<F> {
         ensures accepted { CanStart self.old (erase_reach self.old.geometry) sector count → IsOk result }
     {
         self.check(of_erase(self.geometry), sector, count as usize)?;
-        self.job = Some(FlsJob::Erase { sector, count });
-        self.result = FlsResult::JobPending;
+        self.open(FlsJob::Erase { sector, count });
         Ok(())
     }
 
@@ -164,11 +172,10 @@ impl<F: Flash> Fls<F> {
         ensures accepted { CanStart self.old (compare_reach self.old.geometry) address (length content.now) → IsOk result }
     {
         self.check(of_compare(self.geometry), address, content.len())?;
-        self.job = Some(FlsJob::Compare {
+        self.open(FlsJob::Compare {
             address,
             content: Page::of(content),
         });
-        self.result = FlsResult::JobPending;
         Ok(())
     }
 
@@ -178,8 +185,7 @@ impl<F: Flash> Fls<F> {
         ensures accepted { CanStart self.old (read_reach self.old.geometry) address length → IsOk result }
     {
         self.check(of_read(self.geometry), address, length as usize)?;
-        self.job = Some(FlsJob::BlankCheck { address, length });
-        self.result = FlsResult::JobPending;
+        self.open(FlsJob::BlankCheck { address, length });
         Ok(())
     }
 
