@@ -1,9 +1,9 @@
 -- A flash whose power is cut on purpose.
-use Rattle.std.specs.Prelude.{◌≡◌, ◌-◌, ℕ, Bool, true, false, Option, Some, None, nat_le, if◌then◌else◌}
+use Rattle.std.specs.Prelude.{◌≡◌, ℕ, Bool, true, false, Option, Some, None, nat_le, if◌then◌else◌}
 use Rattle.fls_model.specs.declared.flash.FlashAnswer.{FlashAnswer}
 use Rattle.fls_model.specs.declared.flash.FlashAnswer.TheVariants.{Off}
 use Rattle.nv_base.specs.declared.plan.Plan.{Plan}
-use Rattle.nv_base.specs.Plan.{Planning}
+use Rattle.nv_base.specs.Plan.{Planning, nearer}
 use Rattle.fls_model.specs.Told.{Told}
 use Rattle.fls_model.specs.Op.{Op}
 use Rattle.fls_devices.specs.declared.part.Harm.TheVariants.{Cut}
@@ -41,7 +41,7 @@ due false (Some p) = if nat_le p.left 1 then Some p.keep else None
 abbrev pub plan_after : Bool → Option Plan → Option Plan
 plan_after true plan = plan
 plan_after false None = None
-plan_after false (Some p) = if nat_le p.left 1 then None else Some (record p { left = p.left - 1 })
+plan_after false (Some p) = if nat_le p.left 1 then None else nearer (Some p)
 
 abbrev pub CutOrPassed : Option ℕ → Op → Overlaid → FlashAnswer → Overlaid → Type 0
 CutOrPassed (Some keep) op old answer new = (answer ≡ Off) × IsHarmed Cut keep op old answer new
