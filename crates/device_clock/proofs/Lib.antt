@@ -1,3 +1,4 @@
 pub mod Clocks
 pub mod Making
 pub mod Runs
+pub mod Tells

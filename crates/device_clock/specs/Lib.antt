@@ -1,3 +1,4 @@
 pub mod Clock
 pub mod Device
 pub mod Runs
+pub mod Tells

@@ -7,6 +7,8 @@
 
 mod clock_laws;
 mod run_laws;
+mod tell_laws;
 
 pub use clock_laws::clocks_tick;
 pub use run_laws::{runs_bridge, runs_go_on};
+pub use tell_laws::numbers_are_told;
