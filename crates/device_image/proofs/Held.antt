@@ -23,7 +23,7 @@ use Rattle.bank_image.specs.Doubts.{shown_of, OldBanksShow, HasMarks, HasCopies,
 use Rattle.bank_image.specs.Laws.{BanksShow, BanksWiden, SealsWithin}
 use Rattle.device_bridge.specs.Image.{found_as}
 use Rattle.device_image.specs.Slots.{Memory, banks_with, IsWorkOf, HasJob, IsCopied, held, slot_of, left_by, job_leaves, marks_at, settled_in, settled_at, slots_held, may_of, may_told}
-use Rattle.device_image.specs.Laws.{HeldAnew, ImagesFind, StepsKeep, GoesOn}
+use Rattle.device_image.specs.Laws.{HeldAnew, CopiesAreTold, ImagesFind, StepsKeep, GoesOn}
 use Rattle.device_image.proofs.Slots.{slot_is, slot_none, keeps_same, keeps_one, possible_from, among_from, leaves_fewer, shown_possible, job_doubted, has_first, has_cases}
 
 -- IMAGES
@@ -169,6 +169,11 @@ module _ (l : Layout) (numbers : List (DeviceNumber × ℕ)) (bytes : List ℕ) 
 
 pub held_anew : BanksTighten → BanksWiden → HeldAnew
 held_anew tighten widen l numbers bytes m may copied all holds job seal = record { banks = anew l numbers bytes m may copied all holds job seal tighten widen; job = job; seal = seal }
+
+pub copies_are_told : CopiesAreTold
+copies_are_told l numbers bytes m copied before is_held are number length x among = among_from numbers (slots_held l numbers bytes m) number length x (λ has.
+  let is = are number length x has among in
+  subst (λ (s : Slot). IsPossible s (held x)) (sym (held_slot l numbers bytes m (may_told l numbers bytes m) number length is_held.banks.old has)) (inl (ap held is)))
 
 -- STEPS
 module _ (show : OldBanksShow) (l : Layout) (numbers : List (DeviceNumber × ℕ)) (old new : List ℕ) (m t : Memory) (copied : May) (holds : Holds l numbers new (banks_with t (may_told l numbers old m) copied)) (same : settled_in l numbers new t.old ≡ settled_in l numbers old m.old) (goes : GoesOn m.stand t.stand) where

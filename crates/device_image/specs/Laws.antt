@@ -42,6 +42,12 @@ ImagesFind =
     → IsLegalLayout l → Holds l numbers image s → IsWider s.may (may_of numbers slots)
     → (n : ℕ) → IsPossible (slot_at numbers slots n) (held_of l numbers image n)
 
+-- a target that shows the settled marks alone shows nothing but what is told
+abbrev pub CopiesAreTold : Type 0
+CopiesAreTold =
+    (l : Layout) (numbers : List (DeviceNumber × ℕ)) (bytes : List ℕ) (m : Memory) (copied before : May)
+    → IsHeld l numbers bytes m before → AreCopied l numbers bytes m.old copied → IsWider copied (may_told l numbers bytes m)
+
 -- WHAT A STEP MAKES OF IT
 -- no other job is open than before
 abbrev pub GoesOn : Stand → Stand → Type 0

@@ -1,5 +1,5 @@
 // Laws: what is told of the numbers. Their functions do nothing.
-ghost use Rattle.device_image.specs.Laws.{HeldAnew, ImagesFind, StepsKeep, StepsSettle, StepsSeal, JobsKeep, JobsOpen, StartsFind, UnstartedFind, UnstartedIsFound};
+ghost use Rattle.device_image.specs.Laws.{HeldAnew, CopiesAreTold, ImagesFind, StepsKeep, StepsSettle, StepsSeal, JobsKeep, JobsOpen, StartsFind, UnstartedFind, UnstartedIsFound};
 
 use bank_image::{banks_show, doubts_compute};
 
@@ -8,6 +8,7 @@ use bank_image::{banks_show, doubts_compute};
 pub fn marks_are_found()
     ensures anew { HeldAnew }
     ensures find { ImagesFind }
+    ensures copies { CopiesAreTold }
 {
     banks_show();
     doubts_compute();

@@ -1,0 +1,4 @@
+pub mod Appends
+pub mod Jobs
+pub mod Kept
+pub mod Switches
