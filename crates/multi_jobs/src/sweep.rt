@@ -1,5 +1,5 @@
 // A request on all blocks under way.
-ghost use Rattle.std.specs.Prelude.{◌≡◌, ◌≤◌, true, Some, IfSome};
+ghost use Rattle.std.specs.Prelude.{◌≡◌, ◌≤◌, ◌&&◌, not, true, Some, IfSome};
 ghost use Rattle.block_machine.specs.Blocks.{desc_of};
 ghost use Rattle.block_machine.specs.Sweeps.{spoils};
 ghost use Rattle.multi_jobs.specs.Sweep.{sweep_of, next_member, noted, moved, step_of, step_on, result_of, is_picked_by, place_behind};
@@ -151,6 +151,13 @@ impl Sweep {
         ensures { self.new ≡ record self.old { canceled = true } }
     {
         self.canceled = true;
+    }
+
+    /// Whether it is a WriteAll that wasn't canceled.
+    pub fn can_cancel(&self) -> bool
+        ensures { result ≡ (self.now.writes && not self.now.canceled) }
+    {
+        self.writes && !self.canceled
     }
 
     fn result(&self) -> ReqResult
