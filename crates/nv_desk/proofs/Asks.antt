@@ -1,0 +1,76 @@
+-- What an accepted request has passed.
+use Rattle.std.proofs.Common.{◌≡◌, ◌≢◌, ℕ, ◌==◌, ◌+◌, ◌≤◌, ◌<◌, ◌||◌, not, Bool, true, false, cond, List, [], ◌∷◌, ◌++◌, refl, sym, Option, Some, None, is_some, find, nat_lt, length, get_or, ◌∙◌}
+use Rattle.std.specs.Option.{option_map_or}
+use Rattle.std.proofs.lemmas.Bool.{leb-true, ltb-false, eq-eqb, eqb-true}
+use Rattle.block_machine.specs.Words.{Configuration, Request, Read, Write, Restore, Erase, Invalidate, PutRam, ReadAll, WriteAll, Reply, Accepted, Refused, Refusal}
+use Rattle.block_machine.specs.State.{State}
+use Rattle.block_machine.specs.Blocks.{job_kind, desc_of, is_permanent}
+use Rattle.block_machine.specs.Reply.{reply_of, holds, tested, answer_to, fits, reserved_entries}
+use Rattle.block_states.specs.States.{rooms_of, RoomsHaveLengths}
+use Rattle.nv_desk.specs.Asks.{IsJobAccepted, IsSweepAccepted}
+use Rattle.nv_desk.specs.Desk.{sweep_request}
+
+-- none of these passes the test
+abbrev NonePass : {X : Type 0} → (X → Bool) → List X → Type 0
+NonePass test [] = Unit {0}
+NonePass test (x ∷ xs) = (test x ≡ false) × NonePass test xs
+
+by_first : {X : Type 0} (x : X) (t : Bool) (rest : Option X) → cond t (Some x) rest ≡ None → (t ≡ false) × (rest ≡ None)
+by_first x true rest none = cc
+by_first x false rest none = (refl, none)
+
+none_pass : {X : Type 0} (test : X → Bool) (xs : List X) → find test xs ≡ None → NonePass test xs
+none_pass test [] none = tt
+none_pass test (x ∷ xs) none = let (here, rest) = by_first x (test x) (find test xs) none in (here, none_pass test xs rest)
+
+none_refused : (o : Option Refusal) (d : Reply) → option_map_or Refused o d ≡ Accepted → o ≡ None
+none_refused None d e = refl
+none_refused (Some x) d e = cc
+
+passed : (c : Configuration) (cap : ℕ) (s : State) (r : Request) → Accepted ≡ reply_of c cap s r → NonePass (λ x. holds c cap s x r) (tested r)
+passed c cap s r is = none_pass (λ x. holds c cap s x r) (tested r) (none_refused (find (λ x. holds c cap s x r) (tested r)) (answer_to s r) (sym is))
+
+not_false : (b : Bool) → not b ≡ false → b ≡ true
+not_false true e = refl
+not_false false e = cc
+
+pub job_accepted : (c : Configuration) (cap : ℕ) (s : State) (r : Request) → is_some (job_kind r) ≡ true → Accepted ≡ reply_of c cap s r → IsJobAccepted c cap s r
+job_accepted c cap s (Read block false) job is = let p = passed c cap s (Read block false) is in record { known = p.0; free = p.1.1.1.0; queue = p.1.1.1.1.0; room = not_false _ p.1.1.1.1.1.0 }
+job_accepted c cap s (Read block true) job is = let p = passed c cap s (Read block true) is in record { known = p.0; free = p.1.1.1.1.0; queue = p.1.1.1.1.1.0; room = not_false _ p.1.1.1.1.1.1.0 }
+job_accepted c cap s (Write block (Some content) store) job is = let p = passed c cap s (Write block (Some content) store) is in record { known = p.0; free = p.1.1.1.1.1.0; queue = p.1.1.1.1.1.1.1.1.1.0; room = not_false _ p.1.1.1.1.1.1.1.1.1.1.0 }
+job_accepted c cap s (Write block None store) job is = let p = passed c cap s (Write block None store) is in record { known = p.0; free = p.1.1.1.1.1.0; queue = p.1.1.1.1.1.1.1.1.1.0; room = not_false _ p.1.1.1.1.1.1.1.1.1.1.0 }
+job_accepted c cap s (Restore block false) job is = let p = passed c cap s (Restore block false) is in record { known = p.0; free = p.1.1.1.1.1.0; queue = p.1.1.1.1.1.1.0; room = not_false _ p.1.1.1.1.1.1.1.0 }
+job_accepted c cap s (Restore block true) job is = let p = passed c cap s (Restore block true) is in record { known = p.0; free = p.1.1.1.1.1.1.0; queue = p.1.1.1.1.1.1.1.0; room = not_false _ p.1.1.1.1.1.1.1.1.0 }
+job_accepted c cap s (Erase block) job is = let p = passed c cap s (Erase block) is in record { known = p.0; free = p.1.1.1.1.1.0; queue = p.1.1.1.1.1.1.1.1.1.0; room = not_false _ p.1.1.1.1.1.1.1.1.1.1.0 }
+job_accepted c cap s (Invalidate block) job is = let p = passed c cap s (Invalidate block) is in record { known = p.0; free = p.1.1.1.1.0; queue = p.1.1.1.1.1.1.1.1.0; room = not_false _ p.1.1.1.1.1.1.1.1.1.0 }
+job_accepted c cap s r job is = cc
+
+pub sweep_accepted : (c : Configuration) (cap : ℕ) (s : State) (writes : Bool) → Accepted ≡ reply_of c cap s (sweep_request writes) → IsSweepAccepted c cap s (sweep_request writes)
+sweep_accepted c cap s false is = let p = passed c cap s ReadAll is in record { alone = p.1.0; room = not_false _ p.1.1.0 }
+sweep_accepted c cap s true is = let p = passed c cap s WriteAll is in record { alone = p.1.0; room = not_false _ p.1.1.0 }
+
+-- WHAT THAT MEANS
+
+pub room_of : (c : Configuration) (cap : ℕ) (s : State) (more : ℕ) → fits c cap s more ≡ true → s.count + reserved_entries c s + more ≤ cap
+room_of c cap s more is = leb-true (s.count + reserved_entries c s + more) cap is
+
+or_parts : (a b : Bool) → (a || b) ≡ false → (a ≡ false) × (b ≡ false)
+or_parts false false e = (refl, refl)
+or_parts true b e = cc
+or_parts false true e = cc
+
+pub known_of : (n id : ℕ) → ((id == 0) || nat_lt n id) ≡ false → (id ≢ 0) × (id ≤ n)
+known_of n id is = let (a, b) = or_parts (id == 0) (nat_lt n id) is in ((λ e. cc (a, eq-eqb id 0 e)), ltb-false n id b)
+
+-- a content that is put has the length of the block's RAM
+length_is : (a b : ℕ) → not (a == b) ≡ false → a ≡ b
+length_is a b e = eqb-true a b (not_false (a == b) e)
+
+keeps : (a b : Bool) → not b ≡ false → (a || b) ≡ true
+keeps true b e = refl
+keeps false b e = not_false b e
+
+pub put_fits : RoomsHaveLengths → (c : Configuration) (cap : ℕ) (s : State) (block : ℕ) (content : List ℕ) → Accepted ≡ reply_of c cap s (PutRam block content) → length content ≡ get_or (rooms_of c) block 0
+put_fits law c cap s block content is =
+    let p = passed c cap s (PutRam block content) is in
+    length_is (length content) (desc_of c block).length p.1.1.1.0 ∙ sym (law c block (keeps (block == 1) (is_permanent (desc_of c block).ram) p.1.1.1.1.0))

@@ -1,0 +1,75 @@
+-- One entry more.
+use Rattle.std.proofs.Common.{◌≡◌, ◌≢◌, ◌≤◌, ◌<◌, ℕ, ◌+◌, ◌-◌, ◌*◌, ◌^◌, List, [], ◌∷◌, ◌++◌, length, refl, sym, ap, ◌∙◌, subst, arith}
+use Rattle.nv_base.specs.History.{Listed}
+use Rattle.block_machine.specs.Words.{Configuration, Entry}
+use Rattle.block_machine.specs.State.{State}
+use Rattle.block_machine.specs.Reply.{reserved_entries}
+use Rattle.block_machine.specs.Steps.{after, step, changed_by}
+use Rattle.block_machine.specs.Legal.{IsAllowed}
+use Rattle.machine_laws.specs.Laws.{HistoriesStep, HistoriesStayLegal, EntriesAreCounted}
+use Rattle.nv_desk.specs.declared.desk.Desk.TheInside.{Inside}
+use Rattle.nv_desk.specs.declared.kept.Kept.{Kept}
+use Rattle.nv_desk.specs.Rooms.{Roomy}
+use Rattle.nv_desk.specs.Kept.{Agrees}
+use Rattle.nv_desk.specs.Desk.{IsKept}
+
+-- the laws of growing histories
+pub record Grows : Type 0 where
+  pub steps : HistoriesStep
+  pub stays_legal : HistoriesStayLegal
+  pub counted : EntriesAreCounted
+
+-- counts are never kept
+stepped : (c : Configuration) (k : Kept) (s : State) (e : Entry) → Agrees c k (changed_by c s e) → Agrees c k (step c s e)
+stepped c k s e h = record { started = h.started; off = h.off; blocks = h.blocks; jobs = h.jobs; sweep = h.sweep; rooms = h.rooms; places = h.places }
+
+-- memory was taken for a history, and an entry added
+pub record IsPushed (old new : Listed) (e : Entry) (most : ℕ) : Type 0 where
+  pub entries : new.entries ≡ old.entries ++ e ∷ []
+  pub cap : new.cap ≡ old.cap
+  pub memory : most ≤ new.reserved
+
+pub pushed : (old mid new : Listed) (e : Entry) (left : ℕ) → record mid { reserved = old.reserved } ≡ old → left + 1 ≤ mid.reserved → new ≡ record mid { entries = mid.entries ++ e ∷ []; reserved = mid.reserved - 1 } → IsPushed old new e left
+pushed old mid new e left same room is = record {
+  entries = ap (λ (h : Listed). h.entries) is ∙ ap (λ (h : Listed). h.entries ++ e ∷ []) same;
+  cap = ap (λ (h : Listed). h.cap) is ∙ ap (λ (h : Listed). h.cap) same;
+  memory = let r = ap (λ (h : Listed). h.reserved) is in omega (arith, r, room);
+}
+
+-- what is kept stands behind an entry that is allowed, with memory for the entries that are reserved then
+pub entry_kept : Grows → (d : Inside) (h : Listed) (k : Kept) (r : Roomy) (e : Entry) (left : ℕ) → IsKept d → IsPushed d.history h e left
+    → IsAllowed d.config d.history.cap (after d.config d.history.entries) e
+    → Agrees d.config k (changed_by d.config (after d.config d.history.entries) e)
+    → reserved_entries d.config (changed_by d.config (after d.config d.history.entries) e) ≤ left
+    → 2 * left ≤ r.count → d.rooms.longest ≤ r.longest
+    → IsKept (record d { history = h; kept = k; rooms = r })
+entry_kept law d h k r e left is push allowed agrees few rooms longest =
+    let next : after d.config h.entries ≡ step d.config (after d.config d.history.entries) e = ap (after d.config) push.entries ∙ law.steps d.config d.history.entries e in
+    let reserved : reserved_entries d.config (after d.config h.entries) ≡ reserved_entries d.config (changed_by d.config (after d.config d.history.entries) e) = ap (reserved_entries d.config) next in
+    record {
+      agrees = rw next (stepped d.config k (after d.config d.history.entries) e agrees);
+      legal = rw (push.entries, push.cap) (law.stays_legal d.config d.history.cap d.history.entries e is.legal allowed);
+      memory = omega (arith, reserved, few, push.memory);
+      rooms = omega (arith, reserved, few, rooms);
+      longest = λ id. omega (arith, is.longest id, longest);
+      within = omega (arith, is.within, push.cap);
+      read_share = is.read_share;
+      write_share = is.write_share;
+    }
+
+-- memory that was taken for nothing is kept
+pub memory_kept : (d : Inside) (h : Listed) (r : Roomy) → IsKept d → record h { reserved = d.history.reserved } ≡ d.history → d.history.reserved ≤ h.reserved → r.longest ≡ d.rooms.longest → d.rooms.count ≤ r.count
+    → IsKept (record d { history = h; rooms = r })
+memory_kept d h r is same stays long more =
+    let entries : h.entries ≡ d.history.entries = ap (λ (h : Listed). h.entries) same in
+    let cap : h.cap ≡ d.history.cap = ap (λ (h : Listed). h.cap) same in
+    record {
+      agrees = rw entries is.agrees;
+      legal = rw (entries, cap) is.legal;
+      memory = rw entries (omega (arith, is.memory, stays));
+      rooms = rw entries (omega (arith, is.rooms, more));
+      longest = λ id. omega (arith, is.longest id, long);
+      within = omega (arith, is.within, cap);
+      read_share = is.read_share;
+      write_share = is.write_share;
+    }

@@ -1,0 +1,6 @@
+pub mod Asks
+pub mod Entries
+pub mod Jobs
+pub mod Lengths
+pub mod Requests
+pub mod SweepEntries

@@ -1,0 +1,28 @@
+use Rattle.std.proofs.Common.{◌+◌, ◌∙◌, ap, arith, length, refl, sym}
+use Rattle.nv_base.specs.History.{Listed}
+use Rattle.block_machine.specs.Words.{Ask, Accepted}
+use Rattle.block_machine.specs.Reply.{needed}
+use Rattle.block_machine.specs.Steps.{after}
+use Rattle.nv_desk.specs.Desk.{sweep_request}
+use Rattle.nv_desk.proofs.Asks.{sweep_accepted}
+use Rattle.nv_desk.proofs.Requests.{needed_sweep, sweep_agrees, sweep_reserves}
+use Rattle.nv_desk.proofs.Entries.{Grows, pushed, entry_kept}
+use Rattle.nv_desk.proofs.desk.Desk.accept_sweep.Goals as goal
+
+pub invariant_of-self-2 : goal.invariant_of-self-2
+invariant_of-self-2 c =
+    let d = c.self.inside in
+    let s = after d.config d.history.entries in
+    let allowed = rw (← c.self.view_is) at c.requires in
+    let need = (rw (← c.self.view_is) at c.needed-needed.ensures) ∙ ap (needed d.config) c.sweep_request-request.ensures in
+    let value = c.reserved.ensures.value d.config s c.self.invariant.agrees in
+    let passed = sweep_accepted d.config d.history.cap s c.args.writes allowed.replies in
+    let count = c.len.ensures.count ∙ ap (λ (h : Listed). length h.entries) c.take_memory.ensures.same ∙ sym (c.histories_grow.ensures.counted d.config d.history.entries) in
+    entry_kept (record { steps = c.histories_grow.ensures.steps; stays_legal = c.histories_grow.ensures.stays_legal; counted = c.histories_grow.ensures.counted })
+    d c.add.new.self c.begin_sweep.new.self c.take_memory.new.rooms (Ask c.args.caller (sweep_request c.args.writes) Accepted) (c.reserved.result + c.needed-needed.result) c.self.invariant
+    (pushed d.history c.take_memory.new.history c.add.new.self (Ask c.args.caller (sweep_request c.args.writes) Accepted) (c.reserved.result + c.needed-needed.result) c.take_memory.ensures.same c.in_ok-take_memory.ensures.entries (rw c.sweep_request-request.ensures at c.add.ensures))
+    allowed
+    (sweep_agrees d.config c.begin_sweep.new.self s c.args.writes (c.begin_sweep.ensures d.config s c.self.invariant.agrees (sym count) (need ∙ needed_sweep d.config c.args.writes)))
+    (omega (arith, sweep_reserves c.legal_states_are_consistent.ensures.histories d.config d.history.cap d.history.entries c.args.writes c.self.invariant.legal passed, value, need))
+    c.in_ok-take_memory.ensures.contents
+    (omega (arith, c.take_memory.ensures.longest))

@@ -1,0 +1,9 @@
+use Rattle.std.proofs.Common.{◌≡◌, drop, find}
+use Rattle.block_machine.specs.Reply.{holds, tested}
+use Rattle.nv_desk.specs.Desk.{state_of}
+use Rattle.nv_desk.proofs.desk.Desk.first_refusal.Given as goal
+
+abbrev pub invariant-loop-refusal : goal.invariant-loop-refusal
+invariant-loop-refusal l =
+    find (λ x. holds l.self.config l.self.cap (state_of l.self) x l.request) (drop l.refusal-index l.refusals)
+    ≡ find (λ x. holds l.self.config l.self.cap (state_of l.self) x l.request) (tested l.request)

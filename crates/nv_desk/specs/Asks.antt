@@ -1,0 +1,18 @@
+-- What holds of a request that is accepted.
+use Rattle.std.specs.Prelude.{◌≡◌, ℕ, ◌+◌, ◌==◌, ◌||◌, nat_lt, true, false, length}
+use Rattle.block_machine.specs.Words.{Configuration, Request}
+use Rattle.block_machine.specs.State.{State}
+use Rattle.block_machine.specs.Blocks.{status_of, is_pending, asked_block, is_immediate}
+use Rattle.block_machine.specs.Reply.{is_queue_full, needed, fits}
+
+-- one that makes a job on a block
+pub record IsJobAccepted (c : Configuration) (cap : ℕ) (s : State) (r : Request) : Type 0 where
+  pub known : ((asked_block r == 0) || nat_lt (length c.blocks) (asked_block r)) ≡ false
+  pub free : is_pending (status_of s (asked_block r)) ≡ false
+  pub queue : is_queue_full c s.waiting (is_immediate c r) ≡ false
+  pub room : fits c cap s (1 + needed c r) ≡ true
+
+-- one on all blocks
+pub record IsSweepAccepted (c : Configuration) (cap : ℕ) (s : State) (r : Request) : Type 0 where
+  pub alone : is_pending (status_of s 0) ≡ false
+  pub room : fits c cap s (1 + needed c r) ≡ true

@@ -1,0 +1,40 @@
+-- What the desk shows, and what it keeps.
+use Rattle.std.specs.Prelude.{◌≡◌, ℕ, ◌*◌, ◌≤◌, ◌<◌, ◌^◌, true, false, Bool, List}
+use Rattle.block_machine.specs.Words.{Configuration, Entry, Request, ReadAll, WriteAll}
+use Rattle.block_machine.specs.State.{State}
+use Rattle.block_machine.specs.Blocks.{desc_of}
+use Rattle.block_machine.specs.Sweeps.{sweep_entries, sweep_at}
+use Rattle.block_machine.specs.Reply.{reserved_entries}
+use Rattle.block_machine.specs.Steps.{after}
+use Rattle.block_machine.specs.Legal.{IsLegal}
+use Rattle.nv_desk.specs.Kept.{Agrees}
+use Rattle.nv_desk.specs.declared.desk.Desk.TheInside.{Inside}
+
+-- the configuration, how many entries the history may have, and the entries so far
+pub record DeskState : Type 0 where
+  pub config : Configuration
+  pub cap : ℕ
+  pub entries : List Entry
+
+abbrev pub shown : Inside → DeskState
+shown d = record { config = d.config; cap = d.history.cap; entries = d.history.entries }
+
+-- the state of the block machine after its entries
+abbrev pub state_of : DeskState → State
+state_of d = after d.config d.entries
+
+-- The history is legal, and what is kept stands for the state after it. There is memory for the reserved entries, and for
+-- two contents with each of them.
+pub record IsKept (d : Inside) : Type 0 where
+  pub agrees : Agrees d.config d.kept (after d.config d.history.entries)
+  pub legal : IsLegal d.config d.history.cap d.history.entries
+  pub memory : reserved_entries d.config (after d.config d.history.entries) ≤ d.history.reserved
+  pub rooms : 2 * reserved_entries d.config (after d.config d.history.entries) ≤ d.rooms.count
+  pub longest : (id : ℕ) → (desc_of d.config id).length ≤ d.rooms.longest
+  pub within : d.history.cap < 2 ^ 32
+  pub read_share : d.read_share ≡ sweep_entries d.config (sweep_at d.config 0 false)
+  pub write_share : d.write_share ≡ sweep_entries d.config (sweep_at d.config 0 true)
+
+abbrev pub sweep_request : Bool → Request
+sweep_request true = WriteAll
+sweep_request false = ReadAll

@@ -1,0 +1,5 @@
+pub mod Asks
+pub mod Desk
+pub mod Kept
+pub mod Pending
+pub mod Rooms

@@ -1,0 +1,210 @@
+// Requests.
+ghost use Rattle.std.specs.Prelude.{◌≡◌, ◌++◌, ◌∷◌, ◌≤◌, ◌↔◌, [], true, false, is_some, IsTrue, IfOk, OnOk, OnErr, IsErrOf};
+ghost use Rattle.block_machine.specs.Blocks.{job_kind};
+ghost use Rattle.block_machine.specs.Reply.{fits, reply_of};
+ghost use Rattle.block_machine.specs.Steps.{asked};
+ghost use Rattle.block_machine.specs.Legal.{IsAllowed, HasStore};
+ghost use Rattle.block_states.specs.States.{rooms_of};
+ghost use Rattle.nv_desk.specs.Desk.{state_of, sweep_request};
+ghost use Rattle.nv_desk.specs.Kept.{IsChange};
+
+use crate::Desk;
+use crate::memory::take_memory;
+use block_states::rooms_have_lengths;
+use machine_laws::{histories_grow, jobs_are_pending, legal_states_are_consistent};
+use nv_base::{Bytes, Entry, Reply, Request};
+use pending_jobs::Job;
+use std::alloc::{AllocError, Global};
+
+/// Why a request gets no reply.
+#[derive(Clone, Copy, Debug, PartialEq, Eq)]
+pub enum AskFault {
+    /// Not even its entry fits under the cap.
+    NoRoom,
+    /// No memory was found.
+    Memory,
+}
+
+impl From<AllocError> for AskFault {
+    ghost use Rattle.nv_desk.specs.declared.ask.AskFault.TheVariants.{Memory};
+
+    ghost from_gives = { λ _ fault. fault ≡ Memory };
+
+    fn from(_: AllocError) -> AskFault {
+        AskFault::Memory
+    }
+}
+
+impl Desk {
+    // Adds the entry of a request that changes nothing.
+    fn note(
+        &mut self,
+        alloc: Global,
+        caller: u8,
+        request: Request,
+        reply: Reply,
+    ) -> Result<(), AllocError>
+        requires allowed { IsAllowed self.old.config self.old.cap (state_of self.old) (Entry.Ask caller request reply) }
+        requires same { asked self.old.config (state_of self.old) request reply ≡ state_of self.old }
+        ensures ok { OnOk result (self.new ≡ record self.old { entries = self.old.entries ++ Entry.Ask caller request reply ∷ [] }) }
+        ensures err { OnErr result (self.new ≡ self.old) }
+    {
+        histories_grow();
+        let reserved = self.kept.reserved() as u32;
+        take_memory(alloc, &mut self.history, &mut self.rooms, reserved)?;
+        self.history.add(Entry::Ask {
+            caller,
+            request,
+            reply,
+        });
+        Ok(())
+    }
+
+    // Accepts a request that makes a job.
+    fn accept_job(&mut self, alloc: Global, caller: u8, request: Request) -> Result<(), AllocError>
+        requires kind { is_some (job_kind request) ≡ true }
+        requires allowed { IsAllowed self.old.config self.old.cap (state_of self.old) (Entry.Ask caller request Reply.Accepted) }
+        ensures ok { OnOk result (self.new ≡ record self.old { entries = self.old.entries ++ Entry.Ask caller request Reply.Accepted ∷ [] }) }
+        ensures err { OnErr result (self.new ≡ self.old) }
+    {
+        histories_grow();
+        legal_states_are_consistent();
+        jobs_are_pending();
+        let _sizes = self.config.queue_sizes();
+        let needed = self.needed(&request);
+        let asked_for = copied(&request)?;
+        let reserved = self.kept.reserved() as u32 + needed;
+        take_memory(alloc, &mut self.history, &mut self.rooms, reserved)?;
+        let job = Job::accepted(self.history.len(), asked_for, needed);
+        self.kept.accept(&self.config, job);
+        self.history.add(Entry::Ask {
+            caller,
+            request,
+            reply: Reply::Accepted,
+        });
+        Ok(())
+    }
+
+    // Accepts a request that changes a block at once, or cancels a WriteAll.
+    fn accept_change(
+        &mut self,
+        alloc: Global,
+        caller: u8,
+        request: Request,
+    ) -> Result<(), AllocError>
+        requires kind { IsChange (rooms_of self.old.config) request }
+        requires allowed { IsAllowed self.old.config self.old.cap (state_of self.old) (Entry.Ask caller request Reply.Accepted) }
+        ensures ok { OnOk result (self.new ≡ record self.old { entries = self.old.entries ++ Entry.Ask caller request Reply.Accepted ∷ [] }) }
+        ensures err { OnErr result (self.new ≡ self.old) }
+    {
+        histories_grow();
+        let reserved = self.kept.reserved() as u32;
+        take_memory(alloc, &mut self.history, &mut self.rooms, reserved)?;
+        self.kept.change(&request);
+        self.history.add(Entry::Ask {
+            caller,
+            request,
+            reply: Reply::Accepted,
+        });
+        Ok(())
+    }
+
+    // Accepts a WriteAll, or else a ReadAll.
+    fn accept_sweep(&mut self, alloc: Global, caller: u8, writes: bool) -> Result<(), AllocError>
+        requires { IsAllowed self.old.config self.old.cap (state_of self.old) (Entry.Ask caller (sweep_request writes) Reply.Accepted) }
+        ensures ok { OnOk result (self.new ≡ record self.old { entries = self.old.entries ++ Entry.Ask caller (sweep_request writes) Reply.Accepted ∷ [] }) }
+        ensures err { OnErr result (self.new ≡ self.old) }
+    {
+        histories_grow();
+        legal_states_are_consistent();
+        let request = sweep_request(writes);
+        let needed = self.needed(&request);
+        let reserved = self.kept.reserved() as u32 + needed;
+        take_memory(alloc, &mut self.history, &mut self.rooms, reserved)?;
+        self.kept.begin_sweep(self.history.len(), writes, needed);
+        self.history.add(Entry::Ask {
+            caller,
+            request,
+            reply: Reply::Accepted,
+        });
+        Ok(())
+    }
+
+    // Accepts a content for a block's RAM.
+    fn accept_put(
+        &mut self,
+        alloc: Global,
+        caller: u8,
+        block: u16,
+        content: Bytes,
+    ) -> Result<(), AllocError>
+        requires { IsAllowed self.old.config self.old.cap (state_of self.old) (Entry.Ask caller (Request.PutRam block content) Reply.Accepted) }
+        ensures ok { OnOk result (self.new ≡ record self.old { entries = self.old.entries ++ Entry.Ask caller (Request.PutRam block content) Reply.Accepted ∷ [] }) }
+        ensures err { OnErr result (self.new ≡ self.old) }
+    {
+        rooms_have_lengths();
+        self.accept_change(alloc, caller, Request::PutRam { block, content })
+    }
+
+    // Accepts a request that nothing refuses.
+    fn accept(&mut self, alloc: Global, caller: u8, request: Request) -> Result<(), AllocError>
+        requires { IsAllowed self.old.config self.old.cap (state_of self.old) (Entry.Ask caller request Reply.Accepted) }
+        ensures ok { OnOk result (self.new ≡ record self.old { entries = self.old.entries ++ Entry.Ask caller request Reply.Accepted ∷ [] }) }
+        ensures err { OnErr result (self.new ≡ self.old) }
+    {
+        match request {
+            Request::ReadAll => self.accept_sweep(alloc, caller, false),
+            Request::WriteAll => self.accept_sweep(alloc, caller, true),
+            Request::PutRam { block, content } => self.accept_put(alloc, caller, block, content),
+            Request::Read { .. }
+            | Request::Write { .. }
+            | Request::Restore { .. }
+            | Request::Erase { .. }
+            | Request::Invalidate { .. } => self.accept_job(alloc, caller, request),
+            _ => self.accept_change(alloc, caller, request),
+        }
+    }
+
+    /// Takes a request of a caller, 0 to 15, and replies. It adds exactly one entry, whatever it replies, and takes all memory
+    /// for the entries that an accepted job makes later. At Err nothing changed: `NoRoom` comes exactly where not even that
+    /// entry fits under the cap.
+    pub fn ask(&mut self, alloc: Global, caller: u8, request: Request) -> Result<Reply, AskFault>
+        requires started { IsTrue (state_of self.old).started }
+        requires caller { caller ≤ 15 }
+        requires store { HasStore self.old.config request }
+        ensures reply { IfOk result (λ reply. reply ≡ reply_of self.old.config self.old.cap (state_of self.old) request) }
+        ensures ok { IfOk result (λ reply. self.new ≡ record self.old { entries = self.old.entries ++ Entry.Ask caller request reply ∷ [] }) }
+        ensures err { OnErr result (self.new ≡ self.old) }
+        ensures no_room { IsErrOf result AskFault.NoRoom ↔ fits self.old.config self.old.cap (state_of self.old) 1 ≡ false }
+    {
+        if !self.fits(1) {
+            return Err(AskFault::NoRoom);
+        }
+        match self.reply(&request) {
+            Reply::Accepted => {
+                self.accept(alloc, caller, request)?;
+                Ok(Reply::Accepted)
+            }
+            reply => {
+                self.note(alloc, caller, request, reply)?;
+                Ok(reply)
+            }
+        }
+    }
+}
+
+fn copied(request: &Request) -> Result<Request, AllocError>
+    ensures { IfOk result (λ r. r ≡ request.now) }
+{
+    request.clone()
+}
+
+fn sweep_request(writes: bool) -> Request
+    ensures { result ≡ sweep_request writes }
+{
+    if writes {
+        Request::WriteAll
+    } else {
+        Request::ReadAll
+    }
+}

@@ -1,0 +1,27 @@
+// Memory for entries that come later.
+ghost use Rattle.std.specs.Prelude.{◌≡◌, ◌≤◌, ◌<◌, ◌^◌, ◌+◌, ◌*◌, OnOk};
+
+use crate::rooms::Rooms;
+use nv_base::History;
+use std::alloc::{AllocError, Global};
+
+/// Takes the memory of one entry now, of so many that are reserved, and of two contents with each of those. What was taken
+/// stays also where not all was found.
+pub fn take_memory(
+    alloc: Global,
+    history: &mut History,
+    rooms: &mut Rooms,
+    reserved: u32,
+) -> Result<(), AllocError>
+    requires { reserved + 1 < 2 ^ 32 }
+    ensures same { record history.new { reserved = history.old.reserved } ≡ history.old }
+    ensures stays { history.old.reserved ≤ history.new.reserved }
+    ensures longest { rooms.new.longest ≡ rooms.old.longest }
+    ensures rooms_stay { rooms.old.count ≤ rooms.new.count }
+    ensures entries { OnOk result (reserved + 1 ≤ history.new.reserved) }
+    ensures contents { OnOk result (2 * reserved ≤ rooms.new.count) }
+{
+    history.reserve(reserved + 1)?;
+    rooms.provide(alloc, 2 * u64::from(reserved))?;
+    Ok(())
+}

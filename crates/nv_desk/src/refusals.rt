@@ -1,0 +1,201 @@
+// When each refusal holds of a request, and the reply.
+ghost use Rattle.std.specs.Prelude.{◌≡◌, ◌≤◌, ◌<◌, ◌^◌, ◌+◌, false, not, find};
+ghost use Rattle.std.specs.Option.{option_map_or};
+ghost use Rattle.block_machine.specs.Blocks.{block_at, desc_of, status_of, is_pending, names_rom, is_immediate};
+ghost use Rattle.block_machine.specs.Reply.{holds, tested, needed, fits, answer_to, reply_of, can_cancel};
+ghost use Rattle.nv_desk.specs.Desk.{state_of};
+
+use crate::Desk;
+use crate::described::{
+    datasets, has_no_defaults, has_no_ram, is_dataset, is_once, is_permanent, length, priority,
+    records, stored,
+};
+use crate::tested::tested;
+use machine_laws::histories_grow;
+use nv_base::{Refusal, Reply, ReqResult, Request};
+use pending_jobs::asked_block;
+
+impl Desk {
+    fn is_unknown(&self, request: &Request) -> bool
+        ensures { result ≡ holds self.now.config self.now.cap (state_of self.now) Refusal.UnknownBlock request.now }
+    {
+        let id = asked_block(request);
+        match request {
+            Request::Status { block } => self.config.blocks() < *block,
+            _ => id == 0 || self.config.blocks() < id,
+        }
+    }
+
+    fn is_wrong_type(&self, request: &Request) -> bool
+        ensures { result ≡ holds self.now.config self.now.cap (state_of self.now) Refusal.WrongType request.now }
+    {
+        match request {
+            Request::SetIndex { block, .. } | Request::GetIndex { block } => {
+                !is_dataset(&self.config, *block)
+            }
+            Request::Restore { block, .. } => is_dataset(&self.config, *block),
+            _ => asked_block(request) == 1,
+        }
+    }
+
+    fn is_bad_index(&self, request: &Request) -> bool
+        ensures { result ≡ holds self.now.config self.now.cap (state_of self.now) Refusal.BadIndex request.now }
+    {
+        match request {
+            Request::SetIndex { block, index } => {
+                datasets(&self.config, *block) <= u64::from(*index)
+            }
+            _ => false,
+        }
+    }
+
+    fn is_bad_length(&self, request: &Request) -> bool
+        ensures { result ≡ holds self.now.config self.now.cap (state_of self.now) Refusal.BadLength request.now }
+    {
+        match request {
+            Request::Write {
+                block,
+                content: Some(content),
+                ..
+            }
+            | Request::PutRam { block, content } => {
+                content.len() != usize::from(length(&self.config, *block))
+            }
+            _ => false,
+        }
+    }
+
+    fn lacks_ram(&self, request: &Request) -> bool
+        ensures { result ≡ holds self.now.config self.now.cap (state_of self.now) Refusal.NoRam request.now }
+    {
+        match request {
+            Request::PutRam { block, .. } => !is_permanent(&self.config, *block),
+            _ => has_no_ram(&self.config, asked_block(request)),
+        }
+    }
+
+    fn is_pending(&self, id: u16) -> bool
+        ensures { result ≡ is_pending (status_of (state_of self.now) id) }
+    {
+        matches!(self.kept.blocks.facts(id).status, ReqResult::Pending)
+    }
+
+    fn names_rom(&self, id: u16) -> bool
+        ensures { result ≡ names_rom (desc_of self.now.config id) (block_at (state_of self.now) id) }
+    {
+        is_dataset(&self.config, id) && stored(&self.config, id) <= self.kept.blocks.facts(id).index
+    }
+
+    /// Whether the job of a request is immediate: a write of a block of priority 0.
+    pub(crate) fn is_immediate(&self, request: &Request) -> bool
+        ensures { result ≡ is_immediate self.now.config request.now }
+    {
+        match request {
+            Request::Write { block, .. } => priority(&self.config, *block) == 0,
+            _ => false,
+        }
+    }
+
+    fn nothing_to_cancel(&self) -> bool
+        ensures { result ≡ not (option_map_or can_cancel (state_of self.now).sweep false) }
+    {
+        match &self.kept.sweep {
+            Some(sweep) => !sweep.can_cancel(),
+            None => true,
+        }
+    }
+
+    fn is_queue_full(&self, request: &Request) -> bool
+        ensures { result ≡ holds self.now.config self.now.cap (state_of self.now) Refusal.QueueFull request.now }
+    {
+        let immediate = self.is_immediate(request);
+        self.kept.jobs.is_full(&self.config, immediate)
+    }
+
+    /// The entries that a request reserves, if it is accepted.
+    pub(crate) fn needed(&self, request: &Request) -> u32
+        ensures { result ≡ needed self.now.config request.now }
+    {
+        match request {
+            Request::Read { .. } | Request::Restore { .. } => 2,
+            Request::Write { block, .. } if self.is_immediate(request) => {
+                4 + u32::from(records(&self.config, *block))
+            }
+            Request::Write { block, .. }
+            | Request::Erase { block }
+            | Request::Invalidate { block } => 2 + u32::from(records(&self.config, *block)),
+            Request::ReadAll => self.read_share,
+            Request::WriteAll => self.write_share,
+            _ => 0,
+        }
+    }
+
+    /// Whether so many more entries fit, beside those so far and the reserved ones.
+    pub(crate) fn fits(&self, more: u64) -> bool
+        requires { more < 2 ^ 33 }
+        ensures { result ≡ fits self.now.config self.now.cap (state_of self.now) more }
+    {
+        histories_grow();
+        u64::from(self.history.len()) + self.kept.reserved() + more <= u64::from(self.history.cap())
+    }
+
+    /// Whether a refusal holds of a request.
+    fn refuses(&self, refusal: Refusal, request: &Request) -> bool
+        ensures { result ≡ holds self.now.config self.now.cap (state_of self.now) refusal request.now }
+    {
+        let id = asked_block(request);
+        match refusal {
+            Refusal::UnknownBlock => self.is_unknown(request),
+            Refusal::NotStarted => self.kept.off,
+            Refusal::WrongType => self.is_wrong_type(request),
+            Refusal::BadIndex => self.is_bad_index(request),
+            Refusal::BadLength => self.is_bad_length(request),
+            Refusal::NoRam => self.lacks_ram(request),
+            Refusal::NoDefaults => has_no_defaults(&self.config, id),
+            Refusal::NotImmediate => priority(&self.config, id) != 0,
+            Refusal::WriteOnce => is_once(&self.config, id),
+            Refusal::MultiPending => self.is_pending(0),
+            Refusal::Pending => self.is_pending(id),
+            Refusal::Locked => self.kept.blocks.facts(id).locked,
+            Refusal::Protected => self.kept.blocks.facts(id).protected,
+            Refusal::RomIndex => self.names_rom(id),
+            Refusal::NothingToCancel => self.nothing_to_cancel(),
+            Refusal::QueueFull => self.is_queue_full(request),
+            Refusal::HistoryFull => !self.fits(1 + u64::from(self.needed(request))),
+        }
+    }
+
+    /// The first of its refusals that holds of a request.
+    fn first_refusal(&self, request: &Request) -> Option<Refusal>
+        ensures { result ≡ find (λ x. holds self.now.config self.now.cap (state_of self.now) x request.now) (tested request.now) }
+    {
+        let refusals = tested(request);
+        for refusal in refusals {
+            if self.refuses(*refusal, request) {
+                return Some(*refusal);
+            }
+        }
+        None
+    }
+
+    /// What is replied where nothing refuses the request.
+    fn answer_to(&self, request: &Request) -> Reply
+        ensures { result ≡ answer_to (state_of self.now) request.now }
+    {
+        match request {
+            Request::Status { block } => Reply::StatusIs(self.kept.blocks.facts(*block).status),
+            Request::GetIndex { block } => Reply::IndexIs(self.kept.blocks.facts(*block).index),
+            _ => Reply::Accepted,
+        }
+    }
+
+    /// The reply to a request: the first refusal that holds, or else what it asks for.
+    pub(crate) fn reply(&self, request: &Request) -> Reply
+        ensures { result ≡ reply_of self.now.config self.now.cap (state_of self.now) request.now }
+    {
+        match self.first_refusal(request) {
+            Some(refusal) => Reply::Refused(refusal),
+            None => self.answer_to(request),
+        }
+    }
+}
