@@ -1,23 +1,17 @@
 -- One entry more.
-use Rattle.std.proofs.Common.{◌≡◌, ◌≢◌, ◌≤◌, ◌<◌, ℕ, ◌+◌, ◌-◌, ◌*◌, ◌^◌, List, [], ◌∷◌, ◌++◌, length, refl, sym, ap, ◌∙◌, subst, arith}
+use Rattle.std.proofs.Common.{◌≡◌, ◌≢◌, ◌≤◌, ◌<◌, ℕ, ◌+◌, ◌-◌, ◌*◌, ◌^◌, List, [], ◌∷◌, ◌++◌, length, length-append, refl, sym, ap, ◌∙◌, subst, arith}
 use Rattle.nv_base.specs.History.{Listed}
 use Rattle.block_machine.specs.Words.{Configuration, Entry}
 use Rattle.block_machine.specs.State.{State}
 use Rattle.block_machine.specs.Reply.{reserved_entries}
 use Rattle.block_machine.specs.Steps.{after, step, changed_by}
-use Rattle.block_machine.specs.Legal.{IsAllowed}
-use Rattle.machine_laws.specs.Laws.{HistoriesStep, HistoriesStayLegal, EntriesAreCounted}
+use Rattle.machine_laws.specs.Laws.{HistoriesStep}
 use Rattle.nv_desk.specs.declared.desk.Desk.TheInside.{Inside}
 use Rattle.nv_desk.specs.declared.kept.Kept.{Kept}
 use Rattle.nv_desk.specs.Rooms.{Roomy}
 use Rattle.nv_desk.specs.Kept.{Agrees}
+use Rattle.nv_desk.specs.Sound.{IsSound}
 use Rattle.nv_desk.specs.Desk.{IsKept}
-
--- the laws of growing histories
-pub record Grows : Type 0 where
-  pub steps : HistoriesStep
-  pub stays_legal : HistoriesStayLegal
-  pub counted : EntriesAreCounted
 
 -- counts are never kept
 stepped : (c : Configuration) (k : Kept) (s : State) (e : Entry) → Agrees c k (changed_by c s e) → Agrees c k (step c s e)
@@ -36,19 +30,21 @@ pushed old mid new e left same room is = record {
   memory = let r = ap (λ (h : Listed). h.reserved) is in omega (arith, r, room);
 }
 
--- what is kept stands behind an entry that is allowed, with memory for the entries that are reserved then
-pub entry_kept : Grows → (d : Inside) (h : Listed) (k : Kept) (r : Roomy) (e : Entry) (left : ℕ) → IsKept d → IsPushed d.history h e left
-    → IsAllowed d.config d.history.cap (after d.config d.history.entries) e
+-- What is kept stands behind an entry, with memory for the entries that are reserved then.
+pub entry_kept : HistoriesStep → (d : Inside) (h : Listed) (k : Kept) (r : Roomy) (e : Entry) (most : ℕ) → IsKept d → IsPushed d.history h e most
     → Agrees d.config k (changed_by d.config (after d.config d.history.entries) e)
-    → reserved_entries d.config (changed_by d.config (after d.config d.history.entries) e) ≤ left
-    → 2 * left ≤ r.count → d.rooms.longest ≤ r.longest
+    → IsSound d.config (step d.config (after d.config d.history.entries) e)
+    → reserved_entries d.config (changed_by d.config (after d.config d.history.entries) e) ≤ most
+    → length d.history.entries + 1 + most ≤ d.history.cap → 2 * most ≤ r.count → d.rooms.longest ≤ r.longest
     → IsKept (record d { history = h; kept = k; rooms = r })
-entry_kept law d h k r e left is push allowed agrees few rooms longest =
-    let next : after d.config h.entries ≡ step d.config (after d.config d.history.entries) e = ap (after d.config) push.entries ∙ law.steps d.config d.history.entries e in
+entry_kept steps d h k r e most is push agrees sound few fits rooms longest =
+    let next : after d.config h.entries ≡ step d.config (after d.config d.history.entries) e = ap (after d.config) push.entries ∙ steps d.config d.history.entries e in
     let reserved : reserved_entries d.config (after d.config h.entries) ≡ reserved_entries d.config (changed_by d.config (after d.config d.history.entries) e) = ap (reserved_entries d.config) next in
+    let count : length h.entries ≡ length d.history.entries + 1 = ap length push.entries ∙ length-append d.history.entries (e ∷ []) in
     record {
       agrees = rw next (stepped d.config k (after d.config d.history.entries) e agrees);
-      legal = rw (push.entries, push.cap) (law.stays_legal d.config d.history.cap d.history.entries e is.legal allowed);
+      sound = rw next sound;
+      fits = omega (arith, reserved, few, fits, count, push.cap);
       memory = omega (arith, reserved, few, push.memory);
       rooms = omega (arith, reserved, few, rooms);
       longest = λ id. omega (arith, is.longest id, longest);
@@ -65,7 +61,8 @@ memory_kept d h r is same stays long more =
     let cap : h.cap ≡ d.history.cap = ap (λ (h : Listed). h.cap) same in
     record {
       agrees = rw entries is.agrees;
-      legal = rw (entries, cap) is.legal;
+      sound = rw entries is.sound;
+      fits = rw (entries, cap) is.fits;
       memory = rw entries (omega (arith, is.memory, stays));
       rooms = rw entries (omega (arith, is.rooms, more));
       longest = λ id. omega (arith, is.longest id, long);

@@ -3,20 +3,20 @@ use Rattle.std.proofs.Common.{◌≡◌, ◌≢◌, ◌≤◌, ◌<◌, ℕ, zer
 use Rattle.std.specs.Option.{option_map_or}
 use Rattle.std.proofs.lemmas.Bool.{leb-false}
 use Rattle.std.proofs.lemmas.List.Sums.{sum_by-append}
-use Rattle.block_machine.specs.Words.{Configuration, Pending, Entry, Request, JobKind, Accepted}
+use Rattle.block_machine.specs.Words.{Configuration, Pending, Entry, Ask, Request, JobKind, Accepted}
 use Rattle.block_machine.specs.State.{State, Job, Sweep, jobs_of}
 use Rattle.block_machine.specs.Blocks.{asked_block, asked_content, job_block, job_kind, is_immediate, is_pending, status_of, rank_of}
 use Rattle.block_machine.specs.Sweeps.{sweep_entries}
 use Rattle.block_machine.specs.Reply.{reserved_entries, is_queue_full, needed}
-use Rattle.block_machine.specs.Steps.{after, accepted, accepted_by, job_at, with_status}
-use Rattle.block_machine.specs.Legal.{IsLegal}
-use Rattle.machine_laws.specs.Laws.{JobsArePending, PlacesAreConfigured, LegalStatesAreConsistent}
+use Rattle.block_machine.specs.Steps.{step, accepted, accepted_by, job_at, with_status}
 use Rattle.machine_laws.specs.Consistent.{Each, IsConsistent, IsWaitingJob, IsJobInHand}
 use Rattle.pending_jobs.specs.Pending.{IsNew, unpicked_of, reserved_by}
 use Rattle.pending_jobs.specs.declared.unpicked.Unpicked.{Unpicked}
 use Rattle.pending_jobs.specs.Unpicked.{unpicked_in}
 use Rattle.nv_desk.specs.Asks.{IsJobAccepted}
 use Rattle.nv_desk.specs.Kept.{Agrees}
+use Rattle.nv_desk.specs.Sound.{IsPendingJob, IsSound}
+use Rattle.nv_desk.proofs.Sound.{sound_job}
 use Rattle.nv_desk.specs.declared.kept.Kept.{Kept}
 use Rattle.nv_desk.proofs.Asks.{known_of, room_of}
 
@@ -31,23 +31,11 @@ all_below c s None is waiting held x at = (each_at (IsWaitingJob c s.count) s.wa
 all_below c s (Some h) is waiting held x (zero, below, at) = subst (λ (j : Job). j.number < s.count) at held.number
 all_below c s (Some h) is waiting held x (suc k, below, at) = (each_at (IsWaitingJob c s.count) s.waiting x k (omega (arith, below)) at waiting).number
 
--- the laws of jobs after a legal history
-pub record JobLaws : Type 0 where
-  pub pending : JobsArePending
-  pub places : PlacesAreConfigured
-  pub consistent : LegalStatesAreConsistent
-
-pub new_job : JobLaws → (c : Configuration) (cap : ℕ) (h : List Entry) (r : Request) (j : Job) → IsLegal c cap h → IsTrue (after c h).started → IsJobAccepted c cap (after c h) r
-    → job_block j ≡ asked_block r → j.number ≡ (after c h).count → IsNew j (after c h).waiting (after c h).hand
-new_job law c cap h r j legal started passed block number x at =
-    let s = after c h in
-    let sound = law.consistent c cap h legal in
-    let known = known_of (length c.blocks) (asked_block r) passed.known in
-    let places = (law.places c cap h legal started).0 in
-    record {
-      block = λ e. let same : job_block x ≡ asked_block r = e ∙ block in cc (law.pending c cap h x legal at (omega (arith, known.1, places, same)), same, passed.free);
-      number = λ e. let low = all_below c s s.hand refl sound.waiting sound.hand x at in absurd (omega (arith, low, e, number));
-    }
+pub new_job : (c : Configuration) (cap : ℕ) (s : State) (r : Request) (j : Job) → IsSound c s → IsJobAccepted c cap s r → job_block j ≡ asked_block r → j.number ≡ s.count → IsNew j s.waiting s.hand
+new_job c cap s r j sound passed block number x at = record {
+  block = λ e. let same : job_block x ≡ asked_block r = e ∙ block in cc ((each_at (IsPendingJob c s) (jobs_of s) x at.0 at.1 at.2 sound.jobs).pending, same, passed.free);
+  number = λ e. let low = all_below c s s.hand refl sound.consistent.waiting sound.consistent.hand x at in absurd (omega (arith, low, e, number));
+}
 
 -- its queue has room
 unpicked_room : (c : Configuration) (jobs : List Job) (b : Bool) (u : Unpicked) → u ≡ unpicked_of c jobs → is_queue_full c jobs b ≡ false → unpicked_in b u < (if b then c.immediate else c.standard)
@@ -94,3 +82,12 @@ job_is c n number reserved r request j is numbered same need = rw (is, numbered,
 pub job_agrees : (c : Configuration) (k : Kept) (s : State) (r : Request) (j : Job) → is_some (job_kind r) ≡ true → j ≡ job_at c s.count r
     → Agrees c k (record (with_status (job_block j) Pending s) { waiting = s.waiting ++ j ∷ [] }) → Agrees c k (accepted c s r)
 job_agrees c k s r j some is h = rw (accepted_job c s r (job_kind r) refl some) (subst (λ x. Agrees c k (record (with_status (job_block x) Pending s) { waiting = s.waiting ++ x ∷ [] })) is h)
+
+-- and the state stays sound
+pub job_sound : (c : Configuration) (cap : ℕ) (s : State) (caller : ℕ) (r : Request) → IsSound c s → IsConsistent c (step c s (Ask caller r Accepted)) → is_some (job_kind r) ≡ true → IsTrue s.started → IsJobAccepted c cap s r
+    → IsSound c (step c s (Ask caller r Accepted))
+job_sound c cap s caller r sound consistent some started passed =
+    let is = accepted_job c s r (job_kind r) refl some in
+    let known = known_of (length c.blocks) (asked_block r) passed.known in
+    subst (λ (x : State). IsSound c (record x { count = s.count + 1; ops = s.ops })) (sym is)
+    (sound_job c s (asked_block r) (s.count + 1) s.ops (job_at c s.count r) sound (subst (λ (x : State). IsConsistent c (record x { count = s.count + 1; ops = s.ops })) is consistent) refl (omega (arith, known.1, sound.places started)) passed.content)

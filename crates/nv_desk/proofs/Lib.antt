@@ -3,4 +3,5 @@ pub mod Entries
 pub mod Jobs
 pub mod Lengths
 pub mod Requests
+pub mod Sound
 pub mod SweepEntries

@@ -1,13 +1,13 @@
 -- What the desk shows, and what it keeps.
-use Rattle.std.specs.Prelude.{◌≡◌, ℕ, ◌*◌, ◌≤◌, ◌<◌, ◌^◌, true, false, Bool, List}
+use Rattle.std.specs.Prelude.{◌≡◌, ℕ, ◌+◌, ◌*◌, ◌≤◌, ◌<◌, ◌^◌, true, false, Bool, List, length}
 use Rattle.block_machine.specs.Words.{Configuration, Entry, Request, ReadAll, WriteAll}
 use Rattle.block_machine.specs.State.{State}
 use Rattle.block_machine.specs.Blocks.{desc_of}
 use Rattle.block_machine.specs.Sweeps.{sweep_entries, sweep_at}
 use Rattle.block_machine.specs.Reply.{reserved_entries}
 use Rattle.block_machine.specs.Steps.{after}
-use Rattle.block_machine.specs.Legal.{IsLegal}
 use Rattle.nv_desk.specs.Kept.{Agrees}
+use Rattle.nv_desk.specs.Sound.{IsSound}
 use Rattle.nv_desk.specs.declared.desk.Desk.TheInside.{Inside}
 
 -- the configuration, how many entries the history may have, and the entries so far
@@ -23,11 +23,12 @@ shown d = record { config = d.config; cap = d.history.cap; entries = d.history.e
 abbrev pub state_of : DeskState → State
 state_of d = after d.config d.entries
 
--- The history is legal, and what is kept stands for the state after it. There is memory for the reserved entries, and for
--- two contents with each of them.
+-- What is kept stands for the state after the history. The reserved entries fit under the cap, and there is memory for
+-- them, and for two contents with each.
 pub record IsKept (d : Inside) : Type 0 where
   pub agrees : Agrees d.config d.kept (after d.config d.history.entries)
-  pub legal : IsLegal d.config d.history.cap d.history.entries
+  pub sound : IsSound d.config (after d.config d.history.entries)
+  pub fits : length d.history.entries + reserved_entries d.config (after d.config d.history.entries) ≤ d.history.cap
   pub memory : reserved_entries d.config (after d.config d.history.entries) ≤ d.history.reserved
   pub rooms : 2 * reserved_entries d.config (after d.config d.history.entries) ≤ d.rooms.count
   pub longest : (id : ℕ) → (desc_of d.config id).length ≤ d.rooms.longest

@@ -3,3 +3,4 @@ pub mod Desk
 pub mod Kept
 pub mod Pending
 pub mod Rooms
+pub mod Sound

@@ -3,7 +3,7 @@ ghost use Rattle.std.specs.Prelude.{◌≡◌, ◌++◌, ◌∷◌, ◌≤◌, �
 ghost use Rattle.block_machine.specs.Blocks.{job_kind};
 ghost use Rattle.block_machine.specs.Reply.{fits, reply_of};
 ghost use Rattle.block_machine.specs.Steps.{asked};
-ghost use Rattle.block_machine.specs.Legal.{IsAllowed, HasStore};
+ghost use Rattle.block_machine.specs.Legal.{IsAllowed, IsLegal, HasStore};
 ghost use Rattle.block_states.specs.States.{rooms_of};
 ghost use Rattle.nv_desk.specs.Desk.{state_of, sweep_request};
 ghost use Rattle.nv_desk.specs.Kept.{IsChange};
@@ -11,7 +11,7 @@ ghost use Rattle.nv_desk.specs.Kept.{IsChange};
 use crate::Desk;
 use crate::memory::take_memory;
 use block_states::rooms_have_lengths;
-use machine_laws::{histories_grow, jobs_are_pending, legal_states_are_consistent};
+use machine_laws::{histories_grow, legal_states_are_consistent};
 use nv_base::{Bytes, Entry, Reply, Request};
 use pending_jobs::Job;
 use std::alloc::{AllocError, Global};
@@ -50,6 +50,7 @@ impl Desk {
         ensures err { OnErr result (self.new ≡ self.old) }
     {
         histories_grow();
+        legal_states_are_consistent();
         let reserved = self.kept.reserved() as u32;
         take_memory(alloc, &mut self.history, &mut self.rooms, reserved)?;
         self.history.add(Entry::Ask {
@@ -69,7 +70,6 @@ impl Desk {
     {
         histories_grow();
         legal_states_are_consistent();
-        jobs_are_pending();
         let _sizes = self.config.queue_sizes();
         let needed = self.needed(&request);
         let asked_for = copied(&request)?;
@@ -98,6 +98,7 @@ impl Desk {
         ensures err { OnErr result (self.new ≡ self.old) }
     {
         histories_grow();
+        legal_states_are_consistent();
         let reserved = self.kept.reserved() as u32;
         take_memory(alloc, &mut self.history, &mut self.rooms, reserved)?;
         self.kept.change(&request);
@@ -174,9 +175,11 @@ impl Desk {
         requires store { HasStore self.old.config request }
         ensures reply { IfOk result (λ reply. reply ≡ reply_of self.old.config self.old.cap (state_of self.old) request) }
         ensures ok { IfOk result (λ reply. self.new ≡ record self.old { entries = self.old.entries ++ Entry.Ask caller request reply ∷ [] }) }
+        ensures legal { OnOk result (IsLegal self.old.config self.old.cap self.old.entries → IsLegal self.new.config self.new.cap self.new.entries) }
         ensures err { OnErr result (self.new ≡ self.old) }
         ensures no_room { IsErrOf result AskFault.NoRoom ↔ fits self.old.config self.old.cap (state_of self.old) 1 ≡ false }
     {
+        histories_grow();
         if !self.fits(1) {
             return Err(AskFault::NoRoom);
         }

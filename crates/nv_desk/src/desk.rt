@@ -13,14 +13,14 @@ use crate::longest::longest;
 use crate::rooms::Rooms;
 use crate::shares::sweep_share;
 use block_config::Config;
-use machine_laws::histories_grow;
+use machine_laws::legal_states_are_consistent;
 use nv_base::{Entry, History, Reply, Request};
 use pending_jobs::Job;
 use std::alloc::{AllocError, Global};
 use std::marker::Model;
 
 /// The desk: its configuration, and the history of what it was asked and did. Contracts see these, with the most entries
-/// that the history may have (its cap). The history is always legal.
+/// that the history may have (its cap).
 #[derive(Drop)]
 pub struct Desk {
     pub(crate) config: Config,
@@ -46,6 +46,7 @@ impl Desk {
     pub fn make(alloc: Global, config: Config, cap: u32) -> Result<Desk, AllocError>
         ensures { IfOk result (λ d. d ≡ record { config = config; cap = cap; entries = [] }) }
     {
+        legal_states_are_consistent();
         let kept = Kept::make(alloc, &config)?;
         let rooms = Rooms::new(alloc, longest(&config));
         let read_share = sweep_share(&config, false);
@@ -64,7 +65,6 @@ impl Desk {
     pub fn history(&self) -> &History
         ensures entries { result.now.entries ≡ self.now.entries }
         ensures cap { result.now.cap ≡ self.now.cap }
-        ensures legal { IsLegal self.now.config self.now.cap self.now.entries }
     {
         &self.history
     }
