@@ -76,6 +76,13 @@ impl Sweep {
         }
     }
 
+    /// Whether it is a WriteAll, and no ReadAll.
+    pub fn writes(&self) -> bool
+        ensures { result ≡ self.now.writes }
+    {
+        self.writes
+    }
+
     /// The block of the next member. None exactly where no member is left or the sweep was canceled.
     pub fn peek(&self, config: &Config) -> Option<u16>
         ensures next { result ≡ next_member config.now self.now }
