@@ -1,6 +1,6 @@
 -- What ties a device to its flash is kept by each call.
-use Rattle.std.specs.Prelude.{slice_get, unwrap_or, IsTrue, IfSome, option_map, drop}
-use Rattle.std.specs.List.{list_all}
+use Rattle.std.specs.Prelude.{slice_get, unwrap_or, IsTrue, IfSome, option_map, drop, take}
+use Rattle.std.specs.List.{list_all, list_any}
 use Rattle.std.proofs.Common.{◌≡◌, ◌⊎◌, inl, inr, ℕ, zero, suc, ◌<◌, ◌≤◌, Bool, true, List, [], ◌∷◌, ◌++◌, length, Option, Some, None, refl, sym, ap, ◌∙◌, subst, arith}
 use Rattle.std.proofs.lemmas.Bool.{cases_lt, and_parts, and_from}
 use Rattle.nv_base.specs.Count.{Rose, WereCounted}
@@ -14,14 +14,14 @@ use Rattle.fls_model.specs.Step.{IsChanged, Leaves, Notes, HasCause}
 use Rattle.fls_model.specs.Told.{Told, ToldBytes, Change, IfBothTold, bytes_now, changes_in}
 use Rattle.fee_image.specs.Laws.{SoundImagesCompute}
 use Rattle.fee_image.specs.Sound.{IsSoundImage}
-use Rattle.device_bridge.specs.Bridge.{Making, is_program}
+use Rattle.device_bridge.specs.Bridge.{Making, is_program, is_failed, has_failed}
 use Rattle.device_bridge.specs.FlashRun.{TellsBytes, IsChain, IsCutImage}
 use Rattle.device_bridge.specs.Image.{two_banks, attached, IsSoundFlash, IsOfLastGeneration}
 use Rattle.device_clock.specs.Device.{WornSince, Device, run_of, tells}
 use Rattle.device_clock.specs.Clock.{MakesNone, Makes, change_of}
 use Rattle.device_clock.specs.Runs.{CountsCuts, IsWornSince, HasRun, RunsBegin, KeepsRun, RunsStay, counts_fault, LeavesSound, KeepsWorn, RunsGoOn}
 use Rattle.device_clock.proofs.Clocks.{some_if, if_some, IsTold, now_of, told_now, tells_of, early, last, one_more, get_below, some_is, told_before, before_is}
-use Rattle.device_clock.proofs.Runs.{told_sound}
+use Rattle.device_clock.proofs.Runs.{told_sound, or_more}
 
 -- IT IS MADE
 twice : (n : ℕ) (bytes : List ℕ) → enlarged n (enlarged n bytes) ≡ enlarged n bytes
@@ -104,6 +104,7 @@ module _ (d t : Device) (has : HasRun d) (keeps : KeepsRun d t) where
     last = subst (λ (g : Geometry). IfSome (bytes_now t.flash) (IsOfLastGeneration g)) (sym geometry) (subst (λ (o : Option (List ℕ)). IfSome o (IsOfLastGeneration d.making.geometry)) (sym none.bytes) was.last);
     no_erase = λ small. subst (λ (l : List Change). IsTrue (list_all (λ (x : Change). is_program x.op) (drop since.from l))) (sym none.operations) (was.no_erase small);
     faulted = λ is. subst (λ (e : Told). Rose e.faults t.flash.faults) (sym none.entry) (rose_more d.entry.faults d.flash.faults t.flash.faults (was.faulted is) keeps.flash_faults);
+    failed = λ is. subst (λ (l : List Change). IsTrue (has_failed (take since.from l))) (sym none.operations) (was.failed is);
   }
 
   worn_by : (since : WornSince) → (d.worn ≡ Some since) ⊎ IsWornSince t since → IsWornSince t since
@@ -130,6 +131,13 @@ runs_stay d t has keeps = stays d t has keeps
 chain_more : (first : List ℕ) (xs : List Change) (end new : List ℕ) (x : Change) → IsChain first xs end → x.before ≡ end → Leaves x.op x.answer end new → IsChain first (xs ++ x ∷ []) new
 chain_more first [] end new x chain before leaves = (before ∙ chain, (new, subst (λ (b : List ℕ). Leaves x.op x.answer b new) (sym before) leaves, refl))
 chain_more first (y ∷ ys) end new x (at, (next, left, rest)) before leaves = (at, (next, left, chain_more next ys end new x rest before leaves))
+
+-- what holds of one of the first few does with one more behind them all
+any_more : (P : Change → Bool) (n : ℕ) (xs : List Change) (x : Change) → IsTrue (list_any P (take n xs)) → IsTrue (list_any P (take n (xs ++ x ∷ [])))
+any_more P zero [] x any = cc any
+any_more P zero (y ∷ ys) x any = cc any
+any_more P (suc n) [] x any = cc any
+any_more P (suc n) (y ∷ ys) x any = or_more (P y) (list_any P (take n ys)) (list_any P (take n (ys ++ x ∷ []))) any (any_more P n ys x)
 
 all_more : (P : Change → Bool) (n : ℕ) (xs : List Change) (x : Change) → IsTrue (list_all P (drop n xs)) → IsTrue (P x) → IsTrue (list_all P (drop n (xs ++ x ∷ [])))
 all_more P zero [] x all is = and_from (P x) true is refl
@@ -251,6 +259,8 @@ module _ (op : Op) (answer : FlashAnswer) (d t : Device) (has : HasRun d) (makes
             no_erase = λ small. subst (λ (l : List Change). IsTrue (list_all (λ (x : Change). is_program x.op) (drop since.from l))) (sym makes.operations)
                 (all_more (λ (x : Change). is_program x.op) since.from d.operations change (was.no_erase small) keeps.0);
             faulted = λ fault. subst (λ (e : Told). Rose e.faults t.flash.faults) (sym makes.entry) (rose_more d.entry.faults d.flash.faults t.flash.faults (was.faulted fault) (flash_more answer d.flash t.flash makes.asked.cause));
+            failed = λ fault. subst (λ (l : List Change). IsTrue (has_failed (take since.from l))) (sym makes.operations)
+                (any_more (λ (x : Change). is_failed x.answer) since.from d.operations change (was.failed fault));
           };
     }
 

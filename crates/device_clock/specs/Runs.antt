@@ -1,5 +1,5 @@
 -- What ties a device over two banks to its flash, from its making on.
-use Rattle.std.specs.Prelude.{◌≡◌, ◌⊎◌, ◌<◌, ◌≤◌, ℕ, Bool, IsTrue, List, [], drop, Some, None, IfSome}
+use Rattle.std.specs.Prelude.{◌≡◌, ◌⊎◌, ◌<◌, ◌≤◌, ℕ, Bool, IsTrue, List, [], drop, take, Some, None, IfSome}
 use Rattle.std.specs.List.{list_all}
 use Rattle.nv_base.specs.Count.{last_count, next_count, Rose, WereCounted}
 use Rattle.memif.specs.Told.{PartTold}
@@ -8,7 +8,7 @@ use Rattle.fls_model.specs.declared.flash.FlashAnswer.TheVariants.{Failed}
 use Rattle.fls_model.specs.Attach.{IsAttached}
 use Rattle.fls_model.specs.Op.{Op, MayLeave}
 use Rattle.fls_model.specs.Told.{Told, bytes_now, changes_in}
-use Rattle.device_bridge.specs.Bridge.{Bridges, is_program}
+use Rattle.device_bridge.specs.Bridge.{Bridges, is_program, has_failed}
 use Rattle.device_bridge.specs.FlashRun.{TellsBytes, IsChain, IsCutImage}
 use Rattle.device_bridge.specs.Image.{IsSoundFlash, IsOfLastGeneration, attached}
 use Rattle.device_clock.specs.Device.{WornSince, Device, run_of, tells, part_of}
@@ -18,11 +18,13 @@ use Rattle.device_clock.specs.Clock.{clock_of, MakesNone, Makes, ToldAlike}
 abbrev pub CountsCuts : Told → Told → Type 0
 CountsCuts s t = (n : ℕ) → WereCounted n s.planning.unplanned t.planning.unplanned → WereCounted n s.cuts t.cuts
 
--- since a moment the active bank has the last generation, nothing was erased, and a fault was counted where it says so
+-- since a moment the active bank has the last generation and nothing was erased; where it says so an operation had failed by
+-- then, and a fault was counted
 pub record IsWornSince (d : Device) (since : WornSince) : Type 0 where
   pub last : IfSome (bytes_now d.flash) (IsOfLastGeneration d.making.geometry)
   pub no_erase : since.from < last_count → IsTrue (list_all (λ x. is_program x.op) (drop since.from d.operations))
   pub faulted : IsTrue since.faulted → Rose d.entry.faults d.flash.faults
+  pub failed : IsTrue since.faulted → IsTrue (has_failed (take since.from d.operations))
 
 pub record HasRun (d : Device) : Type 0 where
   pub alike : ToldAlike d
