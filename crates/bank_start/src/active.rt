@@ -1,5 +1,5 @@
 // The bank that comes first.
-ghost use Rattle.std.specs.Prelude.{◌≡◌};
+ghost use Rattle.std.specs.Prelude.{◌≡◌, ℕ, Some, if◌then◌else◌};
 ghost use Rattle.fee_image.specs.Image.{first_of};
 ghost use Rattle.bank_start.specs.Active.{active_shown};
 
@@ -12,16 +12,13 @@ pub struct ActiveBank {
     pub head: BankHead,
 }
 
-/// The first of the banks before this one, and this one where it stands with a head: the one with the greatest generation,
-/// on a tie the lower one.
-pub fn first_of(first: Option<ActiveBank>, bank: u32, head: Option<BankHead>) -> Option<ActiveBank>
-    ensures { active_shown result ≡ first_of (active_shown first) bank head }
+/// Whether a bank that stands with this head comes before the first of the banks with lower numbers: the one with the
+/// greatest generation does, on a tie the lower one.
+pub fn comes_first(first: Option<ActiveBank>, head: BankHead) -> bool
+    ensures { (bank : ℕ) → first_of (active_shown first) bank (Some head) ≡ (if result then Some (bank, head) else active_shown first) }
 {
-    let Some(head) = head else {
-        return first;
-    };
     match first {
-        Some(first) if first.head.generation >= head.generation => Some(first),
-        _ => Some(ActiveBank { bank, head }),
+        Some(first) => first.head.generation < head.generation,
+        None => true,
     }
 }

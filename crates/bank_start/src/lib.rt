@@ -9,6 +9,6 @@ mod active;
 mod reading;
 mod start_laws;
 
-pub use active::{ActiveBank, first_of};
+pub use active::{ActiveBank, comes_first};
 pub use reading::read_bank;
 pub use start_laws::banks_stand_alone;

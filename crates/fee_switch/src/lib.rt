@@ -5,8 +5,13 @@
 //! the choice of what comes next, need a log that writes, and are left to come.
 #![tactic(auto)]
 
+mod banks;
+mod phase;
+mod start;
 mod target;
 mod target_laws;
 
+pub use banks::Banks;
+pub use phase::{BankBegin, BankStart, BankStep, Phase};
 pub use target::{Stage, Target};
 pub use target_laws::targets_hold;

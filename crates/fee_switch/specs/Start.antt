@@ -1,0 +1,31 @@
+-- What a start-up loads.
+use Rattle.std.specs.Prelude.{◌≡◌, ◌<◌, ℕ, List, Option, IfSome}
+use Rattle.fee_format.specs.declared.bank_head.BankHead.{BankHead}
+use Rattle.fee_image.specs.Image.{Layout, bank_in, active_below}
+use Rattle.log_image.specs.Laws.{loaded_log, IsLoadedTail}
+use Rattle.fee_log.specs.Index.{clear_flags}
+use Rattle.fee_log.specs.Log.{LogState, log_of, tail_with}
+use Rattle.bank_start.specs.declared.active.ActiveBank.{ActiveBank}
+use Rattle.bank_start.specs.Active.{active_shown}
+
+-- a log of the same numbers, of a bank of the same flash
+pub record IsSameShape (old new : LogState) : Type 0 where
+  pub geometry : new.geometry ≡ old.geometry
+  pub banks : new.banks ≡ old.banks
+  pub numbers : new.numbers ≡ old.numbers
+
+-- it is the log that is loaded from bank k, which stands with this head, and no flag is set
+pub record IsLoadedAs (l : Layout) (bytes : List ℕ) (k : ℕ) (h : BankHead) (log : LogState) : Type 0 where
+  pub bank : log.bank ≡ k
+  pub format : log.format ≡ h.format
+  pub flags : log.flags ≡ clear_flags log.numbers
+  pub loaded : (body : List ℕ) → log_of log body ≡ loaded_log (bank_in l h.format k) log.numbers bytes (tail_with log.tail body)
+  pub tail : (body : List ℕ) → IsLoadedTail (bank_in l h.format k) bytes (tail_with log.tail body)
+
+-- of the first banks, so many, this one comes first, and this is its log
+abbrev pub AreTaken : Layout → List ℕ → ℕ → Option ActiveBank → LogState → Type 0
+AreTaken l bytes n first log = (active_shown first ≡ active_below l bytes n) × IfSome first (λ a. IsLoadedAs l bytes a.bank a.head log)
+
+-- it is a log of that bank
+abbrev pub IsLogAt : ℕ → Option ActiveBank → LogState → Type 0
+IsLogAt banks first log = IfSome first (λ a. (a.bank < banks) × (log.bank ≡ a.bank))

@@ -1,0 +1,53 @@
+// What a switch is doing, and what its calls answer.
+ghost use Rattle.std.specs.Prelude.{◌≡◌};
+ghost use Rattle.fee_switch.specs.Banks.{phase_of};
+
+use switch_course::Course;
+
+/// No switch is open; or one erases its target, copies, or programs its head and gate; or its gate failed and is programmed
+/// again.
+#[derive(Clone, Copy, Debug, PartialEq, Eq)]
+pub enum Phase {
+    None,
+    Erase,
+    Copy,
+    Seal,
+    Doubtful,
+}
+
+/// The answer of a start-up: the banks are ready, or a read failed, which a fault counts.
+#[derive(Clone, Copy, Debug, PartialEq, Eq)]
+pub enum BankStart {
+    Ready,
+    Failed,
+}
+
+/// The answer to the beginning of a switch: it is open, or the active bank has the last generation.
+#[derive(Clone, Copy, Debug, PartialEq, Eq)]
+pub enum BankBegin {
+    Begun,
+    WornOut,
+}
+
+/// The answer to a step of a switch: its operation was done, and was or wasn't the last; it failed, which a fault counts; or
+/// the power is off.
+#[derive(Clone, Copy, Debug, PartialEq, Eq)]
+pub enum BankStep {
+    More,
+    Ended,
+    Failed,
+    Off,
+}
+
+/// The phase of a course, if a switch is open.
+pub(crate) fn phase_of(course: Option<Course>) -> Phase
+    ensures { result ≡ phase_of course }
+{
+    match course {
+        None => Phase::None,
+        Some(Course::Erase { .. }) => Phase::Erase,
+        Some(Course::Copy { .. }) => Phase::Copy,
+        Some(Course::Gate { failed: true }) => Phase::Doubtful,
+        Some(_) => Phase::Seal,
+    }
+}

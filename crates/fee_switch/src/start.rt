@@ -1,0 +1,94 @@
+// A start-up: which bank is active, and its log.
+ghost use Rattle.std.specs.Prelude.{◌≡◌, ◌<◌, ◌+◌, length, None, IfSome};
+ghost use Rattle.nv_base.specs.Geometry.{IsLegal, HasBanks, size_of_bank};
+ghost use Rattle.fls_jobs.specs.Start.{IsIdle};
+ghost use Rattle.fee_image.specs.Image.{layout_of};
+ghost use Rattle.bank_start.specs.Reading.{IsAnswered};
+ghost use Rattle.fee_switch.specs.Start.{AreTaken, IsLogAt, IsSameShape};
+
+use bank_start::{ActiveBank, banks_stand_alone, comes_first, read_bank};
+use fee_image::records_stay;
+use fee_log::{Log, loads_agree};
+use fee_view::BankView;
+use fls_jobs::Fls;
+use fls_model::{Flash, FlashAnswer};
+use nv_base::Geometry;
+
+// Reads a bank, and loads the log from it where it comes before the banks that were read.
+fn take_bank<F: Flash>(
+    fls: &mut Fls<F>,
+    geometry: Geometry,
+    banks: u32,
+    bank: u32,
+    first: &mut Option<ActiveBank>,
+    log: &mut Log,
+    buffer: &mut [u8],
+) -> FlashAnswer
+    requires legal { IsLegal geometry }
+    requires geometry { fls.old.geometry ≡ geometry }
+    requires idle { IsIdle fls.old }
+    requires shared { HasBanks geometry banks }
+    requires bank { bank < banks }
+    requires size { length buffer.old ≡ size_of_bank geometry banks }
+    requires log_geometry { log.old.geometry ≡ geometry }
+    requires log_banks { log.old.banks ≡ banks }
+    ensures taken { result ≡ FlashAnswer.Done → IfSome fls.old.flash.bytes (λ b. AreTaken (layout_of geometry banks) b.now bank first.old log.old → AreTaken (layout_of geometry banks) b.now (bank + 1) first.new log.new) }
+    ensures answer { IsAnswered fls.old.flash result fls.new.flash }
+    ensures same { fls.new ≡ record fls.old { flash = fls.new.flash; result = fls.new.result } }
+    ensures place { IsLogAt banks first.old log.old → IsLogAt banks first.new log.new }
+    ensures shape { IsSameShape log.old log.new }
+    ensures size { length buffer.new ≡ length buffer.old }
+{
+    loads_agree();
+    records_stay();
+    banks_stand_alone();
+    let _ = geometry.bank_pages(banks);
+    let _ = geometry.bank_size(banks);
+    let answer = read_bank(fls, geometry, banks, bank, buffer);
+    if answer != FlashAnswer::Done {
+        return answer;
+    }
+    let Some(view) = BankView::of(buffer, geometry.page) else {
+        return answer;
+    };
+    let head = view.head();
+    if comes_first(*first, head) {
+        *first = Some(ActiveBank { bank, head });
+        log.move_to(bank);
+        log.load(Some(view));
+    }
+    answer
+}
+
+/// Reads all banks, one after another, and loads the log from the active one.
+pub(crate) fn take_banks<F: Flash>(
+    fls: &mut Fls<F>,
+    geometry: Geometry,
+    banks: u32,
+    first: &mut Option<ActiveBank>,
+    log: &mut Log,
+    buffer: &mut [u8],
+) -> FlashAnswer
+    requires legal { IsLegal geometry }
+    requires geometry { fls.old.geometry ≡ geometry }
+    requires idle { IsIdle fls.old }
+    requires shared { HasBanks geometry banks }
+    requires none { first.old ≡ None }
+    requires size { length buffer.old ≡ size_of_bank geometry banks }
+    requires log_geometry { log.old.geometry ≡ geometry }
+    requires log_banks { log.old.banks ≡ banks }
+    ensures taken { result ≡ FlashAnswer.Done → IfSome fls.old.flash.bytes (λ b. AreTaken (layout_of geometry banks) b.now banks first.new log.new) }
+    ensures answer { IsAnswered fls.old.flash result fls.new.flash }
+    ensures same { fls.new ≡ record fls.old { flash = fls.new.flash; result = fls.new.result } }
+    ensures place { IsLogAt banks first.new log.new }
+    ensures shape { IsSameShape log.old log.new }
+    ensures size { length buffer.new ≡ length buffer.old }
+{
+    for bank in 0..banks {
+        match take_bank(fls, geometry, banks, bank, first, log, buffer) {
+            FlashAnswer::Done => {}
+            answer => return answer,
+        }
+    }
+    FlashAnswer::Done
+}
