@@ -1,14 +1,18 @@
 -- The banks of a flash, as contracts see them.
-use Rattle.std.specs.Prelude.{◌≡◌, ◌<◌, ℕ, true, List, length, Option, Some, None, IfSome}
+use Rattle.std.specs.Prelude.{◌≡◌, ◌==◌, ◌<◌, ℕ, Bool, true, false, List, length, Option, Some, None, IfSome}
 use Rattle.nv_base.specs.declared.geometry.Geometry.{Geometry}
 use Rattle.nv_base.specs.declared.instance.DeviceNumber.{DeviceNumber}
 use Rattle.nv_base.specs.Count.{Rose}
-use Rattle.nv_base.specs.Geometry.{IsLegal, HasBanks, size_of_bank}
+use Rattle.nv_base.specs.Geometry.{IsLegal, HasBanks, size_of_bank, sectors_of_bank}
+use Rattle.nv_base.specs.Lengths.{place_of}
 use Rattle.fls_model.specs.Told.{Told}
-use Rattle.fee_log.specs.Log.{LogState}
+use Rattle.fee_format.specs.declared.rec_head.RecHead.{RecHead}
+use Rattle.fee_log.specs.Index.{clear_flags}
+use Rattle.fee_log.specs.Log.{LogState, erased_state, work_in}
 use Rattle.bank_start.specs.declared.active.ActiveBank.{ActiveBank}
 use Rattle.switch_course.specs.declared.course.Course.{Course}
 use Rattle.switch_course.specs.declared.course.Course.TheVariants.{Erase, Copy, Head, Gate}
+use Rattle.switch_course.specs.Course.{IsShort, appended_to, turns_left}
 use Rattle.fee_switch.specs.declared.phase.BankStart.{BankStart}
 use Rattle.fee_switch.specs.declared.phase.BankStart.TheVariants.{Ready, Failed}
 use Rattle.fee_switch.specs.declared.phase.Phase.{Phase}
@@ -44,6 +48,7 @@ pub record IsBanksState (s : BanksState) : Type 0 where
   pub target : s.target < s.banks
   pub target_log : s.copies.bank ≡ s.target
   pub active : IfSome s.active (λ a. (a.bank ≡ s.target → ⊥) × (s.log.bank ≡ a.bank))
+  pub course : IfSome s.course (IsShort (sectors_of_bank s.geometry s.banks))
   pub buffer : length s.buffer ≡ size_of_bank s.geometry s.banks
 
 -- banks of the same flash and the same numbers
@@ -74,3 +79,45 @@ phase_of (Some (Copy work)) = phase.Copy
 phase_of (Some Head) = phase.Seal
 phase_of (Some (Gate true)) = phase.Doubtful
 phase_of (Some (Gate failed)) = phase.Seal
+
+-- TURNS
+-- the number of the record in work, by its place in the list of all
+abbrev pub index_of : List (DeviceNumber × ℕ) → Option RecHead → Option ℕ
+index_of numbers None = None
+index_of numbers (Some h) = place_of numbers h.number
+
+abbrev pub left_with : BanksState → Option Course → ℕ
+left_with s None = 0
+left_with s (Some course) =
+    turns_left s.geometry.page (sectors_of_bank s.geometry s.banks) s.log.numbers s.log.places s.log.flags (index_of s.log.numbers (work_in s.log.tail)) course
+
+abbrev pub left_of : BanksState → ℕ
+left_of s = left_with s s.course
+
+-- A SWITCH BEGINS
+abbrev pub is_worn_out : Option ActiveBank → Bool
+is_worn_out None = false
+is_worn_out (Some a) = a.head.generation == 4294967295
+
+-- with no flag set, and an empty log of the target
+abbrev pub begun_again : BanksState → Course → BanksState
+begun_again s course = record s {
+  course = Some course;
+  log = record s.log { flags = clear_flags s.log.numbers };
+  copies = erased_state s.geometry s.banks s.target s.copies.numbers;
+}
+
+-- APPENDS
+-- no switch is open, or one that erases or copies, and then a content alone
+abbrev pub TakesRecord : ℕ → Option Course → Type 0
+TakesRecord kind None = Unit {0}
+TakesRecord kind (Some (Erase done)) = kind ≡ 1
+TakesRecord kind (Some (Copy work)) = kind ≡ 1
+TakesRecord kind (Some _) = ⊥
+
+abbrev pub appended_at : Option ℕ → Option Course → Option Course
+appended_at (Some i) (Some course) = Some (appended_to i course)
+appended_at _ course = course
+
+abbrev pub course_appended : List (DeviceNumber × ℕ) → ℕ → Option Course → Option Course
+course_appended numbers number course = appended_at (place_of numbers number) course

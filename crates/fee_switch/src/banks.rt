@@ -7,14 +7,23 @@ ghost use Rattle.bank_start.specs.Active.{active_shown};
 ghost use Rattle.fee_switch.specs.Start.{IsLoadedAs};
 ghost use Rattle.fee_switch.specs.Banks.{IsMade, IsSameFlash, IsStartOf, phase_of};
 
+ghost use Rattle.std.specs.Prelude.{IsSome, length};
+ghost use Rattle.std.specs.Option.{ForSome};
+ghost use Rattle.nv_base.specs.Pages.{record_pages_of};
+ghost use Rattle.fls_model.specs.Step.{IsStep};
+ghost use Rattle.fls_jobs.specs.CallOf.{closed_as};
+ghost use Rattle.fee_log.specs.Log.{IsFor, work_in, free_in, begun};
+ghost use Rattle.fee_log.specs.Step.{IsPageOf, IsStepAt, due_bytes, op_of, answer_of, after_step, given_up};
+ghost use Rattle.fee_switch.specs.Banks.{TakesRecord, left_of, is_worn_out, begun_again, course_appended};
+
 use crate::phase::phase_of;
 use crate::start::take_banks;
-use crate::{BankStart, Phase};
+use crate::{BankBegin, BankStart, Phase};
 use bank_start::ActiveBank;
-use fee_log::Log;
+use fee_log::{Log, LogStep};
 use fls_jobs::Fls;
 use fls_model::{Flash, FlashAnswer};
-use nv_base::{Geometry, Lengths};
+use nv_base::{DeviceNumber, Geometry, Lengths};
 use std::alloc::{AllocError, Global};
 use std::marker::Model;
 use switch_course::Course;
@@ -126,6 +135,91 @@ impl Banks {
         ensures { result ≡ phase_of self.now.course }
     {
         phase_of(self.course)
+    }
+
+    /// The turns that the open switch has left, 0 where none is open. A record in work in the active log counts as a content
+    /// that is to be copied.
+    pub fn left(&self) -> u64
+        ensures { result ≡ left_of self.now }
+    {
+        let Some(course) = self.course else {
+            return 0;
+        };
+        let (numbers, places, flags) = self.log.lists();
+        let appended = match self.log.work() {
+            Some(head) => numbers.place_of(DeviceNumber(head.number)),
+            None => None,
+        };
+        let sectors = self.geometry.bank_sectors(self.banks);
+        course.left(
+            self.geometry.page,
+            sectors,
+            numbers,
+            places,
+            flags,
+            appended,
+        )
+    }
+
+    /// Opens a switch to the next bank, or from a blank flash to the first one: with no flag set, the erase of the target's
+    /// first sector comes. `WornOut` exactly where the active bank has the last generation.
+    pub fn begin(&mut self) -> BankBegin
+        requires closed { self.old.course ≡ None }
+        requires idle { work_in self.old.log.tail ≡ None }
+        ensures worn { result ≡ BankBegin.WornOut → (is_worn_out self.old.active ≡ true) × (self.new ≡ self.old) }
+        ensures begun { result ≡ BankBegin.Begun → (is_worn_out self.old.active ≡ false) × (self.new ≡ begun_again self.old (Course.Erase 0)) }
+    {
+        if let Some(active) = self.active {
+            if active.head.generation == 4294967295 {
+                return BankBegin::WornOut;
+            }
+        }
+        self.log.clear_flags();
+        self.copies.move_to(self.target);
+        self.course = Some(Course::Erase { done: 0 });
+        BankBegin::Begun
+    }
+
+    /// Begins a record in the active log: before a switch, or in its phases `Erase` and `Copy` a content. Its number's flag is
+    /// cleared, and a copy of it that is in work sets none.
+    pub fn append_start(&mut self, number: DeviceNumber, kind: u8, length: u16)
+        requires active { is_some self.old.active ≡ true }
+        requires idle { work_in self.old.log.tail ≡ None }
+        requires format { self.old.log.format ≡ 1 }
+        requires open { TakesRecord kind self.old.course }
+        requires configured { IsFor self.old.log.numbers (record { number = number.0; kind = kind; length = length }) }
+        requires room { record_pages_of length self.old.geometry.page ≤ free_in self.old.log }
+        ensures { self.new ≡ record self.old { log = begun self.old.log (record { number = number.0; kind = kind; length = length }); course = course_appended self.old.log.numbers number.0 self.old.course } }
+    {
+        let index = self.log.lists().0.place_of(number);
+        self.log.append_start(number, kind, length);
+        if let (Some(course), Some(index)) = (self.course, index) {
+            self.course = Some(course.appended_to(index));
+        }
+    }
+
+    /// Programs the next page of that record, as `Log::step`.
+    pub fn append_step<F: Flash>(&mut self, fls: &mut Fls<F>, body: &[u8]) -> LogStep
+        requires active { is_some self.old.active ≡ true }
+        requires work { IsSome (work_in self.old.log.tail) }
+        requires body { ForSome (work_in self.old.log.tail) (λ h. length body.now ≡ h.length) }
+        requires idle { IsIdle fls.old }
+        requires geometry { fls.old.geometry ≡ self.old.geometry }
+        ensures step { IsStep (op_of self.old.log body.now) fls.old.flash (answer_of result) fls.new.flash }
+        ensures page { IsPageOf self.old.geometry.page (due_bytes self.old.log body.now) }
+        ensures last { IsStepAt self.old.log result }
+        ensures after { self.new ≡ record self.old { log = after_step self.old.log (answer_of result) } }
+        ensures same { fls.new ≡ record fls.old { flash = fls.new.flash; result = closed_as (answer_of result) } }
+    {
+        self.log.step(fls, body)
+    }
+
+    /// Gives that record up, as `Log::abandon`: in a switch only behind a step of it that failed.
+    pub fn append_abandon(&mut self)
+        requires active { is_some self.old.active ≡ true }
+        ensures { self.new ≡ record self.old { log = given_up self.old.log } }
+    {
+        self.log.abandon();
     }
 
     /// Reads each sector once, whole, in ascending order, and programs nothing. The active bank is the one that stands with
