@@ -1,20 +1,26 @@
 -- The banks of a flash, as contracts see them.
-use Rattle.std.specs.Prelude.{◌≡◌, ◌==◌, ◌<◌, ℕ, Bool, true, false, List, length, Option, Some, None, IfSome}
+use Rattle.std.specs.Prelude.{◌≡◌, ◌==◌, ◌<◌, ◌+◌, if◌then◌else◌, slice_get, ℕ, Bool, true, false, List, length, Option, Some, None, IfSome}
 use Rattle.nv_base.specs.declared.geometry.Geometry.{Geometry}
 use Rattle.nv_base.specs.declared.instance.DeviceNumber.{DeviceNumber}
 use Rattle.nv_base.specs.Count.{Rose}
 use Rattle.nv_base.specs.Geometry.{IsLegal, HasBanks, size_of_bank, sectors_of_bank}
 use Rattle.nv_base.specs.Lengths.{place_of}
+use Rattle.fls_model.specs.declared.flash.FlashAnswer.{FlashAnswer}
+use Rattle.fls_model.specs.declared.flash.FlashAnswer.TheVariants.{Done, Failed as FlashFailed, Off}
 use Rattle.fls_model.specs.Told.{Told}
 use Rattle.fee_format.specs.declared.rec_head.RecHead.{RecHead}
-use Rattle.fee_log.specs.Index.{clear_flags}
+use Rattle.fee_log.specs.Index.{with_flag, clear_flags}
 use Rattle.fee_log.specs.Log.{LogState, erased_state, work_in}
 use Rattle.bank_start.specs.declared.active.ActiveBank.{ActiveBank}
 use Rattle.switch_course.specs.declared.course.Course.{Course}
 use Rattle.switch_course.specs.declared.course.Course.TheVariants.{Erase, Copy, Head, Gate}
-use Rattle.switch_course.specs.Course.{IsShort, appended_to, turns_left}
+use Rattle.switch_course.specs.Course.{IsShort, after_done, after_failed, flag_due, appended_to, turns_left}
 use Rattle.fee_switch.specs.declared.phase.BankStart.{BankStart}
 use Rattle.fee_switch.specs.declared.phase.BankStart.TheVariants.{Ready, Failed}
+use Rattle.fee_switch.specs.declared.phase.BankStep.{BankStep}
+use Rattle.fee_switch.specs.declared.phase.BankStep.TheVariants as step
+use Rattle.fee_switch.specs.declared.target.Stage.{Stage}
+use Rattle.fee_switch.specs.declared.target.Target.{Target}
 use Rattle.fee_switch.specs.declared.phase.Phase.{Phase}
 use Rattle.fee_switch.specs.declared.phase.Phase.TheVariants as phase
 
@@ -80,6 +86,20 @@ phase_of (Some Head) = phase.Seal
 phase_of (Some (Gate true)) = phase.Doubtful
 phase_of (Some (Gate failed)) = phase.Seal
 
+-- THE NEXT TARGET
+-- the bank behind the active one, or the first
+abbrev pub target_after : ℕ → Option ActiveBank → ℕ
+target_after banks None = 0
+target_after banks (Some a) = if a.bank + 1 == banks then 0 else a.bank + 1
+
+-- the generation of the target's head
+abbrev pub next_generation : Option ActiveBank → ℕ
+next_generation None = 1
+next_generation (Some a) = a.head.generation + 1
+
+abbrev pub target_at : BanksState → Stage → Target
+target_at s stage = record { geometry = s.geometry; banks = s.banks; bank = s.target; generation = next_generation s.active; stage = stage }
+
 -- TURNS
 -- the number of the record in work, by its place in the list of all
 abbrev pub index_of : List (DeviceNumber × ℕ) → Option RecHead → Option ℕ
@@ -121,3 +141,61 @@ appended_at _ course = course
 
 abbrev pub course_appended : List (DeviceNumber × ℕ) → ℕ → Option Course → Option Course
 course_appended numbers number course = appended_at (place_of numbers number) course
+
+-- STEPS
+-- the target stands: the roles turn
+abbrev pub stood : BanksState → Option ActiveBank
+stood s = Some (record { bank = s.target; head = record { format = 1; generation = next_generation s.active } })
+
+abbrev pub ended : BanksState → BanksState
+ended s =
+    let target = target_after s.banks (stood s) in
+    record s {
+      active = stood s;
+      target = target;
+      course = None;
+      log = s.copies;
+      copies = erased_state s.geometry s.banks target s.log.numbers;
+    }
+
+-- a copy's last page sets its flag
+abbrev pub flagged_at : LogState → Option (DeviceNumber × ℕ) → LogState
+flagged_at log None = log
+flagged_at log (Some n) = record log { flags = with_flag log.numbers log.flags n.0.0 true }
+
+abbrev pub flagged_by : LogState → Option ℕ → LogState
+flagged_by log None = log
+flagged_by log (Some i) = flagged_at log (slice_get log.numbers i)
+
+abbrev pub advanced_with : BanksState → Course → LogState → BanksState
+advanced_with s course log = record s {
+  log = log;
+  course = Some (after_done s.geometry.page (sectors_of_bank s.geometry s.banks) log.numbers log.places log.flags course);
+}
+
+-- an operation before the gate is done
+abbrev pub advanced : BanksState → Course → BanksState
+advanced s course = advanced_with s course (flagged_by s.log (flag_due course))
+
+-- and one that failed: with no flag set, and an empty log of the target; but for the gate, which is made again
+abbrev pub fallen_back : BanksState → Course → BanksState
+fallen_back s (Gate failed) = record s { course = Some (Gate true) }
+fallen_back s course = begun_again s (after_failed course)
+
+abbrev pub done_at : BanksState → Course → BanksState
+done_at s (Gate failed) = ended s
+done_at s course = advanced s course
+
+abbrev pub after_answer : BanksState → Course → FlashAnswer → BanksState
+after_answer s course Done = done_at s course
+after_answer s course FlashFailed = fallen_back s course
+after_answer s course Off = s
+
+abbrev pub step_done : Course → BankStep
+step_done (Gate failed) = step.Ended
+step_done course = step.More
+
+abbrev pub step_of : Course → FlashAnswer → BankStep
+step_of course Done = step_done course
+step_of course FlashFailed = step.Failed
+step_of course Off = step.Off

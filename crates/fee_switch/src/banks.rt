@@ -1,25 +1,28 @@
 // The banks of a flash.
 ghost use Rattle.std.specs.Prelude.{◌≡◌, ◌<◌, ◌≤◌, true, false, None, IfOk, IfSome, MatchOption, option_map, is_some};
-ghost use Rattle.nv_base.specs.Geometry.{IsLegal, HasBanks};
+ghost use Rattle.nv_base.specs.Geometry.{IsLegal, HasBanks, sectors_of_bank};
 ghost use Rattle.fls_jobs.specs.Start.{IsIdle};
 ghost use Rattle.fee_image.specs.Image.{layout_of, active_of};
 ghost use Rattle.bank_start.specs.Active.{active_shown};
-ghost use Rattle.fee_switch.specs.Start.{IsLoadedAs};
+ghost use Rattle.fee_switch.specs.Start.{IsLoadedAs, IsSameShape};
 ghost use Rattle.fee_switch.specs.Banks.{IsMade, IsSameFlash, IsStartOf, phase_of};
 
-ghost use Rattle.std.specs.Prelude.{IsSome, length};
+ghost use Rattle.std.specs.Prelude.{IsSome, Some, length};
 ghost use Rattle.std.specs.Option.{ForSome};
 ghost use Rattle.nv_base.specs.Pages.{record_pages_of};
 ghost use Rattle.fls_model.specs.Step.{IsStep};
 ghost use Rattle.fls_jobs.specs.CallOf.{closed_as};
 ghost use Rattle.fee_log.specs.Log.{IsFor, work_in, free_in, begun};
 ghost use Rattle.fee_log.specs.Step.{IsPageOf, IsStepAt, due_bytes, op_of, answer_of, after_step, given_up};
-ghost use Rattle.fee_switch.specs.Banks.{TakesRecord, left_of, is_worn_out, begun_again, course_appended};
+ghost use Rattle.switch_course.specs.Course.{IsShort, flag_due};
+ghost use Rattle.fee_switch.specs.Target.{IsWorking, op_at};
+ghost use Rattle.fee_switch.specs.Banks.{TakesRecord, left_of, is_worn_out, target_after, target_at, flagged_by, ended, advanced, fallen_back, after_answer, step_of, begun_again, course_appended};
 
 use crate::phase::phase_of;
 use crate::start::take_banks;
-use crate::{BankBegin, BankStart, Phase};
+use crate::{BankBegin, BankStart, BankStep, Phase, Stage, Target};
 use bank_start::ActiveBank;
+use fee_format::BankHead;
 use fee_log::{Log, LogStep};
 use fls_jobs::Fls;
 use fls_model::{Flash, FlashAnswer};
@@ -77,12 +80,28 @@ fn target_of(active: Option<ActiveBank>, banks: u32) -> u32
     requires active { IfSome active (λ a. a.bank < banks) }
     ensures inside { result < banks }
     ensures other { IfSome active (λ a. a.bank ≡ result → ⊥) }
+    ensures value { result ≡ target_after banks active }
 {
     match active {
         None => 0,
         Some(active) if active.bank + 1 == banks => 0,
         Some(active) => active.bank + 1,
     }
+}
+
+// Sets the flag that the next operation of a course sets, if any.
+fn set_flag_due(log: &mut Log, course: Course)
+    ensures log { log.new ≡ flagged_by log.old (flag_due course) }
+    ensures shape { IsSameShape log.old log.new }
+    ensures bank { log.new.bank ≡ log.old.bank }
+{
+    let Some(index) = course.flag_due() else {
+        return;
+    };
+    let Some(&(number, _)) = log.lists().0.as_slice().get(index) else {
+        return;
+    };
+    log.set_flag(number, true);
 }
 
 impl Banks {
@@ -256,6 +275,104 @@ impl Banks {
         } else {
             self.active = None;
             BankStart::Failed
+        }
+    }
+
+    // The operation of the target itself that comes next: an erase, the head or the gate.
+    fn program_target<F: Flash>(&self, fls: &mut Fls<F>, stage: Stage) -> FlashAnswer
+        requires worn { is_worn_out self.now.active ≡ false }
+        requires working { IsWorking (sectors_of_bank self.now.geometry self.now.banks) stage }
+        requires idle { IsIdle fls.old }
+        requires geometry { fls.old.geometry ≡ self.now.geometry }
+        ensures step { IsStep (op_at (target_at self.now stage) stage) fls.old.flash result fls.new.flash }
+        ensures same { fls.new ≡ record fls.old { flash = fls.new.flash; result = closed_as result } }
+    {
+        let generation = match self.active {
+            Some(active) => active.head.generation + 1,
+            None => 1,
+        };
+        let mut target = Target {
+            geometry: self.geometry,
+            banks: self.banks,
+            bank: self.target,
+            generation,
+            stage,
+        };
+        target.step(fls)
+    }
+
+    // The target stands: it is active, and the bank behind it is the next target.
+    fn turn_roles(&mut self)
+        requires worn { is_worn_out self.old.active ≡ false }
+        ensures { self.new ≡ ended self.old }
+    {
+        let generation = match self.active {
+            Some(active) => active.head.generation + 1,
+            None => 1,
+        };
+        let head = BankHead {
+            format: 1,
+            generation,
+        };
+        let active = Some(ActiveBank {
+            bank: self.target,
+            head,
+        });
+        let target = target_of(active, self.banks);
+        std::mem::swap(&mut self.log, &mut self.copies);
+        self.copies.move_to(target);
+        self.active = active;
+        self.target = target;
+        self.course = None;
+    }
+
+    // An operation before the gate was done.
+    fn advance(&mut self, course: Course)
+        requires short { IsShort (sectors_of_bank self.old.geometry self.old.banks) course }
+        ensures { self.new ≡ advanced self.old course }
+    {
+        set_flag_due(&mut self.log, course);
+        let sectors = self.geometry.bank_sectors(self.banks);
+        let (numbers, places, flags) = self.log.lists();
+        self.course = Some(course.done(self.geometry.page, sectors, numbers, places, flags));
+    }
+
+    // An operation failed: the gate is made again, and behind any other the first erase comes, or the same.
+    fn fall_back(&mut self, course: Course)
+        requires short { IsShort (sectors_of_bank self.old.geometry self.old.banks) course }
+        ensures { self.new ≡ fallen_back self.old course }
+    {
+        if let Course::Gate { .. } = course {
+            self.course = Some(Course::Gate { failed: true });
+            return;
+        }
+        self.log.clear_flags();
+        self.copies.move_to(self.target);
+        self.course = Some(course.failed());
+    }
+
+    // What an answer leaves of the banks.
+    fn settle(&mut self, course: Course, answer: FlashAnswer) -> BankStep
+        requires short { IsShort (sectors_of_bank self.old.geometry self.old.banks) course }
+        requires worn { is_worn_out self.old.active ≡ false }
+        requires course { self.old.course ≡ Some course }
+        ensures after { self.new ≡ after_answer self.old course answer }
+        ensures answer { result ≡ step_of course answer }
+    {
+        match (answer, course) {
+            (FlashAnswer::Done, Course::Gate { .. }) => {
+                self.turn_roles();
+                BankStep::Ended
+            }
+            (FlashAnswer::Done, course) => {
+                self.advance(course);
+                BankStep::More
+            }
+            (FlashAnswer::Failed, course) => {
+                self.fall_back(course);
+                BankStep::Failed
+            }
+            (FlashAnswer::Off, _) => BankStep::Off,
         }
     }
 }
