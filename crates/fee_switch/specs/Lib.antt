@@ -1,3 +1,4 @@
 pub mod Banks
+pub mod Copy
 pub mod Start
 pub mod Target

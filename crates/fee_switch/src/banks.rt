@@ -16,8 +16,10 @@ ghost use Rattle.fee_log.specs.Log.{IsFor, work_in, free_in, begun};
 ghost use Rattle.fee_log.specs.Step.{IsPageOf, IsStepAt, due_bytes, op_of, answer_of, after_step, given_up};
 ghost use Rattle.switch_course.specs.Course.{IsShort, flag_due};
 ghost use Rattle.fee_switch.specs.Target.{IsWorking, op_at};
+ghost use Rattle.fee_switch.specs.Copy.{CanBegin, BeginsAt};
 ghost use Rattle.fee_switch.specs.Banks.{TakesRecord, left_of, is_worn_out, target_after, target_at, flagged_by, ended, advanced, fallen_back, after_answer, step_of, begun_again, course_appended};
 
+use crate::copy::{begin_mark, read_content};
 use crate::phase::phase_of;
 use crate::start::take_banks;
 use crate::{BankBegin, BankStart, BankStep, Phase, Stage, Target};
@@ -26,10 +28,11 @@ use fee_format::BankHead;
 use fee_log::{Log, LogStep};
 use fls_jobs::Fls;
 use fls_model::{Flash, FlashAnswer};
+use log_image::Place;
 use nv_base::{DeviceNumber, Geometry, Lengths};
 use std::alloc::{AllocError, Global};
 use std::marker::Model;
-use switch_course::Course;
+use switch_course::{Course, Source};
 
 /// The banks of a flash, of which one at most is active, with the logs of that one and of the target of a switch. Nothing in it
 /// but `make` names how many they are.
@@ -373,6 +376,33 @@ impl Banks {
                 BankStep::Failed
             }
             (FlashAnswer::Off, _) => BankStep::Off,
+        }
+    }
+
+    // The first operation of the copy of a number.
+    fn begin_copy<F: Flash>(
+        &mut self,
+        fls: &mut Fls<F>,
+        number: DeviceNumber,
+        source: Source,
+    ) -> FlashAnswer
+        requires can { CanBegin self.old number source }
+        requires idle { IsIdle fls.old }
+        requires geometry { fls.old.geometry ≡ self.old.geometry }
+        ensures begins { BeginsAt source.place self.old number.0 source.length fls.old.flash result self.new fls.new.flash }
+        ensures same { fls.new ≡ record fls.old { flash = fls.new.flash; result = closed_as result } }
+    {
+        match source.place {
+            Place::Content { at } => read_content(
+                fls,
+                &self.log,
+                &mut self.copies,
+                &mut self.buffer,
+                number,
+                source.length,
+                at,
+            ),
+            _ => begin_mark(fls, &mut self.copies, number),
         }
     }
 }

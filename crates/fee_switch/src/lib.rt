@@ -6,6 +6,7 @@
 #![tactic(auto)]
 
 mod banks;
+mod copy;
 mod phase;
 mod start;
 mod target;

@@ -1,0 +1,98 @@
+// The copies of a switch: the content that is read, and the record that is written.
+ghost use Rattle.std.specs.Prelude.{◌≡◌, ◌<◌, ◌≤◌, ◌+◌, [], None, IsSome, length, take};
+ghost use Rattle.std.specs.Option.{ForSome};
+ghost use Rattle.nv_base.specs.Geometry.{address_of_page};
+ghost use Rattle.nv_base.specs.Pages.{record_pages_of};
+ghost use Rattle.fls_model.specs.Read.{IsRead};
+ghost use Rattle.fls_model.specs.Step.{IsStep};
+ghost use Rattle.fls_jobs.specs.CallOf.{closed_as};
+ghost use Rattle.fls_jobs.specs.Start.{IsIdle};
+ghost use Rattle.fee_log.specs.Log.{IsFor, work_in, free_in, begun};
+ghost use Rattle.fee_log.specs.Step.{op_of, after_step, answer_of};
+ghost use Rattle.fee_switch.specs.Copy.{begun_where};
+
+use fee_log::{Log, LogStep};
+use fls_jobs::Fls;
+use fls_model::{Flash, FlashAnswer};
+use nv_base::DeviceNumber;
+
+// The flash's answer to a step of a log.
+fn answer_of(step: LogStep) -> FlashAnswer
+    ensures { result ≡ answer_of step }
+{
+    match step {
+        LogStep::More | LogStep::Committed => FlashAnswer::Done,
+        LogStep::Failed => FlashAnswer::Failed,
+        LogStep::Off => FlashAnswer::Off,
+    }
+}
+
+/// Reads a content of a log to the front of a buffer, and begins its copy.
+pub(crate) fn read_content<F: Flash>(
+    fls: &mut Fls<F>,
+    log: &Log,
+    copies: &mut Log,
+    buffer: &mut [u8],
+    number: DeviceNumber,
+    size: u16,
+    at: u32,
+) -> FlashAnswer
+    requires idle { IsIdle fls.old }
+    requires geometry { fls.old.geometry ≡ log.now.geometry }
+    requires within { at + record_pages_of size log.now.geometry.page ≤ log.now.end }
+    requires some { 0 < size }
+    requires buffer { size ≤ length buffer.old }
+    requires no_work { work_in copies.old.tail ≡ None }
+    requires format { copies.old.format ≡ 1 }
+    requires configured { IsFor copies.old.numbers (record { number = number.0; kind = 1; length = size }) }
+    requires room { record_pages_of size copies.old.geometry.page ≤ free_in copies.old }
+    ensures read { IsRead (address_of_page log.now.geometry log.now.banks log.now.bank (at + 2)) fls.old.flash (take size buffer.old) result (take size buffer.new) fls.new.flash }
+    ensures begins { copies.new ≡ begun_where result copies.old (record { number = number.0; kind = 1; length = size }) }
+    ensures whole { length buffer.new ≡ length buffer.old }
+    ensures same { fls.new ≡ record fls.old { flash = fls.new.flash; result = closed_as result } }
+{
+    fls.status();
+    log.lists();
+    let address = log.content_address(at);
+    let answer = fls.read_range(address, &mut buffer[..usize::from(size)]);
+    if answer == FlashAnswer::Done {
+        copies.append_start(number, 1, size);
+    }
+    answer
+}
+
+/// Begins the copy of an invalidated mark, and programs its first page.
+pub(crate) fn begin_mark<F: Flash>(
+    fls: &mut Fls<F>,
+    copies: &mut Log,
+    number: DeviceNumber,
+) -> FlashAnswer
+    requires idle { IsIdle fls.old }
+    requires geometry { fls.old.geometry ≡ copies.old.geometry }
+    requires no_work { work_in copies.old.tail ≡ None }
+    requires format { copies.old.format ≡ 1 }
+    requires configured { IsFor copies.old.numbers (record { number = number.0; kind = 2; length = 0 }) }
+    requires room { record_pages_of 0 copies.old.geometry.page ≤ free_in copies.old }
+    ensures step { IsStep (op_of (begun copies.old (record { number = number.0; kind = 2; length = 0 })) []) fls.old.flash result fls.new.flash }
+    ensures after { copies.new ≡ after_step (begun copies.old (record { number = number.0; kind = 2; length = 0 })) result }
+    ensures same { fls.new ≡ record fls.old { flash = fls.new.flash; result = closed_as result } }
+{
+    copies.append_start(number, 2, 0);
+    answer_of(copies.step(fls, &[]))
+}
+
+/// Programs the next page of the copy in work, whose content stands at the front of the buffer.
+pub(crate) fn copy_page<F: Flash>(fls: &mut Fls<F>, copies: &mut Log, buffer: &[u8]) -> FlashAnswer
+    requires idle { IsIdle fls.old }
+    requires geometry { fls.old.geometry ≡ copies.old.geometry }
+    requires work { IsSome (work_in copies.old.tail) }
+    requires buffer { ForSome (work_in copies.old.tail) (λ h. h.length ≤ length buffer.now) }
+    ensures step { ForSome (work_in copies.old.tail) (λ h. IsStep (op_of copies.old (take h.length buffer.now)) fls.old.flash result fls.new.flash) }
+    ensures after { copies.new ≡ after_step copies.old result }
+    ensures same { fls.new ≡ record fls.old { flash = fls.new.flash; result = closed_as result } }
+{
+    let Some(head) = copies.work() else {
+        unreachable!();
+    };
+    answer_of(copies.step(fls, &buffer[..usize::from(head.length)]))
+}
