@@ -1,7 +1,8 @@
 -- What the clock of a device tells, over each turn.
 use Rattle.std.specs.Prelude.{slice_get, unwrap_or, IsTrue, IfSome, option_map, min}
 use Rattle.std.specs.Option.{option_map_or}
-use Rattle.std.proofs.Common.{◌≡◌, ◌⊎◌, inl, inr, ℕ, zero, suc, ◌<◌, ◌≤◌, ◌+◌, List, [], ◌∷◌, ◌++◌, length, Option, Some, None, refl, sym, ap, ◌∙◌, subst, arith, length-append}
+use Rattle.std.proofs.Common.{◌≡◌, ◌⊎◌, inl, inr, ℕ, zero, suc, ◌<◌, ◌≤◌, ◌+◌, List, [], ◌∷◌, ◌++◌, length, Option, Some, None, refl, sym, ap, ◌∙◌, subst, arith, length-append, take}
+use Rattle.std.proofs.lemmas.List.{take-append-le, take_all}
 use Rattle.std.proofs.lemmas.Bool.{cases_lt, false≢true}
 use Rattle.nv_base.specs.Count.{last_count}
 use Rattle.nv_base.specs.declared.geometry.Geometry.{Geometry}
@@ -12,7 +13,7 @@ use Rattle.fls_model.specs.declared.flash.FlashAnswer.{FlashAnswer}
 use Rattle.fls_model.specs.Op.{Op, MayLeave}
 use Rattle.fls_model.specs.Step.{IsChanged}
 use Rattle.fls_model.specs.Told.{ToldBytes, Change, IfBothTold, bytes_now}
-use Rattle.device_bridge.specs.Bridge.{Making, wanted_pages}
+use Rattle.device_bridge.specs.Bridge.{Making, has_failed, wanted_pages}
 use Rattle.device_bridge.specs.FlashRun.{TellsBytes, bytes_after}
 use Rattle.device_bridge.specs.Image.{held_in, HasNoRoomFor}
 use Rattle.device_clock.specs.Device.{Device, run_of, is_told_sound, tells, slots_in, slots_told, told_of}
@@ -144,7 +145,7 @@ module _ (d t : Device) (none : MakesNone d t) where
     from = w.from;
     full = λ told small. elim (w.full (tells_back told) small) [
       | inl room ↦ inl (subst (λ (o : Option (List ℕ)). IfSome o (HasNoRoomFor (wanted_pages d.making n) d.making.geometry)) (bytes_same k) (room_back k n room))
-      | inr faulted ↦ inr faulted
+      | inr failed ↦ inr (subst (λ (l : List Change). IsTrue (has_failed (take k l))) none.operations failed)
     ];
   }
 
@@ -186,7 +187,7 @@ worn_now d since n is from full = record {
   full = λ told small. elim full [
     | inl room ↦ inl (subst (λ (o : Option (List ℕ)). IfSome o (HasNoRoomFor (wanted_pages d.making n) d.making.geometry))
         (sym (bytes_at_end d) ∙ ap (bytes_after (run_of d)) (let at : length d.operations ≡ min (length d.operations) last_count = omega (arith, small) in at)) room)
-    | inr faulted ↦ inr faulted
+    | inr failed ↦ inr (subst (λ (l : List Change). IsTrue (has_failed l)) (sym (take_all (min (length d.operations) last_count) d.operations (omega (arith, small)))) failed)
   ];
 }
 
@@ -270,7 +271,7 @@ module _ (op : Op) (answer : FlashAnswer) (d t : Device) (alike : ToldAlike d) (
         elim (w.full d_tells small) [
           | inl room ↦ inl (subst (λ (making : Making). IfSome (bytes_after (run_of t) k) (HasNoRoomFor (wanted_pages making n) making.geometry)) (sym makes.making)
               (subst (λ (o : Option (List ℕ)). IfSome o (HasNoRoomFor (wanted_pages d.making n) d.making.geometry)) (sym (after_same k b.bytes b.is (omega arith))) room))
-          | inr faulted ↦ inr faulted
+          | inr failed ↦ inr (subst (λ (l : List Change). IsTrue (has_failed l)) (sym (ap (take k) makes.operations ∙ take-append-le k d.operations (change ∷ []) (omega arith))) failed)
         ];
   }
 

@@ -1,8 +1,8 @@
 -- What ties a device to its flash is kept by each call.
-use Rattle.std.specs.Prelude.{slice_get, unwrap_or, IsTrue, IfSome, option_map, drop, take}
+use Rattle.std.specs.Prelude.{slice_get, unwrap_or, IsTrue, IfSome, option_map, drop}
 use Rattle.std.specs.List.{list_all, list_any}
-use Rattle.std.proofs.Common.{◌≡◌, ◌⊎◌, inl, inr, ℕ, zero, suc, ◌<◌, ◌≤◌, Bool, true, List, [], ◌∷◌, ◌++◌, length, Option, Some, None, refl, sym, ap, ◌∙◌, subst, arith}
-use Rattle.std.proofs.lemmas.Bool.{cases_lt, and_parts, and_from}
+use Rattle.std.proofs.Common.{◌≡◌, ◌⊎◌, inl, inr, ℕ, zero, suc, ◌<◌, ◌≤◌, Bool, true, false, List, [], ◌∷◌, ◌++◌, length, Option, Some, None, refl, sym, ap, ◌∙◌, subst, arith}
+use Rattle.std.proofs.lemmas.Bool.{cases_lt, and_parts, and_from, or_cases, false≢true}
 use Rattle.nv_base.specs.Count.{Rose, WereCounted}
 use Rattle.nv_base.specs.declared.geometry.Geometry.{Geometry}
 use Rattle.nv_base.specs.Geometry.{size_of}
@@ -17,11 +17,11 @@ use Rattle.fee_image.specs.Sound.{IsSoundImage}
 use Rattle.device_bridge.specs.Bridge.{Making, is_program, is_failed, has_failed}
 use Rattle.device_bridge.specs.FlashRun.{TellsBytes, IsChain, IsCutImage}
 use Rattle.device_bridge.specs.Image.{two_banks, attached, IsSoundFlash, IsOfLastGeneration}
-use Rattle.device_clock.specs.Device.{WornSince, Device, run_of, tells}
+use Rattle.device_clock.specs.Device.{Device, run_of, tells}
 use Rattle.device_clock.specs.Clock.{MakesNone, Makes, change_of}
 use Rattle.device_clock.specs.Runs.{CountsCuts, IsWornSince, HasRun, RunsBegin, KeepsRun, RunsStay, counts_fault, LeavesSound, KeepsWorn, RunsGoOn}
 use Rattle.device_clock.proofs.Clocks.{some_if, if_some, IsTold, now_of, told_now, tells_of, early, last, one_more, get_below, some_is, told_before, before_is}
-use Rattle.device_clock.proofs.Runs.{told_sound, or_more}
+use Rattle.device_clock.proofs.Runs.{told_sound, any_last}
 
 -- IT IS MADE
 twice : (n : ℕ) (bytes : List ℕ) → enlarged n (enlarged n bytes) ≡ enlarged n bytes
@@ -77,6 +77,8 @@ runs_begin computes d made cuts =
           subst (IsSoundImage (two_banks g)) (sym (ap (attached g) same ∙ twice (size_of g) first.bytes)) (told_sound computes d first.bytes first.is told));
       sound_cut = λ told k image (x, get, leaves). (let none : slice_get [] k ≡ Some x = ap (λ (l : List Change). slice_get l k) (sym made.operations) ∙ get in absurd (no_get k x none));
       faults = inl (omega (arith, made.faults, at.faults));
+      failed = λ failed. absurd (false≢true (subst (λ (l : List Change). IsTrue (has_failed l)) made.operations failed));
+      more = omega (arith, at.faults);
       cuts = cuts;
       worn = λ since is. cc (made.worn, is);
     }
@@ -99,15 +101,13 @@ module _ (d t : Device) (has : HasRun d) (keeps : KeepsRun d t) where
   is_told : IsTrue (tells t) → IsTrue (tells d)
   is_told told = sym (tells_of d t none.making none.entry) ∙ told
 
-  worn_in : (since : WornSince) → IsWornSince d since → IsWornSince t since
+  worn_in : (since : ℕ) → IsWornSince d since → IsWornSince t since
   worn_in since was = record {
     last = subst (λ (g : Geometry). IfSome (bytes_now t.flash) (IsOfLastGeneration g)) (sym geometry) (subst (λ (o : Option (List ℕ)). IfSome o (IsOfLastGeneration d.making.geometry)) (sym none.bytes) was.last);
-    no_erase = λ small. subst (λ (l : List Change). IsTrue (list_all (λ (x : Change). is_program x.op) (drop since.from l))) (sym none.operations) (was.no_erase small);
-    faulted = λ is. subst (λ (e : Told). Rose e.faults t.flash.faults) (sym none.entry) (rose_more d.entry.faults d.flash.faults t.flash.faults (was.faulted is) keeps.flash_faults);
-    failed = λ is. subst (λ (l : List Change). IsTrue (has_failed (take since.from l))) (sym none.operations) (was.failed is);
+    no_erase = λ small. subst (λ (l : List Change). IsTrue (list_all (λ (x : Change). is_program x.op) (drop since l))) (sym none.operations) (was.no_erase small);
   }
 
-  worn_by : (since : WornSince) → (d.worn ≡ Some since) ⊎ IsWornSince t since → IsWornSince t since
+  worn_by : (since : ℕ) → (d.worn ≡ Some since) ⊎ IsWornSince t since → IsWornSince t since
   worn_by since (inl was) = worn_in since (has.worn since was)
   worn_by since (inr new) = new
 
@@ -120,6 +120,9 @@ module _ (d t : Device) (has : HasRun d) (keeps : KeepsRun d t) where
     sound = λ told. subst (λ (g : Geometry). IfSome (bytes_now t.flash) (IsSoundFlash g)) (sym geometry) (subst (λ (o : Option (List ℕ)). IfSome o (IsSoundFlash d.making.geometry)) (sym none.bytes) (has.sound (is_told told)));
     sound_cut = λ told k image (x, get, leaves). subst (λ (g : Geometry). IsSoundFlash g image) (sym geometry) (has.sound_cut (is_told told) k image (x, ap (λ (l : List Change). slice_get l k) (sym none.operations) ∙ get, leaves));
     faults = keeps.faults;
+    failed = λ failed. subst (λ (e : Told). Rose e.faults t.flash.faults) (sym none.entry)
+        (rose_more d.entry.faults d.flash.faults t.flash.faults (has.failed (subst (λ (l : List Change). IsTrue (has_failed l)) none.operations failed)) keeps.flash_faults);
+    more = subst (λ (e : Told). e.faults ≤ t.flash.faults) (sym none.entry) (omega (arith, has.more, keeps.flash_faults));
     cuts = keeps.cuts;
     worn = λ since is. worn_by since (keeps.worn since is);
   }
@@ -131,13 +134,6 @@ runs_stay d t has keeps = stays d t has keeps
 chain_more : (first : List ℕ) (xs : List Change) (end new : List ℕ) (x : Change) → IsChain first xs end → x.before ≡ end → Leaves x.op x.answer end new → IsChain first (xs ++ x ∷ []) new
 chain_more first [] end new x chain before leaves = (before ∙ chain, (new, subst (λ (b : List ℕ). Leaves x.op x.answer b new) (sym before) leaves, refl))
 chain_more first (y ∷ ys) end new x (at, (next, left, rest)) before leaves = (at, (next, left, chain_more next ys end new x rest before leaves))
-
--- what holds of one of the first few does with one more behind them all
-any_more : (P : Change → Bool) (n : ℕ) (xs : List Change) (x : Change) → IsTrue (list_any P (take n xs)) → IsTrue (list_any P (take n (xs ++ x ∷ [])))
-any_more P zero [] x any = cc any
-any_more P zero (y ∷ ys) x any = cc any
-any_more P (suc n) [] x any = cc any
-any_more P (suc n) (y ∷ ys) x any = or_more (P y) (list_any P (take n ys)) (list_any P (take n (ys ++ x ∷ []))) any (any_more P n ys x)
 
 all_more : (P : Change → Bool) (n : ℕ) (xs : List Change) (x : Change) → IsTrue (list_all P (drop n xs)) → IsTrue (P x) → IsTrue (list_all P (drop n (xs ++ x ∷ [])))
 all_more P zero [] x all is = and_from (P x) true is refl
@@ -162,6 +158,26 @@ flash_more Done s t cause = omega (arith, cause.0)
 flash_more Off s t cause = cause.0
 flash_more Failed s t (inl less, c, o) = omega arith
 flash_more Failed s t (inr (big, le), c, o) = le
+
+any_more : (P : Change → Bool) (xs : List Change) (x : Change) → IsTrue (list_any P (xs ++ x ∷ [])) → IsTrue (list_any P xs) ⊎ IsTrue (P x)
+any_more P [] x has = elim (or_cases (P x) false has) [ inl here ↦ inr here | inr none ↦ absurd (false≢true none) ]
+any_more P (y ∷ ys) x has = elim (or_cases (P y) (list_any P (ys ++ x ∷ [])) has) [
+  | inl here ↦ inl (rw here refl)
+  | inr rest ↦ elim (any_more P ys x rest) [ inl more ↦ inl (any_last (P y) (list_any P ys) more) | inr is ↦ inr is ]
+]
+
+rose_from : (a b c : ℕ) → a ≤ b → Rose b c → Rose a c
+rose_from a b c le (inl less) = inl (omega arith)
+rose_from a b c le (inr (big, more)) = elim (cases_lt a c) [ inl less ↦ inl less | inr ge ↦ inr (omega arith, omega arith) ]
+
+failed_rose : (answer : FlashAnswer) (s t : Told) → HasCause answer s t → IsTrue (is_failed answer) → Rose s.faults t.faults
+failed_rose Done s t cause is = absurd (false≢true is)
+failed_rose Off s t cause is = absurd (false≢true is)
+failed_rose Failed s t cause is = cause.0
+
+failed_more : (answer : FlashAnswer) (d t : Device) → HasRun d → HasCause answer d.flash t.flash → IsTrue (has_failed d.operations) ⊎ IsTrue (is_failed answer) → Rose d.entry.faults t.flash.faults
+failed_more answer d t has cause (inl before) = rose_more d.entry.faults d.flash.faults t.flash.faults (has.failed before) (flash_more answer d.flash t.flash cause)
+failed_more answer d t has cause (inr now) = rose_from d.entry.faults d.flash.faults t.flash.faults has.more (failed_rose answer d.flash t.flash cause now)
 
 alike_more : (op : Op) (answer : FlashAnswer) (e x y : Option ToldBytes) → IfBothTold e x (λ a b. Unit {0}) → IfBothTold x y (IsChanged op answer) → IfBothTold e y (λ a b. Unit {0})
 alike_more op answer (Some e) (Some x) (Some y) alike both = tt
@@ -249,6 +265,9 @@ module _ (op : Op) (answer : FlashAnswer) (d t : Device) (has : HasRun d) (makes
       sound = goes_sound;
       sound_cut = goes_cut;
       faults = subst (λ (e : Told). WereCounted t.faults e.faults t.flash.faults) (sym makes.entry) (counts_more answer d.flash t.flash d.faults t.faults d.entry.faults makes.asked.cause counted has.faults);
+      failed = λ failed. subst (λ (e : Told). Rose e.faults t.flash.faults) (sym makes.entry)
+          (failed_more answer d t has makes.asked.cause (any_more (λ (x : Change). is_failed x.answer) d.operations change (subst (λ (l : List Change). IsTrue (has_failed l)) makes.operations failed)));
+      more = subst (λ (e : Told). e.faults ≤ t.flash.faults) (sym makes.entry) (omega (arith, has.more, flash_more answer d.flash t.flash makes.asked.cause));
       cuts = cuts;
       worn = λ since is.
           let at = sym makes.worn ∙ is in
@@ -256,11 +275,8 @@ module _ (op : Op) (answer : FlashAnswer) (d t : Device) (has : HasRun d) (makes
           let keeps = worn since at in
           record {
             last = subst (λ (g : Geometry). IfSome (bytes_now t.flash) (IsOfLastGeneration g)) (sym same_geometry) keeps.1;
-            no_erase = λ small. subst (λ (l : List Change). IsTrue (list_all (λ (x : Change). is_program x.op) (drop since.from l))) (sym makes.operations)
-                (all_more (λ (x : Change). is_program x.op) since.from d.operations change (was.no_erase small) keeps.0);
-            faulted = λ fault. subst (λ (e : Told). Rose e.faults t.flash.faults) (sym makes.entry) (rose_more d.entry.faults d.flash.faults t.flash.faults (was.faulted fault) (flash_more answer d.flash t.flash makes.asked.cause));
-            failed = λ fault. subst (λ (l : List Change). IsTrue (has_failed (take since.from l))) (sym makes.operations)
-                (any_more (λ (x : Change). is_failed x.answer) since.from d.operations change (was.failed fault));
+            no_erase = λ small. subst (λ (l : List Change). IsTrue (list_all (λ (x : Change). is_program x.op) (drop since l))) (sym makes.operations)
+                (all_more (λ (x : Change). is_program x.op) since d.operations change (was.no_erase small) keeps.0);
           };
     }
 

@@ -1,8 +1,8 @@
 -- What ties a device to its flash, over its calls.
-use Rattle.std.specs.Prelude.{◌||◌, IsTrue, IfSome, drop, take}
+use Rattle.std.specs.Prelude.{IsTrue, IfSome, take, drop, ◌||◌}
 use Rattle.std.specs.List.{list_all, list_any}
 use Rattle.std.proofs.Common.{◌≡◌, inl, inr, ℕ, zero, suc, ◌≤◌, ◌+◌, Bool, true, false, List, [], ◌∷◌, Option, Some, None, refl, sym, ◌∙◌, subst, arith}
-use Rattle.std.proofs.lemmas.Bool.{and_parts}
+use Rattle.std.proofs.lemmas.Bool.{and_parts, false≢true, or_cases}
 use Rattle.nv_base.specs.Count.{WereCounted}
 use Rattle.fls_model.specs.Op.{Op, Program, Erase}
 use Rattle.fls_model.specs.Told.{Change, bytes_now, changes_in}
@@ -52,25 +52,25 @@ all_drop P zero (suc k) (x ∷ xs) le all = all_drop P zero k xs (omega arith) (
 all_drop P (suc n) zero (x ∷ xs) le all = absurd (omega arith)
 all_drop P (suc n) (suc k) (x ∷ xs) le all = all_drop P n k xs (omega arith) all
 
-pub or_more : (a b c : Bool) → IsTrue (a || b) → (IsTrue b → IsTrue c) → IsTrue (a || c)
-or_more true b c any more = refl
-or_more false b c any more = more any
+pub any_last : (a b : Bool) → b ≡ true → (a || b) ≡ true
+any_last true b is = refl
+any_last false b is = is
 
--- what holds of one of the first few holds of one of more
-any_take : (P : Change → Bool) (n k : ℕ) (xs : List Change) → n ≤ k → IsTrue (list_any P (take n xs)) → IsTrue (list_any P (take k xs))
-any_take P zero k [] le any = cc any
-any_take P zero k (x ∷ xs) le any = cc any
-any_take P (suc n) zero xs le any = absurd (omega arith)
-any_take P (suc n) (suc k) [] le any = cc any
-any_take P (suc n) (suc k) (x ∷ xs) le any = or_more (P x) (list_any P (take n xs)) (list_any P (take k xs)) any (any_take P n k xs (omega arith))
+any_front : (P : Change → Bool) (k : ℕ) (xs : List Change) → IsTrue (list_any P (take k xs)) → IsTrue (list_any P xs)
+any_front P zero xs has = absurd (false≢true has)
+any_front P (suc k) [] has = absurd (false≢true has)
+any_front P (suc k) (x ∷ xs) has = elim (or_cases (P x) (list_any P (take k xs)) has) [
+  | inl here ↦ rw here refl
+  | inr rest ↦ any_last (P x) (list_any P xs) (any_front P k xs rest)
+]
 
 worn_out : (d : Device) (k n : ℕ) → HasRun d → IsWornFor d k n → IsWornOut d.making (run_of d) k n
 worn_out d k n has w =
     let since = has.worn w.since w.is in
     record {
       last = since.last;
-      no_erase = λ small. all_drop (λ (x : Change). is_program x.op) w.since.from k d.operations w.from (since.no_erase (omega (arith, w.from)));
-      full = λ told small. elim (w.full told small) [ inl room ↦ inl room | inr faulted ↦ inr (since.faulted faulted, any_take (λ (x : Change). is_failed x.answer) w.since.from k d.operations w.from (since.failed faulted)) ];
+      no_erase = λ small. all_drop (λ (x : Change). is_program x.op) w.since k d.operations w.from (since.no_erase (omega (arith, w.from)));
+      full = λ told small. elim (w.full told small) [ inl room ↦ inl room | inr failed ↦ inr (has.failed (any_front (λ (x : Change). is_failed x.answer) k d.operations failed), failed) ];
     }
 
 pub runs_bridge : SoundImagesCompute → RunsBridge

@@ -1,5 +1,5 @@
 -- What a device over two banks tells by the operations of its flash.
-use Rattle.std.specs.Prelude.{◌≡◌, ◌⊎◌, ◌<◌, ◌≤◌, ◌++◌, ◌∷◌, [], ℕ, IsTrue, List, length, slice_get, unwrap_or, Some, None, IfSome}
+use Rattle.std.specs.Prelude.{◌≡◌, ◌⊎◌, ◌<◌, ◌≤◌, ◌++◌, ◌∷◌, [], ℕ, IsTrue, List, length, take, slice_get, unwrap_or, Some, None, IfSome}
 use Rattle.nv_base.specs.Count.{last_count}
 use Rattle.memif.specs.declared.answer.DeviceTurn.{DeviceTurn}
 use Rattle.memif.specs.declared.answer.DeviceTurn.TheVariants as turn
@@ -11,10 +11,10 @@ use Rattle.fls_model.specs.declared.flash.FlashAnswer.TheVariants.{Done, Failed,
 use Rattle.fls_model.specs.Op.{Op, MayLeave}
 use Rattle.fls_model.specs.Step.{IsAsked}
 use Rattle.fls_model.specs.Told.{Told, Change, IfBothTold, bytes_now}
-use Rattle.device_bridge.specs.Bridge.{wanted_pages}
+use Rattle.device_bridge.specs.Bridge.{has_failed, wanted_pages}
 use Rattle.device_bridge.specs.FlashRun.{TellsBytes, IsCutImage, bytes_after}
 use Rattle.device_bridge.specs.Image.{HasNoRoomFor, held_in}
-use Rattle.device_clock.specs.Device.{WornSince, Device, run_of, tells, slots_in, part_of, told_of}
+use Rattle.device_clock.specs.Device.{Device, run_of, tells, slots_in, part_of, told_of}
 
 -- THE CLOCK
 -- a map is what a start-up finds in an image
@@ -46,12 +46,12 @@ may_find_of d (CutIn k) m = FindsInCut d k m
 abbrev pub off_in_of : Device → ℕ → Type 0
 off_in_of d k = (last_count ≤ k) ⊎ ((x : Change) × (slice_get d.operations k ≡ Some x) × (x.answer ≡ Off))
 
--- since it is worn out: for a number of which a record has no room then, or where a fault closed the bank
+-- since it is worn out: for a number of which a record has no room then, or where an operation failed before
 pub record IsWornFor (d : Device) (k n : ℕ) : Type 0 where
-  pub since : WornSince
+  pub since : ℕ
   pub is : d.worn ≡ Some since
-  pub from : since.from ≤ k
-  pub full : TellsBytes (run_of d) → k < last_count → IfSome (bytes_after (run_of d) k) (HasNoRoomFor (wanted_pages d.making n) d.making.geometry) ⊎ IsTrue since.faulted
+  pub from : since ≤ k
+  pub full : TellsBytes (run_of d) → k < last_count → IfSome (bytes_after (run_of d) k) (HasNoRoomFor (wanted_pages d.making n) d.making.geometry) ⊎ IsTrue (has_failed (take k d.operations))
 
 abbrev pub clock_of : Device → Clock
 clock_of d = record { first = record { may_find = may_find_of d; off_in = off_in_of d; worn = IsWornFor d }; second = untold }
@@ -73,11 +73,11 @@ ClocksPass =
     (answer : DeviceTurn) (d t : Device) → MakesNone d t → (t.worn ≡ d.worn) ⊎ (d.worn ≡ None)
     → Ticks First answer (told_of d) (clock_of d) (told_of t) (clock_of t)
 
--- it is worn out now for a number of which a record has no room in the bytes, or where a fault closed the bank
+-- it is worn out now for a number of which a record has no room in the bytes, or where an operation failed
 abbrev pub WornNow : Type 0
 WornNow =
-    (d : Device) (since : WornSince) (n : ℕ) → d.worn ≡ Some since → since.from ≤ (part_of d).ops
-    → (IfSome (bytes_now d.flash) (HasNoRoomFor (wanted_pages d.making n) d.making.geometry) ⊎ IsTrue since.faulted)
+    (d : Device) (since n : ℕ) → d.worn ≡ Some since → since ≤ (part_of d).ops
+    → (IfSome (bytes_now d.flash) (HasNoRoomFor (wanted_pages d.making n) d.making.geometry) ⊎ IsTrue (has_failed d.operations))
     → (clock_of d).first.worn (part_of d).ops n
 
 -- BY AN OPERATION

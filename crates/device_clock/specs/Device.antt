@@ -12,11 +12,6 @@ use Rattle.device_bridge.specs.FlashRun.{FlashRun}
 use Rattle.device_bridge.specs.Image.{two_banks, attached}
 use Rattle.device_image.specs.Slots.{Memory, slots_held, slots_found}
 
--- from when on it is worn out, and whether a fault was counted by then
-pub record WornSince : Type 0 where
-  pub from : ℕ
-  pub faulted : Bool
-
 -- What a device knows, with what its flash tells.
 pub record Device : Type 0 where
   pub making : Making
@@ -30,7 +25,8 @@ pub record Device : Type 0 where
   pub operations : List Change
   -- the flash calls that failed
   pub faults : ℕ
-  pub worn : Option WornSince
+  -- from when on it is worn out, if it is
+  pub worn : Option ℕ
   -- the last start-up answered Ok, and the rest of its memory is of use
   pub started : Bool
   pub memory : Memory

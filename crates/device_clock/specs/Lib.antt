@@ -1,4 +1,5 @@
 pub mod Clock
 pub mod Device
+pub mod Parts
 pub mod Runs
 pub mod Tells

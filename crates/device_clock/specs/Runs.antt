@@ -1,5 +1,5 @@
 -- What ties a device over two banks to its flash, from its making on.
-use Rattle.std.specs.Prelude.{◌≡◌, ◌⊎◌, ◌<◌, ◌≤◌, ℕ, Bool, IsTrue, List, [], drop, take, Some, None, IfSome}
+use Rattle.std.specs.Prelude.{◌≡◌, ◌⊎◌, ◌<◌, ◌≤◌, ℕ, Bool, IsTrue, List, [], drop, Some, None, IfSome}
 use Rattle.std.specs.List.{list_all}
 use Rattle.nv_base.specs.Count.{last_count, next_count, Rose, WereCounted}
 use Rattle.memif.specs.Told.{PartTold}
@@ -11,20 +11,17 @@ use Rattle.fls_model.specs.Told.{Told, bytes_now, changes_in}
 use Rattle.device_bridge.specs.Bridge.{Bridges, is_program, has_failed}
 use Rattle.device_bridge.specs.FlashRun.{TellsBytes, IsChain, IsCutImage}
 use Rattle.device_bridge.specs.Image.{IsSoundFlash, IsOfLastGeneration, attached}
-use Rattle.device_clock.specs.Device.{WornSince, Device, run_of, tells, part_of}
+use Rattle.device_clock.specs.Device.{Device, run_of, tells, part_of}
 use Rattle.device_clock.specs.Clock.{clock_of, MakesNone, Makes, ToldAlike}
 
 -- a flash counts each cut that no plan asked for
 abbrev pub CountsCuts : Told → Told → Type 0
 CountsCuts s t = (n : ℕ) → WereCounted n s.planning.unplanned t.planning.unplanned → WereCounted n s.cuts t.cuts
 
--- since a moment the active bank has the last generation and nothing was erased; where it says so an operation had failed by
--- then, and a fault was counted
-pub record IsWornSince (d : Device) (since : WornSince) : Type 0 where
+-- since a moment the active bank has the last generation, and nothing was erased
+pub record IsWornSince (d : Device) (since : ℕ) : Type 0 where
   pub last : IfSome (bytes_now d.flash) (IsOfLastGeneration d.making.geometry)
-  pub no_erase : since.from < last_count → IsTrue (list_all (λ x. is_program x.op) (drop since.from d.operations))
-  pub faulted : IsTrue since.faulted → Rose d.entry.faults d.flash.faults
-  pub failed : IsTrue since.faulted → IsTrue (has_failed (take since.from d.operations))
+  pub no_erase : since < last_count → IsTrue (list_all (λ x. is_program x.op) (drop since d.operations))
 
 pub record HasRun (d : Device) : Type 0 where
   pub alike : ToldAlike d
@@ -36,8 +33,10 @@ pub record HasRun (d : Device) : Type 0 where
   pub sound_cut : IsTrue (tells d) → (k : ℕ) (image : List ℕ) → IsCutImage (run_of d) k image → IsSoundFlash d.making.geometry image
   -- the flash counted each fault that it counts, and each cut without a plan
   pub faults : WereCounted d.faults d.entry.faults d.flash.faults
+  pub failed : IsTrue (has_failed d.operations) → Rose d.entry.faults d.flash.faults
+  pub more : d.entry.faults ≤ d.flash.faults
   pub cuts : CountsCuts d.entry d.flash
-  pub worn : (since : WornSince) → d.worn ≡ Some since → IsWornSince d since
+  pub worn : (since : ℕ) → d.worn ≡ Some since → IsWornSince d since
 
 -- its part when it was made
 abbrev pub part_before : Device → PartTold
@@ -65,7 +64,7 @@ pub record KeepsRun (d t : Device) : Type 0 where
   pub flash_faults : d.flash.faults ≤ t.flash.faults
   pub faults : WereCounted t.faults t.entry.faults t.flash.faults
   pub cuts : CountsCuts t.entry t.flash
-  pub worn : (since : WornSince) → t.worn ≡ Some since → (d.worn ≡ Some since) ⊎ IsWornSince t since
+  pub worn : (since : ℕ) → t.worn ≡ Some since → (d.worn ≡ Some since) ⊎ IsWornSince t since
 
 abbrev pub RunsStay : Type 0
 RunsStay = (d t : Device) → HasRun d → KeepsRun d t → HasRun t
@@ -81,7 +80,7 @@ LeavesSound op d =
 
 -- a worn-out device erases nothing, and its active bank stays active
 abbrev pub KeepsWorn : Op → Device → Device → Type 0
-KeepsWorn op d t = (since : WornSince) → d.worn ≡ Some since → IsTrue (is_program op) × IfSome (bytes_now t.flash) (IsOfLastGeneration d.making.geometry)
+KeepsWorn op d t = (since : ℕ) → d.worn ≡ Some since → IsTrue (is_program op) × IfSome (bytes_now t.flash) (IsOfLastGeneration d.making.geometry)
 
 abbrev pub RunsGoOn : Type 0
 RunsGoOn =

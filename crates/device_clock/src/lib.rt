@@ -6,9 +6,11 @@
 #![tactic(auto)]
 
 mod clock_laws;
+mod part_laws;
 mod run_laws;
 mod tell_laws;
 
 pub use clock_laws::clocks_tick;
+pub use part_laws::{last_stays, parts_turn};
 pub use run_laws::{runs_bridge, runs_go_on};
 pub use tell_laws::numbers_are_told;
