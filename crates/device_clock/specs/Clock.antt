@@ -1,5 +1,6 @@
 -- What a device over two banks tells by the operations of its flash.
-use Rattle.std.specs.Prelude.{◌≡◌, ◌⊎◌, ◌<◌, ◌≤◌, ◌++◌, ◌∷◌, [], ℕ, IsTrue, List, length, take, slice_get, unwrap_or, Some, None, IfSome}
+use Rattle.std.specs.Prelude.{◌≡◌, ◌⊎◌, ◌<◌, ◌≤◌, ◌++◌, ◌∷◌, [], ℕ, IsTrue, List, length, take, slice_get}
+use Rattle.std.specs.Prelude.{unwrap_or, Some, None, IfSome}
 use Rattle.nv_base.specs.Count.{last_count}
 use Rattle.memif.specs.declared.answer.DeviceTurn.{DeviceTurn}
 use Rattle.memif.specs.declared.answer.DeviceTurn.TheVariants as turn
@@ -51,7 +52,8 @@ pub record IsWornFor (d : Device) (k n : ℕ) : Type 0 where
   pub since : ℕ
   pub is : d.worn ≡ Some since
   pub from : since ≤ k
-  pub full : TellsBytes (run_of d) → k < last_count → IfSome (bytes_after (run_of d) k) (HasNoRoomFor (wanted_pages d.making n) d.making.geometry) ⊎ IsTrue (has_failed (take k d.operations))
+  pub full : TellsBytes (run_of d) → k < last_count
+      → IfSome (bytes_after (run_of d) k) (HasNoRoomFor (wanted_pages d.making n) d.making.geometry) ⊎ IsTrue (has_failed (take k d.operations))
 
 abbrev pub clock_of : Device → Clock
 clock_of d = record { first = record { may_find = may_find_of d; off_in = off_in_of d; worn = IsWornFor d }; second = untold }
@@ -99,7 +101,8 @@ turn_of Off = turn.Off
 
 -- each map that a start-up would find in an image is possible
 abbrev pub ImageIsPossible : Device → List ℕ → List ℕ → Type 0
-ImageIsPossible d bytes image = (n : ℕ) → IsPossible (slot_at d.making.numbers (slots_in d bytes) n) (held_in d.making.geometry d.making.numbers image n)
+ImageIsPossible d bytes image =
+    (n : ℕ) → IsPossible (slot_at d.making.numbers (slots_in d bytes) n) (held_in d.making.geometry d.making.numbers image n)
 
 -- whatever a cut of an operation leaves
 abbrev pub CutsArePossible : Op → Device → Type 0

@@ -32,16 +32,23 @@ TellsKeep =
     (d t : Device) → IsSame d t → ((old new : List ℕ) → AreTold d t old new → (n : ℕ) → Keeps (was d old n) (was t new n))
     → KeepsAll (told_of d) (told_of t)
 
+-- of one number: it settles a mark, or a job may leave one; all others keep theirs
+abbrev pub OneSettles : ℕ → Mark → ℕ → Slot → Slot → Type 0
+OneSettles number mark n s u = IfElse (n == number) (SettlesAs mark s u) (Keeps s u)
+
+abbrev pub OneDoubts : ℕ → Mark → ℕ → Slot → Slot → Type 0
+OneDoubts number mark n s u = IfElse (n == number) (Doubts mark s u) (Keeps s u)
+
 abbrev pub TellsSettle : Type 0
 TellsSettle =
     (d t : Device) (number : ℕ) (mark : Mark) → IsSame d t
-    → ((old new : List ℕ) → AreTold d t old new → (n : ℕ) → IfElse (n == number) (SettlesAs mark (was d old n) (was t new n)) (Keeps (was d old n) (was t new n)))
+    → ((old new : List ℕ) → AreTold d t old new → (n : ℕ) → OneSettles number mark n (was d old n) (was t new n))
     → Settles number mark (told_of d) (told_of t)
 
 abbrev pub TellsDoubt : Type 0
 TellsDoubt =
     (d t : Device) (number : ℕ) (mark : Mark) → IsSame d t
-    → ((old new : List ℕ) → AreTold d t old new → (n : ℕ) → IfElse (n == number) (Doubts mark (was d old n) (was t new n)) (Keeps (was d old n) (was t new n)))
+    → ((old new : List ℕ) → AreTold d t old new → (n : ℕ) → OneDoubts number mark n (was d old n) (was t new n))
     → DoubtsAt number (Some mark) (told_of d) (told_of t)
 
 abbrev pub TellsStart : Type 0

@@ -19,7 +19,8 @@ use Rattle.device_image.specs.Laws.{IsHeld, GoesOn}
 use Rattle.device_turns.specs.Kept.{IsKept, with_log}
 
 -- a device whose old bank takes appends
-pub record TakesRecord (l : Layout) (numbers : List (DeviceNumber × ℕ)) (bytes : List ℕ) (m : Memory) (copied : May) (k : ℕ) (h : BankHead) (log : Log) : Type 0 where
+pub record TakesRecord (l : Layout) (numbers : List (DeviceNumber × ℕ)) (bytes : List ℕ) (m : Memory) (copied : May)
+    (k : ℕ) (h : BankHead) (log : Log) : Type 0 where
   pub lengths : AreLengths 0 numbers
   pub legal : IsLegalLayout l
   pub held : IsHeld l numbers bytes m copied
@@ -30,8 +31,10 @@ pub record TakesRecord (l : Layout) (numbers : List (DeviceNumber × ℕ)) (byte
 -- the open job's record begins
 abbrev pub RecordsBegin : Type 0
 RecordsBegin =
-    (l : Layout) (numbers : List (DeviceNumber × ℕ)) (bytes : List ℕ) (m : Memory) (copied : May) (k : ℕ) (h : BankHead) (log : Log) (r : RecHead) (body : List ℕ)
-    → TakesRecord l numbers bytes m copied k h log → log.tail ≡ Open → IsRecord (bank_in l h.format k) log.end r body → IsWorkOf m.stand (Writes r body 0)
+    (l : Layout) (numbers : List (DeviceNumber × ℕ)) (bytes : List ℕ) (m : Memory) (copied : May) (k : ℕ)
+    (h : BankHead) (log : Log) (r : RecHead) (body : List ℕ)
+    → TakesRecord l numbers bytes m copied k h log → log.tail ≡ Open → IsRecord (bank_in l h.format k) log.end r body
+    → IsWorkOf m.stand (Writes r body 0)
     → IsKept l numbers bytes bytes m (with_log m k h (log_begun log r body) m.stand) copied
 
 -- the job is canceled, and its record given up
@@ -43,7 +46,8 @@ RecordsGiveUp =
 
 -- ITS PAGES
 -- the next page of the record, or an owed gate, and whatever is left of it
-pub record IsAppending (l : Layout) (numbers : List (DeviceNumber × ℕ)) (old new : List ℕ) (m : Memory) (copied : May) (k : ℕ) (h : BankHead) (log : Log) : Type 0 where
+pub record IsAppending (l : Layout) (numbers : List (DeviceNumber × ℕ)) (old new : List ℕ) (m : Memory) (copied : May)
+    (k : ℕ) (h : BankHead) (log : Log) : Type 0 where
   pub record_of : TakesRecord l numbers old m copied k h log
   pub due : IsDue log.tail
   pub size : length (bytes_due l.page log) ≡ l.page
@@ -69,7 +73,8 @@ AppendsGoOn =
     → IsKept l numbers old new m (with_log m k h (log_done l.page numbers log) m.stand) copied
 
 -- it is done, and the record is committed
-pub record IsCommitted (l : Layout) (numbers : List (DeviceNumber × ℕ)) (old new : List ℕ) (m t : Memory) (copied : May) (r : RecHead) (body : List ℕ) : Type 0 where
+pub record IsCommitted (l : Layout) (numbers : List (DeviceNumber × ℕ)) (old new : List ℕ) (m t : Memory)
+    (copied : May) (r : RecHead) (body : List ℕ) : Type 0 where
   pub held : IsHeld l numbers new t copied
   pub settles : (n : ℕ) → IfElse (n == r.number)
       (SettlesAs (mark_written r body) (slot_at numbers (slots_held l numbers old m) n) (slot_at numbers (slots_held l numbers new t) n))
@@ -80,5 +85,6 @@ AppendsCommit =
     (l : Layout) (numbers : List (DeviceNumber × ℕ)) (old new : List ℕ) (m : Memory) (copied : May) (k : ℕ) (h : BankHead) (log : Log)
     → (r : RecHead) (body : List ℕ) (done size : ℕ) (stand : Stand)
     → IsAppending l numbers old new m copied k h log → image_page l new k (page_due log) ≡ bytes_due l.page log
-    → log.tail ≡ Writes r body done → is_last l.page r done ≡ true → length_of numbers r.number ≡ Some size → IsTrue (fits r.number size r) → is_open stand ≡ false
+    → log.tail ≡ Writes r body done → is_last l.page r done ≡ true → length_of numbers r.number ≡ Some size
+    → IsTrue (fits r.number size r) → is_open stand ≡ false
     → IsCommitted l numbers old new m (with_log m k h (log_done l.page numbers log) stand) copied r body

@@ -39,11 +39,13 @@ pub record AreStarted (l : Layout) (numbers : List (DeviceNumber × ℕ)) (bytes
 
 abbrev pub BanksStart : Type 0
 BanksStart =
-    (l : Layout) (numbers : List (DeviceNumber × ℕ)) (bytes : List ℕ) (slots : List Slot) (k target : ℕ) (h : BankHead) (tail : Tail) (copied : May) (stand : Stand)
+    (l : Layout) (numbers : List (DeviceNumber × ℕ)) (bytes : List ℕ) (slots : List Slot) (k target : ℕ)
+    (h : BankHead) (tail : Tail) (copied : May) (stand : Stand)
     → MayStart l numbers bytes slots target stand → active_of l bytes ≡ Some (k, h) → (target ≡ k → ⊥)
     → let b = bank_in l h.format k in
     IsLoadedTail b bytes tail
-    → AreStarted l numbers bytes slots (record { old = OldBank k h (loaded_log b numbers bytes tail); target = target; phase = Idle; stand = stand }) copied
+    → AreStarted l numbers bytes slots
+    (record { old = OldBank k h (loaded_log b numbers bytes tail); target = target; phase = Idle; stand = stand }) copied
 
 abbrev pub NoBankStarts : Type 0
 NoBankStarts =

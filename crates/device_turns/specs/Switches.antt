@@ -42,7 +42,8 @@ CopiesBegin =
 
 -- AN ERASE
 -- of the target's next sector, and whatever is left of it
-pub record IsErasing (g : Geometry) (banks : ℕ) (numbers : List (DeviceNumber × ℕ)) (old new : List ℕ) (m : Memory) (copied : May) (sector : ℕ) : Type 0 where
+pub record IsErasing (g : Geometry) (banks : ℕ) (numbers : List (DeviceNumber × ℕ)) (old new : List ℕ) (m : Memory)
+    (copied : May) (sector : ℕ) : Type 0 where
   pub shape : IsLegal g
   pub shared : HasBanks g banks
   pub stands : Stands (layout_of g banks) numbers old m copied
@@ -102,5 +103,6 @@ abbrev pub GatesEnd : Type 0
 GatesEnd =
     (l : Layout) (numbers : List (DeviceNumber × ℕ)) (old new : List ℕ) (m : Memory) (copied : May) (log : Log) (next : ℕ)
     → Stands l numbers old m copied → m.phase ≡ Sealing log → log.tail ≡ Open
-    → MayLeave (program_of l m.target 1 (gate_page l.page)) old new → image_page l new m.target 1 ≡ gate_page l.page → next < l.banks → (next ≡ m.target → ⊥)
+    → MayLeave (program_of l m.target 1 (gate_page l.page)) old new → image_page l new m.target 1 ≡ gate_page l.page
+    → next < l.banks → (next ≡ m.target → ⊥)
     → IsKept l numbers old new m (record { old = OldBank m.target (next_head m.old) log; target = next; phase = Idle; stand = m.stand }) copied

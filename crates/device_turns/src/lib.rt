@@ -9,7 +9,9 @@
 mod append_laws;
 mod kept_laws;
 mod switch_laws;
+mod whole_laws;
 
 pub use append_laws::{appends_turn, records_change};
 pub use kept_laws::{kept_is_found, starts_and_jobs};
 pub use switch_laws::{switches_begin, targets_turn};
+pub use whole_laws::{devices_find, devices_tell};
