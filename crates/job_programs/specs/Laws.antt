@@ -66,4 +66,6 @@ ProgramsWorkOnTheirOwn =
 
 -- a restore ends by the machine whatever the device holds
 abbrev pub RestoresEnd : Type 0
-RestoresEnd = (p : Program) (defaults : Bool) (outcomes : List Outcome) → p.kind ≡ RestoreJob → table p.defaults p.kind (outcomes_in p) ≡ table defaults RestoreJob outcomes
+RestoresEnd =
+    (p : Program) (defaults : Bool) (outcomes : List Outcome) → p.kind ≡ RestoreJob
+    → table p.defaults p.kind (outcomes_in p) ≡ table defaults RestoreJob outcomes

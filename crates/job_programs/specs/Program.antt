@@ -99,7 +99,9 @@ is_again outcome failures retries = is_failed outcome && nat_lt failures retries
 
 -- any other is done
 abbrev pub tried : Program → Outcome → Program
-tried p outcome = if is_again outcome p.failures p.retries then record p { failures = p.failures + 1 } else record p { done = p.done ++ outcome ∷ []; failures = 0 }
+tried p outcome =
+    if is_again outcome p.failures p.retries then record p { failures = p.failures + 1 }
+    else record p { done = p.done ++ outcome ∷ []; failures = 0 }
 
 abbrev pub after_by : Program → Option ℕ → Outcome → Program
 after_by p None outcome = p

@@ -29,7 +29,9 @@ pub record Agree (c : Configuration) (s : SweepState) (sw : Sweep) : Type 0 wher
 
 -- the facts of a block
 abbrev pub facts_of : Configuration → State → ℕ → MemberFacts
-facts_of c st id = record { locked = (block_at st id).locked; protected = (block_at st id).protected; valid = (block_at st id).valid; changed = (block_at st id).changed; rom_index = names_rom (desc_of c id) (block_at st id) }
+facts_of c st id =
+    let b = block_at st id in
+    record { locked = b.locked; protected = b.protected; valid = b.valid; changed = b.changed; rom_index = names_rom (desc_of c id) b }
 
 abbrev pub AreFacts : Configuration → State → Option ℕ → MemberFacts → Type 0
 AreFacts c st None f = Unit {0}
@@ -44,9 +46,13 @@ IsNext (Ended r) sw next = (next ≡ EndSweep sw) × (r ≡ sweep_result sw)
 
 -- The next step of the machine's sweep is the machine's, by the facts of the next member.
 abbrev pub StepIsNext : Type 0
-StepIsNext = (c : Configuration) (st : State) (s : SweepState) (sw : Sweep) (f : MemberFacts) → Agree c s sw → AreFacts c st (next_member c s) f → IsNext (step_of c s f) sw (next_in_sweep c st sw)
+StepIsNext =
+    (c : Configuration) (st : State) (s : SweepState) (sw : Sweep) (f : MemberFacts) → Agree c s sw → AreFacts c st (next_member c s) f
+    → IsNext (step_of c s f) sw (next_in_sweep c st sw)
 
 -- Behind a member the sweep is the machine's again, once its result is noted. Of block 1 that tells whether it gave the id.
 abbrev pub MembersAreNoted : Type 0
-MembersAreNoted = (c : Configuration) (s : SweepState) (sw : Sweep) (id : ℕ) (r : ReqResult) (same_id : Bool) → Agree c s sw → next_member c s ≡ Some id → (id ≡ 1 → same_id ≡ is_done r)
+MembersAreNoted =
+    (c : Configuration) (s : SweepState) (sw : Sweep) (id : ℕ) (r : ReqResult) (same_id : Bool)
+    → Agree c s sw → next_member c s ≡ Some id → (id ≡ 1 → same_id ≡ is_done r)
     → Agree c (noted (Some r) same_id (moved c s)) (after_member id r (record sw { left = drop 1 sw.left }))

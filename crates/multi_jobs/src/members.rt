@@ -22,7 +22,7 @@ fn is_member_at(config: &Config, id: u16, writes: bool) -> bool
 
 /// The first member behind block 1 and so many blocks more. It looks at each of the others once at most.
 pub fn member_behind(config: &Config, passed: u16, writes: bool) -> Option<u16>
-    ensures { MatchOption result (ids_from config.now writes passed ≡ []) (λ m. (2 ≤ m) × (ids_from config.now writes passed ≡ m ∷ ids_from config.now writes (m - 1))) }
+    ensures { let ids = ids_from config.now writes in MatchOption result (ids passed ≡ []) (λ m. (2 ≤ m) × (ids passed ≡ m ∷ ids (m - 1))) }
 {
     for i in passed..config.blocks() {
         if is_member_at(config, i + 2, writes) {
