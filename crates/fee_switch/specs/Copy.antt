@@ -1,5 +1,5 @@
 -- The operations of a switch.
-use Rattle.std.specs.Prelude.{◌≡◌, ◌<◌, ◌≤◌, ◌+◌, ℕ, Bool, true, false, List, [], length, take, slice_get, Option, Some, None, IsSome, IfSome}
+use Rattle.std.specs.Prelude.{◌≡◌, ◌<◌, ◌≤◌, ◌+◌, ℕ, [], length, take, slice_index_or, Some, None, IsSome}
 use Rattle.std.specs.Option.{ForSome}
 use Rattle.nv_base.specs.declared.instance.DeviceNumber.{DeviceNumber}
 use Rattle.nv_base.specs.Geometry.{address_of_page}
@@ -20,7 +20,6 @@ use Rattle.switch_course.specs.declared.course.Course.{Course}
 use Rattle.switch_course.specs.declared.course.Course.TheVariants.{Erase, Copy, Head, Gate}
 use Rattle.switch_course.specs.Copies.{next_copy}
 use Rattle.fee_switch.specs.declared.phase.BankStep.{BankStep}
-use Rattle.fee_switch.specs.declared.target.Stage.{Stage}
 use Rattle.fee_switch.specs.declared.target.Stage.TheVariants as stage
 use Rattle.fee_switch.specs.Target.{op_at}
 use Rattle.fee_switch.specs.Banks.{BanksState, target_at, after_answer, step_of}
@@ -54,3 +53,50 @@ BeginsAt (Content at) s number length told answer t told' =
 BeginsAt _ s number length told answer t told' =
     let log = begun s.copies (record { number = number; kind = 2; length = 0 }) in
     IsStep (op_of log []) told answer told' × (t ≡ record s { copies = after_step log answer })
+
+-- the number that is copied next, with its number
+pub record IsNext (s : BanksState) (source : Source) (number : DeviceNumber) : Type 0 where
+  pub first : next_copy s.log.numbers s.log.places s.log.flags ≡ Some source
+  pub inside : source.index < length s.log.numbers
+  pub named : (d : DeviceNumber × ℕ) → slice_index_or s.log.numbers source.index d ≡ (number, source.length)
+
+pub record CanCopy (s : BanksState) : Type 0 where
+  pub source : Source
+  pub number : DeviceNumber
+  pub next : IsNext s source number
+  pub can : CanBegin s number source
+
+pub record BeginsNext (s : BanksState) (told : Told) (answer : FlashAnswer) (t : BanksState) (told' : Told) : Type 0 where
+  pub source : Source
+  pub number : DeviceNumber
+  pub next : IsNext s source number
+  pub begins : BeginsAt source.place s number.0 source.length told answer t told'
+
+-- A STEP
+-- the copy in work has its content in the buffer
+pub record CanCopyOn (s : BanksState) : Type 0 where
+  pub work : IsSome (work_in s.copies.tail)
+  pub fits : ForSome (work_in s.copies.tail) (λ h. h.length ≤ length s.buffer)
+
+-- the next operation may be made
+abbrev pub CanGoOn : BanksState → Course → Type 0
+CanGoOn s (Copy None) = CanCopy s
+CanGoOn s (Copy (Some w)) = CanCopyOn s
+CanGoOn s _ = Unit {0}
+
+-- it is an operation of the target itself, the first one of the next copy, or a page of the copy in work
+abbrev pub MakesNext : BanksState → Course → Told → FlashAnswer → BanksState → Told → Type 0
+MakesNext s (Erase done) told answer t told' = IsStep (op_at (target_at s (stage.Erase done)) (stage.Erase done)) told answer told' × (t ≡ s)
+MakesNext s (Copy None) told answer t told' = BeginsNext s told answer t told'
+MakesNext s (Copy (Some w)) told answer t told' =
+    ForSome (work_in s.copies.tail) (λ h. IsStep (op_of s.copies (take h.length s.buffer)) told answer told') × (t ≡ record s { copies = after_step s.copies answer })
+MakesNext s Head told answer t told' = IsStep (op_at (target_at s stage.Head) stage.Head) told answer told' × (t ≡ s)
+MakesNext s (Gate failed) told answer t told' = IsStep (op_at (target_at s stage.Gate) stage.Gate) told answer told' × (t ≡ s)
+
+-- the next operation is made, and then what its answer leaves
+pub record IsBankStep (s : BanksState) (course : Course) (told : Told) (result : BankStep) (t : BanksState) (told' : Told) : Type 0 where
+  pub answer : FlashAnswer
+  pub made : BanksState
+  pub makes : MakesNext s course told answer made told'
+  pub after : t ≡ after_answer made course answer
+  pub is : result ≡ step_of course answer

@@ -6,7 +6,6 @@ ghost use Rattle.fee_image.specs.Image.{layout_of, active_of};
 ghost use Rattle.bank_start.specs.Active.{active_shown};
 ghost use Rattle.fee_switch.specs.Start.{IsLoadedAs, IsSameShape};
 ghost use Rattle.fee_switch.specs.Banks.{IsMade, IsSameFlash, IsStartOf, phase_of};
-
 ghost use Rattle.std.specs.Prelude.{IsSome, Some, length};
 ghost use Rattle.std.specs.Option.{ForSome};
 ghost use Rattle.nv_base.specs.Pages.{record_pages_of};
@@ -16,10 +15,10 @@ ghost use Rattle.fee_log.specs.Log.{IsFor, work_in, free_in, begun};
 ghost use Rattle.fee_log.specs.Step.{IsPageOf, IsStepAt, due_bytes, op_of, answer_of, after_step, given_up};
 ghost use Rattle.switch_course.specs.Course.{IsShort, flag_due};
 ghost use Rattle.fee_switch.specs.Target.{IsWorking, op_at};
-ghost use Rattle.fee_switch.specs.Copy.{CanBegin, BeginsAt};
+ghost use Rattle.fee_switch.specs.Copy.{CanBegin, BeginsAt, CanCopy, BeginsNext, CanGoOn, MakesNext, IsBankStep};
 ghost use Rattle.fee_switch.specs.Banks.{TakesRecord, left_of, is_worn_out, target_after, target_at, flagged_by, ended, advanced, fallen_back, after_answer, step_of, begun_again, course_appended};
 
-use crate::copy::{begin_mark, read_content};
+use crate::copy::{begin_mark, copy_page, read_content};
 use crate::phase::phase_of;
 use crate::start::take_banks;
 use crate::{BankBegin, BankStart, BankStep, Phase, Stage, Target};
@@ -32,7 +31,7 @@ use log_image::Place;
 use nv_base::{DeviceNumber, Geometry, Lengths};
 use std::alloc::{AllocError, Global};
 use std::marker::Model;
-use switch_course::{Course, Source};
+use switch_course::{Course, Source, next_copy};
 
 /// The banks of a flash, of which one at most is active, with the logs of that one and of the target of a switch. Nothing in it
 /// but `make` names how many they are.
@@ -404,5 +403,70 @@ impl Banks {
             ),
             _ => begin_mark(fls, &mut self.copies, number),
         }
+    }
+
+    // The first operation of the next copy.
+    fn begin_next<F: Flash>(&mut self, fls: &mut Fls<F>) -> FlashAnswer
+        requires can { CanCopy self.old }
+        requires idle { IsIdle fls.old }
+        requires geometry { fls.old.geometry ≡ self.old.geometry }
+        ensures begins { BeginsNext self.old fls.old.flash result self.new fls.new.flash }
+        ensures course { self.new.course ≡ self.old.course }
+        ensures active { self.new.active ≡ self.old.active }
+        ensures same { fls.new ≡ record fls.old { flash = fls.new.flash; result = closed_as result } }
+    {
+        let (numbers, places, flags) = self.log.lists();
+        let Some(source) = next_copy(numbers, places, flags) else {
+            unreachable!();
+        };
+        let Some(&(number, _)) = numbers.as_slice().get(source.index) else {
+            unreachable!();
+        };
+        self.begin_copy(fls, number, source)
+    }
+
+    // Makes the next operation of a course.
+    fn call<F: Flash>(&mut self, fls: &mut Fls<F>, course: Course) -> FlashAnswer
+        requires course { self.old.course ≡ Some course }
+        requires worn { is_worn_out self.old.active ≡ false }
+        requires ready { CanGoOn self.old course }
+        requires short { IsShort (sectors_of_bank self.old.geometry self.old.banks) course }
+        requires idle { IsIdle fls.old }
+        requires geometry { fls.old.geometry ≡ self.old.geometry }
+        ensures short { IsShort (sectors_of_bank self.new.geometry self.new.banks) course }
+        ensures makes { MakesNext self.old course fls.old.flash result self.new fls.new.flash }
+        ensures course { self.new.course ≡ Some course }
+        ensures worn { is_worn_out self.new.active ≡ false }
+        ensures same { fls.new ≡ record fls.old { flash = fls.new.flash; result = closed_as result } }
+    {
+        match course {
+            Course::Erase { done } => self.program_target(fls, Stage::Erase { done }),
+            Course::Copy { work: None } => self.begin_next(fls),
+            Course::Copy { work: Some(_) } => copy_page(fls, &mut self.copies, &self.buffer),
+            Course::Head => self.program_target(fls, Stage::Head),
+            Course::Gate { .. } => self.program_target(fls, Stage::Gate),
+        }
+    }
+
+    /// Makes the next operation of the open switch by one call of the flash, and leaves no job open. A done erase is followed
+    /// by the next one, and behind the last one the copies come: of each number in order that has no copy and isn't erased,
+    /// with one read of a content and one turn a page. The head and the gate come only where no copy is left; after a
+    /// failed copy or head the first erase comes again, and a failed gate is programmed again until one is done: then the
+    /// target is active.
+    pub fn step<F: Flash>(&mut self, fls: &mut Fls<F>) -> BankStep
+        requires open { is_some self.old.course ≡ true }
+        requires no_work { work_in self.old.log.tail ≡ None }
+        requires worn { is_worn_out self.old.active ≡ false }
+        requires ready { IfSome self.old.course (CanGoOn self.old) }
+        requires idle { IsIdle fls.old }
+        requires geometry { fls.old.geometry ≡ self.old.geometry }
+        ensures step { IfSome self.old.course (λ c. IsBankStep self.old c fls.old.flash result self.new fls.new.flash) }
+        ensures same { fls.new ≡ record fls.old { flash = fls.new.flash; result = fls.new.result } }
+    {
+        let Some(course) = self.course else {
+            unreachable!();
+        };
+        let answer = self.call(fls, course);
+        self.settle(course, answer)
     }
 }

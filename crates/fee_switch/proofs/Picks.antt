@@ -1,0 +1,28 @@
+-- The number that is copied next, as it is found in the lists of a log.
+use Rattle.std.proofs.Common.{◌≡◌, ◌<◌, ℕ, Bool, List, length, Option, Some, sym, ap, ◌∙◌, subst}
+use Rattle.std.specs.Prelude.{slice_index_or}
+use Rattle.nv_base.specs.declared.instance.DeviceNumber.{DeviceNumber}
+use Rattle.log_image.specs.declared.place.Place.{Place}
+use Rattle.switch_course.specs.declared.copies.Source.{Source}
+use Rattle.switch_course.specs.Copies.{next_copy}
+use Rattle.fee_switch.specs.Banks.{BanksState}
+use Rattle.fee_switch.specs.Copy.{CanBegin, IsNext, CanCopy}
+
+same_source : (a b : Source) (o : Option Source) → o ≡ Some a → o ≡ Some b → a ≡ b
+same_source a b o e f = cc
+
+module _ (s : BanksState) (can : CanCopy s) (source : Source) (ns : List (DeviceNumber × ℕ)) (ps : List Place) (cs : List Bool) (found : Some source ≡ next_copy ns ps cs) (a : ns ≡ s.log.numbers) (b : ps ≡ s.log.places) (c : cs ≡ s.log.flags) where
+  pub is_source : can.source ≡ source
+  is_source = same_source can.source source (next_copy ns ps cs) (rw (a, b, c) can.next.first) (sym found)
+
+  pub is_inside : source.index < length ns
+  is_inside = rw (a, ← is_source) can.next.inside
+
+  pub picked : (x d : DeviceNumber × ℕ) → x ≡ slice_index_or ns source.index d → IsNext s source x.0 × CanBegin s x.0 source
+  picked x d is =
+      let named = can.next.named d in
+      let here : x ≡ slice_index_or s.log.numbers can.source.index d = rw (← a, is_source) is in
+      let number : can.number ≡ x.0 = ap (λ (y : DeviceNumber × ℕ). y.0) (sym named ∙ sym here) in (
+        subst (λ (n : DeviceNumber). IsNext s source n) number (subst (λ (y : Source). IsNext s y can.number) is_source can.next),
+        subst (λ (n : DeviceNumber). CanBegin s n source) number (subst (λ (y : Source). CanBegin s can.number y) is_source can.can),
+      )
