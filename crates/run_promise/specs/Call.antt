@@ -6,7 +6,7 @@ use Rattle.block_config.specs.Reading.{meaning_of}
 use Rattle.fls_model.specs.Told.{Told}
 use Rattle.nvm_script.specs.declared.script.Mode.{Mode}
 use Rattle.nvm_script.specs.declared.script.Mode.TheVariants as mode
-use Rattle.nvm_script.specs.declared.step.Step.{Step}
+use Rattle.script_walks.specs.Words.{Step}
 use Rattle.nvm_script.specs.Lines.{end_line}
 use Rattle.nvm_script.specs.Printed.{history_text}
 use Rattle.nvm_script.specs.Script.{IsScript, first_line, later_lines}

@@ -2,9 +2,7 @@
 use Rattle.std.specs.Prelude.{◌≡◌, ◌≢◌, ◌+◌, ◌-◌, ◌==◌, ◌&&◌, ◌||◌, ℕ, suc, not, nat_le, nat_lt, Bool, true, false, IsTrue, List, [], ◌∷◌, ◌++◌, take, option_map, if◌then◌else◌, Option, Some, None, IfSome}
 use Rattle.std.specs.List.{list_all, list_any}
 use Rattle.nv_base.specs.Count.{Rose}
-use Rattle.nvm_script.specs.declared.step.Step.{Step}
-use Rattle.nvm_script.specs.declared.step.StepKind.{StepKind}
-use Rattle.nvm_script.specs.declared.step.StepKind.TheVariants.{Turn, Drain, Restart}
+use Rattle.script_walks.specs.Words.{Step, StepKind, Turn, Drain, Restart}
 use Rattle.block_machine.specs.Words.{Request, Accepted, TookRefused, TookStale, Entry, Ask, Pick, Post, Off, Configuration}
 use Rattle.block_machine.specs.State.{State, Job, jobs_of}
 use Rattle.block_machine.specs.Blocks.{desc_of, job_block, asked_block, is_immediate}

@@ -4,9 +4,7 @@ use Rattle.nv_base.specs.Count.{last_count, Rose}
 use Rattle.nv_base.specs.declared.geometry.Geometry.{Geometry}
 use Rattle.nv_base.specs.Entry.{ops_behind}
 use Rattle.fls_model.specs.Told.{IfBothTold, bytes_now}
-use Rattle.nvm_script.specs.declared.step.Step.{Step}
-use Rattle.nvm_script.specs.declared.step.StepKind.{StepKind}
-use Rattle.nvm_script.specs.declared.step.StepKind.TheVariants.{Ask as AskStep, Cut, Refuse, Restart}
+use Rattle.script_walks.specs.Words.{Step, StepKind, AskStep, Cut, Refuse, Restart}
 use Rattle.block_machine.specs.Words.{Entry, Off, Configuration}
 use Rattle.block_machine.specs.State.{State}
 use Rattle.block_machine.specs.Reply.{fits}

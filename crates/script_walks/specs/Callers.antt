@@ -1,9 +1,7 @@
 -- The order of each caller's requests in `run`.
 use Rattle.std.specs.Prelude.{◌≡◌, ◌<◌, ◌≤◌, ℕ, ◌==◌, ◌||◌, not, Bool, true, false, IsTrue, List, [], ◌∷◌, ◌++◌, length, take, drop, filter, slice_get, if◌then◌else◌, Option, Some, None}
 use Rattle.std.specs.List.{list_all}
-use Rattle.nvm_script.specs.declared.step.Step.{Step}
-use Rattle.nvm_script.specs.declared.step.StepKind.{StepKind}
-use Rattle.nvm_script.specs.declared.step.StepKind.TheVariants.{Ask as AskStep, Await}
+use Rattle.script_walks.specs.Words.{Step, StepKind, AskStep, Await}
 use Rattle.block_machine.specs.Words.{Request, Entry, Ask, Found, Configuration}
 use Rattle.block_machine.specs.Blocks.{status_of, is_pending}
 use Rattle.block_machine.specs.Next.{next_of}

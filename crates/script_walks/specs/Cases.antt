@@ -1,8 +1,6 @@
 -- Scripts of the worked cases, and runs of several callers.
 use Rattle.std.specs.Prelude.{ℕ, List, [], ◌∷◌, take, drop, None}
-use Rattle.nvm_script.specs.declared.step.Step.{Step}
-use Rattle.nvm_script.specs.declared.step.StepKind.{StepKind}
-use Rattle.nvm_script.specs.declared.step.StepKind.TheVariants.{Ask as AskStep, Store, Turn, Drain, Restart, Cut, Refuse, Await}
+use Rattle.script_walks.specs.Words.{Step, StepKind, AskStep, Store, Turn, Drain, Restart, Cut, Refuse, Await}
 use Rattle.block_machine.specs.Words.{Fine, Request, Write, Status, Accepted, Refused, StatusIs, BlockPending, ReadJob, WriteJob, TookContent, Entry, Ask, Pick, Found, Configuration}
 use Rattle.block_machine.specs.Cases.{write, read, pick, pick_write, wrote, post, give, bytes_1, bytes_2, four, cap}
 use Rattle.script_walks.specs.Walk.{IsWalkOf}

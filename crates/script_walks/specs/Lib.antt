@@ -1,3 +1,4 @@
+pub mod Words
 pub mod Walk
 pub mod Callers
 pub mod Texts

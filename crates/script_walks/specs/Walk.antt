@@ -1,9 +1,7 @@
 -- The histories that a script may have in `play`.
 use Rattle.std.specs.Prelude.{◌≡◌, ◌≤◌, ℕ, zero, suc, ◌==◌, ◌&&◌, ◌||◌, not, Bool, true, false, IsTrue, List, [], ◌∷◌, ◌++◌, length, fold, filter_map, flat_map, replicate, slice_get, option_map, is_none, unwrap_or, if◌then◌else◌, Option, Some, None}
 use Rattle.std.specs.List.{list_all, enumerate_from}
-use Rattle.nvm_script.specs.declared.step.Step.{Step}
-use Rattle.nvm_script.specs.declared.step.StepKind.{StepKind}
-use Rattle.nvm_script.specs.declared.step.StepKind.TheVariants.{Ask as AskStep, Store, Turn, Drain, Restart}
+use Rattle.script_walks.specs.Words.{Step, StepKind, AskStep, Store, Turn, Drain, Restart}
 use Rattle.block_machine.specs.Words.{Request, Write, TookContent, TookStale, Entry, Ask, Pick, Post, Found, Configuration}
 use Rattle.block_machine.specs.State.{State, jobs_of}
 use Rattle.block_machine.specs.Blocks.{desc_of, is_synchronized, job_block, names_ram}
