@@ -1,16 +1,18 @@
 -- A search among ascending numbers.
-use Rattle.std.proofs.Common.{◌≡◌, ◌≢◌, ℕ, zero, suc, ◌+◌, ◌<◌, ◌≤◌, List, [], ◌∷◌, length, get_or, All, MatchOption, Option, Some, None, option_map, Result, Ok, Err, refl, sym, ap, add-one, arith}
+use Rattle.std.proofs.Common.{◌≡◌, ◌≢◌, ℕ, zero, suc, ◌+◌, ◌<◌, ◌≤◌, List, [], ◌∷◌, length, get_or, All, MatchOption, take, slice_get, subst, eq-eqb, Option, Some, None, option_map, Result, Ok, Err, refl, sym, ap, add-one, arith}
 use Rattle.std.specs.Result.{result_ok}
 use Rattle.std.specs.List.Sorted.{IsSearchInRange, IsBinarySearchResult, IsNonDecreasingBy}
 use Rattle.std.specs.Ordering.{nat_cmp, ordering_index}
 use Rattle.std.proofs.lemmas.Cmp.{ranked}
 use Rattle.std.proofs.lemmas.List.Sorted.{IsNonDecreasingBy-from_default}
+use Rattle.std.proofs.lemmas.Bool.{ne_eqb}
 use Rattle.std.proofs.lemmas.Bool.Decides.{nat_tests}
 use Rattle.nv_base.specs.declared.instance.DeviceNumber.{DeviceNumber}
-use Rattle.nv_base.specs.Lengths.{AreLengths, IsPlace, place_of}
+use Rattle.nv_base.specs.Laws.{NumbersAreAbove, NumbersAreInBounds, NumbersHavePlaces, NumbersComeLast}
+use Rattle.nv_base.specs.Lengths.{AreLengths, IsPlace, last_or, place_of}
 
 -- all numbers are above the first bound
-pub above : (low : ℕ) (ns : List (DeviceNumber × ℕ)) → AreLengths low ns → (i : ℕ) (d : DeviceNumber × ℕ) → i < length ns → low < (get_or ns i d).0.0
+pub above : NumbersAreAbove
 above low [] all i d lt = absurd (omega arith)
 above low (n ∷ ns) all zero d lt = all.0
 above low (n ∷ ns) all (suc i) d lt = omega (arith, all.0, above n.0.0 ns all.4 i d (omega arith))
@@ -56,3 +58,30 @@ place_is_none (n ∷ ns) number none =
 pub found_place : (low : ℕ) (ns : List (DeviceNumber × ℕ)) (number : ℕ) (r : Option ℕ) → AreLengths low ns → MatchOption r (All (λ n. n.0.0 ≢ number) ns) (IsPlace ns number) → r ≡ place_of ns number
 found_place low ns number None all none = sym (place_is_none ns number none)
 found_place low ns number (Some i) all place = sym (place_is low ns number i all place)
+
+-- what stands at an index
+pub bounds : NumbersAreInBounds
+bounds low [] i x all is = cc
+bounds low (n ∷ ns) zero x all is =
+    let e : n ≡ x = cc in subst (λ (y : DeviceNumber × ℕ). (low < y.0.0) × (y.0.0 < 65535) × (1 ≤ y.1) × (y.1 ≤ 4096)) e (all.0, all.1, all.2, all.3)
+bounds low (n ∷ ns) (suc i) x all is =
+    let r = bounds n.0.0 ns i x all.4 is in (omega (arith, all.0, r.0), r.1, r.2, r.3)
+
+-- has its place there
+pub placed : NumbersHavePlaces
+placed low [] i x all is = cc
+placed low (n ∷ ns) zero x all is = let e : n ≡ x = cc in rw (← e, eq-eqb n.0.0 n.0.0 refl) refl
+placed low (n ∷ ns) (suc i) x all is =
+    let up = bounds n.0.0 ns i x all.4 is in
+    rw (ne_eqb n.0.0 x.0.0 (λ e. omega (arith, up.0)), placed n.0.0 ns i x all.4 is, add-one) refl
+
+-- and comes behind all before it
+come : (low : ℕ) (ns : List (DeviceNumber × ℕ)) (i : ℕ) (x : DeviceNumber × ℕ) → AreLengths low ns → slice_get ns i ≡ Some x
+    → (last_or low (take i ns) < x.0.0) × (last_or low (take (suc i) ns) ≡ x.0.0)
+come low [] i x all is = cc
+come low (n ∷ ns) zero x all is =
+    let e : n ≡ x = cc in subst (λ (y : DeviceNumber × ℕ). (low < y.0.0) × (n.0.0 ≡ y.0.0)) e (all.0, refl)
+come low (n ∷ ns) (suc i) x all is = come n.0.0 ns i x all.4 is
+
+pub comes_last : NumbersComeLast
+comes_last low ns i x all is = rw add-one (come low ns i x all is)

@@ -4,6 +4,7 @@ pub mod Decimal
 pub mod Entry
 pub mod Geometry
 pub mod History
+pub mod Laws
 pub mod Lengths
 pub mod Marks
 pub mod Pages
