@@ -2,18 +2,24 @@
 //! else is the commands'.
 #![tactic(auto)]
 
+use command_words::image_path;
 use fls_devices::FileFlash;
 use fls_model::mem_flash;
 use nv_streams::{StdSink, StdSource};
-use nvm_top::{Status, command, image_path};
+use nvm_top::{Status, command};
 use std::alloc::AllocError;
 use std::process::ExitCode;
 use std::{env, io};
 
-/// The words after the program's name.
+/// The words after the program's name; no words, which are of no command, where one of them isn't UTF-8.
 fn words(rt: &HostRuntime) -> io::Result<Vec<String>> {
     let mut words = Vec::new(rt.alloc());
-    for word in env::args(rt)?.skip(1) {
+    let args = match env::args(rt) {
+        Ok(args) => args,
+        Err(error) if error.kind() == io::ErrorKind::InvalidData => return Ok(words),
+        Err(error) => return Err(error),
+    };
+    for word in args.skip(1) {
         words.push(word).map_err(AllocError::from)?;
     }
     Ok(words)
@@ -26,7 +32,10 @@ fn main(rt: HostRuntime) -> ExitCode {
     };
     let mut input = StdSource::make(rt.stdin());
     let mut output = StdSink::make(rt.stdout());
-    let status = match image_path(&words) {
+    let Ok(path) = image_path(alloc, &words) else {
+        return ExitCode::from(Status::Memory.code());
+    };
+    let status = match path {
         Some(path) => {
             let flash = FileFlash::make(&rt, path);
             command(&rt, alloc, &words, &mut input, &mut output, flash).0

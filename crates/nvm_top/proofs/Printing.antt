@@ -1,11 +1,11 @@
 -- Lines of entries that are appended one behind the other.
-use Rattle.std.proofs.Common.{◌≡◌, ℕ, ◌+◌, List, [], ◌∷◌, ◌++◌, length, take, drop, Option, Some, slice_get, ap, sym, subst, ◌∙◌, arith, append-nil}
+use Rattle.std.proofs.Common.{◌≡◌, ◌≤◌, ◌-◌, ℕ, ◌+◌, List, [], ◌∷◌, ◌++◌, length, take, drop, Option, Some, slice_get, ap, sym, subst, ◌∙◌, arith, append-nil}
 use Rattle.std.proofs.KnownBytes.{Appends-nil, Appends-trans}
-use Rattle.std.proofs.Math.Seq.{take-append-add}
+use Rattle.std.proofs.Math.Seq.{take-add, take-append-add}
 use Rattle.std.proofs.lemmas.List.{take-append-le, take_more, take-append-drop, length-append}
 use Rattle.std.proofs.lemmas.List.Concat.{flat_map-append}
 use Rattle.std.proofs.lemmas.Option.{slice_get_within, get_or_from_slice_get}
-use Rattle.std.specs.List.{flat_map}
+use Rattle.std.specs.List.{flat_map, slice_range}
 use Rattle.std.specs.Io.KnownBytes.{Appends}
 use Rattle.nv_streams.specs.Sink.{AppendsPrefix}
 use Rattle.nv_base.specs.declared.entry.Entry.{Entry}
@@ -60,3 +60,20 @@ pub Prints-as : (P Q : List Entry → Status → List ℕ → Type 0) (w w' : Op
 Prints-as P Q w w' status.Memory leads is = is
 Prints-as P Q w w' status.WriteFault leads is = (is.0, is.1, is.2, leads is.0 is.1 is.2 is.3, is.4)
 Prints-as P Q w w' x leads is = (is.0, is.1, leads is.0 x is.1 is.2, is.3)
+
+-- LINES OF A TEXT
+front : (text : List ℕ) (at next : ℕ) → at ≤ next → take at text ++ slice_range text at next ≡ take next text
+front text at next le =
+    let there : at + (next - at) ≡ next = omega arith in
+    sym (take-add at (next - at) text) ∙ ap (λ (n : ℕ). take n text) there
+
+-- one more
+pub line-more : (w w1 w2 : Option (List ℕ)) (text : List ℕ) (at next : ℕ) → at ≤ next → Appends w w1 (take at text) → Appends w1 w2 (slice_range text at next) → Appends w w2 (take next text)
+line-more w w1 w2 text at next le before line =
+    subst (λ (l : List ℕ). Appends w w2 l) (front text at next le) (Appends-trans w w1 w2 (take at text) (slice_range text at next) before line)
+
+-- a prefix of one more is one of the whole text
+pub line-prefix : (w w1 w2 : Option (List ℕ)) (text : List ℕ) (at next : ℕ) → at ≤ next → Appends w w1 (take at text) → AppendsPrefix w1 w2 (slice_range text at next) → AppendsPrefix w w2 text
+line-prefix w w1 w2 text at next le before line =
+    let part : AppendsPrefix w w2 (take next text) = subst (λ (l : List ℕ). AppendsPrefix w w2 l) (front text at next le) (prefix-behind w w1 w2 (take at text) (slice_range text at next) before line) in
+    subst (λ (l : List ℕ). AppendsPrefix w w2 l) (take-append-drop next text) (prefix-longer w w2 (take next text) (drop next text) part)

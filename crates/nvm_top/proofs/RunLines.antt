@@ -19,7 +19,7 @@ use Rattle.nvm_top.specs.Reading.{IsPlayStop}
 use Rattle.nvm_top.specs.Play.{IsRunEnd, HasRunCause, IsRunLine, IsAttachStop, RunsBy, PrintsBy}
 
 -- a stop's line is of its status
-by_stop : (P : Status → List ℕ → Type 0) (stop : Stop) (y : Status) (line : List ℕ) → P (status_of stop) (line_of stop) → IsStop stop y line → P y line
+pub by_stop : (P : Status → List ℕ → Type 0) (stop : Stop) (y : Status) (line : List ℕ) → P (status_of stop) (line_of stop) → IsStop stop y line → P y line
 by_stop P stop y line holds is =
     subst (λ (z : Status). P z line) (sym is.0) (subst (λ (l : List ℕ). P (status_of stop) l) (sym is.1) holds)
 

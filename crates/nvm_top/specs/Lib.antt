@@ -1,3 +1,4 @@
+pub mod Dump
 pub mod Ends
 pub mod Input
 pub mod Measures
@@ -6,4 +7,3 @@ pub mod Play
 pub mod Reading
 pub mod Status
 pub mod Stop
-pub mod Words

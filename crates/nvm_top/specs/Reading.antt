@@ -4,12 +4,13 @@ use Rattle.nv_base.specs.Count.{Rose}
 use Rattle.block_config.specs.Config.{Configuration}
 use Rattle.block_config.specs.Reading.{meaning_of}
 use Rattle.block_config.specs.declared.fault.ConfigFault.TheVariants.{Broken}
+use Rattle.fls_model.specs.Told.{Told}
 use Rattle.nvm_script.specs.Script.{IsFirstWrong}
 use Rattle.nvm_script.specs.declared.script.Mode.TheVariants.{Play}
 use Rattle.nvm_top.specs.Ends.{HasSteps, HasWrongLine, BreaksRule}
 use Rattle.nvm_top.specs.Input.{IsLonger, input_limit}
 use Rattle.nvm_top.specs.declared.stop.Stop.{Stop}
-use Rattle.nvm_top.specs.declared.stop.Stop.TheVariants.{BadWords, BadConfig, BadScript, ReadFault, TooLong, Unbuilt, Memory}
+use Rattle.nvm_top.specs.declared.stop.Stop.TheVariants.{BadWords, BadConfig, BadScript, ReadFault, TooLong, Unbuilt, FlashFault, Memory}
 
 -- why the input isn't read to its end, with its bytes and with its faults before and after
 abbrev pub IsInputStop : Option (List ℕ) → ℕ → ℕ → Stop → Type 0
@@ -66,3 +67,9 @@ IsEarly TooLong = Unit {0}
 IsEarly (Unbuilt line) = Unit {0}
 IsEarly Memory = Unit {0}
 IsEarly _ = ⊥
+
+-- a sector isn't read: a counted fault, which alone changed, or want of memory
+abbrev pub IsSectorStop : Told → Told → Stop → Type 0
+IsSectorStop s t FlashFault = Rose s.faults t.faults × (t ≡ record s { faults = t.faults })
+IsSectorStop s t Memory = t ≡ s
+IsSectorStop s t _ = ⊥

@@ -1,24 +1,22 @@
 // The command `check`: whether the first line of the input is a configuration.
-ghost use Rattle.std.specs.Prelude.{◌≡◌, IfOk, IfErr, IfSome, OnOk, Err, map, string_bytes, true, false};
+ghost use Rattle.std.specs.Prelude.{◌≡◌, map, string_bytes, true, false};
 ghost use Rattle.std.specs.Io.KnownBytes.{IsAtEnd};
 ghost use Rattle.nv_base.specs.Count.{Rose};
-ghost use Rattle.nvm_top.specs.Ends.{ChecksBy, HasConfig, IsBadWords};
+ghost use Rattle.nvm_top.specs.Ends.{ChecksBy, IsBadWords};
 ghost use Rattle.nvm_top.specs.Measures.{IsMeasured};
 ghost use Rattle.nvm_top.specs.Output.{Writes};
-ghost use Rattle.nvm_top.specs.Reading.{IsCheckStop};
-ghost use Rattle.nvm_top.specs.Words.{command_of, is_check};
+ghost use Rattle.command_words.specs.Words.{command_of, is_check};
 
 use crate::Status;
-use crate::configuration::read_config;
-use crate::input::read_input;
+use crate::configuration::read_configuration;
 use crate::measures::measures_line;
 use crate::output::{put_line, report};
 use crate::stop::Stop;
-use crate::words::is_check;
 use block_config::Config;
+use command_words::{CommandKind, command_of};
 use fls_model::Flash;
 use nv_streams::{Sink, Source};
-use std::alloc::Global;
+use std::alloc::{AllocError, Global};
 
 /// Tells whether the first line of the input is a configuration: how many blocks and instances it has, how many pages
 /// a bank needs and how many it has, or the first rule that it breaks with its block. The lines after the first are
@@ -37,33 +35,24 @@ pub fn check_command<S: Source, K: Sink, F: Flash>(
     ensures untouched { F.told result.1 ≡ F.told flash }
     ensures ended { result.0 ≡ Status.Ok → IsAtEnd (S.left input.new) }
 {
-    if !is_check(words) {
-        return (report(alloc, Stop::BadWords, output), flash);
+    match command_of(alloc, words) {
+        Ok(Some(CommandKind::Check)) => (check(alloc, input, output), flash),
+        Ok(_) => (report(alloc, Stop::BadWords, output), flash),
+        Err(AllocError) => (Status::Memory, flash),
     }
-    (check(alloc, input, output), flash)
 }
 
-fn check<S: Source, K: Sink>(alloc: Global, input: &mut S, output: &mut K) -> Status
+/// The command behind its words.
+pub(crate) fn check<S: Source, K: Sink>(alloc: Global, input: &mut S, output: &mut K) -> Status
     ensures by_input { Writes (ChecksBy (S.left input.old)) (K.written output.old) (K.written output.new) result }
     ensures read_fault { result ≡ Status.ReadFault → Rose (S.faults input.old) (S.faults input.new) }
     ensures write_fault { result ≡ Status.WriteFault → Rose (K.faults output.old) (K.faults output.new) }
     ensures ended { result ≡ Status.Ok → IsAtEnd (S.left input.new) }
 {
-    match read_checked(alloc, input) {
+    match read_configuration(alloc, input) {
         Ok(config) => write_measures(alloc, &config, output),
         Err(stop) => report(alloc, stop, output),
     }
-}
-
-fn read_checked<S: Source>(alloc: Global, input: &mut S) -> Result<Config, Stop>
-    ensures ok { IfOk result (λ c. IfSome (S.left input.old) (λ bytes. HasConfig bytes c)) }
-    ensures end { OnOk result (IsAtEnd (S.left input.new)) }
-    ensures err { IfErr result (IsCheckStop (S.left input.old)) }
-    ensures read_fault { result ≡ Err Stop.ReadFault → Rose (S.faults input.old) (S.faults input.new) }
-{
-    let bytes = read_input(alloc, input)?;
-    let config = read_config(alloc, &bytes)?;
-    Ok(config)
 }
 
 /// Writes the measures of a configuration, and gives Ok or the status of the fault in its place.

@@ -2,25 +2,27 @@
 ghost use Rattle.std.specs.Prelude.{◌≡◌, None, map, string_bytes, true};
 ghost use Rattle.std.specs.Io.KnownBytes.{IsAtEnd};
 ghost use Rattle.nv_base.specs.Count.{Rose};
+ghost use Rattle.nvm_top.specs.Dump.{DumpsBy, KeepsFlash};
 ghost use Rattle.nvm_top.specs.Ends.{ChecksBy, PlaysBy, StopsBy, IsBadWords};
 ghost use Rattle.nvm_top.specs.Output.{Writes, Prints};
 ghost use Rattle.nvm_top.specs.Play.{IsWrongSize, IsBeforeStart, PrintsBy};
-ghost use Rattle.nvm_top.specs.Words.{command_of, is_check, is_play};
+ghost use Rattle.command_words.specs.Words.{command_of, is_check, is_dump, is_play};
 
 use crate::Status;
-use crate::check::check_command;
+use crate::check::check;
+use crate::dump::dump;
 use crate::output::report;
-use crate::play::play_command;
+use crate::play::play;
 use crate::stop::Stop;
-use crate::words::{CommandKind, command_of};
+use command_words::{CommandKind, command_of};
 use fls_model::Flash;
 use nv_streams::{Sink, Source};
-use std::alloc::Global;
+use std::alloc::{AllocError, Global};
 use std::sync::Wait;
 use std::thread::Threads;
 
 /// Runs the command that the words name over the input, the output and the flash, and gives the flash back. So far
-/// it serves `play` and `check`; other words of a command are `Unbuilt`, and no input is read then.
+/// it serves `play`, `check` and `dump`; other words of a command are `Unbuilt`, and no input is read then.
 pub fn command<R: Threads + Wait + Sync, S: Source, K: Sink, F: Flash>(
     _rt: &R,
     alloc: Global,
@@ -35,17 +37,22 @@ pub fn command<R: Threads + Wait + Sync, S: Source, K: Sink, F: Flash>(
     ensures play_line { is_play (command_of (map string_bytes words.now)) ≡ true → IsBeforeStart result.0 → Writes (StopsBy (S.left input.old) (F.told flash).bytes) (K.written output.old) (K.written output.new) result.0 }
     ensures play_print { is_play (command_of (map string_bytes words.now)) ≡ true → Prints (PrintsBy (S.left input.old) (F.told flash).bytes) (K.written output.old) (K.written output.new) result.0 }
     ensures check { is_check (command_of (map string_bytes words.now)) ≡ true → Writes (ChecksBy (S.left input.old)) (K.written output.old) (K.written output.new) result.0 }
+    ensures dump { is_dump (command_of (map string_bytes words.now)) ≡ true → Writes (DumpsBy (S.left input.old) (F.told flash).bytes) (K.written output.old) (K.written output.new) result.0 }
+    ensures dump_keeps { is_dump (command_of (map string_bytes words.now)) ≡ true → KeepsFlash (F.told flash) (F.told result.1) }
+    ensures check_keeps { is_check (command_of (map string_bytes words.now)) ≡ true → F.told result.1 ≡ F.told flash }
     ensures read_fault { result.0 ≡ Status.ReadFault → Rose (S.faults input.old) (S.faults input.new) }
     ensures write_fault { result.0 ≡ Status.WriteFault → Rose (K.faults output.old) (K.faults output.new) }
     ensures flash_fault { result.0 ≡ Status.FlashFault → Rose (F.told flash).faults (F.told result.1).faults }
-    ensures wrong_size { result.0 ≡ Status.WrongSize → IsWrongSize 2048 (F.told flash).bytes }
+    ensures play_size { is_play (command_of (map string_bytes words.now)) ≡ true → result.0 ≡ Status.WrongSize → IsWrongSize 2048 (F.told flash).bytes }
     ensures untouched { IsBeforeStart result.0 → F.told result.1 ≡ F.told flash }
     ensures ended { result.0 ≡ Status.Ok → IsAtEnd (S.left input.new) }
 {
-    match command_of(words) {
-        None => (report(alloc, Stop::BadWords, output), flash),
-        Some(CommandKind::Play) => play_command(alloc, words, input, output, flash),
-        Some(CommandKind::Check) => check_command(alloc, words, input, output, flash),
-        Some(_) => (report(alloc, Stop::Unbuilt { line: 0 }, output), flash),
+    match command_of(alloc, words) {
+        Ok(None) => (report(alloc, Stop::BadWords, output), flash),
+        Ok(Some(CommandKind::Play)) => play(alloc, input, output, flash),
+        Ok(Some(CommandKind::Check)) => (check(alloc, input, output), flash),
+        Ok(Some(CommandKind::Dump)) => dump(alloc, input, output, flash),
+        Ok(Some(_)) => (report(alloc, Stop::Unbuilt { line: 0 }, output), flash),
+        Err(AllocError) => (Status::Memory, flash),
     }
 }

@@ -1,4 +1,4 @@
-//! The commands of the program `nvm`: words, input, configuration and steps to lines of output and a status.
+//! The commands of the program `nvm`: input, configuration, steps and image to lines of output and a status.
 //!
 //! It promises that each status has its cause: a fault status comes only where that object's count of faults rose,
 //! and nothing of the flash changes where a call stops before start-up. What the blocks and the flash do below it is
@@ -8,6 +8,8 @@
 mod check;
 mod commands;
 mod configuration;
+mod dump;
+mod image;
 mod input;
 mod measures;
 mod output;
@@ -16,10 +18,9 @@ mod playable;
 mod stack;
 mod status;
 mod stop;
-mod words;
 
 pub use check::check_command;
 pub use commands::command;
+pub use dump::dump_command;
 pub use play::play_command;
 pub use status::Status;
-pub use words::{CommandKind, image_path};

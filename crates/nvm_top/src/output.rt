@@ -1,5 +1,5 @@
 // Writing the lines of the output.
-ghost use Rattle.std.specs.Prelude.{◌≡◌, IfErr, OnOk};
+ghost use Rattle.std.specs.Prelude.{◌≡◌, ◌<◌, ◌≤◌, IfErr, OnOk, length};
 ghost use Rattle.std.specs.Io.KnownBytes.{Appends};
 ghost use Rattle.nv_base.specs.Count.{Rose};
 ghost use Rattle.nv_streams.specs.Sink.{AppendsPrefix};
@@ -53,6 +53,36 @@ pub fn put_line<K: Sink>(output: &mut K, line: &[u8]) -> Result<(), OutputFault>
         SinkAnswer::Done => Ok(()),
         SinkAnswer::Failed => Err(OutputFault::Failed),
     }
+}
+
+// The bytes of the first line, its newline among them.
+fn line_length(text: &[u8]) -> usize
+    requires { 0 < length text.now }
+    ensures some { 0 < result }
+    ensures most { result ≤ length text.now }
+{
+    match text.iter().position(|byte| *byte == b'\n') {
+        Some(at) => at + 1,
+        None => text.len(),
+    }
+}
+
+/// Writes a text, line by line.
+pub fn put_lines<K: Sink>(output: &mut K, text: &[u8]) -> Result<(), OutputFault>
+    ensures ok { OnOk result (K.faults output.new ≡ K.faults output.old) }
+    ensures text { OnOk result (Appends (K.written output.old) (K.written output.new) text.now) }
+    ensures failed { IfErr result (λ fault. (fault ≡ OutputFault.Failed) × Rose (K.faults output.old) (K.faults output.new)) }
+    ensures prefix { IfErr result (λ _. AppendsPrefix (K.written output.old) (K.written output.new) text.now) }
+{
+    let mut at = 0;
+    while at < text.len() {
+        let next = at + line_length(&text[at..]);
+        let Ok(()) = put_line(output, &text[at..next]) else {
+            return Err(OutputFault::Failed);
+        };
+        at = next;
+    }
+    Ok(())
 }
 
 /// Writes the entries of a history, one line each.

@@ -9,20 +9,20 @@ ghost use Rattle.nvm_top.specs.Ends.{PlaysBy, StopsBy, IsBadWords};
 ghost use Rattle.nvm_top.specs.Output.{Writes, Prints};
 ghost use Rattle.nvm_top.specs.Play.{IsWrongSize, IsBeforeStart, HasRunCause, IsPlayEnd, IsRunEnd, IsAttachStop, WritesSize, IsRunLine, RunsBy, PrintsBy};
 ghost use Rattle.nvm_top.specs.Stop.{status_of};
-ghost use Rattle.nvm_top.specs.Words.{command_of, is_play};
+ghost use Rattle.command_words.specs.Words.{command_of, is_play};
 
 use crate::Status;
 use crate::output::{report, write_end, write_history};
 use crate::playable::{Playable, read_playable};
 use crate::stack::{Stack, Turned};
 use crate::stop::Stop;
-use crate::words::is_play;
+use command_words::{CommandKind, command_of};
 use first_run::{AskFault, BankDevice};
 use fls_model::{AttachFault, Flash};
 use nv_base::{Geometry, History, Lengths, Reply, Request};
 use nv_streams::{Sink, Source};
 use nvm_script::{Step, StepKind, StepList};
-use std::alloc::Global;
+use std::alloc::{AllocError, Global};
 
 /// The most entries of a history.
 const CAP: u32 = 100_000;
@@ -47,16 +47,37 @@ pub fn play_command<S: Source, K: Sink, F: Flash>(
     ensures untouched { IsBeforeStart result.0 → F.told result.1 ≡ F.told flash }
     ensures ended { result.0 ≡ Status.Ok → IsAtEnd (S.left input.new) }
 {
-    if !is_play(words) {
-        return (report(alloc, Stop::BadWords, output), flash);
+    match command_of(alloc, words) {
+        Ok(Some(CommandKind::Play)) => play(alloc, input, output, flash),
+        Ok(_) => (report(alloc, Stop::BadWords, output), flash),
+        Err(AllocError) => (Status::Memory, flash),
     }
+}
+
+/// The command behind its words.
+pub(crate) fn play<S: Source, K: Sink, F: Flash>(
+    alloc: Global,
+    input: &mut S,
+    output: &mut K,
+    flash: F,
+) -> (Status, F)
+    ensures by_input { PlaysBy (S.left input.old) result.0 }
+    ensures line { IsBeforeStart result.0 → Writes (StopsBy (S.left input.old) (F.told flash).bytes) (K.written output.old) (K.written output.new) result.0 }
+    ensures print { Prints (PrintsBy (S.left input.old) (F.told flash).bytes) (K.written output.old) (K.written output.new) result.0 }
+    ensures read_fault { result.0 ≡ Status.ReadFault → Rose (S.faults input.old) (S.faults input.new) }
+    ensures write_fault { result.0 ≡ Status.WriteFault → Rose (K.faults output.old) (K.faults output.new) }
+    ensures flash_fault { result.0 ≡ Status.FlashFault → Rose (F.told flash).faults (F.told result.1).faults }
+    ensures wrong_size { result.0 ≡ Status.WrongSize → IsWrongSize 2048 (F.told flash).bytes }
+    ensures untouched { IsBeforeStart result.0 → F.told result.1 ≡ F.told flash }
+    ensures ended { result.0 ≡ Status.Ok → IsAtEnd (S.left input.new) }
+{
     match read_playable(alloc, input) {
-        Ok(playable) => play(alloc, &playable, output, flash),
+        Ok(playable) => play_steps(alloc, &playable, output, flash),
         Err(stop) => (report(alloc, stop, output), flash),
     }
 }
 
-fn play<K: Sink, F: Flash>(
+fn play_steps<K: Sink, F: Flash>(
     alloc: Global,
     playable: &Playable,
     output: &mut K,
@@ -77,7 +98,7 @@ fn play<K: Sink, F: Flash>(
     }
 }
 
-fn attach_stop(fault: AttachFault, geometry: Geometry) -> Stop
+pub(crate) fn attach_stop(fault: AttachFault, geometry: Geometry) -> Stop
     requires { IsLegal geometry }
     ensures end { (s t : Told) → IsAttach geometry s (Err fault) t → IsPlayEnd (size_of geometry) s t (status_of result) }
     ensures size { (s t : Told) → IsAttach geometry s (Err fault) t → IsAttachStop (size_of geometry) s.bytes result }

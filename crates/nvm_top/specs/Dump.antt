@@ -1,0 +1,46 @@
+-- `dump`: what it writes, and what it leaves of the flash.
+use Rattle.std.specs.Prelude.{◌≡◌, ℕ, List, Option, IfSome}
+use Rattle.nv_base.specs.declared.geometry.Geometry.{Geometry}
+use Rattle.nv_base.specs.Geometry.{size_of}
+use Rattle.block_config.specs.Config.{Configuration}
+use Rattle.fls_model.specs.Attach.{HasSize, enlarged}
+use Rattle.fls_model.specs.Told.{Told, ToldBytes, IfBothTold}
+use Rattle.fee_image.specs.Image.{layout_of}
+use Rattle.image_text.specs.Dump.{dump_text}
+use Rattle.nvm_top.specs.declared.status.Status.{Status}
+use Rattle.nvm_top.specs.declared.status.Status.TheVariants as status
+use Rattle.nvm_top.specs.declared.stop.Stop.TheVariants as stop
+use Rattle.nvm_top.specs.Ends.{HasConfig, NamesRule, TellsSize}
+use Rattle.nvm_top.specs.Input.{IsLonger, input_limit}
+use Rattle.nvm_top.specs.Play.{IsWrongSize}
+use Rattle.nvm_top.specs.Stop.{line_of}
+
+-- these are the bytes of a flash of this shape, where it tells them; one of no bytes is blank
+abbrev pub IsImageOf : Geometry → Option ToldBytes → List ℕ → Type 0
+IsImageOf g flash image = IfSome flash (λ b. HasSize g b.now × (image ≡ enlarged (size_of g) b.now))
+
+-- a command ends well, and writes the text of these bytes of two banks
+abbrev pub IsDump : Geometry → List ℕ → Status → List ℕ → Type 0
+IsDump g image x text = (x ≡ status.Ok) × (text ≡ dump_text (layout_of g 2) image)
+
+-- from the attach of a flash of this shape on, with its bytes, where they are told, and with what is written
+abbrev pub DumpsFlash : Geometry → Option ToldBytes → Status → List ℕ → Type 0
+DumpsFlash g flash status.Ok text = (image : List ℕ) × IsImageOf g flash image × (text ≡ dump_text (layout_of g 2) image)
+DumpsFlash g flash status.WrongSize line = IsWrongSize (size_of g) flash × TellsSize (size_of g) flash line
+DumpsFlash g flash status.FlashFault line = line ≡ line_of stop.FlashFault
+DumpsFlash g flash status.Memory line = line ≡ line_of stop.Memory
+DumpsFlash g flash _ line = ⊥
+
+-- as a whole, with the bytes of the input, where they are told too
+abbrev pub DumpsBy : Option (List ℕ) → Option ToldBytes → Status → List ℕ → Type 0
+DumpsBy left flash status.BadConfig line = NamesRule left line
+DumpsBy left flash status.TooLong line = IsLonger left input_limit × (line ≡ line_of stop.TooLong)
+DumpsBy left flash status.ReadFault line = line ≡ line_of stop.ReadFault
+DumpsBy left flash status.Memory line = line ≡ line_of stop.Memory
+DumpsBy left flash x text = (c : Configuration) × IfSome left (λ bytes. HasConfig bytes c) × DumpsFlash c.geometry flash x text
+
+-- a flash is left as it was: no changing operation was made, and its bytes are the same, or blank where it had none
+pub record KeepsFlash (s t : Told) : Type 0 where
+  pub bytes : IfBothTold s.bytes t.bytes (λ old new. (n : ℕ) × (new.now ≡ enlarged n old.now))
+  pub ops : t.ops ≡ s.ops
+  pub cuts : t.cuts ≡ s.cuts

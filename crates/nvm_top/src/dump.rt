@@ -1,0 +1,110 @@
+// The command `dump`: what an image holds, line by line.
+ghost use Rattle.std.specs.Prelude.{◌≡◌, length, map, string_bytes, true, false};
+ghost use Rattle.std.specs.Io.KnownBytes.{IsAtEnd};
+ghost use Rattle.nv_base.specs.Count.{Rose};
+ghost use Rattle.nv_base.specs.Geometry.{IsLegal, size_of};
+ghost use Rattle.command_words.specs.Words.{command_of, is_dump};
+ghost use Rattle.nvm_top.specs.Dump.{DumpsBy, DumpsFlash, IsDump, KeepsFlash};
+ghost use Rattle.nvm_top.specs.Ends.{IsBadWords};
+ghost use Rattle.nvm_top.specs.Output.{IsReport, Writes};
+ghost use Rattle.nvm_top.specs.Play.{IsBeforeStart};
+
+use crate::Status;
+use crate::configuration::read_configuration;
+use crate::image::read_image;
+use crate::output::{put_lines, report};
+use crate::stop::Stop;
+use command_words::{CommandKind, command_of};
+use fls_model::Flash;
+use image_text::dump_text;
+use nv_base::Geometry;
+use nv_streams::{Sink, Source};
+use std::alloc::{AllocError, Global};
+
+/// The banks of the flash.
+const BANKS: u32 = 2;
+
+/// Writes what the flash holds: of each bank its head, its records and its tail, and which bank is active. The flash is
+/// read alone. The lines of the input after the first are read and ignored.
+pub fn dump_command<S: Source, K: Sink, F: Flash>(
+    alloc: Global,
+    words: &[String],
+    input: &mut S,
+    output: &mut K,
+    flash: F,
+) -> (Status, F)
+    ensures bad_words { is_dump (command_of (map string_bytes words.now)) ≡ false → Writes IsBadWords (K.written output.old) (K.written output.new) result.0 }
+    ensures by_input { is_dump (command_of (map string_bytes words.now)) ≡ true → Writes (DumpsBy (S.left input.old) (F.told flash).bytes) (K.written output.old) (K.written output.new) result.0 }
+    ensures read_fault { result.0 ≡ Status.ReadFault → Rose (S.faults input.old) (S.faults input.new) }
+    ensures write_fault { result.0 ≡ Status.WriteFault → Rose (K.faults output.old) (K.faults output.new) }
+    ensures flash_fault { result.0 ≡ Status.FlashFault → Rose (F.told flash).faults (F.told result.1).faults }
+    ensures kept { KeepsFlash (F.told flash) (F.told result.1) }
+    ensures untouched { IsBeforeStart result.0 → F.told result.1 ≡ F.told flash }
+    ensures ended { result.0 ≡ Status.Ok → IsAtEnd (S.left input.new) }
+{
+    match command_of(alloc, words) {
+        Ok(Some(CommandKind::Dump)) => dump(alloc, input, output, flash),
+        Ok(_) => (report(alloc, Stop::BadWords, output), flash),
+        Err(AllocError) => (Status::Memory, flash),
+    }
+}
+
+/// The command behind its words.
+pub(crate) fn dump<S: Source, K: Sink, F: Flash>(
+    alloc: Global,
+    input: &mut S,
+    output: &mut K,
+    flash: F,
+) -> (Status, F)
+    ensures by_input { Writes (DumpsBy (S.left input.old) (F.told flash).bytes) (K.written output.old) (K.written output.new) result.0 }
+    ensures read_fault { result.0 ≡ Status.ReadFault → Rose (S.faults input.old) (S.faults input.new) }
+    ensures write_fault { result.0 ≡ Status.WriteFault → Rose (K.faults output.old) (K.faults output.new) }
+    ensures flash_fault { result.0 ≡ Status.FlashFault → Rose (F.told flash).faults (F.told result.1).faults }
+    ensures kept { KeepsFlash (F.told flash) (F.told result.1) }
+    ensures untouched { IsBeforeStart result.0 → F.told result.1 ≡ F.told flash }
+    ensures ended { result.0 ≡ Status.Ok → IsAtEnd (S.left input.new) }
+{
+    match read_configuration(alloc, input) {
+        Ok(config) => {
+            let mut flash = flash;
+            let status = dump_flash(alloc, config.geometry(), output, &mut flash);
+            (status, flash)
+        }
+        Err(stop) => (report(alloc, stop, output), flash),
+    }
+}
+
+fn dump_flash<K: Sink, F: Flash>(
+    alloc: Global,
+    geometry: Geometry,
+    output: &mut K,
+    flash: &mut F,
+) -> Status
+    requires { IsLegal geometry }
+    ensures text { Writes (DumpsFlash geometry (F.told flash.old).bytes) (K.written output.old) (K.written output.new) result }
+    ensures write_fault { result ≡ Status.WriteFault → Rose (K.faults output.old) (K.faults output.new) }
+    ensures flash_fault { result ≡ Status.FlashFault → Rose (F.told flash.old).faults (F.told flash.new).faults }
+    ensures kept { KeepsFlash (F.told flash.old) (F.told flash.new) }
+    ensures untouched { IsBeforeStart result → F.told flash.new ≡ F.told flash.old }
+{
+    match read_image(alloc, geometry, flash) {
+        Ok(image) => write_dump(alloc, geometry, image.as_slice(), output),
+        Err(stop) => report(alloc, stop, output),
+    }
+}
+
+fn write_dump<K: Sink>(alloc: Global, geometry: Geometry, image: &[u8], output: &mut K) -> Status
+    requires legal { IsLegal geometry }
+    requires size { length image.now ≡ size_of geometry }
+    ensures status { IsReport Status.Ok result }
+    ensures text { Writes (IsDump geometry image.now) (K.written output.old) (K.written output.new) result }
+    ensures write_fault { result ≡ Status.WriteFault → Rose (K.faults output.old) (K.faults output.new) }
+{
+    let Ok(text) = dump_text(alloc, image, geometry, BANKS) else {
+        return Status::Memory;
+    };
+    match put_lines(output, text.as_bytes()) {
+        Ok(()) => Status::Ok,
+        Err(fault) => fault.status(),
+    }
+}
