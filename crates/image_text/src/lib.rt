@@ -8,8 +8,10 @@
 mod active;
 mod bank_text;
 mod banks;
+mod cases;
 mod lines;
 mod text;
 
 pub use active::active_bank;
+pub use cases::{banks_are_told, writes_are_told};
 pub use text::dump_text;
