@@ -1,8 +1,8 @@
-//! A switch of banks over the driver of a flash: one operation a step.
+//! The banks of a flash over its driver, and the switch from the active one to the next: one operation a step.
 //!
-//! So far it has the steps of the target that aren't copies: the erases of its sectors, its head and its gate. It promises
-//! which operation each step makes, and that the bytes hold the banks that follow, done, failed or cut. The copies, and
-//! the choice of what comes next, need a log that writes, and are left to come.
+//! It promises that a start-up finds the active bank and loads its log, which operation each step makes and what its answer
+//! leaves, and that appends go to the active log beside the switch. What the bytes of the flash hold of all that are laws
+//! of its own for the target and of the crates beside it; jobs and their room are left to the crates above.
 #![tactic(auto)]
 
 mod banks;
