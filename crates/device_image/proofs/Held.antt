@@ -172,8 +172,8 @@ held_anew tighten widen l numbers bytes m may copied all holds job seal = record
 
 pub copies_are_told : CopiesAreTold
 copies_are_told l numbers bytes m copied before is_held are number length x among = among_from numbers (slots_held l numbers bytes m) number length x (λ has.
-  let is = are number length x has among in
-  subst (λ (s : Slot). IsPossible s (held x)) (sym (held_slot l numbers bytes m (may_told l numbers bytes m) number length is_held.banks.old has)) (inl (ap held is)))
+    let is = are number length x has among in
+    subst (λ (s : Slot). IsPossible s (held x)) (sym (held_slot l numbers bytes m (may_told l numbers bytes m) number length is_held.banks.old has)) (inl (ap held is)))
 
 -- STEPS
 module _ (show : OldBanksShow) (l : Layout) (numbers : List (DeviceNumber × ℕ)) (old new : List ℕ) (m t : Memory) (copied : May) (holds : Holds l numbers new (banks_with t (may_told l numbers old m) copied)) (same : settled_in l numbers new t.old ≡ settled_in l numbers old m.old) (goes : GoesOn m.stand t.stand) where

@@ -17,7 +17,7 @@ use Rattle.bank_image.specs.Doubts.{shown_of, OldBanksShow}
 use Rattle.bank_image.specs.Laws.{found_alone}
 use Rattle.device_bridge.specs.Image.{found_as}
 use Rattle.device_image.specs.Slots.{Memory, banks_with, held, slot_of, left_by, job_leaves, slots_with, marks_at, settled_in, settled_at, slots_held, slots_found, may_told, AreCopied}
-use Rattle.device_image.specs.Laws.{IsHeld, StepsSettle, StepsSeal, SamePlaces, JobsKeep, Opened, JobsOpen, IsStarted, StartsFind, UnstartedFind, UnstartedIsFound, GoesOn}
+use Rattle.device_image.specs.Laws.{IsHeld, StepsSettle, StepsSeal, SamePlaces, PlacesTell, JobsKeep, Opened, JobsOpen, IsStarted, StartsFind, UnstartedFind, UnstartedIsFound, GoesOn}
 use Rattle.device_image.proofs.Held.{held_slot, settled_among, settled_long}
 use Rattle.device_image.proofs.Slots.{slot_is, slot_none, keeps_same, keeps_one, possible_from, leaves_fewer, shown_possible, job_doubted, doubt_cases, has_first, has_cases, has_none, mark_same}
 
@@ -200,6 +200,9 @@ module _ (l : Layout) (numbers : List (DeviceNumber × ℕ)) (bytes : List ℕ) 
     pub job_opens : (size n : ℕ) (o : Option Mark) → j.mark ≡ o → length_of numbers j.number ≡ Some size → Opened j n (first n) (later n) o
     job_opens size n None is has = other_keeps n (length_of numbers n) refl (leaves_read n (j.number == n) refl is)
     job_opens size n (Some mark) is has = mark_opens mark size n (n == j.number) is has refl
+
+pub places_tell : PlacesTell
+places_tell l numbers bytes m t same stand = λ i. slots_with (λ n size. same_shown l bytes m.old t.old n size same i) (job_leaves (stand i)) numbers (same_settled l numbers bytes m.old t.old same i)
 
 pub jobs_keep : JobsKeep
 jobs_keep l numbers bytes m t copied is_held same goes n = memory_keeps l numbers bytes m t copied is_held same (λ i h has. leaves_fewer m.stand t.stand i h goes has) n (length_of numbers n) refl

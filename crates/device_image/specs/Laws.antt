@@ -88,6 +88,12 @@ SamePlaces NoBank NoBank = Unit {0}
 SamePlaces (OldBank k h log) (OldBank j i next) = (j ≡ k) × (i ≡ h) × (next.places ≡ log.places)
 SamePlaces old new = ⊥
 
+-- what is told depends on the places and the open job alone
+abbrev pub PlacesTell : Type 0
+PlacesTell =
+    (l : Layout) (numbers : List (DeviceNumber × ℕ)) (bytes : List ℕ) (m t : Memory)
+    → SamePlaces m.old t.old → t.stand ≡ m.stand → slots_held l numbers bytes t ≡ slots_held l numbers bytes m
+
 -- a job ends, or goes on
 abbrev pub JobsKeep : Type 0
 JobsKeep =

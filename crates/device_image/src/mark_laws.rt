@@ -1,5 +1,5 @@
 // Laws: what is told of the numbers. Their functions do nothing.
-ghost use Rattle.device_image.specs.Laws.{HeldAnew, CopiesAreTold, ImagesFind, StepsKeep, StepsSettle, StepsSeal, JobsKeep, JobsOpen, StartsFind, UnstartedFind, UnstartedIsFound};
+ghost use Rattle.device_image.specs.Laws.{HeldAnew, CopiesAreTold, ImagesFind, StepsKeep, StepsSettle, StepsSeal, PlacesTell, JobsKeep, JobsOpen, StartsFind, UnstartedFind, UnstartedIsFound};
 
 use bank_image::{banks_show, doubts_compute};
 
@@ -24,8 +24,10 @@ pub fn marks_stay()
     doubts_compute();
 }
 
-/// A job that opens may leave its mark, which it is a doubt from then on; where it ends or goes on no doubt is new.
+/// What is told depends on the places and the open job alone. A job that opens may leave its mark, which is a doubt from then
+/// on; where it ends or goes on no doubt is new.
 pub fn jobs_doubt()
+    ensures same { PlacesTell }
     ensures keep { JobsKeep }
     ensures begin { JobsOpen }
 {}

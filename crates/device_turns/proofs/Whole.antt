@@ -1,6 +1,6 @@
 -- What a turn makes of a device as a whole.
 use Rattle.std.specs.Prelude.{IfSome, if◌then◌else◌}
-use Rattle.std.proofs.Common.{◌≡◌, ℕ, ◌<◌, Bool, true, List, length, Option, Some, None, sym, ap, ◌∙◌, subst, arith}
+use Rattle.std.proofs.Common.{◌≡◌, ℕ, ◌<◌, Bool, true, false, List, length, Option, Some, None, sym, ap, ◌∙◌, subst, arith}
 use Rattle.nv_base.specs.declared.mark.Mark.{Mark}
 use Rattle.memif.specs.Told.{Slot, Job, slot_at}
 use Rattle.memif.specs.Marks.{IsPossible, Keeps, DoubtsAt}
@@ -9,12 +9,12 @@ use Rattle.fls_model.specs.Told.{bytes_now}
 use Rattle.log_image.specs.May.{mark_written}
 use Rattle.device_bridge.specs.Image.{two_banks, held_in, IsSoundFlash}
 use Rattle.device_image.specs.Slots.{banks_with, slots_held, slots_found, may_told, held_of}
-use Rattle.device_image.specs.Laws.{ImagesFind, Opened}
+use Rattle.device_image.specs.Laws.{UnstartedIsFound, ImagesFind, Opened}
 use Rattle.device_clock.specs.Device.{Device, layout_in, slots_in, told_of}
 use Rattle.device_clock.specs.Clock.{ClocksFindNow, ImageIsPossible}
 use Rattle.device_clock.specs.Tells.{TellsKeep, TellsSettle, TellsDoubt, ImagesAttach, was, AreTold, OneSettles}
 use Rattle.device_turns.specs.Kept.{KeptIsFound}
-use Rattle.device_turns.specs.Whole.{HeldFindsNow, CutsAreTold, AreStarted, KeptIsTold, CommitsAreTold, OpensAreTold}
+use Rattle.device_turns.specs.Whole.{HeldFindsNow, UnstartedFindsNow, CutsAreTold, AreStarted, KeptIsTold, CommitsAreTold, OpensAreTold}
 
 -- BYTES
 both_some : (o : Option (List ℕ)) (P Q R : List ℕ → Type 0) → IfSome o P → IfSome o Q → ((bytes : List ℕ) → P bytes → Q bytes → R bytes) → IfSome o R
@@ -43,6 +43,15 @@ held_finds_now find attach now d copied holds = now d (λ told.
     both_some (bytes_now d.flash) _ _ (λ bytes. ImageIsPossible d bytes bytes) holds.some (holds.held told) (λ bytes some held.
     possible_in attach d bytes bytes holds.started some
     (find (layout_in d) d.making.numbers (slots_held (layout_in d) d.making.numbers bytes d.memory) bytes (banks_with d.memory (may_told (layout_in d) d.making.numbers bytes d.memory) copied) holds.legal held.banks (λ number size x is. is))))
+
+found_are : (d : Device) (bytes : List ℕ) → d.started ≡ false → slots_in d bytes ≡ slots_found (layout_in d) d.making.numbers bytes
+found_are d bytes started = ap (λ (b : Bool). if b then slots_held (layout_in d) d.making.numbers bytes d.memory else slots_found (layout_in d) d.making.numbers bytes) started
+
+pub unstarted_finds_now : UnstartedIsFound → ImagesAttach → ClocksFindNow → UnstartedFindsNow
+unstarted_finds_now found attach now d started some = now d (λ told.
+    both_some (bytes_now d.flash) _ _ (λ bytes. ImageIsPossible d bytes bytes) some some (λ bytes more same n.
+    subst (λ (s : List Slot). IsPossible (slot_at d.making.numbers s n) (held_in d.making.geometry d.making.numbers bytes n)) (sym (found_are d bytes started))
+    (subst (IsPossible (slot_at d.making.numbers (slots_found (layout_in d) d.making.numbers bytes) n)) (sym ((attach d.making.geometry d.making.numbers bytes more).0 n)) (found (layout_in d) d.making.numbers bytes n))))
 
 -- CUTS
 pub cuts_are_told : KeptIsFound → ImagesAttach → CutsAreTold

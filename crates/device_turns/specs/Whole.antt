@@ -1,5 +1,5 @@
 -- What a turn makes of a device as a whole: from its banks to what it tells.
-use Rattle.std.specs.Prelude.{◌≡◌, ◌<◌, ℕ, true, IsTrue, List, length, IfSome}
+use Rattle.std.specs.Prelude.{◌≡◌, ◌<◌, ℕ, true, false, IsTrue, List, length, IfSome}
 use Rattle.nv_base.specs.declared.instance.DeviceNumber.{DeviceNumber}
 use Rattle.memif.specs.Told.{Job}
 use Rattle.memif.specs.Marks.{KeepsAll, Settles, DoubtsAt}
@@ -29,6 +29,11 @@ pub record HoldsBanks (d : Device) (copied : May) : Type 0 where
 -- what a start-up would find now is possible by what it tells
 abbrev pub HeldFindsNow : Type 0
 HeldFindsNow = (d : Device) (copied : May) → HoldsBanks d copied → FindsNow (told_of d) (clock_of d)
+
+-- so it is before a device is started
+abbrev pub UnstartedFindsNow : Type 0
+UnstartedFindsNow =
+    (d : Device) → d.started ≡ false → IfSome (bytes_now d.flash) (λ bytes. 0 < length bytes) → FindsNow (told_of d) (clock_of d)
 
 -- an image is kept, whatever the device has in memory behind it
 pub record IsKeptSo (l : Layout) (numbers : List (DeviceNumber × ℕ)) (old image : List ℕ) (m : Memory) : Type 0 where
