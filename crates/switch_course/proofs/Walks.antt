@@ -1,19 +1,13 @@
 -- Steps along the numbers.
-use Rattle.std.proofs.Common.{◌≡◌, ◌<◌, ◌≤◌, ◌+◌, ℕ, zero, suc, Bool, true, List, [], ◌∷◌, length, drop, get_or, Option, Some, None, option_map, refl, drop-cons, cond, arith}
+use Rattle.std.proofs.Common.{◌≡◌, ◌<◌, ◌+◌, ℕ, suc, Bool, true, List, length, drop, get_or, Option, Some, None, option_map, refl, drop-cons, cond, arith}
 use Rattle.std.specs.Prelude.{max}
 use Rattle.std.proofs.lemmas.List.{length-set}
 use Rattle.nv_base.specs.Pages.{record_pages_of}
 use Rattle.nv_base.specs.declared.instance.DeviceNumber.{DeviceNumber}
-use Rattle.nv_base.specs.Lengths.{AreLengths}
 use Rattle.log_image.specs.declared.place.Place.{Place}
 use Rattle.log_image.specs.declared.place.Place.TheVariants.{Content}
 use Rattle.switch_course.specs.declared.copies.Source.{Source}
 use Rattle.switch_course.specs.Copies.{turns_of, is_left, later, next_copy, copies_left, copies_most, greatest, as_copied, as_appended}
-
-pub length_small : (xs : List (DeviceNumber × ℕ)) (low i : ℕ) (d : DeviceNumber × ℕ) → AreLengths low xs → i < length xs → (get_or xs i d).1 ≤ 4096
-length_small [] low i d is lt = absurd (omega arith)
-length_small (x ∷ xs) low zero d is lt = is.3
-length_small (x ∷ xs) low (suc i) d is lt = length_small xs x.0.0 i d is.4 (omega arith)
 
 pub left_step : (p : ℕ) (ns : List (DeviceNumber × ℕ)) (ps : List Place) (cs : List Bool) (i : ℕ) (n : DeviceNumber × ℕ) (x : Place) (c : Bool)
     → i < length ns → i < length ps → i < length cs
