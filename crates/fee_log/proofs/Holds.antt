@@ -1,5 +1,6 @@
 -- What the bytes hold.
 use Rattle.std.proofs.Common.{◌≡◌, ℕ, zero, suc, ◌<◌, ◌≤◌, ◌*◌, List, length, Some, None, refl, sym, ◌∙◌, subst, arith}
+use Rattle.nv_base.specs.Laws.{NumbersAreInBounds}
 use Rattle.nv_base.specs.Pages.{record_pages_of}
 use Rattle.fee_format.specs.declared.rec_head.RecHead.{RecHead}
 use Rattle.fee_image.specs.Bank.{Bank, page_of, moved}
@@ -71,9 +72,9 @@ begins_at begin s (Owes h (Some next)) head before body bytes may sound format l
 begins_at begin s Closed head before body bytes may sound format legal size commit idle room holds =
     absurd (omega (arith, room))
 
-pub begins_hold : RecordsBegin → BeginsHold
-begins_hold begin s head before body bytes may sound holds idle format is room size commit =
-    let both = begins_at begin s s.tail head before body bytes may sound format (legal_for s.numbers head sound.numbers is) size commit idle room holds.holds in
+pub begins_hold : NumbersAreInBounds → RecordsBegin → BeginsHold
+begins_hold bounds begin s head before body bytes may sound holds idle format is room size commit =
+    let both = begins_at begin s s.tail head before body bytes may sound format (legal_for bounds s.numbers head sound.numbers is) size commit idle room holds.holds in
     record { size = holds.size; holds = both.0; follows = both.1 }
 
 -- A RECORD IS GIVEN UP

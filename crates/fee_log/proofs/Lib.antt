@@ -2,7 +2,6 @@ pub mod Changes
 pub mod Follows
 pub mod Holds
 pub mod Loads
-pub mod Numbers
 pub mod Soundness
 pub mod Steps
 pub mod Walking

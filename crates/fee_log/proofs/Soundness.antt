@@ -1,8 +1,10 @@
 -- What each change of a log keeps.
-use Rattle.std.proofs.Common.{◌≡◌, ℕ, ◌<◌, ◌≤◌, ◌+◌, ◌-◌, false, List, Option, Some, None, inl, inr, refl, subst, arith}
+use Rattle.std.proofs.Common.{◌≡◌, ℕ, ◌<◌, ◌≤◌, ◌+◌, ◌-◌, false, List, Option, Some, None, inl, inr, refl, ◌∙◌, ap, subst, arith}
+use Rattle.std.proofs.lemmas.Option.{slice_get-get_or}
 use Rattle.nv_base.specs.declared.instance.DeviceNumber.{DeviceNumber}
 use Rattle.nv_base.specs.declared.geometry.Geometry.{Geometry}
 use Rattle.nv_base.specs.Geometry.{IsLegal, HasBanks, pages_of_bank}
+use Rattle.nv_base.specs.Laws.{NumbersAreInBounds}
 use Rattle.nv_base.specs.Lengths.{AreLengths}
 use Rattle.nv_base.specs.Pages.{record_pages_of}
 use Rattle.fee_format.specs.declared.rec_head.RecHead.{RecHead}
@@ -18,7 +20,6 @@ use Rattle.fee_log.specs.declared.tail.Tail.TheVariants.{Open, Writes, Owes, Clo
 use Rattle.fee_log.specs.Index.{clear_flags, AreWithin}
 use Rattle.fee_log.specs.Log.{LogState, IsLogState, IsTail, IsTailSeen, IsViewOf, IsFor, pages_in, free_in, free_behind, work_in, tail_begun, begun, erased_state}
 use Rattle.fee_log.proofs.Changes.{clear_length, flag_length}
-use Rattle.fee_log.proofs.Numbers.{bounds, contained}
 use Rattle.fee_log.proofs.Within.{erased_within, placed_within, further, noted_within}
 
 -- what holds of a log's tail
@@ -99,11 +100,11 @@ owing_sound s h k sound is =
 
 -- A RECORD BEGINS
 -- a record of a configured number has a legal header
-pub legal_for : (numbers : List (DeviceNumber × ℕ)) (h : RecHead) → AreLengths 0 numbers → IsFor numbers h
+pub legal_for : NumbersAreInBounds → (numbers : List (DeviceNumber × ℕ)) (h : RecHead) → AreLengths 0 numbers → IsFor numbers h
     → IsLegalRecHead h
-legal_for numbers h all is =
+legal_for bounds numbers h all is =
     let x : DeviceNumber × ℕ = (record { 0 = h.number }, is.length) in
-    let up = bounds 0 numbers all is.configured.0 x (contained numbers x is.configured) in
+    let up = bounds 0 numbers is.configured.0 x all (slice_get-get_or numbers is.configured.0 x is.configured.1 ∙ ap Some is.configured.2) in
     elim is.kind as (λ _. IsLegalRecHead h) [
       | inl content ↦ record {
         number_low = up.0;
@@ -126,9 +127,9 @@ begun_tail p pages end (Owes head next) h high is idle room legal =
     (omega (arith, free), legal)
 begun_tail p pages end Closed h high is idle room legal = absurd (omega (arith, room))
 
-pub begun_sound : (s : LogState) (h : RecHead) → IsLogState s → work_in s.tail ≡ None → IsFor s.numbers h
+pub begun_sound : NumbersAreInBounds → (s : LogState) (h : RecHead) → IsLogState s → work_in s.tail ≡ None → IsFor s.numbers h
     → record_pages_of h.length s.geometry.page ≤ free_in s → IsLogState (begun s h)
-begun_sound s h sound idle is room = record {
+begun_sound bounds s h sound idle is room = record {
   geometry = sound.geometry;
   shared = sound.shared;
   bank = sound.bank;
@@ -138,7 +139,7 @@ begun_sound s h sound idle is room = record {
   end_low = sound.end_low;
   end_high = sound.end_high;
   tail =
-      begun_tail s.geometry.page (pages_in s) s.end s.tail h sound.end_high sound.tail idle room (legal_for s.numbers h sound.numbers is);
+      begun_tail s.geometry.page (pages_in s) s.end s.tail h sound.end_high sound.tail idle room (legal_for bounds s.numbers h sound.numbers is);
 }
 
 -- STARTS

@@ -5,7 +5,7 @@ ghost use Rattle.log_image.specs.Places.{place_at, noted, erased_places};
 ghost use Rattle.fee_log.specs.Index.{place_in, flag_in, with_flag, clear_flags};
 
 use log_image::Place;
-use nv_base::{DeviceNumber, Lengths};
+use nv_base::{DeviceNumber, Lengths, numbers_ascend};
 use std::alloc::{AllocError, Global};
 
 /// Places for all numbers, of which nothing is found.
@@ -67,6 +67,7 @@ pub(crate) fn put_flag(numbers: &Lengths, flags: &mut [bool], number: DeviceNumb
     requires { length flags.old ≡ length numbers.now }
     ensures { flags.new ≡ with_flag numbers.now flags.old number.0 on }
 {
+    numbers_ascend();
     let _ = numbers.len();
     let Some(i) = numbers.place_of(number) else {
         return;
@@ -103,6 +104,7 @@ pub(crate) fn note(
     requires { length places.old ≡ length numbers.now }
     ensures { places.new ≡ noted numbers.now places.old at (record { number = number.0; kind = kind; length = size }) }
 {
+    numbers_ascend();
     let Some(i) = numbers.place_of(number) else {
         return;
     };

@@ -24,7 +24,7 @@ use fee_view::BankView;
 use fls_jobs::Fls;
 use fls_model::{Flash, FlashAnswer};
 use log_image::{Place, logs_begin};
-use nv_base::{DeviceNumber, Geometry, Lengths, banks_share_the_flash, lengths_of};
+use nv_base::{DeviceNumber, Geometry, Lengths, banks_share_the_flash, lengths_of, numbers_ascend};
 use std::alloc::{AllocError, Global};
 use std::marker::Model;
 
@@ -167,6 +167,7 @@ impl Log {
         ensures within { (length : ℕ) → Contains self.now.numbers (number, length) → IsWithin self.now.geometry.page self.now.end length result }
         ensures state { IsLogState self.now }
     {
+        numbers_ascend();
         place_of(&self.numbers, &self.places, number)
     }
 
@@ -264,6 +265,7 @@ impl Log {
         requires room { record_pages_of length self.old.geometry.page ≤ free_in self.old }
         ensures { self.new ≡ begun self.old (record { number = number.0; kind = kind; length = length }) }
     {
+        numbers_ascend();
         put_flag(&self.numbers, &mut self.flags, number, false);
         let record = RecHead {
             number: number.0,

@@ -4,6 +4,7 @@ ghost use Rattle.fee_log.specs.Laws.{LoadsHold, ErasedHolds, BeginsHold, GivenUp
 
 use fee_image::{programs_keep_soundness, records_stay};
 use log_image::{logs_begin, logs_stay, memory_alone, steps_hold};
+use nv_base::numbers_ascend;
 
 /// After each call the log is the one that the laws of a log speak of, whatever content the record in work has; a page is
 /// due where a record is in work.
@@ -32,6 +33,7 @@ pub fn states_hold()
     ensures given_up { GivenUpHolds }
     ensures flags { FlagsHold }
 {
+    numbers_ascend();
     states_follow();
     loads_agree();
     logs_begin();

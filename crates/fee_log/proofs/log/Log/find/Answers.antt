@@ -1,6 +1,6 @@
-use Rattle.std.proofs.Common.{ℕ}
+use Rattle.std.proofs.Common.{ℕ, Some, ◌∙◌, ap}
+use Rattle.std.proofs.lemmas.Option.{slice_get-get_or}
 use Rattle.nv_base.specs.declared.instance.DeviceNumber.{DeviceNumber}
-use Rattle.fee_log.proofs.Numbers.{contained, placed}
 use Rattle.fee_log.proofs.Within.{within_length, index_within}
 use Rattle.fee_log.proofs.log.Log.find.Goals as goal
 
@@ -13,6 +13,6 @@ returns-clause-within c =
     rw (← c.self.view_is, c.place_of.ensures, c.deref.ensures.value)
     (λ length has.
     let x : DeviceNumber × ℕ = (c.args.number, length) in
-    let at = contained s.numbers x has in
-    rw (placed 0 s.numbers has.0 x c.self.invariant.numbers at)
+    let at = slice_get-get_or s.numbers has.0 x has.1 ∙ ap Some has.2 in
+    rw (c.numbers_ascend.ensures.places 0 s.numbers has.0 x c.self.invariant.numbers at)
     (index_within s.geometry.page s.end s.numbers s.places.items has.0 x c.self.invariant.places at))
