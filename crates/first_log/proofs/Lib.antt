@@ -1,5 +1,4 @@
 pub mod FormatLemmas
-pub mod Numbers
 pub mod PlacesLemmas
 pub mod Soundness
 pub mod StepCuts

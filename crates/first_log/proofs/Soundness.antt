@@ -1,10 +1,12 @@
 -- What each change of a log keeps.
-use Rattle.std.proofs.Common.{◌≡◌, ◌↔◌, Bool, true, not, IsTrue, refl, inl, inr, ℕ, ◌<◌, ◌≤◌, ◌+◌, false, List, Some, None, IfSome, subst, arith}
+use Rattle.std.proofs.Common.{◌≡◌, ◌↔◌, Bool, true, not, IsTrue, refl, inl, inr, ℕ, ◌<◌, ◌≤◌, ◌+◌, false, List, Some, None, IfSome, ◌∙◌, ap, subst, arith}
 use Rattle.std.specs.Prelude.{Option}
 use Rattle.std.proofs.lemmas.Bool.{false≢true}
+use Rattle.std.proofs.lemmas.Option.{slice_get-get_or}
 use Rattle.nv_base.specs.declared.instance.DeviceNumber.{DeviceNumber}
 use Rattle.nv_base.specs.declared.geometry.Geometry.{Geometry}
 use Rattle.nv_base.specs.Geometry.{IsLegal, HasBanks, pages_of_bank}
+use Rattle.nv_base.specs.Laws.{NumbersAreInBounds}
 use Rattle.nv_base.specs.Lengths.{AreLengths}
 use Rattle.fee_format.specs.declared.rec_head.RecHead.{RecHead}
 use Rattle.nv_base.specs.Pages.{record_pages_of}
@@ -13,7 +15,6 @@ use Rattle.fee_image.specs.RecordList.{pages_of_head, free_pages_of}
 use Rattle.first_log.specs.declared.work.Work.{Work}
 use Rattle.first_log.specs.Log.{LogState, IsLogState, IsWorkIn, IsFor, pages_in, free_in, erased_log}
 use Rattle.first_log.specs.Places.{noted}
-use Rattle.first_log.proofs.Numbers.{bounds, contained}
 use Rattle.first_log.proofs.Within.{erased_within, further, noted_within}
 
 -- the record in work of a log
@@ -51,10 +52,10 @@ committed_sound s w sound is =
     }
 
 -- the header of a record of a configured number is legal
-pub legal_for : (numbers : List (DeviceNumber × ℕ)) (h : RecHead) → AreLengths 0 numbers → IsFor numbers h → IsLegalRecHead h
-legal_for numbers h all for =
+pub legal_for : NumbersAreInBounds → (numbers : List (DeviceNumber × ℕ)) (h : RecHead) → AreLengths 0 numbers → IsFor numbers h → IsLegalRecHead h
+legal_for bounds numbers h all for =
     let x : DeviceNumber × ℕ = (record { 0 = h.number }, for.length) in
-    let at = bounds 0 numbers all for.configured.0 x (contained numbers x for.configured) in
+    let at = bounds 0 numbers for.configured.0 x all (slice_get-get_or numbers for.configured.0 x for.configured.1 ∙ ap Some for.configured.2) in
     record {
       number_low = at.0;
       number_high = at.1;
@@ -67,8 +68,8 @@ room_open : (B end n : ℕ) (closed : Bool) → 3 ≤ n → n ≤ free_pages_of 
 room_open B end n true three room = absurd (omega arith)
 room_open B end n false three room = (refl, omega arith)
 
-pub started_sound : (s : LogState) (h : RecHead) → IsLogState s → s.work ≡ None → IsFor s.numbers h → record_pages_of h.length s.geometry.page ≤ free_in s → IsLogState (record s { work = Some (record { head = h; done = 0 }) })
-started_sound s h sound idle for room =
+pub started_sound : NumbersAreInBounds → (s : LogState) (h : RecHead) → IsLogState s → s.work ≡ None → IsFor s.numbers h → record_pages_of h.length s.geometry.page ≤ free_in s → IsLogState (record s { work = Some (record { head = h; done = 0 }) })
+started_sound bounds s h sound idle for room =
     let free = room_open (pages_in s) s.end (record_pages_of h.length s.geometry.page) s.closed (omega arith) (rw idle at room) in
     record {
       geometry = sound.geometry;
@@ -79,7 +80,7 @@ started_sound s h sound idle for room =
       end_low = sound.end_low;
       end_high = sound.end_high;
       work = record {
-        legal = legal_for s.numbers h sound.numbers for;
+        legal = legal_for bounds s.numbers h sound.numbers for;
         left = omega arith;
         within = free.1;
       };

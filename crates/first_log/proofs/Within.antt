@@ -4,6 +4,7 @@ use Rattle.std.proofs.Common.{◌≡◌, ℕ, zero, suc, ◌≤◌, ◌+◌, Boo
 use Rattle.std.proofs.lemmas.Bool.{ne_eqb}
 use Rattle.std.proofs.lemmas.Bool.Decides.{nat_tests}
 use Rattle.nv_base.specs.declared.instance.DeviceNumber.{DeviceNumber}
+use Rattle.nv_base.specs.Laws.{NumbersAreInBounds}
 use Rattle.nv_base.specs.Lengths.{AreLengths}
 use Rattle.fee_format.specs.declared.rec_head.RecHead.{RecHead}
 use Rattle.fee_image.specs.Found.{fits}
@@ -11,7 +12,6 @@ use Rattle.nv_base.specs.Pages.{record_pages_of}
 use Rattle.first_log.specs.declared.place.Place.{Place}
 use Rattle.first_log.specs.declared.place.Place.TheVariants.{Content, Invalid, Erased}
 use Rattle.first_log.specs.Places.{place_at, place_in, noted, erased_places, IsWithin, AreWithin}
-use Rattle.first_log.proofs.Numbers.{bounds}
 
 pub within_length : (p end : ℕ) (ns : List (DeviceNumber × ℕ)) (places : List Place) → AreWithin p end ns places → length places ≡ length ns
 within_length p end [] [] all = refl
@@ -63,13 +63,14 @@ pub taken_within : (b : Bool) (p end end' : ℕ) (ns : List (DeviceNumber × ℕ
 taken_within true p end end' ns places h low le all = noted_within p end end' ns places h low le all
 taken_within false p end end' ns places h low le all = further p end end' ns places (omega arith) all
 
--- what is found of a number lies among the bank's records
-pub found_within : (low p end : ℕ) (ns : List (DeviceNumber × ℕ)) (places : List Place) (i : ℕ) (x : DeviceNumber × ℕ) → AreLengths low ns → AreWithin p end ns places → slice_get ns i ≡ Some x → IsWithin p end x.1 (place_in ns places x.0.0)
-found_within low p end [] places i x all within is = cc
-found_within low p end (n ∷ ns) [] i x all within is = absurd within
-found_within low p end (n ∷ ns) (place ∷ places) zero x all within is =
-    let e : n ≡ x = cc in
-    rw (← e, eq-eqb n.0.0 n.0.0 refl) within.0
-found_within low p end (n ∷ ns) (place ∷ places) (suc i) x all within is =
-    let up = bounds n.0.0 ns all.4 i x is in
-    rw (ne_eqb n.0.0 x.0.0 (λ e. omega (arith, up.0))) (found_within n.0.0 p end ns places i x all.4 within.1 is)
+module _ (bounds : NumbersAreInBounds) where
+  -- what is found of a number lies among the bank's records
+  pub found_within : (low p end : ℕ) (ns : List (DeviceNumber × ℕ)) (places : List Place) (i : ℕ) (x : DeviceNumber × ℕ) → AreLengths low ns → AreWithin p end ns places → slice_get ns i ≡ Some x → IsWithin p end x.1 (place_in ns places x.0.0)
+  found_within low p end [] places i x all within is = cc
+  found_within low p end (n ∷ ns) [] i x all within is = absurd within
+  found_within low p end (n ∷ ns) (place ∷ places) zero x all within is =
+      let e : n ≡ x = cc in
+      rw (← e, eq-eqb n.0.0 n.0.0 refl) within.0
+  found_within low p end (n ∷ ns) (place ∷ places) (suc i) x all within is =
+      let up = bounds n.0.0 ns i x all.4 is in
+      rw (ne_eqb n.0.0 x.0.0 (λ e. omega (arith, up.0))) (found_within n.0.0 p end ns places i x all.4 within.1 is)

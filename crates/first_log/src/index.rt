@@ -5,7 +5,7 @@ ghost use Rattle.first_log.specs.Places.{place_in, place_at, noted, erased_place
 
 use crate::Place;
 use fee_format::RecHead;
-use nv_base::{DeviceNumber, Lengths};
+use nv_base::{DeviceNumber, Lengths, numbers_ascend};
 use std::alloc::{AllocError, Global};
 
 /// Places for all numbers, of which nothing is found.
@@ -29,6 +29,7 @@ pub(crate) fn look_up(numbers: &Lengths, places: &[Place], number: DeviceNumber)
     requires { length places.now ≡ length numbers.now }
     ensures { result ≡ place_in numbers.now places.now number.0 }
 {
+    numbers_ascend();
     let _ = numbers.len();
     match numbers.place_of(number) {
         Some(i) => places[i],
@@ -58,6 +59,7 @@ pub(crate) fn note(numbers: &Lengths, places: &mut [Place], at: u32, head: RecHe
     requires { length places.old ≡ length numbers.now }
     ensures { places.new ≡ noted numbers.now places.old at head }
 {
+    numbers_ascend();
     let Some(i) = numbers.place_of(DeviceNumber(head.number)) else {
         return;
     };

@@ -22,7 +22,7 @@ use crate::{LogStep, Place, Work};
 use fee_format::{RecHead, pages_of};
 use fee_image::{appends_leave_one_more, programs_keep_soundness, records_stay};
 use fls_model::{Flash, FlashAnswer};
-use nv_base::{DeviceNumber, Geometry, Lengths, banks_share_the_flash, lengths_of};
+use nv_base::{DeviceNumber, Geometry, Lengths, banks_share_the_flash, lengths_of, numbers_ascend};
 use std::alloc::{AllocError, Global};
 use std::marker::Model;
 
@@ -188,6 +188,7 @@ impl Log {
         ensures within { (length : ℕ) → Contains self.now.numbers (number, length) → IsWithin self.now.geometry.page self.now.end length result }
         ensures sound { IsLogState self.now }
     {
+        numbers_ascend();
         look_up(&self.numbers, &self.places, number)
     }
 
@@ -210,6 +211,7 @@ impl Log {
         requires room { record_pages_of length self.old.geometry.page ≤ free_in self.old }
         ensures { self.new ≡ record self.old { work = Some (record { head = record { number = number.0; kind = kind; length = length }; done = 0 }) } }
     {
+        numbers_ascend();
         let head = RecHead {
             number: number.0,
             kind,

@@ -7,10 +7,10 @@ returns-in_default c = noted_none c.args.numbers.now c.args.places.now c.args.at
 
 pub returns-then-not-fits : goal.returns-then-not-fits
 returns-then-not-fits c =
-    rw (noted_at 0 c.args.numbers.now c.args.places.now c.args.at c.args.head c.in-Some.i (record { 0 = 0 }, 0) c.as_slice-list.ensures.bounds c.requires c.in-Some.ensures.place.within c.in-Some.ensures.place.is, ← c.as_slice-list.ensures.value, ← c.if-not-fits.ensures)
+    rw (noted_at c.numbers_ascend.ensures.above 0 c.args.numbers.now c.args.places.now c.args.at c.args.head c.in-Some.i (record { 0 = 0 }, 0) c.as_slice-list.ensures.bounds c.requires c.in-Some.ensures.place.within c.in-Some.ensures.place.is, ← c.as_slice-list.ensures.value, ← c.if-not-fits.ensures)
     refl
 
 pub returns : goal.returns
 returns c =
-    rw (noted_at 0 c.args.numbers.now c.args.places.now c.args.at c.args.head c.in-Some.i (record { 0 = 0 }, 0) c.as_slice-list.ensures.bounds c.requires c.in-Some.ensures.place.within c.in-Some.ensures.place.is, ← c.as_slice-list.ensures.value, ← c.if-not-fits.ensures, c.place_at.ensures c.args.head refl)
+    rw (noted_at c.numbers_ascend.ensures.above 0 c.args.numbers.now c.args.places.now c.args.at c.args.head c.in-Some.i (record { 0 = 0 }, 0) c.as_slice-list.ensures.bounds c.requires c.in-Some.ensures.place.within c.in-Some.ensures.place.is, ← c.as_slice-list.ensures.value, ← c.if-not-fits.ensures, c.place_at.ensures c.args.head refl)
     refl
