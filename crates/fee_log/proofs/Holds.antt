@@ -74,7 +74,8 @@ begins_at begin s Closed head before body bytes may sound format legal size comm
 
 pub begins_hold : NumbersAreInBounds → RecordsBegin → BeginsHold
 begins_hold bounds begin s head before body bytes may sound holds idle format is room size commit =
-    let both = begins_at begin s s.tail head before body bytes may sound format (legal_for bounds s.numbers head sound.numbers is) size commit idle room holds.holds in
+    let legal : IsLegalRecHead head = legal_for bounds s.numbers head sound.numbers is in
+    let both = begins_at begin s s.tail head before body bytes may sound format legal size commit idle room holds.holds in
     record { size = holds.size; holds = both.0; follows = both.1 }
 
 -- A RECORD IS GIVEN UP

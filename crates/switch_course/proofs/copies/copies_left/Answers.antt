@@ -1,5 +1,6 @@
 use Rattle.std.proofs.Common.{◌≡◌, ap, length, get_or, add-one, false, arith}
 use Rattle.std.proofs.lemmas.Option.{slice_get-get_or}
+use Rattle.nv_base.specs.Lengths.{AreLengths}
 use Rattle.log_image.specs.declared.place.Place.TheVariants.{Erased}
 use Rattle.switch_course.proofs.Walks.{left_step, appended_length, copied_length}
 use Rattle.switch_course.specs.Copies.{turns_of, as_copied, as_appended}
@@ -7,7 +8,10 @@ use Rattle.switch_course.proofs.copies.copies_left.Goals as goal
 
 pub turns_of-turns-requires-clause-length : goal.turns_of-turns-requires-clause-length
 turns_of-turns-requires-clause-length c =
-    (c.numbers_ascend.ensures.bounds 0 c.as_slice-list.result.now c.loop-i.i _ (rw c.as_slice-list.ensures.value c.as_slice-list.ensures.bounds) (slice_get-get_or c.as_slice-list.result.now c.loop-i.i _ c.loop-i-test.true)).3
+    let list = c.as_slice-list.result.now in
+    let all : AreLengths 0 list = rw c.as_slice-list.ensures.value c.as_slice-list.ensures.bounds in
+    let there = slice_get-get_or list c.loop-i.i _ c.loop-i-test.true in
+    (c.numbers_ascend.ensures.bounds 0 list c.loop-i.i _ all there).3
 
 pub loop-i-preserved : goal.loop-i-preserved
 loop-i-preserved c =
