@@ -17,13 +17,13 @@ use Rattle.fee_switch.specs.Banks.{BanksState, IsBanksState, target_at, target_a
 use Rattle.switch_promise.specs.Shown.{Bodies, old_shown, phase_shown, layout_in, banks_shown, HoldsBanks}
 use Rattle.switch_promise.specs.Laws.{gate_of, GatesStand, GatesFail}
 
-next_inside : (banks : ℕ) (target : ℕ) → 2 ≤ banks → target < banks → cond (eqb (target + 1) banks) 0 (target + 1) < banks
+pub next_inside : (banks : ℕ) (target : ℕ) → 2 ≤ banks → target < banks → cond (eqb (target + 1) banks) 0 (target + 1) < banks
 next_inside banks target two lt = cond_both (eqb (target + 1) banks) 0 (target + 1) (λ (x : ℕ). x < banks) (λ _. omega arith) (λ e. let h = eqb-false (target + 1) banks e in omega arith)
 
-next_other : (banks : ℕ) (target : ℕ) → 2 ≤ banks → cond (eqb (target + 1) banks) 0 (target + 1) ≡ target → ⊥
+pub next_other : (banks : ℕ) (target : ℕ) → 2 ≤ banks → cond (eqb (target + 1) banks) 0 (target + 1) ≡ target → ⊥
 next_other banks target two = cond_both (eqb (target + 1) banks) 0 (target + 1) (λ (x : ℕ). x ≡ target → ⊥) (λ e same. let h = eqb-true (target + 1) banks e in omega arith) (λ _ same. omega arith)
 
-same_head : (active : Option ActiveBank) (s : BanksState) (body : List ℕ) → next_head (old_shown active s.log body) ≡ record { format = 1; generation = next_generation active }
+pub same_head : (active : Option ActiveBank) (s : BanksState) (body : List ℕ) → next_head (old_shown active s.log body) ≡ record { format = 1; generation = next_generation active }
 same_head None s body = refl
 same_head (Some a) s body = refl
 
