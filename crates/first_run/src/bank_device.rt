@@ -13,7 +13,7 @@ use block_config::BANKS;
 use fee_format::pages_of;
 use first_log::{Format, FormatStep, Log, LogStep, Place, bank_stands};
 use fls_model::{AttachFault, Flash, FlashAnswer};
-use nv_base::{DeviceNumber, Geometry, Instance, Lengths, Mark, Marks, bytes_of};
+use nv_base::{DeviceNumber, Geometry, Instance, Lengths, Mark, Marks, bytes_of, numbers_ascend};
 use std::alloc::{AllocError, Global};
 use std::marker::Model;
 
@@ -225,6 +225,7 @@ impl<F: Flash> BankDevice<F> {
         ensures reads { ReadsOnly self.old self.new }
         ensures failed { IfErr result (λ fault. fault ≡ StartFault.Failed → Rose self.old.told.faults self.new.told.faults) }
     {
+        numbers_ascend();
         let mut marks = Marks::new(alloc);
         for i in 0..numbers.len() {
             let Some((number, length)) = numbers.get(i) else {

@@ -6,7 +6,7 @@ ghost use Rattle.first_run.specs.Desk.{hand_of, hand_at, hand_owes, owed, HandIs
 use crate::job::{InHand, Job, Stage};
 use nv_base::{
     Bytes, DeviceNumber, Entry, History, Instance, JobKind, Lengths, Mark, Marks, Refusal, Reply,
-    ReqResult, Request, Taken, bytes_of, number_of,
+    ReqResult, Request, Taken, bytes_of, number_of, numbers_ascend,
 };
 use std::alloc::{AllocError, Global};
 use std::marker::Model;
@@ -50,6 +50,7 @@ impl Model for Desk {
 fn length_of(lengths: &Lengths, number: DeviceNumber) -> Option<u16>
     ensures { IfSome result (IsConfigured lengths.now number) }
 {
+    numbers_ascend();
     let mut low = 0;
     let mut high = lengths.len();
     while low < high {
