@@ -10,21 +10,24 @@ use Rattle.block_states.specs.Shown.{state_of, states_of, shown_states, rooms_in
 use Rattle.block_states.specs.States.{KeptBlocks, state_at, changed_at, no_facts, with_facts, with_flags}
 
 -- a block of them
-at_states : (fs : List BlockFacts) (rs : List RamBlock) (id : ℕ) → length fs ≡ length rs → state_at (states_of fs rs) id ≡ state_of (get_or fs id no_facts) (get_or rs id no_ram)
+at_states : (fs : List BlockFacts) (rs : List RamBlock) (id : ℕ) → length fs ≡ length rs
+    → state_at (states_of fs rs) id ≡ state_of (get_or fs id no_facts) (get_or rs id no_ram)
 at_states [] [] id same = refl
 at_states [] (r ∷ rs) id same = absurd (omega (arith, same))
 at_states (f ∷ fs) [] id same = absurd (omega (arith, same))
 at_states (f ∷ fs) (r ∷ rs) zero same = refl
 at_states (f ∷ fs) (r ∷ rs) (suc id) same = at_states fs rs id (omega (arith, same))
 
-set_facts : (fs : List BlockFacts) (rs : List RamBlock) (id : ℕ) (f : BlockFacts) → states_of (slice_set fs id f) rs ≡ slice_set (states_of fs rs) id (state_of f (get_or rs id no_ram))
+set_facts : (fs : List BlockFacts) (rs : List RamBlock) (id : ℕ) (f : BlockFacts)
+    → states_of (slice_set fs id f) rs ≡ slice_set (states_of fs rs) id (state_of f (get_or rs id no_ram))
 set_facts [] rs id f = refl
 set_facts (x ∷ fs) [] zero f = refl
 set_facts (x ∷ fs) [] (suc id) f = refl
 set_facts (x ∷ fs) (r ∷ rs) zero f = refl
 set_facts (x ∷ fs) (r ∷ rs) (suc id) f = ap (λ ys. state_of x r ∷ ys) (set_facts fs rs id f)
 
-set_ram : (fs : List BlockFacts) (rs : List RamBlock) (id : ℕ) (r : RamBlock) → states_of fs (slice_set rs id r) ≡ slice_set (states_of fs rs) id (state_of (get_or fs id no_facts) r)
+set_ram : (fs : List BlockFacts) (rs : List RamBlock) (id : ℕ) (r : RamBlock)
+    → states_of fs (slice_set rs id r) ≡ slice_set (states_of fs rs) id (state_of (get_or fs id no_facts) r)
 set_ram [] rs id r = refl
 set_ram (f ∷ fs) [] id r = refl
 set_ram (f ∷ fs) (x ∷ rs) zero r = refl
@@ -32,33 +35,43 @@ set_ram (f ∷ fs) (x ∷ rs) (suc id) r = ap (λ ys. state_of f x ∷ ys) (set_
 
 -- WHAT IS SHOWN
 
-pub at_shown : (started : Bool) (fs : List BlockFacts) (rs : List RamBlock) (id : ℕ) → length fs ≡ length rs → started ≡ true → state_at (shown_states started fs rs) id ≡ state_of (get_or fs id no_facts) (get_or rs id no_ram)
+pub at_shown : (started : Bool) (fs : List BlockFacts) (rs : List RamBlock) (id : ℕ) → length fs ≡ length rs → started ≡ true
+    → state_at (shown_states started fs rs) id ≡ state_of (get_or fs id no_facts) (get_or rs id no_ram)
 at_shown true fs rs id same is = at_states fs rs id same
 at_shown false fs rs id same is = cc
 
 abbrev shown : Bool → List BlockFacts → List RamBlock → KeptBlocks
 shown started fs rs = record { states = shown_states started fs rs; rooms = rooms_in rs }
 
-pub facts_changed : (started : Bool) (fs : List BlockFacts) (rs : List RamBlock) (id : ℕ) (f : BlockFacts) → length fs ≡ length rs → shown started (slice_set fs id f) rs ≡ changed_at id (with_facts f) (shown started fs rs)
+pub facts_changed : (started : Bool) (fs : List BlockFacts) (rs : List RamBlock) (id : ℕ) (f : BlockFacts) → length fs ≡ length rs
+    → shown started (slice_set fs id f) rs ≡ changed_at id (with_facts f) (shown started fs rs)
 facts_changed false fs rs id f same = refl
 facts_changed true fs rs id f same =
-    ap (λ states. record { states = states; rooms = rooms_in rs }) (set_facts fs rs id f ∙ ap (λ b. slice_set (states_of fs rs) id (with_facts f b)) (sym (at_states fs rs id same)))
+    ap (λ states. record { states = states; rooms = rooms_in rs })
+    (set_facts fs rs id f ∙ ap (λ b. slice_set (states_of fs rs) id (with_facts f b)) (sym (at_states fs rs id same)))
 
 -- a change of RAM that leaves its length
-ram_changed : (started : Bool) (fs : List BlockFacts) (rs : List RamBlock) (id : ℕ) (r : RamBlock) (change : BlockState → BlockState) → length fs ≡ length rs → length r.content ≡ length (get_or rs id no_ram).content
-    → state_of (get_or fs id no_facts) r ≡ change (state_of (get_or fs id no_facts) (get_or rs id no_ram)) → shown started fs (slice_set rs id r) ≡ changed_at id change (shown started fs rs)
-ram_changed false fs rs id r change same long is = ap (λ rooms. record { states = []; rooms = rooms }) (map-set_same (λ (r : RamBlock). length r.content) rs id r no_ram long)
+ram_changed : (started : Bool) (fs : List BlockFacts) (rs : List RamBlock) (id : ℕ) (r : RamBlock) (change : BlockState → BlockState)
+    → length fs ≡ length rs → length r.content ≡ length (get_or rs id no_ram).content
+    → state_of (get_or fs id no_facts) r ≡ change (state_of (get_or fs id no_facts) (get_or rs id no_ram))
+    → shown started fs (slice_set rs id r) ≡ changed_at id change (shown started fs rs)
+ram_changed false fs rs id r change same long is = ap (λ rooms. record { states = []; rooms = rooms })
+    (map-set_same (λ (r : RamBlock). length r.content) rs id r no_ram long)
 ram_changed true fs rs id r change same long is =
     ap (λ rooms. record { states = states_of fs (slice_set rs id r); rooms = rooms }) (map-set_same (λ (r : RamBlock). length r.content) rs id r no_ram long)
-    ∙ ap (λ states. record { states = states; rooms = rooms_in rs }) (set_ram fs rs id r ∙ ap (slice_set (states_of fs rs) id) (is ∙ ap change (sym (at_states fs rs id same))))
+    ∙ ap (λ states. record { states = states; rooms = rooms_in rs })
+    (set_ram fs rs id r ∙ ap (slice_set (states_of fs rs) id) (is ∙ ap change (sym (at_states fs rs id same))))
 
 pub flags_changed : (started : Bool) (fs : List BlockFacts) (rs : List RamBlock) (id : ℕ) (flags : RamFlags) → length fs ≡ length rs
     → shown started fs (slice_set rs id (record (get_or rs id no_ram) { flags = flags })) ≡ changed_at id (with_flags flags) (shown started fs rs)
 flags_changed started fs rs id flags same = ram_changed started fs rs id (record (get_or rs id no_ram) { flags = flags }) (with_flags flags) same refl refl
 
-pub content_changed : (started : Bool) (fs : List BlockFacts) (rs : List RamBlock) (id : ℕ) (content : List ℕ) → length fs ≡ length rs → length content ≡ length (get_or rs id no_ram).content
-    → shown started fs (slice_set rs id (record (get_or rs id no_ram) { content = content })) ≡ changed_at id (λ b. record b { ram = content }) (shown started fs rs)
-content_changed started fs rs id content same long = ram_changed started fs rs id (record (get_or rs id no_ram) { content = content }) (λ b. record b { ram = content }) same long refl
+pub content_changed : (started : Bool) (fs : List BlockFacts) (rs : List RamBlock) (id : ℕ) (content : List ℕ) → length fs ≡ length rs
+    → length content ≡ length (get_or rs id no_ram).content
+    → shown started fs (slice_set rs id (record (get_or rs id no_ram) { content = content })) ≡ changed_at id
+    (λ b. record b { ram = content }) (shown started fs rs)
+content_changed started fs rs id content same long = ram_changed started fs rs id (record (get_or rs id no_ram) { content = content })
+    (λ b. record b { ram = content }) same long refl
 
 -- the room of a block's RAM
 pub room_at : (rs : List RamBlock) (id : ℕ) → get_or (rooms_in rs) id 0 ≡ length (get_or rs id no_ram).content
@@ -68,19 +81,11 @@ room_at (r ∷ rs) (suc id) = room_at rs id
 
 -- two changes of a block, one after the other
 set_twice : (states : List BlockState) (id : ℕ) (f g : BlockState → BlockState)
-    → slice_set (slice_set states id (f (state_at states id))) id (g (state_at (slice_set states id (f (state_at states id))) id)) ≡ slice_set states id (g (f (state_at states id)))
+    → slice_set (slice_set states id (f (state_at states id))) id
+    (g (state_at (slice_set states id (f (state_at states id))) id)) ≡ slice_set states id (g (f (state_at states id)))
 set_twice [] id f g = refl
 set_twice (b ∷ bs) zero f g = refl
 set_twice (b ∷ bs) (suc id) f g = ap (λ ys. b ∷ ys) (set_twice bs id f g)
 
 pub changed_twice : (id : ℕ) (f g : BlockState → BlockState) (k : KeptBlocks) → changed_at id g (changed_at id f k) ≡ changed_at id (λ b. g (f b)) k
 changed_twice id f g k = ap (λ states. record { states = states; rooms = k.rooms }) (set_twice k.states id f g)
-
--- no change
-set_nothing : (states : List BlockState) (id : ℕ) → slice_set states id (state_at states id) ≡ states
-set_nothing [] id = refl
-set_nothing (b ∷ bs) zero = refl
-set_nothing (b ∷ bs) (suc id) = ap (λ ys. b ∷ ys) (set_nothing bs id)
-
-pub unchanged : (id : ℕ) (k : KeptBlocks) → changed_at id (λ b. b) k ≡ k
-unchanged id k = ap (λ states. record { states = states; rooms = k.rooms }) (set_nothing k.states id)

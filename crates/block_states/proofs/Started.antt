@@ -26,7 +26,8 @@ zeros_by t n = length-replicate (if t then n else 0) 0
 -- RAM that was made is zeros already
 again : (k : ℕ) (ds : List BlockDesc) → map (λ (r : RamBlock). zeros (length r.content)) (rams_from k ds) ≡ rams_from k ds
 again k [] = refl
-again k (d ∷ ds) = ap (λ n. zeros n ∷ map (λ (r : RamBlock). zeros (length r.content)) (rams_from (k + 1) ds)) (zeros_by ((k == 1) || is_permanent d.ram) d.length) ∙ ap (λ ys. ram_of k d ∷ ys) (again (k + 1) ds)
+again k (d ∷ ds) = ap (λ n. zeros n ∷ map (λ (r : RamBlock). zeros (length r.content)) (rams_from (k + 1) ds))
+    (zeros_by ((k == 1) || is_permanent d.ram) d.length) ∙ ap (λ ys. ram_of k d ∷ ys) (again (k + 1) ds)
 
 fused : (rs : List RamBlock) → map (λ (r : RamBlock). zeros (length r.content)) rs ≡ map {A = ℕ} {B = RamBlock} (λ n. zeros n) (rooms_in rs)
 fused [] = refl
@@ -70,10 +71,13 @@ ram_by : (t : Bool) (n : ℕ) → replicate {A = ℕ} (if t then n else 0) 0 ≡
 ram_by true n = refl
 ram_by false n = refl
 
-one_started : (c : Configuration) (marks : List (Instance × Mark)) (k : ℕ) (d : BlockDesc) → desc_of c k ≡ d → state_of (started_facts marks k d) (ram_of k d) ≡ started_block c marks k d
-one_started c marks k d is = rw is (ap (λ (ram : List ℕ). state_of (started_facts marks k d) (record no_ram { content = ram })) (ram_by ((k == 1) || is_permanent d.ram) d.length))
+one_started : (c : Configuration) (marks : List (Instance × Mark)) (k : ℕ) (d : BlockDesc) → desc_of c k ≡ d
+    → state_of (started_facts marks k d) (ram_of k d) ≡ started_block c marks k d
+one_started c marks k d is = rw is (ap (λ (ram : List ℕ). state_of (started_facts marks k d) (record no_ram { content = ram }))
+    (ram_by ((k == 1) || is_permanent d.ram) d.length))
 
-all_started : (c : Configuration) (marks : List (Instance × Mark)) (ds : List BlockDesc) (fs : List BlockFacts) (k : ℕ) → length fs ≡ length ds → ((i : ℕ) → slice_get ds i ≡ block_of c (k + i))
+all_started : (c : Configuration) (marks : List (Instance × Mark)) (ds : List BlockDesc) (fs : List BlockFacts) (k : ℕ)
+    → length fs ≡ length ds → ((i : ℕ) → slice_get ds i ≡ block_of c (k + i))
     → ((i : ℕ) → i < length fs → get_or fs i no_facts ≡ started_by marks (k + i) (block_of c (k + i)))
     → states_of fs (rams_from k ds) ≡ map (λ x. started_block c marks x.0 x.1) (enumerate_from k ds)
 all_started c marks [] [] k same blocks each = refl
@@ -83,21 +87,28 @@ all_started c marks (d ∷ ds) (f ∷ fs) k same blocks each =
     let e : k + 0 ≡ k = omega arith in
     let here : Some d ≡ block_of c k = rw e at (blocks 0) in
     let first : f ≡ started_by marks k (block_of c k) = rw e at (each 0 (omega arith)) in
-    let head : state_of f (ram_of k d) ≡ started_block c marks k d = ap (λ x. state_of x (ram_of k d)) (first ∙ ap (started_by marks k) (sym here)) ∙ one_started c marks k d (ap (λ o. unwrap_or o (plain_block 0)) (sym here)) in
-    let rest = all_started c marks ds fs (k + 1) (omega (arith, same)) (λ i. let n : k + 1 + i ≡ k + suc i = omega arith in rw n (blocks (suc i))) (λ i below. let n : k + 1 + i ≡ k + suc i = omega arith in rw n (each (suc i) (omega arith))) in
+    let head : state_of f (ram_of k d) ≡ started_block c marks k d =
+    ap (λ x. state_of x (ram_of k d)) (first ∙ ap (started_by marks k) (sym here))
+    ∙ one_started c marks k d (ap (λ o. unwrap_or o (plain_block 0)) (sym here)) in
+    let rest = all_started c marks ds fs (k + 1) (omega (arith, same))
+    (λ i. let n : k + 1 + i ≡ k + suc i = omega arith in rw n (blocks (suc i)))
+    (λ i below. let n : k + 1 + i ≡ k + suc i = omega arith in rw n (each (suc i) (omega arith))) in
     ap (λ x. x ∷ states_of fs (rams_from (k + 1) ds)) head ∙ ap (λ ys. started_block c marks k d ∷ ys) rest
 
 pub started_are : (c : Configuration) (marks : List (Instance × Mark)) (fs : List BlockFacts) → length fs ≡ length c.blocks + 1
     → ((i : ℕ) → i < length fs → get_or fs i no_facts ≡ started_by marks i (block_of c i)) → states_of fs (kept_of c) ≡ started_blocks c marks
 started_are c marks [] same each = absurd (omega (arith, same))
 started_are c marks (f ∷ fs) same each =
-    let rest = all_started c marks c.blocks fs 1 (omega (arith, same)) (λ i. let n : 1 + i ≡ suc i = omega arith in rw n refl) (λ i below. let n : 1 + i ≡ suc i = omega arith in rw n (each (suc i) (omega arith))) in
+    let rest = all_started c marks c.blocks fs 1 (omega (arith, same)) (λ i. let n : 1 + i ≡ suc i = omega arith in rw n refl)
+    (λ i below. let n : 1 + i ≡ suc i = omega arith in rw n (each (suc i) (omega arith))) in
     ap (λ x. state_of x no_ram ∷ states_of fs (rams_from 1 c.blocks)) (each 0 (omega arith)) ∙ ap (λ ys. no_block ∷ ys) rest
 
 -- what is shown of them
-pub start_shown : (c : Configuration) (marks : List (Instance × Mark)) (fs : List BlockFacts) (old new : List RamBlock) → rooms_in old ≡ rooms_of c → new ≡ map (λ (r : RamBlock). zeros (length r.content)) old
+pub start_shown : (c : Configuration) (marks : List (Instance × Mark)) (fs : List BlockFacts) (old new : List RamBlock)
+    → rooms_in old ≡ rooms_of c → new ≡ map (λ (r : RamBlock). zeros (length r.content)) old
     → length fs ≡ length old → ((i : ℕ) → i < length fs → get_or fs i no_facts ≡ started_by marks i (block_of c i))
-    → let shown : KeptBlocks = record { states = states_of fs new; rooms = rooms_in new } in shown ≡ record { states = started_blocks c marks; rooms = rooms_in old }
+    → let shown : KeptBlocks = record { states = states_of fs new; rooms = rooms_in new } in
+    shown ≡ record { states = started_blocks c marks; rooms = rooms_in old }
 start_shown c marks fs old new same cleared long each =
     let is = cleared ∙ zeroed c old same in
     let count = rooms_count c old same in
@@ -114,11 +125,14 @@ or_assoc : (a b c : Bool) → (a || (b || c)) ≡ ((a || b) || c)
 or_assoc true b c = refl
 or_assoc false b c = refl
 
-any_next : {X : Type 0} (p : X → Bool) (xs : List X) (i : ℕ) → i < length xs → list_any p (take (suc i) xs) ≡ (list_any p (take i xs) || option_map_or p (slice_get xs i) false)
+any_next : {X : Type 0} (p : X → Bool) (xs : List X) (i : ℕ) → i < length xs
+    → list_any p (take (suc i) xs) ≡ (list_any p (take i xs) || option_map_or p (slice_get xs i) false)
 any_next p [] i below = absurd (omega arith)
 any_next p (x ∷ xs) zero below = or_false (p x)
-any_next p (x ∷ xs) (suc i) below = ap (λ b. p x || b) (any_next p xs i (omega arith)) ∙ or_assoc (p x) (list_any p (take i xs)) (option_map_or p (slice_get xs i) false)
+any_next p (x ∷ xs) (suc i) below = ap (λ b. p x || b) (any_next p xs i (omega arith))
+    ∙ or_assoc (p x) (list_any p (take i xs)) (option_map_or p (slice_get xs i) false)
 
-pub any_more : {X : Type 0} (p : X → Bool) (xs : List X) (i : ℕ) (so_far here : Bool) → i < length xs → so_far ≡ list_any p (take i xs) → here ≡ option_map_or p (slice_get xs i) false
+pub any_more : {X : Type 0} (p : X → Bool) (xs : List X) (i : ℕ) (so_far here : Bool) → i < length xs → so_far ≡ list_any p (take i xs)
+    → here ≡ option_map_or p (slice_get xs i) false
     → (so_far || here) ≡ list_any p (take (i + 1) xs)
 any_more p xs i so_far here below before is = rw (add-one i, before, is) (sym (any_next p xs i below))

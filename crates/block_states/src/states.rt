@@ -1,5 +1,5 @@
 // The blocks by id.
-ghost use Rattle.std.specs.Prelude.{◌≡◌, ◌&&◌, ◌||◌, true, [], length, get_or, IfOk, IfSome, option_copied, if◌then◌else◌};
+ghost use Rattle.std.specs.Prelude.{◌≡◌, ◌≤◌, ◌&&◌, ◌||◌, true, [], length, get_or, IfOk, IfSome, option_copied, if◌then◌else◌};
 ghost use Rattle.block_machine.specs.Blocks.{desc_of, keeps_ram};
 ghost use Rattle.block_machine.specs.Steps.{ended, flagged, protects};
 ghost use Rattle.block_states.specs.States.{rooms_of, state_at, changed_at, started_blocks, facts_of, with_facts, flags_of, with_flags, given_to};
@@ -60,7 +60,8 @@ impl BlockStates {
 
     /// What the RAM of a block holds, nothing where the manager keeps none.
     pub fn ram(&self, id: u16) -> &[u8]
-        ensures { result.now ≡ (state_at self.now.states id).ram }
+        ensures value { result.now ≡ (state_at self.now.states id).ram }
+        ensures room { length result.now ≤ get_or self.now.rooms id 0 }
     {
         if self.started { self.ram.get(id) } else { &[] }
     }

@@ -1,5 +1,5 @@
 -- What an accepted request has passed.
-use Rattle.std.proofs.Common.{◌≡◌, ◌≢◌, ℕ, ◌==◌, ◌+◌, ◌≤◌, ◌<◌, ◌||◌, not, Bool, true, false, cond, List, [], ◌∷◌, ◌++◌, refl, sym, Option, Some, None, is_some, find, nat_lt, length, get_or, ◌∙◌, arith}
+use Rattle.std.proofs.Common.{◌≡◌, ◌≢◌, ℕ, ◌==◌, ◌+◌, ◌≤◌, ◌||◌, not, Bool, true, false, cond, List, [], ◌∷◌, refl, sym, Option, Some, None, is_some, find, nat_lt, length, get_or, ◌∙◌, arith}
 use Rattle.std.specs.Option.{option_map_or}
 use Rattle.std.proofs.lemmas.Bool.{leb-true, ltb-false, eq-eqb, eqb-true}
 use Rattle.block_machine.specs.Words.{Configuration, Request, Read, Write, Restore, Erase, Invalidate, PutRam, ReadAll, WriteAll, Reply, Accepted, Refused, Refusal}
@@ -37,18 +37,65 @@ not_false false e = cc
 length_is : (a b : ℕ) → not (a == b) ≡ false → a ≡ b
 length_is a b e = eqb-true a b (not_false (a == b) e)
 
-pub job_accepted : (c : Configuration) (cap : ℕ) (s : State) (r : Request) → is_some (job_kind r) ≡ true → Accepted ≡ reply_of c cap s r → IsJobAccepted c cap s r
-job_accepted c cap s (Read block false) job is = let p = passed c cap s (Read block false) is in record { known = p.0; content = tt; free = p.1.1.1.0; queue = p.1.1.1.1.0; room = not_false _ p.1.1.1.1.1.0 }
-job_accepted c cap s (Read block true) job is = let p = passed c cap s (Read block true) is in record { known = p.0; content = tt; free = p.1.1.1.1.0; queue = p.1.1.1.1.1.0; room = not_false _ p.1.1.1.1.1.1.0 }
-job_accepted c cap s (Write block (Some content) store) job is = let p = passed c cap s (Write block (Some content) store) is in let e = length_is (length content) (desc_of c block).length p.1.1.1.0 in record { known = p.0; content = omega (arith, e); free = p.1.1.1.1.1.0; queue = p.1.1.1.1.1.1.1.1.1.0; room = not_false _ p.1.1.1.1.1.1.1.1.1.1.0 }
-job_accepted c cap s (Write block None store) job is = let p = passed c cap s (Write block None store) is in record { known = p.0; content = tt; free = p.1.1.1.1.1.0; queue = p.1.1.1.1.1.1.1.1.1.0; room = not_false _ p.1.1.1.1.1.1.1.1.1.1.0 }
-job_accepted c cap s (Restore block false) job is = let p = passed c cap s (Restore block false) is in record { known = p.0; content = tt; free = p.1.1.1.1.1.0; queue = p.1.1.1.1.1.1.0; room = not_false _ p.1.1.1.1.1.1.1.0 }
-job_accepted c cap s (Restore block true) job is = let p = passed c cap s (Restore block true) is in record { known = p.0; content = tt; free = p.1.1.1.1.1.1.0; queue = p.1.1.1.1.1.1.1.0; room = not_false _ p.1.1.1.1.1.1.1.1.0 }
-job_accepted c cap s (Erase block) job is = let p = passed c cap s (Erase block) is in record { known = p.0; content = tt; free = p.1.1.1.1.1.0; queue = p.1.1.1.1.1.1.1.1.1.0; room = not_false _ p.1.1.1.1.1.1.1.1.1.1.0 }
-job_accepted c cap s (Invalidate block) job is = let p = passed c cap s (Invalidate block) is in record { known = p.0; content = tt; free = p.1.1.1.1.0; queue = p.1.1.1.1.1.1.1.1.0; room = not_false _ p.1.1.1.1.1.1.1.1.1.0 }
+pub job_accepted : (c : Configuration) (cap : ℕ) (s : State) (r : Request) → is_some (job_kind r) ≡ true → Accepted ≡ reply_of c cap s r
+    → IsJobAccepted c cap s r
+job_accepted c cap s (Read block false) job is = let p = passed c cap s (Read block false) is in
+    record { known = p.0; content = tt; alone = p.1.1.0; free = p.1.1.1.0; room = not_false _ p.1.1.1.1.1.0 }
+job_accepted c cap s (Read block true) job is = let p = passed c cap s (Read block true) is in
+    record { known = p.0; content = tt; alone = p.1.1.1.0; free = p.1.1.1.1.0; room = not_false _ p.1.1.1.1.1.1.0 }
+job_accepted c cap s (Write block (Some content) store) job is = let p = passed c cap s (Write block (Some content) store) is in
+    let e = length_is (length content) (desc_of c block).length p.1.1.1.0 in
+    record {
+      known = p.0;
+      content = omega (arith, e);
+      alone = p.1.1.1.1.0;
+      free = p.1.1.1.1.1.0;
+      room = not_false _ p.1.1.1.1.1.1.1.1.1.1.0;
+    }
+job_accepted c cap s (Write block None store) job is = let p = passed c cap s (Write block None store) is in
+    record {
+      known = p.0;
+      content = tt;
+      alone = p.1.1.1.1.0;
+      free = p.1.1.1.1.1.0;
+      room = not_false _ p.1.1.1.1.1.1.1.1.1.1.0;
+    }
+job_accepted c cap s (Restore block false) job is = let p = passed c cap s (Restore block false) is in
+    record {
+      known = p.0;
+      content = tt;
+      alone = p.1.1.1.1.0;
+      free = p.1.1.1.1.1.0;
+      room = not_false _ p.1.1.1.1.1.1.1.0;
+    }
+job_accepted c cap s (Restore block true) job is = let p = passed c cap s (Restore block true) is in
+    record {
+      known = p.0;
+      content = tt;
+      alone = p.1.1.1.1.1.0;
+      free = p.1.1.1.1.1.1.0;
+      room = not_false _ p.1.1.1.1.1.1.1.1.0;
+    }
+job_accepted c cap s (Erase block) job is = let p = passed c cap s (Erase block) is in
+    record {
+      known = p.0;
+      content = tt;
+      alone = p.1.1.1.1.0;
+      free = p.1.1.1.1.1.0;
+      room = not_false _ p.1.1.1.1.1.1.1.1.1.1.0;
+    }
+job_accepted c cap s (Invalidate block) job is = let p = passed c cap s (Invalidate block) is in
+    record {
+      known = p.0;
+      content = tt;
+      alone = p.1.1.1.0;
+      free = p.1.1.1.1.0;
+      room = not_false _ p.1.1.1.1.1.1.1.1.1.0;
+    }
 job_accepted c cap s r job is = cc
 
-pub sweep_accepted : (c : Configuration) (cap : ℕ) (s : State) (writes : Bool) → Accepted ≡ reply_of c cap s (sweep_request writes) → IsSweepAccepted c cap s (sweep_request writes)
+pub sweep_accepted : (c : Configuration) (cap : ℕ) (s : State) (writes : Bool) → Accepted ≡ reply_of c cap s (sweep_request writes)
+    → IsSweepAccepted c cap s (sweep_request writes)
 sweep_accepted c cap s false is = let p = passed c cap s ReadAll is in record { alone = p.1.0; room = not_false _ p.1.1.0 }
 sweep_accepted c cap s true is = let p = passed c cap s WriteAll is in record { alone = p.1.0; room = not_false _ p.1.1.0 }
 
@@ -69,7 +116,8 @@ keeps : (a b : Bool) → not b ≡ false → (a || b) ≡ true
 keeps true b e = refl
 keeps false b e = not_false b e
 
-pub put_fits : RoomsHaveLengths → (c : Configuration) (cap : ℕ) (s : State) (block : ℕ) (content : List ℕ) → Accepted ≡ reply_of c cap s (PutRam block content) → length content ≡ get_or (rooms_of c) block 0
+pub put_fits : RoomsHaveLengths → (c : Configuration) (cap : ℕ) (s : State) (block : ℕ) (content : List ℕ)
+    → Accepted ≡ reply_of c cap s (PutRam block content) → length content ≡ get_or (rooms_of c) block 0
 put_fits law c cap s block content is =
     let p = passed c cap s (PutRam block content) is in
     length_is (length content) (desc_of c block).length p.1.1.1.0 ∙ sym (law c block (keeps (block == 1) (is_permanent (desc_of c block).ram) p.1.1.1.1.0))

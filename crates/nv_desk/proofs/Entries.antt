@@ -1,5 +1,5 @@
 -- One entry more.
-use Rattle.std.proofs.Common.{◌≡◌, ◌≢◌, ◌≤◌, ◌<◌, ℕ, ◌+◌, ◌-◌, ◌*◌, ◌^◌, List, [], ◌∷◌, ◌++◌, length, length-append, refl, sym, ap, ◌∙◌, subst, arith}
+use Rattle.std.proofs.Common.{◌≡◌, ◌≤◌, ℕ, ◌+◌, ◌-◌, ◌*◌, [], ◌∷◌, ◌++◌, length, length-append, ap, ◌∙◌, arith}
 use Rattle.nv_base.specs.History.{Listed}
 use Rattle.block_machine.specs.Words.{Configuration, Entry}
 use Rattle.block_machine.specs.State.{State}
@@ -15,7 +15,17 @@ use Rattle.nv_desk.specs.Desk.{IsKept}
 
 -- counts are never kept
 stepped : (c : Configuration) (k : Kept) (s : State) (e : Entry) → Agrees c k (changed_by c s e) → Agrees c k (step c s e)
-stepped c k s e h = record { started = h.started; off = h.off; blocks = h.blocks; jobs = h.jobs; sweep = h.sweep; rooms = h.rooms; places = h.places }
+stepped c k s e h = record {
+  started = h.started;
+  off = h.off;
+  blocks = h.blocks;
+  jobs = h.jobs;
+  sweep = h.sweep;
+  member = h.member;
+  alone = h.alone;
+  rooms = h.rooms;
+  places = h.places;
+}
 
 -- memory was taken for a history, and an entry added
 pub record IsPushed (old new : Listed) (e : Entry) (most : ℕ) : Type 0 where
@@ -23,7 +33,8 @@ pub record IsPushed (old new : Listed) (e : Entry) (most : ℕ) : Type 0 where
   pub cap : new.cap ≡ old.cap
   pub memory : most ≤ new.reserved
 
-pub pushed : (old mid new : Listed) (e : Entry) (left : ℕ) → record mid { reserved = old.reserved } ≡ old → left + 1 ≤ mid.reserved → new ≡ record mid { entries = mid.entries ++ e ∷ []; reserved = mid.reserved - 1 } → IsPushed old new e left
+pub pushed : (old mid new : Listed) (e : Entry) (left : ℕ) → record mid { reserved = old.reserved } ≡ old → left + 1 ≤ mid.reserved
+    → new ≡ record mid { entries = mid.entries ++ e ∷ []; reserved = mid.reserved - 1 } → IsPushed old new e left
 pushed old mid new e left same room is = record {
   entries = ap (λ (h : Listed). h.entries) is ∙ ap (λ (h : Listed). h.entries ++ e ∷ []) same;
   cap = ap (λ (h : Listed). h.cap) is ∙ ap (λ (h : Listed). h.cap) same;
@@ -38,8 +49,10 @@ pub entry_kept : HistoriesStep → (d : Inside) (h : Listed) (k : Kept) (r : Roo
     → length d.history.entries + 1 + most ≤ d.history.cap → 2 * most ≤ r.count → d.rooms.longest ≤ r.longest
     → IsKept (record d { history = h; kept = k; rooms = r })
 entry_kept steps d h k r e most is push agrees sound few fits rooms longest =
-    let next : after d.config h.entries ≡ step d.config (after d.config d.history.entries) e = ap (after d.config) push.entries ∙ steps d.config d.history.entries e in
-    let reserved : reserved_entries d.config (after d.config h.entries) ≡ reserved_entries d.config (changed_by d.config (after d.config d.history.entries) e) = ap (reserved_entries d.config) next in
+    let next : after d.config h.entries ≡ step d.config (after d.config d.history.entries) e = ap (after d.config) push.entries
+    ∙ steps d.config d.history.entries e in
+    let reserved : reserved_entries d.config (after d.config h.entries) ≡ reserved_entries d.config
+    (changed_by d.config (after d.config d.history.entries) e) = ap (reserved_entries d.config) next in
     let count : length h.entries ≡ length d.history.entries + 1 = ap length push.entries ∙ length-append d.history.entries (e ∷ []) in
     record {
       agrees = rw next (stepped d.config k (after d.config d.history.entries) e agrees);
@@ -49,24 +62,6 @@ entry_kept steps d h k r e most is push agrees sound few fits rooms longest =
       rooms = omega (arith, reserved, few, rooms);
       longest = λ id. omega (arith, is.longest id, longest);
       within = omega (arith, is.within, push.cap);
-      read_share = is.read_share;
-      write_share = is.write_share;
-    }
-
--- memory that was taken for nothing is kept
-pub memory_kept : (d : Inside) (h : Listed) (r : Roomy) → IsKept d → record h { reserved = d.history.reserved } ≡ d.history → d.history.reserved ≤ h.reserved → r.longest ≡ d.rooms.longest → d.rooms.count ≤ r.count
-    → IsKept (record d { history = h; rooms = r })
-memory_kept d h r is same stays long more =
-    let entries : h.entries ≡ d.history.entries = ap (λ (h : Listed). h.entries) same in
-    let cap : h.cap ≡ d.history.cap = ap (λ (h : Listed). h.cap) same in
-    record {
-      agrees = rw entries is.agrees;
-      sound = rw entries is.sound;
-      fits = rw (entries, cap) is.fits;
-      memory = rw entries (omega (arith, is.memory, stays));
-      rooms = rw entries (omega (arith, is.rooms, more));
-      longest = λ id. omega (arith, is.longest id, long);
-      within = omega (arith, is.within, cap);
       read_share = is.read_share;
       write_share = is.write_share;
     }

@@ -1,18 +1,13 @@
 -- A job that is accepted.
-use Rattle.std.proofs.Common.{◌≡◌, ◌≢◌, ◌≤◌, ◌<◌, ℕ, zero, suc, ◌+◌, ◌-◌, ◌^◌, Bool, true, false, if◌then◌else◌, List, [], ◌∷◌, ◌++◌, length, get_or, sum_by, option_to_list, Contains, IfSome, IsTrue, is_some, refl, sym, ap, ◌∙◌, subst, arith, Option, Some, None}
-use Rattle.std.specs.Option.{option_map_or}
-use Rattle.std.proofs.lemmas.Bool.{leb-false}
+use Rattle.std.proofs.Common.{◌≡◌, ◌≤◌, ◌<◌, ℕ, zero, suc, ◌+◌, ◌^◌, true, false, List, [], ◌∷◌, ◌++◌, length, get_or, sum_by, option_to_list, Contains, IfSome, IsTrue, is_some, refl, sym, ap, ◌∙◌, subst, arith, Option, Some, None}
 use Rattle.std.proofs.lemmas.List.Sums.{sum_by-append}
-use Rattle.block_machine.specs.Words.{Configuration, Pending, Entry, Ask, Request, JobKind, Accepted}
+use Rattle.block_machine.specs.Words.{Configuration, Pending, Ask, Request, JobKind, Accepted}
 use Rattle.block_machine.specs.State.{State, Job, Sweep, jobs_of}
-use Rattle.block_machine.specs.Blocks.{asked_block, asked_content, job_block, job_kind, is_immediate, is_pending, status_of, rank_of}
-use Rattle.block_machine.specs.Sweeps.{sweep_entries}
-use Rattle.block_machine.specs.Reply.{reserved_entries, is_queue_full, needed}
+use Rattle.block_machine.specs.Blocks.{asked_block, asked_content, job_block, job_kind, is_pending, status_of}
+use Rattle.block_machine.specs.Reply.{reserved_entries, needed}
 use Rattle.block_machine.specs.Steps.{step, accepted, accepted_by, job_at, with_status}
-use Rattle.machine_laws.specs.Consistent.{Each, IsConsistent, IsWaitingJob, IsJobInHand}
-use Rattle.pending_jobs.specs.Pending.{IsNew, unpicked_of, reserved_by}
-use Rattle.pending_jobs.specs.declared.unpicked.Unpicked.{Unpicked}
-use Rattle.pending_jobs.specs.Unpicked.{unpicked_in}
+use Rattle.machine_laws.specs.Consistent.{Each, IsConsistent, IsWaitingJob, IsJobInHand, IsPendingSweep}
+use Rattle.pending_jobs.specs.Pending.{IsNew, reserved_by}
 use Rattle.nv_desk.specs.Asks.{IsJobAccepted}
 use Rattle.nv_desk.specs.Kept.{Agrees}
 use Rattle.nv_desk.specs.Sound.{IsPendingJob, IsSound}
@@ -26,43 +21,37 @@ each_at P (y ∷ ys) x zero below is each = subst P is each.0
 each_at P (y ∷ ys) x (suc k) below is each = each_at P ys x k (omega arith) is each.1
 
 -- the numbers of jobs are below the count
-all_below : (c : Configuration) (s : State) (hand : Option Job) → s.hand ≡ hand → Each (IsWaitingJob c s.count) s.waiting → IfSome hand (IsJobInHand c s) → (x : Job) → Contains (option_to_list hand ++ s.waiting) x → x.number < s.count
+all_below : (c : Configuration) (s : State) (hand : Option Job) → s.hand ≡ hand → Each (IsWaitingJob c s.count) s.waiting
+    → IfSome hand (IsJobInHand c s) → (x : Job) → Contains (option_to_list hand ++ s.waiting) x → x.number < s.count
 all_below c s None is waiting held x at = (each_at (IsWaitingJob c s.count) s.waiting x at.0 at.1 at.2 waiting).number
 all_below c s (Some h) is waiting held x (zero, below, at) = subst (λ (j : Job). j.number < s.count) at held.number
 all_below c s (Some h) is waiting held x (suc k, below, at) = (each_at (IsWaitingJob c s.count) s.waiting x k (omega (arith, below)) at waiting).number
 
-pub new_job : (c : Configuration) (cap : ℕ) (s : State) (r : Request) (j : Job) → IsSound c s → IsJobAccepted c cap s r → job_block j ≡ asked_block r → j.number ≡ s.count → IsNew j s.waiting s.hand
+pub new_job : (c : Configuration) (cap : ℕ) (s : State) (r : Request) (j : Job) → IsSound c s → IsJobAccepted c cap s r
+    → job_block j ≡ asked_block r → j.number ≡ s.count → IsNew j s.waiting s.hand
 new_job c cap s r j sound passed block number x at = record {
-  block = λ e. let same : job_block x ≡ asked_block r = e ∙ block in cc ((each_at (IsPendingJob c s) (jobs_of s) x at.0 at.1 at.2 sound.jobs).pending, same, passed.free);
+  block = λ e. let same : job_block x ≡ asked_block r = e ∙ block in
+      cc ((each_at (IsPendingJob c s) (jobs_of s) x at.0 at.1 at.2 sound.jobs).pending, same, passed.free);
   number = λ e. let low = all_below c s s.hand refl sound.consistent.waiting sound.consistent.hand x at in absurd (omega (arith, low, e, number));
 }
 
--- its queue has room
-unpicked_room : (c : Configuration) (jobs : List Job) (b : Bool) (u : Unpicked) → u ≡ unpicked_of c jobs → is_queue_full c jobs b ≡ false → unpicked_in b u < (if b then c.immediate else c.standard)
-unpicked_room c jobs true u is room = rw is (leb-false c.immediate _ room)
-unpicked_room c jobs false u is room = rw is (leb-false c.standard _ room)
-
-sizes : (b : Bool) (x y n : ℕ) → n < (if b then x else y) → x ≤ 256 → y ≤ 256 → n < 2 ^ 16 - 1
-sizes true x y n a bx by_ = omega (arith, a, bx)
-sizes false x y n a bx by_ = omega (arith, a, by_)
-
-pub queue_room : (c : Configuration) (cap : ℕ) (s : State) (r : Request) (u : Unpicked) (b : Bool) → u ≡ unpicked_of c s.waiting → IsJobAccepted c cap s r → b ≡ is_immediate c r → c.standard ≤ 256 → c.immediate ≤ 256
-    → unpicked_in b u < 2 ^ 16 - 1
-queue_room c cap s r u b is passed same standard immediate = rw same (sizes (is_immediate c r) c.immediate c.standard _ (unpicked_room c s.waiting (is_immediate c r) u is passed.queue) immediate standard)
-
 -- what it changes, and what it reserves
-pub accepted_job : (c : Configuration) (s : State) (r : Request) (kind : Option JobKind) → job_kind r ≡ kind → is_some kind ≡ true → accepted c s r ≡ record (with_status (asked_block r) Pending s) { waiting = s.waiting ++ job_at c s.count r ∷ [] }
+pub accepted_job : (c : Configuration) (s : State) (r : Request) (kind : Option JobKind) → job_kind r ≡ kind → is_some kind ≡ true
+    → accepted c s r ≡ record (with_status (asked_block r) Pending s) { waiting = s.waiting ++ job_at c s.count r ∷ [] }
 accepted_job c s r (Some kind) is some = ap (accepted_by c s r) is
 accepted_job c s r None is some = cc
 
-by_hand : (c : Configuration) (hand : Option Job) (waiting : List Job) (j : Job) → sum_by (λ (j : Job). j.reserved) (option_to_list hand ++ (waiting ++ j ∷ [])) ≡ sum_by (λ (j : Job). j.reserved) (option_to_list hand ++ waiting) + j.reserved
+by_hand : (c : Configuration) (hand : Option Job) (waiting : List Job) (j : Job)
+    → sum_by (λ (j : Job). j.reserved) (option_to_list hand ++ (waiting ++ j ∷ [])) ≡ sum_by (λ (j : Job). j.reserved)
+    (option_to_list hand ++ waiting) + j.reserved
 by_hand c hand waiting j =
     let a = sum_by-append (λ (j : Job). j.reserved) (option_to_list hand) (waiting ++ j ∷ []) in
     let b = sum_by-append (λ (j : Job). j.reserved) waiting (j ∷ []) in
     let d = sum_by-append (λ (j : Job). j.reserved) (option_to_list hand) waiting in
     omega (arith, a, b, d)
 
-pub job_reserves : (c : Configuration) (s : State) (r : Request) → is_some (job_kind r) ≡ true → reserved_entries c (accepted c s r) ≡ reserved_entries c s + needed c r
+pub job_reserves : (c : Configuration) (s : State) (r : Request) → is_some (job_kind r) ≡ true
+    → reserved_entries c (accepted c s r) ≡ reserved_entries c s + needed c r
 job_reserves c s r some = rw (accepted_job c s r (job_kind r) refl some) (omega (arith, by_hand c s.hand s.waiting (job_at c s.count r)))
 
 -- the jobs that wait are among those that entries are reserved for
@@ -72,22 +61,44 @@ waiting_reserves c s = let d = sum_by-append (λ (j : Job). j.reserved) (option_
 -- the entries fit into a number
 pub few_entries : (c : Configuration) (cap : ℕ) (s : State) (r : Request) → cap < 2 ^ 32 → IsJobAccepted c cap s r
     → (reserved_entries c s + needed c r + 1 < 2 ^ 32) × (reserved_by s.waiting + needed c r < 2 ^ 32)
-few_entries c cap s r within passed = let room = room_of c cap s (1 + needed c r) passed.room in (omega (arith, room, within), omega (arith, room, within, waiting_reserves c s))
+few_entries c cap s r within passed = let room = room_of c cap s (1 + needed c r) passed.room in
+    (omega (arith, room, within), omega (arith, room, within, waiting_reserves c s))
 
 -- the job that is made is the machine's
-pub job_is : (c : Configuration) (n number reserved : ℕ) (r request : Request) (j : Job) → j ≡ record { number = number; request = request; member = false; content = asked_content request; reserved = reserved; taken = None; written = [] }
+pub job_is : (c : Configuration) (n number reserved : ℕ) (r request : Request) (j : Job)
+    → j ≡ record {
+      number = number;
+      request = request;
+      member = false;
+      content = asked_content request;
+      reserved = reserved;
+      taken = None;
+      written = [];
+    }
     → number ≡ n → request ≡ r → reserved ≡ needed c r → j ≡ job_at c n r
 job_is c n number reserved r request j is numbered same need = rw (is, numbered, same, need) refl
 
 pub job_agrees : (c : Configuration) (k : Kept) (s : State) (r : Request) (j : Job) → is_some (job_kind r) ≡ true → j ≡ job_at c s.count r
     → Agrees c k (record (with_status (job_block j) Pending s) { waiting = s.waiting ++ j ∷ [] }) → Agrees c k (accepted c s r)
-job_agrees c k s r j some is h = rw (accepted_job c s r (job_kind r) refl some) (subst (λ x. Agrees c k (record (with_status (job_block x) Pending s) { waiting = s.waiting ++ x ∷ [] })) is h)
+job_agrees c k s r j some is h = rw (accepted_job c s r (job_kind r) refl some)
+    (subst (λ x. Agrees c k (record (with_status (job_block x) Pending s) { waiting = s.waiting ++ x ∷ [] })) is h)
 
 -- and the state stays sound
-pub job_sound : (c : Configuration) (cap : ℕ) (s : State) (caller : ℕ) (r : Request) → IsSound c s → IsConsistent c (step c s (Ask caller r Accepted)) → is_some (job_kind r) ≡ true → IsTrue s.started → IsJobAccepted c cap s r
+pub job_sound : (c : Configuration) (cap : ℕ) (s : State) (caller : ℕ) (r : Request) → IsSound c s
+    → IsConsistent c (step c s (Ask caller r Accepted)) → is_some (job_kind r) ≡ true → IsTrue s.started → IsJobAccepted c cap s r
     → IsSound c (step c s (Ask caller r Accepted))
 job_sound c cap s caller r sound consistent some started passed =
     let is = accepted_job c s r (job_kind r) refl some in
     let known = known_of (length c.blocks) (asked_block r) passed.known in
     subst (λ (x : State). IsSound c (record x { count = s.count + 1; ops = s.ops })) (sym is)
-    (sound_job c s (asked_block r) (s.count + 1) s.ops (job_at c s.count r) sound (subst (λ (x : State). IsConsistent c (record x { count = s.count + 1; ops = s.ops })) is consistent) refl (omega (arith, known.1, sound.places started)) passed.content)
+    (sound_job c s (asked_block r) (s.count + 1) s.ops (job_at c s.count r) sound
+    (subst (λ (x : State). IsConsistent c (record x { count = s.count + 1; ops = s.ops })) is consistent) refl
+    (omega (arith, known.1, sound.places started)) passed.content)
+
+none_by : (s : State) (o : Option Sweep) → IfSome o (IsPendingSweep s) → is_pending (status_of s 0) ≡ false → o ≡ None
+none_by s None h off = refl
+none_by s (Some sw) h off = cc (h.pending, off)
+
+-- while id 0 isn't PENDING there is no request on all blocks
+pub no_sweep : (c : Configuration) (s : State) → IsConsistent c s → is_pending (status_of s 0) ≡ false → s.sweep ≡ None
+no_sweep c s h off = none_by s s.sweep h.sweep off

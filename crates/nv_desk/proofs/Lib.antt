@@ -1,7 +1,12 @@
+pub mod AllBlocks
 pub mod Asks
+pub mod Drivers
 pub mod Entries
 pub mod Jobs
 pub mod Lengths
+pub mod Members
+pub mod Picks
 pub mod Requests
 pub mod Sound
+pub mod SoundDriver
 pub mod SweepEntries

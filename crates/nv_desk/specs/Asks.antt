@@ -2,15 +2,15 @@
 use Rattle.std.specs.Prelude.{◌≡◌, ℕ, ◌+◌, ◌==◌, ◌||◌, nat_lt, ◌≤◌, true, false, length, IfSome}
 use Rattle.block_machine.specs.Words.{Configuration, Request}
 use Rattle.block_machine.specs.State.{State}
-use Rattle.block_machine.specs.Blocks.{desc_of, status_of, is_pending, asked_block, asked_content, is_immediate}
-use Rattle.block_machine.specs.Reply.{is_queue_full, needed, fits}
+use Rattle.block_machine.specs.Blocks.{desc_of, status_of, is_pending, asked_block, asked_content}
+use Rattle.block_machine.specs.Reply.{needed, fits}
 
 -- one that makes a job on a block
 pub record IsJobAccepted (c : Configuration) (cap : ℕ) (s : State) (r : Request) : Type 0 where
   pub known : ((asked_block r == 0) || nat_lt (length c.blocks) (asked_block r)) ≡ false
   pub content : IfSome (asked_content r) (λ x. length x.0 ≤ (desc_of c (asked_block r)).length)
+  pub alone : is_pending (status_of s 0) ≡ false
   pub free : is_pending (status_of s (asked_block r)) ≡ false
-  pub queue : is_queue_full c s.waiting (is_immediate c r) ≡ false
   pub room : fits c cap s (1 + needed c r) ≡ true
 
 -- one on all blocks

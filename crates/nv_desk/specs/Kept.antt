@@ -1,11 +1,11 @@
 -- What is kept, against the machine's state.
-use Rattle.std.specs.Prelude.{◌≡◌, ℕ, ◌+◌, IsTrue, List, length, get_or}
+use Rattle.std.specs.Prelude.{◌≡◌, ℕ, ◌+◌, List, length, get_or}
 use Rattle.block_machine.specs.Words.{Configuration, Request, SetIndex, SetProtection, SetLock, SetRam, PutRam, GetIndex, Status, CancelWriteAll}
 use Rattle.block_machine.specs.State.{State}
 use Rattle.block_states.specs.States.{rooms_of}
 use Rattle.pending_jobs.specs.Pending.{Agree}
 use Rattle.nv_desk.specs.declared.kept.Kept.{Kept}
-use Rattle.nv_desk.specs.Pending.{AreSweeps}
+use Rattle.nv_desk.specs.Pending.{AreSweeps, IsMember, IsAlone}
 
 pub record Agrees (c : Configuration) (k : Kept) (s : State) : Type 0 where
   pub started : k.started ≡ s.started
@@ -13,6 +13,8 @@ pub record Agrees (c : Configuration) (k : Kept) (s : State) : Type 0 where
   pub blocks : k.blocks.states ≡ s.blocks
   pub jobs : Agree c k.jobs s.waiting s.hand
   pub sweep : AreSweeps c k.sweep s.sweep
+  pub member : IsMember c s.hand k.sweep s.sweep
+  pub alone : IsAlone s.waiting s.sweep
   -- there is room for the RAM of each block, and a place for its job
   pub rooms : k.blocks.rooms ≡ rooms_of c
   pub places : length k.jobs.slots ≡ length c.blocks + 1

@@ -1,5 +1,5 @@
 -- What the machine's state keeps through each entry, whatever the device finds.
-use Rattle.std.specs.Prelude.{◌≡◌, ◌≤◌, ℕ, ◌+◌, true, IsTrue, IfSome, length}
+use Rattle.std.specs.Prelude.{◌≡◌, ◌≤◌, ◌+◌, true, IsTrue, IfSome, length}
 use Rattle.block_machine.specs.Words.{Configuration}
 use Rattle.block_machine.specs.State.{State, Job, jobs_of}
 use Rattle.block_machine.specs.Blocks.{desc_of, job_block, status_of, is_pending}

@@ -140,7 +140,10 @@ impl Desk {
         content: Bytes,
     ) -> Result<(), AllocError>
         requires { IsAllowed self.old.config self.old.cap (state_of self.old) (Entry.Ask caller (Request.PutRam block content) Reply.Accepted) }
-        ensures ok { OnOk result (self.new ≡ record self.old { entries = self.old.entries ++ Entry.Ask caller (Request.PutRam block content) Reply.Accepted ∷ [] }) }
+        ensures ok { OnOk result (self.new ≡ record self.old {
+          entries =
+              self.old.entries ++ Entry.Ask caller (Request.PutRam block content) Reply.Accepted ∷ [];
+        }) }
         ensures err { OnErr result (self.new ≡ self.old) }
     {
         rooms_have_lengths();

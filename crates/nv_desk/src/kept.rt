@@ -82,7 +82,8 @@ impl Kept {
         requires known { job_block job < length self.old.jobs.slots }
         requires room { unpicked_in (rank_of config.now job).immediate self.old.jobs.unpicked < 2 ^ 16 - 1 }
         requires reserved { self.old.jobs.reserved + job.reserved < 2 ^ 32 }
-        ensures { (s : State) → Agrees config.now self.old s → IsNew job s.waiting s.hand → job.taken ≡ None → Agrees config.now self.new (record (with_status (job_block job) Pending s) { waiting = s.waiting ++ job ∷ [] }) }
+        ensures { (s : State) → Agrees config.now self.old s → IsNew job s.waiting s.hand → job.taken ≡ None → s.sweep ≡ None
+            → Agrees config.now self.new (record (with_status (job_block job) Pending s) { waiting = s.waiting ++ job ∷ [] }) }
     {
         self.blocks.set_status(job.block(), ReqResult::Pending);
         self.jobs.accept(config, job);
@@ -90,7 +91,8 @@ impl Kept {
 
     /// A request on all blocks begins to be pending.
     pub fn begin_sweep(&mut self, number: u32, writes: bool, entries: u32)
-        ensures { (c : Configuration) (s : State) → Agrees c self.old s → s.count ≡ number → entries ≡ sweep_entries c (sweep_at c 0 writes) → Agrees c self.new (with_sweep c s writes) }
+        ensures { (c : Configuration) (s : State) → Agrees c self.old s → s.count ≡ number → entries ≡ sweep_entries c (sweep_at c 0 writes)
+            → Agrees c self.new (with_sweep c s writes) }
     {
         self.blocks.set_status(0, ReqResult::Pending);
         self.sweep = Some(PendingSweep::accepted(number, writes, entries));

@@ -30,8 +30,8 @@ fn entries_on(config: &Config, writes: bool, id: u16) -> u32
     }
 }
 
-// The entries of a member: its Pick, a Wrote for each record of a write, and its Post.
-fn member_entries(config: &Config, writes: bool, id: u16) -> u32
+/// The entries of a member: its Pick, a Wrote for each record of a write, and its Post.
+pub fn member_entries(config: &Config, writes: bool, id: u16) -> u32
     ensures value { result ≡ member_entries config.now writes id }
     ensures few { result ≤ 4 }
 {

@@ -1,4 +1,4 @@
-use Rattle.std.proofs.Common.{◌+◌, ap, arith, sym}
+use Rattle.std.proofs.Common.{◌+◌, arith}
 use Rattle.block_machine.specs.Words.{Ask, Accepted}
 use Rattle.block_machine.specs.Steps.{after}
 use Rattle.block_states.specs.States.{rooms_of}
@@ -20,7 +20,8 @@ invariant_of-self-2 c =
     entry_kept c.histories_grow.ensures.steps d c.add.new.self c.change.new.self c.take_memory.new.rooms e c.reserved-reserved.result c.self.invariant
     (pushed d.history c.take_memory.new.history c.add.new.self e c.reserved-reserved.result c.take_memory.ensures.same c.in_ok-take_memory.ensures.entries c.add.ensures)
     (c.change.ensures d.config s c.self.invariant.agrees)
-    (sound_change d.config s c.args.request (rooms_of d.config) (s.count + 1) s.ops c.self.invariant.sound kind (c.legal_states_are_consistent.ensures.steps d.config d.history.cap s e c.self.invariant.sound.consistent allowed))
+    (sound_change d.config s c.args.request (rooms_of d.config) (s.count + 1) s.ops c.self.invariant.sound kind
+    (c.legal_states_are_consistent.ensures.steps d.config d.history.cap s e c.self.invariant.sound.consistent allowed))
     (omega (arith, value, change_reserves d.config s (rooms_of d.config) c.args.request kind))
     (omega (arith, room, value, c.histories_grow.ensures.counted d.config d.history.entries))
     c.in_ok-take_memory.ensures.contents

@@ -1,4 +1,4 @@
-use Rattle.std.proofs.Common.{◌+◌, ◌∙◌, ap, arith, length, refl, sym}
+use Rattle.std.proofs.Common.{◌+◌, ◌∙◌, ap, arith, length, sym}
 use Rattle.nv_base.specs.History.{Listed}
 use Rattle.block_machine.specs.Words.{Ask, Accepted}
 use Rattle.block_machine.specs.State.{Job}
@@ -6,7 +6,7 @@ use Rattle.block_machine.specs.Blocks.{job_block}
 use Rattle.block_machine.specs.Reply.{needed}
 use Rattle.block_machine.specs.Steps.{after}
 use Rattle.nv_desk.proofs.Asks.{job_accepted, room_of}
-use Rattle.nv_desk.proofs.Jobs.{new_job, few_entries, job_is, job_agrees, job_reserves, job_sound}
+use Rattle.nv_desk.proofs.Jobs.{new_job, few_entries, job_is, job_agrees, job_reserves, job_sound, no_sweep}
 use Rattle.nv_desk.proofs.Entries.{pushed, entry_kept}
 use Rattle.nv_desk.proofs.desk.Desk.accept_job.Goals as goal
 
@@ -15,7 +15,8 @@ overflow_add-reserved c =
     let d = c.self.inside in
     let s = after d.config d.history.entries in
     let allowed = rw (← c.self.view_is) at c.requires.allowed in
-    let few = few_entries d.config d.history.cap s c.args.request c.self.invariant.within (job_accepted d.config d.history.cap s c.args.request c.requires.kind allowed.replies) in
+    let few = few_entries d.config d.history.cap s c.args.request c.self.invariant.within
+    (job_accepted d.config d.history.cap s c.args.request c.requires.kind allowed.replies) in
     let need = rw (← c.self.view_is) at c.needed-needed.ensures in
     omega (arith, few.0, need, c.reserved.ensures.value d.config s c.self.invariant.agrees)
 
@@ -24,7 +25,8 @@ take_memory-requires c =
     let d = c.self.inside in
     let s = after d.config d.history.entries in
     let allowed = rw (← c.self.view_is) at c.requires.allowed in
-    let few = few_entries d.config d.history.cap s c.args.request c.self.invariant.within (job_accepted d.config d.history.cap s c.args.request c.requires.kind allowed.replies) in
+    let few = few_entries d.config d.history.cap s c.args.request c.self.invariant.within
+    (job_accepted d.config d.history.cap s c.args.request c.requires.kind allowed.replies) in
     let need = rw (← c.self.view_is) at c.needed-needed.ensures in
     omega (arith, few.0, need, c.reserved.ensures.value d.config s c.self.invariant.agrees)
 
@@ -33,7 +35,8 @@ accept-requires-clause-reserved c =
     let d = c.self.inside in
     let s = after d.config d.history.entries in
     let allowed = rw (← c.self.view_is) at c.requires.allowed in
-    let few = few_entries d.config d.history.cap s c.args.request c.self.invariant.within (job_accepted d.config d.history.cap s c.args.request c.requires.kind allowed.replies) in
+    let few = few_entries d.config d.history.cap s c.args.request c.self.invariant.within
+    (job_accepted d.config d.history.cap s c.args.request c.requires.kind allowed.replies) in
     let need = rw (← c.self.view_is) at c.needed-needed.ensures in
     omega (arith, few.1, need, c.self.invariant.agrees.jobs.reserved, ap (λ (j : Job). j.reserved) c.accepted-job.ensures)
 
@@ -45,15 +48,22 @@ invariant_of-self-2 c =
     let need = rw (← c.self.view_is) at c.needed-needed.ensures in
     let value = c.reserved.ensures.value d.config s c.self.invariant.agrees in
     let passed = job_accepted d.config d.history.cap s c.args.request c.requires.kind allowed.replies in
-    let count = c.len.ensures.count ∙ ap (λ (h : Listed). length h.entries) c.take_memory.ensures.same ∙ sym (c.histories_grow.ensures.counted d.config d.history.entries) in
+    let count = c.len.ensures.count ∙ ap (λ (h : Listed). length h.entries) c.take_memory.ensures.same
+    ∙ sym (c.histories_grow.ensures.counted d.config d.history.entries) in
     let job = job_is d.config s.count c.len.result c.needed-needed.result c.args.request c.in_ok-asked_for.asked_for c.accepted-job.result c.accepted-job.ensures count c.in_ok-asked_for.ensures need in
     let e = Ask c.args.caller c.args.request Accepted in
     let room = room_of d.config d.history.cap s (1 + needed d.config c.args.request) passed.room in
-    let new = new_job d.config d.history.cap s c.args.request c.accepted-job.result c.self.invariant.sound passed (ap job_block job) (ap (λ (j : Job). j.number) job) in
-    entry_kept c.histories_grow.ensures.steps d c.add.new.self c.accept.new.self c.take_memory.new.rooms e (c.reserved.result + c.needed-needed.result) c.self.invariant
-    (pushed d.history c.take_memory.new.history c.add.new.self e (c.reserved.result + c.needed-needed.result) c.take_memory.ensures.same c.in_ok-take_memory.ensures.entries c.add.ensures)
-    (job_agrees d.config c.accept.new.self s c.args.request c.accepted-job.result c.requires.kind job (c.accept.ensures s c.self.invariant.agrees new (ap (λ (j : Job). j.taken) job)))
-    (job_sound d.config d.history.cap s c.args.caller c.args.request c.self.invariant.sound (c.legal_states_are_consistent.ensures.steps d.config d.history.cap s e c.self.invariant.sound.consistent allowed) c.requires.kind allowed.started passed)
+    let new = new_job d.config d.history.cap s c.args.request c.accepted-job.result c.self.invariant.sound passed (ap job_block job)
+    (ap (λ (j : Job). j.number) job) in
+    let none = no_sweep d.config s c.self.invariant.sound.consistent passed.alone in
+    entry_kept c.histories_grow.ensures.steps d c.add.new.self c.accept.new.self c.take_memory.new.rooms e
+    (c.reserved.result + c.needed-needed.result) c.self.invariant
+    (pushed d.history c.take_memory.new.history c.add.new.self e
+    (c.reserved.result + c.needed-needed.result) c.take_memory.ensures.same c.in_ok-take_memory.ensures.entries c.add.ensures)
+    (job_agrees d.config c.accept.new.self s c.args.request c.accepted-job.result c.requires.kind job
+    (c.accept.ensures s c.self.invariant.agrees new (ap (λ (j : Job). j.taken) job) none))
+    (job_sound d.config d.history.cap s c.args.caller c.args.request c.self.invariant.sound
+    (c.legal_states_are_consistent.ensures.steps d.config d.history.cap s e c.self.invariant.sound.consistent allowed) c.requires.kind allowed.started passed)
     (omega (arith, job_reserves d.config s c.args.request c.requires.kind, value, need))
     (omega (arith, room, value, need, c.histories_grow.ensures.counted d.config d.history.entries))
     c.in_ok-take_memory.ensures.contents

@@ -1,4 +1,4 @@
-use Rattle.std.proofs.Common.{◌+◌, ◌∙◌, ap, arith, length, refl, sym}
+use Rattle.std.proofs.Common.{◌+◌, ◌∙◌, ap, arith, length, sym}
 use Rattle.nv_base.specs.History.{Listed}
 use Rattle.block_machine.specs.Words.{Ask, Accepted}
 use Rattle.block_machine.specs.Reply.{needed}
@@ -17,13 +17,19 @@ invariant_of-self-2 c =
     let need = (rw (← c.self.view_is) at c.needed-needed.ensures) ∙ ap (needed d.config) c.sweep_request-request.ensures in
     let value = c.reserved.ensures.value d.config s c.self.invariant.agrees in
     let passed = sweep_accepted d.config d.history.cap s c.args.writes allowed.replies in
-    let count = c.len.ensures.count ∙ ap (λ (h : Listed). length h.entries) c.take_memory.ensures.same ∙ sym (c.histories_grow.ensures.counted d.config d.history.entries) in
+    let count = c.len.ensures.count ∙ ap (λ (h : Listed). length h.entries) c.take_memory.ensures.same
+    ∙ sym (c.histories_grow.ensures.counted d.config d.history.entries) in
     let e = Ask c.args.caller (sweep_request c.args.writes) Accepted in
     let room = room_of d.config d.history.cap s (1 + needed d.config (sweep_request c.args.writes)) passed.room in
-    entry_kept c.histories_grow.ensures.steps d c.add.new.self c.begin_sweep.new.self c.take_memory.new.rooms e (c.reserved.result + c.needed-needed.result) c.self.invariant
-    (pushed d.history c.take_memory.new.history c.add.new.self e (c.reserved.result + c.needed-needed.result) c.take_memory.ensures.same c.in_ok-take_memory.ensures.entries (rw c.sweep_request-request.ensures at c.add.ensures))
-    (sweep_agrees d.config c.begin_sweep.new.self s c.args.writes (c.begin_sweep.ensures d.config s c.self.invariant.agrees (sym count) (need ∙ needed_sweep d.config c.args.writes)))
-    (sweep_sound d.config s c.args.caller c.args.writes c.self.invariant.sound (c.legal_states_are_consistent.ensures.steps d.config d.history.cap s e c.self.invariant.sound.consistent allowed))
+    entry_kept c.histories_grow.ensures.steps d c.add.new.self c.begin_sweep.new.self c.take_memory.new.rooms e
+    (c.reserved.result + c.needed-needed.result) c.self.invariant
+    (pushed d.history c.take_memory.new.history c.add.new.self e
+    (c.reserved.result + c.needed-needed.result) c.take_memory.ensures.same c.in_ok-take_memory.ensures.entries
+    (rw c.sweep_request-request.ensures at c.add.ensures))
+    (sweep_agrees d.config c.begin_sweep.new.self s c.args.writes
+    (c.begin_sweep.ensures d.config s c.self.invariant.agrees (sym count) (need ∙ needed_sweep d.config c.args.writes)))
+    (sweep_sound d.config s c.args.caller c.args.writes c.self.invariant.sound
+    (c.legal_states_are_consistent.ensures.steps d.config d.history.cap s e c.self.invariant.sound.consistent allowed))
     (omega (arith, sweep_reserves d.config d.history.cap s c.args.writes c.self.invariant.sound passed, value, need))
     (omega (arith, room, value, need, c.histories_grow.ensures.counted d.config d.history.entries))
     c.in_ok-take_memory.ensures.contents

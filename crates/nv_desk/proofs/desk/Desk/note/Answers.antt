@@ -1,8 +1,7 @@
-use Rattle.std.proofs.Common.{◌+◌, ap, arith, sym}
+use Rattle.std.proofs.Common.{ap, arith}
 use Rattle.block_machine.specs.Words.{Ask}
 use Rattle.block_machine.specs.Reply.{reserved_entries}
 use Rattle.block_machine.specs.Steps.{after}
-use Rattle.nv_desk.specs.Kept.{Agrees}
 use Rattle.nv_desk.proofs.Asks.{room_of}
 use Rattle.nv_desk.proofs.Requests.{same_sound}
 use Rattle.nv_desk.proofs.Entries.{pushed, entry_kept}
@@ -20,7 +19,8 @@ invariant_of-self-2 c =
     entry_kept c.histories_grow.ensures.steps d c.add.new.self d.kept c.take_memory.new.rooms e c.reserved-reserved.result c.self.invariant
     (pushed d.history c.take_memory.new.history c.add.new.self e c.reserved-reserved.result c.take_memory.ensures.same c.in_ok-take_memory.ensures.entries c.add.ensures)
     (rw same c.self.invariant.agrees)
-    (same_sound d.config s c.args.caller c.args.request c.args.reply c.self.invariant.sound (c.legal_states_are_consistent.ensures.steps d.config d.history.cap s e c.self.invariant.sound.consistent allowed) same)
+    (same_sound d.config s c.args.caller c.args.request c.args.reply c.self.invariant.sound
+    (c.legal_states_are_consistent.ensures.steps d.config d.history.cap s e c.self.invariant.sound.consistent allowed) same)
     (omega (arith, value, ap (reserved_entries d.config) same))
     (omega (arith, room, value, c.histories_grow.ensures.counted d.config d.history.entries))
     c.in_ok-take_memory.ensures.contents

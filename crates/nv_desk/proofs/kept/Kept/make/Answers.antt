@@ -9,6 +9,8 @@ returns c = record {
   blocks = ap (λ (b : KeptBlocks). b.states) c.in_ok-make.ensures;
   jobs = c.in_ok-make-2.ensures.agrees c.args.config.now;
   sweep = tt;
+  member = tt;
+  alone = tt;
   rooms = ap (λ (b : KeptBlocks). b.rooms) c.in_ok-make.ensures;
   places = c.in_ok-make-2.ensures.places;
 }

@@ -1,0 +1,188 @@
+-- One entry more of the driver.
+use Rattle.std.specs.Option.{option_map_or}
+use Rattle.std.proofs.lemmas.List.Sums.{sum_by-cons}
+use Rattle.std.proofs.Common.{◌≢◌, option_map, ◌&&◌, Bool, false, sym, ◌∙◌, get_or, ◌≡◌, ◌≤◌, ◌<◌, ℕ, ◌+◌, ◌-◌, true, List, [], ◌∷◌, ◌++◌, length, refl, ap, arith, subst, Option, Some, None, IfSome, IsSome, option_to_list}
+use Rattle.nv_base.specs.History.{Listed}
+use Rattle.block_config.specs.Block.{record_count}
+use Rattle.block_config.specs.declared.block.BlockKind.{BlockKind}
+use Rattle.block_config.specs.declared.block.BlockKind.TheVariants.{Native, Redundant, Dataset}
+use Rattle.block_machine.specs.Words.{ReqResult, Wrote, Post, Configuration, Entry, Instance, Mark, JobKind, ReadJob, RestoreJob}
+use Rattle.block_machine.specs.State.{State, Job, Sweep}
+use Rattle.block_machine.specs.Blocks.{desc_of, job_block, keeps_ram, names_ram, records_by, records_of}
+use Rattle.block_machine.specs.Sweeps.{sweep_entries, after_member}
+use Rattle.block_machine.specs.Reply.{reserved_entries}
+use Rattle.block_machine.specs.Steps.{after, changed_by, step, wrote, posted}
+use Rattle.block_machine.specs.Legal.{IsAllowed, MayWrite, IsWrote}
+use Rattle.machine_laws.specs.Laws.{uses_reserved}
+use Rattle.machine_laws.specs.Consistent.{Each, IsConsistent, IsJobInHand}
+use Rattle.block_states.specs.States.{rooms_of, RoomsHaveLengths}
+use Rattle.nv_desk.specs.declared.desk.Desk.TheInside.{Inside}
+use Rattle.nv_desk.specs.declared.kept.Kept.{Kept}
+use Rattle.nv_desk.specs.Rooms.{Roomy}
+use Rattle.nv_desk.specs.Kept.{Agrees}
+use Rattle.nv_desk.specs.Sound.{IsPendingJob, IsSound}
+use Rattle.nv_desk.specs.Desk.{IsKept}
+use Rattle.nv_desk.specs.Driver.{DriverLaws, block_now}
+use Rattle.nv_desk.proofs.Entries.{entry_kept}
+use Rattle.pending_jobs.specs.Pending.{Pending, Agree, IsHeld, IsOther, StandsApart}
+use Rattle.nv_desk.proofs.Sound.{each_map}
+
+-- there is room for the entry, and for two contents with it
+pub record HasRoom (d : Inside) (e : Entry) : Type 0 where
+  pub below : length d.history.entries < d.history.cap
+  pub room : 0 < d.history.reserved
+  pub rooms : 2 ≤ d.rooms.count
+  pub fewer : reserved_entries d.config (changed_by d.config (after d.config d.history.entries) e) + 1 ≤ reserved_entries d.config
+      (after d.config d.history.entries)
+
+pub room_for : (d : Inside) (e : Entry) → IsKept d → reserved_entries d.config
+    (changed_by d.config (after d.config d.history.entries) e) < reserved_entries d.config (after d.config d.history.entries) → HasRoom d e
+room_for d e is less = record {
+  below = omega (arith, is.fits, less);
+  room = omega (arith, is.memory, less);
+  rooms = omega (arith, is.rooms, less);
+  fewer = omega (arith, less);
+}
+
+pub has_room : DriverLaws → (d : Inside) (e : Entry) → IsKept d → IsAllowed d.config d.history.cap (after d.config d.history.entries) e
+    → uses_reserved e ≡ true → HasRoom d e
+has_room law d e is allowed uses = room_for d e is (law.reserved d.config d.history.cap (after d.config d.history.entries) e is.sound.consistent allowed uses)
+
+-- what is kept stands behind it
+pub driver_kept : DriverLaws → (d : Inside) (h : Listed) (k : Kept) (r : Roomy) (e : Entry) → IsKept d → HasRoom d e
+    → IsSound d.config (step d.config (after d.config d.history.entries) e)
+    → h ≡ record d.history { entries = d.history.entries ++ e ∷ []; reserved = d.history.reserved - 1 }
+    → Agrees d.config k (changed_by d.config (after d.config d.history.entries) e)
+    → d.rooms.count ≤ r.count + 2 → r.longest ≡ d.rooms.longest
+    → IsKept (record d { history = h; kept = k; rooms = r })
+driver_kept law d h k r e is has sound added agrees count longest =
+    let left = reserved_entries d.config (changed_by d.config (after d.config d.history.entries) e) in
+    let reserved = ap (λ (x : Listed). x.reserved) added in
+    entry_kept law.steps d h k r e left is
+    (record { entries = ap (λ (x : Listed). x.entries) added; cap = ap (λ (x : Listed). x.cap) added; memory = omega (arith, reserved, has.fewer, is.memory) })
+    agrees sound (omega arith) (omega (arith, has.fewer, is.fits)) (omega (arith, has.fewer, is.rooms, count)) (omega (arith, longest))
+
+-- THE JOB IN HAND
+
+-- it writes
+pub record Writes (c : Configuration) (s : State) (i : Instance) (mark : Mark) : Type 0 where
+  pub job : Job
+  pub is : s.hand ≡ Some job
+  pub wrote : IsWrote c s job i mark
+
+writes_by : (c : Configuration) (s : State) (i : Instance) (mark : Mark) (o : Option Job) → s.hand ≡ o → MayWrite c s i mark o → Writes c s i mark
+writes_by c s i mark None is may = absurd may
+writes_by c s i mark (Some j) is may = record { job = j; is = is; wrote = may }
+
+pub writes : (c : Configuration) (s : State) (i : Instance) (mark : Mark) → MayWrite c s i mark s.hand → Writes c s i mark
+writes c s i mark may = writes_by c s i mark s.hand refl may
+
+two_records : (k : BlockKind) → record_count k ≤ 2
+two_records Native = omega arith
+two_records Redundant = omega arith
+two_records Dataset = omega arith
+
+few_by : (k : BlockKind) (kind : JobKind) → records_by k kind ≤ 2
+few_by k ReadJob = omega arith
+few_by k RestoreJob = omega arith
+few_by k kind = two_records k
+
+pub few_records : (c : Configuration) (j : Job) → records_of c j ≤ 2
+few_records c j = few_by _ _
+
+-- its content has room
+fits_by : (n m : ℕ) (o : Option (List ℕ × ℕ)) → m ≤ n → IfSome o (λ x. length x.0 ≤ m) → IfSome o (λ x. length x.0 ≤ n)
+fits_by n m None less fits = tt
+fits_by n m (Some x) less fits = omega (arith, less, fits)
+
+first_by : (P : Job → Type 0) (o : Option Job) (waiting : List Job) (j : Job) → o ≡ Some j → Each P (option_to_list o ++ waiting) → P j
+first_by P None waiting j is each = cc
+first_by P (Some x) waiting j is each = let e : x ≡ j = cc in subst P e each.0
+
+pub content_fits : (c : Configuration) (s : State) (n : ℕ) (j : Job) → IsSound c s → s.hand ≡ Some j
+    → ((id : ℕ) → (desc_of c id).length ≤ n) → IfSome j.content (λ x. length x.0 ≤ n)
+content_fits c s n j sound is most = fits_by n (desc_of c (job_block j)).length j.content (most (job_block j))
+    (first_by (IsPendingJob c s) s.hand s.waiting j is sound.jobs).content
+
+-- what holds of it holds of the one that is kept
+pub in_hand : (P : Job → Type 0) (hand o : Option Job) (j : Job) → hand ≡ o → o ≡ Some j → P j → IfSome hand P
+in_hand P None o j is on p = tt
+in_hand P (Some x) o j is on p = let e : j ≡ x = cc in subst P e p
+
+pub wrote_step : (c : Configuration) (k : Kept) (s : State) (i : Instance) (mark : Mark) (ops : ℕ) (j : Job) → s.hand ≡ Some j
+    → Agrees c k (wrote s i mark (Some j)) → Agrees c k (changed_by c s (Wrote i mark ops))
+wrote_step c k s i mark ops j is h = rw is h
+
+pub post_step : (c : Configuration) (k : Kept) (s : State) (block : ℕ) (r : ReqResult) (given : Option (List ℕ)) (refused ops : ℕ) (j : Job)
+    → s.hand ≡ Some j → Agrees c k (posted c s r given (Some j)) → Agrees c k (changed_by c s (Post block r given refused ops))
+post_step c k s block r given refused ops j is h = rw is h
+
+-- THE END OF A JOB
+
+pub record Holds (s : State) : Type 0 where
+  pub job : Job
+  pub is : s.hand ≡ Some job
+
+holds_by : (s : State) (o : Option Job) → s.hand ≡ o → IsSome o → Holds s
+holds_by s None is some = cc
+holds_by s (Some j) is some = record { job = j; is = is }
+
+pub holds : (s : State) → IsSome s.hand → Holds s
+holds s some = holds_by s s.hand refl some
+
+pub given_fits : (c : Configuration) (n id : ℕ) (given : Option (List ℕ)) → IfSome given (λ x. length x ≡ (desc_of c id).length)
+    → ((id : ℕ) → (desc_of c id).length ≤ n) → IfSome given (λ x. length x ≤ n)
+given_fits c n id None whole most = tt
+given_fits c n id (Some x) whole most = omega (arith, whole, most id)
+
+both_true : (a b : Bool) → (a && b) ≡ true → b ≡ true
+both_true true b e = e
+both_true false b e = cc
+
+in_room : (rooms : List ℕ) (n id : ℕ) (given : Option (List ℕ)) → IfSome given (λ x. length x ≡ n) → get_or rooms id 0 ≡ n
+    → IfSome given (λ x. length x ≡ get_or rooms id 0)
+in_room rooms n id None whole is = tt
+in_room rooms n id (Some x) whole is = whole ∙ sym is
+
+-- a content that RAM is given has the length of that
+pub given_to_ram : RoomsHaveLengths → (c : Configuration) (s : State) (rooms : List ℕ) (given : Option (List ℕ)) (j : Job)
+    → rooms ≡ rooms_of c → s.hand ≡ Some j → IfSome given (λ x. length x ≡ (desc_of c (block_now s)).length)
+    → (names_ram j.request && keeps_ram c (job_block j)) ≡ true → IfSome given (λ x. length x ≡ get_or rooms (job_block j) 0)
+given_to_ram law c s rooms given j is hand whole kept =
+    let own = subst (λ (n : ℕ). IfSome given (λ x. length x ≡ (desc_of c n).length)) (ap (λ (o : Option Job). option_map_or job_block o 0) hand) whole in
+    in_room rooms (desc_of c (job_block j)).length (job_block j) given own
+    (rw is (law c (job_block j) (both_true (names_ram j.request) (keeps_ram c (job_block j)) kept)))
+
+-- an ended job leaves all entries that were reserved for it
+same_entries : (c : Configuration) (id : ℕ) (r : ReqResult) (sw : Sweep) (b : Bool) → sw.under_way ≡ b
+    → sweep_entries c (after_member id r sw) ≡ sweep_entries c sw
+same_entries c id r sw true is = rw is refl
+same_entries c id r sw false is = rw is refl
+
+same_share : (c : Configuration) (id : ℕ) (r : ReqResult) (o : Option Sweep)
+    → option_map_or (sweep_entries c) (option_map (after_member id r) o) 0 ≡ option_map_or (sweep_entries c) o 0
+same_share c id r None = refl
+same_share c id r (Some sw) = same_entries c id r sw sw.under_way refl
+
+fewer_at : (c : Configuration) (s : State) (r : ReqResult) (given : Option (List ℕ)) (j : Job) → s.hand ≡ Some j → IsJobInHand c s j
+    → reserved_entries c (posted c s r given (Some j)) < reserved_entries c (record s { hand = Some j })
+fewer_at c s r given j is h =
+    let sum = sum_by-cons (λ (j : Job). j.reserved) j s.waiting in
+    let same = same_share c (job_block j) r s.sweep in
+    omega (arith, sum, same, h.entries, h.written)
+
+pub post_fewer : (c : Configuration) (s : State) (block refused ops : ℕ) (r : ReqResult) (given : Option (List ℕ)) (j : Job)
+    → s.hand ≡ Some j → IsConsistent c s → reserved_entries c (changed_by c s (Post block r given refused ops)) < reserved_entries c s
+post_fewer c s block refused ops r given j is h = rw is (fewer_at c s r given j is (subst (λ (o : Option Job). IfSome o (IsJobInHand c s)) is h.hand))
+
+-- the other jobs are on other blocks
+pub others_of : (j : Job) (waiting : List Job) → StandsApart j waiting → Each (λ x. job_block x ≢ job_block j) waiting
+others_of j waiting apart = each_map (λ x. IsOther x j) (λ x. job_block x ≢ job_block j) waiting (λ x h. h.block) apart
+
+held_by : (n : ℕ) (waiting : List Job) (o : Option Job) (j : Job) → o ≡ Some j → IfSome o (IsHeld n waiting) → StandsApart j waiting
+held_by n waiting None j is h = cc
+held_by n waiting (Some x) j is h = let e : x ≡ j = cc in subst (λ k. StandsApart k waiting) e h.apart
+
+pub held_apart : (c : Configuration) (p : Pending) (waiting : List Job) (held : Option Job) (j : Job) → Agree c p waiting held
+    → held ≡ Some j → StandsApart j waiting
+held_apart c p waiting held j h is = held_by (length p.slots) waiting held j is h.hand_apart

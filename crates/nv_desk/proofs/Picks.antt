@@ -1,0 +1,117 @@
+-- The next job is picked.
+use Rattle.std.proofs.Common.{◌≡◌, ◌≢◌, ◌≤◌, ◌<◌, ℕ, ◌+◌, ◌^◌, List, [], ◌∷◌, ◌++◌, length, option_to_list, refl, subst, arith, Option, Some, None, IfSome}
+use Rattle.std.proofs.lemmas.List.Sums.{sum_by-cons}
+use Rattle.block_machine.specs.Words.{Configuration, JobKind, Taken, Pick}
+use Rattle.block_machine.specs.State.{State, Job}
+use Rattle.block_machine.specs.Blocks.{desc_of, job_block}
+use Rattle.block_machine.specs.Next.{PickJob, next_in, next_of}
+use Rattle.block_machine.specs.Reply.{reserved_entries}
+use Rattle.block_machine.specs.Steps.{after, step, changed_by, in_hand, content_after}
+use Rattle.block_machine.specs.Legal.{IsAllowed}
+use Rattle.machine_laws.specs.Laws.{NextIsWaiting}
+use Rattle.machine_laws.specs.Consistent.{Each, IsWaitingJob, IsJobInHand}
+use Rattle.pending_jobs.specs.declared.took.Took.{Took}
+use Rattle.pending_jobs.specs.declared.took.Took.TheVariants as took
+use Rattle.pending_jobs.specs.Took.{taken_with}
+use Rattle.pending_jobs.specs.Pending.{Pending, Agree}
+use Rattle.nv_desk.specs.declared.kept.Kept.{Kept}
+use Rattle.nv_desk.specs.Kept.{Agrees}
+use Rattle.nv_desk.specs.Sound.{IsPendingJob, IsSound}
+use Rattle.nv_desk.specs.Driver.{DriverLaws}
+use Rattle.nv_desk.specs.Picks.{copied_in}
+use Rattle.nv_desk.proofs.SoundDriver.{sound_pick}
+
+-- what holds of all holds of one
+each_mid : (P : Job → Type 0) (before : List Job) (j : Job) (after : List Job) → Each P (before ++ j ∷ after) → P j
+each_mid P [] j after each = each.0
+each_mid P (x ∷ before) j after each = each_mid P before j after each.1
+
+each_in : (P : Job → Type 0) (o : Option Job) (waiting before : List Job) (j : Job) (after : List Job) → waiting ≡ before ++ j ∷ after
+    → Each P (option_to_list o ++ waiting) → P j
+each_in P None waiting before j after is each = each_mid P before j after (subst (Each P) is each)
+each_in P (Some x) waiting before j after is each = each_mid P before j after (subst (Each P) is each.1)
+
+-- what is known of it
+pub record IsReady (c : Configuration) (s : State) (j : Job) : Type 0 where
+  pub pending : IsPendingJob c s j
+  pub number : j.number < s.count
+  pub other : IfSome s.hand (λ h. (h.number < s.count) × (j.number ≢ h.number))
+
+other_by : (c : Configuration) (s : State) (o : Option Job) (before : List Job) (j : Job) (after : List Job)
+    → s.waiting ≡ before ++ j ∷ after → IfSome o (IsJobInHand c s) → IfSome o (λ h. (h.number < s.count) × (j.number ≢ h.number))
+other_by c s None before j after is h = tt
+other_by c s (Some x) before j after is h = (
+  h.number,
+  each_mid (λ y. y.number ≢ x.number) before j after
+      (subst (Each (λ (y : Job). y.number ≢ x.number)) is h.apart),
+)
+
+pub ready : NextIsWaiting → (c : Configuration) (s : State) (j : Job) → IsSound c s → next_in c s.waiting ≡ Some j → IsReady c s j
+ready law c s j sound next =
+    let (before, after, is) = law c s.waiting j next in
+    record {
+      pending = each_in (IsPendingJob c s) s.hand s.waiting before j after is sound.jobs;
+      number = (each_mid (IsWaitingJob c s.count) before j after (subst (Each (IsWaitingJob c s.count)) is sound.consistent.waiting)).number;
+      other = other_by c s s.hand before j after is sound.consistent.hand;
+    }
+
+-- the entries of a job in hand and two more have a number
+room_by : (c : Configuration) (s : State) (p : Pending) (held o : Option Job) (j : Job) (n m : ℕ) → Agree c p s.waiting held → s.hand ≡ held
+    → p.hand ≡ o → IfSome held (λ h. (h.number < s.count) × (j.number ≢ h.number)) → j.number < s.count
+    → s.count ≡ n → n + reserved_entries c s ≤ m → m < 2 ^ 32 → IfSome o (λ h. p.reserved + h.reserved + 2 < 2 ^ 32)
+room_by c s p None None j n m h is hand other low count fits within = tt
+room_by c s p None (Some x) j n m h is hand other low count fits within = cc (h.hand)
+room_by c s p (Some y) None j n m h is hand other low count fits within = tt
+room_by c s p (Some y) (Some x) j n m h is hand other low count fits within =
+    let e : y ≡ x = cc (h.hand) in
+    let sum = sum_by-cons (λ (j : Job). j.reserved) y s.waiting in
+    let differs = other.1 in
+    let kept = h.reserved in
+    let all = rw is at fits in
+    subst (λ (z : Job). p.reserved + z.reserved + 2 < 2 ^ 32) e (omega (arith, sum, differs, other.0, low, kept, count, all, within))
+
+pub pick_room : (c : Configuration) (s : State) (p : Pending) (j : Job) (n m : ℕ) → Agree c p s.waiting s.hand → IsReady c s j → s.count ≡ n
+    → n + reserved_entries c s ≤ m → m < 2 ^ 32 → IfSome p.hand (λ h. p.reserved + h.reserved + 2 < 2 ^ 32)
+pick_room c s p j n m h r count fits within = room_by c s p s.hand p.hand j n m h refl refl r.other r.number count fits within
+
+-- THE STEP
+
+next_is : (c : Configuration) (s : State) (j : Job) → next_in c s.waiting ≡ Some j → next_of c s ≡ PickJob j
+next_is c s j next = rw next refl
+
+pub pick_step : (c : Configuration) (k : Kept) (s : State) (j : Job) (block : ℕ) (kind : JobKind) (t : Taken) (ops : ℕ)
+    → next_in c s.waiting ≡ Some j → Agrees c k (in_hand c s j t) → Agrees c k (changed_by c s (Pick block kind t ops))
+pick_step c k s j block kind t ops next h = rw (next_is c s j next) h
+
+-- a content that it has then is no longer than its block
+fits_by : (n : ℕ) (content : Option (List ℕ × ℕ)) (t : Took) → IfSome content (λ x. length x.0 ≤ n)
+    → IfSome (copied_in t) (λ x. length x ≤ n) → IfSome (content_after content (taken_with content t)) (λ x. length x.0 ≤ n)
+fits_by n content took.Nothing own copied = own
+fits_by n (Some x) took.Own own copied = own
+fits_by n None took.Own own copied = tt
+fits_by n content (took.Copied x) own copied = copied
+fits_by n content (took.Refused count) own copied = own
+fits_by n content (took.Stale asked got count) own copied = own
+
+pub picked_sound : DriverLaws → (c : Configuration) (cap : ℕ) (s : State) (j : Job) (block : ℕ) (kind : JobKind) (t : Took) (ops : ℕ)
+    → IsSound c s → next_in c s.waiting ≡ Some j → IsReady c s j
+    → IsAllowed c cap s (Pick block kind (taken_with j.content t) ops)
+    → IfSome (copied_in t) (λ x. length x ≤ (desc_of c (job_block j)).length)
+    → IsSound c (step c s (Pick block kind (taken_with j.content t) ops))
+picked_sound law c cap s j block kind t ops sound next r allowed copied =
+    let e = next_is c s j next in
+    let consistent = law.consistent c cap s (Pick block kind (taken_with j.content t) ops) sound.consistent allowed in
+    rw e (sound_pick c s j (taken_with j.content t) (s.count + 1) ops sound (rw e at consistent) r.pending
+    (fits_by (desc_of c (job_block j)).length j.content t r.pending.content copied))
+
+-- bytes that are no longer than a block have room
+pub within_block : (n m : ℕ) (o : Option (List ℕ)) → m ≤ n → IfSome o (λ x. length x ≤ m) → IfSome o (λ x. length x ≤ n)
+within_block n m None less fits = tt
+within_block n m (Some x) less fits = omega (arith, less, fits)
+
+pub content_within : (n m : ℕ) (o : Option (List ℕ × ℕ)) → m ≤ n → IfSome o (λ x. length x.0 ≤ m) → IfSome o (λ x. length x.0 ≤ n)
+content_within n m None less fits = tt
+content_within n m (Some x) less fits = omega (arith, less, fits)
+
+pub some_is : (x y : Job) → Some x ≡ Some y → x ≡ y
+some_is x y e = cc

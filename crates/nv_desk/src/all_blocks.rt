@@ -1,0 +1,75 @@
+// The Pick of a request on all blocks.
+ghost use Rattle.std.specs.Prelude.{◌≡◌, ◌++◌, ◌∷◌, [], Some, None};
+ghost use Rattle.block_machine.specs.Words.{Configuration};
+ghost use Rattle.block_machine.specs.State.{Sweep as MachineSweep};
+ghost use Rattle.block_machine.specs.Sweeps.{sweep_result};
+ghost use Rattle.block_machine.specs.Next.{next_of, BeginSweep, EndSweep};
+ghost use Rattle.nv_base.specs.declared.entry.Taken.TheVariants as Taken;
+ghost use Rattle.multi_jobs.specs.Laws.{IsNext};
+ghost use Rattle.nv_desk.specs.AllBlocks.{MayBegin, MayFinish, sweep_kind};
+ghost use Rattle.nv_desk.specs.Desk.{state_of};
+ghost use Rattle.nv_desk.specs.Pending.{AreSweeps};
+
+use crate::Desk;
+use crate::driver::driver_laws;
+use crate::sweep::PendingSweep;
+use machine_laws::the_next_job_goes_first;
+use multi_jobs::SweepStep;
+use nv_base::{Entry, JobKind, ReqResult, Taken};
+
+impl Desk {
+    /// The request on all blocks is picked, and its sweep begins. It takes no memory.
+    pub fn pick_sweep(&mut self, ops: u64)
+        requires { MayBegin self.old ops }
+        ensures { (sw : MachineSweep) → next_of self.old.config (state_of self.old) ≡ BeginSweep sw → self.new ≡ record self.old { entries = self.old.entries ++ Entry.Pick 0 (sweep_kind sw.writes) Taken.Nothing ops ∷ [] } }
+    {
+        driver_laws();
+        the_next_job_goes_first();
+        let job = sweep_kind(&self.kept.sweep);
+        self.kept.pick_sweep();
+        self.history.add(Entry::Pick {
+            block: 0,
+            job,
+            taken: Taken::Nothing,
+            ops,
+        });
+    }
+
+    /// The sweep ends, and block id 0 is posted with its result. It takes no memory.
+    pub fn post_sweep(&mut self, ops: u64)
+        requires { MayFinish self.old ops }
+        ensures { (sw : MachineSweep) → next_of self.old.config (state_of self.old) ≡ EndSweep sw → self.new ≡ record self.old { entries = self.old.entries ++ Entry.Post 0 (sweep_result sw) None 0 ops ∷ [] } }
+    {
+        driver_laws();
+        the_next_job_goes_first();
+        let answer = result_of(self.kept.next_step(&self.config));
+        self.kept.end_sweep(answer);
+        self.history.add(Entry::Post {
+            block: 0,
+            result: answer,
+            given: None,
+            refused: 0,
+            ops,
+        });
+    }
+}
+
+// The result with which a sweep ends.
+fn result_of(step: SweepStep) -> ReqResult
+    ensures { (sw : MachineSweep) → IsNext step sw (EndSweep sw) → result ≡ sweep_result sw }
+{
+    match step {
+        SweepStep::Ended { result } => result,
+        _ => ReqResult::Fine,
+    }
+}
+
+// What a request on all blocks does.
+fn sweep_kind(sweep: &Option<PendingSweep>) -> JobKind
+    ensures { (c : Configuration) (sw : MachineSweep) → AreSweeps c sweep.now (Some sw) → result ≡ sweep_kind sw.writes }
+{
+    match sweep {
+        Some(sweep) if sweep.members.writes() => JobKind::WriteAll,
+        _ => JobKind::ReadAll,
+    }
+}

@@ -1,0 +1,114 @@
+// The driver's entries.
+ghost use Rattle.std.specs.Prelude.{◌≡◌, ◌≤◌, ◌<◌, ◌+◌, ◌++◌, ◌∷◌, [], length, unwrap_or, option_copied, IfSome};
+ghost use Rattle.std.specs.Option.{option_and_then, option_map_or};
+ghost use Rattle.block_machine.specs.Blocks.{job_block, mark_of};
+ghost use Rattle.block_machine.specs.Legal.{IsDriving};
+ghost use Rattle.nv_base.specs.declared.mark.Mark.TheVariants as Mark;
+ghost use Rattle.nv_desk.specs.Desk.{state_of};
+ghost use Rattle.nv_desk.specs.Driver.{DriverLaws, MayAdd, MayEnd, block_now, mark_now};
+
+use crate::Desk;
+use crate::rooms::Rooms;
+use block_states::rooms_have_lengths;
+use machine_laws::{entries_fit, histories_grow, legal_states_are_consistent};
+use nv_base::{Bytes, Entry, Instance, JobKind, Mark, ReqResult};
+use pending_jobs::PendingJobs;
+
+impl Desk {
+    /// The power is off. It takes no memory.
+    pub fn off(&mut self, ops: u64)
+        requires { IsDriving (state_of self.old) ops }
+        ensures { self.new ≡ record self.old { entries = self.old.entries ++ Entry.Off ops ∷ [] } }
+    {
+        driver_laws();
+        self.kept.go_off();
+        self.history.add(Entry::Off { ops });
+    }
+
+    /// The job in hand wrote its mark to an instance. It takes no memory.
+    pub fn wrote(&mut self, instance: Instance, ops: u64)
+        requires { MayAdd self.old (Entry.Wrote instance (mark_now (state_of self.old)) ops) }
+        ensures { self.new ≡ record self.old { entries = self.old.entries ++ Entry.Wrote instance (mark_now (state_of self.old)) ops ∷ [] } }
+    {
+        driver_laws();
+        let mark = mark_in_hand(&self.kept.jobs, &mut self.rooms);
+        self.kept.wrote(instance.index);
+        self.history.add(Entry::Wrote {
+            instance,
+            mark,
+            ops,
+        });
+    }
+
+    /// The job in hand ends with this result, and gives a content of its block's length or nothing. `refused` counts the
+    /// copies of it that were refused. Whatever the result, what is kept goes on. It takes no memory.
+    pub fn post(&mut self, answer: ReqResult, given: Option<&[u8]>, refused: u8, ops: u64)
+        requires { MayEnd self.old (option_copied given) }
+        ensures { self.new ≡ record self.old {
+          entries = self.old.entries ++ Entry.Post (block_now (state_of self.old)) answer
+              (option_copied given.entry) refused ops ∷ [];
+        } }
+    {
+        driver_laws();
+        rooms_have_lengths();
+        let block = block_in_hand(&self.kept.jobs);
+        let bytes = content_of(given, &mut self.rooms);
+        self.kept.end(&self.config, answer, given);
+        self.history.add(Entry::Post {
+            block,
+            result: answer,
+            given: bytes,
+            refused,
+            ops,
+        });
+    }
+}
+
+// The block of the job in hand, or 0.
+fn block_in_hand(jobs: &PendingJobs) -> u16
+    ensures { result ≡ option_map_or job_block jobs.now.hand 0 }
+{
+    match jobs.hand() {
+        Some(job) => job.block(),
+        None => 0,
+    }
+}
+
+// A content as bytes of their own.
+fn content_of(given: Option<&[u8]>, rooms: &mut Rooms) -> Option<Bytes>
+    requires some { 0 < rooms.old.count }
+    requires fits { IfSome (option_copied given) (λ x. length x ≤ rooms.old.longest) }
+    ensures content { result ≡ option_copied given.entry }
+    ensures longest { rooms.new.longest ≡ rooms.old.longest }
+    ensures count { rooms.old.count ≤ rooms.new.count + 1 }
+{
+    let given = given?;
+    Some(rooms.fill(given))
+}
+
+// The mark that the job in hand writes, as bytes of their own.
+fn mark_in_hand(jobs: &PendingJobs, rooms: &mut Rooms) -> Mark
+    requires some { 0 < rooms.old.count }
+    requires fits { IfSome jobs.now.hand (λ h. IfSome h.content (λ x. length x.0 ≤ rooms.old.longest)) }
+    ensures mark { result ≡ unwrap_or (option_and_then mark_of jobs.now.hand) Mark.Erased }
+    ensures longest { rooms.new.longest ≡ rooms.old.longest }
+    ensures count { rooms.old.count ≤ rooms.new.count + 1 }
+{
+    let Some(job) = jobs.hand() else {
+        return Mark::Erased;
+    };
+    match (job.kind(), job.content()) {
+        (JobKind::Write, Some(content)) => Mark::Content(rooms.fill(content)),
+        (JobKind::Invalidate, _) => Mark::Invalid,
+        _ => Mark::Erased,
+    }
+}
+
+/// The laws on which the entries of the driver rest.
+pub fn driver_laws()
+    ensures { DriverLaws }
+{
+    histories_grow();
+    entries_fit();
+    legal_states_are_consistent();
+}

@@ -1,0 +1,74 @@
+// The Pick of a job.
+ghost use Rattle.std.specs.Prelude.{◌≡◌, ◌≤◌, ◌<◌, ◌+◌, ◌++◌, ◌∷◌, [], length, Some, IfSome};
+ghost use Rattle.block_machine.specs.State.{Job as MachineJob};
+ghost use Rattle.block_machine.specs.Blocks.{job_block, kind_of};
+ghost use Rattle.block_machine.specs.Next.{next_in};
+ghost use Rattle.pending_jobs.specs.Took.{taken_with};
+ghost use Rattle.nv_desk.specs.Desk.{state_of};
+ghost use Rattle.nv_desk.specs.Picks.{MayPickNext, copied_in};
+
+use crate::Desk;
+use crate::driver::driver_laws;
+use crate::rooms::Rooms;
+use machine_laws::the_next_job_goes_first;
+use nv_base::{Entry, Taken};
+use pending_jobs::{Job, Took};
+
+impl Desk {
+    /// The next job comes in hand with what it takes; one that is in hand is interrupted. It takes no memory.
+    pub fn pick_job(&mut self, took: Took, ops: u64)
+        requires { MayPickNext self.old took ops }
+        ensures { (j : MachineJob) → next_in self.old.config (state_of self.old).waiting ≡ Some j
+            → self.new ≡ record self.old {
+              entries = self.old.entries ++ Entry.Pick (job_block j) (kind_of j)
+                  (taken_with j.content took) ops ∷ [];
+            } }
+    {
+        driver_laws();
+        the_next_job_goes_first();
+        let Some(next) = self.kept.jobs.next() else {
+            return;
+        };
+        let block = next.block();
+        let job = next.kind();
+        let taken = taken_of(next, &took, &mut self.rooms);
+        self.kept.pick(&self.config, took);
+        self.history.add(Entry::Pick {
+            block,
+            job,
+            taken,
+            ops,
+        });
+    }
+}
+
+// What a job takes, as bytes of their own.
+fn taken_of(job: &Job, took: &Took, rooms: &mut Rooms) -> Taken
+    requires some { 0 < rooms.old.count }
+    requires own { IfSome job.now.content (λ x. length x.0 ≤ rooms.old.longest) }
+    requires copied { IfSome (copied_in took.now) (λ x. length x ≤ rooms.old.longest) }
+    ensures taken { result ≡ taken_with job.now.content took.now }
+    ensures longest { rooms.new.longest ≡ rooms.old.longest }
+    ensures count { rooms.old.count ≤ rooms.new.count + 1 }
+{
+    match took {
+        Took::Nothing => Taken::Nothing,
+        Took::Own => match job.content() {
+            Some(content) => Taken::Content {
+                bytes: rooms.fill(content),
+                store: job.store(),
+            },
+            None => Taken::Nothing,
+        },
+        Took::Copied(staged) => Taken::Content {
+            bytes: rooms.fill(staged.bytes.as_slice()),
+            store: staged.store,
+        },
+        Took::Refused { count } => Taken::Refused { count: *count },
+        Took::Stale { asked, got, count } => Taken::Stale {
+            asked: *asked,
+            got: *got,
+            count: *count,
+        },
+    }
+}
