@@ -3,7 +3,7 @@ use Rattle.std.specs.Prelude.{◌==◌, ◌&&◌, slice_get, is_none, not, is_so
 use Rattle.std.proofs.Common.{◌≡◌, ◌≢◌, ◌⊎◌, inl, inr, ◌<◌, ◌≤◌, ℕ, zero, suc, Bool, true, false, if◌then◌else◌, List, [], ◌∷◌, get_or, set, map, Option, Some, None, Ok, refl, sym, ap, ◌∙◌, subst, arith, length, All}
 use Rattle.std.proofs.lemmas.Bool.{not-true, not-false, cases_Bool, eqb-true}
 use Rattle.std.specs.List.{Contains}
-use Rattle.nv_base.specs.Lengths.{AreLengths, IsPlace}
+use Rattle.nv_base.specs.Lengths.{place_of}
 use Rattle.nv_base.specs.declared.instance.DeviceNumber.{DeviceNumber}
 use Rattle.nv_base.specs.declared.mark.Mark.{Mark}
 use Rattle.memif.specs.declared.answer.JobResult.{JobResult}
@@ -19,7 +19,7 @@ use Rattle.memif.specs.Plain.{plain_figures, plain_fixed, no_clock}
 use Rattle.memif.specs.Kept.{settled, undoubted}
 use Rattle.memif.specs.PlainInside.{mark_of, held_of, slot_of, next_of, turns_of, job_of, told_with, given_of, AreKept, IsSoundWith, content_of, IsSoundJob, GivesBehind, stand_of, IsSoundGiven}
 use Rattle.memif.proofs.Turning.{none_in, same_clock}
-use Rattle.memif.proofs.Plain.{at_same, length_at, length_none, refusal_is, blank, slot_is, slot_set, get_is, get_set, none_open, kept_length, size_is, room_at, room_set}
+use Rattle.memif.proofs.Plain.{at_same, length_at, length_none, refusal_is, blank, place_within, slot_is, slot_set, get_is, get_set, none_open, kept_length, size_is, room_at, room_set}
 use Rattle.memif.specs.declared.answer.DeviceRefusal.{DeviceRefusal}
 use Rattle.memif.specs.declared.answer.DeviceRefusal.TheVariants.{BadLength}
 use Rattle.std.proofs.lemmas.List.{get_or_default}
@@ -65,12 +65,12 @@ order_none numbers kept started last given = record {
   now = finds_now (told_with numbers kept started None last given);
 }
 
-figures_of : (numbers : List (DeviceNumber × ℕ)) (j : PlainJob) → AreLengths 0 numbers → IsPlace numbers j.number.0 j.place → figures_at (plain_fixed numbers) j.number.0 ≡ plain_figures
-figures_of numbers j all at = at_same no_figures numbers plain_figures j.number.0 _ (length_at 0 numbers j.number.0 j.place (record { 0 = 0 }, 0) all at.within at.is)
+figures_of : (numbers : List (DeviceNumber × ℕ)) (j : PlainJob) → place_of numbers j.number.0 ≡ Some j.place → figures_at (plain_fixed numbers) j.number.0 ≡ plain_figures
+figures_of numbers j at = at_same no_figures numbers plain_figures j.number.0 _ (length_at numbers j.number.0 j.place (record { 0 = 0 }, 0) at)
 
-pub order_open : (numbers : List (DeviceNumber × ℕ)) (kept : List Kept) (started : Bool) (j : PlainJob) (last : JobResult) (given : Option ℕ) → AreLengths 0 numbers → IsPlace numbers j.number.0 j.place → InOrder (told_with numbers kept started (Some j) last given) no_clock
-order_open numbers kept started j last given all at = record {
-  bounded = rw (figures_of numbers j all at) (omega (arith, most_is (op_of (job_of kept j).mark)));
+pub order_open : (numbers : List (DeviceNumber × ℕ)) (kept : List Kept) (started : Bool) (j : PlainJob) (last : JobResult) (given : Option ℕ) → place_of numbers j.number.0 ≡ Some j.place → InOrder (told_with numbers kept started (Some j) last given) no_clock
+order_open numbers kept started j last given at = record {
+  bounded = rw (figures_of numbers j at) (omega (arith, most_is (op_of (job_of kept j).mark)));
   fits = omega arith;
   ready = omega arith;
   wait = λ h. (turns_of j.urgent, refl, turns_few j.urgent);
@@ -80,7 +80,7 @@ order_open numbers kept started j last given all at = record {
 
 pub in_order : (numbers : List (DeviceNumber × ℕ)) (kept : List Kept) (started : Bool) (job : Option PlainJob) (last : JobResult) (given : Option ℕ) (now : DeviceTold) → told_with numbers kept started job last given ≡ now → IsSoundWith numbers kept job last given → InOrder now no_clock
 in_order numbers kept started None last given now view sound = subst (λ (d : DeviceTold). InOrder d no_clock) view (order_none numbers kept started last given)
-in_order numbers kept started (Some j) last given now view sound = subst (λ (d : DeviceTold). InOrder d no_clock) view (order_open numbers kept started j last given sound.ascending sound.at)
+in_order numbers kept started (Some j) last given now view sound = subst (λ (d : DeviceTold). InOrder d no_clock) view (order_open numbers kept started j last given sound.at)
 
 pub stays : (d : DeviceTold) → InOrder d no_clock → ClockStays no_clock d no_clock
 stays d order = record { same = same_clock no_clock; order = order }
@@ -106,7 +106,7 @@ starts_up numbers kept started job last given = record {
   clock_stays = stays (told_with numbers (map undoubted kept) true None JobOk None) (order_none numbers (map undoubted kept) true JobOk None);
 }
 
-module _ (numbers : List (DeviceNumber × ℕ)) (kept : List Kept) (started : Bool) (last : JobResult) (given : Option ℕ) (j : PlainJob) (all : AreLengths 0 numbers) (room : AreKept numbers kept) (at : IsPlace numbers j.number.0 j.place) where
+module _ (numbers : List (DeviceNumber × ℕ)) (kept : List Kept) (started : Bool) (last : JobResult) (given : Option ℕ) (j : PlainJob) (room : AreKept numbers kept) (at : place_of numbers j.number.0 ≡ Some j.place) where
   abbrev one : Kept
   one = get_or kept j.place blank
 
@@ -115,18 +115,18 @@ module _ (numbers : List (DeviceNumber × ℕ)) (kept : List Kept) (started : Bo
       → IfElse (n == j.number.0) (P (slot_at numbers (map slot_of kept) n) (slot_at numbers (map slot_of (set kept j.place v)) n)) (Keeps (slot_at numbers (map slot_of kept) n) (slot_at numbers (map slot_of (set kept j.place v)) n))
   each_set P v holds n = elim (cases_Bool (n == j.number.0)) [
     | inl same ↦
-        let now : slot_at numbers (map slot_of (set kept j.place v)) n ≡ slot_of v = slot_set numbers kept j.number.0 j.place all room at v n ∙ rw same refl in
-        let was : slot_at numbers (map slot_of kept) n ≡ slot_of one = ap (λ (i : ℕ). slot_at numbers (map slot_of kept) i) (eqb-true n j.number.0 same) ∙ slot_is numbers kept j.number.0 j.place all room at in
+        let now : slot_at numbers (map slot_of (set kept j.place v)) n ≡ slot_of v = slot_set numbers kept j.number.0 j.place room at v n ∙ rw same refl in
+        let was : slot_at numbers (map slot_of kept) n ≡ slot_of one = ap (λ (i : ℕ). slot_at numbers (map slot_of kept) i) (eqb-true n j.number.0 same) ∙ slot_is numbers kept j.number.0 j.place room at in
         let here : P (slot_at numbers (map slot_of kept) n) (slot_at numbers (map slot_of (set kept j.place v)) n) = subst (P (slot_at numbers (map slot_of kept) n)) (sym now) (subst (λ (s : Slot). P s (slot_of v)) (sym was) holds) in
         rw same here
     | inr other ↦
-        let now : slot_at numbers (map slot_of (set kept j.place v)) n ≡ slot_at numbers (map slot_of kept) n = slot_set numbers kept j.number.0 j.place all room at v n ∙ rw other refl in
+        let now : slot_at numbers (map slot_of (set kept j.place v)) n ≡ slot_at numbers (map slot_of kept) n = slot_set numbers kept j.number.0 j.place room at v n ∙ rw other refl in
         let here : Keeps (slot_at numbers (map slot_of kept) n) (slot_at numbers (map slot_of (set kept j.place v)) n) = subst (Keeps (slot_at numbers (map slot_of kept) n)) (sym now) (keeps_same (slot_at numbers (map slot_of kept) n)) in
         rw other here
   ]
 
   figures_are : figures_at (plain_fixed numbers) j.number.0 ≡ plain_figures
-  figures_are = figures_of numbers j all at
+  figures_are = figures_of numbers j at
 
   -- THE START OF A JOB
   starts_ready : (after : List Kept) (u : Bool) → j.urgent ≡ u → (b : Bool) → IfElse (u && b) (IsPrompt (figures_at (plain_fixed numbers) j.number.0).pages (told_with numbers kept started None last given) (told_with numbers after started (Some j) last None)) ((told_with numbers kept started None last given).ready ≤ (told_with numbers after started (Some j) last None).ready)
@@ -160,7 +160,7 @@ module _ (numbers : List (DeviceNumber × ℕ)) (kept : List Kept) (started : Bo
 
   pub mark_taken : (v : Kept) → j.reads ≡ false → mark_of v.settled ≡ mark_of one.settled → v.doubted ≡ true
       → Opens (record { number = j.number.0; mark = Some (mark_of v.next); urgent = j.urgent }) (told_with numbers kept started None last given) (told_with numbers (set kept j.place v) started (Some j) last None)
-  mark_taken v reads same doubted = opens (set kept j.place v) (Some (mark_of v.next)) (rw (reads, get_set numbers kept j.number.0 j.place all room at v) refl) (each_set (Doubts (mark_of v.next)) v (takes_for v same doubted))
+  mark_taken v reads same doubted = opens (set kept j.place v) (Some (mark_of v.next)) (rw (reads, get_set numbers kept j.number.0 j.place room at v) refl) (each_set (Doubts (mark_of v.next)) v (takes_for v same doubted))
 
   -- A TURN
   abbrev the_job : Job
@@ -212,14 +212,14 @@ module _ (numbers : List (DeviceNumber × ℕ)) (kept : List Kept) (started : Bo
 
   pub write_turns : j.reads ≡ false → given ≡ None → Turns Worked (told_with numbers kept started (Some j) last given) no_clock (told_with numbers (set kept j.place (settled one)) started None JobOk given) no_clock
   write_turns reads none =
-      let e : the_job.mark ≡ Some (mark_of one.next) = rw (reads, get_is numbers kept j.number.0 j.place all room at) refl in
+      let e : the_job.mark ≡ Some (mark_of one.next) = rw (reads, get_is numbers kept j.number.0 j.place room at) refl in
       let after : List Kept = set kept j.place (settled one) in
       ends after JobOk given (subst (λ (m : Option Mark). EndsAs m j.number.0 JobOk (given_of after given) before (told_with numbers after started None JobOk given)) (sym e) (each_set (SettlesAs (mark_of one.next)) (settled one) (record { settled = refl; doubts = refl }), ap (given_of after) none)) (λ is. cc) (λ is. cc)
 
   pub read_turns : (r : JobResult) (g : Option ℕ) → j.reads ≡ true → Reads (mark_of one.settled) r (given_of kept g) → Gives r (length_of numbers j.number.0) (given_of kept g) → r ≢ JobFailed → Turns Worked (told_with numbers kept started (Some j) last given) no_clock (told_with numbers kept started None r g) no_clock
   read_turns r g is_read reads gives done =
       let e : the_job.mark ≡ None = rw is_read refl in
-      let was : slot_at numbers (map slot_of kept) j.number.0 ≡ slot_of one = slot_is numbers kept j.number.0 j.place all room at in
+      let was : slot_at numbers (map slot_of kept) j.number.0 ≡ slot_of one = slot_is numbers kept j.number.0 j.place room at in
       let shows : Reads (slot_at numbers (map slot_of kept) j.number.0).settled.mark r (given_of kept g) = subst (λ (s : Slot). Reads s.settled.mark r (given_of kept g)) (sym was) reads in
       ends kept r g (subst (λ (m : Option Mark). EndsAs m j.number.0 r (given_of kept g) before (told_with numbers kept started None r g)) (sym e) (shows, gives)) done (λ is. refl)
 
@@ -247,12 +247,12 @@ same_mark plain.Content a b other = absurd (other refl)
 same_mark plain.Invalid a b other = refl
 same_mark plain.Erased a b other = refl
 
-module _ (numbers : List (DeviceNumber × ℕ)) (kept : List Kept) (started : Bool) (job : Option PlainJob) (last : JobResult) (given : Option ℕ) (now : DeviceTold) (view : told_with numbers kept started job last given ≡ now) (number : DeviceNumber) (place : ℕ) (size : Option ℕ) (sound : IsSoundWith numbers kept job last given) (none : refusal_of now number.0 size ≡ None) (at : IsPlace now.fixed.numbers number.0 place) where
+module _ (numbers : List (DeviceNumber × ℕ)) (kept : List Kept) (started : Bool) (job : Option PlainJob) (last : JobResult) (given : Option ℕ) (now : DeviceTold) (view : told_with numbers kept started job last given ≡ now) (number : DeviceNumber) (place : ℕ) (size : Option ℕ) (sound : IsSoundWith numbers kept job last given) (none : refusal_of now number.0 size ≡ None) (at : place_of now.fixed.numbers number.0 ≡ Some place) where
   abbrev job_with : Bool → Bool → PlainJob
   job_with reads urgent = record { number = number; place = place; reads = reads; urgent = urgent }
 
-  here : IsPlace numbers number.0 place
-  here = subst (λ (d : DeviceTold). IsPlace d.fixed.numbers number.0 place) (sym view) at
+  here : place_of numbers number.0 ≡ Some place
+  here = subst (λ (d : DeviceTold). place_of d.fixed.numbers number.0 ≡ Some place) (sym view) at
 
   open_none : job ≡ None
   open_none = none_open numbers kept started job last given number.0 size (subst (λ (d : DeviceTold). refusal_of d number.0 size ≡ None) (sym view) none)
@@ -263,21 +263,21 @@ module _ (numbers : List (DeviceNumber × ℕ)) (kept : List Kept) (started : Bo
   opened : (after : List Kept) (reads urgent : Bool) → ClockStays no_clock (told_with numbers after started (Some (job_with reads urgent)) last None) no_clock
   opened after reads urgent =
       let j : PlainJob = job_with reads urgent in
-      stays (told_with numbers after started (Some j) last None) (order_open numbers after started j last None sound.ascending here)
+      stays (told_with numbers after started (Some j) last None) (order_open numbers after started j last None here)
 
   pub within : place < length kept
-  within = omega (arith, here.within, kept_length numbers kept sound.room)
+  within = omega (arith, place_within numbers number.0 place here, kept_length numbers kept sound.room)
 
   pub read_starts : Accepts (record { job = record { number = number.0; mark = None; urgent = false }; length = size }) (Ok tt) now no_clock (told_with numbers kept started (Some (job_with true false)) last None) no_clock
   read_starts =
       let j : PlainJob = job_with true false in
-      ((none, subst (λ (d : DeviceTold). Opens (record { number = number.0; mark = None; urgent = false }) d (told_with numbers kept started (Some j) last None)) told_none (read_taken numbers kept started last given j sound.ascending sound.room here refl)), opened kept true false)
+      ((none, subst (λ (d : DeviceTold). Opens (record { number = number.0; mark = None; urgent = false }) d (told_with numbers kept started (Some j) last None)) told_none (read_taken numbers kept started last given j sound.room here refl)), opened kept true false)
 
   pub mark_starts : (u : Bool) (v : Kept) (after : List Kept) → after ≡ set kept place v → mark_of v.settled ≡ mark_of (get_or kept place blank).settled → v.doubted ≡ true
       → Accepts (record { job = record { number = number.0; mark = Some (mark_of v.next); urgent = u }; length = size }) (Ok tt) now no_clock (told_with numbers after started (Some (job_with false u)) last None) no_clock
   mark_starts u v after is same doubted =
       let j : PlainJob = job_with false u in
-      let taken = mark_taken numbers kept started last given j sound.ascending sound.room here v refl same doubted in
+      let taken = mark_taken numbers kept started last given j sound.room here v refl same doubted in
       let moved = subst (λ (d : DeviceTold). Opens (record { number = number.0; mark = Some (mark_of v.next); urgent = u }) d (told_with numbers (set kept place v) started (Some j) last None)) told_none taken in
       ((none, subst (λ (l : List Kept). Opens (record { number = number.0; mark = Some (mark_of v.next); urgent = u }) now (told_with numbers l started (Some j) last None)) (sym is) moved), opened after false u)
 
@@ -285,9 +285,9 @@ module _ (numbers : List (DeviceNumber × ℕ)) (kept : List Kept) (started : Bo
   pub fits : (n : ℕ) → size ≡ Some n → (d : Kept) → length (get_or kept place d).next.content ≡ n
   fits n is d =
       let first : DeviceNumber × ℕ = (record { 0 = 0 }, 0) in
-      let known : length_of numbers number.0 ≡ Some (get_or numbers place first).1 = size_is numbers kept number.0 place sound.ascending sound.room here first in
+      let known : length_of numbers number.0 ≡ Some (get_or numbers place first).1 = size_is numbers kept number.0 place sound.room here first in
       let taken = accepted started (subst (λ (d : DeviceTold). refusal_of d number.0 size ≡ None) (sym told_none) none) in
-      (room_at numbers kept place first d sound.room here.within).1 ∙ sym (same_size n _ (rw (is, known) at taken))
+      (room_at numbers kept place first d sound.room (place_within numbers number.0 place here)).1 ∙ sym (same_size n _ (rw (is, known) at taken))
     where
       accepted : (s : Bool) → refusal_of (told_with numbers kept s None last given) number.0 size ≡ None → length_refusal size (length_of numbers number.0) ≡ None
       accepted true is = is
@@ -295,8 +295,7 @@ module _ (numbers : List (DeviceNumber × ℕ)) (kept : List Kept) (started : Bo
 
   pub sound_after : (u : Bool) (v : Kept) (after : List Kept) → after ≡ set kept place v → length v.settled.content ≡ length (get_or kept place blank).settled.content → length v.next.content ≡ length (get_or kept place blank).next.content → IsSoundWith numbers after (Some (job_with false u)) last None
   sound_after u v after is one two = record {
-    ascending = sound.ascending;
-    room = subst (AreKept numbers) (sym is) (room_set numbers kept place v sound.room (λ d. (one ∙ (room_at numbers kept place d blank sound.room here.within).0, two ∙ (room_at numbers kept place d blank sound.room here.within).1)));
+    room = subst (AreKept numbers) (sym is) (room_set numbers kept place v sound.room (λ d. (one ∙ (room_at numbers kept place d blank sound.room (place_within numbers number.0 place here)).0, two ∙ (room_at numbers kept place d blank sound.room (place_within numbers number.0 place here)).1)));
     at = here;
     gives = tt;
     behind = tt;
@@ -309,7 +308,7 @@ behind_none j None behind = refl
 behind_none j (Some place) behind = absurd behind
 
 module _ (numbers : List (DeviceNumber × ℕ)) (kept : List Kept) (started : Bool) (job : Option PlainJob) (last : JobResult) (given : Option ℕ) (now : DeviceTold) (view : told_with numbers kept started job last given ≡ now) (j : PlainJob) (is : job ≡ Some j) (sound : IsSoundWith numbers kept job last given) where
-  stands : IsPlace numbers j.number.0 j.place
+  stands : place_of numbers j.number.0 ≡ Some j.place
   stands = subst (IsSoundJob numbers) is sound.at
 
   none_given : given ≡ None
@@ -319,27 +318,36 @@ module _ (numbers : List (DeviceNumber × ℕ)) (kept : List Kept) (started : Bo
   told_some = ap (λ (o : Option PlainJob). told_with numbers kept started o last given) (sym is) ∙ view
 
   pub turn_within : j.place < length kept
-  turn_within = omega (arith, stands.within, kept_length numbers kept sound.room)
+  turn_within = omega (arith, place_within numbers j.number.0 j.place stands, kept_length numbers kept sound.room)
 
   first : DeviceNumber × ℕ
   first = (record { 0 = 0 }, 0)
 
   pub turn_room : (d : Kept) → length (get_or kept j.place d).next.content ≡ length (get_or kept j.place d).settled.content
-  turn_room d = (room_at numbers kept j.place first d sound.room stands.within).1 ∙ sym (room_at numbers kept j.place first d sound.room stands.within).0
+  turn_room d = (room_at numbers kept j.place first d sound.room (place_within numbers j.number.0 j.place stands)).1 ∙ sym (room_at numbers kept j.place first d sound.room (place_within numbers j.number.0 j.place stands)).0
 
   pub write_sound : (after : List Kept) → after ≡ set kept j.place (settled (get_or kept j.place blank)) → IsSoundWith numbers after None JobOk given
   write_sound after same = record {
-    ascending = sound.ascending;
-    room = subst (AreKept numbers) (sym same) (room_set numbers kept j.place (settled (get_or kept j.place blank)) sound.room (λ d. let r = (room_at numbers kept j.place d blank sound.room stands.within).1 in (r, r)));
+    room = subst (AreKept numbers) (sym same) (room_set numbers kept j.place (settled (get_or kept j.place blank)) sound.room (λ d. let r = (room_at numbers kept j.place d blank sound.room (place_within numbers j.number.0 j.place stands)).1 in (r, r)));
     at = tt;
     gives = sound.gives;
     behind = tt;
     ended = λ h. cc;
   }
 
+  -- the content that was read stands at the job's place
+  pub read_sound : IsSoundWith numbers kept None JobOk (Some j.place)
+  read_sound = record {
+    room = sound.room;
+    at = tt;
+    gives = place_within numbers j.number.0 j.place stands;
+    behind = tt;
+    ended = λ h. cc;
+  }
+
   pub write_is : (after : List Kept) → after ≡ set kept j.place (settled (get_or kept j.place blank)) → not j.reads ≡ true → Turns Worked now no_clock (told_with numbers after started None JobOk given) no_clock
   write_is after same writes =
-      let turned = write_turns numbers kept started last given j sound.ascending sound.room stands (not-true j.reads writes) none_given in
+      let turned = write_turns numbers kept started last given j sound.room stands (not-true j.reads writes) none_given in
       let moved = subst (λ (d : DeviceTold). Turns Worked d no_clock (told_with numbers (set kept j.place (settled (get_or kept j.place blank))) started None JobOk given) no_clock) told_some turned in
       subst (λ (l : List Kept). Turns Worked now no_clock (told_with numbers l started None JobOk given) no_clock) (sym same) moved
 
@@ -350,14 +358,14 @@ module _ (numbers : List (DeviceNumber × ℕ)) (kept : List Kept) (started : Bo
 
     read_is : (r : JobResult) (g : Option ℕ) → Reads (mark_of k.settled) r (given_of kept g) → Gives r (length_of numbers j.number.0) (given_of kept g) → r ≢ JobFailed → Turns Worked now no_clock (told_with numbers kept started None r g) no_clock
     read_is r g shows gives done =
-        let turned = read_turns numbers kept started last given j sound.ascending sound.room stands r g (not-false j.reads reads) (subst (λ (x : Kept). Reads (mark_of x.settled) r (given_of kept g)) the_one shows) gives done in
+        let turned = read_turns numbers kept started last given j sound.room stands r g (not-false j.reads reads) (subst (λ (x : Kept). Reads (mark_of x.settled) r (given_of kept g)) the_one shows) gives done in
         subst (λ (d : DeviceTold). Turns Worked d no_clock (told_with numbers kept started None r g) no_clock) told_some turned
 
     pub content_is : k.settled.kind ≡ plain.Content → Turns Worked now no_clock (told_with numbers kept started None JobOk (Some j.place)) no_clock
     content_is kind =
-        let lent : given_of kept (Some j.place) ≡ k.settled.content = ap content_of (get_is numbers kept j.number.0 j.place sound.ascending sound.room stands) ∙ ap (λ (x : Kept). x.settled.content) (sym the_one) in
-        let size : length_of numbers j.number.0 ≡ Some (get_or numbers j.place first).1 = size_is numbers kept j.number.0 j.place sound.ascending sound.room stands first in
-        let long : length k.settled.content ≡ (get_or numbers j.place first).1 = ap (λ (x : Kept). length x.settled.content) the_one ∙ (room_at numbers kept j.place first blank sound.room stands.within).0 in
+        let lent : given_of kept (Some j.place) ≡ k.settled.content = ap content_of (get_is numbers kept j.number.0 j.place sound.room stands) ∙ ap (λ (x : Kept). x.settled.content) (sym the_one) in
+        let size : length_of numbers j.number.0 ≡ Some (get_or numbers j.place first).1 = size_is numbers kept j.number.0 j.place sound.room stands first in
+        let long : length k.settled.content ≡ (get_or numbers j.place first).1 = ap (λ (x : Kept). length x.settled.content) the_one ∙ (room_at numbers kept j.place first blank sound.room (place_within numbers j.number.0 j.place stands)).0 in
         read_is JobOk (Some j.place) (rw kind lent) (rw size (ap length lent ∙ long)) (λ h. cc)
 
     nothing : given_of kept given ≡ []
@@ -384,13 +392,13 @@ module _ (numbers : List (DeviceNumber × ℕ)) (kept : List Kept) (started : Bo
       let at : IsKind (told_with numbers kept started job last given) n None = record { configured = rw (length_none numbers n none) refl; kind = tt } in
       subst (λ (d : DeviceTold). IsKind d n None) view at
 
-  pub kind_some : (n place : ℕ) (k : Kept) → IsSoundWith numbers kept job last given → IsPlace numbers n place → k ≡ get_or kept place k → IsKind now n (Some k.settled.kind)
+  pub kind_some : (n place : ℕ) (k : Kept) → IsSoundWith numbers kept job last given → place_of numbers n ≡ Some place → k ≡ get_or kept place k → IsKind now n (Some k.settled.kind)
   kind_some n place k sound at item =
-      let lt : place < length kept = omega (arith, at.within, kept_length numbers kept sound.room) in
+      let lt : place < length kept = omega (arith, place_within numbers n place at, kept_length numbers kept sound.room) in
       let one : k ≡ get_or kept place blank = item ∙ get_or_default kept place k blank lt in
-      let slot : slot_at numbers (map slot_of kept) n ≡ slot_of k = slot_is numbers kept n place sound.ascending sound.room at ∙ ap slot_of (sym one) in
+      let slot : slot_at numbers (map slot_of kept) n ≡ slot_of k = slot_is numbers kept n place sound.room at ∙ ap slot_of (sym one) in
       let shows : k.settled.kind ≡ kind_of (slot_at numbers (map slot_of kept) n).settled.mark = kind_at k.settled k.settled.kind refl ∙ ap (λ (s : Slot). kind_of s.settled.mark) (sym slot) in
-      let size = size_is numbers kept n place sound.ascending sound.room at (record { 0 = 0 }, 0) in
+      let size = size_is numbers kept n place sound.room at (record { 0 = 0 }, 0) in
       let told : IsKind (told_with numbers kept started job last given) n (Some k.settled.kind) = record { configured = rw size refl; kind = λ on. shows } in
       subst (λ (d : DeviceTold). IsKind d n (Some k.settled.kind)) view told
 

@@ -3,7 +3,7 @@ use Rattle.std.specs.Prelude.{◌≡◌, ◌≢◌, ◌<◌, ℕ, Bool, false, i
 use Rattle.nv_base.specs.declared.instance.DeviceNumber.{DeviceNumber}
 use Rattle.nv_base.specs.declared.mark.Mark.{Mark}
 use Rattle.nv_base.specs.declared.mark.Mark.TheVariants as mark
-use Rattle.nv_base.specs.Lengths.{AreLengths, IsPlace}
+use Rattle.nv_base.specs.Lengths.{place_of}
 use Rattle.memif.specs.declared.answer.PlainMark.TheVariants as plain
 use Rattle.memif.specs.declared.answer.JobResult.{JobResult}
 use Rattle.memif.specs.declared.answer.JobResult.TheVariants.{JobPending}
@@ -77,7 +77,7 @@ AreKept (x ∷ xs) [] = ⊥
 
 abbrev pub IsSoundJob : List (DeviceNumber × ℕ) → Option PlainJob → Type 0
 IsSoundJob numbers None = Unit {0}
-IsSoundJob numbers (Some j) = IsPlace numbers j.number.0 j.place
+IsSoundJob numbers (Some j) = place_of numbers j.number.0 ≡ Some j.place
 
 abbrev pub IsSoundGiven : List (DeviceNumber × ℕ) → Option ℕ → Type 0
 IsSoundGiven numbers None = Unit {0}
@@ -90,7 +90,6 @@ GivesBehind (Some j) None = Unit {0}
 GivesBehind None given = Unit {0}
 
 pub record IsSoundWith (numbers : List (DeviceNumber × ℕ)) (kept : List Kept) (job : Option PlainJob) (last : JobResult) (given : Option ℕ) : Type 0 where
-  pub ascending : AreLengths 0 numbers
   pub room : AreKept numbers kept
   pub at : IsSoundJob numbers job
   pub gives : IsSoundGiven numbers given

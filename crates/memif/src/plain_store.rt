@@ -4,7 +4,7 @@ ghost use Rattle.memif.specs.Told.{DeviceTold, is_open};
 ghost use Rattle.memif.specs.Calls.{Accepts, refusal_of, StartsUp, Turns, InOrder};
 ghost use Rattle.memif.specs.PlainInside.{mark_of};
 ghost use Rattle.memif.specs.Plain.{plain_store, no_clock, IsPlainTurn};
-ghost use Rattle.nv_base.specs.Lengths.{IsPlace};
+ghost use Rattle.nv_base.specs.Lengths.{place_of};
 
 use crate::kept::{Kept, leave_no_doubt, mark, room_for, settle, stage};
 use crate::{DeviceRefusal, DeviceTurn, JobResult, MemDevice, MemStatus, PlainMark, StartFault};
@@ -80,7 +80,7 @@ impl PlainStore {
     #[tactic(auto, using(crate::proofs::PlainCalls::in_order))]
     fn check(&self, number: DeviceNumber, length: Option<usize>) -> Result<usize, DeviceRefusal>
         ensures refusal { MatchResult result (λ place. refusal_of self.now number.0 length ≡ None) (λ r. refusal_of self.now number.0 length ≡ Some r) }
-        ensures place { IfOk result (λ place. IsPlace self.now.fixed.numbers number.0 place) }
+        ensures place { IfOk result (λ place. place_of self.now.fixed.numbers number.0 ≡ Some place) }
         ensures order { InOrder self.now no_clock }
     {
         if self.job.is_some() {

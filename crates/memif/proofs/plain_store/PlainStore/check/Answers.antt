@@ -12,20 +12,20 @@ returns-in_default-clause-refusal c =
 
 pub returns-in-Some-length-clause-refusal : goal.returns-in-Some-length-clause-refusal
 returns-in-Some-length-clause-refusal c =
-    let at = c.in-Some.ensures.place in
-    let size : length_of c.self.inside.numbers c.args.number.0 ≡ Some c.from.result = length_at 0 _ _ _ (record { 0 = 0 }, 0) c.self.invariant.ascending at.within at.is ∙ ap Some (sym (rw c.as_slice.ensures.value at c.from.ensures)) in
+    let at = sym c.in-Some.ensures.value in
+    let size : length_of c.self.inside.numbers c.args.number.0 ≡ Some c.from.result = length_at c.self.inside.numbers c.args.number.0 _ (record { 0 = 0 }, 0) at ∙ ap Some (sym (rw c.as_slice.ensures.value at c.from.ensures)) in
     refused_as _ _ _ _ _ _ _ c.self.view_is c.args.number.0 c.args.length (Some BadLength) (sym c.is_some.ensures ∙ c.if-is_some.false) c.if-not-self.false (rw (size, c.in-Some-length.is, ne_eqb _ _ c.if-length-from.true) refl)
 
 pub returns-in_default-length-clause-refusal : goal.returns-in_default-length-clause-refusal
 returns-in_default-length-clause-refusal c =
-    let at = c.in-Some.ensures.place in
-    let size : length_of c.self.inside.numbers c.args.number.0 ≡ Some c.from.result = length_at 0 _ _ _ (record { 0 = 0 }, 0) c.self.invariant.ascending at.within at.is ∙ ap Some (sym (rw c.as_slice.ensures.value at c.from.ensures)) in
+    let at = sym c.in-Some.ensures.value in
+    let size : length_of c.self.inside.numbers c.args.number.0 ≡ Some c.from.result = length_at c.self.inside.numbers c.args.number.0 _ (record { 0 = 0 }, 0) at ∙ ap Some (sym (rw c.as_slice.ensures.value at c.from.ensures)) in
     refused_as _ _ _ _ _ _ _ c.self.view_is c.args.number.0 c.args.length None (sym c.is_some.ensures ∙ c.if-is_some.false) c.if-not-self.false (rw (size, c.in-Some-length.is, eq-eqb _ _ c.if-length-from.false) refl)
 
 pub returns-in_default-length-2-clause-refusal : goal.returns-in_default-length-2-clause-refusal
 returns-in_default-length-2-clause-refusal c =
-    let at = c.in-Some.ensures.place in
-    let size = length_at 0 _ _ _ (record { 0 = 0 }, 0) c.self.invariant.ascending at.within at.is in
+    let at = sym c.in-Some.ensures.value in
+    let size = length_at c.self.inside.numbers c.args.number.0 _ (record { 0 = 0 }, 0) at in
     refused_as _ _ _ _ _ _ _ c.self.view_is c.args.number.0 c.args.length None (sym c.is_some.ensures ∙ c.if-is_some.false) c.if-not-self.false (rw (size, c.in_default-length.is) refl)
 
 pub returns-then-is_some-clause-order : goal.returns-then-is_some-clause-order

@@ -1,6 +1,6 @@
 use Rattle.std.proofs.Common.{arith}
 use Rattle.memif.proofs.Plain.{blank}
-use Rattle.memif.proofs.PlainCalls.{turn_within, turn_room, write_sound, write_is, content_is, invalid_is, erased_is}
+use Rattle.memif.proofs.PlainCalls.{turn_within, turn_room, write_sound, read_sound, write_is, content_is, invalid_is, erased_is}
 use Rattle.memif.proofs.plain_store.PlainStoreMemDevice.turn.Goals as goal
 
 pub settle-requires-clause-place : goal.settle-requires-clause-place
@@ -11,6 +11,9 @@ settle-requires-clause-room c = turn_room _ _ _ _ _ _ _ c.self.view_is _ c.in-So
 
 pub invariant_of-self : goal.invariant_of-self
 invariant_of-self c = write_sound _ _ _ _ _ _ _ c.self.view_is _ c.in-Some.is c.self.invariant _ (c.settle.ensures blank)
+
+pub invariant_of-self-in-Content : goal.invariant_of-self-in-Content
+invariant_of-self-in-Content c = read_sound _ _ _ _ _ _ _ c.self.view_is _ c.in-Some.is c.self.invariant
 
 pub returns-then-not-job-clause-turn : goal.returns-then-not-job-clause-turn
 returns-then-not-job-clause-turn c = write_is _ _ _ _ _ _ _ c.self.view_is _ c.in-Some.is c.self.invariant _ (c.settle.ensures blank) c.if-not-job.true
