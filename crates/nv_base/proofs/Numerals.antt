@@ -1,6 +1,6 @@
 -- The digits of a number, as std knows them.
-use Rattle.std.proofs.Common.{◌≡◌, ◌<◌, ℕ, Bool, true, false, ◌&&◌, List, length, refl, rules}
-use Rattle.std.proofs.lemmas.Bool.{ltb-true}
+use Rattle.std.proofs.Common.{◌≡◌, ◌<◌, ℕ, true, List, length, rules}
+use Rattle.std.proofs.lemmas.Bool.{and_parts, ltb-true}
 use Rattle.std.proofs.lemmas.Fmt.{IsAscii-from_digits}
 use Rattle.std.proofs.lemmas.Str.{IsUtf8-from_ascii}
 use Rattle.std.proofs.lemmas.Str.Parse.{IsNumeralModel, numerals_by_value}
@@ -15,10 +15,6 @@ are_digits ds = list_all is_ascii_digit ds ≡ true
 
 pub model : IsNumeralModel are_digits (digits_value 10)
 model = numerals_by_value are_digits (search rules)
-
-and_parts : (a b : Bool) → (a && b) ≡ true → (a ≡ true) × (b ≡ true)
-and_parts true b h = (refl, h)
-and_parts false b h = cc
 
 -- one digit or more
 pub numeral_parts : (text : List ℕ) → is_numeral text ≡ true → (0 < length text) × are_digits text
