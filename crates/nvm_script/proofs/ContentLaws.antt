@@ -1,6 +1,6 @@
 -- The text of a content tells the content.
 use Rattle.std.proofs.Common.{◌≡◌, ◌<◌, ◌/◌, ◌%◌, ◌==◌, ℕ, zero, suc, Bool, true, false, ◌&&◌, ◌||◌, nat_le, if◌then◌else◌, List, [], ◌∷◌, ◌++◌, length, slice_index, replicate, refl, ap, ◌∙◌, arith}
-use Rattle.std.proofs.lemmas.Bool.{eqb-true}
+use Rattle.std.proofs.lemmas.Bool.{and_parts, eqb-true}
 use Rattle.std.proofs.lemmas.Fmt.{decimal_nonempty, digits_decimal, digits_value-decimal}
 use Rattle.std.proofs.lemmas.List.Sums.{AllPass-from_list_all}
 use Rattle.std.specs.Char.{is_ascii_digit}
@@ -15,7 +15,7 @@ use Rattle.nvm_script.specs.Values.{IsContent}
 use Rattle.nvm_script.specs.Words.{is_long_run, content_text}
 use Rattle.nvm_script.proofs.Cuts.{Lacks}
 use Rattle.nvm_script.proofs.Fields.{before, behind, before-field, behind-field, before-lacks, behind-lacks, lacks-all}
-use Rattle.nvm_script.proofs.Numerals.{model, and_parts}
+use Rattle.nvm_script.proofs.Numerals.{model}
 
 -- the bytes of a content's text
 abbrev pub is_digit_byte : ℕ → Bool

@@ -1,13 +1,13 @@
 -- A field at the head of a text, up to the byte that ends it, and what stands behind that byte.
 use Rattle.std.proofs.Common.{◌≡◌, ◌<◌, ◌^◌, ◌==◌, ℕ, Bool, true, false, if◌then◌else◌, List, [], ◌∷◌, ◌++◌, refl, ap, ◌∙◌}
-use Rattle.std.proofs.lemmas.Bool.{eqb-true, eq-eqb}
+use Rattle.std.proofs.lemmas.Bool.{and_parts, eqb-true, eq-eqb}
 use Rattle.std.specs.Char.{is_ascii_digit}
 use Rattle.std.specs.Fmt.{decimal}
 use Rattle.std.specs.List.{list_all, list_any}
 use Rattle.std.specs.Str.Parse.{digits_value}
 use Rattle.std.proofs.lemmas.Fmt.{digits_value-decimal}
 use Rattle.nvm_script.proofs.Cuts.{Lacks, or_parts}
-use Rattle.nvm_script.proofs.Numerals.{model, and_parts, decimal-lacks}
+use Rattle.nvm_script.proofs.Numerals.{model, decimal-lacks}
 
 abbrev pub before : ℕ → List ℕ → List ℕ
 before at [] = []

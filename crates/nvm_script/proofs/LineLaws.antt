@@ -1,6 +1,6 @@
 -- The caller is read exactly where the line names one.
 use Rattle.std.proofs.Common.{◌≡◌, ◌≤◌, ◌<◌, ◌^◌, ◌==◌, ℕ, Bool, true, false, List, [], ◌∷◌, ◌++◌, length, get_or, IfSome, Option, Some, None, refl, sym, ap, ◌∙◌, subst, arith, if◌then◌else◌}
-use Rattle.std.proofs.lemmas.Bool.{eqb-true, eq-eqb}
+use Rattle.std.proofs.lemmas.Bool.{and_parts, eqb-true, eq-eqb}
 use Rattle.std.proofs.lemmas.Option.{option_and_then_some}
 use Rattle.std.specs.Char.{is_ascii_digit}
 use Rattle.std.specs.Fmt.{decimal}
@@ -22,7 +22,7 @@ use Rattle.nv_base.specs.Decimal.{decimal_number_of}
 use Rattle.nvm_script.specs.Reading.{with_fields, spelled}
 use Rattle.nvm_script.specs.Word.{word_text, word_of}
 use Rattle.nvm_script.proofs.Cuts.{Joins, cut_at-joins, cut_at-append}
-use Rattle.nvm_script.proofs.Numerals.{model, and_parts, differs, decimal_number_of-spelled, decimal_number_of-decimal, decimal-lacks}
+use Rattle.nvm_script.proofs.Numerals.{model, differs, decimal_number_of-spelled, decimal_number_of-decimal, decimal-lacks}
 use Rattle.nvm_script.proofs.WordLaws.{word_of-found}
 
 small : (n : ℕ) → n ≤ 15 → n < 2 ^ 64

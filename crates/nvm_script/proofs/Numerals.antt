@@ -1,14 +1,12 @@
 -- The digits of a number, as std knows them.
 use Rattle.std.proofs.Common.{◌≡◌, ◌<◌, ◌≤◌, ◌^◌, ◌==◌, ℕ, zero, suc, Bool, true, false, not, ◌&&◌, ◌||◌, nat_le, if◌then◌else◌, List, [], ◌∷◌, length, get_or, slice_index, IfSome, Some, None, refl, sym, arith, rules}
-use Rattle.std.proofs.lemmas.Bool.{ltb-true, lt-ltb, leb-true, le-leb, eqb-true}
+use Rattle.std.proofs.lemmas.Bool.{and_parts, ltb-true, lt-ltb, leb-true, le-leb, eqb-true}
 use Rattle.std.proofs.lemmas.Bool.Decides.{nat_tests}
-use Rattle.std.proofs.lemmas.Fmt.{IsAscii-from_digits, decimal_digit, decimal_nonempty, first_decimal, digits_decimal, digits_value-decimal, decimal-digits_value}
-use Rattle.std.proofs.lemmas.Str.{IsUtf8-from_ascii}
+use Rattle.std.proofs.lemmas.Fmt.{decimal_digit, decimal_nonempty, first_decimal, digits_decimal, digits_value-decimal, decimal-digits_value}
 use Rattle.std.proofs.lemmas.Str.Parse.{IsNumeralModel, numerals_by_value}
 use Rattle.std.specs.Char.{is_ascii_digit}
 use Rattle.std.specs.Fmt.{decimal}
 use Rattle.std.specs.List.{list_all, list_any}
-use Rattle.std.specs.Str.{IsUtf8}
 use Rattle.std.specs.Str.Parse.{digits_value}
 use Rattle.nv_base.specs.Decimal.{is_numeral, decimal_number_of}
 
@@ -24,18 +22,11 @@ pub record IsNumeralText (text : List ℕ) : Type 0 where
   pub digits : are_digits text
   pub first : get_or text 0 0 ≡ 48 → length text ≡ 1
 
-pub and_parts : (a b : Bool) → (a && b) ≡ true → (a ≡ true) × (b ≡ true)
-and_parts true b h = (refl, h)
-and_parts false b h = cc
-
 pub IsNumeralText-from : (text : List ℕ) → is_numeral text ≡ true → IsNumeralText text
 IsNumeralText-from text h =
     let outer = and_parts _ _ h in
     let inner = and_parts _ _ outer.0 in
     record { some = ltb-true 0 (length text) inner.0; digits = outer.1; first = λ e. grind (arith, nat_tests, inner.1) }
-
-pub IsUtf8-numeral : (text : List ℕ) → is_numeral text ≡ true → IsUtf8 text
-IsUtf8-numeral text h = IsUtf8-from_ascii text (IsAscii-from_digits text (model.to text (IsNumeralText-from text h).digits))
 
 by_bounds : (low high : ℕ) (text : List ℕ) (a b : Bool) → nat_le low (digits_value 10 text) ≡ a → nat_le (digits_value 10 text) high ≡ b → IsNumeralText text → high < 2 ^ 64
     → IfSome (if a && b then Some (digits_value 10 text) else None) (λ n. (low ≤ n) × (n ≤ high) × (text ≡ decimal n))

@@ -1,13 +1,12 @@
 -- Words are told apart by their texts.
 use Rattle.std.proofs.Common.{◌≡◌, ℕ, Bool, true, false, cond, nat_eq, List, [], ◌∷◌, IfSome, Option, Some, refl, sym}
-use Rattle.std.proofs.lemmas.Bool.{eqb-true}
+use Rattle.std.proofs.lemmas.Bool.{and_parts, eqb-true}
 use Rattle.std.specs.List.{find}
 use Rattle.std.specs.Cmp.Lexicographic.{pointwise}
 use Rattle.nvm_script.specs.declared.word.Word.{Word}
 use Rattle.nvm_script.specs.declared.word.Word.TheVariants.{Read}
 use Rattle.nvm_script.specs.Word.{word_text, all_words, word_of}
 use Rattle.nvm_script.proofs.Cuts.{Lacks}
-use Rattle.nvm_script.proofs.Numerals.{and_parts}
 
 pub word_of-word_text : (w : Word) → word_of (word_text w) ≡ Some w
 unfolding word_of

@@ -1,23 +1,16 @@
 // The parts of a line, as text.
-ghost use Rattle.std.specs.Prelude.{◌≡◌, ◌==◌, ◌++◌, codes, IfOk, string_bytes};
-ghost use Rattle.std.specs.List.{list_all};
+ghost use Rattle.std.specs.Prelude.{◌≡◌, ◌++◌, codes, IfOk, string_bytes};
 ghost use Rattle.std.specs.Fmt.{decimal};
 ghost use Rattle.nvm_script.specs.Words.{is_long_run, content_text, mark_text, switch_text, of_block as block_text, of_block_with as block_text_with, store_text, request_text, reply_text, job_text, taken_text, given_text, refused_text};
 
-use nv_base::{Bytes, JobKind, Mark, Reply, Request, Taken, refusal_number, result_code};
+use nv_base::{Bytes, JobKind, Mark, Reply, Request, Taken, all_are, refusal_number, result_code};
 use std::alloc::{AllocError, Global};
-
-fn are_all(bytes: &[u8], value: u8) -> bool
-    ensures { result ≡ list_all (λ b. b == value) bytes.now }
-{
-    bytes.iter().all(|b| *b == value)
-}
 
 // Whether these are five bytes or more, all equal.
 fn is_run(bytes: &[u8]) -> bool
     ensures { result ≡ is_long_run bytes.now }
 {
-    bytes.len() >= 5 && are_all(bytes, bytes[0])
+    bytes.len() >= 5 && all_are(bytes, bytes[0])
 }
 
 // A content: a long run as its byte and its length, any other as hexadecimal digits.
