@@ -10,11 +10,14 @@ use Rattle.fls_model.specs.declared.flash.FlashAnswer.TheVariants.{Done, Failed 
 use Rattle.fls_model.specs.Told.{Told}
 use Rattle.fee_format.specs.declared.rec_head.RecHead.{RecHead}
 use Rattle.fee_log.specs.Index.{with_flag, clear_flags}
-use Rattle.fee_log.specs.Log.{LogState, erased_state, work_in}
+use Rattle.fee_log.specs.Log.{LogState, erased_state, work_in, begun}
 use Rattle.bank_start.specs.declared.active.ActiveBank.{ActiveBank}
 use Rattle.switch_course.specs.declared.course.Course.{Course}
 use Rattle.switch_course.specs.declared.course.Course.TheVariants.{Erase, Copy, Head, Gate}
 use Rattle.switch_course.specs.Course.{IsShort, after_done, after_failed, flag_due, appended_to, turns_left}
+use Rattle.fee_image.specs.Image.{layout_of, active_of}
+use Rattle.bank_start.specs.Active.{active_shown}
+use Rattle.fee_switch.specs.Start.{IsLoadedAs}
 use Rattle.fee_switch.specs.declared.phase.BankStart.{BankStart}
 use Rattle.fee_switch.specs.declared.phase.BankStart.TheVariants.{Ready, Failed}
 use Rattle.fee_switch.specs.declared.phase.BankStep.{BankStep}
@@ -76,6 +79,13 @@ pub record IsMade (s : BanksState) (g : Geometry) (banks : ℕ) (numbers : List 
 abbrev pub IsStartOf : Told → BankStart → Told → Type 0
 IsStartOf s Ready t = t ≡ s
 IsStartOf s Failed t = Rose s.faults t.faults × (t ≡ record s { faults = t.faults })
+
+-- the active bank is the one of these bytes, and its log is loaded from them
+abbrev pub FindsActive : List ℕ → BanksState → Type 0
+FindsActive bytes s = active_shown s.active ≡ active_of (layout_of s.geometry s.banks) bytes
+
+abbrev pub LoadsActive : List ℕ → BanksState → Type 0
+LoadsActive bytes s = IfSome s.active (λ a. IsLoadedAs (layout_of s.geometry s.banks) bytes a.bank a.head s.log)
 
 -- THE PHASE
 abbrev pub phase_of : Option Course → Phase
@@ -141,6 +151,9 @@ appended_at _ course = course
 
 abbrev pub course_appended : List (DeviceNumber × ℕ) → ℕ → Option Course → Option Course
 course_appended numbers number course = appended_at (place_of numbers number) course
+
+abbrev pub append_begun : BanksState → RecHead → BanksState
+append_begun s head = record s { log = begun s.log head; course = course_appended s.log.numbers head.number s.course }
 
 -- STEPS
 -- the target stands: the roles turn

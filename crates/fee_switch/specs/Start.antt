@@ -1,5 +1,6 @@
 -- What a start-up loads.
-use Rattle.std.specs.Prelude.{◌≡◌, ◌<◌, ℕ, List, Option, IfSome}
+use Rattle.std.specs.Prelude.{◌≡◌, ◌<◌, ◌+◌, ℕ, List, Option, IfSome}
+use Rattle.fls_model.specs.Told.{Told}
 use Rattle.fee_format.specs.declared.bank_head.BankHead.{BankHead}
 use Rattle.fee_image.specs.Image.{Layout, bank_in, active_below}
 use Rattle.log_image.specs.Laws.{loaded_log, IsLoadedTail}
@@ -25,6 +26,10 @@ pub record IsLoadedAs (l : Layout) (bytes : List ℕ) (k : ℕ) (h : BankHead) (
 -- of the first banks, so many, this one comes first, and this is its log
 abbrev pub AreTaken : Layout → List ℕ → ℕ → Option ActiveBank → LogState → Type 0
 AreTaken l bytes n first log = (active_shown first ≡ active_below l bytes n) × IfSome first (λ a. IsLoadedAs l bytes a.bank a.head log)
+
+-- one more bank is taken
+abbrev pub TakesNext : Told → Layout → ℕ → Option ActiveBank → LogState → Option ActiveBank → LogState → Type 0
+TakesNext told l n first log first' log' = IfSome told.bytes (λ b. AreTaken l b.now n first log → AreTaken l b.now (n + 1) first' log')
 
 -- it is a log of that bank
 abbrev pub IsLogAt : ℕ → Option ActiveBank → LogState → Type 0

@@ -16,7 +16,7 @@ ghost use Rattle.fee_log.specs.Step.{IsPageOf, IsStepAt, due_bytes, op_of, answe
 ghost use Rattle.switch_course.specs.Course.{IsShort, flag_due};
 ghost use Rattle.fee_switch.specs.Target.{IsWorking, op_at};
 ghost use Rattle.fee_switch.specs.Copy.{CanBegin, BeginsAt, CanCopy, BeginsNext, CanGoOn, MakesNext, IsBankStep};
-ghost use Rattle.fee_switch.specs.Banks.{TakesRecord, left_of, is_worn_out, target_after, target_at, flagged_by, ended, advanced, fallen_back, after_answer, step_of, begun_again, course_appended};
+ghost use Rattle.fee_switch.specs.Banks.{TakesRecord, left_of, is_worn_out, target_after, target_at, flagged_by, ended, advanced, fallen_back, after_answer, step_of, begun_again, append_begun, FindsActive, LoadsActive};
 
 use crate::copy::{begin_mark, copy_page, read_content};
 use crate::phase::phase_of;
@@ -210,7 +210,7 @@ impl Banks {
         requires open { TakesRecord kind self.old.course }
         requires configured { IsFor self.old.log.numbers (record { number = number.0; kind = kind; length = length }) }
         requires room { record_pages_of length self.old.geometry.page ≤ free_in self.old.log }
-        ensures { self.new ≡ record self.old { log = begun self.old.log (record { number = number.0; kind = kind; length = length }); course = course_appended self.old.log.numbers number.0 self.old.course } }
+        ensures { self.new ≡ append_begun self.old (record { number = number.0; kind = kind; length = length }) }
     {
         let index = self.log.lists().0.place_of(number);
         self.log.append_start(number, kind, length);
@@ -250,8 +250,8 @@ impl Banks {
         requires idle { IsIdle fls.old }
         requires geometry { fls.old.geometry ≡ self.old.geometry }
         requires on { fls.old.flash.off ≡ false }
-        ensures ready { result ≡ BankStart.Ready → IfSome fls.old.flash.bytes (λ b. active_shown self.new.active ≡ active_of (layout_of self.old.geometry self.old.banks) b.now) }
-        ensures loaded { result ≡ BankStart.Ready → IfSome fls.old.flash.bytes (λ b. IfSome self.new.active (λ a. IsLoadedAs (layout_of self.old.geometry self.old.banks) b.now a.bank a.head self.new.log)) }
+        ensures ready { result ≡ BankStart.Ready → IfSome fls.old.flash.bytes (λ b. FindsActive b.now self.new) }
+        ensures loaded { result ≡ BankStart.Ready → IfSome fls.old.flash.bytes (λ b. LoadsActive b.now self.new) }
         ensures flash { IsStartOf fls.old.flash result fls.new.flash }
         ensures failed { result ≡ BankStart.Failed → self.new.active ≡ None }
         ensures closed { self.new.course ≡ None }

@@ -1,10 +1,10 @@
 // A start-up: which bank is active, and its log.
-ghost use Rattle.std.specs.Prelude.{◌≡◌, ◌<◌, ◌+◌, length, None, IfSome};
+ghost use Rattle.std.specs.Prelude.{◌≡◌, ◌<◌, length, None, IfSome};
 ghost use Rattle.nv_base.specs.Geometry.{IsLegal, HasBanks, size_of_bank};
 ghost use Rattle.fls_jobs.specs.Start.{IsIdle};
 ghost use Rattle.fee_image.specs.Image.{layout_of};
 ghost use Rattle.bank_start.specs.Reading.{IsAnswered};
-ghost use Rattle.fee_switch.specs.Start.{AreTaken, IsLogAt, IsSameShape};
+ghost use Rattle.fee_switch.specs.Start.{AreTaken, TakesNext, IsLogAt, IsSameShape};
 
 use bank_start::{ActiveBank, banks_stand_alone, comes_first, read_bank};
 use fee_image::records_stay;
@@ -32,7 +32,7 @@ fn take_bank<F: Flash>(
     requires size { length buffer.old ≡ size_of_bank geometry banks }
     requires log_geometry { log.old.geometry ≡ geometry }
     requires log_banks { log.old.banks ≡ banks }
-    ensures taken { result ≡ FlashAnswer.Done → IfSome fls.old.flash.bytes (λ b. AreTaken (layout_of geometry banks) b.now bank first.old log.old → AreTaken (layout_of geometry banks) b.now (bank + 1) first.new log.new) }
+    ensures taken { result ≡ FlashAnswer.Done → TakesNext fls.old.flash (layout_of geometry banks) bank first.old log.old first.new log.new }
     ensures answer { IsAnswered fls.old.flash result fls.new.flash }
     ensures same { fls.new ≡ record fls.old { flash = fls.new.flash; result = fls.new.result } }
     ensures place { IsLogAt banks first.old log.old → IsLogAt banks first.new log.new }
