@@ -10,7 +10,8 @@ use Rattle.std.specs.Io.KnownBytes.{Appends}
 use Rattle.nv_streams.specs.Sink.{AppendsPrefix}
 use Rattle.nv_base.specs.declared.entry.Entry.{Entry}
 use Rattle.nvm_script.specs.Lines.{entry_line}
-use Rattle.nvm_top.specs.Output.{entries_text, Writes, Prints}
+use Rattle.nvm_script.specs.Printed.{history_text}
+use Rattle.nvm_top.specs.Output.{Writes, Prints}
 use Rattle.nvm_top.specs.declared.status.Status.{Status}
 use Rattle.nvm_top.specs.declared.status.Status.TheVariants as status
 
@@ -27,29 +28,29 @@ prefix-behind w w1 w2 a b whole is =
 
 -- ENTRIES
 -- one more
-pub entries_text-more : (entries : List Entry) (i : ℕ) (e : Entry) → slice_get entries i ≡ Some e → entries_text (take (i + 1) entries) ≡ entries_text (take i entries) ++ entry_line e
-entries_text-more entries i e at =
+pub history_text-more : (entries : List Entry) (i : ℕ) (e : Entry) → slice_get entries i ≡ Some e → history_text (take (i + 1) entries) ≡ history_text (take i entries) ++ entry_line e
+history_text-more entries i e at =
     rw (take_more entries i e (slice_get_within entries i e at), get_or_from_slice_get entries i e e at, flat_map-append entry_line (take i entries) (e ∷ [])) (ap (λ (l : List ℕ). flat_map entry_line (take i entries) ++ l) (append-nil (entry_line e)))
 
-pub entries-more : (w w1 w2 : Option (List ℕ)) (entries : List Entry) (i : ℕ) (e : Entry) → (piece : List ℕ) → slice_get entries i ≡ Some e → Appends w w1 (entries_text (take i entries)) → piece ≡ entry_line e → Appends w1 w2 piece → Appends w w2 (entries_text (take (i + 1) entries))
+pub entries-more : (w w1 w2 : Option (List ℕ)) (entries : List Entry) (i : ℕ) (e : Entry) → (piece : List ℕ) → slice_get entries i ≡ Some e → Appends w w1 (history_text (take i entries)) → piece ≡ entry_line e → Appends w1 w2 piece → Appends w w2 (history_text (take (i + 1) entries))
 entries-more w w1 w2 entries i e piece at before same line =
-    subst (λ (l : List ℕ). Appends w w2 l) (ap (λ (l : List ℕ). entries_text (take i entries) ++ l) same ∙ sym (entries_text-more entries i e at)) (Appends-trans w w1 w2 (entries_text (take i entries)) piece before line)
+    subst (λ (l : List ℕ). Appends w w2 l) (ap (λ (l : List ℕ). history_text (take i entries) ++ l) same ∙ sym (history_text-more entries i e at)) (Appends-trans w w1 w2 (history_text (take i entries)) piece before line)
 
 -- a prefix of one more is one of all
-pub entries-prefix : (w w1 w2 : Option (List ℕ)) (entries : List Entry) (i : ℕ) (e : Entry) → (piece : List ℕ) → slice_get entries i ≡ Some e → Appends w w1 (entries_text (take i entries)) → piece ≡ entry_line e → AppendsPrefix w1 w2 piece → AppendsPrefix w w2 (entries_text entries)
+pub entries-prefix : (w w1 w2 : Option (List ℕ)) (entries : List Entry) (i : ℕ) (e : Entry) → (piece : List ℕ) → slice_get entries i ≡ Some e → Appends w w1 (history_text (take i entries)) → piece ≡ entry_line e → AppendsPrefix w1 w2 piece → AppendsPrefix w w2 (history_text entries)
 entries-prefix w w1 w2 entries i e piece at before same line =
-    let joined : entries_text (take i entries) ++ piece ≡ entries_text (take (i + 1) entries) = ap (λ (l : List ℕ). entries_text (take i entries) ++ l) same ∙ sym (entries_text-more entries i e at) in
-    let front : AppendsPrefix w w2 (entries_text (take (i + 1) entries)) = subst (λ (l : List ℕ). AppendsPrefix w w2 l) joined (prefix-behind w w1 w2 (entries_text (take i entries)) piece before line) in
-    let parts : entries_text entries ≡ entries_text (take (i + 1) entries) ++ entries_text (drop (i + 1) entries) =
-    ap entries_text (sym (take-append-drop (i + 1) entries)) ∙ flat_map-append entry_line (take (i + 1) entries) (drop (i + 1) entries) in
+    let joined : history_text (take i entries) ++ piece ≡ history_text (take (i + 1) entries) = ap (λ (l : List ℕ). history_text (take i entries) ++ l) same ∙ sym (history_text-more entries i e at) in
+    let front : AppendsPrefix w w2 (history_text (take (i + 1) entries)) = subst (λ (l : List ℕ). AppendsPrefix w w2 l) joined (prefix-behind w w1 w2 (history_text (take i entries)) piece before line) in
+    let parts : history_text entries ≡ history_text (take (i + 1) entries) ++ history_text (drop (i + 1) entries) =
+    ap history_text (sym (take-append-drop (i + 1) entries)) ∙ flat_map-append entry_line (take (i + 1) entries) (drop (i + 1) entries) in
     subst (λ (l : List ℕ). AppendsPrefix w w2 l) (sym parts) (prefix-longer w w2 _ _ front)
 
 -- ENDS
 -- a line behind entries
-pub Prints-behind : (P : Status → List ℕ → Type 0) (Q : List Entry → Status → List ℕ → Type 0) (entries : List Entry) (w w1 w2 : Option (List ℕ)) (x : Status) → ((y : Status) (line : List ℕ) → P y line → Q entries y line) → Appends w w1 (entries_text entries) → Writes P w1 w2 x → Prints Q w w2 x
-Prints-behind P Q entries w w1 w2 status.Memory leads before is = (entries, subst (λ (o : Option (List ℕ)). Appends w o (entries_text entries)) (sym is) before)
-Prints-behind P Q entries w w1 w2 status.WriteFault leads before is = (entries, is.0, is.1, leads is.0 is.1 is.2, prefix-behind w w1 w2 (entries_text entries) is.1 before is.3)
-Prints-behind P Q entries w w1 w2 x leads before is = (entries, is.0, leads x is.0 is.1, Appends-trans w w1 w2 (entries_text entries) is.0 before is.2)
+pub Prints-behind : (P : Status → List ℕ → Type 0) (Q : List Entry → Status → List ℕ → Type 0) (entries : List Entry) (w w1 w2 : Option (List ℕ)) (x : Status) → ((y : Status) (line : List ℕ) → P y line → Q entries y line) → Appends w w1 (history_text entries) → Writes P w1 w2 x → Prints Q w w2 x
+Prints-behind P Q entries w w1 w2 status.Memory leads before is = (entries, subst (λ (o : Option (List ℕ)). Appends w o (history_text entries)) (sym is) before)
+Prints-behind P Q entries w w1 w2 status.WriteFault leads before is = (entries, is.0, is.1, leads is.0 is.1 is.2, prefix-behind w w1 w2 (history_text entries) is.1 before is.3)
+Prints-behind P Q entries w w1 w2 x leads before is = (entries, is.0, leads x is.0 is.1, Appends-trans w w1 w2 (history_text entries) is.0 before is.2)
 
 -- a line alone
 pub Prints-alone : (P : Status → List ℕ → Type 0) (Q : List Entry → Status → List ℕ → Type 0) (w w' : Option (List ℕ)) (x : Status) → ((y : Status) (line : List ℕ) → P y line → Q [] y line) → Writes P w w' x → Prints Q w w' x

@@ -5,7 +5,8 @@ use Rattle.nv_streams.specs.Sink.{AppendsPrefix}
 use Rattle.nv_base.specs.declared.entry.Entry.{Entry}
 use Rattle.nvm_script.specs.Lines.{end_line}
 use Rattle.fls_model.specs.Told.{ToldBytes}
-use Rattle.nvm_top.specs.Output.{Writes, Prints, BreaksOff, IsEndOf, entries_text, fault_status}
+use Rattle.nvm_script.specs.Printed.{history_text}
+use Rattle.nvm_top.specs.Output.{Writes, Prints, BreaksOff, IsEndOf, fault_status}
 use Rattle.nvm_top.specs.declared.output.OutputFault.{OutputFault}
 use Rattle.nvm_top.specs.declared.output.OutputFault.TheVariants.{Failed, Memory as OutOfMemory}
 use Rattle.nvm_top.specs.declared.status.Status.TheVariants as status
@@ -77,9 +78,9 @@ played-print need left flash w w' x same has is =
     Prints-as (RunsBy need flash) (PrintsBy left flash) w w' x (λ entries y line at. inr (has, subst (λ (n : ℕ). RunsBy n flash entries y line) same at)) is
 
 -- WRITING A RUN
-broken_at : (run : Result (Unit {0}) Stop) (entries : List Entry) (w w' : Option (List ℕ)) → AppendsPrefix w w' (entries_text entries) → Prints (IsRunLine run) w w' status.WriteFault
-broken_at (Ok done) entries w w' is = (entries, status.Ok, end_line (length entries), (refl, refl), prefix-longer w w' (entries_text entries) (end_line (length entries)) is)
-broken_at (Err stop) entries w w' is = (entries, status_of stop, line_of stop, (refl, refl), prefix-longer w w' (entries_text entries) (line_of stop) is)
+broken_at : (run : Result (Unit {0}) Stop) (entries : List Entry) (w w' : Option (List ℕ)) → AppendsPrefix w w' (history_text entries) → Prints (IsRunLine run) w w' status.WriteFault
+broken_at (Ok done) entries w w' is = (entries, status.Ok, end_line (length entries), (refl, refl), prefix-longer w w' (history_text entries) (end_line (length entries)) is)
+broken_at (Err stop) entries w w' is = (entries, status_of stop, line_of stop, (refl, refl), prefix-longer w w' (history_text entries) (line_of stop) is)
 
 broken : (run : Result (Unit {0}) Stop) (fault : OutputFault) (entries : List Entry) (w w' : Option (List ℕ)) → BreaksOff fault entries w w' → Prints (IsRunLine run) w w' (fault_status fault)
 broken run Failed entries w w' is = broken_at run entries w w' is
@@ -88,10 +89,10 @@ broken run OutOfMemory entries w w' is = (take is.0 entries, is.1)
 pub broken-print : (run : Result (Unit {0}) Stop) (fault : OutputFault) (entries : List Entry) (w w' : Option (List ℕ)) (x : Status) → x ≡ fault_status fault → BreaksOff fault entries w w' → Prints (IsRunLine run) w w' x
 broken-print run fault entries w w' x e is = subst (λ (z : Status). Prints (IsRunLine run) w w' z) (sym e) (broken run fault entries w w' is)
 
-pub end-print : (run : Result (Unit {0}) Stop) (done : Unit {0}) (entries : List Entry) (w w1 w2 : Option (List ℕ)) (x : Status) → run ≡ Ok done → Appends w w1 (entries_text entries) → Writes (IsEndOf entries) w1 w2 x → Prints (IsRunLine run) w w2 x
+pub end-print : (run : Result (Unit {0}) Stop) (done : Unit {0}) (entries : List Entry) (w w1 w2 : Option (List ℕ)) (x : Status) → run ≡ Ok done → Appends w w1 (history_text entries) → Writes (IsEndOf entries) w1 w2 x → Prints (IsRunLine run) w w2 x
 end-print run done entries w w1 w2 x e before is =
     subst (λ (r : Result (Unit {0}) Stop). Prints (IsRunLine r) w w2 x) (sym e) (Prints-behind (IsEndOf entries) (IsRunLine (Ok done)) entries w w1 w2 x (λ y line at. at) before is)
 
-pub stop-print : (run : Result (Unit {0}) Stop) (stop : Stop) (entries : List Entry) (w w1 w2 : Option (List ℕ)) (x : Status) → run ≡ Err stop → Appends w w1 (entries_text entries) → Writes (IsStop stop) w1 w2 x → Prints (IsRunLine run) w w2 x
+pub stop-print : (run : Result (Unit {0}) Stop) (stop : Stop) (entries : List Entry) (w w1 w2 : Option (List ℕ)) (x : Status) → run ≡ Err stop → Appends w w1 (history_text entries) → Writes (IsStop stop) w1 w2 x → Prints (IsRunLine run) w w2 x
 stop-print run stop entries w w1 w2 x e before is =
     subst (λ (r : Result (Unit {0}) Stop). Prints (IsRunLine r) w w2 x) (sym e) (Prints-behind (IsStop stop) (IsRunLine (Err stop)) entries w w1 w2 x (λ y line at. at) before is)

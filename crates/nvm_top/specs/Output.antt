@@ -1,10 +1,10 @@
 -- What a command writes last, and the statuses of outputs that fail.
 use Rattle.std.specs.Prelude.{◌≡◌, ◌⊎◌, ℕ, List, ◌++◌, length, take, Option}
-use Rattle.std.specs.List.{flat_map}
 use Rattle.std.specs.Io.KnownBytes.{Appends}
 use Rattle.nv_streams.specs.Sink.{AppendsPrefix}
 use Rattle.nv_base.specs.declared.entry.Entry.{Entry}
-use Rattle.nvm_script.specs.Lines.{entry_line, end_line}
+use Rattle.nvm_script.specs.Lines.{end_line}
+use Rattle.nvm_script.specs.Printed.{history_text}
 use Rattle.nvm_top.specs.declared.status.Status.{Status}
 use Rattle.nvm_top.specs.declared.status.Status.TheVariants as status
 use Rattle.nvm_top.specs.declared.output.OutputFault.{OutputFault}
@@ -26,22 +26,18 @@ Writes IsEnd written written' status.Memory = written' ≡ written
 Writes IsEnd written written' status.WriteFault = (meant : Status) × (line : List ℕ) × IsEnd meant line × AppendsPrefix written written' line
 Writes IsEnd written written' x = (line : List ℕ) × IsEnd x line × Appends written written' line
 
--- the lines of entries, in order
-abbrev pub entries_text : List Entry → List ℕ
-entries_text entries = flat_map entry_line entries
-
 -- `end` and the number of entries, where the run ended well
 abbrev pub IsEndOf : List Entry → Status → List ℕ → Type 0
 IsEndOf entries x line = (x ≡ status.Ok) × (line ≡ end_line (length entries))
 
 -- the lines of entries broke off: within them where the output failed, and behind a line at want of memory
 abbrev pub BreaksOff : OutputFault → List Entry → Option (List ℕ) → Option (List ℕ) → Type 0
-BreaksOff Failed entries written written' = AppendsPrefix written written' (entries_text entries)
-BreaksOff Memory entries written written' = (n : ℕ) × Appends written written' (entries_text (take n entries))
+BreaksOff Failed entries written written' = AppendsPrefix written written' (history_text entries)
+BreaksOff Memory entries written written' = (n : ℕ) × Appends written written' (history_text (take n entries))
 
 -- As `Writes`, with the lines of entries before the line. At want of memory lines of entries stand there alone, each of
 -- them whole.
 abbrev pub Prints : (List Entry → Status → List ℕ → Type 0) → Option (List ℕ) → Option (List ℕ) → Status → Type 0
-Prints IsEnd written written' status.Memory = (entries : List Entry) × Appends written written' (entries_text entries)
-Prints IsEnd written written' status.WriteFault = (entries : List Entry) × (meant : Status) × (line : List ℕ) × IsEnd entries meant line × AppendsPrefix written written' (entries_text entries ++ line)
-Prints IsEnd written written' x = (entries : List Entry) × (line : List ℕ) × IsEnd entries x line × Appends written written' (entries_text entries ++ line)
+Prints IsEnd written written' status.Memory = (entries : List Entry) × Appends written written' (history_text entries)
+Prints IsEnd written written' status.WriteFault = (entries : List Entry) × (meant : Status) × (line : List ℕ) × IsEnd entries meant line × AppendsPrefix written written' (history_text entries ++ line)
+Prints IsEnd written written' x = (entries : List Entry) × (line : List ℕ) × IsEnd entries x line × Appends written written' (history_text entries ++ line)

@@ -14,15 +14,13 @@ use crate::configuration::read_configuration;
 use crate::image::read_image;
 use crate::output::{put_lines, report};
 use crate::stop::Stop;
+use block_config::BANKS;
 use command_words::{CommandKind, command_of};
 use fls_model::Flash;
 use image_text::dump_text;
 use nv_base::Geometry;
 use nv_streams::{Sink, Source};
 use std::alloc::{AllocError, Global};
-
-/// The banks of the flash.
-const BANKS: u32 = 2;
 
 /// Writes what the flash holds: of each bank its head, its records and its tail, and which bank is active. The flash is
 /// read alone. The lines of the input after the first are read and ignored.

@@ -3,7 +3,8 @@ ghost use Rattle.std.specs.Prelude.{◌≡◌, ◌<◌, ◌≤◌, IfErr, OnOk, 
 ghost use Rattle.std.specs.Io.KnownBytes.{Appends};
 ghost use Rattle.nv_base.specs.Count.{Rose};
 ghost use Rattle.nv_streams.specs.Sink.{AppendsPrefix};
-ghost use Rattle.nvm_top.specs.Output.{fault_status, IsReport, Writes, BreaksOff, IsEndOf, entries_text};
+ghost use Rattle.nvm_script.specs.Printed.{history_text};
+ghost use Rattle.nvm_top.specs.Output.{fault_status, IsReport, Writes, BreaksOff, IsEndOf};
 ghost use Rattle.nvm_top.specs.Stop.{status_of, IsStop};
 
 use crate::Status;
@@ -92,7 +93,7 @@ pub fn write_history<K: Sink>(
     output: &mut K,
 ) -> Result<(), OutputFault>
     ensures ok { OnOk result (K.faults output.new ≡ K.faults output.old) }
-    ensures lines { OnOk result (Appends (K.written output.old) (K.written output.new) (entries_text history.now.entries)) }
+    ensures lines { OnOk result (Appends (K.written output.old) (K.written output.new) (history_text history.now.entries)) }
     ensures failed { IfErr result (λ fault. fault ≡ OutputFault.Failed → Rose (K.faults output.old) (K.faults output.new)) }
     ensures part { IfErr result (λ fault. BreaksOff fault history.now.entries (K.written output.old) (K.written output.new)) }
 {
