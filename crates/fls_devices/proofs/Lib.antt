@@ -1,3 +1,4 @@
+mod Cuts
 pub mod Merging
 pub mod Parts
 pub mod Steps

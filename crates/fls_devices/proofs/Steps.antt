@@ -11,13 +11,13 @@ use Rattle.fls_model.specs.Told.{Told, ToldBytes, Change, IfBothTold, changes_in
 use Rattle.fls_model.specs.Op.{Op, MayLeave}
 use Rattle.nv_base.specs.declared.geometry.Geometry.{Geometry}
 use Rattle.fls_model.specs.Call.{op_of}
-use Rattle.fls_model.specs.Step.{IsStep, IsAsked, IsChanged, OffOrAsked, Notes, HasCause, Leaves}
+use Rattle.fls_model.specs.Step.{IsStep, IsAsked, IsChanged, OffOrAsked, Notes, HasCause, Leaves, CountsUnplanned}
 use Rattle.fls_devices.specs.declared.journal.Event.{Event}
 use Rattle.fls_devices.specs.declared.part.Harm.{Harm}
 use Rattle.fls_devices.specs.declared.part.Harm.TheVariants.{Cut, Fault}
 use Rattle.fls_devices.specs.Journal.{Journaled, change_of, merged, all_changes, bytes_over, Passes, Adds}
 use Rattle.fls_devices.specs.Part.{part_of, harmed, cuts_after, faults_after, off_of}
-use Rattle.fls_devices.specs.Overlay.{Overlaid, IsOverlaid, IsAskedOver, FitsChanges, told_over, span, reached_count}
+use Rattle.fls_devices.specs.Overlay.{Overlaid, IsOverlaid, IsAskedOver, CountsInner, FitsChanges, told_over, span, reached_count}
 use Rattle.fls_devices.proofs.Merging.{merged_pass, merged_withheld, merged_reached}
 use Rattle.fls_devices.proofs.Parts.{part_within, may_stay}
 
@@ -124,18 +124,28 @@ cause_harmed Fault Done o n p q counts f c off cause = (rw f (rose_own _ _ o.fau
 cause_harmed Fault Failed o n p q counts f c off cause = (rw f (rose_own _ _ o.faults counts.faults (no_fall Failed o.inner n.inner cause).0), omega arith, off)
 cause_harmed Fault Off o n p q counts f c off cause = (omega arith, rw c (rose_beside _ _ o.cuts cause.1), off)
 
+-- a cut without a plan is one of all cuts too, as those of its own never fall
+counted_over : (o n : Overlaid) (p q : Planning) → o.cuts ≤ n.cuts → CountsInner p o q n → CountsUnplanned (told_over p o) (told_over q n)
+counted_over o n p q own (inl more) = inl (omega (arith, own, more))
+counted_over o n p q own (inr big) = inr (omega (arith, big))
+
+own_cuts : (h : Harm) (n : ℕ) → n ≤ last_count → n ≤ cuts_after h n
+own_cuts Cut n small = omega (arith, small)
+own_cuts Fault n small = omega arith
+
 -- THE STEPS
 pub on_step : (op : Op) (s : Told) (a : FlashAnswer) (t : Told) → s.off ≡ false → IsStep op s a t → IsAsked op s a t
 on_step op s a t on step = subst (λ (off : Bool). OffOrAsked off op s a t) on step
 
 -- an operation that was handed on
 pub asked_pass : (op : Op) (o : Overlaid) (a : FlashAnswer) (i : Told) (j : Journaled) → IsOverlaid o → IsAsked op o.inner a i → Passes o.journal j → IsAskedOver op o a (record o { inner = i; off = off_of a; journal = j })
-asked_pass op o a i j kept asked passes = λ p q goes. record {
+asked_pass op o a i j kept asked passes = λ p q goes counts. record {
   geometry = asked.geometry;
   ops = omega (arith, asked.ops);
   bytes = rw asked.geometry (over_pass o.inner.geometry op a o.journal j o.inner.bytes i.bytes passes asked.bytes kept.fits);
   cause = cause_pass a o (record o { inner = i; off = off_of a; journal = j }) p q refl refl refl asked.cause;
   planning = goes;
+  counted = counted_over o (record o { inner = i; off = off_of a; journal = j }) p q (omega arith) counts;
 }
 
 -- one of which nothing reached the inner flash
@@ -143,12 +153,13 @@ pub asked_withheld : (h : Harm) (op : Op) (o : Overlaid) (e : Event) (j : Journa
     → IsAskedOver op o (harmed h Done) (record { inner = o.inner; off = off_of (harmed h Done); cuts = cuts_after h o.cuts; faults = faults_after h o.faults; withheld = next_count o.withheld; journal = j })
 asked_withheld h op o e j kept counts on is answered since not adds =
     let n : Overlaid = record { inner = o.inner; off = off_of (harmed h Done); cuts = cuts_after h o.cuts; faults = faults_after h o.faults; withheld = next_count o.withheld; journal = j } in
-    λ p q goes. record {
+    λ p q goes sums. record {
       geometry = refl;
       ops = omega arith;
       bytes = over_withheld o.inner.geometry op h o.journal j e o.inner.bytes adds is answered since not kept.fits;
       cause = cause_harmed h Done o n p q counts refl refl refl (refl, refl, kept.power on);
       planning = goes;
+      counted = counted_over o n p q (own_cuts h o.cuts counts.cuts) sums;
     }
 
 -- one of which a part reached it
@@ -156,12 +167,13 @@ pub asked_reached : (h : Harm) (keep : ℕ) (op : Op) (a : FlashAnswer) (o : Ove
     → IsAskedOver op o (harmed h a) (record { inner = i; off = off_of (harmed h a); cuts = cuts_after h o.cuts; faults = faults_after h o.faults; withheld = o.withheld; journal = j })
 asked_reached h keep op a o i e j kept counts asked is answered since true_is adds =
     let n : Overlaid = record { inner = i; off = off_of (harmed h a); cuts = cuts_after h o.cuts; faults = faults_after h o.faults; withheld = o.withheld; journal = j } in
-    λ p q goes. record {
+    λ p q goes sums. record {
       geometry = asked.geometry;
       ops = omega (arith, asked.ops);
       bytes = rw asked.geometry (over_reached o.inner.geometry op h keep a o.journal j e o.inner.bytes i.bytes adds is answered since true_is asked.bytes kept.fits);
       cause = cause_harmed h a o n p q counts refl refl refl asked.cause;
       planning = goes;
+      counted = counted_over o n p q (own_cuts h o.cuts counts.cuts) sums;
     }
 
 -- WHAT STAYS TRUE

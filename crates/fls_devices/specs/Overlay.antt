@@ -7,7 +7,7 @@ use Rattle.nv_base.specs.Plan.{Planning}
 use Rattle.fls_model.specs.Plan.{PlanGoes}
 use Rattle.fls_model.specs.Told.{Told, Change, changes_in, powered}
 use Rattle.fls_model.specs.Op.{Op}
-use Rattle.fls_model.specs.Step.{IsAsked}
+use Rattle.fls_model.specs.Step.{IsAsked, CountsUnplanned}
 use Rattle.fls_devices.specs.declared.journal.Event.{Event}
 use Rattle.fls_devices.specs.declared.part.Harm.{Harm}
 use Rattle.fls_devices.specs.Journal.{Journaled, bytes_over, Clears, Passes, AddsOf}
@@ -88,9 +88,13 @@ WithheldOrPart false harm keep op old answer new = IsPartDone harm keep op old a
 abbrev pub IsHarmed : Harm → ℕ → Op → Overlaid → FlashAnswer → Overlaid → Type 0
 IsHarmed harm keep op old answer new = WithheldOrPart (nat_eq keep 0) harm keep op old answer new
 
+-- each cut that no plan asked for is one of the inner flash's, with the planned cuts as the device over it tells them
+abbrev pub CountsInner : Planning → Overlaid → Planning → Overlaid → Type 0
+CountsInner p old q new = CountsUnplanned (record old.inner { planning = p }) (record new.inner { planning = q })
+
 -- a changing operation, as it is told whatever becomes of the plans
 abbrev pub IsAskedOver : Op → Overlaid → FlashAnswer → Overlaid → Type 0
-IsAskedOver op old answer new = (p q : Planning) → PlanGoes answer p q → IsAsked op (told_over p old) answer (told_over q new)
+IsAskedOver op old answer new = (p q : Planning) → PlanGoes answer p q → CountsInner p old q new → IsAsked op (told_over p old) answer (told_over q new)
 
 -- an attach of the inner flash begins the journal
 abbrev pub JournalAfter : {A E : Type 0} → Result A E → Journaled → Journaled → Type 0

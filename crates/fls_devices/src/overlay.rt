@@ -1,11 +1,11 @@
 // A flash over another one, that can cut or fail an operation.
-ghost use Rattle.std.specs.Prelude.{◌≡◌, ◌+◌, ◌≤◌, length, true, false};
+ghost use Rattle.std.specs.Prelude.{◌≡◌, ◌+◌, ◌≤◌, length, true, false, Ok};
 ghost use Rattle.nv_base.specs.Count.{Rose, next_count};
 ghost use Rattle.nv_base.specs.Geometry.{IsLegal};
 ghost use Rattle.fls_model.specs.Told.{armed, powered, HasRange, HasPage, HasSector};
 ghost use Rattle.fls_model.specs.Op.{Op};
 ghost use Rattle.nv_base.specs.Plan.{Planning};
-ghost use Rattle.fls_model.specs.Step.{programs, erases};
+ghost use Rattle.fls_model.specs.Step.{CountsUnplanned, programs, erases};
 ghost use Rattle.fls_model.specs.Read.{IsRead};
 ghost use Rattle.fls_model.specs.Attach.{IsAttach};
 ghost use Rattle.fls_model.specs.Call.{op_of};
@@ -70,7 +70,7 @@ impl<F: Flash> Overlay<F> {
 
     pub fn attach(&mut self, alloc: Global, geometry: Geometry) -> Result<(), AttachFault>
         requires { IsLegal geometry }
-        ensures attach { (p : Planning) → IsAttach geometry (told_over p self.old) result (told_over p self.new) }
+        ensures attach { (p : Planning) → (result ≡ Ok tt → p.unplanned ≤ self.new.inner.cuts) → IsAttach geometry (told_over p self.old) result (told_over p self.new) }
         ensures inner { IsAttach geometry self.old.inner result self.new.inner }
         ensures journal { JournalAfter result self.old.journal self.new.journal }
         ensures same { self.new ≡ record self.old { inner = self.new.inner; journal = self.new.journal } }
@@ -119,6 +119,7 @@ impl<F: Flash> Overlay<F> {
     pub fn program(&mut self, address: u32, page: &[u8]) -> FlashAnswer
         requires { HasPage self.old.inner address (length page.now) }
         ensures step { self.old.off ≡ false → IsAskedOver (programs address page.now) self.old result self.new }
+        ensures counted { self.old.off ≡ false → CountsUnplanned self.old.inner self.new.inner }
         ensures passed { IsPassed (programs address page.now) self.old result self.new }
     {
         if self.off {
@@ -133,6 +134,7 @@ impl<F: Flash> Overlay<F> {
     pub fn erase(&mut self, sector: u32) -> FlashAnswer
         requires { HasSector self.old.inner sector }
         ensures step { self.old.off ≡ false → IsAskedOver (erases self.old.inner.geometry sector) self.old result self.new }
+        ensures counted { self.old.off ≡ false → CountsUnplanned self.old.inner self.new.inner }
         ensures passed { IsPassed (erases self.old.inner.geometry sector) self.old result self.new }
     {
         if self.off {
@@ -148,6 +150,7 @@ impl<F: Flash> Overlay<F> {
     fn withhold(&mut self, harm: Harm, call: Call) -> FlashAnswer
         requires { self.old.off ≡ false }
         ensures step { IsAskedOver (op_of self.old.inner.geometry call) self.old result self.new }
+        ensures counted { CountsUnplanned self.old.inner self.new.inner }
         ensures withheld { IsWithheld harm (op_of self.old.inner.geometry call) self.old result self.new }
     {
         let answer = harmed_answer(harm, FlashAnswer::Done);
@@ -164,6 +167,7 @@ impl<F: Flash> Overlay<F> {
         requires on { self.old.off ≡ false }
         requires page { HasPage self.old.inner address (length page.now) }
         ensures step { IsAskedOver (programs address page.now) self.old result self.new }
+        ensures counted { CountsUnplanned self.old.inner self.new.inner }
         ensures part { IsPartDone harm keep (programs address page.now) self.old result self.new }
     {
         let part = kept_part(page, keep);
@@ -181,6 +185,7 @@ impl<F: Flash> Overlay<F> {
         requires on { self.old.off ≡ false }
         requires sector { HasSector self.old.inner sector }
         ensures step { IsAskedOver (erases self.old.inner.geometry sector) self.old result self.new }
+        ensures counted { CountsUnplanned self.old.inner self.new.inner }
         ensures part { IsPartDone harm keep (erases self.old.inner.geometry sector) self.old result self.new }
     {
         let inner = self.inner.erase(sector);
@@ -197,6 +202,7 @@ impl<F: Flash> Overlay<F> {
         requires on { self.old.off ≡ false }
         requires page { HasPage self.old.inner address (length page.now) }
         ensures step { IsAskedOver (programs address page.now) self.old result self.new }
+        ensures counted { CountsUnplanned self.old.inner self.new.inner }
         ensures harmed { IsHarmed harm keep (programs address page.now) self.old result self.new }
     {
         if keep == 0 {
@@ -210,6 +216,7 @@ impl<F: Flash> Overlay<F> {
         requires on { self.old.off ≡ false }
         requires sector { HasSector self.old.inner sector }
         ensures step { IsAskedOver (erases self.old.inner.geometry sector) self.old result self.new }
+        ensures counted { CountsUnplanned self.old.inner self.new.inner }
         ensures harmed { IsHarmed harm keep (erases self.old.inner.geometry sector) self.old result self.new }
     {
         if keep == 0 {

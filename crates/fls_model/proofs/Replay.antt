@@ -75,6 +75,7 @@ asked_more m n call kept changes = record {
   bytes = record { bytes = changes.bytes; within = changes.within; changes = notes_more m n call kept changes };
   cause = (refl, refl, refl);
   planning = record { early = λ due. due; planning = refl };
+  counted = inl (omega arith);
 }
 
 pub kept_more : (m n : Inside) (call : Call) → IsKept m → Changes m n call → length n.bytes.items ≡ length m.bytes.items → IsKept n

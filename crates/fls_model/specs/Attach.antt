@@ -1,5 +1,5 @@
 -- What an attach does.
-use Rattle.std.specs.Prelude.{◌≡◌, ◌≢◌, ◌⊎◌, ℕ, List, [], ◌∷◌, length, replicate, IfSome, Result, Ok, Err}
+use Rattle.std.specs.Prelude.{◌≡◌, ◌≢◌, ◌⊎◌, ◌≤◌, ℕ, List, [], ◌∷◌, length, replicate, IfSome, Result, Ok, Err}
 use Rattle.nv_base.specs.Count.{Rose}
 use Rattle.nv_base.specs.Geometry.{size_of}
 use Rattle.nv_base.specs.declared.geometry.Geometry.{Geometry}
@@ -37,6 +37,8 @@ pub record IsAttached (g : Geometry) (s t : Told) : Type 0 where
   pub cuts : t.cuts ≡ s.cuts
   pub off : t.off ≡ s.off
   pub planning : t.planning ≡ s.planning
+  -- the cuts that came without a plan are among its cuts
+  pub unplanned : t.planning.unplanned ≤ t.cuts
 
 -- by its answer: attached, failed with a counted fault, of a wrong size, or without memory
 abbrev pub IsAttach : Geometry → Told → Result (Unit {0}) AttachFault → Told → Type 0

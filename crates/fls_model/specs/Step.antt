@@ -1,6 +1,6 @@
 -- What a program or an erase does.
-use Rattle.std.specs.Prelude.{◌≡◌, ◌≤◌, ◌*◌, ℕ, Bool, true, false, List, [], ◌∷◌, ◌++◌, Option, Some, None}
-use Rattle.nv_base.specs.Count.{Rose, next_count}
+use Rattle.std.specs.Prelude.{◌≡◌, ◌⊎◌, ◌≤◌, ◌+◌, ◌*◌, ℕ, Bool, true, false, List, [], ◌∷◌, ◌++◌, Option, Some, None}
+use Rattle.nv_base.specs.Count.{Rose, next_count, last_count}
 use Rattle.nv_base.specs.declared.geometry.Geometry.{Geometry}
 use Rattle.fls_model.specs.declared.flash.FlashAnswer.{FlashAnswer}
 use Rattle.fls_model.specs.declared.flash.FlashAnswer.TheVariants.{Done, Failed, Off}
@@ -39,6 +39,10 @@ HasCause Done s t = (t.faults ≡ s.faults) × (t.cuts ≡ s.cuts) × (t.off ≡
 HasCause Failed s t = Rose s.faults t.faults × (t.cuts ≡ s.cuts) × (t.off ≡ false)
 HasCause Off s t = (s.faults ≤ t.faults) × Rose s.cuts t.cuts × (t.off ≡ true)
 
+-- each cut that no plan asked for is one of its cuts, whose count stands still at its end
+abbrev pub CountsUnplanned : Told → Told → Type 0
+CountsUnplanned s t = (t.planning.unplanned + s.cuts ≤ s.planning.unplanned + t.cuts) ⊎ (last_count ≤ t.cuts)
+
 -- a changing operation that was asked for while no cut stood
 pub record IsAsked (op : Op) (s : Told) (answer : FlashAnswer) (t : Told) : Type 0 where
   pub geometry : t.geometry ≡ s.geometry
@@ -46,6 +50,7 @@ pub record IsAsked (op : Op) (s : Told) (answer : FlashAnswer) (t : Told) : Type
   pub bytes : IfBothTold s.bytes t.bytes (IsChanged op answer)
   pub cause : HasCause answer s t
   pub planning : PlanGoes answer s.planning t.planning
+  pub counted : CountsUnplanned s t
 
 abbrev pub OffOrAsked : Bool → Op → Told → FlashAnswer → Told → Type 0
 OffOrAsked true op s answer t = (answer ≡ Off) × (t ≡ s)
