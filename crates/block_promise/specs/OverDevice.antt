@@ -36,8 +36,8 @@ HasOffAt h n = IsTrue (list_any (is_off_at n) h)
 
 -- The device's part is told before the first start-up and now, its clock now. A count that stands at its end tells no moment.
 pub record KeepsOver (c : Configuration) (cap : ℕ) (h : List Entry) (before now : PartTold) (clock : PartClock) : Type 0 where
-  -- a power cut before or within any operation leaves marks that the history up to then allows
-  pub cut : (k : ℕ) (held : ℕ → Held) → k < last_count → clock.may_find (CutIn k) held → KeepsMarks c (up_to k h) (marks_in held)
+  -- a power cut before or within any operation that was asked for leaves marks that the history up to then allows
+  pub cut : (k : ℕ) (held : ℕ → Held) → k < last_count → k < now.ops → clock.may_find (CutIn k) held → KeepsMarks c (up_to k h) (marks_in held)
   -- each start-up lists what is found in its moment
   pub found : (marks : List (Instance × Mark)) (ops : ℕ) (held : ℕ → Held) → Contains h (Found marks ops) → ops < last_count → clock.may_find (After ops) held
       → Lists c marks (marks_in held)

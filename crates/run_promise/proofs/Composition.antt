@@ -1,7 +1,7 @@
 -- The promise from its two halves.
 use Rattle.std.specs.Prelude.{slice_get, min, IfSome}
 use Rattle.std.specs.Option.{option_map_or}
-use Rattle.std.proofs.Common.{◌≡◌, ℕ, ◌<◌, ◌≤◌, ◌+◌, ◌-◌, IsTrue, List, [], ◌∷◌, length, Option, Some, None, refl, sym, subst, ap, inl, inr, arith}
+use Rattle.std.proofs.Common.{◌≡◌, ℕ, zero, suc, ◌<◌, ◌≤◌, ◌+◌, ◌-◌, IsTrue, List, [], ◌∷◌, length, Option, Some, None, refl, sym, subst, ap, inl, inr, arith}
 use Rattle.nv_base.specs.Count.{last_count, WereCounted}
 use Rattle.fls_model.specs.Told.{Change, bytes_now}
 use Rattle.memif.specs.Told.{PartTold}
@@ -45,6 +45,15 @@ seen_too kept other k last [] ys more seen = seen
 seen_too kept other k last (x ∷ xs) [] more ((is, same), rest) = ((more k is, same), seen_too kept other (k + 1) last xs [] more rest)
 seen_too kept other k last (x ∷ xs) (y ∷ ys) more (inl (place, same, rest)) = inl (place, same, seen_too kept other (k + 1) last xs ys more rest)
 seen_too kept other k last (x ∷ xs) (y ∷ ys) more (inr ((is, same), rest)) = inr ((more k is, same), seen_too kept other (k + 1) last xs (y ∷ ys) more rest)
+
+-- an operation of the flash is one that the device asked for
+one_of : (k : ℕ) (xs : List Change) (x : Change) → slice_get xs k ≡ Some x → k < length xs
+one_of k [] x is = cc
+one_of zero (y ∷ xs) x is = omega arith
+one_of (suc k) (y ∷ xs) x is = let rest = one_of k xs x is in omega (arith, rest)
+
+was_asked : (n asked k : ℕ) → k < last_count → k < n → asked ≡ min n last_count → k < asked
+was_asked n asked k small within is = omega (arith, small, within, is)
 
 -- behind all operations the bytes are those of the exit
 past : {A : Type 0} (xs : List A) → slice_get xs (length xs) ≡ None
@@ -90,7 +99,9 @@ pub promised : (clock : PartClock) → HalvesMakeIt clock
 promised clock r before now block device = record {
   order = block.order;
   power_cut = λ tells sound k image small cut. record {
-    marks = block.over.cut k (held_in r.configuration.geometry (making_of r.configuration).numbers image) small (device.cut tells sound k image small cut);
+    marks = block.over.cut k (held_in r.configuration.geometry (making_of r.configuration).numbers image) small
+        (was_asked (length r.flash.operations) now.ops k small (one_of k r.flash.operations cut.0 cut.1) device.ops)
+        (device.cut tells sound k image small cut);
     sound = device.sound_cut tells sound k image small cut;
   };
   found = lists r before now clock block device;
