@@ -37,12 +37,12 @@ one_map : (s t : Bool) (f : InstanceState → InstanceState) (y x : InstanceStat
 one_map true t f y x rest more same others is = rw same (ap (λ (z : InstanceState). Some (f z)) (some_state y x is))
 one_map false t f y x rest more same others is = rw same (others is)
 
-found_map : (i : Instance) (f : InstanceState → InstanceState) → ((y : InstanceState) → (f y).instance ≡ y.instance) → (xs : List InstanceState) (x : InstanceState) → at_instance i xs ≡ Some x → at_instance i (map f xs) ≡ Some (f x)
+pub found_map : (i : Instance) (f : InstanceState → InstanceState) → ((y : InstanceState) → (f y).instance ≡ y.instance) → (xs : List InstanceState) (x : InstanceState) → at_instance i xs ≡ Some x → at_instance i (map f xs) ≡ Some (f x)
 found_map i f same [] x is = cc
 found_map i f same (y ∷ xs) x is =
     one_map (same_instance i y.instance) (same_instance i (f y).instance) f y x (at_instance i xs) (at_instance i (map f xs)) (ap (same_instance i) (same y)) (found_map i f same xs x) is
 
-if_instance : (b : Bool) (x : InstanceState) (d : Cell) → (if b then record x { cell = d } else x).instance ≡ x.instance
+pub if_instance : (b : Bool) (x : InstanceState) (d : Cell) → (if b then record x { cell = d } else x).instance ≡ x.instance
 if_instance true x d = refl
 if_instance false x d = refl
 

@@ -16,7 +16,7 @@ follows_along : (c : Configuration) (cap : ℕ) (h : List Entry) (s : State) (es
 follows_along c cap h s [] legal rest f = f
 follows_along c cap h s (e ∷ es) legal rest f = follows_along c cap h (step c s e) es legal.1 (rest_of h s.count e es rest) (steps_follow c cap h s e (head_of h s.count e es rest) legal.0 f)
 
-follows : (c : Configuration) (cap : ℕ) (h : List Entry) → IsLegal c cap h → Follows c h (after c h)
+pub follows : (c : Configuration) (cap : ℕ) (h : List Entry) → IsLegal c cap h → Follows c h (after c h)
 follows c cap h legal = follows_along c cap h at_first h legal ([], refl, refl) (at_first_follows c h (at_first_consistent c))
 
 pub one_of : {X : Type 0} (P : X → Type 0) (xs : List X) (x : X) → Each P xs → Contains xs x → P x

@@ -22,3 +22,5 @@ pub mod Along
 pub mod PendingBlocks
 pub mod CellChanges
 pub mod JobPlaces
+pub mod HandMarks
+pub mod OwnInstances

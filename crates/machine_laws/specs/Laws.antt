@@ -1,7 +1,7 @@
 -- Laws of the block machine.
 use Rattle.std.specs.Prelude.{◌≡◌, ◌≢◌, ◌↔◌, ℕ, ◌+◌, ◌-◌, ◌==◌, ◌&&◌, find, true, false, ◌⊎◌, List, [], ◌∷◌, ◌++◌, length, slice_get, ◌≤◌, ◌<◌, Bool, Contains, IsSome, IsTrue, map, is_some, unwrap_or, if◌then◌else◌, Option, Some, None}
 use Rattle.std.specs.Option.{option_map_or, option_and_then}
-use Rattle.nv_base.specs.Cell.{Cell, settled_as, doubted}
+use Rattle.nv_base.specs.Cell.{Cell, MayStand, settled_as, doubted}
 use Rattle.nv_base.specs.declared.instance.DeviceNumber.{DeviceNumber}
 use Rattle.nv_base.specs.Marks.{instance_of}
 use Rattle.block_config.specs.Lengths.{lengths_of}
@@ -14,9 +14,9 @@ use Rattle.block_machine.specs.Sweeps.{member_job, is_done}
 use Rattle.block_machine.specs.Reply.{reserved_entries, fits, holds, tested, reply_of}
 use Rattle.block_machine.specs.Next.{PickJob, PickMember, next_in, next_of}
 use Rattle.block_machine.specs.Results.{own_of, result_of, open_sets, failed_set}
-use Rattle.block_machine.specs.StartUp.{at_first, found_instance, found_instances}
+use Rattle.block_machine.specs.StartUp.{at_first, listed_mark, found_instance, found_instances}
 use Rattle.block_machine.specs.Steps.{step, after, after_from, without_job, picked_job}
-use Rattle.block_machine.specs.Legal.{IsAllowed, IsLegal, marks_of}
+use Rattle.block_machine.specs.Legal.{IsAllowed, IsLegal, MayBeFound, marks_of}
 use Rattle.block_machine.specs.History.{is_driver_until, up_to, MayStandIn, IsAllowedAt}
 use Rattle.block_machine.specs.Prices.{sum_from}
 use Rattle.block_machine.specs.Accepted.{IsAccepted, IsBroughtBy, IsNotOlder}
@@ -195,6 +195,20 @@ abbrev pub MarksAreAccepted : Type 0
 MarksAreAccepted =
     (c : Configuration) (cap : ℕ) (h : List Entry) (i : Instance) (mark : Mark) → IsLegalConfig c → IsLegal c cap h
     → MayStandIn (instance_at (after c h) i) mark → IsAccepted c h i mark
+
+-- the mark of the job in hand may stand in each instance that it works on
+abbrev pub MarksInHandStand : Type 0
+MarksInHandStand =
+    (c : Configuration) (cap : ℕ) (h : List Entry) (j : Job) (mark : Mark) (i : Instance) (x : InstanceState) → IsLegal c cap h
+    → (after c h).hand ≡ Some j → mark_of j ≡ Some mark → i.block ≡ job_block j → is_in (indices_of c (after c h) (job_block j)) i.index ≡ true
+    → instance_at (after c h) i ≡ Some x → MayStand x.cell mark
+
+-- where a mark is listed of each configured instance that may stand there, a later start-up may find them
+abbrev pub FoundMayStand : Type 0
+FoundMayStand =
+    (c : Configuration) (cap : ℕ) (h : List Entry) (marks : List (Instance × Mark)) → IsLegal c cap h → IsTrue (after c h).started
+    → ((n : DeviceNumber × ℕ) → Contains (lengths_of c) n → MayStandIn (instance_at (after c h) (instance_of n.0)) (listed_mark marks (instance_of n.0)))
+    → MayBeFound marks (after c h).instances
 
 -- JOBS AND THEIR BLOCKS
 

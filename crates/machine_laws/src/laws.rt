@@ -1,5 +1,5 @@
 // Laws of the block machine.
-ghost use Rattle.machine_laws.specs.Laws.{HistoriesStep, HistoriesGoOn, HistoriesStayLegal, BeginningsAreLegal, EntriesAreCounted, AsksAreLocal, LateEntriesAreCutOff, EarlyEntriesAreKept, UpToIsABeginning, AllowedStandNow, FailedSetsAreLeast, AcceptedPass, FittingHasRoom, NextIsWaiting, NextGoesFirst, NoneWaits, PickTakesInHand, EntriesOfTheJobInHand, FoundIsSettled, AllowedStepsStayConsistent, LegalStatesAreConsistent, DriverEntriesAreReserved, EntriesFit, EntriesAreLocal, JobsSplit, MarksAreBrought, MarksAreNotOlder, MarksAreAccepted, JobsArePending, JobsAreConfigured, JobsHaveTheirBlocks, PlacesAreConfigured, ContentsHaveLengths, WrittenAscends, EntriesGiveStatus, PostsAreNotPending, PendingHaveJobs, ReadsGiveSettled, CellsChange, FoundCells, SumsGrow, JobIsFound};
+ghost use Rattle.machine_laws.specs.Laws.{HistoriesStep, HistoriesGoOn, HistoriesStayLegal, BeginningsAreLegal, EntriesAreCounted, AsksAreLocal, LateEntriesAreCutOff, EarlyEntriesAreKept, UpToIsABeginning, AllowedStandNow, FailedSetsAreLeast, AcceptedPass, FittingHasRoom, NextIsWaiting, NextGoesFirst, NoneWaits, PickTakesInHand, EntriesOfTheJobInHand, FoundIsSettled, AllowedStepsStayConsistent, LegalStatesAreConsistent, DriverEntriesAreReserved, EntriesFit, EntriesAreLocal, JobsSplit, MarksAreBrought, MarksAreNotOlder, MarksAreAccepted, JobsArePending, JobsAreConfigured, JobsHaveTheirBlocks, PlacesAreConfigured, ContentsHaveLengths, WrittenAscends, EntriesGiveStatus, PostsAreNotPending, PendingHaveJobs, ReadsGiveSettled, CellsChange, FoundCells, SumsGrow, JobIsFound, MarksInHandStand, FoundMayStand};
 
 /// How a history grows.
 pub fn histories_grow()
@@ -48,11 +48,12 @@ pub fn a_pick_takes_in_hand()
     ensures goes_on { EntriesOfTheJobInHand }
 {}
 
-/// The cell of each instance behind an entry, and that a start-up settles what it lists.
+/// The cell of each instance behind an entry, that a start-up settles what it lists, and what a later one may list.
 pub fn what_is_found_is_settled()
     ensures found { FoundIsSettled }
     ensures each { FoundCells }
     ensures changes { CellsChange }
+    ensures later { FoundMayStand }
 {}
 
 /// The state after a legal history is consistent.
@@ -80,6 +81,7 @@ pub fn marks_that_stand()
     ensures brought { MarksAreBrought }
     ensures newest { MarksAreNotOlder }
     ensures accepted { MarksAreAccepted }
+    ensures in_hand { MarksInHandStand }
 {}
 
 /// After a legal history a block has one job at most, and is PENDING then; blocks and instances are the configured ones.

@@ -1,6 +1,7 @@
 -- The ids of members.
-use Rattle.std.proofs.Common.{◌≡◌, ℕ, zero, suc, ◌+◌, ◌-◌, ◌≤◌, Bool, true, false, if◌then◌else◌, List, [], ◌∷◌, map, filter, drop, length, slice_get, refl, sym, ap, ◌∙◌, subst, arith}
+use Rattle.std.proofs.Common.{◌≡◌, ℕ, zero, suc, ◌+◌, ◌-◌, ◌≤◌, ◌<◌, Bool, true, false, if◌then◌else◌, List, [], ◌∷◌, map, filter, drop, length, slice_get, refl, sym, ap, ◌∙◌, subst, arith}
 use Rattle.std.specs.List.{enumerate_from}
+use Rattle.std.proofs.lemmas.List.{length-drop}
 use Rattle.block_config.specs.declared.block.BlockDesc.{BlockDesc}
 use Rattle.block_config.specs.Config.{Configuration, block_of}
 use Rattle.multi_jobs.specs.Members.{is_member, is_member_at, ids_from}
@@ -87,3 +88,18 @@ ids_first c w k m rest e =
     let a : k + 1 + (m + 1 - (k + 2)) ≡ m - 1 + 1 = omega arith in
     let b : m + 1 ≡ m - 1 + 2 = omega arith in
     (omega arith, f.rest_is ∙ ap (numbered w (m + 1)) (drop_drop (m + 1 - (k + 2)) (k + 1) c.blocks ∙ ap (λ j. drop j c.blocks) a) ∙ ap (λ n. numbered w n (drop (m - 1 + 1) c.blocks)) b)
+
+-- a member is a configured block
+below_by : (t w : Bool) (n : ℕ) (x : BlockDesc) (xs : List BlockDesc) (m : ℕ) (rest : List ℕ) → (if t then n ∷ numbered w (n + 1) xs else numbered w (n + 1) xs) ≡ m ∷ rest
+    → (numbered w (n + 1) xs ≡ m ∷ rest → m < n + 1 + length xs) → m < n + length (x ∷ xs)
+below_by true w n x xs m rest e h = let a : n ≡ m = cc in omega (arith, a)
+below_by false w n x xs m rest e h = omega (arith, h e)
+
+first_below : (w : Bool) (n : ℕ) (xs : List BlockDesc) (m : ℕ) (rest : List ℕ) → numbered w n xs ≡ m ∷ rest → m < n + length xs
+first_below w n [] m rest e = cc
+first_below w n (x ∷ xs) m rest e = below_by (is_member w x) w n x xs m rest (sym (first_by (is_member w x) w n x xs) ∙ e) (first_below w (n + 1) xs m rest)
+
+pub ids_below : (c : Configuration) (w : Bool) (k m : ℕ) (rest : List ℕ) → ids_from c w k ≡ m ∷ rest → m ≤ length c.blocks
+ids_below c w k m rest e =
+    let f = first_is w (k + 2) (drop (k + 1) c.blocks) m rest e in
+    omega (arith, first_below w (k + 2) (drop (k + 1) c.blocks) m rest e, f.above, length-drop (k + 1) c.blocks)

@@ -1,3 +1,4 @@
 pub mod Ids
 pub mod Taken
 pub mod Noted
+pub mod Configured

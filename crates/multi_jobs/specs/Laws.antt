@@ -1,5 +1,5 @@
 -- Sweeps against the machine's.
-use Rattle.std.specs.Prelude.{◌≡◌, ℕ, Bool, true, false, drop, Option, Some, None}
+use Rattle.std.specs.Prelude.{◌≡◌, ◌≤◌, ◌<◌, ℕ, Bool, true, false, List, ◌∷◌, drop, length, Option, Some, None}
 use Rattle.block_machine.specs.Words.{ReqResult, JobKind, Configuration}
 use Rattle.block_machine.specs.State.{State, Sweep}
 use Rattle.block_machine.specs.Blocks.{desc_of, block_at, names_rom}
@@ -56,3 +56,7 @@ MembersAreNoted =
     (c : Configuration) (s : SweepState) (sw : Sweep) (id : ℕ) (r : ReqResult) (same_id : Bool)
     → Agree c s sw → next_member c s ≡ Some id → (id ≡ 1 → same_id ≡ is_done r)
     → Agree c (noted (Some r) same_id (moved c s)) (after_member id r (record sw { left = drop 1 sw.left }))
+
+-- The next member is a configured block.
+abbrev pub MembersAreConfigured : Type 0
+MembersAreConfigured = (c : Configuration) (s : SweepState) (id : ℕ) (rest : List ℕ) → 0 < length c.blocks → left_of c s ≡ id ∷ rest → id ≤ length c.blocks

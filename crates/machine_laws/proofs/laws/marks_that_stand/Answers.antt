@@ -1,5 +1,6 @@
 use Rattle.machine_laws.proofs.MarkOrigins as law
 use Rattle.machine_laws.proofs.WholeSteps as whole
+use Rattle.machine_laws.proofs.HandMarks.{marks_in_hand_stand}
 use Rattle.machine_laws.proofs.laws.marks_that_stand.Goals as goal
 
 pub returns-clause-brought : goal.returns-clause-brought
@@ -10,3 +11,6 @@ returns-clause-newest c = law.marks_are_not_older
 
 pub returns-clause-accepted : goal.returns-clause-accepted
 returns-clause-accepted c = whole.marks_are_accepted
+
+pub returns-clause-in_hand : goal.returns-clause-in_hand
+returns-clause-in_hand c = marks_in_hand_stand
