@@ -73,6 +73,11 @@ abbrev pub is_closed : Tail → Bool
 is_closed Closed = true
 is_closed _ = false
 
+-- the gate of a record that was given up is owed
+abbrev pub is_owed : Tail → Bool
+is_owed (Owes head next) = true
+is_owed _ = false
+
 -- the pages behind the log's end that a record that is in work, waits or owes its gate takes
 abbrev pub pages_with : ℕ → Option RecHead → ℕ
 pages_with p None = 0

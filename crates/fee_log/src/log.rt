@@ -8,7 +8,7 @@ ghost use Rattle.fls_jobs.specs.CallOf.{closed_as};
 ghost use Rattle.fls_jobs.specs.Start.{IsIdle};
 ghost use Rattle.log_image.specs.Places.{IsWithin};
 ghost use Rattle.fee_log.specs.Index.{place_in, flag_in, with_flag, clear_flags};
-ghost use Rattle.fee_log.specs.Log.{IsLogState, IsViewOf, IsLoaded, IsFor, work_in, is_closed, free_in, left_in, pages_in, erased_state, begun};
+ghost use Rattle.fee_log.specs.Log.{IsLogState, IsViewOf, IsLoaded, IsFor, work_in, is_closed, is_owed, free_in, left_in, pages_in, erased_state, begun};
 ghost use Rattle.fee_log.specs.Step.{IsPageOf, IsStepAt, due_bytes, due_page, op_of, answer_of, after_step, given_up};
 
 use crate::index::{
@@ -143,6 +143,16 @@ impl Log {
             Tail::Writes { head, .. } => Some(head),
             Tail::Owes { next, .. } => next,
             _ => None,
+        }
+    }
+
+    /// Whether the gate of a record that was given up is owed, which the next append programs first.
+    pub fn owes_gate(&self) -> bool
+        ensures { result ≡ is_owed self.now.tail }
+    {
+        match self.tail {
+            Tail::Owes { .. } => true,
+            _ => false,
         }
     }
 

@@ -12,8 +12,12 @@ use Rattle.fee_format.specs.declared.rec_head.RecHead.{RecHead}
 use Rattle.fee_log.specs.Index.{with_flag, clear_flags}
 use Rattle.fee_log.specs.Log.{LogState, erased_state, work_in, begun}
 use Rattle.bank_start.specs.declared.active.ActiveBank.{ActiveBank}
+use Rattle.log_image.specs.declared.place.Place.{Place}
+use Rattle.log_image.specs.declared.place.Place.TheVariants.{Content}
+use Rattle.switch_course.specs.declared.copies.Source.{Source}
 use Rattle.switch_course.specs.declared.course.Course.{Course}
 use Rattle.switch_course.specs.declared.course.Course.TheVariants.{Erase, Copy, Head, Gate}
+use Rattle.switch_course.specs.Copies.{next_copy}
 use Rattle.switch_course.specs.Course.{IsShort, after_done, after_failed, flag_due, appended_to, turns_left}
 use Rattle.fee_image.specs.Image.{layout_of, active_of}
 use Rattle.bank_start.specs.Active.{active_shown}
@@ -123,6 +127,19 @@ left_with s (Some course) =
 
 abbrev pub left_of : BanksState → ℕ
 left_of s = left_with s s.course
+
+-- the next step reads a content
+abbrev pub reads_place : Place → Bool
+reads_place (Content at) = true
+reads_place place = false
+
+abbrev pub reads_source : Option Source → Bool
+reads_source None = false
+reads_source (Some source) = reads_place source.place
+
+abbrev pub reads_next : LogState → Option Course → Bool
+reads_next log (Some (Copy None)) = reads_source (next_copy log.numbers log.places log.flags)
+reads_next log course = false
 
 -- A SWITCH BEGINS
 abbrev pub is_worn_out : Option ActiveBank → Bool

@@ -1,11 +1,11 @@
 -- What a start-up loads.
-use Rattle.std.specs.Prelude.{◌≡◌, ◌<◌, ◌+◌, ℕ, List, Option, IfSome}
+use Rattle.std.specs.Prelude.{◌≡◌, ◌<◌, ◌+◌, ℕ, List, Option, None, IfSome}
 use Rattle.fls_model.specs.Told.{Told}
 use Rattle.fee_format.specs.declared.bank_head.BankHead.{BankHead}
 use Rattle.fee_image.specs.Image.{Layout, bank_in, active_below}
 use Rattle.log_image.specs.Laws.{loaded_log, IsLoadedTail}
 use Rattle.fee_log.specs.Index.{clear_flags}
-use Rattle.fee_log.specs.Log.{LogState, log_of, tail_with}
+use Rattle.fee_log.specs.Log.{LogState, log_of, tail_with, work_in}
 use Rattle.bank_start.specs.declared.active.ActiveBank.{ActiveBank}
 use Rattle.bank_start.specs.Active.{active_shown}
 
@@ -31,6 +31,14 @@ AreTaken l bytes n first log = (active_shown first ≡ active_below l bytes n) �
 abbrev pub TakesNext : Told → Layout → ℕ → Option ActiveBank → LogState → Option ActiveBank → LogState → Type 0
 TakesNext told l n first log first' log' = IfSome told.bytes (λ b. AreTaken l b.now n first log → AreTaken l b.now (n + 1) first' log')
 
--- it is a log of that bank
+-- it is a log of that bank, in the one format that there is; no flag is set, and no record in work
+pub record IsLogIn (banks : ℕ) (a : ActiveBank) (log : LogState) : Type 0 where
+  pub inside : a.bank < banks
+  pub bank : log.bank ≡ a.bank
+  pub head : a.head.format ≡ 1
+  pub format : log.format ≡ 1
+  pub clear : log.flags ≡ clear_flags log.numbers
+  pub idle : work_in log.tail ≡ None
+
 abbrev pub IsLogAt : ℕ → Option ActiveBank → LogState → Type 0
-IsLogAt banks first log = IfSome first (λ a. (a.bank < banks) × (log.bank ≡ a.bank))
+IsLogAt banks first log = IfSome first (λ a. IsLogIn banks a log)

@@ -5,18 +5,20 @@ ghost use Rattle.fls_jobs.specs.Start.{IsIdle};
 ghost use Rattle.fee_image.specs.Image.{layout_of, active_of};
 ghost use Rattle.bank_start.specs.Active.{active_shown};
 ghost use Rattle.fee_switch.specs.Start.{IsLoadedAs, IsSameShape};
-ghost use Rattle.fee_switch.specs.Banks.{IsMade, IsSameFlash, IsStartOf, phase_of};
+ghost use Rattle.fee_switch.specs.Banks.{IsBanksState, IsMade, IsSameFlash, IsStartOf, phase_of};
 ghost use Rattle.std.specs.Prelude.{IsSome, Some, length};
+ghost use Rattle.std.specs.List.{All};
 ghost use Rattle.std.specs.Option.{ForSome};
 ghost use Rattle.nv_base.specs.Pages.{record_pages_of};
 ghost use Rattle.fls_model.specs.Step.{IsStep};
 ghost use Rattle.fls_jobs.specs.CallOf.{closed_as};
-ghost use Rattle.fee_log.specs.Log.{IsFor, work_in, free_in, begun};
+ghost use Rattle.fee_log.specs.Index.{clear_flags};
+ghost use Rattle.fee_log.specs.Log.{IsLogState, IsFor, work_in, free_in, begun, erased_state};
 ghost use Rattle.fee_log.specs.Step.{IsPageOf, IsStepAt, due_bytes, op_of, answer_of, after_step, given_up};
 ghost use Rattle.switch_course.specs.Course.{IsShort, flag_due};
 ghost use Rattle.fee_switch.specs.Target.{IsWorking, op_at};
 ghost use Rattle.fee_switch.specs.Copy.{CanBegin, BeginsAt, CanCopy, BeginsNext, CanGoOn, MakesNext, IsBankStep};
-ghost use Rattle.fee_switch.specs.Banks.{TakesRecord, left_of, is_worn_out, target_after, target_at, flagged_by, ended, advanced, fallen_back, after_answer, step_of, begun_again, append_begun, FindsActive, LoadsActive};
+ghost use Rattle.fee_switch.specs.Banks.{TakesRecord, left_of, is_worn_out, target_after, target_at, flagged_by, reads_place, reads_next, ended, advanced, fallen_back, after_answer, step_of, begun_again, append_begun, FindsActive, LoadsActive};
 
 use crate::copy::{begin_mark, copy_page, read_content};
 use crate::phase::phase_of;
@@ -91,6 +93,21 @@ fn target_of(active: Option<ActiveBank>, banks: u32) -> u32
     }
 }
 
+// Tells proofs that bytes are below 256.
+fn tell_bytes(bytes: &Vec<u8>)
+    ensures { All (λ x. x < 256) bytes.now.items }
+{}
+
+// Whether a copy of what stands at a place begins with a read.
+fn reads_place(place: Place) -> bool
+    ensures { result ≡ reads_place place }
+{
+    match place {
+        Place::Content { .. } => true,
+        _ => false,
+    }
+}
+
 // Sets the flag that the next operation of a course sets, if any.
 fn set_flag_due(log: &mut Log, course: Course)
     ensures log { log.new ≡ flagged_by log.old (flag_due course) }
@@ -130,14 +147,29 @@ impl Banks {
         })
     }
 
-    /// The active bank, from 0.
+    /// The active bank, from 0. Behind it a caller knows what holds of all banks.
     pub fn active(&self) -> Option<u32>
-        ensures { result ≡ option_map (λ a. a.bank) self.now.active }
+        ensures active { result ≡ option_map (λ a. a.bank) self.now.active }
+        ensures state { IsBanksState self.now }
+        ensures log { IsLogState self.now.log }
+        ensures copies { IsLogState self.now.copies }
+        ensures bytes { All (λ x. x < 256) self.now.buffer }
     {
+        self.log.lists();
+        self.copies.lists();
+        tell_bytes(&self.buffer);
         match self.active {
             Some(active) => Some(active.bank),
             None => None,
         }
+    }
+
+    /// The shape of the flash.
+    pub fn geometry(&self) -> Geometry
+        ensures geometry { result ≡ self.now.geometry }
+        ensures state { IsBanksState self.now }
+    {
+        self.geometry
     }
 
     /// Lends the active log. None exactly where no bank is active.
@@ -156,6 +188,20 @@ impl Banks {
         ensures { result ≡ phase_of self.now.course }
     {
         phase_of(self.course)
+    }
+
+    /// Whether the next step of the open switch reads a content, which changes nothing on the flash.
+    pub fn reads_next(&self) -> bool
+        ensures { result ≡ reads_next self.now.log self.now.course }
+    {
+        let Some(Course::Copy { work: None }) = self.course else {
+            return false;
+        };
+        let (numbers, places, flags) = self.log.lists();
+        match next_copy(numbers, places, flags) {
+            Some(source) => reads_place(source.place),
+            None => false,
+        }
     }
 
     /// The turns that the open switch has left, 0 where none is open. A record in work in the active log counts as a content
@@ -244,8 +290,8 @@ impl Banks {
     }
 
     /// Reads each sector once, whole, in ascending order, and programs nothing. The active bank is the one that stands with
-    /// the greatest generation, on a tie the lower one, whatever the bytes are; its log is loaded, and no switch is open.
-    /// `Failed` comes only where the flash's faults rose; then no bank is active.
+    /// the greatest generation, on a tie the lower one, whatever the bytes are; its log is loaded, or without one that of an
+    /// erased bank, and no switch is open. `Failed` comes only where the flash's faults rose; then no bank is active.
     pub fn start<F: Flash>(&mut self, fls: &mut Fls<F>) -> BankStart
         requires idle { IsIdle fls.old }
         requires geometry { fls.old.geometry ≡ self.old.geometry }
@@ -254,6 +300,10 @@ impl Banks {
         ensures loaded { result ≡ BankStart.Ready → IfSome fls.old.flash.bytes (λ b. LoadsActive b.now self.new) }
         ensures flash { IsStartOf fls.old.flash result fls.new.flash }
         ensures failed { result ≡ BankStart.Failed → self.new.active ≡ None }
+        ensures format { IfSome self.new.active (λ a. (a.head.format ≡ 1) × (self.new.log.format ≡ 1)) }
+        ensures clear { result ≡ BankStart.Ready → self.new.log.flags ≡ clear_flags self.new.log.numbers }
+        ensures idle { result ≡ BankStart.Ready → work_in self.new.log.tail ≡ None }
+        ensures blank { result ≡ BankStart.Ready → self.new.active ≡ None → self.new.log ≡ erased_state self.old.geometry self.old.banks 0 self.old.log.numbers }
         ensures closed { self.new.course ≡ None }
         ensures same { fls.new ≡ record fls.old { flash = fls.new.flash; result = fls.new.result } }
         ensures flash_of { IsSameFlash self.old self.new }
@@ -273,6 +323,9 @@ impl Banks {
         self.course = None;
         if answer == FlashAnswer::Done {
             self.active = first;
+            if first.is_none() {
+                self.log.move_to(0);
+            }
             BankStart::Ready
         } else {
             self.active = None;
