@@ -31,7 +31,7 @@ module _ (targets : TargetsHold) (s : BanksState) (bodies : Bodies) (old new : L
   abbrev log : Log
   log = log_of s.copies bodies.copy
 
-  by_answer : (stage : Stage) (answer : FlashAnswer) → IsWorking (sectors_of_bank s.geometry s.banks) stage → phase_shown s.course s bodies.copy ≡ phase_of (target_at s stage) stage log
+  pub by_answer : (stage : Stage) (answer : FlashAnswer) → IsWorking (sectors_of_bank s.geometry s.banks) stage → phase_shown s.course s bodies.copy ≡ phase_of (target_at s stage) stage log
       → IsReady (target_at s stage) stage (banks_shown s bodies may copied) → MayLeave (op_in s stage) old new → Leaves (op_in s stage) answer old new
       → Holds (layout_in s) s.log.numbers new (banks_after (target_at s stage) (banks_shown s bodies may copied) log (target_after s.banks (stood s)) answer)
   by_answer stage answer working phase ready leaves also =

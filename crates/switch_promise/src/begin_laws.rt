@@ -1,0 +1,27 @@
+// Laws: the first operation of a copy. Their function does nothing.
+ghost use Rattle.switch_promise.specs.Begins.{ContentsBegin, ContentsFallBack, MarksBegin, MarksFallBack, CutMarksShow};
+
+use bank_image::banks_show;
+use fee_image::erases_keep_other_banks;
+use fee_log::{answers_hold, states_follow};
+use log_image::steps_hold;
+use nv_base::numbers_ascend;
+use switch_image::copies_keep_banks;
+
+/// A copy begins with the read of a content, or with the header of an invalidated mark. Done, the banks are held with it in
+/// work; whatever a failure leaves, the first erase comes with no flag, and whatever a cut leaves shows what may be found.
+pub fn begun_copies_hold()
+    ensures content { ContentsBegin }
+    ensures content_fails { ContentsFallBack }
+    ensures mark { MarksBegin }
+    ensures mark_fails { MarksFallBack }
+    ensures mark_cut { CutMarksShow }
+{
+    banks_show();
+    erases_keep_other_banks();
+    answers_hold();
+    states_follow();
+    steps_hold();
+    numbers_ascend();
+    copies_keep_banks();
+}
