@@ -1,0 +1,5 @@
+mod Appends
+mod Next
+mod Pages
+mod Ready
+mod Steps

@@ -1,0 +1,3 @@
+pub mod KeepsRoom
+pub mod Laws
+pub mod Space
