@@ -1,0 +1,9 @@
+use Rattle.std.proofs.Common.{ℕ, List, length}
+use Rattle.copy_tries.proofs.Trying.{IsTriedIn}
+use Rattle.copy_tries.proofs.tries.copy_in.Given as goal
+
+abbrev pub invariant-loop-i : goal.invariant-loop-i
+invariant-loop-i g l = record {
+  tried : IsTriedIn (g.C.SyncCalls.told l.fn.copies) (g.C.SyncCalls.told l.copies) l.block (length l.from) l.i;
+  stores : (b n : ℕ) (x : List ℕ) → g.C.SyncCalls.is_store l.fn.copies b n x → g.C.SyncCalls.is_store l.copies b n x;
+}

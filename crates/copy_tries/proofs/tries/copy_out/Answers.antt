@@ -1,0 +1,28 @@
+use Rattle.copy_tries.proofs.Trying.{begins_out, refused_out, stale_out, counts_sizes}
+use Rattle.copy_tries.proofs.tries.copy_out.Goals as goal
+use Rattle.copy_tries.proofs.tries.copy_out.Goals.{in-Got+else-asked-number, in-Refused}
+
+pub loop-i-init : goal.loop-i-init
+loop-i-init g c = record { tried = begins_out _ _ _ _ _ c.requires; stores = λ b n x h. h }
+
+pub returns-then-asked-number-clause-sizes : goal.returns-then-asked-number-clause-sizes
+returns-then-asked-number-clause-sizes g c = rw c.in-Got.ensures.copied (counts_sizes _ _ _ c.loop-i.invariant.tried.trying.counts)
+
+pub loop-i-preserved : goal.loop-i-preserved
+loop-i-preserved g c =
+    elim c.match-copy_out.branch [
+      | in-Got+else-asked-number w ↦ rw (w.last-is, c.copy_out.auto.into) (record {
+        tried = stale_out _ _ _ _ _ _ _ _ _ _ _ _ c.loop-i.invariant.tried w.in-Got.ensures.copied w.if-asked-number.false w.in-Got.ensures.store;
+        stores = λ b n x h. c.copy_out.ensures.stores_stay b n x (c.loop-i.invariant.stores b n x h);
+      })
+      | in-Refused w ↦ rw (w.last-is, c.copy_out.auto.into) (record {
+        tried = refused_out _ _ _ _ _ _ _ _ _ _ (c.copy_out.ensures.stores_stay c.args.block) c.loop-i.invariant.tried w.in-Refused.ensures.copied;
+        stores = λ b n x h. c.copy_out.ensures.stores_stay b n x (c.loop-i.invariant.stores b n x h);
+      })
+    ]
+
+pub returns-in-Some-clause-sizes : goal.returns-in-Some-clause-sizes
+returns-in-Some-clause-sizes g c = counts_sizes _ _ _ c.loop-i.invariant.tried.trying.counts
+
+pub returns-in-None-clause-sizes : goal.returns-in-None-clause-sizes
+returns-in-None-clause-sizes g c = counts_sizes _ _ _ c.loop-i.invariant.tried.trying.counts

@@ -1,0 +1,10 @@
+use Rattle.std.proofs.Common.{ℕ, List, length}
+use Rattle.copy_tries.proofs.Trying.{IsTriedOut}
+use Rattle.copy_tries.proofs.tries.copy_out.Given as goal
+
+abbrev pub invariant-loop-i : goal.invariant-loop-i
+invariant-loop-i g l = record {
+  tried : IsTriedOut (g.C.SyncCalls.told l.fn.copies) (g.C.SyncCalls.told l.copies) l.block (length l.into) l.asked l.i l.last
+      (λ n x. g.C.SyncCalls.is_store l.copies l.block n x);
+  stores : (b n : ℕ) (x : List ℕ) → g.C.SyncCalls.is_store l.fn.copies b n x → g.C.SyncCalls.is_store l.copies b n x;
+}
