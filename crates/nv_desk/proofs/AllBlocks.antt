@@ -10,12 +10,12 @@ use Rattle.block_machine.specs.Legal.{IsAllowed, IsDriving, MayPost, MayPostNext
 use Rattle.machine_laws.specs.Laws.{NoneWaits}
 use Rattle.machine_laws.specs.Consistent.{IsConsistent}
 use Rattle.std.proofs.lemmas.List.{length-set}
-use Rattle.nv_desk.specs.declared.sweep.PendingSweep.{PendingSweep}
-use Rattle.nv_desk.specs.declared.kept.Kept.{Kept}
+use Rattle.kept_state.specs.declared.sweep.PendingSweep.{PendingSweep}
+use Rattle.kept_state.specs.declared.kept.Kept.{Kept}
 use Rattle.nv_desk.specs.AllBlocks.{sweep_kind}
 use Rattle.nv_desk.specs.Driver.{DriverLaws}
-use Rattle.nv_desk.specs.Kept.{Agrees}
-use Rattle.nv_desk.specs.Pending.{AreSweeps}
+use Rattle.kept_state.specs.Kept.{Agrees}
+use Rattle.kept_state.specs.Pending.{AreSweeps}
 use Rattle.nv_desk.specs.Sound.{IsSound}
 use Rattle.nv_desk.proofs.Sound.{sound_same}
 

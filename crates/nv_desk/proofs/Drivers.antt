@@ -17,9 +17,9 @@ use Rattle.machine_laws.specs.Laws.{uses_reserved}
 use Rattle.machine_laws.specs.Consistent.{Each, IsConsistent, IsJobInHand}
 use Rattle.block_states.specs.States.{rooms_of, RoomsHaveLengths}
 use Rattle.nv_desk.specs.declared.desk.Desk.TheInside.{Inside}
-use Rattle.nv_desk.specs.declared.kept.Kept.{Kept}
+use Rattle.kept_state.specs.declared.kept.Kept.{Kept}
 use Rattle.nv_desk.specs.Rooms.{Roomy}
-use Rattle.nv_desk.specs.Kept.{Agrees}
+use Rattle.kept_state.specs.Kept.{Agrees}
 use Rattle.nv_desk.specs.Sound.{IsPendingJob, IsSound}
 use Rattle.nv_desk.specs.Desk.{IsKept}
 use Rattle.nv_desk.specs.Driver.{DriverLaws, block_now}
@@ -139,7 +139,7 @@ both_true : (a b : Bool) → (a && b) ≡ true → b ≡ true
 both_true true b e = e
 both_true false b e = cc
 
-in_room : (rooms : List ℕ) (n id : ℕ) (given : Option (List ℕ)) → IfSome given (λ x. length x ≡ n) → get_or rooms id 0 ≡ n
+pub in_room : (rooms : List ℕ) (n id : ℕ) (given : Option (List ℕ)) → IfSome given (λ x. length x ≡ n) → get_or rooms id 0 ≡ n
     → IfSome given (λ x. length x ≡ get_or rooms id 0)
 in_room rooms n id None whole is = tt
 in_room rooms n id (Some x) whole is = whole ∙ sym is

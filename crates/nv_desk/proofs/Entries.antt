@@ -7,9 +7,9 @@ use Rattle.block_machine.specs.Reply.{reserved_entries}
 use Rattle.block_machine.specs.Steps.{after, step, changed_by}
 use Rattle.machine_laws.specs.Laws.{HistoriesStep}
 use Rattle.nv_desk.specs.declared.desk.Desk.TheInside.{Inside}
-use Rattle.nv_desk.specs.declared.kept.Kept.{Kept}
+use Rattle.kept_state.specs.declared.kept.Kept.{Kept}
 use Rattle.nv_desk.specs.Rooms.{Roomy}
-use Rattle.nv_desk.specs.Kept.{Agrees}
+use Rattle.kept_state.specs.Kept.{Agrees}
 use Rattle.nv_desk.specs.Sound.{IsSound}
 use Rattle.nv_desk.specs.Desk.{IsKept}
 
@@ -60,6 +60,8 @@ entry_kept steps d h k r e most is push agrees sound few fits rooms longest =
       fits = omega (arith, reserved, few, fits, count, push.cap);
       memory = omega (arith, reserved, few, push.memory);
       rooms = omega (arith, reserved, few, rooms);
+      prepared = omega (arith, is.prepared, count);
+      place = λ same. absurd (omega (arith, is.prepared, count, same));
       longest = λ id. omega (arith, is.longest id, longest);
       within = omega (arith, is.within, push.cap);
       read_share = is.read_share;

@@ -9,10 +9,10 @@ use Rattle.block_machine.specs.Steps.{step, accepted, accepted_by, job_at, with_
 use Rattle.machine_laws.specs.Consistent.{Each, IsConsistent, IsWaitingJob, IsJobInHand, IsPendingSweep}
 use Rattle.pending_jobs.specs.Pending.{IsNew, reserved_by}
 use Rattle.nv_desk.specs.Asks.{IsJobAccepted}
-use Rattle.nv_desk.specs.Kept.{Agrees}
+use Rattle.kept_state.specs.Kept.{Agrees}
 use Rattle.nv_desk.specs.Sound.{IsPendingJob, IsSound}
 use Rattle.nv_desk.proofs.Sound.{sound_job}
-use Rattle.nv_desk.specs.declared.kept.Kept.{Kept}
+use Rattle.kept_state.specs.declared.kept.Kept.{Kept}
 use Rattle.nv_desk.proofs.Asks.{known_of, room_of}
 
 each_at : {X : Type 0} (P : X → Type 0) (xs : List X) (x : X) (k : ℕ) → k < length xs → get_or xs k x ≡ x → Each P xs → P x

@@ -1,9 +1,15 @@
 -- The greatest length, block by block.
-use Rattle.std.proofs.Common.{◌≡◌, ◌≤◌, ◌<◌, ℕ, zero, suc, ◌+◌, length, ⊎_elim, arith, refl}
+use Rattle.std.proofs.Common.{◌≡◌, ◌≤◌, ◌<◌, ℕ, zero, suc, ◌+◌, ◌==◌, ◌||◌, Bool, true, false, List, [], ◌∷◌, length, map, get_or, slice_get, unwrap_or, replicate, if◌then◌else◌, ⊎_elim, arith, refl}
+use Rattle.std.specs.List.{enumerate_from}
+use Rattle.std.proofs.lemmas.List.{length-replicate}
 use Rattle.std.proofs.lemmas.Bool.{cases_lt}
 use Rattle.std.proofs.lemmas.Option.{slice_get_past}
-use Rattle.block_machine.specs.Words.{Configuration}
-use Rattle.block_machine.specs.Blocks.{desc_of}
+use Rattle.block_config.specs.Block.{plain_block}
+use Rattle.block_machine.specs.Words.{Configuration, BlockDesc}
+use Rattle.block_machine.specs.Blocks.{desc_of, is_permanent}
+use Rattle.ram_blocks.specs.Kept.{ram_of}
+use Rattle.ram_blocks.specs.declared.kept.RamBlock.{RamBlock}
+use Rattle.block_states.specs.States.{rooms_of}
 
 abbrev AllUpTo : Configuration → ℕ → ℕ → Type 0
 AllUpTo c i longest = (id : ℕ) → id ≤ i → (desc_of c id).length ≤ longest
@@ -27,3 +33,24 @@ pub longest_ends : (c : Configuration) (i longest : ℕ) → length c.blocks ≤
 longest_ends c i longest all so_far id =
     ⊎_elim (λ (below : id < i + 1). so_far id (omega (arith, below)))
     (λ (over : i + 1 ≤ id). omega (arith, past c id (omega (arith, over, all)))) (cases_lt id (i + 1))
+
+-- THE ROOM OF RAM
+
+some_of : (n zeros : ℕ) (t : Bool) → length (replicate (if t then n else 0) zeros) ≤ n
+some_of n zeros true = omega (arith, length-replicate n zeros)
+some_of n zeros false = omega (arith, length-replicate 0 zeros)
+
+room_of : (id : ℕ) (d : BlockDesc) → length (ram_of id d).content ≤ d.length
+room_of id d = some_of d.length 0 ((id == 1) || is_permanent d.ram)
+
+room_at : (n : ℕ) (ds : List BlockDesc) (i : ℕ)
+    → get_or (map (λ (r : RamBlock). length r.content) (map (λ (x : ℕ × BlockDesc). ram_of x.0 x.1) (enumerate_from n ds))) i 0
+    ≤ (unwrap_or (slice_get ds i) (plain_block 0)).length
+room_at n [] i = omega arith
+room_at n (d ∷ ds) zero = room_of n d
+room_at n (d ∷ ds) (suc i) = room_at (n + 1) ds i
+
+-- it is no more than a block has bytes
+pub room_within : (c : Configuration) (id : ℕ) → get_or (rooms_of c) id 0 ≤ (desc_of c id).length
+room_within c zero = omega arith
+room_within c (suc i) = room_at 1 c.blocks i

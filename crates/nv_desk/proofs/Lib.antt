@@ -4,9 +4,8 @@ pub mod Drivers
 pub mod Entries
 pub mod Jobs
 pub mod Lengths
-pub mod Members
+pub mod MemberEntries
 pub mod Picks
 pub mod Requests
 pub mod Sound
 pub mod SoundDriver
-pub mod SweepEntries

@@ -1,5 +1,5 @@
 -- The next job is picked.
-use Rattle.std.proofs.Common.{◌≡◌, ◌≢◌, ◌≤◌, ◌<◌, ℕ, ◌+◌, ◌^◌, List, [], ◌∷◌, ◌++◌, length, option_to_list, refl, subst, arith, Option, Some, None, IfSome}
+use Rattle.std.proofs.Common.{◌≡◌, ◌≢◌, ◌≤◌, ◌<◌, ℕ, ◌+◌, ◌^◌, List, [], ◌∷◌, ◌++◌, length, option_to_list, refl, sym, ◌∙◌, subst, arith, Option, Some, None, IfSome, Bool, IsTrue, ◌↔◌}
 use Rattle.std.proofs.lemmas.List.Sums.{sum_by-cons}
 use Rattle.block_machine.specs.Words.{Configuration, JobKind, Taken, Pick}
 use Rattle.block_machine.specs.State.{State, Job}
@@ -7,18 +7,19 @@ use Rattle.block_machine.specs.Blocks.{desc_of, job_block}
 use Rattle.block_machine.specs.Next.{PickJob, next_in, next_of}
 use Rattle.block_machine.specs.Reply.{reserved_entries}
 use Rattle.block_machine.specs.Steps.{after, step, changed_by, in_hand, content_after}
-use Rattle.block_machine.specs.Legal.{IsAllowed}
+use Rattle.block_machine.specs.Legal.{IsAllowed, MayInterrupt}
 use Rattle.machine_laws.specs.Laws.{NextIsWaiting}
 use Rattle.machine_laws.specs.Consistent.{Each, IsWaitingJob, IsJobInHand}
 use Rattle.pending_jobs.specs.declared.took.Took.{Took}
 use Rattle.pending_jobs.specs.declared.took.Took.TheVariants as took
 use Rattle.pending_jobs.specs.Took.{taken_with}
 use Rattle.pending_jobs.specs.Pending.{Pending, Agree}
-use Rattle.nv_desk.specs.declared.kept.Kept.{Kept}
-use Rattle.nv_desk.specs.Kept.{Agrees}
+use Rattle.kept_state.specs.declared.kept.Kept.{Kept}
+use Rattle.kept_state.specs.Kept.{Agrees}
 use Rattle.nv_desk.specs.Sound.{IsPendingJob, IsSound}
 use Rattle.nv_desk.specs.Driver.{DriverLaws}
-use Rattle.nv_desk.specs.Picks.{copied_in}
+use Rattle.nv_desk.specs.Desk.{DeskState, state_of}
+use Rattle.nv_desk.specs.Picks.{copied_in, IsInterruption}
 use Rattle.nv_desk.proofs.SoundDriver.{sound_pick}
 
 -- what holds of all holds of one
@@ -84,7 +85,7 @@ pub pick_step : (c : Configuration) (k : Kept) (s : State) (j : Job) (block : �
 pick_step c k s j block kind t ops next h = rw (next_is c s j next) h
 
 -- a content that it has then is no longer than its block
-fits_by : (n : ℕ) (content : Option (List ℕ × ℕ)) (t : Took) → IfSome content (λ x. length x.0 ≤ n)
+pub fits_by : (n : ℕ) (content : Option (List ℕ × ℕ)) (t : Took) → IfSome content (λ x. length x.0 ≤ n)
     → IfSome (copied_in t) (λ x. length x ≤ n) → IfSome (content_after content (taken_with content t)) (λ x. length x.0 ≤ n)
 fits_by n content took.Nothing own copied = own
 fits_by n (Some x) took.Own own copied = own
@@ -115,3 +116,13 @@ content_within n m (Some x) less fits = omega (arith, less, fits)
 
 pub some_is : (x y : Job) → Some x ≡ Some y → x ≡ y
 some_is x y e = cc
+
+-- AN INTERRUPTION
+
+pub interruption : (r : Bool) (d : DeskState) (h j : Job) → (state_of d).hand ≡ Some h → next_in d.config (state_of d).waiting ≡ Some j
+    → (IsTrue r ↔ MayInterrupt d.config h j) → (IsTrue r ↔ IsInterruption d)
+interruption r d h j hand next both = (
+  λ t. record { job = h; held = hand; next = j; first = next; may = both.0 t },
+  λ i. both.1 (subst (λ (x : Job). MayInterrupt d.config x j) (some_is i.job h (sym i.held ∙ hand))
+      (subst (λ (x : Job). MayInterrupt d.config i.job x) (some_is i.next j (sym i.first ∙ next)) i.may)),
+)

@@ -9,8 +9,8 @@ use Rattle.block_machine.specs.Steps.{step, asked, accepted, with_sweep}
 use Rattle.machine_laws.specs.Consistent.{IsConsistent}
 use Rattle.nv_desk.specs.Asks.{IsSweepAccepted}
 use Rattle.nv_desk.specs.Desk.{sweep_request}
-use Rattle.nv_desk.specs.declared.kept.Kept.{Kept}
-use Rattle.nv_desk.specs.Kept.{Agrees, IsChange}
+use Rattle.kept_state.specs.declared.kept.Kept.{Kept}
+use Rattle.kept_state.specs.Kept.{Agrees, IsChange}
 use Rattle.nv_desk.specs.Sound.{IsSound}
 use Rattle.nv_desk.proofs.Sound.{sound_pending, sound_same}
 use Rattle.nv_desk.proofs.Jobs.{no_sweep}

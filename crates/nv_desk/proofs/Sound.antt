@@ -6,7 +6,7 @@ use Rattle.block_machine.specs.State.{State, BlockState, Job, jobs_of}
 use Rattle.block_machine.specs.Blocks.{no_block, desc_of, block_at, job_block, status_of, is_pending}
 use Rattle.block_machine.specs.Steps.{accepted, with_status}
 use Rattle.machine_laws.specs.Consistent.{Each, IsConsistent}
-use Rattle.nv_desk.specs.Kept.{IsChange}
+use Rattle.kept_state.specs.Kept.{IsChange}
 use Rattle.nv_desk.specs.Sound.{IsPendingJob, IsSound}
 
 -- LISTS
@@ -36,7 +36,7 @@ still (b ∷ bs) zero (suc k) is = is
 still (b ∷ bs) (suc id) zero is = is
 still (b ∷ bs) (suc id) (suc k) is = still bs id k is
 
-now : (bs : List BlockState) (id : ℕ) → id < length bs → is_pending
+pub now : (bs : List BlockState) (id : ℕ) → id < length bs → is_pending
     (get_or (slice_set bs id (record (get_or bs id no_block) { status = Pending })) id no_block).status ≡ true
 now [] id below = absurd (omega arith)
 now (b ∷ bs) zero below = refl

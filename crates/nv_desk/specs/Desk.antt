@@ -6,31 +6,36 @@ use Rattle.block_machine.specs.Blocks.{desc_of}
 use Rattle.block_machine.specs.Sweeps.{sweep_entries, sweep_at}
 use Rattle.block_machine.specs.Reply.{reserved_entries}
 use Rattle.block_machine.specs.Steps.{after}
-use Rattle.nv_desk.specs.Kept.{Agrees}
+use Rattle.kept_state.specs.Kept.{Agrees}
 use Rattle.nv_desk.specs.Sound.{IsSound}
 use Rattle.nv_desk.specs.declared.desk.Desk.TheInside.{Inside}
 
--- the configuration, how many entries the history may have, and the entries so far
+-- the configuration, how many entries the history may have, the entries so far, and how many there were when memory for
+-- the entry of a start-up was taken last
 pub record DeskState : Type 0 where
   pub config : Configuration
   pub cap : ℕ
   pub entries : List Entry
+  pub prepared : ℕ
 
 abbrev pub shown : Inside → DeskState
-shown d = record { config = d.config; cap = d.history.cap; entries = d.history.entries }
+shown d = record { config = d.config; cap = d.history.cap; entries = d.history.entries; prepared = d.prepared }
 
 -- the state of the block machine after its entries
 abbrev pub state_of : DeskState → State
 state_of d = after d.config d.entries
 
 -- What is kept stands for the state after the history. The reserved entries fit under the cap, and there is memory for
--- them, and for two contents with each.
+-- them, and for two contents with each. Until the next entry there is memory for a start-up's and an Off behind it, once it
+-- was taken.
 pub record IsKept (d : Inside) : Type 0 where
   pub agrees : Agrees d.config d.kept (after d.config d.history.entries)
   pub sound : IsSound d.config (after d.config d.history.entries)
   pub fits : length d.history.entries + reserved_entries d.config (after d.config d.history.entries) ≤ d.history.cap
   pub memory : reserved_entries d.config (after d.config d.history.entries) ≤ d.history.reserved
   pub rooms : 2 * reserved_entries d.config (after d.config d.history.entries) ≤ d.rooms.count
+  pub prepared : d.prepared ≤ length d.history.entries
+  pub place : d.prepared ≡ length d.history.entries → (2 ≤ d.history.reserved) × (2 ≤ d.rooms.count)
   pub longest : (id : ℕ) → (desc_of d.config id).length ≤ d.rooms.longest
   pub within : d.history.cap < 2 ^ 32
   pub read_share : d.read_share ≡ sweep_entries d.config (sweep_at d.config 0 false)

@@ -2,8 +2,7 @@ pub mod AllBlocks
 pub mod Asks
 pub mod Desk
 pub mod Driver
-pub mod Kept
-pub mod Pending
+pub mod Members
 pub mod Picks
 pub mod Rooms
 pub mod Sound

@@ -4,16 +4,26 @@ use Rattle.block_machine.specs.Words.{Pick}
 use Rattle.block_machine.specs.State.{Job}
 use Rattle.block_machine.specs.Blocks.{desc_of, job_block, kind_of}
 use Rattle.block_machine.specs.Next.{next_in}
-use Rattle.block_machine.specs.Legal.{IsAllowed}
+use Rattle.block_machine.specs.Legal.{IsAllowed, MayInterrupt}
 use Rattle.pending_jobs.specs.declared.took.Took.{Took}
-use Rattle.pending_jobs.specs.declared.took.Took.TheVariants.{Copied}
+use Rattle.pending_jobs.specs.declared.took.Took.TheVariants as took
 use Rattle.pending_jobs.specs.Took.{taken_with}
 use Rattle.nv_desk.specs.Desk.{DeskState, state_of}
+use Rattle.nv_desk.specs.declared.pick.Take.{Take}
+use Rattle.nv_desk.specs.declared.pick.Take.TheVariants as take
+
+-- what a job takes of a content that is lent
+abbrev pub took_of : Take → (lent : List ℕ) → Took
+took_of take.Nothing lent = took.Nothing
+took_of take.Own lent = took.Own
+took_of (take.Copied store) lent = took.Copied (record { bytes = lent; store = store })
+took_of (take.Refused count) lent = took.Refused count
+took_of (take.Stale asked got count) lent = took.Stale asked got count
 
 -- the bytes of a copy
 abbrev pub copied_in : Took → Option (List ℕ)
-copied_in (Copied x) = Some x.bytes
-copied_in took = None
+copied_in (took.Copied x) = Some x.bytes
+copied_in t = None
 
 -- a job waits, and it may be picked now with this; a copy is no longer than its block
 pub record MayPickNext (d : DeskState) (took : Took) (ops : ℕ) : Type 0 where
@@ -21,3 +31,11 @@ pub record MayPickNext (d : DeskState) (took : Took) (ops : ℕ) : Type 0 where
   pub is : next_in d.config (state_of d).waiting ≡ Some job
   pub allowed : IsAllowed d.config d.cap (state_of d) (Pick (job_block job) (kind_of job) (taken_with job.content took) ops)
   pub copied : IfSome (copied_in took) (λ x. length x ≤ (desc_of d.config (job_block job)).length)
+
+-- a job is in hand that the next one may interrupt
+pub record IsInterruption (d : DeskState) : Type 0 where
+  pub job : Job
+  pub held : (state_of d).hand ≡ Some job
+  pub next : Job
+  pub first : next_in d.config (state_of d).waiting ≡ Some next
+  pub may : MayInterrupt d.config job next

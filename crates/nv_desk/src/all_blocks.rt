@@ -8,11 +8,11 @@ ghost use Rattle.nv_base.specs.declared.entry.Taken.TheVariants as Taken;
 ghost use Rattle.multi_jobs.specs.Laws.{IsNext};
 ghost use Rattle.nv_desk.specs.AllBlocks.{MayBegin, MayFinish, sweep_kind};
 ghost use Rattle.nv_desk.specs.Desk.{state_of};
-ghost use Rattle.nv_desk.specs.Pending.{AreSweeps};
+ghost use Rattle.kept_state.specs.Pending.{AreSweeps};
 
 use crate::Desk;
 use crate::driver::driver_laws;
-use crate::sweep::PendingSweep;
+use kept_state::PendingSweep;
 use machine_laws::the_next_job_goes_first;
 use multi_jobs::SweepStep;
 use nv_base::{Entry, JobKind, ReqResult, Taken};
@@ -54,8 +54,8 @@ impl Desk {
     }
 }
 
-// The result with which a sweep ends.
-fn result_of(step: SweepStep) -> ReqResult
+/// The result with which a sweep ends.
+pub fn result_of(step: SweepStep) -> ReqResult
     ensures { (sw : MachineSweep) → IsNext step sw (EndSweep sw) → result ≡ sweep_result sw }
 {
     match step {

@@ -6,7 +6,7 @@ ghost use Rattle.block_machine.specs.Steps.{asked};
 ghost use Rattle.block_machine.specs.Legal.{IsAllowed, IsLegal, HasStore};
 ghost use Rattle.block_states.specs.States.{rooms_of};
 ghost use Rattle.nv_desk.specs.Desk.{state_of, sweep_request};
-ghost use Rattle.nv_desk.specs.Kept.{IsChange};
+ghost use Rattle.kept_state.specs.Kept.{IsChange};
 
 use crate::Desk;
 use crate::memory::take_memory;

@@ -1,21 +1,13 @@
 // The desk.
-ghost use Rattle.std.specs.Prelude.{◌≡◌, ◌++◌, ◌∷◌, ◌≤◌, ◌<◌, ◌^◌, ◌+◌, ◌*◌, ◌↔◌, [], true, false, length, IsTrue, IfOk, OnOk, OnErr, IsErrOf, is_some};
-ghost use Rattle.block_machine.specs.Blocks.{job_kind};
-ghost use Rattle.block_machine.specs.Reply.{fits, reply_of};
-ghost use Rattle.block_machine.specs.Steps.{asked};
-ghost use Rattle.block_machine.specs.Legal.{IsAllowed, IsLegal, HasStore};
-ghost use Rattle.block_states.specs.States.{rooms_of};
-ghost use Rattle.nv_desk.specs.Desk.{state_of, sweep_request};
-ghost use Rattle.nv_desk.specs.Kept.{IsChange};
+ghost use Rattle.std.specs.Prelude.{◌≡◌, [], IfOk};
 
-use crate::kept::Kept;
-use crate::longest::longest;
+use crate::longest::longest_content;
+use crate::memory::take_memory;
 use crate::rooms::Rooms;
-use crate::shares::sweep_share;
 use block_config::Config;
+use kept_state::{Kept, sweep_share};
 use machine_laws::legal_states_are_consistent;
-use nv_base::{Entry, History, Reply, Request};
-use pending_jobs::Job;
+use nv_base::History;
 use std::alloc::{AllocError, Global};
 use std::marker::Model;
 
@@ -27,6 +19,7 @@ pub struct Desk {
     pub(crate) history: History,
     pub(crate) kept: Kept,
     pub(crate) rooms: Rooms,
+    pub(crate) prepared: u32,
     pub(crate) read_share: u32,
     pub(crate) write_share: u32,
 }
@@ -42,20 +35,24 @@ impl Model for Desk {
 }
 
 impl Desk {
-    /// The desk of a configuration before the first start-up, with a history of at most `cap` entries.
+    /// The desk of a configuration before the first start-up, with a history of at most `cap` entries. It takes the memory of
+    /// that start-up's entry, and of an Off behind it.
     pub fn make(alloc: Global, config: Config, cap: u32) -> Result<Desk, AllocError>
-        ensures { IfOk result (λ d. d ≡ record { config = config; cap = cap; entries = [] }) }
+        ensures { IfOk result (λ d. d ≡ record { config = config; cap = cap; entries = []; prepared = 0 }) }
     {
         legal_states_are_consistent();
         let kept = Kept::make(alloc, &config)?;
-        let rooms = Rooms::new(alloc, longest(&config));
+        let mut rooms = Rooms::new(alloc, longest_content(&config));
+        let mut history = History::make(alloc, cap);
+        take_memory(alloc, &mut history, &mut rooms, 1)?;
         let read_share = sweep_share(&config, false);
         let write_share = sweep_share(&config, true);
         Ok(Desk {
             config,
-            history: History::make(alloc, cap),
+            history,
             kept,
             rooms,
+            prepared: 0,
             read_share,
             write_share,
         })

@@ -74,8 +74,8 @@ fn block_in_hand(jobs: &PendingJobs) -> u16
     }
 }
 
-// A content as bytes of their own.
-fn content_of(given: Option<&[u8]>, rooms: &mut Rooms) -> Option<Bytes>
+/// A content as bytes of their own.
+pub fn content_of(given: Option<&[u8]>, rooms: &mut Rooms) -> Option<Bytes>
     requires some { 0 < rooms.old.count }
     requires fits { IfSome (option_copied given) (λ x. length x ≤ rooms.old.longest) }
     ensures content { result ≡ option_copied given.entry }

@@ -7,22 +7,21 @@
 
 mod all_blocks;
 mod ask;
-mod described;
 mod desk;
 mod driver;
-mod driver_steps;
-mod kept;
+mod in_hand;
 mod longest;
+mod members;
 mod memory;
-mod next_step;
+mod next;
 mod pick;
 mod refusals;
 mod rooms;
-mod shares;
 mod start;
-mod sweep;
-mod sweep_steps;
 mod tested;
+mod told;
 
 pub use ask::AskFault;
 pub use desk::Desk;
+pub use longest::longest_content;
+pub use pick::Take;

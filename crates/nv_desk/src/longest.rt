@@ -2,16 +2,16 @@
 ghost use Rattle.std.specs.Prelude.{◌≤◌, ℕ};
 ghost use Rattle.block_machine.specs.Blocks.{desc_of};
 
-use crate::described;
 use block_config::Config;
+use kept_state::length;
 
 /// Bytes of the longest content.
-pub fn longest(config: &Config) -> usize
+pub fn longest_content(config: &Config) -> usize
     ensures { (id : ℕ) → (desc_of config.now id).length ≤ result }
 {
     let mut longest = 0;
     for i in 0..config.blocks() {
-        longest = greater(longest, described::length(config, i + 1));
+        longest = greater(longest, length(config, i + 1));
     }
     usize::from(longest)
 }

@@ -1,27 +1,40 @@
 // The Pick of a job.
-ghost use Rattle.std.specs.Prelude.{◌≡◌, ◌≤◌, ◌<◌, ◌+◌, ◌++◌, ◌∷◌, [], length, Some, IfSome};
+ghost use Rattle.std.specs.Prelude.{◌≡◌, ◌≤◌, ◌<◌, ◌+◌, ◌++◌, ◌∷◌, [], length, Some, None, IfSome};
 ghost use Rattle.block_machine.specs.State.{Job as MachineJob};
 ghost use Rattle.block_machine.specs.Blocks.{job_block, kind_of};
 ghost use Rattle.block_machine.specs.Next.{next_in};
 ghost use Rattle.pending_jobs.specs.Took.{taken_with};
 ghost use Rattle.nv_desk.specs.Desk.{state_of};
-ghost use Rattle.nv_desk.specs.Picks.{MayPickNext, copied_in};
+ghost use Rattle.nv_desk.specs.Picks.{MayPickNext, copied_in, took_of};
 
 use crate::Desk;
 use crate::driver::driver_laws;
 use crate::rooms::Rooms;
 use machine_laws::the_next_job_goes_first;
 use nv_base::{Entry, Taken};
-use pending_jobs::{Job, Took};
+use pending_jobs::{Job, Staged, Took};
+
+/// What a job takes of a content that is lent to the desk: nothing, as it isn't a write; the content that the job has
+/// already; a copy of the one that is lent, of the store with this number, or of none (0); or no content, as each of `count`
+/// copies was refused, or none was as new as the store `asked` for.
+#[derive(Clone, Copy, Debug, PartialEq, Eq)]
+pub enum Take {
+    Nothing,
+    Own,
+    Copied { store: u64 },
+    Refused { count: u8 },
+    Stale { asked: u64, got: u64, count: u8 },
+}
 
 impl Desk {
-    /// The next job comes in hand with what it takes; one that is in hand is interrupted. It takes no memory.
-    pub fn pick_job(&mut self, took: Took, ops: u64)
-        requires { MayPickNext self.old took ops }
+    /// The next job comes in hand with what it takes of a content that is lent; one that is in hand is interrupted. It takes
+    /// no memory.
+    pub fn pick_job(&mut self, take: Take, lent: &[u8], ops: u64)
+        requires { MayPickNext self.old (took_of take lent.now) ops }
         ensures { (j : MachineJob) → next_in self.old.config (state_of self.old).waiting ≡ Some j
             → self.new ≡ record self.old {
               entries = self.old.entries ++ Entry.Pick (job_block j) (kind_of j)
-                  (taken_with j.content took) ops ∷ [];
+                  (taken_with j.content (took_of take lent.now)) ops ∷ [];
             } }
     {
         driver_laws();
@@ -31,6 +44,7 @@ impl Desk {
         };
         let block = next.block();
         let job = next.kind();
+        let took = took_by(take, lent, &mut self.rooms);
         let taken = taken_of(next, &took, &mut self.rooms);
         self.kept.pick(&self.config, took);
         self.history.add(Entry::Pick {
@@ -39,6 +53,26 @@ impl Desk {
             taken,
             ops,
         });
+    }
+}
+
+/// What a job takes, with a copy of what is lent.
+pub fn took_by(take: Take, lent: &[u8], rooms: &mut Rooms) -> Took
+    requires some { 0 < rooms.old.count }
+    requires copied { IfSome (copied_in (took_of take lent.now)) (λ x. length x ≤ rooms.old.longest) }
+    ensures took { result ≡ took_of take lent.now }
+    ensures longest { rooms.new.longest ≡ rooms.old.longest }
+    ensures count { rooms.old.count ≤ rooms.new.count + 1 }
+{
+    match take {
+        Take::Nothing => Took::Nothing,
+        Take::Own => Took::Own,
+        Take::Copied { store } => Took::Copied(Staged {
+            bytes: rooms.fill(lent),
+            store,
+        }),
+        Take::Refused { count } => Took::Refused { count },
+        Take::Stale { asked, got, count } => Took::Stale { asked, got, count },
     }
 }
 
@@ -52,7 +86,6 @@ fn taken_of(job: &Job, took: &Took, rooms: &mut Rooms) -> Taken
     ensures count { rooms.old.count ≤ rooms.new.count + 1 }
 {
     match took {
-        Took::Nothing => Taken::Nothing,
         Took::Own => match job.content() {
             Some(content) => Taken::Content {
                 bytes: rooms.fill(content),
@@ -60,6 +93,22 @@ fn taken_of(job: &Job, took: &Took, rooms: &mut Rooms) -> Taken
             },
             None => Taken::Nothing,
         },
+        Took::Nothing | Took::Copied(_) | Took::Refused { .. } | Took::Stale { .. } => {
+            copy_of(took, rooms)
+        }
+    }
+}
+
+/// What a job takes that has no content of its own, as bytes of their own.
+pub fn copy_of(took: &Took, rooms: &mut Rooms) -> Taken
+    requires some { 0 < rooms.old.count }
+    requires copied { IfSome (copied_in took.now) (λ x. length x ≤ rooms.old.longest) }
+    ensures taken { result ≡ taken_with None took.now }
+    ensures longest { rooms.new.longest ≡ rooms.old.longest }
+    ensures count { rooms.old.count ≤ rooms.new.count + 1 }
+{
+    match took {
+        Took::Nothing | Took::Own => Taken::Nothing,
         Took::Copied(staged) => Taken::Content {
             bytes: rooms.fill(staged.bytes.as_slice()),
             store: staged.store,

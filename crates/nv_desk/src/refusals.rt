@@ -6,11 +6,11 @@ ghost use Rattle.block_machine.specs.Reply.{holds, tested, needed, fits, answer_
 ghost use Rattle.nv_desk.specs.Desk.{state_of};
 
 use crate::Desk;
-use crate::described::{
+use crate::tested::tested;
+use kept_state::{
     datasets, has_no_defaults, has_no_ram, is_dataset, is_once, is_permanent, length, priority,
     records, stored,
 };
-use crate::tested::tested;
 use machine_laws::histories_grow;
 use nv_base::{Refusal, Reply, ReqResult, Request};
 use pending_jobs::asked_block;

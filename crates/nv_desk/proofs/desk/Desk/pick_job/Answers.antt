@@ -5,7 +5,7 @@ use Rattle.block_machine.specs.Steps.{after}
 use Rattle.block_machine.specs.Next.{next_in}
 use Rattle.pending_jobs.specs.Took.{taken_with}
 use Rattle.nv_desk.specs.Desk.{DeskState, state_of}
-use Rattle.nv_desk.specs.Picks.{copied_in}
+use Rattle.nv_desk.specs.Picks.{copied_in, took_of}
 use Rattle.nv_desk.proofs.Drivers.{has_room, driver_kept}
 use Rattle.nv_desk.proofs.Picks.{ready, pick_room, pick_step, picked_sound, within_block, content_within, some_is}
 use Rattle.nv_desk.proofs.desk.Desk.pick_job.Goals as goal
@@ -15,8 +15,8 @@ taken_of-taken-requires-clause-some c =
     let d = c.self.inside in
     let may = rw (← c.self.view_is) at c.requires in
     let has = has_room c.driver_laws.ensures d (Pick (job_block may.job) (kind_of may.job)
-    (taken_with may.job.content c.args.took) c.args.ops) c.self.invariant may.allowed refl in
-    omega (arith, has.rooms)
+    (taken_with may.job.content (took_of c.args.take c.args.lent.now)) c.args.ops) c.self.invariant may.allowed refl in
+    omega (arith, has.rooms, c.took_by-took.ensures.count)
 
 pub taken_of-taken-requires-clause-own : goal.taken_of-taken-requires-clause-own
 taken_of-taken-requires-clause-own c =
@@ -25,14 +25,30 @@ taken_of-taken-requires-clause-own c =
     let may = rw (← c.self.view_is) at c.requires in
     let same = some_is c.in-Some.next.now may.job (c.in-Some.ensures d.config s.waiting s.hand c.self.invariant.agrees.jobs ∙ may.is) in
     let r = ready c.the_next_job_goes_first.ensures.waits d.config s may.job c.self.invariant.sound may.is in
-    rw same (content_within d.rooms.longest (desc_of d.config (job_block may.job)).length may.job.content
+    rw (same, c.took_by-took.ensures.longest) (content_within d.rooms.longest (desc_of d.config (job_block may.job)).length may.job.content
     (c.self.invariant.longest (job_block may.job)) r.pending.content)
 
 pub taken_of-taken-requires-clause-copied : goal.taken_of-taken-requires-clause-copied
 taken_of-taken-requires-clause-copied c =
     let d = c.self.inside in
     let may = rw (← c.self.view_is) at c.requires in
-    within_block d.rooms.longest (desc_of d.config (job_block may.job)).length (copied_in c.args.took) (c.self.invariant.longest (job_block may.job)) may.copied
+    rw (c.took_by-took.ensures.took, c.took_by-took.ensures.longest) (within_block d.rooms.longest (desc_of d.config (job_block may.job)).length
+    (copied_in (took_of c.args.take c.args.lent.now)) (c.self.invariant.longest (job_block may.job)) may.copied)
+
+pub took_by-took-requires-clause-some : goal.took_by-took-requires-clause-some
+took_by-took-requires-clause-some c =
+    let d = c.self.inside in
+    let may = rw (← c.self.view_is) at c.requires in
+    let has = has_room c.driver_laws.ensures d (Pick (job_block may.job) (kind_of may.job)
+    (taken_with may.job.content (took_of c.args.take c.args.lent.now)) c.args.ops) c.self.invariant may.allowed refl in
+    omega (arith, has.rooms)
+
+pub took_by-took-requires-clause-copied : goal.took_by-took-requires-clause-copied
+took_by-took-requires-clause-copied c =
+    let d = c.self.inside in
+    let may = rw (← c.self.view_is) at c.requires in
+    within_block d.rooms.longest (desc_of d.config (job_block may.job)).length (copied_in (took_of c.args.take c.args.lent.now))
+    (c.self.invariant.longest (job_block may.job)) may.copied
 
 pub pick-requires : goal.pick-requires
 pick-requires c =
@@ -48,31 +64,32 @@ add-requires-clause-below c =
     let d = c.self.inside in
     let may = rw (← c.self.view_is) at c.requires in
     (has_room c.driver_laws.ensures d (Pick (job_block may.job) (kind_of may.job)
-    (taken_with may.job.content c.args.took) c.args.ops) c.self.invariant may.allowed refl).below
+    (taken_with may.job.content (took_of c.args.take c.args.lent.now)) c.args.ops) c.self.invariant may.allowed refl).below
 
 pub add-requires-clause-room : goal.add-requires-clause-room
 add-requires-clause-room c =
     let d = c.self.inside in
     let may = rw (← c.self.view_is) at c.requires in
     (has_room c.driver_laws.ensures d (Pick (job_block may.job) (kind_of may.job)
-    (taken_with may.job.content c.args.took) c.args.ops) c.self.invariant may.allowed refl).room
+    (taken_with may.job.content (took_of c.args.take c.args.lent.now)) c.args.ops) c.self.invariant may.allowed refl).room
 
 pub invariant_of-self : goal.invariant_of-self
 invariant_of-self c =
     let d = c.self.inside in
     let s = after d.config d.history.entries in
     let may = rw (← c.self.view_is) at c.requires in
-    let e = Pick (job_block may.job) (kind_of may.job) (taken_with may.job.content c.args.took) c.args.ops in
+    let e = Pick (job_block may.job) (kind_of may.job) (taken_with may.job.content (took_of c.args.take c.args.lent.now)) c.args.ops in
     let same = some_is c.in-Some.next.now may.job (c.in-Some.ensures d.config s.waiting s.hand c.self.invariant.agrees.jobs ∙ may.is) in
     let r = ready c.the_next_job_goes_first.ensures.waits d.config s may.job c.self.invariant.sound may.is in
     driver_kept c.driver_laws.ensures d c.add.new.self c.pick.new.self c.taken_of-taken.new.rooms e c.self.invariant
     (has_room c.driver_laws.ensures d e c.self.invariant may.allowed refl)
     (picked_sound c.driver_laws.ensures d.config d.history.cap s may.job (job_block may.job)
-    (kind_of may.job) c.args.took c.args.ops c.self.invariant.sound may.is r may.allowed may.copied)
-    (rw (c.block-block.ensures, c.kind-job.ensures, c.taken_of-taken.ensures.taken, same) at c.add.ensures)
+    (kind_of may.job) (took_of c.args.take c.args.lent.now) c.args.ops c.self.invariant.sound may.is r may.allowed may.copied)
+    (rw (c.block-block.ensures, c.kind-job.ensures, c.taken_of-taken.ensures.taken, c.took_by-took.ensures.took, same) at c.add.ensures)
     (pick_step d.config c.pick.new.self s may.job (job_block may.job) (kind_of may.job)
-    (taken_with may.job.content c.args.took) c.args.ops may.is (c.pick.ensures s may.job c.self.invariant.agrees may.is))
-    (omega (arith, c.taken_of-taken.ensures.count)) c.taken_of-taken.ensures.longest
+    (taken_with may.job.content (took_of c.args.take c.args.lent.now)) c.args.ops may.is
+    (rw c.took_by-took.ensures.took at (c.pick.ensures s may.job c.self.invariant.agrees may.is)))
+    (omega (arith, c.taken_of-taken.ensures.count, c.took_by-took.ensures.count)) (c.taken_of-taken.ensures.longest ∙ c.took_by-took.ensures.longest)
 
 pub returns : goal.returns
 returns c j next =
@@ -80,4 +97,12 @@ returns c j next =
     let s = after d.config d.history.entries in
     let on : next_in d.config s.waiting ≡ Some j = subst (λ (x : DeskState). next_in x.config (state_of x).waiting ≡ Some j) (sym c.self.view_is) next in
     let same = some_is c.in-Some.next.now j (c.in-Some.ensures d.config s.waiting s.hand c.self.invariant.agrees.jobs ∙ on) in
-    rw (← c.self.view_is, c.add.ensures, c.block-block.ensures, c.kind-job.ensures, c.taken_of-taken.ensures.taken, same) refl
+    rw (← c.self.view_is, c.add.ensures, c.block-block.ensures, c.kind-job.ensures, c.taken_of-taken.ensures.taken, c.took_by-took.ensures.took, same) refl
+
+pub returns-in_default : goal.returns-in_default
+returns-in_default c j next =
+    let d = c.self.inside in
+    let s = after d.config d.history.entries in
+    let on : next_in d.config s.waiting ≡ Some j = subst (λ (x : DeskState). next_in x.config (state_of x).waiting ≡ Some j) (sym c.self.view_is) next in
+    let none = c.in_default.ensures d.config s.waiting s.hand c.self.invariant.agrees.jobs ∙ on in
+    cc

@@ -32,7 +32,7 @@ invariant_of-self c =
     let e = Post 0 (sweep_result may.sweep) None 0 c.args.ops in
     let x = ends c.the_next_job_goes_first.ensures.none d.config s may.sweep may.is in
     let allowed = may_finish d.config d.history.cap s may.sweep c.args.ops x.hand may.is may.driving in
-    let answer : c.result_of-answer.result ≡ sweep_result may.sweep = c.result_of-answer.ensures may.sweep (rw x.next at (c.next_step.ensures s may.sweep c.self.invariant.agrees x.sweep x.under_way)) in
+    let answer : c.result_of-answer.result ≡ sweep_result may.sweep = c.result_of-answer.ensures may.sweep (rw x.next at (c.next_step.ensures.next s may.sweep c.self.invariant.agrees x.sweep x.under_way)) in
     driver_kept c.driver_laws.ensures d c.add.new.self c.end_sweep.new.self d.rooms e c.self.invariant (has_room c.driver_laws.ensures d e c.self.invariant allowed refl)
     (finished_sound c.driver_laws.ensures d.config d.history.cap s may.sweep c.args.ops c.self.invariant.sound x may.is allowed)
     (rw answer at c.add.ensures)
@@ -45,5 +45,5 @@ returns c sw next =
     let s = after d.config d.history.entries in
     let on : next_of d.config s ≡ EndSweep sw = subst (λ (x : DeskState). next_of x.config (state_of x) ≡ EndSweep sw) (sym c.self.view_is) next in
     let x = ends c.the_next_job_goes_first.ensures.none d.config s sw on in
-    let answer : c.result_of-answer.result ≡ sweep_result sw = c.result_of-answer.ensures sw (rw x.next at (c.next_step.ensures s sw c.self.invariant.agrees x.sweep x.under_way)) in
+    let answer : c.result_of-answer.result ≡ sweep_result sw = c.result_of-answer.ensures sw (rw x.next at (c.next_step.ensures.next s sw c.self.invariant.agrees x.sweep x.under_way)) in
     rw (← c.self.view_is, c.add.ensures, answer) refl

@@ -1,6 +1,6 @@
 use Rattle.std.proofs.Common.{arith}
 use Rattle.nv_desk.proofs.Lengths.{longest_begins, longest_goes_on, longest_ends}
-use Rattle.nv_desk.proofs.longest.longest.Goals as goal
+use Rattle.nv_desk.proofs.longest.longest_content.Goals as goal
 
 pub loop-i-init : goal.loop-i-init
 loop-i-init c = longest_begins c.args.config.now

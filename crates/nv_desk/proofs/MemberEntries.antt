@@ -1,0 +1,157 @@
+-- A member of a request on all blocks is picked, or posted without a Pick.
+use Rattle.std.proofs.Common.{◌≡◌, ◌≤◌, ◌<◌, ℕ, ◌+◌, Bool, true, false, List, [], ◌∷◌, length, get_or, refl, sym, subst, Option, Some, None, IfSome, if◌then◌else◌, ap, ◌∙◌, arith}
+use Rattle.std.proofs.lemmas.List.{length-set}
+use Rattle.block_machine.specs.Words.{Configuration, ReqResult, Pick, Post, JobKind, Pending}
+use Rattle.block_machine.specs.State.{State, Job, Sweep}
+use Rattle.block_machine.specs.Blocks.{desc_of, asked_block, block_at, is_pending, keeps_ram, status_of}
+use Rattle.block_machine.specs.Sweeps.{is_picked, member_job, member_kind, member_request}
+use Rattle.block_machine.specs.Next.{Next, BeginSweep, PickMember, PostMember, next_in, next_by, next_of, next_member, next_in_sweep}
+use Rattle.block_machine.specs.Steps.{changed_by, step, posted, posted_next, in_hand, with_member, ended}
+use Rattle.block_machine.specs.Legal.{IsAllowed}
+use Rattle.machine_laws.specs.Laws.{NoneWaits}
+use Rattle.machine_laws.specs.Consistent.{IsConsistent}
+use Rattle.block_states.specs.States.{rooms_of, RoomsHaveLengths}
+use Rattle.pending_jobs.specs.declared.took.Took.{Took}
+use Rattle.pending_jobs.specs.Took.{taken_with}
+use Rattle.kept_state.specs.declared.kept.Kept.{Kept}
+use Rattle.kept_state.specs.Kept.{Agrees}
+use Rattle.kept_state.specs.Pending.{IsAtMember}
+use Rattle.nv_desk.specs.Driver.{DriverLaws}
+use Rattle.nv_desk.specs.Picks.{copied_in}
+use Rattle.nv_desk.specs.Sound.{IsSound}
+use Rattle.nv_desk.proofs.Drivers.{in_room}
+use Rattle.nv_desk.proofs.Picks.{fits_by}
+use Rattle.nv_desk.proofs.Sound.{now}
+
+-- WHICH MEMBER
+
+chosen : (x sw : Sweep) (k id : ℕ) (b t : Bool) → (if b then PickMember x k else PostMember x k) ≡ (if t then PickMember sw id else PostMember sw id)
+    → (x ≡ sw) × (k ≡ id)
+chosen x sw k id true true e = (cc, cc)
+chosen x sw k id false false e = (cc, cc)
+chosen x sw k id true false e = cc
+chosen x sw k id false true e = cc
+
+listed : (c : Configuration) (s : State) (x sw : Sweep) (ids : List ℕ) (id : ℕ) (t : Bool)
+    → next_member c s x ids ≡ (if t then PickMember sw id else PostMember sw id) → (x ≡ sw) × (rest : List ℕ) × (ids ≡ id ∷ rest)
+listed c s x sw [] id true e = cc
+listed c s x sw [] id false e = cc
+listed c s x sw (k ∷ ids) id t e =
+    let h = chosen x sw k id (is_picked (desc_of c k) (block_at s k) x k) t e in
+    (h.0, ids, ap (λ (n : ℕ). n ∷ ids) h.1)
+
+-- what a sweep has that is at a member
+abbrev IsOpen : Sweep → ℕ → Type 0
+IsOpen sw id = (sw.under_way ≡ true) × (sw.canceled ≡ false) × (rest : List ℕ) × (sw.left ≡ id ∷ rest)
+
+open_by : (c : Configuration) (s : State) (x sw : Sweep) (id : ℕ) (t on over : Bool) → x.under_way ≡ on → x.canceled ≡ over
+    → (if on then next_member c s x (if over then [] else x.left) else BeginSweep x) ≡ (if t then PickMember sw id else PostMember sw id)
+    → (x ≡ sw) × IsOpen x id
+open_by c s x sw id true false over is off e = cc
+open_by c s x sw id false false over is off e = cc
+open_by c s x sw id t true true is off e = let (same, rest, none) = listed c s x sw [] id t e in cc
+open_by c s x sw id t true false is off e = let (same, rest, left) = listed c s x sw x.left id t e in (same, (is, off, rest, left))
+
+member_by : (c : Configuration) (s : State) (sw : Sweep) (id : ℕ) (t : Bool) (o h : Option Job) (w : Option Sweep)
+    → next_by c s o h w ≡ (if t then PickMember sw id else PostMember sw id) → (o ≡ None) × (h ≡ None) × (w ≡ Some sw) × IsOpen sw id
+member_by c s sw id true (Some j) h w e = cc
+member_by c s sw id false (Some j) h w e = cc
+member_by c s sw id true None (Some j) w e = cc
+member_by c s sw id false None (Some j) w e = cc
+member_by c s sw id true None None None e = cc
+member_by c s sw id false None None None e = cc
+member_by c s sw id t None None (Some x) e =
+    let (same, holds) = open_by c s x sw id t x.under_way x.canceled refl refl e in
+    (refl, refl, ap Some same, subst (λ (y : Sweep). IsOpen y id) same holds)
+
+at_member : NoneWaits → (c : Configuration) (s : State) (sw : Sweep) (id : ℕ) (t : Bool)
+    → next_of c s ≡ (if t then PickMember sw id else PostMember sw id) → IsAtMember s sw id
+at_member law c s sw id t is =
+    let (none, hand, sweep, at) = member_by c s sw id t (next_in c s.waiting) s.hand s.sweep is in
+    let (on, going, rest, left) = at in
+    record { waiting = law c s.waiting none; hand = hand; sweep = sweep; under_way = on; goes_on = going; rest = rest; left = left }
+
+pub at_picked : NoneWaits → (c : Configuration) (s : State) (sw : Sweep) (id : ℕ) → next_of c s ≡ PickMember sw id → IsAtMember s sw id
+at_picked law c s sw id is = at_member law c s sw id true is
+
+pub at_posted : NoneWaits → (c : Configuration) (s : State) (sw : Sweep) (id : ℕ) → next_of c s ≡ PostMember sw id → IsAtMember s sw id
+at_posted law c s sw id is = at_member law c s sw id false is
+
+-- it is what comes next in the sweep
+pub next_at : (c : Configuration) (s : State) (sw : Sweep) (id : ℕ) (n : Next) → IsAtMember s sw id → next_of c s ≡ n → next_in_sweep c s sw ≡ n
+next_at c s sw id n x is = sym (ap (λ (ws : List Job). next_by c s (next_in c ws) s.hand s.sweep) x.waiting
+    ∙ ap (λ (h : Option Job). next_by c s None h s.sweep) x.hand ∙ ap (next_by c s None None) x.sweep) ∙ is
+
+-- A PICK
+
+block_is : (writes : Bool) (id : ℕ) → asked_block (member_request writes id) ≡ id
+block_is true id = refl
+block_is false id = refl
+
+held_sound : (c : Configuration) (s : State) (sw : Sweep) (id : ℕ) (t : Took) (count ops : ℕ)
+    → let new : State = record (in_hand c (with_member s sw id) (member_job c sw id) (taken_with None t)) { count = count; ops = ops } in
+    IsSound c s → IsConsistent c new → s.waiting ≡ [] → s.hand ≡ None → id < length s.blocks
+    → IfSome (copied_in t) (λ x. length x ≤ (desc_of c id).length) → IsSound c new
+held_sound c s sw id t count ops sound consistent waiting hand below copied =
+    let new : State = record (in_hand c (with_member s sw id) (member_job c sw id) (taken_with None t)) { count = count; ops = ops } in
+    let block = block_is sw.writes id in
+    record {
+      consistent = consistent;
+      places = λ on. length-set s.blocks id (record (block_at s id) { status = Pending }) ∙ sound.places on;
+      jobs = rw (waiting, hand) (
+        record {
+          pending = subst (λ (n : ℕ). is_pending (status_of new n) ≡ true) (sym block) (now s.blocks id below);
+          content = rw block (fits_by (desc_of c id).length None t tt copied);
+        },
+        tt,
+      );
+    }
+
+pub member_sound : DriverLaws → (c : Configuration) (cap : ℕ) (s : State) (sw : Sweep) (id : ℕ) (kind : JobKind) (t : Took) (ops : ℕ)
+    → IsSound c s → IsAtMember s sw id → next_of c s ≡ PickMember sw id → id ≤ length c.blocks
+    → IsAllowed c cap s (Pick id kind (taken_with None t) ops) → IfSome (copied_in t) (λ x. length x ≤ (desc_of c id).length)
+    → IsSound c (step c s (Pick id kind (taken_with None t) ops))
+member_sound law c cap s sw id kind t ops sound x is known allowed copied =
+    let consistent = law.consistent c cap s (Pick id kind (taken_with None t) ops) sound.consistent allowed in
+    rw is (held_sound c s sw id t (s.count + 1) ops sound (rw is at consistent) x.waiting x.hand
+    (omega (arith, known, sound.places allowed.0.started)) copied)
+
+pub member_step : (c : Configuration) (k : Kept) (s : State) (sw : Sweep) (id : ℕ) (kind : JobKind) (t : Took) (ops : ℕ) → next_of c s ≡ PickMember sw id
+    → Agrees c k (in_hand c (with_member s sw id) (member_job c sw id) (taken_with None t)) → Agrees c k (changed_by c s (Pick id kind (taken_with None t) ops))
+member_step c k s sw id kind t ops is h = rw is h
+
+-- A POST
+
+posted_by : (c : Configuration) (k : Kept) (s : State) (r : ReqResult) (given : Option (List ℕ)) (n m : Next) → n ≡ m
+    → Agrees c k (posted_next c s r given m) → Agrees c k (posted_next c s r given n)
+posted_by c k s r given n m is h = rw is h
+
+pub posted_step : (c : Configuration) (k : Kept) (s : State) (sw : Sweep) (id : ℕ) (r : ReqResult) (given : Option (List ℕ)) (refused ops : ℕ)
+    → s.hand ≡ None → next_of c s ≡ PostMember sw id → Agrees c k (posted_next c s r given (PostMember sw id))
+    → Agrees c k (changed_by c s (Post id r given refused ops))
+posted_step c k s sw id r given refused ops hand is h = subst (λ (o : Option Job). Agrees c k (posted c s r given o)) (sym hand)
+    (posted_by c k s r given (next_of c s) (PostMember sw id) is h)
+
+ended_sound : (c : Configuration) (s : State) (sw : Sweep) (id : ℕ) (r : ReqResult) (given : Option (List ℕ)) (ops : ℕ) → IsSound c s
+    → IsAtMember s sw id → next_of c s ≡ PostMember sw id → IsConsistent c (record (posted c s r given s.hand) { count = s.count + 1; ops = ops })
+    → IsSound c (record (posted c s r given s.hand) { count = s.count + 1; ops = ops })
+ended_sound c s sw id r given ops sound x is consistent =
+    let b = ended (desc_of c id) (keeps_ram c id) (member_kind sw.writes) true r given (block_at s id) in
+    let changed : posted c s r given s.hand ≡ posted_next c s r given (PostMember sw id) = ap (posted c s r given) x.hand
+    ∙ ap (posted_next c s r given) is in
+    record {
+      consistent = consistent;
+      places = rw changed (λ on. length-set s.blocks id b ∙ sound.places on);
+      jobs = rw (changed, x.hand, x.waiting) tt;
+    }
+
+pub posted_sound : DriverLaws → (c : Configuration) (cap : ℕ) (s : State) (sw : Sweep) (id : ℕ) (r : ReqResult) (given : Option (List ℕ)) (refused ops : ℕ)
+    → IsSound c s → IsAtMember s sw id → next_of c s ≡ PostMember sw id → IsAllowed c cap s (Post id r given refused ops)
+    → IsSound c (step c s (Post id r given refused ops))
+posted_sound law c cap s sw id r given refused ops sound x is allowed = ended_sound c s sw id r given ops sound x is
+    (law.consistent c cap s (Post id r given refused ops) sound.consistent allowed)
+
+-- a content that RAM is given has the length of that
+pub member_given : RoomsHaveLengths → (c : Configuration) (rooms : List ℕ) (id : ℕ) (given : Option (List ℕ)) → rooms ≡ rooms_of c
+    → IfSome given (λ x. length x ≡ (desc_of c id).length) → keeps_ram c id ≡ true → IfSome given (λ x. length x ≡ get_or rooms id 0)
+member_given law c rooms id given is whole kept = in_room rooms (desc_of c id).length id given whole (rw is (law c id kept))

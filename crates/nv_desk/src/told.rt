@@ -1,0 +1,102 @@
+// What the driver asks of the desk. Nothing changes.
+ghost use Rattle.std.specs.Prelude.{◌≡◌, ◌≤◌, ◌↔◌, IsTrue, false, length, Some, option_copied};
+ghost use Rattle.std.specs.Option.{option_map_or};
+ghost use Rattle.block_machine.specs.State.{Sweep as MachineSweep};
+ghost use Rattle.block_machine.specs.Blocks.{block_at, desc_of, rank_of};
+ghost use Rattle.block_machine.specs.Next.{next_in, next_of, EndSweep};
+ghost use Rattle.block_machine.specs.Sweeps.{sweep_result};
+ghost use Rattle.nv_desk.specs.Desk.{state_of};
+ghost use Rattle.nv_desk.specs.Picks.{IsInterruption};
+
+use crate::Desk;
+use crate::all_blocks::result_of;
+use block_config::Config;
+use machine_laws::the_next_job_goes_first;
+use nv_base::ReqResult;
+use pending_jobs::Job;
+
+impl Desk {
+    /// The configuration.
+    pub fn config(&self) -> &Config
+        ensures { result.now ≡ self.now.config }
+    {
+        &self.config
+    }
+
+    /// Whether the power went off since the last start-up.
+    pub fn is_off(&self) -> bool
+        ensures { result ≡ (state_of self.now).off }
+    {
+        self.kept.off
+    }
+
+    /// The data index of a block.
+    pub fn index(&self, block: u16) -> u8
+        ensures { result ≡ (block_at (state_of self.now) block).index }
+    {
+        self.kept.blocks.facts(block).index
+    }
+
+    /// The RAM of a block, of no bytes where the manager keeps none.
+    pub fn ram(&self, block: u16) -> &[u8]
+        ensures value { result.now ≡ (block_at (state_of self.now) block).ram }
+        ensures within { length result.now ≤ (desc_of self.now.config block).length }
+    {
+        self.kept.blocks.ram(block)
+    }
+
+    /// The job in hand.
+    pub fn hand(&self) -> Option<&Job>
+        ensures { option_copied result ≡ (state_of self.now).hand }
+    {
+        self.kept.jobs.hand()
+    }
+
+    /// The job that goes before all others that wait.
+    pub fn next_job(&self) -> Option<&Job>
+        ensures { option_copied result ≡ next_in self.now.config (state_of self.now).waiting }
+    {
+        self.kept.jobs.next()
+    }
+
+    /// Whether the job in hand is an immediate one.
+    pub fn is_urgent(&self) -> bool
+        ensures { result ≡ option_map_or (λ j. (rank_of self.now.config j).immediate) (state_of self.now).hand false }
+    {
+        match self.hand() {
+            Some(job) => !job.is_member() && self.is_immediate(job.request()),
+            None => false,
+        }
+    }
+
+    /// Whether a job is in hand that the next one may interrupt.
+    pub fn may_interrupt(&self) -> bool
+        ensures { IsTrue result ↔ IsInterruption self.now }
+    {
+        let Some(_held) = self.hand() else {
+            return false;
+        };
+        let Some(_next) = self.next_job() else {
+            return false;
+        };
+        self.kept.jobs.may_interrupt(&self.config)
+    }
+
+    /// Whether the request on all blocks that is pending is a WriteAll.
+    pub fn sweep_writes(&self) -> bool
+        ensures { (sw : MachineSweep) → (state_of self.now).sweep ≡ Some sw → result ≡ sw.writes }
+    {
+        match &self.kept.sweep {
+            Some(sweep) => sweep.members.writes(),
+            None => false,
+        }
+    }
+
+    /// The result with which the request on all blocks ends, where it ends next.
+    pub fn sweep_result(&self) -> ReqResult
+        ensures { (sw : MachineSweep) → next_of self.now.config (state_of self.now) ≡ EndSweep sw → result ≡ sweep_result sw }
+    {
+        the_next_job_goes_first();
+        result_of(self.kept.next_step(&self.config))
+    }
+}
