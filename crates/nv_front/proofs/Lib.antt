@@ -1,0 +1,4 @@
+pub mod Offers
+pub mod Posting
+pub mod Sizes
+pub mod Taking

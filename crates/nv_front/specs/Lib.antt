@@ -1,0 +1,4 @@
+pub mod Front
+pub mod Picks
+pub mod Posts
+pub mod Takes
