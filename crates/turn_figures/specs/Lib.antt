@@ -1,0 +1,9 @@
+pub mod Left
+pub mod Job
+pub mod Laws
+pub mod Drain
+pub mod Urgent
+pub mod Run
+pub mod Finish
+pub mod AtWork
+pub mod Cases

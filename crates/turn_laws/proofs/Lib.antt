@@ -1,0 +1,12 @@
+pub mod Pairings
+pub mod Payments
+pub mod Moments
+pub mod Pushed
+pub mod Called
+pub mod DeviceCalls
+pub mod DownCalls
+pub mod Behind
+pub mod FittingOutcomes
+pub mod PaidTries
+pub mod PaidPosts
+pub mod DeviceTries

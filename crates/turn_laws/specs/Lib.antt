@@ -1,0 +1,5 @@
+pub mod Machine
+pub mod Pairing
+pub mod Turn
+pub mod Outcomes
+pub mod Tries
