@@ -1,0 +1,7 @@
+pub mod Parts
+pub mod Readings
+pub mod Lists
+pub mod PlaceLists
+pub mod BlockLengths
+pub mod Allowed
+pub mod Promise

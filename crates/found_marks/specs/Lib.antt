@@ -1,0 +1,4 @@
+pub mod Found
+pub mod Places
+pub mod Reading
+pub mod Room

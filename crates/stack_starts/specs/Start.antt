@@ -1,0 +1,26 @@
+-- What a start-up of a stack adds and keeps.
+use Rattle.std.specs.Prelude.{◌≡◌, ◌⊎◌, ◌++◌, ◌∷◌, [], List, IsSome, Result, Ok, Err}
+use Rattle.nv_base.specs.declared.mark.Mark.{Mark}
+use Rattle.memif.specs.Told.{DeviceTold, PartTold, ops_of}
+use Rattle.memif.specs.Clock.{PartClock}
+use Rattle.block_machine.specs.Words.{Instance, Found}
+use Rattle.block_promise.specs.OverDevice.{HasStarted}
+use Rattle.turn_laws.specs.Turn.{Keeps, down}
+use Rattle.nv_desk.specs.Desk.{DeskState}
+use Rattle.found_marks.specs.Found.{Finds}
+
+-- its one entry lists what was found, at the operations of its moment
+pub record IsListed (old new : DeskState) (device device_new : DeviceTold) : Type 0 where
+  pub marks : List (Instance × Mark)
+  pub finds : Finds marks device device_new
+  pub entry : new ≡ record old { entries = old.entries ++ Found marks (ops_of device_new) ∷ [] }
+
+-- Where the device tells what it holds, the desk's history keeps all, the first start-up before any operation; at a fault
+-- until a start-up answers Ok.
+abbrev pub StartKeeps : {E : Type 0} → Result (Unit {0}) E → DeskState → DeskState → DeviceTold → PartClock → DeviceTold → PartClock → Type 0
+StartKeeps (Ok _) old new device clock device_new clock_new =
+    (before : PartTold) → IsSome device.slots → HasStarted old.entries ⊎ (device_new.first.ops ≡ 0)
+    → Keeps old.config old.cap old.entries before (down device) clock → Keeps new.config new.cap new.entries before device_new clock_new
+StartKeeps (Err fault) old new device clock device_new clock_new =
+    (before : PartTold) → Keeps old.config old.cap old.entries before (down device) clock
+    → Keeps new.config new.cap new.entries before (down device_new) clock_new
