@@ -1,0 +1,5 @@
+pub mod Hands
+pub mod Begins
+pub mod Goes
+pub mod Asks
+pub mod Fits

@@ -1,0 +1,40 @@
+// The program of a job on any block.
+ghost use Rattle.std.specs.Prelude.{◌≡◌, is_some};
+ghost use Rattle.job_programs.specs.Program.{program_of, after, step_of};
+ghost use Rattle.job_hands.specs.Hand.{program_in};
+
+use block_config::{BlockDesc, BlockKind};
+use nv_base::{JobKind, JobStep, Outcome};
+use plain_blocks::PlainProgram;
+use redundant_blocks::RedundantProgram;
+
+/// The program of a job on one instance, or on both copies of a redundant block.
+#[derive(Debug, Drop)]
+pub enum JobProgram {
+    Plain(PlainProgram),
+    Redundant(RedundantProgram),
+}
+
+impl JobProgram {
+    /// A job on a block, at its data index.
+    pub fn begin(desc: &BlockDesc, block: u16, index: u8, job: JobKind) -> JobProgram
+        ensures { program_in result ≡ program_of desc.now (is_some desc.now.defaults) block index job }
+    {
+        if desc.kind == BlockKind::Redundant {
+            JobProgram::Redundant(RedundantProgram::begin(desc, block, index, job))
+        } else {
+            JobProgram::Plain(PlainProgram::begin(desc, block, index, job))
+        }
+    }
+
+    /// Takes the outcome of the last step, `First` before any, and answers the next one.
+    pub fn next(&mut self, outcome: Outcome) -> JobStep
+        ensures after { program_in self.new ≡ after (program_in self.old) outcome }
+        ensures step { result ≡ step_of (program_in self.new) }
+    {
+        match self {
+            JobProgram::Plain(program) => program.next(outcome),
+            JobProgram::Redundant(program) => program.next(outcome),
+        }
+    }
+}
