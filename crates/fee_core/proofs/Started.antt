@@ -1,0 +1,91 @@
+-- A start-up, from what its calls answer.
+use Rattle.std.specs.Prelude.{IfSome}
+use Rattle.std.proofs.Common.{◌≡◌, ℕ, Bool, true, false, List, Option, Some, None, Ok, Err, refl, sym, ap, ◌∙◌, subst}
+use Rattle.nv_base.specs.Count.{Rose, next_count}
+use Rattle.nv_base.specs.declared.instance.DeviceNumber.{DeviceNumber}
+use Rattle.memif.specs.declared.answer.JobResult.TheVariants.{JobOk}
+use Rattle.memif.specs.declared.answer.StartFault.TheVariants.{Fault}
+use Rattle.memif.specs.Told.{DeviceTold}
+use Rattle.memif.specs.Clock.{Clock}
+use Rattle.memif.specs.Calls.{StartsUp}
+use Rattle.fls_model.specs.Told.{Told, powered}
+use Rattle.fls_jobs.specs.State.{FlsState}
+use Rattle.fee_log.specs.Index.{clear_flags}
+use Rattle.fee_log.specs.Log.{LogState, erased_state, work_in}
+use Rattle.bank_start.specs.declared.active.ActiveBank.{ActiveBank}
+use Rattle.fee_switch.specs.Banks.{BanksState, IsBanksState, IsSameFlash, FindsActive, LoadsActive}
+use Rattle.device_bridge.specs.Bridge.{Making}
+use Rattle.device_clock.specs.Device.{told_of}
+use Rattle.device_clock.specs.Clock.{clock_of}
+use Rattle.fee_state.specs.Inside.{Parts, device_of, IsSound, IsActiveOf}
+use Rattle.fee_starts.specs.Laws.{StartsAreReady, StartsFail, AreOf, AreReady}
+
+-- what is told of parts
+abbrev pub told_at : Making → Told → Parts → DeviceTold
+told_at m entry s = told_of (device_of m entry s)
+
+abbrev pub clock_at : Making → Told → Parts → Clock
+clock_at m entry s = clock_of (device_of m entry s)
+
+-- THE DRIVER
+ready_driver : (old p f : FlsState) → p ≡ record old { flash = powered old.flash } → f ≡ record p { flash = f.flash; result = f.result } → f.flash ≡ p.flash → f ≡ record old { flash = powered old.flash; result = f.result }
+ready_driver old p f is same flash = same ∙ (λ i. record p { flash = flash i; result = f.result }) ∙ ap (λ (x : FlsState). record x { result = f.result }) is
+
+failed_driver : (old p f : FlsState) → p ≡ record old { flash = powered old.flash } → f ≡ record p { flash = f.flash; result = f.result } → f.flash ≡ record p.flash { faults = f.flash.faults }
+    → f ≡ record old { flash = record (powered old.flash) { faults = f.flash.faults }; result = f.result }
+failed_driver old p f is same flash =
+    same ∙ (λ i. record p { flash = flash i; result = f.result }) ∙ ap (λ (x : FlsState). record x { flash = record x.flash { faults = f.flash.faults }; result = f.result }) is
+
+-- the parts with this driver and these banks, and nothing open
+abbrev pub resting : Parts → FlsState → BanksState → Bool → ℕ → Parts
+resting s f b ready faults = record s { fls = f; banks = b; job = None; last = JobOk; given = 0; started = ready; faults = faults }
+
+-- what the banks are where they are ready
+pub record IsLoaded (old b : BanksState) : Type 0 where
+  pub format : IfSome b.active (λ a. (a.head.format ≡ 1) × (b.log.format ≡ 1))
+  pub blank : b.active ≡ None → b.log ≡ erased_state old.geometry old.banks 0 old.log.numbers
+  pub clear : b.log.flags ≡ clear_flags b.log.numbers
+  pub idle : work_in b.log.tail ≡ None
+
+blank_log : (old b : BanksState) → IsSameFlash old b → b.log ≡ erased_state old.geometry old.banks 0 old.log.numbers → b.log ≡ erased_state b.geometry b.banks b.log.bank b.log.numbers
+blank_log old b of is =
+    let bank : b.log.bank ≡ 0 = ap (λ (log : LogState). log.bank) is in
+    is ∙ sym (λ i. erased_state (of.geometry i) (of.banks i) (bank i) (of.numbers i))
+
+active_at : (old b : BanksState) → IsSameFlash old b → IsLoaded old b → (o : Option ActiveBank) → b.active ≡ o → IsActiveOf b o
+active_at old b of loaded None e = λ i. record (blank_log old b of (loaded.blank e) i) { flags = b.log.flags }
+active_at old b of loaded (Some a) e = subst (λ (o : Option ActiveBank). IfSome o (λ x. (x.head.format ≡ 1) × (b.log.format ≡ 1))) e loaded.format
+
+are_ready : (old b : BanksState) → IsSameFlash old b → IsLoaded old b → AreReady b
+are_ready old b of loaded = record { active = active_at old b of loaded b.active refl; clear = loaded.clear; idle = loaded.idle }
+
+module _ (m : Making) (entry : Told) (s : Parts) (listed : List (DeviceNumber × ℕ)) (kept count : ℕ) (is_off : Bool) (sound : IsSound m entry s listed kept count is_off) (p f : FlsState) (b : BanksState) (is : p ≡ record s.fls { flash = powered s.fls.flash }) (same : f ≡ record p { flash = f.flash; result = f.result }) (closed : b.course ≡ None) (state : IsBanksState b) (of : IsSameFlash s.banks b) where
+  are : AreOf m b
+  are = record {
+    geometry = of.geometry ∙ sound.made_for.banks_geometry;
+    two = of.banks ∙ sound.made_for.two;
+    numbers = of.numbers ∙ sound.made_for.numbers;
+    closed = closed;
+    state = state;
+  }
+
+  abbrev pub Starts : Parts → Type 0
+  Starts t = IsSound m entry t listed kept count false
+      × StartsUp (Ok tt) (told_of (device_of m entry s)) (clock_of (device_of m entry s)) (told_of (device_of m entry t)) (clock_of (device_of m entry t))
+
+  abbrev pub Fails : Parts → Type 0
+  Fails t = IsSound m entry t listed kept count false
+      × StartsUp (Err Fault) (told_of (device_of m entry s)) (clock_of (device_of m entry s)) (told_of (device_of m entry t)) (clock_of (device_of m entry t))
+
+  pub ready_ends : StartsAreReady → IsLoaded s.banks b → f.flash ≡ p.flash → IfSome p.flash.bytes (λ x. FindsActive x.now b) → IfSome p.flash.bytes (λ x. LoadsActive x.now b) → Starts (resting s f b true s.faults)
+  ready_ends law loaded flash finds loads =
+      let finds' = subst (λ (x : FlsState). IfSome x.flash.bytes (λ y. FindsActive y.now b)) is finds in
+      let loads' = subst (λ (x : FlsState). IfSome x.flash.bytes (λ y. LoadsActive y.now b)) is loads in
+      subst (λ (x : FlsState). Starts (resting s x b true s.faults)) (sym (ready_driver s.fls p f is same flash))
+      (law m entry s listed kept count is_off b f.result sound are (record { ready = are_ready s.banks b of loaded; finds = finds'; loads = loads' }))
+
+  pub failed_ends : StartsFail → f.flash ≡ record p.flash { faults = f.flash.faults } → Rose p.flash.faults f.flash.faults → Fails (resting s f b false (next_count s.faults))
+  failed_ends law flash rose =
+      let rose' = subst (λ (x : FlsState). Rose x.flash.faults f.flash.faults) is rose in
+      subst (λ (x : FlsState). Fails (resting s x b false (next_count s.faults))) (sym (failed_driver s.fls p f is same flash))
+      (law m entry s listed kept count is_off b f.result f.flash.faults sound are rose')

@@ -1,0 +1,21 @@
+use Rattle.std.proofs.Common.{[], None, false, ap, ◌∙◌, sym, subst}
+use Rattle.memif.specs.declared.answer.JobResult.TheVariants.{JobOk}
+use Rattle.fls_model.specs.Attach.{IsAttached}
+use Rattle.fls_jobs.specs.Start.{IsIdle}
+use Rattle.fls_jobs.specs.State.{FlsState}
+use Rattle.device_bridge.specs.Bridge.{Making}
+use Rattle.fee_state.specs.Inside.{Parts}
+use Rattle.fee_core.specs.Whole.{Sound}
+use Rattle.fee_core.proofs.fee.Fee.make.Goals as goal
+
+pub invariant_of-result : goal.invariant_of-result
+invariant_of-result g c =
+    let made = c.make-fls.ensures in
+    let done = c.in_default-attach.ensures in
+    let at = subst (λ (f : FlsState). IsAttached f.geometry f.flash c.attach.new.self.flash) made done.attach in
+    let geometry = ap (λ (f : FlsState). f.geometry) done.ok ∙ ap (λ (f : FlsState). f.geometry) made in
+    let idle : IsIdle c.attach.new.self = record { job = ap (λ (f : FlsState). f.job) done.ok; attached = ap (λ (f : FlsState). f.attached) done.ok } in
+    let s : Parts = record { fls = c.attach.new.self; banks = c.in-Ok.banks; content = c.in-Ok.content; job = None; last = JobOk; given = 0; started = false; faults = 0; worn = None; operations = [] } in
+    let m : Making = record { geometry = c.args.geometry; numbers = c.args.numbers.now; reserve = c.args.reserve } in
+    let law = c.devices_are_made.ensures.made m _ s (record { legal = c.requires.legal; space = c.requires.space; attached = at; banks = c.in-Ok.ensures.banks; geometry = geometry; idle = idle; room = c.in-Ok.ensures.content }) in
+    subst (Sound g.O.Origin.making g.O.Origin.entry) (sym c.unstarted.ensures) (rw (c.requires.making, c.requires.entry, c.in-Ok.ensures.numbers) law.0)

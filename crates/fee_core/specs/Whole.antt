@@ -1,0 +1,41 @@
+-- All that a device keeps.
+use Rattle.std.specs.Prelude.{ℕ, Bool, false, List, [], None}
+use Rattle.nv_base.specs.declared.instance.DeviceNumber.{DeviceNumber}
+use Rattle.memif.specs.Told.{DeviceTold}
+use Rattle.memif.specs.Clock.{Clock}
+use Rattle.memif.specs.declared.answer.JobResult.TheVariants.{JobOk}
+use Rattle.fls_model.specs.Told.{Told}
+use Rattle.fls_jobs.specs.State.{FlsState}
+use Rattle.fee_switch.specs.Banks.{BanksState}
+use Rattle.device_bridge.specs.Bridge.{Making}
+use Rattle.device_clock.specs.Device.{told_of}
+use Rattle.device_clock.specs.Clock.{clock_of}
+use Rattle.fee_state.specs.Inside.{Parts, device_of, IsSound}
+
+-- its parts, and beside them what it keeps of its making and of what is told of these
+pub record Whole : Type 0 where
+  pub parts : Parts
+  pub numbers : List (DeviceNumber × ℕ)
+  pub reserve : ℕ
+  -- the changing operations, until their last count, and whether a power cut stands
+  pub ops : ℕ
+  pub off : Bool
+
+abbrev pub Sound : Making → Told → Whole → Type 0
+Sound m entry w = IsSound m entry w.parts w.numbers w.reserve w.ops w.off
+
+abbrev pub told_in : Making → Told → Whole → DeviceTold
+told_in m entry w = told_of (device_of m entry w.parts)
+
+abbrev pub clock_in : Making → Told → Whole → Clock
+clock_in m entry w = clock_of (device_of m entry w.parts)
+
+-- what is kept of a device that has these, and did nothing yet
+abbrev pub unstarted : FlsState → BanksState → List (DeviceNumber × ℕ) → ℕ → List ℕ → Whole
+unstarted fls banks numbers reserve content = record {
+  parts = record { fls = fls; banks = banks; content = content; job = None; last = JobOk; given = 0; started = false; faults = 0; worn = None; operations = [] };
+  numbers = numbers;
+  reserve = reserve;
+  ops = 0;
+  off = false;
+}

@@ -1,0 +1,134 @@
+// The device.
+ghost use Rattle.std.specs.Prelude.{◌≡◌, IfOk, length};
+ghost use Rattle.nv_base.specs.Geometry.{IsLegal};
+ghost use Rattle.fee_switch.specs.Banks.{IsMade};
+ghost use Rattle.fee_core.specs.Whole.{unstarted};
+
+use crate::Origin;
+use crate::content::Content;
+use crate::parts::FeeParts;
+use device_clock::runs_bridge;
+use fee_starts::devices_are_made;
+use fee_switch::Banks;
+use fls_jobs::Fls;
+use fls_model::{AttachFault, Flash};
+use memif::JobResult;
+use nv_base::{Geometry, Lengths, lengths_of};
+use std::alloc::{AllocError, Global};
+use std::marker::{Model, PhantomData};
+use value_traces::Trace;
+
+/// A memory device over the two banks of a flash: one job at a time, in turns of at most one flash call. It takes memory at
+/// `make` alone. Contracts see what it knows as one record.
+#[derive(Drop)]
+pub struct Fee<F: Flash, O: Origin> {
+    pub(crate) parts: FeeParts<F, O>,
+}
+
+impl<F: Flash, O: Origin> Model for Fee<F, O> {
+    ghost use Rattle.device_clock.specs.Device.{Device};
+    ghost use Rattle.fee_state.specs.Inside.{device_of};
+    ghost use Rattle.fee_core.specs.Whole.{Sound};
+
+    ghost Value = { Device };
+
+    ghost view = { λ s. device_of O.making O.entry s.parts.parts };
+
+    ghost invariant = { λ s. Sound O.making O.entry s.parts };
+}
+
+// The memory of a device.
+fn room_for(
+    alloc: Global,
+    geometry: Geometry,
+    numbers: &Lengths,
+) -> Result<(Banks, Lengths, Content), AllocError>
+    requires { IsLegal geometry }
+    ensures banks { IfOk result (λ r. IsMade r.0 geometry 2 numbers.now) }
+    ensures numbers { IfOk result (λ r. r.1 ≡ numbers.now) }
+    ensures content { IfOk result (λ r. length r.2 ≡ 4096) }
+{
+    let banks = Banks::make(alloc, geometry, numbers)?;
+    let listed = lengths_of(alloc, numbers.as_slice())?;
+    Ok((banks, listed, Content::make(alloc)?))
+}
+
+// Nothing was done yet.
+fn unstarted<F: Flash, O: Origin>(
+    fls: Fls<F>,
+    banks: Banks,
+    numbers: Lengths,
+    reserve: u32,
+    content: Content,
+) -> FeeParts<F, O>
+    ensures { result ≡ unstarted fls banks numbers reserve content }
+{
+    FeeParts {
+        fls,
+        banks,
+        numbers,
+        reserve,
+        content,
+        job: None,
+        last: JobResult::JobOk,
+        given: 0,
+        started: false,
+        off: false,
+        ops: 0,
+        faults: 0,
+        worn: None,
+        operations: Trace::new(),
+        origin: PhantomData,
+    }
+}
+
+impl<F: Flash, O: Origin> Fee<F, O> {
+    ghost use Rattle.std.specs.Prelude.{◌≡◌, Bool, IfOk, IfErr, Err};
+    ghost use Rattle.nv_base.specs.Geometry.{IsLegal};
+    ghost use Rattle.fls_model.specs.Attach.{IsAttach};
+    ghost use Rattle.device_bridge.specs.Bridge.{Bridges};
+    ghost use Rattle.switch_room.specs.Space.{HasSpace};
+    ghost use Rattle.fee_starts.specs.Made.{IsMadeOf, part_at};
+    ghost use Rattle.device_clock.specs.Device.{told_of};
+    ghost use Rattle.device_clock.specs.Clock.{clock_of};
+
+    /// Attaches the flash and takes all memory that the device ever needs; a refusal hands the flash back. The device is of
+    /// what was picked, and isn't started. `reserve` is the pages that are kept for urgent writes.
+    pub fn make(
+        alloc: Global,
+        flash: F,
+        geometry: Geometry,
+        numbers: &Lengths,
+        reserve: u32,
+    ) -> Result<Fee<F, O>, (AttachFault, F)>
+        requires legal { IsLegal geometry }
+        requires making { O.making ≡ record { geometry = geometry; numbers = numbers.now; reserve = reserve } }
+        requires entry { O.entry ≡ F.told flash }
+        requires space { HasSpace numbers.now geometry 2 reserve }
+        ensures made { IfOk result (λ f. IsMadeOf O.making O.entry f) }
+        ensures refused { IfErr result (λ e. IsAttach geometry (F.told flash) (Err e.0) (F.told e.1)) }
+    {
+        devices_are_made();
+        let Ok((banks, numbers, content)) = room_for(alloc, geometry, numbers) else {
+            return Err((AttachFault::Memory, flash));
+        };
+        let mut fls = Fls::make(flash, geometry);
+        if let Err(fault) = fls.attach(alloc) {
+            return Err((fault, fls.into_flash()));
+        }
+        Ok(Fee {
+            parts: unstarted(fls, banks, numbers, reserve, content),
+        })
+    }
+
+    /// Gives the flash back. What the device told of it is so, from its making on.
+    pub fn into_flash(self) -> F
+        ensures told { F.told result ≡ self.flash }
+        ensures bridge { (cutter : Bool) → Bridges O.making cutter (record { entry = O.entry; exit = F.told result; operations = self.operations }) (part_at O.entry) (told_of self).first (clock_of self).first }
+    {
+        runs_bridge();
+        let Fee { parts } = self;
+        let FeeParts { fls, .. } = parts;
+        fls.into_flash()
+    }
+}

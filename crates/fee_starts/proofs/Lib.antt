@@ -1,0 +1,9 @@
+mod Arming
+mod Behind
+mod Bounds
+mod Making
+mod Opened
+mod Opening
+mod Order
+mod Raising
+mod Starting

@@ -1,0 +1,349 @@
+-- The parts of a device whose record begins.
+use Rattle.std.specs.Prelude.{IfSome, IsSome, ◌&&◌, not, is_some, min, nat_le, take, length, if◌then◌else◌}
+use Rattle.std.proofs.Common.{◌≡◌, inl, ◌≤◌, ◌+◌, ◌-◌, ℕ, Bool, true, false, List, [], Option, Some, None, refl, sym, ap, ◌∙◌, subst, arith}
+use Rattle.std.proofs.lemmas.Bool.{leb-true, le-leb}
+use Rattle.std.proofs.lemmas.List.{length-take-le}
+use Rattle.nv_base.specs.Geometry.{sectors_of_bank, pages_of_bank}
+use Rattle.nv_base.specs.declared.geometry.Geometry.{Geometry}
+use Rattle.nv_base.specs.declared.instance.DeviceNumber.{DeviceNumber}
+use Rattle.memif.specs.Told.{Slot, Stand, Open as StandOpen, Ended as StandEnded, is_open}
+use Rattle.fls_model.specs.Told.{Told}
+use Rattle.fee_format.specs.declared.rec_head.RecHead.{RecHead}
+use Rattle.fee_image.specs.Image.{Layout, layout_of, bank_in}
+use Rattle.fee_image.specs.RecordList.{pages_of_head}
+use Rattle.log_image.specs.Log.{Log, Open as LogOpen, Writes as LogWrites}
+use Rattle.log_image.specs.May.{May}
+use Rattle.log_image.specs.Step.{log_begun, IsRecord}
+use Rattle.bank_image.specs.Banks.{Old, OldBank}
+use Rattle.bank_image.specs.Laws.{TakesAppends}
+use Rattle.fee_log.specs.declared.tail.Tail.{Tail}
+use Rattle.fee_log.specs.declared.tail.Tail.TheVariants.{Open, Writes, Owes, Closed}
+use Rattle.fee_log.specs.Log.{pages_in, work_in, free_in, free_behind, log_of, tail_begun, tail_with}
+use Rattle.nv_base.specs.Lengths.{place_of}
+use Rattle.bank_start.specs.declared.active.ActiveBank.{ActiveBank}
+use Rattle.switch_course.specs.declared.course.Course.{Course}
+use Rattle.fee_switch.specs.Banks.{BanksState, appended_at, left_with}
+use Rattle.switch_promise.specs.Shown.{old_shown, phase_shown}
+use Rattle.switch_room.specs.Space.{free_pages, has_room}
+use Rattle.device_bridge.specs.Bridge.{Making}
+use Rattle.device_image.specs.Slots.{Memory, IsWorkOf, slots_found}
+use Rattle.device_image.specs.Laws.{IsHeld, SamePlaces}
+use Rattle.device_clock.specs.Device.{Device, tells, told_of, slots_in}
+use Rattle.device_clock.specs.Clock.{MakesNone, clock_of}
+use Rattle.device_clock.specs.Runs.{HasRun}
+use Rattle.memif.specs.Clock.{SameClock}
+use Rattle.device_turns.specs.Kept.{with_log}
+use Rattle.fee_state.specs.declared.job.FeeJob.{FeeJob}
+use Rattle.fee_state.specs.Inside.{Parts, body_of, device_of, memory_of, stand_of, IsActiveOf, IsAtWork, HoldsBehind}
+use Rattle.fee_state.specs.Record.{head_of, IsJobOf}
+use Rattle.fee_state.specs.Work.{pages_of_op, pages_of_job, pages_free, work_of, is_waiting, begins_next, fits_in, takes_append, claimed, seal_turns, turns_before, is_urgent_job, is_promised}
+use Rattle.nv_base.specs.declared.mark.Mark.{Mark}
+use Rattle.device_figures.specs.Figures.{Work, turns_of, turns_owed, left_of, ready_of, wait_of}
+use Rattle.device_figures.specs.Laws.{IsWork, IsOfJob}
+use Rattle.fee_turns.proofs.Figures.{switch_is, free_is}
+use Rattle.fee_turns.proofs.Appended.{of_job}
+use Rattle.fee_turns.specs.Turn.{IsOn}
+use Rattle.fee_turns.specs.Begins.{HasBegun, MayBegin, begun_with}
+use Rattle.fee_turns.proofs.Laws.{Laws, BeginLaws}
+use Rattle.fee_turns.proofs.Before.{lengths, legal, some, copied, held_at, each_told, log_geometry, log_banks, power}
+use Rattle.fee_turns.proofs.Places.{same_places}
+use Rattle.fee_turns.proofs.Order.{tells_by}
+use Rattle.fee_turns.proofs.Heads.{IsAmong, among, mark_is, legal_head}
+use Rattle.fee_turns.proofs.Begun.{no_course, Ready, opens, owes, ready_by, free_less, begun_work, begun_pages, begun_owed, ready_pages, room_is}
+use Rattle.fee_turns.proofs.Page.{some_of}
+use Rattle.fee_turns.proofs.Shown.{few_by, pages_by}
+
+-- a bank is active where pages are free
+is_active : (o : Option ActiveBank) (n : ℕ) → 1 ≤ (if is_some o then n else 0) → IsSome o
+is_active None n free = absurd (omega (arith, free))
+is_active (Some a) n free = refl
+
+free_of : (o : Option ActiveBank) (n : ℕ) → IsSome o → (if is_some o then n else 0) ≡ n
+free_of None n some = cc
+free_of (Some a) n some = refl
+
+-- what takes appends without a switch
+shut_phase : (c : Option Course) (s : BanksState) (content : List ℕ) → c ≡ None → TakesAppends (phase_shown c s content)
+shut_phase None s content shut = tt
+shut_phase (Some c) s content shut = cc shut
+
+-- a phase that no switch has
+shut_is : (c c' : Option Course) (s t : BanksState) (content : List ℕ) → c ≡ None → c' ≡ None → phase_shown c' t content ≡ phase_shown c s content
+shut_is None None s t content a b = refl
+shut_is (Some c) c' s t content a b = cc a
+shut_is None (Some c) s t content a b = cc b
+
+left_by : (mark : Option Mark) (v w : Work) → v.pages ≡ w.pages → v.owed ≡ w.owed → v.switch ≤ w.switch → turns_of mark v + v.switch ≤ turns_of mark w + w.switch
+left_by None v w pages owed few = omega arith
+left_by (Some m) v w pages owed few = let same = ap turns_owed owed in omega (arith, same, pages)
+
+pub left_less : (st : Stand) (v w : Work) → v.pages ≡ w.pages → v.owed ≡ w.owed → v.switch ≤ w.switch → left_of st v ≤ left_of st w
+left_less (StandOpen j) v w pages owed few = left_by j.mark v w pages owed few
+left_less (StandEnded result given) v w pages owed few = few
+
+pub and_four' : (a c d : Bool) → a && false && c && d ≡ false
+and_four' true c d = refl
+and_four' false c d = refl
+
+module _ (laws : Laws) (own : BeginLaws) (m : Making) (entry : Told) (s : Parts) (listed : List (DeviceNumber × ℕ)) (kept count : ℕ) (j : FeeJob) (on : IsOn m entry s listed kept count) (may : MayBegin m s j) where
+  abbrev pub t : Parts
+  t = begun_with j s
+
+  abbrev pub r : RecHead
+  r = head_of j
+
+  abbrev l : Layout
+  l = layout_of m.geometry 2
+
+  abbrev d : Device
+  d = device_of m entry s
+
+  abbrev pub e : Device
+  e = device_of m entry t
+
+  abbrev p : ℕ
+  p = s.banks.geometry.page
+
+  pub was_at_work : IsAtWork m s
+  was_at_work = on.sound.works on.started
+
+  pub job_of : IsJobOf m.numbers j
+  job_of = subst (λ (o : Option FeeJob). IfSome o (IsJobOf m.numbers)) may.job was_at_work.job
+
+  number : IsAmong 0 j.number.0 job_of.length
+  number = among 0 m.numbers j.number.0 job_of.length (lengths m entry s listed kept count on) job_of.configured
+
+  pub pages_are : pages_of_head p r ≡ pages_of_op p j.op j.length
+  pages_are = pages_by p j.op j.number.0 j.length job_of.length may.writes job_of.fits
+
+  -- it has room
+  pub has_free : pages_of_head p r ≤ free_pages s.banks
+  has_free = let room = room_is j.urgent (pages_of_op p j.op j.length) m.reserve (free_pages s.banks) may.room in let same = pages_are in omega (arith, room, same)
+
+  pub active : IsSome s.banks.active
+  active = let free = has_free in is_active s.banks.active (free_in s.banks.log) (omega (arith, free))
+
+  abbrev a : ActiveBank
+  a = (some_of s.banks.active active).0
+
+  pub active_is : s.banks.active ≡ Some a
+  active_is = (some_of s.banks.active active).1
+
+  pub formats : (a.head.format ≡ 1) × (s.banks.log.format ≡ 1)
+  formats = subst (IsActiveOf s.banks) active_is was_at_work.active
+
+  log_free : pages_of_head p r ≤ free_in s.banks.log
+  log_free = let free = has_free in let is = free_of s.banks.active (free_in s.banks.log) active in omega (arith, free, is)
+
+  pub ready : Ready s.banks.log.tail
+  ready = let free = log_free in ready_by s.banks.log.geometry.page (pages_in s.banks.log) s.banks.log.end s.banks.log.tail may.idle (omega (arith, free))
+
+  pub course_is : t.banks.course ≡ None
+  course_is = ap (appended_at (place_of s.banks.log.numbers r.number)) may.shut ∙ no_course (place_of s.banks.log.numbers r.number)
+
+  pub work_is : work_in t.banks.log.tail ≡ Some r
+  work_is = begun_work s.banks.log.tail r ready
+
+  -- MEMORY
+  abbrev mem : Memory
+  mem = memory_of s
+
+  abbrev was : Log
+  was = log_of s.banks.log []
+
+  abbrev body : List ℕ
+  body = take j.length s.content
+
+  none_body : body_of (work_in s.banks.log.tail) s.content ≡ []
+  none_body = ap (λ (o : Option RecHead). body_of o s.content) may.idle
+
+  old_is : mem.old ≡ OldBank a.bank a.head was
+  old_is = (λ i. old_shown (active_is i) s.banks.log (none_body i))
+
+  abbrev target_body : List ℕ
+  target_body = body_of (work_in s.banks.copies.tail) s.banks.buffer
+
+  phase_is : (memory_of t).phase ≡ mem.phase
+  phase_is = shut_is s.banks.course t.banks.course s.banks t.banks target_body may.shut course_is
+
+  taking : TakesAppends mem.phase
+  taking = shut_phase s.banks.course s.banks target_body may.shut
+
+  few : j.length ≤ length s.content
+  few = let x = few_by j.op j.length job_of.length number.few job_of.fits in omega (arith, x, on.sound.made_for.room)
+
+  -- what stands in memory then, where nothing is owed and where a gate is
+  log_open : s.banks.log.tail ≡ Open → log_of t.banks.log (body_of (work_in t.banks.log.tail) s.content) ≡ log_begun was r body
+  log_open at = λ i. log_of (record s.banks.log { tail = tail_begun (at i) r; flags = t.banks.log.flags }) (body_of (work_in (tail_begun (at i) r)) s.content)
+
+  log_owed : (owed : RecHead) → s.banks.log.tail ≡ Owes owed None → log_of t.banks.log (body_of (work_in t.banks.log.tail) s.content) ≡ was
+  log_owed owed at = (λ i. log_of (record s.banks.log { tail = tail_begun (at i) r; flags = t.banks.log.flags }) (body_of (work_in (tail_begun (at i) r)) s.content)) ∙ ap (λ (x : Tail). log_of (record s.banks.log { tail = x }) []) (sym at)
+
+  memory_is : (x : Log) → log_of t.banks.log (body_of (work_in t.banks.log.tail) s.content) ≡ x → memory_of t ≡ with_log mem a.bank a.head x mem.stand
+  memory_is x same = (λ i. record { old = old_shown (active_is i) t.banks.log (body_of (work_in t.banks.log.tail) s.content); target = s.banks.target; phase = phase_is i; stand = mem.stand }) ∙ (λ i. record { old = OldBank a.bank a.head (same i); target = s.banks.target; phase = mem.phase; stand = mem.stand })
+
+  same_is : with_log mem a.bank a.head was mem.stand ≡ mem
+  same_is = λ i. record { old = sym old_is i; target = s.banks.target; phase = mem.phase; stand = mem.stand }
+
+  -- THE BYTES
+  record_at : s.banks.log.tail ≡ Open → IsRecord (bank_in l a.head.format a.bank) was.end r body
+  record_at at =
+      let free = log_free in
+      let is : free_in s.banks.log ≡ pages_in s.banks.log - (s.banks.log.end + 0) = ap (λ (x : Tail). free_behind s.banks.log.geometry.page (pages_in s.banks.log) s.banks.log.end x) at in
+      let one : s.banks.log.end + pages_of_head p r ≤ pages_in s.banks.log = omega (arith, free, is) in
+      let two = subst (λ (g : Geometry). s.banks.log.end + pages_of_head p r ≤ pages_of_bank g s.banks.log.banks) (log_geometry m entry s listed kept count on) one in
+      let three = subst (λ (n : ℕ). s.banks.log.end + pages_of_head p r ≤ pages_of_bank m.geometry n) (log_banks m entry s listed kept count on) two in
+      record {
+        format = formats.0;
+        legal = legal_head j.op j.number.0 j.length job_of.length may.writes number job_of.fits;
+        size = length-take-le j.length s.content few;
+        room = subst (λ (g : Geometry). s.banks.log.end + pages_of_head g.page r ≤ pages_of_bank m.geometry 2) on.sound.made_for.banks_geometry three;
+      }
+
+  work_of_job : IsWorkOf mem.stand (LogWrites r body 0)
+  work_of_job = subst (λ (o : Option FeeJob). IsWorkOf (stand_of s.content o s.last s.given) (LogWrites r body 0)) (sym may.job) (refl, mark_is j.op j.number.0 j.length s.content may.writes)
+
+  held_by : (tl : Tail) → s.banks.log.tail ≡ tl → Ready tl → (bytes : List ℕ) (more : May) → IsHeld l m.numbers bytes mem more → IsHeld l m.numbers bytes (memory_of t) more
+  held_by Open at opens bytes more held =
+      let tail : was.tail ≡ LogOpen = ap (λ (x : Tail). tail_with x []) at in
+      let kept' = own.begin l m.numbers bytes mem more a.bank a.head was r body (record { lengths = lengths m entry s listed kept count on; legal = legal m entry s listed kept count on laws.legal; held = held; bank = old_is; takes = taking }) tail (record_at at) work_of_job in
+      subst (λ (x : Memory). IsHeld l m.numbers bytes x more) (sym (memory_is (log_begun was r body) (log_open at))) kept'.held
+  held_by (Owes owed None) at (owes _) bytes more held = subst (λ (x : Memory). IsHeld l m.numbers bytes x more) (sym (memory_is was (log_owed owed at) ∙ same_is)) held
+  held_by (Writes _ _) at x bytes more held = elim x [ ]
+  held_by (Owes _ (Some _)) at x bytes more held = elim x [ ]
+  held_by Closed at x bytes more held = elim x [ ]
+
+  places_by : (tl : Tail) → s.banks.log.tail ≡ tl → Ready tl → SamePlaces mem.old (memory_of t).old
+  places_by Open at opens = subst (λ (o : Old). SamePlaces o (memory_of t).old) (sym old_is) (subst (λ (o : Old). SamePlaces (OldBank a.bank a.head was) o) (sym (ap (λ (x : Memory). x.old) (memory_is (log_begun was r body) (log_open at)))) (refl, refl, refl))
+  places_by (Owes owed None) at (owes _) = subst (λ (o : Old). SamePlaces o (memory_of t).old) (sym old_is) (subst (λ (o : Old). SamePlaces (OldBank a.bank a.head was) o) (sym (ap (λ (x : Memory). x.old) (memory_is was (log_owed owed at)))) (refl, refl, refl))
+  places_by (Writes _ _) at x = elim x [ ]
+  places_by (Owes _ (Some _)) at x = elim x [ ]
+  places_by Closed at x = elim x [ ]
+
+  slots_are : (x : List ℕ) → slots_in e x ≡ slots_in d x
+  slots_are x = ap (λ (z : List Slot). if s.started then z else slots_found l m.numbers x) (laws.places l m.numbers x mem (memory_of t) (places_by s.banks.log.tail refl ready) refl)
+
+  pub same_slots : (told_of e).slots ≡ (told_of d).slots
+  same_slots = tells_by (tells d) s.fls.flash.bytes (slots_in e) (slots_in d) slots_are
+
+  none : MakesNone d e
+  none = record { making = refl; entry = refl; operations = refl; bytes = refl }
+
+  pub run_on : HasRun e
+  run_on = own.run d e on.sound.device.run (record { none = none; bytes = refl; flash_faults = omega arith; faults = on.sound.device.run.faults; cuts = on.sound.device.run.cuts; worn = λ since worn. inl worn })
+
+  pub same_clock : SameClock (clock_of d) (clock_of e)
+  same_clock = own.stay d e none refl
+
+  pub behind : HoldsBehind e
+  behind = record {
+    behind = memory_of t;
+    copied = copied m entry s listed kept count on;
+    banks = record {
+      started = on.started;
+      alike = run_on.alike;
+      legal = legal m entry s listed kept count on laws.legal;
+      some = some m entry s listed kept count on;
+      held = λ told. each_told s.fls.flash.bytes (λ (x : List ℕ). IsHeld l m.numbers x (memory_of t) (copied m entry s listed kept count on)) (λ bytes at.
+          held_by s.banks.log.tail refl ready bytes (copied m entry s listed kept count on) (held_at m entry s listed kept count on bytes at told));
+    };
+    places = same_places (memory_of t).old;
+    stand = refl;
+    on = λ power. refl;
+  }
+
+  -- THE FIGURES
+  abbrev pub v : Work
+  v = work_of m.reserve t.banks s.job
+
+  abbrev w : Work
+  w = work_of m.reserve s.banks s.job
+
+  some_work : IsSome (work_in t.banks.log.tail)
+  some_work = ap (λ (o : Option RecHead). is_some o) work_is
+
+  pub switch_none : v.switch ≡ 0
+  switch_none = switch_is t.banks some_work m.reserve s.job ∙ ap (left_with t.banks) course_is
+
+  wanted : pages_of_job p s.job ≡ pages_of_op p j.op j.length
+  wanted = ap (pages_of_job p) may.job
+
+  pub pages_then : v.pages ≡ pages_of_job p s.job
+  pages_then = begun_pages p (pages_of_job p s.job) s.banks.log.tail r (pages_are ∙ sym wanted) ready
+
+  pages_same : v.pages ≡ w.pages
+  pages_same = pages_then ∙ sym (ready_pages p (pages_of_job p s.job) s.banks.log.tail ready)
+
+  owed_same : v.owed ≡ w.owed
+  owed_same = begun_owed s.banks.log.tail r ready
+
+  pub left_few : (told_of e).left ≤ (told_of d).left
+  left_few = left_less (stand_of s.content s.job s.last s.given) v w pages_same owed_same (let none = switch_none in omega (arith, none))
+
+  pub work_then : IsWork m.geometry.page (sectors_of_bank m.geometry 2) m.numbers m.reserve (stand_of s.content s.job s.last s.given) v
+  work_then = record {
+    job = subst (λ (o : Option FeeJob). IsOfJob m.geometry.page m.numbers (stand_of s.content o s.last s.given) v) (sym may.job)
+        (of_job m.geometry.page m.numbers s.content j s.last s.given v job_of
+        (subst (λ (g : Geometry). v.pages ≤ pages_of_op g.page j.op j.length) on.sound.made_for.banks_geometry (let one = pages_then in let two = wanted in omega (arith, one, two))));
+    few = let none = switch_none in omega (arith, none);
+  }
+
+  -- free pages
+  free_then : pages_free t.banks s.job ≡ free_pages s.banks - pages_of_op p j.op j.length
+  free_then =
+      let one = free_is t.banks some_work s.job in
+      let two = free_of s.banks.active (free_in t.banks.log) active in
+      let three = free_of s.banks.active (free_in s.banks.log) active in
+      let g = ap (λ (x : Geometry). pages_of_head x.page r) on.banks.log.shape in
+      let four : free_in t.banks.log ≡ free_in s.banks.log - pages_of_head s.banks.log.geometry.page r = free_less s.banks.log.geometry.page (pages_in s.banks.log) s.banks.log.end s.banks.log.tail r ready in
+      let five = pages_are in
+      omega (arith, one, two, three, four, five, g)
+
+  waiting : is_waiting s.banks j ≡ true
+  waiting =
+      let same = pages_are in
+      let some' : 1 ≤ pages_of_op p j.op j.length = omega (arith, same) in
+      (λ i. le-leb 1 (pages_of_op p j.op j.length) some' i && not (is_some (may.idle i)))
+
+  -- an urgent write had its pages taken off already, and any other leaves what is kept
+  ready_by_test : (u : Bool) → j.urgent ≡ u → ready_of m.reserve false (pages_free t.banks s.job) ≡ ready_of m.reserve false (pages_free s.banks s.job)
+  ready_by_test true urgent =
+      let fits : fits_in 0 s.banks j ≡ true = (λ i. has_room (urgent i) (pages_of_op p j.op j.length) 0 (free_pages s.banks)) ∙ sym (λ i. has_room (urgent i) (pages_of_op p j.op j.length) m.reserve (free_pages s.banks)) ∙ may.room in
+      let begins : begins_next s.banks j ≡ true = λ i. takes_append (may.shut i) && urgent i && waiting i && fits i in
+      let one : claimed s.banks s.job ≡ pages_of_op p j.op j.length = ap (claimed s.banks) may.job ∙ ap (λ (b : Bool). if b then pages_of_op p j.op j.length else 0) begins in
+      ap (ready_of m.reserve false) (let two = free_then in let goal : pages_free t.banks s.job ≡ free_pages s.banks - claimed s.banks s.job = omega (arith, one, two) in goal)
+  ready_by_test false calm =
+      let begins : begins_next s.banks j ≡ false = (λ i. takes_append s.banks.course && calm i && is_waiting s.banks j && fits_in 0 s.banks j) ∙ and_four' (takes_append s.banks.course) (is_waiting s.banks j) (fits_in 0 s.banks j) in
+      let one : claimed s.banks s.job ≡ 0 = ap (claimed s.banks) may.job ∙ ap (λ (b : Bool). if b then pages_of_op p j.op j.length else 0) begins in
+      let room : has_room false (pages_of_op p j.op j.length) m.reserve (free_pages s.banks) ≡ true = (λ i. has_room (sym calm i) (pages_of_op p j.op j.length) m.reserve (free_pages s.banks)) ∙ may.room in
+      let enough = leb-true (pages_of_op p j.op j.length + m.reserve) (free_pages s.banks) room in
+      let two = free_then in
+      let goal : min m.reserve (pages_free t.banks s.job) ≡ min m.reserve (free_pages s.banks - claimed s.banks s.job) = omega (arith, one, two, enough) in goal
+
+  seal_is : (c : Option Course) → c ≡ None → nat_le 1 (seal_turns c) ≡ false
+  seal_is None e' = refl
+  seal_is (Some c) e' = cc e'
+
+  ready_same : (told_of e).ready ≡ (told_of d).ready
+  ready_same =
+      ap (λ (b : Bool). ready_of m.reserve b (pages_free t.banks s.job)) (seal_is t.banks.course course_is)
+      ∙ ready_by_test j.urgent refl
+      ∙ sym (ap (λ (b : Bool). ready_of m.reserve b (pages_free s.banks s.job)) (seal_is s.banks.course may.shut))
+
+  before_same : turns_before t.banks.log.tail (seal_turns t.banks.course) ≡ turns_before s.banks.log.tail (seal_turns s.banks.course)
+  before_same = ap (λ (c : Option Course). turns_before t.banks.log.tail (seal_turns c)) course_is ∙ ap turns_owed owed_same ∙ sym (ap (λ (c : Option Course). turns_before s.banks.log.tail (seal_turns c)) may.shut)
+
+  wait_same : (told_of e).wait ≡ (told_of d).wait
+  wait_same = λ i. wait_of (record { before = before_same i; urgent = is_urgent_job s.job; promised = is_promised s.job; pages = pages_same i })
+
+  only : told_of e ≡ record (told_of d) { switching = (told_of e).switching; left = (told_of e).left }
+  only = λ i. record (told_of e) { slots = same_slots i; ready = ready_same i; wait = wait_same i }
+
+  pub has_begun : HasBegun (told_of d) (told_of e) (clock_of d) (clock_of e)
+  has_begun = record {
+    only = only;
+    left = left_few;
+    job = subst (λ (o : Option FeeJob). is_open (stand_of s.content o s.last s.given) ≡ true) (sym may.job) refl;
+    on = (power m entry s listed kept count on, refl);
+    same = same_clock;
+  }

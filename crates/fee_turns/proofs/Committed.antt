@@ -1,0 +1,303 @@
+-- The turn in which a record is committed, with no switch open.
+use Rattle.std.specs.Prelude.{IfSome, IsTrue, ◌&&◌, not, is_none, is_some, nat_le, take, if◌then◌else◌}
+use Rattle.std.proofs.Common.{◌≡◌, inl, ◌≤◌, ◌<◌, ◌+◌, ◌-◌, ℕ, Bool, true, false, List, [], Option, Some, None, refl, sym, ap, ◌∙◌, subst, arith}
+use Rattle.nv_base.specs.Count.{next_count}
+use Rattle.nv_base.specs.Geometry.{sectors_of_bank}
+use Rattle.nv_base.specs.declared.geometry.Geometry.{Geometry}
+use Rattle.nv_base.specs.declared.instance.DeviceNumber.{DeviceNumber}
+use Rattle.nv_base.specs.declared.mark.Mark.{Mark}
+use Rattle.memif.specs.declared.answer.DeviceTurn.TheVariants as turn
+use Rattle.memif.specs.declared.answer.JobResult.TheVariants.{JobOk}
+use Rattle.memif.specs.Told.{First, Job, Stand, Open, Ended, is_open, length_of}
+use Rattle.memif.specs.Marks.{Settles}
+use Rattle.memif.specs.Calls.{Works, IsOf, JobTurns, EndsAs, Nearer, TurnsReady, is_read, urgent_first}
+use Rattle.fls_model.specs.declared.flash.FlashAnswer.TheVariants.{Done}
+use Rattle.fls_model.specs.Told.{Told, bytes_now}
+use Rattle.fls_jobs.specs.State.{FlsState}
+use Rattle.fee_format.specs.declared.rec_head.RecHead.{RecHead}
+use Rattle.fee_image.specs.Found.{fits}
+use Rattle.fee_image.specs.Image.{Layout}
+use Rattle.fee_image.specs.RecordList.{pages_of_head}
+use Rattle.fee_log.specs.declared.tail.Tail.{Tail}
+use Rattle.fee_log.specs.declared.tail.Tail.TheVariants.{Open as TailOpen, Writes, Owes, Closed}
+use Rattle.fee_log.specs.Log.{LogState, IsTail, tail_with, pages_in, work_in}
+use Rattle.fee_log.specs.Step.{after_step, commits}
+use Rattle.log_image.specs.Log.{Log, Writes as LogWrites}
+use Rattle.log_image.specs.May.{May, mark_written}
+use Rattle.log_image.specs.Step.{log_done, is_last}
+use Rattle.switch_course.specs.declared.course.Course.{Course}
+use Rattle.fee_switch.specs.Banks.{BanksState}
+use Rattle.switch_room.specs.KeepsRoom.{KeepsRoom}
+use Rattle.switch_room.specs.Space.{free_pages}
+use Rattle.device_bridge.specs.Bridge.{Making}
+use Rattle.device_image.specs.Slots.{Memory}
+use Rattle.device_image.specs.Laws.{IsHeld}
+use Rattle.device_clock.specs.Device.{Device, told_of}
+use Rattle.device_clock.specs.Clock.{clock_of}
+use Rattle.device_turns.specs.Appends.{IsCommitted}
+use Rattle.device_turns.specs.Whole.{CommitsAreTold}
+use Rattle.device_figures.specs.Figures.{Work, Waits, left_of as turns_left, ready_of, wait_of}
+use Rattle.device_figures.specs.Laws.{IsWork}
+use Rattle.fee_state.specs.declared.job.FeeJob.{FeeJob}
+use Rattle.fee_state.specs.Inside.{Parts, device_of, memory_of, mark_of, stand_of, fixed_in, IsActiveOf, IsAtWork, HasSwitch, HoldsBehind, ShowsCopies}
+use Rattle.fee_state.specs.Record.{IsInWork}
+use Rattle.fee_state.specs.Work.{work_of, switch_turns, pages_of_job, pages_left, waits_of, turns_before, seal_turns, is_urgent_job, pages_free}
+use Rattle.fee_turns.specs.Turn.{Turned, ended_as}
+use Rattle.fee_turns.specs.Appends.{IsAppending, work_op, after_page, AppendsCommit}
+use Rattle.fee_turns.proofs.Laws.{Laws, AppendLaws}
+use Rattle.fee_turns.proofs.Before.{power, log_geometry, copied, held_at, each_now}
+use Rattle.fee_turns.proofs.Order.{first_of, urgent_is}
+use Rattle.fee_turns.proofs.Operation.{part_works, ticks, left, before_told, started}
+use Rattle.fee_turns.proofs.Behind.{Facts, held_behind, order, sound}
+use Rattle.fee_turns.proofs.Tails.{tailed, shown, page_commits, free_on}
+use Rattle.fee_turns.proofs.Figures.{free_is}
+use Rattle.fee_turns.proofs.Heads.{head_fits}
+use Rattle.fee_turns.proofs.Page.{h, work_is, a, active_is, formats, at_work, body, log, appending, stands}
+use Rattle.fee_turns.proofs.Shown.{after_is, j, open_is, mark, head_is, writes, job_of, content_fits}
+use Rattle.fee_turns.proofs.Appended.{has_switch, flags_clear}
+use Rattle.fee_turns.proofs.GoneOn.{if_else}
+use Rattle.fee_turns.proofs.Left.{l, asked, keeps, run_on}
+
+-- a record is committed by its last page alone
+pub record Last (log : LogState) : Type 0 where
+  pub head : RecHead
+  pub done : ℕ
+  pub tail : log.tail ≡ Writes head done
+  pub is : is_last log.geometry.page head done ≡ true
+
+last_by : (log : LogState) (t : Tail) → log.tail ≡ t → commits log.geometry.page t ≡ true → Last log
+last_by log TailOpen e last = absurd (cc last)
+last_by log (Writes r done) e last = record { head = r; done = done; tail = e; is = last }
+last_by log (Owes r next) e last = absurd (cc last)
+last_by log Closed e last = absurd (cc last)
+
+pub none_shows : (c : Option Course) (P : Course → Type 0) → c ≡ None → IfSome c P
+none_shows None P e = tt
+none_shows (Some c) P e = cc e
+
+less_none : (n : ℕ) → n - 0 ≡ n
+less_none n = omega arith
+
+-- what an urgent write waits for is its own pages and those turns before
+wait_by : (u p : Bool) (before pages v : ℕ) → u ≡ true → (if u then (if p then Some (before + pages) else None) else Some before) ≡ Some v → before + pages ≡ v
+wait_by true true before pages v urgent wait = cc wait
+wait_by true false before pages v urgent wait = cc wait
+wait_by false p before pages v urgent wait = cc urgent
+
+wait_is : (w : Waits) (v : ℕ) → w.urgent ≡ true → wait_of w ≡ Some v → w.before + w.pages ≡ v
+wait_is w v urgent wait = wait_by w.urgent w.promised w.before w.pages v urgent wait
+
+module _ (laws : Laws) (own : AppendLaws) (told : CommitsAreTold) (m : Making) (entry : Told) (s : Parts) (listed : List (DeviceNumber × ℕ)) (kept count : ℕ) (f : FlsState) (is : IsAppending m entry s listed kept count Done f) (last : commits s.banks.geometry.page s.banks.log.tail ≡ true) (shut : s.banks.course ≡ None) where
+  abbrev then_log : LogState
+  then_log = after_step s.banks.log Done
+
+  abbrev b : BanksState
+  b = record s.banks { log = then_log }
+
+  abbrev t : Parts
+  t = ended_as JobOk (after_page Done f s)
+
+  abbrev d : Device
+  d = device_of m entry s
+
+  abbrev e : Device
+  e = device_of m entry t
+
+  abbrev ended : Stand
+  ended = Ended JobOk []
+
+  abbrev layout : Layout
+  layout = l laws own m entry s listed kept count Done f is
+
+  abbrev was : Log
+  was = log m entry s listed kept count is.on is.work
+
+  abbrev r : RecHead
+  r = h m entry s listed kept count is.on is.work
+
+  abbrev content : List ℕ
+  content = body m entry s listed kept count is.on is.work
+
+  at_last : Last s.banks.log
+  at_last = last_by s.banks.log s.banks.log.tail refl (ap (λ (g : Geometry). commits g.page s.banks.log.tail) is.on.banks.log.shape ∙ last)
+
+  head_same : r ≡ at_last.head
+  head_same = let one = work_is m entry s listed kept count is.on is.work in let two = ap work_in at_last.tail in cc (one, two)
+
+  -- behind it the log is open
+  tail_open : then_log.tail ≡ TailOpen
+  tail_open = subst (λ (x : Tail). (after_step (tailed s.banks.log x) Done).tail ≡ TailOpen) (sym at_last.tail) (page_commits s.banks.log at_last.head at_last.done s.content at_last.is).tail
+
+  shown_is : shown then_log s.content ≡ log_done layout.page m.numbers was
+  shown_is =
+      subst (λ (x : Tail). shown (after_step (tailed s.banks.log x) Done) s.content ≡ log_done s.banks.log.geometry.page s.banks.log.numbers (shown (tailed s.banks.log x) s.content)) (sym at_last.tail) (page_commits s.banks.log at_last.head at_last.done s.content at_last.is).shown_as
+      ∙ (λ i. log_done (log_geometry m entry s listed kept count is.on i).page (is.on.sound.made_for.numbers i) was)
+
+  -- THE JOB
+  abbrev jb : FeeJob
+  jb = j m entry s listed kept count is.on is.work
+
+  job_at : s.job ≡ Some jb
+  job_at = open_is m entry s listed kept count is.on is.work
+
+  abbrev size : ℕ
+  size = (job_of m entry s listed kept count is.on is.work).length
+
+  configured : length_of m.numbers r.number ≡ Some size
+  configured = ap (λ (x : RecHead). length_of m.numbers x.number) (head_is m entry s listed kept count is.on is.work) ∙ (job_of m entry s listed kept count is.on is.work).configured
+
+  fits_it : IsTrue (fits r.number size r)
+  fits_it = subst (λ (x : RecHead). IsTrue (fits x.number size x)) (sym (head_is m entry s listed kept count is.on is.work)) (head_fits jb.op jb.number.0 jb.length size (writes m entry s listed kept count is.on is.work) (job_of m entry s listed kept count is.on is.work).fits)
+
+  was_tail : was.tail ≡ LogWrites r content at_last.done
+  was_tail = ap (λ (x : Tail). tail_with x content) at_last.tail ∙ ap (λ (x : RecHead). LogWrites x content at_last.done) (sym head_same)
+
+  last_log : is_last layout.page r at_last.done ≡ true
+  last_log = (λ i. is_last (sym (log_geometry m entry s listed kept count is.on) i).page (head_same i) at_last.done) ∙ at_last.is
+
+  committed : (old new : List ℕ) → bytes_now s.fls.flash ≡ Some old → bytes_now f.flash ≡ Some new → (more : May) → IsHeld layout m.numbers old (memory_of s) more
+      → IsCommitted layout m.numbers old new (memory_of s) (memory_of t) more r content
+  committed old new at_old at_new more held =
+      let both = left laws m entry s listed kept count is.on (work_op s) Done f is.drives (asked laws own m entry s listed kept count Done f is) old new at_old at_new in
+      subst (λ (x : Memory). IsCommitted layout m.numbers old new (memory_of s) x more r content)
+      (sym (after_is m entry s listed kept count is.on is.work then_log (log_done layout.page m.numbers was) ended shown_is))
+      (own.commit layout m.numbers old new (memory_of s) more (a m entry s listed kept count is.on is.work).bank (a m entry s listed kept count is.on is.work).head was r content at_last.done size ended
+      (appending m entry s listed kept count is.on is.work laws own.due is.page.size old more held new both.0)
+      (stands m entry s listed kept count is.on is.work laws own.due is.page.size own.widen own.stands (content_fits m entry s listed kept count is.on is.work) is.page old more held new both.1)
+      was_tail last_log configured fits_it refl)
+
+  abbrev more : May
+  more = copied m entry s listed kept count is.on
+
+  behind : HoldsBehind e
+  behind = held_behind laws m entry s listed kept count is.on (work_op s) Done f is.drives (asked laws own m entry s listed kept count Done f is) b None JobOk 0 laws.legal (run_on laws own m entry s listed kept count Done f is None JobOk 0) more
+      (λ new at told'.
+      (let before = before_told s.fls.flash.bytes f.flash.bytes (work_op s) Done new (asked laws own m entry s listed kept count Done f is).bytes at in
+      (committed before.0 new before.1 at more (held_at m entry s listed kept count is.on before.0 before.1 told')).held))
+
+  settles : Settles r.number (mark_written r content) (told_of d) (told_of e)
+  settles = told d e more r content (started laws m entry s listed kept count is.on (work_op s) Done f is.drives (asked laws own m entry s listed kept count Done f is) (keeps laws own m entry s listed kept count Done f is) b None JobOk 0 (run_on laws own m entry s listed kept count Done f is None JobOk 0))
+      (λ old new at. committed old new at.1 at.2 more (held_at m entry s listed kept count is.on old at.1 at.0))
+
+  -- THE PARTS
+  room_on : KeepsRoom m.reserve b
+  room_on = own.room m.reserve s.banks Done (is.on.sound.room is.on.started (power m entry s listed kept count is.on)) is.work
+
+  was_at_work : IsAtWork m s
+  was_at_work = at_work m entry s listed kept count is.on is.work
+
+  switch_on : HasSwitch b b.course
+  switch_on = has_switch m.reserve b b.course (λ none. flags_clear s.banks s.banks.course was_at_work.switch none) room_on.switch
+
+  at_work_on : IsAtWork m t
+  at_work_on = record {
+    active = subst (IsActiveOf b) (sym (active_is m entry s listed kept count is.on is.work)) (formats m entry s listed kept count is.on is.work);
+    job = tt;
+    work = subst (λ (x : Tail). IfSome (work_in x) (IsInWork b None)) (sym tail_open) tt;
+    ready = tt;
+    switch = switch_on;
+  }
+
+  no_turns : switch_turns m.reserve b None b.course ≡ 0
+  no_turns = ap (switch_turns m.reserve b None) shut
+
+  work_then : IsWork m.geometry.page (sectors_of_bank m.geometry 2) m.numbers m.reserve ended (work_of m.reserve b None)
+  work_then = record { job = tt; few = let none = no_turns in omega (arith, none) }
+
+  facts : Facts laws m entry s listed kept count is.on (work_op s) Done f is.drives (asked laws own m entry s listed kept count Done f is) b None JobOk 0
+  facts = record {
+    ends = record { same = record { geometry = refl; banks = refl; numbers = refl }; ended = λ same. cc; given_few = omega arith };
+    run = run_on laws own m entry s listed kept count Done f is None JobOk 0;
+    behind = behind;
+    work = work_then;
+    at_work = at_work_on;
+    shut = λ since worn. shut;
+    room = λ on. room_on;
+    copies = λ on told'. each_now f.flash.bytes (λ (x : List ℕ). IfSome s.banks.course (λ c. ShowsCopies m t c x)) (λ new at. none_shows s.banks.course (λ c. ShowsCopies m t c new) shut);
+  }
+
+  -- THE TURN
+  abbrev at : Option FeeJob → Stand
+  at o = stand_of s.content o s.last s.given
+
+  abbrev asks : Job
+  asks = record { number = jb.number.0; mark = mark_of jb.op (take jb.length s.content); urgent = jb.urgent }
+
+  mark_at : asks.mark ≡ Some (mark_written r content)
+  mark_at = mark m entry s listed kept count is.on is.work
+
+  is_none_of : is_none asks.mark ≡ false
+  is_none_of = ap (λ (o : Option Mark). is_none o) mark_at
+
+  ends : EndsAs asks.mark asks.number JobOk [] (told_of d) (told_of e)
+  ends = subst (λ (o : Option Mark). EndsAs o asks.number JobOk [] (told_of d) (told_of e)) (sym mark_at)
+      (subst (λ (n : ℕ). Settles n (mark_written r content) (told_of d) (told_of e)) (ap (λ (x : RecHead). x.number) (head_is m entry s listed kept count is.on is.work)) settles, refl)
+
+  abbrev w : Work
+  w = work_of m.reserve s.banks s.job
+
+  one_page : 1 ≤ w.pages
+  one_page =
+      let tail_is = subst (IsTail s.banks.log.geometry.page (pages_in s.banks.log) s.banks.log.end) at_last.tail is.on.log.tail in
+      let less = subst (λ (g : Geometry). at_last.done < pages_of_head g.page at_last.head) is.on.banks.log.shape tail_is.1 in
+      subst (λ (x : Tail). 1 ≤ pages_left s.banks.geometry.page (pages_of_job s.banks.geometry.page s.job) x) (sym at_last.tail) (omega arith)
+
+  falls_at : (told_of e).left < (told_of d).left
+  falls_at =
+      let none = no_turns in
+      let one = one_page in
+      let open_left : switch_turns m.reserve b None b.course < turns_left (Open (record asks { mark = Some (mark_written r content) })) w = omega (arith, none, one) in
+      subst (λ (o : Option FeeJob). switch_turns m.reserve b None b.course < turns_left (at o) w) (sym job_at) (subst (λ (o : Option Mark). switch_turns m.reserve b None b.course < turns_left (Open (record asks { mark = o })) w) (sym mark_at) open_left)
+
+  ready_same : (told_of d).ready ≤ (told_of e).ready
+  ready_same =
+      let free : pages_free b None ≡ pages_free s.banks s.job =
+      less_none (free_pages b)
+      ∙ ap (λ (n : ℕ). if is_some s.banks.active then n else 0) (free_on s.banks.log s.banks.log.tail is.work)
+      ∙ sym (free_is s.banks is.work s.job) in
+      let same = ap (ready_of m.reserve (nat_le 1 (seal_turns s.banks.course))) free in
+      omega (arith, same)
+
+  abbrev waits : Waits
+  waits = waits_of s.banks s.job
+
+  urgent_job : urgent_first (fixed_in m) (at s.job) ≡ true → is_urgent_job s.job ≡ true
+  urgent_job = subst (λ (o : Option FeeJob). urgent_first (fixed_in m) (at o) ≡ true → is_urgent_job o ≡ true) (sym job_at) (λ is_urgent. sym (urgent_is m asks) ∙ is_urgent)
+
+  before_none : turns_before then_log.tail (seal_turns s.banks.course) ≡ 0
+  before_none = (λ i. turns_before (tail_open i) (seal_turns (shut i)))
+
+  readies : TurnsReady (told_of d) (told_of e)
+  readies calm = if_else (urgent_first (fixed_in m) (at s.job)) (Nearer (told_of d) (told_of e)) ((told_of d).ready ≤ (told_of e).ready)
+      (λ is_urgent v wait. (
+        ready_same,
+        (turns_before then_log.tail (seal_turns s.banks.course), refl, (let none = before_none in let one = one_page in let is_v = wait_is waits v (urgent_job is_urgent) wait in omega (arith, none, one, is_v))),
+        λ given same. cc,
+      ))
+      (λ calm'. ready_same)
+
+  works : Works First (told_of d) (told_of e) (clock_of e)
+  works = record {
+    only = refl;
+    of = subst (λ (o : Option FeeJob). IsOf First (fixed_in m) (at o)) (sym job_at) (tt, sym (first_of m asks.number));
+    part = part_works laws m entry s listed kept count is.on (work_op s) Done f is.drives (asked laws own m entry s listed kept count Done f is) (keeps laws own m entry s listed kept count Done f is) b None JobOk 0 (λ off. cc);
+    job = subst (λ (o : Option FeeJob). JobTurns First (at o) ended (told_of d) (told_of e) (clock_of e)) (sym job_at) (ends, λ failed. cc);
+    read = subst (λ (o : Option FeeJob). is_read (at o) ≡ true → ((told_of e).first.ops ≡ (told_of d).first.ops) × ((told_of e).slots ≡ (told_of d).slots)) (sym job_at) (λ read. (let none = is_none_of in absurd (cc (read, none))));
+    nearer = inl falls_at;
+    ready = readies;
+  }
+
+  pub commits_so : Turned m entry turn.Worked s t listed kept (next_count count) false
+  commits_so = record {
+    turns = (
+      (
+        subst (λ (o : Option FeeJob). not (is_open (at o)) && not (told_of d).switching ≡ false) (sym job_at) refl,
+        (First, works, ticks laws m entry s listed kept count is.on (work_op s) Done f is.drives (asked laws own m entry s listed kept count Done f is) (keeps laws own m entry s listed kept count Done f is) b None JobOk 0),
+      ),
+      order laws m entry s listed kept count is.on (work_op s) Done f is.drives (asked laws own m entry s listed kept count Done f is) b None JobOk 0 facts,
+    );
+    sound = sound laws m entry s listed kept count is.on (work_op s) Done f is.drives (asked laws own m entry s listed kept count Done f is) b None JobOk 0 facts false (sym (asked laws own m entry s listed kept count Done f is).cause.2);
+  }
+
+pub appends_commit : Laws → AppendLaws → CommitsAreTold → AppendsCommit
+appends_commit laws own told m entry s listed kept count f is last shut = commits_so laws own told m entry s listed kept count f is last shut

@@ -1,0 +1,73 @@
+-- The laws that the turns stand on.
+use Rattle.fee_image.specs.Laws.{LayoutsAreLegal}
+use Rattle.fee_log.specs.Laws.{WorkIsDue, PagesStand}
+use Rattle.log_image.specs.Laws.{LogsWiden}
+use Rattle.switch_course.specs.Laws.{AppendsEnd, TurnsAreFew}
+use Rattle.switch_room.specs.Laws.{PagesKeepRoom, RecordsKeepRoom, ClearFlagsStay, BeginsKeepRoom}
+use Rattle.device_turns.specs.Appends.{AppendsFail, AppendsGoOn, AppendsCommit, RecordsBegin}
+use Rattle.device_image.specs.Laws.{PlacesTell, ProgramsKeepSettled}
+use Rattle.device_clock.specs.Clock.{ClocksTick, ClocksPass, ClocksStay}
+use Rattle.device_clock.specs.Parts.{PartsWork, PartsCut, PartsRead, ProgramsKeepLast}
+use Rattle.device_clock.specs.Runs.{RunsGoOn, RunsStay}
+use Rattle.device_clock.specs.Tells.{TellsKeep}
+use Rattle.device_turns.specs.Jobs.{JobsChange}
+use Rattle.device_turns.specs.Switches.{SwitchesBegin}
+use Rattle.device_turns.specs.Whole.{HeldFindsNow, CutsAreTold, KeptIsTold}
+use Rattle.device_figures.specs.Laws.{LeftIsBounded, LeftFits, TurnsLower, ReadyIsKept, UrgentNears}
+
+-- of any changing operation
+pub record Laws : Type 0 where
+  pub legal : LayoutsAreLegal
+  pub places : PlacesTell
+  pub tick : ClocksTick
+  pub work : PartsWork
+  pub cut : PartsCut
+  pub more : RunsGoOn
+  pub tell : TellsKeep
+  pub finds : HeldFindsNow
+  pub cuts : CutsAreTold
+  pub kept : KeptIsTold
+  pub bounded : LeftIsBounded
+  pub fits : LeftFits
+  pub lower : TurnsLower
+  pub ready : ReadyIsKept
+  pub nears : UrgentNears
+
+-- and of an append
+pub record AppendLaws : Type 0 where
+  pub fail : AppendsFail
+  pub go : AppendsGoOn
+  pub commit : AppendsCommit
+  pub begin : RecordsBegin
+  pub due : WorkIsDue
+  pub stands : PagesStand
+  pub widen : LogsWiden
+  pub last : ProgramsKeepLast
+  pub settled : ProgramsKeepSettled
+  pub room : PagesKeepRoom
+  pub course : AppendsEnd
+  pub few : TurnsAreFew
+
+-- and of a record that begins
+pub record BeginLaws : Type 0 where
+  pub begin : RecordsBegin
+  pub room : RecordsKeepRoom
+  pub clear : ClearFlagsStay
+  pub stay : ClocksStay
+  pub run : RunsStay
+
+-- and of a switch that begins
+pub record SwitchLaws : Type 0 where
+  pub begin : SwitchesBegin
+  pub room : BeginsKeepRoom
+  pub few : TurnsAreFew
+  pub stay : ClocksStay
+  pub run : RunsStay
+
+-- and of a read
+pub record ReadLaws : Type 0 where
+  pub pass : ClocksPass
+  pub read : PartsRead
+  pub run : RunsStay
+  pub job : JobsChange
+  pub few : TurnsAreFew

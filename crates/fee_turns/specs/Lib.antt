@@ -1,0 +1,5 @@
+pub mod Appends
+pub mod Begins
+pub mod Reads
+pub mod Rests
+pub mod Turn
