@@ -1,0 +1,4 @@
+pub mod First
+pub mod Newest
+pub mod Jobs
+pub mod Turns
