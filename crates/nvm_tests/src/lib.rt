@@ -14,6 +14,8 @@ mod devices;
 #[cfg(test)]
 mod driver;
 #[cfg(test)]
+mod figures;
+#[cfg(test)]
 mod floor;
 #[cfg(test)]
 mod programs;
@@ -21,6 +23,8 @@ mod programs;
 mod queues;
 #[cfg(test)]
 mod ram;
+#[cfg(test)]
+mod start_ups;
 #[cfg(test)]
 mod streams;
 #[cfg(test)]
