@@ -1,2 +1,4 @@
 mod Looking
+mod Turns
+mod Settled
 mod Started

@@ -1,5 +1,5 @@
 -- Looking a number up, and what a start of a job refuses.
-use Rattle.std.specs.Prelude.{is_some, option_map}
+use Rattle.std.specs.Prelude.{map, is_some, option_map}
 use Rattle.std.specs.List.{All}
 use Rattle.std.proofs.Common.{◌≡◌, ◌≢◌, ◌≤◌, ◌+◌, ◌==◌, ℕ, suc, Bool, true, false, if◌then◌else◌, List, [], ◌∷◌, get_or, Option, Some, None, refl, sym, ap, ◌∙◌, subst, arith, add-one}
 use Rattle.std.proofs.lemmas.Bool.Decides.{nat_tests}
@@ -11,7 +11,9 @@ use Rattle.nv_base.specs.declared.mark.Mark.TheVariants.{Content}
 use Rattle.std.specs.Prelude.{take, length}
 use Rattle.memif.specs.declared.answer.DeviceRefusal.{DeviceRefusal}
 use Rattle.memif.specs.declared.answer.JobResult.{JobResult}
-use Rattle.memif.specs.Told.{is_open, length_of}
+use Rattle.memif.specs.Told.{is_open, length_of, at_number, no_figures, most_of}
+use Rattle.device_figures.specs.Figures.{figures_for}
+use Rattle.fee_state.specs.Work.{pages_of_op}
 use Rattle.memif.specs.Calls.{refusal_of, length_refusal}
 use Rattle.fls_model.specs.Told.{Told}
 use Rattle.device_bridge.specs.Bridge.{Making}
@@ -62,3 +64,24 @@ mark_at Read size room content front whole = refl
 mark_at Write size room content front whole = ap (λ (bytes : List ℕ). Some (Content bytes)) (ap (λ (k : ℕ). take k room) (whole refl) ∙ front)
 mark_at Invalidate size room content front whole = refl
 mark_at Erase size room content front whole = refl
+
+-- FIGURES
+figure_by : (p own : ℕ) (x : DeviceNumber × ℕ) (xs : List (DeviceNumber × ℕ)) (n size : ℕ)
+    → (length_of xs n ≡ Some size → at_number no_figures xs (map (λ y. figures_for p own y.1) xs) n ≡ figures_for p own size)
+    → (b : Bool) → (if b then Some x.1 else length_of xs n) ≡ Some size
+    → (if b then figures_for p own x.1 else at_number no_figures xs (map (λ y. figures_for p own y.1) xs) n) ≡ figures_for p own size
+figure_by p own x xs n size rest true is = (let same : x.1 ≡ size = cc is in ap (λ (k : ℕ). figures_for p own k) same)
+figure_by p own x xs n size rest false is = rest is
+
+pub figure_at : (p own : ℕ) (ns : List (DeviceNumber × ℕ)) (n size : ℕ) → length_of ns n ≡ Some size → at_number no_figures ns (map (λ y. figures_for p own y.1) ns) n ≡ figures_for p own size
+figure_at p own [] n size is = cc is
+figure_at p own (x ∷ xs) n size is = figure_by p own x xs n size (λ e. figure_at p own xs n size e) (x.0.0 == n) is
+
+pub most_is : (p own size : ℕ) (op : DeviceOp) → (op ≡ Read → ⊥) → pages_of_op p op size + 1 + own ≡ most_of (figures_for p own size) op
+most_is p own size Read writes = absurd (writes refl)
+most_is p own size Write writes = refl
+most_is p own size Invalidate writes = refl
+most_is p own size Erase writes = refl
+
+pub one_is : (p own size : ℕ) (op : DeviceOp) → op ≡ Read → 1 ≡ most_of (figures_for p own size) op
+one_is p own size op is = subst (λ (o : DeviceOp). 1 ≡ most_of (figures_for p own size) o) (sym is) refl

@@ -47,13 +47,14 @@ pub record IsLoaded (old b : BanksState) : Type 0 where
   pub clear : b.log.flags ≡ clear_flags b.log.numbers
   pub idle : work_in b.log.tail ≡ None
 
-blank_log : (old b : BanksState) → IsSameFlash old b → b.log ≡ erased_state old.geometry old.banks 0 old.log.numbers → b.log ≡ erased_state b.geometry b.banks b.log.bank b.log.numbers
+blank_log : (old b : BanksState) → IsSameFlash old b → b.log ≡ erased_state old.geometry old.banks 0 old.log.numbers → b.log ≡ record (erased_state b.geometry b.banks b.log.bank b.log.numbers) { flags = b.log.flags }
 blank_log old b of is =
     let bank : b.log.bank ≡ 0 = ap (λ (log : LogState). log.bank) is in
-    is ∙ sym (λ i. erased_state (of.geometry i) (of.banks i) (bank i) (of.numbers i))
+    let whole : b.log ≡ erased_state b.geometry b.banks b.log.bank b.log.numbers = is ∙ sym (λ i. erased_state (of.geometry i) (of.banks i) (bank i) (of.numbers i)) in
+    λ i. record (whole i) { flags = b.log.flags }
 
 active_at : (old b : BanksState) → IsSameFlash old b → IsLoaded old b → (o : Option ActiveBank) → b.active ≡ o → IsActiveOf b o
-active_at old b of loaded None e = λ i. record (blank_log old b of (loaded.blank e) i) { flags = b.log.flags }
+active_at old b of loaded None e = blank_log old b of (loaded.blank e)
 active_at old b of loaded (Some a) e = subst (λ (o : Option ActiveBank). IfSome o (λ x. (x.head.format ≡ 1) × (b.log.format ≡ 1))) e loaded.format
 
 are_ready : (old b : BanksState) → IsSameFlash old b → IsLoaded old b → AreReady b

@@ -1,15 +1,15 @@
 // The calls of a device.
 ghost use Rattle.std.specs.Prelude.{◌≡◌, Some, None, length, false, true};
 ghost use Rattle.nv_base.specs.declared.mark.Mark.TheVariants as mark;
-ghost use Rattle.memif.specs.Told.{given_by, status_of, result_of, ops_of, faults_of, is_open};
-ghost use Rattle.memif.specs.Calls.{StartsUp, Accepts, Arms};
+ghost use Rattle.memif.specs.Told.{given_by, status_of, result_of, ops_of, faults_of, is_open, most_of, figures_at, IsConfigured};
+ghost use Rattle.memif.specs.Calls.{StartsUp, Accepts, Arms, InOrder, IsKind};
 ghost use Rattle.device_clock.specs.Device.{told_of};
 ghost use Rattle.device_clock.specs.Clock.{clock_of};
 
 use crate::{Fee, Origin};
 use fls_model::Flash;
-use memif::{DeviceRefusal, JobResult, MemStatus, StartFault};
-use nv_base::DeviceNumber;
+use memif::{DeviceRefusal, JobResult, MemStatus, PlainMark, StartFault};
+use nv_base::{DeviceNumber, DeviceOp};
 
 impl<F: Flash, O: Origin> Fee<F, O> {
     /// Turns the power on, reads each sector once and settles each number's mark at what is found. It drops an open job and an
@@ -68,6 +68,13 @@ impl<F: Flash, O: Origin> Fee<F, O> {
         self.parts.take_data()
     }
 
+    /// What a number holds, without its content. None exactly where the number isn't configured.
+    pub fn mark_kind(&self, number: DeviceNumber) -> Option<PlainMark>
+        ensures { IsKind (told_of self.now) number.0 result }
+    {
+        self.parts.mark_kind(number)
+    }
+
     /// What the device is at.
     pub fn status(&self) -> MemStatus
         ensures { result ≡ status_of (told_of self.now) }
@@ -95,5 +102,21 @@ impl<F: Flash, O: Origin> Fee<F, O> {
         ensures { result ≡ faults_of (told_of self.now) }
     {
         self.parts.faults()
+    }
+
+    /// By how much a start of an operation on a number raises `left` at most.
+    pub fn most(&self, number: DeviceNumber, op: DeviceOp) -> u64
+        requires { IsConfigured (told_of self.now) number.0 }
+        ensures { result ≡ most_of (figures_at (told_of self.now).fixed number.0) op }
+    {
+        self.parts.most(number, op)
+    }
+
+    /// The turns that the open work takes at most, where no fault comes.
+    pub fn left(&self) -> u64
+        ensures left { result ≡ (told_of self.now).left }
+        ensures order { InOrder (told_of self.now) (clock_of self.now) }
+    {
+        self.parts.left()
     }
 }

@@ -1,13 +1,19 @@
 // What a device shows.
-ghost use Rattle.std.specs.Prelude.{◌≡◌, true};
-ghost use Rattle.memif.specs.Told.{status_of, result_of, ops_of, faults_of, given_by, is_open};
-ghost use Rattle.fee_core.specs.Whole.{Sound, told_in};
+ghost use Rattle.std.specs.Prelude.{◌≡◌, Some, true, IfSome};
+ghost use Rattle.memif.specs.Told.{status_of, result_of, ops_of, faults_of, given_by, is_open, length_of, most_of, figures_at, slot_at, IsConfigured};
+ghost use Rattle.memif.specs.Calls.{InOrder, IsKind, kind_of};
+ghost use Rattle.fee_core.specs.Whole.{Sound, told_in, clock_in};
 
 use crate::Origin;
 use crate::parts::FeeParts;
+use crate::room::{pages_of_op, record_turns, switch_turns};
+use device_figures::left_is_bounded;
 use fee_switch::Phase;
 use fls_model::Flash;
-use memif::{JobResult, MemStatus};
+use log_image::Place;
+use memif::{JobResult, MemStatus, PlainMark};
+use nv_base::{DeviceNumber, DeviceOp};
+use switch_course::most_turns;
 
 impl<F: Flash, O: Origin> FeeParts<F, O> {
     /// What the device is at.
@@ -64,5 +70,78 @@ impl<F: Flash, O: Origin> FeeParts<F, O> {
             return &[];
         }
         self.content.front(self.given)
+    }
+
+    // The length of a number that is configured.
+    fn length_of(&self, number: DeviceNumber) -> u16
+        requires sound { Sound O.making O.entry self.now }
+        requires configured { IsConfigured (told_in O.making O.entry self.now) number.0 }
+        ensures { length_of O.making.numbers number.0 ≡ Some result }
+    {
+        match self.numbers.place_of(number) {
+            Some(place) => self.numbers.as_slice()[place].1,
+            None => 0,
+        }
+    }
+
+    // What a number holds, without its content: Erased before the device is started.
+    fn kind(&self, number: DeviceNumber) -> PlainMark
+        requires { Sound O.making O.entry self.now }
+        ensures { IfSome (told_in O.making O.entry self.now).slots (λ slots. self.now.parts.started ≡ true → result ≡ kind_of (slot_at O.making.numbers slots number.0).settled.mark) }
+    {
+        let _started = self.started;
+        let Some(log) = self.banks.log() else {
+            return PlainMark::Erased;
+        };
+        match log.find(number) {
+            Place::Content { .. } => PlainMark::Content,
+            Place::Invalid => PlainMark::Invalid,
+            Place::Erased => PlainMark::Erased,
+        }
+    }
+
+    /// What a number holds, without its content. None exactly where the number isn't configured.
+    pub fn mark_kind(&self, number: DeviceNumber) -> Option<PlainMark>
+        requires { Sound O.making O.entry self.now }
+        ensures { IsKind (told_in O.making O.entry self.now) number.0 result }
+    {
+        match self.numbers.place_of(number) {
+            Some(_) => Some(self.kind(number)),
+            None => None,
+        }
+    }
+
+    /// By how much a start of an operation on a number raises `left` at most.
+    pub fn most(&self, number: DeviceNumber, op: DeviceOp) -> u64
+        requires sound { Sound O.making O.entry self.now }
+        requires configured { IsConfigured (told_in O.making O.entry self.now) number.0 }
+        ensures { result ≡ most_of (figures_at (told_in O.making O.entry self.now).fixed number.0) op }
+    {
+        left_is_bounded();
+        let length = self.length_of(number);
+        let geometry = self.banks.geometry();
+        match op {
+            DeviceOp::Read => 1,
+            _ => {
+                let switch = most_turns(geometry.page, geometry.bank_sectors(2), &self.numbers);
+                u64::from(pages_of_op(geometry.page, op, length)) + 1 + switch
+            }
+        }
+    }
+
+    /// The turns that the open work takes at most, where no fault comes.
+    pub fn left(&self) -> u64
+        requires { Sound O.making O.entry self.now }
+        ensures left { result ≡ (told_in O.making O.entry self.now).left }
+        ensures order { InOrder (told_in O.making O.entry self.now) (clock_in O.making O.entry self.now) }
+    {
+        let Some(job) = self.job else {
+            return self.banks.left();
+        };
+        let switch = switch_turns(&self.banks, job, self.reserve);
+        match job.op {
+            DeviceOp::Read => 1 + switch,
+            _ => record_turns(&self.banks, job) + switch,
+        }
     }
 }

@@ -6,17 +6,17 @@ use Rattle.fee_format.specs.declared.rec_head.RecHead.{RecHead}
 use Rattle.bank_image.specs.Copies.{Flag}
 use Rattle.switch_course.specs.declared.course.Course.{Course}
 use Rattle.switch_course.specs.declared.course.Course.TheVariants.{Copy}
-use Rattle.switch_image.specs.Flags.{CopiesOrNot}
+use Rattle.switch_image.specs.Flags.{CopiesOrNot, IsOpenFor}
 
 -- each number's flag, with the mark that is settled for it
 abbrev pub flags_of : List (DeviceNumber × ℕ) → List Bool → List Mark → List Flag
 flags_of (n ∷ ns) (copied ∷ flags) (m ∷ marks) = record { number = n.0.0; length = n.1; copied = copied; settled = m } ∷ flags_of ns flags marks
 flags_of _ _ _ = []
 
--- a copy in work is of the mark that is settled for its number, or sets no flag
+-- a copy in work is of the mark that is settled for its number, or sets no flag; a copy of that is left to make
 abbrev pub IsCopyIn : Bool → Option RecHead → List ℕ → List Flag → Type 0
 IsCopyIn sets None buffer fs = Unit {0}
-IsCopyIn sets (Some h) buffer fs = CopiesOrNot sets h (take h.length buffer) fs
+IsCopyIn sets (Some h) buffer fs = CopiesOrNot sets h (take h.length buffer) fs × IsOpenFor h.number fs
 
 abbrev pub IsCopying : Course → Option RecHead → List ℕ → List Flag → Type 0
 IsCopying (Copy (Some w)) work buffer fs = IsCopyIn w.sets work buffer fs

@@ -1,12 +1,13 @@
 -- The record of the open job.
-use Rattle.std.specs.Prelude.{◌≡◌, ◌≢◌, ◌⊎◌, ◌≤◌, ℕ, true, is_some, List, Option, Some, None}
+use Rattle.std.specs.Prelude.{◌≡◌, ◌≢◌, ◌⊎◌, ◌≤◌, ℕ, true, false, is_some, List, Option, Some, None}
 use Rattle.nv_base.specs.declared.instance.DeviceNumber.{DeviceNumber}
 use Rattle.nv_base.specs.declared.job.DeviceOp.{DeviceOp}
 use Rattle.nv_base.specs.declared.job.DeviceOp.TheVariants.{Read, Write, Invalidate, Erase}
 use Rattle.memif.specs.Told.{length_of}
 use Rattle.fee_format.specs.declared.rec_head.RecHead.{RecHead}
+use Rattle.fee_log.specs.Index.{with_flag}
 use Rattle.fee_log.specs.Log.{work_in}
-use Rattle.fee_switch.specs.Banks.{BanksState, TakesRecord}
+use Rattle.fee_switch.specs.Banks.{BanksState, TakesRecord, course_appended}
 use Rattle.fee_state.specs.declared.job.FeeJob.{FeeJob}
 use Rattle.fee_state.specs.Work.{begins_next, seal_turns}
 
@@ -35,8 +36,8 @@ pub record IsJobOf (numbers : List (DeviceNumber × ℕ)) (j : FeeJob) : Type 0 
   pub urgent : j.urgent ≡ true → j.op ≡ Write
   pub promised : j.promised ≡ true → j.urgent ≡ true
 
--- a record in work is that of the open job, in the active bank; beside a switch it is an urgent one's, and no target is
--- sealed meanwhile
+-- a record in work is that of the open job, in the active bank; beside a switch it is an urgent one's, no target is sealed
+-- meanwhile, the flag of its number is clear, and a copy of that in work sets none
 pub record IsInWork (s : BanksState) (job : Option FeeJob) (h : RecHead) : Type 0 where
   pub of : FeeJob
   pub is_open : job ≡ Some of
@@ -45,6 +46,8 @@ pub record IsInWork (s : BanksState) (job : Option FeeJob) (h : RecHead) : Type 
   pub active : is_some s.active ≡ true
   pub taken : TakesRecord h.kind s.course
   pub beside : is_some s.course ≡ true → of.urgent ≡ true
+  pub clear : with_flag s.log.numbers s.log.flags h.number false ≡ s.log.flags
+  pub alone : course_appended s.log.numbers h.number s.course ≡ s.course
 
 -- an urgent write that is promised begins next, or waits for the seal of another bank
 abbrev pub IsReady : BanksState → FeeJob → Type 0

@@ -1,12 +1,13 @@
 -- The parts of a device whose record begins.
-use Rattle.std.specs.Prelude.{IfSome, IsSome, ◌&&◌, not, is_some, min, nat_le, take, length, if◌then◌else◌}
+use Rattle.std.specs.Prelude.{IfSome, IsSome, ◌&&◌, not, is_some, min, nat_le, take, length, set, slice_get, if◌then◌else◌}
 use Rattle.std.proofs.Common.{◌≡◌, inl, ◌≤◌, ◌+◌, ◌-◌, ℕ, Bool, true, false, List, [], Option, Some, None, refl, sym, ap, ◌∙◌, subst, arith}
 use Rattle.std.proofs.lemmas.Bool.{leb-true, le-leb}
 use Rattle.std.proofs.lemmas.List.{length-take-le}
 use Rattle.nv_base.specs.Geometry.{sectors_of_bank, pages_of_bank}
 use Rattle.nv_base.specs.declared.geometry.Geometry.{Geometry}
 use Rattle.nv_base.specs.declared.instance.DeviceNumber.{DeviceNumber}
-use Rattle.memif.specs.Told.{Slot, Stand, Open as StandOpen, Ended as StandEnded, is_open}
+use Rattle.nv_base.specs.Pages.{record_pages_of}
+use Rattle.memif.specs.Told.{length_of, Slot, Stand, Open as StandOpen, Ended as StandEnded, is_open}
 use Rattle.fls_model.specs.Told.{Told}
 use Rattle.fee_format.specs.declared.rec_head.RecHead.{RecHead}
 use Rattle.fee_image.specs.Image.{Layout, layout_of, bank_in}
@@ -18,12 +19,15 @@ use Rattle.bank_image.specs.Banks.{Old, OldBank}
 use Rattle.bank_image.specs.Laws.{TakesAppends}
 use Rattle.fee_log.specs.declared.tail.Tail.{Tail}
 use Rattle.fee_log.specs.declared.tail.Tail.TheVariants.{Open, Writes, Owes, Closed}
+use Rattle.fee_log.specs.Index.{clear_flags, with_flag}
 use Rattle.fee_log.specs.Log.{pages_in, work_in, free_in, free_behind, log_of, tail_begun, tail_with}
 use Rattle.nv_base.specs.Lengths.{place_of}
 use Rattle.bank_start.specs.declared.active.ActiveBank.{ActiveBank}
 use Rattle.switch_course.specs.declared.course.Course.{Course}
-use Rattle.fee_switch.specs.Banks.{BanksState, appended_at, left_with}
-use Rattle.switch_promise.specs.Shown.{old_shown, phase_shown}
+use Rattle.switch_course.specs.Course.{appended_to, turns_left, most_turns}
+use Rattle.fee_switch.specs.Banks.{TakesRecord, appended_at, index_of, left_of, left_with}
+use Rattle.switch_promise.specs.Shown.{old_shown}
+use Rattle.switch_room.specs.KeepsRoom.{KeepsRoom}
 use Rattle.switch_room.specs.Space.{free_pages, has_room}
 use Rattle.device_bridge.specs.Bridge.{Making}
 use Rattle.device_image.specs.Slots.{Memory, IsWorkOf, slots_found}
@@ -34,14 +38,16 @@ use Rattle.device_clock.specs.Runs.{HasRun}
 use Rattle.memif.specs.Clock.{SameClock}
 use Rattle.device_turns.specs.Kept.{with_log}
 use Rattle.fee_state.specs.declared.job.FeeJob.{FeeJob}
-use Rattle.fee_state.specs.Inside.{Parts, body_of, device_of, memory_of, stand_of, IsActiveOf, IsAtWork, HoldsBehind}
-use Rattle.fee_state.specs.Record.{head_of, IsJobOf}
-use Rattle.fee_state.specs.Work.{pages_of_op, pages_of_job, pages_free, work_of, is_waiting, begins_next, fits_in, takes_append, claimed, seal_turns, turns_before, is_urgent_job, is_promised}
+use Rattle.fee_state.specs.Inside.{Parts, body_of, device_of, memory_of, stand_of, IsActiveOf, IsAtWork, HasSwitch, HoldsBehind}
+use Rattle.fee_state.specs.Record.{head_of, IsJobOf, IsLengthOf}
+use Rattle.nv_base.specs.declared.job.DeviceOp.{DeviceOp}
+use Rattle.nv_base.specs.declared.job.DeviceOp.TheVariants.{Write}
+use Rattle.fee_state.specs.Work.{pages_of_op, pages_of_job, pages_free, work_of, is_waiting, begins_next, fits_in, claimed, seal_turns, switch_turns, turns_before, turns_beside, takes_append, is_urgent_job, is_promised}
 use Rattle.nv_base.specs.declared.mark.Mark.{Mark}
-use Rattle.device_figures.specs.Figures.{Work, turns_of, turns_owed, left_of, ready_of, wait_of}
+use Rattle.device_figures.specs.Figures.{Work, turns_of, turns_owed, left_of as turns_told, ready_of, wait_of}
 use Rattle.device_figures.specs.Laws.{IsWork, IsOfJob}
 use Rattle.fee_turns.proofs.Figures.{switch_is, free_is}
-use Rattle.fee_turns.proofs.Appended.{of_job}
+use Rattle.fee_turns.proofs.Appended.{has_switch, flags_clear, few_left, of_job}
 use Rattle.fee_turns.specs.Turn.{IsOn}
 use Rattle.fee_turns.specs.Begins.{HasBegun, MayBegin, begun_with}
 use Rattle.fee_turns.proofs.Laws.{Laws, BeginLaws}
@@ -50,7 +56,9 @@ use Rattle.fee_turns.proofs.Places.{same_places}
 use Rattle.fee_turns.proofs.Order.{tells_by}
 use Rattle.fee_turns.proofs.Heads.{IsAmong, among, mark_is, legal_head}
 use Rattle.fee_turns.proofs.Begun.{no_course, Ready, opens, owes, ready_by, free_less, begun_work, begun_pages, begun_owed, ready_pages, room_is}
-use Rattle.fee_turns.proofs.Page.{some_of}
+use Rattle.fee_turns.proofs.Beside.{appended_phase, appended_takes, appended_none, takes_now, flag_at, named, places_many}
+use Rattle.fee_turns.proofs.GoneOn.{no_seal}
+use Rattle.fee_turns.proofs.Page.{some_of, takes}
 use Rattle.fee_turns.proofs.Shown.{few_by, pages_by}
 
 -- a bank is active where pages are free
@@ -62,24 +70,19 @@ free_of : (o : Option ActiveBank) (n : ℕ) → IsSome o → (if is_some o then 
 free_of None n some = cc
 free_of (Some a) n some = refl
 
--- what takes appends without a switch
-shut_phase : (c : Option Course) (s : BanksState) (content : List ℕ) → c ≡ None → TakesAppends (phase_shown c s content)
-shut_phase None s content shut = tt
-shut_phase (Some c) s content shut = cc shut
-
--- a phase that no switch has
-shut_is : (c c' : Option Course) (s t : BanksState) (content : List ℕ) → c ≡ None → c' ≡ None → phase_shown c' t content ≡ phase_shown c s content
-shut_is None None s t content a b = refl
-shut_is (Some c) c' s t content a b = cc a
-shut_is None (Some c) s t content a b = cc b
-
 left_by : (mark : Option Mark) (v w : Work) → v.pages ≡ w.pages → v.owed ≡ w.owed → v.switch ≤ w.switch → turns_of mark v + v.switch ≤ turns_of mark w + w.switch
 left_by None v w pages owed few = omega arith
 left_by (Some m) v w pages owed few = let same = ap turns_owed owed in omega (arith, same, pages)
 
-pub left_less : (st : Stand) (v w : Work) → v.pages ≡ w.pages → v.owed ≡ w.owed → v.switch ≤ w.switch → left_of st v ≤ left_of st w
+pub left_less : (st : Stand) (v w : Work) → v.pages ≡ w.pages → v.owed ≡ w.owed → v.switch ≤ w.switch → turns_told st v ≤ turns_told st w
 left_less (StandOpen j) v w pages owed few = left_by j.mark v w pages owed few
 left_less (StandEnded result given) v w pages owed few = few
+
+-- a content has its number's length
+content_pages : (p : ℕ) (op : DeviceOp) (length of : ℕ) → op ≡ Write → IsLengthOf op length of → pages_of_op p op length ≡ record_pages_of of p
+content_pages p op length of writes fits =
+    let same = subst (λ (o : DeviceOp). IsLengthOf o length of) writes fits in
+    ap (λ (o : DeviceOp). pages_of_op p o length) writes ∙ ap (λ (n : ℕ). record_pages_of n p) same
 
 pub and_four' : (a c d : Bool) → a && false && c && d ≡ false
 and_four' true c d = refl
@@ -138,8 +141,11 @@ module _ (laws : Laws) (own : BeginLaws) (m : Making) (entry : Told) (s : Parts)
   pub ready : Ready s.banks.log.tail
   ready = let free = log_free in ready_by s.banks.log.geometry.page (pages_in s.banks.log) s.banks.log.end s.banks.log.tail may.idle (omega (arith, free))
 
-  pub course_is : t.banks.course ≡ None
-  course_is = ap (appended_at (place_of s.banks.log.numbers r.number)) may.shut ∙ no_course (place_of s.banks.log.numbers r.number)
+  abbrev pub place : Option ℕ
+  place = place_of s.banks.log.numbers r.number
+
+  pub taken_then : TakesRecord r.kind t.banks.course
+  taken_then = appended_takes r.kind place s.banks.course may.taken
 
   pub work_is : work_in t.banks.log.tail ≡ Some r
   work_is = begun_work s.banks.log.tail r ready
@@ -164,10 +170,10 @@ module _ (laws : Laws) (own : BeginLaws) (m : Making) (entry : Told) (s : Parts)
   target_body = body_of (work_in s.banks.copies.tail) s.banks.buffer
 
   phase_is : (memory_of t).phase ≡ mem.phase
-  phase_is = shut_is s.banks.course t.banks.course s.banks t.banks target_body may.shut course_is
+  phase_is = appended_phase place s.banks.course s.banks t.banks.log t.banks.course target_body
 
-  taking : TakesAppends mem.phase
-  taking = shut_phase s.banks.course s.banks target_body may.shut
+  pub taking : TakesAppends mem.phase
+  taking = takes r.kind s.banks.course s.banks target_body may.taken
 
   few : j.length ≤ length s.content
   few = let x = few_by j.op j.length job_of.length number.few job_of.fits in omega (arith, x, on.sound.made_for.room)
@@ -203,7 +209,7 @@ module _ (laws : Laws) (own : BeginLaws) (m : Making) (entry : Told) (s : Parts)
   work_of_job : IsWorkOf mem.stand (LogWrites r body 0)
   work_of_job = subst (λ (o : Option FeeJob). IsWorkOf (stand_of s.content o s.last s.given) (LogWrites r body 0)) (sym may.job) (refl, mark_is j.op j.number.0 j.length s.content may.writes)
 
-  held_by : (tl : Tail) → s.banks.log.tail ≡ tl → Ready tl → (bytes : List ℕ) (more : May) → IsHeld l m.numbers bytes mem more → IsHeld l m.numbers bytes (memory_of t) more
+  pub held_by : (tl : Tail) → s.banks.log.tail ≡ tl → Ready tl → (bytes : List ℕ) (more : May) → IsHeld l m.numbers bytes mem more → IsHeld l m.numbers bytes (memory_of t) more
   held_by Open at opens bytes more held =
       let tail : was.tail ≡ LogOpen = ap (λ (x : Tail). tail_with x []) at in
       let kept' = own.begin l m.numbers bytes mem more a.bank a.head was r body (record { lengths = lengths m entry s listed kept count on; legal = legal m entry s listed kept count on laws.legal; held = held; bank = old_is; takes = taking }) tail (record_at at) work_of_job in
@@ -213,7 +219,7 @@ module _ (laws : Laws) (own : BeginLaws) (m : Making) (entry : Told) (s : Parts)
   held_by (Owes _ (Some _)) at x bytes more held = elim x [ ]
   held_by Closed at x bytes more held = elim x [ ]
 
-  places_by : (tl : Tail) → s.banks.log.tail ≡ tl → Ready tl → SamePlaces mem.old (memory_of t).old
+  pub places_by : (tl : Tail) → s.banks.log.tail ≡ tl → Ready tl → SamePlaces mem.old (memory_of t).old
   places_by Open at opens = subst (λ (o : Old). SamePlaces o (memory_of t).old) (sym old_is) (subst (λ (o : Old). SamePlaces (OldBank a.bank a.head was) o) (sym (ap (λ (x : Memory). x.old) (memory_is (log_begun was r body) (log_open at)))) (refl, refl, refl))
   places_by (Owes owed None) at (owes _) = subst (λ (o : Old). SamePlaces o (memory_of t).old) (sym old_is) (subst (λ (o : Old). SamePlaces (OldBank a.bank a.head was) o) (sym (ap (λ (x : Memory). x.old) (memory_is was (log_owed owed at)))) (refl, refl, refl))
   places_by (Writes _ _) at x = elim x [ ]
@@ -252,6 +258,18 @@ module _ (laws : Laws) (own : BeginLaws) (m : Making) (entry : Told) (s : Parts)
     on = λ power. refl;
   }
 
+  -- THE SWITCH
+  pub room_on : KeepsRoom m.reserve t.banks
+  room_on = own.room m.reserve s.banks r on.banks (on.sound.room on.started (power m entry s listed kept count on)) may.idle may.taken may.configured has_free
+
+  flags : t.banks.course ≡ None → t.banks.log.flags ≡ clear_flags t.banks.log.numbers
+  flags shut =
+      ap (λ (x : List Bool). with_flag s.banks.log.numbers x r.number false) (flags_clear s.banks s.banks.course was_at_work.switch (appended_none place s.banks.course shut))
+      ∙ own.clear s.banks.log.numbers r.number
+
+  pub switch_on : HasSwitch t.banks t.banks.course
+  switch_on = has_switch m.reserve t.banks t.banks.course flags room_on.switch
+
   -- THE FIGURES
   abbrev pub v : Work
   v = work_of m.reserve t.banks s.job
@@ -261,9 +279,6 @@ module _ (laws : Laws) (own : BeginLaws) (m : Making) (entry : Told) (s : Parts)
 
   some_work : IsSome (work_in t.banks.log.tail)
   some_work = ap (λ (o : Option RecHead). is_some o) work_is
-
-  pub switch_none : v.switch ≡ 0
-  switch_none = switch_is t.banks some_work m.reserve s.job ∙ ap (left_with t.banks) course_is
 
   wanted : pages_of_job p s.job ≡ pages_of_op p j.op j.length
   wanted = ap (pages_of_job p) may.job
@@ -277,16 +292,71 @@ module _ (laws : Laws) (own : BeginLaws) (m : Making) (entry : Told) (s : Parts)
   owed_same : v.owed ≡ w.owed
   owed_same = begun_owed s.banks.log.tail r ready
 
+  waiting : is_waiting s.banks j ≡ true
+  waiting =
+      let same = pages_are in
+      let some' : 1 ≤ pages_of_op p j.op j.length = omega (arith, same) in
+      (λ i. le-leb 1 (pages_of_op p j.op j.length) some' i && not (is_some (may.idle i)))
+
+  begins : j.urgent ≡ true → begins_next s.banks j ≡ true
+  begins urgent =
+      let fits : fits_in 0 s.banks j ≡ true = (λ i. has_room (urgent i) (pages_of_op p j.op j.length) 0 (free_pages s.banks)) ∙ sym (λ i. has_room (urgent i) (pages_of_op p j.op j.length) m.reserve (free_pages s.banks)) ∙ may.room in
+      λ i. takes_now r.kind s.banks.course may.taken i && urgent i && waiting i && fits i
+
+  -- where its number stands
+  abbrev ns : List (DeviceNumber × ℕ)
+  ns = s.banks.log.numbers
+
+  stands : (i : ℕ) × (slice_get ns i ≡ Some (record { 0 = r.number }, job_of.length))
+  stands = named ns r.number job_of.length (subst (λ (x : List (DeviceNumber × ℕ)). length_of x r.number ≡ Some job_of.length) (sym on.sound.made_for.numbers) job_of.configured)
+
+  place_is : place ≡ Some stands.0
+  place_is = own.places 0 ns stands.0 (record { 0 = r.number }, job_of.length) on.log.numbers stands.1
+
+  -- beside a switch its number is copied again
+  abbrev turns : List Bool → Option ℕ → Course → ℕ
+  turns x appended c = turns_left p (sectors_of_bank s.banks.geometry s.banks.banks) ns s.banks.log.places x appended c
+
+  switch_adds : (c : Course) → s.banks.course ≡ Some c → left_with t.banks (appended_at place (Some c)) ≤ left_of s.banks + turns_beside s.banks s.job
+  switch_adds c at =
+      let index : index_of ns (work_in t.banks.log.tail) ≡ Some stands.0 = ap (index_of ns) work_is ∙ place_is in
+      let cleared' = flag_at own.bounds 0 ns s.banks.log.flags stands.0 (record { 0 = r.number }, job_of.length) on.log.numbers stands.1 in
+      let then_is : left_with t.banks (appended_at place (Some c)) ≡ turns (set s.banks.log.flags stands.0 false) (Some stands.0) (appended_to stands.0 c) =
+      ap (λ (k : Option ℕ). left_with t.banks (appended_at k (Some c))) place_is ∙ (λ i. turns (cleared' i) (index i) (appended_to stands.0 c)) in
+      let was_is : left_of s.banks ≡ turns s.banks.log.flags None c = ap (left_with s.banks) at ∙ ap (λ (o : Option RecHead). turns s.banks.log.flags (index_of ns o) c) may.idle in
+      let more = own.add p (sectors_of_bank s.banks.geometry s.banks.banks) stands.0 ns s.banks.log.places s.banks.log.flags c (record { 0 = r.number }, job_of.length) stands.1
+      (places_many s.banks.log.geometry.page s.banks.log.end ns s.banks.log.places on.log.places) on.log.flags in
+      let urgent = may.beside (ap (λ (o : Option Course). is_some o) at) in
+      let beside : turns_beside s.banks s.job ≡ pages_of_op p j.op j.length + 1 = ap (turns_beside s.banks) may.job ∙ ap (λ (b : Bool). if b then pages_of_op p j.op j.length + 1 else 0) (begins urgent) in
+      let whole : pages_of_op p j.op j.length ≡ record_pages_of job_of.length p = content_pages p j.op j.length job_of.length (job_of.urgent urgent) job_of.fits in
+      omega (arith, then_is, was_is, more, beside, whole)
+
+  switch_by : (c : Option Course) → s.banks.course ≡ c → left_with t.banks (appended_at place c) ≤ switch_turns m.reserve s.banks s.job c
+  switch_by None at = let none = ap (left_with t.banks) (no_course place) in omega (arith, none)
+  switch_by (Some c) at = switch_adds c at
+
+  switch_then : v.switch ≡ left_of t.banks
+  switch_then = switch_is t.banks some_work m.reserve s.job
+
+  switch_few : v.switch ≤ w.switch
+  switch_few = let same = switch_then in let few' = switch_by s.banks.course refl in omega (arith, same, few')
+
   pub left_few : (told_of e).left ≤ (told_of d).left
-  left_few = left_less (stand_of s.content s.job s.last s.given) v w pages_same owed_same (let none = switch_none in omega (arith, none))
+  left_few = left_less (stand_of s.content s.job s.last s.given) v w pages_same owed_same switch_few
 
   pub work_then : IsWork m.geometry.page (sectors_of_bank m.geometry 2) m.numbers m.reserve (stand_of s.content s.job s.last s.given) v
-  work_then = record {
-    job = subst (λ (o : Option FeeJob). IsOfJob m.geometry.page m.numbers (stand_of s.content o s.last s.given) v) (sym may.job)
-        (of_job m.geometry.page m.numbers s.content j s.last s.given v job_of
-        (subst (λ (g : Geometry). v.pages ≤ pages_of_op g.page j.op j.length) on.sound.made_for.banks_geometry (let one = pages_then in let two = wanted in omega (arith, one, two))));
-    few = let none = switch_none in omega (arith, none);
-  }
+  work_then =
+      let geo = on.sound.made_for.banks_geometry in
+      let few' = few_left own.few t.banks switch_on in
+      let fits = subst (λ (g : Geometry). left_of t.banks ≤ most_turns g.page (sectors_of_bank g s.banks.banks) ns) geo few' in
+      let fits2 = subst (λ (n : ℕ). left_of t.banks ≤ most_turns m.geometry.page (sectors_of_bank m.geometry n) ns) on.sound.made_for.two fits in
+      let fits3 = subst (λ (x : List (DeviceNumber × ℕ)). left_of t.banks ≤ most_turns m.geometry.page (sectors_of_bank m.geometry 2) x) on.sound.made_for.numbers fits2 in
+      record {
+        job = subst (λ (o : Option FeeJob). IsOfJob m.geometry.page m.numbers (stand_of s.content o s.last s.given) v) (sym may.job)
+            (of_job m.geometry.page m.numbers s.content j s.last s.given v job_of
+            (subst (λ (g : Geometry). v.pages ≤ pages_of_op g.page j.op j.length) geo (let one = pages_then in let two = wanted in omega (arith, one, two))));
+        few = subst (λ (n : ℕ). n ≤ most_turns m.geometry.page (sectors_of_bank m.geometry 2) m.numbers) (sym switch_then) fits3;
+      }
 
   -- free pages
   free_then : pages_free t.banks s.job ≡ free_pages s.banks - pages_of_op p j.op j.length
@@ -299,39 +369,33 @@ module _ (laws : Laws) (own : BeginLaws) (m : Making) (entry : Told) (s : Parts)
       let five = pages_are in
       omega (arith, one, two, three, four, five, g)
 
-  waiting : is_waiting s.banks j ≡ true
-  waiting =
-      let same = pages_are in
-      let some' : 1 ≤ pages_of_op p j.op j.length = omega (arith, same) in
-      (λ i. le-leb 1 (pages_of_op p j.op j.length) some' i && not (is_some (may.idle i)))
-
   -- an urgent write had its pages taken off already, and any other leaves what is kept
   ready_by_test : (u : Bool) → j.urgent ≡ u → ready_of m.reserve false (pages_free t.banks s.job) ≡ ready_of m.reserve false (pages_free s.banks s.job)
   ready_by_test true urgent =
-      let fits : fits_in 0 s.banks j ≡ true = (λ i. has_room (urgent i) (pages_of_op p j.op j.length) 0 (free_pages s.banks)) ∙ sym (λ i. has_room (urgent i) (pages_of_op p j.op j.length) m.reserve (free_pages s.banks)) ∙ may.room in
-      let begins : begins_next s.banks j ≡ true = λ i. takes_append (may.shut i) && urgent i && waiting i && fits i in
-      let one : claimed s.banks s.job ≡ pages_of_op p j.op j.length = ap (claimed s.banks) may.job ∙ ap (λ (b : Bool). if b then pages_of_op p j.op j.length else 0) begins in
+      let one : claimed s.banks s.job ≡ pages_of_op p j.op j.length = ap (claimed s.banks) may.job ∙ ap (λ (b : Bool). if b then pages_of_op p j.op j.length else 0) (begins urgent) in
       ap (ready_of m.reserve false) (let two = free_then in let goal : pages_free t.banks s.job ≡ free_pages s.banks - claimed s.banks s.job = omega (arith, one, two) in goal)
   ready_by_test false calm =
-      let begins : begins_next s.banks j ≡ false = (λ i. takes_append s.banks.course && calm i && is_waiting s.banks j && fits_in 0 s.banks j) ∙ and_four' (takes_append s.banks.course) (is_waiting s.banks j) (fits_in 0 s.banks j) in
-      let one : claimed s.banks s.job ≡ 0 = ap (claimed s.banks) may.job ∙ ap (λ (b : Bool). if b then pages_of_op p j.op j.length else 0) begins in
+      let none_begins : begins_next s.banks j ≡ false = (λ i. takes_append s.banks.course && calm i && is_waiting s.banks j && fits_in 0 s.banks j) ∙ and_four' (takes_append s.banks.course) (is_waiting s.banks j) (fits_in 0 s.banks j) in
+      let one : claimed s.banks s.job ≡ 0 = ap (claimed s.banks) may.job ∙ ap (λ (b : Bool). if b then pages_of_op p j.op j.length else 0) none_begins in
       let room : has_room false (pages_of_op p j.op j.length) m.reserve (free_pages s.banks) ≡ true = (λ i. has_room (sym calm i) (pages_of_op p j.op j.length) m.reserve (free_pages s.banks)) ∙ may.room in
       let enough = leb-true (pages_of_op p j.op j.length + m.reserve) (free_pages s.banks) room in
       let two = free_then in
       let goal : min m.reserve (pages_free t.banks s.job) ≡ min m.reserve (free_pages s.banks - claimed s.banks s.job) = omega (arith, one, two, enough) in goal
 
-  seal_is : (c : Option Course) → c ≡ None → nat_le 1 (seal_turns c) ≡ false
-  seal_is None e' = refl
-  seal_is (Some c) e' = cc e'
+  seal : seal_turns s.banks.course ≡ 0
+  seal = no_seal r.kind s.banks.course may.taken
+
+  seal_then : seal_turns t.banks.course ≡ 0
+  seal_then = no_seal r.kind t.banks.course taken_then
 
   ready_same : (told_of e).ready ≡ (told_of d).ready
   ready_same =
-      ap (λ (b : Bool). ready_of m.reserve b (pages_free t.banks s.job)) (seal_is t.banks.course course_is)
+      ap (λ (n : ℕ). ready_of m.reserve (nat_le 1 n) (pages_free t.banks s.job)) seal_then
       ∙ ready_by_test j.urgent refl
-      ∙ sym (ap (λ (b : Bool). ready_of m.reserve b (pages_free s.banks s.job)) (seal_is s.banks.course may.shut))
+      ∙ sym (ap (λ (n : ℕ). ready_of m.reserve (nat_le 1 n) (pages_free s.banks s.job)) seal)
 
   before_same : turns_before t.banks.log.tail (seal_turns t.banks.course) ≡ turns_before s.banks.log.tail (seal_turns s.banks.course)
-  before_same = ap (λ (c : Option Course). turns_before t.banks.log.tail (seal_turns c)) course_is ∙ ap turns_owed owed_same ∙ sym (ap (λ (c : Option Course). turns_before s.banks.log.tail (seal_turns c)) may.shut)
+  before_same = ap (turns_before t.banks.log.tail) seal_then ∙ ap turns_owed owed_same ∙ sym (ap (turns_before s.banks.log.tail) seal)
 
   wait_same : (told_of e).wait ≡ (told_of d).wait
   wait_same = λ i. wait_of (record { before = before_same i; urgent = is_urgent_job s.job; promised = is_promised s.job; pages = pages_same i })

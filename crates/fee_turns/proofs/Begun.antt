@@ -1,4 +1,4 @@
--- A record begins, with no switch open.
+-- A record begins.
 use Rattle.std.proofs.Common.{◌≡◌, ◌≤◌, ◌+◌, ◌-◌, ℕ, Bool, true, false, Option, Some, None, refl, arith}
 use Rattle.std.proofs.lemmas.Bool.{leb-true}
 use Rattle.fee_format.specs.declared.rec_head.RecHead.{RecHead}

@@ -1,49 +1,40 @@
 -- The parts are sound where a record begins.
-use Rattle.std.specs.Prelude.{IfSome, is_some}
-use Rattle.std.proofs.Common.{◌≡◌, ℕ, Bool, true, false, List, Option, Some, None, refl, sym, ap, ◌∙◌, subst}
+use Rattle.std.specs.Prelude.{IfSome}
+use Rattle.std.proofs.Common.{◌≡◌, ℕ, false, List, Option, Some, None, refl, sym, ap, ◌∙◌, subst}
+use Rattle.nv_base.specs.Lengths.{place_of}
 use Rattle.nv_base.specs.declared.instance.DeviceNumber.{DeviceNumber}
 use Rattle.fls_model.specs.Told.{Told}
 use Rattle.fee_format.specs.declared.rec_head.RecHead.{RecHead}
-use Rattle.fee_log.specs.Index.{clear_flags, with_flag}
+use Rattle.bank_image.specs.Copies.{Flag, cleared, copied_of}
+use Rattle.fee_log.specs.Index.{with_flag}
+use Rattle.fee_log.specs.Log.{work_in}
 use Rattle.switch_course.specs.declared.course.Course.{Course}
-use Rattle.fee_switch.specs.Banks.{BanksState, TakesRecord}
-use Rattle.switch_room.specs.KeepsRoom.{KeepsRoom}
+use Rattle.switch_course.specs.Course.{appended_to}
+use Rattle.fee_switch.specs.Banks.{appended_at}
 use Rattle.device_bridge.specs.Bridge.{Making}
+use Rattle.device_bridge.specs.Image.{two_banks}
+use Rattle.device_image.specs.Slots.{settled_in}
+use Rattle.device_image.specs.Laws.{IsHeld}
 use Rattle.fee_state.specs.declared.job.FeeJob.{FeeJob}
-use Rattle.fee_state.specs.Inside.{Parts, IsActiveOf, IsAtWork, HasSwitch, ShowsCopies, IsSound}
+use Rattle.fee_state.specs.Copied.{flags_of, IsCopying}
+use Rattle.fee_state.specs.Inside.{Parts, memory_of, flags_in, IsActiveOf, IsAtWork, ShowsCopies, TellsCopies, IsSound}
 use Rattle.fee_state.specs.Record.{IsInWork, IsReady}
 use Rattle.fee_turns.specs.Turn.{IsOn}
 use Rattle.fee_turns.specs.Begins.{MayBegin, RecordsBegin}
 use Rattle.fee_turns.proofs.Laws.{Laws, BeginLaws}
-use Rattle.fee_turns.proofs.Before.{power, shape, lengths, each_now}
+use Rattle.fee_turns.proofs.Before.{shape, lengths, each_now, now_at}
 use Rattle.fee_turns.proofs.Order.{behind_finds, in_order}
-use Rattle.fee_turns.proofs.Appended.{flags_clear}
-use Rattle.fee_turns.proofs.Committed.{none_shows}
+use Rattle.fee_turns.proofs.Beside.{appended_again, appended_some, clear_again, flags_cleared, clears_copying, appended_copying, same_settled}
+use Rattle.fee_turns.proofs.Begun.{no_course}
 use Rattle.fee_turns.proofs.GoesOn.{each_some}
-use Rattle.fee_turns.proofs.Beginning.{t, r, e, active_is, formats, was_at_work, course_is, work_is, active, has_free, run_on, behind, work_then, has_begun}
-
-clear_by : (b : BanksState) (c : Option Course) → c ≡ None → b.log.flags ≡ clear_flags b.log.numbers → HasSwitch b c
-clear_by b None shut clear = clear
-clear_by b (Some c) shut clear = cc shut
-
-takes_any : (kind : ℕ) (c : Option Course) → c ≡ None → TakesRecord kind c
-takes_any kind None shut = tt
-takes_any kind (Some c) shut = cc shut
+use Rattle.fee_turns.proofs.Beginning.{t, r, e, ready, active_is, formats, was_at_work, work_is, active, taken_then, taking, held_by, places_by, room_on, switch_on, run_on, behind, work_then, has_begun}
 
 module _ (laws : Laws) (own : BeginLaws) (m : Making) (entry : Told) (s : Parts) (listed : List (DeviceNumber × ℕ)) (kept count : ℕ) (j : FeeJob) (on : IsOn m entry s listed kept count) (may : MayBegin m s j) where
   abbrev begun : Parts
   begun = t laws own m entry s listed kept count j on may
 
-  shut : begun.banks.course ≡ None
-  shut = course_is laws own m entry s listed kept count j on may
-
-  room_on : KeepsRoom m.reserve begun.banks
-  room_on = own.room m.reserve s.banks (r laws own m entry s listed kept count j on may) on.banks (on.sound.room on.started (power m entry s listed kept count on)) may.idle (takes_any _ s.banks.course may.shut) may.configured (has_free laws own m entry s listed kept count j on may)
-
-  flags : begun.banks.log.flags ≡ clear_flags begun.banks.log.numbers
-  flags =
-      ap (λ (x : List Bool). with_flag s.banks.log.numbers x (r laws own m entry s listed kept count j on may).number false) (flags_clear s.banks s.banks.course (was_at_work laws own m entry s listed kept count j on may).switch may.shut)
-      ∙ own.clear s.banks.log.numbers (r laws own m entry s listed kept count j on may).number
+  abbrev place : Option ℕ
+  place = place_of s.banks.log.numbers j.number.0
 
   in_work_on : IsInWork begun.banks s.job (r laws own m entry s listed kept count j on may)
   in_work_on = record {
@@ -52,13 +43,43 @@ module _ (laws : Laws) (own : BeginLaws) (m : Making) (entry : Told) (s : Parts)
     head = refl;
     writes = may.writes;
     active = active laws own m entry s listed kept count j on may;
-    taken = takes_any _ begun.banks.course shut;
-    beside = λ some. (let none = shut in absurd (no_switch begun.banks.course none some));
+    taken = taken_then laws own m entry s listed kept count j on may;
+    beside = λ some. may.beside (sym (appended_some place s.banks.course) ∙ some);
+    clear = clear_again s.banks.log.numbers s.banks.log.flags j.number.0;
+    alone = appended_again place s.banks.course;
   }
-    where
-      no_switch : (c : Option Course) → c ≡ None → is_some c ≡ true → ⊥
-      no_switch None none some = cc some
-      no_switch (Some c) none some = cc none
+
+  -- THE TARGET
+  flags_then : (bytes : List ℕ) → flags_in m begun bytes ≡ cleared j.number.0 (flags_in m s bytes)
+  flags_then bytes =
+      let settled = same_settled (two_banks m.geometry) m.numbers bytes (memory_of s).old (memory_of begun).old (places_by laws own m entry s listed kept count j on may s.banks.log.tail refl (ready laws own m entry s listed kept count j on may)) in
+      (λ i. flags_of m.numbers (with_flag (on.sound.made_for.numbers i) s.banks.log.flags j.number.0 false) (settled i))
+      ∙ flags_cleared m.numbers s.banks.log.flags (settled_in (two_banks m.geometry) m.numbers bytes (memory_of s).old) j.number.0
+
+  held_then : (bytes : List ℕ) → IsHeld (two_banks m.geometry) m.numbers bytes (memory_of s) (copied_of (flags_in m s bytes)) → IsHeld (two_banks m.geometry) m.numbers bytes (memory_of begun) (copied_of (flags_in m begun bytes))
+  held_then bytes held =
+      let fs = flags_in m s bytes in
+      let wide = own.wider (two_banks m.geometry) m.numbers bytes (memory_of s) (copied_of fs) (copied_of (cleared j.number.0 fs)) held (own.clearing fs j.number.0) (taking laws own m entry s listed kept count j on may) in
+      held_by laws own m entry s listed kept count j on may s.banks.log.tail refl (ready laws own m entry s listed kept count j on may) bytes (copied_of (flags_in m begun bytes))
+      (subst (λ (x : List Flag). IsHeld (two_banks m.geometry) m.numbers bytes (memory_of s) (copied_of x)) (sym (flags_then bytes)) wide)
+
+  shows_by : (bytes : List ℕ) (o : Option ℕ) (c : Option Course) → IfSome c (λ x. ShowsCopies m s x bytes) → IfSome (appended_at o c) (λ x. ShowsCopies m begun x bytes)
+  shows_by bytes None None shows = tt
+  shows_by bytes (Some i) None shows = tt
+  shows_by bytes None (Some c) shows = record {
+    held = held_then bytes shows.held;
+    copy = subst (λ (x : List Flag). IsCopying c (work_in s.banks.copies.tail) s.banks.buffer x) (sym (flags_then bytes))
+        (clears_copying j.number.0 c (work_in s.banks.copies.tail) s.banks.buffer (flags_in m s bytes) shows.copy);
+  }
+  shows_by bytes (Some i) (Some c) shows = record {
+    held = held_then bytes shows.held;
+    copy = subst (λ (x : List Flag). IsCopying (appended_to i c) (work_in s.banks.copies.tail) s.banks.buffer x) (sym (flags_then bytes))
+        (appended_copying i j.number.0 c (work_in s.banks.copies.tail) s.banks.buffer (flags_in m s bytes) shows.copy);
+  }
+
+  copies : TellsCopies m entry begun
+  copies power told = each_now s.fls.flash.bytes (λ (x : List ℕ). IfSome begun.banks.course (λ c. ShowsCopies m begun c x)) (λ new at.
+      shows_by new place s.banks.course (now_at s.fls.flash.bytes (λ (x : List ℕ). IfSome s.banks.course (λ c. ShowsCopies m s c x)) new at (on.sound.copies power told)))
 
   at_work_on : IsAtWork m begun
   at_work_on = record {
@@ -66,7 +87,7 @@ module _ (laws : Laws) (own : BeginLaws) (m : Making) (entry : Told) (s : Parts)
     job = (was_at_work laws own m entry s listed kept count j on may).job;
     work = subst (λ (o : Option RecHead). IfSome o (IsInWork begun.banks s.job)) (sym (work_is laws own m entry s listed kept count j on may)) in_work_on;
     ready = each_some s.job (IsReady begun.banks) (λ x promised none. (let w = work_is laws own m entry s listed kept count j on may in cc (w, none)));
-    switch = clear_by begun.banks begun.banks.course shut flags;
+    switch = switch_on laws own m entry s listed kept count j on may;
   }
 
   pub sound : IsSound m entry begun listed kept count false
@@ -94,10 +115,10 @@ module _ (laws : Laws) (own : BeginLaws) (m : Making) (entry : Told) (s : Parts)
         };
         rests = λ stopped. (let h = on.started in absurd (cc (h, stopped)));
         works = λ started. at_work_on;
-        room = λ started on'. room_on;
-        copies = λ on' told. each_now s.fls.flash.bytes (λ (x : List ℕ). IfSome begun.banks.course (λ c. ShowsCopies m begun c x)) (λ new at. none_shows begun.banks.course (λ c. ShowsCopies m begun c new) shut);
+        room = λ started on'. room_on laws own m entry s listed kept count j on may;
+        copies = copies;
         cuts = on.sound.cuts;
-        worn = λ since worn. record { passed = (on.sound.worn since worn).passed; shut = shut };
+        worn = λ since worn. record { passed = (on.sound.worn since worn).passed; shut = ap (appended_at place) (on.sound.worn since worn).shut ∙ no_course place };
         numbers = on.sound.numbers;
         reserve = on.sound.reserve;
         ops = on.sound.ops;

@@ -1,11 +1,15 @@
--- The turn in which a record is committed, with no switch open.
-use Rattle.std.specs.Prelude.{IfSome, IsTrue, ◌&&◌, not, is_none, is_some, nat_le, take, if◌then◌else◌}
-use Rattle.std.proofs.Common.{◌≡◌, inl, ◌≤◌, ◌<◌, ◌+◌, ◌-◌, ℕ, Bool, true, false, List, [], Option, Some, None, refl, sym, ap, ◌∙◌, subst, arith}
+-- The turn in which a record is committed.
+use Rattle.std.specs.Prelude.{IfSome, IsTrue, ◌&&◌, not, is_none, is_some, nat_le, take, length, slice_get, if◌then◌else◌}
+use Rattle.std.proofs.Common.{◌≡◌, ◌≢◌, inl, ◌≤◌, ◌<◌, ◌+◌, ◌-◌, ℕ, Bool, true, false, List, [], Option, Some, None, refl, sym, ap, ◌∙◌, subst, arith}
 use Rattle.nv_base.specs.Count.{next_count}
 use Rattle.nv_base.specs.Geometry.{sectors_of_bank}
 use Rattle.nv_base.specs.declared.geometry.Geometry.{Geometry}
 use Rattle.nv_base.specs.declared.instance.DeviceNumber.{DeviceNumber}
+use Rattle.nv_base.specs.declared.job.DeviceOp.{DeviceOp}
+use Rattle.nv_base.specs.declared.job.DeviceOp.TheVariants.{Write}
 use Rattle.nv_base.specs.declared.mark.Mark.{Mark}
+use Rattle.nv_base.specs.declared.mark.Mark.TheVariants as mark
+use Rattle.nv_base.specs.Lengths.{place_of}
 use Rattle.memif.specs.declared.answer.DeviceTurn.TheVariants as turn
 use Rattle.memif.specs.declared.answer.JobResult.TheVariants.{JobOk}
 use Rattle.memif.specs.Told.{First, Job, Stand, Open, Ended, is_open, length_of}
@@ -20,17 +24,26 @@ use Rattle.fee_image.specs.Image.{Layout}
 use Rattle.fee_image.specs.RecordList.{pages_of_head}
 use Rattle.fee_log.specs.declared.tail.Tail.{Tail}
 use Rattle.fee_log.specs.declared.tail.Tail.TheVariants.{Open as TailOpen, Writes, Owes, Closed}
+use Rattle.fee_log.specs.Index.{with_flag}
 use Rattle.fee_log.specs.Log.{LogState, IsTail, tail_with, pages_in, work_in}
 use Rattle.fee_log.specs.Step.{after_step, commits}
 use Rattle.log_image.specs.Log.{Log, Writes as LogWrites}
-use Rattle.log_image.specs.May.{May, mark_written}
+use Rattle.log_image.specs.declared.place.Place.{Place}
+use Rattle.log_image.specs.May.{May, IsWider, mark_written}
+use Rattle.log_image.specs.Places.{noted}
 use Rattle.log_image.specs.Step.{log_done, is_last}
+use Rattle.bank_image.specs.Copies.{Flag, is_erased, copied_of, cleared, settled_at}
+use Rattle.bank_image.specs.Doubts.{shown_of}
+use Rattle.bank_image.specs.Laws.{TakesAppends}
+use Rattle.switch_course.specs.declared.course.Copying.{Copying}
 use Rattle.switch_course.specs.declared.course.Course.{Course}
-use Rattle.fee_switch.specs.Banks.{BanksState}
-use Rattle.switch_room.specs.KeepsRoom.{KeepsRoom}
+use Rattle.switch_course.specs.declared.course.Course.TheVariants as course
+use Rattle.switch_course.specs.Course.{turns_left as switch_turns_left, most_turns}
+use Rattle.fee_switch.specs.Banks.{BanksState, TakesRecord, appended_at, index_of, left_of, left_with}
+use Rattle.switch_room.specs.KeepsRoom.{KeepsRoom, IsRoomy}
 use Rattle.switch_room.specs.Space.{free_pages}
 use Rattle.device_bridge.specs.Bridge.{Making}
-use Rattle.device_image.specs.Slots.{Memory}
+use Rattle.device_image.specs.Slots.{Memory, settled_in, job_leaves}
 use Rattle.device_image.specs.Laws.{IsHeld}
 use Rattle.device_clock.specs.Device.{Device, told_of}
 use Rattle.device_clock.specs.Clock.{clock_of}
@@ -39,23 +52,27 @@ use Rattle.device_turns.specs.Whole.{CommitsAreTold}
 use Rattle.device_figures.specs.Figures.{Work, Waits, left_of as turns_left, ready_of, wait_of}
 use Rattle.device_figures.specs.Laws.{IsWork}
 use Rattle.fee_state.specs.declared.job.FeeJob.{FeeJob}
-use Rattle.fee_state.specs.Inside.{Parts, device_of, memory_of, mark_of, stand_of, fixed_in, IsActiveOf, IsAtWork, HasSwitch, HoldsBehind, ShowsCopies}
-use Rattle.fee_state.specs.Record.{IsInWork}
+use Rattle.fee_state.specs.Copied.{flags_of, IsCopying}
+use Rattle.fee_state.specs.Inside.{Parts, device_of, memory_of, body_of, flags_in, mark_of, stand_of, fixed_in, IsActiveOf, IsAtWork, HasSwitch, HoldsBehind, ShowsCopies, TellsCopies}
+use Rattle.fee_state.specs.Record.{IsInWork, IsLengthOf}
 use Rattle.fee_state.specs.Work.{work_of, switch_turns, pages_of_job, pages_left, waits_of, turns_before, seal_turns, is_urgent_job, pages_free}
 use Rattle.fee_turns.specs.Turn.{Turned, ended_as}
 use Rattle.fee_turns.specs.Appends.{IsAppending, work_op, after_page, AppendsCommit}
 use Rattle.fee_turns.proofs.Laws.{Laws, AppendLaws}
-use Rattle.fee_turns.proofs.Before.{power, log_geometry, copied, held_at, each_now}
+use Rattle.fee_turns.proofs.Before.{power, log_geometry, copied, held_at, each_now, now_at}
+use Rattle.fee_turns.proofs.Beside.{content_beside, flags_cleared, named, places_many}
+use Rattle.fee_turns.proofs.Noted.{noted_set}
+use Rattle.fee_turns.proofs.Settled.{flags_settled, settles_one, settled_many, noted_many, settles_in, sets_none}
 use Rattle.fee_turns.proofs.Order.{first_of, urgent_is}
 use Rattle.fee_turns.proofs.Operation.{part_works, ticks, left, before_told, started}
 use Rattle.fee_turns.proofs.Behind.{Facts, held_behind, order, sound}
 use Rattle.fee_turns.proofs.Tails.{tailed, shown, page_commits, free_on}
-use Rattle.fee_turns.proofs.Figures.{free_is}
+use Rattle.fee_turns.proofs.Figures.{free_is, switch_is}
 use Rattle.fee_turns.proofs.Heads.{head_fits}
-use Rattle.fee_turns.proofs.Page.{h, work_is, a, active_is, formats, at_work, body, log, appending, stands}
-use Rattle.fee_turns.proofs.Shown.{after_is, j, open_is, mark, head_is, writes, job_of, content_fits}
-use Rattle.fee_turns.proofs.Appended.{has_switch, flags_clear}
-use Rattle.fee_turns.proofs.GoneOn.{if_else}
+use Rattle.fee_turns.proofs.Page.{takes, in_work, h, work_is, a, active_is, formats, at_work, body, log, appending, stands}
+use Rattle.fee_turns.proofs.Shown.{after_is, j, open_is, mark as its_mark, head_is, writes, job_of, content_fits}
+use Rattle.fee_turns.proofs.Appended.{has_switch, flags_clear, few_left}
+use Rattle.fee_turns.proofs.GoneOn.{if_else, no_seal}
 use Rattle.fee_turns.proofs.Left.{l, asked, keeps, run_on}
 
 -- a record is committed by its last page alone
@@ -71,9 +88,10 @@ last_by log (Writes r done) e last = record { head = r; done = done; tail = e; i
 last_by log (Owes r next) e last = absurd (cc last)
 last_by log Closed e last = absurd (cc last)
 
-pub none_shows : (c : Option Course) (P : Course → Type 0) → c ≡ None → IfSome c P
-none_shows None P e = tt
-none_shows (Some c) P e = cc e
+-- with no job the turns of the switch alone are left
+left_alone : (b : BanksState) (reserve : ℕ) (c : Option Course) → b.course ≡ c → switch_turns reserve b None c ≡ left_of b
+left_alone b reserve None at = sym (ap (left_with b) at)
+left_alone b reserve (Some c) at = let goal : left_of b + 0 ≡ left_of b = omega arith in goal
 
 less_none : (n : ℕ) → n - 0 ≡ n
 less_none n = omega arith
@@ -87,7 +105,7 @@ wait_by false p before pages v urgent wait = cc urgent
 wait_is : (w : Waits) (v : ℕ) → w.urgent ≡ true → wait_of w ≡ Some v → w.before + w.pages ≡ v
 wait_is w v urgent wait = wait_by w.urgent w.promised w.before w.pages v urgent wait
 
-module _ (laws : Laws) (own : AppendLaws) (told : CommitsAreTold) (m : Making) (entry : Told) (s : Parts) (listed : List (DeviceNumber × ℕ)) (kept count : ℕ) (f : FlsState) (is : IsAppending m entry s listed kept count Done f) (last : commits s.banks.geometry.page s.banks.log.tail ≡ true) (shut : s.banks.course ≡ None) where
+module _ (laws : Laws) (own : AppendLaws) (told : CommitsAreTold) (m : Making) (entry : Told) (s : Parts) (listed : List (DeviceNumber × ℕ)) (kept count : ℕ) (f : FlsState) (is : IsAppending m entry s listed kept count Done f) (last : commits s.banks.geometry.page s.banks.log.tail ≡ true) where
   abbrev then_log : LogState
   then_log = after_step s.banks.log Done
 
@@ -179,6 +197,130 @@ module _ (laws : Laws) (own : AppendLaws) (told : CommitsAreTold) (m : Making) (
   settles = told d e more r content (started laws m entry s listed kept count is.on (work_op s) Done f is.drives (asked laws own m entry s listed kept count Done f is) (keeps laws own m entry s listed kept count Done f is) b None JobOk 0 (run_on laws own m entry s listed kept count Done f is None JobOk 0))
       (λ old new at. committed old new at.1 at.2 more (held_at m entry s listed kept count is.on old at.1 at.0))
 
+  -- BESIDE A SWITCH
+  abbrev ns : List (DeviceNumber × ℕ)
+  ns = s.banks.log.numbers
+
+  abbrev number : ℕ
+  number = r.number
+
+  abbrev settled : Mark
+  settled = mark_written r content
+
+  abbrev its : IsInWork s.banks s.job r
+  its = in_work m entry s listed kept count is.on is.work
+
+  -- its record has a content then
+  is_write : (c : Course) → s.banks.course ≡ Some c → jb.op ≡ Write
+  is_write c at = (job_of m entry s listed kept count is.on is.work).urgent (its.beside (ap (λ (o : Option Course). is_some o) at))
+
+  is_content : (c : Course) → s.banks.course ≡ Some c → is_erased settled ≡ false
+  is_content c at =
+      let xs = take jb.length s.content in
+      let same : Some (mark.Content xs) ≡ Some settled = sym (ap (λ (o : DeviceOp). mark_of o xs) (is_write c at)) ∙ its_mark m entry s listed kept count is.on is.work in
+      let is_it : mark.Content xs ≡ settled = cc same in
+      sym (ap is_erased is_it)
+
+  of_kind : (c : Course) → s.banks.course ≡ Some c → r.kind ≡ 1
+  of_kind c at = content_beside r.kind c (subst (TakesRecord r.kind) at its.taken)
+
+  size_is : (c : Course) → s.banks.course ≡ Some c → r.length ≡ size
+  size_is c at = ap (λ (x : RecHead). x.length) (head_is m entry s listed kept count is.on is.work) ∙ subst (λ (o : DeviceOp). IsLengthOf o jb.length size) (is_write c at) (job_of m entry s listed kept count is.on is.work).fits
+
+  -- where its number stands
+  length_in : length_of ns number ≡ Some size
+  length_in = subst (λ (x : List (DeviceNumber × ℕ)). length_of x number ≡ Some size) (sym is.on.sound.made_for.numbers) configured
+
+  stands_at : (i : ℕ) × (slice_get ns i ≡ Some (record { 0 = number }, size))
+  stands_at = named ns number size length_in
+
+  place_is : place_of ns number ≡ Some stands_at.0
+  place_is = own.places 0 ns stands_at.0 (record { 0 = number }, size) is.on.log.numbers stands_at.1
+
+  places_then : then_log.places ≡ noted ns s.banks.log.places s.banks.log.end r
+  places_then =
+      subst (λ (x : Tail). (after_step (tailed s.banks.log x) Done).places ≡ noted ns s.banks.log.places s.banks.log.end at_last.head) (sym at_last.tail) (page_commits s.banks.log at_last.head at_last.done s.content at_last.is).places
+      ∙ ap (noted ns s.banks.log.places s.banks.log.end) (sym head_same)
+
+  places_many_are : length s.banks.log.places ≡ length ns
+  places_many_are = places_many s.banks.log.geometry.page s.banks.log.end ns s.banks.log.places is.on.log.places
+
+  -- the switch has as many turns left
+  abbrev turns : List Place → Option ℕ → Course → ℕ
+  turns places appended c = switch_turns_left s.banks.geometry.page (sectors_of_bank s.banks.geometry s.banks.banks) ns places s.banks.log.flags appended c
+
+  same_left_by : (c : Option Course) → s.banks.course ≡ c → left_with b c ≡ left_with s.banks c
+  same_left_by None at = refl
+  same_left_by (Some c) at =
+      let places = places_then ∙ noted_set 0 ns s.banks.log.places s.banks.log.end r stands_at.0 size is.on.log.numbers places_many_are place_is length_in (of_kind c at) (size_is c at) in
+      let index : index_of ns (work_in s.banks.log.tail) ≡ Some stands_at.0 = ap (index_of ns) (work_is m entry s listed kept count is.on is.work) ∙ place_is in
+      (λ i. turns (places i) (index_of ns (work_in (tail_open i))) c)
+      ∙ own.course s.banks.geometry.page (sectors_of_bank s.banks.geometry s.banks.banks) stands_at.0 s.banks.log.end ns s.banks.log.places s.banks.log.flags c
+      ∙ (λ i. turns s.banks.log.places (sym index i) c)
+
+  same_left : left_of b ≡ left_of s.banks
+  same_left = same_left_by s.banks.course refl
+
+  -- its number's mark is settled, and no other
+  flags_are : (old new : List ℕ) (showing : May) → IsCommitted layout m.numbers old new (memory_of s) (memory_of t) showing r content → flags_in m t new ≡ settled_at number settled (flags_in m s old)
+  flags_are old new showing done_so =
+      let many : length s.banks.log.places ≡ length m.numbers = places_many_are ∙ ap (λ (x : List (DeviceNumber × ℕ)). length x) is.on.sound.made_for.numbers in
+      let many_then : length then_log.places ≡ length m.numbers = ap (λ (x : List Place). length x) places_then ∙ noted_many ns s.banks.log.places s.banks.log.end r ∙ many in
+      flags_settled 0 number settled m.numbers s.banks.log.flags (settled_in layout m.numbers old (memory_of s).old) (settled_in layout m.numbers new (memory_of t).old) is.on.sound.made_for.space.lengths
+      (settled_many layout m.numbers old s.banks.active s.banks.log (body_of (work_in s.banks.log.tail) s.content) many)
+      (settled_many layout m.numbers new s.banks.active then_log (body_of (work_in then_log.tail) s.content) many_then)
+      (settles_one number settled (shown_of layout old (memory_of s).old) (shown_of layout new (memory_of t).old) (job_leaves (memory_of s).stand) (job_leaves (memory_of t).stand) m.numbers
+      (settled_in layout m.numbers old (memory_of s).old) (settled_in layout m.numbers new (memory_of t).old) done_so.settles)
+
+  clear_is : (old : List ℕ) → cleared number (flags_in m s old) ≡ flags_in m s old
+  clear_is old =
+      sym (flags_cleared m.numbers s.banks.log.flags (settled_in layout m.numbers old (memory_of s).old) number)
+      ∙ ap (λ (x : List Bool). flags_of m.numbers x (settled_in layout m.numbers old (memory_of s).old)) (ap (λ (x : List (DeviceNumber × ℕ)). with_flag x s.banks.log.flags number false) (sym is.on.sound.made_for.numbers) ∙ its.clear)
+
+  wide_is : (c : Course) → s.banks.course ≡ Some c → (old : List ℕ) → IsWider (copied_of (flags_in m s old)) (copied_of (settled_at number settled (flags_in m s old)))
+  wide_is c at old =
+      subst (λ (x : List Flag). IsWider (copied_of x) (copied_of (settled_at number settled x))) (clear_is old)
+      (own.settling (flags_in m s old) number settled (ap (λ (x : Bool). not x) (is_content c at)))
+
+  -- a copy that sets a flag is of another number
+  differs : (w : Copying) → s.banks.course ≡ Some (course.Copy (Some w)) → w.sets ≡ true → IfSome (work_in s.banks.copies.tail) (λ x. x.number ≢ number)
+  differs w at sets =
+      let roomy = subst (λ (o : Option Course). IfSome o (IsRoomy m.reserve s.banks)) at (is.on.sound.room is.on.started (power m entry s listed kept count is.on)).switch in
+      let here = roomy.target.work in
+      let there = own.places 0 ns w.index (record { 0 = here.head.number }, here.length) is.on.log.numbers here.named in
+      subst (λ (o : Option RecHead). IfSome o (λ x. x.number ≢ number)) (sym (ap work_in here.tail))
+      (λ same.
+      (let its_place : place_of ns number ≡ Some w.index = subst (λ (n : ℕ). place_of ns n ≡ Some w.index) same there in
+      let none = sets_none w ((λ i. appended_at (sym its_place i) (sym at i)) ∙ its.alone ∙ at) in
+      cc (sets, none)))
+
+  copying_by : (c : Course) → s.banks.course ≡ Some c → (fs : List Flag) → IsCopying c (work_in s.banks.copies.tail) s.banks.buffer fs → IsCopying c (work_in s.banks.copies.tail) s.banks.buffer (settled_at number settled fs)
+  copying_by (course.Erase n) at fs copy = tt
+  copying_by (course.Copy None) at fs copy = tt
+  copying_by (course.Copy (Some w)) at fs copy = settles_in w.sets (work_in s.banks.copies.tail) s.banks.buffer number settled fs (is_content (course.Copy (Some w)) at) (differs w at) copy
+  copying_by course.Head at fs copy = tt
+  copying_by (course.Gate failed) at fs copy = tt
+
+  taking_then : TakesAppends (memory_of t).phase
+  taking_then = takes r.kind s.banks.course b (body_of (work_in s.banks.copies.tail) s.banks.buffer) its.taken
+
+  shows_by : (old new : List ℕ) → bytes_now s.fls.flash ≡ Some old → bytes_now f.flash ≡ Some new → (c : Option Course) → s.banks.course ≡ c → IfSome c (λ x. ShowsCopies m s x old) → IfSome c (λ x. ShowsCopies m t x new)
+  shows_by old new at_old at_new None at shows = tt
+  shows_by old new at_old at_new (Some c) at shows =
+      let fs = flags_in m s old in
+      let done_so = committed old new at_old at_new (copied_of fs) shows.held in
+      let same = flags_are old new (copied_of fs) done_so in
+      record {
+        held = subst (λ (x : List Flag). IsHeld layout m.numbers new (memory_of t) (copied_of x)) (sym same)
+            (own.wider layout m.numbers new (memory_of t) (copied_of fs) (copied_of (settled_at number settled fs)) done_so.held (wide_is c at old) taking_then);
+        copy = subst (λ (x : List Flag). IsCopying c (work_in s.banks.copies.tail) s.banks.buffer x) (sym same) (copying_by c at fs shows.copy);
+      }
+
+  copies : TellsCopies m entry t
+  copies on told' = each_now f.flash.bytes (λ (x : List ℕ). IfSome s.banks.course (λ c. ShowsCopies m t c x)) (λ new at.
+      (let before = before_told s.fls.flash.bytes f.flash.bytes (work_op s) Done new (asked laws own m entry s listed kept count Done f is).bytes at in
+      shows_by before.0 new before.1 at s.banks.course refl (now_at s.fls.flash.bytes (λ (x : List ℕ). IfSome s.banks.course (λ c. ShowsCopies m s c x)) before.0 before.1 (is.on.sound.copies (power m entry s listed kept count is.on) told'))))
+
   -- THE PARTS
   room_on : KeepsRoom m.reserve b
   room_on = own.room m.reserve s.banks Done (is.on.sound.room is.on.started (power m entry s listed kept count is.on)) is.work
@@ -198,11 +340,16 @@ module _ (laws : Laws) (own : AppendLaws) (told : CommitsAreTold) (m : Making) (
     switch = switch_on;
   }
 
-  no_turns : switch_turns m.reserve b None b.course ≡ 0
-  no_turns = ap (switch_turns m.reserve b None) shut
+  switch_then : switch_turns m.reserve b None b.course ≡ left_of b
+  switch_then = left_alone b m.reserve b.course refl
 
   work_then : IsWork m.geometry.page (sectors_of_bank m.geometry 2) m.numbers m.reserve ended (work_of m.reserve b None)
-  work_then = record { job = tt; few = let none = no_turns in omega (arith, none) }
+  work_then =
+      let few = few_left own.few b switch_on in
+      let fits1 = subst (λ (g : Geometry). left_of b ≤ most_turns g.page (sectors_of_bank g s.banks.banks) ns) is.on.sound.made_for.banks_geometry few in
+      let fits2 = subst (λ (n : ℕ). left_of b ≤ most_turns m.geometry.page (sectors_of_bank m.geometry n) ns) is.on.sound.made_for.two fits1 in
+      let fits3 = subst (λ (x : List (DeviceNumber × ℕ)). left_of b ≤ most_turns m.geometry.page (sectors_of_bank m.geometry 2) x) is.on.sound.made_for.numbers fits2 in
+      record { job = tt; few = subst (λ (n : ℕ). n ≤ most_turns m.geometry.page (sectors_of_bank m.geometry 2) m.numbers) (sym switch_then) fits3 }
 
   facts : Facts laws m entry s listed kept count is.on (work_op s) Done f is.drives (asked laws own m entry s listed kept count Done f is) b None JobOk 0
   facts = record {
@@ -211,9 +358,9 @@ module _ (laws : Laws) (own : AppendLaws) (told : CommitsAreTold) (m : Making) (
     behind = behind;
     work = work_then;
     at_work = at_work_on;
-    shut = λ since worn. shut;
+    shut = λ since worn. (is.on.sound.worn since worn).shut;
     room = λ on. room_on;
-    copies = λ on told'. each_now f.flash.bytes (λ (x : List ℕ). IfSome s.banks.course (λ c. ShowsCopies m t c x)) (λ new at. none_shows s.banks.course (λ c. ShowsCopies m t c new) shut);
+    copies = copies;
   }
 
   -- THE TURN
@@ -224,7 +371,7 @@ module _ (laws : Laws) (own : AppendLaws) (told : CommitsAreTold) (m : Making) (
   asks = record { number = jb.number.0; mark = mark_of jb.op (take jb.length s.content); urgent = jb.urgent }
 
   mark_at : asks.mark ≡ Some (mark_written r content)
-  mark_at = mark m entry s listed kept count is.on is.work
+  mark_at = its_mark m entry s listed kept count is.on is.work
 
   is_none_of : is_none asks.mark ≡ false
   is_none_of = ap (λ (o : Option Mark). is_none o) mark_at
@@ -244,9 +391,11 @@ module _ (laws : Laws) (own : AppendLaws) (told : CommitsAreTold) (m : Making) (
 
   falls_at : (told_of e).left < (told_of d).left
   falls_at =
-      let none = no_turns in
+      let is_then = switch_then in
+      let same = same_left in
+      let was_it : w.switch ≡ left_of s.banks = switch_is s.banks is.work m.reserve s.job in
       let one = one_page in
-      let open_left : switch_turns m.reserve b None b.course < turns_left (Open (record asks { mark = Some (mark_written r content) })) w = omega (arith, none, one) in
+      let open_left : switch_turns m.reserve b None b.course < turns_left (Open (record asks { mark = Some (mark_written r content) })) w = omega (arith, is_then, same, was_it, one) in
       subst (λ (o : Option FeeJob). switch_turns m.reserve b None b.course < turns_left (at o) w) (sym job_at) (subst (λ (o : Option Mark). switch_turns m.reserve b None b.course < turns_left (Open (record asks { mark = o })) w) (sym mark_at) open_left)
 
   ready_same : (told_of d).ready ≤ (told_of e).ready
@@ -265,7 +414,7 @@ module _ (laws : Laws) (own : AppendLaws) (told : CommitsAreTold) (m : Making) (
   urgent_job = subst (λ (o : Option FeeJob). urgent_first (fixed_in m) (at o) ≡ true → is_urgent_job o ≡ true) (sym job_at) (λ is_urgent. sym (urgent_is m asks) ∙ is_urgent)
 
   before_none : turns_before then_log.tail (seal_turns s.banks.course) ≡ 0
-  before_none = (λ i. turns_before (tail_open i) (seal_turns (shut i)))
+  before_none = (λ i. turns_before (tail_open i) (no_seal r.kind s.banks.course its.taken i))
 
   readies : TurnsReady (told_of d) (told_of e)
   readies calm = if_else (urgent_first (fixed_in m) (at s.job)) (Nearer (told_of d) (told_of e)) ((told_of d).ready ≤ (told_of e).ready)
@@ -300,4 +449,4 @@ module _ (laws : Laws) (own : AppendLaws) (told : CommitsAreTold) (m : Making) (
   }
 
 pub appends_commit : Laws → AppendLaws → CommitsAreTold → AppendsCommit
-appends_commit laws own told m entry s listed kept count f is last shut = commits_so laws own told m entry s listed kept count f is last shut
+appends_commit laws own told m entry s listed kept count f is last = commits_so laws own told m entry s listed kept count f is last

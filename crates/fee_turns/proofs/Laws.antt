@@ -1,8 +1,10 @@
 -- The laws that the turns stand on.
+use Rattle.nv_base.specs.Laws.{NumbersAreInBounds, NumbersHavePlaces}
 use Rattle.fee_image.specs.Laws.{LayoutsAreLegal}
 use Rattle.fee_log.specs.Laws.{WorkIsDue, PagesStand}
 use Rattle.log_image.specs.Laws.{LogsWiden}
-use Rattle.switch_course.specs.Laws.{AppendsEnd, TurnsAreFew}
+use Rattle.bank_image.specs.Copies.{ClearingWidens, SettlingWidens}
+use Rattle.switch_course.specs.Laws.{AppendsAdd, AppendsEnd, TurnsAreFew}
 use Rattle.switch_room.specs.Laws.{PagesKeepRoom, RecordsKeepRoom, ClearFlagsStay, BeginsKeepRoom}
 use Rattle.device_turns.specs.Appends.{AppendsFail, AppendsGoOn, AppendsCommit, RecordsBegin}
 use Rattle.device_image.specs.Laws.{PlacesTell, ProgramsKeepSettled}
@@ -11,6 +13,7 @@ use Rattle.device_clock.specs.Parts.{PartsWork, PartsCut, PartsRead, ProgramsKee
 use Rattle.device_clock.specs.Runs.{RunsGoOn, RunsStay}
 use Rattle.device_clock.specs.Tells.{TellsKeep}
 use Rattle.device_turns.specs.Jobs.{JobsChange}
+use Rattle.device_turns.specs.Kept.{CopiesWiden}
 use Rattle.device_turns.specs.Switches.{SwitchesBegin}
 use Rattle.device_turns.specs.Whole.{HeldFindsNow, CutsAreTold, KeptIsTold}
 use Rattle.device_figures.specs.Laws.{LeftIsBounded, LeftFits, TurnsLower, ReadyIsKept, UrgentNears}
@@ -47,6 +50,9 @@ pub record AppendLaws : Type 0 where
   pub room : PagesKeepRoom
   pub course : AppendsEnd
   pub few : TurnsAreFew
+  pub places : NumbersHavePlaces
+  pub settling : SettlingWidens
+  pub wider : CopiesWiden
 
 -- and of a record that begins
 pub record BeginLaws : Type 0 where
@@ -55,6 +61,12 @@ pub record BeginLaws : Type 0 where
   pub clear : ClearFlagsStay
   pub stay : ClocksStay
   pub run : RunsStay
+  pub bounds : NumbersAreInBounds
+  pub places : NumbersHavePlaces
+  pub clearing : ClearingWidens
+  pub wider : CopiesWiden
+  pub add : AppendsAdd
+  pub few : TurnsAreFew
 
 -- and of a switch that begins
 pub record SwitchLaws : Type 0 where

@@ -51,7 +51,7 @@ some_of None some = cc
 some_of (Some x) some = (x, refl)
 
 -- where a record may begin an append is taken
-takes : (kind : ℕ) (c : Option Course) (x : BanksState) (body : List ℕ) → TakesRecord kind c → TakesAppends (phase_shown c x body)
+pub takes : (kind : ℕ) (c : Option Course) (x : BanksState) (body : List ℕ) → TakesRecord kind c → TakesAppends (phase_shown c x body)
 takes kind None x body taken = tt
 takes kind (Some (course.Erase n)) x body taken = tt
 takes kind (Some (course.Copy w)) x body taken = tt

@@ -62,7 +62,7 @@ idle_by s job j (Some r) open' op work =
     absurd (work.writes (ap (λ (x : FeeJob). x.op) same ∙ op))
 
 -- an ended job has no record in work
-has_none : (o : Option ActiveBank) (log : LogState) (t : Tail) (body given : List ℕ) (result : JobResult) → work_in t ≡ None → HasJob (Ended result given) (old_shown o (record log { tail = t }) body)
+pub has_none : (o : Option ActiveBank) (log : LogState) (t : Tail) (body given : List ℕ) (result : JobResult) → work_in t ≡ None → HasJob (Ended result given) (old_shown o (record log { tail = t }) body)
 has_none None log t body given result idle = tt
 has_none (Some a) log tail.Open body given result idle = tt
 has_none (Some a) log (tail.Writes h done) body given result idle = cc idle

@@ -1,5 +1,5 @@
 -- The turns of a record in work.
-use Rattle.std.specs.Prelude.{◌≡◌, ℕ, true, false, List, None, IsSome}
+use Rattle.std.specs.Prelude.{◌≡◌, ℕ, true, false, List, IsSome}
 use Rattle.nv_base.specs.Count.{next_count}
 use Rattle.nv_base.specs.declared.instance.DeviceNumber.{DeviceNumber}
 use Rattle.memif.specs.declared.answer.DeviceTurn.TheVariants as turn
@@ -41,11 +41,11 @@ AppendsGoOn =
     → IsAppending m entry s listed kept count Done f → commits s.banks.geometry.page s.banks.log.tail ≡ false
     → Turned m entry turn.Worked s (after_page Done f s) listed kept (next_count count) false
 
--- it is committed, with no switch open
+-- it is committed
 abbrev pub AppendsCommit : Type 0
 AppendsCommit =
     (m : Making) (entry : Told) (s : Parts) (listed : List (DeviceNumber × ℕ)) (kept count : ℕ) (f : FlsState)
-    → IsAppending m entry s listed kept count Done f → commits s.banks.geometry.page s.banks.log.tail ≡ true → s.banks.course ≡ None
+    → IsAppending m entry s listed kept count Done f → commits s.banks.geometry.page s.banks.log.tail ≡ true
     → Turned m entry turn.Worked s (ended_as JobOk (after_page Done f s)) listed kept (next_count count) false
 
 -- the page failed, and the job with it

@@ -1,5 +1,5 @@
 -- The beginning of a record or a switch, in memory alone, which a turn makes before its first operation.
-use Rattle.std.specs.Prelude.{◌≡◌, ◌≢◌, ◌≤◌, ℕ, true, false, List, Some, None}
+use Rattle.std.specs.Prelude.{◌≡◌, ◌≢◌, ◌≤◌, ℕ, true, false, is_some, List, Some, None}
 use Rattle.nv_base.specs.declared.instance.DeviceNumber.{DeviceNumber}
 use Rattle.nv_base.specs.declared.job.DeviceOp.TheVariants.{Read}
 use Rattle.memif.specs.declared.answer.DeviceTurn.{DeviceTurn}
@@ -9,13 +9,13 @@ use Rattle.memif.specs.Calls.{Turns}
 use Rattle.fls_model.specs.Told.{Told}
 use Rattle.fee_log.specs.Log.{IsFor, work_in}
 use Rattle.switch_course.specs.declared.course.Course.TheVariants.{Erase}
-use Rattle.fee_switch.specs.Banks.{append_begun, begun_again, is_worn_out}
+use Rattle.fee_switch.specs.Banks.{TakesRecord, append_begun, begun_again, is_worn_out}
 use Rattle.device_bridge.specs.Bridge.{Making}
 use Rattle.device_clock.specs.Device.{told_of}
 use Rattle.device_clock.specs.Clock.{clock_of}
 use Rattle.fee_state.specs.declared.job.FeeJob.{FeeJob}
 use Rattle.fee_state.specs.Inside.{Parts, device_of, IsSound}
-use Rattle.fee_state.specs.Record.{head_of}
+use Rattle.fee_state.specs.Record.{kind_of, head_of}
 use Rattle.fee_state.specs.Work.{fits_in}
 use Rattle.fee_turns.specs.Turn.{IsOn}
 
@@ -35,12 +35,13 @@ BegunTurns =
     → Turns answer (told_of (device_of m entry mid)) (clock_of (device_of m entry mid)) (told_of (device_of m entry t)) (clock_of (device_of m entry t))
     → Turns answer (told_of (device_of m entry s)) (clock_of (device_of m entry s)) (told_of (device_of m entry t)) (clock_of (device_of m entry t))
 
--- the open job's record may begin: none is in work, no switch is open, and it has room
+-- the open job's record may begin: none is in work, and it has room; beside a switch that erases or copies an urgent one's may
 pub record MayBegin (m : Making) (s : Parts) (j : FeeJob) : Type 0 where
   pub job : s.job ≡ Some j
   pub writes : j.op ≢ Read
   pub idle : work_in s.banks.log.tail ≡ None
-  pub shut : s.banks.course ≡ None
+  pub taken : TakesRecord (kind_of j.op) s.banks.course
+  pub beside : is_some s.banks.course ≡ true → j.urgent ≡ true
   pub configured : IsFor s.banks.log.numbers (head_of j)
   pub room : fits_in m.reserve s.banks j ≡ true
 

@@ -3,3 +3,5 @@ pub mod Begins
 pub mod Reads
 pub mod Rests
 pub mod Turn
+pub mod Switches
+pub mod Worn

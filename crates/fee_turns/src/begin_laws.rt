@@ -1,11 +1,13 @@
 // Laws: what a turn begins in memory before its call of the flash. Their functions do nothing.
 ghost use Rattle.fee_turns.specs.Begins.{BegunTurns, RecordsBegin, SwitchesBegin};
 
+use bank_image::flags_tell_copies;
 use device_clock::{clocks_tick, numbers_are_told, parts_turn, runs_go_on};
 use device_figures::{left_is_bounded, urgent_writes_wait};
 use device_image::jobs_doubt;
-use device_turns::{devices_find, devices_tell, records_change, switches_begin};
+use device_turns::{devices_find, devices_tell, kept_is_found, records_change, switches_begin};
 use fee_image::erases_keep_other_banks;
+use nv_base::numbers_ascend;
 use switch_course::turns_fall;
 use switch_room::{appends_keep_room, steps_keep_room};
 
@@ -25,6 +27,9 @@ pub fn turns_begin()
     jobs_doubt();
     devices_find();
     devices_tell();
+    kept_is_found();
+    flags_tell_copies();
+    numbers_ascend();
     records_change();
     erases_keep_other_banks();
     appends_keep_room();

@@ -7,10 +7,16 @@
 
 mod append_laws;
 mod begin_laws;
+mod copy_laws;
 mod read_laws;
 mod rest_laws;
+mod switch_laws;
+mod worn_laws;
 
 pub use append_laws::records_turn;
 pub use begin_laws::turns_begin;
+pub use copy_laws::{contents_begin, marks_begin};
 pub use read_laws::reads_turn;
 pub use rest_laws::rests_turn;
+pub use switch_laws::switches_turn;
+pub use worn_laws::wears_out;

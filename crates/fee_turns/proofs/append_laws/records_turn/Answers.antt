@@ -37,5 +37,8 @@ returns c =
       room = c.appends_keep_room.ensures.page;
       course = c.turns_fall.ensures.end;
       few = c.turns_fall.ensures.few;
+      places = c.numbers_ascend.ensures.places;
+      settling = c.flags_tell_copies.ensures.settling;
+      wider = c.kept_is_found.ensures.widen;
     } in
     record { more = appends_go_on laws own; commit = appends_commit laws own c.devices_tell.ensures.commit; fail = appends_fail laws own; cut = appends_are_cut laws own }

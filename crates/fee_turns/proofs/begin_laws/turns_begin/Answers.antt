@@ -29,6 +29,12 @@ returns c =
       clear = c.appends_keep_room.ensures.clear;
       stay = c.clocks_tick.ensures.stay;
       run = c.runs_go_on.ensures.stay;
+      bounds = c.numbers_ascend.ensures.bounds;
+      places = c.numbers_ascend.ensures.places;
+      clearing = c.flags_tell_copies.ensures.clearing;
+      wider = c.kept_is_found.ensures.widen;
+      add = c.turns_fall.ensures.add;
+      few = c.turns_fall.ensures.few;
     } in
     let switch : SwitchLaws = record {
       begin = c.switches_begin.ensures.begin;

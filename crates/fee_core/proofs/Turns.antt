@@ -1,0 +1,43 @@
+-- The turns of a record and of a switch.
+use Rattle.std.specs.Prelude.{is_some, IfSome}
+use Rattle.std.proofs.Common.{◌≡◌, ◌+◌, ℕ, true, List, [], ◌∷◌, Option, Some, None, refl, ap, ◌∙◌, subst, arith}
+use Rattle.nv_base.specs.declared.instance.DeviceNumber.{DeviceNumber}
+use Rattle.fee_format.specs.declared.rec_head.RecHead.{RecHead}
+use Rattle.fee_image.specs.RecordList.{pages_of_head}
+use Rattle.log_image.specs.declared.place.Place.{Place}
+use Rattle.log_image.specs.Places.{erased_places}
+use Rattle.fee_log.specs.declared.tail.Tail.{Tail}
+use Rattle.fee_log.specs.declared.tail.Tail.TheVariants.{Open, Writes, Owes, Closed}
+use Rattle.fee_log.specs.Index.{clear_flags}
+use Rattle.fee_log.specs.Log.{LogState, work_in, left_in}
+use Rattle.bank_start.specs.declared.active.ActiveBank.{ActiveBank}
+use Rattle.switch_course.specs.Copies.{copies_left, as_appended}
+use Rattle.fee_switch.specs.Banks.{BanksState, index_of}
+use Rattle.device_figures.specs.Figures.{turns_owed}
+use Rattle.fee_state.specs.declared.job.FeeJob.{FeeJob}
+use Rattle.fee_state.specs.Inside.{IsActiveOf}
+use Rattle.fee_state.specs.Record.{head_of}
+use Rattle.fee_state.specs.Work.{pages_left, is_owed}
+
+-- of a record in work
+pub record_left : (p wanted : ℕ) (t : Tail) (j : FeeJob) → is_some (work_in t) ≡ true → IfSome (work_in t) (λ h. h ≡ head_of j) → wanted ≡ pages_of_head p (head_of j)
+    → left_in p t ≡ pages_left p wanted t + turns_owed (is_owed t)
+record_left p wanted Open j some of is = cc some
+record_left p wanted (Writes head done) j some of is = omega arith
+record_left p wanted (Owes head None) j some of is = cc some
+record_left p wanted (Owes head (Some next)) j some of is = (let same : pages_of_head p next ≡ pages_of_head p (head_of j) = ap (λ (h : RecHead). pages_of_head p h) of in omega (arith, same, is))
+record_left p wanted Closed j some of is = cc some
+
+-- of a switch without an active bank
+copies_none : (p : ℕ) (ns : List (DeviceNumber × ℕ)) → copies_left p ns (erased_places ns) (clear_flags ns) ≡ 0
+copies_none p [] = refl
+copies_none p (x ∷ xs) = (let rest = copies_none p xs in omega (arith, rest))
+
+pub blank_copies : (b : BanksState) → IsActiveOf b b.active → b.active ≡ None → work_in b.log.tail ≡ None
+    → copies_left b.geometry.page b.log.numbers (as_appended (index_of b.log.numbers (work_in b.log.tail)) b.log.places) (clear_flags b.log.numbers) ≡ 0
+blank_copies b active none idle =
+    let blank = subst (λ (o : Option ActiveBank). IsActiveOf b o) none active in
+    let places : b.log.places ≡ erased_places b.log.numbers = ap (λ (log : LogState). log.places) blank in
+    ap (λ (o : Option RecHead). copies_left b.geometry.page b.log.numbers (as_appended (index_of b.log.numbers o) b.log.places) (clear_flags b.log.numbers)) idle
+    ∙ ap (λ (pl : List Place). copies_left b.geometry.page b.log.numbers pl (clear_flags b.log.numbers)) places
+    ∙ copies_none b.geometry.page b.log.numbers

@@ -1,0 +1,62 @@
+-- The pages of a record are whole pages of bytes.
+use Rattle.std.specs.Prelude.{take, drop, replicate, length, ◌||◌, if◌then◌else◌}
+use Rattle.std.specs.List.{All}
+use Rattle.std.specs.Int.{byte_at}
+use Rattle.std.proofs.Common.{inl, inr, ◌≤◌, ◌<◌, ◌+◌, ◌-◌, ◌*◌, ◌==◌, ℕ, zero, suc, List, ◌∷◌, arith}
+use Rattle.std.proofs.lemmas.Bool.{cond_both}
+use Rattle.std.proofs.lemmas.List.Elements.{All-take, All-drop, All-append, All-replicate}
+use Rattle.std.proofs.Math.ListN.{length-replicate, length-append, length-take}
+use Rattle.fee_format.specs.declared.rec_head.RecHead.{RecHead}
+use Rattle.fee_format.specs.RecHead.{IsLegalRecHead, rec_head_page}
+use Rattle.fee_format.specs.Pages.{gate_page, body_pages_of}
+use Rattle.fee_format.specs.RecordPages.{filled, body_page, record_page}
+use Rattle.fee_log.specs.Step.{IsPageOf}
+
+abbrev Small : ℕ → Type 0
+Small x = x < 256
+
+all_cons : (x : ℕ) (xs : List ℕ) → x < 256 → All Small xs → All Small (x ∷ xs)
+all_cons x xs small all zero d lt = small
+all_cons x xs small all (suc k) d lt = all k d (omega arith)
+
+byte_small : (k n : ℕ) → byte_at k n < 256
+byte_small zero n = omega arith
+byte_small (suc k) n = omega arith
+
+kind_small : (h : RecHead) → IsLegalRecHead h → h.kind < 256
+kind_small h legal = elim legal.kind [
+  | inl is ↦ (let e = is.0 in omega (arith, e))
+  | inr is ↦ elim is.0 [ inl e ↦ omega (arith, e) | inr e ↦ omega (arith, e) ]
+]
+
+head_page : (p : ℕ) (h : RecHead) → 16 ≤ p → IsLegalRecHead h → IsPageOf p (rec_head_page p h)
+head_page p h low legal = record {
+  size = omega (arith, length-replicate {A = ℕ} (p - 6) 255);
+  bytes =
+      (let rest = All-replicate Small (p - 6) 255 (omega arith) in
+      let d = all_cons (byte_at 0 h.length) (replicate (p - 6) 255) (byte_small 0 h.length) rest in
+      let c = all_cons (byte_at 1 h.length) (byte_at 0 h.length ∷ replicate (p - 6) 255) (byte_small 1 h.length) d in
+      let b = all_cons (byte_at 0 h.number) (byte_at 1 h.length ∷ byte_at 0 h.length ∷ replicate (p - 6) 255) (byte_small 0 h.number) c in
+      let a = all_cons (byte_at 1 h.number) (byte_at 0 h.number ∷ byte_at 1 h.length ∷ byte_at 0 h.length ∷ replicate (p - 6) 255) (byte_small 1 h.number) b in
+      let k = all_cons h.kind (byte_at 1 h.number ∷ byte_at 0 h.number ∷ byte_at 1 h.length ∷ byte_at 0 h.length ∷ replicate (p - 6) 255) (kind_small h legal) a in
+      all_cons 0x52 (h.kind ∷ byte_at 1 h.number ∷ byte_at 0 h.number ∷ byte_at 1 h.length ∷ byte_at 0 h.length ∷ replicate (p - 6) 255) (omega arith) k);
+}
+
+pub gate_is : (p : ℕ) → IsPageOf p (gate_page p)
+gate_is p = record { size = length-replicate {A = ℕ} p 0; bytes = All-replicate Small p 0 (omega arith) }
+
+few_taken : (p : ℕ) (xs : List ℕ) → length (take p xs) ≤ p
+few_taken p xs = let h = length-take p xs in omega (arith, h)
+
+filled_is : (p : ℕ) (xs : List ℕ) → length xs ≤ p → All Small xs → IsPageOf p (filled p xs)
+filled_is p xs few all = record {
+  size = (let a = length-append xs (replicate (p - length xs) 255) in let b = length-replicate {A = ℕ} (p - length xs) 255 in omega (arith, a, b));
+  bytes = All-append Small xs (replicate (p - length xs) 255) all (All-replicate Small (p - length xs) 255 (omega arith));
+}
+
+pub record_page_is : (p : ℕ) (h : RecHead) (payload : List ℕ) (k : ℕ) → 16 ≤ p → IsLegalRecHead h → All (λ x. x < 256) payload → IsPageOf p (record_page p h payload k)
+record_page_is p h payload k low legal all =
+    cond_both (k == 0) (rec_head_page p h) (if (k == 1) || (k == 2 + body_pages_of h.length p) then gate_page p else body_page p payload (k - 2)) (IsPageOf p)
+    (λ e. head_page p h low legal)
+    (λ e. cond_both ((k == 1) || (k == 2 + body_pages_of h.length p)) (gate_page p) (body_page p payload (k - 2)) (IsPageOf p) (λ e'. gate_is p)
+    (λ e'. filled_is p (take p (drop ((k - 2) * p) payload)) (few_taken p (drop ((k - 2) * p) payload)) (All-take Small p (drop ((k - 2) * p) payload) (All-drop Small ((k - 2) * p) payload all))))
