@@ -1,9 +1,9 @@
 -- Tries, one after the other.
-use Rattle.std.proofs.Common.{◌≡◌, ◌<◌, ℕ, zero, suc, ◌+◌, inl, inr, List, [], ◌∷◌, option_map, refl, ap, sym, ◌∙◌, arith, Option, Some, None, get_or-set_other}
+use Rattle.std.proofs.Common.{◌≡◌, ◌<◌, ◌≤◌, ℕ, zero, suc, ◌+◌, inl, inr, List, [], ◌∷◌, option_map, refl, ap, sym, ◌∙◌, arith, Option, Some, None, get_or-set_other}
 use Rattle.nv_base.specs.Count.{Rose, WereCounted}
-use Rattle.ram_blocks.specs.Told.{Told, Synchronized, IsSynchronized, told_at, refusals_by, refusals_of, sizes_of}
+use Rattle.ram_blocks.specs.Told.{Told, Synchronized, IsSynchronized, told_at, refusals_by, refusals_of, most_by, sizes_of}
 use Rattle.ram_blocks.specs.Copies.{Refuses, changed, handed_over}
-use Rattle.copy_tries.specs.Tries.{OnlyCounts, OthersStay}
+use Rattle.copy_tries.specs.Tries.{OnlyCounts, OnlyRefuses, OthersStay}
 
 -- A CHANGE OF WHAT IS TOLD OF ONE BLOCK
 
@@ -63,19 +63,51 @@ counts_sizes old new block (n, is) = rw is (sizes_stay (counting n) (λ s. refl)
 counts_others : (old new : List Told) (block : ℕ) → OnlyCounts block old new → OthersStay block old new
 counts_others old new block (n, is) = rw is (others_stay (counting n) old block)
 
+-- REFUSALS
+refuses_by : (n : ℕ) (t : Told) → refusals_by t ≤ n → (most_by (option_map (counting n) t) ≡ most_by t) × (refusals_by t ≤ refusals_by (option_map (counting n) t))
+refuses_by n None low = (refl, omega arith)
+refuses_by n (Some s) low = (refl, low)
+
+counts_refuse : (n : ℕ) (ts : List Told) (k : ℕ) → refusals_of ts k ≤ n → OnlyRefuses ts (changed k (counting n) ts)
+counts_refuse n [] k low b = (refl, omega arith)
+counts_refuse n (t ∷ ts) zero low zero = refuses_by n t low
+counts_refuse n (t ∷ ts) zero low (suc b) = (refl, omega arith)
+counts_refuse n (t ∷ ts) (suc k) low zero = (refl, omega arith)
+counts_refuse n (t ∷ ts) (suc k) low (suc b) = counts_refuse n ts k low b
+
+handed_by : (content : List ℕ) (t : Told) → (most_by (option_map (handed_over content) t) ≡ most_by t) × (refusals_by t ≤ refusals_by (option_map (handed_over content) t))
+handed_by content None = (refl, omega arith)
+handed_by content (Some s) = (refl, omega arith)
+
+hands_refuse : (content : List ℕ) (ts : List Told) (k : ℕ) → OnlyRefuses ts (changed k (handed_over content) ts)
+hands_refuse content [] k b = (refl, omega arith)
+hands_refuse content (t ∷ ts) zero zero = handed_by content t
+hands_refuse content (t ∷ ts) zero (suc b) = (refl, omega arith)
+hands_refuse content (t ∷ ts) (suc k) zero = (refl, omega arith)
+hands_refuse content (t ∷ ts) (suc k) (suc b) = hands_refuse content ts k b
+
+refuses_on : (old mid new : List Told) → OnlyRefuses old mid → OnlyRefuses mid new → OnlyRefuses old new
+refuses_on old mid new first next b = ((next b).0 ∙ (first b).0, omega (arith, (first b).1, (next b).1))
+
+rose_low : (before after : ℕ) → Rose before after → before ≤ after
+rose_low before after (inl rose) = omega (arith, rose)
+rose_low before after (inr end) = end.1
+
 -- SO MANY TRIES
 
 -- what holds of the block between two tries
 pub record IsTrying (old now : List Told) (block bytes : ℕ) : Type 0 where
   pub counts : OnlyCounts block old now
+  pub refuses : OnlyRefuses old now
   pub synchronized : IsSynchronized now block bytes
 
 begins : (old : List Told) (block bytes : ℕ) → IsSynchronized old block bytes → IsTrying old old block bytes
-begins old block bytes h = record { counts = (refusals_of old block, same_counts old block); synchronized = h }
+begins old block bytes h = record { counts = (refusals_of old block, same_counts old block); refuses = λ b. (refl, omega arith); synchronized = h }
 
 pub refused_try : (old now new : List Told) (block bytes : ℕ) → IsTrying old now block bytes → Refuses block now new → IsTrying old new block bytes
 refused_try old now new block bytes h (n, rose, is) = rw is (record {
   counts = (n, ap (changed block (counting n)) h.counts.1 ∙ counted_twice h.counts.0 n old block);
+  refuses = refuses_on old now (changed block (counting n) now) h.refuses (counts_refuse n now block (rose_low (refusals_of now block) n rose));
   synchronized = still (counting n) (λ s. refl) now block bytes h.synchronized;
 })
 
@@ -107,6 +139,10 @@ handed_last old now new block bytes content h is = rw is (ap (option_map (λ (s 
 pub handed_sizes : (old now new : List Told) (block bytes : ℕ) (content : List ℕ) → IsTrying old now block bytes
     → new ≡ changed block (handed_over content) now → sizes_of new ≡ sizes_of old
 handed_sizes old now new block bytes content h is = rw is (sizes_stay (handed_over content) (λ s. refl) now block ∙ counts_sizes old now block h.counts)
+
+pub handed_refuses : (old now new : List Told) (block bytes : ℕ) (content : List ℕ) → IsTrying old now block bytes
+    → new ≡ changed block (handed_over content) now → OnlyRefuses old new
+handed_refuses old now new block bytes content h is = rw is (refuses_on old now (changed block (handed_over content) now) h.refuses (hands_refuse content now block))
 
 pub handed_others : (old now new : List Told) (block bytes : ℕ) (content : List ℕ) → IsTrying old now block bytes
     → new ≡ changed block (handed_over content) now → OthersStay block old new

@@ -1,7 +1,7 @@
 -- What becomes of a copy that is tried several times.
 use Rattle.std.specs.Prelude.{◌≡◌, ◌≢◌, ◌≤◌, ◌<◌, ℕ, Bool, true, false, List, option_map, Some}
 use Rattle.nv_base.specs.Count.{WereCounted}
-use Rattle.ram_blocks.specs.Told.{Told, told_at, refusals_of}
+use Rattle.ram_blocks.specs.Told.{Told, told_at, refusals_of, most_of}
 use Rattle.ram_blocks.specs.Copies.{changed}
 use Rattle.copy_tries.specs.declared.tries.Tried.{Tried}
 use Rattle.copy_tries.specs.declared.tries.Tried.TheVariants.{Got, Refused, Stale}
@@ -25,6 +25,10 @@ OnlyCounts block old new = (n : ℕ) × (new ≡ changed block (λ s. record s {
 -- nothing is told otherwise of another block
 abbrev pub OthersStay : (block : ℕ) → (old new : List Told) → Type 0
 OthersStay block old new = (b : ℕ) → b ≢ block → told_at new b ≡ told_at old b
+
+-- nobody asked for more refusals, and none that was counted is forgotten
+abbrev pub OnlyRefuses : (old new : List Told) → Type 0
+OnlyRefuses old new = (b : ℕ) → (most_of new b ≡ most_of old b) × (refusals_of old b ≤ refusals_of new b)
 
 -- The application took the content, or each try was refused.
 abbrev pub IsHanded : Bool → (block tries : ℕ) → (content : List ℕ) → (old new : List Told) → Type 0

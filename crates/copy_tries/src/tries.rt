@@ -1,7 +1,7 @@
 // Tries of a copy.
 ghost use Rattle.std.specs.Prelude.{◌≡◌, ℕ, List, length};
 ghost use Rattle.ram_blocks.specs.Told.{IsSynchronized, sizes_of};
-ghost use Rattle.copy_tries.specs.Tries.{IsOfStore, IsTried, IsHanded, OnlyCounts, OthersStay};
+ghost use Rattle.copy_tries.specs.Tries.{IsOfStore, IsTried, IsHanded, OnlyCounts, OnlyRefuses, OthersStay};
 
 use ram_blocks::{Copied, SyncCalls};
 
@@ -27,6 +27,7 @@ pub fn copy_out<C: SyncCalls>(
     ensures store { IsOfStore result into.new (λ n x. C.is_store copies.new block n x) }
     ensures counts { OnlyCounts block (C.told copies.old) (C.told copies.new) }
     ensures sizes { sizes_of (C.told copies.new) ≡ sizes_of (C.told copies.old) }
+    ensures refuses { OnlyRefuses (C.told copies.old) (C.told copies.new) }
     ensures stores_stay { (b n : ℕ) (x : List ℕ) → C.is_store copies.old b n x → C.is_store copies.new b n x }
 {
     let mut last = None;
@@ -53,6 +54,7 @@ pub fn copy_in<C: SyncCalls>(copies: &mut C, block: u16, tries: u16, from: &[u8]
     ensures handed { IsHanded result block tries from.now (C.told copies.old) (C.told copies.new) }
     ensures others { OthersStay block (C.told copies.old) (C.told copies.new) }
     ensures sizes { sizes_of (C.told copies.new) ≡ sizes_of (C.told copies.old) }
+    ensures refuses { OnlyRefuses (C.told copies.old) (C.told copies.new) }
     ensures stores_stay { (b n : ℕ) (x : List ℕ) → C.is_store copies.old b n x → C.is_store copies.new b n x }
 {
     for i in 0..tries {

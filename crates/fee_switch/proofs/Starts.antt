@@ -1,17 +1,20 @@
 -- What is loaded from a bank that was read.
-use Rattle.std.proofs.Common.{◌≡◌, ◌≤◌, ◌+◌, ◌*◌, ◌/◌, ℕ, List, length, Option, Some, None, sym, ap, ◌∙◌, refl, subst, add-one, arith}
+use Rattle.std.proofs.Common.{◌≡◌, ◌≤◌, ◌<◌, ◌+◌, ◌*◌, ◌/◌, ℕ, Bool, true, false, List, [], ◌∷◌, length, Option, Some, None, sym, ap, ◌∙◌, refl, subst, add-one, arith}
 use Rattle.std.specs.Prelude.{IfSome}
 use Rattle.std.proofs.lemmas.Nat.{div-mul-add}
 use Rattle.nv_base.specs.declared.geometry.Geometry.{Geometry}
 use Rattle.nv_base.specs.declared.instance.DeviceNumber.{DeviceNumber}
 use Rattle.fls_model.specs.Told.{ToldBytes}
 use Rattle.fee_format.specs.declared.bank_head.BankHead.{BankHead}
-use Rattle.fee_image.specs.RecordList.{StandsAs, StandsNot}
+use Rattle.fee_image.specs.Bank.{Bank, moved, page_of}
+use Rattle.fee_image.specs.RecordList.{StandsAs, StandsNot, Rec, records_of, end_of, end_after, pages_of_head, IsTailBlank, IsClosed}
 use Rattle.fee_image.specs.Image.{Layout, bank_in, head_of_bank, first_of, active_below}
-use Rattle.fee_image.specs.Laws.{bank_bytes}
-use Rattle.fee_view.specs.View.{View, own_bank}
+use Rattle.fee_image.specs.Laws.{RecordsStay, bank_bytes}
+use Rattle.fee_view.specs.View.{View, own_bank, bank_of as viewed_bank}
 use Rattle.fee_log.specs.Index.{clear_flags}
-use Rattle.fee_log.specs.Log.{LogState, erased_state, IsLoaded, tail_with}
+use Rattle.fee_log.specs.declared.tail.Tail.{Tail}
+use Rattle.fee_log.specs.declared.tail.Tail.TheVariants as tail
+use Rattle.fee_log.specs.Log.{LogState, erased_state, IsLoaded, IsTailSeen, tail_with, is_closed}
 use Rattle.fee_log.specs.Laws.{LoadsAreLoaded, LoadedLogsMove}
 use Rattle.bank_start.specs.declared.active.ActiveBank.{ActiveBank}
 use Rattle.bank_start.specs.Active.{active_shown}
@@ -44,12 +47,30 @@ module _ (read : HeadsAreRead) (l : Layout) (k : ℕ) (own : List ℕ) (first : 
   taken_then None new is same loaded = tt
   taken_then (Some b) new is same loaded = λ taken. (sym (next_is b is taken.0 ∙ same), loaded b.now is)
 
-pub loaded_as : LoadsAreLoaded → LoadedLogsMove → PagesAreRead
+-- A CLOSED LOG
+end_low : (p q : ℕ) (records : List Rec) → q ≤ end_after p q records
+end_low p q [] = omega arith
+end_low p q (r ∷ rs) = omega (arith, end_low p (q + pages_of_head p r.head) rs)
+
+-- the same pages are a blank tail in both places
+blank_there : RecordsStay → (b : Bank) (own image : List ℕ) (at : ℕ) → ((q : ℕ) → 2 ≤ q → q < b.pages → page_of (moved b at) image q ≡ page_of b own q)
+    → IsTailBlank (moved b at) image (end_of (moved b at) image) → IsTailBlank b own (end_of b own)
+blank_there stay b own image at same blank = λ q low lt.
+    let end : end_of (moved b at) image ≡ end_of b own = ap (end_after b.page 2) (stay b own image at same) in
+    sym (same q (omega (arith, low, end_low b.page 2 (records_of b own))) lt) ∙ blank q (omega (arith, low, end)) lt
+
+closed_seen : (v : View) (t : Tail) → is_closed t ≡ true → IsTailSeen v t → IsTailBlank (viewed_bank v) v.bytes (end_of (viewed_bank v) v.bytes) → ⊥
+closed_seen v tail.Open closed seen = cc
+closed_seen v (tail.Writes h k) closed seen = cc
+closed_seen v (tail.Owes h next) closed seen = cc
+closed_seen v tail.Closed closed seen = seen
+
+pub loaded_as : LoadsAreLoaded → LoadedLogsMove → PagesAreRead → RecordsStay
     → (l : Layout) (bytes own : List ℕ) (k : ℕ) (h : BankHead) (g : Geometry) (banks : ℕ) (numbers : List (DeviceNumber × ℕ)) (new : LogState) (v : View)
     → 16 ≤ l.page → length own ≡ l.pages * l.page → own ≡ bank_bytes (bank_in l 1 k) bytes
     → v ≡ record { bytes = own; page = l.page; pages = length own / l.page; head = h } → IsLoaded v (erased_state g banks k numbers) new
     → IsLoadedAs l bytes k h new
-loaded_as loads moves read l bytes own k h g banks numbers new v low size is view loaded =
+loaded_as loads moves read stay l bytes own k h g banks numbers new v low size is view loaded =
     let pages : length own / l.page ≡ l.pages = pages_of in
     let w : View = record { bytes = own; page = l.page; pages = l.pages; head = h } in
     let same : v ≡ w = rw (← pages) view in
@@ -63,6 +84,8 @@ loaded_as loads moves read l bytes own k h g banks numbers new v low size is vie
       flags = ap (λ (s : LogState). s.flags) here.same ∙ ap clear_flags (sym ns);
       loaded = λ body. rw ns ((own_log body).0 ∙ sym (moved_log body).0);
       tail = λ body. (moved_log body).1;
+      closed = λ closed. λ blank. closed_seen w new.tail closed here.tail
+          (blank_there stay (own_bank l.page l.pages h.format) own bytes (k * l.pages) (λ q low' lt. read l bytes own k h.format q is lt) blank);
     }
   where
     pages_of : length own / l.page ≡ l.pages

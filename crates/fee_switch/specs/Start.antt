@@ -1,11 +1,12 @@
 -- What a start-up loads.
-use Rattle.std.specs.Prelude.{◌≡◌, ◌<◌, ◌+◌, ℕ, List, Option, None, IfSome}
+use Rattle.std.specs.Prelude.{◌≡◌, ◌<◌, ◌+◌, ℕ, true, List, Option, None, IfSome}
 use Rattle.fls_model.specs.Told.{Told}
 use Rattle.fee_format.specs.declared.bank_head.BankHead.{BankHead}
 use Rattle.fee_image.specs.Image.{Layout, bank_in, active_below}
+use Rattle.fee_image.specs.RecordList.{IsClosed, end_of}
 use Rattle.log_image.specs.Laws.{loaded_log, IsLoadedTail}
 use Rattle.fee_log.specs.Index.{clear_flags}
-use Rattle.fee_log.specs.Log.{LogState, log_of, tail_with, work_in}
+use Rattle.fee_log.specs.Log.{LogState, log_of, tail_with, work_in, is_closed}
 use Rattle.bank_start.specs.declared.active.ActiveBank.{ActiveBank}
 use Rattle.bank_start.specs.Active.{active_shown}
 
@@ -15,13 +16,14 @@ pub record IsSameShape (old new : LogState) : Type 0 where
   pub banks : new.banks ≡ old.banks
   pub numbers : new.numbers ≡ old.numbers
 
--- it is the log that is loaded from bank k, which stands with this head, and no flag is set
+-- it is the log that is loaded from bank k, which stands with this head, and no flag is set; where it is closed, the bank is
 pub record IsLoadedAs (l : Layout) (bytes : List ℕ) (k : ℕ) (h : BankHead) (log : LogState) : Type 0 where
   pub bank : log.bank ≡ k
   pub format : log.format ≡ h.format
   pub flags : log.flags ≡ clear_flags log.numbers
   pub loaded : (body : List ℕ) → log_of log body ≡ loaded_log (bank_in l h.format k) log.numbers bytes (tail_with log.tail body)
   pub tail : (body : List ℕ) → IsLoadedTail (bank_in l h.format k) bytes (tail_with log.tail body)
+  pub closed : is_closed log.tail ≡ true → (let b = bank_in l h.format k in IsClosed b bytes (end_of b bytes))
 
 -- of the first banks, so many, this one comes first, and this is its log
 abbrev pub AreTaken : Layout → List ℕ → ℕ → Option ActiveBank → LogState → Type 0

@@ -21,6 +21,7 @@ ghost use Rattle.fee_switch.specs.Copy.{CanBegin, BeginsAt, CanCopy, BeginsNext,
 ghost use Rattle.fee_switch.specs.Banks.{TakesRecord, left_of, is_worn_out, target_after, target_at, flagged_by, reads_place, reads_next, ended, advanced, fallen_back, after_answer, step_of, begun_again, append_begun, FindsActive, LoadsActive};
 
 use crate::copy::{begin_mark, copy_page, read_content};
+use crate::due::{reads_place, set_flag_due, target_of};
 use crate::phase::phase_of;
 use crate::start::take_banks;
 use crate::{BankBegin, BankStart, BankStep, Phase, Stage, Target};
@@ -77,51 +78,10 @@ impl Model for Banks {
     }) };
 }
 
-// The target of the next switch: the bank behind the active one, or the first.
-fn target_of(active: Option<ActiveBank>, banks: u32) -> u32
-    requires banks { 2 ≤ banks }
-    requires few { banks ≤ 8 }
-    requires active { IfSome active (λ a. a.bank < banks) }
-    ensures inside { result < banks }
-    ensures other { IfSome active (λ a. a.bank ≡ result → ⊥) }
-    ensures value { result ≡ target_after banks active }
-{
-    match active {
-        None => 0,
-        Some(active) if active.bank + 1 == banks => 0,
-        Some(active) => active.bank + 1,
-    }
-}
-
 // Tells proofs that bytes are below 256.
 fn tell_bytes(bytes: &Vec<u8>)
     ensures { All (λ x. x < 256) bytes.now.items }
 {}
-
-// Whether a copy of what stands at a place begins with a read.
-fn reads_place(place: Place) -> bool
-    ensures { result ≡ reads_place place }
-{
-    match place {
-        Place::Content { .. } => true,
-        _ => false,
-    }
-}
-
-// Sets the flag that the next operation of a course sets, if any.
-fn set_flag_due(log: &mut Log, course: Course)
-    ensures log { log.new ≡ flagged_by log.old (flag_due course) }
-    ensures shape { IsSameShape log.old log.new }
-    ensures bank { log.new.bank ≡ log.old.bank }
-{
-    let Some(index) = course.flag_due() else {
-        return;
-    };
-    let Some(&(number, _)) = log.lists().0.as_slice().get(index) else {
-        return;
-    };
-    log.set_flag(number, true);
-}
 
 impl Banks {
     /// Two banks, none of which is active. It takes all the memory that they ever need.

@@ -7,6 +7,7 @@
 
 mod banks;
 mod copy;
+mod due;
 mod phase;
 mod start;
 mod target;

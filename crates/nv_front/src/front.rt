@@ -4,7 +4,7 @@ ghost use Rattle.block_machine.specs.State.{Job as MachineJob};
 ghost use Rattle.block_machine.specs.Blocks.{job_block, names_ram};
 ghost use Rattle.block_machine.specs.Next.{next_of};
 ghost use Rattle.ram_blocks.specs.Told.{sizes_of};
-ghost use Rattle.copy_tries.specs.Tries.{OthersStay};
+ghost use Rattle.copy_tries.specs.Tries.{OthersStay, OnlyRefuses};
 ghost use Rattle.nv_desk.specs.Desk.{state_of};
 ghost use Rattle.nv_front.specs.Front.{StagesAll, AreSynchronized, OnlyRefusals, given_at};
 ghost use Rattle.nv_front.specs.Takes.{source_next, IsCopied};
@@ -61,6 +61,7 @@ impl Front {
         ensures unread { self.new.unread ≡ self.old.unread }
         ensures counts { OnlyRefusals (block_in result) (C.told copies.old) (C.told copies.new) }
         ensures sizes { sizes_of (C.told copies.new) ≡ sizes_of (C.told copies.old) }
+        ensures refuses { OnlyRefuses (C.told copies.old) (C.told copies.new) }
         ensures synchronized { AreSynchronized self.old.desk.config (C.told copies.new) }
         ensures stores_stay { (b n : ℕ) (x : List ℕ) → C.is_store copies.old b n x → C.is_store copies.new b n x }
     {
@@ -89,6 +90,7 @@ impl Front {
         ensures room { self.new.staging.room ≡ self.old.staging.room }
         ensures others { OthersStay result.block (C.told copies.old) (C.told copies.new) }
         ensures sizes { sizes_of (C.told copies.new) ≡ sizes_of (C.told copies.old) }
+        ensures refuses { OnlyRefuses (C.told copies.old) (C.told copies.new) }
         ensures synchronized { AreSynchronized self.old.desk.config (C.told copies.new) }
         ensures stores_stay { (b n : ℕ) (x : List ℕ) → C.is_store copies.old b n x → C.is_store copies.new b n x }
     {
@@ -119,6 +121,7 @@ impl Front {
         ensures unread { self.new.unread ≡ self.old.unread }
         ensures others { OthersStay result.block (C.told copies.old) (C.told copies.new) }
         ensures sizes { sizes_of (C.told copies.new) ≡ sizes_of (C.told copies.old) }
+        ensures refuses { OnlyRefuses (C.told copies.old) (C.told copies.new) }
         ensures synchronized { AreSynchronized self.old.desk.config (C.told copies.new) }
         ensures stores_stay { (b n : ℕ) (x : List ℕ) → C.is_store copies.old b n x → C.is_store copies.new b n x }
     {

@@ -2,7 +2,7 @@
 ghost use Rattle.std.specs.Prelude.{◌≡◌, ◌+◌, ℕ, List, length, true, IfSome};
 ghost use Rattle.block_machine.specs.Blocks.{desc_of, is_synchronized};
 ghost use Rattle.ram_blocks.specs.Told.{sizes_of};
-ghost use Rattle.copy_tries.specs.Tries.{OthersStay};
+ghost use Rattle.copy_tries.specs.Tries.{OthersStay, OnlyRefuses};
 ghost use Rattle.nv_front.specs.Front.{AreSynchronized};
 ghost use Rattle.nv_front.specs.Posts.{answer_in, goes_over, IsHandedOver};
 
@@ -46,6 +46,7 @@ pub fn hand_over<C: SyncCalls>(
     ensures whole { IfSome (answer_in result.answer result.gives staging.now.bytes).1 (λ x. length x ≡ (desc_of config.now block).length) }
     ensures others { OthersStay block (C.told copies.old) (C.told copies.new) }
     ensures sizes { sizes_of (C.told copies.new) ≡ sizes_of (C.told copies.old) }
+    ensures refuses { OnlyRefuses (C.told copies.old) (C.told copies.new) }
     ensures stores_stay { (b n : ℕ) (x : List ℕ) → C.is_store copies.old b n x → C.is_store copies.new b n x }
 {
     if ram && is_synchronized(config, block) && end.gives {
@@ -73,6 +74,7 @@ fn copied_in<C: SyncCalls>(
         result.refused ((desc_of config.now block).repeats + 1) block (C.told copies.old) (C.told copies.new) }
     ensures others { OthersStay block (C.told copies.old) (C.told copies.new) }
     ensures sizes { sizes_of (C.told copies.new) ≡ sizes_of (C.told copies.old) }
+    ensures refuses { OnlyRefuses (C.told copies.old) (C.told copies.new) }
     ensures stores_stay { (b n : ℕ) (x : List ℕ) → C.is_store copies.old b n x → C.is_store copies.new b n x }
 {
     let count = tries(config, block);

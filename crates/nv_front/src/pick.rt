@@ -5,6 +5,7 @@ ghost use Rattle.block_machine.specs.Blocks.{desc_of, block_at, is_synchronized,
 ghost use Rattle.block_machine.specs.Sweeps.{member_job};
 ghost use Rattle.block_machine.specs.Next.{next_in, next_of, PickMember};
 ghost use Rattle.ram_blocks.specs.Told.{sizes_of};
+ghost use Rattle.copy_tries.specs.Tries.{OnlyRefuses};
 ghost use Rattle.pending_jobs.specs.Took.{taken_with};
 ghost use Rattle.nv_desk.specs.Desk.{state_of};
 ghost use Rattle.nv_desk.specs.Picks.{took_of};
@@ -45,6 +46,7 @@ pub fn pick<C: SyncCalls>(
     ensures room { staging.new.room ≡ staging.old.room }
     ensures counts { OnlyRefusals (block_in result) (C.told copies.old) (C.told copies.new) }
     ensures sizes { sizes_of (C.told copies.new) ≡ sizes_of (C.told copies.old) }
+    ensures refuses { OnlyRefuses (C.told copies.old) (C.told copies.new) }
     ensures stores_stay { (b n : ℕ) (x : List ℕ) → C.is_store copies.old b n x → C.is_store copies.new b n x }
 {
     match desk.next() {
@@ -76,6 +78,7 @@ fn pick_job<C: SyncCalls>(desk: &mut Desk, staging: &mut Staging, ops: u64, copi
     ensures room { staging.new.room ≡ staging.old.room }
     ensures counts { (j : MachineJob) → next_in desk.old.config (state_of desk.old).waiting ≡ Some j → OnlyRefusals (job_block j) (C.told copies.old) (C.told copies.new) }
     ensures sizes { sizes_of (C.told copies.new) ≡ sizes_of (C.told copies.old) }
+    ensures refuses { OnlyRefuses (C.told copies.old) (C.told copies.new) }
     ensures stores_stay { (b n : ℕ) (x : List ℕ) → C.is_store copies.old b n x → C.is_store copies.new b n x }
 {
     let Some(job) = desk.next_job() else {
@@ -103,6 +106,7 @@ fn pick_member<C: SyncCalls>(
     ensures room { staging.new.room ≡ staging.old.room }
     ensures counts { OnlyRefusals block (C.told copies.old) (C.told copies.new) }
     ensures sizes { sizes_of (C.told copies.new) ≡ sizes_of (C.told copies.old) }
+    ensures refuses { OnlyRefuses (C.told copies.old) (C.told copies.new) }
     ensures stores_stay { (b n : ℕ) (x : List ℕ) → C.is_store copies.old b n x → C.is_store copies.new b n x }
 {
     let source = source_of_member(desk.config(), block, desk.sweep_writes());
@@ -143,6 +147,7 @@ fn stage<C: SyncCalls>(
     ensures room { staging.new.room ≡ staging.old.room }
     ensures counts { OnlyRefusals block (C.told copies.old) (C.told copies.new) }
     ensures sizes { sizes_of (C.told copies.new) ≡ sizes_of (C.told copies.old) }
+    ensures refuses { OnlyRefuses (C.told copies.old) (C.told copies.new) }
     ensures stores_stay { (b n : ℕ) (x : List ℕ) → C.is_store copies.old b n x → C.is_store copies.new b n x }
 {
     match source {
@@ -172,6 +177,7 @@ fn stage_copy<C: SyncCalls>(
     ensures room { staging.new.room ≡ staging.old.room }
     ensures counts { OnlyRefusals block (C.told copies.old) (C.told copies.new) }
     ensures sizes { sizes_of (C.told copies.new) ≡ sizes_of (C.told copies.old) }
+    ensures refuses { OnlyRefuses (C.told copies.old) (C.told copies.new) }
     ensures stores_stay { (b n : ℕ) (x : List ℕ) → C.is_store copies.old b n x → C.is_store copies.new b n x }
 {
     let count = tries(config, block);

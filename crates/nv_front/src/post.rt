@@ -6,7 +6,7 @@ ghost use Rattle.block_machine.specs.Results.{took_none, checks_id, checked_id};
 ghost use Rattle.nv_base.specs.declared.job.GivenFrom.TheVariants as GivenFrom;
 ghost use Rattle.pending_jobs.specs.Took.{taken_last};
 ghost use Rattle.ram_blocks.specs.Told.{sizes_of};
-ghost use Rattle.copy_tries.specs.Tries.{OthersStay};
+ghost use Rattle.copy_tries.specs.Tries.{OthersStay, OnlyRefuses};
 ghost use Rattle.nv_desk.specs.Desk.{state_of};
 ghost use Rattle.nv_front.specs.Front.{StagesAll, AreSynchronized};
 ghost use Rattle.nv_front.specs.Posts.{EndsAreTheMachines, MayPostNow, IsEndOf, IsPosted, answer_in, answer_of, is_read, reads_own};
@@ -59,6 +59,7 @@ pub fn post<C: SyncCalls>(
     ensures room { staging.new.room ≡ staging.old.room }
     ensures others { OthersStay result.posted.block (C.told copies.old) (C.told copies.new) }
     ensures sizes { sizes_of (C.told copies.new) ≡ sizes_of (C.told copies.old) }
+    ensures refuses { OnlyRefuses (C.told copies.old) (C.told copies.new) }
     ensures stores_stay { (b n : ℕ) (x : List ℕ) → C.is_store copies.old b n x → C.is_store copies.new b n x }
 {
     failures_are_explained();

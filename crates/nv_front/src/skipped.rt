@@ -7,7 +7,7 @@ ghost use Rattle.block_machine.specs.Sweeps.{sweep_result};
 ghost use Rattle.block_machine.specs.Next.{next_of, PostMember, EndSweep};
 ghost use Rattle.ram_blocks.specs.Told.{Told};
 ghost use Rattle.ram_blocks.specs.Told.{sizes_of};
-ghost use Rattle.copy_tries.specs.Tries.{OthersStay};
+ghost use Rattle.copy_tries.specs.Tries.{OthersStay, OnlyRefuses};
 ghost use Rattle.nv_desk.specs.Desk.{state_of};
 ghost use Rattle.nv_desk.specs.AllBlocks.{MayFinish};
 ghost use Rattle.nv_front.specs.Front.{StagesAll, AreSynchronized};
@@ -36,6 +36,7 @@ pub fn post_skipped<C: SyncCalls>(
     ensures room { staging.new.room ≡ staging.old.room }
     ensures others { OthersStay result.block (C.told copies.old) (C.told copies.new) }
     ensures sizes { sizes_of (C.told copies.new) ≡ sizes_of (C.told copies.old) }
+    ensures refuses { OnlyRefuses (C.told copies.old) (C.told copies.new) }
     ensures stores_stay { (b n : ℕ) (x : List ℕ) → C.is_store copies.old b n x → C.is_store copies.new b n x }
 {
     match desk.next() {
@@ -79,6 +80,7 @@ fn post_member<C: SyncCalls>(
     ensures room { staging.new.room ≡ staging.old.room }
     ensures others { OthersStay block (C.told copies.old) (C.told copies.new) }
     ensures sizes { sizes_of (C.told copies.new) ≡ sizes_of (C.told copies.old) }
+    ensures refuses { OnlyRefuses (C.told copies.old) (C.told copies.new) }
     ensures stores_stay { (b n : ℕ) (x : List ℕ) → C.is_store copies.old b n x → C.is_store copies.new b n x }
 {
     let end = unpicked(desk, staging, block);

@@ -3,7 +3,7 @@ ghost use Rattle.std.specs.Prelude.{◌≡◌, ◌≤◌, ℕ, List, length, tak
 ghost use Rattle.std.specs.Option.{option_eq};
 ghost use Rattle.std.specs.Str.{bytes_eq};
 ghost use Rattle.ram_blocks.specs.Told.{IsSynchronized, sizes_of};
-ghost use Rattle.copy_tries.specs.Tries.{IsOfStore, IsTried, OnlyCounts};
+ghost use Rattle.copy_tries.specs.Tries.{IsOfStore, IsTried, OnlyCounts, OnlyRefuses};
 ghost use Rattle.nv_front.specs.Front.{given_if};
 
 use copy_tries::{Tried, copy_out};
@@ -93,6 +93,7 @@ impl Staging {
         ensures store { IsOfStore result self.new.bytes (λ n x. C.is_store copies.new block n x) }
         ensures counts { OnlyCounts block (C.told copies.old) (C.told copies.new) }
         ensures sizes { sizes_of (C.told copies.new) ≡ sizes_of (C.told copies.old) }
+        ensures refuses { OnlyRefuses (C.told copies.old) (C.told copies.new) }
         ensures stores_stay { (b n : ℕ) (x : List ℕ) → C.is_store copies.old b n x → C.is_store copies.new b n x }
     {
         self.used = count;
@@ -125,6 +126,7 @@ fn copy_to<C: SyncCalls>(
     ensures store { IsOfStore result (take count buffer.new) (λ n x. C.is_store copies.new block n x) }
     ensures counts { OnlyCounts block (C.told copies.old) (C.told copies.new) }
     ensures sizes { sizes_of (C.told copies.new) ≡ sizes_of (C.told copies.old) }
+    ensures refuses { OnlyRefuses (C.told copies.old) (C.told copies.new) }
     ensures stores_stay { (b n : ℕ) (x : List ℕ) → C.is_store copies.old b n x → C.is_store copies.new b n x }
 {
     let (front, _) = buffer.split_at_mut(count);

@@ -23,7 +23,7 @@ within [] i n e = no_bytes i n (i < 0) e
 within (x ∷ xs) zero n e = omega arith
 within (x ∷ xs) (suc i) n e = let h = within xs i n e in omega (arith, h)
 
-bytes_by : (t : Bool) (b : PlainBlock) (n : ℕ) → option_map (λ (s : Synchronized). s.bytes) (if t then None else Some (record { bytes = length b.content; refusals = b.refusals; handed = b.handed; last = b.last })) ≡ Some n → length b.content ≡ n
+bytes_by : (t : Bool) (b : PlainBlock) (n : ℕ) → option_map (λ (s : Synchronized). s.bytes) (if t then None else Some (record { bytes = length b.content; refusals = b.refusals; most = b.asked; handed = b.handed; last = b.last })) ≡ Some n → length b.content ≡ n
 bytes_by true b n e = cc
 bytes_by false b n e = cc
 
@@ -33,22 +33,22 @@ bytes_at xs i n e = bytes_by (length (get_or xs i no_plain).content == 0) (get_o
 pub told_set : (xs : List PlainBlock) (i : ℕ) (y : PlainBlock) → map told_of (slice_set xs i y) ≡ slice_set (map told_of xs) i (told_of y)
 told_set xs i y = map-set told_of xs i y
 
-some_told_by : (t : Bool) (b : PlainBlock) (r : ℕ) → (if t then None else Some (record { bytes = length b.content; refusals = r; handed = b.handed; last = b.last })) ≡ option_map (λ (s : Synchronized). record s { refusals = r }) (if t then None else Some (record { bytes = length b.content; refusals = b.refusals; handed = b.handed; last = b.last }))
+some_told_by : (t : Bool) (b : PlainBlock) (r : ℕ) → (if t then None else Some (record { bytes = length b.content; refusals = r; most = b.asked; handed = b.handed; last = b.last })) ≡ option_map (λ (s : Synchronized). record s { refusals = r }) (if t then None else Some (record { bytes = length b.content; refusals = b.refusals; most = b.asked; handed = b.handed; last = b.last }))
 some_told_by true b r = refl
 some_told_by false b r = refl
 
 told_refused : (b : PlainBlock) → told_of (refused b) ≡ option_map (λ (s : Synchronized). record s { refusals = next_count b.refusals }) (told_of b)
 told_refused b = some_told_by (length b.content == 0) b (next_count b.refusals)
 
-handed_told_by : (t : Bool) (content : List ℕ) (b : PlainBlock) → (if t then None else Some (record { bytes = length b.content; refusals = b.refusals; handed = next_number b.handed; last = content })) ≡ option_map (told_over content) (if t then None else Some (record { bytes = length b.content; refusals = b.refusals; handed = b.handed; last = b.last }))
+handed_told_by : (t : Bool) (content : List ℕ) (b : PlainBlock) → (if t then None else Some (record { bytes = length b.content; refusals = b.refusals; most = b.asked; handed = next_number b.handed; last = content })) ≡ option_map (told_over content) (if t then None else Some (record { bytes = length b.content; refusals = b.refusals; most = b.asked; handed = b.handed; last = b.last }))
 handed_told_by true content b = refl
 handed_told_by false content b = refl
 
 told_handed : (content : List ℕ) (b : PlainBlock) → told_of (handed_over content b) ≡ option_map (told_over content) (told_of b)
 told_handed content b = handed_told_by (length b.content == 0) content b
 
-refusals_some : (t : Bool) (b : PlainBlock) (n : ℕ) → option_map (λ (s : Synchronized). s.bytes) (if t then None else Some (record { bytes = length b.content; refusals = b.refusals; handed = b.handed; last = b.last })) ≡ Some n
-    → (refusals_by (if t then None else Some (record { bytes = length b.content; refusals = b.refusals; handed = b.handed; last = b.last })) ≡ b.refusals) × (handed_by (if t then None else Some (record { bytes = length b.content; refusals = b.refusals; handed = b.handed; last = b.last })) ≡ b.handed)
+refusals_some : (t : Bool) (b : PlainBlock) (n : ℕ) → option_map (λ (s : Synchronized). s.bytes) (if t then None else Some (record { bytes = length b.content; refusals = b.refusals; most = b.asked; handed = b.handed; last = b.last })) ≡ Some n
+    → (refusals_by (if t then None else Some (record { bytes = length b.content; refusals = b.refusals; most = b.asked; handed = b.handed; last = b.last })) ≡ b.refusals) × (handed_by (if t then None else Some (record { bytes = length b.content; refusals = b.refusals; most = b.asked; handed = b.handed; last = b.last })) ≡ b.handed)
 refusals_some true b n e = cc
 refusals_some false b n e = (refl, refl)
 

@@ -12,7 +12,8 @@ use std::alloc::{AllocError, Global};
 pub const LAST_NUMBER: u64 = 1 << 60;
 
 /// A synchronized block, or without bytes one that isn't: the application's content with the number of its store, the
-/// content that was handed to it last with the number of those, the copies that were refused, and those that are to be.
+/// content that was handed to it last with the number of those, the copies that were refused, those that are to be, and how
+/// many refusals were asked for in all.
 #[derive(Drop)]
 pub struct PlainBlock {
     pub content: Bytes,
@@ -21,6 +22,7 @@ pub struct PlainBlock {
     pub handed: u64,
     pub refusals: u64,
     pub to_refuse: u64,
+    pub asked: u64,
 }
 
 impl PlainBlock {
@@ -36,6 +38,7 @@ impl PlainBlock {
             handed: 0,
             refusals: 0,
             to_refuse: 0,
+            asked: 0,
         })
     }
 
@@ -96,6 +99,7 @@ impl PlainBlock {
         ensures { self.new ≡ refusing count self.old }
     {
         self.to_refuse = self.to_refuse.saturating_add(u64::from(count));
+        self.asked = self.asked.saturating_add(u64::from(count));
     }
 }
 

@@ -1,4 +1,4 @@
-use Rattle.copy_tries.proofs.Trying.{begins_in, refused_in, handed_sizes, counts_sizes}
+use Rattle.copy_tries.proofs.Trying.{begins_in, refused_in, handed_sizes, handed_refuses, counts_sizes}
 use Rattle.copy_tries.proofs.tries.copy_in.Goals as goal
 
 pub loop-i-init : goal.loop-i-init
@@ -6,6 +6,9 @@ loop-i-init g c = record { tried = begins_in _ _ _ c.requires; stores = λ b n x
 
 pub returns-in-Got-clause-sizes : goal.returns-in-Got-clause-sizes
 returns-in-Got-clause-sizes g c = handed_sizes _ _ _ _ _ _ c.loop-i.invariant.tried.trying c.in-Got.ensures.copied.1
+
+pub returns-in-Got-clause-refuses : goal.returns-in-Got-clause-refuses
+returns-in-Got-clause-refuses g c = handed_refuses _ _ _ _ _ _ c.loop-i.invariant.tried.trying c.in-Got.ensures.copied.1
 
 pub loop-i-preserved : goal.loop-i-preserved
 loop-i-preserved g c = record {
@@ -15,3 +18,6 @@ loop-i-preserved g c = record {
 
 pub returns-clause-sizes : goal.returns-clause-sizes
 returns-clause-sizes g c = counts_sizes _ _ _ c.loop-i.invariant.tried.trying.counts
+
+pub returns-clause-refuses : goal.returns-clause-refuses
+returns-clause-refuses g c = c.loop-i.invariant.tried.trying.refuses

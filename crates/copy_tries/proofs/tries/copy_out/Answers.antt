@@ -26,3 +26,12 @@ returns-in-Some-clause-sizes g c = counts_sizes _ _ _ c.loop-i.invariant.tried.t
 
 pub returns-in-None-clause-sizes : goal.returns-in-None-clause-sizes
 returns-in-None-clause-sizes g c = counts_sizes _ _ _ c.loop-i.invariant.tried.trying.counts
+
+pub returns-then-asked-number-clause-refuses : goal.returns-then-asked-number-clause-refuses
+returns-then-asked-number-clause-refuses g c = rw c.in-Got.ensures.copied c.loop-i.invariant.tried.trying.refuses
+
+pub returns-in-Some-clause-refuses : goal.returns-in-Some-clause-refuses
+returns-in-Some-clause-refuses g c = c.loop-i.invariant.tried.trying.refuses
+
+pub returns-in-None-clause-refuses : goal.returns-in-None-clause-refuses
+returns-in-None-clause-refuses g c = c.loop-i.invariant.tried.trying.refuses

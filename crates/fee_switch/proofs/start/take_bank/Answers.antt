@@ -29,7 +29,7 @@ returns-then-comes_first-clause-taken g c e =
     let low = c.requires.legal.page_low in
     taken_then heads l c.args.bank own c.args.first.now log h two stands c.args.fls.now.flash.bytes c.load.new.self read.0 first
     (λ (bytes : List ℕ) is. rw c.head-head.ensures.head
-    (loaded_as c.loads_agree.ensures.loads c.loads_agree.ensures.moves c.banks_stand_alone.ensures.pages l bytes own c.args.bank c.in-Some.view.head log.geometry log.banks log.numbers c.load.new.self c.in-Some.view
+    (loaded_as c.loads_agree.ensures.loads c.loads_agree.ensures.moves c.banks_stand_alone.ensures.pages c.records_stay.ensures.stay l bytes own c.args.bank c.in-Some.view.head log.geometry log.banks log.numbers c.load.new.self c.in-Some.view
     low size is c.in-Some.ensures.view loaded))
 
 pub returns-else-comes_first-clause-taken : goal.returns-else-comes_first-clause-taken

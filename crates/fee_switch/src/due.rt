@@ -1,0 +1,51 @@
+// What the next step of a switch is about.
+ghost use Rattle.std.specs.Prelude.{◌≡◌, ◌<◌, ◌≤◌, IfSome};
+ghost use Rattle.switch_course.specs.Course.{flag_due};
+ghost use Rattle.fee_switch.specs.Start.{IsSameShape};
+ghost use Rattle.fee_switch.specs.Banks.{flagged_by, reads_place, target_after};
+
+use bank_start::ActiveBank;
+use fee_log::Log;
+use log_image::Place;
+use switch_course::Course;
+
+/// The target of the next switch: the bank behind the active one, or the first.
+pub(crate) fn target_of(active: Option<ActiveBank>, banks: u32) -> u32
+    requires banks { 2 ≤ banks }
+    requires few { banks ≤ 8 }
+    requires active { IfSome active (λ a. a.bank < banks) }
+    ensures inside { result < banks }
+    ensures other { IfSome active (λ a. a.bank ≡ result → ⊥) }
+    ensures value { result ≡ target_after banks active }
+{
+    match active {
+        None => 0,
+        Some(active) if active.bank + 1 == banks => 0,
+        Some(active) => active.bank + 1,
+    }
+}
+
+/// Whether a copy of what stands at a place begins with a read.
+pub(crate) fn reads_place(place: Place) -> bool
+    ensures { result ≡ reads_place place }
+{
+    match place {
+        Place::Content { .. } => true,
+        _ => false,
+    }
+}
+
+/// Sets the flag that the next operation of a course sets, if any.
+pub(crate) fn set_flag_due(log: &mut Log, course: Course)
+    ensures log { log.new ≡ flagged_by log.old (flag_due course) }
+    ensures shape { IsSameShape log.old log.new }
+    ensures bank { log.new.bank ≡ log.old.bank }
+{
+    let Some(index) = course.flag_due() else {
+        return;
+    };
+    let Some(&(number, _)) = log.lists().0.as_slice().get(index) else {
+        return;
+    };
+    log.set_flag(number, true);
+}
