@@ -81,6 +81,7 @@ runs_begin computes d made cuts =
       more = omega (arith, at.faults);
       cuts = cuts;
       worn = λ since is. cc (made.worn, is);
+      none = λ is. (at.ops, at.cuts);
     }
 
 -- WITHOUT AN OPERATION
@@ -125,6 +126,9 @@ module _ (d t : Device) (has : HasRun d) (keeps : KeepsRun d t) where
     more = subst (λ (e : Told). e.faults ≤ t.flash.faults) (sym none.entry) (omega (arith, has.more, keeps.flash_faults));
     cuts = keeps.cuts;
     worn = λ since is. worn_by since (keeps.worn since is);
+    none = λ is.
+        let was = has.none (sym none.operations ∙ is) in
+        (keeps.counts.0 ∙ was.0 ∙ ap (λ (e : Told). e.ops) (sym none.entry), keeps.counts.1 ∙ was.1 ∙ ap (λ (e : Told). e.cuts) (sym none.entry));
   }
 
 pub runs_stay : RunsStay
@@ -278,6 +282,7 @@ module _ (op : Op) (answer : FlashAnswer) (d t : Device) (has : HasRun d) (makes
             no_erase = λ small. subst (λ (l : List Change). IsTrue (list_all (λ (x : Change). is_program x.op) (drop since l))) (sym makes.operations)
                 (all_more (λ (x : Change). is_program x.op) since d.operations change (was.no_erase small) keeps.0);
           };
+      none = λ is. absurd (let zero : length t.operations ≡ 0 = ap length is in omega (arith, one_more op answer d t has.alike makes, zero));
     }
 
 pub runs_go_on : RunsGoOn

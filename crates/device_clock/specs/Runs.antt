@@ -37,6 +37,8 @@ pub record HasRun (d : Device) : Type 0 where
   pub more : d.entry.faults ≤ d.flash.faults
   pub cuts : CountsCuts d.entry d.flash
   pub worn : (since : ℕ) → d.worn ≡ Some since → IsWornSince d since
+  -- where it asked for no operation the flash counted none, and no cut
+  pub none : d.operations ≡ [] → (d.flash.ops ≡ d.entry.ops) × (d.flash.cuts ≡ d.entry.cuts)
 
 -- its part when it was made
 abbrev pub part_before : Device → PartTold
@@ -57,10 +59,11 @@ pub record IsMade (d : Device) : Type 0 where
 abbrev pub RunsBegin : Type 0
 RunsBegin = (d : Device) → IsMade d → CountsCuts d.entry d.flash → HasRun d
 
--- without an operation: the bytes stay, and the counts of faults rise alike
+-- without an operation: the bytes and the counts stay, but for those of faults, which rise alike
 pub record KeepsRun (d t : Device) : Type 0 where
   pub none : MakesNone d t
   pub bytes : t.flash.bytes ≡ d.flash.bytes
+  pub counts : (t.flash.ops ≡ d.flash.ops) × (t.flash.cuts ≡ d.flash.cuts)
   pub flash_faults : d.flash.faults ≤ t.flash.faults
   pub faults : WereCounted t.faults t.entry.faults t.flash.faults
   pub cuts : CountsCuts t.entry t.flash

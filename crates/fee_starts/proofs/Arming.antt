@@ -37,8 +37,8 @@ module _ (stay : ClocksStay) (runs : RunsStay) (m : Making) (entry : Told) (s : 
 
   pub arm_keeps : IsDevice d → IsDevice t
   arm_keeps is = record {
-    run = runs d t is.run (record { none = none; bytes = refl; flash_faults = omega arith; faults = is.run.faults; cuts = counted is.run.cuts; worn = λ since e. inl e });
-    held = λ started. (let h = is.held started in record { behind = h.behind; copied = h.copied; banks = record { started = h.banks.started; alike = h.banks.alike; legal = h.banks.legal; some = h.banks.some; held = h.banks.held }; places = h.places; stand = h.stand; on = h.on });
+    run = runs d t is.run (record { none = none; bytes = refl; counts = (refl, refl); flash_faults = omega arith; faults = is.run.faults; cuts = counted is.run.cuts; worn = λ since e. inl e });
+    held = λ started. (let h = is.held started in record { behind = h.behind; copied = h.copied; banks = record { started = h.banks.started; alike = h.banks.alike; legal = h.banks.legal; some = h.banks.some; held = h.banks.held }; places = h.places; stand = h.stand; on = h.on; idle = h.idle });
     order = record { bounded = is.order.bounded; fits = is.order.fits; ready = is.order.ready; wait = is.order.wait; second = is.order.second; now = finds_on (told_of d) (told_of t) (clock_of d).first (clock_of t).first (stay d t none refl).first refl refl refl is.order.now };
     faults = is.faults;
   }

@@ -77,4 +77,4 @@ pub run_stays : RunsStay → (m : Making) (entry : Told) (s : Parts) (b : BanksS
     → HasRun (device_of m entry s) → HasRun (device_of m entry (record s { banks = b; content = content; job = job; last = last; given = given }))
 run_stays runs m entry s b content job last given run =
     runs (device_of m entry s) (device_of m entry (record s { banks = b; content = content; job = job; last = last; given = given })) run
-    (record { none = record { making = refl; entry = refl; operations = refl; bytes = refl }; bytes = refl; flash_faults = omega arith; faults = run.faults; cuts = run.cuts; worn = λ since e. inl e })
+    (record { none = record { making = refl; entry = refl; operations = refl; bytes = refl }; bytes = refl; counts = (refl, refl); flash_faults = omega arith; faults = run.faults; cuts = run.cuts; worn = λ since e. inl e })

@@ -1,9 +1,14 @@
 mod Arming
 mod Behind
 mod Bounds
+mod Canceled
+mod Canceling
+mod Ending
+mod GivenUp
 mod Making
 mod Opened
 mod Opening
 mod Order
 mod Raising
 mod Starting
+mod Stopping

@@ -37,16 +37,12 @@ use Rattle.fee_starts.proofs.Behind.{run_stays, job_in}
 use Rattle.fee_starts.proofs.Bounds.{part_is, pages_are}
 use Rattle.fee_starts.proofs.Making.{shown_as}
 use Rattle.fee_starts.proofs.Opening.{OpenLaws, behind_it, raised, in_order, old_same, idle, h}
-use Rattle.fee_starts.proofs.Raising.{left_wanted, writes_pages}
+use Rattle.fee_starts.proofs.Raising.{left_wanted, none_of, writes_pages}
 use Rattle.fee_starts.proofs.Starting.{told_bytes, same_bytes}
 
 -- TESTS
 all_four : (a b c d : Bool) → a ≡ true → b ≡ true → c ≡ true → d ≡ true → a && b && c && d ≡ true
 all_four a b c d x y z w = rw (x, y, z, w) refl
-
-none_of : (a b c d : Bool) → b ≡ false → a && b && c && d ≡ false
-none_of true b c d e = rw e refl
-none_of false b c d e = refl
 
 none_in : (o : Option RecHead) (b : BanksState) (j : FeeJob) → o ≡ None → IfSome o (IsInWork b (Some j))
 none_in None b j e = tt

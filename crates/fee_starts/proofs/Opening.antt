@@ -1,6 +1,6 @@
 -- A job opens.
 use Rattle.std.specs.Prelude.{IsTrue, nat_le, take}
-use Rattle.std.proofs.Common.{◌≡◌, ◌≤◌, ◌<◌, ◌+◌, ◌-◌, ◌*◌, ◌/◌, ◌^◌, ℕ, Bool, true, false, List, length, Option, Some, None, refl, sym, ap, ◌∙◌, subst, arith}
+use Rattle.std.proofs.Common.{◌≡◌, inl, inr, ◌≤◌, ◌<◌, ◌+◌, ◌-◌, ◌*◌, ◌/◌, ◌^◌, ℕ, Bool, true, false, List, length, Option, Some, None, refl, sym, ap, ◌∙◌, subst, arith}
 use Rattle.std.proofs.Math.Nat.{div-le_self}
 use Rattle.nv_base.specs.Geometry.{IsLegal, sectors_of_bank}
 use Rattle.nv_base.specs.declared.geometry.Geometry.{Geometry}
@@ -51,10 +51,10 @@ pub record OpenLaws : Type 0 where
   pub start : StartsRaise
 
 -- SIZES
-half : (x n : ℕ) → n ≡ 2 → 2 ≤ x → 0 < x / n
+pub half : (x n : ℕ) → n ≡ 2 → 2 ≤ x → 0 < x / n
 half x n two low = subst (λ (k : ℕ). 0 < x / k) (sym two) (omega arith)
 
-own_small : (ns : List (DeviceNumber × ℕ)) (g : Geometry) (banks reserve : ℕ) → IsLegal g → HasSpace ns g banks reserve → most_turns g.page (sectors_of_bank g banks) ns ≤ 20000000
+pub own_small : (ns : List (DeviceNumber × ℕ)) (g : Geometry) (banks reserve : ℕ) → IsLegal g → HasSpace ns g banks reserve → most_turns g.page (sectors_of_bank g banks) ns ≤ 20000000
 own_small ns g banks reserve legal space =
     let a = div-le_self g.sectors banks in
     let b = div-le_self (g.sector * g.sectors) banks in
@@ -129,6 +129,9 @@ module _ (laws : OpenLaws) (m : Making) (entry : Told) (s : Parts) (listed : Lis
     held = λ told. each_told s.fls.flash.bytes (λ (x : List ℕ). IsHeld l m.numbers x behind h.copied) (λ bytes at. held_at bytes at told);
   }
 
+  same_behind : h.behind ≡ memory_of s → behind ≡ memory_of u
+  same_behind same = ap (λ (x : Memory). record x { stand = st }) same ∙ (λ i. record (memory_of u) { old = sym old_same i })
+
   pub behind_it : HoldsBehind t
   behind_it = record {
     behind = behind;
@@ -136,7 +139,8 @@ module _ (laws : OpenLaws) (m : Making) (entry : Told) (s : Parts) (listed : Lis
     banks = holds;
     places = subst (SamePlaces h.behind.old) (sym old_same) h.places;
     stand = refl;
-    on = λ off. ap (λ (x : Memory). record x { stand = st }) (h.on off) ∙ (λ i. record (memory_of u) { old = sym old_same i });
+    on = λ off. same_behind (h.on off);
+    idle = elim h.idle [ inl same ↦ inl (same_behind same) | inr fits ↦ inr fits ];
   }
 
   -- THE TURNS

@@ -53,6 +53,10 @@ second_of true true c d e = refl
 second_of true false c d e = cc
 second_of false b c d e = cc
 
+pub none_of : (a b c d : Bool) → b ≡ false → a && b && c && d ≡ false
+none_of true b c d e = rw e refl
+none_of false b c d e = refl
+
 pub writes_pages : (p : ℕ) (op : DeviceOp) (length of : ℕ) → op ≡ Write → IsLengthOf op length of → pages_of_op p op length ≡ record_pages_of of p
 writes_pages p Read length of is fits = cc
 writes_pages p Write length of is fits = ap (λ (k : ℕ). record_pages_of k p) fits

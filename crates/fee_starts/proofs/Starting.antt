@@ -147,6 +147,7 @@ module _ (laws : Laws) (m : Making) (entry : Told) (s : Parts) (made : IsMadeFor
   run = laws.runs d t is.run (record {
     none = none;
     bytes = refl;
+    counts = (refl, refl);
     flash_faults = more;
     faults = were_counted entry.faults s.fls.flash.faults flash_faults s.faults faults more counted is.run.faults;
     cuts = is.run.cuts;
@@ -314,7 +315,7 @@ module _ (laws : Laws) (m : Making) (entry : Told) (s : Parts) (made : IsMadeFor
     }
 
     ready_behind : HoldsBehind ready_device
-    ready_behind = record { behind = memory_of ready_parts; copied = none_copied; banks = ready_holds; places = same_places (memory_of ready_parts).old; stand = refl; on = λ on. refl }
+    ready_behind = record { behind = memory_of ready_parts; copied = none_copied; banks = ready_holds; places = same_places (memory_of ready_parts).old; stand = refl; on = λ on. refl; idle = inl refl }
 
     ready_now : FindsNow (told_of ready_device) (clock_of ready_device)
     ready_now = laws.held ready_device none_copied ready_holds

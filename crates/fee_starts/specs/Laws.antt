@@ -1,10 +1,10 @@
 -- Laws of the calls of a device that aren't turns.
-use Rattle.std.specs.Prelude.{◌≡◌, ◌≤◌, ℕ, Bool, true, false, nat_le, List, length, take, None, Ok, Err, IfSome}
+use Rattle.std.specs.Prelude.{◌≡◌, ◌≤◌, ℕ, Bool, true, false, nat_le, List, length, take, Some, None, Ok, Err, IfSome}
 use Rattle.nv_base.specs.Count.{Rose, next_count}
 use Rattle.nv_base.specs.Geometry.{IsLegal}
 use Rattle.nv_base.specs.declared.instance.DeviceNumber.{DeviceNumber}
 use Rattle.memif.specs.declared.answer.StartFault.TheVariants.{Fault}
-use Rattle.memif.specs.Calls.{StartsUp, Opens, ClockStays}
+use Rattle.memif.specs.Calls.{StartsUp, Opens, Cancels, ClockStays}
 use Rattle.fls_model.specs.Attach.{IsAttached}
 use Rattle.fls_model.specs.Told.{Told}
 use Rattle.fls_jobs.specs.Start.{IsIdle}
@@ -22,7 +22,7 @@ use Rattle.fee_state.specs.Inside.{Parts, device_of, mark_of, IsSound, IsActiveO
 use Rattle.fee_state.specs.Record.{IsJobOf}
 use Rattle.fee_state.specs.Work.{pages_of_op, seal_turns}
 use Rattle.fee_starts.specs.Made.{IsMadeOf}
-use Rattle.fee_starts.specs.Parts.{fresh, with_plan, started_with, opened}
+use Rattle.fee_starts.specs.Parts.{fresh, with_plan, started_with, opened, without_work, canceled}
 
 -- MAKING
 -- over a flash that is attached, with banks that were made
@@ -108,3 +108,26 @@ JobsOpen =
     IsSound m entry t listed kept count is_off
     × Opens (record { number = j.number.0; mark = mark_of j.op (take j.length content); urgent = j.urgent }) (told_of (device_of m entry s)) (told_of (device_of m entry t))
     × ClockStays (clock_of (device_of m entry s)) (told_of (device_of m entry t)) (clock_of (device_of m entry t))
+
+-- ITS CANCEL
+-- one is open that isn't urgent
+pub record MayCancel (s : Parts) (j : FeeJob) : Type 0 where
+  pub banks : IsBanksState s.banks
+  pub job : s.job ≡ Some j
+  pub calm : j.urgent ≡ false
+
+-- also while a switch is open, or a power cut stands
+abbrev pub JobsCancel : Type 0
+JobsCancel =
+    (m : Making) (entry : Told) (s : Parts) (listed : List (DeviceNumber × ℕ)) (kept count : ℕ) (is_off : Bool) (j : FeeJob)
+    → IsSound m entry s listed kept count is_off → MayCancel s j
+    → let t = canceled (without_work s.banks) s in
+    IsSound m entry t listed kept count is_off
+    × Cancels (told_of (device_of m entry s)) (clock_of (device_of m entry s)) (told_of (device_of m entry t)) (clock_of (device_of m entry t))
+
+-- with none open nothing happens
+abbrev pub NoneCancels : Type 0
+NoneCancels =
+    (m : Making) (entry : Told) (s : Parts) (listed : List (DeviceNumber × ℕ)) (kept count : ℕ) (is_off : Bool)
+    → IsSound m entry s listed kept count is_off → s.job ≡ None
+    → Cancels (told_of (device_of m entry s)) (clock_of (device_of m entry s)) (told_of (device_of m entry s)) (clock_of (device_of m entry s))

@@ -1,9 +1,11 @@
 -- What each call that isn't a turn makes of the parts of a device.
-use Rattle.std.specs.Prelude.{ℕ, Bool, [], List, None, Some, false}
+use Rattle.std.specs.Prelude.{ℕ, Bool, [], List, None, Some, false, if◌then◌else◌, is_some}
 use Rattle.nv_base.specs.Plan.{dropped}
 use Rattle.memif.specs.declared.answer.JobResult.TheVariants.{JobOk, JobCanceled}
 use Rattle.fls_model.specs.Told.{armed}
 use Rattle.fls_jobs.specs.declared.answer.FlsResult.{FlsResult}
+use Rattle.fee_log.specs.Log.{work_in}
+use Rattle.fee_log.specs.Step.{given_up}
 use Rattle.fee_switch.specs.Banks.{BanksState}
 use Rattle.fee_state.specs.declared.job.FeeJob.{FeeJob}
 use Rattle.fee_state.specs.Inside.{Parts}
@@ -31,6 +33,10 @@ started_with s b result flash_faults ready faults = record s {
 -- a job opens
 abbrev pub opened : FeeJob → List ℕ → Parts → Parts
 opened j content s = record s { content = content; job = Some j; given = 0 }
+
+-- a record in work is given up
+abbrev pub without_work : BanksState → BanksState
+without_work b = if is_some (work_in b.log.tail) then record b { log = given_up b.log } else b
 
 -- it is canceled, with these banks behind it
 abbrev pub canceled : BanksState → Parts → Parts

@@ -1,10 +1,10 @@
-// Laws: the start of a job. Their function does nothing.
-ghost use Rattle.fee_starts.specs.Laws.{JobsOpen};
+// Laws: the start of a job, and its cancel. Their functions do nothing.
+ghost use Rattle.fee_starts.specs.Laws.{JobsOpen, JobsCancel, NoneCancels};
 
-use device_clock::{clocks_tick, runs_go_on};
+use device_clock::{clocks_tick, numbers_are_told, runs_go_on};
 use device_figures::{left_is_bounded, urgent_writes_wait};
 use device_image::jobs_doubt;
-use device_turns::{devices_find, devices_tell, starts_and_jobs};
+use device_turns::{devices_find, devices_tell, records_change, starts_and_jobs};
 use switch_course::turns_fall;
 
 /// A job that opens leaves the device sound, and is accepted as a memory device accepts one.
@@ -20,4 +20,21 @@ pub fn jobs_open()
     turns_fall();
     left_is_bounded();
     urgent_writes_wait();
+}
+
+/// A job that is canceled, and isn't urgent, leaves the device sound, and ends as a memory device ends one: a record in work is
+/// given up. So it is while a switch is open, and while a power cut stands. With no job open nothing changes.
+pub fn jobs_cancel()
+    ensures job { JobsCancel }
+    ensures none { NoneCancels }
+{
+    clocks_tick();
+    numbers_are_told();
+    runs_go_on();
+    devices_find();
+    jobs_doubt();
+    records_change();
+    starts_and_jobs();
+    turns_fall();
+    left_is_bounded();
 }

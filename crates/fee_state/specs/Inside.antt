@@ -29,7 +29,7 @@ use Rattle.switch_room.specs.KeepsRoom.{KeepsRoom}
 use Rattle.switch_room.specs.Space.{HasSpace}
 use Rattle.device_bridge.specs.Bridge.{Making}
 use Rattle.device_bridge.specs.Image.{two_banks}
-use Rattle.device_image.specs.Slots.{Memory, settled_in}
+use Rattle.device_image.specs.Slots.{Memory, HasJob, settled_in}
 use Rattle.device_image.specs.Laws.{IsHeld, SamePlaces}
 use Rattle.device_clock.specs.Device.{Device, tells, told_of}
 use Rattle.device_clock.specs.Clock.{clock_of}
@@ -155,7 +155,8 @@ pub record IsWorn (s : Parts) (since : ℕ) : Type 0 where
   pub shut : s.banks.course ≡ None
 
 -- The bytes hold its banks, with these in memory. While a power cut stands they may differ from its own: a page that was cut
--- may have left anything; where the numbers stand, and the open job, are the same.
+-- may have left anything; where the numbers stand, and the open job, are the same. They are its own, or no record is in work
+-- in them, which any job fits.
 pub record HoldsBehind (d : Device) : Type 0 where
   pub behind : Memory
   pub copied : May
@@ -163,6 +164,7 @@ pub record HoldsBehind (d : Device) : Type 0 where
   pub places : SamePlaces behind.old d.memory.old
   pub stand : behind.stand ≡ d.memory.stand
   pub on : d.flash.off ≡ false → behind ≡ d.memory
+  pub idle : (behind ≡ d.memory) ⊎ ((stand : Stand) → HasJob stand behind.old)
 
 pub record IsDevice (d : Device) : Type 0 where
   pub run : HasRun d

@@ -236,7 +236,7 @@ module _ (laws : Laws) (own : BeginLaws) (m : Making) (entry : Told) (s : Parts)
   none = record { making = refl; entry = refl; operations = refl; bytes = refl }
 
   pub run_on : HasRun e
-  run_on = own.run d e on.sound.device.run (record { none = none; bytes = refl; flash_faults = omega arith; faults = on.sound.device.run.faults; cuts = on.sound.device.run.cuts; worn = λ since worn. inl worn })
+  run_on = own.run d e on.sound.device.run (record { none = none; bytes = refl; counts = (refl, refl); flash_faults = omega arith; faults = on.sound.device.run.faults; cuts = on.sound.device.run.cuts; worn = λ since worn. inl worn })
 
   pub same_clock : SameClock (clock_of d) (clock_of e)
   same_clock = own.stay d e none refl
@@ -256,6 +256,7 @@ module _ (laws : Laws) (own : BeginLaws) (m : Making) (entry : Told) (s : Parts)
     places = same_places (memory_of t).old;
     stand = refl;
     on = λ power. refl;
+    idle = inl refl;
   }
 
   -- THE SWITCH

@@ -1,6 +1,6 @@
 -- A device behind a changing operation.
 use Rattle.std.specs.Prelude.{IfSome, IsTrue, min, length}
-use Rattle.std.proofs.Common.{◌≡◌, ◌≢◌, ◌≤◌, ◌++◌, ◌∷◌, ℕ, Bool, false, List, [], Option, Some, None, refl, ap, ◌∙◌, subst, arith}
+use Rattle.std.proofs.Common.{◌≡◌, ◌≢◌, inl, ◌≤◌, ◌++◌, ◌∷◌, ℕ, Bool, false, List, [], Option, Some, None, refl, ap, ◌∙◌, subst, arith}
 use Rattle.std.proofs.Math.ListN.{length-append}
 use Rattle.nv_base.specs.Count.{next_count, last_count}
 use Rattle.nv_base.specs.Geometry.{sectors_of_bank}
@@ -92,6 +92,7 @@ module _ (laws : Laws) (m : Making) (entry : Told) (s : Parts) (listed : List (D
     places = same_places (memory_of t).old;
     stand = refl;
     on = λ power. refl;
+    idle = inl refl;
   }
 
   -- what is known of it

@@ -8,7 +8,7 @@ use Rattle.nv_base.specs.declared.geometry.Geometry.{Geometry}
 use Rattle.nv_base.specs.declared.instance.DeviceNumber.{DeviceNumber}
 use Rattle.nv_base.specs.declared.mark.Mark.{Mark}
 use Rattle.memif.specs.declared.answer.DeviceTurn.TheVariants as turn
-use Rattle.memif.specs.Told.{First, Job, Slot, Stand, is_open, slot_at}
+use Rattle.memif.specs.Told.{First, Job, Slot, Stand, Open, Ended, is_open, slot_at}
 use Rattle.memif.specs.Marks.{Keeps, KeepsAll}
 use Rattle.memif.specs.Calls.{IsCut, IsOf, is_read}
 use Rattle.fls_model.specs.declared.flash.FlashAnswer.TheVariants.{Off}
@@ -23,7 +23,7 @@ use Rattle.bank_image.specs.Banks.{Old}
 use Rattle.switch_course.specs.Course.{most_turns}
 use Rattle.fee_switch.specs.Banks.{left_of}
 use Rattle.device_bridge.specs.Bridge.{Making}
-use Rattle.device_image.specs.Slots.{Memory, slots_held, slots_found}
+use Rattle.device_image.specs.Slots.{Memory, IsWorkOf, slots_held, slots_found}
 use Rattle.device_image.specs.Laws.{IsHeld, SamePlaces}
 use Rattle.device_clock.specs.Device.{Device, told_of}
 use Rattle.device_clock.specs.Tells.{AreTold, was as slot_was}
@@ -52,6 +52,22 @@ places_by p x LogOpen = refl
 places_by p x (LogWrites h body done) = cond_both (nat_lt done 2) (record x { tail = LogClosed }) (log_behind p x h) (λ (c : Log). c.places ≡ x.places) (λ e. refl) (λ e. refl)
 places_by p x (LogOwes h) = refl
 places_by p x LogClosed = refl
+
+-- and leaves no record in work, which any job fits
+open_fits : (stand : Stand) → IsWorkOf stand LogOpen
+open_fits (Open j) = tt
+open_fits (Ended result given) = tt
+
+closed_fits : (stand : Stand) → IsWorkOf stand LogClosed
+closed_fits (Open j) = tt
+closed_fits (Ended result given) = tt
+
+torn_fits : (p : ℕ) (x : Log) (t : LogTail) → x.tail ≡ t → (stand : Stand) → IsWorkOf stand (failed_with p x t).tail
+torn_fits p x LogOpen is stand = subst (λ (y : LogTail). IsWorkOf stand y) (sym is) (open_fits stand)
+torn_fits p x (LogWrites h body done) is stand =
+    cond_both (nat_lt done 2) (record x { tail = LogClosed }) (log_behind p x h) (λ (c : Log). IsWorkOf stand c.tail) (λ e. closed_fits stand) (λ e. open_fits stand)
+torn_fits p x (LogOwes h) is stand = closed_fits stand
+torn_fits p x LogClosed is stand = subst (λ (y : LogTail). IsWorkOf stand y) (sym is) (closed_fits stand)
 
 module _ (laws : Laws) (own : AppendLaws) (m : Making) (entry : Told) (s : Parts) (listed : List (DeviceNumber × ℕ)) (kept count : ℕ) (f : FlsState) (is : IsAppending m entry s listed kept count Off f) where
   abbrev t : Parts
@@ -108,6 +124,7 @@ module _ (laws : Laws) (own : AppendLaws) (m : Making) (entry : Told) (s : Parts
     places = same_places;
     stand = refl;
     on = λ power. (let off = went_off in cc (off, power));
+    idle = inr (λ stand. torn_fits layout.page was was.tail refl stand);
   }
 
   slots_at : (x : List ℕ) (o : Memory) → (if s.started then slots_held layout m.numbers x o else slots_found layout m.numbers x) ≡ slots_held layout m.numbers x o

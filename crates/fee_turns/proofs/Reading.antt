@@ -143,7 +143,7 @@ module _ (laws : Laws) (own : ReadLaws) (m : Making) (entry : Told) (s : Parts) 
   few_faults own own' few (inr (is', rose)) = omega arith
 
   run_on : HasRun e
-  run_on = own.run d e is.on.sound.device.run (record { none = none; bytes = refl; flash_faults = more; faults = faults_counted s.fls.flash.faults flash_faults s.faults faults entry.faults more counted is.on.sound.device.run.faults; cuts = is.on.sound.device.run.cuts; worn = λ since worn. inl worn })
+  run_on = own.run d e is.on.sound.device.run (record { none = none; bytes = refl; counts = (refl, refl); flash_faults = more; faults = faults_counted s.fls.flash.faults flash_faults s.faults faults entry.faults more counted is.on.sound.device.run.faults; cuts = is.on.sound.device.run.cuts; worn = λ since worn. inl worn })
 
   behind : HoldsBehind e
   behind = record {
@@ -160,6 +160,7 @@ module _ (laws : Laws) (own : ReadLaws) (m : Making) (entry : Told) (s : Parts) 
     places = same_places (memory_of t).old;
     stand = refl;
     on = λ power. refl;
+    idle = inl refl;
   }
 
   -- WHAT IS TOLD

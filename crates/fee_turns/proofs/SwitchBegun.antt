@@ -130,7 +130,7 @@ module _ (laws : Laws) (own : SwitchLaws) (m : Making) (entry : Told) (s : Parts
   none = record { making = refl; entry = refl; operations = refl; bytes = refl }
 
   run_on : HasRun e
-  run_on = own.run d e on.sound.device.run (record { none = none; bytes = refl; flash_faults = omega arith; faults = on.sound.device.run.faults; cuts = on.sound.device.run.cuts; worn = λ since worn. inl worn })
+  run_on = own.run d e on.sound.device.run (record { none = none; bytes = refl; counts = (refl, refl); flash_faults = omega arith; faults = on.sound.device.run.faults; cuts = on.sound.device.run.cuts; worn = λ since worn. inl worn })
 
   abbrev more : May
   more = copied m entry s listed kept count on
@@ -149,6 +149,7 @@ module _ (laws : Laws) (own : SwitchLaws) (m : Making) (entry : Told) (s : Parts
     places = same_places (memory_of t).old;
     stand = refl;
     on = λ power. refl;
+    idle = inl refl;
   }
 
   copies : TellsCopies m entry t

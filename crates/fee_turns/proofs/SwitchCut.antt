@@ -18,7 +18,8 @@ use Rattle.fee_format.specs.declared.rec_head.RecHead.{RecHead}
 use Rattle.nv_base.specs.declared.job.DeviceOp.TheVariants.{Read}
 use Rattle.switch_promise.specs.Shown.{phase_shown}
 use Rattle.device_bridge.specs.Bridge.{Making}
-use Rattle.device_image.specs.Slots.{Memory}
+use Rattle.bank_image.specs.Banks.{Old}
+use Rattle.device_image.specs.Slots.{Memory, HasJob}
 use Rattle.device_clock.specs.Device.{Device, tells, told_of, is_switching}
 use Rattle.device_clock.specs.Runs.{HasRun}
 use Rattle.fee_state.specs.declared.job.FeeJob.{FeeJob}
@@ -50,9 +51,11 @@ use Rattle.fee_turns.proofs.Before.{shape, legal, some_told, each_told}
 use Rattle.fee_turns.proofs.Operation.{counts, same, left, before_told}
 use Rattle.fee_turns.proofs.Behind.{bytes}
 use Rattle.fee_turns.proofs.Switching.{l, shows, may_in}
+use Rattle.fee_turns.proofs.SwitchShown.{no_job}
+use Rattle.fee_turns.proofs.Places.{same_places}
 use Rattle.fee_turns.proofs.SwitchOn.{nothing_by, switching_by, each_job}
 
-module _ (laws : Laws) (own : SwitchLaws) (m : Making) (entry : Told) (s : Parts) (listed : List (DeviceNumber × ℕ)) (kept count : ℕ) (c : Course) (made : BanksState) (f : FlsState) (is : IsStepping m entry s listed kept count c made Off f) (op : Op) (step : IsStep op s.fls.flash Off f.flash) (torn : Memory) (cutting : Cutting laws m entry s listed kept count c made Off f is op step torn) (places : SamePlaces torn.old (memory_of s).old) (stands : torn.stand ≡ (memory_of s).stand) (log : LogState) where
+module _ (laws : Laws) (own : SwitchLaws) (m : Making) (entry : Told) (s : Parts) (listed : List (DeviceNumber × ℕ)) (kept count : ℕ) (c : Course) (made : BanksState) (f : FlsState) (is : IsStepping m entry s listed kept count c made Off f) (op : Op) (step : IsStep op s.fls.flash Off f.flash) (torn : Memory) (cutting : Cutting laws m entry s listed kept count c made Off f is op step torn) (same_old : torn.old ≡ (memory_of s).old) (stands : torn.stand ≡ (memory_of s).stand) (log : LogState) where
   abbrev pub b : BanksState
   b = record s.banks { copies = log }
 
@@ -67,6 +70,9 @@ module _ (laws : Laws) (own : SwitchLaws) (m : Making) (entry : Told) (s : Parts
 
   abbrev mem : Memory
   mem = memory_of s
+
+  places : SamePlaces torn.old (memory_of s).old
+  places = subst (λ (o : Old). SamePlaces torn.old o) same_old (same_places torn.old)
 
   went_off : f.flash.off ≡ true
   went_off = (asked laws m entry s listed kept count c made Off f is op step).cause.2
@@ -101,6 +107,7 @@ module _ (laws : Laws) (own : SwitchLaws) (m : Making) (entry : Told) (s : Parts
     places = places;
     stand = stands;
     on = λ power. (let off = went_off in absurd (let z : true ≡ false = sym off ∙ power in cc z));
+    idle = inr (λ stand. subst (HasJob stand) (sym same_old) (no_job laws m entry s listed kept count c made Off f is stand));
   }
 
   slots_at : (x : List ℕ) (o : Memory) → (if s.started then slots_held (l laws m entry s listed kept count c made Off f is op step) m.numbers x o else slots_found (l laws m entry s listed kept count c made Off f is op step) m.numbers x) ≡ slots_held (l laws m entry s listed kept count c made Off f is op step) m.numbers x o

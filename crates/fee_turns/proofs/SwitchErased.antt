@@ -21,7 +21,6 @@ use Rattle.fee_turns.specs.Turn.{operated, Turned}
 use Rattle.fee_turns.specs.Switches.{IsStepping, step_op, failed_with}
 use Rattle.fee_turns.proofs.Laws.{Laws}
 use Rattle.fee_turns.proofs.SwitchLaws.{SwitchLaws}
-use Rattle.fee_turns.proofs.Places.{same_places}
 use Rattle.fee_turns.proofs.SwitchFailed.{last_by, given_by, stand_goes}
 use Rattle.fee_turns.proofs.SwitchErase.{step, cutting, next, b_is, went, again_is, failed, target}
 use Rattle.fee_turns.proofs.SwitchKinds.{done_by, failed_by, cut_by}
@@ -55,4 +54,4 @@ module _ (laws : Laws) (own : SwitchLaws) (m : Making) (entry : Told) (s : Parts
   pub erase_cut : IsStepping m entry s listed kept count c made Off f → Turned m entry turn.Off s (operated (step_op s.banks c) Off f (after_answer made c Off) s) listed kept (next_count count) true
   erase_cut is =
       cut_by laws own m entry s listed kept count c made f is (step_op s.banks c) (step laws own m entry s listed kept count n made Off f is) (memory_of s) (cutting laws own m entry s listed kept count n made Off f is)
-      s.banks.copies (sym is.makes.1) (same_places (memory_of s).old) refl
+      s.banks.copies (sym is.makes.1) refl refl

@@ -29,7 +29,6 @@ use Rattle.fee_turns.specs.Turn.{operated, Turned}
 use Rattle.fee_turns.specs.Switches.{IsStepping, step_op}
 use Rattle.fee_turns.proofs.Laws.{Laws}
 use Rattle.fee_turns.proofs.SwitchLaws.{SwitchLaws}
-use Rattle.fee_turns.proofs.Places.{same_places}
 use Rattle.fee_turns.proofs.Before.{legal}
 use Rattle.fee_turns.proofs.Switching.{Cutting}
 use Rattle.fee_turns.proofs.SwitchShown.{no_job, standing}
@@ -129,4 +128,4 @@ module _ (laws : Laws) (own : SwitchLaws) (m : Making) (entry : Told) (s : Parts
       }))
 
   pub gate_cut : IsStepping m entry s listed kept count c made Off f → Turned m entry turn.Off s (operated (step_op s.banks c) Off f (after_answer made c Off) s) listed kept (next_count count) true
-  gate_cut is = cut_by laws own m entry s listed kept count c made f is op (step Off is) mem (cutting Off is) s.banks.copies (sym is.makes.1) (same_places mem.old) refl
+  gate_cut is = cut_by laws own m entry s listed kept count c made f is op (step Off is) mem (cutting Off is) s.banks.copies (sym is.makes.1) refl refl

@@ -15,7 +15,6 @@ use Rattle.fee_switch.specs.Banks.{BanksState, after_answer, left_of}
 use Rattle.switch_room.specs.KeepsRoom.{KeepsRoom}
 use Rattle.device_bridge.specs.Bridge.{Making}
 use Rattle.device_image.specs.Slots.{Memory}
-use Rattle.device_image.specs.Laws.{SamePlaces}
 use Rattle.fee_state.specs.Inside.{Parts, memory_of}
 use Rattle.fee_turns.specs.Turn.{operated, Turned}
 use Rattle.fee_turns.specs.Switches.{IsStepping, failed_with}
@@ -69,8 +68,8 @@ module _ (laws : Laws) (own : SwitchLaws) (m : Making) (entry : Told) (s : Parts
 
   -- the power went off
   module _ (is : IsStepping m entry s listed kept count c made Off f) (op : Op) (step : IsStep op s.fls.flash Off f.flash) (torn : Memory) (cutting : Cutting laws m entry s listed kept count c made Off f is op step torn) (log : LogState) where
-    pub cut_by : record s.banks { copies = log } ≡ after_answer made c Off → SamePlaces torn.old (memory_of s).old → torn.stand ≡ (memory_of s).stand
+    pub cut_by : record s.banks { copies = log } ≡ after_answer made c Off → torn.old ≡ (memory_of s).old → torn.stand ≡ (memory_of s).stand
         → Turned m entry turn.Off s (operated op Off f (after_answer made c Off) s) listed kept (next_count count) true
-    cut_by path places stands =
+    cut_by path same stands =
         subst (λ (x : BanksState). Turned m entry turn.Off s (operated op Off f x s) listed kept (next_count count) true) path
-        (was_cut laws own m entry s listed kept count c made f is op step torn cutting places stands log)
+        (was_cut laws own m entry s listed kept count c made f is op step torn cutting same stands log)

@@ -110,4 +110,4 @@ module _ (laws : Laws) (own : SwitchLaws) (m : Making) (entry : Told) (s : Parts
       → Turned m entry turn.Off s (operated op Off f (after_answer made c Off) s) listed kept (next_count count) true
   page_cut is step copies path =
       cut_by laws own m entry s listed kept count c made f is op step (torn laws own m entry s listed kept count c made Off f is op step q page op_is size inside log phase_is not_gate) (cutting laws own m entry s listed kept count c made Off f is op step q page op_is size inside log phase_is not_gate)
-      copies path (same_places (memory_of s).old) refl
+      copies path refl refl

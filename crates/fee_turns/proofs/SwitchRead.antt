@@ -88,7 +88,7 @@ module _ (laws : Laws) (own : SwitchLaws) (rd : ReadLaws) (m : Making) (entry : 
   few_counted own own' few (inr (is', rose)) = omega arith
 
   run_read : HasRun e
-  run_read = rd.run d e on.sound.device.run (record { none = none; bytes = refl; flash_faults = more; faults = faults_counted s.fls.flash.faults flash_faults s.faults faults entry.faults more counted on.sound.device.run.faults; cuts = on.sound.device.run.cuts; worn = λ since worn. inl worn })
+  run_read = rd.run d e on.sound.device.run (record { none = none; bytes = refl; counts = (refl, refl); flash_faults = more; faults = faults_counted s.fls.flash.faults flash_faults s.faults faults entry.faults more counted on.sound.device.run.faults; cuts = on.sound.device.run.cuts; worn = λ since worn. inl worn })
 
   -- what the bytes hold then
   abbrev pub Reading : Type 0
@@ -116,6 +116,7 @@ module _ (laws : Laws) (own : SwitchLaws) (rd : ReadLaws) (m : Making) (entry : 
       places = same_places (memory_of t).old;
       stand = refl;
       on = λ power'. refl;
+      idle = inl refl;
     }
 
     started' : AreStarted d e

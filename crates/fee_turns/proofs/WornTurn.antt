@@ -219,6 +219,7 @@ module _ (laws : Laws) (own : WornLaws) (m : Making) (entry : Told) (s : Parts) 
   run_on = own.run d e on.sound.device.run (record {
     none = none;
     bytes = refl;
+    counts = (refl, refl);
     flash_faults = omega arith;
     faults = on.sound.device.run.faults;
     cuts = on.sound.device.run.cuts;
@@ -261,6 +262,7 @@ module _ (laws : Laws) (own : WornLaws) (m : Making) (entry : Told) (s : Parts) 
     places = same_places (memory_of t).old;
     stand = refl;
     on = λ power. refl;
+    idle = inl refl;
   }
 
   -- THE PARTS
