@@ -1,4 +1,12 @@
+mod Appending
+mod Begun
+mod Canceling
+mod Copying
+mod Leaving
 mod Looking
-mod Turns
+mod Reading
 mod Settled
+mod Standing
 mod Started
+mod Stepping
+mod Telling

@@ -8,16 +8,24 @@ use Rattle.memif.specs.declared.answer.StartFault.TheVariants.{Fault}
 use Rattle.memif.specs.Told.{DeviceTold}
 use Rattle.memif.specs.Clock.{Clock}
 use Rattle.memif.specs.Calls.{StartsUp}
-use Rattle.fls_model.specs.Told.{Told, powered}
+use Rattle.fls_model.specs.Attach.{AreBytesOf}
+use Rattle.fls_model.specs.Told.{Told, ToldBytes, powered}
+use Rattle.nv_base.specs.declared.geometry.Geometry.{Geometry}
+use Rattle.fee_image.specs.Image.{layout_of, bank_in}
+use Rattle.fee_image.specs.RecordList.{IsClosed, end_of}
 use Rattle.fls_jobs.specs.State.{FlsState}
 use Rattle.fee_log.specs.Index.{clear_flags}
-use Rattle.fee_log.specs.Log.{LogState, erased_state, work_in}
+use Rattle.fee_log.specs.Log.{LogState, erased_state, work_in, is_closed}
 use Rattle.bank_start.specs.declared.active.ActiveBank.{ActiveBank}
 use Rattle.fee_switch.specs.Banks.{BanksState, IsBanksState, IsSameFlash, FindsActive, LoadsActive}
 use Rattle.device_bridge.specs.Bridge.{Making}
 use Rattle.device_clock.specs.Device.{told_of}
 use Rattle.device_clock.specs.Clock.{clock_of}
 use Rattle.fee_state.specs.Inside.{Parts, device_of, IsSound, IsActiveOf}
+use Rattle.fee_switch.specs.Start.{IsLoadedAs}
+use Rattle.switch_promise.specs.Shown.{layout_in}
+use Rattle.fee_room.specs.Follows.{Follows}
+use Rattle.fee_room.specs.Laws.{ClosesActive, StartsFollow}
 use Rattle.fee_starts.specs.Laws.{StartsAreReady, StartsFail, AreOf, AreReady}
 
 -- what is told of parts
@@ -60,6 +68,16 @@ active_at old b of loaded (Some a) e = subst (λ (o : Option ActiveBank). IfSome
 are_ready : (old b : BanksState) → IsSameFlash old b → IsLoaded old b → AreReady b
 are_ready old b of loaded = record { active = active_at old b of loaded b.active refl; clear = loaded.clear; idle = loaded.idle }
 
+-- a log that is closed is so in the bytes
+closes_at : (bytes : List ℕ) (b : BanksState) (o : Option ActiveBank) → IfSome o (λ a. IsLoadedAs (layout_of b.geometry b.banks) bytes a.bank a.head b.log)
+    → IfSome o (λ a. is_closed b.log.tail ≡ true → (let k = bank_in (layout_in b) a.head.format a.bank in IsClosed k bytes (end_of k bytes)))
+closes_at bytes b None loads = tt
+closes_at bytes b (Some a) loads = loads.closed
+
+closes_in : (o : Option ToldBytes) (b : BanksState) → IfSome o (λ x. LoadsActive x.now b) → IfSome o (λ x. ClosesActive x.now b)
+closes_in None b loads = tt
+closes_in (Some x) b loads = closes_at x.now b b.active loads
+
 module _ (m : Making) (entry : Told) (s : Parts) (listed : List (DeviceNumber × ℕ)) (kept count : ℕ) (is_off : Bool) (sound : IsSound m entry s listed kept count is_off) (p f : FlsState) (b : BanksState) (is : p ≡ record s.fls { flash = powered s.fls.flash }) (same : f ≡ record p { flash = f.flash; result = f.result }) (closed : b.course ≡ None) (state : IsBanksState b) (of : IsSameFlash s.banks b) where
   are : AreOf m b
   are = record {
@@ -84,6 +102,15 @@ module _ (m : Making) (entry : Told) (s : Parts) (listed : List (DeviceNumber ×
       let loads' = subst (λ (x : FlsState). IfSome x.flash.bytes (λ y. LoadsActive y.now b)) is loads in
       subst (λ (x : FlsState). Starts (resting s x b true s.faults)) (sym (ready_driver s.fls p f is same flash))
       (law m entry s listed kept count is_off b f.result sound are (record { ready = are_ready s.banks b of loaded; finds = finds'; loads = loads' }))
+
+  -- they are as the bytes show them
+  pub ready_follows : StartsFollow → f.flash ≡ p.flash → IfSome p.flash.bytes (λ x. FindsActive x.now b) → IfSome p.flash.bytes (λ x. LoadsActive x.now b) → Follows (resting s f b true s.faults)
+  ready_follows law flash finds loads =
+      let here : f.flash.bytes ≡ s.fls.flash.bytes = ap (λ (x : Told). x.bytes) flash ∙ ap (λ (x : FlsState). x.flash.bytes) is in
+      let bytes = subst (λ (o : Option ToldBytes). IfSome o (λ x. AreBytesOf b.geometry x.now)) (sym here) (subst (λ (g : Geometry). IfSome s.fls.flash.bytes (λ x. AreBytesOf g x.now)) (sym are.geometry) sound.made_for.bytes) in
+      let finds' = subst (λ (x : Told). IfSome x.bytes (λ y. FindsActive y.now b)) (sym flash) finds in
+      let loads' = subst (λ (x : Told). IfSome x.bytes (λ y. LoadsActive y.now b)) (sym flash) loads in
+      law (resting s f b true s.faults) (record { state = state; shut = closed; bytes = bytes; finds = finds'; loads = loads'; closes = closes_in f.flash.bytes b loads' })
 
   pub failed_ends : StartsFail → f.flash ≡ record p.flash { faults = f.flash.faults } → Rose p.flash.faults f.flash.faults → Fails (resting s f b false (next_count s.faults))
   failed_ends law flash rose =

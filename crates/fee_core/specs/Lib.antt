@@ -1,3 +1,6 @@
 pub mod Asked
+pub mod Beginning
+pub mod Operations
 pub mod Origin
 pub mod Whole
+pub mod Tells

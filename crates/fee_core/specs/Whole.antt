@@ -1,8 +1,10 @@
 -- All that a device keeps.
 use Rattle.std.specs.Prelude.{ℕ, Bool, false, List, [], None}
 use Rattle.nv_base.specs.declared.instance.DeviceNumber.{DeviceNumber}
+use Rattle.memif.specs.declared.answer.DeviceTurn.{DeviceTurn}
 use Rattle.memif.specs.Told.{DeviceTold}
 use Rattle.memif.specs.Clock.{Clock}
+use Rattle.memif.specs.Calls.{Turns}
 use Rattle.memif.specs.declared.answer.JobResult.TheVariants.{JobOk}
 use Rattle.fls_model.specs.Told.{Told}
 use Rattle.fls_jobs.specs.State.{FlsState}
@@ -11,6 +13,7 @@ use Rattle.device_bridge.specs.Bridge.{Making}
 use Rattle.device_clock.specs.Device.{told_of}
 use Rattle.device_clock.specs.Clock.{clock_of}
 use Rattle.fee_state.specs.Inside.{Parts, device_of, IsSound}
+use Rattle.fee_room.specs.Follows.{Follows}
 
 -- its parts, and beside them what it keeps of its making and of what is told of these
 pub record Whole : Type 0 where
@@ -21,8 +24,10 @@ pub record Whole : Type 0 where
   pub ops : ℕ
   pub off : Bool
 
-abbrev pub Sound : Making → Told → Whole → Type 0
-Sound m entry w = IsSound m entry w.parts w.numbers w.reserve w.ops w.off
+-- its parts are sound, and its banks follow the bytes of its flash
+pub record Sound (m : Making) (entry : Told) (w : Whole) : Type 0 where
+  pub parts : IsSound m entry w.parts w.numbers w.reserve w.ops w.off
+  pub follows : Follows w.parts
 
 abbrev pub told_in : Making → Told → Whole → DeviceTold
 told_in m entry w = told_of (device_of m entry w.parts)
@@ -39,3 +44,8 @@ unstarted fls banks numbers reserve content = record {
   ops = 0;
   off = false;
 }
+
+-- it turned as a memory device does, and is sound
+pub record TurnedTo (m : Making) (entry : Told) (answer : DeviceTurn) (w v : Whole) : Type 0 where
+  pub turns : Turns answer (told_in m entry w) (clock_in m entry w) (told_in m entry v) (clock_in m entry v)
+  pub sound : Sound m entry v

@@ -8,6 +8,7 @@ use crate::Origin;
 use crate::content::Content;
 use crate::parts::FeeParts;
 use device_clock::runs_bridge;
+use fee_room::starts_follow;
 use fee_starts::devices_are_made;
 use fee_switch::Banks;
 use fls_jobs::Fls;
@@ -83,12 +84,14 @@ fn unstarted<F: Flash, O: Origin>(
 }
 
 impl<F: Flash, O: Origin> Fee<F, O> {
-    ghost use Rattle.std.specs.Prelude.{◌≡◌, Bool, IfOk, IfErr, Err};
+    ghost use Rattle.std.specs.Prelude.{◌≡◌, ◌≤◌, ℕ, Bool, [], IfOk, IfErr, IfSome, Err};
     ghost use Rattle.nv_base.specs.Geometry.{IsLegal};
+    ghost use Rattle.fls_model.specs.Told.{changes_in};
     ghost use Rattle.fls_model.specs.Attach.{IsAttach};
     ghost use Rattle.device_bridge.specs.Bridge.{Bridges};
     ghost use Rattle.switch_room.specs.Space.{HasSpace};
     ghost use Rattle.fee_starts.specs.Made.{IsMadeOf, part_at};
+    ghost use Rattle.memif.specs.Told.{First, figures_at};
     ghost use Rattle.device_clock.specs.Device.{told_of};
     ghost use Rattle.device_clock.specs.Clock.{clock_of};
 
@@ -106,9 +109,11 @@ impl<F: Flash, O: Origin> Fee<F, O> {
         requires entry { O.entry ≡ F.told flash }
         requires space { HasSpace numbers.now geometry 2 reserve }
         ensures made { IfOk result (λ f. IsMadeOf O.making O.entry f) }
+        ensures parts { IfOk result (λ f. (n : ℕ) → (figures_at (told_of f).fixed n).part ≡ First) }
         ensures refused { IfErr result (λ e. IsAttach geometry (F.told flash) (Err e.0) (F.told e.1)) }
     {
         devices_are_made();
+        starts_follow();
         let Ok((banks, numbers, content)) = room_for(alloc, geometry, numbers) else {
             return Err((AttachFault::Memory, flash));
         };
@@ -124,11 +129,16 @@ impl<F: Flash, O: Origin> Fee<F, O> {
     /// Gives the flash back. What the device told of it is so, from its making on.
     pub fn into_flash(self) -> F
         ensures told { F.told result ≡ self.flash }
+        ensures geometry { (F.told result).geometry ≡ O.making.geometry }
+        ensures more { O.entry.faults ≤ (F.told result).faults }
+        ensures none { self.operations ≡ [] → ((F.told result).ops ≡ O.entry.ops) × ((F.told result).cuts ≡ O.entry.cuts) }
+        ensures changes { IfSome (changes_in (F.told result).bytes) (λ changes. changes ≡ self.operations) }
         ensures bridge { (cutter : Bool) → Bridges O.making cutter (record { entry = O.entry; exit = F.told result; operations = self.operations }) (part_at O.entry) (told_of self).first (clock_of self).first }
     {
         runs_bridge();
         let Fee { parts } = self;
         let FeeParts { fls, .. } = parts;
+        fls.status();
         fls.into_flash()
     }
 }

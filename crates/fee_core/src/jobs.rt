@@ -1,4 +1,4 @@
-// The start of a job, and its cancel.
+// The start of a job.
 ghost use Rattle.std.specs.Prelude.{◌≡◌, ◌≢◌, ◌≤◌, false, true, length, take, Some, None, IfOk, MatchResult, option_map};
 ghost use Rattle.nv_base.specs.declared.job.DeviceOp.TheVariants.{Read, Write, Invalidate, Erase};
 ghost use Rattle.nv_base.specs.declared.mark.Mark.TheVariants as mark;
@@ -12,6 +12,7 @@ ghost use Rattle.fee_core.specs.Whole.{Sound, told_in, clock_in};
 use crate::Origin;
 use crate::parts::FeeParts;
 use crate::room::{pages_of_op, ready};
+use fee_room::calls_follow;
 use fee_starts::jobs_open;
 use fee_state::FeeJob;
 use fls_model::Flash;
@@ -71,6 +72,7 @@ impl<F: Flash, O: Origin> FeeParts<F, O> {
         ensures stays { ClockStays (clock_in O.making O.entry self.old) (told_in O.making O.entry self.new) (clock_in O.making O.entry self.new) }
     {
         jobs_open();
+        calls_follow();
         let _active = self.banks.active();
         self.content.put(content);
         self.job = Some(job);

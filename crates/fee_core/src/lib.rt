@@ -1,19 +1,26 @@
 //! The memory device over the two banks of a flash.
 //!
-//! It promises what a memory device promises of its making, its start-ups, the starts of its jobs and its plans of power cuts,
-//! and that what it tells of its flash is so, from its making on. Its turns, and the cancel of a job, aren't built yet.
+//! It promises all that a memory device promises, with turns of at most one flash call, and that what it tells of its flash
+//! is so, from its making on. What a call or a turn comes to are laws of the crates below it; that a configuration leaves
+//! it the space is left to those above.
 #![tactic(auto)]
 
+mod appends;
 mod asked;
+mod cancel;
 mod content;
 mod device;
 mod fee;
 mod jobs;
+mod operations;
 mod origin;
 mod parts;
 mod power;
+mod reads;
 mod room;
 mod shown;
+mod switches;
+mod turns;
 
 pub use fee::Fee;
 pub use origin::Origin;

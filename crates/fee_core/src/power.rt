@@ -5,6 +5,7 @@ ghost use Rattle.fee_core.specs.Whole.{Sound, told_in, clock_in};
 
 use crate::Origin;
 use crate::parts::FeeParts;
+use fee_room::starts_follow;
 use fee_starts::{devices_are_made, devices_start};
 use fee_switch::BankStart;
 use fls_model::Flash;
@@ -19,6 +20,7 @@ impl<F: Flash, O: Origin> FeeParts<F, O> {
         ensures start { StartsUp result (told_in O.making O.entry self.old) (clock_in O.making O.entry self.old) (told_in O.making O.entry self.new) (clock_in O.making O.entry self.new) }
     {
         devices_start();
+        starts_follow();
         self.fls.power_on();
         let answer = self.banks.start(&mut self.fls);
         let _active = self.banks.active();

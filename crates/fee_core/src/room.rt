@@ -10,6 +10,7 @@ ghost use Rattle.switch_room.specs.Space.{free_pages};
 ghost use Rattle.fee_state.specs.Inside.{IsActiveOf};
 ghost use Rattle.fee_state.specs.Record.{head_of};
 ghost use Rattle.fee_state.specs.Work.{pages_of_op, fits_in, begins_next, turns_beside, switch_turns, is_waiting, takes_append, seal_turns, pages_left, is_owed};
+ghost use Rattle.fee_core.specs.Beginning.{begins_now};
 
 use fee_format::pages_of;
 use fee_state::FeeJob;
@@ -101,6 +102,19 @@ pub(crate) fn begins_next(banks: &Banks, job: FeeJob) -> bool
     ensures { result ≡ begins_next banks.now job }
 {
     takes_append(banks) && job.urgent && is_waiting(banks, job) && has_room(banks, job, 0)
+}
+
+/// Whether the record of a job that waits begins in this turn: with no switch open where it has room, and else where it is an
+/// urgent one that may.
+pub(crate) fn begins_now(banks: &Banks, job: FeeJob, reserve: u32) -> bool
+    requires { IsActiveOf banks.now banks.now.active }
+    ensures { result ≡ begins_now reserve banks.now job }
+{
+    if banks.phase() == Phase::None {
+        has_room(banks, job, reserve)
+    } else {
+        begins_next(banks, job)
+    }
 }
 
 // The turns of a switch that would begin now.

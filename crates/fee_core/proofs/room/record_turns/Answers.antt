@@ -4,7 +4,7 @@ use Rattle.std.proofs.Common.{◌≡◌, Option, true, sym, ap, ◌∙◌}
 use Rattle.nv_base.specs.declared.geometry.Geometry.{Geometry}
 use Rattle.fee_log.specs.Log.{LogState, left_in, work_in}
 use Rattle.fee_state.specs.Work.{pages_of_op}
-use Rattle.fee_core.proofs.Turns.{record_left}
+use Rattle.fee_core.proofs.Leaving.{record_left}
 use Rattle.fee_core.proofs.room.record_turns.Goals as goal
 
 pub returns-in-Some : goal.returns-in-Some

@@ -1,7 +1,7 @@
 use Rattle.std.proofs.Common.{ℕ, ap, arith}
 use Rattle.nv_base.specs.Geometry.{sectors_of_bank}
 use Rattle.nv_base.specs.declared.geometry.Geometry.{Geometry}
-use Rattle.fee_core.proofs.Turns.{blank_copies}
+use Rattle.fee_core.proofs.Leaving.{blank_copies}
 use Rattle.fee_core.proofs.room.whole_switch.Goals as goal
 
 pub returns-in-None : goal.returns-in-None

@@ -1,5 +1,6 @@
-use Rattle.std.proofs.Common.{ap, ◌∙◌, sym, subst}
-use Rattle.fls_model.specs.Told.{Told}
+use Rattle.std.specs.Prelude.{IfSome}
+use Rattle.std.proofs.Common.{◌≡◌, ◌≤◌, List, [], ap, ◌∙◌, sym, subst}
+use Rattle.fls_model.specs.Told.{Told, Change, changes_in}
 use Rattle.device_bridge.specs.Bridge.{Bridges}
 use Rattle.device_clock.specs.Device.{Device, part_of}
 use Rattle.device_clock.specs.Clock.{clock_of}
@@ -16,6 +17,39 @@ returns-clause-bridge g c cutter =
     let d = device_of m entry p.parts in
     let told = g.F.Flash.told c.into_flash.result in
     let same = c.into_flash.ensures ∙ ap (λ (w : Whole). w.parts.fls.flash) c.parts.view_is in
-    let holds = c.runs_bridge.ensures cutter d c.self.invariant.device.run in
+    let holds = c.runs_bridge.ensures cutter d c.self.invariant.parts.device.run in
     let out = subst (λ (x : Told). Bridges m cutter (record { entry = entry; exit = x; operations = p.parts.operations }) (part_at entry) (part_of d) (clock_of d).first) (sym same) holds in
     subst (λ (x : Device). Bridges m cutter (record { entry = entry; exit = told; operations = x.operations }) (part_at entry) (part_of x) (clock_of x).first) c.self.view_is out
+
+pub returns-clause-geometry : goal.returns-clause-geometry
+returns-clause-geometry g c =
+    let p = c.self.inside.parts in
+    let made = c.self.invariant.parts.made_for in
+    let same = ap (λ (w : Whole). w.parts.fls) c.parts.view_is in
+    let told = ap (λ (x : Told). x.geometry) c.into_flash.ensures in
+    told ∙ (c.status.ensures.state.attached (ap (λ x. x.attached) same ∙ made.idle.attached)).geometry ∙ ap (λ x. x.geometry) same ∙ made.geometry
+
+pub returns-clause-changes : goal.returns-clause-changes
+returns-clause-changes g c =
+    let m = g.O.Origin.making in
+    let entry = g.O.Origin.entry in
+    let p = c.self.inside.parts in
+    let same = c.into_flash.ensures ∙ ap (λ (w : Whole). w.parts.fls.flash) c.parts.view_is in
+    let run = c.self.invariant.parts.device.run in
+    let here = subst (λ (x : Told). IfSome (changes_in x.bytes) (λ changes. changes ≡ p.parts.operations)) (sym same) run.changes in
+    subst (λ (x : Device). IfSome (changes_in (g.F.Flash.told c.into_flash.result).bytes) (λ changes. changes ≡ x.operations)) c.self.view_is here
+
+pub returns-clause-none : goal.returns-clause-none
+returns-clause-none g c =
+    let entry = g.O.Origin.entry in
+    let p = c.self.inside.parts in
+    let told = g.F.Flash.told c.into_flash.result in
+    let same = c.into_flash.ensures ∙ ap (λ (w : Whole). w.parts.fls.flash) c.parts.view_is in
+    let run = c.self.invariant.parts.device.run in
+    let here = subst (λ (x : Told). p.parts.operations ≡ [] → (x.ops ≡ entry.ops) × (x.cuts ≡ entry.cuts)) (sym same) run.none in
+    subst (λ (x : Device). x.operations ≡ [] → (told.ops ≡ entry.ops) × (told.cuts ≡ entry.cuts)) c.self.view_is here
+
+pub returns-clause-more : goal.returns-clause-more
+returns-clause-more g c =
+    let same = c.into_flash.ensures ∙ ap (λ (w : Whole). w.parts.fls.flash) c.parts.view_is in
+    subst (λ (x : Told). g.O.Origin.entry.faults ≤ x.faults) (sym same) c.self.invariant.parts.device.run.more

@@ -1,11 +1,14 @@
-use Rattle.std.proofs.Common.{[], None, false, ap, ◌∙◌, sym, subst}
+use Rattle.std.proofs.Common.{[], None, false, refl, ap, ◌∙◌, sym, subst}
 use Rattle.memif.specs.declared.answer.JobResult.TheVariants.{JobOk}
 use Rattle.fls_model.specs.Attach.{IsAttached}
 use Rattle.fls_jobs.specs.Start.{IsIdle}
 use Rattle.fls_jobs.specs.State.{FlsState}
 use Rattle.device_bridge.specs.Bridge.{Making}
 use Rattle.fee_state.specs.Inside.{Parts}
+use Rattle.nv_base.specs.Geometry.{sectors_of_bank}
+use Rattle.switch_course.specs.Course.{most_turns}
 use Rattle.fee_core.specs.Whole.{Sound}
+use Rattle.fee_core.proofs.Telling.{all_first}
 use Rattle.fee_core.proofs.fee.Fee.make.Goals as goal
 
 pub invariant_of-result : goal.invariant_of-result
@@ -18,4 +21,9 @@ invariant_of-result g c =
     let s : Parts = record { fls = c.attach.new.self; banks = c.in-Ok.banks; content = c.in-Ok.content; job = None; last = JobOk; given = 0; started = false; faults = 0; worn = None; operations = [] } in
     let m : Making = record { geometry = c.args.geometry; numbers = c.args.numbers.now; reserve = c.args.reserve } in
     let law = c.devices_are_made.ensures.made m _ s (record { legal = c.requires.legal; space = c.requires.space; attached = at; banks = c.in-Ok.ensures.banks; geometry = geometry; idle = idle; room = c.in-Ok.ensures.content }) in
-    subst (Sound g.O.Origin.making g.O.Origin.entry) (sym c.unstarted.ensures) (rw (c.requires.making, c.requires.entry, c.in-Ok.ensures.numbers) law.0)
+    subst (Sound g.O.Origin.making g.O.Origin.entry) (sym c.unstarted.ensures) (rw (c.requires.making, c.requires.entry, c.in-Ok.ensures.numbers) (record { parts = law.0; follows = c.starts_follow.ensures.unstarted s refl }))
+
+pub returns-clause-parts : goal.returns-clause-parts
+returns-clause-parts g c n =
+    let m = g.O.Origin.making in
+    all_first m.geometry.page (most_turns m.geometry.page (sectors_of_bank m.geometry 2) m.numbers) m.numbers n

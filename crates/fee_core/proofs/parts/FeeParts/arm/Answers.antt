@@ -12,8 +12,11 @@ pub returns-then-which-eq0-clause-sound : goal.returns-then-which-eq0-clause-sou
 returns-then-which-eq0-clause-sound g c =
     let i = c.self.inside in
     let s : Parts = record { fls = i.fls; banks = i.banks; content = i.content; job = i.job; last = i.last; given = i.given; started = i.started; faults = i.faults; worn = i.worn; operations = i.operations.items } in
-    let was = subst (Sound g.O.Origin.making g.O.Origin.entry) (sym c.self.view_is) c.requires in
-    rw c.arm.ensures (c.devices_are_made.ensures.plan c.args.nth c.args.keep g.O.Origin.making g.O.Origin.entry s i.numbers i.reserve i.ops i.off was).0
+    let safe = subst (Sound g.O.Origin.making g.O.Origin.entry) (sym c.self.view_is) c.requires in
+    rw c.arm.ensures (record {
+      parts = (c.devices_are_made.ensures.plan c.args.nth c.args.keep g.O.Origin.making g.O.Origin.entry s i.numbers i.reserve i.ops i.off safe.parts).0;
+      follows = safe.follows;
+    })
 
 pub returns-then-which-eq0-clause-arms : goal.returns-then-which-eq0-clause-arms
 returns-then-which-eq0-clause-arms g c =
@@ -21,7 +24,7 @@ returns-then-which-eq0-clause-arms g c =
     let entry = g.O.Origin.entry in
     let i = c.self.inside in
     let s : Parts = record { fls = i.fls; banks = i.banks; content = i.content; job = i.job; last = i.last; given = i.given; started = i.started; faults = i.faults; worn = i.worn; operations = i.operations.items } in
-    let was = subst (Sound m entry) (sym c.self.view_is) c.requires in
+    let was = (subst (Sound m entry) (sym c.self.view_is) c.requires).parts in
     let t = with_plan c.args.nth c.args.keep s in
     let h : Arms 0 c.args.nth c.args.keep (told_at m entry s) (clock_at m entry s) (told_at m entry t) (clock_at m entry t) = (refl, (c.devices_are_made.ensures.plan c.args.nth c.args.keep m entry s i.numbers i.reserve i.ops i.off was).1) in
     let driven = subst (λ (f : FlsState). Arms 0 c.args.nth c.args.keep (told_at m entry s) (clock_at m entry s) (told_at m entry (record s { fls = f })) (clock_at m entry (record s { fls = f }))) (sym c.arm.ensures) h in

@@ -16,7 +16,7 @@ returns-in_default-clause-refusal g c =
     let entry = g.O.Origin.entry in
     let i = c.self.inside in
     let s : Parts = record { fls = i.fls; banks = i.banks; content = i.content; job = i.job; last = i.last; given = i.given; started = i.started; faults = i.faults; worn = i.worn; operations = i.operations.items } in
-    let was = subst (Sound m entry) (sym c.self.view_is) c.requires in
+    let was = (subst (Sound m entry) (sym c.self.view_is) c.requires).parts in
     let n = c.args.number.0 in
     let none = ap (λ (ns : List (DeviceNumber × ℕ)). length_of ns n) (sym was.numbers) ∙ length_none i.numbers n c.in_default.ensures.place in
     subst (λ (w : Whole). refusal_of (told_in m entry w) n c.args.length ≡ Some BadNumber) c.self.view_is
@@ -28,7 +28,7 @@ returns-in-Some-length-clause-refusal g c =
     let entry = g.O.Origin.entry in
     let i = c.self.inside in
     let s : Parts = record { fls = i.fls; banks = i.banks; content = i.content; job = i.job; last = i.last; given = i.given; started = i.started; faults = i.faults; worn = i.worn; operations = i.operations.items } in
-    let was = subst (Sound m entry) (sym c.self.view_is) c.requires in
+    let was = (subst (Sound m entry) (sym c.self.view_is) c.requires).parts in
     let n = c.args.number.0 in
     let at : length_of i.numbers n ≡ Some (get_or i.numbers c.in-Some.place (record { 0 = 0 }, 0)).1 = length_at i.numbers n c.in-Some.place (record { 0 = 0 }, 0) (sym c.in-Some.ensures.value) in
     let size = ap (λ (ns : List (DeviceNumber × ℕ)). length_of ns n) (sym was.numbers) ∙ at in
@@ -42,7 +42,7 @@ returns-in_default-length-clause-refusal g c =
     let entry = g.O.Origin.entry in
     let i = c.self.inside in
     let s : Parts = record { fls = i.fls; banks = i.banks; content = i.content; job = i.job; last = i.last; given = i.given; started = i.started; faults = i.faults; worn = i.worn; operations = i.operations.items } in
-    let was = subst (Sound m entry) (sym c.self.view_is) c.requires in
+    let was = (subst (Sound m entry) (sym c.self.view_is) c.requires).parts in
     let n = c.args.number.0 in
     let at : length_of i.numbers n ≡ Some (get_or i.numbers c.in-Some.place (record { 0 = 0 }, 0)).1 = length_at i.numbers n c.in-Some.place (record { 0 = 0 }, 0) (sym c.in-Some.ensures.value) in
     let size = ap (λ (ns : List (DeviceNumber × ℕ)). length_of ns n) (sym was.numbers) ∙ at in
@@ -56,7 +56,7 @@ returns-in_default-length-clause-length g c =
     let entry = g.O.Origin.entry in
     let i = c.self.inside in
     let s : Parts = record { fls = i.fls; banks = i.banks; content = i.content; job = i.job; last = i.last; given = i.given; started = i.started; faults = i.faults; worn = i.worn; operations = i.operations.items } in
-    let was = subst (Sound m entry) (sym c.self.view_is) c.requires in
+    let was = (subst (Sound m entry) (sym c.self.view_is) c.requires).parts in
     let n = c.args.number.0 in
     let at : length_of i.numbers n ≡ Some (get_or i.numbers c.in-Some.place (record { 0 = 0 }, 0)).1 = length_at i.numbers n c.in-Some.place (record { 0 = 0 }, 0) (sym c.in-Some.ensures.value) in
     let size = ap (λ (ns : List (DeviceNumber × ℕ)). length_of ns n) (sym was.numbers) ∙ at in
@@ -68,7 +68,7 @@ returns-in_default-length-clause-few g c =
     let entry = g.O.Origin.entry in
     let i = c.self.inside in
     let s : Parts = record { fls = i.fls; banks = i.banks; content = i.content; job = i.job; last = i.last; given = i.given; started = i.started; faults = i.faults; worn = i.worn; operations = i.operations.items } in
-    let was = subst (Sound m entry) (sym c.self.view_is) c.requires in
+    let was = (subst (Sound m entry) (sym c.self.view_is) c.requires).parts in
     let n = c.args.number.0 in
     let at : length_of i.numbers n ≡ Some (get_or i.numbers c.in-Some.place (record { 0 = 0 }, 0)).1 = length_at i.numbers n c.in-Some.place (record { 0 = 0 }, 0) (sym c.in-Some.ensures.value) in
     let size = ap (λ (ns : List (DeviceNumber × ℕ)). length_of ns n) (sym was.numbers) ∙ at in
@@ -80,7 +80,7 @@ returns-in_default-length-2-clause-refusal g c =
     let entry = g.O.Origin.entry in
     let i = c.self.inside in
     let s : Parts = record { fls = i.fls; banks = i.banks; content = i.content; job = i.job; last = i.last; given = i.given; started = i.started; faults = i.faults; worn = i.worn; operations = i.operations.items } in
-    let was = subst (Sound m entry) (sym c.self.view_is) c.requires in
+    let was = (subst (Sound m entry) (sym c.self.view_is) c.requires).parts in
     let n = c.args.number.0 in
     let at : length_of i.numbers n ≡ Some (get_or i.numbers c.in-Some.place (record { 0 = 0 }, 0)).1 = length_at i.numbers n c.in-Some.place (record { 0 = 0 }, 0) (sym c.in-Some.ensures.value) in
     let size = ap (λ (ns : List (DeviceNumber × ℕ)). length_of ns n) (sym was.numbers) ∙ at in
@@ -93,7 +93,7 @@ returns-in_default-length-2-clause-length g c =
     let entry = g.O.Origin.entry in
     let i = c.self.inside in
     let s : Parts = record { fls = i.fls; banks = i.banks; content = i.content; job = i.job; last = i.last; given = i.given; started = i.started; faults = i.faults; worn = i.worn; operations = i.operations.items } in
-    let was = subst (Sound m entry) (sym c.self.view_is) c.requires in
+    let was = (subst (Sound m entry) (sym c.self.view_is) c.requires).parts in
     let n = c.args.number.0 in
     let at : length_of i.numbers n ≡ Some (get_or i.numbers c.in-Some.place (record { 0 = 0 }, 0)).1 = length_at i.numbers n c.in-Some.place (record { 0 = 0 }, 0) (sym c.in-Some.ensures.value) in
     let size = ap (λ (ns : List (DeviceNumber × ℕ)). length_of ns n) (sym was.numbers) ∙ at in
@@ -105,7 +105,7 @@ returns-in_default-length-2-clause-few g c =
     let entry = g.O.Origin.entry in
     let i = c.self.inside in
     let s : Parts = record { fls = i.fls; banks = i.banks; content = i.content; job = i.job; last = i.last; given = i.given; started = i.started; faults = i.faults; worn = i.worn; operations = i.operations.items } in
-    let was = subst (Sound m entry) (sym c.self.view_is) c.requires in
+    let was = (subst (Sound m entry) (sym c.self.view_is) c.requires).parts in
     let n = c.args.number.0 in
     let at : length_of i.numbers n ≡ Some (get_or i.numbers c.in-Some.place (record { 0 = 0 }, 0)).1 = length_at i.numbers n c.in-Some.place (record { 0 = 0 }, 0) (sym c.in-Some.ensures.value) in
     let size = ap (λ (ns : List (DeviceNumber × ℕ)). length_of ns n) (sym was.numbers) ∙ at in

@@ -18,7 +18,7 @@ returns-in_default g c =
     let entry = g.O.Origin.entry in
     let i = c.self.inside in
     let s : Parts = record { fls = i.fls; banks = i.banks; content = i.content; job = i.job; last = i.last; given = i.given; started = i.started; faults = i.faults; worn = i.worn; operations = i.operations.items } in
-    let was = subst (Sound m entry) (sym c.self.view_is) c.requires in
+    let was = (subst (Sound m entry) (sym c.self.view_is) c.requires).parts in
     let n = c.args.number.0 in
     let told = kind_is m entry s was.made_for.numbers n in
     let none : i.banks.active ≡ None = c.in_default.ensures in
@@ -31,7 +31,7 @@ returns-in-Content g c =
     let entry = g.O.Origin.entry in
     let i = c.self.inside in
     let s : Parts = record { fls = i.fls; banks = i.banks; content = i.content; job = i.job; last = i.last; given = i.given; started = i.started; faults = i.faults; worn = i.worn; operations = i.operations.items } in
-    let was = subst (Sound m entry) (sym c.self.view_is) c.requires in
+    let was = (subst (Sound m entry) (sym c.self.view_is) c.requires).parts in
     let n = c.args.number.0 in
     let told = kind_is m entry s was.made_for.numbers n in
     let log = c.in-Some.ensures in
@@ -46,7 +46,7 @@ returns-in-Invalid g c =
     let entry = g.O.Origin.entry in
     let i = c.self.inside in
     let s : Parts = record { fls = i.fls; banks = i.banks; content = i.content; job = i.job; last = i.last; given = i.given; started = i.started; faults = i.faults; worn = i.worn; operations = i.operations.items } in
-    let was = subst (Sound m entry) (sym c.self.view_is) c.requires in
+    let was = (subst (Sound m entry) (sym c.self.view_is) c.requires).parts in
     let n = c.args.number.0 in
     let told = kind_is m entry s was.made_for.numbers n in
     let log = c.in-Some.ensures in
@@ -61,7 +61,7 @@ returns-in-Erased g c =
     let entry = g.O.Origin.entry in
     let i = c.self.inside in
     let s : Parts = record { fls = i.fls; banks = i.banks; content = i.content; job = i.job; last = i.last; given = i.given; started = i.started; faults = i.faults; worn = i.worn; operations = i.operations.items } in
-    let was = subst (Sound m entry) (sym c.self.view_is) c.requires in
+    let was = (subst (Sound m entry) (sym c.self.view_is) c.requires).parts in
     let n = c.args.number.0 in
     let told = kind_is m entry s was.made_for.numbers n in
     let log = c.in-Some.ensures in

@@ -11,7 +11,7 @@ returns-in-Some g c =
     let m = g.O.Origin.making in
     let entry = g.O.Origin.entry in
     let i = c.self.inside in
-    let was = subst (Sound m entry) (sym c.self.view_is) c.requires.sound in
+    let was = (subst (Sound m entry) (sym c.self.view_is) c.requires.sound).parts in
     let n = c.args.number.0 in
     let at : length_of i.numbers n ≡ Some (get_or i.numbers c.in-Some.place (record { 0 = 0 }, 0)).1 = length_at i.numbers n c.in-Some.place (record { 0 = 0 }, 0) (sym c.in-Some.ensures.value) in
     rw c.as_slice.ensures.value (ap (λ (ns : List (DeviceNumber × ℕ)). length_of ns n) (sym was.numbers) ∙ at)
@@ -21,7 +21,7 @@ returns-in-None g c =
     let m = g.O.Origin.making in
     let entry = g.O.Origin.entry in
     let i = c.self.inside in
-    let was = subst (Sound m entry) (sym c.self.view_is) c.requires.sound in
+    let was = (subst (Sound m entry) (sym c.self.view_is) c.requires.sound).parts in
     let n = c.args.number.0 in
     let none = ap (λ (ns : List (DeviceNumber × ℕ)). length_of ns n) (sym was.numbers) ∙ length_none i.numbers n c.in-None.ensures.place in
     let some : is_some (length_of m.numbers n) ≡ true = c.requires.configured in

@@ -11,7 +11,7 @@ returns-in-Some g c =
     let m = g.O.Origin.making in
     let entry = g.O.Origin.entry in
     let i = c.self.inside in
-    let was = subst (Sound m entry) (sym c.self.view_is) c.requires in
+    let was = (subst (Sound m entry) (sym c.self.view_is) c.requires).parts in
     let n = c.args.number.0 in
     let at = ap (λ (ns : List (DeviceNumber × ℕ)). length_of ns n) (sym was.numbers) ∙ length_at i.numbers n _ (record { 0 = 0 }, 0) (sym c.in-Some.ensures.value) in
     record { configured = sym (ap (λ (o : Option ℕ). is_some o) at); kind = c.kind.ensures }
@@ -21,7 +21,7 @@ returns-in-None g c =
     let m = g.O.Origin.making in
     let entry = g.O.Origin.entry in
     let i = c.self.inside in
-    let was = subst (Sound m entry) (sym c.self.view_is) c.requires in
+    let was = (subst (Sound m entry) (sym c.self.view_is) c.requires).parts in
     let n = c.args.number.0 in
     let none = ap (λ (ns : List (DeviceNumber × ℕ)). length_of ns n) (sym was.numbers) ∙ length_none i.numbers n c.in-None.ensures.place in
     record { configured = sym (ap (λ (o : Option ℕ). is_some o) none); kind = tt }

@@ -6,6 +6,7 @@ use Rattle.fee_starts.specs.Laws.{MayOpen, IsPromised}
 use Rattle.fee_starts.specs.Parts.{opened}
 use Rattle.fee_core.specs.Whole.{Whole, Sound, told_in, clock_in}
 use Rattle.fee_core.proofs.Looking.{mark_at}
+use Rattle.fee_core.proofs.Standing.{same_beside}
 use Rattle.fee_core.proofs.Started.{told_at, clock_at}
 use Rattle.fee_core.proofs.parts.FeeParts.open.Goals as goal
 
@@ -16,7 +17,7 @@ returns-clause-sound g c =
     let i = c.self.inside in
     let s : Parts = record { fls = i.fls; banks = i.banks; content = i.content; job = i.job; last = i.last; given = i.given; started = i.started; faults = i.faults; worn = i.worn; operations = i.operations.items } in
     let back = sym c.self.view_is in
-    let was = subst (Sound m entry) back c.requires.sound in
+    let was = (subst (Sound m entry) back c.requires.sound).parts in
     let may : MayOpen m s c.args.job c.put.new.self = record {
       banks = c.active-active.ensures.state;
       started = ap (λ (w : Whole). w.parts.started) c.self.view_is ∙ c.requires.started;
@@ -26,7 +27,13 @@ returns-clause-sound g c =
       room = c.put.ensures.room;
       promised = subst (λ (w : Whole). IsPromised m w.parts.banks c.args.job) back c.requires.promised;
     } in
-    (c.jobs_open.ensures m entry s i.numbers i.reserve i.ops i.off c.args.job c.put.new.self was may).0
+    let started = ap (λ (w : Whole). w.parts.started) c.self.view_is ∙ c.requires.started in
+    let shut = ap (λ (w : Whole). w.parts.job) c.self.view_is ∙ c.requires.shut in
+    let follows = (subst (Sound m entry) back c.requires.sound).follows in
+    record {
+      parts = (c.jobs_open.ensures m entry s i.numbers i.reserve i.ops i.off c.args.job c.put.new.self was may).0;
+      follows = c.calls_follow.ensures.same s (opened c.args.job c.put.new.self s) (same_beside m entry s i.numbers i.reserve i.ops i.off was started shut c.args.job c.put.new.self) follows;
+    }
 
 pub returns-clause-opens : goal.returns-clause-opens
 returns-clause-opens g c =
@@ -35,7 +42,7 @@ returns-clause-opens g c =
     let i = c.self.inside in
     let s : Parts = record { fls = i.fls; banks = i.banks; content = i.content; job = i.job; last = i.last; given = i.given; started = i.started; faults = i.faults; worn = i.worn; operations = i.operations.items } in
     let back = sym c.self.view_is in
-    let was = subst (Sound m entry) back c.requires.sound in
+    let was = (subst (Sound m entry) back c.requires.sound).parts in
     let may : MayOpen m s c.args.job c.put.new.self = record {
       banks = c.active-active.ensures.state;
       started = ap (λ (w : Whole). w.parts.started) c.self.view_is ∙ c.requires.started;
@@ -58,7 +65,7 @@ returns-clause-stays g c =
     let i = c.self.inside in
     let s : Parts = record { fls = i.fls; banks = i.banks; content = i.content; job = i.job; last = i.last; given = i.given; started = i.started; faults = i.faults; worn = i.worn; operations = i.operations.items } in
     let back = sym c.self.view_is in
-    let was = subst (Sound m entry) back c.requires.sound in
+    let was = (subst (Sound m entry) back c.requires.sound).parts in
     let may : MayOpen m s c.args.job c.put.new.self = record {
       banks = c.active-active.ensures.state;
       started = ap (λ (w : Whole). w.parts.started) c.self.view_is ∙ c.requires.started;

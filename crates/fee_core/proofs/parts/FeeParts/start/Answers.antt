@@ -1,10 +1,10 @@
-use Rattle.std.proofs.Common.{◌≡◌, true, false, Ok, Err, sym, subst}
+use Rattle.std.proofs.Common.{◌≡◌, true, false, Ok, Err, refl, sym, subst}
 use Rattle.nv_base.specs.Count.{next_count}
 use Rattle.fee_state.specs.Inside.{Parts}
 use Rattle.memif.specs.declared.answer.StartFault.TheVariants.{Fault}
 use Rattle.memif.specs.Calls.{StartsUp}
 use Rattle.fee_core.specs.Whole.{Whole, Sound, told_in, clock_in}
-use Rattle.fee_core.proofs.Started.{told_at, clock_at, IsLoaded, resting, ready_ends, failed_ends}
+use Rattle.fee_core.proofs.Started.{told_at, clock_at, IsLoaded, resting, ready_ends, ready_follows, failed_ends}
 use Rattle.fee_core.proofs.parts.FeeParts.start.Goals as goal
 
 pub returns-in-Ready-clause-sound : goal.returns-in-Ready-clause-sound
@@ -13,13 +13,17 @@ returns-in-Ready-clause-sound g c =
     let entry = g.O.Origin.entry in
     let i = c.self.inside in
     let s : Parts = record { fls = i.fls; banks = i.banks; content = i.content; job = i.job; last = i.last; given = i.given; started = i.started; faults = i.faults; worn = i.worn; operations = i.operations.items } in
-    let was = subst (Sound m entry) (sym c.self.view_is) c.requires in
+    let was = (subst (Sound m entry) (sym c.self.view_is) c.requires).parts in
     let e = c.start-answer.ensures in
     let is = c.in-Ready.is in
     let flash = rw is at e.flash in
     let loaded : IsLoaded i.banks c.start-answer.new.self = record { format = e.format; blank = e.blank is; clear = e.clear is; idle = e.idle is } in
-    (ready_ends m entry s i.numbers i.reserve i.ops i.off was c.power_on.new.self c.start-answer.new.fls c.start-answer.new.self c.power_on.ensures e.same e.closed c.active-active.ensures.state e.flash_of
-    c.devices_start.ensures.ready loaded flash (e.ready is) (e.loaded is)).0
+    record {
+      parts = (ready_ends m entry s i.numbers i.reserve i.ops i.off was c.power_on.new.self c.start-answer.new.fls c.start-answer.new.self c.power_on.ensures e.same e.closed c.active-active.ensures.state e.flash_of
+          c.devices_start.ensures.ready loaded flash (e.ready is) (e.loaded is)).0;
+      follows = ready_follows m entry s i.numbers i.reserve i.ops i.off was c.power_on.new.self c.start-answer.new.fls c.start-answer.new.self c.power_on.ensures e.same e.closed c.active-active.ensures.state e.flash_of
+          c.starts_follow.ensures.found flash (e.ready is) (e.loaded is);
+    }
 
 pub returns-in-Ready-clause-start : goal.returns-in-Ready-clause-start
 returns-in-Ready-clause-start g c =
@@ -27,7 +31,7 @@ returns-in-Ready-clause-start g c =
     let entry = g.O.Origin.entry in
     let i = c.self.inside in
     let s : Parts = record { fls = i.fls; banks = i.banks; content = i.content; job = i.job; last = i.last; given = i.given; started = i.started; faults = i.faults; worn = i.worn; operations = i.operations.items } in
-    let was = subst (Sound m entry) (sym c.self.view_is) c.requires in
+    let was = (subst (Sound m entry) (sym c.self.view_is) c.requires).parts in
     let e = c.start-answer.ensures in
     let is = c.in-Ready.is in
     let flash = rw is at e.flash in
@@ -43,14 +47,17 @@ returns-in-Failed-clause-sound g c =
     let entry = g.O.Origin.entry in
     let i = c.self.inside in
     let s : Parts = record { fls = i.fls; banks = i.banks; content = i.content; job = i.job; last = i.last; given = i.given; started = i.started; faults = i.faults; worn = i.worn; operations = i.operations.items } in
-    let was = subst (Sound m entry) (sym c.self.view_is) c.requires in
+    let was = (subst (Sound m entry) (sym c.self.view_is) c.requires).parts in
     let e = c.start-answer.ensures in
     let is = c.in-Failed.is in
     let flash = rw is at e.flash in
     let faults : c.saturating_add-self-inside.result ≡ next_count i.faults = c.saturating_add-self-inside.ensures in
     rw faults
-    (failed_ends m entry s i.numbers i.reserve i.ops i.off was c.power_on.new.self c.start-answer.new.fls c.start-answer.new.self c.power_on.ensures e.same e.closed c.active-active.ensures.state e.flash_of
-    c.devices_start.ensures.fail flash.1 flash.0).0
+    (record {
+      parts = (failed_ends m entry s i.numbers i.reserve i.ops i.off was c.power_on.new.self c.start-answer.new.fls c.start-answer.new.self c.power_on.ensures e.same e.closed c.active-active.ensures.state e.flash_of
+          c.devices_start.ensures.fail flash.1 flash.0).0;
+      follows = c.starts_follow.ensures.unstarted (resting s c.start-answer.new.fls c.start-answer.new.self false (next_count i.faults)) refl;
+    })
 
 pub returns-in-Failed-clause-start : goal.returns-in-Failed-clause-start
 returns-in-Failed-clause-start g c =
@@ -58,7 +65,7 @@ returns-in-Failed-clause-start g c =
     let entry = g.O.Origin.entry in
     let i = c.self.inside in
     let s : Parts = record { fls = i.fls; banks = i.banks; content = i.content; job = i.job; last = i.last; given = i.given; started = i.started; faults = i.faults; worn = i.worn; operations = i.operations.items } in
-    let was = subst (Sound m entry) (sym c.self.view_is) c.requires in
+    let was = (subst (Sound m entry) (sym c.self.view_is) c.requires).parts in
     let e = c.start-answer.ensures in
     let is = c.in-Failed.is in
     let flash = rw is at e.flash in

@@ -3,9 +3,11 @@ use Rattle.memif.specs.Calls.{StartsUp}
 use Rattle.device_clock.specs.Device.{Device, told_of}
 use Rattle.device_clock.specs.Clock.{clock_of}
 use Rattle.fee_state.specs.Inside.{device_of}
-use Rattle.fee_core.proofs.fee.Fee.start.Goals as goal
+use Rattle.fee_core.proofs.Telling.{starts_told}
+use Rattle.fee_core.proofs.device.FeeMemDevice.start.Goals as goal
 
 pub returns : goal.returns
 returns g c =
     let t = device_of g.O.Origin.making g.O.Origin.entry c.start.new.self.parts in
-    subst (λ (d : Device). StartsUp c.start.result (told_of d) (clock_of d) (told_of t) (clock_of t)) c.self.view_is c.start.ensures.start
+    let own = subst (λ (d : Device). StartsUp c.start.result (told_of d) (clock_of d) (told_of t) (clock_of t)) c.self.view_is c.start.ensures.start in
+    starts_told c.start.result _ (told_of t) _ t own

@@ -3,9 +3,11 @@ use Rattle.memif.specs.Calls.{Arms}
 use Rattle.device_clock.specs.Device.{Device, told_of}
 use Rattle.device_clock.specs.Clock.{clock_of}
 use Rattle.fee_state.specs.Inside.{device_of}
-use Rattle.fee_core.proofs.fee.Fee.arm.Goals as goal
+use Rattle.fee_core.proofs.Telling.{stays_told}
+use Rattle.fee_core.proofs.device.FeeMemDevice.arm.Goals as goal
 
 pub returns : goal.returns
 returns g c =
     let t = device_of g.O.Origin.making g.O.Origin.entry c.arm.new.self.parts in
-    subst (λ (d : Device). Arms c.args.which c.args.nth c.args.keep (told_of d) (clock_of d) (told_of t) (clock_of t)) c.self.view_is c.arm.ensures.arms
+    let own = subst (λ (d : Device). Arms c.args.which c.args.nth c.args.keep (told_of d) (clock_of d) (told_of t) (clock_of t)) c.self.view_is c.arm.ensures.arms in
+    (own.0, stays_told (told_of t) _ t own.1)

@@ -1,0 +1,68 @@
+-- The read of the open job's number, from what its calls answer.
+use Rattle.std.specs.Prelude.{Contains, IsSome, length, take}
+use Rattle.std.proofs.Common.{◌≡◌, ◌<◌, ◌≤◌, ◌+◌, ◌==◌, ℕ, Bool, true, false, if◌then◌else◌, List, [], ◌∷◌, Some, refl, sym, ap, ◌∙◌, subst, arith}
+use Rattle.nv_base.specs.Geometry.{address_of_page}
+use Rattle.nv_base.specs.Lengths.{AreLengths}
+use Rattle.nv_base.specs.Pages.{record_pages_of}
+use Rattle.nv_base.specs.declared.instance.DeviceNumber.{DeviceNumber}
+use Rattle.nv_base.specs.declared.job.DeviceOp.{DeviceOp}
+use Rattle.nv_base.specs.declared.job.DeviceOp.TheVariants.{Read}
+use Rattle.memif.specs.Told.{length_of}
+use Rattle.fls_model.specs.declared.flash.FlashAnswer.{FlashAnswer}
+use Rattle.fls_model.specs.declared.flash.FlashAnswer.TheVariants.{Done, Failed, Off}
+use Rattle.fls_model.specs.Read.{IsRead}
+use Rattle.fls_model.specs.Told.{Told}
+use Rattle.fls_jobs.specs.State.{FlsState}
+use Rattle.fls_jobs.specs.CallOf.{closed_as}
+use Rattle.log_image.specs.declared.place.Place.{Place}
+use Rattle.log_image.specs.declared.place.Place.TheVariants.{Content}
+use Rattle.log_image.specs.Places.{IsWithin}
+use Rattle.fee_log.specs.Log.{LogState}
+use Rattle.fee_state.specs.declared.job.FeeJob.{FeeJob}
+use Rattle.fee_state.specs.Inside.{Parts}
+use Rattle.fee_state.specs.Record.{IsJobOf, IsLengthOf}
+use Rattle.fee_turns.specs.Reads.{IsAsked, place_now}
+use Rattle.fee_core.proofs.Standing.{is_listed}
+
+-- THE CONTENT
+size_is : (numbers : List (DeviceNumber × ℕ)) (j : FeeJob) (is : IsJobOf numbers j) → j.op ≡ Read → j.length ≡ is.length
+size_is numbers j is op = subst (λ (o : DeviceOp). IsLengthOf o j.length is.length) op is.fits
+
+some_by : (x : DeviceNumber × ℕ) (xs : List (DeviceNumber × ℕ)) (n size : ℕ) → 1 ≤ x.1 → (length_of xs n ≡ Some size → 0 < size) → (b : Bool) → (if b then Some x.1 else length_of xs n) ≡ Some size → 0 < size
+some_by x xs n size some rest true is = (let e : x.1 ≡ size = cc is in omega arith)
+some_by x xs n size some rest false is = rest is
+
+some_at : (low : ℕ) (ns : List (DeviceNumber × ℕ)) (n size : ℕ) → AreLengths low ns → length_of ns n ≡ Some size → 0 < size
+some_at low [] n size are is = cc is
+some_at low (x ∷ xs) n size are is = some_by x xs n size are.2 (λ e. some_at x.0.0 xs n size are.4 e) (x.0.0 == n) is
+
+pub read_some : (numbers : List (DeviceNumber × ℕ)) (j : FeeJob) → AreLengths 0 numbers → IsJobOf numbers j → j.op ≡ Read → 0 < j.length
+read_some numbers j are is op = (let e = size_is numbers j is op in let some = some_at 0 numbers j.number.0 is.length are is.configured in omega (arith, e, some))
+
+-- it lies before the end of its log
+pub read_within : (numbers : List (DeviceNumber × ℕ)) (log : LogState) (j : FeeJob) (at : ℕ) (place : Place) → IsJobOf numbers j → j.op ≡ Read → log.numbers ≡ numbers
+    → ((size : ℕ) → Contains log.numbers (j.number, size) → IsWithin log.geometry.page log.end size place) → place ≡ Content at → at + record_pages_of j.length log.geometry.page ≤ log.end
+read_within numbers log j at place is op same within content =
+    let listed = subst (λ (ns : List (DeviceNumber × ℕ)). Contains ns (j.number, is.length)) (sym same) (is_listed numbers j.number.0 is.length is.configured) in
+    let e = size_is numbers j is op in
+    let h = (subst (λ (x : Place). IsWithin log.geometry.page log.end is.length x) content (within is.length listed)).1 in
+    subst (λ (n : ℕ). at + record_pages_of n log.geometry.page ≤ log.end) (sym e) h
+
+-- THE ANSWER
+-- while the power is on a read that isn't done failed
+pub read_failed : (address : ℕ) (s : Told) (before : List ℕ) (answer : FlashAnswer) (into : List ℕ) (t : Told) → s.off ≡ false → (answer ≡ Done → ⊥) → IsRead address s before answer into t → answer ≡ Failed
+read_failed address s before Done into t on never is = absurd (never refl)
+read_failed address s before Failed into t on never is = refl
+read_failed address s before Off into t on never is = (let off = is.2 in cc (on, off))
+
+pub asked_for : (s : Parts) (j : FeeJob) (at : ℕ) (content : List ℕ) (answer : FlashAnswer) (f : FlsState) (log : LogState)
+    → IsSome s.banks.active → log ≡ s.banks.log → place_now s j ≡ Content at
+    → IsRead (address_of_page log.geometry log.banks log.bank (at + 2)) s.fls.flash (take j.length s.content) answer (take j.length content) f.flash
+    → f ≡ record s.fls { flash = f.flash; result = closed_as answer } → length content ≡ 4096 → IsAsked s j at content answer f
+asked_for s j at content answer f log active same place read only room = record {
+  place = place;
+  active = active;
+  only = only ∙ (λ i. record s.fls { flash = f.flash; result = sym (ap (λ (x : FlsState). x.result) only) i });
+  read = subst (λ (l : LogState). IsRead (address_of_page l.geometry l.banks l.bank (at + 2)) s.fls.flash (take j.length s.content) answer (take j.length content) f.flash) same read;
+  room = room;
+}

@@ -1,0 +1,127 @@
+-- What a turn that does something begins with, and the open job of a started device.
+use Rattle.std.specs.Prelude.{Contains, is_some, IfSome}
+use Rattle.std.proofs.Common.{◌≡◌, ◌≢◌, inl, inr, ◌≤◌, ◌==◌, ◌++◌, ℕ, suc, Bool, true, false, List, [], ◌∷◌, Option, Some, None, refl, sym, ap, ◌∙◌, subst, arith}
+use Rattle.std.proofs.lemmas.Bool.{cond_both, eqb-true}
+use Rattle.nv_base.specs.Pages.{record_pages_of}
+use Rattle.nv_base.specs.declared.instance.DeviceNumber.{DeviceNumber}
+use Rattle.nv_base.specs.declared.job.DeviceOp.{DeviceOp}
+use Rattle.nv_base.specs.declared.job.DeviceOp.TheVariants.{Read, Write, Invalidate, Erase}
+use Rattle.memif.specs.Told.{length_of}
+use Rattle.memif.specs.declared.answer.DeviceTurn.{DeviceTurn}
+use Rattle.fls_model.specs.Told.{Told, Change}
+use Rattle.fee_format.specs.declared.rec_head.RecHead.{RecHead}
+use Rattle.fee_log.specs.Log.{IsLogState, IsFor, work_in}
+use Rattle.switch_course.specs.declared.course.Course.{Course}
+use Rattle.fee_switch.specs.Banks.{BanksState, IsBanksState}
+use Rattle.device_bridge.specs.Bridge.{Making}
+use Rattle.fee_state.specs.declared.job.FeeJob.{FeeJob}
+use Rattle.fee_state.specs.Inside.{Parts, IsSound}
+use Rattle.fee_state.specs.Record.{IsInWork, IsJobOf, IsLengthOf, kind_of, head_of}
+use Rattle.fee_state.specs.Work.{pages_of_op}
+use Rattle.fee_turns.specs.Turn.{IsOn, Turned}
+use Rattle.fee_starts.specs.Parts.{opened}
+use Rattle.fee_room.specs.Follows.{Follows}
+use Rattle.fee_room.specs.Laws.{IsSameBeside}
+use Rattle.fee_core.specs.Whole.{Whole, TurnedTo}
+use Rattle.fee_core.proofs.Looking.{few_at}
+
+-- WHERE IT STANDS
+module _ (m : Making) (entry : Told) (s : Parts) (listed : List (DeviceNumber × ℕ)) (kept count : ℕ) (is_off : Bool) (sound : IsSound m entry s listed kept count is_off) (started : s.started ≡ true) (on : is_off ≡ false) where
+  pub power : s.fls.flash.off ≡ false
+  power = sym (sound.off started) ∙ on
+
+  pub is_on : IsBanksState s.banks → IsLogState s.banks.log → IsOn m entry s listed kept count
+  is_on banks log = record { sound = subst (λ (x : Bool). IsSound m entry s listed kept count x) on sound; started = started; banks = banks; log = log }
+
+-- something is open in a started device alone
+started_by : (b : Bool) → (b ≡ false → ⊥) → b ≡ true
+started_by true never = refl
+started_by false never = absurd (never refl)
+
+none_more : (xs : List Change) → xs ≡ xs ++ []
+none_more [] = refl
+none_more (x ∷ xs) = ap (λ (ys : List Change). x ∷ ys) (none_more xs)
+
+idle_by : (b : BanksState) (job : Option FeeJob) (o : Option RecHead) → job ≡ None → IfSome o (IsInWork b job) → o ≡ None
+idle_by b job None shut work = refl
+idle_by b job (Some h) shut work = (let some = work.is_open in cc (shut, some))
+
+module _ (m : Making) (entry : Told) (s : Parts) (listed : List (DeviceNumber × ℕ)) (kept count : ℕ) (is_off : Bool) (sound : IsSound m entry s listed kept count is_off) where
+  pub job_started : (j : FeeJob) → s.job ≡ Some j → s.started ≡ true
+  job_started j job = started_by s.started (λ e. (let none = (sound.rests e).job in cc (none, job)))
+
+  pub switch_started : is_some s.banks.course ≡ true → s.started ≡ true
+  switch_started some = started_by s.started (λ e. (let none = ap (λ (o : Option Course). is_some o) (sound.rests e).course in cc (none, some)))
+
+  -- without a job no record is in work
+  pub idle_shut : s.started ≡ true → s.job ≡ None → work_in s.banks.log.tail ≡ None
+  idle_shut started shut = idle_by s.banks s.job (work_in s.banks.log.tail) shut (sound.works started).work
+
+  -- so that a content may change as a job opens
+  pub same_beside : s.started ≡ true → s.job ≡ None → (j : FeeJob) (content : List ℕ) → IsSameBeside s (opened j content s)
+  same_beside started shut j content = record {
+    started = λ e. e;
+    on = λ e. e;
+    banks = refl;
+    bytes = refl;
+    content = inr (idle_shut started shut);
+    more = [];
+    operations = none_more s.operations;
+  }
+
+-- what is some
+pub some_at : {A : Type 0} (o : Option A) → is_some o ≡ true → (x : A) × (o ≡ Some x)
+some_at None some = cc some
+some_at (Some x) some = (x, refl)
+
+-- WHAT IT TURNED TO
+-- with the counts and the parts that the code has
+pub turned_to : (m : Making) (entry : Told) (answer : DeviceTurn) (w : Whole) (t u : Parts) (count ops : ℕ) (off is_off : Bool) → u ≡ t → ops ≡ count → is_off ≡ off
+    → Turned m entry answer w.parts t w.numbers w.reserve count off → Follows t → TurnedTo m entry answer w (record { parts = u; numbers = w.numbers; reserve = w.reserve; ops = ops; off = is_off })
+turned_to m entry answer w t u count ops off is_off same counted power turned follows =
+    subst (λ (x : Parts). TurnedTo m entry answer w (record { parts = x; numbers = w.numbers; reserve = w.reserve; ops = ops; off = is_off })) (sym same)
+    (subst (λ (n : ℕ). TurnedTo m entry answer w (record { parts = t; numbers = w.numbers; reserve = w.reserve; ops = n; off = is_off })) (sym counted)
+    (subst (λ (x : Bool). TurnedTo m entry answer w (record { parts = t; numbers = w.numbers; reserve = w.reserve; ops = count; off = x })) (sym power)
+    (record { turns = turned.turns; sound = record { parts = turned.sound; follows = follows } })))
+
+-- THE OPEN JOB
+length_few : (op : DeviceOp) (length of : ℕ) → IsLengthOf op length of → of ≤ 4096 → length ≤ 4096
+length_few Read length of fits few = omega (arith, fits)
+length_few Write length of fits few = omega (arith, fits)
+length_few Invalidate length of fits few = omega (arith, fits)
+length_few Erase length of fits few = omega (arith, fits)
+
+pub job_is : (m : Making) (entry : Told) (s : Parts) (listed : List (DeviceNumber × ℕ)) (kept count : ℕ) (is_off : Bool) → IsSound m entry s listed kept count is_off → s.started ≡ true → (j : FeeJob) → s.job ≡ Some j → IsJobOf m.numbers j
+job_is m entry s listed kept count is_off sound started j job = subst (λ (o : Option FeeJob). IfSome o (IsJobOf m.numbers)) job (sound.works started).job
+
+pub job_few : (m : Making) (entry : Told) (s : Parts) (listed : List (DeviceNumber × ℕ)) (kept count : ℕ) (is_off : Bool) → IsSound m entry s listed kept count is_off → s.started ≡ true → (j : FeeJob) → s.job ≡ Some j → j.length ≤ 4096
+job_few m entry s listed kept count is_off sound started j job =
+    let of = job_is m entry s listed kept count is_off sound started j job in
+    length_few j.op j.length of.length of.fits (few_at 0 m.numbers j.number.0 of.length sound.made_for.space.lengths of.configured)
+
+-- its number stands in the list, with its length
+pub is_listed : (ns : List (DeviceNumber × ℕ)) (n size : ℕ) → length_of ns n ≡ Some size → Contains ns (record { 0 = n }, size)
+is_listed [] n size is = cc is
+is_listed (x ∷ xs) n size is =
+    cond_both (x.0.0 == n) (Some x.1) (length_of xs n) (λ (o : Option ℕ). o ≡ Some size → Contains (x ∷ xs) (record { 0 = n }, size))
+    (λ e is'. (0, omega arith, (let at : x.0.0 ≡ n = eqb-true x.0.0 n e in let same : x.1 ≡ size = cc is' in (λ i. (record { 0 = at i }, same i)))))
+    (λ e is'. (let later = is_listed xs n size is' in (suc later.0, (let less = later.1 in omega (arith, less)), later.2))) is
+
+-- its record is for its number, with so many pages
+pub for_job : (numbers : List (DeviceNumber × ℕ)) (op : DeviceOp) (j : FeeJob) → j.op ≡ op → op ≢ Read → IsJobOf numbers j → IsFor numbers (head_of j)
+for_job numbers Read j e writes is = absurd (writes refl)
+for_job numbers Write j e writes is =
+    let fits = subst (λ (o : DeviceOp). IsLengthOf o j.length is.length) e is.fits in
+    record { length = is.length; configured = is_listed numbers j.number.0 is.length is.configured; kind = inl (ap kind_of e, fits) }
+for_job numbers Invalidate j e writes is =
+    let fits = subst (λ (o : DeviceOp). IsLengthOf o j.length is.length) e is.fits in
+    record { length = is.length; configured = is_listed numbers j.number.0 is.length is.configured; kind = inr (inl (ap kind_of e), fits) }
+for_job numbers Erase j e writes is =
+    let fits = subst (λ (o : DeviceOp). IsLengthOf o j.length is.length) e is.fits in
+    record { length = is.length; configured = is_listed numbers j.number.0 is.length is.configured; kind = inr (inr (ap kind_of e), fits) }
+
+pub pages_for : (p : ℕ) (op : DeviceOp) (length of : ℕ) → op ≢ Read → IsLengthOf op length of → pages_of_op p op length ≡ record_pages_of length p
+pages_for p Read length of writes fits = absurd (writes refl)
+pages_for p Write length of writes fits = refl
+pages_for p Invalidate length of writes fits = ap (λ (n : ℕ). record_pages_of n p) (sym fits)
+pages_for p Erase length of writes fits = ap (λ (n : ℕ). record_pages_of n p) (sym fits)

@@ -1,0 +1,94 @@
+// The turns of the open job's record.
+ghost use Rattle.std.specs.Prelude.{◌≡◌, ◌≢◌, true, false, None, Some, IsSome};
+ghost use Rattle.nv_base.specs.declared.job.DeviceOp.TheVariants.{Read};
+ghost use Rattle.fee_log.specs.Log.{work_in};
+ghost use Rattle.fee_state.specs.Record.{kind_of};
+ghost use Rattle.fee_core.specs.Beginning.{begins_now};
+ghost use Rattle.fee_core.specs.Whole.{Sound, TurnedTo};
+
+use crate::Origin;
+use crate::operations::program_record;
+use crate::parts::FeeParts;
+use fee_log::LogStep;
+use fee_room::{calls_follow, turns_follow};
+use fee_state::FeeJob;
+use fee_turns::{records_turn, turns_begin};
+use fls_model::Flash;
+use memif::{DeviceTurn, JobResult};
+use nv_base::DeviceOp;
+
+// The kind of an operation's record.
+fn kind_of(op: DeviceOp) -> u8
+    ensures { result ≡ kind_of op }
+{
+    match op {
+        DeviceOp::Read => 0,
+        DeviceOp::Write => 1,
+        DeviceOp::Invalidate => 2,
+        DeviceOp::Erase => 3,
+    }
+}
+
+impl<F: Flash, O: Origin> FeeParts<F, O> {
+    // The next page of the open job's record, or a gate that is owed before it.
+    pub(crate) fn turn_record(&mut self, job: FeeJob) -> DeviceTurn
+        requires sound { Sound O.making O.entry self.old }
+        requires started { self.old.parts.started ≡ true }
+        requires on { self.old.off ≡ false }
+        requires job { self.old.parts.job ≡ Some job }
+        requires work { IsSome (work_in self.old.parts.banks.log.tail) }
+        ensures { TurnedTo O.making O.entry result self.old self.new }
+    {
+        records_turn();
+        turns_follow();
+        let _active = self.banks.active();
+        let step = program_record(
+            &mut self.fls,
+            &mut self.banks,
+            &self.content,
+            job.length,
+            &mut self.operations,
+        );
+        self.fls.status();
+        self.ops = self.ops.saturating_add(1);
+        match step {
+            LogStep::More => DeviceTurn::Worked,
+            LogStep::Committed => {
+                self.job = None;
+                self.last = JobResult::JobOk;
+                self.given = 0;
+                DeviceTurn::Worked
+            }
+            LogStep::Failed => {
+                self.faults = self.faults.saturating_add(1);
+                self.job = None;
+                self.last = JobResult::JobFailed;
+                self.given = 0;
+                DeviceTurn::Worked
+            }
+            LogStep::Off => {
+                self.off = true;
+                DeviceTurn::Off
+            }
+        }
+    }
+
+    // The open job's record begins, in memory alone, and then its first page, or the gate that is owed before it.
+    pub(crate) fn turn_new_record(&mut self, job: FeeJob) -> DeviceTurn
+        requires sound { Sound O.making O.entry self.old }
+        requires started { self.old.parts.started ≡ true }
+        requires on { self.old.off ≡ false }
+        requires job { self.old.parts.job ≡ Some job }
+        requires writes { job.op ≢ Read }
+        requires idle { work_in self.old.parts.banks.log.tail ≡ None }
+        requires begins { begins_now self.old.reserve self.old.parts.banks job ≡ true }
+        ensures { TurnedTo O.making O.entry result self.old self.new }
+    {
+        turns_begin();
+        calls_follow();
+        let _active = self.banks.active();
+        let kind = kind_of(job.op);
+        self.banks.append_start(job.number, kind, job.length);
+        self.turn_record(job)
+    }
+}

@@ -1,0 +1,60 @@
+// The turn of a read.
+ghost use Rattle.std.specs.Prelude.{◌≡◌, true, false, Some};
+ghost use Rattle.nv_base.specs.declared.job.DeviceOp.TheVariants.{Read};
+ghost use Rattle.fee_core.specs.Whole.{Sound, TurnedTo};
+
+use crate::Origin;
+use crate::parts::FeeParts;
+use fee_room::calls_follow;
+use fee_state::FeeJob;
+use fee_turns::reads_turn;
+use fls_model::{Flash, FlashAnswer};
+use log_image::Place;
+use memif::{DeviceTurn, JobResult};
+
+impl<F: Flash, O: Origin> FeeParts<F, O> {
+    // A read ends in its turn: a content takes one flash read, a mark without content none.
+    pub(crate) fn turn_read(&mut self, job: FeeJob) -> DeviceTurn
+        requires sound { Sound O.making O.entry self.old }
+        requires started { self.old.parts.started ≡ true }
+        requires on { self.old.off ≡ false }
+        requires job { self.old.parts.job ≡ Some job }
+        requires op { job.op ≡ Read }
+        ensures { TurnedTo O.making O.entry result self.old self.new }
+    {
+        reads_turn();
+        calls_follow();
+        let _active = self.banks.active();
+        self.job = None;
+        self.given = 0;
+        let Some(log) = self.banks.log() else {
+            self.last = JobResult::BlockInconsistent;
+            return DeviceTurn::Worked;
+        };
+        match log.find(job.number) {
+            Place::Invalid => {
+                self.last = JobResult::BlockInvalid;
+                DeviceTurn::Worked
+            }
+            Place::Erased => {
+                self.last = JobResult::BlockInconsistent;
+                DeviceTurn::Worked
+            }
+            Place::Content { at } => {
+                let answer = self.content.read(&mut self.fls, log, job.length, at);
+                match answer {
+                    FlashAnswer::Done => {
+                        self.last = JobResult::JobOk;
+                        self.given = job.length;
+                        DeviceTurn::Worked
+                    }
+                    _ => {
+                        self.last = JobResult::JobFailed;
+                        self.faults = self.faults.saturating_add(1);
+                        DeviceTurn::Worked
+                    }
+                }
+            }
+        }
+    }
+}

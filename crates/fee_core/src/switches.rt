@@ -1,0 +1,163 @@
+// The turns of a switch.
+ghost use Rattle.std.specs.Prelude.{◌≡◌, ◌≢◌, ◌⊎◌, true, false, is_some, None, Some, IfSome, IsSome};
+ghost use Rattle.nv_base.specs.Count.{next_count};
+ghost use Rattle.nv_base.specs.declared.job.DeviceOp.TheVariants.{Read};
+ghost use Rattle.fee_log.specs.Log.{work_in};
+ghost use Rattle.fee_switch.specs.Banks.{is_worn_out, reads_next};
+ghost use Rattle.fee_state.specs.Work.{fits_in};
+ghost use Rattle.fee_turns.specs.Switches.{IsBehind, failed_with};
+ghost use Rattle.fee_core.specs.Whole.{Sound, TurnedTo};
+
+use crate::Origin;
+use crate::operations::change_target;
+use crate::parts::FeeParts;
+use fee_room::{calls_follow, room_is_known, turns_follow};
+use fee_state::FeeJob;
+use fee_switch::{BankBegin, BankStep};
+use fee_turns::{contents_begin, marks_begin, switches_turn, turns_begin, wears_out};
+use fls_model::Flash;
+use memif::{DeviceTurn, JobResult};
+use switch_room::steps_keep_room;
+
+impl<F: Flash, O: Origin> FeeParts<F, O> {
+    // The flash call of a switch failed: that is counted, and a job that waits ends.
+    fn fail(&mut self)
+        ensures { self.new ≡ record self.old { parts = failed_with self.old.parts.job (record self.old.parts { faults = next_count self.old.parts.faults }) } }
+    {
+        self.faults = self.faults.saturating_add(1);
+        if let Some(_) = self.job {
+            self.job = None;
+            self.last = JobResult::JobFailed;
+            self.given = 0;
+        }
+    }
+
+    // The read of the content that is copied next.
+    fn turn_copy(&mut self) -> DeviceTurn
+        requires sound { Sound O.making O.entry self.old }
+        requires started { self.old.parts.started ≡ true }
+        requires on { self.old.off ≡ false }
+        requires idle { work_in self.old.parts.banks.log.tail ≡ None }
+        requires behind { IfSome self.old.parts.job (IsBehind self.old.parts.banks) }
+        requires reads { reads_next self.old.parts.banks.log self.old.parts.banks.course ≡ true }
+        ensures { TurnedTo O.making O.entry result self.old self.new }
+    {
+        contents_begin();
+        turns_follow();
+        calls_follow();
+        steps_keep_room();
+        let _active = self.banks.active();
+        let step = self.banks.step(&mut self.fls);
+        self.fls.status();
+        let _behind = self.banks.active();
+        match step {
+            BankStep::Failed => {
+                self.fail();
+                DeviceTurn::Worked
+            }
+            _ => DeviceTurn::Worked,
+        }
+    }
+
+    // The next changing operation of the switch.
+    fn turn_target(&mut self) -> DeviceTurn
+        requires sound { Sound O.making O.entry self.old }
+        requires started { self.old.parts.started ≡ true }
+        requires on { self.old.off ≡ false }
+        requires course { is_some self.old.parts.banks.course ≡ true }
+        requires idle { work_in self.old.parts.banks.log.tail ≡ None }
+        requires behind { IfSome self.old.parts.job (IsBehind self.old.parts.banks) }
+        requires reads { reads_next self.old.parts.banks.log self.old.parts.banks.course ≡ false }
+        ensures { TurnedTo O.making O.entry result self.old self.new }
+    {
+        switches_turn();
+        marks_begin();
+        turns_follow();
+        calls_follow();
+        steps_keep_room();
+        let _active = self.banks.active();
+        let step = change_target(
+            &mut self.fls,
+            &mut self.banks,
+            &self.content,
+            &mut self.operations,
+        );
+        self.fls.status();
+        self.ops = self.ops.saturating_add(1);
+        match step {
+            BankStep::More => DeviceTurn::Worked,
+            BankStep::Ended => DeviceTurn::Worked,
+            BankStep::Failed => {
+                self.fail();
+                DeviceTurn::Worked
+            }
+            BankStep::Off => {
+                self.off = true;
+                DeviceTurn::Off
+            }
+        }
+    }
+
+    // The next step of the open switch, behind which a job waits, if one is open.
+    pub(crate) fn turn_switch(&mut self) -> DeviceTurn
+        requires sound { Sound O.making O.entry self.old }
+        requires started { self.old.parts.started ≡ true }
+        requires on { self.old.off ≡ false }
+        requires course { is_some self.old.parts.banks.course ≡ true }
+        requires idle { work_in self.old.parts.banks.log.tail ≡ None }
+        requires behind { IfSome self.old.parts.job (IsBehind self.old.parts.banks) }
+        ensures { TurnedTo O.making O.entry result self.old self.new }
+    {
+        if self.banks.reads_next() {
+            self.turn_copy()
+        } else {
+            self.turn_target()
+        }
+    }
+
+    // The job that waits for room ends with a failure, and the device is worn out from now on.
+    pub(crate) fn turn_worn(&mut self, job: FeeJob) -> DeviceTurn
+        requires sound { Sound O.making O.entry self.old }
+        requires started { self.old.parts.started ≡ true }
+        requires on { self.old.off ≡ false }
+        requires job { self.old.parts.job ≡ Some job }
+        requires writes { job.op ≢ Read }
+        requires idle { work_in self.old.parts.banks.log.tail ≡ None }
+        requires shut { self.old.parts.banks.course ≡ None }
+        requires full { fits_in self.old.reserve self.old.parts.banks job ≡ false }
+        requires worn { IsSome self.old.parts.worn ⊎ (is_worn_out self.old.parts.banks.active ≡ true) }
+        ensures { TurnedTo O.making O.entry result self.old self.new }
+    {
+        wears_out();
+        room_is_known();
+        let _active = self.banks.active();
+        self.worn = Some(self.worn.unwrap_or(self.ops));
+        self.job = None;
+        self.last = JobResult::JobFailed;
+        self.given = 0;
+        DeviceTurn::Worked
+    }
+
+    // A switch begins for the open job, whose record has no room, in memory alone, and then its first erase; behind the last
+    // generation none can.
+    pub(crate) fn turn_new_switch(&mut self, job: FeeJob) -> DeviceTurn
+        requires sound { Sound O.making O.entry self.old }
+        requires started { self.old.parts.started ≡ true }
+        requires on { self.old.off ≡ false }
+        requires job { self.old.parts.job ≡ Some job }
+        requires writes { job.op ≢ Read }
+        requires idle { work_in self.old.parts.banks.log.tail ≡ None }
+        requires shut { self.old.parts.banks.course ≡ None }
+        requires full { fits_in self.old.reserve self.old.parts.banks job ≡ false }
+        requires fresh { self.old.parts.worn ≡ None }
+        ensures { TurnedTo O.making O.entry result self.old self.new }
+    {
+        turns_begin();
+        calls_follow();
+        let _active = self.banks.active();
+        match self.banks.begin() {
+            BankBegin::Begun => self.turn_switch(),
+            BankBegin::WornOut => self.turn_worn(job),
+        }
+    }
+}
