@@ -1,5 +1,6 @@
 -- A flash whose power is cut on purpose.
-use Rattle.std.specs.Prelude.{◌≡◌, ℕ, Bool, true, false, Option, Some, None, nat_le, if◌then◌else◌}
+use Rattle.std.specs.Prelude.{◌≡◌, ℕ, Bool, true, false, IsTrue, Option, Some, None, nat_le, if◌then◌else◌}
+use Rattle.std.specs.List.{list_all}
 use Rattle.fls_model.specs.declared.flash.FlashAnswer.{FlashAnswer}
 use Rattle.fls_model.specs.declared.flash.FlashAnswer.TheVariants.{Off}
 use Rattle.nv_base.specs.declared.plan.Plan.{Plan}
@@ -8,13 +9,22 @@ use Rattle.fls_model.specs.Told.{Told}
 use Rattle.fls_model.specs.Op.{Op}
 use Rattle.fls_devices.specs.declared.part.Harm.TheVariants.{Cut}
 use Rattle.fls_devices.specs.Journal.{empty_journal}
-use Rattle.fls_devices.specs.Overlay.{Overlaid, overlaid, told_over, IsPassed, IsHarmed}
+use Rattle.fls_devices.specs.Part.{off_of}
+use Rattle.fls_devices.specs.Overlay.{Overlaid, IsOverlaid, overlaid, told_over, IsPassed, IsHarmed}
 
 -- the flash that it cuts, the plan that stands, and how many plans it takes yet
 pub record Cutting : Type 0 where
   pub flash : Overlaid
   pub plan : Option Plan
   pub arms : ℕ
+
+-- what is told of its changes is so, no fault is its own, and each operation that it kept from the inner flash, or a part of
+-- it, was cut
+pub record OnlyCuts (c : Cutting) : Type 0 where
+  pub flash : IsOverlaid c.flash
+  pub faults : c.flash.faults ≡ 0
+  pub events : IsTrue (list_all (λ e. off_of e.answer) c.flash.journal.events)
+  pub none : c.flash.cuts ≡ 0 → c.flash.withheld ≡ 0
 
 -- a new one, of at most so many cuts
 abbrev pub cutting : Told → ℕ → Cutting

@@ -1,5 +1,5 @@
 -- A flash over another one.
-use Rattle.std.specs.Prelude.{◌≡◌, ◌<◌, ◌+◌, ℕ, Bool, true, false, List, [], ◌∷◌, length, min, nat_eq, Option, IfSome, Result, Ok, Err}
+use Rattle.std.specs.Prelude.{◌≡◌, ◌+◌, ℕ, zero, suc, Bool, true, false, List, [], ◌∷◌, length, min, nat_eq, Option, IfSome, Result, Ok, Err}
 use Rattle.nv_base.specs.Count.{last_count, next_count}
 use Rattle.fls_model.specs.declared.flash.FlashAnswer.{FlashAnswer}
 use Rattle.fls_model.specs.declared.flash.FlashAnswer.TheVariants.{Done, Off}
@@ -8,9 +8,8 @@ use Rattle.fls_model.specs.Plan.{PlanGoes}
 use Rattle.fls_model.specs.Told.{Told, Change, changes_in, powered}
 use Rattle.fls_model.specs.Op.{Op}
 use Rattle.fls_model.specs.Step.{IsAsked, CountsUnplanned}
-use Rattle.fls_devices.specs.declared.journal.Event.{Event}
 use Rattle.fls_devices.specs.declared.part.Harm.{Harm}
-use Rattle.fls_devices.specs.Journal.{Journaled, bytes_over, Clears, Passes, AddsOf}
+use Rattle.fls_devices.specs.Journal.{Harmed, Journaled, HaveParts, listed, bytes_over, Clears, Passes, AddsOf}
 use Rattle.fls_devices.specs.Part.{part_of, harmed, cuts_after, faults_after, off_of}
 
 -- what the inner flash tells, whether a cut stands, the cuts and faults of its own, the operations that were kept
@@ -23,12 +22,17 @@ pub record Overlaid : Type 0 where
   pub withheld : ℕ
   pub journal : Journaled
 
+-- the operations that the inner flash counted, and those that were kept from it
+abbrev pub ops_over : ℕ → ℕ → ℕ
+ops_over ops zero = ops
+ops_over ops (suc withheld) = min (ops + suc withheld) last_count
+
 -- what is told of it, with the planned cuts as the device over it tells them
 abbrev pub told_over : Planning → Overlaid → Told
 told_over p o = record {
   geometry = o.inner.geometry;
   bytes = bytes_over o.journal o.inner.geometry o.inner.bytes;
-  ops = min (o.inner.ops + o.withheld) last_count;
+  ops = ops_over o.inner.ops o.withheld;
   faults = o.inner.faults + o.faults;
   cuts = o.inner.cuts + o.cuts;
   off = o.off;
@@ -40,17 +44,18 @@ abbrev pub reached_count : Bool → ℕ
 reached_count true = 1
 reached_count false = 0
 
-abbrev pub span : List Event → ℕ
+abbrev pub span : List Harmed → ℕ
 span [] = 0
 span (e ∷ es) = e.since + reached_count e.reached + span es
 
 abbrev pub FitsChanges : Journaled → Option (List Change) → Type 0
 FitsChanges j changes = IfSome changes (λ changes. length changes ≡ span j.events + j.since)
 
--- where no cut stands none stands in the inner flash, and the events fit its changes
+-- where no cut stands none stands in the inner flash; the events fit its changes, among which are their parts
 pub record IsOverlaid (o : Overlaid) : Type 0 where
   pub power : o.off ≡ false → o.inner.off ≡ false
-  pub fits : o.journal.kept ≡ true → FitsChanges o.journal (changes_in o.inner.bytes)
+  pub fits : FitsChanges o.journal (changes_in o.inner.bytes)
+  pub parts : IfSome (changes_in o.inner.bytes) (HaveParts o.inner.geometry o.journal.events)
 
 -- an operation is handed to the inner flash as it is
 pub record IsHandedOn (op : Op) (old : Overlaid) (answer : FlashAnswer) (new : Overlaid) : Type 0 where
@@ -101,10 +106,6 @@ abbrev pub JournalAfter : {A E : Type 0} → Result A E → Journaled → Journa
 JournalAfter (Ok _) old new = Clears old new
 JournalAfter (Err _) old new = new ≡ old
 
--- a new one, with the power on
+-- a new one, with the power on, over all changes that the inner flash tells
 abbrev pub overlaid : Told → Journaled → Overlaid
-overlaid inner journal = record { inner = powered inner; off = false; cuts = 0; faults = 0; withheld = 0; journal = journal }
-
--- the list of all changes stays told where the inner flash tells its own
-abbrev pub TellsOn : Overlaid → Overlaid → Type 0
-TellsOn old new = old.journal.since < last_count → new.journal.kept ≡ old.journal.kept
+overlaid inner journal = record { inner = powered inner; off = false; cuts = 0; faults = 0; withheld = 0; journal = record journal { since = listed (changes_in inner.bytes) } }

@@ -14,8 +14,8 @@ use std::marker::Model;
 /// page programmed, a cut erase is done where `keep` isn't 0. The cut call answers `Off`. A new plan replaces one that
 /// stands, `power_on` drops it, and a call of `arm` with nth 0, or after as many plans as it was made for, does
 /// nothing. Contracts see the inner flash, the cuts of its own, the plan and how many plans it takes yet; each cut
-/// of the inner flash is one that no plan asked for. From its
-/// attach on it tells the list of all changes where the inner flash tells its own.
+/// of the inner flash is one that no plan asked for. It
+/// tells the list of all changes where the inner flash tells its own.
 #[derive(Drop)]
 pub struct Cutter<F: Flash> {
     flash: Overlay<F>,
@@ -25,13 +25,13 @@ pub struct Cutter<F: Flash> {
 
 impl<F: Flash> Model for Cutter<F> {
     ghost use Rattle.fls_devices.specs.Cutter.{Cutting};
-    ghost use Rattle.fls_devices.specs.CutterInside.{HasRoom};
+    ghost use Rattle.fls_devices.specs.CutterInside.{IsCutter};
 
     ghost Value = { Cutting };
 
     ghost view = { λ c. record { flash = c.flash; plan = c.plan; arms = c.arms } };
 
-    ghost invariant = { λ c. HasRoom (record { flash = c.flash; plan = c.plan; arms = c.arms }) };
+    ghost invariant = { λ c. IsCutter (record { flash = c.flash; plan = c.plan; arms = c.arms }) };
 }
 
 // How many bytes of the operation that comes now are done, where it is to be cut.
@@ -60,7 +60,7 @@ fn plan_after(off: bool, plan: Option<Plan>) -> Option<Plan>
 
 impl<F: Flash> Cutter<F> {
     ghost use Rattle.std.specs.Prelude.{◌≡◌, IfOk, IfErr};
-    ghost use Rattle.fls_devices.specs.Cutter.{cutting};
+    ghost use Rattle.fls_devices.specs.Cutter.{cutting, OnlyCuts};
 
     /// A cutter of at most so many cuts, with the power on: it ends a standing cut of the inner flash. Where it finds
     /// no memory it hands the inner flash back as it was.
@@ -78,9 +78,10 @@ impl<F: Flash> Cutter<F> {
         }
     }
 
-    /// Gives the inner flash back.
+    /// Gives the inner flash back. What was told of its faults and changes is so.
     pub fn into_inner(self) -> F
-        ensures { F.told result ≡ self.flash.inner }
+        ensures inner { F.told result ≡ self.flash.inner }
+        ensures cuts { OnlyCuts self }
     {
         self.flash.into_inner()
     }
@@ -94,7 +95,7 @@ impl<F: Flash> Flash for Cutter<F> {
     ghost use Rattle.fls_model.specs.Step.{IsStep, programs, erases};
     ghost use Rattle.fls_model.specs.Read.{IsRead};
     ghost use Rattle.fls_model.specs.Attach.{IsAttach};
-    ghost use Rattle.fls_devices.specs.Overlay.{JournalAfter, TellsOn};
+    ghost use Rattle.fls_devices.specs.Overlay.{JournalAfter};
     ghost use Rattle.fls_devices.specs.Cutter.{told_cutting, planning_of, with_planning, IsCutOrPassed};
 
     ghost told = { told_cutting };
@@ -141,7 +142,6 @@ impl<F: Flash> Flash for Cutter<F> {
         requires { HasPage (told_cutting self.old) address (length page.now) }
         ensures step { IsStep (programs address page.now) (told_cutting self.old) result (told_cutting self.new) }
         ensures cut { IsCutOrPassed (programs address page.now) self.old result self.new }
-        ensures tells { TellsOn self.old.flash self.new.flash }
     {
         let off = self.flash.is_off();
         let keep = due(off, self.plan);
@@ -156,7 +156,6 @@ impl<F: Flash> Flash for Cutter<F> {
         requires { HasSector (told_cutting self.old) sector }
         ensures step { IsStep (erases self.old.flash.inner.geometry sector) (told_cutting self.old) result (told_cutting self.new) }
         ensures cut { IsCutOrPassed (erases self.old.flash.inner.geometry sector) self.old result self.new }
-        ensures tells { TellsOn self.old.flash self.new.flash }
     {
         let off = self.flash.is_off();
         let keep = due(off, self.plan);

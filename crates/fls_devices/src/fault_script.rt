@@ -14,8 +14,8 @@ use std::marker::Model;
 /// A flash over another one whose calls with the listed numbers, from 1, answer `Failed`. A changing operation has
 /// the effect of a cut with its number of bytes, and answers `Off` where the inner flash is cut in it. A read gives
 /// nothing. A call while a cut stands has no number. Contracts see the inner flash, the lists, of which an operation
-/// that failed is out, and the calls so far. From its attach on it tells the list of all changes where the inner
-/// flash tells its own.
+/// that failed is out, and the calls so far. It tells the list of all changes where the inner flash tells its
+/// own.
 #[derive(Drop)]
 pub struct FaultScript<F: Flash> {
     flash: Overlay<F>,
@@ -90,11 +90,11 @@ impl<F: Flash> FaultScript<F> {
 }
 
 // A journal with room for these operations, and copies of the lists.
-fn lists(
+fn lists<F: Flash>(
     alloc: Global,
     changing: &[(u64, u32)],
     reads: &[u64],
-) -> Result<(Journal, Vec<(u64, u32)>, Vec<u64>), AllocError>
+) -> Result<(Journal<F>, Vec<(u64, u32)>, Vec<u64>), AllocError>
     ensures { IfOk result (λ t. (t.0 ≡ empty_journal (length changing.now)) × (t.1.items ≡ changing.now) × (t.2.items ≡ reads.now)) }
 {
     let journal = Journal::make(alloc, changing.len())?;
@@ -109,7 +109,7 @@ impl<F: Flash> Flash for FaultScript<F> {
     ghost use Rattle.fls_model.specs.Step.{IsStep, programs, erases};
     ghost use Rattle.fls_model.specs.Read.{IsRead};
     ghost use Rattle.fls_model.specs.Attach.{IsAttach};
-    ghost use Rattle.fls_devices.specs.Overlay.{JournalAfter, TellsOn};
+    ghost use Rattle.fls_devices.specs.Overlay.{JournalAfter};
     ghost use Rattle.fls_devices.specs.FaultScript.{told_scripted, OffOrCounted, OffOrReadCounted};
 
     ghost told = { told_scripted };
@@ -158,7 +158,6 @@ impl<F: Flash> Flash for FaultScript<F> {
         requires { HasPage (told_scripted self.old) address (length page.now) }
         ensures step { IsStep (programs address page.now) (told_scripted self.old) result (told_scripted self.new) }
         ensures counted { OffOrCounted self.old.flash.off (programs address page.now) self.old result self.new }
-        ensures tells { TellsOn self.old.flash self.new.flash }
     {
         if self.flash.is_off() {
             return FlashAnswer::Off;
@@ -174,7 +173,6 @@ impl<F: Flash> Flash for FaultScript<F> {
         requires { HasSector (told_scripted self.old) sector }
         ensures step { IsStep (erases self.old.flash.inner.geometry sector) (told_scripted self.old) result (told_scripted self.new) }
         ensures counted { OffOrCounted self.old.flash.off (erases self.old.flash.inner.geometry sector) self.old result self.new }
-        ensures tells { TellsOn self.old.flash self.new.flash }
     {
         if self.flash.is_off() {
             return FlashAnswer::Off;

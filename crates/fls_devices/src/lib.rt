@@ -9,6 +9,7 @@ mod file_flash;
 mod journal;
 mod overlay;
 mod part;
+mod since;
 
 pub use cutter::Cutter;
 pub use fault_script::FaultScript;

@@ -1,5 +1,5 @@
 // A flash over another one, that can cut or fail an operation.
-ghost use Rattle.std.specs.Prelude.{◌≡◌, ◌+◌, ◌≤◌, length, true, false, Ok};
+ghost use Rattle.std.specs.Prelude.{◌≡◌, ◌<◌, ◌+◌, ◌≤◌, length, true, false, [], Ok};
 ghost use Rattle.nv_base.specs.Count.{Rose, next_count};
 ghost use Rattle.nv_base.specs.Geometry.{IsLegal};
 ghost use Rattle.fls_model.specs.Told.{armed, powered, HasRange, HasPage, HasSector};
@@ -9,7 +9,7 @@ ghost use Rattle.fls_model.specs.Step.{CountsUnplanned, programs, erases};
 ghost use Rattle.fls_model.specs.Read.{IsRead};
 ghost use Rattle.fls_model.specs.Attach.{IsAttach};
 ghost use Rattle.fls_model.specs.Call.{op_of};
-ghost use Rattle.fls_devices.specs.Overlay.{told_over, overlaid, IsPassed, IsWithheld, IsPartDone, IsHarmed, IsAskedOver, JournalAfter};
+ghost use Rattle.fls_devices.specs.Overlay.{told_over, overlaid, IsOverlaid, IsPassed, IsWithheld, IsPartDone, IsHarmed, IsAskedOver, JournalAfter};
 
 use crate::journal::Journal;
 use crate::part::{Harm, count_cut, count_fault, harmed_answer, is_off, kept_part};
@@ -25,7 +25,7 @@ pub struct Overlay<F: Flash> {
     cuts: u64,
     faults: u64,
     withheld: u64,
-    journal: Journal,
+    journal: Journal<F>,
 }
 
 impl<F: Flash> Model for Overlay<F> {
@@ -40,12 +40,14 @@ impl<F: Flash> Model for Overlay<F> {
 
 impl<F: Flash> Overlay<F> {
     // Ends a standing cut of the inner flash.
-    pub fn make(inner: F, journal: Journal) -> Overlay<F>
-        requires { journal.kept ≡ false }
+    pub fn make(inner: F, journal: Journal<F>) -> Overlay<F>
+        requires { journal.events ≡ [] }
         ensures { result ≡ overlaid (F.told inner) journal }
     {
         let mut inner = inner;
+        let mut journal = journal;
         inner.power_on();
+        journal.follow(&inner);
         Overlay {
             inner,
             off: false,
@@ -57,7 +59,8 @@ impl<F: Flash> Overlay<F> {
     }
 
     pub fn into_inner(self) -> F
-        ensures { F.told result ≡ self.inner }
+        ensures inner { F.told result ≡ self.inner }
+        ensures overlaid { IsOverlaid self }
     {
         self.inner
     }
@@ -148,7 +151,8 @@ impl<F: Flash> Overlay<F> {
 
     // Cuts or fails an operation of which nothing is to be done.
     fn withhold(&mut self, harm: Harm, call: Call) -> FlashAnswer
-        requires { self.old.off ≡ false }
+        requires on { self.old.off ≡ false }
+        requires room { 0 < self.old.journal.room }
         ensures step { IsAskedOver (op_of self.old.inner.geometry call) self.old result self.new }
         ensures counted { CountsUnplanned self.old.inner self.new.inner }
         ensures withheld { IsWithheld harm (op_of self.old.inner.geometry call) self.old result self.new }
@@ -165,6 +169,7 @@ impl<F: Flash> Overlay<F> {
     // Cuts or fails a program of which the first bytes are done.
     fn program_part(&mut self, harm: Harm, keep: u32, address: u32, page: &[u8]) -> FlashAnswer
         requires on { self.old.off ≡ false }
+        requires room { 0 < self.old.journal.room }
         requires page { HasPage self.old.inner address (length page.now) }
         ensures step { IsAskedOver (programs address page.now) self.old result self.new }
         ensures counted { CountsUnplanned self.old.inner self.new.inner }
@@ -183,6 +188,7 @@ impl<F: Flash> Overlay<F> {
     // Cuts or fails an erase that is done.
     fn erase_part(&mut self, harm: Harm, keep: u32, sector: u32) -> FlashAnswer
         requires on { self.old.off ≡ false }
+        requires room { 0 < self.old.journal.room }
         requires sector { HasSector self.old.inner sector }
         ensures step { IsAskedOver (erases self.old.inner.geometry sector) self.old result self.new }
         ensures counted { CountsUnplanned self.old.inner self.new.inner }
@@ -200,6 +206,7 @@ impl<F: Flash> Overlay<F> {
     // Cuts or fails a program of which the first `keep` bytes are done.
     pub fn harm_program(&mut self, harm: Harm, keep: u32, address: u32, page: &[u8]) -> FlashAnswer
         requires on { self.old.off ≡ false }
+        requires room { 0 < self.old.journal.room }
         requires page { HasPage self.old.inner address (length page.now) }
         ensures step { IsAskedOver (programs address page.now) self.old result self.new }
         ensures counted { CountsUnplanned self.old.inner self.new.inner }
@@ -214,6 +221,7 @@ impl<F: Flash> Overlay<F> {
     // Cuts or fails an erase, which is done where `keep` isn't 0.
     pub fn harm_erase(&mut self, harm: Harm, keep: u32, sector: u32) -> FlashAnswer
         requires on { self.old.off ≡ false }
+        requires room { 0 < self.old.journal.room }
         requires sector { HasSector self.old.inner sector }
         ensures step { IsAskedOver (erases self.old.inner.geometry sector) self.old result self.new }
         ensures counted { CountsUnplanned self.old.inner self.new.inner }

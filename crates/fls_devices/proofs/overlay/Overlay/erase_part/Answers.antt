@@ -8,7 +8,7 @@ invariant_of-self g c =
     let on : c.self.inside.off ≡ false = ap (λ (v : Overlaid). v.off) c.self.view_is ∙ c.requires.on in
     let asked = on_step _ _ _ _ (c.self.invariant.power on) c.erase-inner.ensures in
     rw (c.is_off-self-inside.ensures, c.count_cut-self-inside.ensures, c.count_fault-self-inside.ensures, c.harmed_answer-answer.ensures)
-    (kept_reached _ _ _ _ _ _ _ c.self.invariant asked refl refl c.add.ensures)
+    (kept_reached _ c.args.keep _ _ _ _ _ _ c.self.invariant asked refl refl refl c.add.ensures)
 
 pub returns-clause-step : goal.returns-clause-step
 returns-clause-step g c =
