@@ -1,0 +1,7 @@
+mod Tying
+mod Posting
+mod Starting
+mod Working
+mod Interrupting
+mod Casing
+mod Lowering

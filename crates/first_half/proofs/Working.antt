@@ -1,0 +1,62 @@
+-- The job in hand at the device.
+use Rattle.std.proofs.Common.{◌≡◌, ℕ, ◌≤◌, Bool, true, false, [], Option, Some, None, Result, Ok, Err, refl, sym, ap, ◌∙◌, subst}
+use Rattle.memif.specs.Told as device
+use Rattle.memif.specs.Told.{DeviceTold, Stand, is_open, IfElse}
+use Rattle.memif.specs.Calls.{Wish, AcceptsAs, Cancels, IsCanceled}
+use Rattle.memif.specs.Clock.{Clock}
+use Rattle.memif.specs.declared.answer.JobResult.TheVariants.{JobCanceled}
+use Rattle.memif.specs.declared.answer.DeviceRefusal.{DeviceRefusal}
+use Rattle.block_machine.specs.Words.{Configuration}
+use Rattle.block_machine.specs.State.{State, Job}
+use Rattle.nv_desk.specs.Desk.{DeskState, state_of}
+use Rattle.job_programs.specs.Program.{Program}
+use Rattle.job_hands.specs.Hand.{HandState}
+use Rattle.hand_laws.specs.Hands.{IsInHand, IsPaired, IsWorking, IsAt}
+use Rattle.stack_turns.specs.Ties.{IsTied}
+use Rattle.first_half.specs.Starts.{LeavesDevice}
+
+-- its program is that of any job that is in hand
+pub working_of : (c : Configuration) (s : State) (h : HandState) (d : DeviceTold) (j : Job) → IsInHand c s h d → s.hand ≡ Some j → IsWorking c s j h.program
+working_of c s h d j is hand =
+    let same : is.job ≡ j = let both : Some is.job ≡ Some j = sym is.hand ∙ hand in cc in
+    subst (λ (x : Job). IsWorking c s x h.program) same is.working
+
+-- where the device is at the hand's step it is open, and else it isn't
+open_by : (c : Configuration) (j : Job) (p : Program) (stand : Stand) (t : Bool) → IfElse t (IsAt c j p stand) (is_open stand ≡ false) → is_open stand ≡ t
+open_by c j p stand true at = ap is_open at.stands
+open_by c j p stand false at = at
+
+pub open_of : (c : Configuration) (s : State) (h : HandState) (d : DeviceTold) → IsInHand c s h d → is_open d.stand ≡ h.started
+open_of c s h d is = open_by c is.job h.program d.stand h.started is.at
+
+-- what is all that changes, is
+leaves_by : (old new : DeviceTold) (stand : Stand) → new ≡ record old { slots = new.slots; stand = stand; left = new.left; ready = new.ready; wait = new.wait } → LeavesDevice old new
+leaves_by old new stand only =
+    only ∙ ap (λ (s : Stand). record old { slots = new.slots; stand = s; left = new.left; ready = new.ready; wait = new.wait }) (sym (ap (λ (x : DeviceTold). x.stand) only))
+
+-- a start, and a cancel, changes no more
+pub leaves : (w : Wish) (answer : Result (Unit {0}) DeviceRefusal) (old new : DeviceTold) → AcceptsAs w answer old new → LeavesDevice old new
+leaves w (Ok u) old new is = leaves_by old new (device.Open w.job) is.1.only
+leaves w (Err refusal) old new is = subst (λ (x : DeviceTold). LeavesDevice old x) (sym is.1) refl
+
+canceled_by : (old new : DeviceTold) (t : Bool) → IfElse t (IsCanceled old new) (new ≡ old) → LeavesDevice old new
+canceled_by old new true is = leaves_by old new (device.Ended JobCanceled []) is.only
+canceled_by old new false is = subst (λ (x : DeviceTold). LeavesDevice old x) (sym is) refl
+
+pub cancel_leaves : (old : DeviceTold) (clock : Clock) (new : DeviceTold) (clock_new : Clock) → Cancels old clock new clock_new → LeavesDevice old new
+cancel_leaves old clock new clock_new cancels = canceled_by old new (is_open old.stand) cancels.0
+
+-- the parts stay tied where the device keeps its counts
+pub still_tied : (desk : DeskState) (hand new_hand : Option HandState) (old new : DeviceTold) → IsTied desk hand old → LeavesDevice old new
+    → IsPaired desk.config (state_of desk) new_hand new → IsTied desk new_hand new
+still_tied desk hand new_hand old new tied leaves paired = record {
+  paired = paired;
+  up = ap (λ (x : DeviceTold). x.started) leaves ∙ tied.up;
+  numbers = ap (λ (x : DeviceTold). x.fixed.numbers) leaves ∙ tied.numbers;
+  started = tied.started;
+  later = subst (λ (n : ℕ). (state_of desk).ops ≤ n) (sym (ap device.ops_of leaves)) tied.later;
+  off = λ off. ap device.is_off leaves ∙ tied.off off;
+}
+
+pub not_both : (refusal : DeviceRefusal) → None ≡ Some refusal → ⊥
+not_both refusal is = cc

@@ -1,0 +1,4 @@
+pub mod Cases
+pub mod Starts
+pub mod Reads
+pub mod Lowers

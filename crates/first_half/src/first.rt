@@ -1,0 +1,91 @@
+// The first half of a turn: all but the device's turn.
+ghost use Rattle.std.specs.Prelude.{◌≡◌, ℕ, List, IfSome, true};
+ghost use Rattle.block_machine.specs.Next.{next_of};
+ghost use Rattle.ram_blocks.specs.Told.{sizes_of};
+ghost use Rattle.copy_tries.specs.Tries.{OnlyRefuses};
+ghost use Rattle.nv_desk.specs.Desk.{state_of};
+ghost use Rattle.nv_desk.specs.Picks.{IsInterruption};
+ghost use Rattle.nv_front.specs.Front.{StagesAll, AreSynchronized};
+ghost use Rattle.nv_front.specs.Takes.{source_next, IsCopied};
+ghost use Rattle.hand_laws.specs.Hands.{HandFits};
+ghost use Rattle.stack_work.specs.Work.{program_in_hand, stack_work};
+ghost use Rattle.stack_turns.specs.Ties.{IsTied};
+ghost use Rattle.stack_turns.specs.Keeps.{StaysKept};
+ghost use Rattle.stack_turns.specs.Halves.{IsHalf};
+ghost use Rattle.first_half.specs.Lowers.{HalfLeft, HalfLowers};
+ghost use Rattle.first_half.specs.Reads.{NotesReads};
+ghost use Rattle.first_half.specs.Starts.{LeavesDevice};
+
+use crate::cases::{Case, case_of};
+use crate::pick::{interrupt, pick};
+use crate::post::{post, skip};
+use crate::work::{go_on, is_at_work};
+use job_hands::Hand;
+use memif::MemDevice;
+use nv_front::Front;
+use ram_blocks::SyncCalls;
+use stack_turns::{Act, Turned};
+
+/// Does the first of these: where the power is off, nothing; the Post of a finished job; the Pick of an immediate job over
+/// a standard one; the start of the next operation of the job in hand; the Pick, or the Post without a Pick, that comes
+/// next. It makes no turn of the device, adds at most one entry, and takes no memory.
+pub fn first_half<D: MemDevice, C: SyncCalls>(
+    front: &mut Front,
+    hand: &mut Option<Hand>,
+    device: &mut D,
+    copies: &mut C,
+) -> Act
+    requires tied { IsTied front.old.desk hand.old (D.told device.old) }
+    requires staging { StagesAll front.old.desk.config front.old.staging }
+    requires synchronized { AreSynchronized front.old.desk.config (C.told copies.old) }
+    ensures half { IsHalf result (λ block t. IsCopied (C.is_store copies.new block) block (C.told copies.old) (C.told copies.new) (source_next front.old.desk.config (next_of front.old.desk.config (state_of front.old.desk))) t)
+        (HandFits front.old.desk.config (state_of front.old.desk) hand.old (D.told device.old)) front.old.desk front.new.desk (C.told copies.old) (C.told copies.new) (D.told device.new) }
+    ensures tied { IsTied front.new.desk hand.new (D.told device.new) }
+    ensures started { result ≡ Act.Device → IfSome hand.new (λ h. h.started ≡ true) }
+    ensures first { result ≡ Act.Device → ¬ IsInterruption front.old.desk }
+    ensures off { result ≡ Act.Ended Turned.Off → (state_of front.old.desk).off ≡ true }
+    ensures device { LeavesDevice (D.told device.old) (D.told device.new) }
+    ensures unread { NotesReads front.old.desk front.new.desk front.old.unread front.new.unread }
+    ensures room { front.new.staging.room ≡ front.old.staging.room }
+    ensures sizes { sizes_of (C.told copies.new) ≡ sizes_of (C.told copies.old) }
+    ensures refuses { OnlyRefuses (C.told copies.old) (C.told copies.new) }
+    ensures synchronized { AreSynchronized front.old.desk.config (C.told copies.new) }
+    ensures stores_stay { (b n : ℕ) (x : List ℕ) → C.is_store copies.old b n x → C.is_store copies.new b n x }
+    ensures keeps { StaysKept front.old.desk hand.old (D.told device.old) (D.clock device.old).first front.new.desk hand.new (D.told device.new) (D.clock device.new).first }
+    ensures lowers { HalfLowers result (stack_work front.old.desk hand.old (D.told device.old)) (stack_work front.new.desk hand.new (D.told device.new)) }
+    ensures left { HalfLeft result (program_in_hand hand.old) (D.told device.old) (program_in_hand hand.new) (D.told device.new) }
+{
+    match case_of(&front.desk, hand) {
+        Case::Off => Act::Ended(Turned::Off),
+        Case::Post => {
+            post(front, hand, device, copies);
+            Act::Ended(Turned::Posted)
+        }
+        Case::Interrupt => {
+            interrupt(front, hand, device, copies);
+            Act::Ended(Turned::Picked)
+        }
+        Case::Work => {
+            if go_on(&front.desk, hand, device) {
+                Act::Device
+            } else {
+                Act::Ended(Turned::Worked)
+            }
+        }
+        Case::Pick => {
+            pick(front, hand, device, copies);
+            Act::Ended(Turned::Picked)
+        }
+        Case::Skip => {
+            skip(front, hand, device, copies);
+            Act::Ended(Turned::Posted)
+        }
+        Case::Rest => {
+            if is_at_work(device) {
+                Act::Device
+            } else {
+                Act::Ended(Turned::Idle)
+            }
+        }
+    }
+}

@@ -1,0 +1,109 @@
+// The Posts of a turn.
+ghost use Rattle.std.specs.Prelude.{◌≡◌, ◌≤◌, ◌<◌, ◌+◌, ℕ, List, Some, true};
+ghost use Rattle.nv_base.specs.declared.job.JobStep.TheVariants as step;
+ghost use Rattle.memif.specs.Told.{ops_of};
+ghost use Rattle.ram_blocks.specs.Told.{sizes_of};
+ghost use Rattle.copy_tries.specs.Tries.{OnlyRefuses};
+ghost use Rattle.nv_desk.specs.Desk.{state_of};
+ghost use Rattle.nv_front.specs.Front.{StagesAll, AreSynchronized};
+ghost use Rattle.job_hands.specs.Hand.{HandState, is_finished};
+ghost use Rattle.hand_laws.specs.Hands.{HandFits};
+ghost use Rattle.turn_figures.specs.Left.{stack_left};
+ghost use Rattle.stack_work.specs.Work.{program_in_hand, stack_work};
+ghost use Rattle.stack_turns.specs.Ties.{IsTied};
+ghost use Rattle.stack_turns.specs.Keeps.{StaysKept};
+ghost use Rattle.stack_turns.specs.Halves.{AddsPost};
+ghost use Rattle.first_half.specs.declared.cases.Case.TheVariants as case;
+ghost use Rattle.first_half.specs.Cases.{HasHand, HasNone};
+ghost use Rattle.first_half.specs.Lowers.{posts_left};
+ghost use Rattle.first_half.specs.Reads.{NotesReads};
+
+use hand_laws::{hands_end, hands_stay};
+use job_hands::Hand;
+use machine_laws::histories_grow;
+use memif::MemDevice;
+use nv_base::{GivenFrom, JobStep, ReqResult};
+use nv_front::Front;
+use ram_blocks::SyncCalls;
+use stack_laws::posts_keep;
+use stack_work::stack_works;
+
+/// The Post of a finished job.
+pub(crate) fn post<D: MemDevice, C: SyncCalls>(
+    front: &mut Front,
+    hand: &mut Option<Hand>,
+    device: &D,
+    copies: &mut C,
+)
+    requires tied { IsTied front.old.desk hand.old (D.told device.now) }
+    requires finished { HasHand true front.old.desk hand.old }
+    requires staging { StagesAll front.old.desk.config front.old.staging }
+    requires synchronized { AreSynchronized front.old.desk.config (C.told copies.old) }
+    ensures posts { AddsPost (HandFits front.old.desk.config (state_of front.old.desk) hand.old (D.told device.now)) (ops_of (D.told device.now)) front.old.desk front.new.desk (C.told copies.old) (C.told copies.new) }
+    ensures tied { IsTied front.new.desk hand.new (D.told device.now) }
+    ensures unread { NotesReads front.old.desk front.new.desk front.old.unread front.new.unread }
+    ensures room { front.new.staging.room ≡ front.old.staging.room }
+    ensures sizes { sizes_of (C.told copies.new) ≡ sizes_of (C.told copies.old) }
+    ensures refuses { OnlyRefuses (C.told copies.old) (C.told copies.new) }
+    ensures synchronized { AreSynchronized front.old.desk.config (C.told copies.new) }
+    ensures stores_stay { (b n : ℕ) (x : List ℕ) → C.is_store copies.old b n x → C.is_store copies.new b n x }
+    ensures keeps { StaysKept front.old.desk hand.old (D.told device.now) (D.clock device.now).first front.new.desk hand.new (D.told device.now) (D.clock device.now).first }
+    ensures lowers { stack_work front.new.desk hand.new (D.told device.now) < stack_work front.old.desk hand.old (D.told device.now) }
+    ensures left { stack_left (program_in_hand hand.new) (D.told device.now) + posts_left (program_in_hand hand.old) ≤ stack_left (program_in_hand hand.old) (D.told device.now) }
+{
+    histories_grow();
+    hands_stay();
+    hands_end();
+    posts_keep(device);
+    stack_works(device);
+    let _left = device.left();
+    let (answer, source) = end_of(hand);
+    front.post(answer, source, device.take_data(), device.ops(), copies);
+    *hand = None;
+    let _count = front.desk.history().len();
+}
+
+// What a finished job ended with.
+fn end_of(hand: &Option<Hand>) -> (ReqResult, GivenFrom)
+    ensures { (h : HandState) → hand.now ≡ Some h → is_finished h.step ≡ true → h.step ≡ step.Ended result.0 result.1 }
+{
+    let Some(hand) = hand else {
+        return (ReqResult::NotOk, GivenFrom::Nothing);
+    };
+    match hand.step() {
+        JobStep::Ended { result, source } => (result, source),
+        JobStep::Device { .. } => (ReqResult::NotOk, GivenFrom::Nothing),
+    }
+}
+
+/// The Post that comes next without a Pick.
+pub(crate) fn skip<D: MemDevice, C: SyncCalls>(
+    front: &mut Front,
+    hand: &Option<Hand>,
+    device: &D,
+    copies: &mut C,
+)
+    requires tied { IsTied front.old.desk hand.now (D.told device.now) }
+    requires none { HasNone case.Skip front.old.desk hand.now }
+    requires staging { StagesAll front.old.desk.config front.old.staging }
+    requires synchronized { AreSynchronized front.old.desk.config (C.told copies.old) }
+    ensures posts { AddsPost (HandFits front.old.desk.config (state_of front.old.desk) hand.now (D.told device.now)) (ops_of (D.told device.now)) front.old.desk front.new.desk (C.told copies.old) (C.told copies.new) }
+    ensures tied { IsTied front.new.desk hand.now (D.told device.now) }
+    ensures unread { NotesReads front.old.desk front.new.desk front.old.unread front.new.unread }
+    ensures room { front.new.staging.room ≡ front.old.staging.room }
+    ensures sizes { sizes_of (C.told copies.new) ≡ sizes_of (C.told copies.old) }
+    ensures refuses { OnlyRefuses (C.told copies.old) (C.told copies.new) }
+    ensures synchronized { AreSynchronized front.old.desk.config (C.told copies.new) }
+    ensures stores_stay { (b n : ℕ) (x : List ℕ) → C.is_store copies.old b n x → C.is_store copies.new b n x }
+    ensures keeps { StaysKept front.old.desk hand.now (D.told device.now) (D.clock device.now).first front.new.desk hand.now (D.told device.now) (D.clock device.now).first }
+    ensures lowers { stack_work front.new.desk hand.now (D.told device.now) < stack_work front.old.desk hand.now (D.told device.now) }
+    ensures left { stack_left (program_in_hand hand.now) (D.told device.now) + posts_left (program_in_hand hand.now) ≤ stack_left (program_in_hand hand.now) (D.told device.now) }
+{
+    histories_grow();
+    hands_stay();
+    posts_keep(device);
+    stack_works(device);
+    let _left = device.left();
+    front.post_skipped(device.ops(), copies);
+    let _count = front.desk.history().len();
+}

@@ -1,0 +1,7 @@
+pub mod Asked
+pub mod Powering
+pub mod Turned
+pub mod Stored
+pub mod StartUps
+pub mod Working
+pub mod Lowering

@@ -1,0 +1,4 @@
+pub mod Stack
+pub mod Turns
+pub mod StartUps
+pub mod Work

@@ -1,0 +1,4 @@
+pub mod BlockLengths
+pub mod Turned
+pub mod Ending
+pub mod Tying

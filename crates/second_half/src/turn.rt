@@ -1,0 +1,29 @@
+// A turn of the device.
+ghost use Rattle.std.specs.Prelude.{◌≡◌, false};
+ghost use Rattle.memif.specs.Told.{ops_of};
+ghost use Rattle.nv_desk.specs.Desk.{state_of};
+ghost use Rattle.stack_turns.specs.Ties.{IsTied};
+ghost use Rattle.stack_turns.specs.Keeps.{StaysKept};
+ghost use Rattle.stack_turns.specs.Turns.{AddsBy, hand_by};
+ghost use Rattle.second_half.specs.Second.{TurnsDevice, asked_by};
+
+use crate::second_half;
+use job_hands::Hand;
+use memif::MemDevice;
+use nv_desk::Desk;
+use stack_laws::turn;
+use stack_turns::Turned;
+
+/// A turn of the device with the second half behind it, where the machine's power is on. It takes no memory.
+pub fn device_turn<D: MemDevice>(desk: &mut Desk, hand: &mut Option<Hand>, device: &mut D) -> Turned
+    requires tied { IsTied desk.old hand.old (D.told device.old) }
+    requires on { (state_of desk.old).off ≡ false }
+    ensures turns { TurnsDevice result (D.told device.old) (D.clock device.old) (D.told device.new) (D.clock device.new) }
+    ensures adds { AddsBy (asked_by result (D.told device.old).stand (D.told device.new).stand (ops_of (D.told device.new))) desk.old desk.new }
+    ensures hand { hand.new ≡ hand_by (D.told device.old).stand (D.told device.new).stand hand.old }
+    ensures tied { IsTied desk.new hand.new (D.told device.new) }
+    ensures keeps { StaysKept desk.old hand.old (D.told device.old) (D.clock device.old).first desk.new hand.new (D.told device.new) (D.clock device.new).first }
+{
+    let turned = turn(device);
+    second_half(desk, hand, device, turned)
+}

@@ -1,0 +1,13 @@
+mod Numbers
+mod Operations
+mod Refusing
+mod Picking
+mod Paying
+mod Posting
+mod Starting
+mod Staying
+mod StartingUp
+mod Seeing
+mod Ending
+mod Turning
+mod Asking

@@ -1,0 +1,44 @@
+-- What the calls of a device keep, beside the job in hand.
+use Rattle.std.specs.Prelude.{◌≡◌, true, false, Option, Some, None}
+use Rattle.nv_base.specs.declared.instance.Instance.{Instance}
+use Rattle.nv_base.specs.declared.job.DeviceOp.{DeviceOp}
+use Rattle.nv_base.specs.declared.job.JobStep.TheVariants as step
+use Rattle.memif.specs.Told.{DeviceTold, PartTold, is_open, ops_of}
+use Rattle.memif.specs.Clock.{PartClock}
+use Rattle.memif.specs.Calls.{Wish, refusal_of}
+use Rattle.memif.specs.declared.answer.DeviceTurn.{DeviceTurn}
+use Rattle.nv_desk.specs.Desk.{DeskState, state_of}
+use Rattle.job_hands.specs.Hand.{HandState, with_start}
+use Rattle.hand_laws.specs.Hands.{IsInHand, IsPaired, job_for}
+use Rattle.hand_laws.specs.Goes.{Names}
+use Rattle.stack_turns.specs.Turns.{wish_for, entry_by, AddsBy, hand_by}
+use Rattle.stack_turns.specs.Keeps.{StackKeeps, StaysKept}
+
+-- the start of the operation that the hand names
+abbrev pub StartsKeep : Wish → DeviceTold → PartClock → DeviceTold → PartClock → Type 0
+StartsKeep w old clock new clock_new =
+    (desk : DeskState) (h : HandState) (op : DeviceOp) (i : Instance) (names : Names desk.config (state_of desk) h op i)
+    → h.step ≡ step.Device op i → IsInHand desk.config (state_of desk) h old → w.job ≡ job_for desk.config names.job h.program names.index
+    → StaysKept desk (Some h) old clock desk (Some (with_start h)) new clock_new
+
+-- a device that is up and has no job open takes it: no refusal holds
+abbrev pub RefusalsDontCome : DeviceTold → PartClock → Type 0
+RefusalsDontCome d clock =
+    (before : PartTold) (desk : DeskState) (h : HandState) (op : DeviceOp) (i : Instance) (names : Names desk.config (state_of desk) h op i)
+    → IsInHand desk.config (state_of desk) h d → d.started ≡ true → is_open d.stand ≡ false → StackKeeps before desk (Some h) d clock
+    → refusal_of d (wish_for desk.config h names.job names.index).job.number (wish_for desk.config h names.job names.index).length ≡ None
+
+-- a cancel drops the job in hand
+abbrev pub CancelsKeep : DeviceTold → PartClock → DeviceTold → PartClock → Type 0
+CancelsKeep old clock new clock_new = (desk : DeskState) (hand : Option HandState) → StaysKept desk hand old clock desk None new clock_new
+
+-- a planned cut leaves it
+abbrev pub ArmsKeep : DeviceTold → PartClock → DeviceTold → PartClock → Type 0
+ArmsKeep old clock new clock_new = (desk : DeskState) (hand : Option HandState) → StaysKept desk hand old clock desk hand new clock_new
+
+-- a turn of a device that is up, with the entry that it asks for; the job in hand goes on by what its operation came to
+abbrev pub DeviceTurnsKeep : DeviceTurn → DeviceTold → PartClock → DeviceTold → PartClock → Type 0
+DeviceTurnsKeep answer old clock new clock_new =
+    (desk desk_new : DeskState) (hand : Option HandState) → old.started ≡ true → IsPaired desk.config (state_of desk) hand old
+    → AddsBy (entry_by answer old.stand new.stand (ops_of new)) desk desk_new
+    → StaysKept desk hand old clock desk_new (hand_by old.stand new.stand hand) new clock_new

@@ -1,0 +1,55 @@
+// Entries beside the job in hand, at a device that stands still.
+ghost use Rattle.memif.specs.Clock.{Clock};
+ghost use Rattle.stack_laws.specs.Entries.{AsksKeep, PicksKeep, PostsKeep, SkippedKeep};
+ghost use Rattle.stack_laws.specs.StartUps.{StacksComeDown, StacksComeUp};
+
+use hand_laws::{hands_begin, hands_end};
+use machine_laws::{
+    accepted_requests_pass, asks_are_local, failures_are_explained, histories_grow,
+    jobs_are_pending,
+};
+use memif::MemDevice;
+use nv_front::ends_are_the_machines;
+use turn_laws::{entries_keep, start_ups_may_follow, tries_pay_for_posts};
+
+/// A Pick that the machine allows keeps all, with the hand of the job that it takes.
+pub fn picks_keep<D: MemDevice>(device: &D)
+    ensures { PicksKeep (D.told device.now) (D.clock device.now).first }
+{
+    histories_grow();
+    hands_begin();
+    entries_keep(device);
+    tries_pay_for_posts(device);
+}
+
+/// The Post of a finished job keeps all, as its failed tries pay for it; so does a Post without a Pick.
+pub fn posts_keep<D: MemDevice>(device: &D)
+    ensures in_hand { PostsKeep (D.told device.now) (D.clock device.now).first }
+    ensures skipped { SkippedKeep (D.told device.now) (D.clock device.now).first }
+{
+    failures_are_explained();
+    ends_are_the_machines();
+    hands_end();
+    entries_keep(device);
+    tries_pay_for_posts(device);
+}
+
+/// A request that is allowed keeps all, whatever is in hand.
+pub fn asks_keep<D: MemDevice>(device: &D)
+    ensures { AsksKeep (D.told device.now) (D.clock device.now).first }
+{
+    histories_grow();
+    asks_are_local();
+    accepted_requests_pass();
+    jobs_are_pending();
+    entries_keep(device);
+    tries_pay_for_posts(device);
+}
+
+/// A start-up may come at any time, and behind its entry all is kept, with no job in hand.
+pub fn stacks_come_up<D: MemDevice>(device: &D)
+    ensures down { StacksComeDown (D.told device.now) (D.clock device.now).first }
+    ensures up { StacksComeUp (D.told device.now) (D.clock device.now).first }
+{
+    start_ups_may_follow(device);
+}

@@ -1,0 +1,4 @@
+pub mod Ties
+pub mod Halves
+pub mod Turns
+pub mod Keeps

@@ -1,0 +1,23 @@
+// The laws of the work. Their functions do nothing.
+ghost use Rattle.stack_work.specs.Work.{HandsAreSmall, EntriesLowerWork, RefusalsLowerWork};
+
+use hand_laws::hands_go_on;
+use memif::MemDevice;
+use turn_figures::{picks_are_bounded, programs_are_small, starts_keep_figures};
+
+/// The job in hand has a program of two instances at most, whose retries are a byte.
+pub fn hands_are_small()
+    ensures { HandsAreSmall }
+{
+    programs_are_small();
+}
+
+/// An entry more lowers the work of the stack, whatever else is done, and so does an operation that the device refuses.
+pub fn stack_works<D: MemDevice>(device: &D)
+    ensures entries { EntriesLowerWork (D.told device.now) (D.clock device.now) }
+    ensures refusals { RefusalsLowerWork }
+{
+    hands_go_on();
+    picks_are_bounded(device);
+    starts_keep_figures();
+}
