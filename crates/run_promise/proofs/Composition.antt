@@ -1,8 +1,8 @@
 -- The promise from its two halves.
 use Rattle.std.specs.Prelude.{slice_get, min, IfSome}
 use Rattle.std.specs.Option.{option_map_or}
-use Rattle.std.proofs.Common.{◌≡◌, ℕ, zero, suc, ◌<◌, ◌≤◌, ◌+◌, ◌-◌, IsTrue, List, [], ◌∷◌, length, Option, Some, None, refl, sym, subst, ap, inl, inr, arith}
-use Rattle.nv_base.specs.Count.{last_count, WereCounted}
+use Rattle.std.proofs.Common.{◌≡◌, ℕ, zero, suc, ◌<◌, ◌≤◌, ◌+◌, ◌-◌, ◌⊎◌, IsTrue, List, [], ◌∷◌, length, Option, Some, None, refl, sym, subst, ap, inl, inr, arith}
+use Rattle.nv_base.specs.Count.{last_count, next_count, WereCounted}
 use Rattle.fls_model.specs.Told.{Change, bytes_now}
 use Rattle.memif.specs.Told.{PartTold}
 use Rattle.memif.specs.Clock.{PartClock, After}
@@ -12,13 +12,13 @@ use Rattle.block_machine.specs.StartUp.{at_first}
 use Rattle.block_machine.specs.Steps.{step}
 use Rattle.block_machine.specs.Prices.{price_in_faults}
 use Rattle.block_promise.specs.Payment.{Worn, IsExcused, ArePaid, IsPaid}
-use Rattle.block_promise.specs.OverDevice.{HasStarted}
+use Rattle.block_promise.specs.OverDevice.{HasStarted, HasOffAt}
 use Rattle.device_bridge.specs.Image.{held_in, IsSoundFlash}
 use Rattle.device_bridge.specs.FlashRun.{TellsBytes, StartsSound, bytes_after, AreSeen}
 use Rattle.device_bridge.specs.Bridge.{IsWornOut}
 use Rattle.run_promise.specs.Run.{Run, has_cutter}
 use Rattle.run_promise.specs.Promise.{Keeps, StartUpsFind, making_of}
-use Rattle.run_promise.specs.Halves.{BlockHalf, DeviceHalf, HalvesMakeIt}
+use Rattle.run_promise.specs.Halves.{BlockHalf, DeviceHalf, HalvesMakeIt, beyond_end}
 
 -- PAYMENT
 excused_too : (c : Configuration) (worn other : Worn) (s : State) (e : Entry) → ((k n : ℕ) → worn k n → other k n) → IsExcused c worn s e → IsExcused c other s e
@@ -69,7 +69,7 @@ both_told (Some image) P Q R more p q = more image p q
 both_told None P Q R more p q = tt
 
 -- THE MARKS
-lists : (r : Run) (before now : PartTold) (clock : PartClock) → BlockHalf r before now clock → DeviceHalf r before now clock
+lists : (r : Run) (before now : PartTold) (clock : PartClock) → BlockHalf r before now clock → DeviceHalf r before now (beyond_end clock)
     → TellsBytes r.flash → StartsSound r.configuration.geometry r.flash → StartUpsFind r
 lists r before now clock block device tells sound marks ops has small =
     let c = r.configuration in
@@ -79,7 +79,7 @@ lists r before now clock block device tells sound marks ops has small =
     (λ image finds. block.over.found marks ops (held_in c.geometry (making_of c).numbers image) has small finds)
     (device.after tells sound ops within small)
 
-exits : (r : Run) (before now : PartTold) (clock : PartClock) → BlockHalf r before now clock → DeviceHalf r before now clock
+exits : (r : Run) (before now : PartTold) (clock : PartClock) → BlockHalf r before now clock → DeviceHalf r before now (beyond_end clock)
     → TellsBytes r.flash → StartsSound r.configuration.geometry r.flash → HasStarted r.history → length r.flash.operations < last_count → IfSome (bytes_now r.flash.exit) (Keeps r.configuration r.history)
 exits r before now clock block device tells sound started small =
     let c = r.configuration in
@@ -113,8 +113,12 @@ promised clock r before now block device = record {
   operations = λ started. record {
     told_alike = device.operations.told_alike;
     chain = device.operations.chain;
-    seen = λ t. seen_too (λ k. IsTrue (has_cutter r.course) × clock.off_in k) _ 0 t.bytes.last r.flash.operations t.changes (λ k is. (is.0, block.over.off k is.1)) (device.operations.seen t);
+    seen = λ t. seen_too (λ k. IsTrue (has_cutter r.course) × ((last_count ≤ k) ⊎ clock.off_in k)) _ 0 t.bytes.last r.flash.operations t.changes (λ k is. (is.0, told k is.1)) (device.operations.seen t);
   };
   begins = block.over.begins;
   counted = λ e ops has is. omega (arith, block.over.counted e ops has is, device.ops);
 }
+  where
+    told : (k : ℕ) → (last_count ≤ k) ⊎ clock.off_in k → (last_count ≤ k) ⊎ HasOffAt r.history (next_count k)
+    told k (inl past_end) = inl past_end
+    told k (inr off) = inr (block.over.off k off)

@@ -1,8 +1,8 @@
 -- Runs that keep the promise.
 use Rattle.std.specs.Prelude.{Contains}
-use Rattle.std.proofs.Common.{◌≡◌, ℕ, zero, suc, ◌≤◌, true, IsTrue, List, [], ◌∷◌, replicate, Option, Some, None, refl, sym, ap, subst, ◌∙◌, inl, arith}
+use Rattle.std.proofs.Common.{◌≡◌, ℕ, zero, suc, ◌≤◌, true, IsTrue, List, [], ◌∷◌, replicate, Option, Some, None, refl, sym, ap, subst, ◌∙◌, inl, arith, ◌⊎◌, inr}
 use Rattle.nv_base.specs.declared.instance.DeviceNumber.{DeviceNumber}
-use Rattle.nv_base.specs.Count.{next_count}
+use Rattle.nv_base.specs.Count.{last_count, next_count}
 use Rattle.nv_base.specs.Entry.{ops_of}
 use Rattle.nv_base.specs.Marks.{instance_of}
 use Rattle.block_config.specs.Lengths.{lengths_of}
@@ -150,8 +150,8 @@ chains : (first last : List ℕ) → [] ≡ first → blank ≡ last → IsChain
 chains first last a b = subst (λ (f : List ℕ). IsChain (attached small.geometry f) kept_write.flash.operations last) a
     (subst (λ (l : List ℕ). IsChain blank kept_write.flash.operations l) b (refl, (blank, (record { size = refl; front = refl; back = refl }, grown_same 160), refl)))
 
-stays_back : (last : List ℕ) (changes : List Change) → blank ≡ last → [] ≡ changes → AreSeen (λ k. IsTrue true × HasOffAt whole (next_count k)) 0 last kept_write.flash.operations changes
-stays_back last changes a b = subst (λ (cs : List Change). AreSeen (λ k. IsTrue true × HasOffAt whole (next_count k)) 0 last kept_write.flash.operations cs) b (((refl, refl), sym a), refl)
+stays_back : (last : List ℕ) (changes : List Change) → blank ≡ last → [] ≡ changes → AreSeen (λ k. IsTrue true × ((last_count ≤ k) ⊎ HasOffAt whole (next_count k))) 0 last kept_write.flash.operations changes
+stays_back last changes a b = subst (λ (cs : List Change). AreSeen (λ k. IsTrue true × ((last_count ≤ k) ⊎ HasOffAt whole (next_count k))) 0 last kept_write.flash.operations cs) b (((refl, inr refl), sym a), refl)
 
 no_refusals : (id : ℕ) → RefusalsExplain small kept_write.course whole id
 no_refusals id zero = omega arith

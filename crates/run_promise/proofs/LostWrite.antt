@@ -1,10 +1,10 @@
 -- The run that loses an acknowledged write at a cut keeps all else that the promise says.
 use Rattle.std.specs.Prelude.{Contains}
 use Rattle.std.specs.Option.{option_and_then}
-use Rattle.std.proofs.Common.{◌≡◌, ℕ, zero, suc, IsTrue, List, [], ◌∷◌, ◌++◌, ◌==◌, Option, Some, None, refl, sym, ap, subst, ◌∙◌, inl, inr, arith}
+use Rattle.std.proofs.Common.{◌≡◌, ℕ, zero, suc, IsTrue, List, [], ◌∷◌, ◌++◌, ◌==◌, Option, Some, None, refl, sym, ap, subst, ◌∙◌, inl, inr, arith, ◌≤◌, ◌⊎◌}
 use Rattle.std.proofs.lemmas.Bool.{cases_Bool}
 use Rattle.nv_base.specs.declared.instance.DeviceNumber.{DeviceNumber}
-use Rattle.nv_base.specs.Count.{next_count}
+use Rattle.nv_base.specs.Count.{last_count, next_count}
 use Rattle.nv_base.specs.Marks.{instance_of}
 use Rattle.fls_model.specs.Told.{Change}
 use Rattle.block_machine.specs.Words.{Instance, Mark, Content, Erased, Entry, Wrote, Found, Write}
@@ -139,7 +139,7 @@ chains first last a b = subst (λ (f : List ℕ). IsChain (attached small.geomet
     (subst (λ (l : List ℕ). IsChain (begun 0) operations l) b (refl, (begun 1, refl, (refl, (begun 2, refl, (refl, (begun 3, refl, (refl, (begun 4, refl, (refl, (begun 4, refl, refl)))))))))))
 
 abbrev Kept : ℕ → Type 0
-Kept k = IsTrue (has_cutter lost_write.course) × HasOffAt whole (next_count k)
+Kept k = IsTrue (has_cutter lost_write.course) × ((last_count ≤ k) ⊎ HasOffAt whole (next_count k))
 
 seen : (last : List ℕ) (changes : List Change) → operations ≡ changes → AreSeen Kept 0 last operations changes
 seen last changes a = subst (λ (cs : List Change). AreSeen Kept 0 last operations cs) a (inl ((refl, refl), refl, inl ((refl, refl), refl, inl ((refl, refl), refl, inl ((refl, refl), refl, inl ((refl, refl), refl, refl))))))

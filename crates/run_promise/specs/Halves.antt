@@ -1,6 +1,6 @@
 -- The two halves of the promise: what is said over any device, and what ties the device to its flash.
-use Rattle.std.specs.Prelude.{ℕ}
-use Rattle.nv_base.specs.Count.{WereCounted}
+use Rattle.std.specs.Prelude.{◌⊎◌, ◌≤◌, ℕ}
+use Rattle.nv_base.specs.Count.{last_count, WereCounted}
 use Rattle.memif.specs.Told.{PartTold}
 use Rattle.memif.specs.Clock.{PartClock}
 use Rattle.block_promise.specs.OverDevice.{KeepsOver}
@@ -19,6 +19,10 @@ pub record BlockHalf (r : Run) (before now : PartTold) (clock : PartClock) : Typ
 abbrev pub DeviceHalf : Run → PartTold → PartTold → PartClock → Type 0
 DeviceHalf r before now clock = Bridges (making_of r.configuration) (has_cutter r.course) r.flash before now clock
 
+-- what is told of where the power went off; past the end of the count it may have gone off in any operation
+abbrev pub beyond_end : PartClock → PartClock
+beyond_end clock = record clock { off_in = λ k. (last_count ≤ k) ⊎ clock.off_in k }
+
 -- both halves make the promise
 abbrev pub HalvesMakeIt : PartClock → Type 0
-HalvesMakeIt clock = (r : Run) (before now : PartTold) → BlockHalf r before now clock → DeviceHalf r before now clock → Promise r
+HalvesMakeIt clock = (r : Run) (before now : PartTold) → BlockHalf r before now clock → DeviceHalf r before now (beyond_end clock) → Promise r

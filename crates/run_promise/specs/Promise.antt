@@ -1,5 +1,5 @@
 -- What the stack promises of each run. Its fields, read one after another, are one sentence, and behind it the bookkeeping.
-use Rattle.std.specs.Prelude.{◌<◌, ℕ, IsTrue, List, length, Contains, IfSome}
+use Rattle.std.specs.Prelude.{◌⊎◌, ◌<◌, ◌≤◌, ℕ, IsTrue, List, length, Contains, IfSome}
 use Rattle.nv_base.specs.Count.{last_count, next_count, WereCounted}
 use Rattle.block_config.specs.Lengths.{lengths_of}
 use Rattle.block_config.specs.Sizes.{measures_of}
@@ -42,6 +42,10 @@ ExitKeeps r = HasStarted r.history → length r.flash.operations < last_count �
 abbrev pub making_of : Configuration → Making
 making_of c = record { geometry = c.geometry; numbers = lengths_of c; reserve = (measures_of c.geometry.page c.blocks).urgent }
 
+-- A planned cut kept this operation from the flash: the power went off in it. Past the end of the count no Off tells which.
+abbrev pub MayBeKept : Run → ℕ → Type 0
+MayBeKept r k = IsTrue (has_cutter r.course) × ((last_count ≤ k) ⊎ HasOffAt r.history (next_count k))
+
 -- the flash's faults pay for each failure, but where the flash is worn out
 abbrev pub FailuresArePaid : Run → Type 0
 FailuresArePaid r = IsPaid r.configuration (IsWornOut (making_of r.configuration) r.flash) r.flash.entry.faults r.flash.exit.faults r.history
@@ -62,6 +66,6 @@ pub record Promise (r : Run) : Type 0 where
   -- An Off is planned, or the flash counted a cut.
   pub off : WereCounted (offs_of_flash r.course r.history) r.flash.entry.cuts r.flash.exit.cuts
   -- The operations are those of the flash, but for one at each Off that a planned cut kept from it; the entries count them.
-  pub operations : HasStarted r.history → AreOperations r.configuration.geometry r.flash (λ k. IsTrue (has_cutter r.course) × HasOffAt r.history (next_count k))
+  pub operations : HasStarted r.history → AreOperations r.configuration.geometry r.flash (MayBeKept r)
   pub begins : BeginsBefore r.history
   pub counted : TellsAtMost (length r.flash.operations) r.history

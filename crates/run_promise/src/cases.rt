@@ -1,12 +1,12 @@
 // Runs that keep the promise, and runs that break it.
-ghost use Rattle.std.specs.Prelude.{ℕ, [], IsTrue};
-ghost use Rattle.nv_base.specs.Count.{WereCounted, next_count};
+ghost use Rattle.std.specs.Prelude.{ℕ, []};
+ghost use Rattle.nv_base.specs.Count.{WereCounted};
 ghost use Rattle.nvm_script.specs.Printed.{history_text};
 ghost use Rattle.block_machine.specs.Legal.{IsLegal};
-ghost use Rattle.block_promise.specs.OverDevice.{BeginsBefore, TellsAtMost, HasOffAt};
+ghost use Rattle.block_promise.specs.OverDevice.{BeginsBefore, TellsAtMost};
 ghost use Rattle.device_bridge.specs.FlashRun.{AreOperations};
-ghost use Rattle.run_promise.specs.Run.{cap, HasOrder, RefusalsExplain, has_cutter, offs_of_flash};
-ghost use Rattle.run_promise.specs.Promise.{Promise, StartUpsFind, CutsKeep, ExitKeeps, FailuresArePaid};
+ghost use Rattle.run_promise.specs.Run.{cap, HasOrder, RefusalsExplain, offs_of_flash};
+ghost use Rattle.run_promise.specs.Promise.{Promise, StartUpsFind, CutsKeep, ExitKeeps, FailuresArePaid, MayBeKept};
 ghost use Rattle.run_promise.specs.Call.{IsRunOf, text_of};
 ghost use Rattle.run_promise.specs.Completeness.{Completeness};
 ghost use Rattle.run_promise.specs.Cases.{BreaksBy, small, quiet, wiped, empty_at_11, made_up_mark, off_without_a_cut, stale_in_play, invented_store, second_found, other_dataset, worn_but_roomy, worn_and_full, kept_write, lost_write, two_callers, written_at, turned, not_drained, demo_run, demo_call};
@@ -62,7 +62,7 @@ pub fn a_lost_write_breaks_it()
     ensures faults { FailuresArePaid lost_write }
     ensures refusals { (id : ℕ) → RefusalsExplain small lost_write.course lost_write.history id }
     ensures off { WereCounted (offs_of_flash lost_write.course lost_write.history) 0 0 }
-    ensures operations { AreOperations small.geometry lost_write.flash (λ k. IsTrue (has_cutter lost_write.course) × HasOffAt lost_write.history (next_count k)) }
+    ensures operations { AreOperations small.geometry lost_write.flash (MayBeKept lost_write) }
     ensures begins { BeginsBefore lost_write.history }
     ensures counted { TellsAtMost 5 lost_write.history }
 {

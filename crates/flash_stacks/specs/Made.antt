@@ -1,0 +1,81 @@
+-- A stack over a flash, from its making on.
+use Rattle.std.specs.Prelude.{◌≡◌, ◌≢◌, ◌≤◌, ◌⊎◌, ℕ, false, true, List, [], length, IfSome, None}
+use Rattle.nv_base.specs.Count.{Rose}
+use Rattle.nv_base.specs.Geometry.{size_of}
+use Rattle.block_config.specs.Config.{Configuration}
+use Rattle.memif.specs.Told.{PartTold, First, figures_at}
+use Rattle.memif.specs.Clock.{PartClock}
+use Rattle.fls_model.specs.Told.{Told, Change, bytes_now}
+use Rattle.fls_model.specs.declared.flash.AttachFault.{AttachFault}
+use Rattle.fls_model.specs.declared.flash.AttachFault.TheVariants as attach
+use Rattle.fls_devices.specs.Cutter.{cutting, told_cutting}
+use Rattle.device_bridge.specs.Bridge.{Making, Bridges}
+use Rattle.device_clock.specs.Device.{Device, told_of}
+use Rattle.fee_starts.specs.Made.{IsMadeOf}
+use Rattle.ram_blocks.specs.declared.plain_block.PlainBlock.{PlainBlock}
+use Rattle.ram_blocks.specs.Plain.{plain_blocks_of}
+use Rattle.run_promise.specs.Run.{cap, LeavesFlash}
+use Rattle.run_promise.specs.Promise.{making_of}
+use Rattle.nvm_core.specs.Stack.{StackState}
+use Rattle.flash_stacks.specs.declared.device.MakeFault.{MakeFault}
+use Rattle.flash_stacks.specs.declared.device.MakeFault.TheVariants.{WrongSize, Flash, Memory}
+
+-- what a device is made of: this configuration, over a flash that tells this, with so many power cuts that can be planned
+pub record IsOrigin (c : Configuration) (inner : Told) (cuts : ℕ) (making : Making) (entry : Told) : Type 0 where
+  pub made_for : making ≡ making_of c
+  pub over : entry ≡ told_cutting (cutting inner cuts)
+
+-- WITHOUT A START-UP
+-- no changing operation, no fault and no cut was counted, and the bytes are as they were
+pub record LeavesAlone (s t : Told) : Type 0 where
+  pub bytes : bytes_now t ≡ bytes_now s
+  pub ops : t.ops ≡ s.ops
+  pub faults : t.faults ≡ s.faults
+  pub cuts : t.cuts ≡ s.cuts
+
+-- why it isn't made or started: the flash has another size than the configuration's, and is left alone; a fault of the flash;
+-- or want of memory
+abbrev pub IsCause : Configuration → MakeFault → Told → Told → Type 0
+IsCause c (WrongSize found) s t = IfSome s.bytes (λ b. (length b.now ≡ found) × (found ≢ 0) × (found ≢ size_of c.geometry)) × LeavesAlone s t
+IsCause c Flash s t = Rose s.faults t.faults
+IsCause c Memory s t = Unit {0}
+
+-- the flash comes back as it was, or attached
+pub record ComesBack (c : Configuration) (fault : MakeFault) (s t : Told) : Type 0 where
+  pub cause : IsCause c fault s t
+  pub flash : LeavesFlash c.geometry (record { entry = s; exit = t; operations = [] })
+  pub faults : s.faults ≤ t.faults
+  pub cuts : s.cuts ≤ t.cuts
+
+-- THE DEVICE IS TAKEN APART
+-- What its part told of the flash is so. Where it asked for no operation, the flash counted none.
+pub record IsBack (c : Configuration) (inner exit : Told) (before now : PartTold) (clock : PartClock) : Type 0 where
+  pub operations : List Change
+  pub bridges : Bridges (making_of c) true (record { entry = inner; exit = exit; operations = operations }) before now clock
+  pub faults : exit.faults ≡ now.flash_faults
+  pub more : inner.faults ≤ exit.faults
+  pub none : now.ops ≡ 0 → now.planning.unplanned ≡ inner.cuts → (operations ≡ []) × (exit.ops ≡ inner.ops) × (exit.cuts ≡ inner.cuts)
+
+-- THE STACK
+-- all numbers are of its one part
+abbrev pub AreOfFirst : Device → Type 0
+AreOfFirst d = (n : ℕ) → (figures_at (told_of d).fixed n).part ≡ First
+
+-- it is made, and has made no start-up
+pub record IsMadeStack (c : Configuration) (making : Making) (entry : Told) (s : StackState Device (List PlainBlock)) : Type 0 where
+  pub device : IsMadeOf making entry s.device
+  pub parts : AreOfFirst s.device
+  pub only : s ≡ record {
+    desk = record { config = c; cap = cap; entries = []; prepared = 0 };
+    hand = None;
+    device = s.device;
+    copies = plain_blocks_of c;
+    ready = false;
+    has_room = true;
+  }
+
+-- why the flash isn't attached
+abbrev pub fault_of : AttachFault → MakeFault
+fault_of attach.Failed = Flash
+fault_of (attach.WrongSize found) = WrongSize found
+fault_of attach.Memory = Memory

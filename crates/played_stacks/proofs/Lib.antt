@@ -1,0 +1,11 @@
+pub mod Plans
+pub mod Copies
+pub mod Few
+pub mod Steps
+pub mod Parts
+pub mod Devices
+pub mod Picks
+pub mod Refused
+pub mod Turning
+pub mod Halves
+pub mod Behind

@@ -1,0 +1,20 @@
+use Rattle.std.proofs.Common.{◌≡◌, List, sym, subst, ap, ◌∙◌}
+use Rattle.memif.specs.Told.{armed}
+use Rattle.ram_blocks.specs.declared.plain_block.PlainBlock.{PlainBlock}
+use Rattle.nvm_core.specs.Stack.{StackState}
+use Rattle.stack_steps.specs.Told.{StackTold}
+use Rattle.stack_steps.specs.Calls.{Arms}
+use Rattle.played_stacks.specs.Told.{told_by, shown}
+use Rattle.played_stacks.proofs.Steps.{arms}
+use Rattle.played_stacks.proofs.stack.PlainStackPlayedStack.arm.Goals as goal
+
+pub returns-clause-arms : goal.returns-clause-arms
+returns-clause-arms g c =
+    let s = c.self.inside.stack in
+    let d = g.D.MemDevice.told s.device in
+    let ready = ap (λ (t : StackState g.row.D.Denot (List PlainBlock)). t.ready) c.self.view_is ∙ c.requires in
+    let is : told_by g.D.MemDevice.told c.arm.new.self ≡ shown s.desk s.hand s.copies s.ready (armed 0 c.args.nth c.args.keep d) =
+    ap (told_by g.D.MemDevice.told) c.arm.ensures.only ∙ ap (shown s.desk s.hand s.copies s.ready) c.arm.ensures.arms.0 in
+    subst (λ (t : StackState g.row.D.Denot (List PlainBlock)). Arms c.args.nth (told_by g.D.MemDevice.told t) (told_by g.D.MemDevice.told c.arm.new.self)) c.self.view_is
+    (subst (λ (t : StackTold). Arms c.args.nth (told_by g.D.MemDevice.told s) t) (sym is)
+    (arms c.args.nth c.args.keep s.desk s.hand s.copies s.ready d (c.device-device.ensures.tied ready).later))

@@ -1,0 +1,36 @@
+use Rattle.std.proofs.Common.{◌≡◌, ◌<◌, List, sym, subst, ap, ◌∙◌, inl, inr, ℕ}
+use Rattle.std.specs.Prelude.{map}
+use Rattle.nv_base.specs.Count.{last_count}
+use Rattle.ram_blocks.specs.declared.plain_block.PlainBlock.{PlainBlock}
+use Rattle.ram_blocks.specs.Told.{most_of}
+use Rattle.ram_blocks.specs.Plain.{told_of}
+use Rattle.nvm_core.specs.Stack.{StackState}
+use Rattle.stack_steps.specs.Calls.{Turns}
+use Rattle.played_stacks.specs.Told.{told_by}
+use Rattle.played_stacks.proofs.Few.{few_copied}
+use Rattle.played_stacks.proofs.Halves.{IsBehind, ended}
+use Rattle.played_stacks.proofs.Behind.{behind_device}
+use Rattle.played_stacks.proofs.stack.PlainStackPlayedStack.turn.Goals as goal
+
+pub returns-clause-turns : goal.returns-clause-turns
+returns-clause-turns g c =
+    let told = g.D.MemDevice.told in
+    let old = c.self.inside.stack in
+    let new = c.turn-turned.new.self in
+    let ready = ap (λ (s : StackState g.row.D.Denot (List PlainBlock)). s.ready) c.self.view_is ∙ c.requires in
+    let behind : new.ready ≡ old.ready → ((id : ℕ) → most_of (map told_of new.copies) id < last_count) → IsBehind told c.turn-turned.result old new =
+    λ same small. record {
+      power = c.device-behind.ensures.power (same ∙ ready);
+      counted = c.turn-turned.ensures.counted;
+      lowers = c.turn-turned.ensures.lowers;
+      small = small;
+      within = c.see_refusals.ensures;
+    } in
+    subst (λ (s : StackState g.row.D.Denot (List PlainBlock)). Turns c.turn-turned.result (told_by told s) (told_by told new)) c.self.view_is
+    (elim c.turn-turned.ensures.turns [
+      | inl half ↦ ended told c.histories_grow.ensures.steps c.the_next_job_goes_first.ensures.none old new c.turn-turned.result half
+          (behind half.ready (few_copied c.self.inside.asked old.copies new.copies half.refuses c.self.invariant))
+      | inr more ↦ behind_device told g.D.MemDevice.clock c.histories_grow.ensures.steps c.the_next_job_goes_first.ensures.none old more.0 new more.1 (c.device-device.ensures.power ready) c.turn-turned.result more.2
+          (behind (more.2.ready ∙ more.1.ready)
+          (subst (λ (bs : List PlainBlock). (id : ℕ) → most_of (map told_of bs) id < last_count) (sym more.2.copies) (few_copied c.self.inside.asked old.copies more.0.copies more.1.refuses c.self.invariant)))
+    ])

@@ -1,0 +1,237 @@
+-- Step after step.
+use Rattle.std.specs.Prelude.{slice_get, take, drop}
+use Rattle.std.proofs.Common.{◌≡◌, ◌<◌, ◌≤◌, ◌+◌, ◌*◌, ◌^◌, ℕ, zero, suc, List, [], ◌∷◌, ◌++◌, Option, Some, None, length, map, replicate, refl, sym, ap, ◌∙◌, subst, inl, inr, arith, add-one, length-append, append_assoc, append-nil}
+use Rattle.std.proofs.Math.Nat.{eq-or-lt_of_le}
+use Rattle.std.proofs.lemmas.List.{length-map}
+use Rattle.std.proofs.lemmas.List.Sums.{sum_by_push, sum_by-take-le}
+use Rattle.std.proofs.lemmas.Option.{get_or_from_slice_get, slice_get_within}
+use Rattle.nv_base.specs.Count.{Rose, WereCounted}
+use Rattle.nv_base.specs.Entry.{ops_behind}
+use Rattle.block_machine.specs.Words.{Instance, Mark, Entry, Found, Configuration}
+use Rattle.block_machine.specs.State.{State}
+use Rattle.block_machine.specs.StartUp.{at_first}
+use Rattle.block_machine.specs.Prices.{sum_from, block_price, prices_in_refusals}
+use Rattle.block_machine.specs.Steps.{after}
+use Rattle.script_walks.specs.Words.{Step}
+use Rattle.script_walks.specs.Walk.{IsPiece, IsWalkOf, WalksGrow, joined}
+use Rattle.played_steps.specs.Played.{IsPlayed, ArePlayed}
+use Rattle.played_walks.specs.Stores.{AreNewest, JobsTookStored}
+use Rattle.played_walks.specs.Laws.{FirstAreNewest, StartsKeepStored}
+use Rattle.ram_blocks.specs.Plain.{store_of, plain_blocks_of}
+use Rattle.run_promise.specs.Run.{Played, unpaid_offs, refusals_of, RefusalsExplain}
+use Rattle.stack_steps.specs.declared.steps.StepFault.{StepFault}
+use Rattle.stack_steps.specs.declared.steps.StepFault.TheVariants.{Flash, HistoryFull, Memory}
+use Rattle.stack_steps.specs.Told.{StackTold, state_of, IsNoEarlier}
+use Rattle.stack_steps.specs.Kept.{IsKept}
+use Rattle.stack_steps.specs.Made.{cuts_in, cuts_of, PaysOffs, IsExplained, HasNoRoom, IsLeft, IsFresh, HasWalked, MakesAt, LeavesAt, WereLeft, WasBroken}
+use Rattle.stack_steps.specs.Walking.{plan_behind, refusals_in, IsWalking, AreUnderWay}
+use Rattle.stack_steps.specs.Table.{HasLastStores}
+use Rattle.stack_steps.proofs.Table.{first_table}
+use Rattle.stack_steps.proofs.Explained.{counted_more, none_counted}
+use Rattle.stack_steps.proofs.Causes.{plan_more, unpaid_more, ops_in_all, joined_more, all_of, prices_more, refusals_more}
+
+-- LISTS
+
+some_same : {X : Type 0} (x y : X) → Some x ≡ Some y → x ≡ y
+some_same x y is = cc
+
+take_suc : {X : Type 0} (n : ℕ) (xs : List X) (x : X) → slice_get xs n ≡ Some x → take (suc n) xs ≡ take n xs ++ x ∷ []
+take_suc n [] x is = cc
+take_suc zero (y ∷ ys) x is = ap (λ z. z ∷ []) (some_same y x is)
+take_suc (suc n) (y ∷ ys) x is = ap (λ zs. y ∷ zs) (take_suc n ys x is)
+
+pub take_one_more : {X : Type 0} (n : ℕ) (xs : List X) (x : X) → slice_get xs n ≡ Some x → take (n + 1) xs ≡ take n xs ++ x ∷ []
+take_one_more n xs x is = ap (λ m. take m xs) (add-one n) ∙ take_suc n xs x is
+
+pub few_taken : {X : Type 0} (n : ℕ) (xs : List X) → length (take n xs) ≤ n
+few_taken zero xs = omega arith
+few_taken (suc n) [] = omega arith
+few_taken (suc n) (x ∷ xs) = let fewer = few_taken n xs in omega (arith, fewer)
+
+pub in_two : {X : Type 0} (n : ℕ) (xs : List X) → xs ≡ take n xs ++ drop n xs
+in_two zero xs = refl
+in_two (suc n) [] = refl
+in_two (suc n) (x ∷ xs) = ap (λ ys. x ∷ ys) (in_two n xs)
+
+rest_begins : {X : Type 0} (n : ℕ) (xs : List X) (x : X) → slice_get xs n ≡ Some x → drop n xs ≡ x ∷ drop (suc n) xs
+rest_begins n [] x is = cc
+rest_begins zero (y ∷ ys) x is = ap (λ z. z ∷ ys) (some_same y x is)
+rest_begins (suc n) (y ∷ ys) x is = rest_begins n ys x is
+
+-- a step of the script can be played
+pub is_played : (c : Configuration) (steps : List Step) (n : ℕ) (x : Step) → slice_get steps n ≡ Some x → ArePlayed c steps → IsPlayed c x
+is_played c steps n x is all = subst (λ (y : Step). IsPlayed c y) (get_or_from_slice_get steps n x x is) (all n x (slice_get_within steps n x is))
+
+-- THE WALK
+
+-- one more step
+pub walks_on : WalksGrow → (made : List Step) (x : Step) (piece : List Entry) (old mid new : StackTold) → mid.configuration ≡ old.configuration → IsWalking made old mid → new.entries ≡ mid.entries ++ piece
+    → IsPiece mid.configuration made (state_of mid) x piece → IsExplained x.kind piece mid new → cuts_in x.kind ≤ mid.causes.takes → IsWalking (made ++ x ∷ []) old new
+walks_on grow made x piece old mid new same walking adds is explained planned = record {
+  marks = walking.marks;
+  ops = walking.ops;
+  pieces = walking.pieces ++ piece ∷ [];
+  more = walking.more ++ piece;
+  grows = adds ∙ ap (λ (es : List Entry). es ++ piece) walking.grows ∙ append_assoc old.entries walking.more piece;
+  at = adds ∙ ap (λ (es : List Entry). es ++ piece) walking.at ∙ ap (λ (es : List Entry). first ∷ es) (sym (joined_more walking.pieces piece));
+  walk = subst (λ (es : List Entry). IsWalkOf old.configuration (made ++ x ∷ []) (walking.pieces ++ piece ∷ []) (first ∷ es)) (sym (joined_more walking.pieces piece))
+      (grow old.configuration made walking.pieces first (joined walking.pieces) x piece walking.walk
+      (subst (λ (s : State). IsPiece old.configuration made s x piece) state (subst (λ (c : Configuration). IsPiece c made (after c mid.entries) x piece) same is)));
+  as_many =
+      let a = length-append walking.pieces (piece ∷ []) in
+      let b = length-append made (x ∷ []) in
+      let n = walking.as_many in omega (arith, a, b, n);
+  refusals = λ id. refusals_more old.configuration id first made walking.pieces x piece walking.as_many (walking.refusals id) (told id);
+  refusable = λ id.
+      let price = ap (λ (es : List Entry). prices_in_refusals old.configuration id (first ∷ es)) (joined_more walking.pieces piece) ∙ prices_more old.configuration id (first ∷ joined walking.pieces) piece in
+      let asked = sum_by_push (λ (y : Step). refusals_of id y.kind) made x in
+      let now = own id in
+      let were = walking.refusable id in omega (arith, price, asked, now, were);
+  off = subst (λ (n : ℕ). WereCounted n old.causes.unplanned new.causes.unplanned) (sym (unpaid_more None 0 made walking.pieces x piece walking.as_many))
+      (counted_more (unpaid_offs None 0 made walking.pieces) _ old.causes.unplanned mid.causes.unplanned new.causes.unplanned walking.off paid.off);
+  plan_stays = subst (λ (p : Option ℕ). IsNoEarlier p new.causes.plan) (sym (plan_more None 0 made walking.pieces x piece walking.as_many)) paid.plan_stays;
+  takes =
+      let cuts = sum_by_push (λ (y : Step). cuts_in y.kind) made x in
+      let a = walking.takes in
+      let b = explained.takes in omega (arith, cuts, a, b);
+}
+  where
+    first : Entry
+    first = Found walking.marks walking.ops
+
+    state : after old.configuration mid.entries ≡ after old.configuration (first ∷ joined walking.pieces)
+    state = ap (after old.configuration) walking.at
+
+    -- the prices of the piece
+    own : (id : ℕ) → sum_from old.configuration (block_price id) (after old.configuration (first ∷ joined walking.pieces)) piece + new.causes.refusable id ≤ mid.causes.refusable id + refusals_of id x.kind
+    own id =
+        subst (λ (s : State). sum_from old.configuration (block_price id) s piece + new.causes.refusable id ≤ mid.causes.refusable id + refusals_of id x.kind) state
+        (subst (λ (c : Configuration). sum_from c (block_price id) (after c mid.entries) piece + new.causes.refusable id ≤ mid.causes.refusable id + refusals_of id x.kind) same (explained.refusals id))
+
+    told : (id : ℕ) → prices_in_refusals old.configuration id (first ∷ joined walking.pieces) + sum_from old.configuration (block_price id) (after old.configuration (first ∷ joined walking.pieces)) piece ≤ refusals_in id made + refusals_of id x.kind
+    told id = let now = own id in let were = walking.refusable id in omega (arith, now, were)
+
+    few : ops_behind 0 (joined walking.pieces) ≤ ops_behind 0 mid.entries
+    few = subst (λ (es : List Entry). ops_behind 0 (joined walking.pieces) ≤ ops_behind 0 es) (sym walking.at) (ops_in_all walking.marks walking.ops (joined walking.pieces))
+
+    paid : PaysOffs x.kind (plan_behind None 0 made walking.pieces) (ops_behind 0 (joined walking.pieces)) piece mid new
+    paid = explained.offs (plan_behind None 0 made walking.pieces) (ops_behind 0 (joined walking.pieces)) planned few walking.plan_stays
+
+pub has_walked : (made : List Step) (old mid new : StackTold) → new.entries ≡ mid.entries → WereCounted 0 mid.causes.unplanned new.causes.unplanned → IsWalking made old mid → HasWalked made old new
+has_walked made old mid new same cuts walking = record {
+  more = walking.more;
+  grows = same ∙ walking.grows;
+  pieces = walking.pieces;
+  walk = subst (λ (es : List Entry). IsWalkOf old.configuration made walking.pieces es) (sym (same ∙ walking.at)) walking.walk;
+  refusals = λ id. subst (λ (es : List Entry). RefusalsExplain old.configuration (Played made walking.pieces []) es id) (sym (same ∙ walking.at)) (walking.refusals id);
+  off = subst (λ (n : ℕ). WereCounted n old.causes.unplanned new.causes.unplanned) (nothing_more (unpaid_offs None 0 made walking.pieces))
+      (counted_more (unpaid_offs None 0 made walking.pieces) 0 old.causes.unplanned mid.causes.unplanned new.causes.unplanned walking.off cuts);
+}
+  where
+    nothing_more : (n : ℕ) → n + 0 ≡ n
+    nothing_more n = omega arith
+
+none_taken : (c : Configuration) (id n : ℕ) (marks : List (Instance × Mark)) (ops : ℕ) → prices_in_refusals c id (Found marks ops ∷ joined (take n [])) ≤ refusals_in id (take n [])
+none_taken c id zero marks ops = omega arith
+none_taken c id (suc n) marks ops = omega arith
+
+-- a fresh stack has walked no step
+pub fresh_walking : (t : StackTold) → IsFresh t → IsWalking [] t t
+fresh_walking t fresh = record {
+  marks = fresh.marks;
+  ops = fresh.ops;
+  pieces = [];
+  more = [];
+  grows = sym (append-nil t.entries);
+  at = fresh.entries;
+  walk = (refl, tt);
+  as_many = refl;
+  refusals = λ id n. none_taken t.configuration id n fresh.marks fresh.ops;
+  refusable = λ id. let none = fresh.none_refused id in omega (arith, none);
+  off = none_counted t.causes.unplanned;
+  plan_stays = subst (λ (p : Option ℕ). IsNoEarlier None p) (sym fresh.none_planned) tt;
+  takes = omega arith;
+}
+
+length_mapped : (c : Configuration) → length (map store_of (plain_blocks_of c)) ≡ length c.blocks + 1
+length_mapped c = simp length-map (sym (add-one (length c.blocks)))
+
+pub fresh_kept : FirstAreNewest → StartsKeepStored → (t : StackTold) → IsFresh t → IsKept [] t
+fresh_kept first starts t fresh = record {
+  ready = fresh.ready;
+  places = ap length fresh.stores ∙ length_mapped t.configuration;
+  stores = subst (λ (s : List (ℕ × List ℕ)). AreNewest t.configuration [] s) (sym fresh.stores) (first t.configuration);
+  jobs = subst (λ (h : List Entry). JobsTookStored t.configuration [] (after t.configuration h)) (sym fresh.entries) (starts t.configuration [] at_first fresh.marks fresh.ops);
+}
+
+-- WHAT IS LEFT
+
+rose_later : (a b d : ℕ) → a ≤ b → Rose b d → Rose a d
+rose_later a b d less (inl rose) = inl (omega (arith, less, rose))
+rose_later a b d less (inr (full, stays)) = elim (eq-or-lt_of_le less) [ inl same ↦ inr (omega (arith, same, full), omega (arith, less, stays)) | inr lower ↦ inl (omega (arith, lower, stays)) ]
+
+were_left : (fault : StepFault) (x : Step) (xs : List Step) (old mid new : StackTold) → mid.configuration ≡ old.configuration → mid.cap ≡ old.cap → old.faults ≤ mid.faults → IsLeft fault x mid new → WereLeft fault (x ∷ xs) old new
+were_left Flash x xs old mid new configuration cap counted left = (left.why.0, rose_later old.faults mid.faults new.faults counted left.why.1)
+were_left Memory x xs old mid new configuration cap counted left = tt
+were_left HistoryFull x xs old mid new configuration cap counted left =
+    subst (λ (h : List Entry). HasNoRoom old.configuration old.cap (after old.configuration h) x.kind) (sym left.entries)
+    (subst (λ (n : ℕ). HasNoRoom old.configuration n (after old.configuration mid.entries) x.kind) cap
+    (subst (λ (c : Configuration). HasNoRoom c mid.cap (after c mid.entries) x.kind) configuration left.why))
+
+pub was_broken : (fault : StepFault) (steps : List Step) (n : ℕ) (x : Step) (old mid new : StackTold) → slice_get steps n ≡ Some x → mid.configuration ≡ old.configuration → mid.cap ≡ old.cap → old.faults ≤ mid.faults
+    → IsWalking (take n steps) old mid → IsLeft fault x mid new → WasBroken fault steps old new
+was_broken fault steps n x old mid new is configuration cap counted walking left = record {
+  made = take n steps;
+  left = drop n steps;
+  order = in_two n steps;
+  walked = has_walked (take n steps) old mid new left.entries left.cuts walking;
+  why = subst (λ (xs : List Step). WereLeft fault xs old new) (sym (rest_begins n steps x is)) (were_left fault x (drop (suc n) steps) old mid new configuration cap counted left);
+}
+
+-- nothing was made for want of memory
+pub none_made : (steps : List Step) (t : StackTold) → IsFresh t → WasBroken Memory steps t t
+none_made steps t fresh = record { made = []; left = steps; order = refl; walked = has_walked [] t t t refl (none_counted t.causes.unplanned) (fresh_walking t fresh); why = tt }
+
+-- UNDER WAY
+
+pub begin : FirstAreNewest → StartsKeepStored → (steps : List Step) (blocks : ℕ) (table : List ℕ) (t : StackTold) → IsFresh t → blocks ≡ length t.configuration.blocks → table ≡ replicate (16 * (blocks + 1)) 0 → AreUnderWay steps 0 table t t
+begin first starts steps blocks table t fresh count is = record {
+  configuration = refl;
+  cap = refl;
+  counted = omega arith;
+  kept = fresh_kept first starts t fresh;
+  table_kept = subst (λ (xs : List ℕ). HasLastStores t.configuration [] xs) (sym (is ∙ ap (λ n. replicate (16 * (n + 1)) 0) count)) (first_table t.configuration);
+  walking = fresh_walking t fresh;
+}
+
+-- the plans that the next step may need are taken yet
+takes_enough : (steps : List Step) (i : ℕ) (x : Step) (old mid : StackTold) → slice_get steps i ≡ Some x → cuts_of steps ≤ old.causes.takes → old.causes.takes ≤ mid.causes.takes + cuts_of (take i steps) → cuts_in x.kind ≤ mid.causes.takes
+takes_enough steps i x old mid at all are =
+    let more = ap cuts_of (take_one_more i steps x at) ∙ sum_by_push (λ (y : Step). cuts_in y.kind) (take i steps) x in
+    let within = sum_by-take-le (λ (y : Step). cuts_in y.kind) steps (i + 1) in omega (arith, more, within, all, are)
+
+pub go_on : WalksGrow → (steps : List Step) (i : ℕ) (table table' : List ℕ) (old mid new : StackTold) → i < 2 ^ 32 → cuts_of steps ≤ old.causes.takes → AreUnderWay steps i table old mid → MakesAt steps i table table' mid new → AreUnderWay steps (i + 1) table' old new
+go_on grow steps i table table' old mid new few planned way makes =
+    let fewer = few_taken i steps in
+    let (made, has) = makes.made (take i steps) (omega (arith, fewer, few)) way.kept way.table_kept in
+    let more = take_one_more i steps makes.step makes.at in
+    record {
+      configuration = made.configuration ∙ way.configuration;
+      cap = made.cap ∙ way.cap;
+      counted = let a = way.counted in let b = made.counted in omega (arith, a, b);
+      kept = subst (λ (xs : List Step). IsKept xs new) (sym more) made.kept;
+      table_kept = subst (λ (xs : List Step). HasLastStores new.configuration xs table') (sym more) (subst (λ (c : Configuration). HasLastStores c (take i steps ++ makes.step ∷ []) table') (sym made.configuration) has);
+      walking = subst (λ (xs : List Step). IsWalking xs old new) (sym more)
+          (walks_on grow (take i steps) makes.step made.piece old mid new way.configuration way.walking made.entries made.is made.explained (takes_enough steps i makes.step old mid makes.at planned way.walking.takes));
+    }
+
+-- all of them
+pub all_made : (steps : List Step) (i : ℕ) (table : List ℕ) (old now : StackTold) → length steps ≤ i → AreUnderWay steps i table old now → HasWalked steps old now
+all_made steps i table old now all way =
+    subst (λ (xs : List Step). HasWalked xs old now) (all_of i steps all) (has_walked (take i steps) old now now refl (none_counted now.causes.unplanned) way.walking)
+
+pub some_made : (fault : StepFault) (steps : List Step) (i : ℕ) (table : List ℕ) (old mid new : StackTold) → AreUnderWay steps i table old mid → LeavesAt fault steps i mid new → WasBroken fault steps old new
+some_made fault steps i table old mid new way leaves = was_broken fault steps i leaves.step old mid new leaves.at way.configuration way.cap way.counted way.walking leaves.left
+
+pub counted_later : (fault : StepFault) (steps : List Step) (i : ℕ) (table : List ℕ) (old mid new : StackTold) → AreUnderWay steps i table old mid → LeavesAt fault steps i mid new → old.faults ≤ new.faults
+counted_later fault steps i table old mid new way leaves = let a = way.counted in let b = leaves.left.counted in omega (arith, a, b)

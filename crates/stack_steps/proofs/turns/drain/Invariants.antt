@@ -1,0 +1,17 @@
+use Rattle.std.proofs.Common.{◌≡◌, true, List}
+use Rattle.block_machine.specs.Words.{Entry}
+use Rattle.memif.specs.Told.{PartTold}
+use Rattle.script_walks.specs.Words.{Step}
+use Rattle.stack_steps.specs.Kept.{IsKept, HasTurned}
+use Rattle.stack_steps.proofs.turns.drain.Given as goal
+
+abbrev pub invariant-loop : goal.invariant-loop
+invariant-loop g l = record {
+  ready : (g.S.PlayedStack.told l.stack).ready ≡ true;
+  kept : (before : List Step) → IsKept before (g.S.PlayedStack.told l.initial.stack)
+      → (es : List Entry) × HasTurned before (g.S.PlayedStack.told l.initial.stack) (g.S.PlayedStack.told l.stack) es × IsKept before (g.S.PlayedStack.told l.stack);
+  keeps : (before : PartTold) → g.S.PlayedStack.kept l.initial.stack before → g.S.PlayedStack.kept l.stack before;
+}
+
+abbrev pub decreases-loop : goal.decreases-loop
+decreases-loop g l = (g.S.PlayedStack.told l.stack).work

@@ -1,0 +1,122 @@
+-- What each call of a stack does.
+use Rattle.std.specs.Prelude.{◌≡◌, ◌⊎◌, ◌<◌, ◌≤◌, ◌+◌, ℕ, not, ◌&&◌, Bool, true, false, IsTrue, List, [], ◌∷◌, ◌++◌, get_or, slice_set, sum_by, Option, Some, None, Result, Ok, Err}
+use Rattle.nv_base.specs.Count.{Rose, WereCounted}
+use Rattle.nv_base.specs.Entry.{ops_behind}
+use Rattle.nv_desk.specs.declared.ask.AskFault.{AskFault}
+use Rattle.nv_desk.specs.declared.ask.AskFault.TheVariants as fault
+use Rattle.stack_turns.specs.declared.turned.Turned.{Turned}
+use Rattle.stack_turns.specs.declared.turned.Turned.TheVariants as turned
+use Rattle.stack_turns.specs.declared.turned.FoundAnswer.{FoundAnswer}
+use Rattle.stack_turns.specs.declared.turned.FoundAnswer.TheVariants as found
+use Rattle.block_machine.specs.Words.{Instance, Mark, Request, Reply, Entry, Ask, Found}
+use Rattle.block_machine.specs.Steps.{after_from}
+use Rattle.block_machine.specs.Reply.{fits}
+use Rattle.block_machine.specs.Prices.{sum_from, block_price}
+use Rattle.ram_blocks.specs.Copies.{next_number}
+use Rattle.script_walks.specs.Words.{Refuse}
+use Rattle.script_walks.specs.Walk.{is_at_rest}
+use Rattle.played_walks.specs.Turn.{IsTurn}
+use Rattle.run_promise.specs.Run.{unpaid_off, refusals_of}
+use Rattle.stack_steps.specs.Told.{StackTold, state_of, IsGrown, IsNoEarlier}
+
+-- CAUSES
+
+-- Entries are explained: their Posts tell of no more refused copies than could be told of, and each Off comes where its cut
+-- was planned, or a cut was counted.
+pub record AreExplained (plan : Option ℕ) (es : List Entry) (old new : StackTold) : Type 0 where
+  pub refusals : (id : ℕ) → sum_from old.configuration (block_price id) (state_of old) es + new.causes.refusable id ≤ old.causes.refusable id
+  pub off : WereCounted (sum_by (unpaid_off plan) es) old.causes.unplanned new.causes.unplanned
+  pub plan_stays : IsNoEarlier plan new.causes.plan
+  pub takes : old.causes.takes ≤ new.causes.takes
+
+-- REQUESTS
+
+-- one entry
+pub record AddsAsk (e : Entry) (old new : StackTold) : Type 0 where
+  pub adds : new ≡ record old { entries = old.entries ++ e ∷ []; work = new.work; causes = new.causes }
+  pub explained : AreExplained old.causes.plan (e ∷ []) old new
+
+-- a request is one entry, or nothing changed: it has no room, or memory was wanting
+abbrev pub Asks : ℕ → Request → Result Reply AskFault → StackTold → StackTold → Type 0
+Asks caller r (Ok reply) old new = AddsAsk (Ask caller r reply) old new
+Asks caller r (Err fault.NoRoom) old new = (new ≡ old) × IsTrue (not (fits old.configuration old.cap (state_of old) 1))
+Asks caller r (Err fault.Memory) old new = new ≡ old
+
+-- TURNS
+
+-- when each answer comes, by the entries that the turn added
+abbrev pub IsAnswer : Turned → List Entry → StackTold → Type 0
+IsAnswer turned.Idle es old = (es ≡ []) × IsTrue (is_at_rest (state_of old))
+IsAnswer turned.Off es old = (after_from old.configuration (state_of old) es).off ≡ true
+IsAnswer turned.Worked es old = (state_of old).hand ≡ None → (es ≡ []) × IsTrue (is_at_rest (state_of old))
+IsAnswer turned.Picked es old = Unit {0}
+IsAnswer turned.Posted es old = Unit {0}
+
+-- the work falls with each turn, but where nothing was in hand and a fault was counted
+abbrev pub Lowers : Turned → StackTold → StackTold → Type 0
+Lowers turned.Idle old new = Unit {0}
+Lowers turned.Off old new = Unit {0}
+Lowers turned.Worked old new = (new.work < old.work) ⊎ (((state_of old).hand ≡ None) × Rose old.faults new.faults)
+Lowers turned.Picked old new = new.work < old.work
+Lowers turned.Posted old new = new.work < old.work
+
+-- a turn adds one entry at most
+pub record Turns (answer : Turned) (old new : StackTold) : Type 0 where
+  pub entries : List Entry
+  pub grows : IsGrown entries old new
+  pub counted : old.faults ≤ new.faults
+  pub turn : IsTurn old.configuration (state_of old) old.stores entries
+  pub explained : AreExplained old.causes.plan entries old new
+  pub answers : IsAnswer answer entries old
+  pub lowers : Lowers answer old new
+
+-- START-UPS
+
+-- a start-up that stands is one entry; no cut is planned behind it
+pub record StartsAgain (old new : StackTold) : Type 0 where
+  pub marks : List (Instance × Mark)
+  pub ops : ℕ
+  pub grows : IsGrown (Found marks ops ∷ []) (record old { ready = true }) new
+  pub counted : old.faults ≤ new.faults
+  pub explained : AreExplained None (Found marks ops ∷ []) old new
+
+-- one that fails adds no entry, and the stack isn't ready
+pub record FailsToStart (old new : StackTold) : Type 0 where
+  pub only : new ≡ record old { ready = false; faults = new.faults; work = new.work; causes = new.causes }
+  pub fault : Rose old.faults new.faults
+  pub explained : AreExplained old.causes.plan [] old new
+
+abbrev pub Restarts : FoundAnswer → StackTold → StackTold → Type 0
+Restarts found.Ready old new = StartsAgain old new
+Restarts found.Failed old new = FailsToStart old new
+Restarts found.NoRoom old new = (new ≡ old) × (old.cap < (state_of old).count + 2)
+Restarts found.Memory old new = new ≡ old
+
+-- THE PLAYER'S OWN STEPS
+
+-- A power cut is planned, where a plan is taken: it comes no earlier than at the nth operation behind those that the entries
+-- tell.
+pub record Arms (nth : ℕ) (old new : StackTold) : Type 0 where
+  pub only : new ≡ record old { causes = record old.causes { takes = new.causes.takes; plan = new.causes.plan } }
+  pub takes : old.causes.takes ≤ new.causes.takes + 1
+  pub planned : 1 ≤ old.causes.takes → IsNoEarlier (Some (ops_behind 0 old.entries + nth)) new.causes.plan
+
+-- the application stored a content of a block
+pub record Stores (block : ℕ) (content : List ℕ) (number : ℕ) (old new : StackTold) : Type 0 where
+  pub numbered : number ≡ next_number (get_or old.stores block (0, [])).0
+  pub stored : new ≡ record old { stores = slice_set old.stores block (number, content) }
+
+-- so many copies of a block are refused yet
+pub record Refuses (block count : ℕ) (old new : StackTold) : Type 0 where
+  pub only : new ≡ record old { causes = record old.causes { refusable = new.causes.refusable } }
+  pub more : (id : ℕ) → new.causes.refusable id ≤ old.causes.refusable id + refusals_of id (Refuse block count)
+
+-- THE END OF A DRAIN
+
+-- a turn is the last one, by its answer, whether a job was in hand, and whether a fault was counted
+abbrev pub is_last : Turned → Bool → Bool → Bool
+is_last turned.Idle in_hand risen = true
+is_last turned.Off in_hand risen = true
+is_last turned.Worked in_hand risen = not in_hand && risen
+is_last turned.Picked in_hand risen = false
+is_last turned.Posted in_hand risen = false

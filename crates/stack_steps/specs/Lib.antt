@@ -1,0 +1,6 @@
+pub mod Told
+pub mod Calls
+pub mod Table
+pub mod Kept
+pub mod Made
+pub mod Walking

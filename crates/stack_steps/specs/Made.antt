@@ -1,0 +1,135 @@
+-- The steps that were made.
+use Rattle.std.specs.Prelude.{◌≡◌, ◌≤◌, ◌<◌, ◌+◌, ◌^◌, ℕ, not, true, IsTrue, List, [], ◌∷◌, ◌++◌, length, map, sum_by, slice_get, Option, Some, None}
+use Rattle.nv_base.specs.Count.{Rose, WereCounted}
+use Rattle.nv_base.specs.Entry.{ops_behind}
+use Rattle.block_machine.specs.Words.{Instance, Mark, Request, Reply, Entry, Ask, Found, Configuration}
+use Rattle.block_machine.specs.State.{State}
+use Rattle.block_machine.specs.Reply.{fits}
+use Rattle.block_machine.specs.Prices.{sum_from, block_price}
+use Rattle.block_machine.specs.Steps.{after}
+use Rattle.ram_blocks.specs.Plain.{store_of, plain_blocks_of}
+use Rattle.script_walks.specs.Words.{Step, StepKind, AskStep, Cut, Restart}
+use Rattle.script_walks.specs.Walk.{request_after, IsPiece, IsWalkOf}
+use Rattle.run_promise.specs.Run.{Played, plan_after, unpaid_off, offs_of_flash, refusals_of, RefusalsExplain}
+use Rattle.stack_steps.specs.declared.steps.StepFault.{StepFault}
+use Rattle.stack_steps.specs.declared.steps.StepFault.TheVariants.{Flash, HistoryFull, Memory}
+use Rattle.stack_steps.specs.Told.{StackTold, state_of, IsNoEarlier}
+use Rattle.stack_steps.specs.Calls.{AddsAsk}
+use Rattle.stack_steps.specs.Kept.{IsKept}
+use Rattle.stack_steps.specs.Table.{HasLastStores}
+
+-- THE CAUSES OF A STEP
+
+-- the power cuts that it plans
+abbrev pub cuts_in : StepKind → ℕ
+cuts_in (Cut nth keep) = 1
+cuts_in kind = 0
+
+abbrev pub cuts_of : List Step → ℕ
+cuts_of steps = sum_by (λ x. cuts_in x.kind) steps
+
+-- Offs are those that were planned, or were counted, where these steps' plan stood before: so it is behind this step
+pub record PaysOffs (kind : StepKind) (plan : Option ℕ) (ops : ℕ) (piece : List Entry) (old new : StackTold) : Type 0 where
+  pub off : WereCounted (sum_by (unpaid_off (plan_after kind plan ops)) piece) old.causes.unplanned new.causes.unplanned
+  pub plan_stays : IsNoEarlier (plan_after kind plan ops) new.causes.plan
+
+-- What a step adds is explained: its Posts tell of no more refused copies than could be told of, with those that the step
+-- asked for, and its Offs are paid.
+pub record IsExplained (kind : StepKind) (piece : List Entry) (old new : StackTold) : Type 0 where
+  pub refusals : (id : ℕ) → sum_from old.configuration (block_price id) (state_of old) piece + new.causes.refusable id ≤ old.causes.refusable id + refusals_of id kind
+  pub takes : old.causes.takes ≤ new.causes.takes + cuts_in kind
+  pub offs : (plan : Option ℕ) (ops : ℕ) → cuts_in kind ≤ old.causes.takes → ops ≤ ops_behind 0 old.entries → IsNoEarlier plan old.causes.plan
+      → PaysOffs kind plan ops piece old new
+
+-- A STEP
+
+-- the step is made: it added its piece
+pub record IsMade (before : List Step) (x : Step) (old new : StackTold) : Type 0 where
+  pub piece : List Entry
+  pub configuration : new.configuration ≡ old.configuration
+  pub cap : new.cap ≡ old.cap
+  pub entries : new.entries ≡ old.entries ++ piece
+  pub counted : old.faults ≤ new.faults
+  pub is : IsPiece old.configuration before (state_of old) x piece
+  pub explained : IsExplained x.kind piece old new
+  pub kept : IsKept (before ++ x ∷ []) new
+
+-- a request was entered as the step asks it
+abbrev pub IsAsked : ℕ → Request → List ℕ → StackTold → StackTold → Type 0
+IsAsked caller r table old new =
+    (before : List Step) → HasLastStores old.configuration before table
+    → (reply : Reply) × AddsAsk (Ask caller (request_after old.configuration before caller r) reply) old new
+
+-- Whatever steps came before, so few that each has a line: this one is made, and the table goes on.
+abbrev pub Makes : Step → List ℕ → List ℕ → StackTold → StackTold → Type 0
+Makes x table table' old new =
+    (before : List Step) → length before < 2 ^ 32 → IsKept before old → HasLastStores old.configuration before table
+    → IsMade before x old new × HasLastStores old.configuration (before ++ x ∷ []) table'
+
+-- the next entry has no room
+abbrev pub HasNoRoom : Configuration → ℕ → State → StepKind → Type 0
+HasNoRoom c cap s (AskStep r) = IsTrue (not (fits c cap s 1))
+HasNoRoom c cap s Restart = cap < s.count + 2
+HasNoRoom c cap s kind = ⊥
+
+-- why the step isn't made; it added nothing
+abbrev pub Stops : StepFault → StepKind → StackTold → StackTold → Type 0
+Stops Flash kind old new = (kind ≡ Restart) × Rose old.faults new.faults
+Stops HistoryFull kind old new = HasNoRoom old.configuration old.cap (state_of old) kind
+Stops Memory kind old new = Unit {0}
+
+pub record IsLeft (fault : StepFault) (x : Step) (old new : StackTold) : Type 0 where
+  pub configuration : new.configuration ≡ old.configuration
+  pub cap : new.cap ≡ old.cap
+  pub entries : new.entries ≡ old.entries
+  pub counted : old.faults ≤ new.faults
+  pub cuts : WereCounted 0 old.causes.unplanned new.causes.unplanned
+  pub why : Stops fault x.kind old new
+
+-- ALL STEPS
+
+-- a stack behind its first start-up, whose application stored nothing yet and is to refuse no copy
+pub record IsFresh (t : StackTold) : Type 0 where
+  pub ready : t.ready ≡ true
+  pub marks : List (Instance × Mark)
+  pub ops : ℕ
+  pub entries : t.entries ≡ Found marks ops ∷ []
+  pub stores : t.stores ≡ map store_of (plain_blocks_of t.configuration)
+  pub none_refused : (id : ℕ) → t.causes.refusable id ≡ 0
+  pub none_planned : t.causes.plan ≡ None
+
+-- The history went on, and is a walk of these steps. They explain the copies that its Posts tell as refused, and each Off comes where they
+-- planned a cut, or a cut was counted.
+pub record HasWalked (made : List Step) (old new : StackTold) : Type 0 where
+  pub more : List Entry
+  pub grows : new.entries ≡ old.entries ++ more
+  pub pieces : List (List Entry)
+  pub walk : IsWalkOf old.configuration made pieces new.entries
+  pub refusals : (id : ℕ) → RefusalsExplain old.configuration (Played made pieces []) new.entries id
+  pub off : WereCounted (offs_of_flash (Played made pieces []) new.entries) old.causes.unplanned new.causes.unplanned
+
+-- the step at a place is made, or left
+pub record MakesAt (steps : List Step) (i : ℕ) (table table' : List ℕ) (old new : StackTold) : Type 0 where
+  pub step : Step
+  pub at : slice_get steps i ≡ Some step
+  pub made : Makes step table table' old new
+
+pub record LeavesAt (fault : StepFault) (steps : List Step) (i : ℕ) (old new : StackTold) : Type 0 where
+  pub step : Step
+  pub at : slice_get steps i ≡ Some step
+  pub left : IsLeft fault step old new
+
+-- why these steps were left, in the state after the whole history
+abbrev pub WereLeft : StepFault → List Step → StackTold → StackTold → Type 0
+WereLeft Flash (x ∷ xs) old new = (x.kind ≡ Restart) × Rose old.faults new.faults
+WereLeft HistoryFull (x ∷ xs) old new = HasNoRoom old.configuration old.cap (after old.configuration new.entries) x.kind
+WereLeft Memory xs old new = Unit {0}
+WereLeft fault xs old new = ⊥
+
+-- the first of these steps were made, and the others left, with the reason
+pub record WasBroken (fault : StepFault) (steps : List Step) (old new : StackTold) : Type 0 where
+  pub made : List Step
+  pub left : List Step
+  pub order : steps ≡ made ++ left
+  pub walked : HasWalked made old new
+  pub why : WereLeft fault left old new

@@ -1,0 +1,47 @@
+-- What is told of a stack to whoever plays steps on it.
+use Rattle.std.specs.Prelude.{◌≡◌, ◌⊎◌, ◌≤◌, ℕ, Bool, List, ◌++◌, Option, Some, None}
+use Rattle.nv_base.specs.Count.{last_count}
+use Rattle.block_machine.specs.Words.{Entry, Configuration}
+use Rattle.block_machine.specs.State.{State}
+use Rattle.block_machine.specs.Steps.{after}
+
+-- what explains refused copies and power cuts
+pub record Causes : Type 0 where
+  -- of each block: how many refused copies its Posts may tell of yet
+  pub refusable : ℕ → ℕ
+  -- the power cuts that no plan asked for
+  pub unplanned : ℕ
+  -- the plans of a power cut that are taken yet
+  pub takes : ℕ
+  -- where one stands: how many operations were made, at the least, when its cut comes
+  pub plan : Option ℕ
+
+pub record StackTold : Type 0 where
+  -- what never changes: the configuration, and the most entries of the history
+  pub configuration : Configuration
+  pub cap : ℕ
+  -- the entries so far
+  pub entries : List Entry
+  -- the last start-up went well
+  pub ready : Bool
+  -- by block: the application's newest store of synchronized RAM, with its number
+  pub stores : List (ℕ × List ℕ)
+  -- the device's faults so far
+  pub faults : ℕ
+  -- a number that falls with each turn until a drain ends
+  pub work : ℕ
+  pub causes : Causes
+
+-- the state after its entries
+abbrev pub state_of : StackTold → State
+state_of t = after t.configuration t.entries
+
+-- these entries more, while faults may be counted and the work and the causes change
+abbrev pub IsGrown : List Entry → StackTold → StackTold → Type 0
+IsGrown es old new = new ≡ record old { entries = old.entries ++ es; faults = new.faults; work = new.work; causes = new.causes }
+
+-- a cut that is planned at all comes no earlier than another plan says; a count at its end tells no moment
+abbrev pub IsNoEarlier : Option ℕ → Option ℕ → Type 0
+IsNoEarlier plan None = Unit {0}
+IsNoEarlier (Some least) (Some due) = (least ≤ due) ⊎ (last_count ≤ due)
+IsNoEarlier None (Some due) = ⊥

@@ -1,0 +1,16 @@
+//! The steps of a script on a stack, over any memory device.
+//!
+//! It promises that the history stays a walk of the steps that were made, that they explain its refused copies and its power
+//! cuts, that what each call keeps is kept, and that each step that is left has its cause. Which device it is, and what
+//! becomes of the history, is left to others.
+#![tactic(auto)]
+
+mod last_stores;
+mod played_stack;
+mod steps;
+mod turns;
+
+pub use last_stores::LastStores;
+pub use played_stack::PlayedStack;
+pub use steps::{StepFault, make_step, make_steps};
+pub use turns::{drain, make_turns};

@@ -1,0 +1,73 @@
+// Turns of a stack.
+ghost use Rattle.std.specs.Prelude.{◌≡◌, ◌<◌, ◌≤◌, ◌||◌, ℕ, List, IsTrue, true, false};
+ghost use Rattle.script_walks.specs.Words.{Step};
+ghost use Rattle.script_walks.specs.Walk.{is_at_rest};
+ghost use Rattle.memif.specs.Told.{PartTold};
+ghost use Rattle.nv_base.specs.Count.{Rose};
+ghost use Rattle.stack_steps.specs.Told.{state_of};
+ghost use Rattle.stack_steps.specs.Calls.{is_last};
+ghost use Rattle.stack_steps.specs.Kept.{IsKept, MakesTurns, Drains, MakesTurn};
+
+use crate::PlayedStack;
+use machine_laws::histories_grow;
+use played_walks::turns_keep_what_is_stored;
+use stack_turns::Turned;
+
+/// Makes so many turns.
+pub fn make_turns<S: PlayedStack>(stack: &mut S, count: u32)
+    requires { (S.told stack.old).ready ≡ true }
+    ensures ready { (S.told stack.new).ready ≡ true }
+    ensures turns { (before : List Step) → IsKept before (S.told stack.old) → MakesTurns count before (S.told stack.old) (S.told stack.new) × IsKept before (S.told stack.new) }
+    ensures keeps { (before : PartTold) → S.kept stack.old before → S.kept stack.new before }
+{
+    turns_keep_what_is_stored();
+    histories_grow();
+    for _turn in 0..count {
+        stack.turn();
+    }
+}
+
+/// Makes turns until nothing is left to do or the power is off, or until one without a job in hand in which a fault was
+/// counted.
+pub fn drain<S: PlayedStack>(stack: &mut S)
+    requires { (S.told stack.old).ready ≡ true }
+    ensures ready { (S.told stack.new).ready ≡ true }
+    ensures drains { (before : List Step) → IsKept before (S.told stack.old) → Drains before (S.told stack.old) (S.told stack.new) × IsKept before (S.told stack.new) }
+    ensures keeps { (before : PartTold) → S.kept stack.old before → S.kept stack.new before }
+{
+    turns_keep_what_is_stored();
+    histories_grow();
+    while !ends_drain(stack) {}
+}
+
+// Makes a turn, and tells whether a drain ends with it.
+fn ends_drain<S: PlayedStack>(stack: &mut S) -> bool
+    requires { (S.told stack.old).ready ≡ true }
+    ensures turn { MakesTurn (S.told stack.old) (S.told stack.new) }
+    ensures ends { result ≡ true → IsTrue (is_at_rest (state_of (S.told stack.new)) || (state_of (S.told stack.new)).off) }
+    ensures goes_on { result ≡ false → (S.told stack.new).work < (S.told stack.old).work }
+    ensures keeps { (before : PartTold) → S.kept stack.old before → S.kept stack.new before }
+{
+    histories_grow();
+    let in_hand = stack.in_hand();
+    let faults = stack.faults();
+    let turned = stack.turn();
+    is_last(turned, in_hand, has_risen(faults, stack.faults()))
+}
+
+fn is_last(turned: Turned, in_hand: bool, risen: bool) -> bool
+    ensures { result ≡ is_last turned in_hand risen }
+{
+    match turned {
+        Turned::Idle | Turned::Off => true,
+        Turned::Worked => !in_hand && risen,
+        Turned::Picked | Turned::Posted => false,
+    }
+}
+
+// Whether a count rose, or stands at its end.
+fn has_risen(before: u64, after: u64) -> bool
+    ensures { result ≡ false → Rose before after → ⊥ }
+{
+    before < after || before == u64::MAX
+}
