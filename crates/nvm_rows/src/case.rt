@@ -3,7 +3,8 @@ use anyhow::{Context, bail};
 use std::alloc::{AllocError, Global};
 
 /// One call of the program: its name, its words, its input with the takes of it that fail, the puts of output that
-/// fail, and the flash at the start with its changing operations and its reads that fail.
+/// fail, the flash at the start with its changing operations and its reads that fail, whether the bytes that it has at
+/// the end aren't shown, and whether the script is also run with a cut and a fault everywhere.
 #[derive(Drop)]
 pub struct Case {
     pub name: String,
@@ -14,6 +15,8 @@ pub struct Case {
     pub flash: Vec<u8>,
     pub operations_fail: Vec<(u64, u32)>,
     pub reads_fail: Vec<u64>,
+    pub quiet: bool,
+    pub everywhere: bool,
 }
 
 impl Case {
@@ -28,6 +31,8 @@ impl Case {
             flash: Vec::new(alloc),
             operations_fail: Vec::new(alloc),
             reads_fail: Vec::new(alloc),
+            quiet: false,
+            everywhere: false,
         })
     }
 
@@ -49,6 +54,14 @@ impl Case {
             "flash" => fill(&mut self.flash, rest),
             "at" => self.set_bytes(alloc, rest),
             "operation" => self.add_operation(rest),
+            "quiet" => {
+                self.quiet = true;
+                Ok(())
+            }
+            "everywhere" => {
+                self.everywhere = true;
+                Ok(())
+            }
             _ => bail!("no line of a case begins with {key}"),
         }
     }

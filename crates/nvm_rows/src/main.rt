@@ -1,15 +1,21 @@
 //! The program `nvm_rows`: it reads worked cases, runs the command of each in memory, and prints what was written, the
-//! status, and the bytes of the flash that aren't erased at the end.
+//! status, and the bytes of the flash that aren't erased at the end, but for a quiet case.
 //!
 //! A further case costs no proof: its lines go into `stdin`, and what it must print into `stdout`. What a line means
 //! stands in `docs/CONTRIBUTING.md`. It promises nothing of its own.
 #![tactic(auto)]
 
 mod case;
+mod counted;
+mod everywhere;
+mod outcomes;
+mod played;
 mod show;
+mod spots;
 
 use anyhow::Context;
 use case::Case;
+use everywhere::try_everywhere;
 use fls_devices::FaultScript;
 use fls_model::mem_flash;
 use nv_streams::{mem_sink, mem_source};
@@ -35,7 +41,12 @@ fn run<R: Print + AllocGlobal + Threads + Wait + Sync>(rt: &R, case: &Case) -> a
     println!(rt; "case {name}")?;
     show_text(rt, output.bytes())?;
     println!(rt; "status {code}")?;
-    show_flash(rt, flash.into_inner().bytes())?;
+    if !case.quiet {
+        show_flash(rt, flash.into_inner().bytes())?;
+    }
+    if case.everywhere {
+        try_everywhere(rt, case)?;
+    }
     println!(rt)?;
     Ok(())
 }

@@ -1,12 +1,10 @@
 //! Tests of several crates, a module for each: what no contract fixes, generic functions and impls once at a concrete
-//! type, a failing read and write in mid-stream, the real file, and a few worked texts from the documents.
+//! type, a failing read and write in mid-stream, and a few worked texts from the documents.
 //!
 //! A crate with a test of its own is proved twice, so tests stand here, but for those that need private parts. What the
 //! commands show is a case of `nvm_rows`, which costs no proof. It promises nothing.
 #![tactic(auto)]
 
-#[cfg(test)]
-mod commands;
 #[cfg(test)]
 mod configuration;
 #[cfg(test)]

@@ -19,7 +19,7 @@ use Rattle.nvm_top.proofs.PlayLemmas.{report-by}
 use Rattle.nvm_top.proofs.RunLines.{by_stop}
 
 -- an end of one kind is one of another
-Writes-as : (P Q : Status → List ℕ → Type 0) (w w' : Option (List ℕ)) (x : Status) → ((y : Status) (line : List ℕ) → P y line → Q y line) → Writes P w w' x → Writes Q w w' x
+pub Writes-as : (P Q : Status → List ℕ → Type 0) (w w' : Option (List ℕ)) (x : Status) → ((y : Status) (line : List ℕ) → P y line → Q y line) → Writes P w w' x → Writes Q w w' x
 Writes-as P Q w w' status.Memory leads is = is
 Writes-as P Q w w' status.WriteFault leads is = (is.0, is.1, leads is.0 is.1 is.2, is.3)
 Writes-as P Q w w' x leads is = (is.0, leads x is.0 is.1, is.2)
@@ -69,7 +69,6 @@ before : (need : ℕ) (s t : Told) (x : Status) → IsPlayEnd need s t x → IsB
 before need s t status.WrongSize end is = end.1
 before need s t status.FlashFault end is = absurd is
 before need s t status.Ok end is = absurd is
-before need s t status.NoRoom end is = absurd is
 before need s t status.HistoryFull end is = absurd is
 before need s t status.WriteFault end is = absurd is
 before need s t status.Memory end is = absurd is

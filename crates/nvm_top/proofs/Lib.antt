@@ -1,5 +1,11 @@
+pub mod Cuts
+pub mod Driven
 pub mod Dumps
 pub mod Images
 pub mod PlayLemmas
+pub mod PlayLines
 pub mod Printing
+pub mod Promised
 pub mod RunLines
+pub mod Soaks
+pub mod Texts

@@ -18,7 +18,6 @@ Rose-after a b c le (inr last) = grind arith
 run_end-after : (a b c : ℕ) (x : Status) → a ≤ b → IsRunEnd b c x → IsRunEnd a c x
 run_end-after a b c status.FlashFault le is = Rose-after a b c le is
 run_end-after a b c status.Ok le is = tt
-run_end-after a b c status.NoRoom le is = tt
 run_end-after a b c status.HistoryFull le is = tt
 run_end-after a b c status.WriteFault le is = tt
 run_end-after a b c status.Memory le is = tt

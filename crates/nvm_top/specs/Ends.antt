@@ -26,8 +26,16 @@ pub record BreaksRule (bytes : List ℕ) (rule block : ℕ) : Type 0 where
   pub broken : meaning_of (first_line bytes) ≡ Err (Broken rule block)
 
 -- and its later lines are steps
+abbrev pub HasStepsOf : Configuration → List ℕ → Type 0
+HasStepsOf c bytes = HasConfig bytes c × (steps : List Step) × IsScript c Play 2 [] (later_lines bytes) steps
+
+-- this configuration, and these steps
+pub record HasPlayable (bytes : List ℕ) (c : Configuration) (steps : List Step) : Type 0 where
+  pub config : HasConfig bytes c
+  pub script : IsScript c Play 2 [] (later_lines bytes) steps
+
 abbrev pub HasSteps : List ℕ → Type 0
-HasSteps bytes = (c : Configuration) × (steps : List Step) × HasConfig bytes c × IsScript c Play 2 [] (later_lines bytes) steps
+HasSteps bytes = (c : Configuration) × HasStepsOf c bytes
 
 -- and of its later lines this is the first that is wrong
 abbrev pub HasWrongLine : List ℕ → ℕ → Type 0
@@ -77,7 +85,5 @@ StopsBy left flash status.BadConfig line = NamesRule left line
 StopsBy left flash status.BadScript line = NamesWrongLine left line
 StopsBy left flash status.ReadFault line = line ≡ line_of stop.ReadFault
 StopsBy left flash status.TooLong line = IsLonger left input_limit × (line ≡ line_of stop.TooLong)
-StopsBy left flash status.WrongSize line = TellsSize 2048 flash line
-StopsBy left flash status.Unbuilt line = (number : ℕ) × IfSome left HasSteps × (line ≡ line_of (stop.Unbuilt number))
 StopsBy left flash status.Memory line = line ≡ line_of stop.Memory
 StopsBy left flash _ line = ⊥

@@ -7,3 +7,8 @@ pub mod Play
 pub mod Reading
 pub mod Status
 pub mod Stop
+pub mod Runs
+pub mod Machine
+pub mod Promised
+pub mod Soak
+pub mod Stack

@@ -5,11 +5,14 @@ use Rattle.nv_base.specs.Count.{Rose}
 use Rattle.fls_model.specs.Told.{Told, ToldBytes}
 use Rattle.nv_base.specs.declared.entry.Entry.{Entry}
 use Rattle.nvm_script.specs.Lines.{end_line}
+use Rattle.flash_stacks.specs.Made.{LeavesAlone}
 use Rattle.nvm_top.specs.declared.status.Status.{Status}
 use Rattle.nvm_top.specs.declared.status.Status.TheVariants as status
 use Rattle.nvm_top.specs.declared.stop.Stop.{Stop}
 use Rattle.nvm_top.specs.declared.stop.Stop.TheVariants as stop
-use Rattle.nvm_top.specs.Ends.{TellsSize, StopsBy, HasSteps}
+use Rattle.block_config.specs.Config.{Configuration}
+use Rattle.nv_base.specs.Geometry.{size_of}
+use Rattle.nvm_top.specs.Ends.{TellsSize, StopsBy, HasStepsOf}
 use Rattle.nvm_top.specs.Stop.{status_of, line_of, IsStop}
 use Rattle.nvm_top.specs.Output.{IsEndOf}
 
@@ -39,23 +42,46 @@ IsBeforeStart status.WrongSize = Unit {0}
 IsBeforeStart status.Unbuilt = Unit {0}
 IsBeforeStart _ = ⊥
 
+-- a flash isn't as large as the configuration's, and is left alone; the output, where it is told, grew by the line that says so
+abbrev pub IsOfWrongSize : Option (List ℕ) → Told → Told → Option (List ℕ) → Option (List ℕ) → Type 0
+IsOfWrongSize left s t written written' =
+    (c : Configuration) × IfSome left (HasStepsOf c) × IsWrongSize (size_of c.geometry) s.bytes × LeavesAlone s t × WritesSize (size_of c.geometry) s.bytes written written'
+
+-- the statuses of a call that stops before its flash is attached
+abbrev pub IsBeforeAttach : Status → Type 0
+IsBeforeAttach status.BadWords = Unit {0}
+IsBeforeAttach status.BadConfig = Unit {0}
+IsBeforeAttach status.BadScript = Unit {0}
+IsBeforeAttach status.ReadFault = Unit {0}
+IsBeforeAttach status.TooLong = Unit {0}
+IsBeforeAttach status.Unbuilt = Unit {0}
+IsBeforeAttach _ = ⊥
+
 -- HOW IT ENDS
 -- from the attach of a flash on that is to have so many bytes
 abbrev pub IsPlayEnd : ℕ → Told → Told → Status → Type 0
 IsPlayEnd need s t status.FlashFault = Rose s.faults t.faults
 IsPlayEnd need s t status.WrongSize = IsWrongSize need s.bytes × (t ≡ s)
 IsPlayEnd need s t status.Ok = Unit {0}
-IsPlayEnd need s t status.NoRoom = Unit {0}
 IsPlayEnd need s t status.HistoryFull = Unit {0}
 IsPlayEnd need s t status.WriteFault = Unit {0}
 IsPlayEnd need s t status.Memory = Unit {0}
 IsPlayEnd need s t _ = ⊥
 
+-- steps on a machine over it
+abbrev pub IsStepsEnd : ℕ → Told → Told → Status → Type 0
+IsStepsEnd need s t status.FlashFault = Rose s.faults t.faults
+IsStepsEnd need s t status.WrongSize = IsWrongSize need s.bytes × LeavesAlone s t
+IsStepsEnd need s t status.Ok = Unit {0}
+IsStepsEnd need s t status.HistoryFull = Unit {0}
+IsStepsEnd need s t status.WriteFault = Unit {0}
+IsStepsEnd need s t status.Memory = Unit {0}
+IsStepsEnd need s t _ = ⊥
+
 -- from start-up on
 abbrev pub IsRunEnd : ℕ → ℕ → Status → Type 0
 IsRunEnd before after status.FlashFault = Rose before after
 IsRunEnd before after status.Ok = Unit {0}
-IsRunEnd before after status.NoRoom = Unit {0}
 IsRunEnd before after status.HistoryFull = Unit {0}
 IsRunEnd before after status.WriteFault = Unit {0}
 IsRunEnd before after status.Memory = Unit {0}
@@ -76,7 +102,6 @@ IsRunLine (Err stop) entries x line = IsStop stop x line
 abbrev pub RunsBy : ℕ → Option ToldBytes → List Entry → Status → List ℕ → Type 0
 RunsBy need flash entries status.Ok line = line ≡ end_line (length entries)
 RunsBy need flash entries status.FlashFault line = line ≡ line_of stop.FlashFault
-RunsBy need flash entries status.NoRoom line = line ≡ line_of stop.NoRoom
 RunsBy need flash entries status.HistoryFull line = line ≡ line_of stop.HistoryFull
 RunsBy need flash entries status.WrongSize line = (entries ≡ []) × TellsSize need flash line
 RunsBy need flash entries status.Memory line = line ≡ line_of stop.Memory
@@ -85,4 +110,4 @@ RunsBy need flash entries _ line = ⊥
 -- as a whole, with the bytes of the input and of the flash, where they are told: it stops before start-up and prints no
 -- entry, or it runs
 abbrev pub PrintsBy : Option (List ℕ) → Option ToldBytes → List Entry → Status → List ℕ → Type 0
-PrintsBy left flash entries x line = ((entries ≡ []) × StopsBy left flash x line) ⊎ (IfSome left HasSteps × RunsBy 2048 flash entries x line)
+PrintsBy left flash entries x line = ((entries ≡ []) × StopsBy left flash x line) ⊎ ((c : Configuration) × IfSome left (HasStepsOf c) × RunsBy (size_of c.geometry) flash entries x line)

@@ -7,7 +7,7 @@ use Rattle.block_config.specs.declared.fault.ConfigFault.TheVariants.{Broken}
 use Rattle.fls_model.specs.Told.{Told}
 use Rattle.nvm_script.specs.Script.{IsFirstWrong}
 use Rattle.nvm_script.specs.declared.script.Mode.TheVariants.{Play}
-use Rattle.nvm_top.specs.Ends.{HasSteps, HasWrongLine, BreaksRule}
+use Rattle.nvm_top.specs.Ends.{HasWrongLine, BreaksRule}
 use Rattle.nvm_top.specs.Input.{IsLonger, input_limit}
 use Rattle.nvm_top.specs.declared.stop.Stop.{Stop}
 use Rattle.nvm_top.specs.declared.stop.Stop.TheVariants.{BadWords, BadConfig, BadScript, ReadFault, TooLong, Unbuilt, FlashFault, Memory}
@@ -35,7 +35,6 @@ IsLineStop c lines _ = ⊥
 abbrev pub IsPlayableStop : List ℕ → Stop → Type 0
 IsPlayableStop bytes (BadConfig rule block) = BreaksRule bytes rule block
 IsPlayableStop bytes (BadScript line) = HasWrongLine bytes line
-IsPlayableStop bytes (Unbuilt line) = HasSteps bytes
 IsPlayableStop bytes Memory = Unit {0}
 IsPlayableStop bytes _ = ⊥
 
@@ -53,7 +52,6 @@ IsPlayStop left (BadConfig rule block) = IfSome left (λ bytes. BreaksRule bytes
 IsPlayStop left (BadScript line) = IfSome left (λ bytes. HasWrongLine bytes line)
 IsPlayStop left ReadFault = Unit {0}
 IsPlayStop left TooLong = IsLonger left input_limit
-IsPlayStop left (Unbuilt line) = IfSome left HasSteps
 IsPlayStop left Memory = Unit {0}
 IsPlayStop left _ = ⊥
 

@@ -4,7 +4,7 @@ use Rattle.std.specs.Fmt.{decimal}
 use Rattle.nvm_top.specs.declared.status.Status.{Status}
 use Rattle.nvm_top.specs.declared.status.Status.TheVariants as status
 use Rattle.nvm_top.specs.declared.stop.Stop.{Stop}
-use Rattle.nvm_top.specs.declared.stop.Stop.TheVariants.{BadWords, BadConfig, BadScript, ReadFault, TooLong, Unbuilt, WrongSize, FlashFault, NoRoom, HistoryFull, Memory}
+use Rattle.nvm_top.specs.declared.stop.Stop.TheVariants.{BadWords, BadConfig, BadScript, ReadFault, TooLong, Unbuilt, WrongSize, FlashFault, HistoryFull, Memory}
 
 abbrev pub status_of : Stop → Status
 status_of BadWords = status.BadWords
@@ -15,7 +15,6 @@ status_of TooLong = status.TooLong
 status_of (Unbuilt line) = status.Unbuilt
 status_of (WrongSize found need) = status.WrongSize
 status_of FlashFault = status.FlashFault
-status_of NoRoom = status.NoRoom
 status_of HistoryFull = status.HistoryFull
 status_of Memory = status.Memory
 
@@ -29,7 +28,6 @@ line_of TooLong = codes "input too long\n"
 line_of (Unbuilt line) = codes "unbuilt " ++ (decimal line ++ codes "\n")
 line_of (WrongSize found need) = codes "size " ++ (decimal found ++ (codes " " ++ (decimal need ++ codes "\n")))
 line_of FlashFault = codes "flash fault\n"
-line_of NoRoom = codes "no room\n"
 line_of HistoryFull = codes "history full\n"
 line_of Memory = []
 

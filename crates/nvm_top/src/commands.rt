@@ -5,7 +5,9 @@ ghost use Rattle.nv_base.specs.Count.{Rose};
 ghost use Rattle.nvm_top.specs.Dump.{DumpsBy, KeepsFlash};
 ghost use Rattle.nvm_top.specs.Ends.{ChecksBy, PlaysBy, StopsBy, IsBadWords};
 ghost use Rattle.nvm_top.specs.Output.{Writes, Prints};
-ghost use Rattle.nvm_top.specs.Play.{IsWrongSize, IsBeforeStart, PrintsBy};
+ghost use Rattle.nvm_top.specs.Play.{IsBeforeAttach, IsOfWrongSize, PrintsBy};
+ghost use Rattle.nvm_top.specs.Promised.{KeepsPromise, SoakKeepsPromise, played_call};
+ghost use Rattle.nvm_top.specs.Soak.{is_soak, steps_named, SoaksBy, SoakStopsBy};
 ghost use Rattle.command_words.specs.Words.{command_of, is_check, is_dump, is_play};
 
 use crate::Status;
@@ -13,6 +15,7 @@ use crate::check::check;
 use crate::dump::dump;
 use crate::output::report;
 use crate::play::play;
+use crate::soak::soak;
 use crate::stop::Stop;
 use command_words::{CommandKind, command_of};
 use fls_model::Flash;
@@ -21,8 +24,8 @@ use std::alloc::{AllocError, Global};
 use std::sync::Wait;
 use std::thread::Threads;
 
-/// Runs the command that the words name over the input, the output and the flash, and gives the flash back. So far
-/// it serves `play`, `check` and `dump`; other words of a command are `Unbuilt`, and no input is read then.
+/// Runs the command that the words name over the input, the output and the flash, and gives the flash back. It serves `play`,
+/// `soak`, `check` and `dump`; `run` is `Unbuilt` so far, and no input is read then.
 pub fn command<R: Threads + Wait + Sync, S: Source, K: Sink, F: Flash>(
     _rt: &R,
     alloc: Global,
@@ -34,8 +37,15 @@ pub fn command<R: Threads + Wait + Sync, S: Source, K: Sink, F: Flash>(
     ensures bad_words { result.0 ≡ Status.BadWords → command_of (map string_bytes words.now) ≡ None }
     ensures no_command { command_of (map string_bytes words.now) ≡ None → Writes IsBadWords (K.written output.old) (K.written output.new) result.0 }
     ensures play { is_play (command_of (map string_bytes words.now)) ≡ true → PlaysBy (S.left input.old) result.0 }
-    ensures play_line { is_play (command_of (map string_bytes words.now)) ≡ true → IsBeforeStart result.0 → Writes (StopsBy (S.left input.old) (F.told flash).bytes) (K.written output.old) (K.written output.new) result.0 }
+    ensures play_line { is_play (command_of (map string_bytes words.now)) ≡ true → IsBeforeAttach result.0 → Writes (StopsBy (S.left input.old) (F.told flash).bytes) (K.written output.old) (K.written output.new) result.0 }
     ensures play_print { is_play (command_of (map string_bytes words.now)) ≡ true → Prints (PrintsBy (S.left input.old) (F.told flash).bytes) (K.written output.old) (K.written output.new) result.0 }
+    ensures play_promise { is_play (command_of (map string_bytes words.now)) ≡ true
+        → KeepsPromise result.0 (played_call (S.left input.old) result.0 (F.told flash) (F.told result.1) (K.written output.old) (K.written output.new)) }
+    ensures play_size { is_play (command_of (map string_bytes words.now)) ≡ true → result.0 ≡ Status.WrongSize → IsOfWrongSize (S.left input.old) (F.told flash) (F.told result.1) (K.written output.old) (K.written output.new) }
+    ensures soak { is_soak (command_of (map string_bytes words.now)) ≡ true → SoaksBy (S.left input.old) result.0 }
+    ensures soak_line { is_soak (command_of (map string_bytes words.now)) ≡ true → IsBeforeAttach result.0 → Writes (SoakStopsBy (S.left input.old)) (K.written output.old) (K.written output.new) result.0 }
+    ensures soak_promise { is_soak (command_of (map string_bytes words.now)) ≡ true
+        → SoakKeepsPromise result.0 (S.left input.old) (steps_named (command_of (map string_bytes words.now))) (played_call (S.left input.old) result.0 (F.told flash) (F.told result.1) (K.written output.old) (K.written output.new)) }
     ensures check { is_check (command_of (map string_bytes words.now)) ≡ true → Writes (ChecksBy (S.left input.old)) (K.written output.old) (K.written output.new) result.0 }
     ensures dump { is_dump (command_of (map string_bytes words.now)) ≡ true → Writes (DumpsBy (S.left input.old) (F.told flash).bytes) (K.written output.old) (K.written output.new) result.0 }
     ensures dump_keeps { is_dump (command_of (map string_bytes words.now)) ≡ true → KeepsFlash (F.told flash) (F.told result.1) }
@@ -43,13 +53,15 @@ pub fn command<R: Threads + Wait + Sync, S: Source, K: Sink, F: Flash>(
     ensures read_fault { result.0 ≡ Status.ReadFault → Rose (S.faults input.old) (S.faults input.new) }
     ensures write_fault { result.0 ≡ Status.WriteFault → Rose (K.faults output.old) (K.faults output.new) }
     ensures flash_fault { result.0 ≡ Status.FlashFault → Rose (F.told flash).faults (F.told result.1).faults }
-    ensures play_size { is_play (command_of (map string_bytes words.now)) ≡ true → result.0 ≡ Status.WrongSize → IsWrongSize 2048 (F.told flash).bytes }
-    ensures untouched { IsBeforeStart result.0 → F.told result.1 ≡ F.told flash }
+    ensures untouched { IsBeforeAttach result.0 → F.told result.1 ≡ F.told flash }
     ensures ended { result.0 ≡ Status.Ok → IsAtEnd (S.left input.new) }
 {
     match command_of(alloc, words) {
         Ok(None) => (report(alloc, Stop::BadWords, output), flash),
         Ok(Some(CommandKind::Play)) => play(alloc, input, output, flash),
+        Ok(Some(CommandKind::Soak { seed, count })) => {
+            soak(alloc, seed, count, input, output, flash)
+        }
         Ok(Some(CommandKind::Check)) => (check(alloc, input, output), flash),
         Ok(Some(CommandKind::Dump)) => dump(alloc, input, output, flash),
         Ok(Some(_)) => (report(alloc, Stop::Unbuilt { line: 0 }, output), flash),

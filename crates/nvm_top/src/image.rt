@@ -9,7 +9,7 @@ ghost use Rattle.nvm_top.specs.Play.{IsAttachStop, IsPlayEnd};
 ghost use Rattle.nvm_top.specs.Reading.{IsSectorStop};
 ghost use Rattle.nvm_top.specs.Stop.{status_of};
 
-use crate::play::attach_stop;
+use crate::attach::attach_stop;
 use crate::stop::Stop;
 use fls_model::{Flash, FlashAnswer};
 use nv_base::Geometry;

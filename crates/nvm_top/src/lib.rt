@@ -5,16 +5,20 @@
 //! left to the other crates; the program only makes the real input, output and flash.
 #![tactic(auto)]
 
+mod attach;
 mod check;
 mod commands;
 mod configuration;
 mod dump;
 mod image;
 mod input;
+mod machine;
 mod measures;
 mod output;
 mod play;
 mod playable;
+mod runs;
+mod soak;
 mod stack;
 mod status;
 mod stop;
@@ -23,4 +27,5 @@ pub use check::check_command;
 pub use commands::command;
 pub use dump::dump_command;
 pub use play::play_command;
+pub use soak::soak_command;
 pub use status::Status;

@@ -1,34 +1,37 @@
 // The command `play`: the steps of a person over one flash, with their history.
-ghost use Rattle.std.specs.Prelude.{◌≡◌, ◌≤◌, ℕ, List, Option, Err, IfErr, IfOk, OnOk, map, string_bytes, true, false};
+ghost use Rattle.std.specs.Prelude.{◌≡◌, ℕ, List, length, map, string_bytes, true, false, Option};
 ghost use Rattle.std.specs.Io.KnownBytes.{IsAtEnd};
 ghost use Rattle.nv_base.specs.Count.{Rose};
-ghost use Rattle.nv_base.specs.Geometry.{IsLegal, size_of};
-ghost use Rattle.fls_model.specs.Told.{Told, ToldBytes};
-ghost use Rattle.fls_model.specs.Attach.{IsAttach};
-ghost use Rattle.nvm_top.specs.Ends.{PlaysBy, StopsBy, IsBadWords};
-ghost use Rattle.nvm_top.specs.Output.{Writes, Prints};
-ghost use Rattle.nvm_top.specs.Play.{IsWrongSize, IsBeforeStart, HasRunCause, IsPlayEnd, IsRunEnd, IsAttachStop, WritesSize, IsRunLine, RunsBy, PrintsBy};
-ghost use Rattle.nvm_top.specs.Stop.{status_of};
+ghost use Rattle.nv_base.specs.Geometry.{size_of};
+ghost use Rattle.fls_model.specs.Told.{ToldBytes};
+ghost use Rattle.flash_stacks.specs.Made.{IsOrigin};
+ghost use Rattle.played_steps.specs.Played.{ArePlayed};
+ghost use Rattle.run_promise.specs.Call.{Ends};
+ghost use Rattle.stack_steps.specs.Made.{cuts_in, cuts_of};
 ghost use Rattle.command_words.specs.Words.{command_of, is_play};
+ghost use Rattle.nvm_top.specs.Ends.{PlaysBy, StopsBy, IsBadWords};
+ghost use Rattle.nvm_top.specs.Machine.{IsStarted, StartsWell};
+ghost use Rattle.nvm_top.specs.Output.{Writes, Prints};
+ghost use Rattle.nvm_top.specs.Play.{IsBeforeAttach, IsOfWrongSize, IsStepsEnd, IsRunEnd, RunsBy, PrintsBy, WritesSize};
+ghost use Rattle.nvm_top.specs.Promised.{HasRun, RunsAs, KeepsPromise, SoakEnds, played_call};
 
 use crate::Status;
-use crate::output::{report, write_end, write_history};
+use crate::machine::Machine;
+use crate::output::report;
 use crate::playable::{Playable, read_playable};
-use crate::stack::{Stack, Turned};
+use crate::runs::{stop_of, write_run};
+use crate::stack::{Driven, Setting};
 use crate::stop::Stop;
 use command_words::{CommandKind, command_of};
-use first_run::{AskFault, BankDevice};
-use fls_model::{AttachFault, Flash};
-use nv_base::{Geometry, History, Lengths, Reply, Request};
+use fee_core::Origin;
+use fls_model::Flash;
 use nv_streams::{Sink, Source};
-use nvm_script::{Step, StepKind, StepList};
+use nvm_script::{StepKind, StepList};
+use stack_steps::make_steps;
 use std::alloc::{AllocError, Global};
+use std::marker::Brand;
 
-/// The most entries of a history.
-const CAP: u32 = 100_000;
-
-/// Plays the steps of the input on the flash and writes their history. So far it serves a first line `@demo`, and
-/// steps on block 2.
+/// Plays the steps of the input on the flash and writes their history.
 pub fn play_command<S: Source, K: Sink, F: Flash>(
     alloc: Global,
     words: &[String],
@@ -38,13 +41,15 @@ pub fn play_command<S: Source, K: Sink, F: Flash>(
 ) -> (Status, F)
     ensures bad_words { is_play (command_of (map string_bytes words.now)) ≡ false → Writes IsBadWords (K.written output.old) (K.written output.new) result.0 }
     ensures by_input { is_play (command_of (map string_bytes words.now)) ≡ true → PlaysBy (S.left input.old) result.0 }
-    ensures line { IsBeforeStart result.0 → Writes (StopsBy (S.left input.old) (F.told flash).bytes) (K.written output.old) (K.written output.new) result.0 }
+    ensures line { IsBeforeAttach result.0 → Writes (StopsBy (S.left input.old) (F.told flash).bytes) (K.written output.old) (K.written output.new) result.0 }
     ensures print { Prints (PrintsBy (S.left input.old) (F.told flash).bytes) (K.written output.old) (K.written output.new) result.0 }
+    ensures promise { is_play (command_of (map string_bytes words.now)) ≡ true
+        → KeepsPromise result.0 (played_call (S.left input.old) result.0 (F.told flash) (F.told result.1) (K.written output.old) (K.written output.new)) }
     ensures read_fault { result.0 ≡ Status.ReadFault → Rose (S.faults input.old) (S.faults input.new) }
     ensures write_fault { result.0 ≡ Status.WriteFault → Rose (K.faults output.old) (K.faults output.new) }
     ensures flash_fault { result.0 ≡ Status.FlashFault → Rose (F.told flash).faults (F.told result.1).faults }
-    ensures wrong_size { result.0 ≡ Status.WrongSize → IsWrongSize 2048 (F.told flash).bytes }
-    ensures untouched { IsBeforeStart result.0 → F.told result.1 ≡ F.told flash }
+    ensures wrong_size { result.0 ≡ Status.WrongSize → IsOfWrongSize (S.left input.old) (F.told flash) (F.told result.1) (K.written output.old) (K.written output.new) }
+    ensures untouched { IsBeforeAttach result.0 → F.told result.1 ≡ F.told flash }
     ensures ended { result.0 ≡ Status.Ok → IsAtEnd (S.left input.new) }
 {
     match command_of(alloc, words) {
@@ -62,156 +67,130 @@ pub(crate) fn play<S: Source, K: Sink, F: Flash>(
     flash: F,
 ) -> (Status, F)
     ensures by_input { PlaysBy (S.left input.old) result.0 }
-    ensures line { IsBeforeStart result.0 → Writes (StopsBy (S.left input.old) (F.told flash).bytes) (K.written output.old) (K.written output.new) result.0 }
+    ensures line { IsBeforeAttach result.0 → Writes (StopsBy (S.left input.old) (F.told flash).bytes) (K.written output.old) (K.written output.new) result.0 }
     ensures print { Prints (PrintsBy (S.left input.old) (F.told flash).bytes) (K.written output.old) (K.written output.new) result.0 }
+    ensures promise { KeepsPromise result.0 (played_call (S.left input.old) result.0 (F.told flash) (F.told result.1) (K.written output.old) (K.written output.new)) }
     ensures read_fault { result.0 ≡ Status.ReadFault → Rose (S.faults input.old) (S.faults input.new) }
     ensures write_fault { result.0 ≡ Status.WriteFault → Rose (K.faults output.old) (K.faults output.new) }
     ensures flash_fault { result.0 ≡ Status.FlashFault → Rose (F.told flash).faults (F.told result.1).faults }
-    ensures wrong_size { result.0 ≡ Status.WrongSize → IsWrongSize 2048 (F.told flash).bytes }
-    ensures untouched { IsBeforeStart result.0 → F.told result.1 ≡ F.told flash }
+    ensures wrong_size { result.0 ≡ Status.WrongSize → IsOfWrongSize (S.left input.old) (F.told flash) (F.told result.1) (K.written output.old) (K.written output.new) }
+    ensures untouched { IsBeforeAttach result.0 → F.told result.1 ≡ F.told flash }
     ensures ended { result.0 ≡ Status.Ok → IsAtEnd (S.left input.new) }
 {
     match read_playable(alloc, input) {
-        Ok(playable) => play_steps(alloc, &playable, output, flash),
+        Ok(playable) => play_flash(alloc, playable, output, flash),
         Err(stop) => (report(alloc, stop, output), flash),
     }
 }
 
-fn play_steps<K: Sink, F: Flash>(
+// The steps of a person on a flash.
+fn play_flash<K: Sink, F: Flash>(
     alloc: Global,
-    playable: &Playable,
+    playable: Playable,
     output: &mut K,
     flash: F,
 ) -> (Status, F)
-    ensures end { IsPlayEnd (size_of playable.now.config.geometry) (F.told flash) (F.told result.1) result.0 }
-    ensures size { result.0 ≡ Status.WrongSize → WritesSize (size_of playable.now.config.geometry) (F.told flash).bytes (K.written output.old) (K.written output.new) }
-    ensures print { Prints (RunsBy (size_of playable.now.config.geometry) (F.told flash).bytes) (K.written output.old) (K.written output.new) result.0 }
+    requires played { ArePlayed playable.config playable.steps }
+    ensures end { IsStepsEnd (size_of playable.config.geometry) (F.told flash) (F.told result.1) result.0 }
+    ensures size { result.0 ≡ Status.WrongSize → WritesSize (size_of playable.config.geometry) (F.told flash).bytes (K.written output.old) (K.written output.new) }
+    ensures print { Prints (RunsBy (size_of playable.config.geometry) (F.told flash).bytes) (K.written output.old) (K.written output.new) result.0 }
+    ensures promise { (input : Option (List ℕ))
+        → RunsAs result.0 (HasRun playable.config playable.steps (λ r. Ends (played_call input result.0 (F.told flash) (F.told result.1) (K.written output.old) (K.written output.new)) r r.end) (F.told flash) (F.told result.1))
+        (F.told flash) (F.told result.1) }
     ensures write_fault { result.0 ≡ Status.WriteFault → Rose (K.faults output.old) (K.faults output.new) }
 {
-    let Ok(numbers) = playable.config.lengths(alloc) else {
-        return (Status::Memory, flash);
-    };
-    let geometry = playable.config.geometry();
-    match BankDevice::make(alloc, flash, geometry, &numbers) {
-        Ok(device) => play_on(alloc, &playable.steps, output, device, numbers),
-        Err((fault, flash)) => (report(alloc, attach_stop(fault, geometry), output), flash),
-    }
+    play_driven::<K, F, Brand>(alloc, playable, output, flash)
 }
 
-pub(crate) fn attach_stop(fault: AttachFault, geometry: Geometry) -> Stop
-    requires { IsLegal geometry }
-    ensures end { (s t : Told) → IsAttach geometry s (Err fault) t → IsPlayEnd (size_of geometry) s t (status_of result) }
-    ensures size { (s t : Told) → IsAttach geometry s (Err fault) t → IsAttachStop (size_of geometry) s.bytes result }
-{
-    match fault {
-        AttachFault::Failed => Stop::FlashFault,
-        AttachFault::WrongSize { found } => Stop::WrongSize {
-            found,
-            need: u64::from(geometry.sector) * u64::from(geometry.sectors),
-        },
-        AttachFault::Memory => Stop::Memory,
-    }
-}
-
-fn play_on<K: Sink, F: Flash>(
+// As `play_steps`, over the stack of a device.
+fn play_driven<K: Sink, F: Flash, O: Origin + Setting>(
     alloc: Global,
-    steps: &StepList,
+    playable: Playable,
     output: &mut K,
-    device: BankDevice<F>,
-    numbers: Lengths,
+    flash: F,
 ) -> (Status, F)
-    requires { numbers ≡ device.log.numbers }
-    ensures end { IsRunEnd device.told.faults (F.told result.1).faults result.0 }
-    ensures print { (need : ℕ) (flash : Option ToldBytes) → Prints (RunsBy need flash) (K.written output.old) (K.written output.new) result.0 }
+    requires may_start { (O.configuration ≡ playable.config) × (O.flash ≡ F.told flash) × IsOrigin playable.config (F.told flash) (cuts_of playable.steps) O.making O.entry }
+    requires played { ArePlayed playable.config playable.steps }
+    ensures end { IsStepsEnd (size_of playable.config.geometry) (F.told flash) (F.told result.1) result.0 }
+    ensures size { result.0 ≡ Status.WrongSize → WritesSize (size_of playable.config.geometry) (F.told flash).bytes (K.written output.old) (K.written output.new) }
+    ensures print { Prints (RunsBy (size_of playable.config.geometry) (F.told flash).bytes) (K.written output.old) (K.written output.new) result.0 }
+    ensures promise { (input : Option (List ℕ))
+        → RunsAs result.0 (HasRun playable.config playable.steps (λ r. Ends (played_call input result.0 (F.told flash) (F.told result.1) (K.written output.old) (K.written output.new)) r r.end) (F.told flash) (F.told result.1))
+        (F.told flash) (F.told result.1) }
     ensures write_fault { result.0 ≡ Status.WriteFault → Rose (K.faults output.old) (K.faults output.new) }
 {
-    match Stack::start(alloc, device, numbers, CAP) {
-        Ok(mut stack) => {
-            let run = run_steps(alloc, steps, &mut stack);
-            let status = write_run(alloc, run, stack.history(), output);
-            (status, stack.into_flash())
-        }
+    play_steps::<K, F, Driven<F, O>>(alloc, playable, output, flash)
+}
+
+/// Plays steps on the machine of a configuration over a flash, and writes their history.
+pub fn play_steps<K: Sink, F: Flash, M: Machine<F>>(
+    alloc: Global,
+    playable: Playable,
+    output: &mut K,
+    flash: F,
+) -> (Status, F)
+    requires may_start { M.may_start playable.config (F.told flash) (cuts_of playable.steps) }
+    requires played { ArePlayed playable.config playable.steps }
+    ensures end { IsStepsEnd (size_of playable.config.geometry) (F.told flash) (F.told result.1) result.0 }
+    ensures size { result.0 ≡ Status.WrongSize → WritesSize (size_of playable.config.geometry) (F.told flash).bytes (K.written output.old) (K.written output.new) }
+    ensures print { Prints (RunsBy (size_of playable.config.geometry) (F.told flash).bytes) (K.written output.old) (K.written output.new) result.0 }
+    ensures promise { (input : Option (List ℕ))
+        → RunsAs result.0 (HasRun playable.config playable.steps (λ r. Ends (played_call input result.0 (F.told flash) (F.told result.1) (K.written output.old) (K.written output.new)) r r.end) (F.told flash) (F.told result.1))
+        (F.told flash) (F.told result.1) }
+    ensures write_fault { result.0 ≡ Status.WriteFault → Rose (K.faults output.old) (K.faults output.new) }
+{
+    let Playable { config, steps } = playable;
+    let blocks = config.blocks();
+    match M::start(alloc, config, flash, cuts_of(&steps)) {
+        Ok(machine) => play_on(alloc, &steps, blocks, output, machine),
         Err((stop, flash)) => (report(alloc, stop, output), flash),
     }
 }
 
-fn run_steps<F: Flash>(alloc: Global, steps: &StepList, stack: &mut Stack<F>) -> Result<(), Stop>
-    ensures cause { HasRunCause stack.old.faults stack.new.faults result }
-    ensures counts { stack.old.faults ≤ stack.new.faults }
+// The steps on a machine behind its first start-up.
+fn play_on<K: Sink, F: Flash, M: Machine<F>>(
+    alloc: Global,
+    steps: &StepList,
+    blocks: u16,
+    output: &mut K,
+    machine: M,
+) -> (Status, F)
+    requires made { (cuts : ℕ) × M.may_start M.made_for M.entry cuts }
+    requires started { IsStarted M.made_for (cuts_of steps.now) M.before (M.told machine) }
+    requires kept { StartsWell M.made_for M.entry → M.kept machine M.before }
+    requires blocks { blocks ≡ length M.made_for.blocks }
+    requires played { ArePlayed M.made_for steps.now }
+    ensures end { IsRunEnd M.entry.faults (F.told result.1).faults result.0 }
+    ensures print { (need : ℕ) (flash : Option ToldBytes) → Prints (RunsBy need flash) (K.written output.old) (K.written output.new) result.0 }
+    ensures promise { (input : Option (List ℕ))
+        → RunsAs result.0 (HasRun M.made_for steps.now (λ r. Ends (played_call input result.0 M.entry (F.told result.1) (K.written output.old) (K.written output.new)) r r.end) M.entry (F.told result.1))
+        M.entry (F.told result.1) }
+    ensures write_fault { result.0 ≡ Status.WriteFault → Rose (K.faults output.old) (K.faults output.new) }
 {
+    let mut machine = machine;
+    let run = stop_of(make_steps(alloc, steps, blocks, &mut machine));
+    let status = write_run(alloc, run, machine.history(), output);
+    (status, machine.into_flash())
+}
+
+// How many power cuts steps plan.
+fn cuts_of(steps: &StepList) -> u32
+    ensures { result ≡ cuts_of steps.now }
+{
+    let mut cuts = 0;
     for i in 0..steps.len() {
         if let Some(step) = steps.get(i) {
-            run_step(alloc, step, stack)?;
+            cuts += cuts_in(&step.kind);
         }
     }
-    Ok(())
+    cuts
 }
 
-/// Makes a step; one that isn't served does nothing.
-fn run_step<F: Flash>(alloc: Global, step: &Step, stack: &mut Stack<F>) -> Result<(), Stop>
-    ensures cause { HasRunCause stack.old.faults stack.new.faults result }
-    ensures counts { stack.old.faults ≤ stack.new.faults }
+fn cuts_in(kind: &StepKind) -> u32
+    ensures { result ≡ cuts_in kind.now }
 {
-    match &step.kind {
-        StepKind::Ask(
-            Request::Write {
-                block,
-                content: Some(content),
-                ..
-            },
-        ) => answered(stack.ask_write(alloc, *block, content.clone()?)),
-        StepKind::Ask(Request::Read { block, .. }) => answered(stack.ask_read(alloc, *block)),
-        StepKind::Turn { count } => make_turns(stack, u64::from(*count)),
-        StepKind::Drain => make_turns(stack, u64::MAX),
-        _ => Ok(()),
-    }
-}
-
-fn answered(reply: Result<Reply, AskFault>) -> Result<(), Stop>
-    ensures { (before after : ℕ) → HasRunCause before after result }
-{
-    match reply {
-        Ok(_) => Ok(()),
-        Err(AskFault::NoRoom) => Err(Stop::HistoryFull),
-        Err(AskFault::Memory) => Err(Stop::Memory),
-    }
-}
-
-/// Makes so many turns, or fewer where nothing is left to do or the power is off.
-fn make_turns<F: Flash>(stack: &mut Stack<F>, most: u64) -> Result<(), Stop>
-    ensures cause { HasRunCause stack.old.faults stack.new.faults result }
-    ensures counts { stack.old.faults ≤ stack.new.faults }
-{
-    for _ in 0..most {
-        match stack.turn() {
-            Turned::Idle | Turned::Off => return Ok(()),
-            Turned::NoRoom => return Err(Stop::NoRoom),
-            Turned::Failed => return Err(Stop::FlashFault),
-            Turned::Worked | Turned::Picked | Turned::Posted => {}
-        }
-    }
-    Ok(())
-}
-
-/// Writes the history of a run, and then its end or why it stopped.
-fn write_run<K: Sink>(
-    alloc: Global,
-    run: Result<(), Stop>,
-    history: &History,
-    output: &mut K,
-) -> Status
-    ensures end { (before after : ℕ) → HasRunCause before after run → IsRunEnd before after result }
-    ensures print { Prints (IsRunLine run) (K.written output.old) (K.written output.new) result }
-    ensures write_fault { result ≡ Status.WriteFault → Rose (K.faults output.old) (K.faults output.new) }
-{
-    if run == Err(Stop::Memory) {
-        return Status::Memory;
-    }
-    if let Err(fault) = write_history(alloc, history, output) {
-        return fault.status();
-    }
-    match run {
-        Ok(()) => write_end(alloc, history, output),
-        Err(stop) => report(alloc, stop, output),
+    match kind {
+        StepKind::Cut { .. } => 1,
+        _ => 0,
     }
 }

@@ -1,188 +1,135 @@
-// The turn: one entry of the history or one flash call at most.
-ghost use Rattle.std.specs.Prelude.{◌≡◌, ◌≤◌, IfOk, IfErr};
-ghost use Rattle.nv_base.specs.Count.{Rose};
-ghost use Rattle.first_run.specs.Desk.{ReadsSo};
-ghost use Rattle.nvm_top.specs.Play.{IsRunEnd};
-ghost use Rattle.nvm_top.specs.Stop.{status_of};
+// The stack that a command runs: over the banks of a flash whose power may be cut, with the application's copies in memory.
+ghost use Rattle.std.specs.Prelude.{◌≡◌, ℕ, IfErr, IfOk, IsSome, None};
+ghost use Rattle.block_config.specs.Config.{Configuration};
+ghost use Rattle.device_clock.specs.Device.{told_of};
+ghost use Rattle.fee_core.specs.Tells.{told_clock};
+ghost use Rattle.fee_starts.specs.Made.{part_at};
+ghost use Rattle.block_config.specs.Rules.{IsLegalConfig};
+ghost use Rattle.flash_stacks.specs.Made.{ComesBack, IsMadeStack, IsOrigin};
+ghost use Rattle.nvm_core.specs.StartUps.{StartsUp};
+ghost use Rattle.stack_turns.specs.Keeps.{StackKeeps};
+ghost use Rattle.fls_model.specs.Told.{Told};
+ghost use Rattle.nv_base.specs.Geometry.{IsLegal, size_of};
+ghost use Rattle.played_stacks.specs.Kept.{IsKept};
+ghost use Rattle.played_stacks.specs.Told.{told_by};
+ghost use Rattle.run_promise.specs.Run.{cap};
+ghost use Rattle.nvm_top.specs.Machine.{IsStarted, StartsWell, StopsAtStart, Vouches};
+ghost use Rattle.fee_core.specs.Origin.{no_flash};
+ghost use Rattle.nvm_top.specs.Stack.{no_configuration, stop_of_make};
 
+use crate::machine::Machine;
 use crate::stop::Stop;
-use first_run::{AskFault, BankDevice, Desk, InHand, ReadTurn, StartFault, WriteTurn};
+use block_config::Config;
+use fee_core::{Fee, Origin};
+use fee_image::soundness_computes;
+use flash_stacks::{FlashStack, MakeFault, give_back, make_stack, start_stack};
+use fls_devices::Cutter;
 use fls_model::Flash;
-use nv_base::{Bytes, History, Lengths, Reply, ReqResult};
-use std::alloc::{AllocError, Global};
-use std::marker::Model;
+use memif::MemDevice;
+use nv_base::{Geometry, History};
+use played_stacks::PlainStack;
+use run_promise::halves_make_the_promise;
+use std::alloc::Global;
+use std::marker::Brand;
+use turn_laws::begins_kept;
 
-/// What a turn did. `NoRoom` and `Failed` are temporary: the one bank has no room for the record of the job in hand,
-/// and a flash call failed by a counted fault.
-#[derive(Clone, Copy, Debug, PartialEq, Eq)]
-pub enum Turned {
-    Idle,
-    Worked,
-    Picked,
-    Posted,
-    Off,
-    NoRoom,
-    Failed,
+/// The stack over a flash.
+pub type Driven<F, O> = PlainStack<Fee<Cutter<F>, O>>;
+
+/// What a machine is made of, beside its device's origin: seen by contracts alone.
+pub trait Setting {
+    ghost configuration: { Configuration };
+
+    ghost flash: { Told };
 }
 
-/// The desk over its device, which has the desk's numbers.
-pub struct Stack<F: Flash> {
-    desk: Desk,
-    device: BankDevice<F>,
+impl Setting for Brand {
+    ghost configuration = { no_configuration };
+
+    ghost flash = { no_flash };
 }
 
-impl<F: Flash> Model for Stack<F> {
-    ghost use Rattle.std.specs.Prelude.{◌≡◌};
-    ghost use Rattle.fls_model.specs.Told.{Told};
+impl<F: Flash, O: Origin + Setting> Machine<F> for Driven<F, O> {
+    ghost use Rattle.fee_starts.specs.Made.{part_at};
+    ghost use Rattle.flash_stacks.specs.Made.{IsOrigin};
 
-    ghost Value = { Told };
+    ghost made_for = { O.configuration };
 
-    ghost view = { λ s. s.device.told };
+    ghost entry = { O.flash };
 
-    ghost invariant = { λ s. s.desk.lengths ≡ s.device.log.numbers };
-}
+    ghost before = { part_at O.entry };
 
-impl<F: Flash> Stack<F> {
-    /// Starts the device and begins the history with what it found. At Err the flash comes back.
-    pub fn start(
-        alloc: Global,
-        device: BankDevice<F>,
-        lengths: Lengths,
-        cap: u32,
-    ) -> Result<Stack<F>, (Stop, F)>
-        requires numbers { lengths ≡ device.log.numbers }
-        requires cap { 2 ≤ cap }
-        ensures ok { IfOk result (λ s. device.told.faults ≤ s.faults) }
-        ensures err { IfErr result (λ e. IsRunEnd device.told.faults (F.told e.1).faults (status_of e.0)) }
-    {
-        let mut device = device;
-        let found = match device.start() {
-            Ok(()) => device.found(alloc, &lengths),
-            Err(fault) => Err(fault),
-        };
-        let marks = match found {
-            Ok(marks) => marks,
-            Err(StartFault::Failed) => return Err((Stop::FlashFault, device.into_flash())),
-            Err(StartFault::Memory) => return Err((Stop::Memory, device.into_flash())),
-        };
-        match Desk::found(alloc, lengths, marks, device.ops(), cap) {
-            Ok(desk) => Ok(Stack { desk, device }),
-            Err(AllocError) => Err((Stop::Memory, device.into_flash())),
-        }
+    ghost may_start = { λ c e n. (O.configuration ≡ c) × (O.flash ≡ e) × IsOrigin c e n O.making O.entry };
+
+    fn start(alloc: Global, config: Config, flash: F, cuts: u32) -> Result<Driven<F, O>, (Stop, F)> {
+        start_driven(alloc, config, flash, cuts)
     }
 
-    /// Gives the flash back.
-    pub fn into_flash(self) -> F
-        ensures { F.told result ≡ self }
-    {
-        let Stack { desk: _, device } = self;
-        device.into_flash()
+    fn history(&self) -> &History {
+        self.stack().history()
     }
 
-    pub fn history(&self) -> &History {
-        self.desk.history()
-    }
-
-    /// A request to write a content.
-    pub fn ask_write(
-        &mut self,
-        alloc: Global,
-        block: u16,
-        content: Bytes,
-    ) -> Result<Reply, AskFault>
-        ensures { self.new ≡ self.old }
-    {
-        self.desk.ask_write(alloc, block, content)
-    }
-
-    /// A request to read a content.
-    pub fn ask_read(&mut self, alloc: Global, block: u16) -> Result<Reply, AskFault>
-        ensures { self.new ≡ self.old }
-    {
-        self.desk.ask_read(alloc, block)
-    }
-
-    /// One turn of the main function, in which the first of these is done: the power is off, the job that ended is
-    /// posted, the job in hand goes on by one flash call, the job that waits is taken in hand.
-    pub fn turn(&mut self) -> Turned
-        ensures failed { result ≡ Turned.Failed → Rose self.old.faults self.new.faults }
-        ensures counts { self.old.faults ≤ self.new.faults }
-    {
-        if self.desk.is_off() {
-            return Turned::Off;
-        }
-        if self.desk.post(self.device.ops()) {
-            return Turned::Posted;
-        }
-        match self.desk.hand() {
-            InHand::Write { number, content } => {
-                let turned = self.device.write_turn(number, content);
-                after_write(&mut self.desk, turned, self.device.ops())
-            }
-            InHand::Read { number, length } => {
-                let turned = self.device.read_turn(number, length);
-                after_read(&mut self.desk, &self.device, turned, length)
-            }
-            InHand::Nothing => {
-                if self.desk.pick(self.device.ops()) {
-                    Turned::Picked
-                } else {
-                    Turned::Idle
-                }
-            }
-        }
+    fn into_flash(self) -> F {
+        end_driven(self)
     }
 }
 
-/// Enters what a turn of the write in hand did.
-fn after_write(desk: &mut Desk, turned: WriteTurn, ops: u64) -> Turned
-    ensures lengths { desk.new.lengths ≡ desk.old.lengths }
-    ensures failed { result ≡ Turned.Failed → turned ≡ WriteTurn.Failed }
+/// The stack of a configuration over a flash behind its first start-up, with so many power cuts that can be planned.
+pub fn start_driven<F: Flash, O: Origin>(
+    alloc: Global,
+    config: Config,
+    flash: F,
+    cuts: u32,
+) -> Result<Driven<F, O>, (Stop, F)>
+    requires { IsOrigin config (F.told flash) cuts O.making O.entry }
+    ensures started { IfOk result (λ m. IsStarted config cuts (part_at O.entry) (told_by told_of m)) }
+    ensures kept { IfOk result (λ m. StartsWell config (F.told flash) → IsKept m.ready (part_at O.entry) m.desk m.hand (told_of m.device) (told_clock m.device).first) }
+    ensures stopped { IfErr result (λ e. StopsAtStart config (F.told flash) (F.told e.1) e.0) }
 {
-    match turned {
-        WriteTurn::More => Turned::Worked,
-        WriteTurn::Committed => {
-            desk.wrote(ops);
-            Turned::Worked
-        }
-        WriteTurn::NoRoom => Turned::NoRoom,
-        WriteTurn::Failed => Turned::Failed,
-        WriteTurn::Off => {
-            desk.off(ops);
-            Turned::Off
-        }
+    soundness_computes();
+    let geometry = config.geometry();
+    match make_stack(alloc, config, flash, cuts) {
+        Ok(stack) => match begin(stack) {
+            Ok(stack) => Ok(PlainStack::over(stack)),
+            Err((fault, flash)) => Err((stop_of_make(fault, geometry), flash)),
+        },
+        Err((fault, flash)) => Err((stop_of_make(fault, geometry), flash)),
     }
 }
 
-/// Enters what the read in hand found, a content of so many bytes.
-fn after_read<F: Flash>(
-    desk: &mut Desk,
-    device: &BankDevice<F>,
-    turned: ReadTurn,
-    count: usize,
-) -> Turned
-    requires few { count ≤ 4096 }
-    requires reads { ReadsSo desk.old.hand count }
-    ensures lengths { desk.new.lengths ≡ desk.old.lengths }
-    ensures failed { result ≡ Turned.Failed → turned ≡ ReadTurn.Failed }
+/// Gives the flash of a stack back.
+pub fn end_driven<F: Flash, O: Origin>(machine: Driven<F, O>) -> F
+    ensures { (c : Configuration) (inner : Told) (cuts : ℕ) → IsOrigin c inner cuts O.making O.entry → machine.desk.config ≡ c → machine.desk.cap ≡ cap
+        → Vouches (IsKept machine.ready (part_at O.entry) machine.desk machine.hand (told_of machine.device) (told_clock machine.device).first) (part_at O.entry) (told_by told_of machine) inner (F.told result) }
 {
-    match turned {
-        ReadTurn::Content => {
-            desk.gave(device.data(count));
-            Turned::Worked
-        }
-        ReadTurn::Invalid => {
-            desk.gave_nothing(ReqResult::Invalidated);
-            Turned::Worked
-        }
-        ReadTurn::Erased => {
-            desk.gave_nothing(ReqResult::IntegrityFailed);
-            Turned::Worked
-        }
-        ReadTurn::Failed => Turned::Failed,
-        ReadTurn::Off => {
-            desk.off(device.ops());
-            Turned::Off
-        }
+    let stack = machine.into_stack();
+    halves_make_the_promise(stack.device());
+    give_back(stack.into_device())
+}
+
+// The first start-up of a stack that was made.
+fn begin<F: Flash, O: Origin>(stack: FlashStack<F, O>) -> Result<FlashStack<F, O>, (MakeFault, F)>
+    requires { IsMadeStack stack.desk.config O.making O.entry stack }
+    ensures started { IfOk result (λ s. StartsUp told_of stack s) }
+    ensures kept { IfOk result (λ s. (c : Configuration) (inner : Told) (cuts : ℕ) → stack.desk.config ≡ c → IsLegalConfig c → IsOrigin c inner cuts O.making O.entry → IsSome (told_of stack.device).slots
+        → StackKeeps (part_at O.entry) s.desk None (told_of s.device) (told_clock s.device).first) }
+    ensures stopped { IfErr result (λ e. (inner : Told) (cuts : ℕ) → IsOrigin stack.desk.config inner cuts O.making O.entry → ComesBack stack.desk.config e.0 inner (F.told e.1)) }
+{
+    begins_kept(stack.device());
+    stack.device().left();
+    start_stack(stack)
+}
+
+fn stop_of_make(fault: MakeFault, geometry: Geometry) -> Stop
+    requires { IsLegal geometry }
+    ensures { result ≡ stop_of_make fault (size_of geometry) }
+{
+    match fault {
+        MakeFault::WrongSize { found } => Stop::WrongSize {
+            found,
+            need: u64::from(geometry.sector) * u64::from(geometry.sectors),
+        },
+        MakeFault::Flash => Stop::FlashFault,
+        MakeFault::Memory => Stop::Memory,
     }
 }

@@ -6,8 +6,7 @@ use crate::Status;
 use std::alloc::{AllocError, Global};
 
 /// Why a command stops: its words are of no command, its first line breaks a rule, a line is no step, its input failed
-/// or is too long or isn't served, the flash failed or has a wrong size, a record or the history has no room, or want
-/// of memory.
+/// or is too long or isn't served, the flash failed or has a wrong size, the history has no room, or want of memory.
 #[derive(Clone, Copy, Debug, PartialEq, Eq)]
 pub enum Stop {
     BadWords,
@@ -18,7 +17,6 @@ pub enum Stop {
     Unbuilt { line: u32 },
     WrongSize { found: u64, need: u64 },
     FlashFault,
-    NoRoom,
     HistoryFull,
     Memory,
 }
@@ -47,7 +45,6 @@ impl Stop {
             Stop::Unbuilt { .. } => Status::Unbuilt,
             Stop::WrongSize { .. } => Status::WrongSize,
             Stop::FlashFault => Status::FlashFault,
-            Stop::NoRoom => Status::NoRoom,
             Stop::HistoryFull => Status::HistoryFull,
             Stop::Memory => Status::Memory,
         }
@@ -68,7 +65,6 @@ impl Stop {
             Stop::Unbuilt { line } => format!(in alloc; "unbuilt {line}\n"),
             Stop::WrongSize { found, need } => format!(in alloc; "size {found} {need}\n"),
             Stop::FlashFault => String::from_str(alloc, "flash fault\n"),
-            Stop::NoRoom => String::from_str(alloc, "no room\n"),
             Stop::HistoryFull => String::from_str(alloc, "history full\n"),
             Stop::Memory => Ok(String::new(alloc)),
         }

@@ -1,4 +1,4 @@
-use Rattle.nvm_top.proofs.RunLines.{bad_words-print}
+use Rattle.nvm_top.proofs.PlayLines.{bad_words-print}
 use Rattle.nvm_top.proofs.play.play_command.Goals as goal
 
 pub returns-in-Ok-clause-print : goal.returns-in-Ok-clause-print

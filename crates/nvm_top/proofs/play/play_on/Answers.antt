@@ -1,13 +1,11 @@
-use Rattle.nvm_top.proofs.PlayLemmas.{cause-after}
-use Rattle.nvm_top.proofs.RunLines.{start-print, run-print}
+use Rattle.nvm_top.proofs.PlayLines.{steps-print}
+use Rattle.nvm_top.proofs.Promised.{play_ran}
 use Rattle.nvm_top.proofs.play.play_on.Goals as goal
 
-pub returns-in-Ok-clause-end : goal.returns-in-Ok-clause-end
-returns-in-Ok-clause-end g c =
-    rw c.into_flash.ensures (c.write_run-status.ensures.end _ _ (cause-after _ _ _ _ c.in-Ok.ensures.ok c.run_steps-run.ensures.cause))
+pub returns-clause-promise : goal.returns-clause-promise
+returns-clause-promise g c input =
+    play_ran (g.M.PlayedStack.kept c.make_steps.new.stack g.M.Machine.before) g.M.Machine.made_for _ c.args.steps.now g.M.Machine.before (g.M.PlayedStack.told c.args.machine) (g.M.PlayedStack.told c.make_steps.new.stack) g.M.Machine.entry (g.F.Flash.told c.into_flash.result) c.write_run-status.result _ _ input c.make_steps.result c.stop_of-run.result c.history.result.now.entries c.requires.started
+    c.make_steps.ensures.all c.make_steps.ensures.some c.make_steps.ensures.configuration (λ well. c.make_steps.ensures.keeps g.M.Machine.before (c.requires.kept well)) c.into_flash.ensures c.stop_of-run.ensures c.history.ensures c.write_run-status.ensures.text
 
-pub returns-in-Ok-clause-print : goal.returns-in-Ok-clause-print
-returns-in-Ok-clause-print g c need flash = run-print _ _ need flash _ _ _ _ c.run_steps-run.ensures.cause c.write_run-status.ensures.print
-
-pub returns-in-Err-clause-print : goal.returns-in-Err-clause-print
-returns-in-Err-clause-print g c need flash = start-print _ _ need flash _ _ c.in-Err.stop _ c.in-Err.ensures.err c.report.ensures.line
+pub returns-clause-print : goal.returns-clause-print
+returns-clause-print g c need flash = steps-print need flash _ _ c.make_steps.result c.stop_of-run.result c.write_run-status.result c.stop_of-run.ensures c.write_run-status.ensures.print

@@ -1,3 +1,0 @@
-pub mod BankLemmas
-pub mod Lookup
-pub mod Numbers

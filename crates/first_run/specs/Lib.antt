@@ -1,3 +1,0 @@
-pub mod Bank
-pub mod Desk
-pub mod DeskKept

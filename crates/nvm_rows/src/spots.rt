@@ -1,0 +1,66 @@
+// Where in an input a power cut can be planned.
+use std::alloc::{AllocError, Global};
+
+/// A place behind a line, from 1, where a plan of a power cut can stand, and where the steps end that it reaches: at the
+/// next plan, at the next start-up, or with the input.
+#[derive(Clone, Copy)]
+pub struct Spot {
+    pub line: u64,
+    pub at: usize,
+    pub end: usize,
+}
+
+/// These places: behind the configuration, and behind each plan and each start-up but the last line.
+pub fn spots(alloc: Global, input: &[u8]) -> Result<Vec<Spot>, AllocError> {
+    let mut spots: Vec<Spot> = Vec::new(alloc);
+    let mut start: usize = 0;
+    for (i, line) in input.split_inclusive(|byte| *byte == b'\n').enumerate() {
+        let at = start.saturating_add(line.len());
+        if i == 0 || ends_a_plan(line) {
+            if let Some(last) = spots.last_mut() {
+                last.end = start;
+            }
+            if at < input.len() {
+                spots.push(Spot {
+                    line: (i as u64).saturating_add(1),
+                    at,
+                    end: input.len(),
+                })?;
+            }
+        }
+        start = at;
+    }
+    Ok(spots)
+}
+
+// Whether no earlier plan stands behind this line.
+fn ends_a_plan(line: &[u8]) -> bool {
+    line.starts_with(b"cut ") || line.starts_with(b"restart")
+}
+
+/// The input with a plan at a place.
+pub fn with_plan(
+    alloc: Global,
+    input: &[u8],
+    at: usize,
+    nth: u64,
+    keep: u32,
+) -> Result<Vec<u8>, AllocError> {
+    let before = input.get(..at).unwrap_or(input);
+    let behind = input.get(at..).unwrap_or(&[]);
+    let step = format!(in alloc; "cut {nth} {keep}\n")?;
+    let mut text = before.to_vec(alloc)?;
+    text.extend_from_slice(step.as_bytes())?;
+    text.extend_from_slice(behind)?;
+    Ok(text)
+}
+
+/// The input up to a place, with a start-up at its end.
+pub fn with_start_up(alloc: Global, input: &[u8], end: usize) -> Result<Vec<u8>, AllocError> {
+    let mut text = input.get(..end).unwrap_or(input).to_vec(alloc)?;
+    if !text.ends_with(b"\n") {
+        text.push(b'\n').map_err(AllocError::from)?;
+    }
+    text.extend_from_slice(b"restart\n")?;
+    Ok(text)
+}

@@ -1,0 +1,274 @@
+-- The stack over a flash: what it is behind its first start-up, and what its flash comes back with.
+use Rattle.std.specs.Prelude.{IfSome, IfOk, IsSome, slice_get, option_map, unwrap_or, replicate, min, is_some, ◌-◌}
+use Rattle.std.proofs.Common.{◌≡◌, ◌≢◌, ◌<◌, ◌≤◌, ◌+◌, ◌⊎◌, ◌==◌, ℕ, zero, suc, Bool, true, false, IsTrue, List, [], ◌∷◌, ◌++◌, Option, Some, None, Result, Ok, Err, length, map, get_or, if◌then◌else◌, refl, sym, ap, ◌∙◌, subst, inl, inr, arith}
+use Rattle.std.proofs.lemmas.Bool.{cases_Bool}
+use Rattle.std.proofs.lemmas.Bool.Decides.{leb_tells}
+use Rattle.std.proofs.Math.Nat.{eq-or-lt_of_le}
+use Rattle.nv_base.specs.Count.{last_count, Rose, WereCounted}
+use Rattle.nv_base.specs.Geometry.{size_of}
+use Rattle.nv_base.specs.declared.geometry.Geometry.{Geometry}
+use Rattle.block_config.specs.Config.{Configuration}
+use Rattle.block_config.specs.Rules.{IsLegalConfig}
+use Rattle.block_machine.specs.Words.{Entry, Found}
+use Rattle.block_machine.specs.Steps.{after}
+use Rattle.script_walks.specs.Words.{Step}
+use Rattle.memif.specs.Told.{PartTold, First, IfElse, ops_of}
+use Rattle.memif.specs.Clock.{PartClock}
+use Rattle.memif.specs.Calls.{InOrder, PowersUp}
+use Rattle.fls_model.specs.Told.{Told, ToldBytes, Change, IfBothTold, bytes_now}
+use Rattle.fls_devices.specs.Cutter.{cutting, told_cutting}
+use Rattle.fee_image.specs.Laws.{SoundImagesCompute}
+use Rattle.device_bridge.specs.Bridge.{Making, Bridges}
+use Rattle.device_bridge.specs.FlashRun.{AreSeen}
+use Rattle.device_bridge.specs.Image.{IsSoundFlash, two_banks, attached}
+use Rattle.device_clock.specs.Device.{Device, told_of, is_told_sound, tells, slots_in, slots_told}
+use Rattle.device_clock.specs.Clock.{clock_of, off_in_of}
+use Rattle.fee_core.specs.Tells.{told_clock}
+use Rattle.fee_starts.specs.Made.{IsMadeOf, part_at}
+use Rattle.ram_blocks.specs.declared.plain_block.PlainBlock.{PlainBlock}
+use Rattle.ram_blocks.specs.Told.{Told as SyncTold, most_of, refusals_of}
+use Rattle.ram_blocks.specs.Plain.{told_of as sync_told, store_of, plain_of, plain_blocks_of, fresh_block, no_plain}
+use Rattle.block_config.specs.declared.block.BlockDesc.{BlockDesc}
+use Rattle.block_machine.specs.Blocks.{is_synchronized}
+use Rattle.nv_desk.specs.Desk.{DeskState, state_of}
+use Rattle.job_hands.specs.Hand.{HandState}
+use Rattle.block_promise.specs.OverDevice.{KeepsOver}
+use Rattle.turn_laws.specs.Turn.{Keeps, BeginsKept, down}
+use Rattle.nvm_core.specs.Stack.{StackState}
+use Rattle.nvm_core.specs.StartUps.{StartsUp, StartsKeep, KeepsDown}
+use Rattle.stack_turns.specs.Keeps.{StackKeeps}
+use Rattle.stack_turns.specs.declared.turned.FoundAnswer.TheVariants as found
+use Rattle.run_promise.specs.Run.{Run, Course, Played, End, cap, HasOrder, RefusalsExplain, offs_of_flash}
+use Rattle.run_promise.specs.Promise.{Promise, making_of}
+use Rattle.run_promise.specs.Halves.{BlockHalf, DeviceHalf, HalvesMakeIt, beyond_end}
+use Rattle.stack_steps.specs.Told.{StackTold}
+use Rattle.played_stacks.specs.Told.{told_by, plan_of, plan_in, refusable_in, untold_of}
+use Rattle.played_stacks.specs.Kept.{IsKept, IsDown}
+use Rattle.flash_stacks.specs.declared.device.MakeFault.{MakeFault}
+use Rattle.flash_stacks.specs.declared.device.MakeFault.TheVariants as fault
+use Rattle.flash_stacks.specs.Made.{IsOrigin, IsMadeStack, AreOfFirst, ComesBack, IsBack}
+use Rattle.nvm_top.specs.Machine.{IsStarted, StartsWell, StopsAtStart, Vouches}
+use Rattle.nvm_top.specs.Machine.{run_of}
+use Rattle.nvm_top.specs.Play.{IsWrongSize}
+use Rattle.nvm_top.specs.Stack.{stop_of_make}
+use Rattle.nvm_top.specs.declared.stop.Stop.{Stop}
+
+-- WITHOUT A START-UP
+
+same_length : (o : Option ToldBytes) (found need : ℕ) → IfSome o (λ b. (length b.now ≡ found) × (found ≢ 0) × (found ≢ need)) → IfSome o (λ b. length b.now ≡ found)
+same_length None found need is = tt
+same_length (Some b) found need is = is.0
+
+wrong_length : (o : Option ToldBytes) (found need : ℕ) → IfSome o (λ b. (length b.now ≡ found) × (found ≢ 0) × (found ≢ need)) → IsWrongSize need o
+wrong_length None found need is = tt
+wrong_length (Some b) found need is = (λ none. is.1 (sym is.0 ∙ none), λ whole. is.2 (sym is.0 ∙ whole))
+
+pub stops : (c : Configuration) (why : MakeFault) (s t : Told) → ComesBack c why s t → StopsAtStart c s t (stop_of_make why (size_of c.geometry))
+stops c (fault.WrongSize found) s t back = record {
+  why = (same_length s.bytes found (size_of c.geometry) back.cause.0, refl);
+  end = (wrong_length s.bytes found (size_of c.geometry) back.cause.0, back.cause.1);
+  flash = back.flash;
+  faults = back.faults;
+  cuts = back.cuts;
+}
+stops c fault.Flash s t back = record { why = tt; end = back.cause; flash = back.flash; faults = back.faults; cuts = back.cuts }
+stops c fault.Memory s t back = record { why = tt; end = tt; flash = back.flash; faults = back.faults; cuts = back.cuts }
+
+-- THE FIRST START-UP
+
+pub if_ok : {X E : Type 0} {P Q R : X → Type 0} (r : Result X E) → IfOk r P → IfOk r Q → ((x : X) → P x → Q x → R x) → IfOk r R
+if_ok (Ok x) p q from = from x p q
+if_ok (Err e) p q from = tt
+
+none_off : (k : ℕ) (xs : List Change) → xs ≡ [] → (x : Change) → slice_get xs k ≡ Some x → ⊥
+none_off k [] none x at = cc at
+none_off k (y ∷ ys) none x at = cc none
+
+-- before it the empty history keeps all
+pub fresh_down : (d : Device) (c : Configuration) (inner : Told) (cuts : ℕ) (making : Making) (entry : Told) (most : ℕ) → BeginsKept (told_of d) (told_clock d).first → InOrder (told_of d) (told_clock d) → IsOrigin c inner cuts making entry → IsLegalConfig c
+    → IsMadeOf making entry d → AreOfFirst d → Keeps c most [] (part_at entry) (down (told_of d)) (told_clock d).first
+fresh_down d c inner cuts making entry most begins order origin legal made parts =
+    subst (λ (p : PartTold). Keeps c most [] p (down (told_of d)) (told_clock d).first) made.part
+    (subst (λ (x : _). Keeps c most [] (told_of d).first x (told_clock d).first) (ap (λ b. record (told_of d) { started = b }) made.started)
+    (begins c most
+    (record { rules = legal; numbers = ap (λ m. m.numbers) (made.making ∙ origin.made_for); one = refl; second = refl; parts = parts })
+    (record { ops = ap (λ p. p.ops) made.part; on = λ k off. never k off.0 off.1; finds = λ held finds. order.now First held finds })))
+  where
+    never : (k : ℕ) → k < last_count → off_in_of d k → ⊥
+    never k small (inl full) = absurd (omega (arith, small, full))
+    never k small (inr (x, at, is)) = none_off k d.operations made.made.operations x at
+
+pub begins_up : (c : Configuration) (making : Making) (entry : Told) (m s : StackState Device (List PlainBlock)) → IsMadeStack m.desk.config making entry m → BeginsKept (told_of m.device) (told_clock m.device).first → InOrder (told_of m.device) (told_clock m.device)
+    → StartsUp told_of m s → StartsKeep found.Ready m.desk (told_of m.device) (told_clock m.device).first s.desk (told_of s.device) (told_clock s.device).first
+    → (inner : Told) (cuts : ℕ) → m.desk.config ≡ c → IsLegalConfig c → IsOrigin c inner cuts making entry → IsSome (told_of m.device).slots → StackKeeps (part_at entry) s.desk None (told_of s.device) (told_clock s.device).first
+begins_up c making entry m s made begins order starts keeps inner cuts same legal origin slots =
+    keeps (part_at entry) slots (inr (ap (λ p. p.ops) starts.finds.up.restarted.first.only ∙ ap (λ p. p.ops) made.device.part))
+    (subst (λ (h : List Entry). Keeps m.desk.config m.desk.cap h (part_at entry) (down (told_of m.device)) (told_clock m.device).first) (sym (ap (λ x. x.desk.entries) made.only))
+    (subst (λ (x : Configuration). Keeps x m.desk.cap [] (part_at entry) (down (told_of m.device)) (told_clock m.device).first) (sym same)
+    (fresh_down m.device c inner cuts making entry m.desk.cap begins order origin legal made.device made.parts)))
+
+-- WHERE THE FLASH TELLS ITS BYTES
+
+now_told : (o : Option ToldBytes) (f : ToldBytes → Option (List Change)) → option_map (λ (b : ToldBytes). b.now) (option_map {T = ToldBytes} {U = ToldBytes} (λ b. record { now = b.now; changes = f b }) o) ≡ option_map (λ (b : ToldBytes). b.now) o
+now_told None f = refl
+now_told (Some b) f = refl
+
+both_some : (a b : Option ToldBytes) (P : ToldBytes → ToldBytes → Type 0) (first : List ℕ) → IfBothTold a b P → option_map (λ (x : ToldBytes). x.now) a ≡ Some first → (last : List ℕ) × (option_map (λ (x : ToldBytes). x.now) b ≡ Some last)
+both_some None b P first both is = cc is
+both_some (Some x) None P first both is = absurd both
+both_some (Some x) (Some y) P first both is = (y.now, refl)
+
+some_slots : (d : Device) (image last : List ℕ) → tells d ≡ true → bytes_now d.flash ≡ Some last → IsSome (slots_told d)
+some_slots d image last told bytes = rw (told, bytes) refl
+
+pub tells_slots : SoundImagesCompute → (c : Configuration) (inner : Told) (cuts : ℕ) (making : Making) (entry : Told) (d : Device) → IsOrigin c inner cuts making entry → IsMadeOf making entry d → StartsWell c inner → IsSome (told_of d).slots
+tells_slots sounds c inner cuts making entry d origin made well =
+    let bytes : bytes_now d.entry ≡ Some well.first = ap bytes_now (made.told_entry ∙ origin.over) ∙ now_told inner.bytes _ ∙ well.bytes in
+    let geometry : d.making.geometry ≡ c.geometry = ap (λ m. m.geometry) (made.making ∙ origin.made_for) in
+    let sound : is_told_sound c.geometry (Some well.first) ≡ true = (sounds (two_banks c.geometry) (attached c.geometry well.first)).1 well.sound in
+    let told : tells d ≡ true = ap (λ o. is_told_sound d.making.geometry o) bytes ∙ ap (λ g. is_told_sound g (Some well.first)) geometry ∙ sound in
+    let (last, out) = both_some d.entry.bytes d.flash.bytes _ well.first made.made.attaches.bytes bytes in
+    some_slots d well.first last told out
+
+-- WHAT IS TOLD BEHIND IT
+
+no_plan : (n : ℕ) (p : PartTold) → p.planning.plan ≡ None → plan_of n p ≡ None
+no_plan n p none = elim (cases_Bool p.off) [ inl off ↦ rw off refl | inr on ↦ rw (on, none) refl ]
+
+quiet : (p : PlainBlock) → p.refusals ≡ 0 → p.asked ≡ 0 → (most_of (sync_told p ∷ []) 0 - refusals_of (sync_told p ∷ []) 0) ≡ 0
+quiet p refused asked = elim (cases_Bool (length p.content == 0)) [ inl empty ↦ rw empty refl | inr full ↦ rw full (omega (arith, refused, asked)) ]
+
+none_told : (d : BlockDesc) → (most_of (sync_told (plain_of d) ∷ []) 0 - refusals_of (sync_told (plain_of d) ∷ []) 0) ≡ 0
+none_told d = quiet (plain_of d) (by_kind (is_synchronized d.ram)) (asked_by (is_synchronized d.ram))
+  where
+    by_kind : (b : Bool) → (if b then fresh_block (unwrap_or d.defaults (replicate d.length 0)) else no_plain).refusals ≡ 0
+    by_kind true = refl
+    by_kind false = refl
+
+    asked_by : (b : Bool) → (if b then fresh_block (unwrap_or d.defaults (replicate d.length 0)) else no_plain).asked ≡ 0
+    asked_by true = refl
+    asked_by false = refl
+
+none_at : (bs : List BlockDesc) (i : ℕ) → (most_of (map sync_told (map plain_of bs)) i - refusals_of (map sync_told (map plain_of bs)) i) ≡ 0
+none_at [] i = refl
+none_at (b ∷ bs) zero = none_told b
+none_at (b ∷ bs) (suc i) = none_at bs i
+
+none_refused : (c : Configuration) (id : ℕ) → (most_of (map sync_told (plain_blocks_of c)) id - refusals_of (map sync_told (plain_blocks_of c)) id) ≡ 0
+none_refused c zero = refl
+none_refused c (suc i) = none_at c.blocks i
+
+pub started : (c : Configuration) (inner : Told) (cuts : ℕ) (making : Making) (entry : Told) (m s : StackState Device (List PlainBlock)) → IsOrigin c inner cuts making entry → IsMadeStack c making entry m → StartsUp told_of m s → IsStarted c cuts (part_at entry) (told_by told_of s)
+started c inner cuts making entry m s origin made starts = record {
+  configuration = config;
+  most = ap (λ x. x.desk.cap) starts.only ∙ ap (λ x. x.desk.cap) made.only;
+  fresh = record {
+    ready = ap (λ x. x.ready) starts.only;
+    marks = starts.marks;
+    ops = _;
+    entries = entries;
+    stores = ap (λ bs. map store_of bs) copies ∙ ap (λ x. map store_of (plain_blocks_of x)) (sym config);
+    none_refused = λ id.
+        let refused : (most_of (map sync_told s.copies) id - refusals_of (map sync_told s.copies) id) ≡ 0 = ap (λ bs. most_of (map sync_told bs) id - refusals_of (map sync_told bs) id) copies ∙ none_refused c id in
+        let hand : untold_of id (state_of s.desk).hand ≡ 0 = ap (λ h. untold_of id (after s.desk.config h).hand) entries in omega (arith, refused, hand);
+    none_planned = rw (no_plan _ (told_of s.device).first (ap (λ p. p.planning.plan) starts.finds.up.restarted.first.only)) refl;
+  };
+  takes = let is = ap (λ p. p.planning.takes) starts.finds.up.restarted.first.only ∙ ap (λ p. p.planning.takes) part in omega (arith, is);
+  faults = omega arith;
+  unplanned =
+      let is = ap (λ p. p.planning.unplanned) starts.finds.up.restarted.first.only ∙ ap (λ p. p.planning.unplanned) part in
+      let over = ap (λ x. x.planning.unplanned) origin.over in omega (arith, is, over);
+}
+  where
+    config : s.desk.config ≡ c
+    config = ap (λ x. x.desk.config) starts.only ∙ ap (λ x. x.desk.config) made.only
+
+    copies : s.copies ≡ plain_blocks_of c
+    copies = ap (λ x. x.copies) starts.only ∙ ap (λ x. x.copies) made.only
+
+    entries : s.desk.entries ≡ Found starts.marks (ops_of (told_of s.device)) ∷ []
+    entries = ap (λ x. x.desk.entries) starts.only ∙ ap (λ h. h ++ Found starts.marks (ops_of (told_of s.device)) ∷ []) (ap (λ x. x.desk.entries) made.only)
+
+    part : (told_of m.device).first ≡ part_at (told_cutting (cutting inner cuts))
+    part = made.device.part ∙ ap part_at origin.over
+
+pub kept_up : (before : PartTold) (m s t : StackState Device (List PlainBlock)) → t ≡ s → StartsUp told_of m s → StackKeeps before s.desk None (told_of s.device) (told_clock s.device).first
+    → IsKept t.ready before t.desk t.hand (told_of t.device) (told_clock t.device).first
+kept_up before m s t same starts keeps =
+    subst (λ (x : StackState Device (List PlainBlock)). IsKept x.ready before x.desk x.hand (told_of x.device) (told_clock x.device).first) (sym same)
+    (subst (λ (b : Bool). IsKept b before s.desk s.hand (told_of s.device) (told_clock s.device).first) (sym (ap (λ x. x.ready) starts.only))
+    (subst (λ (h : Option HandState). StackKeeps before s.desk h (told_of s.device) (told_clock s.device).first) (sym (ap (λ x. x.hand) starts.only)) keeps))
+
+-- ITS END
+
+over_of : (b : Bool) (before : PartTold) (desk : DeskState) (hand : Option HandState) (d : Device) → IsKept b before desk hand (told_of d) (told_clock d).first → KeepsOver desk.config desk.cap desk.entries before (told_of d).first (told_clock d).first
+over_of true before desk hand d keeps = keeps.keeps.over
+over_of false before desk hand d keeps = keeps.keeps.over
+
+seen_more : (kept other : ℕ → Type 0) (k : ℕ) (last : List ℕ) (xs ys : List Change) → ((n : ℕ) → kept n → other n) → AreSeen kept k last xs ys → AreSeen other k last xs ys
+seen_more kept other k last [] ys more seen = seen
+seen_more kept other k last (x ∷ xs) [] more ((is, same), rest) = ((more k is, same), seen_more kept other (k + 1) last xs [] more rest)
+seen_more kept other k last (x ∷ xs) (y ∷ ys) more (inl (place, same, rest)) = inl (place, same, seen_more kept other (k + 1) last xs ys more rest)
+seen_more kept other k last (x ∷ xs) (y ∷ ys) more (inr ((is, same), rest)) = inr ((more k is, same), seen_more kept other (k + 1) last xs (y ∷ ys) more rest)
+
+-- what the device told of its operations, by the clock that it tells
+told_bridge : (m : Making) (inner exit : Told) (operations : List Change) (before : PartTold) (d : Device) → Bridges m true (record { entry = inner; exit = exit; operations = operations }) before (told_of d).first (clock_of d).first
+    → Bridges m true (record { entry = inner; exit = exit; operations = operations }) before (told_of d).first (beyond_end (told_clock d).first)
+told_bridge m inner exit operations before d b = record {
+  after = b.after;
+  cut = b.cut;
+  sound = b.sound;
+  sound_cut = b.sound_cut;
+  operations = record {
+    told_alike = b.operations.told_alike;
+    chain = b.operations.chain;
+    seen = λ t. seen_more (λ k. IsTrue true × off_in_of d k) (λ k. IsTrue true × ((last_count ≤ k) ⊎ ((k < last_count) × off_in_of d k))) 0 t.bytes.last operations t.changes (λ k is. (is.0, later k is.1)) (b.operations.seen t);
+  };
+  ops = b.ops;
+  faults = b.faults;
+  cuts = b.cuts;
+  worn = b.worn;
+}
+  where
+    later : (k : ℕ) → off_in_of d k → (last_count ≤ k) ⊎ ((k < last_count) × off_in_of d k)
+    later k off = elim (leb_tells last_count k) [ inl past_end ↦ inl past_end.1 | inr before_end ↦ inr (before_end.1, off) ]
+
+counted_rose : (a b : ℕ) → WereCounted 1 a b → a ≤ b → Rose a b
+counted_rose a b (inl more) less = inl (omega (arith, more))
+counted_rose a b (inr end) less = elim (eq-or-lt_of_le less) [ inl same ↦ inr (omega (arith, same, end), less) | inr more ↦ inl more ]
+
+once : (f n : ℕ) → n ≡ min (f + 0) last_count → Rose 0 n → WereCounted 1 0 f
+once f n is (inl more) = inl (omega (arith, is, more))
+once f n is (inr (full, stays)) = absurd (omega (arith, full))
+
+pub vouched : (c : Configuration) (inner : Told) (cuts : ℕ) (making : Making) (entry exit : Told) (s : StackState Device (List PlainBlock)) (e : Device) → e ≡ s.device → HalvesMakeIt (told_clock e).first → IsOrigin c inner cuts making entry → s.desk.config ≡ c → s.desk.cap ≡ cap
+    → IsBack c inner exit (part_at entry) (told_of e).first (clock_of e).first
+    → Vouches (IsKept s.ready (part_at entry) s.desk s.hand (told_of s.device) (told_clock s.device).first) (part_at entry) (told_by told_of s) inner exit
+vouched c inner cuts making entry exit s e same halves origin config most back = record {
+  operations = back.operations;
+  faults = λ rose. counted_rose inner.faults exit.faults (own.faults 1 (once (told_of s.device).first.faults (told_by told_of s).faults refl rose)) back.more;
+  cuts = λ n counted. own.cuts n (subst (λ (k : ℕ). WereCounted n (part_at entry).planning.unplanned k) one_part counted);
+  promise = λ kept made left pieces end order refusals off.
+      its (run_of s.desk.config s.desk.entries inner exit back.operations (Played made pieces left) end) (part_at entry) (told_of s.device).first
+      (record {
+        order = order;
+        over = subst (λ (n : ℕ). KeepsOver s.desk.config n s.desk.entries (part_at entry) (told_of s.device).first (told_clock s.device).first) most (over_of s.ready (part_at entry) s.desk s.hand s.device kept);
+        refusals = refusals;
+        off = subst (λ (k : ℕ). WereCounted (offs_of_flash (Played made pieces left) s.desk.entries) (part_at entry).planning.unplanned k) one_part off;
+      })
+      (told_bridge (making_of s.desk.config) inner exit back.operations (part_at entry) s.device (subst (λ (x : Configuration). Bridges (making_of x) true (record { entry = inner; exit = exit; operations = back.operations }) (part_at entry) (told_of s.device).first (clock_of s.device).first) (sym config) own));
+}
+  where
+    own : Bridges (making_of c) true (record { entry = inner; exit = exit; operations = back.operations }) (part_at entry) (told_of s.device).first (clock_of s.device).first
+    own = subst (λ (d : Device). Bridges (making_of c) true (record { entry = inner; exit = exit; operations = back.operations }) (part_at entry) (told_of d).first (clock_of d).first) same back.bridges
+
+    its : HalvesMakeIt (told_clock s.device).first
+    its = subst (λ (d : Device). HalvesMakeIt (told_clock d).first) same halves
+
+    one_part : (told_of s.device).first.planning.unplanned + 0 ≡ (told_of s.device).first.planning.unplanned
+    one_part = omega arith
+
+-- a stack that wasn't started, by its own configuration
+pub stops_by : (c d : Configuration) (why : MakeFault) (s t : Told) (g : Geometry) (x : Stop) → d ≡ c → g ≡ c.geometry → x ≡ stop_of_make why (size_of g) → ComesBack d why s t → StopsAtStart c s t x
+stops_by c d why s t g x same shape is back =
+    subst (λ (y : Stop). StopsAtStart c s t y) (sym (is ∙ ap (λ (h : Geometry). stop_of_make why (size_of h)) shape)) (stops c why s t (subst (λ (y : Configuration). ComesBack y why s t) same back))

@@ -1,0 +1,397 @@
+-- A run keeps the promise, by the course of its steps and by what the machine vouches for.
+use Rattle.std.specs.Prelude.{OnOk, IfErr, IfSome, sum_by, slice_get, take}
+use Rattle.std.specs.List.{Contains}
+use Rattle.std.proofs.Common.{◌≡◌, ◌<◌, ◌≤◌, ◌+◌, ◌⊎◌, ℕ, zero, suc, List, [], ◌∷◌, ◌++◌, Option, Some, None, Result, Ok, Err, length, refl, sym, ap, ◌∙◌, subst, inl, inr, arith, append-nil}
+use Rattle.std.specs.Io.KnownBytes.{Appends}
+use Rattle.nv_streams.specs.Sink.{AppendsPrefix}
+use Rattle.nv_base.specs.Count.{Rose, WereCounted, last_count}
+use Rattle.block_config.specs.Config.{Configuration}
+use Rattle.memif.specs.Told.{PartTold}
+use Rattle.fls_model.specs.Told.{Told, Change}
+use Rattle.device_bridge.specs.Image.{IsSoundFlash}
+use Rattle.device_bridge.specs.FlashRun.{TellsBytes, StartsSound}
+use Rattle.nvm_script.specs.Lines.{end_line}
+use Rattle.nvm_script.specs.Printed.{history_text}
+use Rattle.nvm_script.specs.declared.step.StepKind.TheVariants as kind
+use Rattle.script_walks.specs.Words.{Step, StepKind}
+use Rattle.script_walks.specs.Walk.{IsWalkOf, joined}
+use Rattle.block_machine.specs.Words.{Entry, Found}
+use Rattle.block_machine.specs.State.{State}
+use Rattle.block_machine.specs.Steps.{after}
+use Rattle.block_machine.specs.Prices.{prices_in_refusals}
+use Rattle.run_promise.specs.Run.{Run, Course, Played, End, Whole, cap, HasOrder, LeavesFlash, LeavesFor, EndsAtStart, HasNoRoom, RefusalsExplain, refusals_of, offs_of_flash, unpaid_offs}
+use Rattle.run_promise.specs.Run.{FlashFault, HistoryFull, Memory}
+use Rattle.run_promise.specs.Promise.{Promise}
+use Rattle.run_promise.specs.Call.{Call, Ends, text_of, last_line, IsCourseOf, IsInputOf}
+use Rattle.nvm_script.specs.Script.{IsScript, later_lines}
+use Rattle.nvm_script.specs.declared.script.Mode.TheVariants as mode
+use Rattle.nvm_top.specs.Ends.{HasPlayable}
+use Rattle.flash_stacks.specs.Made.{LeavesAlone}
+use Rattle.nvm_top.specs.Play.{IsStepsEnd}
+use Rattle.nvm_top.specs.Reading.{IsEarly}
+use Rattle.stack_steps.specs.Told.{StackTold}
+use Rattle.stack_steps.specs.Made as steps
+use Rattle.stack_steps.specs.Made.{HasWalked, WereLeft, WasBroken}
+use Rattle.stack_steps.specs.declared.steps.StepFault.{StepFault}
+use Rattle.stack_steps.specs.declared.steps.StepFault.TheVariants as fault
+use Rattle.nvm_top.specs.declared.status.Status.{Status}
+use Rattle.nvm_top.specs.declared.status.Status.TheVariants as status
+use Rattle.nvm_top.specs.declared.stop.Stop.{Stop}
+use Rattle.nvm_top.specs.declared.stop.Stop.TheVariants as stop
+use Rattle.nvm_top.specs.Machine.{IsStarted, StartsWell, StopsAtStart, Vouches}
+use Rattle.nvm_top.specs.Machine.{run_of}
+use Rattle.nvm_top.specs.Output.{Writes, IsReport}
+use Rattle.nvm_top.specs.Promised.{played_call, HasRun, RunsAs, WritesText, HasPromise, KeepsPromise, soak_text, SoakEnds}
+use Rattle.nvm_top.specs.Runs as ends
+use Rattle.nvm_top.specs.Stop.{status_of, line_of, IsStop}
+use Rattle.nvm_top.proofs.PlayLemmas.{Rose-after, report-by}
+use Rattle.nvm_top.proofs.Printing.{prefix-longer}
+use Rattle.nvm_top.proofs.Texts.{all_prefix, text_alone}
+
+-- A RUN WITHOUT A START-UP
+
+none_refused : (c : Configuration) (id n : ℕ) → prices_in_refusals c id (joined (take n [])) ≤ sum_by (λ (x : Step). refusals_of id x.kind) (take n [])
+none_refused c id zero = omega arith
+none_refused c id (suc n) = omega arith
+
+not_there : (h : Entry) → Contains [] h → ⊥
+not_there h is = let few = is.1 in omega (arith, few)
+
+pub early_promise : (c : Configuration) (steps : List Step) (entry exit : Told) (stop : Stop) (end : End) → StopsAtStart c entry exit stop → EndsAtStart (record { entry = entry; exit = exit; operations = [] }) end
+    → Promise (run_of c [] entry exit [] (Played [] [] steps) end)
+early_promise c steps entry exit stop end stops ends = record {
+  order = (ends, (refl, refl), stops.flash);
+  power_cut = λ tells sound k image few is. absurd (let none = is.1 in cc none);
+  found = λ tells sound marks ops has few. absurd (not_there (Found marks ops) has);
+  at_exit = λ tells sound started few. absurd started;
+  block_machine = tt;
+  faults = record { faults = 0; counted = inl (let more = stops.faults in omega (arith, more)); pay = tt };
+  refusals = λ id n. none_refused c id n;
+  off = inl (let more = stops.cuts in omega (arith, more));
+  operations = λ started. absurd started;
+  begins = tt;
+  counted = λ e ops has is. absurd (not_there e has);
+}
+
+pub early_has : (c : Configuration) (steps : List Step) (Tells : Run → Type 0) (entry exit : Told) (stop : Stop) (end : End) → StopsAtStart c entry exit stop → EndsAtStart (record { entry = entry; exit = exit; operations = [] }) end
+    → Tells (run_of c [] entry exit [] (Played [] [] steps) end) → HasRun c steps Tells entry exit
+early_has c steps Tells entry exit stop end stops ends tells = record {
+  run = run_of c [] entry exit [] (Played [] [] steps) end;
+  configuration = refl;
+  course = refl;
+  at_entry = refl;
+  at_exit = refl;
+  ends = tells;
+  keeps =
+      let promise = early_promise c steps entry exit stop end stops ends in
+      record { order = promise.order; refusals = promise.refusals; off = promise.off; promise = λ told sound. promise };
+}
+
+-- WHAT IS TOLD OF A RUN
+
+-- the status of an end
+abbrev pub status_at : End → Status
+status_at Whole = status.Ok
+status_at FlashFault = status.FlashFault
+status_at HistoryFull = status.HistoryFull
+status_at Memory = status.Memory
+
+-- A command tells how a run ended by its status and its output: a text of the history and a line. At want of memory a
+-- beginning of the text suffices.
+pub record Telling (entry exit : Told) (w w' : Option (List ℕ)) (text : List Entry → List ℕ) (line : End → List Entry → List ℕ) (Tells : Status → Run → Type 0) : Type 0 where
+  pub good : (c : Configuration) (h : List Entry) (operations : List Change) (course : Course) (end : End) → Appends w w' (text h ++ line end h) → Tells (status_at end) (run_of c h entry exit operations course end)
+  pub failed : (c : Configuration) (h : List Entry) (operations : List Change) (course : Course) (end : End) → AppendsPrefix w w' (text h ++ line end h) → Tells status.WriteFault (run_of c h entry exit operations course end)
+  pub wanting : (c : Configuration) (h : List Entry) (operations : List Change) (course : Course) → AppendsPrefix w w' (text h) → Tells status.Memory (run_of c h entry exit operations course Memory)
+
+-- what holds at the status of an end
+runs_at : (Has : Status → Type 0) (entry exit : Told) (end : End) → Has (status_at end) → RunsAs (status_at end) (Has (status_at end)) entry exit
+runs_at Has entry exit Whole has = has
+runs_at Has entry exit FlashFault has = has
+runs_at Has entry exit HistoryFull has = has
+runs_at Has entry exit Memory has = has
+
+-- of each status, by what was written
+by_status : (meant : Status) (text line : List ℕ) (w w' : Option (List ℕ)) (x : Status) (Has : Status → Type 0) (entry exit : Told) → WritesText meant text line w w' x
+    → (AppendsPrefix w w' text → Has status.Memory) → (AppendsPrefix w w' (text ++ line) → Has status.WriteFault ⊎ LeavesAlone entry exit) → (Appends w w' (text ++ line) → RunsAs meant (Has meant) entry exit)
+    → RunsAs x (Has x) entry exit
+by_status meant text line w w' status.Memory Has entry exit is memory failed whole = memory is
+by_status meant text line w w' status.WriteFault Has entry exit is memory failed whole = failed is
+by_status meant text line w w' x Has entry exit is memory failed whole = subst (λ (y : Status). RunsAs y (Has y) entry exit) (sym is.0) (whole is.1)
+
+-- WHERE NO START-UP WAS MADE
+
+early_end : (c : Configuration) (steps : List Step) (entry exit : Told) (why : Stop) (end : End) (x : Status) (w w' : Option (List ℕ)) (text : List Entry → List ℕ) (line : End → List Entry → List ℕ) (Tells : Status → Run → Type 0) → Telling entry exit w w' text line Tells
+    → StopsAtStart c entry exit why → EndsAtStart (record { entry = entry; exit = exit; operations = [] }) end → WritesText (status_at end) (text []) (line end []) w w' x
+    → RunsAs x (HasRun c steps (Tells x) entry exit) entry exit
+early_end c steps entry exit why end x w w' text line Tells telling stops ends is =
+    by_status (status_at end) (text []) (line end []) w w' x (λ y. HasRun c steps (Tells y) entry exit) entry exit is
+    (λ part. early_has c steps (Tells status.Memory) entry exit why Memory stops tt (telling.wanting c [] [] (Played [] [] steps) part))
+    (λ part. inl (early_has c steps (Tells status.WriteFault) entry exit why end stops ends (telling.failed c [] [] (Played [] [] steps) end part)))
+    (λ all. runs_at (λ y. HasRun c steps (Tells y) entry exit) entry exit end (early_has c steps (Tells (status_at end)) entry exit why end stops ends (telling.good c [] [] (Played [] [] steps) end all)))
+
+-- its line stands alone
+early_by : (c : Configuration) (steps : List Step) (entry exit : Told) (why : Stop) (x : Status) (w w' : Option (List ℕ)) (text : List Entry → List ℕ) (line : End → List Entry → List ℕ) (Tells : Status → Run → Type 0) → Telling entry exit w w' text line Tells
+    → text [] ≡ [] → line FlashFault [] ≡ line_of stop.FlashFault → line Memory [] ≡ [] → StopsAtStart c entry exit why → WritesText (status_of why) [] (line_of why) w w' x
+    → RunsAs x (HasRun c steps (Tells x) entry exit) entry exit
+early_by c steps entry exit (stop.WrongSize found need) x w w' text line Tells telling none flash memory stops is =
+    by_status status.WrongSize [] (line_of (stop.WrongSize found need)) w w' x (λ y. HasRun c steps (Tells y) entry exit) entry exit is
+    (λ part. early_has c steps (Tells status.Memory) entry exit (stop.WrongSize found need) Memory stops tt (telling.wanting c [] [] (Played [] [] steps) (subst (λ (l : List ℕ). AppendsPrefix w w' l) (sym none) part)))
+    (λ part. inr stops.end.1)
+    (λ all. stops.end.1)
+early_by c steps entry exit stop.FlashFault x w w' text line Tells telling none flash memory stops is =
+    early_end c steps entry exit stop.FlashFault FlashFault x w w' text line Tells telling stops stops.end
+    (subst (λ (l : List ℕ). WritesText status.FlashFault (text []) l w w' x) (sym flash) (subst (λ (l : List ℕ). WritesText status.FlashFault l (line_of stop.FlashFault) w w' x) (sym none) is))
+early_by c steps entry exit stop.Memory x w w' text line Tells telling none flash memory stops is =
+    early_end c steps entry exit stop.Memory Memory x w w' text line Tells telling stops tt
+    (subst (λ (l : List ℕ). WritesText status.Memory (text []) l w w' x) (sym memory) (subst (λ (l : List ℕ). WritesText status.Memory l [] w w' x) (sym none) is))
+early_by c steps entry exit _ x w w' text line Tells telling none flash memory stops is = absurd stops.why
+
+-- `PLAY` AND `SOAK`
+
+pub play_tells : (input : Option (List ℕ)) (entry exit : Told) (w w' : Option (List ℕ)) → Telling entry exit w w' history_text last_line (λ x r. Ends (played_call input x entry exit w w') r r.end)
+play_tells input entry exit w w' = record {
+  good = good;
+  failed = failed;
+  wanting = λ c h operations course part. (prefix-longer w w' (history_text h) [] part, inl refl);
+}
+  where
+    good : (c : Configuration) (h : List Entry) (operations : List Change) (course : Course) (end : End) → Appends w w' (history_text h ++ last_line end h) → Ends (played_call input (status_at end) entry exit w w') (run_of c h entry exit operations course end) end
+    good c h operations course Whole is = inl (refl, is)
+    good c h operations course FlashFault is = inl (refl, is)
+    good c h operations course HistoryFull is = inl (refl, is)
+    good c h operations course Memory is = (all_prefix w w' (history_text h ++ last_line Memory h) is, inl refl)
+
+    failed : (c : Configuration) (h : List Entry) (operations : List Change) (course : Course) (end : End) → AppendsPrefix w w' (history_text h ++ last_line end h) → Ends (played_call input status.WriteFault entry exit w w') (run_of c h entry exit operations course end) end
+    failed c h operations course Whole is = inr (refl, is)
+    failed c h operations course FlashFault is = inr (refl, is)
+    failed c h operations course HistoryFull is = inr (refl, is)
+    failed c h operations course Memory is = (is, inr refl)
+
+pub soak_tells : (input : Option (List ℕ)) (entry exit : Told) (w w' : Option (List ℕ)) → Telling entry exit w w' (λ h. []) soak_text (λ x r. SoakEnds (played_call input x entry exit w w') r r.end)
+soak_tells input entry exit w w' = record { good = good; failed = failed; wanting = λ c h operations course part. (part, inl refl) }
+  where
+    good : (c : Configuration) (h : List Entry) (operations : List Change) (course : Course) (end : End) → Appends w w' (soak_text end h) → SoakEnds (played_call input (status_at end) entry exit w w') (run_of c h entry exit operations course end) end
+    good c h operations course Whole is = inl (refl, is)
+    good c h operations course FlashFault is = inl (refl, is)
+    good c h operations course HistoryFull is = inl (refl, is)
+    good c h operations course Memory is = (all_prefix w w' [] is, inl refl)
+
+    failed : (c : Configuration) (h : List Entry) (operations : List Change) (course : Course) (end : End) → AppendsPrefix w w' (soak_text end h) → SoakEnds (played_call input status.WriteFault entry exit w w') (run_of c h entry exit operations course end) end
+    failed c h operations course Whole is = inr (refl, is)
+    failed c h operations course FlashFault is = inr (refl, is)
+    failed c h operations course HistoryFull is = inr (refl, is)
+    failed c h operations course Memory is = (is, inr refl)
+
+pub early_runs : (c : Configuration) (steps : List Step) (entry exit : Told) (why : Stop) (x : Status) (w w' input : Option (List ℕ)) → StopsAtStart c entry exit why → Writes (IsStop why) w w' x
+    → RunsAs x (HasRun c steps (λ r. Ends (played_call input x entry exit w w') r r.end) entry exit) entry exit
+early_runs c steps entry exit why x w w' input stops is =
+    early_by c steps entry exit why x w w' history_text last_line (λ y r. Ends (played_call input y entry exit w w') r r.end) (play_tells input entry exit w w') refl refl refl stops
+    (text_alone (IsStop why) (status_of why) (line_of why) w w' x (λ y l at. at) is)
+
+pub early_soaks : (c : Configuration) (steps : List Step) (entry exit : Told) (why : Stop) (x : Status) (w w' input : Option (List ℕ)) → StopsAtStart c entry exit why → Writes (IsStop why) w w' x
+    → RunsAs x (HasRun c steps (λ r. SoakEnds (played_call input x entry exit w w') r r.end) entry exit) entry exit
+early_soaks c steps entry exit why x w w' input stops is =
+    early_by c steps entry exit why x w w' (λ h. []) soak_text (λ y r. SoakEnds (played_call input y entry exit w w') r r.end) (soak_tells input entry exit w w') refl refl refl stops
+    (text_alone (IsStop why) (status_of why) (line_of why) w w' x (λ y l at. at) is)
+
+-- THE COURSE OF THE STEPS
+
+no_room : (c : Configuration) (s : State) (k : StepKind) → steps.HasNoRoom c cap s k → HasNoRoom c s k
+no_room c s (kind.Ask r) is = is
+no_room c s kind.Restart is = is
+no_room c s _ is = absurd is
+
+-- why the steps behind are left
+left_for : (why : StepFault) (left : List Step) (r : Run) (before : PartTold) (old t : StackTold) → old.configuration ≡ r.configuration → old.cap ≡ cap → t.entries ≡ r.history → before.faults ≤ old.faults
+    → (Rose before.faults t.faults → Rose r.flash.entry.faults r.flash.exit.faults) → WereLeft why left old t → LeavesFor r (after r.configuration r.history) (ends.end_of why) left
+left_for fault.Flash (x ∷ xs) r before old t same most entries less faults is = (is.0, faults (Rose-after before.faults old.faults t.faults less is.1))
+left_for fault.HistoryFull (x ∷ xs) r before old t same most entries less faults is =
+    no_room r.configuration (after r.configuration r.history) x.kind
+    (subst (λ (h : List Entry). steps.HasNoRoom r.configuration cap (after r.configuration h) x.kind) entries
+    (subst (λ (n : ℕ). steps.HasNoRoom r.configuration n (after r.configuration t.entries) x.kind) most
+    (subst (λ (c : Configuration). steps.HasNoRoom c old.cap (after c t.entries) x.kind) same is)))
+left_for fault.Memory xs r before old t same most entries less faults is = tt
+left_for fault.Flash [] r before old t same most entries less faults is = absurd is
+left_for fault.HistoryFull [] r before old t same most entries less faults is = absurd is
+
+-- the history of steps that were made is one of a run
+ordered : (made left : List Step) (end : End) (old t : StackTold) (entry exit : Told) (operations : List Change) (fresh : steps.IsFresh old) (walked : HasWalked made old t) → t.configuration ≡ old.configuration
+    → LeavesFor (run_of t.configuration t.entries entry exit operations (Played made walked.pieces left) end) (after t.configuration t.entries) end left
+    → HasOrder (run_of t.configuration t.entries entry exit operations (Played made walked.pieces left) end) t.entries
+ordered made left end old t entry exit operations fresh walked same leaves =
+    let is : t.entries ≡ Found fresh.marks fresh.ops ∷ walked.more = walked.grows ∙ ap (λ (h : List Entry). h ++ walked.more) fresh.entries in
+    let r = run_of t.configuration t.entries entry exit operations (Played made walked.pieces left) end in
+    subst (λ (h : List Entry). HasOrder r h) (sym is) (
+      subst (λ (h : List Entry). IsWalkOf t.configuration made walked.pieces h) is (subst (λ (c : Configuration). IsWalkOf c made walked.pieces t.entries) (sym same) walked.walk),
+      subst (λ (h : List Entry). LeavesFor r (after t.configuration h) end left) is leaves,
+    )
+
+counted_from : (n a b d : ℕ) → a ≤ b → WereCounted n b d → WereCounted n a d
+counted_from n a b d less (inl is) = inl (omega (arith, less, is))
+counted_from n a b d less (inr full) = inr full
+
+-- a run keeps the promise where its flash starts well
+has_run : (Kept : Type 0) (c : Configuration) (cuts : ℕ) (all made left : List Step) (end : End) (before : PartTold) (old t : StackTold) (entry exit : Told) (Tells : Run → Type 0) (started : IsStarted c cuts before old) (walked : HasWalked made old t)
+    → t.configuration ≡ old.configuration → (StartsWell c entry → Kept) → (v : Vouches Kept before t entry exit) → made ++ left ≡ all
+    → LeavesFor (run_of t.configuration t.entries entry exit v.operations (Played made walked.pieces left) end) (after t.configuration t.entries) end left
+    → Tells (run_of t.configuration t.entries entry exit v.operations (Played made walked.pieces left) end) → HasRun c all Tells entry exit
+has_run Kept c cuts all made left end before old t entry exit Tells started walked same keeps v parts leaves tells = record {
+  run = run_of t.configuration t.entries entry exit v.operations (Played made walked.pieces left) end;
+  configuration = of;
+  course = parts;
+  at_entry = refl;
+  at_exit = refl;
+  ends = tells;
+  keeps = record {
+    order = order;
+    refusals = refusals;
+    off = v.cuts (unpaid_offs None 0 made walked.pieces) off;
+    promise = λ told sound. v.promise (keeps (well told sound)) made left walked.pieces end order refusals off;
+  };
+}
+  where
+    of : t.configuration ≡ c
+    of = same ∙ started.configuration
+
+    order : HasOrder (run_of t.configuration t.entries entry exit v.operations (Played made walked.pieces left) end) t.entries
+    order = ordered made left end old t entry exit v.operations started.fresh walked same leaves
+
+    refusals : (id : ℕ) → RefusalsExplain t.configuration (Played made walked.pieces left) t.entries id
+    refusals id = subst (λ (x : Configuration). RefusalsExplain x (Played made walked.pieces []) t.entries id) (sym same) (walked.refusals id)
+
+    off : WereCounted (unpaid_offs None 0 made walked.pieces) before.planning.unplanned t.causes.unplanned
+    off = counted_from (unpaid_offs None 0 made walked.pieces) before.planning.unplanned old.causes.unplanned t.causes.unplanned started.unplanned walked.off
+
+    well : (told : TellsBytes (record { entry = entry; exit = exit; operations = v.operations })) → StartsSound t.configuration.geometry (record { entry = entry; exit = exit; operations = v.operations }) → StartsWell c entry
+    well told sound = record {
+      first = told.first;
+      bytes = told.entry;
+      sound = subst (λ (x : Configuration). IsSoundFlash x.geometry told.first) of (subst (λ (o : Option (List ℕ)). IfSome o (IsSoundFlash t.configuration.geometry)) told.entry sound);
+    }
+
+-- of the status, the output and the steps
+end_runs : (Kept : Type 0) (c : Configuration) (cuts : ℕ) (all made left : List Step) (end : End) (before : PartTold) (old t : StackTold) (entry exit : Told) (x : Status) (w w' : Option (List ℕ)) (text : List Entry → List ℕ) (line : End → List Entry → List ℕ) (Tells : Status → Run → Type 0)
+    → Telling entry exit w w' text line Tells → IsStarted c cuts before old → (walked : HasWalked made old t) → t.configuration ≡ old.configuration → (StartsWell c entry → Kept) → (v : Vouches Kept before t entry exit) → made ++ left ≡ all
+    → LeavesFor (run_of t.configuration t.entries entry exit v.operations (Played made walked.pieces left) end) (after t.configuration t.entries) end left → WritesText (status_at end) (text t.entries) (line end t.entries) w w' x
+    → RunsAs x (HasRun c all (Tells x) entry exit) entry exit
+end_runs Kept c cuts all made left end before old t entry exit x w w' text line Tells telling started walked same keeps v parts leaves is =
+    by_status (status_at end) (text t.entries) (line end t.entries) w w' x (λ y. HasRun c all (Tells y) entry exit) entry exit is
+    (λ part. has_run Kept c cuts all made left Memory before old t entry exit (Tells status.Memory) started walked same keeps v parts tt (telling.wanting t.configuration t.entries v.operations (Played made walked.pieces left) part))
+    (λ part. inl (has_run Kept c cuts all made left end before old t entry exit (Tells status.WriteFault) started walked same keeps v parts leaves (telling.failed t.configuration t.entries v.operations (Played made walked.pieces left) end part)))
+    (λ whole. runs_at (λ y. HasRun c all (Tells y) entry exit) entry exit end (has_run Kept c cuts all made left end before old t entry exit (Tells (status_at end)) started walked same keeps v parts leaves (telling.good t.configuration t.entries v.operations (Played made walked.pieces left) end whole)))
+
+-- the end of steps that were made, or left
+abbrev pub end_by : Result (Unit {0}) StepFault → End
+end_by (Ok done) = Whole
+end_by (Err why) = ends.end_of why
+
+runs_by : (Kept : Type 0) (c : Configuration) (cuts : ℕ) (all : List Step) (before : PartTold) (old t : StackTold) (entry exit : Told) (x : Status) (w w' : Option (List ℕ)) (text : List Entry → List ℕ) (line : End → List Entry → List ℕ) (Tells : Status → Run → Type 0) (result : Result (Unit {0}) StepFault)
+    → Telling entry exit w w' text line Tells → IsStarted c cuts before old → OnOk result (HasWalked all old t) → IfErr result (λ why. WasBroken why all old t) → t.configuration ≡ old.configuration → (StartsWell c entry → Kept) → Vouches Kept before t entry exit
+    → WritesText (status_at (end_by result)) (text t.entries) (line (end_by result) t.entries) w w' x → RunsAs x (HasRun c all (Tells x) entry exit) entry exit
+runs_by Kept c cuts all before old t entry exit x w w' text line Tells (Ok done) telling started walked broken same keeps v is =
+    end_runs Kept c cuts all all [] Whole before old t entry exit x w w' text line Tells telling started walked same keeps v (append-nil all) refl is
+runs_by Kept c cuts all before old t entry exit x w w' text line Tells (Err why) telling started walked broken same keeps v is =
+    end_runs Kept c cuts all broken.made broken.left (ends.end_of why) before old t entry exit x w w' text line Tells telling started broken.walked same keeps v (sym broken.order)
+    (left_for why broken.left (run_of t.configuration t.entries entry exit v.operations (Played broken.made broken.walked.pieces broken.left) (ends.end_of why)) before old t (sym same) started.most refl started.faults v.faults broken.why) is
+
+play_text : (result : Result (Unit {0}) StepFault) (h : List Entry) (w w' : Option (List ℕ)) (x : Status) → WritesText (ends.status_of_run (ends.run_of result)) (history_text h) (ends.line_of_run (ends.run_of result) h) w w' x
+    → WritesText (status_at (end_by result)) (history_text h) (last_line (end_by result) h) w w' x
+play_text (Ok done) h w w' x is = is
+play_text (Err fault.Flash) h w w' x is = is
+play_text (Err fault.HistoryFull) h w w' x is = is
+play_text (Err fault.Memory) h w w' x is = is
+
+soaked_text : (result : Result (Unit {0}) StepFault) (h : List Entry) (w w' : Option (List ℕ)) (x : Status) → WritesText (ends.status_of_run (ends.run_of result)) [] (ends.summary_of_run (ends.run_of result) h) w w' x
+    → WritesText (status_at (end_by result)) [] (soak_text (end_by result) h) w w' x
+soaked_text (Ok done) h w w' x is = is
+soaked_text (Err fault.Flash) h w w' x is = is
+soaked_text (Err fault.HistoryFull) h w w' x is = is
+soaked_text (Err fault.Memory) h w w' x is = is
+
+pub play_runs : (Kept : Type 0) (c : Configuration) (cuts : ℕ) (all : List Step) (before : PartTold) (old t : StackTold) (entry exit : Told) (x : Status) (w w' input : Option (List ℕ)) (result : Result (Unit {0}) StepFault) → IsStarted c cuts before old
+    → OnOk result (HasWalked all old t) → IfErr result (λ why. WasBroken why all old t) → t.configuration ≡ old.configuration → (StartsWell c entry → Kept) → Vouches Kept before t entry exit
+    → WritesText (ends.status_of_run (ends.run_of result)) (history_text t.entries) (ends.line_of_run (ends.run_of result) t.entries) w w' x
+    → RunsAs x (HasRun c all (λ r. Ends (played_call input x entry exit w w') r r.end) entry exit) entry exit
+play_runs Kept c cuts all before old t entry exit x w w' input result started walked broken same keeps v is =
+    runs_by Kept c cuts all before old t entry exit x w w' history_text last_line (λ y r. Ends (played_call input y entry exit w w') r r.end) result (play_tells input entry exit w w') started walked broken same keeps v (play_text result t.entries w w' x is)
+
+-- a summary of the history and the run as they were
+pub soak_ran : (Kept : Type 0) (c : Configuration) (cuts : ℕ) (all : List Step) (before : PartTold) (old t : StackTold) (entry exit : Told) (x : Status) (w w' input : Option (List ℕ)) (result : Result (Unit {0}) StepFault) (run : Result (Unit {0}) Stop) (h : List Entry) → IsStarted c cuts before old
+    → OnOk result (HasWalked all old t) → IfErr result (λ why. WasBroken why all old t) → t.configuration ≡ old.configuration → (StartsWell c entry → Kept) → Vouches Kept before t entry exit → run ≡ ends.run_of result → h ≡ t.entries
+    → Writes (ends.IsSummaryLine run h) w w' x → RunsAs x (HasRun c all (λ r. SoakEnds (played_call input x entry exit w w') r r.end) entry exit) entry exit
+soak_ran Kept c cuts all before old t entry exit x w w' input result run h started walked broken same keeps v is_run is_history is =
+    let text = text_alone (ends.IsSummaryLine run h) (ends.status_of_run run) (ends.summary_of_run run h) w w' x (λ y l at. at) is in
+    runs_by Kept c cuts all before old t entry exit x w w' (λ es. []) soak_text (λ y r. SoakEnds (played_call input y entry exit w w') r r.end) result (soak_tells input entry exit w w') started walked broken same keeps v
+    (soaked_text result t.entries w w' x
+    (subst (λ (r : Result (Unit {0}) Stop). WritesText (ends.status_of_run r) [] (ends.summary_of_run r t.entries) w w' x) is_run
+    (subst (λ (es : List Entry). WritesText (ends.status_of_run run) [] (ends.summary_of_run run es) w w' x) is_history text)))
+
+-- with the history and the run as they were written
+pub play_ran : (Kept : Type 0) (c : Configuration) (cuts : ℕ) (all : List Step) (before : PartTold) (old t : StackTold) (entry exit : Told) (x : Status) (w w' input : Option (List ℕ)) (result : Result (Unit {0}) StepFault) (run : Result (Unit {0}) Stop) (h : List Entry) → IsStarted c cuts before old
+    → OnOk result (HasWalked all old t) → IfErr result (λ why. WasBroken why all old t) → t.configuration ≡ old.configuration → (StartsWell c entry → Kept) → Vouches Kept before t entry exit → run ≡ ends.run_of result → h ≡ t.entries
+    → WritesText (ends.status_of_run run) (history_text h) (ends.line_of_run run h) w w' x
+    → RunsAs x (HasRun c all (λ r. Ends (played_call input x entry exit w w') r r.end) entry exit) entry exit
+play_ran Kept c cuts all before old t entry exit x w w' input result run h started walked broken same keeps v is_run is_history is =
+    play_runs Kept c cuts all before old t entry exit x w w' input result started walked broken same keeps v
+    (subst (λ (r : Result (Unit {0}) Stop). WritesText (ends.status_of_run r) (history_text t.entries) (ends.line_of_run r t.entries) w w' x) is_run
+    (subst (λ (es : List Entry). WritesText (ends.status_of_run run) (history_text es) (ends.line_of_run run es) w w' x) is_history is))
+
+-- of the configuration and the flash that a machine is made for
+pub moved_run : (c d : Configuration) (all : List Step) (entry from exit : Told) (x : Status) (w w' input : Option (List ℕ)) → c ≡ d → entry ≡ from
+    → RunsAs x (HasRun c all (λ r. Ends (played_call input x entry exit w w') r r.end) entry exit) entry exit → RunsAs x (HasRun d all (λ r. Ends (played_call input x from exit w w') r r.end) from exit) from exit
+moved_run c d all entry from exit x w w' input same begins is =
+    subst (λ (f : Told). RunsAs x (HasRun d all (λ r. Ends (played_call input x f exit w w') r r.end) f exit) f exit) begins
+    (subst (λ (y : Configuration). RunsAs x (HasRun y all (λ r. Ends (played_call input x entry exit w w') r r.end) entry exit) entry exit) same is)
+
+-- OF THE WHOLE CALL
+
+input_of : (left : Option (List ℕ)) (c : Configuration) (steps : List Step) (r : Run) → r.configuration ≡ c → IsCourseOf mode.Play steps r.course → IfSome left (λ bytes. HasPlayable bytes c steps) → IfSome left (IsInputOf mode.Play r)
+input_of None c steps r same course has = tt
+input_of (Some bytes) c steps r same course has = record {
+  configuration = has.config.config ∙ ap Ok (sym same);
+  steps = steps;
+  script = subst (λ (x : Configuration). IsScript x mode.Play 2 [] (later_lines bytes) steps) (sym same) has.script;
+  course = course;
+}
+
+has_promise : (left : Option (List ℕ)) (x : Status) (c : Configuration) (steps : List Step) (entry exit : Told) (w w' : Option (List ℕ)) → IfSome left (λ bytes. HasPlayable bytes c steps)
+    → HasRun c steps (λ r. Ends (played_call left x entry exit w w') r r.end) entry exit → HasPromise (played_call left x entry exit w w')
+has_promise left x c steps entry exit w w' has run =
+    (run.run, record { input = input_of left c steps run.run run.configuration run.course has; entry = run.at_entry; exit = run.at_exit; ends = run.ends }, run.keeps)
+
+-- a run's promise is the call's
+pub call_keeps : (need : ℕ) (left : Option (List ℕ)) (x : Status) (c : Configuration) (steps : List Step) (entry exit : Told) (w w' : Option (List ℕ)) → IfSome left (λ bytes. HasPlayable bytes c steps) → IsStepsEnd need entry exit x
+    → RunsAs x (HasRun c steps (λ r. Ends (played_call left x entry exit w w') r r.end) entry exit) entry exit → KeepsPromise x (played_call left x entry exit w w')
+call_keeps need left status.Ok c steps entry exit w w' has end is = has_promise left status.Ok c steps entry exit w w' has is
+call_keeps need left status.FlashFault c steps entry exit w w' has end is = has_promise left status.FlashFault c steps entry exit w w' has is
+call_keeps need left status.HistoryFull c steps entry exit w w' has end is = has_promise left status.HistoryFull c steps entry exit w w' has is
+call_keeps need left status.Memory c steps entry exit w w' has end is = inl (has_promise left status.Memory c steps entry exit w w' has is)
+call_keeps need left status.WriteFault c steps entry exit w w' has end (inl is) = inl (has_promise left status.WriteFault c steps entry exit w w' has is)
+call_keeps need left status.WriteFault c steps entry exit w w' has end (inr same) = inr same
+call_keeps need left status.WrongSize c steps entry exit w w' has end is = is
+call_keeps need left _ c steps entry exit w w' has end is = absurd end
+
+-- a call that stops early leaves the flash as it was
+alone : (told : Told) → LeavesAlone told told
+alone told = record { bytes = refl; ops = refl; faults = refl; cuts = refl }
+
+stops_early : (left : Option (List ℕ)) (why : Stop) (told : Told) (w w' : Option (List ℕ)) → IsEarly why → KeepsPromise (status_of why) (played_call left (status_of why) told told w w')
+stops_early left stop.BadWords told w w' early = alone told
+stops_early left (stop.BadConfig rule block) told w w' early = alone told
+stops_early left (stop.BadScript line) told w w' early = alone told
+stops_early left stop.ReadFault told w w' early = alone told
+stops_early left stop.TooLong told w w' early = alone told
+stops_early left (stop.Unbuilt line) told w w' early = alone told
+stops_early left stop.Memory told w w' early = inr (alone told)
+stops_early left _ told w w' early = absurd early
+
+pub early_keeps : (left : Option (List ℕ)) (why : Stop) (x : Status) (told : Told) (w w' : Option (List ℕ)) → IsEarly why → IsReport (status_of why) x → KeepsPromise x (played_call left x told told w w')
+early_keeps left why x told w w' early reports =
+    report-by (λ y. KeepsPromise y (played_call left y told told w w')) (status_of why) x (stops_early left why told w w' early) (inr (alone told)) (inr (alone told)) reports
+
+-- the same of `soak`
+pub moved_soak : (c d : Configuration) (all : List Step) (entry from exit : Told) (x : Status) (w w' input : Option (List ℕ)) → c ≡ d → entry ≡ from
+    → RunsAs x (HasRun c all (λ r. SoakEnds (played_call input x entry exit w w') r r.end) entry exit) entry exit → RunsAs x (HasRun d all (λ r. SoakEnds (played_call input x from exit w w') r r.end) from exit) from exit
+moved_soak c d all entry from exit x w w' input same begins is =
+    subst (λ (f : Told). RunsAs x (HasRun d all (λ r. SoakEnds (played_call input x f exit w w') r r.end) f exit) f exit) begins
+    (subst (λ (y : Configuration). RunsAs x (HasRun y all (λ r. SoakEnds (played_call input x entry exit w w') r r.end) entry exit) entry exit) same is)

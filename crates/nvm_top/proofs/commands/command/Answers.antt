@@ -1,0 +1,7 @@
+use Rattle.std.proofs.Common.{◌≤◌, map, string_bytes, sym, ap, ◌∙◌, Some, arith}
+use Rattle.nvm_top.proofs.Soaks.{few_rounds}
+use Rattle.nvm_top.proofs.commands.command.Goals as goal
+
+pub soak-requires : goal.soak-requires
+soak-requires g c =
+    let few : c.in-Ok-Some-Soak.count ≤ 10000 = few_rounds (map string_bytes c.args.words.now) c.in-Ok-Some-Soak.seed c.in-Ok-Some-Soak.count (sym c.in-Ok-Some-Soak.ensures ∙ c.in-Ok-Some-Soak.field-0-is ∙ ap Some c.in-Ok-Some-Soak.field-0-0-is) in omega (arith, few)

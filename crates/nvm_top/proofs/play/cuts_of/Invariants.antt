@@ -1,0 +1,9 @@
+use Rattle.std.proofs.Common.{◌≡◌, ◌≤◌, take}
+use Rattle.stack_steps.specs.Made.{cuts_of}
+use Rattle.nvm_top.proofs.play.cuts_of.Given as goal
+
+abbrev pub invariant-loop-i : goal.invariant-loop-i
+invariant-loop-i l = record {
+  sum : l.cuts ≡ cuts_of (take l.i l.steps);
+  few : l.cuts ≤ l.i;
+}

@@ -1,0 +1,28 @@
+use Rattle.std.proofs.Common.{List, sym, ap, subst}
+use Rattle.block_config.specs.Config.{Configuration}
+use Rattle.device_clock.specs.Device.{Device, told_of}
+use Rattle.fee_starts.specs.Made.{part_at}
+use Rattle.flash_stacks.specs.Made.{IsOrigin}
+use Rattle.played_stacks.specs.Told.{told_by}
+use Rattle.ram_blocks.specs.declared.plain_block.PlainBlock.{PlainBlock}
+use Rattle.nvm_core.specs.Stack.{StackState}
+use Rattle.nvm_top.specs.Machine.{IsStarted, StopsAtStart}
+use Rattle.nvm_top.specs.declared.stop.Stop.{Stop}
+use Rattle.nvm_top.proofs.Driven.{started, kept_up, tells_slots, stops_by}
+use Rattle.nvm_top.proofs.stack.start_driven.Goals as goal
+
+pub returns-in-Ok-begin-clause-started : goal.returns-in-Ok-begin-clause-started
+returns-in-Ok-begin-clause-started g c =
+    subst (λ (m : StackState Device (List PlainBlock)). IsStarted c.args.config c.args.cuts (part_at g.O.Origin.entry) (told_by told_of m)) (sym c.over.ensures)
+    (started c.args.config (g.F.Flash.told c.args.flash) c.args.cuts g.O.Origin.making g.O.Origin.entry c.in-Ok.stack c.in-Ok-begin.stack c.requires c.in-Ok.ensures.made c.in-Ok-begin.ensures.started)
+
+pub returns-in-Ok-begin-clause-kept : goal.returns-in-Ok-begin-clause-kept
+returns-in-Ok-begin-clause-kept g c = λ well.
+    kept_up (part_at g.O.Origin.entry) c.in-Ok.stack c.in-Ok-begin.stack c.over.result c.over.ensures c.in-Ok-begin.ensures.started
+    (c.in-Ok-begin.ensures.kept c.args.config (g.F.Flash.told c.args.flash) c.args.cuts (ap (λ s. s.desk.config) c.in-Ok.ensures.made.only) c.geometry-geometry.ensures.legal c.requires
+    (tells_slots c.soundness_computes.ensures c.args.config (g.F.Flash.told c.args.flash) c.args.cuts g.O.Origin.making g.O.Origin.entry c.in-Ok.stack.device c.requires c.in-Ok.ensures.made.device well))
+
+pub returns-in-Err-begin-clause-stopped : goal.returns-in-Err-begin-clause-stopped
+returns-in-Err-begin-clause-stopped g c =
+    stops_by c.args.config c.in-Ok.stack.desk.config c.in-Err-begin.fault (g.F.Flash.told c.args.flash) (g.F.Flash.told c.in-Err-begin.flash) c.geometry-geometry.result c.stop_of_make.result (ap (λ s. s.desk.config) c.in-Ok.ensures.made.only) c.geometry-geometry.ensures.value c.stop_of_make.ensures
+    (c.in-Err-begin.ensures.stopped (g.F.Flash.told c.args.flash) c.args.cuts (subst (λ (x : Configuration). IsOrigin x (g.F.Flash.told c.args.flash) c.args.cuts g.O.Origin.making g.O.Origin.entry) (sym (ap (λ s. s.desk.config) c.in-Ok.ensures.made.only)) c.requires))

@@ -1,0 +1,57 @@
+-- The machine that a command runs: a stack over a flash.
+use Rattle.std.specs.Prelude.{◌≡◌, ◌≤◌, ℕ, List, [], Some}
+use Rattle.nv_base.specs.Count.{Rose, WereCounted}
+use Rattle.nv_base.specs.Geometry.{size_of}
+use Rattle.block_config.specs.Config.{Configuration}
+use Rattle.memif.specs.Told.{PartTold}
+use Rattle.fls_model.specs.Told.{Told, Change, bytes_now}
+use Rattle.device_bridge.specs.Image.{IsSoundFlash}
+use Rattle.script_walks.specs.Words.{Step}
+use Rattle.block_machine.specs.Words.{Entry}
+use Rattle.run_promise.specs.Run.{Run, Course, Played, End, cap, HasOrder, LeavesFlash, RefusalsExplain, offs_of_flash}
+use Rattle.run_promise.specs.Promise.{Promise}
+use Rattle.stack_steps.specs.Told.{StackTold}
+use Rattle.stack_steps.specs.Made.{IsFresh}
+use Rattle.nvm_top.specs.declared.stop.Stop.{Stop}
+use Rattle.nvm_top.specs.Play.{IsAttachStop, IsStepsEnd}
+use Rattle.nvm_top.specs.Stop.{status_of}
+
+-- a run that followed this course and came to this end
+abbrev pub run_of : Configuration → List Entry → Told → Told → List Change → Course → End → Run
+run_of c h entry exit operations course end =
+    record { configuration = c; course = course; end = end; history = h; flash = record { entry = entry; exit = exit; operations = operations } }
+
+-- behind its first start-up, with so many power cuts that can be planned
+pub record IsStarted (c : Configuration) (cuts : ℕ) (before : PartTold) (t : StackTold) : Type 0 where
+  pub configuration : t.configuration ≡ c
+  pub most : t.cap ≡ cap
+  pub fresh : IsFresh t
+  pub takes : cuts ≤ t.causes.takes
+  pub faults : before.faults ≤ t.faults
+  pub unplanned : before.planning.unplanned ≤ t.causes.unplanned
+
+-- why it isn't started: the flash isn't attached, or start-up failed by a fault, or memory was wanting
+pub record StopsAtStart (c : Configuration) (entry exit : Told) (stop : Stop) : Type 0 where
+  pub why : IsAttachStop (size_of c.geometry) entry.bytes stop
+  pub end : IsStepsEnd (size_of c.geometry) entry exit (status_of stop)
+  pub flash : LeavesFlash c.geometry (record { entry = entry; exit = exit; operations = [] })
+  pub faults : entry.faults ≤ exit.faults
+  pub cuts : entry.cuts ≤ exit.cuts
+
+-- its flash tells its bytes at first, and their image is sound
+pub record StartsWell (c : Configuration) (entry : Told) : Type 0 where
+  pub first : List ℕ
+  pub bytes : bytes_now entry ≡ Some first
+  pub sound : IsSoundFlash c.geometry first
+
+-- The flash is given back: the faults and the cuts that the stack was told are its own; and where this was kept, a run that
+-- followed a script keeps the promise, where its steps explain its refused copies and its power cuts.
+pub record Vouches (Kept : Type 0) (before : PartTold) (t : StackTold) (entry exit : Told) : Type 0 where
+  pub operations : List Change
+  pub faults : Rose before.faults t.faults → Rose entry.faults exit.faults
+  pub cuts : (n : ℕ) → WereCounted n before.planning.unplanned t.causes.unplanned → WereCounted n entry.cuts exit.cuts
+  pub promise : Kept → (made left : List Step) (pieces : List (List Entry)) (end : End)
+      → HasOrder (run_of t.configuration t.entries entry exit operations (Played made pieces left) end) t.entries
+      → ((id : ℕ) → RefusalsExplain t.configuration (Played made pieces left) t.entries id)
+      → WereCounted (offs_of_flash (Played made pieces left) t.entries) before.planning.unplanned t.causes.unplanned
+      → Promise (run_of t.configuration t.entries entry exit operations (Played made pieces left) end)

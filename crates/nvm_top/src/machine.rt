@@ -1,0 +1,48 @@
+// The machine that a command runs.
+ghost use Rattle.std.specs.Prelude.{◌≡◌, ℕ, IfOk, IfErr, OnOk};
+ghost use Rattle.block_config.specs.Config.{Configuration};
+ghost use Rattle.fls_model.specs.Told.{Told};
+ghost use Rattle.memif.specs.Told.{PartTold};
+ghost use Rattle.run_promise.specs.Run.{cap};
+ghost use Rattle.nvm_top.specs.Machine.{IsStarted, StartsWell, StopsAtStart, Vouches};
+
+use crate::stop::Stop;
+use block_config::Config;
+use fls_model::Flash;
+use nv_base::History;
+use stack_steps::PlayedStack;
+use std::alloc::Global;
+
+/// A stack over a flash, which it gives back.
+pub trait Machine<F: Flash>: PlayedStack {
+    /// What it is made of: the configuration, and what is told of the flash before it is attached and of the device's part
+    /// before the first start-up.
+    ghost made_for: { Configuration };
+
+    ghost entry: { Told };
+
+    ghost before: { PartTold };
+
+    /// That it is made of this configuration and this flash, with so many power cuts.
+    ghost may_start: { Configuration → Told → ℕ → Type 0 };
+
+    /// Attaches the flash and makes the first start-up. So many power cuts can be planned.
+    fn start(alloc: Global, config: Config, flash: F, cuts: u32) -> Result<Self, (Stop, F)>
+        requires { may_start config (F.told flash) cuts }
+        ensures made_for { OnOk result (made_for ≡ config) }
+        ensures entry { OnOk result (entry ≡ F.told flash) }
+        ensures started { IfOk result (λ m. IsStarted config cuts before (Self.told m)) }
+        ensures kept { IfOk result (λ m. StartsWell config (F.told flash) → Self.kept m before) }
+        ensures stopped { IfErr result (λ e. StopsAtStart config (F.told flash) (F.told e.1) e.0) };
+
+    /// The history so far.
+    fn history(&self) -> &History
+        ensures { result.now.entries ≡ (Self.told self.now).entries };
+
+    /// Gives the flash back.
+    fn into_flash(self) -> F
+        requires made { (cuts : ℕ) × may_start made_for entry cuts }
+        requires configuration { (Self.told self).configuration ≡ made_for }
+        requires most { (Self.told self).cap ≡ cap }
+        ensures { Vouches (Self.kept self before) before (Self.told self) entry (F.told result) };
+}

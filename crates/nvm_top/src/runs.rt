@@ -1,0 +1,74 @@
+// How a run is written.
+ghost use Rattle.std.specs.Prelude.{◌≡◌};
+ghost use Rattle.nv_base.specs.Count.{Rose};
+ghost use Rattle.nvm_top.specs.Output.{Writes, Prints};
+ghost use Rattle.nvm_top.specs.Play.{IsRunLine};
+ghost use Rattle.nvm_script.specs.Printed.{history_text};
+ghost use Rattle.nvm_top.specs.Promised.{WritesText};
+ghost use Rattle.nvm_top.specs.Runs.{run_of, status_of_run, line_of_run, IsSummaryLine};
+
+use crate::Status;
+use crate::output::{put_lines, report, write_end, write_history};
+use crate::stop::Stop;
+use nv_base::History;
+use nv_streams::Sink;
+use nvm_script::summary_text;
+use stack_steps::StepFault;
+use std::alloc::Global;
+
+/// How a run ended, by why its steps stopped.
+pub fn stop_of(run: Result<(), StepFault>) -> Result<(), Stop>
+    ensures { result ≡ run_of run }
+{
+    match run {
+        Ok(()) => Ok(()),
+        Err(StepFault::Flash) => Err(Stop::FlashFault),
+        Err(StepFault::HistoryFull) => Err(Stop::HistoryFull),
+        Err(StepFault::Memory) => Err(Stop::Memory),
+    }
+}
+
+/// Writes the history of a run, and then its end or why it stopped.
+pub fn write_run<K: Sink>(
+    alloc: Global,
+    run: Result<(), Stop>,
+    history: &History,
+    output: &mut K,
+) -> Status
+    ensures print { Prints (IsRunLine run) (K.written output.old) (K.written output.new) result }
+    ensures text { WritesText (status_of_run run) (history_text history.now.entries) (line_of_run run history.now.entries) (K.written output.old) (K.written output.new) result }
+    ensures write_fault { result ≡ Status.WriteFault → Rose (K.faults output.old) (K.faults output.new) }
+{
+    if run == Err(Stop::Memory) {
+        return Status::Memory;
+    }
+    if let Err(fault) = write_history(alloc, history, output) {
+        return fault.status();
+    }
+    match run {
+        Ok(()) => write_end(alloc, history, output),
+        Err(stop) => report(alloc, stop, output),
+    }
+}
+
+/// Writes the summary of a run, or why it stopped.
+pub fn write_summary<K: Sink>(
+    alloc: Global,
+    run: Result<(), Stop>,
+    history: &History,
+    output: &mut K,
+) -> Status
+    ensures lines { Writes (IsSummaryLine run history.now.entries) (K.written output.old) (K.written output.new) result }
+    ensures write_fault { result ≡ Status.WriteFault → Rose (K.faults output.old) (K.faults output.new) }
+{
+    if let Err(stop) = run {
+        return report(alloc, stop, output);
+    }
+    let Ok(text) = summary_text(alloc, history) else {
+        return Status::Memory;
+    };
+    match put_lines(output, text.as_slice()) {
+        Ok(()) => Status::Ok,
+        Err(fault) => fault.status(),
+    }
+}
