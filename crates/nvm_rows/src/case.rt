@@ -52,6 +52,7 @@ impl Case {
             "put" => add_number(&mut self.puts_fail, rest),
             "read" => add_number(&mut self.reads_fail, rest),
             "flash" => fill(&mut self.flash, rest),
+            "draw" => draw(&mut self.flash, rest),
             "at" => self.set_bytes(alloc, rest),
             "operation" => self.add_operation(rest),
             "quiet" => {
@@ -117,6 +118,20 @@ fn fill(bytes: &mut Vec<u8>, text: &str) -> anyhow::Result<()> {
     let value = u8::try_from(value).context("a byte")?;
     for _ in 0..count {
         bytes.push(value).map_err(AllocError::from)?;
+    }
+    Ok(())
+}
+
+/// Adds a count of bytes, each the low byte of a draw from a seed, as `soak` draws.
+fn draw(bytes: &mut Vec<u8>, text: &str) -> anyhow::Result<()> {
+    let (seed, count) = pair(text)?;
+    let mut drawn = seed;
+    for _ in 0..count {
+        drawn = drawn
+            .wrapping_mul(6364136223846793005)
+            .wrapping_add(1442695040888963407);
+        let byte = u8::try_from((drawn >> 33) & 255).context("a byte")?;
+        bytes.push(byte).map_err(AllocError::from)?;
     }
     Ok(())
 }

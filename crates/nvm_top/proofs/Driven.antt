@@ -1,6 +1,6 @@
 -- The stack over a flash: what it is behind its first start-up, and what its flash comes back with.
-use Rattle.std.specs.Prelude.{IfSome, IfOk, IsSome, slice_get, option_map, unwrap_or, replicate, min, is_some, ◌-◌}
-use Rattle.std.proofs.Common.{◌≡◌, ◌≢◌, ◌<◌, ◌≤◌, ◌+◌, ◌⊎◌, ◌==◌, ℕ, zero, suc, Bool, true, false, IsTrue, List, [], ◌∷◌, ◌++◌, Option, Some, None, Result, Ok, Err, length, map, get_or, if◌then◌else◌, refl, sym, ap, ◌∙◌, subst, inl, inr, arith}
+use Rattle.std.specs.Prelude.{IfSome, IfOk, IsSome, slice_get, option_map, unwrap_or, replicate, min, ◌-◌}
+use Rattle.std.proofs.Common.{◌≡◌, ◌≢◌, ◌<◌, ◌≤◌, ◌+◌, ◌⊎◌, ◌==◌, ℕ, zero, suc, Bool, true, false, IsTrue, List, [], ◌∷◌, ◌++◌, Option, Some, None, Result, Ok, Err, length, map, if◌then◌else◌, refl, sym, ap, ◌∙◌, subst, inl, inr, arith}
 use Rattle.std.proofs.lemmas.Bool.{cases_Bool}
 use Rattle.std.proofs.lemmas.Bool.Decides.{leb_tells}
 use Rattle.std.proofs.Math.Nat.{eq-or-lt_of_le}
@@ -11,22 +11,20 @@ use Rattle.block_config.specs.Config.{Configuration}
 use Rattle.block_config.specs.Rules.{IsLegalConfig}
 use Rattle.block_machine.specs.Words.{Entry, Found}
 use Rattle.block_machine.specs.Steps.{after}
-use Rattle.script_walks.specs.Words.{Step}
-use Rattle.memif.specs.Told.{PartTold, First, IfElse, ops_of}
-use Rattle.memif.specs.Clock.{PartClock}
-use Rattle.memif.specs.Calls.{InOrder, PowersUp}
+use Rattle.memif.specs.Told.{PartTold, First, ops_of}
+use Rattle.memif.specs.Calls.{InOrder}
 use Rattle.fls_model.specs.Told.{Told, ToldBytes, Change, IfBothTold, bytes_now}
 use Rattle.fls_devices.specs.Cutter.{cutting, told_cutting}
 use Rattle.fee_image.specs.Laws.{SoundImagesCompute}
 use Rattle.device_bridge.specs.Bridge.{Making, Bridges}
 use Rattle.device_bridge.specs.FlashRun.{AreSeen}
-use Rattle.device_bridge.specs.Image.{IsSoundFlash, two_banks, attached}
-use Rattle.device_clock.specs.Device.{Device, told_of, is_told_sound, tells, slots_in, slots_told}
+use Rattle.device_bridge.specs.Image.{two_banks, attached}
+use Rattle.device_clock.specs.Device.{Device, told_of, is_told_sound, tells, slots_told}
 use Rattle.device_clock.specs.Clock.{clock_of, off_in_of}
 use Rattle.fee_core.specs.Tells.{told_clock}
 use Rattle.fee_starts.specs.Made.{IsMadeOf, part_at}
 use Rattle.ram_blocks.specs.declared.plain_block.PlainBlock.{PlainBlock}
-use Rattle.ram_blocks.specs.Told.{Told as SyncTold, most_of, refusals_of}
+use Rattle.ram_blocks.specs.Told.{most_of, refusals_of}
 use Rattle.ram_blocks.specs.Plain.{told_of as sync_told, store_of, plain_of, plain_blocks_of, fresh_block, no_plain}
 use Rattle.block_config.specs.declared.block.BlockDesc.{BlockDesc}
 use Rattle.block_machine.specs.Blocks.{is_synchronized}
@@ -35,15 +33,14 @@ use Rattle.job_hands.specs.Hand.{HandState}
 use Rattle.block_promise.specs.OverDevice.{KeepsOver}
 use Rattle.turn_laws.specs.Turn.{Keeps, BeginsKept, down}
 use Rattle.nvm_core.specs.Stack.{StackState}
-use Rattle.nvm_core.specs.StartUps.{StartsUp, StartsKeep, KeepsDown}
+use Rattle.nvm_core.specs.StartUps.{StartsUp, StartsKeep}
 use Rattle.stack_turns.specs.Keeps.{StackKeeps}
 use Rattle.stack_turns.specs.declared.turned.FoundAnswer.TheVariants as found
-use Rattle.run_promise.specs.Run.{Run, Course, Played, End, cap, HasOrder, RefusalsExplain, offs_of_flash}
-use Rattle.run_promise.specs.Promise.{Promise, making_of}
-use Rattle.run_promise.specs.Halves.{BlockHalf, DeviceHalf, HalvesMakeIt, beyond_end}
-use Rattle.stack_steps.specs.Told.{StackTold}
-use Rattle.played_stacks.specs.Told.{told_by, plan_of, plan_in, refusable_in, untold_of}
-use Rattle.played_stacks.specs.Kept.{IsKept, IsDown}
+use Rattle.run_promise.specs.Run.{Played, cap, offs_of_flash}
+use Rattle.run_promise.specs.Promise.{making_of}
+use Rattle.run_promise.specs.Halves.{HalvesMakeIt, beyond_end}
+use Rattle.played_stacks.specs.Told.{told_by, plan_of, untold_of}
+use Rattle.played_stacks.specs.Kept.{IsKept}
 use Rattle.flash_stacks.specs.declared.device.MakeFault.{MakeFault}
 use Rattle.flash_stacks.specs.declared.device.MakeFault.TheVariants as fault
 use Rattle.flash_stacks.specs.Made.{IsOrigin, IsMadeStack, AreOfFirst, ComesBack, IsBack}

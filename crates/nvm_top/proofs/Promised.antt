@@ -1,16 +1,15 @@
 -- A run keeps the promise, by the course of its steps and by what the machine vouches for.
-use Rattle.std.specs.Prelude.{OnOk, IfErr, IfSome, sum_by, slice_get, take}
+use Rattle.std.specs.Prelude.{OnOk, IfErr, IfSome, sum_by, take}
 use Rattle.std.specs.List.{Contains}
-use Rattle.std.proofs.Common.{◌≡◌, ◌<◌, ◌≤◌, ◌+◌, ◌⊎◌, ℕ, zero, suc, List, [], ◌∷◌, ◌++◌, Option, Some, None, Result, Ok, Err, length, refl, sym, ap, ◌∙◌, subst, inl, inr, arith, append-nil}
+use Rattle.std.proofs.Common.{◌≡◌, ◌≤◌, ◌⊎◌, ℕ, zero, suc, List, [], ◌∷◌, ◌++◌, Option, Some, None, Result, Ok, Err, refl, sym, ap, ◌∙◌, subst, inl, inr, arith, append-nil}
 use Rattle.std.specs.Io.KnownBytes.{Appends}
 use Rattle.nv_streams.specs.Sink.{AppendsPrefix}
-use Rattle.nv_base.specs.Count.{Rose, WereCounted, last_count}
+use Rattle.nv_base.specs.Count.{Rose, WereCounted}
 use Rattle.block_config.specs.Config.{Configuration}
 use Rattle.memif.specs.Told.{PartTold}
 use Rattle.fls_model.specs.Told.{Told, Change}
 use Rattle.device_bridge.specs.Image.{IsSoundFlash}
 use Rattle.device_bridge.specs.FlashRun.{TellsBytes, StartsSound}
-use Rattle.nvm_script.specs.Lines.{end_line}
 use Rattle.nvm_script.specs.Printed.{history_text}
 use Rattle.nvm_script.specs.declared.step.StepKind.TheVariants as kind
 use Rattle.script_walks.specs.Words.{Step, StepKind}
@@ -19,10 +18,10 @@ use Rattle.block_machine.specs.Words.{Entry, Found}
 use Rattle.block_machine.specs.State.{State}
 use Rattle.block_machine.specs.Steps.{after}
 use Rattle.block_machine.specs.Prices.{prices_in_refusals}
-use Rattle.run_promise.specs.Run.{Run, Course, Played, End, Whole, cap, HasOrder, LeavesFlash, LeavesFor, EndsAtStart, HasNoRoom, RefusalsExplain, refusals_of, offs_of_flash, unpaid_offs}
+use Rattle.run_promise.specs.Run.{Run, Course, Played, End, Whole, cap, HasOrder, LeavesFor, EndsAtStart, HasNoRoom, RefusalsExplain, refusals_of, unpaid_offs}
 use Rattle.run_promise.specs.Run.{FlashFault, HistoryFull, Memory}
 use Rattle.run_promise.specs.Promise.{Promise}
-use Rattle.run_promise.specs.Call.{Call, Ends, text_of, last_line, IsCourseOf, IsInputOf}
+use Rattle.run_promise.specs.Call.{Ends, last_line, IsCourseOf, IsInputOf}
 use Rattle.nvm_script.specs.Script.{IsScript, later_lines}
 use Rattle.nvm_script.specs.declared.script.Mode.TheVariants as mode
 use Rattle.nvm_top.specs.Ends.{HasPlayable}

@@ -1,15 +1,14 @@
 -- The steps and the words of `soak`.
 use Rattle.std.specs.Prelude.{nat_le, nat_lt, IfSome, slice_get, length, ◌*◌, ◌%◌, ◌-◌, ◌==◌}
 use Rattle.std.specs.List.{range_with_len}
-use Rattle.std.specs.Str.{bytes_eq}
 use Rattle.std.specs.Str.Parse.{digits_value}
-use Rattle.std.proofs.Common.{◌≡◌, ◌≤◌, ◌<◌, ◌+◌, ◌&&◌, ◌⊎◌, ℕ, zero, suc, Bool, true, false, List, [], ◌∷◌, ◌++◌, map, Option, Some, None, if◌then◌else◌, refl, sym, ap, ◌∙◌, subst, inl, inr, arith}
-use Rattle.std.proofs.lemmas.Bool.{cases_Bool, leb-true}
+use Rattle.std.proofs.Common.{◌≡◌, ◌≤◌, ◌+◌, ◌&&◌, ℕ, zero, suc, Bool, true, false, List, [], ◌∷◌, map, Option, Some, None, if◌then◌else◌, refl, ap, subst, inl, inr, arith}
+use Rattle.std.proofs.lemmas.Bool.{leb-true}
 use Rattle.std.proofs.lemmas.List.Sums.{sum_by-append, sum_by-cons}
 use Rattle.nv_base.specs.Decimal.{is_numeral, decimal_number_of}
 use Rattle.block_config.specs.Config.{Configuration}
 use Rattle.fls_model.specs.Told.{Told}
-use Rattle.command_words.specs.Words.{are_words, command_named, soak_of, soak_named, command_with, command_in, command_of}
+use Rattle.command_words.specs.Words.{are_words, command_named, soak_of, command_with, command_in, command_of}
 use Rattle.command_words.specs.Fields.{Places, places_of}
 use Rattle.command_words.specs.declared.words.CommandKind.{CommandKind}
 use Rattle.command_words.specs.declared.words.CommandKind.TheVariants.{Play, Run, Dump, Check, Soak}

@@ -5,16 +5,14 @@ use Rattle.nv_streams.specs.Sink.{AppendsPrefix}
 use Rattle.block_config.specs.Config.{Configuration}
 use Rattle.fls_model.specs.Told.{Told}
 use Rattle.nvm_script.specs.declared.script.Mode.TheVariants as mode
-use Rattle.nvm_script.specs.Lines.{end_line}
-use Rattle.nvm_script.specs.Printed.{history_text}
 use Rattle.nvm_script.specs.Summary.{summary}
 use Rattle.script_walks.specs.Words.{Step}
 use Rattle.block_machine.specs.Words.{Entry}
-use Rattle.run_promise.specs.Run.{Run, End, Whole, FlashFault, HistoryFull, Memory, HasOrder, RefusalsExplain, offs_of_flash}
+use Rattle.run_promise.specs.Run.{Run, End, Whole, Memory, HasOrder, RefusalsExplain, offs_of_flash}
 use Rattle.nv_base.specs.Count.{WereCounted}
 use Rattle.device_bridge.specs.FlashRun.{TellsBytes, StartsSound}
 use Rattle.run_promise.specs.Promise.{Promise}
-use Rattle.run_promise.specs.Call.{Call, IsCourseOf, Ends, IsRunOf, status_of_end, last_line}
+use Rattle.run_promise.specs.Call.{Call, IsCourseOf, IsRunOf, status_of_end, last_line}
 use Rattle.nvm_top.specs.declared.status.Status.{Status}
 use Rattle.nvm_top.specs.declared.status.Status.TheVariants as status
 use Rattle.nvm_top.specs.Ends.{HasPlayable}

@@ -10,7 +10,7 @@ use Rattle.nvm_top.specs.declared.status.Status.{Status}
 use Rattle.nvm_top.specs.declared.status.Status.TheVariants as status
 use Rattle.nvm_top.specs.declared.stop.Stop.{Stop}
 use Rattle.nvm_top.specs.declared.stop.Stop.TheVariants as stop
-use Rattle.nvm_top.specs.Stop.{status_of, line_of, IsStop}
+use Rattle.nvm_top.specs.Stop.{status_of, line_of}
 
 -- a command stops where its steps stopped
 abbrev pub stop_of_fault : StepFault → Stop

@@ -61,7 +61,12 @@ impl<F: Flash, O: Origin + Setting> Machine<F> for Driven<F, O> {
 
     ghost may_start = { λ c e n. (O.configuration ≡ c) × (O.flash ≡ e) × IsOrigin c e n O.making O.entry };
 
-    fn start(alloc: Global, config: Config, flash: F, cuts: u32) -> Result<Driven<F, O>, (Stop, F)> {
+    fn start(
+        alloc: Global,
+        config: Config,
+        flash: F,
+        cuts: u32,
+    ) -> Result<Driven<F, O>, (Stop, F)> {
         start_driven(alloc, config, flash, cuts)
     }
 

@@ -1,7 +1,4 @@
-use Rattle.std.proofs.Common.{◌≡◌, ◌≤◌, ◌+◌, ◌<◌, ℕ, List, ◌++◌, ◌∷◌, [], take, Some, slice_get, ap, ◌∙◌, sym, arith}
-use Rattle.std.proofs.lemmas.List.Sums.{sum_by_push}
-use Rattle.nvm_script.specs.declared.step.Step.{Step}
-use Rattle.stack_steps.specs.Made.{cuts_in, cuts_of}
+use Rattle.std.proofs.Common.{arith}
 use Rattle.nvm_top.proofs.Cuts.{one_more, few_in}
 use Rattle.nvm_top.proofs.play.cuts_of.Goals.{in-Some, in_default}
 use Rattle.nvm_top.proofs.play.cuts_of.Goals as goal

@@ -1,6 +1,5 @@
 use Rattle.std.proofs.Common.{◌≡◌, List, sym, subst}
 use Rattle.nvm_script.specs.declared.step.Step.{Step}
-use Rattle.run_promise.specs.Run.{Run}
 use Rattle.stack_steps.specs.Made.{cuts_of}
 use Rattle.nvm_top.specs.Promised.{HasRun, RunsAs, SoakEnds, played_call}
 use Rattle.nvm_top.proofs.Soaks.{soak_is_uncut, or_wants}
@@ -13,4 +12,4 @@ pub returns-clause-promise : goal.returns-clause-promise
 returns-clause-promise g c input =
     or_wants c.sum_flash.result.0 _ (g.F.Flash.told c.args.flash) (g.F.Flash.told c.sum_flash.result.1)
     (subst (λ (xs : List Step). RunsAs c.sum_flash.result.0 (HasRun c.args.config xs (λ r. SoakEnds (played_call input c.sum_flash.result.0 (g.F.Flash.told c.args.flash) (g.F.Flash.told c.sum_flash.result.1) (g.K.Sink.written c.args.output.now) (g.K.Sink.written c.sum_flash.new.output)) r r.end) (g.F.Flash.told c.args.flash) (g.F.Flash.told c.sum_flash.result.1))
-        (g.F.Flash.told c.args.flash) (g.F.Flash.told c.sum_flash.result.1)) c.in-Ok.ensures (c.sum_flash.ensures.promise input))
+    (g.F.Flash.told c.args.flash) (g.F.Flash.told c.sum_flash.result.1)) c.in-Ok.ensures (c.sum_flash.ensures.promise input))

@@ -1,4 +1,4 @@
-use Rattle.std.proofs.Common.{sym, ap, subst}
+use Rattle.std.proofs.Common.{subst}
 use Rattle.device_clock.specs.Device.{Device, told_of}
 use Rattle.fee_core.specs.Tells.{told_clock}
 use Rattle.memif.specs.Calls.{InOrder}

@@ -6,8 +6,7 @@ use Rattle.flash_stacks.specs.Made.{IsOrigin}
 use Rattle.played_stacks.specs.Told.{told_by}
 use Rattle.ram_blocks.specs.declared.plain_block.PlainBlock.{PlainBlock}
 use Rattle.nvm_core.specs.Stack.{StackState}
-use Rattle.nvm_top.specs.Machine.{IsStarted, StopsAtStart}
-use Rattle.nvm_top.specs.declared.stop.Stop.{Stop}
+use Rattle.nvm_top.specs.Machine.{IsStarted}
 use Rattle.nvm_top.proofs.Driven.{started, kept_up, tells_slots, stops_by}
 use Rattle.nvm_top.proofs.stack.start_driven.Goals as goal
 
