@@ -1,5 +1,5 @@
 -- How what the fields show changes with them.
-use Rattle.std.proofs.Common.{◌≡◌, ℕ, zero, suc, Bool, true, false, List, [], ◌∷◌, length, get_or, slice_set, refl, sym, ap, ◌∙◌, arith}
+use Rattle.std.proofs.Common.{◌≡◌, ◌<◌, ℕ, zero, suc, Bool, true, false, List, [], ◌∷◌, length, get_or, slice_set, refl, sym, ap, ◌∙◌, arith}
 use Rattle.std.proofs.Math.Seq.{map-set_same}
 use Rattle.ram_blocks.specs.declared.kept.RamBlock.{RamBlock}
 use Rattle.ram_blocks.specs.declared.kept.RamFlags.{RamFlags}
@@ -78,6 +78,12 @@ pub room_at : (rs : List RamBlock) (id : ℕ) → get_or (rooms_in rs) id 0 ≡ 
 room_at [] id = refl
 room_at (r ∷ rs) zero = refl
 room_at (r ∷ rs) (suc id) = room_at rs id
+
+-- which it fills, where blocks are shown
+pub ram_fills : (started : Bool) (fs : List BlockFacts) (rs : List RamBlock) (id : ℕ) → length fs ≡ length rs
+    → 0 < length (shown_states started fs rs) → length (state_at (shown_states started fs rs) id).ram ≡ get_or (rooms_in rs) id 0
+ram_fills true fs rs id same some = ap (λ (b : BlockState). length b.ram) (at_states fs rs id same) ∙ sym (room_at rs id)
+ram_fills false fs rs id same some = absurd (omega (arith, some))
 
 -- two changes of a block, one after the other
 set_twice : (states : List BlockState) (id : ℕ) (f g : BlockState → BlockState)

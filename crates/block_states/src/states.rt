@@ -1,5 +1,5 @@
 // The blocks by id.
-ghost use Rattle.std.specs.Prelude.{◌≡◌, ◌≤◌, ◌&&◌, ◌||◌, true, [], length, get_or, IfOk, IfSome, option_copied, if◌then◌else◌};
+ghost use Rattle.std.specs.Prelude.{◌≡◌, ◌≤◌, ◌<◌, ℕ, ◌&&◌, ◌||◌, true, [], length, get_or, IfOk, IfSome, option_copied, if◌then◌else◌};
 ghost use Rattle.block_machine.specs.Blocks.{desc_of, keeps_ram};
 ghost use Rattle.block_machine.specs.Steps.{ended, flagged, protects};
 ghost use Rattle.block_states.specs.States.{rooms_of, state_at, changed_at, started_blocks, facts_of, with_facts, flags_of, with_flags, given_to};
@@ -64,6 +64,13 @@ impl BlockStates {
         ensures room { length result.now ≤ get_or self.now.rooms id 0 }
     {
         if self.started { self.ram.get(id) } else { &[] }
+    }
+
+    /// From the first start-up on RAM holds as many bytes as there is room for.
+    pub fn fills_its_rooms(&self)
+        ensures { 0 < length self.now.states → (id : ℕ) → length (state_at self.now.states id).ram ≡ get_or self.now.rooms id 0 }
+    {
+        let _started = self.started;
     }
 
     /// Whether the RAM of a block is valid and changed.

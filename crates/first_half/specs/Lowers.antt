@@ -8,12 +8,10 @@ use Rattle.stack_turns.specs.declared.turned.Act.{Act}
 use Rattle.stack_turns.specs.declared.turned.Act.TheVariants.{Ended, Device}
 
 -- WORK
--- An entry lowers the work of the stack, and so does an operation that the device refused; where the device's turn comes
--- next, nothing was added to it.
+-- An entry lowers the work of the stack; where the device's turn comes next, nothing was added to it.
 abbrev pub HalfLowers : Act → (old new : ℕ) → Type 0
 HalfLowers (Ended turned.Picked) old new = new < old
 HalfLowers (Ended turned.Posted) old new = new < old
-HalfLowers (Ended turned.Worked) old new = new < old
 HalfLowers (Ended other) old new = Unit {0}
 HalfLowers Device old new = new ≤ old
 

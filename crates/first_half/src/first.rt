@@ -9,6 +9,7 @@ ghost use Rattle.nv_front.specs.Front.{StagesAll, AreSynchronized};
 ghost use Rattle.nv_front.specs.Takes.{source_next, IsCopied};
 ghost use Rattle.hand_laws.specs.Hands.{HandFits};
 ghost use Rattle.stack_work.specs.Work.{program_in_hand, stack_work};
+ghost use Rattle.stack_bounds.specs.AtDevice.{AtDevice};
 ghost use Rattle.stack_turns.specs.Ties.{IsTied};
 ghost use Rattle.stack_turns.specs.Keeps.{StaysKept};
 ghost use Rattle.stack_turns.specs.Halves.{IsHalf};
@@ -54,6 +55,7 @@ pub fn first_half<D: MemDevice, C: SyncCalls>(
     ensures keeps { StaysKept front.old.desk hand.old (D.told device.old) (D.clock device.old).first front.new.desk hand.new (D.told device.new) (D.clock device.new).first }
     ensures lowers { HalfLowers result (stack_work front.old.desk hand.old (D.told device.old)) (stack_work front.new.desk hand.new (D.told device.new)) }
     ensures left { HalfLeft result (program_in_hand hand.old) (D.told device.old) (program_in_hand hand.new) (D.told device.new) }
+    ensures at_device { AtDevice result hand.old (D.told device.old) front.new.desk hand.new (D.told device.new) }
 {
     match case_of(&front.desk, hand) {
         Case::Off => Act::Ended(Turned::Off),
@@ -66,11 +68,8 @@ pub fn first_half<D: MemDevice, C: SyncCalls>(
             Act::Ended(Turned::Picked)
         }
         Case::Work => {
-            if go_on(&front.desk, hand, device) {
-                Act::Device
-            } else {
-                Act::Ended(Turned::Worked)
-            }
+            go_on(&front.desk, hand, device);
+            Act::Device
         }
         Case::Pick => {
             pick(front, hand, device, copies);

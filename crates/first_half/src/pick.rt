@@ -1,6 +1,7 @@
 // The Picks of a turn.
 ghost use Rattle.std.specs.Prelude.{◌≡◌, ◌<◌, ℕ, List, Option, false};
-ghost use Rattle.memif.specs.Told.{DeviceTold, ops_of};
+ghost use Rattle.memif.specs.Told.{DeviceTold, IfElse, is_open, ops_of};
+ghost use Rattle.memif.specs.Calls.{IsCanceled};
 ghost use Rattle.block_machine.specs.Blocks.{job_block, kind_of};
 ghost use Rattle.block_machine.specs.Results.{took_none};
 ghost use Rattle.block_machine.specs.Next.{next_of};
@@ -59,6 +60,8 @@ pub(crate) fn interrupt<D: MemDevice, C: SyncCalls>(
     ensures keeps { StaysKept front.old.desk hand.old (D.told device.old) (D.clock device.old).first front.new.desk hand.new (D.told device.new) (D.clock device.new).first }
     ensures lowers { stack_work front.new.desk hand.new (D.told device.new) < stack_work front.old.desk hand.old (D.told device.old) }
     ensures left { IsWithinMost (program_in_hand hand.new) (D.told device.new) }
+    ensures hand { hand.new ≡ hand_in front.new.desk }
+    ensures cancels { IfElse (is_open (D.told device.old).stand) (IsCanceled (D.told device.old) (D.told device.new)) (D.told device.new ≡ D.told device.old) }
 {
     cancel(device);
     pick(front, hand, device, copies);
@@ -86,6 +89,7 @@ pub(crate) fn pick<D: MemDevice, C: SyncCalls>(
     ensures keeps { (held : Option HandState) → StaysKept front.old.desk held (D.told device.now) (D.clock device.now).first front.new.desk hand.new (D.told device.now) (D.clock device.now).first }
     ensures lowers { (held : Option HandState) (old : DeviceTold) → stack_work front.new.desk hand.new (D.told device.now) < stack_work front.old.desk held old }
     ensures left { IsWithinMost (program_in_hand hand.new) (D.told device.now) }
+    ensures hand { hand.new ≡ hand_in front.new.desk }
 {
     histories_grow();
     hands_begin();

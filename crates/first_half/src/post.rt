@@ -1,5 +1,5 @@
 // The Posts of a turn.
-ghost use Rattle.std.specs.Prelude.{◌≡◌, ◌≤◌, ◌<◌, ◌+◌, ℕ, List, Some, true};
+ghost use Rattle.std.specs.Prelude.{◌≡◌, ◌≤◌, ◌<◌, ◌+◌, ℕ, List, Some, None, true};
 ghost use Rattle.nv_base.specs.declared.job.JobStep.TheVariants as step;
 ghost use Rattle.memif.specs.Told.{ops_of};
 ghost use Rattle.ram_blocks.specs.Told.{sizes_of};
@@ -50,6 +50,7 @@ pub(crate) fn post<D: MemDevice, C: SyncCalls>(
     ensures keeps { StaysKept front.old.desk hand.old (D.told device.now) (D.clock device.now).first front.new.desk hand.new (D.told device.now) (D.clock device.now).first }
     ensures lowers { stack_work front.new.desk hand.new (D.told device.now) < stack_work front.old.desk hand.old (D.told device.now) }
     ensures left { stack_left (program_in_hand hand.new) (D.told device.now) + posts_left (program_in_hand hand.old) ≤ stack_left (program_in_hand hand.old) (D.told device.now) }
+    ensures hand { hand.new ≡ None }
 {
     histories_grow();
     hands_stay();

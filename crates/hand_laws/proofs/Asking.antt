@@ -2,25 +2,20 @@
 use Rattle.std.specs.List.{Contains}
 use Rattle.std.proofs.Common.{◌≡◌, ◌≢◌, ◌⊎◌, ℕ, true, false, Option, Some, None, refl, sym, ap, ◌∙◌, subst, inl, inr, arith}
 use Rattle.std.proofs.lemmas.Bool.{false≢true}
-use Rattle.std.proofs.lemmas.List.{append-nil}
 use Rattle.std.proofs.lemmas.Bool.Decides.{eqb_tells}
 use Rattle.std.proofs.Math.Dec.{eqb}
 use Rattle.memif.specs.Told.{DeviceTold, is_open}
-use Rattle.block_machine.specs.Words.{Request, Read, Write, Restore, Erase, Invalidate, SetIndex, GetIndex, SetProtection, SetLock, SetRam, PutRam, Status, ReadAll, WriteAll, CancelWriteAll, Reply, Accepted, Refused, StatusIs, IndexIs, Refusal, BlockPending, MultiPending, Ask, Off, Failed, Configuration}
+use Rattle.block_machine.specs.Words.{Request, Read, Write, Restore, Erase, Invalidate, SetIndex, GetIndex, SetProtection, SetLock, SetRam, PutRam, Status, ReadAll, WriteAll, CancelWriteAll, Reply, Accepted, Refused, StatusIs, IndexIs, Refusal, BlockPending, MultiPending, Ask, Off, Configuration}
 use Rattle.block_machine.specs.State.{State, Job}
 use Rattle.block_machine.specs.Blocks.{block_at, status_of, is_pending, asked_block, job_block}
 use Rattle.block_machine.specs.Reply.{reply_of, tested, holds}
 use Rattle.block_machine.specs.Steps.{step as stepped, asked, accepted}
 use Rattle.machine_laws.specs.Laws.{AcceptedPass, AsksAreLocal}
-use Rattle.job_programs.specs.Program as program
-use Rattle.job_programs.specs.Program.{Program, is_failed}
-use Rattle.job_programs.specs.Laws.{ProgramsWork, ProgramsGoAsNeeded}
-use Rattle.job_programs.specs.Failures.{TriesAreCounted, served_of}
+use Rattle.job_programs.specs.Program.{Program}
 use Rattle.job_hands.specs.Hand.{HandState}
 use Rattle.hand_laws.specs.Hands.{IsInHand, IsPaired}
-use Rattle.hand_laws.specs.Asks.{AsksKeepHands, OffsKeepHands, DevicesStandIn, RefusalsGoOn}
-use Rattle.hand_laws.proofs.Going.{fruitful, device_is, next_of_done, served_tried}
-use Rattle.hand_laws.proofs.Ended.{same_at, goes_on}
+use Rattle.hand_laws.specs.Asks.{AsksKeepHands, PendingStay, OffsKeepHands, DevicesStandIn}
+use Rattle.hand_laws.proofs.Ended.{same_at}
 
 -- THE STATE
 -- another state with this job in hand, whose block is as it was
@@ -116,26 +111,17 @@ module _ (pass : AcceptedPass) (c : Configuration) (most : ℕ) (s : State) wher
   own_reply caller r (StatusIs status) is pending = refl
   own_reply caller r (IndexIs index) is pending = refl
 
+pub pending_stay : AcceptedPass → AsksAreLocal → PendingStay
+pending_stay pass local c most s caller r reply id is pending = by (eqb_tells id (asked_block r))
+  where
+    by : ((eqb id (asked_block r) ≡ true) × (id ≡ asked_block r)) ⊎ ((eqb id (asked_block r) ≡ false) × (id ≢ asked_block r)) → block_at (stepped c s (Ask caller r reply)) id ≡ block_at s id
+    by (inl (_, same)) = subst (λ (b : ℕ). block_at (stepped c s (Ask caller r reply)) b ≡ block_at s b) (sym same)
+        (own_reply pass c most s caller r reply is (subst (λ (b : ℕ). is_pending (status_of s b) ≡ true) same pending))
+    by (inr (_, other)) = (local c s caller r reply).1 id other
+
 pub asks : AcceptedPass → AsksAreLocal → AsksKeepHands
 asks pass local c most s hand d caller r reply is pending pairs =
     paired c s (stepped c s (Ask caller r reply)) (asked_hand c s r reply) blocks hand d pairs
   where
     blocks : (j : Job) → s.hand ≡ Some j → block_at (stepped c s (Ask caller r reply)) (job_block j) ≡ block_at s (job_block j)
-    blocks j held = by (eqb_tells (job_block j) (asked_block r))
-      where
-        is_pending_now : is_pending (status_of s (job_block j)) ≡ true
-        is_pending_now = (rw held at pending)
-
-        by : ((eqb (job_block j) (asked_block r) ≡ true) × (job_block j ≡ asked_block r)) ⊎ ((eqb (job_block j) (asked_block r) ≡ false) × (job_block j ≢ asked_block r)) → block_at (stepped c s (Ask caller r reply)) (job_block j) ≡ block_at s (job_block j)
-        by (inl (_, same)) = subst (λ (b : ℕ). block_at (stepped c s (Ask caller r reply)) b ≡ block_at s b) (sym same)
-            (own_reply pass c most s caller r reply is (subst (λ (b : ℕ). is_pending (status_of s b) ≡ true) same is_pending_now))
-        by (inr (_, other)) = (local c s caller r reply).1 (job_block j) other
-
--- A REFUSED OPERATION
-pub refusals : TriesAreCounted → ProgramsGoAsNeeded → ProgramsWork → RefusalsGoOn
-refusals counted needed shapes c s h d op i is at off =
-    let (some, step) = fruitful c s h d is op i at in
-    let (index, next, op_is, i_is) = device_is h.program op i (program.next_in h.program) (sym step ∙ at) in
-    goes_on counted needed shapes c s h d d is index next some Failed (λ e. cc) s is.job.reserved is.job.written is.hand (λ id. refl)
-    (λ writes. is.working.written writes ∙ sym (served_tried h.program index Failed (next_of_done h.program index next).1 ∙ append-nil (served_of h.program.indices h.program.done)))
-    (rw off at is.at) (λ reads. cc)
+    blocks j held = pending_stay pass local c most s caller r reply (job_block j) is (rw held at pending)

@@ -8,7 +8,7 @@ use Rattle.block_machine.specs.State.{State, Job, BlockState}
 use Rattle.block_machine.specs.Blocks.{desc_of, block_at, job_block, kind_of}
 use Rattle.block_machine.specs.Results.{took_none}
 use Rattle.job_programs.specs.Program as program
-use Rattle.job_programs.specs.Program.{Program, program_of, works, settles, next_in, step_of, is_failed, is_again, tried, after_by}
+use Rattle.job_programs.specs.Program.{Program, program_of, next_in, step_of, is_again, tried, after_by}
 use Rattle.job_programs.specs.Laws.{Works, ProgramsWork, ProgramsGoAsNeeded}
 use Rattle.job_programs.specs.Failures.{served_of, TriesAreCounted}
 use Rattle.job_hands.specs.Hand.{HandState, ended}

@@ -38,7 +38,7 @@ few_in [] id i is = absurd is
 few_in (b ∷ bs) id zero is = rw is.0 (omega arith)
 few_in (b ∷ bs) id (suc i) is = few_at bs i is.1
 
-pub few_datasets : (c : Configuration) (id : ℕ) → IsLegalConfig c → (desc_of c id).nv ≤ 64
+few_datasets : (c : Configuration) (id : ℕ) → IsLegalConfig c → (desc_of c id).nv ≤ 64
 few_datasets c zero rules = omega arith
 few_datasets c (suc i) rules = few_in c.blocks c.id i rules.blocks_legal
 
@@ -56,7 +56,7 @@ small_by Redundant nv at (suc (suc n)) index few has = cc
 small_by Dataset nv at n index few has = small_if (nat_le nv at) nv at n index refl few has
 
 -- THE STEP
-pub device_is : (p : Program) (op : DeviceOp) (i : Instance) (n : Option ℕ) → step_by p n ≡ step.Device op i
+device_is : (p : Program) (op : DeviceOp) (i : Instance) (n : Option ℕ) → step_by p n ≡ step.Device op i
     → (index : ℕ) × (n ≡ Some index) × (op ≡ operation p.kind) × (i ≡ record { block = p.block; index = index })
 device_is p op i (Some index) is = (index, refl, cc, cc)
 device_is p op i None is = cc
@@ -68,7 +68,7 @@ module _ (c : Configuration) (s : State) (h : HandState) (d : DeviceTold) (is : 
   fruitful_by true op i none fruitless at = let ended = fruitless.0 in cc
   fruitful_by false op i some step at = (some, step)
 
-  pub fruitful : (op : DeviceOp) (i : Instance) → h.step ≡ step.Device op i → (took_none is.job.taken ≡ false) × (h.step ≡ step_of h.program)
+  fruitful : (op : DeviceOp) (i : Instance) → h.step ≡ step.Device op i → (took_none is.job.taken ≡ false) × (h.step ≡ step_of h.program)
   fruitful op i at = fruitful_by (took_none is.job.taken) op i refl is.step at
 
 pub next_of_done : (p : Program) (index : ℕ) → next_in p ≡ Some index → (list_any (settles p.kind) p.done ≡ false) × (slice_get p.indices (length p.done) ≡ Some index)

@@ -1,16 +1,13 @@
 -- Requests and other entries beside the job in hand.
 use Rattle.std.specs.Prelude.{◌≡◌, ℕ, Bool, true, false, IfSome, Option, Some, None}
-use Rattle.nv_base.specs.declared.instance.Instance.{Instance}
-use Rattle.nv_base.specs.declared.job.DeviceOp.{DeviceOp}
-use Rattle.nv_base.specs.declared.job.JobStep.TheVariants as step
 use Rattle.memif.specs.Told.{DeviceTold, is_open}
 use Rattle.nv_base.specs.Entry.{ops_of}
-use Rattle.block_machine.specs.Words.{Entry, Pick, Wrote, Post, Request, Reply, Ask, Off, Failed, Configuration}
+use Rattle.block_machine.specs.Words.{Entry, Pick, Wrote, Post, Request, Reply, Ask, Off, Configuration}
 use Rattle.block_machine.specs.State.{State}
-use Rattle.block_machine.specs.Blocks.{job_block, status_of, is_pending}
+use Rattle.block_machine.specs.Blocks.{block_at, job_block, status_of, is_pending}
 use Rattle.block_machine.specs.Reply.{reply_of}
 use Rattle.block_machine.specs.Steps.{step as stepped}
-use Rattle.job_hands.specs.Hand.{HandState, ended, is_finished}
+use Rattle.job_hands.specs.Hand.{HandState, is_finished}
 use Rattle.hand_laws.specs.Hands.{IsInHand, IsPaired}
 
 -- a request leaves the hand paired, where the block of the job in hand is PENDING
@@ -20,19 +17,19 @@ AsksKeepHands =
     → reply ≡ reply_of c cap s r → IfSome s.hand (λ j. is_pending (status_of s (job_block j)) ≡ true)
     → IsPaired c s hand d → IsPaired c (stepped c s (Ask caller r reply)) hand d
 
--- so does an Off
+-- it leaves a block that is PENDING as it was
+abbrev pub PendingStay : Type 0
+PendingStay =
+    (c : Configuration) (cap : ℕ) (s : State) (caller : ℕ) (r : Request) (reply : Reply) (id : ℕ) → reply ≡ reply_of c cap s r
+    → is_pending (status_of s id) ≡ true → block_at (stepped c s (Ask caller r reply)) id ≡ block_at s id
+
+-- an Off leaves the hand paired too
 abbrev pub OffsKeepHands : Type 0
 OffsKeepHands = (c : Configuration) (s : State) (hand : Option HandState) (d : DeviceTold) (ops : ℕ) → IsPaired c s hand d → IsPaired c (stepped c s (Off ops)) hand d
 
 -- another device in its place, whose job stands as this one's
 abbrev pub DevicesStandIn : Type 0
 DevicesStandIn = (c : Configuration) (s : State) (hand : Option HandState) (old new : DeviceTold) → new.stand ≡ old.stand → IsPaired c s hand old → IsPaired c s hand new
-
--- an operation that the device refuses counts as a failed try
-abbrev pub RefusalsGoOn : Type 0
-RefusalsGoOn =
-    (c : Configuration) (s : State) (h : HandState) (d : DeviceTold) (op : DeviceOp) (i : Instance) → IsInHand c s h d
-    → h.step ≡ step.Device op i → h.started ≡ false → IsInHand c s (ended Failed h) d
 
 -- a finished job has nothing open at the device
 abbrev pub FinishedAreClosed : Type 0

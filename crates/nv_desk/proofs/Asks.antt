@@ -1,14 +1,15 @@
 -- What an accepted request has passed.
-use Rattle.std.proofs.Common.{◌≡◌, ◌≢◌, ℕ, ◌==◌, ◌+◌, ◌≤◌, ◌||◌, not, Bool, true, false, cond, List, [], ◌∷◌, refl, sym, Option, Some, None, is_some, find, nat_lt, length, get_or, ◌∙◌, arith}
+use Rattle.std.proofs.Common.{◌≡◌, ◌≢◌, ℕ, ◌==◌, ◌+◌, ◌≤◌, ◌||◌, not, Bool, true, false, cond, List, [], ◌∷◌, refl, sym, Option, Some, None, is_some, find, nat_lt, length, get_or, ◌∙◌}
 use Rattle.std.specs.Option.{option_map_or}
 use Rattle.std.proofs.lemmas.Bool.{leb-true, ltb-false, eq-eqb, eqb-true}
-use Rattle.block_machine.specs.Words.{Configuration, Request, Read, Write, Restore, Erase, Invalidate, PutRam, ReadAll, WriteAll, Reply, Accepted, Refused, Refusal}
+use Rattle.block_machine.specs.Words.{Configuration, Request, Read, Write, Restore, Erase, Invalidate, PutRam, ReadAll, WriteAll, Reply, Accepted, Refused, Refusal, RamKind, NoRamBlock, Permanent, Sync}
 use Rattle.block_machine.specs.State.{State}
-use Rattle.block_machine.specs.Blocks.{job_kind, desc_of, is_permanent}
-use Rattle.block_machine.specs.Reply.{reply_of, holds, tested, answer_to, fits, reserved_entries}
+use Rattle.block_machine.specs.Blocks.{job_kind, desc_of, is_permanent, is_synchronized}
+use Rattle.block_machine.specs.Reply.{reply_of, holds, tested, answer_to, fits, reserved_entries, has_no_ram}
 use Rattle.block_states.specs.States.{rooms_of, RoomsHaveLengths}
 use Rattle.nv_desk.specs.Asks.{IsJobAccepted, IsSweepAccepted}
 use Rattle.nv_desk.specs.Desk.{sweep_request}
+use Rattle.nv_desk.specs.Sound.{HasRam}
 
 -- none of these passes the test
 abbrev NonePass : {X : Type 0} → (X → Bool) → List X → Type 0
@@ -37,17 +38,27 @@ not_false false e = cc
 length_is : (a b : ℕ) → not (a == b) ≡ false → a ≡ b
 length_is a b e = eqb-true a b (not_false (a == b) e)
 
+-- a block that isn't without RAM has one
+kept_or_shared : (ram : RamKind) (t : Bool) → has_no_ram ram ≡ false → ((t || is_permanent ram) || is_synchronized ram) ≡ true
+kept_or_shared NoRamBlock t some = cc
+kept_or_shared ram true some = refl
+kept_or_shared Permanent false some = refl
+kept_or_shared Sync false some = refl
+
+pub has_ram : (c : Configuration) (id : ℕ) → has_no_ram (desc_of c id).ram ≡ false → HasRam c id
+has_ram c id some = kept_or_shared (desc_of c id).ram (id == 1) some
+
 pub job_accepted : (c : Configuration) (cap : ℕ) (s : State) (r : Request) → is_some (job_kind r) ≡ true → Accepted ≡ reply_of c cap s r
     → IsJobAccepted c cap s r
 job_accepted c cap s (Read block false) job is = let p = passed c cap s (Read block false) is in
-    record { known = p.0; content = tt; alone = p.1.1.0; free = p.1.1.1.0; room = not_false _ p.1.1.1.1.1.0 }
+    record { known = p.0; content = tt; ram = λ e. cc; alone = p.1.1.0; free = p.1.1.1.0; room = not_false _ p.1.1.1.1.1.0 }
 job_accepted c cap s (Read block true) job is = let p = passed c cap s (Read block true) is in
-    record { known = p.0; content = tt; alone = p.1.1.1.0; free = p.1.1.1.1.0; room = not_false _ p.1.1.1.1.1.1.0 }
+    record { known = p.0; content = tt; ram = λ e. has_ram c block p.1.1.0; alone = p.1.1.1.0; free = p.1.1.1.1.0; room = not_false _ p.1.1.1.1.1.1.0 }
 job_accepted c cap s (Write block (Some content) store) job is = let p = passed c cap s (Write block (Some content) store) is in
-    let e = length_is (length content) (desc_of c block).length p.1.1.1.0 in
     record {
       known = p.0;
-      content = omega (arith, e);
+      content = length_is (length content) (desc_of c block).length p.1.1.1.0;
+      ram = λ e. cc;
       alone = p.1.1.1.1.0;
       free = p.1.1.1.1.1.0;
       room = not_false _ p.1.1.1.1.1.1.1.1.1.1.0;
@@ -56,6 +67,7 @@ job_accepted c cap s (Write block None store) job is = let p = passed c cap s (W
     record {
       known = p.0;
       content = tt;
+      ram = λ e. has_ram c block p.1.1.1.0;
       alone = p.1.1.1.1.0;
       free = p.1.1.1.1.1.0;
       room = not_false _ p.1.1.1.1.1.1.1.1.1.1.0;
@@ -64,6 +76,7 @@ job_accepted c cap s (Restore block false) job is = let p = passed c cap s (Rest
     record {
       known = p.0;
       content = tt;
+      ram = λ e. cc;
       alone = p.1.1.1.1.0;
       free = p.1.1.1.1.1.0;
       room = not_false _ p.1.1.1.1.1.1.1.0;
@@ -72,6 +85,7 @@ job_accepted c cap s (Restore block true) job is = let p = passed c cap s (Resto
     record {
       known = p.0;
       content = tt;
+      ram = λ e. has_ram c block p.1.1.1.0;
       alone = p.1.1.1.1.1.0;
       free = p.1.1.1.1.1.1.0;
       room = not_false _ p.1.1.1.1.1.1.1.1.0;
@@ -80,6 +94,7 @@ job_accepted c cap s (Erase block) job is = let p = passed c cap s (Erase block)
     record {
       known = p.0;
       content = tt;
+      ram = λ e. cc;
       alone = p.1.1.1.1.0;
       free = p.1.1.1.1.1.0;
       room = not_false _ p.1.1.1.1.1.1.1.1.1.1.0;
@@ -88,6 +103,7 @@ job_accepted c cap s (Invalidate block) job is = let p = passed c cap s (Invalid
     record {
       known = p.0;
       content = tt;
+      ram = λ e. cc;
       alone = p.1.1.1.0;
       free = p.1.1.1.1.0;
       room = not_false _ p.1.1.1.1.1.1.1.1.1.0;

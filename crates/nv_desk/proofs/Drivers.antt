@@ -91,7 +91,7 @@ pub few_records : (c : Configuration) (j : Job) → records_of c j ≤ 2
 few_records c j = few_by _ _
 
 -- its content has room
-fits_by : (n m : ℕ) (o : Option (List ℕ × ℕ)) → m ≤ n → IfSome o (λ x. length x.0 ≤ m) → IfSome o (λ x. length x.0 ≤ n)
+fits_by : (n m : ℕ) (o : Option (List ℕ × ℕ)) → m ≤ n → IfSome o (λ x. length x.0 ≡ m) → IfSome o (λ x. length x.0 ≤ n)
 fits_by n m None less fits = tt
 fits_by n m (Some x) less fits = omega (arith, less, fits)
 

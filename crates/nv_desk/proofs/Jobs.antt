@@ -1,9 +1,9 @@
 -- A job that is accepted.
-use Rattle.std.proofs.Common.{◌≡◌, ◌≤◌, ◌<◌, ℕ, zero, suc, ◌+◌, ◌^◌, true, false, List, [], ◌∷◌, ◌++◌, length, get_or, sum_by, option_to_list, Contains, IfSome, IsTrue, is_some, refl, sym, ap, ◌∙◌, subst, arith, Option, Some, None}
+use Rattle.std.proofs.Common.{◌≡◌, ◌≤◌, ◌<◌, ℕ, zero, suc, ◌+◌, ◌^◌, true, false, List, [], ◌∷◌, ◌++◌, length, get_or, sum_by, option_to_list, Contains, IfSome, IsTrue, is_some, unwrap_or, refl, sym, ap, ◌∙◌, subst, arith, Option, Some, None}
 use Rattle.std.proofs.lemmas.List.Sums.{sum_by-append}
-use Rattle.block_machine.specs.Words.{Configuration, Pending, Ask, Request, JobKind, Accepted}
+use Rattle.block_machine.specs.Words.{Configuration, Pending, Ask, Request, Write, JobKind, ReadJob, WriteJob, Accepted}
 use Rattle.block_machine.specs.State.{State, Job, Sweep, jobs_of}
-use Rattle.block_machine.specs.Blocks.{asked_block, asked_content, job_block, job_kind, is_pending, status_of}
+use Rattle.block_machine.specs.Blocks.{asked_block, asked_content, job_block, job_kind, names_ram, is_pending, status_of}
 use Rattle.block_machine.specs.Reply.{reserved_entries, needed}
 use Rattle.block_machine.specs.Steps.{step, accepted, accepted_by, job_at, with_status}
 use Rattle.machine_laws.specs.Consistent.{Each, IsConsistent, IsWaitingJob, IsJobInHand, IsPendingSweep}
@@ -83,6 +83,12 @@ pub job_agrees : (c : Configuration) (k : Kept) (s : State) (r : Request) (j : J
 job_agrees c k s r j some is h = rw (accepted_job c s r (job_kind r) refl some)
     (subst (λ x. Agrees c k (record (with_status (job_block x) Pending s) { waiting = s.waiting ++ x ∷ [] })) is h)
 
+-- a write without a content names RAM
+ram_by : (r : Request) → unwrap_or (job_kind r) ReadJob ≡ WriteJob → asked_content r ≡ None → names_ram r ≡ true
+ram_by (Write block None store) writes none = refl
+ram_by (Write block (Some content) store) writes none = cc
+ram_by r writes none = cc
+
 -- and the state stays sound
 pub job_sound : (c : Configuration) (cap : ℕ) (s : State) (caller : ℕ) (r : Request) → IsSound c s
     → IsConsistent c (step c s (Ask caller r Accepted)) → is_some (job_kind r) ≡ true → IsTrue s.started → IsJobAccepted c cap s r
@@ -93,7 +99,7 @@ job_sound c cap s caller r sound consistent some started passed =
     subst (λ (x : State). IsSound c (record x { count = s.count + 1; ops = s.ops })) (sym is)
     (sound_job c s (asked_block r) (s.count + 1) s.ops (job_at c s.count r) sound
     (subst (λ (x : State). IsConsistent c (record x { count = s.count + 1; ops = s.ops })) is consistent) refl
-    (omega (arith, known.1, sound.places started)) passed.content)
+    (omega (arith, known.1, sound.places started)) passed.content (λ writes none. passed.ram (ram_by r writes none)))
 
 none_by : (s : State) (o : Option Sweep) → IfSome o (IsPendingSweep s) → is_pending (status_of s 0) ≡ false → o ≡ None
 none_by s None h off = refl

@@ -1,5 +1,6 @@
 pub mod AllBlocks
 pub mod Asks
+pub mod Contents
 pub mod Drivers
 pub mod Entries
 pub mod Jobs

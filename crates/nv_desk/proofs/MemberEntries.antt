@@ -3,10 +3,10 @@ use Rattle.std.proofs.Common.{◌≡◌, ◌≤◌, ◌<◌, ℕ, ◌+◌, Bool,
 use Rattle.std.proofs.lemmas.List.{length-set}
 use Rattle.block_machine.specs.Words.{Configuration, ReqResult, Pick, Post, JobKind, Pending}
 use Rattle.block_machine.specs.State.{State, Job, Sweep}
-use Rattle.block_machine.specs.Blocks.{desc_of, asked_block, block_at, is_pending, keeps_ram, status_of}
-use Rattle.block_machine.specs.Sweeps.{is_picked, member_job, member_kind, member_request}
+use Rattle.block_machine.specs.Blocks.{desc_of, block_at, is_pending, keeps_ram, status_of}
+use Rattle.block_machine.specs.Sweeps.{is_picked, member_job, member_kind}
 use Rattle.block_machine.specs.Next.{Next, BeginSweep, PickMember, PostMember, next_in, next_by, next_of, next_member, next_in_sweep}
-use Rattle.block_machine.specs.Steps.{changed_by, step, posted, posted_next, in_hand, with_member, ended}
+use Rattle.block_machine.specs.Steps.{changed_by, step, posted, posted_next, content_after, in_hand, with_member, ended}
 use Rattle.block_machine.specs.Legal.{IsAllowed}
 use Rattle.machine_laws.specs.Laws.{NoneWaits}
 use Rattle.machine_laws.specs.Consistent.{IsConsistent}
@@ -17,10 +17,9 @@ use Rattle.kept_state.specs.declared.kept.Kept.{Kept}
 use Rattle.kept_state.specs.Kept.{Agrees}
 use Rattle.kept_state.specs.Pending.{IsAtMember}
 use Rattle.nv_desk.specs.Driver.{DriverLaws}
-use Rattle.nv_desk.specs.Picks.{copied_in}
-use Rattle.nv_desk.specs.Sound.{IsSound}
+use Rattle.nv_desk.specs.Sound.{HasRam, IsSound}
 use Rattle.nv_desk.proofs.Drivers.{in_room}
-use Rattle.nv_desk.proofs.Picks.{fits_by}
+use Rattle.nv_desk.proofs.Contents.{block_is, writes_is}
 use Rattle.nv_desk.proofs.Sound.{now}
 
 -- WHICH MEMBER
@@ -84,15 +83,11 @@ next_at c s sw id n x is = sym (ap (λ (ws : List Job). next_by c s (next_in c w
 
 -- A PICK
 
-block_is : (writes : Bool) (id : ℕ) → asked_block (member_request writes id) ≡ id
-block_is true id = refl
-block_is false id = refl
-
 held_sound : (c : Configuration) (s : State) (sw : Sweep) (id : ℕ) (t : Took) (count ops : ℕ)
     → let new : State = record (in_hand c (with_member s sw id) (member_job c sw id) (taken_with None t)) { count = count; ops = ops } in
     IsSound c s → IsConsistent c new → s.waiting ≡ [] → s.hand ≡ None → id < length s.blocks
-    → IfSome (copied_in t) (λ x. length x ≤ (desc_of c id).length) → IsSound c new
-held_sound c s sw id t count ops sound consistent waiting hand below copied =
+    → (sw.writes ≡ true → HasRam c id) → IfSome (content_after None (taken_with None t)) (λ x. length x.0 ≡ (desc_of c id).length) → IsSound c new
+held_sound c s sw id t count ops sound consistent waiting hand below ram whole =
     let new : State = record (in_hand c (with_member s sw id) (member_job c sw id) (taken_with None t)) { count = count; ops = ops } in
     let block = block_is sw.writes id in
     record {
@@ -101,7 +96,8 @@ held_sound c s sw id t count ops sound consistent waiting hand below copied =
       jobs = rw (waiting, hand) (
         record {
           pending = subst (λ (n : ℕ). is_pending (status_of new n) ≡ true) (sym block) (now s.blocks id below);
-          content = rw block (fits_by (desc_of c id).length None t tt copied);
+          content = rw block whole;
+          ram = λ writes none. subst (HasRam c) (sym block) (ram (writes_is c sw id sw.writes refl writes));
         },
         tt,
       );
@@ -109,12 +105,13 @@ held_sound c s sw id t count ops sound consistent waiting hand below copied =
 
 pub member_sound : DriverLaws → (c : Configuration) (cap : ℕ) (s : State) (sw : Sweep) (id : ℕ) (kind : JobKind) (t : Took) (ops : ℕ)
     → IsSound c s → IsAtMember s sw id → next_of c s ≡ PickMember sw id → id ≤ length c.blocks
-    → IsAllowed c cap s (Pick id kind (taken_with None t) ops) → IfSome (copied_in t) (λ x. length x ≤ (desc_of c id).length)
+    → IsAllowed c cap s (Pick id kind (taken_with None t) ops) → (sw.writes ≡ true → HasRam c id)
+    → IfSome (content_after None (taken_with None t)) (λ x. length x.0 ≡ (desc_of c id).length)
     → IsSound c (step c s (Pick id kind (taken_with None t) ops))
-member_sound law c cap s sw id kind t ops sound x is known allowed copied =
+member_sound law c cap s sw id kind t ops sound x is known allowed ram whole =
     let consistent = law.consistent c cap s (Pick id kind (taken_with None t) ops) sound.consistent allowed in
     rw is (held_sound c s sw id t (s.count + 1) ops sound (rw is at consistent) x.waiting x.hand
-    (omega (arith, known, sound.places allowed.0.started)) copied)
+    (omega (arith, known, sound.places allowed.0.started)) ram whole)
 
 pub member_step : (c : Configuration) (k : Kept) (s : State) (sw : Sweep) (id : ℕ) (kind : JobKind) (t : Took) (ops : ℕ) → next_of c s ≡ PickMember sw id
     → Agrees c k (in_hand c (with_member s sw id) (member_job c sw id) (taken_with None t)) → Agrees c k (changed_by c s (Pick id kind (taken_with None t) ops))

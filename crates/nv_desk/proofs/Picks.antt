@@ -11,7 +11,6 @@ use Rattle.block_machine.specs.Legal.{IsAllowed, MayInterrupt}
 use Rattle.machine_laws.specs.Laws.{NextIsWaiting}
 use Rattle.machine_laws.specs.Consistent.{Each, IsWaitingJob, IsJobInHand}
 use Rattle.pending_jobs.specs.declared.took.Took.{Took}
-use Rattle.pending_jobs.specs.declared.took.Took.TheVariants as took
 use Rattle.pending_jobs.specs.Took.{taken_with}
 use Rattle.pending_jobs.specs.Pending.{Pending, Agree}
 use Rattle.kept_state.specs.declared.kept.Kept.{Kept}
@@ -19,7 +18,7 @@ use Rattle.kept_state.specs.Kept.{Agrees}
 use Rattle.nv_desk.specs.Sound.{IsPendingJob, IsSound}
 use Rattle.nv_desk.specs.Driver.{DriverLaws}
 use Rattle.nv_desk.specs.Desk.{DeskState, state_of}
-use Rattle.nv_desk.specs.Picks.{copied_in, IsInterruption}
+use Rattle.nv_desk.specs.Picks.{IsInterruption}
 use Rattle.nv_desk.proofs.SoundDriver.{sound_pick}
 
 -- what holds of all holds of one
@@ -56,6 +55,13 @@ ready law c s j sound next =
       other = other_by c s s.hand before j after is sound.consistent.hand;
     }
 
+next_by : (c : Configuration) (s : State) (o : Option Job) → ((j : Job) → o ≡ Some j → IsPendingJob c s j) → IfSome o (IsPendingJob c s)
+next_by c s None each = tt
+next_by c s (Some j) each = each j refl
+
+pub next_pending : NextIsWaiting → (c : Configuration) (s : State) → IsSound c s → IfSome (next_in c s.waiting) (IsPendingJob c s)
+next_pending law c s sound = next_by c s (next_in c s.waiting) (λ j next. (ready law c s j sound next).pending)
+
 -- the entries of a job in hand and two more have a number
 room_by : (c : Configuration) (s : State) (p : Pending) (held o : Option Job) (j : Job) (n m : ℕ) → Agree c p s.waiting held → s.hand ≡ held
     → p.hand ≡ o → IfSome held (λ h. (h.number < s.count) × (j.number ≢ h.number)) → j.number < s.count
@@ -84,33 +90,18 @@ pub pick_step : (c : Configuration) (k : Kept) (s : State) (j : Job) (block : �
     → next_in c s.waiting ≡ Some j → Agrees c k (in_hand c s j t) → Agrees c k (changed_by c s (Pick block kind t ops))
 pick_step c k s j block kind t ops next h = rw (next_is c s j next) h
 
--- a content that it has then is no longer than its block
-pub fits_by : (n : ℕ) (content : Option (List ℕ × ℕ)) (t : Took) → IfSome content (λ x. length x.0 ≤ n)
-    → IfSome (copied_in t) (λ x. length x ≤ n) → IfSome (content_after content (taken_with content t)) (λ x. length x.0 ≤ n)
-fits_by n content took.Nothing own copied = own
-fits_by n (Some x) took.Own own copied = own
-fits_by n None took.Own own copied = tt
-fits_by n content (took.Copied x) own copied = copied
-fits_by n content (took.Refused count) own copied = own
-fits_by n content (took.Stale asked got count) own copied = own
-
 pub picked_sound : DriverLaws → (c : Configuration) (cap : ℕ) (s : State) (j : Job) (block : ℕ) (kind : JobKind) (t : Took) (ops : ℕ)
     → IsSound c s → next_in c s.waiting ≡ Some j → IsReady c s j
     → IsAllowed c cap s (Pick block kind (taken_with j.content t) ops)
-    → IfSome (copied_in t) (λ x. length x ≤ (desc_of c (job_block j)).length)
+    → IfSome (content_after j.content (taken_with j.content t)) (λ x. length x.0 ≡ (desc_of c (job_block j)).length)
     → IsSound c (step c s (Pick block kind (taken_with j.content t) ops))
-picked_sound law c cap s j block kind t ops sound next r allowed copied =
+picked_sound law c cap s j block kind t ops sound next r allowed whole =
     let e = next_is c s j next in
     let consistent = law.consistent c cap s (Pick block kind (taken_with j.content t) ops) sound.consistent allowed in
-    rw e (sound_pick c s j (taken_with j.content t) (s.count + 1) ops sound (rw e at consistent) r.pending
-    (fits_by (desc_of c (job_block j)).length j.content t r.pending.content copied))
+    rw e (sound_pick c s j (taken_with j.content t) (s.count + 1) ops sound (rw e at consistent) r.pending whole)
 
--- bytes that are no longer than a block have room
-pub within_block : (n m : ℕ) (o : Option (List ℕ)) → m ≤ n → IfSome o (λ x. length x ≤ m) → IfSome o (λ x. length x ≤ n)
-within_block n m None less fits = tt
-within_block n m (Some x) less fits = omega (arith, less, fits)
-
-pub content_within : (n m : ℕ) (o : Option (List ℕ × ℕ)) → m ≤ n → IfSome o (λ x. length x.0 ≤ m) → IfSome o (λ x. length x.0 ≤ n)
+-- bytes that fill a block have room
+pub content_within : (n m : ℕ) (o : Option (List ℕ × ℕ)) → m ≤ n → IfSome o (λ x. length x.0 ≡ m) → IfSome o (λ x. length x.0 ≤ n)
 content_within n m None less fits = tt
 content_within n m (Some x) less fits = omega (arith, less, fits)
 

@@ -1,13 +1,13 @@
 -- A request keeps the state sound.
-use Rattle.std.proofs.Common.{◌≡◌, ◌≤◌, ◌<◌, ℕ, zero, suc, true, List, [], ◌∷◌, ◌++◌, length, get_or, slice_set, option_to_list, IfSome, refl, sym, ap, ◌∙◌, subst, arith, Option, Some, None}
+use Rattle.std.proofs.Common.{◌≡◌, ◌<◌, ℕ, zero, suc, true, List, [], ◌∷◌, ◌++◌, length, get_or, slice_set, option_to_list, IfSome, refl, sym, ap, ◌∙◌, subst, arith, Option, Some, None}
 use Rattle.std.proofs.lemmas.List.{length-set}
-use Rattle.block_machine.specs.Words.{Pending, Configuration, Request, SetIndex, SetProtection, SetLock, SetRam, PutRam, GetIndex, Status, CancelWriteAll}
+use Rattle.block_machine.specs.Words.{Pending, Configuration, WriteJob, Request, SetIndex, SetProtection, SetLock, SetRam, PutRam, GetIndex, Status, CancelWriteAll}
 use Rattle.block_machine.specs.State.{State, BlockState, Job, jobs_of}
-use Rattle.block_machine.specs.Blocks.{no_block, desc_of, block_at, job_block, status_of, is_pending}
+use Rattle.block_machine.specs.Blocks.{no_block, desc_of, block_at, job_block, kind_of, status_of, is_pending}
 use Rattle.block_machine.specs.Steps.{accepted, with_status}
 use Rattle.machine_laws.specs.Consistent.{Each, IsConsistent}
 use Rattle.kept_state.specs.Kept.{IsChange}
-use Rattle.nv_desk.specs.Sound.{IsPendingJob, IsSound}
+use Rattle.nv_desk.specs.Sound.{HasRam, IsPendingJob, IsSound}
 
 -- LISTS
 
@@ -15,7 +15,7 @@ pub each_map : {X : Type 0} (P Q : X → Type 0) (xs : List X) → ((x : X) → 
 each_map P Q [] step each = tt
 each_map P Q (x ∷ xs) step each = (step x each.0, each_map P Q xs step each.1)
 
-each_end : {X : Type 0} (P : X → Type 0) (xs : List X) (y : X) → Each P xs → P y → Each P (xs ++ y ∷ [])
+pub each_end : {X : Type 0} (P : X → Type 0) (xs : List X) (y : X) → Each P xs → P y → Each P (xs ++ y ∷ [])
 each_end P [] y each last = (last, tt)
 each_end P (x ∷ xs) y each last = (each.0, each_end P xs y each.1 last)
 
@@ -56,15 +56,16 @@ same (x ∷ bs) (suc id) (suc k) b is = same bs id k b is
 pub sound_job : (c : Configuration) (s : State) (id count ops : ℕ) (j : Job)
     → let new : State = record (with_status id Pending s) { waiting = s.waiting ++ j ∷ []; count = count; ops = ops } in IsSound c s
     → IsConsistent c new
-    → job_block j ≡ id → id < length s.blocks → IfSome j.content (λ x. length x.0 ≤ (desc_of c (job_block j)).length) → IsSound c new
-sound_job c s id count ops j sound consistent is below content = let new : State =
+    → job_block j ≡ id → id < length s.blocks → IfSome j.content (λ x. length x.0 ≡ (desc_of c (job_block j)).length)
+    → (kind_of j ≡ WriteJob → j.content ≡ None → HasRam c (job_block j)) → IsSound c new
+sound_job c s id count ops j sound consistent is below content ram = let new : State =
     record (with_status id Pending s) { waiting = s.waiting ++ j ∷ []; count = count; ops = ops } in record {
       consistent = consistent;
       places = λ started. length-set s.blocks id (record (block_at s id) { status = Pending }) ∙ sound.places started;
       jobs = each_behind (IsPendingJob c new) s.hand s.waiting j
           (each_map (IsPendingJob c s) (IsPendingJob c new) (jobs_of s)
-          (λ x h. record { pending = still s.blocks id (job_block x) h.pending; content = h.content }) sound.jobs)
-          (record { pending = subst (λ k. is_pending (status_of new k) ≡ true) (sym is) (now s.blocks id below); content = content });
+          (λ x h. record { pending = still s.blocks id (job_block x) h.pending; content = h.content; ram = h.ram }) sound.jobs)
+          (record { pending = subst (λ k. is_pending (status_of new k) ≡ true) (sym is) (now s.blocks id below); content = content; ram = ram });
     }
 
 pub sound_pending : (c : Configuration) (s new : State) → IsSound c s → IsConsistent c new → new.started ≡ s.started
@@ -73,7 +74,7 @@ sound_pending c s new sound consistent started blocks jobs = record {
   consistent = consistent;
   places = λ on. ap length blocks ∙ length-set s.blocks 0 (record (block_at s 0) { status = Pending }) ∙ sound.places (rw started at on);
   jobs = rw jobs (each_map (IsPendingJob c s) (IsPendingJob c new) (jobs_of s)
-      (λ x h. record { pending = rw blocks (still s.blocks 0 (job_block x) h.pending); content = h.content }) sound.jobs);
+      (λ x h. record { pending = rw blocks (still s.blocks 0 (job_block x) h.pending); content = h.content; ram = h.ram }) sound.jobs);
 }
 
 -- only one block changed, and not its status
@@ -86,6 +87,7 @@ sound_block c s new id b sound consistent started blocks is jobs = record {
       (λ x h. record {
         pending = rw blocks (ap is_pending (same s.blocks id (job_block x) b is) ∙ h.pending);
         content = h.content;
+        ram = h.ram;
       }) sound.jobs);
 }
 
@@ -96,7 +98,7 @@ sound_same c s new sound consistent started blocks jobs = record {
   consistent = consistent;
   places = λ on. ap length blocks ∙ sound.places (rw started at on);
   jobs = rw jobs (each_map (IsPendingJob c s) (IsPendingJob c new) (jobs_of s)
-      (λ x h. record { pending = rw blocks h.pending; content = h.content }) sound.jobs);
+      (λ x h. record { pending = rw blocks h.pending; content = h.content; ram = h.ram }) sound.jobs);
 }
 
 pub sound_change : (c : Configuration) (s : State) (r : Request) (rooms : List ℕ) (count ops : ℕ) → IsSound c s → IsChange rooms r

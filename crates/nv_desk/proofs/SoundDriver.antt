@@ -1,8 +1,8 @@
 -- The driver's entries keep the state sound, whatever the device finds.
-use Rattle.std.proofs.Common.{◌≡◌, ◌≢◌, ◌≤◌, ℕ, ◌+◌, ◌==◌, not, Bool, true, false, if◌then◌else◌, List, [], ◌∷◌, ◌++◌, length, map, get_or, option_to_list, option_map, IfSome, refl, sym, ap, ◌∙◌, subst, arith, Option, Some, None}
+use Rattle.std.proofs.Common.{◌≡◌, ◌≢◌, ℕ, ◌+◌, ◌==◌, not, Bool, true, false, if◌then◌else◌, List, [], ◌∷◌, ◌++◌, length, map, get_or, option_to_list, option_map, IfSome, refl, sym, ap, ◌∙◌, subst, arith, Option, Some, None}
 use Rattle.std.specs.List.{enumerate_from}
 use Rattle.std.proofs.lemmas.List.{length-set, get_or-set_other}
-use Rattle.block_machine.specs.Words.{ReqResult, BlockDesc, Configuration, Instance, Mark, Taken, Wrote, Post, Off, Found}
+use Rattle.block_machine.specs.Words.{ReqResult, BlockDesc, Configuration, Instance, Mark, Taken, TookNothing, TookContent, TookRefused, TookStale, Wrote, Post, Off, Found}
 use Rattle.block_machine.specs.State.{State, BlockState, Job, Sweep}
 use Rattle.block_machine.specs.Blocks.{no_block, desc_of, block_at, job_block, is_pending, keeps_ram, kind_of, names_ram, status_of}
 use Rattle.block_machine.specs.Sweeps.{after_member}
@@ -18,7 +18,7 @@ each_both P Q R (x ∷ xs) step ps qs = (step x ps.0 qs.0, each_both P Q R xs st
 
 -- what stands for a pending job in one state stands in one with its status as before
 carried : (c : Configuration) (s new : State) (x : Job) → status_of new (job_block x) ≡ status_of s (job_block x) → IsPendingJob c s x → IsPendingJob c new x
-carried c s new x same h = record { pending = ap is_pending same ∙ h.pending; content = h.content }
+carried c s new x same h = record { pending = ap is_pending same ∙ h.pending; content = h.content; ram = h.ram }
 
 -- the power goes off
 pub sound_off : (c : Configuration) (s : State) (ops : ℕ) → IsSound c s → IsConsistent c (step c s (Off ops)) → IsSound c (step c s (Off ops))
@@ -35,7 +35,7 @@ wrote_by c s i mark count ops (Some j) is sound consistent =
       consistent = consistent;
       places = sound.places;
       jobs = (
-        record { pending = jobs.0.pending; content = jobs.0.content },
+        record { pending = jobs.0.pending; content = jobs.0.content; ram = jobs.0.ram },
         each_map (IsPendingJob c s) (IsPendingJob c new) s.waiting (λ x h. carried c s new x refl h) jobs.1,
       );
     }
@@ -44,7 +44,7 @@ pub sound_wrote : (c : Configuration) (s : State) (i : Instance) (mark : Mark) (
     → IsConsistent c (step c s (Wrote i mark ops)) → IsSound c (step c s (Wrote i mark ops))
 sound_wrote c s i mark ops sound consistent = wrote_by c s i mark (s.count + 1) ops s.hand refl sound consistent
 
--- a job that waited comes in hand, and takes a content that is no longer than its block
+-- a job that waited comes in hand
 by_test : (P : Job → Type 0) (n : ℕ) (j : Job) (js : List Job) (t : Bool) → P j → Each P (without_job n js)
     → Each P (if t then j ∷ without_job n js else without_job n js)
 by_test P n j js true here rest = (here, rest)
@@ -59,7 +59,7 @@ waits_again : (c : Configuration) (s new : State) (o : Option Job) (js : List Jo
 waits_again c s new None js same hand each = each_map (IsPendingJob c s) (IsPendingJob c new) js
     (λ x h. carried c s new x (ap (λ (bs : List BlockState). (get_or bs (job_block x) no_block).status) same) h) each
 waits_again c s new (Some h) js same hand each = (
-  record { pending = ap (λ (bs : List BlockState). is_pending (get_or bs (job_block h) no_block).status) same ∙ hand.0.pending; content = hand.0.content },
+  record { pending = ap (λ (bs : List BlockState). is_pending (get_or bs (job_block h) no_block).status) same ∙ hand.0.pending; content = hand.0.content; ram = hand.0.ram },
   each_map (IsPendingJob c s) (IsPendingJob c new) js (λ x h. carried c s new x
       (ap (λ (bs : List BlockState). (get_or bs (job_block x) no_block).status) same) h) each,
 )
@@ -68,9 +68,16 @@ front : (P : Job → Type 0) (xs ys : List Job) → Each P (xs ++ ys) → Each P
 front P [] ys each = (tt, each)
 front P (x ∷ xs) ys each = let rest = front P xs ys each.1 in ((each.0, rest.0), rest.1)
 
+-- it had no content before where it has none behind
+none_before : (content : Option (List ℕ × ℕ)) (t : Taken) → content_after content t ≡ None → content ≡ None
+none_before content TookNothing none = none
+none_before content (TookContent bytes store) none = cc
+none_before content (TookRefused count) none = none
+none_before content (TookStale asked got count) none = none
+
 pub sound_pick : (c : Configuration) (s : State) (j : Job) (t : Taken) (count ops : ℕ)
     → let new : State = record (in_hand c s j t) { count = count; ops = ops } in IsSound c s → IsConsistent c new → IsPendingJob c s j
-    → IfSome (content_after j.content t) (λ x. length x.0 ≤ (desc_of c (job_block j)).length) → IsSound c new
+    → IfSome (content_after j.content t) (λ x. length x.0 ≡ (desc_of c (job_block j)).length) → IsSound c new
 sound_pick c s j t count ops sound consistent pending content =
     let new : State = record (in_hand c s j t) { count = count; ops = ops } in
     let parts = front (IsPendingJob c s) (option_to_list s.hand) s.waiting sound.jobs in
@@ -78,7 +85,7 @@ sound_pick c s j t count ops sound consistent pending content =
       consistent = consistent;
       places = sound.places;
       jobs = (
-        record { pending = pending.pending; content = content },
+        record { pending = pending.pending; content = content; ram = λ writes none. pending.ram writes (none_before j.content t none) },
         waits_again c s new s.hand (without_job j.number s.waiting) refl parts.0 (without (IsPendingJob c s) j.number s.waiting parts.1),
       );
     }

@@ -1,5 +1,5 @@
 -- When a member of a request on all blocks is picked, or posted without a Pick.
-use Rattle.std.specs.Prelude.{◌≡◌, ◌≤◌, ℕ, List, length, IfSome, Option, None}
+use Rattle.std.specs.Prelude.{◌≡◌, ℕ, List, length, IfSome, Option, None}
 use Rattle.block_machine.specs.Words.{ReqResult, Pick, Post}
 use Rattle.block_machine.specs.State.{Sweep}
 use Rattle.block_machine.specs.Blocks.{desc_of}
@@ -9,15 +9,13 @@ use Rattle.block_machine.specs.Legal.{IsAllowed}
 use Rattle.pending_jobs.specs.declared.took.Took.{Took}
 use Rattle.pending_jobs.specs.Took.{taken_with}
 use Rattle.nv_desk.specs.Desk.{DeskState, state_of}
-use Rattle.nv_desk.specs.Picks.{copied_in}
 
--- it is what the machine turns to next, and it may be picked with this; a copy is no longer than its block
+-- it is what the machine turns to next, and it may be picked with this
 pub record MayPickMember (d : DeskState) (took : Took) (ops : ℕ) : Type 0 where
   pub sweep : Sweep
   pub id : ℕ
   pub is : next_of d.config (state_of d) ≡ PickMember sweep id
   pub allowed : IsAllowed d.config d.cap (state_of d) (Pick id (member_kind sweep.writes) (taken_with None took) ops)
-  pub copied : IfSome (copied_in took) (λ x. length x ≤ (desc_of d.config id).length)
 
 -- it is what the machine turns to next, and it may be posted with this; a content that it gives has its block's length
 pub record MayPostMember (d : DeskState) (answer : ReqResult) (given : Option (List ℕ)) (refused ops : ℕ) : Type 0 where

@@ -1,8 +1,8 @@
 -- What a Pick may take.
-use Rattle.std.specs.Prelude.{◌≡◌, ◌≤◌, ℕ, List, length, IfSome, Option, Some, None}
+use Rattle.std.specs.Prelude.{◌≡◌, ℕ, List, Option, Some, None}
 use Rattle.block_machine.specs.Words.{Pick}
 use Rattle.block_machine.specs.State.{Job}
-use Rattle.block_machine.specs.Blocks.{desc_of, job_block, kind_of}
+use Rattle.block_machine.specs.Blocks.{job_block, kind_of}
 use Rattle.block_machine.specs.Next.{next_in}
 use Rattle.block_machine.specs.Legal.{IsAllowed, MayInterrupt}
 use Rattle.pending_jobs.specs.declared.took.Took.{Took}
@@ -25,12 +25,11 @@ abbrev pub copied_in : Took → Option (List ℕ)
 copied_in (took.Copied x) = Some x.bytes
 copied_in t = None
 
--- a job waits, and it may be picked now with this; a copy is no longer than its block
+-- a job waits, and it may be picked now with this
 pub record MayPickNext (d : DeskState) (took : Took) (ops : ℕ) : Type 0 where
   pub job : Job
   pub is : next_in d.config (state_of d).waiting ≡ Some job
   pub allowed : IsAllowed d.config d.cap (state_of d) (Pick (job_block job) (kind_of job) (taken_with job.content took) ops)
-  pub copied : IfSome (copied_in took) (λ x. length x ≤ (desc_of d.config (job_block job)).length)
 
 -- a job is in hand that the next one may interrupt
 pub record IsInterruption (d : DeskState) : Type 0 where

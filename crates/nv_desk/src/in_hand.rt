@@ -1,5 +1,5 @@
 // The job in hand, as the driver needs it.
-ghost use Rattle.std.specs.Prelude.{◌≡◌, ◌≤◌, length, option_copied, option_map, IfSome};
+ghost use Rattle.std.specs.Prelude.{◌≡◌, ◌≢◌, ◌≤◌, length, option_copied, option_map, IfSome};
 ghost use Rattle.block_machine.specs.Blocks.{desc_of, job_block};
 ghost use Rattle.nv_desk.specs.Desk.{state_of};
 ghost use Rattle.nv_desk.specs.Sound.{IsPendingJob};
@@ -12,6 +12,7 @@ impl Desk {
     pub fn desc_in_hand(&self) -> Option<&BlockDesc>
         ensures desc { option_copied result ≡ option_map (λ j. desc_of self.now.config (job_block j)) (state_of self.now).hand }
         ensures pending { IfSome (state_of self.now).hand (IsPendingJob self.now.config (state_of self.now)) }
+        ensures named { IfSome (state_of self.now).hand (λ j. job_block j ≢ 0) }
         ensures known { IfSome (state_of self.now).hand (λ j. job_block j ≤ length self.now.config.blocks) }
     {
         let job = self.kept.jobs.hand()?;

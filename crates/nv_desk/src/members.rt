@@ -31,6 +31,9 @@ impl Desk {
     {
         driver_laws();
         the_next_job_goes_first();
+        rooms_have_lengths();
+        self.kept.blocks.fills_its_rooms();
+        let _sizes = self.config.queue_sizes();
         let block = block_of(self.kept.next_step(&self.config));
         let job = member_kind(&self.kept.sweep);
         let took = took_by(take, lent, &mut self.rooms);

@@ -10,6 +10,7 @@ ghost use Rattle.nv_desk.specs.Picks.{MayPickNext, copied_in, took_of};
 use crate::Desk;
 use crate::driver::driver_laws;
 use crate::rooms::Rooms;
+use block_states::rooms_have_lengths;
 use machine_laws::the_next_job_goes_first;
 use nv_base::{Entry, Taken};
 use pending_jobs::{Job, Staged, Took};
@@ -17,7 +18,7 @@ use pending_jobs::{Job, Staged, Took};
 /// What a job takes of a content that is lent to the desk: nothing, as it isn't a write; the content that the job has
 /// already; a copy of the one that is lent, of the store with this number, or of none (0); or no content, as each of `count`
 /// copies was refused, or none was as new as the store `asked` for.
-#[derive(Clone, Copy, Debug, PartialEq, Eq)]
+#[derive(Clone, Copy, PartialEq, Eq)]
 pub enum Take {
     Nothing,
     Own,
@@ -39,6 +40,8 @@ impl Desk {
     {
         driver_laws();
         the_next_job_goes_first();
+        rooms_have_lengths();
+        self.kept.blocks.fills_its_rooms();
         let Some(next) = self.kept.jobs.next() else {
             return;
         };

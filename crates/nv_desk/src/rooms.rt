@@ -6,7 +6,7 @@ use std::alloc::{AllocError, Global};
 use std::marker::Model;
 
 /// Memory that was taken beforehand for lists of at most `longest` bytes. Contracts see how many lists have room.
-#[derive(Debug, Drop)]
+#[derive(Drop)]
 pub struct Rooms {
     free: Vec<BytesRoom>,
     longest: usize,

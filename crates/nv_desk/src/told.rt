@@ -1,5 +1,5 @@
 // What the driver asks of the desk. Nothing changes.
-ghost use Rattle.std.specs.Prelude.{◌≡◌, ◌≤◌, ◌↔◌, IsTrue, false, length, Some, option_copied};
+ghost use Rattle.std.specs.Prelude.{◌≡◌, ◌≤◌, ◌↔◌, IfSome, IsTrue, false, length, Some, option_copied};
 ghost use Rattle.std.specs.Option.{option_map_or};
 ghost use Rattle.block_machine.specs.State.{Sweep as MachineSweep};
 ghost use Rattle.block_machine.specs.Blocks.{block_at, desc_of, rank_of};
@@ -7,6 +7,7 @@ ghost use Rattle.block_machine.specs.Next.{next_in, next_of, EndSweep};
 ghost use Rattle.block_machine.specs.Sweeps.{sweep_result};
 ghost use Rattle.nv_desk.specs.Desk.{state_of};
 ghost use Rattle.nv_desk.specs.Picks.{IsInterruption};
+ghost use Rattle.nv_desk.specs.Sound.{IsPendingJob};
 
 use crate::Desk;
 use crate::all_blocks::result_of;
@@ -52,10 +53,12 @@ impl Desk {
         self.kept.jobs.hand()
     }
 
-    /// The job that goes before all others that wait.
+    /// The job that goes before all others that wait. Its block is PENDING.
     pub fn next_job(&self) -> Option<&Job>
-        ensures { option_copied result ≡ next_in self.now.config (state_of self.now).waiting }
+        ensures next { option_copied result ≡ next_in self.now.config (state_of self.now).waiting }
+        ensures pending { IfSome (next_in self.now.config (state_of self.now).waiting) (IsPendingJob self.now.config (state_of self.now)) }
     {
+        the_next_job_goes_first();
         self.kept.jobs.next()
     }
 

@@ -1,5 +1,5 @@
 -- What a Pick takes, by the machine.
-use Rattle.std.proofs.Common.{◌≡◌, ◌≤◌, ℕ, Bool, true, false, List, [], ◌∷◌, ◌++◌, length, if◌then◌else◌, refl, sym, ap, subst, arith, Option, Some, None, IfSome}
+use Rattle.std.proofs.Common.{◌≡◌, ℕ, Bool, true, false, List, [], ◌∷◌, ◌++◌, if◌then◌else◌, refl, sym, ap, subst, Option, Some, None}
 use Rattle.block_machine.specs.Words.{JobKind, ReadJob, WriteJob, RestoreJob, EraseJob, InvalidateJob, ReadAllJob, WriteAllJob, BlockDesc, Configuration, Pick, TookNothing}
 use Rattle.block_machine.specs.State.{State, BlockState, Job, Sweep}
 use Rattle.block_machine.specs.Blocks.{desc_of, block_at, is_synchronized, asked_block, job_block, kind_of, asked_store}
@@ -10,10 +10,8 @@ use Rattle.pending_jobs.specs.Took.{taken_with}
 use Rattle.nv_desk.specs.declared.pick.Take.{Take}
 use Rattle.nv_desk.specs.declared.pick.Take.TheVariants as take
 use Rattle.nv_desk.specs.Desk.{DeskState, state_of}
-use Rattle.nv_desk.specs.Picks.{MayPickNext, took_of, copied_in}
+use Rattle.nv_desk.specs.Picks.{MayPickNext, took_of}
 use Rattle.nv_desk.specs.Members.{MayPickMember}
-use Rattle.nv_front.specs.declared.source.Source.{Source}
-use Rattle.nv_front.specs.declared.source.Source.TheVariants as from
 use Rattle.nv_desk.specs.AllBlocks.{sweep_kind}
 use Rattle.ram_blocks.specs.Told.{Told}
 use Rattle.nv_front.specs.Takes.{source_by, source_of, source_next, IsTakenFrom, IsCopied, IsCopySource}
@@ -54,18 +52,6 @@ takes_by d b j InvalidateJob t lent h = rw h refl
 takes_by d b j ReadAllJob t lent h = rw h refl
 takes_by d b j WriteAllJob t lent h = rw h refl
 
--- a copy is no longer than its block
-copied_fits : (d : BlockDesc) (b : BlockState) (source : Source) (t : Take) (lent : List ℕ) → IsTakenFrom d b source t lent
-    → IfSome (copied_in (took_of t lent)) (λ x. length x ≤ d.length)
-copied_fits d b from.Nothing t lent h = rw h tt
-copied_fits d b from.Own t lent h = rw h tt
-copied_fits d b from.Ram t lent h = rw h.0 h.2
-copied_fits d b (from.Copy asked) take.Nothing lent h = tt
-copied_fits d b (from.Copy asked) take.Own lent h = tt
-copied_fits d b (from.Copy asked) (take.Copied store) lent h = omega (arith, h.0)
-copied_fits d b (from.Copy asked) (take.Refused count) lent h = tt
-copied_fits d b (from.Copy asked) (take.Stale wanted got count) lent h = tt
-
 -- A JOB
 
 next_is : (c : Configuration) (s : State) (j : Job) → next_in c s.waiting ≡ Some j → next_of c s ≡ PickJob j
@@ -94,7 +80,6 @@ may_pick d j t lent ops driving next free taken = record {
   job = j;
   is = next;
   allowed = job_allowed d.config d.cap (state_of d) j t lent ops driving next free taken;
-  copied = copied_fits (desc_of d.config (job_block j)) (block_at (state_of d) (job_block j)) (source_of d.config j) t lent taken;
 }
 
 -- A MEMBER
@@ -142,7 +127,6 @@ may_pick_member d sw id t lent ops driving is taken = record {
   id = id;
   is = is;
   allowed = member_allowed d.config d.cap (state_of d) sw id t lent ops driving is taken;
-  copied = copied_fits (desc_of d.config id) (block_at (state_of d) id) (source_of d.config (member_job d.config sw id)) t lent taken;
 }
 
 -- a member copies where its block is synchronized

@@ -47,7 +47,7 @@ IsCopySource source = ⊥
 abbrev pub IsTakenFrom : BlockDesc → BlockState → Source → Take → (lent : List ℕ) → Type 0
 IsTakenFrom d b Nothing t lent = t ≡ take.Nothing
 IsTakenFrom d b Own t lent = t ≡ take.Own
-IsTakenFrom d b Ram t lent = (t ≡ take.Copied 0) × (lent ≡ b.ram) × (length lent ≤ d.length)
+IsTakenFrom d b Ram t lent = (t ≡ take.Copied 0) × (lent ≡ b.ram)
 IsTakenFrom d b (Copy asked) take.Nothing lent = ⊥
 IsTakenFrom d b (Copy asked) take.Own lent = ⊥
 IsTakenFrom d b (Copy asked) (take.Copied store) lent = (length lent ≡ d.length) × (asked ≤ store)

@@ -22,14 +22,14 @@ use pending_jobs::{Job, LastPick, names_ram};
 use ram_blocks::SyncCalls;
 
 /// The Post that was added: of this block, with this result.
-#[derive(Clone, Copy, Debug, PartialEq, Eq)]
+#[derive(Clone, Copy, PartialEq, Eq)]
 pub struct Posted {
     pub block: u16,
     pub result: ReqResult,
 }
 
 /// The Post of a job in hand, and whether the job is a read to the caller's own buffer that gave a content.
-#[derive(Clone, Copy, Debug, PartialEq, Eq)]
+#[derive(Clone, Copy, PartialEq, Eq)]
 pub struct Done {
     pub posted: Posted,
     pub reads: bool,

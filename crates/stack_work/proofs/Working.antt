@@ -1,25 +1,18 @@
 -- The work of the stack.
 use Rattle.std.specs.Prelude.{slice_get, unwrap_or, is_some, All}
-use Rattle.std.proofs.Common.{◌≡◌, ℕ, zero, suc, ◌+◌, ◌-◌, ◌≤◌, ◌<◌, ◌^◌, Bool, true, false, List, [], ◌∷◌, ◌++◌, length, Option, Some, None, refl, sym, ap, ◌∙◌, subst, arith, length-append}
+use Rattle.std.proofs.Common.{◌≡◌, ℕ, zero, suc, ◌-◌, ◌≤◌, ◌<◌, ◌^◌, List, [], ◌∷◌, ◌++◌, length, Some, None, ap, subst, arith, length-append}
 use Rattle.std.proofs.lemmas.List.Elements.{All-tail}
-use Rattle.nv_base.specs.declared.instance.Instance.{Instance}
-use Rattle.nv_base.specs.declared.job.DeviceOp.{DeviceOp}
-use Rattle.nv_base.specs.declared.job.JobStep.TheVariants as step
-use Rattle.memif.specs.Told.{DeviceTold, IfElse, is_open}
+use Rattle.memif.specs.Told.{DeviceTold}
 use Rattle.memif.specs.Clock.{Clock}
-use Rattle.memif.specs.Calls.{InOrder}
 use Rattle.block_config.specs.Block.{plain_block}
 use Rattle.block_config.specs.Rules.{IsLegalConfig, IsLegalBlock, AreBlocks}
 use Rattle.block_machine.specs.Words.{Entry, BlockDesc, Configuration}
-use Rattle.block_machine.specs.State.{State}
 use Rattle.block_machine.specs.Blocks.{desc_of, job_block, kind_of, block_at}
 use Rattle.job_programs.specs.Program.{Program}
-use Rattle.turn_figures.specs.Drain.{IsSmall, drain_work, ProgramsAreSmall, EntriesLower, RefusalsLower}
+use Rattle.turn_figures.specs.Drain.{ProgramsAreSmall, EntriesLower}
 use Rattle.nv_desk.specs.Desk.{DeskState}
-use Rattle.job_hands.specs.Hand.{HandState, ended}
-use Rattle.hand_laws.specs.Hands.{IsInHand, IsPaired, IsAt, program_for}
-use Rattle.hand_laws.specs.Goes.{StepsName}
-use Rattle.stack_work.specs.Work.{program_in_hand, HandsAreSmall, EntriesLowerWork, RefusalsLowerWork}
+use Rattle.hand_laws.specs.Hands.{program_for}
+use Rattle.stack_work.specs.Work.{program_in_hand, HandsAreSmall, EntriesLowerWork}
 
 -- THE TRIES
 -- the retries of a block are a byte
@@ -63,13 +56,3 @@ entries_lower_work new clock lower old desk desk_new e hand next order adds fits
     let within : length (desk.entries ++ e ∷ []) ≤ desk.cap = subst (λ (x : DeskState). length x.entries ≤ x.cap) adds fits in
     rw adds (lower old (desk.cap - length desk.entries) (desk.cap - length (desk.entries ++ e ∷ [])) (program_in_hand hand) (program_in_hand next) order
     (room_less desk.cap desk.entries e within) small)
-
--- A REFUSED OPERATION
-closed_by : (started : Bool) (at : Type 0) (d : DeviceTold) → started ≡ false → IfElse started at (is_open d.stand ≡ false) → is_open d.stand ≡ false
-closed_by true at d off is = cc
-closed_by false at d off is = is
-
-pub refusals_lower_work : StepsName → RefusalsLower → RefusalsLowerWork
-refusals_lower_work names lower c s desk h d op i rules is at started =
-    let name = names c s h d op i rules is at in
-    lower d (desk.cap - length desk.entries) h.program name.index is.working.tries name.next (closed_by h.started (IsAt c is.job h.program d.stand) d started is.at)

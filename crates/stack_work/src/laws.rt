@@ -1,9 +1,8 @@
 // The laws of the work. Their functions do nothing.
-ghost use Rattle.stack_work.specs.Work.{HandsAreSmall, EntriesLowerWork, RefusalsLowerWork};
+ghost use Rattle.stack_work.specs.Work.{HandsAreSmall, EntriesLowerWork};
 
-use hand_laws::hands_go_on;
 use memif::MemDevice;
-use turn_figures::{picks_are_bounded, programs_are_small, starts_keep_figures};
+use turn_figures::{picks_are_bounded, programs_are_small};
 
 /// The job in hand has a program of two instances at most, whose retries are a byte.
 pub fn hands_are_small()
@@ -12,12 +11,9 @@ pub fn hands_are_small()
     programs_are_small();
 }
 
-/// An entry more lowers the work of the stack, whatever else is done, and so does an operation that the device refuses.
+/// An entry more lowers the work of the stack, whatever else is done.
 pub fn stack_works<D: MemDevice>(device: &D)
     ensures entries { EntriesLowerWork (D.told device.now) (D.clock device.now) }
-    ensures refusals { RefusalsLowerWork }
 {
-    hands_go_on();
     picks_are_bounded(device);
-    starts_keep_figures();
 }

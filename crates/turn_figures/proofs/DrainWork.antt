@@ -6,13 +6,13 @@ use Rattle.std.proofs.Math.Nat.{mul-le-mul_right}
 use Rattle.memif.specs.Told.{DeviceTold, Part, Stand, Open, Ended, is_open}
 use Rattle.memif.specs.Clock.{Clock}
 use Rattle.memif.specs.Calls.{Wish, AcceptsAs, InOrder, Works, JobTurns}
-use Rattle.block_machine.specs.Words.{BlockDesc, BlockKind, Native, Redundant, Dataset, JobKind, ReadJob, Failed}
+use Rattle.block_machine.specs.Words.{BlockDesc, BlockKind, Native, Redundant, Dataset, JobKind, ReadJob}
 use Rattle.block_machine.specs.Blocks.{indices_by}
-use Rattle.job_programs.specs.Program.{Program, settles, works, retries_of, after}
+use Rattle.job_programs.specs.Program.{Program, settles, works, retries_of}
 use Rattle.turn_figures.specs.Left.{ahead, over_tries, over_unstarted}
 use Rattle.turn_figures.specs.Job.{IsOperation, program_next}
-use Rattle.turn_figures.specs.Drain.{tries_ahead, hand_work, IsSmall, ProgramsAreSmall, ProgramsStaySmall, EntriesLower, WorkLowers, StartsDontAdd, RefusalsLower}
-use Rattle.turn_figures.proofs.Tries.{next_ahead, start_takes, after_less}
+use Rattle.turn_figures.specs.Drain.{tries_ahead, hand_work, IsSmall, ProgramsAreSmall, ProgramsStaySmall, EntriesLower, WorkLowers, StartsDontAdd}
+use Rattle.turn_figures.proofs.Tries.{next_ahead, start_takes}
 use Rattle.turn_figures.proofs.Programs.{program_same}
 use Rattle.turn_figures.proofs.Figures.{unstarted_less, was_closed, opens_stand}
 
@@ -58,17 +58,6 @@ pub starts_dont_add : (new : DeviceTold) (clock : Clock) → StartsDontAdd new c
 starts_dont_add new clock old w room p index order few is accepts =
     let none = start_adds_none old new w p index (left_fits new clock order) few is accepts in
     omega (arith, none)
-
--- A REFUSED START
-pub refusals_lower : RefusalsLower
-refusals_lower d room p index few next closed =
-    let fewer = after_less (λ i. 1) p Failed (λ e. cc) in
-    let takes = start_takes (λ i. 1) p index (drop (suc (length p.done)) p.indices) few in
-    let at = ap (over_unstarted (λ i. 1) p true) (next_ahead p index next).ahead in
-    let before = ap (over_unstarted (λ i. 1) p false) (next_ahead p index next).ahead in
-    let less : tries_ahead (after p Failed) false < tries_ahead p false = omega (arith, fewer, takes, at, before) in
-    let times = mul-le-mul_right (2 ^ 64) less in
-    rw closed (omega (arith, times))
 
 -- AN ENTRY
 tries_few : (r : ℕ) (is : List ℕ) → r < 2 ^ 8 → over_tries (λ i. 1) r is ≤ 256 * length is

@@ -7,13 +7,13 @@ use Rattle.memif.specs.declared.answer.DeviceRefusal.TheVariants.{Busy}
 use Rattle.memif.specs.Told.{DeviceTold, Fixed, Part, First, Second, Stand, Open, Ended, Job, is_open, figures_at, most_of, most_open, op_of}
 use Rattle.memif.specs.Clock.{Clock}
 use Rattle.memif.specs.Calls.{Wish, AcceptsAs, Opens, IsCanceled, Works, JobTurns}
-use Rattle.block_machine.specs.Words.{JobKind, Outcome, Failed}
-use Rattle.job_programs.specs.Program.{Program, after, program_of, settles}
+use Rattle.block_machine.specs.Words.{JobKind, Outcome}
+use Rattle.job_programs.specs.Program.{Program, program_of, settles}
 use Rattle.turn_figures.specs.Left.{ahead, over_unstarted, most_at, left_of_hand}
 use Rattle.turn_figures.specs.Job.{program_next, hand_next}
-use Rattle.turn_figures.specs.Laws.{TurnsLower, StartsDontRaise, RefusalsDontRaise, CancelsDontRaise, PostsLower, PicksAreBounded, JobsAreBounded}
+use Rattle.turn_figures.specs.Laws.{TurnsLower, StartsDontRaise, CancelsDontRaise, PostsLower, PicksAreBounded, JobsAreBounded}
 use Rattle.turn_figures.proofs.Tries.{over_ahead, next_ahead, unstarted_fresh, start_takes, after_less}
-use Rattle.turn_figures.proofs.Programs.{never_first, after_same, program_same}
+use Rattle.turn_figures.proofs.Programs.{never_first, program_same}
 
 -- A TURN
 pub works_fixed : (q : Part) (old new : DeviceTold) (clock : Clock) → Works q old new clock → new.fixed ≡ old.fixed
@@ -68,18 +68,6 @@ starts_dont_raise old new w p index few is accepts =
     let takes = start_takes (most_at old.fixed p.block p.kind) p index (drop (suc (length p.done)) p.indices) few in
     rw (opens_fixed old new w.job opens, opens_stand old new w.job opens, was_closed old new w accepts, next.ahead)
     (omega (arith, opens.left_high, most, takes))
-
-pub refusals_dont_raise : RefusalsDontRaise
-refusals_dont_raise d p index few next closed =
-    let count = most_at d.fixed p.block p.kind in
-    let less = after_less count p Failed (λ e. cc) in
-    let takes = start_takes count p index (drop (suc (length p.done)) p.indices) few in
-    let at = ap (over_unstarted count p true) (next_ahead p index next).ahead in
-    let before = ap (over_unstarted count p false) (next_ahead p index next).ahead in
-    let same = after_same p Failed in
-    let most : most_at d.fixed (after p Failed).block (after p Failed).kind ≡ count =
-    ap (λ (n : ℕ). most_at d.fixed n (after p Failed).kind) same.block ∙ ap (λ (k : JobKind). most_at d.fixed p.block k) same.kind in
-    rw (closed, most) (omega (arith, less, takes, at, before))
 
 -- OTHER CALLS
 pub cancels_dont_raise : CancelsDontRaise

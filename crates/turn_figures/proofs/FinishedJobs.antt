@@ -7,7 +7,7 @@ use Rattle.std.proofs.Common.{zero, suc, if◌then◌else◌, true, ap, sym, ◌
 use Rattle.std.proofs.Math.Nat.{eq-or-lt_of_le}
 use Rattle.std.specs.List.{Contains}
 use Rattle.nv_base.specs.Count.{Rose, last_count}
-use Rattle.memif.specs.Told.{DeviceTold, Fixed, Part, First, Second, part_at, Stand, is_open, is_off}
+use Rattle.memif.specs.Told.{DeviceTold, Fixed, Part, First, Second, part_at, Stand, is_open}
 use Rattle.memif.specs.Clock.{Clock}
 use Rattle.memif.specs.Calls.{InOrder}
 use Rattle.memif.specs.Trials.{IsFaultless}

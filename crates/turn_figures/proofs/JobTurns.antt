@@ -158,9 +158,6 @@ begins_ready content urgent p o instance length old mid clock is few work (inr (
     opened_ready content urgent p old mid (wish_for o (number_of instance) length content urgent) instance.index is.next
     (wish_is p o instance length content urgent is) few accepts (left_fits mid clock order)
 
-pub ready_work : (content : List ℕ) (urgent : Bool) (p : Program) (old mid : DeviceTold) → IsReady content urgent p old mid → IsInWork content urgent p mid.stand
-ready_work content urgent p old mid ready = subst (IsInWork content urgent p) (sym ready.stand) (ready.index, ready.next, refl)
-
 pub ready_open : (content : List ℕ) (urgent : Bool) (p : Program) (old mid : DeviceTold) → IsReady content urgent p old mid → is_open mid.stand ≡ true
 ready_open content urgent p old mid ready = ap is_open ready.stand
 
@@ -243,11 +240,6 @@ program_turned content urgent p o instance (Open j) (Ended r given) came outcome
     let from : outcome ≡ outcome_by j.mark came = comes j.mark ((work_is content urgent p j work).1.operation ∙ sym is.operation) in
     ap (after p) (from ∙ ap (outcome_by j.mark) result)
 program_turned content urgent p o instance (Ended r given) b came outcome is work on result ended comes = cc
-
-pub still_turned : (p : Program) (a b : Stand) → is_open b ≡ true → program_next p a b ≡ p
-still_turned p (Open j) (Open k) on = refl
-still_turned p (Open j) (Ended r given) on = cc
-still_turned p (Ended r given) b on = refl
 
 -- an instance that is next has a device number
 pub placed_at : (p : Program) (o : DeviceOp) (instance : Instance) → IsStepOf p o instance → IsPlaced p → instance.index ≤ 63

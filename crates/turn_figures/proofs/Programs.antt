@@ -31,9 +31,6 @@ same_by p None o = same_job p
 same_by p (Some i) First = same_job p
 same_by p (Some i) o = tried_same p o (is_again o p.failures p.retries)
 
-pub after_same : (p : Program) (o : Outcome) → IsSameJob p (after p o)
-after_same p o = same_by p (next_in p) o
-
 pub program_same : (p : Program) (a b : Stand) → IsSameJob p (program_next p a b)
 program_same p (Open j) (Open k) = same_job p
 program_same p (Open j) (Ended r given) = same_by p (next_in p) (outcome_by j.mark r)

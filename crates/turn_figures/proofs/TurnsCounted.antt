@@ -7,19 +7,16 @@ use Rattle.nv_base.specs.declared.job.DeviceOp.{DeviceOp}
 use Rattle.nv_base.specs.declared.job.JobStep.TheVariants.{Device}
 use Rattle.nv_base.specs.Marks.{number_of}
 use Rattle.memif.specs.Told.{DeviceTold, Fixed, figures_at, most_of, is_open, IfElse}
-use Rattle.job_programs.specs.Program.{Program, next_in}
+use Rattle.job_programs.specs.Program.{Program}
 use Rattle.turn_figures.specs.declared.counted.AtWork.{AtWork}
 use Rattle.turn_figures.specs.Left.{tries_at, over_tries, most_at, stack_left}
 use Rattle.turn_figures.specs.AtWork.{IsAtWork, turns_behind, unstarted_at}
-use Rattle.turn_figures.proofs.Tries.{next_ahead, over_ahead}
+use Rattle.turn_figures.proofs.Tries.{next_ahead}
 use Rattle.turn_figures.proofs.JobTurns.{step_is}
 
 -- sums that stand still at their end
 pub still_sum : (l a b : ℕ) → min (min (min (l + min a last_count) last_count + min b last_count) last_count + 1) last_count ≡ min (l + (a + b + 1)) last_count
 still_sum l a b = omega arith
-
-pub over_counted : (p : Program) (d : DeviceTold) → next_in p ≡ None → min (d.left + 1) last_count ≡ min (stack_left (Some p) d) last_count
-over_counted p d over = rw (over_ahead p over) refl
 
 -- the turns of the copy that is behind this one, if there is one
 abbrev pub behind_of : Fixed → Program → Bool → ℕ → ℕ

@@ -1,11 +1,11 @@
 -- By what the turns of a drain go down.
-use Rattle.std.specs.Prelude.{◌≡◌, ◌⊎◌, ◌<◌, ◌≤◌, ◌+◌, ◌*◌, ◌^◌, ℕ, Bool, true, false, if◌then◌else◌, length, Option, Some, None, Ok}
+use Rattle.std.specs.Prelude.{◌≡◌, ◌⊎◌, ◌<◌, ◌≤◌, ◌+◌, ◌*◌, ◌^◌, ℕ, Bool, true, if◌then◌else◌, length, Option, Some, None, Ok}
 use Rattle.nv_base.specs.Count.{Rose}
 use Rattle.memif.specs.Told.{DeviceTold, Part, Stand, part_at, is_open}
 use Rattle.memif.specs.Clock.{Clock}
 use Rattle.memif.specs.Calls.{Wish, AcceptsAs, InOrder, Works}
-use Rattle.block_machine.specs.Words.{BlockDesc, JobKind, Failed}
-use Rattle.job_programs.specs.Program.{Program, program_of, next_in, after}
+use Rattle.block_machine.specs.Words.{BlockDesc, JobKind}
+use Rattle.job_programs.specs.Program.{Program, program_of}
 use Rattle.turn_figures.specs.Left.{ahead, over_unstarted}
 use Rattle.turn_figures.specs.Job.{IsOperation, hand_next}
 
@@ -56,9 +56,3 @@ StartsDontAdd new clock =
     (old : DeviceTold) (w : Wish) (room : ℕ) (p : Program) (index : ℕ) → InOrder new clock → p.failures ≤ p.retries
     → IsOperation p index w.job → AcceptsAs w (Ok tt) old new
     → drain_work room (Some p) new ≤ drain_work room (Some p) old
-
--- an operation that the device refuses counts as a failed try, which lowers it
-abbrev pub RefusalsLower : Type 0
-RefusalsLower =
-    (d : DeviceTold) (room : ℕ) (p : Program) (index : ℕ) → p.failures ≤ p.retries → next_in p ≡ Some index → is_open d.stand ≡ false
-    → drain_work room (Some (after p Failed)) d < drain_work room (Some p) d

@@ -4,8 +4,8 @@ use Rattle.nv_base.specs.Count.{Rose}
 use Rattle.memif.specs.Told.{DeviceTold, Part, part_at, is_open, IfElse}
 use Rattle.memif.specs.Clock.{Clock}
 use Rattle.memif.specs.Calls.{Wish, AcceptsAs, IsCanceled, InOrder, Works}
-use Rattle.block_machine.specs.Words.{BlockDesc, JobKind, Failed}
-use Rattle.job_programs.specs.Program.{Program, after, next_in, program_of}
+use Rattle.block_machine.specs.Words.{BlockDesc, JobKind}
+use Rattle.job_programs.specs.Program.{Program, next_in, program_of}
 use Rattle.turn_figures.specs.Left.{stack_left, most_turns}
 use Rattle.turn_figures.specs.Job.{IsOperation, hand_next}
 
@@ -21,12 +21,6 @@ abbrev pub StartsDontRaise : Type 0
 StartsDontRaise =
     (old new : DeviceTold) (w : Wish) (p : Program) (index : ℕ) → p.failures ≤ p.retries → IsOperation p index w.job
     → AcceptsAs w (Ok tt) old new → stack_left (Some p) new ≤ stack_left (Some p) old
-
--- nor does an operation that the device refuses, which counts as a failed try
-abbrev pub RefusalsDontRaise : Type 0
-RefusalsDontRaise =
-    (d : DeviceTold) (p : Program) (index : ℕ) → p.failures ≤ p.retries → next_in p ≡ Some index → is_open d.stand ≡ false
-    → stack_left (Some (after p Failed)) d ≤ stack_left (Some p) d
 
 -- a cancel doesn't raise the device's part, and keeps ready what is
 abbrev pub CancelsDontRaise : Type 0

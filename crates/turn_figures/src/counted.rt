@@ -1,5 +1,5 @@
 // The turns that are left, counted.
-ghost use Rattle.std.specs.Prelude.{◌≡◌, ◌+◌, ◌-◌, ◌≤◌, ◌*◌, min, Some, None, if◌then◌else◌, true};
+ghost use Rattle.std.specs.Prelude.{◌≡◌, ◌+◌, ◌-◌, ◌≤◌, ◌*◌, min, Some, None};
 ghost use Rattle.nv_base.specs.Count.{last_count};
 ghost use Rattle.nv_base.specs.Marks as numbers;
 ghost use Rattle.nv_base.specs.declared.job.JobStep.TheVariants as step;
@@ -13,7 +13,7 @@ use nv_base::{DeviceOp, Instance, JobStep, number_of};
 
 /// A job in hand: the step that its program named last, the failed tries of that, how often an operation is tried again,
 /// and whether the job works on both copies of its block.
-#[derive(Clone, Copy, Debug, PartialEq, Eq)]
+#[derive(Clone, Copy, PartialEq, Eq)]
 pub struct AtWork {
     pub step: JobStep,
     pub failures: u8,

@@ -1,6 +1,6 @@
 // The laws of the figures. Their functions do nothing.
-ghost use Rattle.turn_figures.specs.Laws.{TurnsLower, StartsDontRaise, RefusalsDontRaise, CancelsDontRaise, PostsLower, PicksAreBounded, JobsAreBounded};
-ghost use Rattle.turn_figures.specs.Drain.{ProgramsAreSmall, ProgramsStaySmall, EntriesLower, WorkLowers, StartsDontAdd, RefusalsLower};
+ghost use Rattle.turn_figures.specs.Laws.{TurnsLower, StartsDontRaise, CancelsDontRaise, PostsLower, PicksAreBounded, JobsAreBounded};
+ghost use Rattle.turn_figures.specs.Drain.{ProgramsAreSmall, ProgramsStaySmall, EntriesLower, WorkLowers, StartsDontAdd};
 ghost use Rattle.turn_figures.specs.Finish.{ProgramsArePlaced};
 ghost use Rattle.turn_figures.specs.Run.{JobTurnsKeep, RunsAreWithin, RunsAreSoon};
 ghost use Rattle.turn_figures.specs.Urgent.{PicksAreOnTime, TurnsKeepReady, StartsStayOnTime, TurnsStayOnTime, EndsAreOnTime};
@@ -20,16 +20,14 @@ pub fn turns_keep_figures<D: MemDevice>(new: &D)
     programs_count_their_failures();
 }
 
-/// A start of an operation, one that is refused and a cancel don't raise what is left, and a Post lowers it. A start that is
-/// refused lowers the work of a drain.
+/// The start of an operation and a cancel don't raise what is left, and a Post lowers it. An urgent write is on time at each
+/// start, and at its end.
 pub fn starts_keep_figures()
     ensures starts { StartsDontRaise }
     ensures cancels { CancelsDontRaise }
     ensures posts { PostsLower }
     ensures urgent { StartsStayOnTime }
     ensures ends { EndsAreOnTime }
-    ensures refusals { RefusalsLower }
-    ensures refused { RefusalsDontRaise }
 {}
 
 /// At a Pick what is left is bounded by the job's tries and the device's figures, and an urgent write that is ready is on

@@ -1,5 +1,5 @@
 // A job over any device.
-ghost use Rattle.std.specs.Prelude.{◌≡◌, ◌≤◌, ◌+◌, Some, None, IfOk, IfErr, true, false, List, length, min};
+ghost use Rattle.std.specs.Prelude.{◌≡◌, ◌≤◌, Some, None, IfOk, IfErr, true, false, List, length, min};
 ghost use Rattle.nv_base.specs.Count.{last_count};
 ghost use Rattle.nv_base.specs.Marks as numbers;
 ghost use Rattle.nv_base.specs.declared.job.JobStep.TheVariants as step;
@@ -19,7 +19,7 @@ use nv_base::{
 };
 
 /// How a job ended: as its program says, or as the power went off.
-#[derive(Clone, Copy, Debug, PartialEq, Eq)]
+#[derive(Clone, Copy, PartialEq, Eq)]
 pub enum JobEnd {
     Over {
         result: ReqResult,
@@ -29,14 +29,14 @@ pub enum JobEnd {
 }
 
 /// The end of a job, and the turns of the device that it took.
-#[derive(Clone, Copy, Debug, PartialEq, Eq)]
+#[derive(Clone, Copy, PartialEq, Eq)]
 pub struct Finish {
     pub end: JobEnd,
     pub turns: u64,
 }
 
 /// What a job brings to its operations: the length of its block, of a write its content and whether it is urgent.
-#[derive(Clone, Copy, Debug)]
+#[derive(Clone, Copy)]
 pub struct Brought<'a> {
     pub length: u16,
     pub content: &'a [u8],

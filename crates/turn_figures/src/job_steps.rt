@@ -1,11 +1,9 @@
 // The program of a job, and its job at the device.
 ghost use Rattle.std.specs.Prelude.{◌≡◌, Option};
 ghost use Rattle.nv_base.specs.declared.mark.Mark.{Mark};
-ghost use Rattle.memif.specs.Told.{is_open, op_of};
-ghost use Rattle.memif.specs.Calls.{Accepts};
+ghost use Rattle.memif.specs.Told.{op_of};
 ghost use Rattle.job_programs.specs.Program.{Program, after, step_of};
 ghost use Rattle.turn_laws.specs.Outcomes.{outcome_by};
-ghost use Rattle.turn_figures.specs.Job.{wish_for};
 
 use memif::{DeviceRefusal, JobResult, MemDevice};
 use nv_base::{DeviceNumber, DeviceOp, JobStep, Outcome};

@@ -1,5 +1,4 @@
-use Rattle.turn_figures.proofs.Figures.{starts_dont_raise, refusals_dont_raise, cancels_dont_raise, posts_lower}
-use Rattle.turn_figures.proofs.DrainWork.{refusals_lower}
+use Rattle.turn_figures.proofs.Figures.{starts_dont_raise, cancels_dont_raise, posts_lower}
 use Rattle.turn_figures.proofs.OnTime.{starts_stay_on_time, ends_are_on_time}
 use Rattle.turn_figures.proofs.figure_laws.starts_keep_figures.Goals as goal
 
@@ -17,9 +16,3 @@ returns-clause-urgent c = starts_stay_on_time
 
 pub returns-clause-ends : goal.returns-clause-ends
 returns-clause-ends c = ends_are_on_time
-
-pub returns-clause-refusals : goal.returns-clause-refusals
-returns-clause-refusals c = refusals_lower
-
-pub returns-clause-refused : goal.returns-clause-refused
-returns-clause-refused c = refusals_dont_raise

@@ -5,9 +5,10 @@ use Rattle.block_machine.specs.Steps.{after}
 use Rattle.block_machine.specs.Next.{next_in}
 use Rattle.pending_jobs.specs.Took.{taken_with}
 use Rattle.nv_desk.specs.Desk.{DeskState, state_of}
-use Rattle.nv_desk.specs.Picks.{copied_in, took_of}
+use Rattle.nv_desk.specs.Picks.{took_of}
+use Rattle.nv_desk.proofs.Contents.{ram_is_whole, job_takes, copied_fits}
 use Rattle.nv_desk.proofs.Drivers.{has_room, driver_kept}
-use Rattle.nv_desk.proofs.Picks.{ready, pick_room, pick_step, picked_sound, within_block, content_within, some_is}
+use Rattle.nv_desk.proofs.Picks.{ready, pick_room, pick_step, picked_sound, content_within, some_is}
 use Rattle.nv_desk.proofs.desk.Desk.pick_job.Goals as goal
 
 pub taken_of-taken-requires-clause-some : goal.taken_of-taken-requires-clause-some
@@ -31,9 +32,13 @@ taken_of-taken-requires-clause-own c =
 pub taken_of-taken-requires-clause-copied : goal.taken_of-taken-requires-clause-copied
 taken_of-taken-requires-clause-copied c =
     let d = c.self.inside in
+    let s = after d.config d.history.entries in
     let may = rw (← c.self.view_is) at c.requires in
-    rw (c.took_by-took.ensures.took, c.took_by-took.ensures.longest) (within_block d.rooms.longest (desc_of d.config (job_block may.job)).length
-    (copied_in (took_of c.args.take c.args.lent.now)) (c.self.invariant.longest (job_block may.job)) may.copied)
+    let r = ready c.the_next_job_goes_first.ensures.waits d.config s may.job c.self.invariant.sound may.is in
+    let ram = ram_is_whole c.rooms_have_lengths.ensures d.config d.kept s c.self.invariant.agrees c.self.invariant.sound may.allowed.0.started c.fills_its_rooms.ensures in
+    let whole = job_takes d.config d.history.cap s may.job (taken_with may.job.content (took_of c.args.take c.args.lent.now)) c.args.ops ram may.is r.pending may.allowed in
+    rw (c.took_by-took.ensures.took, c.took_by-took.ensures.longest) (copied_fits (desc_of d.config (job_block may.job)).length d.rooms.longest may.job.content
+    (took_of c.args.take c.args.lent.now) (c.self.invariant.longest (job_block may.job)) whole)
 
 pub took_by-took-requires-clause-some : goal.took_by-took-requires-clause-some
 took_by-took-requires-clause-some c =
@@ -46,9 +51,13 @@ took_by-took-requires-clause-some c =
 pub took_by-took-requires-clause-copied : goal.took_by-took-requires-clause-copied
 took_by-took-requires-clause-copied c =
     let d = c.self.inside in
+    let s = after d.config d.history.entries in
     let may = rw (← c.self.view_is) at c.requires in
-    within_block d.rooms.longest (desc_of d.config (job_block may.job)).length (copied_in (took_of c.args.take c.args.lent.now))
-    (c.self.invariant.longest (job_block may.job)) may.copied
+    let r = ready c.the_next_job_goes_first.ensures.waits d.config s may.job c.self.invariant.sound may.is in
+    let ram = ram_is_whole c.rooms_have_lengths.ensures d.config d.kept s c.self.invariant.agrees c.self.invariant.sound may.allowed.0.started c.fills_its_rooms.ensures in
+    let whole = job_takes d.config d.history.cap s may.job (taken_with may.job.content (took_of c.args.take c.args.lent.now)) c.args.ops ram may.is r.pending may.allowed in
+    copied_fits (desc_of d.config (job_block may.job)).length d.rooms.longest may.job.content (took_of c.args.take c.args.lent.now)
+    (c.self.invariant.longest (job_block may.job)) whole
 
 pub pick-requires : goal.pick-requires
 pick-requires c =
@@ -81,10 +90,12 @@ invariant_of-self c =
     let e = Pick (job_block may.job) (kind_of may.job) (taken_with may.job.content (took_of c.args.take c.args.lent.now)) c.args.ops in
     let same = some_is c.in-Some.next.now may.job (c.in-Some.ensures d.config s.waiting s.hand c.self.invariant.agrees.jobs ∙ may.is) in
     let r = ready c.the_next_job_goes_first.ensures.waits d.config s may.job c.self.invariant.sound may.is in
+    let ram = ram_is_whole c.rooms_have_lengths.ensures d.config d.kept s c.self.invariant.agrees c.self.invariant.sound may.allowed.0.started c.fills_its_rooms.ensures in
+    let whole = job_takes d.config d.history.cap s may.job (taken_with may.job.content (took_of c.args.take c.args.lent.now)) c.args.ops ram may.is r.pending may.allowed in
     driver_kept c.driver_laws.ensures d c.add.new.self c.pick.new.self c.taken_of-taken.new.rooms e c.self.invariant
     (has_room c.driver_laws.ensures d e c.self.invariant may.allowed refl)
     (picked_sound c.driver_laws.ensures d.config d.history.cap s may.job (job_block may.job)
-    (kind_of may.job) (took_of c.args.take c.args.lent.now) c.args.ops c.self.invariant.sound may.is r may.allowed may.copied)
+    (kind_of may.job) (took_of c.args.take c.args.lent.now) c.args.ops c.self.invariant.sound may.is r may.allowed whole)
     (rw (c.block-block.ensures, c.kind-job.ensures, c.taken_of-taken.ensures.taken, c.took_by-took.ensures.took, same) at c.add.ensures)
     (pick_step d.config c.pick.new.self s may.job (job_block may.job) (kind_of may.job)
     (taken_with may.job.content (took_of c.args.take c.args.lent.now)) c.args.ops may.is

@@ -6,11 +6,11 @@ use Rattle.block_machine.specs.Next.{PickMember, next_of}
 use Rattle.block_machine.specs.Steps.{after}
 use Rattle.pending_jobs.specs.Took.{taken_with}
 use Rattle.nv_desk.specs.Desk.{DeskState, state_of}
-use Rattle.nv_desk.specs.Picks.{copied_in, took_of}
+use Rattle.nv_desk.specs.Picks.{took_of}
 use Rattle.nv_desk.proofs.AllBlocks.{kept_sweep}
+use Rattle.nv_desk.proofs.Contents.{ram_is_whole, member_ram_is, member_takes, copied_fits}
 use Rattle.nv_desk.proofs.Drivers.{has_room, driver_kept}
 use Rattle.nv_desk.proofs.MemberEntries.{at_picked, next_at, member_sound, member_step}
-use Rattle.nv_desk.proofs.Picks.{within_block}
 use Rattle.nv_desk.proofs.desk.Desk.pick_member.Goals as goal
 
 pub copy_of-taken-requires-clause-some : goal.copy_of-taken-requires-clause-some
@@ -24,9 +24,15 @@ copy_of-taken-requires-clause-some c =
 pub copy_of-taken-requires-clause-copied : goal.copy_of-taken-requires-clause-copied
 copy_of-taken-requires-clause-copied c =
     let d = c.self.inside in
+    let s = after d.config d.history.entries in
     let may = rw (← c.self.view_is) at c.requires in
-    rw (c.took_by-took.ensures.took, c.took_by-took.ensures.longest) (within_block d.rooms.longest (desc_of d.config may.id).length
-    (copied_in (took_of c.args.take c.args.lent.now)) (c.self.invariant.longest may.id) may.copied)
+    let x = at_picked c.the_next_job_goes_first.ensures.none d.config s may.sweep may.id may.is in
+    let ram = ram_is_whole c.rooms_have_lengths.ensures d.config d.kept s c.self.invariant.agrees c.self.invariant.sound may.allowed.0.started c.fills_its_rooms.ensures in
+    let has = member_ram_is d.config d.kept s may.sweep may.id c.queue_sizes-sizes.ensures.legal c.self.invariant.agrees x in
+    let whole = member_takes d.config d.history.cap s may.sweep may.id (member_kind may.sweep.writes) (taken_with None (took_of c.args.take c.args.lent.now)) c.args.ops
+    ram may.is has may.allowed in
+    rw (c.took_by-took.ensures.took, c.took_by-took.ensures.longest) (copied_fits (desc_of d.config may.id).length d.rooms.longest None
+    (took_of c.args.take c.args.lent.now) (c.self.invariant.longest may.id) whole)
 
 pub took_by-took-requires-clause-some : goal.took_by-took-requires-clause-some
 took_by-took-requires-clause-some c =
@@ -39,8 +45,14 @@ took_by-took-requires-clause-some c =
 pub took_by-took-requires-clause-copied : goal.took_by-took-requires-clause-copied
 took_by-took-requires-clause-copied c =
     let d = c.self.inside in
+    let s = after d.config d.history.entries in
     let may = rw (← c.self.view_is) at c.requires in
-    within_block d.rooms.longest (desc_of d.config may.id).length (copied_in (took_of c.args.take c.args.lent.now)) (c.self.invariant.longest may.id) may.copied
+    let x = at_picked c.the_next_job_goes_first.ensures.none d.config s may.sweep may.id may.is in
+    let ram = ram_is_whole c.rooms_have_lengths.ensures d.config d.kept s c.self.invariant.agrees c.self.invariant.sound may.allowed.0.started c.fills_its_rooms.ensures in
+    let has = member_ram_is d.config d.kept s may.sweep may.id c.queue_sizes-sizes.ensures.legal c.self.invariant.agrees x in
+    let whole = member_takes d.config d.history.cap s may.sweep may.id (member_kind may.sweep.writes) (taken_with None (took_of c.args.take c.args.lent.now)) c.args.ops
+    ram may.is has may.allowed in
+    copied_fits (desc_of d.config may.id).length d.rooms.longest None (took_of c.args.take c.args.lent.now) (c.self.invariant.longest may.id) whole
 
 pub pick_member-requires : goal.pick_member-requires
 pick_member-requires c =
@@ -74,6 +86,10 @@ invariant_of-self c =
     let may = rw (← c.self.view_is) at c.requires in
     let e = Pick may.id (member_kind may.sweep.writes) (taken_with None (took_of c.args.take c.args.lent.now)) c.args.ops in
     let x = at_picked c.the_next_job_goes_first.ensures.none d.config s may.sweep may.id may.is in
+    let ram = ram_is_whole c.rooms_have_lengths.ensures d.config d.kept s c.self.invariant.agrees c.self.invariant.sound may.allowed.0.started c.fills_its_rooms.ensures in
+    let has = member_ram_is d.config d.kept s may.sweep may.id c.queue_sizes-sizes.ensures.legal c.self.invariant.agrees x in
+    let whole = member_takes d.config d.history.cap s may.sweep may.id (member_kind may.sweep.writes) (taken_with None (took_of c.args.take c.args.lent.now)) c.args.ops
+    ram may.is has may.allowed in
     let block : c.block_of-block.result ≡ may.id = c.block_of-block.ensures.picked may.sweep may.id
     (rw (next_at d.config s may.sweep may.id (PickMember may.sweep may.id) x may.is) at
     (c.next_step.ensures.next s may.sweep c.self.invariant.agrees x.sweep x.under_way)) in
@@ -82,7 +98,7 @@ invariant_of-self c =
     driver_kept c.driver_laws.ensures d c.add.new.self c.pick_member.new.self c.copy_of-taken.new.rooms e c.self.invariant
     (has_room c.driver_laws.ensures d e c.self.invariant may.allowed refl)
     (member_sound c.driver_laws.ensures d.config d.history.cap s may.sweep may.id (member_kind may.sweep.writes) (took_of c.args.take c.args.lent.now) c.args.ops
-    c.self.invariant.sound x may.is (omega (arith, known, c.self.invariant.agrees.places)) may.allowed may.copied)
+    c.self.invariant.sound x may.is (omega (arith, known, c.self.invariant.agrees.places)) may.allowed has whole)
     (rw (block, kind, c.copy_of-taken.ensures.taken, c.took_by-took.ensures.took) at c.add.ensures)
     (member_step d.config c.pick_member.new.self s may.sweep may.id (member_kind may.sweep.writes) (took_of c.args.take c.args.lent.now) c.args.ops may.is
     (rw (block, c.took_by-took.ensures.took) at (c.pick_member.ensures s may.sweep c.self.invariant.agrees (rw block x))))
