@@ -1,5 +1,5 @@
 // The driver's hand.
-ghost use Rattle.std.specs.Prelude.{◌≡◌, is_some, true, false};
+ghost use Rattle.std.specs.Prelude.{◌≡◌, ◌≤◌, is_some, true, false, [], ◌∷◌, length};
 ghost use Rattle.job_hands.specs.Hand.{began, refused, with_start, ended, is_finished};
 
 use crate::JobProgram;
@@ -9,7 +9,7 @@ use std::marker::Model;
 
 /// The job in hand at the device: its program, the step that this named last, and whether the device is at that step.
 /// Contracts see these three.
-#[derive(Debug, Drop)]
+#[derive(Drop)]
 pub struct Hand {
     program: JobProgram,
     step: JobStep,
@@ -71,6 +71,30 @@ impl Hand {
         ensures { result ≡ is_finished self.now.step }
     {
         matches!(self.step, JobStep::Ended { .. })
+    }
+
+    /// The failed tries of the operation that its program is at, 0 where it is at none.
+    pub fn failures(&self) -> u8
+        ensures { result ≡ self.now.program.failures }
+    {
+        self.program.failures()
+    }
+
+    /// How often its program tries an operation again.
+    pub fn retries(&self) -> u8
+        ensures { result ≡ self.now.program.retries }
+    {
+        self.program.retries()
+    }
+
+    /// On how many instances its program works: both copies of a redundant block, one of another, or none where it needs no
+    /// operation.
+    pub fn instances(&self) -> u8
+        ensures count { result ≡ length self.now.program.indices }
+        ensures within { result ≤ 2 }
+        ensures copies { result ≡ 2 → self.now.program.indices ≡ 0 ∷ 1 ∷ [] }
+    {
+        self.program.instances()
     }
 
     /// The device begins with the step.

@@ -7,6 +7,7 @@ use Rattle.memif.specs.Clock.{PartClock}
 use Rattle.block_machine.specs.Words.{Ask, Request, SetIndex, SetProtection, SetLock, SetRam, PutRam, ReadAll, WriteAll, CancelWriteAll, Reply, Accepted, JobKind, Configuration}
 use Rattle.block_machine.specs.State.{State}
 use Rattle.block_machine.specs.Blocks.{job_block, job_kind, status_of, is_pending}
+use Rattle.block_machine.specs.Next.{next_in}
 use Rattle.block_machine.specs.Reply.{reply_of, fits}
 use Rattle.block_machine.specs.Legal.{HasStore}
 use Rattle.block_machine.specs.Steps.{step, changed, accepted_by, asked}
@@ -24,7 +25,11 @@ use Rattle.stack_turns.specs.Ties.{IsTied}
 use Rattle.stack_turns.specs.Halves.{Adds}
 use Rattle.stack_turns.specs.Keeps.{StackKeeps, StaysKept}
 use Rattle.stack_laws.specs.Entries.{AsksKeep}
-use Rattle.nvm_core.specs.Stack.{IsStack}
+use Rattle.stack_bounds.specs.Due.{IsDue}
+use Rattle.stack_bounds.specs.Laws.{AcceptedAreDue, AsksKeepDue}
+use Rattle.stack_bounds.specs.Calls.{KeepsDue}
+use Rattle.nvm_core.specs.Stack.{IsStack, StackState}
+use Rattle.nvm_core.specs.Due.{AcceptsDue, now_of}
 
 -- THE POWER
 -- a request leaves it as it is
@@ -112,3 +117,16 @@ asked_keeps desk new hand d clock caller r (Ok reply) keeps started small store 
     })
 asked_keeps desk new hand d clock caller r (Err fault) keeps started small store replies adds same room =
     λ before kept. subst (λ (x : DeskState). StackKeeps before x hand d clock) (sym (same fault refl)) kept
+
+-- WHAT IS DUE
+module _ {D C : Type 0} (told : D → DeviceTold) (old : StackState D C) (desk : DeskState) (caller : ℕ) (r : Request) where
+  pub accepted_due : AcceptedAreDue → (result : Result Reply AskFault) → IfOk result (λ reply. Adds (Ask caller r reply) old.desk desk) → AcceptsDue told r result old (record old { desk = desk })
+  accepted_due law (Ok Accepted) adds = λ urgent. law old.desk desk old.hand (told old.device) caller r adds urgent
+  accepted_due law answer adds = tt
+
+  pub asked_due : AsksKeepDue → (result : Result Reply AskFault) → IfOk result (λ reply. reply ≡ reply_of old.desk.config old.desk.cap (state_of old.desk) r)
+      → IfOk result (λ reply. Adds (Ask caller r reply) old.desk desk) → ((fault : AskFault) → result ≡ Err fault → desk ≡ old.desk)
+      → IfSome (next_in old.desk.config (state_of old.desk).waiting) (IsPendingJob old.desk.config (state_of old.desk)) → KeepsDue (now_of told old) (now_of told (record old { desk = desk }))
+  asked_due law (Ok reply) replies adds same pending = λ number turns due. law old.desk desk old.hand (told old.device) caller r reply number turns adds replies pending due
+  asked_due law (Err fault) replies adds same pending =
+      λ number turns due. subst (λ (x : DeskState). IsDue number turns (now_of told (record old { desk = x }))) (sym (same fault refl)) due

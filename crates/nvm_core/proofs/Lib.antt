@@ -5,3 +5,6 @@ pub mod Stored
 pub mod StartUps
 pub mod Working
 pub mod Lowering
+pub mod Leaving
+pub mod Serving
+pub mod HandNumbers

@@ -6,6 +6,8 @@ ghost use Rattle.block_machine.specs.Reply.{fits, reply_of};
 ghost use Rattle.block_machine.specs.Legal.{HasStore};
 ghost use Rattle.nv_desk.specs.Desk.{state_of};
 ghost use Rattle.stack_turns.specs.Keeps.{StaysKept};
+ghost use Rattle.stack_bounds.specs.Calls.{KeepsDue};
+ghost use Rattle.nvm_core.specs.Due.{AcceptsDue, now_of};
 
 use crate::Stack;
 use hand_laws::hands_stay;
@@ -14,6 +16,7 @@ use memif::MemDevice;
 use nv_base::{Reply, Request};
 use nv_desk::AskFault;
 use ram_blocks::SyncCalls;
+use stack_bounds::asks_keep_due;
 use stack_laws::asks_keep;
 use std::alloc::Global;
 
@@ -30,11 +33,15 @@ impl<D: MemDevice, C: SyncCalls + Drop> Stack<D, C> {
         ensures err { OnErr result (self.new ≡ self.old) }
         ensures no_room { IsErrOf result AskFault.NoRoom ↔ fits self.old.desk.config self.old.desk.cap (state_of self.old.desk) 1 ≡ false }
         ensures keeps { StaysKept self.old.desk self.old.hand (D.told self.old.device) (D.clock self.old.device).first self.new.desk self.new.hand (D.told self.new.device) (D.clock self.new.device).first }
+        ensures accepted { AcceptsDue D.told request result self.old self.new }
+        ensures due { KeepsDue (now_of D.told self.old) (now_of D.told self.new) }
     {
         histories_grow();
         hands_stay();
         asks_keep(&self.device);
+        asks_keep_due();
         let _desc = self.front.desk.desc_in_hand();
+        let _next = self.front.desk.next_job();
         self.front.desk.ask(alloc, caller, request)
     }
 }

@@ -2,11 +2,14 @@
 ghost use Rattle.std.specs.Prelude.{◌≡◌};
 ghost use Rattle.memif.specs.Calls.{Arms};
 ghost use Rattle.stack_turns.specs.Keeps.{StaysKept};
+ghost use Rattle.stack_bounds.specs.Calls.{KeepsDue};
+ghost use Rattle.nvm_core.specs.Due.{now_of};
 
 use crate::Stack;
 use hand_laws::hands_stay;
 use memif::MemDevice;
 use ram_blocks::SyncCalls;
+use stack_bounds::asks_keep_due;
 use stack_laws::arm;
 
 impl<D: MemDevice, C: SyncCalls + Drop> Stack<D, C> {
@@ -16,8 +19,10 @@ impl<D: MemDevice, C: SyncCalls + Drop> Stack<D, C> {
         ensures arms { Arms which nth keep (D.told self.old.device) (D.clock self.old.device) (D.told self.new.device) (D.clock self.new.device) }
         ensures keeps { StaysKept self.old.desk self.old.hand (D.told self.old.device) (D.clock self.old.device).first self.new.desk self.new.hand (D.told self.new.device) (D.clock self.new.device).first }
         ensures only { self.new ≡ record self.old { device = self.new.device } }
+        ensures due { KeepsDue (now_of D.told self.old) (now_of D.told self.new) }
     {
         hands_stay();
+        asks_keep_due();
         arm(&mut self.device, which, nth, keep);
     }
 }

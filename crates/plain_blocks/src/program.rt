@@ -1,5 +1,5 @@
 // A job on one instance.
-ghost use Rattle.std.specs.Prelude.{◌≡◌, ◌≢◌, is_some};
+ghost use Rattle.std.specs.Prelude.{◌≡◌, ◌≢◌, ◌≤◌, length, is_some};
 ghost use Rattle.block_config.specs.declared.block.BlockKind.TheVariants as kind;
 ghost use Rattle.job_programs.specs.Program.{program_of, after, step_of};
 ghost use Rattle.plain_blocks.specs.declared.program.PlainProgram.TheInside.{Inside};
@@ -11,7 +11,7 @@ use nv_base::{Instance, JobKind, JobStep, Outcome};
 use std::marker::Model;
 
 /// Where a job stands: it needs no operation; it is at one, after so many failed tries; or that one is done.
-#[derive(Clone, Copy, Debug)]
+#[derive(Clone, Copy)]
 enum Stand {
     Needless,
     At { index: u8, failures: u8 },
@@ -40,7 +40,7 @@ impl Stand {
 }
 
 /// A job on a native block or a dataset. Contracts see what is done of it.
-#[derive(Debug, Drop)]
+#[derive(Drop)]
 pub struct PlainProgram {
     block: u16,
     job: JobKind,
@@ -90,6 +90,34 @@ impl PlainProgram {
     {
         self.stand = self.stand.behind(outcome, self.retries);
         self.step()
+    }
+
+    /// The failed tries of the operation that it is at, 0 where it is at none.
+    pub fn failures(&self) -> u8
+        ensures { result ≡ self.now.failures }
+    {
+        match self.stand {
+            Stand::At { failures, .. } => failures,
+            _ => 0,
+        }
+    }
+
+    /// How often an operation is tried again.
+    pub fn retries(&self) -> u8
+        ensures { result ≡ self.now.retries }
+    {
+        self.retries
+    }
+
+    /// On how many instances it works: one, or none where it needs no operation.
+    pub fn instances(&self) -> u8
+        ensures count { result ≡ length self.now.indices }
+        ensures within { result ≤ 1 }
+    {
+        match self.stand {
+            Stand::Needless => 0,
+            _ => 1,
+        }
     }
 
     fn step(&self) -> JobStep

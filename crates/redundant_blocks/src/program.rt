@@ -1,5 +1,5 @@
 // A job on two copies.
-ghost use Rattle.std.specs.Prelude.{◌≡◌, is_some};
+ghost use Rattle.std.specs.Prelude.{◌≡◌, ◌==◌, if◌then◌else◌, [], ◌∷◌, length, is_some};
 ghost use Rattle.block_config.specs.declared.block.BlockKind.TheVariants as kind;
 ghost use Rattle.job_programs.specs.Program.{program_of, after, step_of, operation};
 ghost use Rattle.nv_base.specs.declared.job.JobStep.TheVariants.{Device};
@@ -13,7 +13,7 @@ use std::marker::Model;
 
 /// Where a job stands: it needs no operation; it is at copy 0, after so many failed tries; copy 0 is done, and it is at
 /// copy 1, if it needs that; or both are done.
-#[derive(Clone, Copy, Debug)]
+#[derive(Clone, Copy)]
 enum Stand {
     Needless,
     AtFirst { failures: u8 },
@@ -59,7 +59,7 @@ impl Stand {
 }
 
 /// A job on a redundant block. Contracts see what is done of it.
-#[derive(Debug, Drop)]
+#[derive(Drop)]
 pub struct RedundantProgram {
     block: u16,
     job: JobKind,
@@ -105,6 +105,34 @@ impl RedundantProgram {
     {
         self.stand = self.stand.behind(outcome, self.job, self.retries);
         self.step()
+    }
+
+    /// The failed tries of the operation that it is at, 0 where it is at none.
+    pub fn failures(&self) -> u8
+        ensures { result ≡ self.now.failures }
+    {
+        match self.stand {
+            Stand::AtFirst { failures } | Stand::AtSecond { failures, .. } => failures,
+            _ => 0,
+        }
+    }
+
+    /// How often an operation is tried again.
+    pub fn retries(&self) -> u8
+        ensures { result ≡ self.now.retries }
+    {
+        self.retries
+    }
+
+    /// On how many instances it works: both copies, or none where it needs no operation.
+    pub fn instances(&self) -> u8
+        ensures count { result ≡ length self.now.indices }
+        ensures copies { self.now.indices ≡ (if result == 2 then 0 ∷ 1 ∷ [] else []) }
+    {
+        match self.stand {
+            Stand::Needless => 0,
+            _ => 2,
+        }
     }
 
     fn step(&self) -> JobStep

@@ -1,8 +1,10 @@
-use Rattle.std.proofs.Common.{◌≡◌, Bool, true, ap, sym, subst, ◌∙◌}
+use Rattle.std.proofs.Common.{◌≡◌, Bool, true, is_some, ap, sym, subst, ◌∙◌}
 use Rattle.block_machine.specs.Legal.{HasStore}
 use Rattle.stack_turns.specs.Keeps.{StaysKept}
-use Rattle.nvm_core.specs.Stack.{IsStack}
-use Rattle.nvm_core.proofs.Asked.{asked_keeps, asked_stack}
+use Rattle.stack_bounds.specs.Calls.{KeepsDue}
+use Rattle.nvm_core.specs.Stack.{IsStack, StackState}
+use Rattle.nvm_core.specs.Due.{AcceptsDue, now_of}
+use Rattle.nvm_core.proofs.Asked.{accepted_due, asked_due, asked_keeps, asked_stack}
 use Rattle.nvm_core.proofs.stack.Stack.ask.Goals as goal
 
 pub invariant_of-self : goal.invariant_of-self
@@ -26,3 +28,22 @@ returns-clause-keeps g c =
     (asked_keeps inside.front.desk c.ask.new.self inside.hand told clock c.args.caller c.args.request c.ask.result c.asks_keep.ensures
     (c.self.invariant.tied ready).started c.requires.caller (subst (λ s. HasStore s.desk.config c.args.request) (sym c.self.view_is) c.requires.store)
     c.ask.ensures.reply c.ask.ensures.ok (λ fault is. rw is at c.ask.ensures.err) c.ask.ensures.no_room)
+
+pub returns-clause-accepted : goal.returns-clause-accepted
+returns-clause-accepted g c =
+    let inside = c.self.inside in
+    let told = g.D.MemDevice.told in
+    let old : StackState g.row.D.Denot g.row.C.Denot =
+    record { desk = inside.front.desk; hand = inside.hand; device = inside.device; copies = inside.copies; ready = inside.ready; has_room = is_some inside.room } in
+    subst (λ (s : StackState g.row.D.Denot g.row.C.Denot). AcceptsDue told c.args.request c.ask.result s (record old { desk = c.ask.new.self })) c.self.view_is
+    (accepted_due told old c.ask.new.self c.args.caller c.args.request c.asks_keep_due.ensures.accepted c.ask.result c.ask.ensures.ok)
+
+pub returns-clause-due : goal.returns-clause-due
+returns-clause-due g c =
+    let inside = c.self.inside in
+    let told = g.D.MemDevice.told in
+    let old : StackState g.row.D.Denot g.row.C.Denot =
+    record { desk = inside.front.desk; hand = inside.hand; device = inside.device; copies = inside.copies; ready = inside.ready; has_room = is_some inside.room } in
+    subst (λ (s : StackState g.row.D.Denot g.row.C.Denot). KeepsDue (now_of told s) (now_of told (record old { desk = c.ask.new.self }))) c.self.view_is
+    (asked_due told old c.ask.new.self c.args.caller c.args.request c.asks_keep_due.ensures.stays c.ask.result c.ask.ensures.reply c.ask.ensures.ok (λ fault is. rw is at c.ask.ensures.err)
+    c.next_job-next.ensures.pending)

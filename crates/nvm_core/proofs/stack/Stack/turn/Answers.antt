@@ -4,13 +4,18 @@ use Rattle.stack_turns.specs.declared.turned.Act.TheVariants.{Device, Ended}
 use Rattle.block_config.specs.Rules.{IsLegalConfig}
 use Rattle.memif.specs.Told.{faults_of}
 use Rattle.nv_desk.specs.Desk.{state_of}
-use Rattle.nvm_core.specs.Work.{Lowers}
+use Rattle.stack_bounds.specs.Due.{StackNow}
+use Rattle.stack_bounds.specs.Calls.{TurnServesDue}
+use Rattle.nvm_core.specs.Due.{now_of}
+use Rattle.nvm_core.specs.Work.{Lowers, TakesTurns}
 use Rattle.nvm_core.specs.Stack.{IsStack, StackState}
 use Rattle.nvm_core.specs.Turns.{IsFirstHalf, IsSecondHalf, Turns}
-use Rattle.nvm_core.proofs.Turned.{adds_config, half_config, turned_stack}
+use Rattle.nvm_core.proofs.Turned.{adds_config, half_adds, half_config, never_worked, turned_stack}
+use Rattle.nvm_core.proofs.Leaving.{ended_takes, turn_takes}
+use Rattle.nvm_core.proofs.Serving.{nearer_by, served_by}
 use Rattle.nvm_core.proofs.Lowering.{device_lowers, ended_lowers, leaves_counts, none_in_hand, within}
 use Rattle.nvm_core.proofs.Powering.{half_powers, turn_powers}
-use Rattle.nvm_core.proofs.Working.{device_counts, device_takes, work_lowers}
+use Rattle.nvm_core.proofs.Working.{device_counts, work_lowers}
 use Rattle.nvm_core.proofs.stack.Stack.turn.Goals as goal
 
 pub invariant_of-self-in-Device : goal.invariant_of-self-in-Device
@@ -54,7 +59,7 @@ returns-in-Ended-clause-turns g c =
       device = c.in-Ended.ensures.device;
       started = c.in-Ended.ensures.started;
       lowers = c.in-Ended.ensures.lowers;
-      left = c.in-Ended.ensures.left;
+      at_device = c.in-Ended.ensures.at_device;
       tied = c.in-Ended.ensures.tied;
       sizes = c.in-Ended.ensures.sizes;
       refuses = c.in-Ended.ensures.refuses;
@@ -85,7 +90,7 @@ returns-in-Ended-clause-lowers g c =
     let new : StackState g.row.D.Denot g.row.C.Denot =
     record { desk = first.front.desk; hand = first.hand; device = first.device; copies = first.copies; ready = inside.ready; has_room = is_some inside.room } in
     subst (λ (s : StackState g.row.D.Denot g.row.C.Denot). Lowers g.D.MemDevice.told c.in-Ended.turned s new) c.self.view_is
-    (ended_lowers g.D.MemDevice.told old c.in-Ended.turned new c.in-Ended.ensures.lowers)
+    (ended_lowers g.D.MemDevice.told old c.in-Ended.turned new (λ is. never_worked c.in-Ended.turned _ _ _ _ _ _ _ is c.in-Ended.ensures.half) c.in-Ended.ensures.lowers)
 
 pub returns-in-Device-clause-turns : goal.returns-in-Device-clause-turns
 returns-in-Device-clause-turns g c =
@@ -107,7 +112,7 @@ returns-in-Device-clause-turns g c =
       device = before.device;
       started = before.started;
       lowers = before.lowers;
-      left = before.left;
+      at_device = before.at_device;
       tied = before.tied;
       sizes = before.sizes;
       refuses = before.refuses;
@@ -125,7 +130,6 @@ returns-in-Device-clause-turns g c =
       lowers = λ is. work_lowers c.device_turn-turned.result first.front.desk second.desk first.hand second.hand (told first.device) _ (told second.device) _ behind.turns
           c.turns_keep_figures.ensures.drain c.stack_works.ensures.entries (before.started refl) before.tied.paired behind.adds behind.hand
           (within second.desk _ _ c.history.ensures.entries c.history.ensures.cap c.len-count.ensures.within) small is;
-      left = λ is. device_takes c.device_turn-turned.result first.hand second.hand (told first.device) _ (told second.device) _ behind.turns c.turns_keep_figures.ensures.lower behind.hand is;
       copies = refl;
       ready = refl;
       has_room = refl;
@@ -168,3 +172,63 @@ returns-in-Device-clause-lowers g c =
     (λ is. work_lowers c.device_turn-turned.result first.front.desk second.desk first.hand second.hand (told first.device) _ (told second.device) _ behind.turns
     c.turns_keep_figures.ensures.drain c.stack_works.ensures.entries (before.started refl) before.tied.paired behind.adds behind.hand
     (within second.desk _ _ c.history.ensures.entries c.history.ensures.cap c.len-count.ensures.within) small is))
+
+pub returns-in-Ended-clause-left : goal.returns-in-Ended-clause-left
+returns-in-Ended-clause-left g c =
+    let first = c.first_half.new in
+    let inside = c.self.inside in
+    let old : StackState g.row.D.Denot g.row.C.Denot =
+    record { desk = inside.front.desk; hand = inside.hand; device = inside.device; copies = inside.copies; ready = inside.ready; has_room = is_some inside.room } in
+    let new : StackState g.row.D.Denot g.row.C.Denot =
+    record { desk = first.front.desk; hand = first.hand; device = first.device; copies = first.copies; ready = inside.ready; has_room = is_some inside.room } in
+    subst (λ (s : StackState g.row.D.Denot g.row.C.Denot). TakesTurns g.D.MemDevice.told c.in-Ended.turned s new) c.self.view_is
+    (ended_takes g.D.MemDevice.told old new c.in-Ended.turned _ _ _ _ c.in-Ended.ensures.half c.in-Ended.ensures.at_device c.in-Ended.ensures.left)
+
+pub returns-in-Ended-clause-due : goal.returns-in-Ended-clause-due
+returns-in-Ended-clause-due g c =
+    let first = c.first_half.new in
+    let inside = c.self.inside in
+    let told = g.D.MemDevice.told in
+    let ready : inside.ready ≡ true = ap (λ s. s.ready) c.self.view_is ∙ c.requires in
+    let half = half_adds (Ended c.in-Ended.turned) _ _ inside.front.desk first.front.desk _ _ _ c.in-Ended.ensures.half in
+    let old : StackNow = record { desk = inside.front.desk; hand = inside.hand; device = told inside.device } in
+    let new : StackNow = record { desk = first.front.desk; hand = first.hand; device = told first.device } in
+    subst (λ (s : StackState g.row.D.Denot g.row.C.Denot). TurnServesDue (now_of told s) new) c.self.view_is
+    (λ number turns calm due. served_by c.in-Ended.turned number turns old new _ _ _ _ _ (λ is. c.in-Ended.ensures.off (ap Ended is)) half calm
+    (c.halves_bring_nearer.ensures.first (Ended c.in-Ended.turned) inside.front.desk first.front.desk _ _ inside.hand first.hand (told inside.device) number turns
+    (λ is. c.left-left.ensures.order) half c.in-Ended.ensures.at_device (λ is. cc) (c.self.invariant.tied ready) c.in-Ended.ensures.tied due))
+
+pub returns-in-Device-clause-left : goal.returns-in-Device-clause-left
+returns-in-Device-clause-left g c =
+    let first = c.first_half.new in
+    let second = c.device_turn-turned.new in
+    let inside = c.self.inside in
+    let told = g.D.MemDevice.told in
+    let behind = c.device_turn-turned.ensures in
+    let before = c.in-Device.ensures in
+    let old : StackState g.row.D.Denot g.row.C.Denot =
+    record { desk = inside.front.desk; hand = inside.hand; device = inside.device; copies = inside.copies; ready = inside.ready; has_room = is_some inside.room } in
+    let between : StackState g.row.D.Denot g.row.C.Denot =
+    record { desk = first.front.desk; hand = first.hand; device = first.device; copies = first.copies; ready = inside.ready; has_room = is_some inside.room } in
+    let new : StackState g.row.D.Denot g.row.C.Denot =
+    record { desk = second.desk; hand = second.hand; device = second.device; copies = first.copies; ready = inside.ready; has_room = is_some inside.room } in
+    subst (λ (s : StackState g.row.D.Denot g.row.C.Denot). TakesTurns told c.device_turn-turned.result s new) c.self.view_is
+    (turn_takes told old new between _ _ before.at_device before.left (leaves_counts (told inside.device) (told first.device) before.device) c.turns_keep_figures.ensures.lower behind.hand
+    c.device_turn-turned.result behind.turns)
+
+pub returns-in-Device-clause-due : goal.returns-in-Device-clause-due
+returns-in-Device-clause-due g c =
+    let first = c.first_half.new in
+    let second = c.device_turn-turned.new in
+    let inside = c.self.inside in
+    let told = g.D.MemDevice.told in
+    let behind = c.device_turn-turned.ensures in
+    let before = c.in-Device.ensures in
+    let ready : inside.ready ≡ true = ap (λ s. s.ready) c.self.view_is ∙ c.requires in
+    let new : StackNow = record { desk = second.desk; hand = second.hand; device = told second.device } in
+    subst (λ (s : StackState g.row.D.Denot g.row.C.Denot). TurnServesDue (now_of told s) new) c.self.view_is
+    (λ number turns calm due. inr (nearer_by c.histories_grow.ensures.steps number turns (told inside.device) first.front.desk second.desk first.hand second.hand (told first.device) (told second.device) _ _
+    c.halves_bring_nearer-in-Device-2.ensures.second before.tied (before.started refl) before.half.1 behind.hand before.device calm.faultless calm.on
+    (c.halves_bring_nearer-in-Device.ensures.first Device inside.front.desk first.front.desk _ _ inside.hand first.hand (told inside.device) number turns
+    (λ is. cc) before.half before.at_device before.first (c.self.invariant.tied ready) before.tied due)
+    c.device_turn-turned.result behind.turns behind.adds))

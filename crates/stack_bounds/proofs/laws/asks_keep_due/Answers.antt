@@ -1,0 +1,11 @@
+use Rattle.stack_bounds.proofs.Asking.{accepted_are_due, asks_keep_due, plans_keep_due}
+use Rattle.stack_bounds.proofs.laws.asks_keep_due.Goals as goal
+
+pub returns-clause-accepted : goal.returns-clause-accepted
+returns-clause-accepted c = accepted_are_due c.histories_grow.ensures.steps c.histories_grow.ensures.counted c.the_next_job_goes_first.ensures.waits
+
+pub returns-clause-stays : goal.returns-clause-stays
+returns-clause-stays c = asks_keep_due c.histories_grow.ensures.steps c.histories_grow.ensures.counted c.hands_stay.ensures.blocks
+
+pub returns-clause-plans : goal.returns-clause-plans
+returns-clause-plans c = plans_keep_due

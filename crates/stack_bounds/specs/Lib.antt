@@ -1,0 +1,5 @@
+pub mod Due
+pub mod AtDevice
+pub mod Laws
+pub mod Calls
+pub mod Cases
