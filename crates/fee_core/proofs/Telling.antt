@@ -1,15 +1,14 @@
 -- What a device tells by its clock, and by that of its operations.
-use Rattle.std.proofs.Common.{◌≡◌, ◌⊎◌, inl, inr, ◌<◌, ◌↔◌, ℕ, Bool, true, false, if◌then◌else◌, ◌==◌, List, [], ◌∷◌, map, Result, refl}
-use Rattle.nv_base.specs.Count.{last_count}
+use Rattle.std.proofs.Common.{◌≡◌, inl, inr, ℕ, Bool, true, false, if◌then◌else◌, ◌==◌, List, [], ◌∷◌, map, Result, refl}
 use Rattle.nv_base.specs.declared.instance.DeviceNumber.{DeviceNumber}
 use Rattle.memif.specs.declared.answer.DeviceTurn.{DeviceTurn}
 use Rattle.memif.specs.declared.answer.DeviceTurn.TheVariants.{Idle, Worked, Off}
 use Rattle.memif.specs.declared.answer.StartFault.{StartFault}
 use Rattle.memif.specs.Told.{DeviceTold, Part, First, Second, Job, Stand, Open, Ended, no_figures, at_number}
-use Rattle.memif.specs.Clock.{SameClock, SamePart, FindsNow, Ticks, OtherStays}
-use Rattle.memif.specs.Calls.{InOrder, ClockStays, StartsUp, MayFail, JobTurns, Works, IsOff, IsCut, TurnsAs, Turns}
-use Rattle.device_clock.specs.Device.{Device, told_of}
-use Rattle.device_clock.specs.Clock.{clock_of, off_in_of}
+use Rattle.memif.specs.Clock.{SameClock, FindsNow, Ticks}
+use Rattle.memif.specs.Calls.{InOrder, ClockStays, StartsUp, MayFail, JobTurns, Works, TurnsAs, Turns}
+use Rattle.device_clock.specs.Device.{Device}
+use Rattle.device_clock.specs.Clock.{clock_of}
 use Rattle.device_figures.specs.Figures.{figures_for}
 use Rattle.fee_core.specs.Tells.{told_clock}
 

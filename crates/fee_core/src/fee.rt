@@ -85,13 +85,14 @@ fn unstarted<F: Flash, O: Origin>(
 
 impl<F: Flash, O: Origin> Fee<F, O> {
     ghost use Rattle.std.specs.Prelude.{◌≡◌, ◌≤◌, ℕ, Bool, [], IfOk, IfErr, IfSome, Err};
-    ghost use Rattle.nv_base.specs.Geometry.{IsLegal};
+    ghost use Rattle.nv_base.specs.Geometry.{IsLegal, sectors_of_bank};
     ghost use Rattle.fls_model.specs.Told.{changes_in};
     ghost use Rattle.fls_model.specs.Attach.{IsAttach};
     ghost use Rattle.device_bridge.specs.Bridge.{Bridges};
     ghost use Rattle.switch_room.specs.Space.{HasSpace};
     ghost use Rattle.fee_starts.specs.Made.{IsMadeOf, part_at};
     ghost use Rattle.memif.specs.Told.{First, figures_at};
+    ghost use Rattle.device_figures.specs.Figures.{fixed_for};
     ghost use Rattle.device_clock.specs.Device.{told_of};
     ghost use Rattle.device_clock.specs.Clock.{clock_of};
 
@@ -110,6 +111,7 @@ impl<F: Flash, O: Origin> Fee<F, O> {
         requires space { HasSpace numbers.now geometry 2 reserve }
         ensures made { IfOk result (λ f. IsMadeOf O.making O.entry f) }
         ensures parts { IfOk result (λ f. (n : ℕ) → (figures_at (told_of f).fixed n).part ≡ First) }
+        ensures fixed { IfOk result (λ f. (told_of f).fixed ≡ fixed_for geometry.page (sectors_of_bank geometry 2) numbers.now reserve) }
         ensures refused { IfErr result (λ e. IsAttach geometry (F.told flash) (Err e.0) (F.told e.1)) }
     {
         devices_are_made();

@@ -9,17 +9,17 @@ use Rattle.memif.specs.Told.{PartTold}
 use Rattle.memif.specs.Clock.{PartClock}
 use Rattle.memif.specs.Calls.{PowersUp}
 use Rattle.found_marks.specs.Found.{FailsToFind}
-use Rattle.fls_model.specs.Told.{Told, ToldBytes, Change, IfBothTold, bytes_now, changes_in}
+use Rattle.fls_model.specs.Told.{Told, ToldBytes, Change, IfBothTold, changes_in}
 use Rattle.fls_devices.specs.Cutter.{Cutting, OnlyCuts, cutting, told_cutting}
 use Rattle.device_bridge.specs.Bridge.{Making, Bridges}
-use Rattle.device_bridge.specs.FlashRun.{FlashRun, TellsBytes, IsChain}
+use Rattle.device_bridge.specs.FlashRun.{FlashRun, IsChain}
 use Rattle.device_bridge.specs.Image.{attached}
 use Rattle.device_clock.specs.Device.{Device, told_of}
 use Rattle.device_clock.specs.Clock.{clock_of}
 use Rattle.fee_starts.specs.Made.{IsMadeOf, part_at}
 use Rattle.cutter_bridge.specs.Laws.{DevicesBridge}
 use Rattle.cutter_bridge.specs.Unmade.{TellsWithin, CountsStayWithin}
-use Rattle.run_promise.specs.Run.{LeavesFlash, cap}
+use Rattle.run_promise.specs.Run.{cap}
 use Rattle.ram_blocks.specs.declared.plain_block.PlainBlock.{PlainBlock}
 use Rattle.ram_blocks.specs.Plain.{plain_blocks_of}
 use Rattle.nvm_core.specs.Stack.{StackState}
@@ -29,6 +29,7 @@ use Rattle.stack_turns.specs.declared.turned.FoundAnswer.TheVariants as found
 use Rattle.run_promise.specs.Promise.{making_of}
 use Rattle.flash_stacks.specs.declared.device.MakeFault.{MakeFault}
 use Rattle.flash_stacks.specs.declared.device.MakeFault.TheVariants.{Flash, Memory}
+use Rattle.flash_stacks.specs.Turns.{fixed_by}
 use Rattle.flash_stacks.specs.Made.{IsOrigin, IsCause, ComesBack, IsBack, AreOfFirst, IsMadeStack}
 
 none_made : (n : ℕ) (xs : List Change) → n ≡ length xs → min n last_count ≡ 0 → xs ≡ []
@@ -129,11 +130,12 @@ failed_back c inner cuts making entry exit d e origin made fails back =
 
 -- a stack that was made of such a device
 pub made_stack : (c : Configuration) (making : Making) (entry : Told) (s : StackState Device (List PlainBlock)) (d : Device) (copies : List PlainBlock)
-    → s ≡ record { desk = record { config = c; cap = cap; entries = []; prepared = 0 }; hand = None; device = d; copies = copies; ready = false; has_room = true } → IsMadeOf making entry d → AreOfFirst d → copies ≡ plain_blocks_of c
+    → s ≡ record { desk = record { config = c; cap = cap; entries = []; prepared = 0 }; hand = None; device = d; copies = copies; ready = false; has_room = true } → IsMadeOf making entry d → AreOfFirst d → (told_of d).fixed ≡ fixed_by c → copies ≡ plain_blocks_of c
     → IsMadeStack c making entry s
-made_stack c making entry s d copies same made parts is = record {
+made_stack c making entry s d copies same made parts fixed is = record {
   device = subst (λ (x : Device). IsMadeOf making entry x) own made;
   parts = subst AreOfFirst own parts;
+  fixed = subst (λ (x : Device). (told_of x).fixed ≡ fixed_by c) own fixed;
   only =
       subst (λ (x : Device). s ≡ record { desk = record { config = c; cap = cap; entries = []; prepared = 0 }; hand = None; device = x; copies = plain_blocks_of c; ready = false; has_room = true }) own
       (subst (λ (xs : List PlainBlock). s ≡ record { desk = record { config = c; cap = cap; entries = []; prepared = 0 }; hand = None; device = d; copies = xs; ready = false; has_room = true }) is same);

@@ -1,17 +1,16 @@
 -- The synchronized blocks of a configuration are the application's.
-use Rattle.std.specs.Prelude.{option_map, unwrap_or, slice_get, All, max}
-use Rattle.std.proofs.Common.{◌≡◌, ◌≤◌, ◌<◌, ◌+◌, ◌==◌, ◌⊎◌, ℕ, zero, suc, Bool, true, false, List, [], ◌∷◌, map, length, replicate, get_or, Option, Some, None, if◌then◌else◌, refl, sym, ap, ◌∙◌, subst, inl, inr, arith}
+use Rattle.std.specs.Prelude.{option_map, unwrap_or, slice_get}
+use Rattle.std.proofs.Common.{◌≡◌, ◌≤◌, ◌==◌, ℕ, zero, suc, Bool, true, false, List, [], ◌∷◌, map, length, replicate, get_or, Option, Some, None, if◌then◌else◌, refl, sym, ap, ◌∙◌, subst, inl, inr, arith}
 use Rattle.std.proofs.lemmas.Bool.{cases_Bool, eqb-true}
 use Rattle.std.proofs.lemmas.List.{length-replicate}
 use Rattle.block_config.specs.declared.block.BlockDesc.{BlockDesc}
 use Rattle.block_config.specs.Block.{plain_block}
-use Rattle.block_config.specs.Config.{Configuration, block_of}
+use Rattle.block_config.specs.Config.{Configuration}
 use Rattle.block_config.specs.declared.block.BlockKind.{BlockKind}
 use Rattle.block_config.specs.declared.block.BlockKind.TheVariants.{Native, Redundant, Dataset}
 use Rattle.block_config.specs.Rules.{IsLegalConfig, IsLegalBlock, AreBlocks, AreDefaults}
 use Rattle.std.proofs.lemmas.Option.{get_or_from_slice_get, slice_get_within}
-use Rattle.block_machine.specs.Blocks.{desc_of, is_synchronized}
-use Rattle.ram_blocks.specs.Told.{Told, IsSynchronized, told_at}
+use Rattle.block_machine.specs.Blocks.{is_synchronized}
 use Rattle.ram_blocks.specs.Plain.{told_of, plain_of, plain_blocks_of, fresh_block, no_plain}
 use Rattle.ram_blocks.specs.declared.plain_block.PlainBlock.{PlainBlock}
 use Rattle.nv_front.specs.Front.{AreSynchronized}

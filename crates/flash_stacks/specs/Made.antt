@@ -1,5 +1,5 @@
 -- A stack over a flash, from its making on.
-use Rattle.std.specs.Prelude.{◌≡◌, ◌≢◌, ◌≤◌, ◌⊎◌, ℕ, false, true, List, [], length, IfSome, None}
+use Rattle.std.specs.Prelude.{◌≡◌, ◌≢◌, ◌≤◌, ℕ, false, true, List, [], length, IfSome, None}
 use Rattle.nv_base.specs.Count.{Rose}
 use Rattle.nv_base.specs.Geometry.{size_of}
 use Rattle.block_config.specs.Config.{Configuration}
@@ -17,6 +17,7 @@ use Rattle.ram_blocks.specs.Plain.{plain_blocks_of}
 use Rattle.run_promise.specs.Run.{cap, LeavesFlash}
 use Rattle.run_promise.specs.Promise.{making_of}
 use Rattle.nvm_core.specs.Stack.{StackState}
+use Rattle.flash_stacks.specs.Turns.{fixed_by}
 use Rattle.flash_stacks.specs.declared.device.MakeFault.{MakeFault}
 use Rattle.flash_stacks.specs.declared.device.MakeFault.TheVariants.{WrongSize, Flash, Memory}
 
@@ -65,6 +66,7 @@ AreOfFirst d = (n : ℕ) → (figures_at (told_of d).fixed n).part ≡ First
 pub record IsMadeStack (c : Configuration) (making : Making) (entry : Told) (s : StackState Device (List PlainBlock)) : Type 0 where
   pub device : IsMadeOf making entry s.device
   pub parts : AreOfFirst s.device
+  pub fixed : (told_of s.device).fixed ≡ fixed_by c
   pub only : s ≡ record {
     desk = record { config = c; cap = cap; entries = []; prepared = 0 };
     hand = None;

@@ -1,8 +1,10 @@
 // The device.
 ghost use Rattle.std.specs.Prelude.{◌≡◌, IfErr, IfOk};
 ghost use Rattle.block_config.specs.Rules.{IsLegalConfig};
+ghost use Rattle.device_clock.specs.Device.{told_of};
 ghost use Rattle.fee_starts.specs.Made.{IsMadeOf};
 ghost use Rattle.flash_stacks.specs.Made.{AreOfFirst, ComesBack, IsOrigin, fault_of};
+ghost use Rattle.flash_stacks.specs.Turns.{fixed_by};
 
 use block_config::Config;
 use cutter_bridge::flash_stays;
@@ -12,7 +14,7 @@ use fls_model::{AttachFault, Flash};
 use std::alloc::Global;
 
 /// Why a stack isn't made or started: its flash has a wrong size in bytes, or failed by a counted fault, or want of memory.
-#[derive(Clone, Copy, Debug, PartialEq, Eq)]
+#[derive(Clone, Copy, PartialEq, Eq)]
 pub enum MakeFault {
     WrongSize { found: u64 },
     Flash,
@@ -29,6 +31,7 @@ pub fn make_device<F: Flash, O: Origin>(
     requires { IsOrigin config.now (F.told flash) cuts O.making O.entry }
     ensures made { IfOk result (λ d. IsMadeOf O.making O.entry d) }
     ensures parts { IfOk result AreOfFirst }
+    ensures fixed { IfOk result (λ d. (told_of d).fixed ≡ fixed_by config.now) }
     ensures legal { IsLegalConfig config.now }
     ensures stopped { IfErr result (λ e. ComesBack config.now e.0 (F.told flash) (F.told e.1)) }
 {

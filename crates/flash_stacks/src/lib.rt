@@ -6,9 +6,11 @@
 #![tactic(auto)]
 
 mod back;
+mod cases;
 mod device;
 mod stack;
 
 pub use back::give_back;
+pub use cases::turns_of_jobs;
 pub use device::{MakeFault, make_device};
 pub use stack::{FlashStack, make_stack, start_stack};

@@ -10,8 +10,9 @@ use Rattle.nv_base.specs.declared.geometry.Geometry.{Geometry}
 use Rattle.block_config.specs.Config.{Configuration}
 use Rattle.block_config.specs.Rules.{IsLegalConfig}
 use Rattle.block_machine.specs.Words.{Entry, Found}
+use Rattle.block_machine.specs.State.{State, Job}
 use Rattle.block_machine.specs.Steps.{after}
-use Rattle.memif.specs.Told.{PartTold, First, ops_of}
+use Rattle.memif.specs.Told.{PartTold, Fixed, First, ops_of}
 use Rattle.memif.specs.Calls.{InOrder}
 use Rattle.fls_model.specs.Told.{Told, ToldBytes, Change, IfBothTold, bytes_now}
 use Rattle.fls_devices.specs.Cutter.{cutting, told_cutting}
@@ -43,6 +44,9 @@ use Rattle.played_stacks.specs.Told.{told_by, plan_of, untold_of}
 use Rattle.played_stacks.specs.Kept.{IsKept}
 use Rattle.flash_stacks.specs.declared.device.MakeFault.{MakeFault}
 use Rattle.flash_stacks.specs.declared.device.MakeFault.TheVariants as fault
+use Rattle.hand_laws.specs.Hands.{program_for}
+use Rattle.turn_figures.specs.Left.{most_turns}
+use Rattle.flash_stacks.specs.Turns.{fixed_by}
 use Rattle.flash_stacks.specs.Made.{IsOrigin, IsMadeStack, AreOfFirst, ComesBack, IsBack}
 use Rattle.nvm_top.specs.Machine.{IsStarted, StartsWell, StopsAtStart, Vouches}
 use Rattle.nvm_top.specs.Machine.{run_of}
@@ -159,6 +163,9 @@ pub started : (c : Configuration) (inner : Told) (cuts : ℕ) (making : Making) 
 started c inner cuts making entry m s origin made starts = record {
   configuration = config;
   most = ap (λ x. x.desk.cap) starts.only ∙ ap (λ x. x.desk.cap) made.only;
+  turns =
+      ap (λ (f : Fixed). λ (x : State) (j : Job). most_turns f (program_for s.desk.config x j)) (starts.finds.up.restarted.fixed ∙ made.fixed)
+      ∙ ap (λ (y : Configuration). λ (x : State) (j : Job). most_turns (fixed_by c) (program_for y x j)) config;
   fresh = record {
     ready = ap (λ x. x.ready) starts.only;
     marks = starts.marks;

@@ -1,3 +1,4 @@
+pub mod Complete
 pub mod Cuts
 pub mod Driven
 pub mod Dumps

@@ -44,6 +44,7 @@ use Rattle.nvm_top.specs.Promised.{played_call, HasRun, RunsAs, WritesText, HasP
 use Rattle.nvm_top.specs.Runs as ends
 use Rattle.nvm_top.specs.Stop.{status_of, line_of, IsStop}
 use Rattle.nvm_top.proofs.PlayLemmas.{Rose-after, report-by}
+use Rattle.nvm_top.proofs.Complete.{early_complete, walked_complete}
 use Rattle.nvm_top.proofs.Printing.{prefix-longer}
 use Rattle.nvm_top.proofs.Texts.{all_prefix, text_alone}
 
@@ -83,7 +84,7 @@ early_has c steps Tells entry exit stop end stops ends tells = record {
   ends = tells;
   keeps =
       let promise = early_promise c steps entry exit stop end stops ends in
-      record { order = promise.order; refusals = promise.refusals; off = promise.off; promise = λ told sound. promise };
+      record { order = promise.order; refusals = promise.refusals; off = promise.off; complete = early_complete c steps entry exit end promise.order; promise = λ told sound. promise };
 }
 
 -- WHAT IS TOLD OF A RUN
@@ -245,6 +246,7 @@ has_run Kept c cuts all made left end before old t entry exit Tells started walk
     order = order;
     refusals = refusals;
     off = v.cuts (unpaid_offs None 0 made walked.pieces) off;
+    complete = walked_complete made left end before old t entry exit v.operations started walked same v.faults order;
     promise = λ told sound. v.promise (keeps (well told sound)) made left walked.pieces end order refusals off;
   };
 }

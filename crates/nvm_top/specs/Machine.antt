@@ -12,6 +12,7 @@ use Rattle.run_promise.specs.Run.{Run, Course, Played, End, cap, HasOrder, Leave
 use Rattle.run_promise.specs.Promise.{Promise}
 use Rattle.stack_steps.specs.Told.{StackTold}
 use Rattle.stack_steps.specs.Made.{IsFresh}
+use Rattle.flash_stacks.specs.Turns.{job_turns}
 use Rattle.nvm_top.specs.declared.stop.Stop.{Stop}
 use Rattle.nvm_top.specs.Play.{IsAttachStop, IsStepsEnd}
 use Rattle.nvm_top.specs.Stop.{status_of}
@@ -25,6 +26,7 @@ run_of c h entry exit operations course end =
 pub record IsStarted (c : Configuration) (cuts : ℕ) (before : PartTold) (t : StackTold) : Type 0 where
   pub configuration : t.configuration ≡ c
   pub most : t.cap ≡ cap
+  pub turns : t.most ≡ job_turns c
   pub fresh : IsFresh t
   pub takes : cuts ≤ t.causes.takes
   pub faults : before.faults ≤ t.faults

@@ -12,11 +12,13 @@ use Rattle.run_promise.specs.Run.{Run, End, Whole, Memory, HasOrder, RefusalsExp
 use Rattle.nv_base.specs.Count.{WereCounted}
 use Rattle.device_bridge.specs.FlashRun.{TellsBytes, StartsSound}
 use Rattle.run_promise.specs.Promise.{Promise}
+use Rattle.run_promise.specs.Completeness.{Completeness}
 use Rattle.run_promise.specs.Call.{Call, IsCourseOf, IsRunOf, status_of_end, last_line}
 use Rattle.nvm_top.specs.declared.status.Status.{Status}
 use Rattle.nvm_top.specs.declared.status.Status.TheVariants as status
 use Rattle.nvm_top.specs.Ends.{HasPlayable}
 use Rattle.flash_stacks.specs.Made.{LeavesAlone}
+use Rattle.flash_stacks.specs.Turns.{job_turns}
 use Rattle.nvm_top.specs.Status.{code_of_status}
 
 -- a call of `play`
@@ -26,12 +28,14 @@ played_call input x entry exit written written' =
 
 -- A RUN
 
--- What a run keeps over any flash: it follows its script, which explains its refused copies and its power cuts. Over a flash
--- that tells its bytes, from a sound image on, it keeps the promise.
+-- What a run keeps over any flash: it follows its script, which explains its refused copies and its power cuts; and where
+-- nothing fails each job in hand is posted within its turns, and a drain leaves nothing pending. Over a flash that tells its
+-- bytes, from a sound image on, it keeps the promise.
 pub record KeepsRun (r : Run) : Type 0 where
   pub order : HasOrder r r.history
   pub refusals : (id : ℕ) → RefusalsExplain r.configuration r.course r.history id
   pub off : WereCounted (offs_of_flash r.course r.history) r.flash.entry.cuts r.flash.exit.cuts
+  pub complete : Completeness (job_turns r.configuration) r r.course
   pub promise : TellsBytes r.flash → StartsSound r.configuration.geometry r.flash → Promise r
 
 -- THE WHOLE CALL

@@ -7,7 +7,7 @@ use std::alloc::{AllocError, Global};
 
 /// Why a command stops: its words are of no command, its first line breaks a rule, a line is no step, its input failed
 /// or is too long or isn't served, the flash failed or has a wrong size, the history has no room, or want of memory.
-#[derive(Clone, Copy, Debug, PartialEq, Eq)]
+#[derive(Clone, Copy, PartialEq, Eq)]
 pub enum Stop {
     BadWords,
     BadConfig { rule: u8, block: u16 },

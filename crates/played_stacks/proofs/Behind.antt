@@ -15,6 +15,7 @@ use Rattle.ram_blocks.specs.declared.plain_block.PlainBlock.{PlainBlock}
 use Rattle.ram_blocks.specs.Plain.{told_of, store_of}
 use Rattle.nv_desk.specs.Desk.{DeskState, state_of}
 use Rattle.turn_laws.specs.Turn.{settled_by, wrote_by}
+use Rattle.hand_laws.specs.Hands.{IsPaired}
 use Rattle.stack_turns.specs.Turns.{AddsBy}
 use Rattle.stack_turns.specs.declared.turned.Turned.{Turned}
 use Rattle.stack_turns.specs.declared.turned.Turned.TheVariants as turned
@@ -27,9 +28,10 @@ use Rattle.stack_steps.specs.Calls.{Turns, IsAnswer, Lowers}
 use Rattle.block_machine.specs.Prices.{block_price}
 use Rattle.played_walks.specs.Turn.{IsOfTurn}
 use Rattle.played_stacks.specs.Told.{told_by, refusable_in, untold_of, plan_in, unplanned_in}
-use Rattle.played_stacks.proofs.Devices.{Goes, goes_from, turn_goes, plan_same, unplanned_same, off_counted}
+use Rattle.played_stacks.proofs.Devices.{Goes, goes_from, turn_goes, turn_fixed, plan_same, unplanned_same, off_counted}
 use Rattle.played_stacks.proofs.Picks.{due_hand, due_rest, at_rest}
 use Rattle.played_stacks.proofs.Refused.{fewer, wrote_untold}
+use Rattle.played_stacks.proofs.Serving.{IsServing, off_serves, work_serves}
 use Rattle.played_stacks.proofs.Turning.{same_stores, grown, none_more, one_more, explained, none_off, one_price, begins_late}
 use Rattle.played_stacks.proofs.Halves.{are_told, is_now, IsBehind}
 
@@ -92,6 +94,9 @@ module _ {D : Type 0} (device : D → DeviceTold) (clock : D → Clock) (steps :
     ready : new.ready ≡ old.ready
     ready = second.ready ∙ half.ready
 
+    fixed : (device new.device).fixed ≡ (device old.device).fixed
+    fixed = turn_fixed answer (device between.device) (device new.device) (clock between.device) (clock new.device) second.turns ∙ ap (λ (d : DeviceTold). d.fixed) half.device
+
     -- with a hand that has no more to tell of
     less : (id : ℕ) (h : Option Job) → untold_of id h ≡ untold_of id (state_of old.desk).hand
         → refusable_in (map told_of new.copies) h id ≤ refusable_in (map told_of old.copies) (state_of old.desk).hand id
@@ -99,11 +104,12 @@ module _ {D : Type 0} (device : D → DeviceTold) (clock : D → Clock) (steps :
         (fewer (map told_of old.copies) (map told_of between.copies) half.refuses id (state_of old.desk).hand h (omega (arith, same)))
 
     -- it adds nothing
-    idle : new.desk ≡ between.desk → IsAnswer answer [] (told_by device old) → Lowers answer (told_by device old) (told_by device new) → Turns answer (told_by device old) (told_by device new)
-    idle same answers lowers =
+    idle : new.desk ≡ between.desk → IsAnswer answer [] (told_by device old) (told_by device new) → Lowers answer (told_by device old) (told_by device new) → IsServing device old new []
+        → Turns answer (told_by device old) (told_by device new)
+    idle same answers lowers serves =
         let desk = same ∙ same_desk in record {
           entries = [];
-          grows = grown device old new [] (none_more old.desk new.desk desk) stores ready;
+          grows = grown device old new [] (none_more old.desk new.desk desk) stores ready fixed;
           counted = behind.counted;
           turn = record { entry = tt; begins = begins_late (state_of old.desk) [] late };
           explained = explained device old new [] goes
@@ -111,6 +117,7 @@ module _ {D : Type 0} (device : D → DeviceTold) (clock : D → Clock) (steps :
               (none_off _ _ goes.unplanned);
           answers = answers;
           lowers = lowers;
+          serves = serves;
         }
 
     adds : (e : Entry) → new.desk ≡ record between.desk { entries = between.desk.entries ++ e ∷ [] } → new.desk ≡ record old.desk { entries = old.desk.entries ++ e ∷ [] }
@@ -121,11 +128,12 @@ module _ {D : Type 0} (device : D → DeviceTold) (clock : D → Clock) (steps :
         → ((id : ℕ) → (block_price id (state_of old.desk) e ≡ 0) × (untold_of id (step old.desk.config (state_of old.desk) e).hand ≡ untold_of id (state_of old.desk).hand))
         → IsOfTurn old.desk.config (state_of old.desk) (map store_of old.copies) e
         → WereCounted (sum_by (unpaid_off (plan_in (device old.device))) (e ∷ [])) (unplanned_in (device old.device)) (unplanned_in (device new.device))
-        → IsAnswer answer (e ∷ []) (told_by device old) → Lowers answer (told_by device old) (told_by device new) → Turns answer (told_by device old) (told_by device new)
-    adds_one e is stays turn off answers lowers =
+        → IsAnswer answer (e ∷ []) (told_by device old) (told_by device new) → Lowers answer (told_by device old) (told_by device new) → IsServing device old new (e ∷ [])
+        → Turns answer (told_by device old) (told_by device new)
+    adds_one e is stays turn off answers lowers serves =
         let desk = adds e is in record {
           entries = e ∷ [];
-          grows = grown device old new (e ∷ []) desk stores ready;
+          grows = grown device old new (e ∷ []) desk stores ready fixed;
           counted = behind.counted;
           turn = record { entry = turn; begins = begins_late (state_of old.desk) (e ∷ []) late };
           explained = explained device old new (e ∷ []) goes
@@ -134,6 +142,7 @@ module _ {D : Type 0} (device : D → DeviceTold) (clock : D → Clock) (steps :
               (let price = (stays id).0 in let few = less id (step old.desk.config (state_of old.desk) e).hand (stays id).1 in omega (arith, price, few))) off;
           answers = answers;
           lowers = lowers;
+          serves = serves;
         }
 
   -- the job's Wrote, or nothing
@@ -141,8 +150,15 @@ module _ {D : Type 0} (device : D → DeviceTold) (clock : D → Clock) (steps :
   worked second behind = by (settled_by (device between.device).stand (device new.device).stand (ops_of (device new.device))) second.adds
       (settled_is (device between.device).stand (device new.device).stand (ops_of (device new.device)))
     where
+      serves : (es : List Entry) → new.desk.config ≡ old.desk.config → IsServing device old new es
+      serves es config = work_serves device old new es between.hand (device between.device) behind.tied.paired
+          (subst (λ (x : DeskState). IsPaired x.config (state_of x) between.hand (device between.device)) same_desk half.tied.paired) behind.tied_behind.paired
+          config second.hand (fixed turned.Worked second behind) behind.takes
+
       by : (e : Option Entry) → AddsBy e between.desk new.desk → IsSettled e (ops_of (device new.device)) → Turns turned.Worked (told_by device old) (told_by device new)
-      by e adds (inl none) = idle turned.Worked second behind (subst (λ (o : Option Entry). AddsBy o between.desk new.desk) none adds) (λ hand. (refl, rests hand)) behind.lowers
+      by e adds (inl none) =
+          let same = subst (λ (o : Option Entry). AddsBy o between.desk new.desk) none adds in
+          idle turned.Worked second behind same (λ hand. (refl, rests hand)) behind.lowers (serves [] (ap (λ (x : DeskState). x.config) (same ∙ same_desk)))
       by e adds (inr (i, mark, some)) =
           let wrote = subst (λ (o : Option Entry). AddsBy o between.desk new.desk) some adds in
           let may = subst (λ (x : DeskState). MayWrite x.config (state_of x) i mark (state_of x).hand) same_desk wrote.1.1 in
@@ -150,6 +166,7 @@ module _ {D : Type 0} (device : D → DeviceTold) (clock : D → Clock) (steps :
           (λ id. (refl, wrote_untold old.desk.config (state_of old.desk) i mark (ops_of (device new.device)) id)) tt
           (none_off _ _ (goes turned.Worked second behind).unplanned)
           (λ hand. absurd (subst (λ (h : Option Job). MayWrite old.desk.config (state_of old.desk) i mark h) hand may)) behind.lowers
+          (serves (Wrote i mark (ops_of (device new.device)) ∷ []) (ap (λ (x : DeskState). x.config) wrote.0 ∙ ap (λ (x : DeskState). x.config) same_desk))
 
   -- an Off
   went_off : PowersOff old.desk (device old.device) → IsSecondHalf device clock turned.Off between new → IsBehind device turned.Off old new → Turns turned.Off (told_by device old) (told_by device new)
@@ -161,6 +178,8 @@ module _ {D : Type 0} (device : D → DeviceTold) (clock : D → Clock) (steps :
       (unplanned_same (device old.device) (device between.device) one two)
       (one_off (off_counted (device between.device) (device new.device) (clock between.device) (clock new.device) second.turns (on (is_off (device old.device)) refl)))))
       refl tt
+      (off_serves device old new (Off (ops_of (device new.device)) ∷ [])
+      (ap (λ (x : State). x.off) (one_more steps old.desk new.desk (Off (ops_of (device new.device))) (adds turned.Off second behind (Off (ops_of (device new.device))) second.adds.0))))
     where
       on : (t : Bool) → is_off (device old.device) ≡ t → is_off (device between.device) ≡ false
       on true off = absurd (false_true half.half.2 (power off))

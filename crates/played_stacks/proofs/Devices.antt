@@ -1,8 +1,8 @@
 -- A turn of the device: what becomes of its plans of power cuts.
 use Rattle.std.specs.Prelude.{◌||◌, min, is_some, if◌then◌else◌}
-use Rattle.std.proofs.Common.{◌≡◌, ◌≤◌, ◌+◌, ℕ, Bool, true, false, Option, Some, None, refl, sym, ap, subst, inl, inr, arith}
+use Rattle.std.proofs.Common.{◌≡◌, ◌≤◌, ◌+◌, ℕ, Bool, true, false, Option, Some, None, refl, sym, ap, ◌∙◌, subst, inl, inr, arith}
 use Rattle.nv_base.specs.Count.{WereCounted}
-use Rattle.memif.specs.Told.{DeviceTold, PartTold, Part, First, Second, part_at, ops_of, is_off}
+use Rattle.memif.specs.Told.{DeviceTold, PartTold, Part, First, Second, part_at, with_part, ops_of, is_off}
 use Rattle.memif.specs.Clock.{Clock}
 use Rattle.memif.specs.Calls.{PartTurns, Works, IsCut}
 use Rattle.block_machine.specs.Words.{Off}
@@ -129,6 +129,22 @@ turn_goes turned.Off old new clock clock_new turns = elim turns.0.1.1 [
 ]
 turn_goes turned.Picked old new clock clock_new turns = absurd turns
 turn_goes turned.Posted old new clock clock_new turns = absurd turns
+
+-- WHAT NEVER CHANGES
+
+part_fixed : (p : Part) (q : PartTold) (d : DeviceTold) → (with_part p q d).fixed ≡ d.fixed
+part_fixed First q d = refl
+part_fixed Second q d = refl
+
+pub turn_fixed : (answer : Turned) (old new : DeviceTold) (clock clock_new : Clock) → TurnsDevice answer old clock new clock_new → new.fixed ≡ old.fixed
+turn_fixed turned.Idle old new clock clock_new turns = ap (λ (d : DeviceTold). d.fixed) turns.0.1
+turn_fixed turned.Worked old new clock clock_new turns = let p = turns.0.1.0 in ap (λ (d : DeviceTold). d.fixed) turns.0.1.1.only ∙ part_fixed p (part_at p new) old
+turn_fixed turned.Off old new clock clock_new turns = elim turns.0.1.1 [
+  | inl off ↦ ap (λ (d : DeviceTold). d.fixed) off.2
+  | inr cut ↦ let p = turns.0.1.0 in ap (λ (d : DeviceTold). d.fixed) cut.0.only ∙ part_fixed p (part_at p new) old
+]
+turn_fixed turned.Picked old new clock clock_new turns = absurd turns
+turn_fixed turned.Posted old new clock clock_new turns = absurd turns
 
 -- A CUT
 

@@ -1,6 +1,6 @@
 -- A turn that is its first half alone.
-use Rattle.std.specs.Prelude.{map}
-use Rattle.std.proofs.Common.{◌≡◌, ◌<◌, ◌≤◌, ℕ, Bool, true, false, List, [], ◌∷◌, ◌++◌, get_or, Option, Some, None, refl, sym, ap, ◌∙◌, subst, inl, inr, arith}
+use Rattle.std.specs.Prelude.{map, not}
+use Rattle.std.proofs.Common.{◌≡◌, ◌<◌, ◌≤◌, ℕ, Bool, true, false, List, [], ◌∷◌, ◌++◌, get_or, Option, None, refl, sym, ap, ◌∙◌, subst, inl, inr, arith}
 use Rattle.nv_base.specs.Count.{last_count, WereCounted}
 use Rattle.memif.specs.Told.{DeviceTold, faults_of, ops_of}
 use Rattle.block_machine.specs.Words.{ReqResult, Entry, Pick, Post}
@@ -16,7 +16,10 @@ use Rattle.copy_tries.specs.Tries.{OnlyRefuses}
 use Rattle.nv_desk.specs.Desk.{DeskState, state_of}
 use Rattle.nv_front.specs.Posts.{IsHandedOver, IsPosted, IsPostedNext}
 use Rattle.nv_front.specs.declared.post.Posted.{Posted}
+use Rattle.job_hands.specs.Hand.{HandState}
+use Rattle.hand_laws.specs.Hands.{IsPaired}
 use Rattle.stack_turns.specs.Halves.{AddsPost}
+use Rattle.stack_turns.specs.Ties.{IsTied}
 use Rattle.stack_turns.specs.declared.turned.Turned.{Turned}
 use Rattle.stack_turns.specs.declared.turned.Turned.TheVariants as turned
 use Rattle.stack_turns.specs.declared.turned.Act.TheVariants.{Ended}
@@ -28,8 +31,9 @@ use Rattle.played_walks.specs.Turn.{TakesNewest, copies_next}
 use Rattle.stack_steps.specs.Calls.{Turns, IsAnswer, Lowers}
 use Rattle.played_stacks.specs.Told.{told_by, untold_of, IfCopied, AreWithin}
 use Rattle.played_stacks.proofs.Devices.{goes_same, unplanned_same}
-use Rattle.played_stacks.proofs.Picks.{newest, counted, due_off, due_hand, due_rest, at_rest}
+use Rattle.played_stacks.proofs.Picks.{newest, counted, due_off, due_rest, at_rest}
 use Rattle.played_stacks.proofs.Refused.{IsOn, fewer, pick_keeps, post_keeps}
+use Rattle.played_stacks.proofs.Serving.{IsServing, off_serves, rest_serves, pick_serves, post_serves}
 use Rattle.played_stacks.proofs.Turning.{same_stores, grown, none_more, one_more, explained, none_off, one_price, begins_by, begins_late}
 
 -- what is told of the application, and the newest store of a block
@@ -96,18 +100,22 @@ pub record IsBehind {D : Type 0} (device : D → DeviceTold) (answer : Turned) (
   pub power : PowersOff new.desk (device new.device)
   pub counted : faults_of (device old.device) ≤ faults_of (device new.device)
   pub lowers : work.Lowers device answer old new
+  pub takes : work.TakesTurns device answer old new
+  pub tied : IsTied old.desk old.hand (device old.device)
+  pub tied_behind : IsTied new.desk new.hand (device new.device)
   pub small : (id : ℕ) → most_of (map told_of new.copies) id < last_count
   pub within : (h : List Entry) (e : Entry) → new.desk.entries ≡ h ++ e ∷ [] → IfCopied e (AreWithin new.copies)
 
 module _ {D : Type 0} (device : D → DeviceTold) (steps : HistoriesStep) (waits : NoneWaits) (old new : StackState D (List PlainBlock)) where
   -- nothing is added
   quiet : (answer : Turned) → IsFirstHalf device are_told is_now (Ended answer) old new → IsBehind device answer old new → new.desk ≡ old.desk → is_due (state_of old.desk) ≡ false
-      → IsAnswer answer [] (told_by device old) → Lowers answer (told_by device old) (told_by device new) → Turns answer (told_by device old) (told_by device new)
-  quiet answer half behind same due answers lowers =
+      → IsAnswer answer [] (told_by device old) (told_by device new) → Lowers answer (told_by device old) (told_by device new) → IsServing device old new []
+      → Turns answer (told_by device old) (told_by device new)
+  quiet answer half behind same due answers lowers serves =
       let one = ap (λ (d : DeviceTold). d.first) half.device in
       let two = ap (λ (d : DeviceTold). d.second) half.device in record {
         entries = [];
-        grows = grown device old new [] (none_more old.desk new.desk same) (same_stores old.copies new.copies half.sizes half.stores_stay) half.ready;
+        grows = grown device old new [] (none_more old.desk new.desk same) (same_stores old.copies new.copies half.sizes half.stores_stay) half.ready (ap (λ (d : DeviceTold). d.fixed) half.device);
         counted = behind.counted;
         turn = record { entry = tt; begins = begins_late (state_of old.desk) [] due };
         explained = explained device old new [] (goes_same (device old.device) (device new.device) one two)
@@ -116,6 +124,7 @@ module _ {D : Type 0} (device : D → DeviceTold) (steps : HistoriesStep) (waits
             (none_off _ _ (let as_many = unplanned_same (device old.device) (device new.device) one two in omega (arith, as_many)));
         answers = answers;
         lowers = lowers;
+        serves = serves;
       }
 
   picks : IsFirstHalf device are_told is_now (Ended turned.Picked) old new → IsBehind device turned.Picked old new → Turns turned.Picked (told_by device old) (told_by device new)
@@ -132,7 +141,7 @@ module _ {D : Type 0} (device : D → DeviceTold) (steps : HistoriesStep) (waits
       let within = behind.within old.desk.entries (Pick block picked.kind picked.taken ops) (ap (λ (x : DeskState). x.entries) picked.adds) in
       let refused = counted (is_now new.copies block) block (map told_of old.copies) (map told_of new.copies) (half.refuses block).1 c s picked.kind picked.taken (next_of c s) picked.copied may in record {
         entries = Pick block picked.kind picked.taken ops ∷ [];
-        grows = grown device old new (Pick block picked.kind picked.taken ops ∷ []) picked.adds stores half.ready;
+        grows = grown device old new (Pick block picked.kind picked.taken ops ∷ []) picked.adds stores half.ready (ap (λ (d : DeviceTold). d.fixed) half.device);
         counted = behind.counted;
         turn = record {
           entry = record {
@@ -149,6 +158,7 @@ module _ {D : Type 0} (device : D → DeviceTold) (steps : HistoriesStep) (waits
             (none_off _ _ (let as_many = unplanned_same (device old.device) (device new.device) one two in omega (arith, as_many)));
         answers = tt;
         lowers = behind.lowers;
+        serves = pick_serves device old new block ops picked.kind picked.taken behind.tied_behind.paired behind.takes;
       }
 
   posts : IsFirstHalf device are_told is_now (Ended turned.Posted) old new → IsBehind device turned.Posted old new → Turns turned.Posted (told_by device old) (told_by device new)
@@ -162,7 +172,7 @@ module _ {D : Type 0} (device : D → DeviceTold) (steps : HistoriesStep) (waits
       let stores = same_stores old.copies new.copies half.sizes half.stores_stay in
       let within = behind.within old.desk.entries (Post post.block post.result post.given post.refused ops) (ap (λ (x : DeskState). x.entries) post.adds) in record {
         entries = Post post.block post.result post.given post.refused ops ∷ [];
-        grows = grown device old new (Post post.block post.result post.given post.refused ops ∷ []) post.adds stores half.ready;
+        grows = grown device old new (Post post.block post.result post.given post.refused ops ∷ []) post.adds stores half.ready (ap (λ (d : DeviceTold). d.fixed) half.device);
         counted = behind.counted;
         turn = record { entry = tt; begins = begins_by (is_due s) };
         explained = explained device old new (Post post.block post.result post.given post.refused ops ∷ []) (goes_same (device old.device) (device new.device) one two)
@@ -172,6 +182,8 @@ module _ {D : Type 0} (device : D → DeviceTold) (steps : HistoriesStep) (waits
             (none_off _ _ (let as_many = unplanned_same (device old.device) (device new.device) one two in omega (arith, as_many)));
         answers = tt;
         lowers = behind.lowers;
+        serves = post_serves device old new post.block post.refused ops post.result post.given post.on
+            (subst (λ (h : Option HandState). IsPaired new.desk.config (state_of new.desk) h (device new.device)) half.at_device.1 behind.tied_behind.paired).0;
       }
 
   pub ended : (answer : Turned) → IsFirstHalf device are_told is_now (Ended answer) old new → IsBehind device answer old new → Turns answer (told_by device old) (told_by device new)
@@ -179,16 +191,10 @@ module _ {D : Type 0} (device : D → DeviceTold) (steps : HistoriesStep) (waits
   ended turned.Posted half behind = posts half behind
   ended turned.Off half behind =
       let same = half.half.0.0 in
-      let off = sym (ap (λ (x : DeskState). (state_of x).off) same) ∙ behind.power half.half.1 in quiet turned.Off half behind same (due_off (state_of old.desk) off) off tt
+      let off = sym (ap (λ (x : DeskState). (state_of x).off) same) ∙ behind.power half.half.1 in
+      quiet turned.Off half behind same (due_off (state_of old.desk) off) off tt (off_serves device old new [] (behind.power half.half.1))
   ended turned.Idle half behind =
       let rest = at_rest waits old.desk.config (state_of old.desk) half.half.1.hand half.half.1.next in
-      quiet turned.Idle half behind half.half.0.0 (due_rest (state_of old.desk) rest) (refl, rest) tt
-  ended turned.Worked half behind =
-      let held = half.half.1.1 in
-      quiet turned.Worked half behind half.half.0.0 (due_hand (state_of old.desk) half.half.1.0 held) (λ none. absurd (some held none)) behind.lowers
-    where
-      some : {h : Option Job} {j : Job} → h ≡ Some j → h ≡ None → ⊥
-      some {h} {j} held none = no (sym held ∙ none)
-        where
-          no : Some j ≡ None → ⊥
-          no e = cc
+      quiet turned.Idle half behind half.half.0.0 (due_rest (state_of old.desk) rest) (refl, rest, ap not half.half.1.device) tt
+      (rest_serves device old new [] half.half.1.hand (ap (λ (x : DeskState). (state_of x).hand) half.half.0.0 ∙ half.half.1.hand))
+  ended turned.Worked half behind = absurd half.half

@@ -9,3 +9,5 @@ pub mod Refused
 pub mod Turning
 pub mod Halves
 pub mod Behind
+pub mod MostTurns
+pub mod Serving

@@ -14,6 +14,7 @@ use Rattle.ram_blocks.specs.Plain.{told_of, store_of, stored, refusing, no_plain
 use Rattle.nv_desk.specs.Desk.{DeskState, state_of}
 use Rattle.job_hands.specs.Hand.{HandState}
 use Rattle.stack_work.specs.Work.{stack_work}
+use Rattle.nvm_core.specs.Work.{left_with}
 use Rattle.stack_steps.specs.Told.{IsNoEarlier}
 use Rattle.stack_steps.specs.Calls.{Arms, Stores, Refuses}
 use Rattle.played_stacks.specs.Told.{plan_of, plan_in, takes_in, ops_in, causes_in, refusable_in, shown}
@@ -74,10 +75,15 @@ armed_work : (nth keep : ℕ) (desk : DeskState) (hand : Option HandState) (d : 
 armed_work nth keep desk None d = refl
 armed_work nth keep desk (Some h) d = refl
 
+armed_left : (nth keep : ℕ) (hand : Option HandState) (d : DeviceTold) → left_with hand (armed 0 nth keep d) ≡ left_with hand d
+armed_left nth keep None d = refl
+armed_left nth keep (Some h) d = refl
+
 pub arms : (nth keep : ℕ) (desk : DeskState) (hand : Option HandState) (copies : List PlainBlock) (ready : Bool) (d : DeviceTold)
     → (state_of desk).ops ≤ ops_of d → Arms nth (shown desk hand copies ready d) (shown desk hand copies ready (armed 0 nth keep d))
 arms nth keep desk hand copies ready d later = record {
   only = ap (λ (n : ℕ). record (shown desk hand copies ready (armed 0 nth keep d)) { work = n }) (armed_work nth keep desk hand d)
+      ∙ ap (λ (n : ℕ). record (shown desk hand copies ready (armed 0 nth keep d)) { work = stack_work desk hand d; left = n }) (armed_left nth keep hand d)
       ∙ ap (λ (n : ℕ). record (shown desk hand copies ready d) {
         causes = record (causes_in copies (state_of desk).hand d) {
           unplanned = n + d.second.planning.unplanned;

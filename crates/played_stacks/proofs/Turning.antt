@@ -3,7 +3,7 @@ use Rattle.std.specs.Prelude.{◌||◌, not, IsTrue, map, sum_by}
 use Rattle.std.proofs.Common.{◌≡◌, ◌≤◌, ◌+◌, ℕ, suc, Bool, true, false, List, [], ◌∷◌, ◌++◌, length, get_or, Option, refl, sym, ap, ◌∙◌, subst, inl, arith, append-nil}
 use Rattle.std.proofs.lemmas.List.{ext_get_or, length-map}
 use Rattle.nv_base.specs.Count.{WereCounted}
-use Rattle.memif.specs.Told.{DeviceTold}
+use Rattle.memif.specs.Told.{DeviceTold, Fixed}
 use Rattle.block_machine.specs.Words.{Entry, Configuration}
 use Rattle.block_machine.specs.State.{State, Job}
 use Rattle.block_machine.specs.Prices.{sum_from, block_price}
@@ -18,7 +18,7 @@ use Rattle.nvm_core.specs.Stack.{StackState}
 use Rattle.stack_steps.specs.Told.{IsGrown}
 use Rattle.stack_steps.specs.Calls.{AreExplained}
 use Rattle.script_walks.specs.Walk.{is_due, begins_with_pick_or_post}
-use Rattle.played_stacks.specs.Told.{told_by, refusable_in, plan_in, unplanned_in}
+use Rattle.played_stacks.specs.Told.{told_by, most_in, refusable_in, plan_in, unplanned_in}
 use Rattle.played_stacks.proofs.Devices.{Goes}
 
 -- THE STORES
@@ -38,11 +38,12 @@ same_stores bs cs sizes stay = ext_get_or (0, []) (map store_of cs) (map store_o
 
 pub grown : {D : Type 0} (device : D → DeviceTold) (old new : StackState D (List PlainBlock)) (es : List Entry)
     → new.desk ≡ record old.desk { entries = old.desk.entries ++ es } → map store_of new.copies ≡ map store_of old.copies → new.ready ≡ old.ready
-    → IsGrown es (told_by device old) (told_by device new)
-grown device old new es desk stores ready =
-    ap (λ (x : DeskState). record (told_by device new) { configuration = x.config; cap = x.cap; entries = x.entries }) desk
-    ∙ ap (λ (xs : List (ℕ × List ℕ)). record (told_by device new) { configuration = old.desk.config; cap = old.desk.cap; entries = old.desk.entries ++ es; stores = xs }) stores
-    ∙ ap (λ (r : Bool). record (told_by device new) { configuration = old.desk.config; cap = old.desk.cap; entries = old.desk.entries ++ es; stores = map store_of old.copies; ready = r }) ready
+    → (device new.device).fixed ≡ (device old.device).fixed → IsGrown es (told_by device old) (told_by device new)
+grown device old new es desk stores ready fixed =
+    ap (λ (x : DeskState). record (told_by device new) { configuration = x.config; cap = x.cap; entries = x.entries; most = most_in (device new.device).fixed x.config }) desk
+    ∙ ap (λ (xs : List (ℕ × List ℕ)). record (told_by device new) { configuration = old.desk.config; cap = old.desk.cap; entries = old.desk.entries ++ es; stores = xs; most = most_in (device new.device).fixed old.desk.config }) stores
+    ∙ ap (λ (r : Bool). record (told_by device new) { configuration = old.desk.config; cap = old.desk.cap; entries = old.desk.entries ++ es; stores = map store_of old.copies; ready = r; most = most_in (device new.device).fixed old.desk.config }) ready
+    ∙ ap (λ (f : Fixed). record (told_by device new) { configuration = old.desk.config; cap = old.desk.cap; entries = old.desk.entries ++ es; stores = map store_of old.copies; ready = old.ready; most = most_in f old.desk.config }) fixed
 
 -- nothing
 pub none_more : (old new : DeskState) → new ≡ old → new ≡ record old { entries = old.entries ++ [] }

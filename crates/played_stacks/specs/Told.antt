@@ -1,10 +1,10 @@
 -- What is told of a stack whose application stores in memory.
-use Rattle.std.specs.Prelude.{ℕ, ◌+◌, ◌-◌, ◌==◌, ◌<◌, ◌≤◌, min, Bool, List, map, is_some, option_map, if◌then◌else◌, Option, Some, None}
+use Rattle.std.specs.Prelude.{ℕ, ◌+◌, ◌-◌, ◌==◌, ◌<◌, ◌≤◌, min, not, Bool, List, map, is_some, option_map, if◌then◌else◌, Option, Some, None}
 use Rattle.std.specs.Option.{option_map_or}
 use Rattle.nv_base.specs.Count.{last_count}
-use Rattle.memif.specs.Told.{DeviceTold, PartTold, faults_of}
-use Rattle.block_machine.specs.Words.{Entry, Pick, Post}
-use Rattle.block_machine.specs.State.{Job}
+use Rattle.memif.specs.Told.{DeviceTold, Fixed, PartTold, faults_of, nothing_open}
+use Rattle.block_machine.specs.Words.{Configuration, Entry, Pick, Post}
+use Rattle.block_machine.specs.State.{State, Job}
 use Rattle.block_machine.specs.Blocks.{job_block}
 use Rattle.block_machine.specs.Prices.{refused_copies}
 use Rattle.ram_blocks.specs.declared.plain_block.PlainBlock.{PlainBlock}
@@ -13,6 +13,9 @@ use Rattle.ram_blocks.specs.Plain.{told_of, store_of}
 use Rattle.nv_desk.specs.Desk.{DeskState, state_of}
 use Rattle.job_hands.specs.Hand.{HandState}
 use Rattle.nvm_core.specs.Stack.{StackState}
+use Rattle.nvm_core.specs.Work.{left_with}
+use Rattle.hand_laws.specs.Hands.{program_for}
+use Rattle.turn_figures.specs.Left.{most_turns}
 use Rattle.stack_work.specs.Work.{stack_work}
 use Rattle.stack_steps.specs.Told.{StackTold, Causes}
 
@@ -78,6 +81,10 @@ causes_in copies hand d = record {
   plan = plan_in d;
 }
 
+-- the most turns of a job, by the device's figures
+abbrev pub most_in : Fixed → Configuration → State → Job → ℕ
+most_in f c s j = most_turns f (program_for c s j)
+
 -- what is told of its parts
 abbrev pub shown : DeskState → Option HandState → List PlainBlock → Bool → DeviceTold → StackTold
 shown desk hand copies ready d = record {
@@ -88,6 +95,9 @@ shown desk hand copies ready d = record {
   stores = map store_of copies;
   faults = faults_of d;
   work = stack_work desk hand d;
+  left = left_with hand d;
+  most = most_in d.fixed desk.config;
+  busy = not (nothing_open d);
   causes = causes_in copies (state_of desk).hand d;
 }
 

@@ -72,7 +72,10 @@ impl<D: MemDevice> PlayedStack for PlainStack<D> {
 
     fn ask(&mut self, alloc: Global, caller: u8, request: Request) -> Result<Reply, AskFault> {
         histories_grow();
-        self.stack.ask(alloc, caller, request)
+        let _device = self.stack.device();
+        let reply = self.stack.ask(alloc, caller, request)?;
+        let _behind = self.stack.device();
+        Ok(reply)
     }
 
     fn turn(&mut self) -> Turned {

@@ -1,12 +1,10 @@
 -- Calls that are none of a run, and runs in which a job isn't served.
-use Rattle.std.proofs.Common.{◌≡◌, ◌<◌, ℕ, List, [], ◌∷◌, ◌++◌, Some, length, length-append, refl, ap, inl, inr, arith}
+use Rattle.std.proofs.Common.{◌≡◌, ◌<◌, ℕ, List, [], ◌++◌, length, length-append, refl, ap, inl, inr, arith}
 use Rattle.nv_base.specs.Count.{Rose}
 use Rattle.nvm_script.specs.Printed.{history_text}
-use Rattle.block_machine.specs.Words.{Write, Found}
-use Rattle.block_machine.specs.Steps.{after}
 use Rattle.run_promise.specs.Call.{IsRunOf, last_line}
-use Rattle.run_promise.specs.Completeness.{Completeness, IsCalm, IsUrgent}
-use Rattle.run_promise.specs.Cases.{small, blank, one, turned, demo_run, demo_call}
+use Rattle.run_promise.specs.Completeness.{Completeness, IsCalm}
+use Rattle.run_promise.specs.Cases.{always, turned, demo_run, demo_call}
 
 longer : (xs ys : List ℕ) → 0 < length ys → xs ≡ xs ++ ys → ⊥
 longer xs ys some is = let lengths : length xs ≡ length (xs ++ ys) = ap (λ (zs : List ℕ). length zs) is in omega (arith, lengths, length-append xs ys, some)
@@ -21,14 +19,8 @@ no_rise : Rose 0 0 → ⊥
 no_rise (inl rose) = omega (arith, rose)
 no_rise (inr (end, more)) = omega (arith, end)
 
-is_calm : (priority : ℕ) → IsCalm (turned priority [])
-is_calm priority = record { no_fault = no_rise; entries = refl }
+is_calm : IsCalm (turned [])
+is_calm = record { no_fault = no_rise; entries = refl }
 
-pub not_posted : Completeness 8 (turned 10 []) (turned 10 []).course → ⊥
-not_posted complete = cc ((complete (is_calm 10)).posts.1.0 _ refl)
-
-is_urgent : IsUrgent (turned 0 []) (after small (Found [] 0 ∷ [])) (Write 2 (Some one) 0)
-is_urgent = record { immediate = refl; alone = refl; image = blank; bytes = refl; room = λ (k, h, active, why). absurd (cc active) }
-
-pub not_urgent : Completeness 100 (turned 0 []) (turned 0 []).course → ⊥
-not_urgent complete = cc ((complete (is_calm 0)).urgent.0 is_urgent)
+pub not_posted : Completeness (always 8) (turned []) (turned []).course → ⊥
+not_posted complete = cc ((complete is_calm).served.posts.1.0 _ refl)

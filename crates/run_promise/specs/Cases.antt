@@ -12,10 +12,11 @@ use Rattle.fee_format.specs.RecHead.{rec_head_page}
 use Rattle.nvm_script.specs.declared.script.Mode.TheVariants as mode
 use Rattle.script_walks.specs.Words.{StepKind, AskStep, Store, Turn, Drain, Restart, Cut}
 use Rattle.block_machine.specs.Words.{Fine, NotOk, Content, Write, SetLock, Status, Accepted, StatusIs, WriteJob, TookContent, TookStale, Entry, Ask, Pick, Wrote, Post, Off, Found, BlockDesc, Dataset, Sync, Configuration}
+use Rattle.block_machine.specs.State.{State, Job}
 use Rattle.device_bridge.specs.FlashRun.{FlashRun}
 use Rattle.run_promise.specs.Call.{Call}
 use Rattle.run_promise.specs.Promise.{Promise}
-use Rattle.run_promise.specs.Run.{Run, Played, Ran, Whole, HistoryFull, Memory}
+use Rattle.run_promise.specs.Run.{Run, Played, Ran, Whole, FlashFault, HistoryFull, Memory}
 
 -- IMAGES
 -- block 2 is as described
@@ -178,15 +179,21 @@ abbrev pub second_found : Run
 second_found = record quiet { course = Ran []; history = Found [] 0 ∷ Found [] 0 ∷ [] }
 
 -- TURNS
--- a write of block 2, of this priority, is in hand after one turn, and eight turns later this has come
-abbrev pub turned : ℕ → List Entry → Run
-turned priority es =
-    record (plays (asks_one ∷ (Turn 1, picks_one ∷ []) ∷ (Turn 8, es) ∷ []) (unchanged [] blank))
-    { configuration = with_block_2 (record (plain_block 4) { priority = priority }) }
+-- each job takes so many turns at most
+abbrev pub always : ℕ → State → Job → ℕ
+always most s j = most
+
+-- a write of block 2 is in hand after one turn, and eight turns later this has come
+abbrev pub turned : List Entry → Run
+turned es = plays (asks_one ∷ (Turn 1, picks_one ∷ []) ∷ (Turn 8, es) ∷ []) (unchanged [] blank)
 
 -- a drain leaves a job in hand
 abbrev pub not_drained : Run
 not_drained = plays (asks_one ∷ (Drain, picks_one ∷ []) ∷ []) (unchanged [] blank)
+
+-- it ends at a flash fault, and none was counted
+abbrev pub ends_for_nothing : Run
+ends_for_nothing = record quiet { end = FlashFault }
 
 -- A CALL
 -- `play` of the demo configuration without a step, with this status and this output

@@ -1,16 +1,13 @@
 -- What is served in `play`, and by when: where nothing fails, each job comes to its Post.
-use Rattle.std.specs.Prelude.{◌≡◌, ◌≢◌, ◌+◌, ◌-◌, ◌==◌, ◌&&◌, ◌||◌, ℕ, suc, not, nat_le, nat_lt, Bool, true, false, IsTrue, List, [], ◌∷◌, ◌++◌, take, option_map, if◌then◌else◌, Option, Some, None, IfSome}
+use Rattle.std.specs.Prelude.{◌≡◌, ◌≢◌, ◌-◌, ◌==◌, ◌&&◌, ◌||◌, ℕ, suc, nat_le, nat_lt, Bool, true, false, IsTrue, List, ◌∷◌, ◌++◌, take, option_map, if◌then◌else◌, Option, Some, None, IfSome}
 use Rattle.std.specs.List.{list_all, list_any}
 use Rattle.nv_base.specs.Count.{Rose}
 use Rattle.script_walks.specs.Words.{Step, StepKind, Turn, Drain, Restart}
-use Rattle.block_machine.specs.Words.{Request, Accepted, TookRefused, TookStale, Entry, Ask, Pick, Post, Off, Configuration}
-use Rattle.block_machine.specs.State.{State, Job, jobs_of}
-use Rattle.block_machine.specs.Blocks.{desc_of, job_block, asked_block, is_immediate}
+use Rattle.block_machine.specs.Words.{TookRefused, TookStale, Entry, Pick, Post, Off, Configuration}
+use Rattle.block_machine.specs.State.{State, Job}
+use Rattle.block_machine.specs.Blocks.{job_block}
 use Rattle.block_machine.specs.Steps.{after, after_from}
-use Rattle.block_config.specs.Sizes.{urgent_pages}
 use Rattle.script_walks.specs.Walk.{is_at_rest}
-use Rattle.device_bridge.specs.Image.{HasNoRoomFor}
-use Rattle.device_bridge.specs.FlashRun.{bytes_after}
 use Rattle.run_promise.specs.Run.{Run, Course, Played, Ran, FlashFault}
 
 -- NOTHING FAILS
@@ -53,51 +50,33 @@ ends_job id (Post block r given refused ops) = block == id
 ends_job id (Pick block kind t ops) = true
 ends_job id e = false
 
-abbrev pub posts_block : ℕ → Entry → Bool
-posts_block id (Post block r given refused ops) = block == id
-posts_block id e = false
-
--- What each step of a run keeps: a fact on the steps before it, the state before its piece, its own piece, and the steps
--- and pieces behind it.
+-- What each step of a run keeps: a fact on the state before its piece, the step, its piece, and the steps and pieces behind
+-- it.
 abbrev pub EachPiece : Configuration → (State → Step → List Entry → List Step → List (List Entry) → Type 0) → State → List Step → List (List Entry) → Type 0
 EachPiece c P s (x ∷ xs) (p ∷ ps) = P s x p xs ps × EachPiece c P (after_from c s p) xs ps
 EachPiece c P s xs ps = Unit {0}
 
--- a job that is in hand behind a step is posted, or interrupted, within so many turns
-abbrev pub PostsInHand : Configuration → ℕ → State → Step → List Entry → List Step → List (List Entry) → Type 0
+-- A job that is in hand behind a step is posted, or interrupted, within the most turns that it takes. How many those are is
+-- told of a job in a state in which it is in hand.
+abbrev pub PostsInHand : Configuration → (State → Job → ℕ) → State → Step → List Entry → List Step → List (List Entry) → Type 0
 PostsInHand c most s x p xs ps =
-    (j : Job) → (after_from c s p).hand ≡ Some j → IfSome (entries_within most xs ps) (λ es. IsTrue (list_any (ends_job (job_block j)) es))
-
--- the pages of all records of an immediate write
-abbrev pub urgent_pages_of : Configuration → Request → ℕ
-urgent_pages_of c request = urgent_pages c.geometry.page (desc_of c (asked_block request))
+    (j : Job) → (after_from c s p).hand ≡ Some j
+    → IfSome (entries_within (most (after_from c s p) j) xs ps) (λ es. IsTrue (list_any (ends_job (job_block j)) es))
 
 -- behind a `drain` nothing is pending
 abbrev pub DrainsAll : Configuration → State → Step → List Entry → List Step → List (List Entry) → Type 0
 DrainsAll c s x p xs ps = x.kind ≡ Drain → IsTrue (is_at_rest (after_from c s p))
 
--- an immediate write while no other immediate job is pending, whose records have room in the bytes of that moment
-pub record IsUrgent (r : Run) (s : State) (request : Request) : Type 0 where
-  pub immediate : IsTrue (is_immediate r.configuration request)
-  pub alone : IsTrue (list_all (λ j. j.member || not (is_immediate r.configuration j.request)) (jobs_of s))
-  pub image : List ℕ
-  pub bytes : bytes_after r.flash s.ops ≡ Some image
-  pub room : ¬ HasNoRoomFor (urgent_pages_of r.configuration request) r.configuration.geometry image
+-- The steps of a history that begins with a start-up serve its jobs.
+pub record IsServed (c : Configuration) (most : State → Job → ℕ) (made : List Step) (pieces : List (List Entry)) (h : List Entry) : Type 0 where
+  pub posts : EachPiece c (PostsInHand c most) (after c (take 1 h)) made pieces
+  pub drains : EachPiece c (DrainsAll c) (after c (take 1 h)) made pieces
 
--- it is posted within the pages of its records and four turns more
-abbrev pub PostsUrgent : Run → State → Step → List Entry → List Step → List (List Entry) → Type 0
-PostsUrgent r s x (Ask caller request Accepted ∷ []) xs ps =
-    IsUrgent r s request
-    → IfSome (entries_within (urgent_pages_of r.configuration request + 4) xs ps) (λ es. IsTrue (list_any (posts_block (asked_block request)) es))
-PostsUrgent r s x p xs ps = Unit {0}
-
--- Completeness of a run of `play` in which nothing fails. `most` is the greatest number of turns that a job takes.
-pub record IsComplete (most : ℕ) (r : Run) (made : List Step) (pieces : List (List Entry)) : Type 0 where
+-- completeness of a run of `play` in which nothing fails
+pub record IsComplete (most : State → Job → ℕ) (r : Run) (made : List Step) (pieces : List (List Entry)) : Type 0 where
   pub ends : r.end ≢ FlashFault
-  pub posts : EachPiece r.configuration (PostsInHand r.configuration most) (after r.configuration (take 1 r.history)) made pieces
-  pub drains : EachPiece r.configuration (DrainsAll r.configuration) (after r.configuration (take 1 r.history)) made pieces
-  pub urgent : EachPiece r.configuration (PostsUrgent r) (after r.configuration (take 1 r.history)) made pieces
+  pub served : IsServed r.configuration most made pieces r.history
 
-abbrev pub Completeness : ℕ → Run → Course → Type 0
+abbrev pub Completeness : (State → Job → ℕ) → Run → Course → Type 0
 Completeness most r (Played made pieces left) = IsCalm r → IsComplete most r made pieces
 Completeness most r (Ran steps) = IsCalm r → r.end ≢ FlashFault

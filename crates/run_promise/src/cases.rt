@@ -9,7 +9,7 @@ ghost use Rattle.run_promise.specs.Run.{cap, HasOrder, RefusalsExplain, offs_of_
 ghost use Rattle.run_promise.specs.Promise.{Promise, StartUpsFind, CutsKeep, ExitKeeps, FailuresArePaid, MayBeKept};
 ghost use Rattle.run_promise.specs.Call.{IsRunOf, text_of};
 ghost use Rattle.run_promise.specs.Completeness.{Completeness};
-ghost use Rattle.run_promise.specs.Cases.{BreaksBy, small, quiet, wiped, empty_at_11, made_up_mark, off_without_a_cut, stale_in_play, invented_store, second_found, other_dataset, worn_but_roomy, worn_and_full, kept_write, lost_write, two_callers, written_at, turned, not_drained, demo_run, demo_call};
+ghost use Rattle.run_promise.specs.Cases.{BreaksBy, small, quiet, wiped, empty_at_11, made_up_mark, off_without_a_cut, stale_in_play, invented_store, second_found, other_dataset, worn_but_roomy, worn_and_full, kept_write, lost_write, two_callers, written_at, always, turned, not_drained, ends_for_nothing, demo_run, demo_call};
 
 use fee_image::{blank_images, images_compute, soundness_computes, torn_erases_keep_soundness};
 
@@ -77,10 +77,10 @@ pub fn runs_of_calls()
     ensures other_configuration { IsRunOf (demo_call 0 (text_of quiet)) quiet → ⊥ }
 {}
 
-/// Where nothing fails a job is posted within its turns, a drain leaves none, and an immediate write is posted soon.
+/// Where nothing fails a job is posted within its turns, a drain leaves none, and no run ends at a flash fault.
 pub fn runs_that_are_served()
-    ensures served { Completeness 8 (turned 0 (written_at 4)) (turned 0 (written_at 4)).course }
-    ensures not_posted { Completeness 8 (turned 10 []) (turned 10 []).course → ⊥ }
-    ensures not_urgent { Completeness 100 (turned 0 []) (turned 0 []).course → ⊥ }
-    ensures not_drained { Completeness 100 not_drained not_drained.course → ⊥ }
+    ensures served { Completeness (always 8) (turned (written_at 4)) (turned (written_at 4)).course }
+    ensures not_posted { Completeness (always 8) (turned []) (turned []).course → ⊥ }
+    ensures not_drained { Completeness (always 100) not_drained not_drained.course → ⊥ }
+    ensures not_ended { Completeness (always 100) ends_for_nothing ends_for_nothing.course → ⊥ }
 {}

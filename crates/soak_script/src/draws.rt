@@ -2,7 +2,8 @@
 ghost use Rattle.std.specs.Prelude.{◌≡◌, ◌<◌, ◌/◌, ◌^◌};
 ghost use Rattle.soak_script.specs.Draws.{next_state};
 
-/// A generator of numbers. Its state is that of a linear congruential generator of 64 bits.
+/// A generator of numbers below 2^31. Its state is that of a linear congruential generator of 64 bits, and is the seed at
+/// first.
 #[derive(Drop)]
 pub struct Draws {
     pub state: u64,

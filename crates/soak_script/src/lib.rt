@@ -1,7 +1,7 @@
 //! Scripts that a seed draws, for long runs of valid steps.
 //!
 //! It promises that the steps are exactly those that the generator draws, and that a script may have each of them. What
-//! becomes of a step is left to the crates that make it.
+//! becomes of a step, and of a number that is drawn for something else, is left to the crates that make it.
 #![tactic(auto)]
 
 mod cases;
@@ -10,4 +10,5 @@ mod rounds;
 mod soak;
 
 pub use cases::{drawn_steps, draws_are_drawn, soak_is_played};
+pub use draws::Draws;
 pub use soak::soak_steps;

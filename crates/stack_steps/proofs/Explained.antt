@@ -8,14 +8,14 @@ use Rattle.nv_base.specs.Entry.{ops_behind}
 use Rattle.block_machine.specs.Words.{Entry, Ask, Pick, Wrote, Post, Off, Found, Configuration}
 use Rattle.block_machine.specs.State.{State}
 use Rattle.block_machine.specs.Prices.{sum_from, block_price}
-use Rattle.block_machine.specs.Steps.{step, after, after_from}
+use Rattle.block_machine.specs.Steps.{step, after_from}
 use Rattle.machine_laws.specs.Laws.{HistoriesGoOn}
-use Rattle.block_machine.specs.StartUp.{at_first}
 use Rattle.script_walks.specs.Words.{StepKind, Cut, Refuse, Restart}
 use Rattle.run_promise.specs.Run.{is_paid, unpaid_off, plan_after}
 use Rattle.stack_steps.specs.Told.{StackTold, state_of, IsGrown, IsNoEarlier}
 use Rattle.stack_steps.specs.Calls.{AreExplained, Arms, Refuses}
 use Rattle.stack_steps.specs.Made.{IsExplained}
+use Rattle.stack_steps.proofs.Grown.{state_more}
 
 -- COUNTS
 
@@ -100,9 +100,6 @@ fewer_unpaid plan due (e ∷ es) stays =
 pub sum_more : (c : Configuration) (price : State → Entry → ℕ) (s : State) (es more : List Entry) → sum_from c price s (es ++ more) ≡ sum_from c price s es + sum_from c price (after_from c s es) more
 sum_more c price s [] more = omega arith
 sum_more c price s (e ∷ es) more = let rest = sum_more c price (step c s e) es more in omega (arith, rest)
-
-state_more : HistoriesGoOn → (c : Configuration) (h es : List Entry) → after c (h ++ es) ≡ after_from c (after c h) es
-state_more go c h es = go c at_first h es
 
 -- the prices of entries behind these
 pub prices_behind : HistoriesGoOn → (price : State → Entry → ℕ) (old mid : StackTold) (es more : List Entry) → IsGrown es old mid

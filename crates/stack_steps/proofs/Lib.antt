@@ -4,3 +4,8 @@ pub mod Making
 pub mod Turned
 pub mod Causes
 pub mod Walking
+pub mod Grown
+pub mod InHand
+pub mod Serving
+pub mod Served
+pub mod Awaited

@@ -1,14 +1,13 @@
 -- Turn after turn.
 use Rattle.std.specs.List.{list_all}
 use Rattle.std.specs.Option.{is_some}
-use Rattle.std.proofs.Common.{◌≡◌, ◌<◌, ◌+◌, ◌||◌, ℕ, zero, suc, Bool, true, false, IsTrue, List, [], ◌∷◌, ◌++◌, Option, Some, None, refl, sym, ap, ◌∙◌, subst, inl, inr, arith, append_assoc, append-nil}
+use Rattle.std.proofs.Common.{◌≡◌, ◌<◌, ◌+◌, ◌||◌, ℕ, zero, suc, Bool, true, false, IsTrue, List, [], ◌∷◌, ◌++◌, Option, Some, None, refl, sym, ap, ◌∙◌, subst, inl, inr, arith, append-nil}
 use Rattle.std.proofs.lemmas.Bool.{cases_Bool}
 use Rattle.nv_base.specs.Count.{Rose}
 use Rattle.stack_turns.specs.declared.turned.Turned.{Turned}
 use Rattle.stack_turns.specs.declared.turned.Turned.TheVariants as turned
 use Rattle.block_machine.specs.Words.{Entry, Configuration}
 use Rattle.block_machine.specs.State.{State, Job}
-use Rattle.block_machine.specs.StartUp.{at_first}
 use Rattle.block_machine.specs.Steps.{after, after_from}
 use Rattle.machine_laws.specs.Laws.{HistoriesGoOn}
 use Rattle.script_walks.specs.Words.{Step}
@@ -20,21 +19,14 @@ use Rattle.stack_steps.specs.Told.{StackTold, state_of, IsGrown}
 use Rattle.stack_steps.specs.Calls.{Turns, is_last}
 use Rattle.stack_steps.specs.Kept.{IsKept, HasTurned, MakesTurn, MakesTurns, Drains}
 use Rattle.stack_steps.proofs.Explained.{explained_more, none_explained}
-
--- the state behind more entries
-pub state_more : HistoriesGoOn → (c : Configuration) (h es : List Entry) → after c (h ++ es) ≡ after_from c (after c h) es
-state_more go c h es = go c at_first h es
-
-grown_more : (old mid new : StackTold) (es more : List Entry) → IsGrown es old mid → IsGrown more mid new → IsGrown (es ++ more) old new
-grown_more old mid new es more one two =
-    subst (λ (m : StackTold). new ≡ record m { entries = m.entries ++ more; faults = new.faults; work = new.work; causes = new.causes }) one two
-    ∙ ap (λ (h : List Entry). record old { entries = h; faults = new.faults; work = new.work; causes = new.causes }) (append_assoc old.entries es more)
+use Rattle.stack_steps.proofs.Grown.{state_more, state_grown, grown_more}
+use Rattle.stack_steps.proofs.Serving.{calm_until, calm_from, serves_more, none_serves, any_serve, turn_serves}
 
 -- what a turn adds keeps what is kept
-pub turn_kept : HistoriesGoOn → TurnsKeepStored → (before : List Step) (old new : StackTold) (turn : MakesTurn old new) → IsKept before old → HasTurned before old new turn.entries × IsKept before new
+pub turn_kept : HistoriesGoOn → TurnsKeepStored → (before : List Step) (old new : StackTold) (turn : MakesTurn old new) → IsKept before old → HasTurned 1 before old new turn.entries × IsKept before new
 turn_kept go turns before old new turn kept =
     let keeps = turns old.configuration before (state_of old) old.stores turn.entries kept.stores kept.jobs turn.turn in (
-      record { grows = turn.grows; counted = turn.counted; explained = turn.explained; keeps = keeps },
+      record { grows = turn.grows; counted = turn.counted; explained = turn.explained; keeps = keeps; serves = turn_serves old new turn },
       subst (λ (t : StackTold). IsKept before t) (sym turn.grows) (record {
         ready = kept.ready;
         places = kept.places;
@@ -43,12 +35,15 @@ turn_kept go turns before old new turn kept =
       }),
     )
 
-pub turned_more : HistoriesGoOn → KeepingGoesOn → (before : List Step) (old mid new : StackTold) (es more : List Entry) → HasTurned before old mid es → HasTurned before mid new more → HasTurned before old new (es ++ more)
-turned_more go on before old mid new es more one two = record {
+pub turned_more : HistoriesGoOn → KeepingGoesOn → (n m : ℕ) (before : List Step) (old mid new : StackTold) (es more : List Entry) → HasTurned n before old mid es → HasTurned m before mid new more → HasTurned (n + m) before old new (es ++ more)
+turned_more go on n m before old mid new es more one two = record {
   grows = grown_more old mid new es more one.grows two.grows;
   counted = let a = one.counted in let b = two.counted in omega (arith, a, b);
   explained = explained_more go old.causes.plan old mid new es more one.grows one.explained two.explained;
   keeps = on old.configuration before (state_of old) es more one.keeps (later one.grows two.keeps);
+  serves = λ calm.
+      serves_more go n m old mid new es more one.grows
+      (one.serves (calm_until old mid new more (ap (λ (t : StackTold). t.entries) two.grows) two.counted calm)) (two.serves (calm_from old mid new one.counted calm));
 }
   where
     later : IsGrown es old mid → KeepsStored mid.configuration before (state_of mid) more → KeepsStored old.configuration before (after_from old.configuration (state_of old) es) more
@@ -56,17 +51,24 @@ turned_more go on before old mid new es more one two = record {
         subst (λ (s : State). KeepsStored old.configuration before s more) (state_more go old.configuration old.entries es)
         (subst (λ (t : StackTold). KeepsStored t.configuration before (state_of t) more) is keeps)
 
-pub none_turned : (before : List Step) (t : StackTold) → IsKept before t → HasTurned before t t []
+pub none_turned : (before : List Step) (t : StackTold) → IsKept before t → HasTurned 0 before t t []
 none_turned before t kept = record {
   grows = ap (λ (h : List Entry). record t { entries = h }) (sym (append-nil t.entries));
   counted = omega arith;
   explained = none_explained t;
   keeps = record { played = refl; stores = tt; jobs = kept.jobs };
+  serves = λ calm. none_serves t;
 }
 
--- the state of a stack with these entries more
-pub state_grown : HistoriesGoOn → (old new : StackTold) (es : List Entry) → IsGrown es old new → state_of new ≡ after_from old.configuration (state_of old) es
-state_grown go old new es is = ap state_of is ∙ state_more go old.configuration old.entries es
+-- whatever number of turns it was
+pub any_turned : (n : ℕ) (before : List Step) (old new : StackTold) (es : List Entry) → HasTurned n before old new es → HasTurned 0 before old new es
+any_turned n before old new es turned = record {
+  grows = turned.grows;
+  counted = turned.counted;
+  explained = turned.explained;
+  keeps = turned.keeps;
+  serves = λ calm. any_serve n es old new (turned.serves calm);
+}
 
 -- SO MANY TURNS
 
@@ -92,14 +94,14 @@ one_turn_more go turns on grow (suc n) before old mid new (es, was, are) kept tu
     let more = grow old.configuration (state_of old) old.stores (suc n) es turn.entries are (omega arith) (later_turn go old mid es turn.entries was.grows turn.turn) turned.keeps.played in
     let count : suc n + 1 ≡ suc (suc n) = omega arith in (
       subst (λ (m : ℕ). MakesTurns m before old new) (sym count)
-          (es ++ turn.entries, turned_more go on before old mid new es turn.entries was turned, subst (λ (m : ℕ). AreTurns (state_of old) m (es ++ turn.entries)) count more),
+          (es ++ turn.entries, subst (λ (m : ℕ). HasTurned m before old new (es ++ turn.entries)) count (turned_more go on (suc n) 1 before old mid new es turn.entries was turned), subst (λ (m : ℕ). AreTurns (state_of old) m (es ++ turn.entries)) count more),
       after,
     )
 
 -- A DRAIN
 
 -- it ends
-pub drained : HistoriesGoOn → (before : List Step) (old new : StackTold) (es : List Entry) → HasTurned before old new es → IsTrue (is_at_rest (state_of new) || (state_of new).off) → Drains before old new
+pub drained : HistoriesGoOn → (before : List Step) (old new : StackTold) (es : List Entry) → HasTurned 0 before old new es → IsTrue (is_at_rest (state_of new) || (state_of new).off) → Drains before old new
 drained go before old new es turned ends =
     (es, turned, record { played = turned.keeps.played; ends = subst (λ (s : State). IsTrue (is_at_rest s || s.off)) (state_grown go old new es turned.grows) ends })
 
@@ -108,7 +110,7 @@ none_in None none = refl
 none_in (Some j) none = cc
 
 pub made_turn : (a : Turned) (old new : StackTold) → Turns a old new → MakesTurn old new
-made_turn a old new turn = record { entries = turn.entries; grows = turn.grows; counted = turn.counted; turn = turn.turn; explained = turn.explained }
+made_turn a old new turn = record { entries = turn.entries; grows = turn.grows; counted = turn.counted; turn = turn.turn; explained = turn.explained; serves = turn.serves }
 
 at_rest_then : (s : State) → is_at_rest s ≡ true → IsTrue (is_at_rest s || s.off)
 at_rest_then s rest = rw rest refl
@@ -134,6 +136,17 @@ last_ends go turned.Posted in_hand risen old new turn hand last = absurd (cc las
 some_hand : (hand : Option Job) → hand ≡ None → true ≡ is_some hand → ⊥
 some_hand None is same = cc
 some_hand (Some j) is same = cc
+
+-- behind it nothing is open at the device, where no fault was counted and the power is on
+pub last_closes : HistoriesGoOn → (a : Turned) (in_hand risen : Bool) (old new : StackTold) → Turns a old new → (risen ≡ true → Rose old.faults new.faults) → is_last a in_hand risen ≡ true → ¬ Rose old.faults new.faults
+    → (state_of new).off ≡ false → new.busy ≡ false
+last_closes go turned.Idle in_hand risen old new turn count last none on = turn.answers.2
+last_closes go turned.Off in_hand risen old new turn count last none on =
+    let off : (state_of new).off ≡ true = ap (λ s. s.off) (state_grown go old new turn.entries turn.grows) ∙ turn.answers in absurd (cc (off, on))
+last_closes go turned.Worked true risen old new turn count last none on = absurd (cc last)
+last_closes go turned.Worked false risen old new turn count last none on = absurd (none (count last))
+last_closes go turned.Picked in_hand risen old new turn count last none on = absurd (cc last)
+last_closes go turned.Posted in_hand risen old new turn count last none on = absurd (cc last)
 
 pub others_lower : (a : Turned) (in_hand risen : Bool) (old new : StackTold) → Turns a old new → in_hand ≡ is_some (state_of old).hand → (risen ≡ false → Rose old.faults new.faults → ⊥) → is_last a in_hand risen ≡ false → new.work < old.work
 others_lower turned.Idle in_hand risen old new turn hand count last = absurd (cc last)

@@ -1,17 +1,17 @@
 -- Step after step.
 use Rattle.std.specs.Prelude.{slice_get, take, drop}
-use Rattle.std.proofs.Common.{◌≡◌, ◌<◌, ◌≤◌, ◌+◌, ◌*◌, ◌^◌, ℕ, zero, suc, List, [], ◌∷◌, ◌++◌, Option, Some, None, length, map, replicate, refl, sym, ap, ◌∙◌, subst, inl, inr, arith, add-one, length-append, append_assoc, append-nil}
-use Rattle.std.proofs.Math.Nat.{eq-or-lt_of_le}
+use Rattle.std.proofs.Common.{◌≡◌, ◌<◌, ◌≤◌, ◌+◌, ◌*◌, ◌^◌, ℕ, zero, suc, List, [], ◌∷◌, ◌++◌, Option, Some, None, length, map, replicate, refl, sym, ap, ◌∙◌, subst, arith, add-one, length-append, append_assoc, append-nil}
 use Rattle.std.proofs.lemmas.List.{length-map}
 use Rattle.std.proofs.lemmas.List.Sums.{sum_by_push, sum_by-take-le}
 use Rattle.std.proofs.lemmas.Option.{get_or_from_slice_get, slice_get_within}
-use Rattle.nv_base.specs.Count.{Rose, WereCounted}
+use Rattle.nv_base.specs.Count.{WereCounted}
 use Rattle.nv_base.specs.Entry.{ops_behind}
 use Rattle.block_machine.specs.Words.{Instance, Mark, Entry, Found, Configuration}
 use Rattle.block_machine.specs.State.{State}
 use Rattle.block_machine.specs.StartUp.{at_first}
 use Rattle.block_machine.specs.Prices.{sum_from, block_price, prices_in_refusals}
 use Rattle.block_machine.specs.Steps.{after}
+use Rattle.machine_laws.specs.Laws.{HistoriesGoOn}
 use Rattle.script_walks.specs.Words.{Step}
 use Rattle.script_walks.specs.Walk.{IsPiece, IsWalkOf, WalksGrow, joined}
 use Rattle.played_steps.specs.Played.{IsPlayed, ArePlayed}
@@ -19,15 +19,18 @@ use Rattle.played_walks.specs.Stores.{AreNewest, JobsTookStored}
 use Rattle.played_walks.specs.Laws.{FirstAreNewest, StartsKeepStored}
 use Rattle.ram_blocks.specs.Plain.{store_of, plain_blocks_of}
 use Rattle.run_promise.specs.Run.{Played, unpaid_offs, refusals_of, RefusalsExplain}
+use Rattle.run_promise.specs.Completeness.{IsServed}
 use Rattle.stack_steps.specs.declared.steps.StepFault.{StepFault}
 use Rattle.stack_steps.specs.declared.steps.StepFault.TheVariants.{Flash, HistoryFull, Memory}
 use Rattle.stack_steps.specs.Told.{StackTold, state_of, IsNoEarlier}
 use Rattle.stack_steps.specs.Kept.{IsKept}
-use Rattle.stack_steps.specs.Made.{cuts_in, cuts_of, PaysOffs, IsExplained, HasNoRoom, IsLeft, IsFresh, HasWalked, MakesAt, LeavesAt, WereLeft, WasBroken}
+use Rattle.stack_steps.specs.Made.{cuts_in, cuts_of, PaysOffs, IsExplained, HasNoRoom, IsMade, IsLeft, IsFresh, HasWalked, MakesAt, LeavesAt, WereLeft, WasBroken}
 use Rattle.stack_steps.specs.Walking.{plan_behind, refusals_in, IsWalking, AreUnderWay}
 use Rattle.stack_steps.specs.Table.{HasLastStores}
 use Rattle.stack_steps.proofs.Table.{first_table}
 use Rattle.stack_steps.proofs.Explained.{counted_more, none_counted}
+use Rattle.stack_steps.proofs.Serving.{rose_later, calm_until, calm_from}
+use Rattle.stack_steps.proofs.Awaited.{none_within, serving_more, is_served}
 use Rattle.stack_steps.proofs.Causes.{plan_more, unpaid_more, ops_in_all, joined_more, all_of, prices_more, refusals_more}
 
 -- LISTS
@@ -65,9 +68,9 @@ is_played c steps n x is all = subst (λ (y : Step). IsPlayed c y) (get_or_from_
 -- THE WALK
 
 -- one more step
-pub walks_on : WalksGrow → (made : List Step) (x : Step) (piece : List Entry) (old mid new : StackTold) → mid.configuration ≡ old.configuration → IsWalking made old mid → new.entries ≡ mid.entries ++ piece
-    → IsPiece mid.configuration made (state_of mid) x piece → IsExplained x.kind piece mid new → cuts_in x.kind ≤ mid.causes.takes → IsWalking (made ++ x ∷ []) old new
-walks_on grow made x piece old mid new same walking adds is explained planned = record {
+pub walks_on : WalksGrow → HistoriesGoOn → (made : List Step) (x : Step) (old mid new : StackTold) → mid.configuration ≡ old.configuration → mid.most ≡ old.most → old.faults ≤ mid.faults → IsWalking made old mid
+    → IsMade made x mid new → cuts_in x.kind ≤ mid.causes.takes → IsWalking (made ++ x ∷ []) old new
+walks_on grow go made x old mid new same most counted walking step planned = record {
   marks = walking.marks;
   ops = walking.ops;
   pieces = walking.pieces ++ piece ∷ [];
@@ -94,8 +97,23 @@ walks_on grow made x piece old mid new same walking adds is explained planned = 
       let cuts = sum_by_push (λ (y : Step). cuts_in y.kind) made x in
       let a = walking.takes in
       let b = explained.takes in omega (arith, cuts, a, b);
+  serves = λ calm.
+      serving_more go first made walking.pieces x old mid new walking.as_many same most walking.at step
+      (walking.serves (calm_until old mid new piece adds step.counted calm)) (step.serves (calm_from old mid new counted calm));
 }
   where
+    piece : List Entry
+    piece = step.piece
+
+    adds : new.entries ≡ mid.entries ++ piece
+    adds = step.entries
+
+    is : IsPiece mid.configuration made (state_of mid) x piece
+    is = step.is
+
+    explained : IsExplained x.kind piece mid new
+    explained = step.explained
+
     first : Entry
     first = Found walking.marks walking.ops
 
@@ -117,8 +135,8 @@ walks_on grow made x piece old mid new same walking adds is explained planned = 
     paid : PaysOffs x.kind (plan_behind None 0 made walking.pieces) (ops_behind 0 (joined walking.pieces)) piece mid new
     paid = explained.offs (plan_behind None 0 made walking.pieces) (ops_behind 0 (joined walking.pieces)) planned few walking.plan_stays
 
-pub has_walked : (made : List Step) (old mid new : StackTold) → new.entries ≡ mid.entries → WereCounted 0 mid.causes.unplanned new.causes.unplanned → IsWalking made old mid → HasWalked made old new
-has_walked made old mid new same cuts walking = record {
+pub has_walked : (made : List Step) (old mid new : StackTold) → new.entries ≡ mid.entries → mid.faults ≤ new.faults → WereCounted 0 mid.causes.unplanned new.causes.unplanned → IsWalking made old mid → HasWalked made old new
+has_walked made old mid new same counted cuts walking = record {
   more = walking.more;
   grows = same ∙ walking.grows;
   pieces = walking.pieces;
@@ -126,6 +144,10 @@ has_walked made old mid new same cuts walking = record {
   refusals = λ id. subst (λ (es : List Entry). RefusalsExplain old.configuration (Played made walking.pieces []) es id) (sym (same ∙ walking.at)) (walking.refusals id);
   off = subst (λ (n : ℕ). WereCounted n old.causes.unplanned new.causes.unplanned) (nothing_more (unpaid_offs None 0 made walking.pieces))
       (counted_more (unpaid_offs None 0 made walking.pieces) 0 old.causes.unplanned mid.causes.unplanned new.causes.unplanned walking.off cuts);
+  complete = λ calm.
+      subst (λ (h : List Entry). IsServed old.configuration old.most made walking.pieces h) (sym (same ∙ walking.at))
+      (is_served (Found walking.marks walking.ops) made walking.pieces old mid
+      (walking.serves (calm_until old mid new [] (same ∙ sym (append-nil mid.entries)) counted calm)));
 }
   where
     nothing_more : (n : ℕ) → n + 0 ≡ n
@@ -151,6 +173,7 @@ fresh_walking t fresh = record {
   off = none_counted t.causes.unplanned;
   plan_stays = subst (λ (p : Option ℕ). IsNoEarlier None p) (sym fresh.none_planned) tt;
   takes = omega arith;
+  serves = λ calm. record { posts = tt; drains = tt; within = none_within t fresh.marks fresh.ops fresh.entries };
 }
 
 length_mapped : (c : Configuration) → length (map store_of (plain_blocks_of c)) ≡ length c.blocks + 1
@@ -166,10 +189,6 @@ fresh_kept first starts t fresh = record {
 
 -- WHAT IS LEFT
 
-rose_later : (a b d : ℕ) → a ≤ b → Rose b d → Rose a d
-rose_later a b d less (inl rose) = inl (omega (arith, less, rose))
-rose_later a b d less (inr (full, stays)) = elim (eq-or-lt_of_le less) [ inl same ↦ inr (omega (arith, same, full), omega (arith, less, stays)) | inr lower ↦ inl (omega (arith, lower, stays)) ]
-
 were_left : (fault : StepFault) (x : Step) (xs : List Step) (old mid new : StackTold) → mid.configuration ≡ old.configuration → mid.cap ≡ old.cap → old.faults ≤ mid.faults → IsLeft fault x mid new → WereLeft fault (x ∷ xs) old new
 were_left Flash x xs old mid new configuration cap counted left = (left.why.0, rose_later old.faults mid.faults new.faults counted left.why.1)
 were_left Memory x xs old mid new configuration cap counted left = tt
@@ -184,13 +203,13 @@ was_broken fault steps n x old mid new is configuration cap counted walking left
   made = take n steps;
   left = drop n steps;
   order = in_two n steps;
-  walked = has_walked (take n steps) old mid new left.entries left.cuts walking;
+  walked = has_walked (take n steps) old mid new left.entries left.counted left.cuts walking;
   why = subst (λ (xs : List Step). WereLeft fault xs old new) (sym (rest_begins n steps x is)) (were_left fault x (drop (suc n) steps) old mid new configuration cap counted left);
 }
 
 -- nothing was made for want of memory
 pub none_made : (steps : List Step) (t : StackTold) → IsFresh t → WasBroken Memory steps t t
-none_made steps t fresh = record { made = []; left = steps; order = refl; walked = has_walked [] t t t refl (none_counted t.causes.unplanned) (fresh_walking t fresh); why = tt }
+none_made steps t fresh = record { made = []; left = steps; order = refl; walked = has_walked [] t t t refl (omega arith) (none_counted t.causes.unplanned) (fresh_walking t fresh); why = tt }
 
 -- UNDER WAY
 
@@ -198,6 +217,7 @@ pub begin : FirstAreNewest → StartsKeepStored → (steps : List Step) (blocks 
 begin first starts steps blocks table t fresh count is = record {
   configuration = refl;
   cap = refl;
+  most = refl;
   counted = omega arith;
   kept = fresh_kept first starts t fresh;
   table_kept = subst (λ (xs : List ℕ). HasLastStores t.configuration [] xs) (sym (is ∙ ap (λ n. replicate (16 * (n + 1)) 0) count)) (first_table t.configuration);
@@ -210,25 +230,26 @@ takes_enough steps i x old mid at all are =
     let more = ap cuts_of (take_one_more i steps x at) ∙ sum_by_push (λ (y : Step). cuts_in y.kind) (take i steps) x in
     let within = sum_by-take-le (λ (y : Step). cuts_in y.kind) steps (i + 1) in omega (arith, more, within, all, are)
 
-pub go_on : WalksGrow → (steps : List Step) (i : ℕ) (table table' : List ℕ) (old mid new : StackTold) → i < 2 ^ 32 → cuts_of steps ≤ old.causes.takes → AreUnderWay steps i table old mid → MakesAt steps i table table' mid new → AreUnderWay steps (i + 1) table' old new
-go_on grow steps i table table' old mid new few planned way makes =
+pub go_on : WalksGrow → HistoriesGoOn → (steps : List Step) (i : ℕ) (table table' : List ℕ) (old mid new : StackTold) → i < 2 ^ 32 → cuts_of steps ≤ old.causes.takes → AreUnderWay steps i table old mid → MakesAt steps i table table' mid new → AreUnderWay steps (i + 1) table' old new
+go_on grow go steps i table table' old mid new few planned way makes =
     let fewer = few_taken i steps in
     let (made, has) = makes.made (take i steps) (omega (arith, fewer, few)) way.kept way.table_kept in
     let more = take_one_more i steps makes.step makes.at in
     record {
       configuration = made.configuration ∙ way.configuration;
       cap = made.cap ∙ way.cap;
+      most = made.most ∙ way.most;
       counted = let a = way.counted in let b = made.counted in omega (arith, a, b);
       kept = subst (λ (xs : List Step). IsKept xs new) (sym more) made.kept;
       table_kept = subst (λ (xs : List Step). HasLastStores new.configuration xs table') (sym more) (subst (λ (c : Configuration). HasLastStores c (take i steps ++ makes.step ∷ []) table') (sym made.configuration) has);
       walking = subst (λ (xs : List Step). IsWalking xs old new) (sym more)
-          (walks_on grow (take i steps) makes.step made.piece old mid new way.configuration way.walking made.entries made.is made.explained (takes_enough steps i makes.step old mid makes.at planned way.walking.takes));
+          (walks_on grow go (take i steps) makes.step old mid new way.configuration way.most way.counted way.walking made (takes_enough steps i makes.step old mid makes.at planned way.walking.takes));
     }
 
 -- all of them
 pub all_made : (steps : List Step) (i : ℕ) (table : List ℕ) (old now : StackTold) → length steps ≤ i → AreUnderWay steps i table old now → HasWalked steps old now
 all_made steps i table old now all way =
-    subst (λ (xs : List Step). HasWalked xs old now) (all_of i steps all) (has_walked (take i steps) old now now refl (none_counted now.causes.unplanned) way.walking)
+    subst (λ (xs : List Step). HasWalked xs old now) (all_of i steps all) (has_walked (take i steps) old now now refl (omega arith) (none_counted now.causes.unplanned) way.walking)
 
 pub some_made : (fault : StepFault) (steps : List Step) (i : ℕ) (table : List ℕ) (old mid new : StackTold) → AreUnderWay steps i table old mid → LeavesAt fault steps i mid new → WasBroken fault steps old new
 some_made fault steps i table old mid new way leaves = was_broken fault steps i leaves.step old mid new leaves.at way.configuration way.cap way.counted way.walking leaves.left

@@ -1,5 +1,6 @@
 -- What each call of a stack does.
-use Rattle.std.specs.Prelude.{◌≡◌, ◌⊎◌, ◌<◌, ◌≤◌, ◌+◌, ℕ, not, ◌&&◌, Bool, true, false, IsTrue, List, [], ◌∷◌, ◌++◌, get_or, slice_set, sum_by, Option, Some, None, Result, Ok, Err}
+use Rattle.std.specs.Prelude.{◌≡◌, ◌⊎◌, ◌<◌, ◌≤◌, ◌+◌, ℕ, not, ◌&&◌, Bool, true, false, IsTrue, List, [], ◌∷◌, ◌++◌, get_or, slice_set, sum_by, is_some, Option, Some, None, Result, Ok, Err}
+use Rattle.std.specs.List.{list_any}
 use Rattle.nv_base.specs.Count.{Rose, WereCounted}
 use Rattle.nv_base.specs.Entry.{ops_behind}
 use Rattle.nv_desk.specs.declared.ask.AskFault.{AskFault}
@@ -9,6 +10,8 @@ use Rattle.stack_turns.specs.declared.turned.Turned.TheVariants as turned
 use Rattle.stack_turns.specs.declared.turned.FoundAnswer.{FoundAnswer}
 use Rattle.stack_turns.specs.declared.turned.FoundAnswer.TheVariants as found
 use Rattle.block_machine.specs.Words.{Instance, Mark, Request, Reply, Entry, Ask, Found}
+use Rattle.block_machine.specs.State.{Job}
+use Rattle.block_machine.specs.Blocks.{job_block}
 use Rattle.block_machine.specs.Steps.{after_from}
 use Rattle.block_machine.specs.Reply.{fits}
 use Rattle.block_machine.specs.Prices.{sum_from, block_price}
@@ -17,7 +20,8 @@ use Rattle.script_walks.specs.Words.{Refuse}
 use Rattle.script_walks.specs.Walk.{is_at_rest}
 use Rattle.played_walks.specs.Turn.{IsTurn}
 use Rattle.run_promise.specs.Run.{unpaid_off, refusals_of}
-use Rattle.stack_steps.specs.Told.{StackTold, state_of, IsGrown, IsNoEarlier}
+use Rattle.run_promise.specs.Completeness.{ends_job}
+use Rattle.stack_steps.specs.Told.{StackTold, state_of, IsWithin, IsGrown, IsNoEarlier}
 
 -- CAUSES
 
@@ -29,12 +33,26 @@ pub record AreExplained (plan : Option ℕ) (es : List Entry) (old new : StackTo
   pub plan_stays : IsNoEarlier plan new.causes.plan
   pub takes : old.causes.takes ≤ new.causes.takes
 
+-- THE JOB IN HAND
+
+-- of a job in hand: an entry ends it, or it stays in hand and so many turns fewer are left
+abbrev pub Nears : ℕ → List Entry → StackTold → StackTold → Type 0
+Nears turns es old new =
+    (j : Job) → (state_of old).hand ≡ Some j
+    → IsTrue (list_any (ends_job (job_block j)) es) ⊎ (IsTrue (is_some (state_of new).hand) × (new.left + turns ≤ old.left))
+
+-- so many turns serve it
+pub record Serves (turns : ℕ) (es : List Entry) (old new : StackTold) : Type 0 where
+  pub nears : Nears turns es old new
+  pub within : IsWithin old → IsWithin new
+
 -- REQUESTS
 
--- one entry
+-- one entry; a job in hand stays in hand, with the turns that were left of it
 pub record AddsAsk (e : Entry) (old new : StackTold) : Type 0 where
   pub adds : new ≡ record old { entries = old.entries ++ e ∷ []; work = new.work; causes = new.causes }
   pub explained : AreExplained old.causes.plan (e ∷ []) old new
+  pub within : IsWithin old → IsWithin new
 
 -- a request is one entry, or nothing changed: it has no room, or memory was wanting
 abbrev pub Asks : ℕ → Request → Result Reply AskFault → StackTold → StackTold → Type 0
@@ -45,12 +63,12 @@ Asks caller r (Err fault.Memory) old new = new ≡ old
 -- TURNS
 
 -- when each answer comes, by the entries that the turn added
-abbrev pub IsAnswer : Turned → List Entry → StackTold → Type 0
-IsAnswer turned.Idle es old = (es ≡ []) × IsTrue (is_at_rest (state_of old))
-IsAnswer turned.Off es old = (after_from old.configuration (state_of old) es).off ≡ true
-IsAnswer turned.Worked es old = (state_of old).hand ≡ None → (es ≡ []) × IsTrue (is_at_rest (state_of old))
-IsAnswer turned.Picked es old = Unit {0}
-IsAnswer turned.Posted es old = Unit {0}
+abbrev pub IsAnswer : Turned → List Entry → StackTold → StackTold → Type 0
+IsAnswer turned.Idle es old new = (es ≡ []) × IsTrue (is_at_rest (state_of old)) × (new.busy ≡ false)
+IsAnswer turned.Off es old new = (after_from old.configuration (state_of old) es).off ≡ true
+IsAnswer turned.Worked es old new = (state_of old).hand ≡ None → (es ≡ []) × IsTrue (is_at_rest (state_of old))
+IsAnswer turned.Picked es old new = Unit {0}
+IsAnswer turned.Posted es old new = Unit {0}
 
 -- the work falls with each turn, but where nothing was in hand and a fault was counted
 abbrev pub Lowers : Turned → StackTold → StackTold → Type 0
@@ -60,15 +78,16 @@ Lowers turned.Worked old new = (new.work < old.work) ⊎ (((state_of old).hand �
 Lowers turned.Picked old new = new.work < old.work
 Lowers turned.Posted old new = new.work < old.work
 
--- a turn adds one entry at most
+-- A turn adds one entry at most. It serves the job in hand, where it counted no fault and the power is on behind it.
 pub record Turns (answer : Turned) (old new : StackTold) : Type 0 where
   pub entries : List Entry
   pub grows : IsGrown entries old new
   pub counted : old.faults ≤ new.faults
   pub turn : IsTurn old.configuration (state_of old) old.stores entries
   pub explained : AreExplained old.causes.plan entries old new
-  pub answers : IsAnswer answer entries old
+  pub answers : IsAnswer answer entries old new
   pub lowers : Lowers answer old new
+  pub serves : ¬ Rose old.faults new.faults → (state_of new).off ≡ false → Serves 1 entries old new
 
 -- START-UPS
 
@@ -82,7 +101,7 @@ pub record StartsAgain (old new : StackTold) : Type 0 where
 
 -- one that fails adds no entry, and the stack isn't ready
 pub record FailsToStart (old new : StackTold) : Type 0 where
-  pub only : new ≡ record old { ready = false; faults = new.faults; work = new.work; causes = new.causes }
+  pub only : new ≡ record old { ready = false; faults = new.faults; work = new.work; left = new.left; busy = new.busy; causes = new.causes }
   pub fault : Rose old.faults new.faults
   pub explained : AreExplained old.causes.plan [] old new
 

@@ -1,5 +1,5 @@
 -- The steps that were made.
-use Rattle.std.specs.Prelude.{◌≡◌, ◌≤◌, ◌<◌, ◌+◌, ◌^◌, ℕ, not, true, IsTrue, List, [], ◌∷◌, ◌++◌, length, map, sum_by, slice_get, Option, Some, None}
+use Rattle.std.specs.Prelude.{◌≡◌, ◌≤◌, ◌<◌, ◌+◌, ◌^◌, ℕ, not, true, false, IsTrue, List, [], ◌∷◌, ◌++◌, length, map, sum_by, slice_get, Option, Some, None}
 use Rattle.nv_base.specs.Count.{Rose, WereCounted}
 use Rattle.nv_base.specs.Entry.{ops_behind}
 use Rattle.block_machine.specs.Words.{Instance, Mark, Request, Reply, Entry, Ask, Found, Configuration}
@@ -9,13 +9,14 @@ use Rattle.block_machine.specs.Prices.{sum_from, block_price}
 use Rattle.block_machine.specs.Steps.{after}
 use Rattle.ram_blocks.specs.Plain.{store_of, plain_blocks_of}
 use Rattle.script_walks.specs.Words.{Step, StepKind, AskStep, Cut, Restart}
-use Rattle.script_walks.specs.Walk.{request_after, IsPiece, IsWalkOf}
+use Rattle.script_walks.specs.Walk.{request_after, is_at_rest, IsPiece, IsWalkOf}
 use Rattle.run_promise.specs.Run.{Played, plan_after, unpaid_off, offs_of_flash, refusals_of, RefusalsExplain}
+use Rattle.run_promise.specs.Completeness.{turns_of, is_drain, is_restart, IsServed}
 use Rattle.stack_steps.specs.declared.steps.StepFault.{StepFault}
 use Rattle.stack_steps.specs.declared.steps.StepFault.TheVariants.{Flash, HistoryFull, Memory}
-use Rattle.stack_steps.specs.Told.{StackTold, state_of, IsNoEarlier}
-use Rattle.stack_steps.specs.Calls.{AddsAsk}
-use Rattle.stack_steps.specs.Kept.{IsKept}
+use Rattle.stack_steps.specs.Told.{StackTold, state_of, IsWithin, IsNoEarlier}
+use Rattle.stack_steps.specs.Calls.{Nears, AddsAsk}
+use Rattle.stack_steps.specs.Kept.{IsKept, StaysCalm}
 use Rattle.stack_steps.specs.Table.{HasLastStores}
 
 -- THE CAUSES OF A STEP
@@ -43,15 +44,24 @@ pub record IsExplained (kind : StepKind) (piece : List Entry) (old new : StackTo
 
 -- A STEP
 
+-- The step serves the jobs: one in hand is ended, or has as many turns fewer left as the step made, but a restart drops it.
+-- Behind a drain nothing is pending.
+pub record ServesJobs (kind : StepKind) (piece : List Entry) (old new : StackTold) : Type 0 where
+  pub nears : is_restart kind ≡ false → Nears (turns_of kind) piece old new
+  pub within : IsWithin old → IsWithin new
+  pub drains : is_drain kind ≡ true → IsTrue (is_at_rest (state_of new))
+
 -- the step is made: it added its piece
 pub record IsMade (before : List Step) (x : Step) (old new : StackTold) : Type 0 where
   pub piece : List Entry
   pub configuration : new.configuration ≡ old.configuration
   pub cap : new.cap ≡ old.cap
+  pub most : new.most ≡ old.most
   pub entries : new.entries ≡ old.entries ++ piece
   pub counted : old.faults ≤ new.faults
   pub is : IsPiece old.configuration before (state_of old) x piece
   pub explained : IsExplained x.kind piece old new
+  pub serves : StaysCalm old new → ServesJobs x.kind piece old new
   pub kept : IsKept (before ++ x ∷ []) new
 
 -- a request was entered as the step asks it
@@ -99,7 +109,7 @@ pub record IsFresh (t : StackTold) : Type 0 where
   pub none_planned : t.causes.plan ≡ None
 
 -- The history went on, and is a walk of these steps. They explain the copies that its Posts tell as refused, and each Off comes where they
--- planned a cut, or a cut was counted.
+-- planned a cut, or a cut was counted. Where nothing failed they serve its jobs.
 pub record HasWalked (made : List Step) (old new : StackTold) : Type 0 where
   pub more : List Entry
   pub grows : new.entries ≡ old.entries ++ more
@@ -107,6 +117,7 @@ pub record HasWalked (made : List Step) (old new : StackTold) : Type 0 where
   pub walk : IsWalkOf old.configuration made pieces new.entries
   pub refusals : (id : ℕ) → RefusalsExplain old.configuration (Played made pieces []) new.entries id
   pub off : WereCounted (offs_of_flash (Played made pieces []) new.entries) old.causes.unplanned new.causes.unplanned
+  pub complete : StaysCalm old new → IsServed old.configuration old.most made pieces new.entries
 
 -- the step at a place is made, or left
 pub record MakesAt (steps : List Step) (i : ℕ) (table table' : List ℕ) (old new : StackTold) : Type 0 where

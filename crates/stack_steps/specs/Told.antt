@@ -1,8 +1,8 @@
 -- What is told of a stack to whoever plays steps on it.
-use Rattle.std.specs.Prelude.{◌≡◌, ◌⊎◌, ◌≤◌, ℕ, Bool, List, ◌++◌, Option, Some, None}
+use Rattle.std.specs.Prelude.{◌≡◌, ◌⊎◌, ◌<◌, ◌≤◌, ℕ, Bool, List, ◌++◌, Option, Some, None}
 use Rattle.nv_base.specs.Count.{last_count}
 use Rattle.block_machine.specs.Words.{Entry, Configuration}
-use Rattle.block_machine.specs.State.{State}
+use Rattle.block_machine.specs.State.{State, Job}
 use Rattle.block_machine.specs.Steps.{after}
 
 -- what explains refused copies and power cuts
@@ -30,15 +30,26 @@ pub record StackTold : Type 0 where
   pub faults : ℕ
   -- a number that falls with each turn until a drain ends
   pub work : ℕ
+  -- the turns that are left, where no fault comes
+  pub left : ℕ
+  -- the most turns of a job, in a state in which it is in hand; they never change
+  pub most : State → Job → ℕ
+  -- a job of the device is open, or work of its own
+  pub busy : Bool
   pub causes : Causes
 
 -- the state after its entries
 abbrev pub state_of : StackTold → State
 state_of t = after t.configuration t.entries
 
--- these entries more, while faults may be counted and the work and the causes change
+-- a job in hand has a turn left, that of its Post, and no more than its most
+abbrev pub IsWithin : StackTold → Type 0
+IsWithin t = (j : Job) → (state_of t).hand ≡ Some j → (0 < t.left) × (t.left ≤ t.most (state_of t) j)
+
+-- these entries more, while faults may be counted, and the work, the turns that are left, what the device is at and the
+-- causes change
 abbrev pub IsGrown : List Entry → StackTold → StackTold → Type 0
-IsGrown es old new = new ≡ record old { entries = old.entries ++ es; faults = new.faults; work = new.work; causes = new.causes }
+IsGrown es old new = new ≡ record old { entries = old.entries ++ es; faults = new.faults; work = new.work; left = new.left; busy = new.busy; causes = new.causes }
 
 -- a cut that is planned at all comes no earlier than another plan says; a count at its end tells no moment
 abbrev pub IsNoEarlier : Option ℕ → Option ℕ → Type 0

@@ -1,14 +1,19 @@
 -- The steps that are made so far.
-use Rattle.std.specs.Prelude.{◌≡◌, ◌≤◌, ◌+◌, ℕ, List, ◌∷◌, ◌++◌, length, sum_by, take, Option, None}
+use Rattle.std.specs.Prelude.{◌≡◌, ◌⊎◌, ◌≤◌, ◌<◌, ◌+◌, ◌-◌, ℕ, true, false, IsTrue, List, [], ◌∷◌, ◌++◌, length, sum_by, take, Option, Some, None}
+use Rattle.std.specs.List.{list_any}
 use Rattle.nv_base.specs.Count.{WereCounted}
 use Rattle.nv_base.specs.Entry.{ops_behind}
 use Rattle.block_machine.specs.Words.{Instance, Mark, Entry, Found}
+use Rattle.block_machine.specs.State.{State, Job}
+use Rattle.block_machine.specs.Blocks.{job_block}
+use Rattle.block_machine.specs.Steps.{after, after_from}
 use Rattle.block_machine.specs.Prices.{prices_in_refusals}
 use Rattle.script_walks.specs.Words.{Step}
 use Rattle.script_walks.specs.Walk.{IsWalkOf, joined}
 use Rattle.run_promise.specs.Run.{plan_after, unpaid_offs, refusals_of}
-use Rattle.stack_steps.specs.Told.{StackTold, IsNoEarlier}
-use Rattle.stack_steps.specs.Kept.{IsKept}
+use Rattle.run_promise.specs.Completeness.{turns_of, is_drain, is_restart, ends_job, EachPiece, DrainsAll}
+use Rattle.stack_steps.specs.Told.{StackTold, state_of, IsWithin, IsNoEarlier}
+use Rattle.stack_steps.specs.Kept.{IsKept, StaysCalm}
 use Rattle.stack_steps.specs.Made.{cuts_of}
 use Rattle.stack_steps.specs.Table.{HasLastStores}
 
@@ -21,6 +26,36 @@ plan_behind plan ops xs ps = plan
 abbrev pub refusals_in : ℕ → List Step → ℕ
 refusals_in id steps = sum_by (λ x. refusals_of id x.kind) steps
 
+-- SERVICE
+-- The job in hand is of this block, and no more turns are left than so many.
+pub record IsInHand (id n : ℕ) (now : StackTold) : Type 0 where
+  pub job : Job
+  pub hand : (state_of now).hand ≡ Some job
+  pub block : job_block job ≡ id
+  pub left : now.left ≤ n
+
+-- A job of this block, with so many turns at most, was in hand before these steps. A restart comes first, or an entry ends it,
+-- or it is in hand yet, and what is left and the turns that were made are no more than so many.
+abbrev pub IsAwaited : ℕ → ℕ → List Step → List (List Entry) → StackTold → Type 0
+IsAwaited id n [] [] now = IsInHand id n now
+IsAwaited id n (x ∷ xs) (p ∷ ps) now =
+    (is_restart x.kind ≡ true)
+    ⊎ (IsTrue (list_any (ends_job id) p) ⊎ ((is_drain x.kind ≡ false) × (turns_of x.kind < n) × IsAwaited id (n - turns_of x.kind) xs ps now))
+IsAwaited id n xs ps now = ⊥
+
+-- so is each job that is in hand behind a step
+abbrev pub AwaitsInHand : StackTold → StackTold → State → Step → List Entry → List Step → List (List Entry) → Type 0
+AwaitsInHand old now s x p xs ps =
+    (j : Job) → (after_from old.configuration s p).hand ≡ Some j
+    → IsAwaited (job_block j) (old.most (after_from old.configuration s p) j) xs ps now
+
+-- the steps behind a start-up serve the jobs
+pub record AreServing (first : Entry) (made : List Step) (pieces : List (List Entry)) (old now : StackTold) : Type 0 where
+  pub posts : EachPiece old.configuration (AwaitsInHand old now) (after old.configuration (first ∷ [])) made pieces
+  pub drains : EachPiece old.configuration (DrainsAll old.configuration) (after old.configuration (first ∷ [])) made pieces
+  pub within : IsWithin now
+
+-- ALL STEPS
 -- a history that began with a start-up, with a piece for each step
 pub record IsWalking (made : List Step) (old now : StackTold) : Type 0 where
   pub marks : List (Instance × Mark)
@@ -38,11 +73,14 @@ pub record IsWalking (made : List Step) (old now : StackTold) : Type 0 where
   pub off : WereCounted (unpaid_offs None 0 made pieces) old.causes.unplanned now.causes.unplanned
   pub plan_stays : IsNoEarlier (plan_behind None 0 made pieces) now.causes.plan
   pub takes : old.causes.takes ≤ now.causes.takes + cuts_of made
+  -- where nothing failed, they serve the jobs
+  pub serves : StaysCalm old now → AreServing (Found marks ops) made pieces old now
 
 -- the first i steps are made
 pub record AreUnderWay (steps : List Step) (i : ℕ) (table : List ℕ) (old now : StackTold) : Type 0 where
   pub configuration : now.configuration ≡ old.configuration
   pub cap : now.cap ≡ old.cap
+  pub most : now.most ≡ old.most
   pub counted : old.faults ≤ now.faults
   pub kept : IsKept (take i steps) now
   pub table_kept : HasLastStores now.configuration (take i steps) table

@@ -1,8 +1,8 @@
 //! The steps of a script on a stack, over any memory device.
 //!
 //! It promises that the history stays a walk of the steps that were made, that they explain its refused copies and its power
-//! cuts, that what each call keeps is kept, and that each step that is left has its cause. Which device it is, and what
-//! becomes of the history, is left to others.
+//! cuts and serve its jobs where nothing fails, that what each call keeps is kept, and that each step that is left has its
+//! cause. Which device it is, and what becomes of the history, is left to others.
 #![tactic(auto)]
 
 mod last_stores;

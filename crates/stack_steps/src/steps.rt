@@ -22,7 +22,7 @@ use stack_turns::FoundAnswer;
 use std::alloc::{AllocError, Global};
 
 /// Why a step isn't made: a fault at a start-up, a history that is full, or want of memory.
-#[derive(Clone, Copy, Debug, PartialEq, Eq)]
+#[derive(Clone, Copy, PartialEq, Eq)]
 pub enum StepFault {
     Flash,
     HistoryFull,
@@ -61,6 +61,7 @@ pub fn make_steps<S: PlayedStack>(
     turns_keep_what_is_stored();
     stores_are_newest();
     walks_grow();
+    histories_grow();
     let Ok(mut stores) = LastStores::make(alloc, blocks) else {
         return Err(StepFault::Memory);
     };

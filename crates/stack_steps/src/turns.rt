@@ -28,11 +28,12 @@ pub fn make_turns<S: PlayedStack>(stack: &mut S, count: u32)
 }
 
 /// Makes turns until nothing is left to do or the power is off, or until one without a job in hand in which a fault was
-/// counted.
+/// counted. Without a fault and with the power on nothing is open at the device behind it.
 pub fn drain<S: PlayedStack>(stack: &mut S)
     requires { (S.told stack.old).ready ≡ true }
     ensures ready { (S.told stack.new).ready ≡ true }
     ensures drains { (before : List Step) → IsKept before (S.told stack.old) → Drains before (S.told stack.old) (S.told stack.new) × IsKept before (S.told stack.new) }
+    ensures at_rest { ¬ Rose (S.told stack.old).faults (S.told stack.new).faults → (state_of (S.told stack.new)).off ≡ false → (S.told stack.new).busy ≡ false }
     ensures keeps { (before : PartTold) → S.kept stack.old before → S.kept stack.new before }
 {
     turns_keep_what_is_stored();
@@ -45,6 +46,7 @@ fn ends_drain<S: PlayedStack>(stack: &mut S) -> bool
     requires { (S.told stack.old).ready ≡ true }
     ensures turn { MakesTurn (S.told stack.old) (S.told stack.new) }
     ensures ends { result ≡ true → IsTrue (is_at_rest (state_of (S.told stack.new)) || (state_of (S.told stack.new)).off) }
+    ensures at_rest { result ≡ true → ¬ Rose (S.told stack.old).faults (S.told stack.new).faults → (state_of (S.told stack.new)).off ≡ false → (S.told stack.new).busy ≡ false }
     ensures goes_on { result ≡ false → (S.told stack.new).work < (S.told stack.old).work }
     ensures keeps { (before : PartTold) → S.kept stack.old before → S.kept stack.new before }
 {
@@ -67,7 +69,8 @@ fn is_last(turned: Turned, in_hand: bool, risen: bool) -> bool
 
 // Whether a count rose, or stands at its end.
 fn has_risen(before: u64, after: u64) -> bool
-    ensures { result ≡ false → Rose before after → ⊥ }
+    ensures rose { result ≡ true → before ≤ after → Rose before after }
+    ensures not { result ≡ false → Rose before after → ⊥ }
 {
     before < after || before == u64::MAX
 }

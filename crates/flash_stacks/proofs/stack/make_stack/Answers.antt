@@ -12,4 +12,4 @@ returns-in-Err-make-clause-stopped g c =
 
 pub returns-in-Ok-make-clause-made : goal.returns-in-Ok-make-clause-made
 returns-in-Ok-make-clause-made g c =
-    made_stack c.args.config g.O.Origin.making g.O.Origin.entry c.in-Ok-make.stack c.in-Ok-make_device.device c.in-Ok.copies c.in-Ok-make.ensures.made c.in-Ok-make_device.ensures.made c.in-Ok-make_device.ensures.parts c.in-Ok.ensures
+    made_stack c.args.config g.O.Origin.making g.O.Origin.entry c.in-Ok-make.stack c.in-Ok-make_device.device c.in-Ok.copies c.in-Ok-make.ensures.made c.in-Ok-make_device.ensures.made c.in-Ok-make_device.ensures.parts c.in-Ok-make_device.ensures.fixed c.in-Ok.ensures

@@ -1,4 +1,4 @@
-use Rattle.std.proofs.Common.{◌≡◌, sym, ap, subst}
+use Rattle.std.proofs.Common.{sym, subst}
 use Rattle.device_clock.specs.Device.{Device, told_of}
 use Rattle.found_marks.specs.Found.{FailsToFind}
 use Rattle.flash_stacks.proofs.Returning.{failed_back, fails_alone}

@@ -1,8 +1,5 @@
-use Rattle.run_promise.proofs.WrongCalls.{not_posted, not_urgent}
+use Rattle.run_promise.proofs.WrongCalls.{not_posted}
 use Rattle.run_promise.proofs.cases.runs_that_are_served.Goals as goal
 
 pub returns-clause-not_posted : goal.returns-clause-not_posted
 returns-clause-not_posted c = not_posted
-
-pub returns-clause-not_urgent : goal.returns-clause-not_urgent
-returns-clause-not_urgent c = not_urgent

@@ -2,7 +2,7 @@ use Rattle.std.proofs.Common.{◌<◌, ◌^◌, sym, subst, arith}
 use Rattle.block_config.specs.Config.{Configuration}
 use Rattle.played_steps.specs.Played.{ArePlayed}
 use Rattle.stack_steps.proofs.Table.{holds_synchronized}
-use Rattle.stack_steps.proofs.Walking.{none_made, begin, go_on, some_made}
+use Rattle.stack_steps.proofs.Walking.{none_made, begin, go_on, all_made, some_made}
 use Rattle.stack_steps.proofs.steps.make_steps.Goals as goal
 
 pub returns-in_default-clause-some : goal.returns-in_default-clause-some
@@ -28,10 +28,14 @@ pub loop-i-preserved : goal.loop-i-preserved
 loop-i-preserved g c =
     let few : c.loop-i.i < 2 ^ 32 = omega arith in
     record {
-      way = go_on c.walks_grow.ensures c.args.steps.now c.loop-i.i c.loop-i.stores c.make_next.new.stores (g.S.PlayedStack.told c.args.stack.now) (g.S.PlayedStack.told c.loop-i.stack) (g.S.PlayedStack.told c.make_next.new.stack) few c.requires.planned c.loop-i.invariant.way c.in_default-make_next.ensures.made;
+      way = go_on c.walks_grow.ensures c.histories_grow.ensures.goes_on c.args.steps.now c.loop-i.i c.loop-i.stores c.make_next.new.stores (g.S.PlayedStack.told c.args.stack.now) (g.S.PlayedStack.told c.loop-i.stack) (g.S.PlayedStack.told c.make_next.new.stack) few c.requires.planned c.loop-i.invariant.way c.in_default-make_next.ensures.made;
       keeps = λ before kept. c.make_next.ensures.keeps before (c.loop-i.invariant.keeps before kept);
     }
 
 pub returns-in-Err-clause-some : goal.returns-in-Err-clause-some
 returns-in-Err-clause-some g c =
     some_made c.in-Err.fault c.args.steps.now c.loop-i.i c.loop-i.stores (g.S.PlayedStack.told c.args.stack.now) (g.S.PlayedStack.told c.loop-i.stack) (g.S.PlayedStack.told c.make_next.new.stack) c.loop-i.invariant.way c.in-Err.ensures.left
+
+pub returns-clause-all : goal.returns-clause-all
+returns-clause-all g c =
+    all_made c.args.steps.now c.loop-i.i c.loop-i.stores (g.S.PlayedStack.told c.args.stack.now) (g.S.PlayedStack.told c.loop-i.stack) (omega (arith, c.loop-i-test.false, c.len-i-end.ensures)) c.loop-i.invariant.way

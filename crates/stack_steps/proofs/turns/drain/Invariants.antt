@@ -1,4 +1,4 @@
-use Rattle.std.proofs.Common.{◌≡◌, true, List}
+use Rattle.std.proofs.Common.{◌≡◌, ◌≤◌, true, List}
 use Rattle.block_machine.specs.Words.{Entry}
 use Rattle.memif.specs.Told.{PartTold}
 use Rattle.script_walks.specs.Words.{Step}
@@ -8,8 +8,9 @@ use Rattle.stack_steps.proofs.turns.drain.Given as goal
 abbrev pub invariant-loop : goal.invariant-loop
 invariant-loop g l = record {
   ready : (g.S.PlayedStack.told l.stack).ready ≡ true;
+  counted : (g.S.PlayedStack.told l.initial.stack).faults ≤ (g.S.PlayedStack.told l.stack).faults;
   kept : (before : List Step) → IsKept before (g.S.PlayedStack.told l.initial.stack)
-      → (es : List Entry) × HasTurned before (g.S.PlayedStack.told l.initial.stack) (g.S.PlayedStack.told l.stack) es × IsKept before (g.S.PlayedStack.told l.stack);
+      → (es : List Entry) × HasTurned 0 before (g.S.PlayedStack.told l.initial.stack) (g.S.PlayedStack.told l.stack) es × IsKept before (g.S.PlayedStack.told l.stack);
   keeps : (before : PartTold) → g.S.PlayedStack.kept l.initial.stack before → g.S.PlayedStack.kept l.stack before;
 }
 

@@ -1,5 +1,6 @@
-use Rattle.std.proofs.Common.{◌≡◌, ℕ, ap, ◌∙◌, refl, subst, arith}
+use Rattle.std.proofs.Common.{◌≡◌, ℕ, refl, subst, arith}
 use Rattle.stack_steps.specs.Kept.{MakesTurns}
+use Rattle.stack_steps.proofs.Grown.{ready_grown}
 use Rattle.stack_steps.proofs.Turned.{made_turn, one_turn_more}
 use Rattle.stack_steps.proofs.turns.make_turns.Goals as goal
 
@@ -10,7 +11,7 @@ pub loop-turn-preserved : goal.loop-turn-preserved
 loop-turn-preserved g c =
     let was = c.loop-turn.invariant in
     record {
-      ready = ap (λ t. t.ready) c.turn.ensures.turns.grows ∙ was.ready;
+      ready = ready_grown (g.S.PlayedStack.told c.loop-turn.stack) (g.S.PlayedStack.told c.turn.new.self) c.turn.ensures.turns.entries c.turn.ensures.turns.grows was.ready;
       turns = λ before kept.
           let (made, now) = was.turns before kept in
           one_turn_more c.histories_grow.ensures.goes_on c.turns_keep_what_is_stored.ensures.turn c.turns_keep_what_is_stored.ensures.goes_on c.turns_keep_what_is_stored.ensures.grow c.loop-turn._turn before (g.S.PlayedStack.told c.args.stack.now) (g.S.PlayedStack.told c.loop-turn.stack) (g.S.PlayedStack.told c.turn.new.self) made now

@@ -1,6 +1,6 @@
 use Rattle.std.specs.Prelude.{IfSome}
-use Rattle.std.proofs.Common.{◌≡◌, ◌≤◌, List, [], ap, ◌∙◌, sym, subst}
-use Rattle.fls_model.specs.Told.{Told, Change, changes_in}
+use Rattle.std.proofs.Common.{◌≡◌, ◌≤◌, [], ap, ◌∙◌, sym, subst}
+use Rattle.fls_model.specs.Told.{Told, changes_in}
 use Rattle.device_bridge.specs.Bridge.{Bridges}
 use Rattle.device_clock.specs.Device.{Device, part_of}
 use Rattle.device_clock.specs.Clock.{clock_of}

@@ -4,7 +4,7 @@ use Rattle.fls_model.specs.Attach.{IsAttached}
 use Rattle.fls_jobs.specs.Start.{IsIdle}
 use Rattle.fls_jobs.specs.State.{FlsState}
 use Rattle.device_bridge.specs.Bridge.{Making}
-use Rattle.fee_state.specs.Inside.{Parts}
+use Rattle.fee_state.specs.Inside.{Parts, fixed_in}
 use Rattle.nv_base.specs.Geometry.{sectors_of_bank}
 use Rattle.switch_course.specs.Course.{most_turns}
 use Rattle.fee_core.specs.Whole.{Sound}
@@ -27,3 +27,6 @@ pub returns-clause-parts : goal.returns-clause-parts
 returns-clause-parts g c n =
     let m = g.O.Origin.making in
     all_first m.geometry.page (most_turns m.geometry.page (sectors_of_bank m.geometry 2) m.numbers) m.numbers n
+
+pub returns-clause-fixed : goal.returns-clause-fixed
+returns-clause-fixed g c = ap (λ (m : Making). fixed_in m) c.requires.making

@@ -1,0 +1,57 @@
+-- Where nothing fails a run serves its jobs.
+use Rattle.std.proofs.Common.{◌≡◌, ℕ, List, [], ◌∷◌, sym, subst}
+use Rattle.nv_base.specs.Count.{Rose}
+use Rattle.block_config.specs.Config.{Configuration}
+use Rattle.memif.specs.Told.{PartTold}
+use Rattle.fls_model.specs.Told.{Told, Change}
+use Rattle.script_walks.specs.Words.{Step}
+use Rattle.block_machine.specs.Words.{Entry}
+use Rattle.block_machine.specs.State.{State, Job}
+use Rattle.block_machine.specs.Steps.{after}
+use Rattle.run_promise.specs.Run.{Run, Course, Played, Ran, End, FlashFault, HasOrder, Follows, LeavesFor, RunsBy, EndsAtStart}
+use Rattle.run_promise.specs.Completeness.{Completeness, IsServed}
+use Rattle.stack_steps.specs.Told.{StackTold}
+use Rattle.stack_steps.specs.Made.{HasWalked}
+use Rattle.flash_stacks.specs.Turns.{job_turns}
+use Rattle.nvm_top.specs.Machine.{IsStarted, run_of}
+use Rattle.nvm_top.proofs.PlayLemmas.{Rose-after}
+
+-- A FLASH FAULT WAS COUNTED
+
+by_steps : (r : Run) (s : State) (left : List Step) → LeavesFor r s FlashFault left → Rose r.flash.entry.faults r.flash.exit.faults
+by_steps r s [] is = absurd is
+by_steps r s (x ∷ xs) is = is.1
+
+by_course : (r : Run) (course : Course) (h : List Entry) → r.end ≡ FlashFault → Follows r course h → Rose r.flash.entry.faults r.flash.exit.faults
+by_course r (Played made pieces left) h is follows =
+    by_steps r (after r.configuration h) left (subst (λ (e : End). LeavesFor r (after r.configuration h) e left) is follows.1)
+by_course r (Ran steps) h is follows = absurd (subst (λ (e : End). RunsBy r.configuration steps e h) is follows)
+
+by_order : (r : Run) (h : List Entry) → r.end ≡ FlashFault → HasOrder r h → Rose r.flash.entry.faults r.flash.exit.faults
+by_order r [] is order = subst (λ (e : End). EndsAtStart r.flash e) is order.0
+by_order r (e ∷ es) is order = by_course r r.course (e ∷ es) is order
+
+-- RUNS
+
+-- one without a start-up has no job
+pub early_complete : (c : Configuration) (steps : List Step) (entry exit : Told) (end : End) → HasOrder (run_of c [] entry exit [] (Played [] [] steps) end) []
+    → Completeness (job_turns c) (run_of c [] entry exit [] (Played [] [] steps) end) (Played [] [] steps)
+early_complete c steps entry exit end order calm = record {
+  ends = λ is. calm.no_fault (by_order (run_of c [] entry exit [] (Played [] [] steps) end) [] is order);
+  served = record { posts = tt; drains = tt };
+}
+
+-- the faults that the stack was told are its flash's
+pub walked_complete : {c : Configuration} {cuts : ℕ} (made left : List Step) (end : End) (before : PartTold) (old t : StackTold) (entry exit : Told) (operations : List Change) → IsStarted c cuts before old → (walked : HasWalked made old t)
+    → t.configuration ≡ old.configuration → (Rose before.faults t.faults → Rose entry.faults exit.faults) → HasOrder (run_of t.configuration t.entries entry exit operations (Played made walked.pieces left) end) t.entries
+    → Completeness (job_turns t.configuration) (run_of t.configuration t.entries entry exit operations (Played made walked.pieces left) end) (Played made walked.pieces left)
+walked_complete {c} {cuts} made left end before old t entry exit operations started walked same faults order calm = record {
+  ends = λ is. calm.no_fault (by_order (run_of t.configuration t.entries entry exit operations (Played made walked.pieces left) end) t.entries is order);
+  served =
+      subst (λ (x : Configuration). IsServed x (job_turns x) made walked.pieces t.entries) (sym same)
+      (subst (λ (x : Configuration). IsServed old.configuration (job_turns x) made walked.pieces t.entries) (sym started.configuration)
+      (subst (λ (most : State → Job → ℕ). IsServed old.configuration most made walked.pieces t.entries) started.turns (walked.complete (record {
+        no_fault = λ rose. calm.no_fault (faults (Rose-after before.faults old.faults t.faults started.faults rose));
+        entries = calm.entries;
+      }))));
+}
