@@ -8,7 +8,7 @@ use block_config::Config;
 use nv_base::{Entry, Instance, JobKind, Mark, Reply, Request, Taken};
 
 /// Whether the mark may stand, and the data index of the block, behind the entries so far.
-#[derive(Clone, Copy, Debug)]
+#[derive(Clone, Copy)]
 pub struct Seen {
     pub stands: bool,
     pub index: u8,

@@ -8,7 +8,7 @@ use std::alloc::{AllocError, Global};
 
 /// How a block is stored (NvMBlockManagementType): one instance, two copies, or several datasets that an index
 /// chooses from.
-#[derive(Clone, Copy, Debug, PartialEq, Eq)]
+#[derive(Clone, Copy, PartialEq, Eq)]
 pub enum BlockKind {
     Native,
     Redundant,
@@ -17,7 +17,7 @@ pub enum BlockKind {
 
 /// The RAM of a block: none, a permanent RAM block, or one of the application's that is synchronized by copies
 /// (NvMBlockUseSyncMechanism).
-#[derive(Clone, Copy, Debug, PartialEq, Eq)]
+#[derive(Clone, Copy, PartialEq, Eq)]
 pub enum RamKind {
     None,
     Permanent,
@@ -25,7 +25,7 @@ pub enum RamKind {
 }
 
 /// The description of a block (NvMBlockDescriptor).
-#[derive(Debug, Drop)]
+#[derive(Drop)]
 pub struct BlockDesc {
     pub kind: BlockKind,
     /// Bytes of a content.

@@ -19,7 +19,7 @@ use std::marker::Model;
 
 /// The configuration of the NVRAM Manager. Contracts see its numbers and its blocks, block 1 first. It keeps every
 /// rule.
-#[derive(Debug, Drop)]
+#[derive(Drop)]
 pub struct Config {
     id: u16,
     geometry: Geometry,

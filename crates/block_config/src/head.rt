@@ -15,7 +15,7 @@ use nv_base::Geometry;
 use serde_json::{Map, Value};
 
 /// The configuration id, the shape of the flash, and the sizes of the standard and the immediate queue.
-#[derive(Clone, Copy, Debug)]
+#[derive(Clone, Copy)]
 pub struct Head {
     pub id: u16,
     pub geometry: Geometry,

@@ -6,7 +6,7 @@ use std::alloc::{AllocFailed, Global};
 use std::marker::Model;
 
 /// The contents of a block's ROM datasets. Contracts see the list.
-#[derive(Debug, Drop)]
+#[derive(Drop)]
 pub struct RomList {
     items: Vec<Bytes>,
 }

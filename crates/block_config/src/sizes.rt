@@ -8,7 +8,7 @@ use nv_base::record_pages;
 
 /// What is added up over all blocks: the instances, the pages of all of them, the pages of the greatest, and the
 /// most pages of one immediate write.
-#[derive(Clone, Copy, Debug)]
+#[derive(Clone, Copy)]
 pub struct Measures {
     pub instances: u16,
     pub all: u32,

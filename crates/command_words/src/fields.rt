@@ -10,7 +10,7 @@ use clap::error::ErrorKind;
 use std::alloc::{AllocError, Global};
 
 /// The words of a call: the image, the command, and what stands behind it.
-#[derive(Clone, Copy, Debug)]
+#[derive(Clone, Copy)]
 pub(crate) struct Fields<'a> {
     pub image: &'a str,
     pub command: &'a str,

@@ -8,7 +8,7 @@ use nv_base::decimal_number;
 use std::alloc::{AllocError, Global};
 
 /// One of the commands, `soak` with its seed and its count of rounds.
-#[derive(Clone, Copy, Debug, PartialEq, Eq)]
+#[derive(Clone, Copy, PartialEq, Eq)]
 pub enum CommandKind {
     Play,
     Run,

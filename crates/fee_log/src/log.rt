@@ -29,7 +29,7 @@ use std::alloc::{AllocError, Global};
 use std::marker::Model;
 
 /// One bank as a log of records, with the place and a flag of each configured number. At most one record is in work.
-#[derive(Debug, Drop)]
+#[derive(Drop)]
 pub struct Log {
     geometry: Geometry,
     banks: u32,

@@ -7,7 +7,7 @@ use fee_view::BankView;
 
 /// Blank pages; so many pages of the record in work; the header of a record that was given up before its header gate,
 /// which is programmed before the record that waits for it; or anything, and then nothing is appended any more.
-#[derive(Clone, Copy, Debug)]
+#[derive(Clone, Copy)]
 pub enum Tail {
     Open,
     Writes {

@@ -3,7 +3,7 @@
 use nv_base::{DeviceNumber, DeviceOp};
 
 /// An operation on a number, with the length of its content. An urgent write that was ready is promised to end soon.
-#[derive(Clone, Copy, Debug, Drop)]
+#[derive(Clone, Copy, Drop)]
 pub struct FeeJob {
     pub number: DeviceNumber,
     pub op: DeviceOp,

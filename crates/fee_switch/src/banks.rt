@@ -38,7 +38,7 @@ use switch_course::{Course, Source, next_copy};
 
 /// The banks of a flash, of which one at most is active, with the logs of that one and of the target of a switch. Nothing in it
 /// but `make` names how many they are.
-#[derive(Debug, Drop)]
+#[derive(Drop)]
 pub struct Banks {
     geometry: Geometry,
     banks: u32,

@@ -6,7 +6,7 @@ use switch_course::Course;
 
 /// No switch is open; or one erases its target, copies, or programs its head and gate; or its gate failed and is programmed
 /// again.
-#[derive(Clone, Copy, Debug, PartialEq, Eq)]
+#[derive(Clone, Copy, PartialEq, Eq)]
 pub enum Phase {
     None,
     Erase,
@@ -16,14 +16,14 @@ pub enum Phase {
 }
 
 /// The answer of a start-up: the banks are ready, or a read failed, which a fault counts.
-#[derive(Clone, Copy, Debug, PartialEq, Eq)]
+#[derive(Clone, Copy, PartialEq, Eq)]
 pub enum BankStart {
     Ready,
     Failed,
 }
 
 /// The answer to the beginning of a switch: it is open, or the active bank has the last generation.
-#[derive(Clone, Copy, Debug, PartialEq, Eq)]
+#[derive(Clone, Copy, PartialEq, Eq)]
 pub enum BankBegin {
     Begun,
     WornOut,
@@ -31,7 +31,7 @@ pub enum BankBegin {
 
 /// The answer to a step of a switch: its operation was done, and was or wasn't the last; it failed, which a fault counts; or
 /// the power is off.
-#[derive(Clone, Copy, Debug, PartialEq, Eq)]
+#[derive(Clone, Copy, PartialEq, Eq)]
 pub enum BankStep {
     More,
     Ended,

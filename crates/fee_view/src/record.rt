@@ -12,7 +12,7 @@ use fee_image::records_stay;
 /// A record as its bank shows it: the page of the bank where its header stands, its number and kind (1 a content, 2 an
 /// invalidated instance, 3 an erased one), whether it is one of the bank's list, which each item of it is, whether its
 /// commit gate stands open, and its content, a slice of the bank.
-#[derive(Clone, Copy, Debug)]
+#[derive(Clone, Copy)]
 pub struct Record<'a> {
     pub at: u32,
     pub number: u16,

@@ -5,7 +5,7 @@ ghost use Rattle.fls_devices.specs.Part.{kept_page, harmed, cuts_after, faults_a
 use fls_model::FlashAnswer;
 
 /// What befalls an operation: a power cut, or a fault.
-#[derive(Clone, Copy, Debug)]
+#[derive(Clone, Copy)]
 pub enum Harm {
     Cut,
     Fault,

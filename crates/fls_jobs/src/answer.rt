@@ -2,7 +2,7 @@
 
 /// Why a job wasn't taken, in the order of the tests: another is open, the flash isn't attached, the place isn't
 /// aligned or lies outside, the length isn't one that the job may have there.
-#[derive(Clone, Copy, Debug, PartialEq, Eq)]
+#[derive(Clone, Copy, PartialEq, Eq)]
 pub enum FlsRefusal {
     Busy,
     Uninit,
@@ -11,7 +11,7 @@ pub enum FlsRefusal {
 }
 
 /// What a turn did: nothing as no job is open, one flash call, or nothing as the power is off.
-#[derive(Clone, Copy, Debug, PartialEq, Eq)]
+#[derive(Clone, Copy, PartialEq, Eq)]
 pub enum FlsTurn {
     Idle,
     Worked,
@@ -19,7 +19,7 @@ pub enum FlsTurn {
 }
 
 /// Not attached yet, without a job, or with one open (SWS Flash Driver, MemIf_StatusType).
-#[derive(Clone, Copy, Debug, PartialEq, Eq)]
+#[derive(Clone, Copy, PartialEq, Eq)]
 pub enum FlsStatus {
     Uninit,
     Idle,
@@ -28,7 +28,7 @@ pub enum FlsStatus {
 
 /// What the last job came to: done, failed by a counted fault, still open, canceled, or done with bytes that differ
 /// (SWS Flash Driver, MemIf_JobResultType).
-#[derive(Clone, Copy, Debug, PartialEq, Eq)]
+#[derive(Clone, Copy, PartialEq, Eq)]
 pub enum FlsResult {
     JobOk,
     JobFailed,

@@ -10,7 +10,7 @@ use nv_base::Geometry;
 use std::alloc::Global;
 
 /// The answer of a flash call: done, failed by a counted fault, or not done as the power is off.
-#[derive(Clone, Copy, Debug, PartialEq, Eq)]
+#[derive(Clone, Copy, PartialEq, Eq)]
 pub enum FlashAnswer {
     Done,
     Failed,
@@ -19,7 +19,7 @@ pub enum FlashAnswer {
 
 /// Why a flash couldn't be attached: a counted fault, a size in bytes that is neither 0 nor the geometry's, or want
 /// of memory.
-#[derive(Clone, Copy, Debug, PartialEq, Eq)]
+#[derive(Clone, Copy, PartialEq, Eq)]
 pub enum AttachFault {
     Failed,
     WrongSize { found: u64 },

@@ -18,7 +18,7 @@ use turn_laws::{start_up, the_machine_is_behind};
 
 /// Memory for the marks of all configured instances, each a content, so that a start-up takes none. Contracts see the
 /// device numbers with the lengths of their contents.
-#[derive(Debug, Drop)]
+#[derive(Drop)]
 pub struct FoundRoom {
     places: Vec<Place>,
     marks: MarksRoom,

@@ -10,7 +10,7 @@ use nv_base::{Bytes, DeviceNumber, Instance, Mark};
 use std::alloc::{AllocError, Global};
 
 /// A number with the length of its content, the kind of the mark that was found, and memory for a content.
-#[derive(Debug, Drop)]
+#[derive(Drop)]
 pub(crate) struct Place {
     pub number: DeviceNumber,
     pub length: u16,

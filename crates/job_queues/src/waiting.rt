@@ -5,7 +5,7 @@ ghost use Rattle.job_queues.specs.Order.{rank_of};
 
 /// A job that waits: its block, that block's priority (0 to 255, the lowest), whether it is immediate, and the number of
 /// the entry that accepted it.
-#[derive(Clone, Copy, Debug, PartialEq, Eq)]
+#[derive(Clone, Copy, PartialEq, Eq)]
 pub struct Waiting {
     pub block: u16,
     pub priority: u8,

@@ -12,7 +12,7 @@ use nv_base::{JobKind, ReqResult};
 
 /// A request on all blocks, from its acceptance to the Post of id 0: the number of the entry that accepted it, whether it
 /// was picked, the entries that are reserved for it, and its members to come.
-#[derive(Debug, Drop)]
+#[derive(Drop)]
 pub struct PendingSweep {
     pub number: u32,
     pub under_way: bool,

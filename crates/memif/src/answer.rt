@@ -4,7 +4,7 @@ ghost use Rattle.memif.specs.Refusal.{number_of_refusal};
 
 /// Why a job wasn't taken, numbered 1 to 4 in the order of the tests: a job is open, no start-up answered Ok last,
 /// the number isn't configured, the length isn't the number's.
-#[derive(Clone, Copy, Debug, PartialEq, Eq)]
+#[derive(Clone, Copy, PartialEq, Eq)]
 pub enum DeviceRefusal {
     Busy,
     Uninit,
@@ -14,7 +14,7 @@ pub enum DeviceRefusal {
 
 /// What a device is at (SWS Memory Abstraction Interface, MemIf_StatusType): not started, without work, at a job, or
 /// at work of its own.
-#[derive(Clone, Copy, Debug, PartialEq, Eq)]
+#[derive(Clone, Copy, PartialEq, Eq)]
 pub enum MemStatus {
     Uninit,
     Idle,
@@ -24,7 +24,7 @@ pub enum MemStatus {
 
 /// What the last job came to (SWS Memory Abstraction Interface, MemIf_JobResultType): done, failed, still open,
 /// canceled, a read of an erased number, or a read of an invalidated one.
-#[derive(Clone, Copy, Debug, PartialEq, Eq)]
+#[derive(Clone, Copy, PartialEq, Eq)]
 pub enum JobResult {
     JobOk,
     JobFailed,
@@ -35,7 +35,7 @@ pub enum JobResult {
 }
 
 /// What a turn did: nothing as nothing is open, a step of the work, or nothing as the power is off.
-#[derive(Clone, Copy, Debug, PartialEq, Eq)]
+#[derive(Clone, Copy, PartialEq, Eq)]
 pub enum DeviceTurn {
     Idle,
     Worked,
@@ -43,13 +43,13 @@ pub enum DeviceTurn {
 }
 
 /// Why a start-up didn't come to its end: a counted fault.
-#[derive(Clone, Copy, Debug, PartialEq, Eq)]
+#[derive(Clone, Copy, PartialEq, Eq)]
 pub enum StartFault {
     Fault,
 }
 
 /// A mark without its content.
-#[derive(Clone, Copy, Debug, PartialEq, Eq)]
+#[derive(Clone, Copy, PartialEq, Eq)]
 pub enum PlainMark {
     Content,
     Invalid,

@@ -11,7 +11,7 @@ use std::marker::Model;
 
 /// What decides whether a member is picked: whether its block is locked or protected, whether its RAM is valid and
 /// changed, and whether it is a dataset whose index names ROM.
-#[derive(Clone, Copy, Debug, PartialEq, Eq)]
+#[derive(Clone, Copy, PartialEq, Eq)]
 pub struct MemberFacts {
     pub locked: bool,
     pub protected: bool,
@@ -22,7 +22,7 @@ pub struct MemberFacts {
 
 /// What comes next: a member is picked; it is skipped, or posted with its defaults if it has some, without a Pick; or
 /// the sweep ends with the result of id 0.
-#[derive(Clone, Copy, Debug, PartialEq, Eq)]
+#[derive(Clone, Copy, PartialEq, Eq)]
 pub enum SweepStep {
     Member { block: u16 },
     Skip { block: u16 },
@@ -31,7 +31,7 @@ pub enum SweepStep {
 }
 
 /// Which members are to come: all, block 1 first; those behind block 1 and so many blocks more; or none.
-#[derive(Clone, Copy, Debug)]
+#[derive(Clone, Copy)]
 pub enum Place {
     First,
     Behind { passed: u16 },
@@ -40,7 +40,7 @@ pub enum Place {
 
 /// A request on all blocks under way: a WriteAll, or else a ReadAll; whether it was canceled, whether block 1 gave the
 /// configuration id, and whether a member spoiled it.
-#[derive(Debug, Drop)]
+#[derive(Drop)]
 pub struct Sweep {
     writes: bool,
     place: Place,

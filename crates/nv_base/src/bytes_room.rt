@@ -7,7 +7,7 @@ use std::marker::Model;
 
 /// Memory that was taken beforehand for a list of bytes, so that the list can be made without taking any. Contracts
 /// see how many bytes have room.
-#[derive(Debug, Drop)]
+#[derive(Drop)]
 pub struct BytesRoom {
     empty: Vec<u8>,
 }

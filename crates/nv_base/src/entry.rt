@@ -4,7 +4,7 @@ use crate::{Bytes, Instance, JobKind, Mark, Marks, Reply, ReqResult, Request};
 /// What a Pick takes: nothing; a content, with the number of its store where it is a synchronized block's, else 0; or
 /// no content, as each of `count` copies was refused, or none was as new as the store `asked` for and the last one
 /// was store `got`.
-#[derive(Debug, Drop)]
+#[derive(Drop)]
 pub enum Taken {
     Nothing,
     Content { bytes: Bytes, store: u64 },
@@ -14,7 +14,7 @@ pub enum Taken {
 
 /// One event of the manager. `ops` is the number of changing flash operations (program, erase) that the device was
 /// asked for so far, a failed or cut one included.
-#[derive(Debug, Drop)]
+#[derive(Drop)]
 pub enum Entry {
     /// A request was accepted, answered or refused.
     Ask {

@@ -7,7 +7,7 @@ use std::marker::Model;
 
 /// The entries of a run in order, and how many there may be (its cap). An entry is never changed nor taken out.
 /// Contracts see the entries, the cap, and for how many more entries memory is reserved.
-#[derive(Debug, Drop)]
+#[derive(Drop)]
 pub struct History {
     entries: Vec<Entry>,
     cap: u32,

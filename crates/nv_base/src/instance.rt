@@ -4,14 +4,14 @@ ghost use Rattle.nv_base.specs.Marks.{instance_of, number_of};
 
 /// One stored instance of a block: a native block has index 0, a redundant one 0 and 1, a dataset one for each
 /// stored dataset.
-#[derive(Clone, Copy, Debug, PartialEq, Eq, PartialOrd, Ord)]
+#[derive(Clone, Copy, PartialEq, Eq, PartialOrd, Ord)]
 pub struct Instance {
     pub block: u16,
     pub index: u8,
 }
 
 /// The number by which a memory device knows an instance. Its low six bits are the index.
-#[derive(Clone, Copy, Debug, PartialEq, Eq, PartialOrd, Ord)]
+#[derive(Clone, Copy, PartialEq, Eq, PartialOrd, Ord)]
 pub struct DeviceNumber(pub u16);
 
 /// The device number of an instance: 64 numbers for each block.

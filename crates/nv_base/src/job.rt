@@ -2,7 +2,7 @@
 use crate::{Instance, ReqResult};
 
 /// An operation of the memory device, on one instance.
-#[derive(Clone, Copy, Debug, PartialEq, Eq)]
+#[derive(Clone, Copy, PartialEq, Eq)]
 pub enum DeviceOp {
     Read,
     Write,
@@ -13,7 +13,7 @@ pub enum DeviceOp {
 /// What became of a job's last step: none was made yet (`First`), the operation wrote its mark (`Wrote`), it read a
 /// content (`Read`), it found the instance erased (`Inconsistent`, after MEMIF_BLOCK_INCONSISTENT) or invalidated
 /// (`Invalid`), or this try of it failed (`Failed`).
-#[derive(Clone, Copy, Debug, PartialEq, Eq)]
+#[derive(Clone, Copy, PartialEq, Eq)]
 pub enum Outcome {
     First,
     Wrote,
@@ -25,7 +25,7 @@ pub enum Outcome {
 
 /// Where the content comes from that a job gives: nowhere, since it gives none; what its last read read; the block's
 /// defaults; or the ROM dataset of its index.
-#[derive(Clone, Copy, Debug, PartialEq, Eq)]
+#[derive(Clone, Copy, PartialEq, Eq)]
 pub enum GivenFrom {
     Nothing,
     Device,
@@ -34,7 +34,7 @@ pub enum GivenFrom {
 }
 
 /// What a job does next: an operation of the device, or its end.
-#[derive(Clone, Copy, Debug, PartialEq, Eq)]
+#[derive(Clone, Copy, PartialEq, Eq)]
 pub enum JobStep {
     Device {
         op: DeviceOp,

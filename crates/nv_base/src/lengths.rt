@@ -8,7 +8,7 @@ use std::marker::Model;
 
 /// Device numbers with the lengths of their contents in bytes, ascending. No number is 0 or 65,535, and each length
 /// is 1 to 4,096. Contracts see the list.
-#[derive(Clone, Debug, Drop)]
+#[derive(Clone, Drop)]
 pub struct Lengths {
     items: Vec<(DeviceNumber, u16)>,
 }

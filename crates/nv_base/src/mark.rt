@@ -5,7 +5,7 @@ ghost use Rattle.nv_base.specs.Marks.{IsStored};
 use crate::Bytes;
 
 /// What an instance holds: a content, the mark of an invalidated instance, or nothing.
-#[derive(Clone, Debug, PartialEq, Eq, Drop)]
+#[derive(Clone, PartialEq, Eq, Drop)]
 pub enum Mark {
     Content(Bytes),
     Invalid,

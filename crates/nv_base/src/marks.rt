@@ -8,7 +8,7 @@ use std::marker::Model;
 
 /// Marks of instances, ascending by device number, which bounds blocks to 1,023 and indices to 63. An instance that
 /// doesn't stand here is erased. Contracts see the list.
-#[derive(Debug, Drop)]
+#[derive(Drop)]
 pub struct Marks {
     items: Vec<(Instance, Mark)>,
 }

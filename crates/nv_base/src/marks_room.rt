@@ -8,7 +8,7 @@ use std::marker::Model;
 
 /// Marks in memory that was taken beforehand, so that each can be added without taking any. Contracts see the marks
 /// so far, and how many more have room.
-#[derive(Debug, Drop)]
+#[derive(Drop)]
 pub struct MarksRoom {
     items: Vec<(Instance, Mark)>,
 }

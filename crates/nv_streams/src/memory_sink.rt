@@ -10,7 +10,7 @@ use std::marker::Model;
 /// A sink in memory, for tests. Its listed calls fail and keep nothing, as does a call that finds no memory; every
 /// other call keeps its whole piece. Contracts see the bytes written, the listed calls, the calls so far, the faults, and
 /// whether the last call found no memory.
-#[derive(Debug, Drop)]
+#[derive(Drop)]
 pub struct MemSink {
     bytes: Vec<u8>,
     failing: Vec<u64>,

@@ -9,7 +9,7 @@ use std::marker::Model;
 
 /// A source over bytes in memory, for tests. Its listed calls fail and take nothing; every other call fills its piece
 /// while bytes are left. Contracts see the bytes left, the listed calls, the calls so far and the faults.
-#[derive(Debug, Drop)]
+#[derive(Drop)]
 pub struct MemSource {
     bytes: Vec<u8>,
     at: usize,

@@ -3,7 +3,7 @@ ghost use Rattle.std.specs.Prelude.{ℕ, List, Option};
 ghost use Rattle.nv_streams.specs.Sink.{IsPut, IsFailedPut};
 
 /// The answer of a sink: the whole piece was written, or a fault of its own.
-#[derive(Clone, Copy, Debug, PartialEq, Eq)]
+#[derive(Clone, Copy, PartialEq, Eq)]
 pub enum SinkAnswer {
     Done,
     Failed,

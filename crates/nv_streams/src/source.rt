@@ -4,7 +4,7 @@ ghost use Rattle.nv_streams.specs.Source.{IsGiven, IsFailedTake};
 ghost use Rattle.nv_streams.specs.declared.source.SourceAnswer.{SourceAnswer};
 
 /// The answer of a source: so many bytes, 0 at the end, or a fault of its own.
-#[derive(Clone, Copy, Debug, PartialEq, Eq)]
+#[derive(Clone, Copy, PartialEq, Eq)]
 pub enum SourceAnswer {
     Got(usize),
     Failed,

@@ -11,4 +11,5 @@ pub mod RuleLaws
 pub mod ScriptLaws
 pub mod SpellingLaws
 pub mod StepLaws
+pub mod TextLaws
 pub mod WordLaws

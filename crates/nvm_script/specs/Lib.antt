@@ -12,6 +12,7 @@ pub mod ScriptReading
 pub mod Spelling
 pub mod Step
 pub mod Summary
+pub mod Text
 pub mod Values
 pub mod Word
 pub mod Words

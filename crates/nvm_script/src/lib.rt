@@ -18,6 +18,7 @@ mod spelling;
 mod step;
 mod step_list;
 mod summary;
+mod text;
 mod values;
 mod word;
 mod words;

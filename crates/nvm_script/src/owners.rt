@@ -10,7 +10,7 @@ use std::alloc::{AllocError, Global};
 use std::marker::Model;
 
 /// For each block the caller of its first store or RAM write, if there was one. Contracts see the table.
-#[derive(Debug, Drop)]
+#[derive(Drop)]
 pub struct Owners {
     callers: Vec<Option<u8>>,
 }

@@ -13,14 +13,14 @@ use block_config::Config;
 use std::alloc::{AllocError, AllocFailed, Global};
 
 /// Whose steps a script has: of one player, or of callers that run side by side.
-#[derive(Clone, Copy, Debug, PartialEq, Eq)]
+#[derive(Clone, Copy)]
 pub enum Mode {
     Play,
     Run,
 }
 
 /// Why a script isn't read: a line that is no step, by its number from 1, or no memory was left.
-#[derive(Clone, Copy, Debug, PartialEq, Eq)]
+#[derive(Clone, Copy)]
 pub enum ScriptFault {
     Line { number: u32 },
     Memory,
@@ -38,7 +38,7 @@ impl From<AllocError> for ScriptFault {
 }
 
 // What a line is.
-#[derive(Debug, Drop)]
+#[derive(Drop)]
 enum Line {
     Idle,
     Step { caller: u8, kind: StepKind },

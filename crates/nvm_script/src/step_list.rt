@@ -6,7 +6,7 @@ use std::alloc::{AllocError, Global};
 use std::marker::Model;
 
 /// Steps in order, fewer than 2^32. Contracts see the list.
-#[derive(Debug, Drop)]
+#[derive(Drop)]
 pub struct StepList {
     items: Vec<Step>,
 }

@@ -1,153 +1,18 @@
 // The parts of a line, as text.
-ghost use Rattle.std.specs.Prelude.{◌≡◌, ◌++◌, codes, IfOk, string_bytes};
+ghost use Rattle.std.specs.Prelude.{◌≡◌, ◌++◌, ◌∷◌, [], codes};
 ghost use Rattle.std.specs.Fmt.{decimal};
+ghost use Rattle.hex.specs.Hex.{encode_lower};
+ghost use Rattle.nvm_script.specs.Text.{Adds};
 ghost use Rattle.nvm_script.specs.Words.{is_long_run, content_text, mark_text, switch_text, of_block as block_text, of_block_with as block_text_with, store_text, request_text, reply_text, job_text, taken_text, given_text, refused_text};
 
+use crate::text::Text;
 use nv_base::{Bytes, JobKind, Mark, Reply, Request, Taken, all_are, refusal_number, result_code};
-use std::alloc::{AllocError, Global};
 
 // Whether these are five bytes or more, all equal.
 fn is_run(bytes: &[u8]) -> bool
     ensures { result ≡ is_long_run bytes.now }
 {
     bytes.len() >= 5 && all_are(bytes, bytes[0])
-}
-
-// A content: a long run as its byte and its length, any other as hexadecimal digits.
-fn content_words(alloc: Global, content: &Bytes) -> Result<String, AllocError>
-    ensures { IfOk result (λ t. string_bytes t ≡ content_text content.now) }
-{
-    let bytes = content.as_slice();
-    if is_run(bytes) {
-        let count = bytes.len();
-        let byte = hex::encode(alloc, &bytes[..1])?;
-        return format!(in alloc; "{byte}*{count}");
-    }
-    hex::encode(alloc, bytes)
-}
-
-pub fn mark_words(alloc: Global, mark: &Mark) -> Result<String, AllocError>
-    ensures { IfOk result (λ t. string_bytes t ≡ mark_text mark.now) }
-{
-    match mark {
-        Mark::Content(bytes) => {
-            let text = content_words(alloc, bytes)?;
-            format!(in alloc; "data {text}")
-        }
-        Mark::Invalid => format!(in alloc; "invalid"),
-        Mark::Erased => format!(in alloc; "erased"),
-    }
-}
-
-fn of_block(alloc: Global, word: &str, block: u16) -> Result<String, AllocError>
-    ensures { IfOk result (λ t. string_bytes t ≡ block_text word.now block) }
-{
-    format!(in alloc; "{word} {block}")
-}
-
-fn of_block_with(
-    alloc: Global,
-    word: &str,
-    block: u16,
-    argument: &str,
-) -> Result<String, AllocError>
-    ensures { IfOk result (λ t. string_bytes t ≡ block_text_with word.now block argument.now) }
-{
-    format!(in alloc; "{word} {block} {argument}")
-}
-
-fn with_content(
-    alloc: Global,
-    word: &str,
-    block: u16,
-    content: &Bytes,
-) -> Result<String, AllocError>
-    ensures { IfOk result (λ t. string_bytes t ≡ block_text_with word.now block (content_text content.now)) }
-{
-    let text = content_words(alloc, content)?;
-    of_block_with(alloc, word, block, text.as_str())
-}
-
-fn with_index(alloc: Global, word: &str, block: u16, index: u8) -> Result<String, AllocError>
-    ensures { IfOk result (λ t. string_bytes t ≡ block_text_with word.now block (decimal index)) }
-{
-    format!(in alloc; "{word} {block} {index}")
-}
-
-fn with_switch(alloc: Global, word: &str, block: u16, on: bool) -> Result<String, AllocError>
-    ensures { IfOk result (λ t. string_bytes t ≡ block_text_with word.now block (switch_text on)) }
-{
-    if on {
-        return of_block_with(alloc, word, block, "1");
-    }
-    of_block_with(alloc, word, block, "0")
-}
-
-fn store_words(alloc: Global, store: u64) -> Result<String, AllocError>
-    ensures { IfOk result (λ t. string_bytes t ≡ store_text store) }
-{
-    if store == 0 {
-        return Ok(String::new(alloc));
-    }
-    format!(in alloc; " store {store}")
-}
-
-fn ram_write_words(alloc: Global, block: u16, store: u64) -> Result<String, AllocError>
-    ensures { IfOk result (λ t. string_bytes t ≡ block_text (codes "writeram") block ++ store_text store) }
-{
-    let words = of_block(alloc, "writeram", block)?;
-    let stored = store_words(alloc, store)?;
-    format!(in alloc; "{words}{stored}")
-}
-
-pub fn request_words(alloc: Global, request: &Request) -> Result<String, AllocError>
-    ensures { IfOk result (λ t. string_bytes t ≡ request_text request.now) }
-{
-    match request {
-        Request::Read { block, ram: false } => of_block(alloc, "read", *block),
-        Request::Read { block, ram: true } => of_block(alloc, "readram", *block),
-        Request::Write {
-            block,
-            content: Some(content),
-            store: _,
-        } => with_content(alloc, "write", *block, content),
-        Request::Write {
-            block,
-            content: None,
-            store,
-        } => ram_write_words(alloc, *block, *store),
-        Request::Restore { block, ram: false } => of_block(alloc, "restore", *block),
-        Request::Restore { block, ram: true } => of_block(alloc, "restoreram", *block),
-        Request::Erase { block } => of_block(alloc, "erase", *block),
-        Request::Invalidate { block } => of_block(alloc, "invalidate", *block),
-        Request::SetIndex { block, index } => with_index(alloc, "setindex", *block, *index),
-        Request::GetIndex { block } => of_block(alloc, "getindex", *block),
-        Request::SetProtection { block, on } => with_switch(alloc, "protect", *block, *on),
-        Request::SetLock { block, on } => with_switch(alloc, "lock", *block, *on),
-        Request::SetRam { block, on } => with_switch(alloc, "setram", *block, *on),
-        Request::PutRam { block, content } => with_content(alloc, "ram", *block, content),
-        Request::Status { block } => of_block(alloc, "status", *block),
-        Request::ReadAll => format!(in alloc; "readall"),
-        Request::WriteAll => format!(in alloc; "writeall"),
-        Request::CancelWriteAll => format!(in alloc; "cancel"),
-    }
-}
-
-pub fn reply_words(alloc: Global, reply: Reply) -> Result<String, AllocError>
-    ensures { IfOk result (λ t. string_bytes t ≡ reply_text reply) }
-{
-    match reply {
-        Reply::Accepted => format!(in alloc; "ok"),
-        Reply::Refused(refusal) => {
-            let number = refusal_number(refusal);
-            format!(in alloc; "refused {number}")
-        }
-        Reply::StatusIs(status) => {
-            let code = result_code(status);
-            format!(in alloc; "status {code}")
-        }
-        Reply::IndexIs(index) => format!(in alloc; "index {index}"),
-    }
 }
 
 pub fn job_word(job: JobKind) -> &'static str
@@ -164,42 +29,164 @@ pub fn job_word(job: JobKind) -> &'static str
     }
 }
 
-pub fn taken_words(alloc: Global, taken: &Taken) -> Result<String, AllocError>
-    ensures { IfOk result (λ t. string_bytes t ≡ taken_text taken.now) }
+fn switch_word(on: bool) -> &'static str
+    ensures { result.now ≡ switch_text on }
 {
-    match taken {
-        Taken::Nothing => Ok(String::new(alloc)),
-        Taken::Content { bytes, store } => {
-            let content = content_words(alloc, bytes)?;
-            let stored = store_words(alloc, *store)?;
-            format!(in alloc; " {content}{stored}")
-        }
-        Taken::Refused { count } => format!(in alloc; " refused {count}"),
-        Taken::Stale {
-            asked,
-            got,
-            count: _,
-        } => format!(in alloc; " stale {asked} {got}"),
-    }
+    if on { "1" } else { "0" }
 }
 
-pub fn given_words(alloc: Global, given: &Option<Bytes>) -> Result<String, AllocError>
-    ensures { IfOk result (λ t. string_bytes t ≡ given_text given.now) }
-{
-    match given {
-        Some(bytes) => {
-            let text = content_words(alloc, bytes)?;
-            format!(in alloc; " data {text}")
-        }
-        None => Ok(String::new(alloc)),
+#[tactic(auto, using(crate::proofs::TextLaws::parts))]
+impl Text {
+    fn run(self, byte: u8, count: usize) -> Text
+        ensures { Adds (encode_lower (byte ∷ []) ++ (codes "*" ++ decimal count)) self result }
+    {
+        self.digits(&[byte]).word("*").number(count as u64)
     }
-}
 
-pub fn refused_words(alloc: Global, count: u8) -> Result<String, AllocError>
-    ensures { IfOk result (λ t. string_bytes t ≡ refused_text count) }
-{
-    if count == 0 {
-        return Ok(String::new(alloc));
+    // A content: a long run as its byte and its length, any other as hexadecimal digits.
+    fn content(self, content: &Bytes) -> Text
+        ensures { Adds (content_text content.now) self result }
+    {
+        let bytes = content.as_slice();
+        if is_run(bytes) {
+            return self.run(bytes[0], bytes.len());
+        }
+        self.digits(bytes)
     }
-    format!(in alloc; " refused {count}")
+
+    pub fn mark(self, mark: &Mark) -> Text
+        ensures { Adds (mark_text mark.now) self result }
+    {
+        match mark {
+            Mark::Content(bytes) => self.word("data ").content(bytes),
+            Mark::Invalid => self.word("invalid"),
+            Mark::Erased => self.word("erased"),
+        }
+    }
+
+    fn of_block(self, word: &str, block: u16) -> Text
+        ensures { Adds (block_text word.now block) self result }
+    {
+        self.word(word).word(" ").number(block as u64)
+    }
+
+    fn of_block_with(self, word: &str, block: u16, argument: &str) -> Text
+        ensures { Adds (block_text_with word.now block argument.now) self result }
+    {
+        self.word(word)
+            .word(" ")
+            .number(block as u64)
+            .word(" ")
+            .word(argument)
+    }
+
+    fn with_content(self, word: &str, block: u16, content: &Bytes) -> Text
+        ensures { Adds (block_text_with word.now block (content_text content.now)) self result }
+    {
+        self.word(word)
+            .word(" ")
+            .number(block as u64)
+            .word(" ")
+            .content(content)
+    }
+
+    fn with_index(self, word: &str, block: u16, index: u8) -> Text
+        ensures { Adds (block_text_with word.now block (decimal index)) self result }
+    {
+        self.word(word)
+            .word(" ")
+            .number(block as u64)
+            .word(" ")
+            .number(index as u64)
+    }
+
+    fn store(self, store: u64) -> Text
+        ensures { Adds (store_text store) self result }
+    {
+        if store == 0 {
+            return self;
+        }
+        self.word(" store ").number(store)
+    }
+
+    pub fn request(self, request: &Request) -> Text
+        ensures { Adds (request_text request.now) self result }
+    {
+        match request {
+            Request::Read { block, ram: false } => self.of_block("read", *block),
+            Request::Read { block, ram: true } => self.of_block("readram", *block),
+            Request::Write {
+                block,
+                content: Some(content),
+                store: _,
+            } => self.with_content("write", *block, content),
+            Request::Write {
+                block,
+                content: None,
+                store,
+            } => self.of_block("writeram", *block).store(*store),
+            Request::Restore { block, ram: false } => self.of_block("restore", *block),
+            Request::Restore { block, ram: true } => self.of_block("restoreram", *block),
+            Request::Erase { block } => self.of_block("erase", *block),
+            Request::Invalidate { block } => self.of_block("invalidate", *block),
+            Request::SetIndex { block, index } => self.with_index("setindex", *block, *index),
+            Request::GetIndex { block } => self.of_block("getindex", *block),
+            Request::SetProtection { block, on } => {
+                self.of_block_with("protect", *block, switch_word(*on))
+            }
+            Request::SetLock { block, on } => self.of_block_with("lock", *block, switch_word(*on)),
+            Request::SetRam { block, on } => self.of_block_with("setram", *block, switch_word(*on)),
+            Request::PutRam { block, content } => self.with_content("ram", *block, content),
+            Request::Status { block } => self.of_block("status", *block),
+            Request::ReadAll => self.word("readall"),
+            Request::WriteAll => self.word("writeall"),
+            Request::CancelWriteAll => self.word("cancel"),
+        }
+    }
+
+    pub fn reply(self, reply: Reply) -> Text
+        ensures { Adds (reply_text reply) self result }
+    {
+        match reply {
+            Reply::Accepted => self.word("ok"),
+            Reply::Refused(refusal) => {
+                self.word("refused ").number(refusal_number(refusal) as u64)
+            }
+            Reply::StatusIs(status) => self.word("status ").number(result_code(status) as u64),
+            Reply::IndexIs(index) => self.word("index ").number(index as u64),
+        }
+    }
+
+    pub fn taken(self, taken: &Taken) -> Text
+        ensures { Adds (taken_text taken.now) self result }
+    {
+        match taken {
+            Taken::Nothing => self,
+            Taken::Content { bytes, store } => self.word(" ").content(bytes).store(*store),
+            Taken::Refused { count } => self.word(" refused ").number(*count as u64),
+            Taken::Stale {
+                asked,
+                got,
+                count: _,
+            } => self.word(" stale ").number(*asked).word(" ").number(*got),
+        }
+    }
+
+    pub fn given(self, given: &Option<Bytes>) -> Text
+        ensures { Adds (given_text given.now) self result }
+    {
+        match given {
+            Some(bytes) => self.word(" data ").content(bytes),
+            None => self,
+        }
+    }
+
+    pub fn refused(self, count: u8) -> Text
+        ensures { Adds (refused_text count) self result }
+    {
+        if count == 0 {
+            return self;
+        }
+        self.word(" refused ").number(count as u64)
+    }
 }

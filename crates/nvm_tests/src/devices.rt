@@ -1,6 +1,6 @@
-// A cut over a flash in memory, and a flash in a file.
-use fls_devices::{Cutter, FileFlash};
-use fls_model::{AttachFault, Flash, mem_flash};
+// A flash in a file.
+use fls_devices::FileFlash;
+use fls_model::{AttachFault, Flash};
 use nv_base::Geometry;
 use std::alloc::Global;
 use std::fs;
@@ -11,25 +11,6 @@ const SMALLEST: Geometry = Geometry {
     sector: 64,
     sectors: 2,
 };
-
-// The second page behind a program of which one byte was done at its cut.
-fn cut_page<F: Flash>(alloc: Global, flash: &mut F) -> Result<[u8; 16], AttachFault> {
-    flash.attach(alloc, SMALLEST)?;
-    flash.arm(1, 1);
-    flash.program(16, &[0x03; 16]);
-    flash.power_on();
-    let mut page = [0; 16];
-    flash.read(16, &mut page);
-    Ok(page)
-}
-
-#[test]
-fn a_cut_program_keeps_its_first_byte(rt: HostRuntime) -> Result<(), Fail> {
-    let mut flash = Cutter::make(rt.alloc(), mem_flash(rt.alloc(), &[], 0)?, 1)?;
-    let page = cut_page(rt.alloc(), &mut flash).ok().ok_or("attached")?;
-    assert!(rt; page[0] == 0x03 && page[1] == 0xff);
-    Ok(())
-}
 
 const PATH: &str = "fls_devices_test.img";
 

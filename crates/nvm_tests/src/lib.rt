@@ -6,8 +6,6 @@
 #![tactic(auto)]
 
 #[cfg(test)]
-mod configuration;
-#[cfg(test)]
 mod devices;
 #[cfg(test)]
 mod driver;
@@ -22,10 +20,6 @@ mod queues;
 #[cfg(test)]
 mod ram;
 #[cfg(test)]
-mod start_ups;
-#[cfg(test)]
 mod streams;
-#[cfg(test)]
-mod switches;
 #[cfg(test)]
 mod texts;

@@ -69,36 +69,25 @@ fn takes(alloc: Global, error: ErrorKind, answers: [SourceAnswer; 4]) -> bool {
 #[test]
 fn a_source_fails_with_its_reader_and_goes_on(rt: HostRuntime) {
     use SourceAnswer::{Failed, Got};
-    let answers = [Got(2), Failed, Got(1), Got(0)];
-    assert!(rt; takes(rt.alloc(), ErrorKind::TimedOut, answers));
+    let failing = [Got(2), Failed, Got(1), Got(0)];
+    assert!(rt; takes(rt.alloc(), ErrorKind::TimedOut, failing));
+    let interrupted = [Got(2), Got(1), Got(0), Got(0)];
+    assert!(rt; takes(rt.alloc(), ErrorKind::Interrupted, interrupted));
 }
 
-#[test]
-fn an_interrupted_read_is_made_again(rt: HostRuntime) {
-    use SourceAnswer::Got;
-    let answers = [Got(2), Got(1), Got(0), Got(0)];
-    assert!(rt; takes(rt.alloc(), ErrorKind::Interrupted, answers));
-}
-
-// What two puts over such a writer came to, and what it has then.
-fn put_twice(alloc: Global, error: ErrorKind) -> (SinkAnswer, SinkAnswer, Vec<u8>) {
+// Whether the first of two puts over such a writer answers so, the second one well, and the writer has this then.
+fn puts(alloc: Global, error: ErrorKind, answer: SinkAnswer, kept: &[u8]) -> bool {
     let mut writer = make_tape(alloc, error);
     let mut sink = StdSink::make(&mut writer);
-    let first = sink.put(b"abcde");
-    let second = sink.put(b"fg");
-    (first, second, writer.kept)
+    let first = sink.put(b"abcde") == answer;
+    let second = sink.put(b"fg") == SinkAnswer::Done;
+    first && second && writer.kept.as_slice() == kept
 }
 
 #[test]
 fn a_sink_fails_with_its_writer_and_goes_on(rt: HostRuntime) {
-    let (first, second, kept) = put_twice(rt.alloc(), ErrorKind::StorageFull);
-    assert!(rt; first == SinkAnswer::Failed && second == SinkAnswer::Done);
-    assert!(rt; kept.as_slice() == b"abfg".as_slice());
-}
-
-#[test]
-fn an_interrupted_write_is_made_again(rt: HostRuntime) {
-    let (first, second, kept) = put_twice(rt.alloc(), ErrorKind::Interrupted);
-    assert!(rt; first == SinkAnswer::Done && second == SinkAnswer::Done);
-    assert!(rt; kept.as_slice() == b"abcdefg".as_slice());
+    let failed = SinkAnswer::Failed;
+    assert!(rt; puts(rt.alloc(), ErrorKind::StorageFull, failed, b"abfg"));
+    let done = SinkAnswer::Done;
+    assert!(rt; puts(rt.alloc(), ErrorKind::Interrupted, done, b"abcdefg"));
 }

@@ -1,3 +1,2 @@
 // What people read.
 mod lines;
-mod summary;

@@ -14,7 +14,7 @@ use std::marker::Model;
 
 /// A job on one block, from its acceptance, or as a member of a request on all blocks from its Pick, to its Post. Contracts
 /// see the machine's.
-#[derive(Debug, Drop)]
+#[derive(Drop)]
 pub struct Job {
     number: u32,
     request: Request,

@@ -7,7 +7,7 @@ use std::alloc::{AllocError, Global};
 use std::marker::Model;
 
 /// The place of a job.
-#[derive(Debug, Drop)]
+#[derive(Drop)]
 pub struct Slot {
     job: Option<Job>,
 }
@@ -49,7 +49,7 @@ impl Slot {
 }
 
 /// A place for the job of each block, by id from 0. Contracts see the list.
-#[derive(Debug, Drop)]
+#[derive(Drop)]
 pub struct Slots {
     places: Vec<Slot>,
 }

@@ -4,7 +4,7 @@ ghost use Rattle.std.specs.Prelude.{◌≡◌};
 use nv_base::Bytes;
 
 /// A content with the number of its store, or 0 where it is of none.
-#[derive(Debug, Drop)]
+#[derive(Drop)]
 pub struct Staged {
     pub bytes: Bytes,
     pub store: u64,
@@ -12,7 +12,7 @@ pub struct Staged {
 
 /// What a Pick takes for a job: nothing, as it isn't a write; the content that the job has already; a copy of the RAM that
 /// it names; or no content, as each of `count` copies was refused, or none was as new as the store `asked` for.
-#[derive(Debug, Drop)]
+#[derive(Drop)]
 pub enum Took {
     Nothing,
     Own,
@@ -22,7 +22,7 @@ pub enum Took {
 }
 
 /// What the last Pick of a job took; of a content it says no more, since that is the job's.
-#[derive(Clone, Copy, Debug, PartialEq, Eq)]
+#[derive(Clone, Copy, PartialEq, Eq)]
 pub enum LastPick {
     Never,
     Nothing,

@@ -5,7 +5,7 @@ ghost use Rattle.block_machine.specs.Blocks.{is_in};
 use std::marker::Model;
 
 /// The indices of the instances that a job wrote since its last Pick, at most two. Contracts see the list.
-#[derive(Debug, Drop)]
+#[derive(Drop)]
 pub struct Written {
     first: Option<u8>,
     second: Option<u8>,

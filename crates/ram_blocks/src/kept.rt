@@ -7,7 +7,7 @@ use std::alloc::{AllocError, Global};
 use std::marker::Model;
 
 /// Whether a RAM block is valid, and whether it is changed (NvM_SetRamBlockStatus).
-#[derive(Clone, Copy, Debug, PartialEq, Eq)]
+#[derive(Clone, Copy, PartialEq, Eq)]
 pub struct RamFlags {
     pub valid: bool,
     pub changed: bool,

@@ -205,8 +205,14 @@ fn workers_of(
     Ok(workers)
 }
 
+// What the workers' last polls told, behind their joins.
 #[tactic(auto, unfolding(turn_gate::specs::Pass::IsFree))]
-fn join_all(gate: &Gate<Statuses>, pass: &mut Pass<Statuses>, mut workers: Vec<Worker>)
+fn join_all(
+    gate: &Gate<Statuses>,
+    pass: &mut Pass<Statuses>,
+    mut workers: Vec<Worker>,
+    told: &mut Vec<Told>,
+)
     requires free { IsPassOf gate.now pass.old × IsOutside pass.old }
     requires workers { All (λ w. IsFree gate.now 1 w.pass) workers.items }
     requires parts { (knows pass.old).parts + length workers.items ≡ 2 ^ 64 }
@@ -215,42 +221,70 @@ fn join_all(gate: &Gate<Statuses>, pass: &mut Pass<Statuses>, mut workers: Vec<W
 {
     while let Some(worker) = workers.pop() {
         gate.join(pass, worker.pass);
+        let _kept = told.push(worker.told);
     }
 }
 
-fn told_by(alloc: Global, workers: &[Worker]) -> Result<Vec<Told>, AllocError> {
-    let mut told = Vec::new(alloc);
-    for worker in workers {
-        told.push(worker.told)?;
-    }
+fn open(alloc: Global) -> Result<(Gate<Statuses>, Pass<Statuses>), AllocError>
+    ensures free { IfOk result (λ r. IsPassOf r.0 r.1 × IsOutside r.1 × ((knows r.1).parts ≡ 2 ^ 64)) }
+    ensures words { IfOk result (λ r. r.0.words ≡ 4) }
+{
+    let Ok(opened) = make(alloc, Statuses::new(alloc)?, WORDS) else {
+        return Err(AllocError);
+    };
+    Ok(opened)
+}
+
+// Sixteen workers in threads of their own, and what their last polls told.
+fn work_through<R: Threads + Wait + Sync>(
+    rt: &R,
+    alloc: Global,
+    gate: &Gate<Statuses>,
+    pass: &mut Pass<Statuses>,
+) -> Result<Vec<Told>, AllocError>
+    requires free { IsPassOf gate.now pass.old × IsOutside pass.old }
+    requires parts { (knows pass.old).parts ≡ 2 ^ 64 }
+    requires words { gate.now.words ≡ 4 }
+    ensures free { IfOk result (λ _. IsPassOf gate.now pass.new × IsOutside pass.new × ((knows pass.new).parts ≡ 2 ^ 64)) }
+{
+    let mut told = Vec::with_capacity(alloc, PASSES as usize)?;
+    let mut workers = workers_of(alloc, gate, pass)?;
+    work_all(rt, gate, workers.as_mut_slice());
+    join_all(gate, pass, workers, &mut told);
     Ok(told)
 }
 
-// Sixteen workers in threads of their own, then the list that the gate gives back, and what their last polls told.
+// The list that the gate gives back, and what the workers' last polls told.
 fn work_beside<R: Threads + Wait + Sync>(
     rt: &R,
     alloc: Global,
 ) -> Result<(Statuses, Vec<Told>), AllocError> {
-    let Ok((gate, mut pass)) = make(alloc, Statuses::new(alloc)?, WORDS) else {
-        return Err(AllocError);
-    };
-    let mut workers = workers_of(alloc, &gate, &mut pass)?;
-    work_all(rt, &gate, workers.as_mut_slice());
-    let told = told_by(alloc, workers.as_slice())?;
-    join_all(&gate, &mut pass, workers);
+    let (gate, mut pass) = open(alloc)?;
+    let told = work_through(rt, alloc, &gate, &mut pass)?;
     Ok((gate.close(pass), told))
+}
+
+// Whether the entry of a last poll stands in the list, and no poll was wrong.
+fn is_right(value: &Statuses, told: &Told) -> bool {
+    match value.list.get(told.entry as usize) {
+        None => false,
+        Some(entry) => told.wrong == 0 && *entry == (told.word, told.status),
+    }
+}
+
+fn are_right(value: &Statuses, told: &[Told]) -> bool {
+    for each in told {
+        if !is_right(value, each) {
+            return false;
+        }
+    }
+    true
 }
 
 #[test]
 fn sixteen_passes_make_one_list(rt: HostRuntime) -> Result<(), Fail> {
     let (value, told) = work_beside(&rt, rt.alloc())?;
-    assert_eq!(rt; value.list.len(), 1 + (PASSES * ROUNDS) as usize);
-    for each in told.as_slice() {
-        assert_eq!(rt; each.wrong, 0);
-        match value.list.get(each.entry as usize) {
-            None => assert!(rt; false, "the entry stands in the list"),
-            Some(entry) => assert_eq!(rt; *entry, (each.word, each.status)),
-        }
-    }
+    assert!(rt; value.list.len() == 1 + (PASSES * ROUNDS) as usize);
+    assert!(rt; told.len() == PASSES as usize && are_right(&value, told.as_slice()));
     Ok(())
 }

@@ -1,4 +1,4 @@
-// A mirror, in one thread and in two.
+// A mirror in two threads.
 ghost use Rattle.std.specs.Prelude.{◌≡◌, ◌≤◌};
 ghost use Rattle.ram_mirrors.specs.Ends.{IsOwnerOf, IsTakerOf};
 
@@ -10,26 +10,6 @@ use std::thread::{Threads, join_mut};
 const STORES: u64 = 1_000_000;
 
 const LOOKS: u64 = 400_000_000;
-
-#[test]
-fn the_newest_store_is_taken_once(rt: HostRuntime) -> Result<(), Fail> {
-    let (mirror, mut owner, mut taker) = make(rt.alloc(), 2)?;
-    assert_eq!(rt; taker.content(), [0, 0].as_slice());
-    assert!(rt; taker.newest(&mirror).is_none());
-    assert_eq!(rt; mirror.store(&mut owner, &[1, 2]), 1);
-    assert_eq!(rt; mirror.store(&mut owner, &[3, 4]), 2);
-    match taker.newest(&mirror) {
-        None => assert!(rt; false, "two stores were made"),
-        Some((number, content)) => {
-            assert_eq!(rt; number, 2);
-            assert_eq!(rt; content, [3, 4].as_slice());
-        }
-    }
-    assert_eq!(rt; mirror.refresh(&mut taker), None);
-    assert_eq!(rt; (taker.looks(), taker.shown()), (3, 2));
-    mirror.close(owner, taker);
-    Ok(())
-}
 
 // What a taker found: how often it took, how many pairs were wrong, and the last number.
 #[derive(Copy, Clone, Drop)]
@@ -49,21 +29,24 @@ fn store_all(mirror: &Mirror, owner: &mut Owner)
     }
 }
 
-// Takes until the last store was taken. A pair is wrong whose content isn't its number, or whose number fell.
+// Notes a pair that was taken. It is wrong where its content isn't its number, or its number fell.
+fn note(found: &mut Found, number: u64, content: &[u8]) {
+    found.taken = found.taken.saturating_add(1);
+    if number <= found.last || content != number.to_le_bytes().as_slice() {
+        found.wrong = found.wrong.saturating_add(1);
+    }
+    found.last = number;
+}
+
+// Takes until the last store was taken.
 fn take_all(mirror: &Mirror, taker: &mut Taker, found: &mut Found)
     requires own { IsTakerOf mirror.now taker.old }
     ensures own { IsTakerOf mirror.now taker.new }
 {
     for _ in 0..LOOKS {
-        match mirror.refresh(taker) {
+        match taker.newest(mirror) {
             None => thread::yield_now(),
-            Some(number) => {
-                found.taken = found.taken.saturating_add(1);
-                if number <= found.last || taker.content() != number.to_le_bytes().as_slice() {
-                    found.wrong = found.wrong.saturating_add(1);
-                }
-                found.last = number;
-            }
+            Some((number, content)) => note(found, number, content),
         }
         if found.last == STORES {
             return;
@@ -91,6 +74,11 @@ fn exchange<R: Threads>(
     );
 }
 
+// Whether some stores were taken, none wrong, and the last one at the end.
+fn is_whole(found: &Found) -> bool {
+    found.wrong == 0 && found.last == STORES && 0 < found.taken && found.taken <= STORES
+}
+
 #[test]
 fn each_of_a_million_stores_is_whole(rt: HostRuntime) -> Result<(), Fail> {
     let (mirror, mut owner, mut taker) = make(rt.alloc(), 8)?;
@@ -100,10 +88,8 @@ fn each_of_a_million_stores_is_whole(rt: HostRuntime) -> Result<(), Fail> {
         last: 0,
     };
     exchange(&rt, &mirror, &mut owner, &mut taker, &mut found);
-    assert_eq!(rt; (found.wrong, found.last), (0, STORES));
-    assert!(rt; 0 < found.taken && found.taken <= STORES);
-    assert!(rt; found.taken <= taker.looks());
-    assert_eq!(rt; taker.shown(), STORES);
+    assert!(rt; is_whole(&found) && found.taken <= taker.looks());
+    assert!(rt; taker.shown() == STORES && taker.content() == STORES.to_le_bytes().as_slice());
     mirror.close(owner, taker);
     Ok(())
 }

@@ -1,0 +1,5 @@
+use Rattle.nvm_script.proofs.TextLaws.{adds_then}
+use Rattle.nvm_script.proofs.text.Text.ask_line.Goals as goal
+
+pub returns : goal.returns
+returns c = search adds_then depth 10

@@ -1,0 +1,5 @@
+use Rattle.nvm_script.proofs.TextLaws.{adds_then}
+use Rattle.nvm_script.proofs.text.Text.of_block.Goals as goal
+
+pub returns : goal.returns
+returns c = search adds_then depth 5
