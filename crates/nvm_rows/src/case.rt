@@ -1,22 +1,25 @@
 // A worked case, as its lines give it.
+use crate::faults::Faults;
 use anyhow::{Context, bail};
+use soak_script::Draws;
 use std::alloc::{AllocError, Global};
 
-/// One call of the program: its name, its words, its input with the takes of it that fail, the puts of output that
-/// fail, the flash at the start with its changing operations and its reads that fail, whether the bytes that it has at
-/// the end aren't shown, and whether the script is also run with a cut and a fault everywhere.
+/// One call of the program: its name, its words, its input, the flash at the start, and what fails. Then what else is shown:
+/// whether the bytes of the flash at the end aren't; whether the script is also run with a cut and a fault everywhere, and
+/// with a fault at each call of its last drain; the steps that are tried at each turn of that drain; and, where it is also
+/// played over a device in memory, the numbers of turns there.
 #[derive(Drop)]
 pub struct Case {
     pub name: String,
     pub words: Vec<String>,
     pub input: Vec<u8>,
-    pub takes_fail: Vec<u64>,
-    pub puts_fail: Vec<u64>,
     pub flash: Vec<u8>,
-    pub operations_fail: Vec<(u64, u32)>,
-    pub reads_fail: Vec<u64>,
+    pub faults: Faults,
     pub quiet: bool,
     pub everywhere: bool,
+    pub each_fault: bool,
+    pub between: Vec<String>,
+    pub plain: Option<Vec<u64>>,
 }
 
 impl Case {
@@ -26,13 +29,13 @@ impl Case {
             name: String::from_str(alloc, name)?,
             words: Vec::new(alloc),
             input: Vec::new(alloc),
-            takes_fail: Vec::new(alloc),
-            puts_fail: Vec::new(alloc),
             flash: Vec::new(alloc),
-            operations_fail: Vec::new(alloc),
-            reads_fail: Vec::new(alloc),
+            faults: Faults::none(alloc),
             quiet: false,
             everywhere: false,
+            each_fault: false,
+            between: Vec::new(alloc),
+            plain: None,
         })
     }
 
@@ -40,76 +43,92 @@ impl Case {
     pub fn add(&mut self, alloc: Global, line: &str) -> anyhow::Result<()> {
         let (key, rest) = line.split_once(' ').unwrap_or((line, ""));
         match key {
-            "words" => self.add_words(alloc, rest),
-            "<" => {
-                self.input.extend_from_slice(rest.as_bytes())?;
-                self.input.push(b'\n').map_err(AllocError::from)?;
-                Ok(())
-            }
-            "<." => Ok(self.input.extend_from_slice(rest.as_bytes())?),
-            "fill" => fill(&mut self.input, rest),
-            "take" => add_number(&mut self.takes_fail, rest),
-            "put" => add_number(&mut self.puts_fail, rest),
-            "read" => add_number(&mut self.reads_fail, rest),
+            "quiet" => self.quiet = true,
+            "everywhere" => self.everywhere = true,
+            "faults" => self.each_fault = true,
+            "plain" => self.plain = Some(numbers(alloc, rest)?),
+            "words" => add_words(alloc, &mut self.words, rest)?,
+            "between" => self.between.push(String::from_str(alloc, rest)?)?,
+            "<" | "<." | "fill" => self.add_input(key, rest)?,
+            "flash" | "draw" | "at" => self.add_flash(alloc, key, rest)?,
+            _ => self.add_fault(key, rest)?,
+        }
+        Ok(())
+    }
+
+    fn add_input(&mut self, key: &str, rest: &str) -> anyhow::Result<()> {
+        match key {
+            "fill" => fill(&mut self.input, rest)?,
+            _ => self.input.extend_from_slice(rest.as_bytes())?,
+        }
+        if key == "<" {
+            self.input.push(b'\n')?;
+        }
+        Ok(())
+    }
+
+    fn add_flash(&mut self, alloc: Global, key: &str, rest: &str) -> anyhow::Result<()> {
+        match key {
             "flash" => fill(&mut self.flash, rest),
             "draw" => draw(&mut self.flash, rest),
-            "at" => self.set_bytes(alloc, rest),
-            "operation" => self.add_operation(rest),
-            "quiet" => {
-                self.quiet = true;
-                Ok(())
-            }
-            "everywhere" => {
-                self.everywhere = true;
-                Ok(())
+            _ => set_bytes(alloc, &mut self.flash, rest),
+        }
+    }
+
+    fn add_fault(&mut self, key: &str, rest: &str) -> anyhow::Result<()> {
+        match key {
+            "take" => self.faults.takes.push(number(rest)?)?,
+            "put" => self.faults.puts.push(number(rest)?)?,
+            "read" => self.faults.reads.push(number(rest)?)?,
+            "operation" => {
+                let (number, keep) = pair(rest)?;
+                let keep = u32::try_from(keep).context("so many bytes")?;
+                self.faults.operations.push((number, keep))?;
             }
             _ => bail!("no line of a case begins with {key}"),
-        }
-    }
-
-    fn add_words(&mut self, alloc: Global, rest: &str) -> anyhow::Result<()> {
-        for word in rest.split(' ') {
-            let word = String::from_str(alloc, word)?;
-            self.words.push(word).map_err(AllocError::from)?;
-        }
-        Ok(())
-    }
-
-    fn add_operation(&mut self, rest: &str) -> anyhow::Result<()> {
-        let (number, keep) = pair(rest)?;
-        let keep = u32::try_from(keep).context("so many bytes")?;
-        self.operations_fail
-            .push((number, keep))
-            .map_err(AllocError::from)?;
-        Ok(())
-    }
-
-    fn set_bytes(&mut self, alloc: Global, rest: &str) -> anyhow::Result<()> {
-        let (address, text) = rest.split_once(' ').context("an address and bytes")?;
-        let address = usize::from_str_radix(address, 16).context("an address")?;
-        let bytes = hex::decode(alloc, text).ok().context("bytes in hex")?;
-        for (i, byte) in bytes.iter().enumerate() {
-            match self.flash.get_mut(address.saturating_add(i)) {
-                Some(place) => *place = *byte,
-                None => bail!("no byte of the flash"),
-            }
         }
         Ok(())
     }
 }
 
-fn add_number(list: &mut Vec<u64>, text: &str) -> anyhow::Result<()> {
-    let number = text.parse::<u64>().context("a number")?;
-    list.push(number).map_err(AllocError::from)?;
+fn add_words(alloc: Global, words: &mut Vec<String>, rest: &str) -> Result<(), AllocError> {
+    for word in rest.split(' ') {
+        words.push(String::from_str(alloc, word)?)?;
+    }
     Ok(())
+}
+
+fn set_bytes(alloc: Global, flash: &mut [u8], rest: &str) -> anyhow::Result<()> {
+    let (address, text) = rest.split_once(' ').context("an address and bytes")?;
+    let address = usize::from_str_radix(address, 16).context("an address")?;
+    let bytes = hex::decode(alloc, text).ok().context("bytes in hex")?;
+    for (i, byte) in bytes.iter().enumerate() {
+        match flash.get_mut(address.saturating_add(i)) {
+            Some(place) => *place = *byte,
+            None => bail!("no byte of the flash"),
+        }
+    }
+    Ok(())
+}
+
+fn number(text: &str) -> anyhow::Result<u64> {
+    text.parse::<u64>().context("a number")
+}
+
+// Numbers, one space between them.
+fn numbers(alloc: Global, text: &str) -> anyhow::Result<Vec<u64>> {
+    let mut numbers = Vec::new(alloc);
+    if !text.is_empty() {
+        for word in text.split(' ') {
+            numbers.push(number(word)?)?;
+        }
+    }
+    Ok(numbers)
 }
 
 fn pair(text: &str) -> anyhow::Result<(u64, u64)> {
     let (first, second) = text.split_once(' ').context("two numbers")?;
-    Ok((
-        first.parse::<u64>().context("the first number")?,
-        second.parse::<u64>().context("the second number")?,
-    ))
+    Ok((number(first)?, number(second)?))
 }
 
 /// Adds a count of bytes of one value.
@@ -117,7 +136,7 @@ fn fill(bytes: &mut Vec<u8>, text: &str) -> anyhow::Result<()> {
     let (count, value) = pair(text)?;
     let value = u8::try_from(value).context("a byte")?;
     for _ in 0..count {
-        bytes.push(value).map_err(AllocError::from)?;
+        bytes.push(value)?;
     }
     Ok(())
 }
@@ -125,13 +144,9 @@ fn fill(bytes: &mut Vec<u8>, text: &str) -> anyhow::Result<()> {
 /// Adds a count of bytes, each the low byte of a draw from a seed, as `soak` draws.
 fn draw(bytes: &mut Vec<u8>, text: &str) -> anyhow::Result<()> {
     let (seed, count) = pair(text)?;
-    let mut drawn = seed;
+    let mut draws = Draws { state: seed };
     for _ in 0..count {
-        drawn = drawn
-            .wrapping_mul(6364136223846793005)
-            .wrapping_add(1442695040888963407);
-        let byte = u8::try_from((drawn >> 33) & 255).context("a byte")?;
-        bytes.push(byte).map_err(AllocError::from)?;
+        bytes.push((draws.next() & 255) as u8)?;
     }
     Ok(())
 }

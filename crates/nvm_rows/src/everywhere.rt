@@ -1,109 +1,130 @@
-// A case with one cut or one fault at each place.
+// A script with one cut or one fault at each place.
 use crate::case::Case;
-use crate::outcomes::{Alike, note, show};
-use crate::played::{Faults, Played, play};
-use crate::spots::{Spot, spots, with_plan, with_start_up};
+use crate::faults::Fault;
+use crate::ranges::Ranges;
+use crate::spots::{Spot, spots, with_line, with_plan};
+use crate::trials::{Trial, Trials};
 use std::alloc::AllocGlobal;
 use std::sync::Wait;
 use std::thread::Threads;
 
-// The bytes of an operation that are done, of a page of 16: none, half, all but one, all.
-const KEEPS: [u32; 4] = [0, 8, 15, 16];
+/// The bytes of an operation that are done, of a page of 16: none, half, all but one, all.
+pub const KEEPS: [u32; 4] = [0, 8, 15, 16];
+
+// A plan so far away that no cut of it comes.
+const FAR: u64 = 1_000_000;
 
 /// Runs the script of a case once for each changing operation with a power cut at it, once for each with a fault at it,
-/// and once for each read with a fault at it, and prints how they ended. Each run has a start-up at its end.
+/// and once for each read with a fault at it. Each run has a start-up at its end. It prints how they ended, and what was
+/// counted over all of them.
 pub fn try_everywhere<R: Print + AllocGlobal + Threads + Wait + Sync>(
     rt: &R,
     case: &Case,
 ) -> anyhow::Result<()> {
     let alloc = rt.alloc();
-    let input = with_start_up(alloc, &case.input, case.input.len())?;
-    let whole = play(rt, case, &input, Faults::None)?;
+    let mut trials = Trials::of(alloc, case)?;
+    let input = with_line(alloc, &case.input, "restart")?;
+    let whole = trials.call(rt, &input, None)?;
     for keep in KEEPS {
         for spot in &spots(alloc, &input)? {
-            cut_behind(rt, case, &input, *spot, keep)?;
+            cut_behind(rt, &mut trials, &input, *spot, keep)?;
         }
-        fail_each(rt, case, &input, &whole, keep)?;
+        fail_each(
+            rt,
+            &mut trials,
+            &input,
+            u64::MAX,
+            (0, whole.operations),
+            keep,
+        )?;
     }
-    fail_reads(rt, case, &input, &whole)
+    fail_reads(rt, &mut trials, &input, u64::MAX, (0, whole.reads))?;
+    trials.show(rt)
 }
 
-// A cut at each operation that the steps behind a place make. The last number is one more than these, where the plan
-// stands to the end.
+// A cut at each operation that the steps behind a place make, where no other plan stands. The last number is one more
+// than these, where the plan stands to the end.
 fn cut_behind<R: Print + AllocGlobal + Threads + Wait + Sync>(
     rt: &R,
-    case: &Case,
+    trials: &mut Trials<'_>,
     input: &[u8],
     spot: Spot,
     keep: u32,
 ) -> anyhow::Result<()> {
     let alloc = rt.alloc();
     let line = spot.line;
-    let what = format!(in alloc; "cut behind line {line} keep {keep} at")?;
-    let before = operations_to(rt, case, input, spot.at)?;
-    let behind = operations_to(rt, case, input, spot.end)?;
-    let mut alike: Option<Alike> = None;
-    for nth in 1..=behind.saturating_sub(before).saturating_add(1) {
-        let text = with_plan(alloc, input, spot.at, nth, keep)?;
-        let played = play(rt, case, &text, Faults::None)?;
-        alike = note(rt, what.as_str(), alike, nth, played.outcome)?;
+    let mut ranges = Ranges::of(format!(in alloc; "cut behind line {line} keep {keep} at")?);
+    let count = operations_behind(rt, trials, input, spot)?;
+    for number in 1..=count.saturating_add(1) {
+        let text = with_plan(alloc, input, spot.at, number, keep)?;
+        let trial = Trial {
+            number,
+            input: &text,
+            fault: None,
+            from: u64::MAX,
+        };
+        trials.run(rt, &mut ranges, trial)?;
     }
-    show_last(rt, what.as_str(), alike)
+    ranges.end(rt)
 }
 
-// The operations that the steps up to a place make.
-fn operations_to<R: AllocGlobal + Threads + Wait + Sync>(
+// The operations that the steps behind a place make, where no cut comes.
+fn operations_behind<R: AllocGlobal + Threads + Wait + Sync>(
     rt: &R,
-    case: &Case,
+    trials: &Trials<'_>,
     input: &[u8],
-    end: usize,
+    spot: Spot,
 ) -> anyhow::Result<u64> {
-    let alloc = rt.alloc();
-    let text = input.get(..end).unwrap_or(input);
-    Ok(play(rt, case, text, Faults::None)?.operations)
+    let before = input.get(..spot.at).unwrap_or(input);
+    let behind = input.get(..spot.end).unwrap_or(input);
+    let behind = with_plan(rt.alloc(), behind, spot.at, FAR, 0)?;
+    let before = trials.call(rt, before, None)?.operations;
+    let behind = trials.call(rt, &behind, None)?.operations;
+    Ok(behind.saturating_sub(before))
 }
 
-// A fault at each operation.
-fn fail_each<R: Print + AllocGlobal + Threads + Wait + Sync>(
+/// A fault at each changing operation behind the first of these numbers, to the second one.
+pub fn fail_each<R: Print + AllocGlobal + Threads + Wait + Sync>(
     rt: &R,
-    case: &Case,
+    trials: &mut Trials<'_>,
     input: &[u8],
-    whole: &Played,
+    from: u64,
+    (before, last): (u64, u64),
     keep: u32,
 ) -> anyhow::Result<()> {
-    let alloc = rt.alloc();
-    let what = format!(in alloc; "operation fails keep {keep} at")?;
-    let mut alike: Option<Alike> = None;
-    for nth in 1..=whole.operations {
-        let played = play(rt, case, input, Faults::Operation { nth, keep })?;
-        alike = note(rt, what.as_str(), alike, nth, played.outcome)?;
+    let what = format!(in rt.alloc(); "operation fails keep {keep} at")?;
+    let mut ranges = Ranges::of(what);
+    for number in 1..=last.saturating_sub(before) {
+        let nth = before.saturating_add(number);
+        let trial = Trial {
+            number,
+            input,
+            fault: Some(Fault::Operation { nth, keep }),
+            from,
+        };
+        trials.run(rt, &mut ranges, trial)?;
     }
-    show_last(rt, what.as_str(), alike)
+    ranges.end(rt)
 }
 
-// A fault at each read.
-fn fail_reads<R: Print + AllocGlobal + Threads + Wait + Sync>(
+/// A fault at each read behind the first of these numbers, to the second one.
+pub fn fail_reads<R: Print + AllocGlobal + Threads + Wait + Sync>(
     rt: &R,
-    case: &Case,
+    trials: &mut Trials<'_>,
     input: &[u8],
-    whole: &Played,
+    from: u64,
+    (before, last): (u64, u64),
 ) -> anyhow::Result<()> {
-    let alloc = rt.alloc();
-    let mut alike: Option<Alike> = None;
-    for nth in 1..=whole.reads {
-        let played = play(rt, case, input, Faults::Read { nth })?;
-        alike = note(rt, "read fails at", alike, nth, played.outcome)?;
+    let mut ranges = Ranges::of(String::from_str(rt.alloc(), "read fails at")?);
+    for number in 1..=last.saturating_sub(before) {
+        let nth = before.saturating_add(number);
+        let trial = Trial {
+            number,
+            input,
+            fault: Some(Fault::Read { nth }),
+            from,
+        };
+        trials.run(rt, &mut ranges, trial)?;
     }
-    show_last(rt, "read fails at", alike)
-}
-
-fn show_last<R: Print + AllocGlobal>(
-    rt: &R,
-    what: &str,
-    alike: Option<Alike>,
-) -> anyhow::Result<()> {
-    match alike {
-        Some(alike) => show(rt, what, &alike),
-        None => Ok(()),
-    }
+    ranges.end(rt)
 }

@@ -1,53 +1,66 @@
 //! The program `nvm_rows`: it reads worked cases, runs the command of each in memory, and prints what was written, the
-//! status, and the bytes of the flash that aren't erased at the end, but for a quiet case.
+//! status, and the bytes of the flash that aren't erased at the end, but for a quiet case. Where a case says so, its
+//! script is run again with power cuts, faults and steps at each place, and each start-up is judged by the history before
+//! it; or it is played over a device in memory.
 //!
 //! A further case costs no proof: its lines go into `stdin`, and what it must print into `stdout`. What a line means
 //! stands in `docs/CONTRIBUTING.md`. It promises nothing of its own.
 #![tactic(auto)]
 
+mod between;
+mod call;
 mod case;
 mod counted;
 mod everywhere;
-mod outcomes;
-mod played;
+mod faults;
+mod lines;
+mod plain;
+mod ranges;
 mod show;
 mod spots;
+mod trials;
 
 use anyhow::Context;
+use between::{try_between, try_faults};
+use call::{Called, call};
 use case::Case;
 use everywhere::try_everywhere;
-use fls_devices::FaultScript;
-use fls_model::mem_flash;
-use nv_streams::{mem_sink, mem_source};
-use nvm_top::command;
+use plain::show_plain;
 use show::{show_flash, show_text};
-use std::alloc::AllocError;
 use std::io::{BufRead, BufReader};
 use std::sync::Wait;
 use std::thread::Threads;
 
 /// Runs a case, and prints what came of it.
 fn run<R: Print + AllocGlobal + Threads + Wait + Sync>(rt: &R, case: &Case) -> anyhow::Result<()> {
-    let alloc = rt.alloc();
-    let mut input = mem_source(alloc, &case.input, &case.takes_fail)?;
-    let mut output = mem_sink(alloc, &case.puts_fail)?;
-    let flash = mem_flash(alloc, &case.flash, 0)?;
-    let flash = FaultScript::make(alloc, flash, &case.operations_fail, &case.reads_fail).map_err(
-        AllocError::from,
-    )?;
-    let (status, flash) = command(rt, alloc, &case.words, &mut input, &mut output, flash);
-    let name = &case.name;
-    let code = status.code();
-    println!(rt; "case {name}")?;
-    show_text(rt, output.bytes())?;
-    println!(rt; "status {code}")?;
-    if !case.quiet {
-        show_flash(rt, flash.into_inner().bytes())?;
+    let called = call(rt, &case.words, &case.input, &case.flash, &case.faults)?;
+    show_call(rt, case, &called)?;
+    if let Some(turns) = &case.plain {
+        show_plain(rt, case, turns, &called)?;
     }
     if case.everywhere {
         try_everywhere(rt, case)?;
     }
+    if case.each_fault {
+        try_faults(rt, case)?;
+    }
+    for step in &case.between {
+        try_between(rt, case, step.as_str())?;
+    }
     println!(rt)?;
+    Ok(())
+}
+
+// What the call of a case wrote and left.
+fn show_call<R: Print + AllocGlobal>(rt: &R, case: &Case, called: &Called) -> anyhow::Result<()> {
+    let name = &case.name;
+    let status = called.status;
+    println!(rt; "case {name}")?;
+    show_text(rt, &called.output)?;
+    println!(rt; "status {status}")?;
+    if !case.quiet {
+        show_flash(rt, &called.flash)?;
+    }
     Ok(())
 }
 

@@ -48,19 +48,19 @@ pub fn with_plan(
 ) -> Result<Vec<u8>, AllocError> {
     let before = input.get(..at).unwrap_or(input);
     let behind = input.get(at..).unwrap_or(&[]);
-    let step = format!(in alloc; "cut {nth} {keep}\n")?;
-    let mut text = before.to_vec(alloc)?;
-    text.extend_from_slice(step.as_bytes())?;
+    let step = format!(in alloc; "cut {nth} {keep}")?;
+    let mut text = with_line(alloc, before, step.as_str())?;
     text.extend_from_slice(behind)?;
     Ok(text)
 }
 
-/// The input up to a place, with a start-up at its end.
-pub fn with_start_up(alloc: Global, input: &[u8], end: usize) -> Result<Vec<u8>, AllocError> {
-    let mut text = input.get(..end).unwrap_or(input).to_vec(alloc)?;
+/// The input with one line more.
+pub fn with_line(alloc: Global, input: &[u8], line: &str) -> Result<Vec<u8>, AllocError> {
+    let mut text = input.to_vec(alloc)?;
     if !text.ends_with(b"\n") {
         text.push(b'\n').map_err(AllocError::from)?;
     }
-    text.extend_from_slice(b"restart\n")?;
+    text.extend_from_slice(line.as_bytes())?;
+    text.push(b'\n').map_err(AllocError::from)?;
     Ok(text)
 }

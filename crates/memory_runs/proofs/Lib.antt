@@ -1,0 +1,4 @@
+mod Copies
+mod Cuts
+mod Started
+mod Texts

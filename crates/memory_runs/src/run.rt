@@ -1,0 +1,69 @@
+// A run in memory.
+ghost use Rattle.std.specs.Prelude.{◌≡◌, ◌++◌, List, IfOk, OnOk};
+ghost use Rattle.block_machine.specs.Words.{Entry as Event};
+ghost use Rattle.nvm_script.specs.Lines.{entry_line};
+ghost use Rattle.nvm_script.specs.Printed.{history_text};
+ghost use Rattle.played_steps.specs.Played.{ArePlayed};
+ghost use Rattle.stack_steps.specs.Made.{cuts_of};
+ghost use Rattle.memory_runs.specs.Runs.{IsRunIn, HasWalk};
+
+use crate::MemoryStop;
+use crate::script::{read_config, read_steps};
+use crate::stack::begin;
+use block_config::Config;
+use memif::PlainStore;
+use nv_base::{Entry, History};
+use nvm_script::{StepList, entry_text};
+use played_stacks::PlainStack;
+use stack_steps::{StepFault, make_steps};
+use std::alloc::{AllocError, Global};
+
+/// Plays the script of an input over a device in memory, and gives the text of the history.
+pub fn play_in_memory(alloc: Global, input: &[u8]) -> Result<Vec<u8>, MemoryStop>
+    ensures { IfOk result (λ text. (h : List Event) × IsRunIn input.now h × (text.items ≡ history_text h)) }
+{
+    let config = read_config(alloc, input)?;
+    let steps = read_steps(alloc, input, &config)?;
+    let stack = play(alloc, config, &steps)?;
+    let text = text_of(alloc, stack.stack().history())?;
+    Ok(text)
+}
+
+// Plays steps.
+fn play(
+    alloc: Global,
+    config: Config,
+    steps: &StepList,
+) -> Result<PlainStack<PlainStore>, MemoryStop>
+    requires played { ArePlayed config steps.now }
+    requires no_cuts { cuts_of steps.now ≡ 0 }
+    ensures { IfOk result (λ s. HasWalk config steps.now s.desk.entries) }
+{
+    let blocks = config.blocks();
+    let mut stack = begin(alloc, config)?;
+    match make_steps(alloc, steps, blocks, &mut stack) {
+        Ok(()) => Ok(stack),
+        Err(StepFault::HistoryFull) => Err(MemoryStop::HistoryFull),
+        Err(StepFault::Flash | StepFault::Memory) => Err(MemoryStop::Memory),
+    }
+}
+
+// The lines of a history.
+fn text_of(alloc: Global, history: &History) -> Result<Vec<u8>, AllocError>
+    ensures { IfOk result (λ text. text.items ≡ history_text history.now.entries) }
+{
+    let mut text = Vec::new(alloc);
+    for place in 0..history.len() {
+        if let Some(entry) = history.entry(place) {
+            add_line(alloc, &mut text, entry)?;
+        }
+    }
+    Ok(text)
+}
+
+fn add_line(alloc: Global, text: &mut Vec<u8>, entry: &Entry) -> Result<(), AllocError>
+    ensures { OnOk result (text.new.items ≡ text.old.items ++ entry_line entry.now) }
+{
+    let line = entry_text(alloc, entry)?;
+    text.extend_from_slice(line.as_slice())
+}

@@ -1,0 +1,85 @@
+// A step or a fault at each turn of a job.
+use crate::case::Case;
+use crate::everywhere::{KEEPS, fail_each, fail_reads};
+use crate::ranges::Ranges;
+use crate::spots::with_line;
+use crate::trials::{Trial, Trials};
+use anyhow::Context;
+use std::alloc::{AllocError, AllocGlobal, Global};
+use std::sync::Wait;
+use std::thread::Threads;
+
+// No job has so many turns.
+const MOST_TURNS: u64 = 1_000;
+
+/// Runs the script of a case with a step behind no turn of its last `drain`, behind the first one, and so on until
+/// nothing is left of it, and prints what the step and the turns behind it came to.
+pub fn try_between<R: Print + AllocGlobal + Threads + Wait + Sync>(
+    rt: &R,
+    case: &Case,
+    step: &str,
+) -> anyhow::Result<()> {
+    let alloc = rt.alloc();
+    let mut trials = Trials::of(alloc, case)?;
+    let before = before_the_drain(case)?;
+    let whole = trials.entries(rt, &case.input)?;
+    let mut ranges = Ranges::of(format!(in alloc; "{step} behind turns")?);
+    for number in 0..MOST_TURNS {
+        let text = with_turns(alloc, before, number)?;
+        let from = trials.entries(rt, &text)?;
+        let text = with_line(alloc, &text, step)?;
+        let input = with_line(alloc, &text, "drain")?;
+        let trial = Trial {
+            number,
+            input: &input,
+            fault: None,
+            from,
+        };
+        trials.run(rt, &mut ranges, trial)?;
+        if from == whole {
+            break;
+        }
+    }
+    ranges.end(rt)?;
+    trials.show(rt)
+}
+
+/// Runs the script of a case once for each changing operation and each read of its last `drain` with a fault at it, and
+/// prints what that drain came to.
+pub fn try_faults<R: Print + AllocGlobal + Threads + Wait + Sync>(
+    rt: &R,
+    case: &Case,
+) -> anyhow::Result<()> {
+    let mut trials = Trials::of(rt.alloc(), case)?;
+    let before = before_the_drain(case)?;
+    let from = trials.entries(rt, before)?;
+    let before = trials.call(rt, before, None)?;
+    let whole = trials.call(rt, &case.input, None)?;
+    for keep in KEEPS {
+        let operations = (before.operations, whole.operations);
+        fail_each(rt, &mut trials, &case.input, from, operations, keep)?;
+    }
+    fail_reads(
+        rt,
+        &mut trials,
+        &case.input,
+        from,
+        (before.reads, whole.reads),
+    )?;
+    trials.show(rt)
+}
+
+// The script up to its last step, which is a drain.
+fn before_the_drain(case: &Case) -> anyhow::Result<&[u8]> {
+    let before = case.input.as_slice().strip_suffix(b"drain\n");
+    before.context("a drain at the end")
+}
+
+// A script with so many turns behind it.
+fn with_turns(alloc: Global, text: &[u8], turns: u64) -> Result<Vec<u8>, AllocError> {
+    if turns == 0 {
+        return text.to_vec(alloc);
+    }
+    let step = format!(in alloc; "turn {turns}")?;
+    with_line(alloc, text, step.as_str())
+}

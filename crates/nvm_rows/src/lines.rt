@@ -1,0 +1,29 @@
+// The lines of a printed history.
+use std::alloc::{AllocError, Global};
+
+/// A line without its newline, and without the number of operations that is its end.
+pub fn without_operations(line: &str) -> &str {
+    match line.rsplit_once(" ops ") {
+        Some((words, _)) => words,
+        None => line,
+    }
+}
+
+/// How many entries a history has, which has a line for each of them and one more.
+pub fn entries_in(output: &[u8]) -> u64 {
+    let lines = output.split_inclusive(|byte| *byte == b'\n').count() as u64;
+    lines.saturating_sub(1)
+}
+
+/// Its lines from an entry on, without their numbers of operations and but for the last one, each behind a bar.
+pub fn words_from(alloc: Global, output: &str, from: u64) -> Result<String, AllocError> {
+    let mut words = String::new(alloc);
+    let count = entries_in(output.as_bytes());
+    for (place, line) in output.split('\n').enumerate() {
+        if (from..count).contains(&(place as u64)) {
+            words.push_str(" | ")?;
+            words.push_str(without_operations(line))?;
+        }
+    }
+    Ok(words)
+}
