@@ -6,7 +6,7 @@ ghost use Rattle.bank_start.specs.Active.{active_shown};
 use fee_format::BankHead;
 
 /// A bank that stands, by its number from 0, with its head.
-#[derive(Clone, Copy, PartialEq, Eq)]
+#[derive(Clone, Copy)]
 pub struct ActiveBank {
     pub bank: u32,
     pub head: BankHead,

@@ -6,7 +6,7 @@ use std::alloc::AllocError;
 
 /// Why no configuration was read: the first rule that the line breaks, by its number, with the block (0 where the
 /// rule isn't about one block), or want of memory.
-#[derive(Clone, Copy, PartialEq, Eq)]
+#[derive(Clone, Copy)]
 pub enum ConfigFault {
     Broken { rule: u8, block: u16 },
     Memory,

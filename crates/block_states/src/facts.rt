@@ -10,7 +10,7 @@ use ram_blocks::RamFlags;
 
 /// The status of a block, its data index, and whether it is locked and protected (NvM_GetErrorStatus, NvM_GetDataIndex,
 /// NvM_SetBlockLockStatus, NvM_SetBlockProtection).
-#[derive(Clone, Copy, PartialEq, Eq)]
+#[derive(Clone, Copy)]
 pub struct BlockFacts {
     pub status: ReqResult,
     pub index: u8,

@@ -111,10 +111,6 @@ behind w =
 split : (words : List Text) → fault_of line words ≡ or_else (faults start words) (behind (walks start words))
 split words = refl
 
-no_words : faults start [] ≡ []
-unfolding clap_on_literals
-no_words = refl
-
 more : (w : Walk) (word : Text) (rest : List Text) → faults w (word ∷ rest) ≡ or_else (turn_fault shape [] w word) (faults (walked rules [] w word) rest)
 unfolding clap_on_literals
 more w word rest = refl

@@ -8,7 +8,7 @@ use nv_base::decimal_number;
 use std::alloc::{AllocError, Global};
 
 /// One of the commands, `soak` with its seed and its count of rounds.
-#[derive(Clone, Copy, PartialEq, Eq)]
+#[derive(Clone, Copy)]
 pub enum CommandKind {
     Play,
     Run,

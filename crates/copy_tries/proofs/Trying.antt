@@ -60,9 +60,6 @@ refusals_at n bytes (Some s) h = refl
 pub counts_sizes : (old new : List Told) (block : ℕ) → OnlyCounts block old new → sizes_of new ≡ sizes_of old
 counts_sizes old new block (n, is) = rw is (sizes_stay (counting n) (λ s. refl) old block)
 
-counts_others : (old new : List Told) (block : ℕ) → OnlyCounts block old new → OthersStay block old new
-counts_others old new block (n, is) = rw is (others_stay (counting n) old block)
-
 -- REFUSALS
 refuses_by : (n : ℕ) (t : Told) → refusals_by t ≤ n → (most_by (option_map (counting n) t) ≡ most_by t) × (refusals_by t ≤ refusals_by (option_map (counting n) t))
 refuses_by n None low = (refl, omega arith)
@@ -131,11 +128,6 @@ last_at : (content : List ℕ) (bytes : ℕ) (t : Told) → option_map (λ (s : 
 last_at content bytes None h = cc
 last_at content bytes (Some s) h = refl
 
-pub handed_last : (old now new : List Told) (block bytes : ℕ) (content : List ℕ) → IsTrying old now block bytes
-    → new ≡ changed block (handed_over content) now → option_map (λ (s : Synchronized). s.last) (told_at new block) ≡ Some content
-handed_last old now new block bytes content h is = rw is (ap (option_map (λ (s : Synchronized). s.last)) (now_at (handed_over content) now block)
-    ∙ last_at content bytes (told_at now block) h.synchronized)
-
 pub handed_sizes : (old now new : List Told) (block bytes : ℕ) (content : List ℕ) → IsTrying old now block bytes
     → new ≡ changed block (handed_over content) now → sizes_of new ≡ sizes_of old
 handed_sizes old now new block bytes content h is = rw is (sizes_stay (handed_over content) (λ s. refl) now block ∙ counts_sizes old now block h.counts)
@@ -143,11 +135,6 @@ handed_sizes old now new block bytes content h is = rw is (sizes_stay (handed_ov
 pub handed_refuses : (old now new : List Told) (block bytes : ℕ) (content : List ℕ) → IsTrying old now block bytes
     → new ≡ changed block (handed_over content) now → OnlyRefuses old new
 handed_refuses old now new block bytes content h is = rw is (refuses_on old now (changed block (handed_over content) now) h.refuses (hands_refuse content now block))
-
-pub handed_others : (old now new : List Told) (block bytes : ℕ) (content : List ℕ) → IsTrying old now block bytes
-    → new ≡ changed block (handed_over content) now → OthersStay block old new
-handed_others old now new block bytes content h is b other =
-    rw is (others_stay (handed_over content) now block b other ∙ counts_others old now block h.counts b other)
 
 -- THE LOOPS
 

@@ -7,7 +7,7 @@ use ram_blocks::{Copied, SyncCalls};
 
 /// What became of the tries of a copy out: one gave the whole of the store with this number; each was refused; or none gave
 /// one, and the last that wasn't refused gave the store `got`, which is too old.
-#[derive(Clone, Copy, PartialEq, Eq)]
+#[derive(Clone, Copy)]
 pub enum Tried {
     Got { number: u64 },
     Refused,

@@ -50,15 +50,6 @@ module _ (m : Making) (entry : Told) (s : Parts) (listed : List (DeviceNumber ×
   pub may_step : StepsMayBeMade → IfSome s.banks.course (CanGoOn s.banks)
   may_step law = law m.reserve s.banks on.banks on.log (on.sound.room on.started (sym (on.sound.off on.started)))
 
--- a step that reads is one of an open switch, the first one of a copy
-pub reads_some : (b : BanksState) (o : Option Course) → reads_next b.log o ≡ true → o ≡ Some (Copy None)
-reads_some b None reads = cc reads
-reads_some b (Some (Erase n)) reads = cc reads
-reads_some b (Some (Copy None)) reads = refl
-reads_some b (Some (Copy (Some w))) reads = cc reads
-reads_some b (Some Head) reads = cc reads
-reads_some b (Some (Gate failed)) reads = cc reads
-
 -- ITS ANSWER
 -- by what it came to
 pub done_more : (c : Course) (answer : FlashAnswer) → step_of c answer ≡ step.More → answer ≡ Done

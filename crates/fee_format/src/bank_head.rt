@@ -7,7 +7,7 @@ use byteorder::{BigEndian, ByteOrder};
 use nv_base::all_are;
 
 /// The head of a bank: its format, which is 1, and its generation.
-#[derive(Clone, Copy, PartialEq, Eq)]
+#[derive(Clone, Copy)]
 pub struct BankHead {
     pub format: u8,
     pub generation: u32,

@@ -9,7 +9,7 @@ use nv_base::all_are;
 
 /// The header of a record: the device number of its instance, its kind (1 a content, 2 an invalidated instance, 3 an
 /// erased one), and the length of its content in bytes, 0 for the kinds 2 and 3.
-#[derive(Clone, Copy, PartialEq, Eq)]
+#[derive(Clone, Copy)]
 pub struct RecHead {
     pub number: u16,
     pub kind: u8,

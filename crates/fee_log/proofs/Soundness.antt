@@ -81,23 +81,6 @@ followed_sound s h next sound is =
       tail = (tail.1, omega arith, omega (arith, tail.0));
     }
 
--- a record's gate is owed
-pub owing_sound : (s : LogState) (h : RecHead) (k : ℕ) → IsLogState s → s.tail ≡ Writes h k
-    → IsLogState (record s { tail = Owes h None })
-owing_sound s h k sound is =
-    let tail = tail_sound s (Writes h k) sound is in
-    record {
-      geometry = sound.geometry;
-      shared = sound.shared;
-      bank = sound.bank;
-      numbers = sound.numbers;
-      places = sound.places;
-      flags = sound.flags;
-      end_low = sound.end_low;
-      end_high = sound.end_high;
-      tail = (omega (arith, tail.2), tt);
-    }
-
 -- A RECORD BEGINS
 -- a record of a configured number has a legal header
 pub legal_for : NumbersAreInBounds → (numbers : List (DeviceNumber × ℕ)) (h : RecHead) → AreLengths 0 numbers → IsFor numbers h

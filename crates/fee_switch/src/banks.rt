@@ -78,11 +78,6 @@ impl Model for Banks {
     }) };
 }
 
-// Tells proofs that bytes are below 256.
-fn tell_bytes(bytes: &Vec<u8>)
-    ensures { All (λ x. x < 256) bytes.now.items }
-{}
-
 impl Banks {
     /// Two banks, none of which is active. It takes all the memory that they ever need.
     pub fn make(alloc: Global, geometry: Geometry, numbers: &Lengths) -> Result<Banks, AllocError>
@@ -483,3 +478,8 @@ impl Banks {
         self.settle(course, answer)
     }
 }
+
+// Tells proofs that bytes are below 256.
+fn tell_bytes(bytes: &Vec<u8>)
+    ensures { All (λ x. x < 256) bytes.now.items }
+{}

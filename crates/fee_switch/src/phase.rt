@@ -16,14 +16,14 @@ pub enum Phase {
 }
 
 /// The answer of a start-up: the banks are ready, or a read failed, which a fault counts.
-#[derive(Clone, Copy, PartialEq, Eq)]
+#[derive(Clone, Copy)]
 pub enum BankStart {
     Ready,
     Failed,
 }
 
 /// The answer to the beginning of a switch: it is open, or the active bank has the last generation.
-#[derive(Clone, Copy, PartialEq, Eq)]
+#[derive(Clone, Copy)]
 pub enum BankBegin {
     Begun,
     WornOut,
@@ -31,7 +31,7 @@ pub enum BankBegin {
 
 /// The answer to a step of a switch: its operation was done, and was or wasn't the last; it failed, which a fault counts; or
 /// the power is off.
-#[derive(Clone, Copy, PartialEq, Eq)]
+#[derive(Clone, Copy)]
 pub enum BankStep {
     More,
     Ended,

@@ -17,7 +17,7 @@ use fls_model::{Flash, FlashAnswer};
 use nv_base::Geometry;
 
 /// What comes next: the erase of a sector when so many are done, the head once all is copied, or the gate.
-#[derive(Clone, Copy, PartialEq, Eq)]
+#[derive(Clone, Copy)]
 pub enum Stage {
     Erase { done: u32 },
     Head,
@@ -25,7 +25,7 @@ pub enum Stage {
 }
 
 /// The bank that a switch makes stand, of so many that share a flash of a geometry, with the generation that it gets.
-#[derive(Clone, Copy, PartialEq, Eq)]
+#[derive(Clone, Copy)]
 pub struct Target {
     pub geometry: Geometry,
     pub banks: u32,

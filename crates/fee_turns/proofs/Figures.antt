@@ -30,9 +30,6 @@ and_four true true d = refl
 and_four true false d = refl
 and_four false b d = refl
 
-and_two : (d : Bool) → false && d ≡ false
-and_two d = refl
-
 module _ (s : BanksState) (work : IsSome (work_in s.log.tail)) where
   none_waits : (j : FeeJob) → is_waiting s j ≡ false
   none_waits j = ap (λ (b : Bool). nat_le 1 (pages_of_op s.geometry.page j.op j.length) && not b) work ∙ and_false (nat_le 1 (pages_of_op s.geometry.page j.op j.length))

@@ -116,9 +116,6 @@ none_noted (Some j) n unread = rw (none_by (names_ram j.request) (is_read (kind_
 pub notes_none : (old new : DeskState) (unread : Numbers) → given_at new.entries (length old.entries) ≡ None → NotesReads old new unread unread
 notes_none old new unread none = rw none (none_noted (state_of old).hand (length old.entries) unread)
 
-pub notes_nothing : (old : DeskState) (unread : Numbers) → NotesReads old old unread unread
-notes_nothing old unread = notes_none old old unread (ap (option_and_then given_in) (none_behind old.entries))
-
 pub notes_no_entry : (old new : DeskState) (e : Entry) (unread : Numbers) → Adds e old new → given_in e ≡ None → NotesReads old new unread unread
 notes_no_entry old new e unread adds none = notes_none old new unread
     (ap (λ (x : DeskState). given_at x.entries (length old.entries)) adds ∙ ap (option_and_then given_in) (last_entry old.entries e) ∙ none)

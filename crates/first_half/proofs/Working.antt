@@ -1,5 +1,5 @@
 -- The job in hand at the device.
-use Rattle.std.proofs.Common.{◌≡◌, ℕ, ◌≤◌, Bool, true, false, [], Option, Some, None, Result, Ok, Err, refl, sym, ap, ◌∙◌, subst}
+use Rattle.std.proofs.Common.{◌≡◌, Bool, true, false, [], Some, None, Result, Ok, Err, refl, sym, ap, ◌∙◌, subst}
 use Rattle.memif.specs.Told as device
 use Rattle.memif.specs.Told.{DeviceTold, Stand, is_open, IfElse}
 use Rattle.memif.specs.Calls.{Wish, AcceptsAs, Cancels, IsCanceled}
@@ -8,11 +8,9 @@ use Rattle.memif.specs.declared.answer.JobResult.TheVariants.{JobCanceled}
 use Rattle.memif.specs.declared.answer.DeviceRefusal.{DeviceRefusal}
 use Rattle.block_machine.specs.Words.{Configuration}
 use Rattle.block_machine.specs.State.{State, Job}
-use Rattle.nv_desk.specs.Desk.{DeskState, state_of}
 use Rattle.job_programs.specs.Program.{Program}
 use Rattle.job_hands.specs.Hand.{HandState}
-use Rattle.hand_laws.specs.Hands.{IsInHand, IsPaired, IsWorking, IsAt}
-use Rattle.stack_turns.specs.Ties.{IsTied}
+use Rattle.hand_laws.specs.Hands.{IsInHand, IsWorking, IsAt}
 use Rattle.first_half.specs.Starts.{LeavesDevice}
 
 -- its program is that of any job that is in hand
@@ -45,18 +43,6 @@ canceled_by old new false is = subst (λ (x : DeviceTold). LeavesDevice old x) (
 
 pub cancel_leaves : (old : DeviceTold) (clock : Clock) (new : DeviceTold) (clock_new : Clock) → Cancels old clock new clock_new → LeavesDevice old new
 cancel_leaves old clock new clock_new cancels = canceled_by old new (is_open old.stand) cancels.0
-
--- the parts stay tied where the device keeps its counts
-pub still_tied : (desk : DeskState) (hand new_hand : Option HandState) (old new : DeviceTold) → IsTied desk hand old → LeavesDevice old new
-    → IsPaired desk.config (state_of desk) new_hand new → IsTied desk new_hand new
-still_tied desk hand new_hand old new tied leaves paired = record {
-  paired = paired;
-  up = ap (λ (x : DeviceTold). x.started) leaves ∙ tied.up;
-  numbers = ap (λ (x : DeviceTold). x.fixed.numbers) leaves ∙ tied.numbers;
-  started = tied.started;
-  later = subst (λ (n : ℕ). (state_of desk).ops ≤ n) (sym (ap device.ops_of leaves)) tied.later;
-  off = λ off. ap device.is_off leaves ∙ tied.off off;
-}
 
 pub not_both : (refusal : DeviceRefusal) → None ≡ Some refusal → ⊥
 not_both refusal is = cc

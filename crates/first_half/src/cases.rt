@@ -8,7 +8,7 @@ use kept_state::NextEntry;
 use nv_desk::Desk;
 
 /// The cases of a turn, in their order.
-#[derive(Clone, Copy, PartialEq, Eq)]
+#[derive(Clone, Copy)]
 pub(crate) enum Case {
     /// The power is off.
     Off,

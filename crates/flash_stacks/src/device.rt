@@ -14,7 +14,7 @@ use fls_model::{AttachFault, Flash};
 use std::alloc::Global;
 
 /// Why a stack isn't made or started: its flash has a wrong size in bytes, or failed by a counted fault, or want of memory.
-#[derive(Clone, Copy, PartialEq, Eq)]
+#[derive(Clone, Copy)]
 pub enum MakeFault {
     WrongSize { found: u64 },
     Flash,

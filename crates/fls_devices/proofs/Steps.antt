@@ -1,7 +1,7 @@
 -- steps of a flash over another one
 use Rattle.std.proofs.Common.{◌≡◌, ◌≤◌, ℕ, zero, suc, ◌+◌, Bool, true, false, List, [], ◌∷◌, ◌++◌, length, Some, None, inl, inr, refl, ap, ◌∙◌, subst, arith}
 use Rattle.std.specs.Prelude.{Option, IfSome, option_map}
-use Rattle.std.proofs.lemmas.Bool.{cases_Bool, cases_lt}
+use Rattle.std.proofs.lemmas.Bool.{cases_lt}
 use Rattle.std.proofs.lemmas.List.{length_push}
 use Rattle.nv_base.specs.Count.{Rose, last_count, next_count}
 use Rattle.fls_model.specs.declared.flash.FlashAnswer.{FlashAnswer}
@@ -245,10 +245,3 @@ kept_pass op a o i j kept asked passes = record {
   parts = rw (asked.geometry, passes.events)
       (told_parts_pass o.inner.geometry op a o.journal.events o.journal.since o.inner.bytes i.bytes asked.bytes kept.fits kept.parts);
 }
-
--- a step changes no geometry
-pub step_geometry : (op : Op) (s : Told) (a : FlashAnswer) (t : Told) → IsStep op s a t → t.geometry ≡ s.geometry
-step_geometry op s a t step = elim (cases_Bool s.off) [
-  | inl off ↦ let stopped : OffOrAsked true op s a t = subst (λ (b : Bool). OffOrAsked b op s a t) off step in ap (λ (v : Told). v.geometry) stopped.1
-  | inr on ↦ (on_step op s a t on step).geometry
-]

@@ -2,7 +2,7 @@
 
 /// Why a job wasn't taken, in the order of the tests: another is open, the flash isn't attached, the place isn't
 /// aligned or lies outside, the length isn't one that the job may have there.
-#[derive(Clone, Copy, PartialEq, Eq)]
+#[derive(Clone, Copy)]
 pub enum FlsRefusal {
     Busy,
     Uninit,
@@ -11,7 +11,7 @@ pub enum FlsRefusal {
 }
 
 /// What a turn did: nothing as no job is open, one flash call, or nothing as the power is off.
-#[derive(Clone, Copy, PartialEq, Eq)]
+#[derive(Clone, Copy)]
 pub enum FlsTurn {
     Idle,
     Worked,
@@ -19,7 +19,7 @@ pub enum FlsTurn {
 }
 
 /// Not attached yet, without a job, or with one open (SWS Flash Driver, MemIf_StatusType).
-#[derive(Clone, Copy, PartialEq, Eq)]
+#[derive(Clone, Copy)]
 pub enum FlsStatus {
     Uninit,
     Idle,

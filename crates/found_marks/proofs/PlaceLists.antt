@@ -120,14 +120,6 @@ pub first_after : (a b : DeviceTold) (i : ℕ) (ps : List Place) → b.fixed ≡
 first_after a b i ps fixed each held =
     subst (λ (f : Fixed). IfSome b.slots (λ slots. FirstHeldIn f.numbers slots i ps)) (sym fixed) (after_told a.fixed.numbers a.slots b.slots i ps each held)
 
--- none is held yet
-pub none_first : (d : DeviceTold) (ps : List Place) → FirstHeld d 0 ps
-none_first d ps = none_told d.slots
-  where
-    none_told : (o : Option (List Slot)) → IfSome o (λ slots. FirstHeldIn d.fixed.numbers slots 0 ps)
-    none_told (Some slots) = tt
-    none_told None = tt
-
 -- THE MARKS
 listed_first : (i : Instance) (mark : Mark) (marks : List (Instance × Mark)) → listed i mark [] ++ marks ≡ listed i mark marks
 listed_first i (Content bytes) marks = refl

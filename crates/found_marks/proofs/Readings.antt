@@ -11,7 +11,7 @@ use Rattle.memif.specs.declared.answer.JobResult.{JobResult}
 use Rattle.memif.specs.declared.answer.JobResult.TheVariants.{JobOk}
 use Rattle.memif.specs.declared.answer.StartFault.{StartFault}
 use Rattle.memif.specs.Told as device
-use Rattle.memif.specs.Told.{DeviceTold, PartTold, Fixed, Slot, Part, First, Second, part_at, with_part, Stand, Job, Open, Ended, is_open, nothing_open, length_of, slot_at}
+use Rattle.memif.specs.Told.{DeviceTold, PartTold, Fixed, Slot, Part, First, Second, part_at, Stand, Job, Open, Ended, is_open, nothing_open, length_of, slot_at}
 use Rattle.memif.specs.Marks.{Keeps, KeepsAll, IfTold}
 use Rattle.memif.specs.Clock.{Clock, PartClock}
 use Rattle.memif.specs.Calls.{Accepts, Opens, StartsUp, Turns, Works, JobTurns, EndsAs, Reads, ReadsAt, Gives, is_read, refusal_of}
@@ -41,17 +41,6 @@ reads_more a ca b cb c ct one two = record {
   up = λ begun is. two.up begun (one.up begun is);
   stays = λ x cap h before started keeps. two.stays x cap h before started (one.stays x cap h before started keeps);
   down = λ x cap h before keeps. two.down x cap h before (one.down x cap h before keeps);
-}
-
-pub reads_none : (d : DeviceTold) (clock : PartClock) → ReadsOn d clock d clock
-reads_none d clock = record {
-  fixed = refl;
-  marks = keeps_same d.fixed.numbers d.slots d.slots refl;
-  first_ops = refl;
-  second_ops = refl;
-  up = λ begun is. is;
-  stays = λ x cap h before started keeps. keeps;
-  down = λ x cap h before keeps. keeps;
 }
 
 -- ITS START
@@ -242,13 +231,6 @@ pub turns_on : (number size : ℕ) (begun : DeviceTold) (clock_begun : PartClock
 turns_on number size begun clock_begun old clock new clock_new so configured on =
     let (j, is) = open_job old.stand on in
     goes_on number size begun clock_begun old clock new clock_new so configured j is
-
-pub turns_nearer : (number size : ℕ) (begun : DeviceTold) (clock_begun : PartClock) (old : DeviceTold) (clock : Clock) (new : DeviceTold) (clock_new : Clock)
-    → IsReading number size begun clock_begun old clock.first → length_of begun.fixed.numbers number ≡ Some size → is_open old.stand ≡ true
-    → (answer : DeviceTurn) → Turns answer old clock new clock_new → reading_left new < reading_left old
-turns_nearer number size begun clock_begun old clock new clock_new so configured on =
-    let (j, is) = open_job old.stand on in
-    nearer number size begun clock_begun old clock new clock_new so configured j is
 
 -- ITS END
 ended_is : (number size : ℕ) (old new : DeviceTold) (s : Stand) → is_open s ≡ false → StandsAs number size old new s

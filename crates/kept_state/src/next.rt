@@ -12,7 +12,7 @@ use multi_jobs::SweepStep;
 
 /// What the manager turns to next: nothing but the job in hand, if there is one; the Pick of a job on a block, of a request
 /// on all blocks, or of its member; or a Post without a Pick, of a member or of block id 0.
-#[derive(Clone, Copy, PartialEq, Eq)]
+#[derive(Clone, Copy)]
 pub enum NextEntry {
     Nothing,
     PickJob { block: u16 },

@@ -11,7 +11,7 @@ use Rattle.block_machine.specs.StartUp.{at_first}
 use Rattle.block_machine.specs.Steps.{step, with_member, picked_job, in_hand, picked, wrote, posted, posted_next, ended}
 use Rattle.block_machine.specs.Legal.{MayPick, MayWrite, MayPost, MayPostNext}
 use Rattle.machine_laws.specs.Laws.{LegalStatesAreConsistent, AllowedStepsStayConsistent}
-use Rattle.machine_laws.specs.Consistent.{Each, AreApart, IsWaitingJob, IsJobInHand, IsPendingSweep, IsConsistent}
+use Rattle.machine_laws.specs.Consistent.{Each, IsWaitingJob, IsJobInHand, IsPendingSweep, IsConsistent}
 use Rattle.machine_laws.proofs.Along.{kept_along}
 use Rattle.machine_laws.proofs.NextLaws.{none_waits}
 use Rattle.machine_laws.proofs.NextFacts.{sweep_in, member_in, job_in, next_job_by, next_sweep_by, next_left}
@@ -42,9 +42,6 @@ sweep_with s t sw next more number same named h = record { number = let l = h.nu
 
 nothing_waits : (c : Configuration) (n : ℕ) (jobs : List Job) → jobs ≡ [] → Each (IsWaitingJob c n) jobs
 nothing_waits c n jobs is = rw is tt
-
-none_apart : (jobs : List Job) → jobs ≡ [] → AreApart jobs
-none_apart jobs is = rw is tt
 
 -- PICK OF A MEMBER
 

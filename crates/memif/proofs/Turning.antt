@@ -1,13 +1,13 @@
 -- What is found behind a start-up, and what the turns of any device keep.
-use Rattle.std.proofs.Common.{◌≡◌, inl, inr, ◌<◌, ◌≤◌, ℕ, Bool, true, false, refl, List, [], Option, Some, None, Ok, sym, ap, subst, arith, ◌+◌, if◌then◌else◌, ◌∙◌}
+use Rattle.std.proofs.Common.{◌≡◌, inl, inr, ◌<◌, ◌≤◌, ℕ, Bool, true, false, refl, List, [], Option, Some, None, sym, ap, subst, arith, ◌+◌, if◌then◌else◌, ◌∙◌}
 use Rattle.std.specs.List.{Contains}
 use Rattle.memif.specs.declared.answer.DeviceTurn.TheVariants.{Idle, Worked, Off}
 use Rattle.memif.specs.declared.answer.DeviceTurn.{DeviceTurn}
-use Rattle.memif.specs.Told.{DeviceTold, PartTold, Fixed, Slot, Held, Part, First, Second, part_at, with_part, slot_at, Stand, Open, Ended, is_open, is_off, figures_at}
+use Rattle.memif.specs.Told.{DeviceTold, PartTold, Slot, Held, Part, First, Second, part_at, with_part, slot_at, Stand, Open, Ended, is_open, is_off, figures_at}
 use Rattle.memif.specs.Marks.{IfTold}
 use Rattle.memif.specs.Clock.{Clock, PartClock, SamePart, SameClock, Past, After, CutIn, Ticks, ArePossible, clock_at}
-use Rattle.memif.specs.Calls.{StartsUp, Works, IsCut, Turns, InOrder, JobTurns}
-use Rattle.memif.specs.Trials.{AreSettled, FindsSettled, Lasts, IsFaultless}
+use Rattle.memif.specs.Calls.{Works, IsCut, Turns, InOrder, JobTurns}
+use Rattle.memif.specs.Trials.{AreSettled, Lasts, IsFaultless}
 use Rattle.std.specs.Prelude.{◌||◌}
 use Rattle.std.proofs.Math.Nat.{eq-or-lt_of_le}
 use Rattle.nv_base.specs.Count.{Rose}
@@ -24,15 +24,6 @@ settled_at p d (Some s) (Some t) m clear possible = λ n of. elim (possible n of
 settled_at p d (Some s) None m clear possible = absurd clear
 settled_at p d None (Some t) m clear possible = absurd clear
 settled_at p d None None m clear possible = tt
-
-pub finds_settled : (old : DeviceTold) (clock : Clock) (new : DeviceTold) (clock_new : Clock) → StartsUp (Ok tt) old clock new clock_new → FindsSettled new clock_new
-finds_settled old clock new clock_new up p m finds =
-    let fixed : new.fixed ≡ old.fixed = ap (λ (d : DeviceTold). d.fixed) up.only in
-    settled_at p new old.slots new.slots m (subst (λ (f : Fixed). IfTold old.slots new.slots (λ s t. (n : ℕ) → (slot_at f.numbers t n).doubts ≡ [])) (sym fixed) up.comes_to.3) (up.clock_stays.order.now p m finds)
-
--- nothing was done
-pub lasts_none : (d : DeviceTold) (clock : Clock) → Lasts d clock d clock
-lasts_none d clock = record { ops = λ p. omega arith; past = λ p. record { after = λ k m le finds. finds; cut = λ k m lt finds. finds; worn = λ k n le is. is } }
 
 pub lasts_more : (a : DeviceTold) (ca : Clock) (b : DeviceTold) (cb : Clock) (c : DeviceTold) (ct : Clock) → Lasts a ca b cb → Lasts b cb c ct → Lasts a ca c ct
 lasts_more a ca b cb c ct one two = record {

@@ -35,7 +35,7 @@ pub enum JobResult {
 }
 
 /// What a turn did: nothing as nothing is open, a step of the work, or nothing as the power is off.
-#[derive(Clone, Copy, PartialEq, Eq)]
+#[derive(Clone, Copy)]
 pub enum DeviceTurn {
     Idle,
     Worked,
@@ -43,13 +43,13 @@ pub enum DeviceTurn {
 }
 
 /// Why a start-up didn't come to its end: a counted fault.
-#[derive(Clone, Copy, PartialEq, Eq)]
+#[derive(Clone, Copy)]
 pub enum StartFault {
     Fault,
 }
 
 /// A mark without its content.
-#[derive(Clone, Copy, PartialEq, Eq)]
+#[derive(Clone, Copy)]
 pub enum PlainMark {
     Content,
     Invalid,

@@ -31,7 +31,7 @@ pub enum DeviceCall {
 
 /// What stands after a call: whether it took a job, what the last job came to, and how many changing operations the
 /// device asked for so far.
-#[derive(Clone, Copy, PartialEq, Eq)]
+#[derive(Clone, Copy)]
 pub struct DeviceStep {
     pub taken: bool,
     pub result: JobResult,

@@ -47,10 +47,6 @@ none_left w n (suc j) [] le = refl
 none_left w n zero (x ∷ xs) le = absurd (omega arith)
 none_left w n (suc j) (x ∷ xs) le = none_left w n j xs (omega arith)
 
--- none is left at the end
-pub ids_end : (c : Configuration) (w : Bool) (k : ℕ) → length c.blocks ≤ k → ids_from c w k ≡ []
-ids_end c w k le = none_left w (k + 2) (k + 1) c.blocks (omega arith)
-
 -- THE FIRST OF THEM
 
 pub record IsFirst (w : Bool) (n : ℕ) (xs : List BlockDesc) (m : ℕ) (rest : List ℕ) : Type 0 where

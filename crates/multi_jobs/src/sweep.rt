@@ -11,7 +11,7 @@ use std::marker::Model;
 
 /// What decides whether a member is picked: whether its block is locked or protected, whether its RAM is valid and
 /// changed, and whether it is a dataset whose index names ROM.
-#[derive(Clone, Copy, PartialEq, Eq)]
+#[derive(Clone, Copy)]
 pub struct MemberFacts {
     pub locked: bool,
     pub protected: bool,

@@ -4,7 +4,7 @@ ghost use Rattle.nv_base.specs.Geometry.{IsLegal, IsPageSize, HasBanks, BanksFil
 
 /// The shape of a flash: bytes of a page, bytes of a sector, and sectors of the whole flash, which its banks share
 /// equally.
-#[derive(Clone, Copy, PartialEq, Eq)]
+#[derive(Clone, Copy)]
 pub struct Geometry {
     pub page: u32,
     pub sector: u32,

@@ -4,7 +4,7 @@ ghost use Rattle.nv_base.specs.Marks.{instance_of, number_of};
 
 /// One stored instance of a block: a native block has index 0, a redundant one 0 and 1, a dataset one for each
 /// stored dataset.
-#[derive(Clone, Copy, PartialEq, Eq, PartialOrd, Ord)]
+#[derive(Clone, Copy, PartialEq, Eq)]
 pub struct Instance {
     pub block: u16,
     pub index: u8,

@@ -2,7 +2,7 @@
 use crate::{Instance, ReqResult};
 
 /// An operation of the memory device, on one instance.
-#[derive(Clone, Copy, PartialEq, Eq)]
+#[derive(Clone, Copy)]
 pub enum DeviceOp {
     Read,
     Write,
@@ -34,7 +34,7 @@ pub enum GivenFrom {
 }
 
 /// What a job does next: an operation of the device, or its end.
-#[derive(Clone, Copy, PartialEq, Eq)]
+#[derive(Clone, Copy)]
 pub enum JobStep {
     Device {
         op: DeviceOp,

@@ -17,7 +17,7 @@ use pending_jobs::Job;
 use std::alloc::{AllocError, Global};
 
 /// Why a request gets no reply.
-#[derive(Clone, Copy, PartialEq, Eq)]
+#[derive(Clone, Copy)]
 pub enum AskFault {
     /// Not even its entry fits under the cap.
     NoRoom,

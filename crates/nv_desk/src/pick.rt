@@ -18,7 +18,7 @@ use pending_jobs::{Job, Staged, Took};
 /// What a job takes of a content that is lent to the desk: nothing, as it isn't a write; the content that the job has
 /// already; a copy of the one that is lent, of the store with this number, or of none (0); or no content, as each of `count`
 /// copies was refused, or none was as new as the store `asked` for.
-#[derive(Clone, Copy, PartialEq, Eq)]
+#[derive(Clone, Copy)]
 pub enum Take {
     Nothing,
     Own,

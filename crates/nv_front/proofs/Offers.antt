@@ -4,16 +4,11 @@ use Rattle.std.specs.Str.{bytes_eq}
 use Rattle.block_machine.specs.Words.{ReqResult, NotOk, Restored, Mark, Content, Invalid, Erased, JobKind, ReadJob, WriteJob, RestoreJob, EraseJob, InvalidateJob, ReadAllJob, WriteAllJob, BlockDesc}
 use Rattle.block_machine.specs.State.{BlockState, Job}
 use Rattle.block_machine.specs.Blocks.{kind_of}
-use Rattle.block_machine.specs.ResultTable.{table, defaults_or}
+use Rattle.block_machine.specs.ResultTable.{table}
 use Rattle.block_machine.specs.Results.{Answer, Own, with_content, outcomes_of, took_none, checks_id, checked_id, result_of}
 
 abbrev Gives : Answer → Type 0
 Gives a = is_some a.1 ≡ true
-
-same_defaults : (o : Own) (failed : List ℕ) (defaults : Bool) (r : ReqResult) → Gives (with_content o failed (defaults_or defaults r))
-    → Gives (with_content o [] (defaults_or defaults r))
-same_defaults o failed true r h = h
-same_defaults o failed false r h = h
 
 -- of a read, by what its instances hold
 read_offers : (d : BlockDesc) (b : BlockState) (marks : List (ℕ × Mark)) (failed : List ℕ) (defaults : Bool)

@@ -10,7 +10,7 @@ use Rattle.pending_jobs.specs.Took.{taken_with}
 use Rattle.nv_desk.specs.declared.pick.Take.{Take}
 use Rattle.nv_desk.specs.declared.pick.Take.TheVariants as take
 use Rattle.nv_desk.specs.Desk.{DeskState, state_of}
-use Rattle.nv_desk.specs.Picks.{MayPickNext, took_of}
+use Rattle.nv_desk.specs.Picks.{took_of}
 use Rattle.nv_desk.specs.Members.{MayPickMember}
 use Rattle.nv_desk.specs.AllBlocks.{sweep_kind}
 use Rattle.ram_blocks.specs.Told.{Told}
@@ -56,31 +56,6 @@ takes_by d b j WriteAllJob t lent h = rw h refl
 
 next_is : (c : Configuration) (s : State) (j : Job) → next_in c s.waiting ≡ Some j → next_of c s ≡ PickJob j
 next_is c s j next = ap (λ (o : Option Job). next_by c s o s.hand s.sweep) next
-
-pub job_allowed : (c : Configuration) (cap : ℕ) (s : State) (j : Job) (t : Take) (lent : List ℕ) (ops : ℕ) → IsDriving s ops
-    → next_in c s.waiting ≡ Some j → HandIsFree c s.hand j
-    → IsTakenFrom (desc_of c (job_block j)) (block_at s (job_block j)) (source_of c j) t lent
-    → IsAllowed c cap s (Pick (job_block j) (kind_of j) (taken_with j.content (took_of t lent)) ops)
-job_allowed c cap s j t lent ops driving next free taken = (
-  driving,
-  subst (λ (n : Next). MayPick c s (job_block j) (kind_of j) (taken_with j.content (took_of t lent)) n) (sym (next_is c s j next))
-      (record {
-        free = free;
-        same_block = refl;
-        same_kind = refl;
-        takes = takes_by (desc_of c (job_block j)) (block_at s (job_block j)) j (kind_of j) t lent taken;
-      }),
-)
-
-pub may_pick : (d : DeskState) (j : Job) (t : Take) (lent : List ℕ) (ops : ℕ) → IsDriving (state_of d) ops
-    → next_in d.config (state_of d).waiting ≡ Some j → HandIsFree d.config (state_of d).hand j
-    → IsTakenFrom (desc_of d.config (job_block j)) (block_at (state_of d) (job_block j)) (source_of d.config j) t lent
-    → MayPickNext d (took_of t lent) ops
-may_pick d j t lent ops driving next free taken = record {
-  job = j;
-  is = next;
-  allowed = job_allowed d.config d.cap (state_of d) j t lent ops driving next free taken;
-}
 
 -- A MEMBER
 

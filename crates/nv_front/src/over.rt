@@ -14,7 +14,7 @@ use nv_base::ReqResult;
 use ram_blocks::SyncCalls;
 
 /// What a job ends with: its result, and whether it gives the content that is staged.
-#[derive(Clone, Copy, PartialEq, Eq)]
+#[derive(Clone, Copy)]
 pub struct End {
     pub answer: ReqResult,
     pub gives: bool,
@@ -22,7 +22,7 @@ pub struct End {
 
 /// What a job is posted with: its result, whether it gives the content that is staged, and how many copies of that were
 /// refused.
-#[derive(Clone, Copy, PartialEq, Eq)]
+#[derive(Clone, Copy)]
 pub struct Ending {
     pub answer: ReqResult,
     pub gives: bool,

@@ -25,7 +25,7 @@ use ram_blocks::SyncCalls;
 
 /// What a Pick came to: this block was picked, 0 for a request on all blocks; a Post without a Pick comes first, of this
 /// member or of 0; or there is nothing to turn to.
-#[derive(Clone, Copy, PartialEq, Eq)]
+#[derive(Clone, Copy)]
 pub enum PickAnswer {
     Picked { block: u16 },
     Skipped { block: u16 },

@@ -22,23 +22,18 @@ use pending_jobs::{Job, LastPick, names_ram};
 use ram_blocks::SyncCalls;
 
 /// The Post that was added: of this block, with this result.
-#[derive(Clone, Copy, PartialEq, Eq)]
+#[derive(Clone, Copy)]
 pub struct Posted {
     pub block: u16,
     pub result: ReqResult,
 }
 
 /// The Post of a job in hand, and whether the job is a read to the caller's own buffer that gave a content.
-#[derive(Clone, Copy, PartialEq, Eq)]
+#[derive(Clone, Copy)]
 pub struct Done {
     pub posted: Posted,
     pub reads: bool,
 }
-
-/// What a job ends with is the machine's, where its program ended so.
-pub fn ends_are_the_machines()
-    ensures { EndsAreTheMachines }
-{}
 
 /// Posts the job in hand, whose program ended with this result and source.
 pub fn post<C: SyncCalls>(
@@ -175,3 +170,8 @@ fn checked(config: &Config, staging: &mut Staging, answer: ReqResult, gives: boo
         gives,
     }
 }
+
+/// What a job ends with is the machine's, where its program ended so.
+pub fn ends_are_the_machines()
+    ensures { EndsAreTheMachines }
+{}

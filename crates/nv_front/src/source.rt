@@ -9,7 +9,7 @@ use pending_jobs::Job;
 
 /// Where a Pick takes its content from: it takes none; the job has one already; RAM that the manager keeps; or a copy of a
 /// store of the application that isn't older than the store `asked`.
-#[derive(Clone, Copy, PartialEq, Eq)]
+#[derive(Clone, Copy)]
 pub enum Source {
     Nothing,
     Own,

@@ -16,7 +16,7 @@ use Rattle.nv_base.specs.declared.entry.Taken.TheVariants as taken
 use Rattle.nv_base.specs.declared.entry.Entry.{Entry}
 use Rattle.nv_base.specs.declared.entry.Entry.TheVariants.{Ask, Pick, Wrote, Post, Off, Found}
 use Rattle.nvm_script.specs.Words.{content_text, mark_text, store_text, request_text, reply_text, job_text, taken_text, given_text, refused_text}
-use Rattle.nvm_script.specs.Lines.{ops_text, found_text, entry_line, end_line}
+use Rattle.nvm_script.specs.Lines.{found_text, entry_line, end_line}
 use Rattle.nvm_script.specs.Printed.{HasNoStore, CountsTries, IsPrinted, history_text, BeginsNoEntry, LinesTellEntries, LinesLeaveOut, TextsTellHistories, EndsBeginNoEntry}
 use Rattle.nvm_script.specs.Values.{IsNumber, IsContent, IsTakenValue, IsGivenValue, IsInstanceValue, AreMarkValues, IsEntryValue}
 use Rattle.nvm_script.proofs.ContentLaws.{is_content_byte, content_bytes, content-lacks, content_from, content_from-text}
@@ -35,9 +35,6 @@ read_ops l = (number_to 10 (behind 32 l), behind 10 (behind 32 l))
 read_ops-text : (ops : ℕ) (s : List ℕ) → IsNumber ops → read_ops (end_of ops s) ≡ (ops, s)
 unfolding read_ops
 read_ops-text ops s fits = rw (number_to-field 10 ops s refl fits, behind-number 10 ops s refl fits) refl
-
-ops-append : (ops : ℕ) (s : List ℕ) → ops_text ops ++ s ≡ 32 ∷ end_of ops s
-ops-append ops s = simp append_assoc
 
 -- ASK
 

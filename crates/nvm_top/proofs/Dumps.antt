@@ -8,12 +8,11 @@ use Rattle.fls_model.specs.Told.{Told, ToldBytes}
 use Rattle.nvm_top.specs.declared.status.Status.{Status}
 use Rattle.nvm_top.specs.declared.status.Status.TheVariants as status
 use Rattle.nvm_top.specs.declared.stop.Stop.{Stop}
-use Rattle.nvm_top.specs.declared.stop.Stop.TheVariants.{BadConfig, ReadFault, TooLong, WrongSize, FlashFault, Memory}
+use Rattle.nvm_top.specs.declared.stop.Stop.TheVariants.{WrongSize, FlashFault, Memory}
 use Rattle.nvm_top.specs.Dump.{IsImageOf, IsDump, DumpsFlash, DumpsBy}
 use Rattle.nvm_top.specs.Ends.{HasConfig}
 use Rattle.nvm_top.specs.Output.{Writes, IsReport}
 use Rattle.nvm_top.specs.Play.{IsAttachStop, IsPlayEnd, IsBeforeStart}
-use Rattle.nvm_top.specs.Reading.{IsCheckStop}
 use Rattle.nvm_top.specs.Stop.{status_of, line_of, IsStop}
 use Rattle.nvm_top.proofs.PlayLemmas.{report-by}
 use Rattle.nvm_top.proofs.RunLines.{by_stop}
@@ -49,20 +48,6 @@ in_all left flash c has _ text is = absurd is
 
 pub configured-text : (left : Option (List ℕ)) (flash : Option ToldBytes) (c : Configuration) (w w' : Option (List ℕ)) (x : Status) → IfSome left (λ bytes. HasConfig bytes c) → Writes (DumpsFlash c.geometry flash) w w' x → Writes (DumpsBy left flash) w w' x
 configured-text left flash c w w' x has is = Writes-as (DumpsFlash c.geometry flash) (DumpsBy left flash) w w' x (in_all left flash c has) is
-
-early_line : (left : Option (List ℕ)) (flash : Option ToldBytes) (stop : Stop) → IsCheckStop left stop → DumpsBy left flash (status_of stop) (line_of stop)
-early_line left flash (BadConfig rule block) is = (rule, block, is, refl)
-early_line left flash ReadFault is = refl
-early_line left flash TooLong is = (is, refl)
-early_line left flash Memory is = refl
-early_line left flash _ is = absurd is
-
-pub early-text : (left : Option (List ℕ)) (flash : Option ToldBytes) (stop : Stop) (w w' : Option (List ℕ)) (x : Status) → IsCheckStop left stop → Writes (IsStop stop) w w' x → Writes (DumpsBy left flash) w w' x
-early-text left flash stop w w' x stops is =
-    Writes-as (IsStop stop) (DumpsBy left flash) w w' x (λ y line at. by_stop (DumpsBy left flash) stop y line (early_line left flash stop stops) at) is
-
-pub no_read_fault : (g : Geometry) (flash : Option ToldBytes) (w w' : Option (List ℕ)) (x : Status) → Writes (DumpsFlash g flash) w w' x → x ≡ status.ReadFault → ⊥
-no_read_fault g flash w w' x is e = (subst (λ (y : Status). Writes (DumpsFlash g flash) w w' y) e is).1
 
 -- CAUSES
 before : (need : ℕ) (s t : Told) (x : Status) → IsPlayEnd need s t x → IsBeforeStart x → t ≡ s

@@ -1,5 +1,5 @@
 -- How a call ends, from how its parts end.
-use Rattle.std.proofs.Common.{◌≡◌, ◌≤◌, inl, inr, ℕ, Result, Ok, Err, sym, subst, arith}
+use Rattle.std.proofs.Common.{◌≡◌, ◌≤◌, inl, inr, ℕ, sym, subst, arith}
 use Rattle.nv_base.specs.Count.{Rose}
 use Rattle.nvm_top.specs.declared.status.Status.{Status}
 use Rattle.nvm_top.specs.declared.status.Status.TheVariants as status
@@ -8,24 +8,11 @@ use Rattle.nvm_top.specs.declared.stop.Stop.TheVariants.{BadWords, BadConfig, Ba
 use Rattle.nvm_top.specs.Stop.{status_of}
 use Rattle.nvm_top.specs.Output.{IsReport}
 use Rattle.nvm_top.specs.Reading.{IsEarly}
-use Rattle.nvm_top.specs.Play.{IsRunEnd, HasRunCause}
 
 -- COUNTS
 pub Rose-after : (a b c : ℕ) → a ≤ b → Rose b c → Rose a c
 Rose-after a b c le (inl lt) = inl (omega arith)
 Rose-after a b c le (inr last) = grind arith
-
-run_end-after : (a b c : ℕ) (x : Status) → a ≤ b → IsRunEnd b c x → IsRunEnd a c x
-run_end-after a b c status.FlashFault le is = Rose-after a b c le is
-run_end-after a b c status.Ok le is = tt
-run_end-after a b c status.HistoryFull le is = tt
-run_end-after a b c status.WriteFault le is = tt
-run_end-after a b c status.Memory le is = tt
-run_end-after a b c _ le is = absurd is
-
-pub cause-after : (a b c : ℕ) (r : Result (Unit {0}) Stop) → a ≤ b → HasRunCause b c r → HasRunCause a c r
-cause-after a b c (Ok _) le is = tt
-cause-after a b c (Err stop) le is = run_end-after a b c (status_of stop) le is
 
 -- REPORTS
 -- what holds of a status, of want of memory and of a fault of the output, holds of a report

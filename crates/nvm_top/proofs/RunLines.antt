@@ -44,11 +44,5 @@ stop-print run stop entries w w1 w2 x e before is =
 
 -- A SUMMARY
 
-pub summary-stops : (run : Result (Unit {0}) Stop) (stop : Stop) (entries : List Entry) (w w' : Option (List ℕ)) (x : Status) → run ≡ Err stop → Writes (IsStop stop) w w' x → Writes (IsSummaryLine run entries) w w' x
-summary-stops run stop entries w w' x e is = subst (λ (r : Result (Unit {0}) Stop). Writes (IsSummaryLine r entries) w w' x) (sym e) is
-
-pub summary-written : (run : Result (Unit {0}) Stop) (done : Unit {0}) (entries : List Entry) (w w' : Option (List ℕ)) (text : List ℕ) → run ≡ Ok done → text ≡ summary entries → Appends w w' text → Writes (IsSummaryLine run entries) w w' status.Ok
-summary-written run done entries w w' text e is appends = subst (λ (r : Result (Unit {0}) Stop). Writes (IsSummaryLine r entries) w w' status.Ok) (sym e) (text, (refl, is), appends)
-
 pub summary-broken : (run : Result (Unit {0}) Stop) (done : Unit {0}) (entries : List Entry) (w w' : Option (List ℕ)) (text : List ℕ) → run ≡ Ok done → text ≡ summary entries → AppendsPrefix w w' text → Writes (IsSummaryLine run entries) w w' status.WriteFault
 summary-broken run done entries w w' text e is prefix = subst (λ (r : Result (Unit {0}) Stop). Writes (IsSummaryLine r entries) w w' status.WriteFault) (sym e) (status.Ok, text, (refl, is), prefix)

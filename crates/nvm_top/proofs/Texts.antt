@@ -24,9 +24,6 @@ use Rattle.nvm_top.proofs.Printing.{prefix-longer, prefix-behind}
 pub all_prefix : (w w' : Option (List ℕ)) (text : List ℕ) → Appends w w' text → AppendsPrefix w w' text
 all_prefix w w' text is = (length text, omega arith, subst (λ (l : List ℕ). Appends w w' l) (sym (take-length text)) is)
 
-pub nothing_prefix : (w : Option (List ℕ)) (text : List ℕ) → AppendsPrefix w w text
-nothing_prefix w text = (0, omega arith, Appends-nil w)
-
 -- a line behind a text
 pub text_behind : (P : Status → List ℕ → Type 0) (meant : Status) (text line : List ℕ) (w w1 w2 : Option (List ℕ)) (x : Status) → ((y : Status) (l : List ℕ) → P y l → (y ≡ meant) × (l ≡ line)) → Appends w w1 text → Writes P w1 w2 x
     → WritesText meant text line w w2 x
@@ -53,10 +50,6 @@ broken_by meant line OutOfMemory entries w w' is = few_lines w w' entries is.0 i
 
 pub broken_text : (meant : Status) (line : List ℕ) (fault : OutputFault) (entries : List Entry) (w w' : Option (List ℕ)) (x : Status) → x ≡ fault_status fault → BreaksOff fault entries w w' → WritesText meant (history_text entries) line w w' x
 broken_text meant line fault entries w w' x same is = subst (λ (y : Status). WritesText meant (history_text entries) line w w' y) (sym same) (broken_by meant line fault entries w w' is)
-
--- for want of memory nothing is written
-pub memory_text : (meant : Status) (text line : List ℕ) (w : Option (List ℕ)) → WritesText meant text line w w status.Memory
-memory_text meant text line w = nothing_prefix w text
 
 -- a run that is over, and one that stops
 pub ended_text : (run : Result (Unit {0}) Stop) (done : Unit {0}) (entries : List Entry) (w w1 w2 : Option (List ℕ)) (x : Status) → run ≡ Ok done → Appends w w1 (history_text entries) → Writes (IsEndOf entries) w1 w2 x

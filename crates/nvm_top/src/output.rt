@@ -15,7 +15,7 @@ use nvm_script::{end_text, entry_text};
 use std::alloc::{AllocError, Global};
 
 /// Why the output wasn't written: a counted fault, or want of memory.
-#[derive(Clone, Copy, PartialEq, Eq)]
+#[derive(Clone, Copy)]
 pub enum OutputFault {
     Failed,
     Memory,

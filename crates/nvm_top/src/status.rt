@@ -3,7 +3,7 @@ ghost use Rattle.std.specs.Prelude.{◌≡◌};
 ghost use Rattle.nvm_top.specs.Status.{code_of_status};
 
 /// How a command ends. `Unbuilt` is temporary: words that this program doesn't serve yet.
-#[derive(Clone, Copy, PartialEq, Eq)]
+#[derive(Clone, Copy)]
 pub enum Status {
     Ok,
     BadWords,

@@ -222,9 +222,6 @@ stays_in_hand c p waiting h g a taken number request =
     let x = a.hand_apart in
     record { slots = a.slots; hand = refl; queues = a.queues; unpicked = a.unpicked; reserved = a.reserved; apart = a.apart; hand_apart = still (length p.slots) waiting h g x taken number request; room = a.room }
 
-pub leaves_the_hand : (c : Configuration) (p : Pending) (waiting : List Job) (held : Option Job) → Agree c p waiting held → Agree c (record p { hand = None }) waiting None
-leaves_the_hand c p waiting held a = record { slots = a.slots; hand = refl; queues = a.queues; unpicked = a.unpicked; reserved = a.reserved; apart = a.apart; hand_apart = tt; room = a.room }
-
 -- NO JOB IS PENDING
 
 pub none_pending : (c : Configuration) (p : Pending) (n : ℕ) → length p.slots ≡ n → ((id : ℕ) → slot p.slots id ≡ None) → p.hand ≡ None → p.queues ≡ record { immediate = []; standard = []; immediate_size = n; standard_size = n }

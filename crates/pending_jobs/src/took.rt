@@ -22,7 +22,7 @@ pub enum Took {
 }
 
 /// What the last Pick of a job took; of a content it says no more, since that is the job's.
-#[derive(Clone, Copy, PartialEq, Eq)]
+#[derive(Clone, Copy)]
 pub enum LastPick {
     Never,
     Nothing,

@@ -3,7 +3,7 @@ ghost use Rattle.std.specs.Prelude.{◌≡◌, ◌<◌, ◌^◌, ◌-◌};
 ghost use Rattle.pending_jobs.specs.Unpicked.{unpicked_with, unpicked_without, unpicked_in};
 
 /// The jobs of each queue that were accepted and not yet picked.
-#[derive(Clone, Copy, PartialEq, Eq)]
+#[derive(Clone, Copy)]
 pub struct Unpicked {
     pub standard: u16,
     pub immediate: u16,

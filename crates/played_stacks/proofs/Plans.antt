@@ -74,13 +74,6 @@ earlier_stays a b now next one two = both_later (earlier a b) now next (first no
 
 -- THE PLAN OF A PART
 
-pub plan_dropped : (ops : ℕ) (p : PartTold) → p.planning.plan ≡ None → plan_of ops p ≡ None
-plan_dropped ops p none = by p.off refl
-  where
-    by : (off : Bool) → p.off ≡ off → plan_of ops p ≡ None
-    by true is = rw is refl
-    by false is = rw (is, none) refl
-
 pub plan_off : (ops : ℕ) (p : PartTold) → p.off ≡ true → plan_of ops p ≡ None
 plan_off ops p off = rw off refl
 

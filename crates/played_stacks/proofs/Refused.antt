@@ -1,6 +1,6 @@
 -- Refused copies, as entries tell of them.
 use Rattle.std.specs.Prelude.{◌==◌}
-use Rattle.std.proofs.Common.{◌≡◌, ◌≢◌, ◌<◌, ◌≤◌, ◌+◌, ◌⊎◌, ℕ, zero, suc, Bool, true, false, List, Option, Some, None, refl, sym, ap, ◌∙◌, subst, inl, inr, arith}
+use Rattle.std.proofs.Common.{◌≡◌, ◌≢◌, ◌<◌, ◌≤◌, ◌+◌, ◌⊎◌, ℕ, zero, suc, true, false, List, Option, Some, None, refl, sym, ap, ◌∙◌, subst, inl, inr, arith}
 use Rattle.std.proofs.lemmas.Bool.Decides.{eqb_tells}
 use Rattle.nv_base.specs.Count.{last_count, WereCounted}
 use Rattle.block_machine.specs.Words.{ReqResult, Instance, Mark, JobKind, Taken, Pick, Wrote, Post, Configuration}
@@ -15,13 +15,6 @@ use Rattle.copy_tries.specs.Tries.{OnlyRefuses}
 use Rattle.played_stacks.specs.Told.{untold_of, refusable_in}
 
 -- THE COPIES OF WHICH THE JOB IN HAND MAY TELL
-
-untold_job : (id : ℕ) (j : Job) → untold_of id (Some j) ≤ refused_copies j.taken
-untold_job id j = by (job_block j == id) refl
-  where
-    by : (t : Bool) → (job_block j == id) ≡ t → untold_of id (Some j) ≤ refused_copies j.taken
-    by true is = rw is (omega arith)
-    by false is = rw is (omega arith)
 
 untold_other : (id : ℕ) (j : Job) → (job_block j == id) ≡ false → untold_of id (Some j) ≡ 0
 untold_other id j other = rw other refl

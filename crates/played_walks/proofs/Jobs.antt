@@ -1,18 +1,18 @@
 -- What the pending jobs took.
 use Rattle.std.specs.Prelude.{filter, slice_get, fold, option_to_list}
 use Rattle.std.specs.List.{enumerate_from}
-use Rattle.std.specs.Option.{is_some, option_map}
-use Rattle.std.proofs.Common.{◌≡◌, ◌==◌, ◌&&◌, ◌<◌, ◌≤◌, ◌+◌, ℕ, zero, suc, not, Bool, true, false, IsTrue, List, [], ◌∷◌, ◌++◌, length, refl, sym, ap, ◌∙◌, subst, inl, inr, arith, Option, Some, None, if◌then◌else◌, length-append}
+use Rattle.std.specs.Option.{option_map}
+use Rattle.std.proofs.Common.{◌≡◌, ◌==◌, ◌<◌, ◌≤◌, ◌+◌, ℕ, zero, suc, Bool, true, false, List, [], ◌∷◌, ◌++◌, length, ap, ◌∙◌, inl, inr, arith, Option, Some, None, if◌then◌else◌, length-append}
 use Rattle.std.proofs.lemmas.Bool.{cases_Bool}
-use Rattle.block_machine.specs.Words.{Request, Read, Write, Restore, Erase, Invalidate, SetIndex, GetIndex, SetProtection, SetLock, SetRam, PutRam, Status, ReadAll, WriteAll, CancelWriteAll, Reply, Accepted, Refused, StatusIs, IndexIs, JobKind, Taken, TookNothing, TookContent, TookRefused, TookStale, Instance, Mark, Entry, Ask, Pick, Wrote, Post, Off, Found, Configuration}
-use Rattle.block_machine.specs.State.{State, Job, Sweep, jobs_of}
-use Rattle.block_machine.specs.Blocks.{desc_of, is_synchronized, names_ram, job_block, asked_block, asked_store, asked_content, job_kind}
-use Rattle.block_machine.specs.Steps.{step, without_job, interrupted, job_at}
+use Rattle.block_machine.specs.Words.{Request, Read, Write, Restore, Erase, Invalidate, SetIndex, GetIndex, SetProtection, SetLock, SetRam, PutRam, Status, ReadAll, WriteAll, CancelWriteAll, Accepted, Refused, StatusIs, IndexIs, Configuration}
+use Rattle.block_machine.specs.State.{State, Job, jobs_of}
+use Rattle.block_machine.specs.Blocks.{desc_of, is_synchronized, job_block}
+use Rattle.block_machine.specs.Steps.{job_at}
 use Rattle.machine_laws.specs.Consistent.{Each}
 use Rattle.script_walks.specs.Words.{Step, AskStep}
 use Rattle.script_walks.specs.Walk.{stores_of, store_content, last_store, request_after}
 use Rattle.played_steps.specs.Played.{CanBePlayed}
-use Rattle.played_walks.specs.Stores.{CopiesOf, IsStored, TookStored, JobsTookStored}
+use Rattle.played_walks.specs.Stores.{IsStored, TookStored, JobsTookStored}
 use Rattle.played_walks.specs.Laws.{AsksKeepStored, StartsKeepStored, StepsKeepStored}
 use Rattle.played_walks.proofs.Newest.{stores_more}
 
@@ -89,9 +89,6 @@ last_small caller k last (x ∷ xs) small = either (x.0 == caller) (last_small c
 
 last_within : (caller id : ℕ) (before : List Step) → last_store caller id before ≤ length (stores_of id before)
 last_within caller id before = let small = last_small caller 1 0 (stores_of id before) (omega arith) in omega (arith, small)
-
-no_content : (c : Configuration) (before : List Step) (j : Job) → j.content ≡ None → CopiesOf c j → IsStored c before (job_block j) j.content
-no_content c before j none copies = subst (λ (o : Option (List ℕ × ℕ)). IsStored c before (job_block j) o) (sym none) tt
 
 small_where : (caller block : ℕ) (before : List Step) (b : Bool) → (if b then last_store caller block before else 0) ≤ length (stores_of block before)
 small_where caller block before true = last_within caller block before

@@ -27,9 +27,6 @@ bytes_by : (t : Bool) (b : PlainBlock) (n : ℕ) → option_map (λ (s : Synchro
 bytes_by true b n e = cc
 bytes_by false b n e = cc
 
-pub bytes_at : (xs : List PlainBlock) (i n : ℕ) → IsSynchronized (map told_of xs) i n → length (get_or xs i no_plain).content ≡ n
-bytes_at xs i n e = bytes_by (length (get_or xs i no_plain).content == 0) (get_or xs i no_plain) n (ap (option_map (λ (s : Synchronized). s.bytes)) (sym (told_one xs i)) ∙ e)
-
 pub told_set : (xs : List PlainBlock) (i : ℕ) (y : PlainBlock) → map told_of (slice_set xs i y) ≡ slice_set (map told_of xs) i (told_of y)
 told_set xs i y = map-set told_of xs i y
 

@@ -86,13 +86,6 @@ noted_table grow c before line who block number content table small sync within 
         let last : last_store caller id after ≡ last_store caller id before = (grow caller id before).1 line who block content ∙ rw other.0 refl in
         get_or-set_other table (place_of who block) (place_of caller id) number 0 other.1 ∙ has.numbers caller id few ∙ ap (λ n. if is_synchronized (desc_of c id).ram then n else 0) (sym last)
 
-pub noted_synchronized : (c : Configuration) (who block number : ℕ) (table : List ℕ) → who ≤ 15 → is_synchronized (desc_of c block).ram ≡ true → HoldsSynchronized c table
-    → HoldsSynchronized c (slice_set table (place_of who block) number)
-noted_synchronized c who block number table small sync holds caller id few none = elim (here_or_not caller block who id few small) [
-  | inl same ↦ let no_ : true ≡ false = sym (subst (λ (n : ℕ). is_synchronized (desc_of c n).ram ≡ true) same.0 sync) ∙ none in absurd (cc no_)
-  | inr other ↦ get_or-set_other table (place_of who block) (place_of caller id) number 0 other.1 ∙ holds caller id few none
-]
-
 -- NOTHING STORED YET
 
 none_by : (b : Bool) (n : ℕ) → n ≡ 0 → n ≡ (if b then n else n)

@@ -253,6 +253,3 @@ all_made steps i table old now all way =
 
 pub some_made : (fault : StepFault) (steps : List Step) (i : ℕ) (table : List ℕ) (old mid new : StackTold) → AreUnderWay steps i table old mid → LeavesAt fault steps i mid new → WasBroken fault steps old new
 some_made fault steps i table old mid new way leaves = was_broken fault steps i leaves.step old mid new leaves.at way.configuration way.cap way.counted way.walking leaves.left
-
-pub counted_later : (fault : StepFault) (steps : List Step) (i : ℕ) (table : List ℕ) (old mid new : StackTold) → AreUnderWay steps i table old mid → LeavesAt fault steps i mid new → old.faults ≤ new.faults
-counted_later fault steps i table old mid new way leaves = let a = way.counted in let b = leaves.left.counted in omega (arith, a, b)

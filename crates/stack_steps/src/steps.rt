@@ -22,7 +22,7 @@ use stack_turns::FoundAnswer;
 use std::alloc::{AllocError, Global};
 
 /// Why a step isn't made: a fault at a start-up, a history that is full, or want of memory.
-#[derive(Clone, Copy, PartialEq, Eq)]
+#[derive(Clone, Copy)]
 pub enum StepFault {
     Flash,
     HistoryFull,

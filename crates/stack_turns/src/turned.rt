@@ -2,7 +2,7 @@
 
 /// What a turn did: nothing, as nothing is open or waits; it went on at the device, or with the job in hand; it added a
 /// Pick, or a Post; or the power is off.
-#[derive(Clone, Copy, PartialEq, Eq)]
+#[derive(Clone, Copy)]
 pub enum Turned {
     Idle,
     Worked,
@@ -12,7 +12,7 @@ pub enum Turned {
 }
 
 /// What the first half of a turn came to: it was the whole turn, or a turn of the device comes next.
-#[derive(Clone, Copy, PartialEq, Eq)]
+#[derive(Clone, Copy)]
 pub enum Act {
     Ended(Turned),
     Device,
@@ -20,7 +20,7 @@ pub enum Act {
 
 /// What became of a start-up: it stands; the device failed, by counted faults; its entry doesn't fit under the cap; or no memory
 /// was found.
-#[derive(Clone, Copy, PartialEq, Eq)]
+#[derive(Clone, Copy)]
 pub enum FoundAnswer {
     Ready,
     Failed,

@@ -6,7 +6,7 @@ use log_image::Place;
 use nv_base::{Lengths, numbers_ascend, record_pages};
 
 /// A number by its place in the list of all, from 0, with the length of its contents and where its record stands.
-#[derive(Clone, Copy, PartialEq, Eq)]
+#[derive(Clone, Copy)]
 pub struct Source {
     pub index: usize,
     pub length: u16,

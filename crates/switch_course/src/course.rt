@@ -9,7 +9,7 @@ use nv_base::{Lengths, record_pages};
 
 /// A copy in work: the place of its number in the list of all, from 0, how many pages of its record are to be programmed, and
 /// whether the last one sets the number's flag.
-#[derive(Clone, Copy, PartialEq, Eq)]
+#[derive(Clone, Copy)]
 pub struct Copying {
     pub index: usize,
     pub pages: u32,
@@ -18,7 +18,7 @@ pub struct Copying {
 
 /// What comes next: the erase of the target's sector when so many are done; a page of the copy in work, or the first
 /// operation of the next one; the bank head; or the bank gate, which may have failed.
-#[derive(Clone, Copy, PartialEq, Eq)]
+#[derive(Clone, Copy)]
 pub enum Course {
     Erase { done: u32 },
     Copy { work: Option<Copying> },

@@ -13,7 +13,7 @@ use nv_base::{DeviceOp, Instance, JobStep, number_of};
 
 /// A job in hand: the step that its program named last, the failed tries of that, how often an operation is tried again,
 /// and whether the job works on both copies of its block.
-#[derive(Clone, Copy, PartialEq, Eq)]
+#[derive(Clone, Copy)]
 pub struct AtWork {
     pub step: JobStep,
     pub failures: u8,

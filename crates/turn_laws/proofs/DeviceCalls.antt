@@ -13,10 +13,10 @@ use Rattle.memif.specs.declared.answer.JobResult.{JobResult}
 use Rattle.memif.specs.declared.answer.JobResult.TheVariants.{JobOk, JobFailed}
 use Rattle.memif.specs.declared.answer.StartFault.{StartFault}
 use Rattle.memif.specs.Told as device
-use Rattle.memif.specs.Told.{DeviceTold, PartTold, Slot, Held, Part, First, Second, HasPart, part_at, Stand, Job, Open, Ended}
+use Rattle.memif.specs.Told.{DeviceTold, PartTold, Slot, Held, Part, First, Second, Stand, Job, Open, Ended}
 use Rattle.memif.specs.Told.{is_open, slot_at, plans, armed}
 use Rattle.memif.specs.Marks.{Keeps as KeepsSlot, KeepsAll, Settles, IfTold}
-use Rattle.memif.specs.Clock.{Clock, PartClock, SameClock, After, ArePossible, Ticks, clock_at}
+use Rattle.memif.specs.Clock.{Clock, PartClock, SameClock, After, ArePossible, Ticks}
 use Rattle.memif.specs.Calls.{Wish, Accepts, Arms, Cancels, Opens, IsCanceled, ClockStays, StartsUp, Turns, Works, IsCut, IsOf}
 use Rattle.memif.specs.Calls.{JobTurns, EndsAs, is_read}
 use Rattle.block_machine.specs.Words.{Instance, Mark, Entry, Wrote, Off, Found, Configuration}
@@ -36,11 +36,6 @@ pub keeps_same : (numbers : List (DeviceNumber × ℕ)) (o n : Option (List Slot
     → IfTold o n (λ u v. (i : ℕ) → KeepsSlot (slot_at numbers u i) (slot_at numbers v i))
 keeps_same numbers (Some u) n same = rw same (λ i. record { settled = refl; doubts = λ h has. has })
 keeps_same numbers None n same = rw same tt
-
-first_finds : (d : DeviceTold) (clock : Clock)
-    → ((p : Part) (m : ℕ → Held) → (clock_at p clock).may_find (After (part_at p d).ops) m → ArePossible p d d.slots m)
-    → (held : ℕ → Held) → clock.first.may_find (After d.first.ops) held → ArePossible First d d.slots held
-first_finds d clock finds held = finds First held
 
 -- a plan changes nothing else
 record IsArmed (old new : DeviceTold) : Type 0 where

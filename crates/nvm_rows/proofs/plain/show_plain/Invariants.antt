@@ -1,5 +1,4 @@
 -- What is left of the text that was printed is text.
-use Rattle.std.proofs.Common.{◌≡◌, ℕ, ◌+◌, ◌-◌, ◌*◌, ◌<◌, ◌≤◌, length}
 use denote.Text.{Utf8}
 use denote.Shadow.{shadow}
 use Rattle.nvm_rows.proofs.plain.show_plain.Given as goal
