@@ -1,16 +1,16 @@
 // A run in memory.
-ghost use Rattle.std.specs.Prelude.{◌≡◌, ◌++◌, List, IfOk, OnOk};
+ghost use Rattle.std.specs.Prelude.{◌≡◌, ◌++◌, List, length, IfOk, OnOk};
 ghost use Rattle.block_machine.specs.Words.{Entry as Event};
 ghost use Rattle.nvm_script.specs.Lines.{entry_line};
 ghost use Rattle.nvm_script.specs.Printed.{history_text};
 ghost use Rattle.played_steps.specs.Played.{ArePlayed};
-ghost use Rattle.stack_steps.specs.Made.{cuts_of};
+ghost use Rattle.played_stacks.specs.Told.{told_by};
+ghost use Rattle.stack_steps.specs.Made.{IsFresh, cuts_of};
 ghost use Rattle.memory_runs.specs.Runs.{IsRunIn, HasWalk};
 
 use crate::MemoryStop;
 use crate::script::{read_config, read_steps};
-use crate::stack::begin;
-use block_config::Config;
+use crate::stack::{make_stack, start};
 use memif::PlainStore;
 use nv_base::{Entry, History};
 use nvm_script::{StepList, entry_text};
@@ -24,25 +24,30 @@ pub fn play_in_memory(alloc: Global, input: &[u8]) -> Result<Vec<u8>, MemoryStop
 {
     let config = read_config(alloc, input)?;
     let steps = read_steps(alloc, input, &config)?;
-    let stack = play(alloc, config, &steps)?;
-    let text = text_of(alloc, stack.stack().history())?;
-    Ok(text)
+    let blocks = config.blocks();
+    let mut stack = make_stack(alloc, config)?;
+    let started = start(&mut stack);
+    let mut stack = PlainStack::over(stack);
+    play(alloc, started, &mut stack, &steps, blocks)
 }
 
-// Plays steps.
+// Plays steps on a stack of so many blocks behind its first start-up, where that stands, and gives the text of its history.
 fn play(
     alloc: Global,
-    config: Config,
+    started: Result<(), MemoryStop>,
+    stack: &mut PlainStack<PlainStore>,
     steps: &StepList,
-) -> Result<PlainStack<PlainStore>, MemoryStop>
-    requires played { ArePlayed config steps.now }
+    blocks: u16,
+) -> Result<Vec<u8>, MemoryStop>
+    requires fresh { OnOk started (IsFresh (told_by (λ d. d) stack.old)) }
+    requires blocks { blocks ≡ length stack.old.desk.config.blocks }
+    requires played { ArePlayed stack.old.desk.config steps.now }
     requires no_cuts { cuts_of steps.now ≡ 0 }
-    ensures { IfOk result (λ s. HasWalk config steps.now s.desk.entries) }
+    ensures { IfOk result (λ text. (h : List Event) × HasWalk stack.old.desk.config steps.now h × (text.items ≡ history_text h)) }
 {
-    let blocks = config.blocks();
-    let mut stack = begin(alloc, config)?;
-    match make_steps(alloc, steps, blocks, &mut stack) {
-        Ok(()) => Ok(stack),
+    started?;
+    match make_steps(alloc, steps, blocks, stack) {
+        Ok(()) => Ok(text_of(alloc, stack.stack().history())?),
         Err(StepFault::HistoryFull) => Err(MemoryStop::HistoryFull),
         Err(StepFault::Flash | StepFault::Memory) => Err(MemoryStop::Memory),
     }

@@ -1,5 +1,6 @@
 // The stack over a device in memory.
-ghost use Rattle.std.specs.Prelude.{◌≡◌, [], IfOk};
+ghost use Rattle.std.specs.Prelude.{◌≡◌, [], IfOk, OnOk};
+ghost use Rattle.block_config.specs.Lengths.{lengths_of};
 ghost use Rattle.ram_blocks.specs.Plain.{plain_blocks_of};
 ghost use Rattle.played_stacks.specs.Told.{told_by};
 ghost use Rattle.stack_steps.specs.Made.{IsFresh};
@@ -8,40 +9,48 @@ use crate::MemoryStop;
 use block_config::Config;
 use memif::PlainStore;
 use nvm_core::Stack;
-use played_stacks::PlainStack;
 use ram_blocks::PlainSync;
 use stack_turns::FoundAnswer;
-use std::alloc::Global;
+use std::alloc::{AllocError, Global};
 
 // The most entries of a history.
 const CAP: u32 = 100_000;
 
-/// The stack of a configuration behind its first start-up, over a device that holds nothing yet.
-pub fn begin(alloc: Global, config: Config) -> Result<PlainStack<PlainStore>, MemoryStop>
+/// The stack of a configuration before its first start-up, over a device that holds nothing yet.
+pub fn make_stack(alloc: Global, config: Config) -> Result<Stack<PlainStore, PlainSync>, MemoryStop>
     ensures configuration { IfOk result (λ s. s.desk.config ≡ config) }
-    ensures fresh { IfOk result (λ s. IsFresh (told_by (λ d. d) s)) }
+    ensures empty { IfOk result (λ s. s.desk.entries ≡ []) }
+    ensures copies { IfOk result (λ s. s.copies ≡ plain_blocks_of config) }
 {
     config.geometry();
-    let numbers = config.lengths(alloc)?;
-    let device = PlainStore::make(alloc, &numbers)?;
+    let device = make_device(alloc, &config)?;
     let copies = PlainSync::make(alloc, &config)?;
     match Stack::make(alloc, config, device, copies, CAP) {
-        Ok(stack) => start(stack),
+        Ok(stack) => Ok(stack),
         Err(_) => Err(MemoryStop::Memory),
     }
 }
 
-// Its first start-up, in which a device in memory has no fault.
-fn start(stack: Stack<PlainStore, PlainSync>) -> Result<PlainStack<PlainStore>, MemoryStop>
-    requires empty { stack.desk.entries ≡ [] }
-    requires copies { stack.copies ≡ plain_blocks_of stack.desk.config }
-    ensures configuration { IfOk result (λ s. s.desk.config ≡ stack.desk.config) }
-    ensures fresh { IfOk result (λ s. IsFresh (told_by (λ d. d) s)) }
+// A device of the numbers of a configuration, which holds nothing yet.
+fn make_device(alloc: Global, config: &Config) -> Result<PlainStore, AllocError>
+    ensures { IfOk result (λ d. d.fixed.numbers ≡ lengths_of config.now) }
 {
-    let mut stack = stack;
+    let numbers = config.lengths(alloc)?;
+    PlainStore::make(alloc, &numbers)
+}
+
+/// The first start-up, in which a device in memory has no fault.
+pub fn start(stack: &mut Stack<PlainStore, PlainSync>) -> Result<(), MemoryStop>
+    requires empty { stack.old.desk.entries ≡ [] }
+    requires copies { stack.old.copies ≡ plain_blocks_of stack.old.desk.config }
+    ensures configuration { stack.new.desk.config ≡ stack.old.desk.config }
+    ensures copies { stack.new.copies ≡ stack.old.copies }
+    ensures fresh { OnOk result (IsFresh (told_by (λ d. d) stack.new)) }
+{
     match stack.start() {
-        FoundAnswer::Ready => Ok(PlainStack::over(stack)),
+        FoundAnswer::Ready => Ok(()),
         FoundAnswer::NoRoom => Err(MemoryStop::HistoryFull),
-        FoundAnswer::Failed | FoundAnswer::Memory => Err(MemoryStop::Memory),
+        FoundAnswer::Failed => Err(MemoryStop::Memory),
+        FoundAnswer::Memory => Err(MemoryStop::Memory),
     }
 }
