@@ -4,7 +4,6 @@ use fls_model::{AttachFault, Flash};
 use nv_base::Geometry;
 use std::alloc::Global;
 use std::fs;
-use std::test::Fail;
 
 const SMALLEST: Geometry = Geometry {
     page: 16,
@@ -23,38 +22,56 @@ fn change_twice<F: Flash>(alloc: Global, flash: &mut F) -> Result<(), AttachFaul
 }
 
 // Reads the second page, and erases its sector.
-fn erase_and_read<F: Flash>(alloc: Global, flash: &mut F) -> Result<[u8; 16], AttachFault> {
+fn erase_and_read<F: Flash>(
+    alloc: Global,
+    flash: &mut F,
+    page: &mut [u8; 16],
+) -> Result<(), AttachFault> {
     flash.attach(alloc, SMALLEST)?;
-    let mut page = [0; 16];
-    flash.read(16, &mut page);
+    flash.read(16, page);
     flash.erase(0);
-    Ok(page)
+    Ok(())
+}
+
+fn change_file(rt: &HostRuntime, path: &str) -> Result<(), AttachFault> {
+    change_twice(rt.alloc(), &mut FileFlash::make(rt, path))
+}
+
+// Whether the page has the bits that both programs left, and its sector was erased.
+fn is_erased(rt: &HostRuntime) -> bool {
+    let mut page = [0; 16];
+    let erased = erase_and_read(rt.alloc(), &mut FileFlash::make(rt, PATH), &mut page);
+    erased.is_ok() && page == [0x0c; 16]
+}
+
+fn is_blank(rt: &HostRuntime) -> bool {
+    match fs::read(rt, PATH) {
+        Ok(image) => image.as_slice() == [0xff; 128].as_slice(),
+        Err(_) => false,
+    }
 }
 
 #[test]
-fn keeps_an_image_in_a_file(rt: HostRuntime) -> Result<(), Fail> {
+fn keeps_an_image_in_a_file(rt: HostRuntime) {
     let _ = fs::remove_file(&rt, PATH);
-    assert!(rt; change_twice(rt.alloc(), &mut FileFlash::make(&rt, PATH)).is_ok());
-    let page = erase_and_read(rt.alloc(), &mut FileFlash::make(&rt, PATH));
-    assert!(rt; page == Ok([0x0c; 16]));
-    let image = fs::read(&rt, PATH)?;
-    assert!(rt; image.as_slice() == [0xff; 128].as_slice());
-    fs::remove_file(&rt, PATH)?;
-    Ok(())
+    assert!(rt; change_file(&rt, PATH).is_ok() && is_erased(&rt) && is_blank(&rt));
+    assert!(rt; fs::remove_file(&rt, PATH).is_ok());
+}
+
+// Whether a file of another size is refused.
+fn is_refused(rt: &HostRuntime) -> bool {
+    let wrong = change_file(rt, "fls_devices_size.img");
+    matches!(wrong, Err(AttachFault::WrongSize { found: 100 }))
 }
 
 #[test]
-fn an_image_file_of_another_size(rt: HostRuntime) -> Result<(), Fail> {
-    fs::write(&rt, "fls_devices_size.img", [7; 100].as_slice())?;
-    let mut flash = FileFlash::make(&rt, "fls_devices_size.img");
-    let wrong = Err(AttachFault::WrongSize { found: 100 });
-    assert!(rt; change_twice(rt.alloc(), &mut flash) == wrong);
-    fs::remove_file(&rt, "fls_devices_size.img")?;
-    Ok(())
+fn an_image_file_of_another_size(rt: HostRuntime) {
+    assert!(rt; fs::write(&rt, "fls_devices_size.img", [7; 100].as_slice()).is_ok());
+    assert!(rt; is_refused(&rt) && fs::remove_file(&rt, "fls_devices_size.img").is_ok());
 }
 
 #[test]
 fn an_image_file_in_no_folder(rt: HostRuntime) {
-    let mut flash = FileFlash::make(&rt, "no_such_folder/x.img");
-    assert!(rt; change_twice(rt.alloc(), &mut flash) == Err(AttachFault::Failed));
+    let failed = change_file(&rt, "no_such_folder/x.img");
+    assert!(rt; matches!(failed, Err(AttachFault::Failed)));
 }

@@ -1,9 +1,8 @@
 // The driver of a flash in memory of the smallest geometry.
 use fls_jobs::{Fls, FlsResult};
-use fls_model::{AttachFault, MemFlash, mem_flash};
+use fls_model::{MemFlash, mem_flash};
 use nv_base::Geometry;
 use std::alloc::Global;
-use std::test::Fail;
 
 const SMALLEST: Geometry = Geometry {
     page: 16,
@@ -11,27 +10,34 @@ const SMALLEST: Geometry = Geometry {
     sectors: 2,
 };
 
-// Writes the second page, and reads four bytes round its beginning.
-fn write_and_read(
-    alloc: Global,
-    fls: &mut Fls<MemFlash>,
-    into: &mut [u8; 4],
-) -> Result<FlsResult, AttachFault> {
-    fls.attach(alloc)?;
-    if fls.start_write(16, &[0x3c; 16]).is_ok() {
-        fls.turn(&mut []);
+// Whether the second page is written in a turn.
+fn is_written(fls: &mut Fls<MemFlash>) -> bool {
+    if fls.start_write(16, &[0x3c; 16]).is_err() {
+        return false;
     }
-    if fls.start_read(14, 4).is_ok() {
-        fls.turn(into);
+    fls.turn(&mut []);
+    matches!(fls.result(), FlsResult::JobOk)
+}
+
+// Whether four bytes round its beginning are read in a turn.
+fn is_read(fls: &mut Fls<MemFlash>) -> bool {
+    let mut bytes = [0; 4];
+    if fls.start_read(14, 4).is_err() {
+        return false;
     }
-    Ok(fls.result())
+    fls.turn(&mut bytes);
+    matches!(fls.result(), FlsResult::JobOk) && matches!(bytes, [0xff, 0xff, 0x3c, 0x3c])
+}
+
+fn works(alloc: Global) -> bool {
+    let Ok(flash) = mem_flash(alloc, &[], 0) else {
+        return false;
+    };
+    let mut fls = Fls::make(flash, SMALLEST);
+    fls.attach(alloc).is_ok() && is_written(&mut fls) && is_read(&mut fls)
 }
 
 #[test]
-fn writes_and_reads_in_turns(rt: HostRuntime) -> Result<(), Fail> {
-    let mut fls = Fls::make(mem_flash(rt.alloc(), &[], 0)?, SMALLEST);
-    let mut bytes = [0; 4];
-    let result = write_and_read(rt.alloc(), &mut fls, &mut bytes);
-    assert!(rt; result == Ok(FlsResult::JobOk) && bytes == [0xff, 0xff, 0x3c, 0x3c]);
-    Ok(())
+fn writes_and_reads_in_turns(rt: HostRuntime) {
+    assert!(rt; works(rt.alloc()));
 }

@@ -1,15 +1,14 @@
 // Jobs that are finished over a device in memory.
-use block_config::{BlockKind, Config, demo};
+use block_config::{BlockDesc, BlockKind, Config, demo};
 use memif::{PlainStore, start_up};
 use nv_base::{DeviceNumber, GivenFrom, JobKind, JobStep, ReqResult, lengths_of};
 use plain_blocks::PlainProgram;
 use redundant_blocks::RedundantProgram;
 use std::alloc::{AllocError, Global};
-use std::test::Fail;
 use turn_figures::{AtWork, Brought, Finish, JobEnd, finish_job, programs_are_small, turns_left};
 
 // The numbers of both copies of block 1, and of block 2.
-fn device(alloc: Global) -> Result<PlainStore, AllocError> {
+fn make_device(alloc: Global) -> Result<PlainStore, AllocError> {
     let numbers = lengths_of(
         alloc,
         &[
@@ -21,69 +20,78 @@ fn device(alloc: Global) -> Result<PlainStore, AllocError> {
     PlainStore::make(alloc, &numbers)
 }
 
-fn fine(turns: u64) -> Finish {
-    Finish {
-        end: JobEnd::Over {
+// Whether a job was done in so many turns.
+fn is_done_in(turns: u64, finished: &Finish) -> bool {
+    let fine = matches!(
+        finished.end,
+        JobEnd::Over {
             result: ReqResult::Fine,
-            source: GivenFrom::Nothing,
-        },
-        turns,
-    }
+            source: GivenFrom::Nothing
+        }
+    );
+    fine && finished.turns == turns
 }
 
-// An urgent write of block 2 of the demo.
-fn plain_write(device: &mut PlainStore, config: &Config) -> Option<Finish> {
+// Whether an urgent write of block 2 of the demo takes one turn.
+fn takes_one(device: &mut PlainStore, desc: &BlockDesc) -> bool {
     programs_are_small();
-    let desc = config.block(2)?;
-    if desc.kind == BlockKind::Redundant {
-        return None;
+    if desc.kind == BlockKind::Redundant || start_up(device).is_err() {
+        return false;
     }
-    start_up(device).ok()?;
     let mut program = PlainProgram::begin(desc, 2, 0, JobKind::Write);
     let job = Brought {
         length: 4,
         content: b"abcd",
         urgent: true,
     };
-    finish_job(device, &mut program, &job).ok()
+    match finish_job(device, &mut program, &job) {
+        Ok(finished) => is_done_in(1, &finished),
+        Err(_) => false,
+    }
 }
 
-// A write of block 1, which is redundant.
-fn redundant_write(device: &mut PlainStore, config: &Config) -> Option<Finish> {
+// Whether a write of block 1, which is redundant, takes two.
+fn takes_two(device: &mut PlainStore, desc: &BlockDesc) -> bool {
     programs_are_small();
-    let desc = config.block(1)?;
-    if desc.kind != BlockKind::Redundant {
-        return None;
+    if desc.kind != BlockKind::Redundant || start_up(device).is_err() {
+        return false;
     }
-    start_up(device).ok()?;
     let mut program = RedundantProgram::begin(desc, 1, 0, JobKind::Write);
     let job = Brought {
         length: 2,
         content: b"ab",
         urgent: false,
     };
-    finish_job(device, &mut program, &job).ok()
+    match finish_job(device, &mut program, &job) {
+        Ok(finished) => is_done_in(2, &finished),
+        Err(_) => false,
+    }
+}
+
+fn take_their_turns(device: &mut PlainStore, config: &Config) -> bool {
+    let Some(redundant) = config.block(1) else {
+        return false;
+    };
+    let Some(plain) = config.block(2) else {
+        return false;
+    };
+    takes_one(device, plain) && takes_two(device, redundant)
+}
+
+// Whether the jobs of a demo take their turns.
+fn are_done(alloc: Global) -> Result<bool, AllocError> {
+    let config = demo(alloc)?;
+    let mut device = make_device(alloc)?;
+    Ok(take_their_turns(&mut device, &config))
 }
 
 #[test]
-fn a_job_on_one_instance_takes_one_turn(rt: HostRuntime) -> Result<(), Fail> {
-    let config = demo(rt.alloc())?;
-    let mut device = device(rt.alloc())?;
-    assert!(rt; plain_write(&mut device, &config) == Some(fine(1)));
-    Ok(())
+fn a_job_takes_a_turn_for_each_instance(rt: HostRuntime) {
+    assert!(rt; matches!(are_done(rt.alloc()), Ok(true)));
 }
 
-#[test]
-fn a_job_on_two_copies_takes_two(rt: HostRuntime) -> Result<(), Fail> {
-    let config = demo(rt.alloc())?;
-    let mut device = device(rt.alloc())?;
-    assert!(rt; redundant_write(&mut device, &config) == Some(fine(2)));
-    Ok(())
-}
-
-#[test]
-fn a_job_that_is_over_has_its_post_left(rt: HostRuntime) -> Result<(), Fail> {
-    let device = device(rt.alloc())?;
+// Whether a job that is over has its Post left.
+fn has_its_post_left(device: &PlainStore) -> bool {
     let over = AtWork {
         step: JobStep::Ended {
             result: ReqResult::Fine,
@@ -93,7 +101,17 @@ fn a_job_that_is_over_has_its_post_left(rt: HostRuntime) -> Result<(), Fail> {
         retries: 1,
         copies: false,
     };
-    assert!(rt; turns_left(&device, Some(over)) == 1);
-    assert!(rt; turns_left(&device, None) == 0);
-    Ok(())
+    turns_left(device, Some(over)) == 1 && turns_left(device, None) == 0
+}
+
+fn is_left(alloc: Global) -> bool {
+    match make_device(alloc) {
+        Ok(device) => has_its_post_left(&device),
+        Err(_) => false,
+    }
+}
+
+#[test]
+fn a_job_that_is_over_has_its_post_left(rt: HostRuntime) {
+    assert!(rt; is_left(rt.alloc()));
 }

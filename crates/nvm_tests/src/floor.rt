@@ -1,15 +1,15 @@
 // The floor: two devices in memory behind one interface, a run of calls, and work over any device.
 use memif::*;
-use nv_base::{DeviceNumber, Lengths, bytes_of, lengths_of};
+use nv_base::{DeviceNumber, bytes_of, lengths_of};
 use std::alloc::{AllocError, Global};
-use std::test::Fail;
 
 const FOUR: DeviceNumber = DeviceNumber(128);
 
 const TWO: DeviceNumber = DeviceNumber(129);
 
-fn numbers(alloc: Global) -> Result<Lengths, AllocError> {
-    lengths_of(alloc, &[(FOUR, 4), (TWO, 2)])
+fn make_store(alloc: Global) -> Result<PlainStore, AllocError> {
+    let numbers = lengths_of(alloc, &[(FOUR, 4), (TWO, 2)])?;
+    PlainStore::make(alloc, &numbers)
 }
 
 // Writes a content to a device of two, and tells what a read of it gives.
@@ -24,44 +24,74 @@ fn write_and_read<A: MemDevice, B: MemDevice>(devices: &mut MemIf<A, B>, length:
     devices.result(0)
 }
 
-#[test]
-fn a_job_of_one_device_of_two(rt: HostRuntime) -> Result<(), Fail> {
-    let first = PlainStore::make(rt.alloc(), &numbers(rt.alloc())?)?;
-    let mut devices = MemIf::make(first, PlainStore::without_numbers(rt.alloc()));
+// Whether a content that one device of two takes is read back.
+fn is_read_back(alloc: Global) -> bool {
+    let Ok(first) = make_store(alloc) else {
+        return false;
+    };
+    let mut devices = MemIf::make(first, PlainStore::without_numbers(alloc));
     let result = write_and_read(&mut devices, 2);
-    assert!(rt; result == JobResult::JobOk && devices.take_data(0) == b"ab".as_slice());
-    Ok(())
+    matches!(result, JobResult::JobOk) && devices.take_data(0) == b"ab".as_slice()
+}
+
+#[test]
+fn a_job_of_one_device_of_two(rt: HostRuntime) {
+    assert!(rt; is_read_back(rt.alloc()));
+}
+
+// An urgent write, a cancel and a turn.
+fn urgent_calls(alloc: Global) -> Result<Vec<DeviceCall>, AllocError> {
+    let content = bytes_of(alloc, b"ab")?;
+    let mut calls = Vec::new(alloc);
+    calls.push(DeviceCall::Write {
+        number: TWO,
+        content,
+        urgent: true,
+    })?;
+    calls.push(DeviceCall::Cancel)?;
+    calls.push(DeviceCall::Turn)?;
+    Ok(calls)
 }
 
 // The results behind an urgent write that isn't canceled and a turn.
 fn urgent_results(alloc: Global) -> Result<Vec<DeviceStep>, AllocError> {
-    let mut device = PlainStore::make(alloc, &numbers(alloc)?)?;
+    let calls = urgent_calls(alloc)?;
+    let mut device = make_store(alloc)?;
     let _started = device.start();
-    let calls = [
-        DeviceCall::Write {
-            number: TWO,
-            content: bytes_of(alloc, b"ab")?,
-            urgent: true,
-        },
-        DeviceCall::Cancel,
-        DeviceCall::Turn,
-    ];
-    run_calls(alloc, &mut device, &calls)
+    run_calls(alloc, &mut device, calls.as_slice())
+}
+
+fn is_not_canceled(alloc: Global) -> bool {
+    match urgent_results(alloc) {
+        Ok(results) => {
+            results.len() == 3
+                && matches!(results[1].result, JobResult::JobPending)
+                && matches!(results[2].result, JobResult::JobOk)
+        }
+        Err(_) => false,
+    }
 }
 
 #[test]
-fn runs_calls_but_no_cancel_of_an_urgent_job(rt: HostRuntime) -> Result<(), Fail> {
-    let results = urgent_results(rt.alloc())?;
-    assert!(rt; results.len() == 3 && results[1].result == JobResult::JobPending);
-    assert!(rt; results[2].result == JobResult::JobOk);
-    Ok(())
+fn runs_calls_but_no_cancel_of_an_urgent_job(rt: HostRuntime) {
+    assert!(rt; is_not_canceled(rt.alloc()));
+}
+
+// Whether a device is started, erases a number in a turn, and comes to rest then.
+fn works(device: &mut PlainStore) -> bool {
+    start_up(device).is_ok()
+        && matches!(erase(device, FOUR), Ok(1))
+        && matches!(make_turns(device), Rest::Idle)
+}
+
+fn is_worked(alloc: Global) -> bool {
+    match make_store(alloc) {
+        Ok(mut device) => works(&mut device),
+        Err(_) => false,
+    }
 }
 
 #[test]
-fn work_over_any_device(rt: HostRuntime) -> Result<(), Fail> {
-    let mut device = PlainStore::make(rt.alloc(), &numbers(rt.alloc())?)?;
-    assert!(rt; start_up(&mut device).is_ok());
-    assert!(rt; erase(&mut device, FOUR) == Ok(1));
-    assert!(rt; make_turns(&mut device) == Rest::Idle);
-    Ok(())
+fn work_over_any_device(rt: HostRuntime) {
+    assert!(rt; is_worked(rt.alloc()));
 }

@@ -1,5 +1,6 @@
 //! Tests of several crates, a module for each: what no contract fixes, generic functions and impls once at a concrete
-//! type, a failing read and write in mid-stream, and a few worked texts from the documents.
+//! type, a failing read and write in mid-stream, a gate and a mirror in several threads, and a few worked texts from the
+//! documents.
 //!
 //! A crate with a test of its own is proved twice, so tests stand here, but for those that need private parts. What the
 //! commands show is a case of `nvm_rows`, which costs no proof. It promises nothing.
@@ -13,6 +14,10 @@ mod driver;
 mod figures;
 #[cfg(test)]
 mod floor;
+#[cfg(test)]
+mod lock;
+#[cfg(test)]
+mod mirrors;
 #[cfg(test)]
 mod programs;
 #[cfg(test)]

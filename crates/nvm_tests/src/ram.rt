@@ -1,7 +1,7 @@
 // RAM blocks and copies: each call once.
-use block_config::read;
+use block_config::{Config, read};
 use ram_blocks::{Copied, PlainSync, RamBlocks, RamFlags, SyncCalls};
-use std::test::Fail;
+use std::alloc::Global;
 
 const BLOCKS: &str =
     "{\"id\":1,\"page\":16,\"sector\":256,\"sectors\":8,\"standard\":8,\"immediate\":4,\"blocks\":[{\"length\":2,\"ram\":\"sync\",\"defaults\":\"0a0b\"},{\"length\":3,\"ram\":\"permanent\"}]}";
@@ -17,14 +17,19 @@ const VALID: RamFlags = RamFlags {
     changed: false,
 };
 
-#[test]
-fn ram_holds_what_was_put(rt: HostRuntime) -> Result<(), Fail> {
-    let config = read(rt.alloc(), BLOCKS.as_bytes()).ok().ok_or("read")?;
-    let mut ram = RamBlocks::make(rt.alloc(), &config)?;
-    put(&mut ram, 3, b"abc");
+// Whether a block has the content and the flags that were put there.
+fn has_what_was_put(ram: &mut RamBlocks) -> bool {
+    put(ram, 3, b"abc");
     ram.set_flags(3, VALID);
-    assert!(rt; ram.get(3) == b"abc".as_slice() && ram.flags(3) == VALID);
-    Ok(())
+    let flags = ram.flags(3);
+    flags.valid && !flags.changed && ram.get(3) == b"abc".as_slice()
+}
+
+fn is_held(alloc: Global, config: &Config) -> bool {
+    match RamBlocks::make(alloc, config) {
+        Ok(mut ram) => has_what_was_put(&mut ram),
+        Err(_) => false,
+    }
 }
 
 fn store(sync: &mut PlainSync, block: u16, content: &[u8]) -> u64 {
@@ -51,20 +56,38 @@ fn copy_in(sync: &mut PlainSync, block: u16, from: &[u8]) -> Copied {
     }
 }
 
-// Whether a store is numbered and copied out, and a copy is refused once and then made.
-fn are_copied(sync: &mut PlainSync, into: &mut [u8; 2]) -> bool {
-    let stored = store(sync, 2, b"xy") == 1;
-    let out = copy_out(sync, 2, into) == Copied::Got { number: 1 };
+// Whether a store is numbered and copied out.
+fn is_copied_out(sync: &mut PlainSync) -> bool {
+    let mut into = [0; 2];
+    store(sync, 2, b"xy") == 1
+        && matches!(copy_out(sync, 2, &mut into), Copied::Got { number: 1 })
+        && matches!(into, [b'x', b'y'])
+}
+
+// Whether a copy is refused once, which is counted, and then made.
+fn is_refused_once(sync: &mut PlainSync) -> bool {
     sync.refuse(2, 1);
-    let refused = copy_in(sync, 2, b"no") == Copied::Refused;
-    stored && out && refused && copy_in(sync, 2, b"ok") == Copied::Got { number: 1 }
+    matches!(copy_in(sync, 2, b"no"), Copied::Refused)
+        && matches!(copy_in(sync, 2, b"ok"), Copied::Got { number: 1 })
+        && sync.refusals(2) == 1
+}
+
+fn are_copied(alloc: Global, config: &Config) -> bool {
+    match PlainSync::make(alloc, config) {
+        Ok(mut sync) => is_copied_out(&mut sync) && is_refused_once(&mut sync),
+        Err(_) => false,
+    }
+}
+
+// Whether RAM holds what was put, and copies are whole or refused.
+fn are_right(alloc: Global) -> bool {
+    match read(alloc, BLOCKS.as_bytes()) {
+        Ok(config) => is_held(alloc, &config) && are_copied(alloc, &config),
+        Err(_) => false,
+    }
 }
 
 #[test]
-fn copies_are_whole_or_refused(rt: HostRuntime) -> Result<(), Fail> {
-    let config = read(rt.alloc(), BLOCKS.as_bytes()).ok().ok_or("read")?;
-    let mut sync = PlainSync::make(rt.alloc(), &config)?;
-    let mut into = [0; 2];
-    assert!(rt; are_copied(&mut sync, &mut into) && into == *b"xy" && sync.refusals(2) == 1);
-    Ok(())
+fn ram_holds_what_was_put_and_copies_are_whole_or_refused(rt: HostRuntime) {
+    assert!(rt; are_right(rt.alloc()));
 }

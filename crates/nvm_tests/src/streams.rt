@@ -55,33 +55,41 @@ fn make_tape(alloc: Global, error: ErrorKind) -> Tape {
     }
 }
 
-// Whether four takes of two bytes over such a reader answer so.
-fn takes(alloc: Global, error: ErrorKind, answers: [SourceAnswer; 4]) -> bool {
-    let mut source = StdSource::make(make_tape(alloc, error));
+// Whether takes of two bytes answer so.
+fn answers(source: &mut StdSource<Tape>, answers: &[SourceAnswer]) -> bool {
     for answer in answers {
-        if source.take(&mut [0; 2]) != answer {
+        if source.take(&mut [0; 2]) != *answer {
             return false;
         }
     }
     true
 }
 
+// Whether takes of two bytes over a reader that fails so answer so.
+fn takes(alloc: Global, error: ErrorKind, expected: &[SourceAnswer]) -> bool {
+    let mut source = StdSource::make(make_tape(alloc, error));
+    answers(&mut source, expected)
+}
+
 #[test]
 fn a_source_fails_with_its_reader_and_goes_on(rt: HostRuntime) {
     use SourceAnswer::{Failed, Got};
     let failing = [Got(2), Failed, Got(1), Got(0)];
-    assert!(rt; takes(rt.alloc(), ErrorKind::TimedOut, failing));
+    assert!(rt; takes(rt.alloc(), ErrorKind::TimedOut, &failing));
     let interrupted = [Got(2), Got(1), Got(0), Got(0)];
-    assert!(rt; takes(rt.alloc(), ErrorKind::Interrupted, interrupted));
+    assert!(rt; takes(rt.alloc(), ErrorKind::Interrupted, &interrupted));
 }
 
-// Whether the first of two puts over such a writer answers so, the second one well, and the writer has this then.
+// Whether the first of two puts answers so, and the second one well.
+fn put_twice(writer: &mut Tape, answer: SinkAnswer) -> bool {
+    let mut sink = StdSink::make(writer);
+    sink.put(b"abcde") == answer && matches!(sink.put(b"fg"), SinkAnswer::Done)
+}
+
+// Whether two puts over a writer that fails so answer so, and the writer has this then.
 fn puts(alloc: Global, error: ErrorKind, answer: SinkAnswer, kept: &[u8]) -> bool {
     let mut writer = make_tape(alloc, error);
-    let mut sink = StdSink::make(&mut writer);
-    let first = sink.put(b"abcde") == answer;
-    let second = sink.put(b"fg") == SinkAnswer::Done;
-    first && second && writer.kept.as_slice() == kept
+    put_twice(&mut writer, answer) && writer.kept.as_slice() == kept
 }
 
 #[test]

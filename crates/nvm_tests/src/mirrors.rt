@@ -3,7 +3,7 @@ ghost use Rattle.std.specs.Prelude.{◌≡◌, ◌≤◌};
 ghost use Rattle.ram_mirrors.specs.Ends.{IsOwnerOf, IsTakerOf};
 
 use ram_mirrors::{Mirror, Owner, Taker, make};
-use std::test::Fail;
+use std::alloc::Global;
 use std::thread;
 use std::thread::{Threads, join_mut};
 
@@ -79,17 +79,36 @@ fn is_whole(found: &Found) -> bool {
     found.wrong == 0 && found.last == STORES && 0 < found.taken && found.taken <= STORES
 }
 
-#[test]
-fn each_of_a_million_stores_is_whole(rt: HostRuntime) -> Result<(), Fail> {
-    let (mirror, mut owner, mut taker) = make(rt.alloc(), 8)?;
+// Whether the stores were taken whole, and the taker shows the last one.
+fn are_whole<R: Threads>(rt: &R, mirror: &Mirror, owner: &mut Owner, taker: &mut Taker) -> bool
+    requires owner { IsOwnerOf mirror.now owner.old }
+    requires taker { IsTakerOf mirror.now taker.old }
+    requires size { mirror.now.size ≡ 8 }
+    ensures owner { IsOwnerOf mirror.now owner.new }
+    ensures taker { IsTakerOf mirror.now taker.new }
+{
     let mut found = Found {
         taken: 0,
         wrong: 0,
         last: 0,
     };
-    exchange(&rt, &mirror, &mut owner, &mut taker, &mut found);
-    assert!(rt; is_whole(&found) && found.taken <= taker.looks());
-    assert!(rt; taker.shown() == STORES && taker.content() == STORES.to_le_bytes().as_slice());
+    exchange(rt, mirror, owner, taker, &mut found);
+    is_whole(&found)
+        && found.taken <= taker.looks()
+        && taker.shown() == STORES
+        && taker.content() == STORES.to_le_bytes().as_slice()
+}
+
+fn are_exchanged<R: Threads>(rt: &R, alloc: Global) -> bool {
+    let Ok((mirror, mut owner, mut taker)) = make(alloc, 8) else {
+        return false;
+    };
+    let whole = are_whole(rt, &mirror, &mut owner, &mut taker);
     mirror.close(owner, taker);
-    Ok(())
+    whole
+}
+
+#[test]
+fn each_of_a_million_stores_is_whole(rt: HostRuntime) {
+    assert!(rt; are_exchanged(&rt, rt.alloc()));
 }

@@ -5,7 +5,6 @@ ghost use Rattle.turn_gate.specs.Pass.{IsFree, IsOutside, IsPassOf, knows};
 use std::alloc::{AllocError, Global};
 use std::marker::Model;
 use std::sync::Wait;
-use std::test::Fail;
 use std::thread;
 use std::thread::Threads;
 use turn_gate::{Gate, Kept, Pass, make};
@@ -254,16 +253,6 @@ fn work_through<R: Threads + Wait + Sync>(
     Ok(told)
 }
 
-// The list that the gate gives back, and what the workers' last polls told.
-fn work_beside<R: Threads + Wait + Sync>(
-    rt: &R,
-    alloc: Global,
-) -> Result<(Statuses, Vec<Told>), AllocError> {
-    let (gate, mut pass) = open(alloc)?;
-    let told = work_through(rt, alloc, &gate, &mut pass)?;
-    Ok((gate.close(pass), told))
-}
-
 // Whether the entry of a last poll stands in the list, and no poll was wrong.
 fn is_right(value: &Statuses, told: &Told) -> bool {
     match value.list.get(told.entry as usize) {
@@ -281,10 +270,22 @@ fn are_right(value: &Statuses, told: &[Told]) -> bool {
     true
 }
 
+// Whether each entry came into the list, and each worker's last poll was right.
+fn is_one_list(value: &Statuses, told: &[Told]) -> bool {
+    value.list.len() == 1 + (PASSES * ROUNDS) as usize
+        && told.len() == PASSES as usize
+        && are_right(value, told)
+}
+
+// Whether the gate gives back one list behind the workers.
+fn work_beside<R: Threads + Wait + Sync>(rt: &R, alloc: Global) -> Result<bool, AllocError> {
+    let (gate, mut pass) = open(alloc)?;
+    let told = work_through(rt, alloc, &gate, &mut pass)?;
+    let value = gate.close(pass);
+    Ok(is_one_list(&value, told.as_slice()))
+}
+
 #[test]
-fn sixteen_passes_make_one_list(rt: HostRuntime) -> Result<(), Fail> {
-    let (value, told) = work_beside(&rt, rt.alloc())?;
-    assert!(rt; value.list.len() == 1 + (PASSES * ROUNDS) as usize);
-    assert!(rt; told.len() == PASSES as usize && are_right(&value, told.as_slice()));
-    Ok(())
+fn sixteen_passes_make_one_list(rt: HostRuntime) {
+    assert!(rt; matches!(work_beside(&rt, rt.alloc()), Ok(true)));
 }
