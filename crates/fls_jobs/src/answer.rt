@@ -28,7 +28,7 @@ pub enum FlsStatus {
 
 /// What the last job came to: done, failed by a counted fault, still open, canceled, or done with bytes that differ
 /// (SWS Flash Driver, MemIf_JobResultType).
-#[derive(Clone, Copy, PartialEq, Eq)]
+#[derive(Clone, Copy)]
 pub enum FlsResult {
     JobOk,
     JobFailed,

@@ -19,7 +19,7 @@ pub enum FlashAnswer {
 
 /// Why a flash couldn't be attached: a counted fault, a size in bytes that is neither 0 nor the geometry's, or want
 /// of memory.
-#[derive(Clone, Copy, PartialEq, Eq)]
+#[derive(Clone, Copy)]
 pub enum AttachFault {
     Failed,
     WrongSize { found: u64 },

@@ -4,7 +4,7 @@ ghost use Rattle.memif.specs.Refusal.{number_of_refusal};
 
 /// Why a job wasn't taken, numbered 1 to 4 in the order of the tests: a job is open, no start-up answered Ok last,
 /// the number isn't configured, the length isn't the number's.
-#[derive(Clone, Copy, PartialEq, Eq)]
+#[derive(Clone, Copy)]
 pub enum DeviceRefusal {
     Busy,
     Uninit,

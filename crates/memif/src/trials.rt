@@ -10,7 +10,7 @@ use crate::{DeviceRefusal, DeviceTurn, JobResult, MemDevice, StartFault};
 use nv_base::DeviceNumber;
 
 /// Where turns came to rest: nothing is open, the power is off, or a fault was counted while no job was open.
-#[derive(Clone, Copy, PartialEq, Eq)]
+#[derive(Clone, Copy)]
 pub enum Rest {
     Idle,
     Off,

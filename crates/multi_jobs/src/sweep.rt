@@ -22,7 +22,7 @@ pub struct MemberFacts {
 
 /// What comes next: a member is picked; it is skipped, or posted with its defaults if it has some, without a Pick; or
 /// the sweep ends with the result of id 0.
-#[derive(Clone, Copy, PartialEq, Eq)]
+#[derive(Clone, Copy)]
 pub enum SweepStep {
     Member { block: u16 },
     Skip { block: u16 },

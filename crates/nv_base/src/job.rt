@@ -25,7 +25,7 @@ pub enum Outcome {
 
 /// Where the content comes from that a job gives: nowhere, since it gives none; what its last read read; the block's
 /// defaults; or the ROM dataset of its index.
-#[derive(Clone, Copy, PartialEq, Eq)]
+#[derive(Clone, Copy)]
 pub enum GivenFrom {
     Nothing,
     Device,

@@ -7,7 +7,7 @@ use std::alloc::{AllocError, Global};
 use std::marker::Model;
 
 /// Whether a RAM block is valid, and whether it is changed (NvM_SetRamBlockStatus).
-#[derive(Clone, Copy, PartialEq, Eq)]
+#[derive(Clone, Copy)]
 pub struct RamFlags {
     pub valid: bool,
     pub changed: bool,

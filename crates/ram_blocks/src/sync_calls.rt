@@ -4,7 +4,7 @@ ghost use Rattle.ram_blocks.specs.Told.{Told, refusals_of, most_of, IsSynchroniz
 ghost use Rattle.ram_blocks.specs.Copies.{CopiesOut, CopiesIn, IsGot};
 
 /// What became of a copy: it was made, of the store or to the content with this number, or the application refused it.
-#[derive(Clone, Copy, PartialEq, Eq)]
+#[derive(Clone, Copy)]
 pub enum Copied {
     Got { number: u64 },
     Refused,

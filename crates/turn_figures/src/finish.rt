@@ -19,7 +19,7 @@ use nv_base::{
 };
 
 /// How a job ended: as its program says, or as the power went off.
-#[derive(Clone, Copy, PartialEq, Eq)]
+#[derive(Clone, Copy)]
 pub enum JobEnd {
     Over {
         result: ReqResult,
@@ -29,7 +29,7 @@ pub enum JobEnd {
 }
 
 /// The end of a job, and the turns of the device that it took.
-#[derive(Clone, Copy, PartialEq, Eq)]
+#[derive(Clone, Copy)]
 pub struct Finish {
     pub end: JobEnd,
     pub turns: u64,
