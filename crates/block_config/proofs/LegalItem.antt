@@ -23,7 +23,7 @@ both_true false b h = cc h
 equal_from_test : (a b : ℕ) → (a == b) ≡ true → a ≡ b
 equal_from_test a b h = grind (arith, nat_tests)
 
-le_from_test : (a b : ℕ) → nat_le a b ≡ true → a ≤ b
+pub le_from_test : (a b : ℕ) → nat_le a b ≡ true → a ≤ b
 le_from_test a b h = grind (arith, nat_tests)
 
 -- a number that is read within bounds is within them

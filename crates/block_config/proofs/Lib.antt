@@ -1,4 +1,6 @@
+pub mod Bounds
 pub mod Contents
+pub mod Descriptions
 pub mod Faults
 pub mod LegalItem
 pub mod Lines

@@ -1,7 +1,31 @@
-use Rattle.std.proofs.Common.{◌≡◌, ◌+◌, length, take, arith, refl}
+use Rattle.std.proofs.Common.{◌≡◌, ◌+◌, length, take, ap, arith, refl}
 use Rattle.std.proofs.lemmas.List.{take_more, length-take}
+use Rattle.block_config.proofs.Bounds.{has_size}
 use Rattle.block_config.proofs.Numbering.{lengths_from-push}
 use Rattle.block_config.proofs.config.Config.lengths.Goals as goal
+
+pub overflow_add-id : goal.overflow_add-id
+overflow_add-id c =
+    omega (arith, ap length c.deref-block-items.ensures.value, c.self.invariant.legal.blocks_high, c.loop-block.invariant.1)
+
+pub add_block-requires-clause-above : goal.add_block-requires-clause-above
+add_block-requires-clause-above c = c.loop-block.invariant.2
+
+pub add_block-requires-clause-id : goal.add_block-requires-clause-id
+add_block-requires-clause-id c =
+    omega (arith, ap length c.deref-block-items.ensures.value, c.self.invariant.legal.blocks_high, c.loop-block.invariant.1)
+
+pub add_block-requires-clause-instances : goal.add_block-requires-clause-instances
+add_block-requires-clause-instances c =
+    (has_size c.self.inside.id c.self.inside.blocks.items c.deref-block-items.result.now c.loop-block.block-index c.block-item.result c.self.invariant.legal.blocks_legal c.deref-block-items.ensures.value (omega arith) c.block-item.is).bounded.instances
+
+pub add_block-requires-clause-some : goal.add_block-requires-clause-some
+add_block-requires-clause-some c =
+    (has_size c.self.inside.id c.self.inside.blocks.items c.deref-block-items.result.now c.loop-block.block-index c.block-item.result c.self.invariant.legal.blocks_legal c.deref-block-items.ensures.value (omega arith) c.block-item.is).some
+
+pub add_block-requires-clause-most : goal.add_block-requires-clause-most
+add_block-requires-clause-most c =
+    (has_size c.self.inside.id c.self.inside.blocks.items c.deref-block-items.result.now c.loop-block.block-index c.block-item.result c.self.invariant.legal.blocks_legal c.deref-block-items.ensures.value (omega arith) c.block-item.is).bounded.content
 
 pub loop-block-preserved : goal.loop-block-preserved
 loop-block-preserved c =
