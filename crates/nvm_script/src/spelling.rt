@@ -59,12 +59,16 @@ fn of_block(word: Word, block: u16) -> Option<StepKind>
 fn with_one(word: Word, field: &[u8]) -> Option<StepKind>
     ensures { result ≡ read_one word field.now }
 {
-    if word == Word::Turn {
-        let count = decimal_number(field, 1, 100_000)?;
-        return Some(StepKind::Turn { count });
+    match word {
+        Word::Turn => {
+            let count = decimal_number(field, 1, 100_000)?;
+            Some(StepKind::Turn { count })
+        }
+        _ => {
+            let block = decimal_number(field, 0, 65_535)?;
+            of_block(word, block as u16)
+        }
     }
-    let block = decimal_number(field, 0, 65_535)?;
-    of_block(word, block as u16)
 }
 
 // A word with a block and a number.
@@ -111,14 +115,14 @@ fn with_content(
     let Some(content) = read_content(alloc, field)? else {
         return Ok(None);
     };
-    if word == Word::Ram {
-        return Ok(ask(Request::PutRam { block, content }));
+    match word {
+        Word::Ram => Ok(ask(Request::PutRam { block, content })),
+        _ => Ok(ask(Request::Write {
+            block,
+            content: Some(content),
+            store: 0,
+        })),
     }
-    Ok(ask(Request::Write {
-        block,
-        content: Some(content),
-        store: 0,
-    }))
 }
 
 // Where the power is cut.
@@ -139,7 +143,7 @@ fn with_two(
 ) -> Result<Option<StepKind>, AllocError>
     ensures { IfOk result (λ o. o ≡ read_two word first.now second.now) }
 {
-    if word == Word::Cut {
+    if matches!(word, Word::Cut) {
         return Ok(cut_step(first, second));
     }
     let Some(block) = decimal_number(first, 0, 65_535) else {

@@ -4,7 +4,7 @@ ghost use Rattle.std.specs.Cmp.Lexicographic.{pointwise};
 ghost use Rattle.nvm_script.specs.Word.{word_text as text_of_word, word_of as word_of_text};
 
 /// The word that a step begins with.
-#[derive(Clone, Copy, PartialEq, Eq)]
+#[derive(Clone, Copy)]
 pub enum Word {
     Read,
     ReadRam,
@@ -59,41 +59,43 @@ static WORDS: [Word; 24] = [
     Word::Await,
 ];
 
-fn word_text(word: Word) -> &'static str
-    ensures { result.now ≡ text_of_word word }
+// Whether the text is this name.
+fn is_name(name: &str, text: &[u8]) -> bool
+    ensures { result ≡ pointwise nat_eq name.now text.now }
 {
-    match word {
-        Word::Read => "read",
-        Word::ReadRam => "readram",
-        Word::Write => "write",
-        Word::WriteRam => "writeram",
-        Word::Restore => "restore",
-        Word::RestoreRam => "restoreram",
-        Word::Erase => "erase",
-        Word::Invalidate => "invalidate",
-        Word::SetIndex => "setindex",
-        Word::GetIndex => "getindex",
-        Word::Protect => "protect",
-        Word::Lock => "lock",
-        Word::SetRam => "setram",
-        Word::Ram => "ram",
-        Word::Status => "status",
-        Word::ReadAll => "readall",
-        Word::WriteAll => "writeall",
-        Word::Cancel => "cancel",
-        Word::Turn => "turn",
-        Word::Drain => "drain",
-        Word::Restart => "restart",
-        Word::Cut => "cut",
-        Word::Refuse => "refuse",
-        Word::Await => "await",
-    }
+    name.as_bytes() == text
 }
 
+// Whether the text is this word.
 fn is_word(word: Word, text: &[u8]) -> bool
     ensures { result ≡ pointwise nat_eq (text_of_word word) text.now }
 {
-    word_text(word).as_bytes() == text
+    match word {
+        Word::Read => is_name("read", text),
+        Word::ReadRam => is_name("readram", text),
+        Word::Write => is_name("write", text),
+        Word::WriteRam => is_name("writeram", text),
+        Word::Restore => is_name("restore", text),
+        Word::RestoreRam => is_name("restoreram", text),
+        Word::Erase => is_name("erase", text),
+        Word::Invalidate => is_name("invalidate", text),
+        Word::SetIndex => is_name("setindex", text),
+        Word::GetIndex => is_name("getindex", text),
+        Word::Protect => is_name("protect", text),
+        Word::Lock => is_name("lock", text),
+        Word::SetRam => is_name("setram", text),
+        Word::Ram => is_name("ram", text),
+        Word::Status => is_name("status", text),
+        Word::ReadAll => is_name("readall", text),
+        Word::WriteAll => is_name("writeall", text),
+        Word::Cancel => is_name("cancel", text),
+        Word::Turn => is_name("turn", text),
+        Word::Drain => is_name("drain", text),
+        Word::Restart => is_name("restart", text),
+        Word::Cut => is_name("cut", text),
+        Word::Refuse => is_name("refuse", text),
+        Word::Await => is_name("await", text),
+    }
 }
 
 // The word that the text is.
