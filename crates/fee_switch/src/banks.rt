@@ -4,7 +4,7 @@ ghost use Rattle.nv_base.specs.Geometry.{IsLegal, HasBanks, sectors_of_bank};
 ghost use Rattle.fls_jobs.specs.Start.{IsIdle};
 ghost use Rattle.fee_image.specs.Image.{layout_of, active_of};
 ghost use Rattle.bank_start.specs.Active.{active_shown};
-ghost use Rattle.fee_switch.specs.Start.{IsLoadedAs, IsSameShape};
+ghost use Rattle.fee_switch.specs.Start.{IsLoadedAs, IsSameShape, IsLogAt};
 ghost use Rattle.fee_switch.specs.Banks.{IsBanksState, IsMade, IsSameFlash, IsStartOf, phase_of};
 ghost use Rattle.std.specs.Prelude.{IsSome, Some, length};
 ghost use Rattle.std.specs.List.{All};
@@ -263,6 +263,7 @@ impl Banks {
         ensures same { fls.new ≡ record fls.old { flash = fls.new.flash; result = fls.new.result } }
         ensures flash_of { IsSameFlash self.old self.new }
     {
+        self.active = None;
         let mut first = None;
         let answer = take_banks(
             fls,
@@ -272,12 +273,8 @@ impl Banks {
             &mut self.log,
             &mut self.buffer,
         );
-        let target = target_of(first, self.banks);
-        self.copies.move_to(target);
-        self.target = target;
-        self.course = None;
-        if answer == FlashAnswer::Done {
-            self.active = first;
+        self.activate(first);
+        if let FlashAnswer::Done = answer {
             if first.is_none() {
                 self.log.move_to(0);
             }
@@ -286,6 +283,18 @@ impl Banks {
             self.active = None;
             BankStart::Failed
         }
+    }
+
+    // A bank is active, or none: the bank behind it is the next target, and no switch is open.
+    fn activate(&mut self, active: Option<ActiveBank>)
+        requires place { IsLogAt self.old.banks active self.old.log }
+        ensures { self.new ≡ record self.old { active = active; target = target_after self.old.banks active; course = None; copies = erased_state self.old.geometry self.old.banks (target_after self.old.banks active) self.old.copies.numbers } }
+    {
+        let target = target_of(active, self.banks);
+        self.copies.move_to(target);
+        self.active = active;
+        self.target = target;
+        self.course = None;
     }
 
     // The operation of the target itself that comes next: an erase, the head or the gate.

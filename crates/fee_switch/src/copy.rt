@@ -55,7 +55,7 @@ pub(crate) fn read_content<F: Flash>(
     log.lists();
     let address = log.content_address(at);
     let answer = fls.read_range(address, &mut buffer[..usize::from(size)]);
-    if answer == FlashAnswer::Done {
+    if let FlashAnswer::Done = answer {
         copies.append_start(number, 1, size);
     }
     answer

@@ -2,7 +2,9 @@
 ghost use Rattle.std.specs.Prelude.{◌≡◌, ◌<◌, length, None, IfSome};
 ghost use Rattle.nv_base.specs.Geometry.{IsLegal, HasBanks, size_of_bank};
 ghost use Rattle.fls_jobs.specs.Start.{IsIdle};
-ghost use Rattle.fee_image.specs.Image.{layout_of};
+ghost use Rattle.fls_model.specs.Told.{Told};
+ghost use Rattle.fee_image.specs.Image.{layout_of, bank_in};
+ghost use Rattle.fee_image.specs.Laws.{bank_bytes};
 ghost use Rattle.bank_start.specs.Reading.{IsAnswered};
 ghost use Rattle.fee_switch.specs.Start.{AreTaken, TakesNext, IsLogAt, IsSameShape};
 
@@ -13,6 +15,41 @@ use fee_view::BankView;
 use fls_jobs::Fls;
 use fls_model::{Flash, FlashAnswer};
 use nv_base::Geometry;
+
+// Takes a bank by its bytes: loads the log from them where they stand and come before the banks that were read.
+fn take_bytes(
+    geometry: Geometry,
+    banks: u32,
+    bank: u32,
+    bytes: &[u8],
+    first: &mut Option<ActiveBank>,
+    log: &mut Log,
+)
+    requires legal { IsLegal geometry }
+    requires shared { HasBanks geometry banks }
+    requires bank { bank < banks }
+    requires size { length bytes.now ≡ size_of_bank geometry banks }
+    requires log_geometry { log.old.geometry ≡ geometry }
+    requires log_banks { log.old.banks ≡ banks }
+    ensures taken { (told : Told) → IfSome told.bytes (λ b. bytes.now ≡ bank_bytes (bank_in (layout_of geometry banks) 1 bank) b.now) → TakesNext told (layout_of geometry banks) bank first.old log.old first.new log.new }
+    ensures place { IsLogAt banks first.old log.old → IsLogAt banks first.new log.new }
+    ensures shape { IsSameShape log.old log.new }
+{
+    loads_agree();
+    records_stay();
+    banks_stand_alone();
+    let _ = geometry.bank_pages(banks);
+    let _ = geometry.bank_size(banks);
+    let Some(view) = BankView::of(bytes, geometry.page) else {
+        return;
+    };
+    let head = view.head();
+    if comes_first(*first, head) {
+        *first = Some(ActiveBank { bank, head });
+        log.move_to(bank);
+        log.load(Some(view));
+    }
+}
 
 // Reads a bank, and loads the log from it where it comes before the banks that were read.
 fn take_bank<F: Flash>(
@@ -39,25 +76,12 @@ fn take_bank<F: Flash>(
     ensures shape { IsSameShape log.old log.new }
     ensures size { length buffer.new ≡ length buffer.old }
 {
-    loads_agree();
-    records_stay();
-    banks_stand_alone();
-    let _ = geometry.bank_pages(banks);
-    let _ = geometry.bank_size(banks);
-    let answer = read_bank(fls, geometry, banks, bank, buffer);
-    if answer != FlashAnswer::Done {
-        return answer;
+    match read_bank(fls, geometry, banks, bank, buffer) {
+        FlashAnswer::Done => {}
+        answer => return answer,
     }
-    let Some(view) = BankView::of(buffer, geometry.page) else {
-        return answer;
-    };
-    let head = view.head();
-    if comes_first(*first, head) {
-        *first = Some(ActiveBank { bank, head });
-        log.move_to(bank);
-        log.load(Some(view));
-    }
-    answer
+    take_bytes(geometry, banks, bank, buffer, first, log);
+    FlashAnswer::Done
 }
 
 /// Reads all banks, one after another, and loads the log from the active one.

@@ -3,42 +3,39 @@ use Rattle.fee_image.specs.Image.{layout_of}
 use Rattle.fee_image.specs.RecordList.{StandsAs}
 use Rattle.fee_view.specs.View.{own_bank}
 use Rattle.fee_switch.proofs.Starts.{taken_none, taken_else, taken_then, loaded_as}
-use Rattle.fee_switch.proofs.start.take_bank.Goals as goal
+use Rattle.fee_switch.proofs.start.take_bytes.Goals as goal
 
 pub returns-in_default-clause-taken : goal.returns-in_default-clause-taken
-returns-in_default-clause-taken g c e =
+returns-in_default-clause-taken c told read =
     let l = layout_of c.args.geometry c.args.banks in
-    let read = rw e at c.read_bank-answer.ensures.read in
     let two : 2 ≤ l.pages = omega (arith, c.bank_pages.ensures.value, c.bank_pages.ensures.least) in
     let not = c.in_default.ensures.stands in
-    taken_none c.banks_stand_alone.ensures.heads c.args.fls.now.flash.bytes l c.args.bank c.read_bank-answer.new.into c.args.first.now c.args.log.now two read.0 not
+    taken_none c.banks_stand_alone.ensures.heads told.bytes l c.args.bank c.args.bytes.now c.args.first.now c.args.log.now two read not
 
 pub returns-then-comes_first-clause-taken : goal.returns-then-comes_first-clause-taken
-returns-then-comes_first-clause-taken g c e =
+returns-then-comes_first-clause-taken c told read =
     let l = layout_of c.args.geometry c.args.banks in
-    let own = c.read_bank-answer.new.into in
+    let own = c.args.bytes.now in
     let h = c.head-head.result in
     let heads = c.banks_stand_alone.ensures.heads in
-    let read = rw e at c.read_bank-answer.ensures.read in
     let two : 2 ≤ l.pages = omega (arith, c.bank_pages.ensures.value, c.bank_pages.ensures.least) in
     let stands : StandsAs (own_bank l.page 2 1) own h = rw c.head-head.ensures.head c.in-Some.ensures.stands in
     let first = rw c.if-comes_first.true at (c.comes_first.ensures c.args.bank) in
     let log = c.args.log.now in
     let loaded = rw c.move_to.ensures at c.load.ensures.log in
-    let size : length own ≡ l.pages * l.page = c.read_bank-answer.ensures.size ∙ c.requires.size ∙ sym c.bank_size.ensures.value ∙ c.bank_size.ensures.pages in
+    let size : length own ≡ l.pages * l.page = c.requires.size ∙ sym c.bank_size.ensures.value ∙ c.bank_size.ensures.pages in
     let low = c.requires.legal.page_low in
-    taken_then heads l c.args.bank own c.args.first.now log h two stands c.args.fls.now.flash.bytes c.load.new.self read.0 first
+    taken_then heads l c.args.bank own c.args.first.now log h two stands told.bytes c.load.new.self read first
     (λ (bytes : List ℕ) is. rw c.head-head.ensures.head
     (loaded_as c.loads_agree.ensures.loads c.loads_agree.ensures.moves c.banks_stand_alone.ensures.pages c.records_stay.ensures.stay l bytes own c.args.bank c.in-Some.view.head log.geometry log.banks log.numbers c.load.new.self c.in-Some.view
     low size is c.in-Some.ensures.view loaded))
 
 pub returns-else-comes_first-clause-taken : goal.returns-else-comes_first-clause-taken
-returns-else-comes_first-clause-taken g c e =
+returns-else-comes_first-clause-taken c told read =
     let l = layout_of c.args.geometry c.args.banks in
-    let own = c.read_bank-answer.new.into in
+    let own = c.args.bytes.now in
     let h = c.head-head.result in
-    let read = rw e at c.read_bank-answer.ensures.read in
     let two : 2 ≤ l.pages = omega (arith, c.bank_pages.ensures.value, c.bank_pages.ensures.least) in
     let stands : StandsAs (own_bank l.page 2 1) own h = rw c.head-head.ensures.head c.in-Some.ensures.stands in
     let first = rw c.if-comes_first.false at (c.comes_first.ensures c.args.bank) in
-    taken_else c.banks_stand_alone.ensures.heads l c.args.bank own c.args.first.now c.args.log.now h two stands c.args.fls.now.flash.bytes read.0 first
+    taken_else c.banks_stand_alone.ensures.heads l c.args.bank own c.args.first.now c.args.log.now h two stands told.bytes read first
