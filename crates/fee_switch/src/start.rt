@@ -1,10 +1,12 @@
 // A start-up: which bank is active, and its log.
-ghost use Rattle.std.specs.Prelude.{◌≡◌, ◌<◌, length, None, IfSome};
-ghost use Rattle.nv_base.specs.Geometry.{IsLegal, HasBanks, size_of_bank};
+ghost use Rattle.std.specs.Prelude.{◌≡◌, ◌<◌, ◌≤◌, ◌*◌, ◌/◌, length, None, IfSome, MatchOption};
+ghost use Rattle.nv_base.specs.Geometry.{IsLegal, HasBanks, pages_of_bank, size_of_bank};
 ghost use Rattle.fls_jobs.specs.Start.{IsIdle};
 ghost use Rattle.fls_model.specs.Told.{Told};
 ghost use Rattle.fee_image.specs.Image.{layout_of, bank_in};
 ghost use Rattle.fee_image.specs.Laws.{bank_bytes};
+ghost use Rattle.fee_image.specs.RecordList.{StandsAs, StandsNot};
+ghost use Rattle.fee_view.specs.View.{own_bank};
 ghost use Rattle.bank_start.specs.Reading.{IsAnswered};
 ghost use Rattle.fee_switch.specs.Start.{AreTaken, TakesNext, IsLogAt, IsSameShape};
 
@@ -15,6 +17,21 @@ use fee_view::BankView;
 use fls_jobs::Fls;
 use fls_model::{Flash, FlashAnswer};
 use nv_base::Geometry;
+
+// The bank of these bytes, where it stands.
+fn view_of<'a>(geometry: Geometry, banks: u32, bytes: &'a [u8]) -> Option<BankView<'a>>
+    requires legal { IsLegal geometry }
+    requires shared { HasBanks geometry banks }
+    requires size { length bytes.now ≡ size_of_bank geometry banks }
+    ensures stands { MatchOption result (StandsNot (own_bank geometry.page 2 1) bytes.now) (λ v. StandsAs (own_bank geometry.page 2 1) bytes.now v.head) }
+    ensures view { IfSome result (λ v. v ≡ record { bytes = bytes.now; page = geometry.page; pages = length bytes.now / geometry.page; head = v.head }) }
+    ensures two { 2 ≤ pages_of_bank geometry banks }
+    ensures size { length bytes.now ≡ pages_of_bank geometry banks * geometry.page }
+{
+    let _ = geometry.bank_pages(banks);
+    let _ = geometry.bank_size(banks);
+    BankView::of(bytes, geometry.page)
+}
 
 // Takes a bank by its bytes: loads the log from them where they stand and come before the banks that were read.
 fn take_bytes(
@@ -38,9 +55,7 @@ fn take_bytes(
     loads_agree();
     records_stay();
     banks_stand_alone();
-    let _ = geometry.bank_pages(banks);
-    let _ = geometry.bank_size(banks);
-    let Some(view) = BankView::of(bytes, geometry.page) else {
+    let Some(view) = view_of(geometry, banks, bytes) else {
         return;
     };
     let head = view.head();

@@ -81,6 +81,18 @@ fn program_page<F: Flash>(
     fls.program_page(geometry.page_address(banks, bank, page), bytes)
 }
 
+// The number of a sector of the bank among those of the flash.
+fn flash_sector(geometry: Geometry, banks: u32, bank: u32, sector: u32) -> u32
+    requires legal { IsLegal geometry }
+    requires shared { HasBanks geometry banks }
+    requires bank { bank < banks }
+    requires sector { sector < sectors_of_bank geometry banks }
+    ensures value { result ≡ bank * sectors_of_bank geometry banks + sector }
+    ensures inside { result < geometry.sectors }
+{
+    bank * geometry.bank_sectors(banks) + sector
+}
+
 // Erases a sector of the bank.
 fn erase_sector<F: Flash>(
     fls: &mut Fls<F>,
@@ -99,7 +111,7 @@ fn erase_sector<F: Flash>(
     ensures same { fls.new ≡ record fls.old { flash = fls.new.flash; result = closed_as result } }
 {
     fls.status();
-    fls.erase_sector(bank * geometry.bank_sectors(banks) + sector)
+    fls.erase_sector(flash_sector(geometry, banks, bank, sector))
 }
 
 impl Target {

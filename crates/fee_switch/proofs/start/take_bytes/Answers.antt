@@ -1,4 +1,4 @@
-use Rattle.std.proofs.Common.{◌≡◌, ◌≤◌, ◌*◌, length, List, ℕ, sym, ◌∙◌, arith}
+use Rattle.std.proofs.Common.{List, ℕ}
 use Rattle.fee_image.specs.Image.{layout_of}
 use Rattle.fee_image.specs.RecordList.{StandsAs}
 use Rattle.fee_view.specs.View.{own_bank}
@@ -8,7 +8,7 @@ use Rattle.fee_switch.proofs.start.take_bytes.Goals as goal
 pub returns-in_default-clause-taken : goal.returns-in_default-clause-taken
 returns-in_default-clause-taken c told read =
     let l = layout_of c.args.geometry c.args.banks in
-    let two : 2 ≤ l.pages = omega (arith, c.bank_pages.ensures.value, c.bank_pages.ensures.least) in
+    let two = c.in_default.ensures.two in
     let not = c.in_default.ensures.stands in
     taken_none c.banks_stand_alone.ensures.heads told.bytes l c.args.bank c.args.bytes.now c.args.first.now c.args.log.now two read not
 
@@ -18,12 +18,12 @@ returns-then-comes_first-clause-taken c told read =
     let own = c.args.bytes.now in
     let h = c.head-head.result in
     let heads = c.banks_stand_alone.ensures.heads in
-    let two : 2 ≤ l.pages = omega (arith, c.bank_pages.ensures.value, c.bank_pages.ensures.least) in
+    let two = c.in-Some.ensures.two in
     let stands : StandsAs (own_bank l.page 2 1) own h = rw c.head-head.ensures.head c.in-Some.ensures.stands in
     let first = rw c.if-comes_first.true at (c.comes_first.ensures c.args.bank) in
     let log = c.args.log.now in
     let loaded = rw c.move_to.ensures at c.load.ensures.log in
-    let size : length own ≡ l.pages * l.page = c.requires.size ∙ sym c.bank_size.ensures.value ∙ c.bank_size.ensures.pages in
+    let size = c.in-Some.ensures.size in
     let low = c.requires.legal.page_low in
     taken_then heads l c.args.bank own c.args.first.now log h two stands told.bytes c.load.new.self read first
     (λ (bytes : List ℕ) is. rw c.head-head.ensures.head
@@ -35,7 +35,7 @@ returns-else-comes_first-clause-taken c told read =
     let l = layout_of c.args.geometry c.args.banks in
     let own = c.args.bytes.now in
     let h = c.head-head.result in
-    let two : 2 ≤ l.pages = omega (arith, c.bank_pages.ensures.value, c.bank_pages.ensures.least) in
+    let two = c.in-Some.ensures.two in
     let stands : StandsAs (own_bank l.page 2 1) own h = rw c.head-head.ensures.head c.in-Some.ensures.stands in
     let first = rw c.if-comes_first.false at (c.comes_first.ensures c.args.bank) in
     taken_else c.banks_stand_alone.ensures.heads l c.args.bank own c.args.first.now c.args.log.now h two stands told.bytes read first
