@@ -9,19 +9,19 @@ use nv_base::{DeviceNumber, Lengths, numbers_ascend};
 use std::alloc::{AllocError, Global};
 
 /// Places for all numbers, of which nothing is found.
+#[tactic(auto, using(crate::proofs::Changes::erased))]
 pub(crate) fn erased_places(alloc: Global, numbers: &Lengths) -> Result<Vec<Place>, AllocError>
     ensures { IfOk result (λ v. v.items ≡ erased_places numbers.now) }
 {
-    let numbers = numbers.as_slice();
-    numbers.iter().map(|_| Place::Erased).collect(alloc)
+    vec![in alloc; Place::Erased; numbers.as_slice().len()]
 }
 
 /// Clear flags for all numbers.
+#[tactic(auto, using(crate::proofs::Changes::clear))]
 pub(crate) fn clear_flags(alloc: Global, numbers: &Lengths) -> Result<Vec<bool>, AllocError>
     ensures { IfOk result (λ v. v.items ≡ clear_flags numbers.now) }
 {
-    let numbers = numbers.as_slice();
-    numbers.iter().map(|_| false).collect(alloc)
+    vec![in alloc; false; numbers.as_slice().len()]
 }
 
 /// Nothing is found of any number from now on.
