@@ -41,6 +41,26 @@ pushed old mid new e left same room is = record {
   memory = let r = ap (λ (h : Listed). h.reserved) is in omega (arith, r, room);
 }
 
+-- more memory changes nothing
+pub memory_kept : (d : Inside) (h : Listed) (r : Roomy) → IsKept d → record h { reserved = d.history.reserved } ≡ d.history
+    → d.history.reserved ≤ h.reserved → r.longest ≡ d.rooms.longest → d.rooms.count ≤ r.count → IsKept (record d { history = h; rooms = r })
+memory_kept d h r is same more longest count =
+    let entries : h.entries ≡ d.history.entries = ap (λ (x : Listed). x.entries) same in
+    let cap : h.cap ≡ d.history.cap = ap (λ (x : Listed). x.cap) same in
+    record {
+      agrees = rw entries is.agrees;
+      sound = rw entries is.sound;
+      fits = rw (entries, cap) is.fits;
+      memory = rw entries (omega (arith, is.memory, more));
+      rooms = rw entries (omega (arith, is.rooms, count));
+      prepared = rw entries is.prepared;
+      place = λ now. let place = is.place (rw entries at now) in (omega (arith, place.0, more), omega (arith, place.1, count));
+      longest = λ id. omega (arith, is.longest id, longest);
+      within = rw cap is.within;
+      read_share = is.read_share;
+      write_share = is.write_share;
+    }
+
 -- What is kept stands behind an entry, with memory for the entries that are reserved then.
 pub entry_kept : HistoriesStep → (d : Inside) (h : Listed) (k : Kept) (r : Roomy) (e : Entry) (most : ℕ) → IsKept d → IsPushed d.history h e most
     → Agrees d.config k (changed_by d.config (after d.config d.history.entries) e)

@@ -1,12 +1,14 @@
 -- A job that is accepted.
-use Rattle.std.proofs.Common.{◌≡◌, ◌≤◌, ◌<◌, ℕ, zero, suc, ◌+◌, ◌^◌, true, false, List, [], ◌∷◌, ◌++◌, length, get_or, sum_by, option_to_list, Contains, IfSome, IsTrue, is_some, unwrap_or, refl, sym, ap, ◌∙◌, subst, arith, Option, Some, None}
-use Rattle.std.proofs.lemmas.List.Sums.{sum_by-append}
+use Rattle.std.proofs.Common.{◌≡◌, ◌≤◌, ◌<◌, ℕ, zero, suc, ◌+◌, ◌-◌, ◌^◌, ◌&&◌, not, Bool, true, false, List, [], ◌∷◌, ◌++◌, length, get_or, sum_by, option_to_list, Contains, IfSome, IsTrue, is_some, is_none, unwrap_or, refl, sym, ap, ◌∙◌, subst, arith, Option, Some, None}
+use Rattle.std.proofs.lemmas.List.Sums.{sum_by-append, count_by-le-length}
 use Rattle.block_machine.specs.Words.{Configuration, Pending, Ask, Request, Write, JobKind, ReadJob, WriteJob, Accepted}
 use Rattle.block_machine.specs.State.{State, Job, Sweep, jobs_of}
-use Rattle.block_machine.specs.Blocks.{asked_block, asked_content, job_block, job_kind, names_ram, is_pending, status_of}
+use Rattle.block_machine.specs.Blocks.{asked_block, asked_content, job_block, job_kind, names_ram, is_pending, rank_of, status_of}
 use Rattle.block_machine.specs.Reply.{reserved_entries, needed}
 use Rattle.block_machine.specs.Steps.{step, accepted, accepted_by, job_at, with_status}
 use Rattle.machine_laws.specs.Consistent.{Each, IsConsistent, IsWaitingJob, IsJobInHand, IsPendingSweep}
+use Rattle.pending_jobs.specs.declared.unpicked.Unpicked.{Unpicked}
+use Rattle.pending_jobs.specs.Unpicked.{unpicked_in}
 use Rattle.pending_jobs.specs.Pending.{IsNew, reserved_by}
 use Rattle.nv_desk.specs.Asks.{IsJobAccepted}
 use Rattle.kept_state.specs.Kept.{Agrees}
@@ -63,6 +65,25 @@ pub few_entries : (c : Configuration) (cap : ℕ) (s : State) (r : Request) → 
     → (reserved_entries c s + needed c r + 1 < 2 ^ 32) × (reserved_by s.waiting + needed c r < 2 ^ 32)
 few_entries c cap s r within passed = let room = room_of c cap s (1 + needed c r) passed.room in
     (omega (arith, room, within), omega (arith, room, within, waiting_reserves c s))
+
+-- its block has a place
+pub has_place : (c : Configuration) (cap : ℕ) (s : State) (k : Kept) (r : Request) (j : Job) → IsJobAccepted c cap s r → Agrees c k s
+    → job_block j ≡ asked_block r → job_block j < length k.jobs.slots
+has_place c cap s k r j passed agrees block =
+    let known = known_of (length c.blocks) (asked_block r) passed.known in
+    omega (arith, known.1, agrees.places, block)
+
+-- jobs that were never picked are among those that wait, which are on different blocks
+pub few_unpicked : (c : Configuration) (k : Kept) (s : State) (immediate : Bool) → length c.blocks ≤ 512 → Agrees c k s
+    → unpicked_in immediate k.jobs.unpicked < 2 ^ 16 - 1
+few_unpicked c k s true low agrees =
+    let most = count_by-le-length (λ (j : Job). (rank_of c j).immediate && is_none j.taken) s.waiting in
+    let same = ap (λ (u : Unpicked). u.immediate) agrees.jobs.unpicked in
+    omega (arith, most, same, agrees.jobs.room, agrees.places, low)
+few_unpicked c k s false low agrees =
+    let most = count_by-le-length (λ (j : Job). not (rank_of c j).immediate && is_none j.taken) s.waiting in
+    let same = ap (λ (u : Unpicked). u.standard) agrees.jobs.unpicked in
+    omega (arith, most, same, agrees.jobs.room, agrees.places, low)
 
 -- the job that is made is the machine's
 pub job_is : (c : Configuration) (n number reserved : ℕ) (r request : Request) (j : Job)

@@ -5,8 +5,12 @@ use Rattle.block_states.specs.States.{rooms_of}
 use Rattle.nv_desk.proofs.Asks.{room_of}
 use Rattle.nv_desk.proofs.Sound.{sound_change}
 use Rattle.nv_desk.proofs.Requests.{change_reserves}
-use Rattle.nv_desk.proofs.Entries.{pushed, entry_kept}
+use Rattle.nv_desk.proofs.Entries.{pushed, entry_kept, memory_kept}
 use Rattle.nv_desk.proofs.desk.Desk.accept_change.Goals as goal
+
+pub invariant_of-self : goal.invariant_of-self
+invariant_of-self c = memory_kept c.self.inside c.take_memory.new.history c.take_memory.new.rooms c.self.invariant
+    c.take_memory.ensures.same c.take_memory.ensures.stays c.take_memory.ensures.longest c.take_memory.ensures.rooms_stay
 
 pub invariant_of-self-2 : goal.invariant_of-self-2
 invariant_of-self-2 c =

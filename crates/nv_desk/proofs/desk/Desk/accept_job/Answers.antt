@@ -2,12 +2,12 @@ use Rattle.std.proofs.Common.{◌+◌, ◌∙◌, ap, arith, length, sym}
 use Rattle.nv_base.specs.History.{Listed}
 use Rattle.block_machine.specs.Words.{Ask, Accepted}
 use Rattle.block_machine.specs.State.{Job}
-use Rattle.block_machine.specs.Blocks.{job_block}
+use Rattle.block_machine.specs.Blocks.{asked_block, job_block, rank_of}
 use Rattle.block_machine.specs.Reply.{needed}
 use Rattle.block_machine.specs.Steps.{after}
 use Rattle.nv_desk.proofs.Asks.{job_accepted, room_of}
-use Rattle.nv_desk.proofs.Jobs.{new_job, few_entries, job_is, job_agrees, job_reserves, job_sound, no_sweep}
-use Rattle.nv_desk.proofs.Entries.{pushed, entry_kept}
+use Rattle.nv_desk.proofs.Jobs.{new_job, few_entries, few_unpicked, has_place, job_is, job_agrees, job_reserves, job_sound, no_sweep}
+use Rattle.nv_desk.proofs.Entries.{pushed, entry_kept, memory_kept}
 use Rattle.nv_desk.proofs.desk.Desk.accept_job.Goals as goal
 
 pub overflow_add-reserved : goal.overflow_add-reserved
@@ -30,6 +30,21 @@ take_memory-requires c =
     let need = rw (← c.self.view_is) at c.needed-needed.ensures in
     omega (arith, few.0, need, c.reserved.ensures.value d.config s c.self.invariant.agrees)
 
+pub accept-requires-clause-known : goal.accept-requires-clause-known
+accept-requires-clause-known c =
+    let d = c.self.inside in
+    let s = after d.config d.history.entries in
+    let allowed = rw (← c.self.view_is) at c.requires.allowed in
+    has_place d.config d.history.cap s d.kept c.args.request c.accepted-job.result
+    (job_accepted d.config d.history.cap s c.args.request c.requires.kind allowed.replies) c.self.invariant.agrees
+    (ap job_block c.accepted-job.ensures ∙ ap asked_block c.in_ok-asked_for.ensures)
+
+pub accept-requires-clause-room : goal.accept-requires-clause-room
+accept-requires-clause-room c =
+    let d = c.self.inside in
+    few_unpicked d.config d.kept (after d.config d.history.entries) (rank_of d.config c.accepted-job.result).immediate
+    c.queue_sizes-sizes.ensures.legal.blocks_high c.self.invariant.agrees
+
 pub accept-requires-clause-reserved : goal.accept-requires-clause-reserved
 accept-requires-clause-reserved c =
     let d = c.self.inside in
@@ -39,6 +54,10 @@ accept-requires-clause-reserved c =
     (job_accepted d.config d.history.cap s c.args.request c.requires.kind allowed.replies) in
     let need = rw (← c.self.view_is) at c.needed-needed.ensures in
     omega (arith, few.1, need, c.self.invariant.agrees.jobs.reserved, ap (λ (j : Job). j.reserved) c.accepted-job.ensures)
+
+pub invariant_of-self : goal.invariant_of-self
+invariant_of-self c = memory_kept c.self.inside c.take_memory.new.history c.take_memory.new.rooms c.self.invariant
+    c.take_memory.ensures.same c.take_memory.ensures.stays c.take_memory.ensures.longest c.take_memory.ensures.rooms_stay
 
 pub invariant_of-self-2 : goal.invariant_of-self-2
 invariant_of-self-2 c =

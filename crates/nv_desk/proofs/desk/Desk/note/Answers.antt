@@ -4,8 +4,12 @@ use Rattle.block_machine.specs.Reply.{reserved_entries}
 use Rattle.block_machine.specs.Steps.{after}
 use Rattle.nv_desk.proofs.Asks.{room_of}
 use Rattle.nv_desk.proofs.Requests.{same_sound}
-use Rattle.nv_desk.proofs.Entries.{pushed, entry_kept}
+use Rattle.nv_desk.proofs.Entries.{pushed, entry_kept, memory_kept}
 use Rattle.nv_desk.proofs.desk.Desk.note.Goals as goal
+
+pub invariant_of-self : goal.invariant_of-self
+invariant_of-self c = memory_kept c.self.inside c.take_memory.new.history c.take_memory.new.rooms c.self.invariant
+    c.take_memory.ensures.same c.take_memory.ensures.stays c.take_memory.ensures.longest c.take_memory.ensures.rooms_stay
 
 pub invariant_of-self-2 : goal.invariant_of-self-2
 invariant_of-self-2 c =
