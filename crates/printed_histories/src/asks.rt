@@ -1,87 +1,86 @@
 // The line of a request.
-ghost use Rattle.std.specs.Prelude.{◌≤◌, ◌+◌, length, IfSome};
-
 use crate::codes::{refusal_of, result_of};
-use crate::unread::Unread;
 use crate::words::Words;
 use block_config::Config;
 use nv_base::{Entry, Reply, Request};
-use nvm_script::{Mode, ScriptFault, StepKind, read_script};
-use std::alloc::Global;
-
-// Between a request and its reply.
-const ARROW: &[u8; 4] = b" -> ";
+use nvm_script::{Mode, ScriptFault, StepKind, StepList, read_script};
+use std::alloc::{AllocError, Global};
 
 /// A request with its caller and its reply.
-pub fn read_ask(alloc: Global, config: &Config, words: Words<'_>) -> Result<Entry, Unread> {
+pub fn read_ask(
+    alloc: Global,
+    config: &Config,
+    words: Words<'_>,
+) -> Result<Option<Entry>, AllocError> {
     let mut words = words;
-    let caller = words.small()?;
-    let rest = words.rest();
-    let at = arrow_in(rest).ok_or(Unread::NoHistory)?;
-    Ok(Entry::Ask {
-        caller,
-        request: read_request(alloc, config, &rest[..at])?,
-        reply: read_reply(Words::of(&rest[at + ARROW.len()..]))?,
-    })
-}
-
-// Where the arrow stands.
-fn arrow_in(text: &[u8]) -> Option<usize>
-    ensures { IfSome result (λ at. at + 4 ≤ length text.now) }
-{
-    for at in 0..text.len() {
-        if text[at..].starts_with(ARROW) {
-            return Some(at);
-        }
+    let caller = words.small();
+    let (step, reply) = words.rest().split_once(" -> ").unwrap_or(("", ""));
+    let reply = read_reply(Words::of(reply));
+    match read_request(alloc, config, step)? {
+        Some(request) => Ok(Some(Entry::Ask {
+            caller,
+            request,
+            reply,
+        })),
+        None => Ok(None),
     }
-    None
 }
 
-fn read_reply(words: Words<'_>) -> Result<Reply, Unread> {
+fn read_reply(words: Words<'_>) -> Reply {
     let mut words = words;
     match words.next() {
-        b"ok" => Ok(Reply::Accepted),
-        b"refused" => Ok(Reply::Refused(refusal_of(words.number()?)?)),
-        b"status" => Ok(Reply::StatusIs(result_of(words.number()?)?)),
-        b"index" => Ok(Reply::IndexIs(words.small()?)),
-        _ => Err(Unread::NoHistory),
+        "refused" => Reply::Refused(refusal_of(words.number())),
+        "status" => Reply::StatusIs(result_of(words.number())),
+        "index" => Reply::IndexIs(words.small()),
+        _ => Reply::Accepted,
     }
 }
 
-// The request that a step asks. A write of synchronized RAM names a store, which no step does.
-fn read_request(alloc: Global, config: &Config, step: &[u8]) -> Result<Request, Unread> {
-    let mut words = Words::of(step);
-    if matches!(words.next(), b"writeram") {
-        let block = words.block()?;
-        if matches!(words.next(), b"store") {
-            return Ok(Request::Write {
-                block,
-                content: None,
-                store: words.number()?,
-            });
-        }
+// The request that a step asks.
+fn read_request(alloc: Global, config: &Config, step: &str) -> Result<Option<Request>, AllocError> {
+    match stored_write(step) {
+        Some((block, store)) => Ok(Some(Request::Write {
+            block,
+            content: None,
+            store,
+        })),
+        None => read_step(alloc, config, step),
     }
-    read_step(alloc, config, step)
+}
+
+// The block and the store of a write of synchronized RAM, which no step names.
+fn stored_write(step: &str) -> Option<(u16, u64)> {
+    let mut words = Words::of(step);
+    if !words.passes("writeram ") {
+        return None;
+    }
+    let block = words.block();
+    if !words.passes("store ") {
+        return None;
+    }
+    Some((block, words.number()))
 }
 
 // The request of a step, which is read as the second line of a script.
-fn read_step(alloc: Global, config: &Config, step: &[u8]) -> Result<Request, Unread> {
-    let mut text = Vec::new(alloc);
-    text.extend_from_slice(b"\n")?;
-    text.extend_from_slice(step)?;
-    if text.len() >= u32::MAX as usize {
-        return Err(Unread::NoHistory);
+fn read_step(alloc: Global, config: &Config, step: &str) -> Result<Option<Request>, AllocError> {
+    let script = format!(in alloc; "\n{step}")?;
+    let script = script.as_bytes();
+    if script.len() >= u32::MAX as usize {
+        return Ok(None);
     }
-    let steps = match read_script(alloc, &text, config, Mode::Play) {
-        Ok(steps) => steps,
-        Err(ScriptFault::Line { .. }) => return Err(Unread::NoHistory),
-        Err(ScriptFault::Memory) => return Err(Unread::Memory),
+    match read_script(alloc, script, config, Mode::Play) {
+        Ok(steps) => first_request(&steps),
+        Err(ScriptFault::Line { .. }) => Ok(None),
+        Err(ScriptFault::Memory) => Err(AllocError),
+    }
+}
+
+fn first_request(steps: &StepList) -> Result<Option<Request>, AllocError> {
+    let Some(step) = steps.get(0) else {
+        return Ok(None);
     };
-    match steps.get(0) {
-        Some(step) => match &step.kind {
-            StepKind::Ask(request) => Ok(request.clone()?),
-            _ => Err(Unread::NoHistory),
-        },
-        None => Err(Unread::NoHistory),
+    match &step.kind {
+        StepKind::Ask(request) => Ok(Some(request.clone()?)),
+        _ => Ok(None),
     }
 }

@@ -1,43 +1,40 @@
 // Refusals and results by their numbers.
-use crate::unread::Unread;
 use nv_base::{Refusal, ReqResult};
 
-/// The refusal with a number, from 1.
-pub fn refusal_of(number: u64) -> Result<Refusal, Unread> {
+/// The refusal with a number, from 1; of a number that none has, the first one.
+pub fn refusal_of(number: u64) -> Refusal {
     match number {
-        1 => Ok(Refusal::UnknownBlock),
-        2 => Ok(Refusal::NotStarted),
-        3 => Ok(Refusal::WrongType),
-        4 => Ok(Refusal::BadIndex),
-        5 => Ok(Refusal::BadLength),
-        6 => Ok(Refusal::NoRam),
-        7 => Ok(Refusal::NoDefaults),
-        8 => Ok(Refusal::NotImmediate),
-        9 => Ok(Refusal::WriteOnce),
-        10 => Ok(Refusal::MultiPending),
-        11 => Ok(Refusal::Pending),
-        12 => Ok(Refusal::Locked),
-        13 => Ok(Refusal::Protected),
-        14 => Ok(Refusal::RomIndex),
-        15 => Ok(Refusal::NothingToCancel),
-        16 => Ok(Refusal::QueueFull),
-        17 => Ok(Refusal::HistoryFull),
-        _ => Err(Unread::NoHistory),
+        2 => Refusal::NotStarted,
+        3 => Refusal::WrongType,
+        4 => Refusal::BadIndex,
+        5 => Refusal::BadLength,
+        6 => Refusal::NoRam,
+        7 => Refusal::NoDefaults,
+        8 => Refusal::NotImmediate,
+        9 => Refusal::WriteOnce,
+        10 => Refusal::MultiPending,
+        11 => Refusal::Pending,
+        12 => Refusal::Locked,
+        13 => Refusal::Protected,
+        14 => Refusal::RomIndex,
+        15 => Refusal::NothingToCancel,
+        16 => Refusal::QueueFull,
+        17 => Refusal::HistoryFull,
+        _ => Refusal::UnknownBlock,
     }
 }
 
-/// The result with a number.
-pub fn result_of(number: u64) -> Result<ReqResult, Unread> {
+/// The result with a number; of a number that none has, the first one.
+pub fn result_of(number: u64) -> ReqResult {
     match number {
-        0 => Ok(ReqResult::Fine),
-        1 => Ok(ReqResult::NotOk),
-        2 => Ok(ReqResult::Pending),
-        3 => Ok(ReqResult::IntegrityFailed),
-        4 => Ok(ReqResult::BlockSkipped),
-        5 => Ok(ReqResult::Invalidated),
-        6 => Ok(ReqResult::Canceled),
-        7 => Ok(ReqResult::RedundancyFailed),
-        8 => Ok(ReqResult::Restored),
-        _ => Err(Unread::NoHistory),
+        1 => ReqResult::NotOk,
+        2 => ReqResult::Pending,
+        3 => ReqResult::IntegrityFailed,
+        4 => ReqResult::BlockSkipped,
+        5 => ReqResult::Invalidated,
+        6 => ReqResult::Canceled,
+        7 => ReqResult::RedundancyFailed,
+        8 => ReqResult::Restored,
+        _ => ReqResult::Fine,
     }
 }

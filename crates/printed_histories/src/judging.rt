@@ -26,54 +26,86 @@ pub fn judge(
     further: &[u8],
     tally: &mut Tally,
 ) -> Result<Vec<Wrong>, Unread> {
-    let config = match read(alloc, configuration) {
-        Ok(config) => config,
-        Err(ConfigFault::Broken { .. }) => return Err(Unread::NoHistory),
-        Err(ConfigFault::Memory) => return Err(Unread::Memory),
-    };
+    let config = config_of(alloc, configuration)?;
     let history = whole_history(alloc, &config, run)?;
-    let further = whole_history(alloc, &config, further)?;
-    let Some(Entry::Found { marks, .. }) = further.entry(0) else {
-        return Err(Unread::NoHistory);
-    };
-    tally.add_run();
-    let mut wrong = judge_history(alloc, &config, &history, tally)?;
-    let count = history.len();
-    if count > 0 {
-        judge_marks(&config, &history, count, marks, tally, &mut wrong)?;
+    judge_run(alloc, &config, &history, further, tally)
+}
+
+fn config_of(alloc: Global, configuration: &[u8]) -> Result<Config, Unread> {
+    match read(alloc, configuration) {
+        Ok(config) => Ok(config),
+        Err(ConfigFault::Broken { .. }) => Err(Unread::NoHistory),
+        Err(ConfigFault::Memory) => Err(Unread::Memory),
     }
-    Ok(wrong)
+}
+
+// Judges a run by its history, and by what a further call printed.
+fn judge_run(
+    alloc: Global,
+    config: &Config,
+    history: &History,
+    further: &[u8],
+    tally: &mut Tally,
+) -> Result<Vec<Wrong>, Unread> {
+    let further = whole_history(alloc, config, further)?;
+    match further.entry(0) {
+        Some(Entry::Found { marks, .. }) => {
+            tally.add_run();
+            Ok(judge_all(alloc, config, history, marks, tally)?)
+        }
+        _ => Err(Unread::NoHistory),
+    }
 }
 
 // The history that a call of `play` printed, with the last line of its end or of a fault of the flash.
 fn whole_history(alloc: Global, config: &Config, output: &[u8]) -> Result<History, Unread> {
     let printed = read_history(alloc, config, output)?;
-    let last = &output[printed.length..];
-    let end = end_text(alloc, printed.history.len())?;
-    if end.as_slice() == last || last == b"flash fault\n".as_slice() {
+    if is_last_line(alloc, &output[printed.length..], printed.history.len())? {
         return Ok(printed.history);
     }
     Err(Unread::NoHistory)
 }
 
-// Counts the cuts of a history, and judges each start-up behind the first one.
-fn judge_history(
+// Whether a text is the last line behind so many entries.
+fn is_last_line(alloc: Global, text: &[u8], count: u32) -> Result<bool, AllocError> {
+    let end = end_text(alloc, count)?;
+    Ok(end.as_slice() == text || text == b"flash fault\n".as_slice())
+}
+
+// Judges each start-up of a history behind the first one, and one behind all of it that found these marks.
+fn judge_all(
     alloc: Global,
     config: &Config,
     history: &History,
+    marks: &Marks,
     tally: &mut Tally,
 ) -> Result<Vec<Wrong>, AllocError> {
     let mut wrong = Vec::new(alloc);
+    judge_history(config, history, tally, &mut wrong)?;
+    let count = history.len();
+    if count > 0 {
+        judge_marks(config, history, count, marks, tally, &mut wrong)?;
+    }
+    Ok(wrong)
+}
+
+// Counts the cuts of a history, and judges each start-up behind the first one.
+fn judge_history(
+    config: &Config,
+    history: &History,
+    tally: &mut Tally,
+    wrong: &mut Vec<Wrong>,
+) -> Result<(), AllocError> {
     for place in 1..history.len() {
         match history.entry(place) {
             Some(Entry::Off { .. }) => tally.add_cut(),
             Some(Entry::Found { marks, .. }) => {
-                judge_marks(config, history, place, marks, tally, &mut wrong)?;
+                judge_marks(config, history, place, marks, tally, wrong)?;
             }
             _ => {}
         }
     }
-    Ok(wrong)
+    Ok(())
 }
 
 // Judges a start-up that found these marks behind the first entries of a history.

@@ -1,67 +1,91 @@
 // The marks of a line.
-ghost use Rattle.std.specs.Prelude.{◌≤◌, IfOk};
+ghost use Rattle.std.specs.Prelude.{◌≤◌, IfOk, IfSome};
 ghost use Rattle.nv_base.specs.Marks.{next_or};
 
-use crate::unread::Unread;
-use crate::words::{Words, number_of};
+use crate::words::Words;
 use block_config::read_content;
-use nv_base::{Bytes, Instance, Mark, Marks};
-use std::alloc::{AllocFailed, Global};
+use nv_base::{Bytes, Entry, Instance, Mark, Marks};
+use std::alloc::{AllocError, Global};
 
-/// The content that a text is.
-pub fn content_of(alloc: Global, text: &[u8]) -> Result<Bytes, Unread> {
-    read_content(alloc, text)?.ok_or(Unread::NoHistory)
+/// A mark that the device stored.
+pub fn read_wrote(alloc: Global, words: Words<'_>) -> Result<Option<Entry>, AllocError> {
+    let mut words = words;
+    let instance = instance_of(words.next());
+    let mark = read_mark(alloc, &mut words)?;
+    Ok(Some(Entry::Wrote {
+        instance,
+        mark,
+        ops: words.ops(),
+    }))
 }
 
-/// The instance that the next word is.
-pub fn read_instance(words: &mut Words<'_>) -> Result<Instance, Unread> {
-    let word = words.next();
-    let at = word
-        .iter()
-        .position(|byte| *byte == b'.')
-        .ok_or(Unread::NoHistory)?;
-    let block = number_of(&word[..at])?;
-    let index = number_of(&word[at + 1..])?;
-    Ok(Instance {
-        block: u16::try_from(block).map_err(|_| Unread::NoHistory)?,
-        index: u8::try_from(index).map_err(|_| Unread::NoHistory)?,
-    })
+/// The marks that a start-up found.
+pub fn read_found(alloc: Global, words: Words<'_>) -> Result<Option<Entry>, AllocError> {
+    let mut words = words;
+    let count = words.number();
+    let marks = read_marks(alloc, &mut words, count)?;
+    Ok(Some(Entry::Found {
+        marks,
+        ops: words.ops(),
+    }))
 }
 
-/// The mark that the next words are.
-pub fn read_mark(alloc: Global, words: &mut Words<'_>) -> Result<Mark, Unread> {
-    match words.next() {
-        b"data" => Ok(Mark::Content(content_of(alloc, words.next())?)),
-        b"invalid" => Ok(Mark::Invalid),
-        b"erased" => Ok(Mark::Erased),
-        _ => Err(Unread::NoHistory),
+/// The content that a text is; of a text that is none, no bytes.
+pub fn content_of(alloc: Global, text: &str) -> Result<Bytes, AllocError> {
+    match read_content(alloc, text.as_bytes())? {
+        Some(bytes) => Ok(bytes),
+        None => Bytes::zeros(alloc, 0),
     }
 }
 
-/// So many marks of instances, which ascend.
-pub fn read_marks(alloc: Global, words: &mut Words<'_>, count: u64) -> Result<Marks, Unread> {
+// The instance that a word is.
+fn instance_of(word: &str) -> Instance {
+    let (block, index) = word.split_once('.').unwrap_or((word, ""));
+    Instance {
+        block: block.parse::<u16>().unwrap_or(0),
+        index: index.parse::<u8>().unwrap_or(0),
+    }
+}
+
+// The mark that the next words are.
+fn read_mark(alloc: Global, words: &mut Words<'_>) -> Result<Mark, AllocError> {
+    match words.next() {
+        "data" => Ok(Mark::Content(content_of(alloc, words.next())?)),
+        "invalid" => Ok(Mark::Invalid),
+        _ => Ok(Mark::Erased),
+    }
+}
+
+// So many marks of instances, as far as they ascend and can be listed.
+fn read_marks(alloc: Global, words: &mut Words<'_>, count: u64) -> Result<Marks, AllocError> {
     let mut marks = Marks::new(alloc);
     let mut least: u32 = 0;
     for _ in 0..count {
-        let instance = read_instance(words)?;
+        let instance = instance_of(words.next());
         let mark = read_mark(alloc, words)?;
-        least = add_mark(&mut marks, least, instance, mark)?;
+        match add_mark(&mut marks, least, instance, mark)? {
+            Some(next) => least = next,
+            None => break,
+        }
     }
     Ok(marks)
 }
 
 // Adds the mark of an instance whose number isn't below the least, and gives the next least number.
 #[tactic(auto, using(crate::proofs::Ascending::next_behind))]
-fn add_mark(marks: &mut Marks, least: u32, instance: Instance, mark: Mark) -> Result<u32, Unread>
+fn add_mark(
+    marks: &mut Marks,
+    least: u32,
+    instance: Instance,
+    mark: Mark,
+) -> Result<Option<u32>, AllocError>
     requires { next_or 0 marks.old ≤ least }
-    ensures { IfOk result (λ next. next_or 0 marks.new ≤ next) }
+    ensures { IfOk result (λ r. IfSome r (λ next. next_or 0 marks.new ≤ next)) }
 {
     let number = u32::from(instance.block) * 64 + u32::from(instance.index);
     if instance.block > 1023 || instance.index > 63 || !mark.is_stored() || number < least {
-        return Err(Unread::NoHistory);
+        return Ok(None);
     }
-    match marks.add(instance, mark) {
-        Ok(()) => Ok(number + 1),
-        Err(AllocFailed { .. }) => Err(Unread::Memory),
-    }
+    marks.add(instance, mark)?;
+    Ok(Some(number + 1))
 }

@@ -1,64 +1,58 @@
 // The words of a line.
-use crate::unread::Unread;
-use std::str::from_utf8;
 
-/// The words of a line, parted by one space.
+/// The words of a line, parted by one space. What isn't there is an empty word, and what is no number reads as 0: whether
+/// the line is that of an entry that was read so is tested at the end.
 #[derive(Clone, Copy)]
 pub struct Words<'a> {
-    rest: &'a [u8],
+    rest: &'a str,
 }
 
 impl<'a> Words<'a> {
-    pub fn of(line: &'a [u8]) -> Words<'a> {
+    pub fn of(line: &'a str) -> Words<'a> {
         Words { rest: line }
     }
 
     /// The next word; behind the last one an empty word.
-    pub fn next(&mut self) -> &'a [u8] {
-        let rest = self.rest;
-        match rest.iter().position(|byte| *byte == b' ') {
-            Some(at) => {
-                self.rest = &rest[at + 1..];
-                &rest[..at]
-            }
-            None => {
-                self.rest = &rest[rest.len()..];
-                rest
-            }
-        }
+    pub fn next(&mut self) -> &'a str {
+        let (word, rest) = self.rest.split_once(' ').unwrap_or((self.rest, ""));
+        self.rest = rest;
+        word
     }
 
     /// What stands behind the words so far.
-    pub fn rest(&self) -> &'a [u8] {
+    pub fn rest(&self) -> &'a str {
         self.rest
     }
 
+    /// Goes behind a beginning, and tells whether it stood there.
+    pub fn passes(&mut self, beginning: &str) -> bool {
+        match self.rest.strip_prefix(beginning) {
+            Some(rest) => {
+                self.rest = rest;
+                true
+            }
+            None => false,
+        }
+    }
+
     /// The number that the next word is.
-    pub fn number(&mut self) -> Result<u64, Unread> {
-        number_of(self.next())
+    pub fn number(&mut self) -> u64 {
+        self.next().parse::<u64>().unwrap_or(0)
     }
 
     /// The block that the next word is.
-    pub fn block(&mut self) -> Result<u16, Unread> {
-        u16::try_from(self.number()?).map_err(|_| Unread::NoHistory)
+    pub fn block(&mut self) -> u16 {
+        self.next().parse::<u16>().unwrap_or(0)
     }
 
     /// The small number that the next word is.
-    pub fn small(&mut self) -> Result<u8, Unread> {
-        u8::try_from(self.number()?).map_err(|_| Unread::NoHistory)
+    pub fn small(&mut self) -> u8 {
+        self.next().parse::<u8>().unwrap_or(0)
     }
 
-    /// The number of operations that is the end of a driver's line.
-    pub fn ops(&mut self) -> Result<u64, Unread> {
-        match self.next() {
-            b"ops" => self.number(),
-            _ => Err(Unread::NoHistory),
-        }
+    /// The number of operations that is the end of a driver's line, behind its word.
+    pub fn ops(&mut self) -> u64 {
+        self.next();
+        self.number()
     }
-}
-
-/// The number that a text is.
-pub fn number_of(text: &[u8]) -> Result<u64, Unread> {
-    let text = from_utf8(text).map_err(|_| Unread::NoHistory)?;
-    text.parse::<u64>().map_err(|_| Unread::NoHistory)
 }
