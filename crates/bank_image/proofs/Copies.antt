@@ -3,26 +3,25 @@ use Rattle.std.specs.Prelude.{◌==◌, ◌&&◌, ◌||◌, not, if◌then◌els
 use Rattle.std.proofs.Common.{◌≡◌, inl, inr, ◌<◌, ◌≤◌, ℕ, zero, suc, ◌+◌, Bool, true, false, IsTrue, List, [], ◌∷◌, length, map, Option, Some, None, refl, sym, ap, ◌∙◌, subst, arith, eq-eqb}
 use Rattle.std.proofs.lemmas.Bool.{cases_eq, cases_Bool, false≢true, ne_eqb}
 use Rattle.std.proofs.lemmas.Bool.Decides.{nat_tests}
-use Rattle.nv_base.specs.declared.mark.Mark.{Mark}
-use Rattle.nv_base.specs.declared.mark.Mark.TheVariants.{Content, Invalid, Erased}
 use Rattle.nv_base.specs.Pages.{record_pages_of}
 use Rattle.fee_format.specs.declared.rec_head.RecHead.{RecHead}
 use Rattle.fee_image.specs.Found.{fits}
-use Rattle.log_image.specs.May.{IsAmong, IsWider, mark_written}
-use Rattle.bank_image.specs.Copies.{Flag, is_erased, is_done, by_flag, copied_of, cleared, marked, Each, DoneIsWhole, ClearMayBeErased, ClearingWidens, SettlingWidens, Copies, MarkingHolds, need, AreFlags, IsClearOf, AppendsKeepRoom, CopiesHaveRoom}
+use Rattle.nv_base.specs.Held.{Held, never_written}
+use Rattle.log_image.specs.May.{IsAmong, IsWider, held_written}
+use Rattle.bank_image.specs.Copies.{Flag, is_done, shown_by, by_flag, copied_of, cleared, marked, Each, DoneIsWhole, ClearMayBeErased, ClearingWidens, SettlingWidens, Copies, MarkingHolds, need, AreFlags, IsClearOf, AppendsKeepRoom, CopiesHaveRoom}
 
 -- the target shows of a number
-abbrev shown : Bool → Mark → Option (List Mark)
+abbrev shown : Bool → Held → Option (List Held)
 shown d m = if d then Some (m ∷ []) else None
 
 -- FACTS OF FLAGS
-pick : (c : Bool) (x y u v : Option (List Mark)) (n : Mark) → (IsAmong x n → IsAmong u n) → (IsAmong y n → IsAmong v n) → IsAmong (if c then x else y) n → IsAmong (if c then u else v) n
+pick : (c : Bool) (x y u v : Option (List Held)) (n : Held) → (IsAmong x n → IsAmong u n) → (IsAmong y n → IsAmong v n) → IsAmong (if c then x else y) n → IsAmong (if c then u else v) n
 pick true x y u v n this rest among = this among
 pick false x y u v n this rest among = rest among
 
 -- a change of each flag that keeps its number and length
-module _ (P Q : Flag → Option (List Mark)) (u : Flag → Flag) (keeps : (f : Flag) → ((u f).number ≡ f.number) × ((u f).length ≡ f.length)) where
-  more : (fs : List Flag) → Each (λ f. (m : Mark) → IsAmong (P f) m → IsAmong (Q (u f)) m) fs → IsWider (by_flag P fs) (by_flag Q (map u fs))
+module _ (P Q : Flag → Option (List Held)) (u : Flag → Flag) (keeps : (f : Flag) → ((u f).number ≡ f.number) × ((u f).length ≡ f.length)) where
+  more : (fs : List Flag) → Each (λ f. (m : Held) → IsAmong (P f) m → IsAmong (Q (u f)) m) fs → IsWider (by_flag P fs) (by_flag Q (map u fs))
   more [] all number length m among = tt
   more (f ∷ fs) all number length m among =
       let same : (((u f).number == number) && ((u f).length == length)) ≡ ((f.number == number) && (f.length == length)) = λ i. ((keeps f).0 i == number) && ((keeps f).1 i == length) in
@@ -42,67 +41,61 @@ map_id [] = refl
 map_id (f ∷ fs) = ap (λ (l : List Flag). f ∷ l) (map_id fs)
 
 -- a mark shown alone is the settled one
-shown_settled : (d : Bool) (m : Mark) (doubts : List Mark) (n : Mark) → IsTrue d → IsAmong (shown d m) n → IsAmong (Some (m ∷ doubts)) n
+shown_settled : (d : Bool) (m : Held) (doubts : List Held) (n : Held) → IsTrue d → IsAmong (shown d m) n → IsAmong (Some (m ∷ doubts)) n
 shown_settled false m doubts n is among = absurd (false≢true is)
 shown_settled true m doubts n is (zero, lt, e) = (0, (let l : 0 < suc (length doubts) = omega arith in l), e)
 shown_settled true m doubts n is (suc j, lt, e) = absurd (omega arith)
 
 pub done_is_whole : DoneIsWhole
 done_is_whole fs doubts all =
-    let P : Flag → Option (List Mark) = λ f. shown (is_done f) f.settled in
-    let Q : Flag → Option (List Mark) = λ f. Some (f.settled ∷ doubts f.number) in
+    let P : Flag → Option (List Held) = λ f. shown (is_done f) (shown_by f) in
+    let Q : Flag → Option (List Held) = λ f. Some (shown_by f ∷ doubts f.number) in
     subst (λ (l : List Flag). IsWider (by_flag P fs) (by_flag Q l)) (map_id fs)
-    (more P Q (λ f. f) (λ f. (refl, refl)) fs (each_map (λ f. IsTrue (is_done f)) (λ f. (m : Mark) → IsAmong (P f) m → IsAmong (Q f) m) (λ f is n among. shown_settled (is_done f) f.settled (doubts f.number) n is among) fs all))
+    (more P Q (λ f. f) (λ f. (refl, refl)) fs (each_map (λ f. IsTrue (is_done f)) (λ f. (m : Held) → IsAmong (P f) m → IsAmong (Q f) m) (λ f is n among. shown_settled (is_done f) (shown_by f) (doubts f.number) n is among) fs all))
 
-clear_one : (c d : Bool) (m : Mark) (rest : Option (List Mark)) → d ≡ false → IsAmong rest Erased → IsAmong (if c then shown (d || is_erased m) m else rest) Erased
-clear_one false d m rest clear is = is
-clear_one true true m rest clear is = absurd (false≢true (sym clear))
-clear_one true false (Content bytes) rest clear is = tt
-clear_one true false Invalid rest clear is = tt
-clear_one true false Erased rest clear is = (0, (let l : 0 < 1 = omega arith in l), refl)
+clear_one : (c d w : Bool) (m : Held) (rest : Option (List Held)) → d ≡ false → IsAmong rest never_written → IsAmong (if c then shown (d || not w) (if w then m else never_written) else rest) never_written
+clear_one false d w m rest clear is = is
+clear_one true true w m rest clear is = absurd (false≢true (sym clear))
+clear_one true false true m rest clear is = tt
+clear_one true false false m rest clear is = (0, (let l : 0 < 1 = omega arith in l), refl)
 
 pub clear_may_be_erased : ClearMayBeErased
 clear_may_be_erased [] all number length = tt
-clear_may_be_erased (f ∷ fs) all number length = clear_one ((f.number == number) && (f.length == length)) f.copied f.settled (copied_of fs number length) all.0 (clear_may_be_erased fs all.1 number length)
+clear_may_be_erased (f ∷ fs) all number length = clear_one ((f.number == number) && (f.length == length)) f.copied f.written f.settled (copied_of fs number length) all.0 (clear_may_be_erased fs all.1 number length)
 
 -- CHANGES
 keeps_cleared : (number : ℕ) (f : Flag) (b : Bool) → ((if b then record f { copied = false } else f).number ≡ f.number) × ((if b then record f { copied = false } else f).length ≡ f.length)
 keeps_cleared number f true = (refl, refl)
 keeps_cleared number f false = (refl, refl)
 
-fewer : (c : Bool) (m n : Mark) → IsAmong (shown (c || is_erased m) m) n → IsAmong (shown (is_erased m) m) n
-fewer c (Content bytes) n among = tt
-fewer c Invalid n among = tt
-fewer true Erased n among = among
-fewer false Erased n among = among
+fewer : (c w : Bool) (m n : Held) → IsAmong (shown (c || not w) m) n → IsAmong (shown (not w) m) n
+fewer c true m n among = tt
+fewer true false m n among = among
+fewer false false m n among = among
 
-clears : (f : Flag) (b : Bool) (n : Mark) → IsAmong (shown (is_done f) f.settled) n → IsAmong (shown (is_done (if b then record f { copied = false } else f)) (if b then record f { copied = false } else f).settled) n
-clears f true n among = fewer f.copied f.settled n among
+clears : (f : Flag) (b : Bool) (n : Held) → IsAmong (shown (is_done f) (shown_by f)) n
+    → IsAmong (shown (is_done (if b then record f { copied = false } else f)) (shown_by (if b then record f { copied = false } else f))) n
+clears f true n among = fewer f.copied f.written (shown_by f) n among
 clears f false n among = among
 
 pub clearing_widens : ClearingWidens
 clearing_widens fs number =
-    let P : Flag → Option (List Mark) = λ f. shown (is_done f) f.settled in
+    let P : Flag → Option (List Held) = λ f. shown (is_done f) (shown_by f) in
     more P P (λ f. if f.number == number then record f { copied = false } else f) (λ f. keeps_cleared number f (f.number == number)) fs
     (each_of _ (λ f n among. clears f (f.number == number) n among) fs)
 
-keeps_settled : (m : Mark) (f : Flag) (b : Bool) → ((if b then record f { settled = m } else f).number ≡ f.number) × ((if b then record f { settled = m } else f).length ≡ f.length)
+keeps_settled : (m : Held) (f : Flag) (b : Bool) → ((if b then record f { written = true; settled = m } else f).number ≡ f.number) × ((if b then record f { written = true; settled = m } else f).length ≡ f.length)
 keeps_settled m f true = (refl, refl)
 keeps_settled m f false = (refl, refl)
 
-not_shown : (m n : Mark) → IsTrue (not (is_erased m)) → IsAmong (shown (is_erased m) m) n
-not_shown (Content bytes) n live = tt
-not_shown Invalid n live = tt
-not_shown Erased n live = absurd (false≢true live)
+unshown : (c : Bool) (m n : Held) → c ≡ false → IsAmong (shown (c || false) m) n
+unshown true m n clear = absurd (false≢true (sym clear))
+unshown false m n clear = tt
 
-unshown : (c : Bool) (m n : Mark) → c ≡ false → IsTrue (not (is_erased m)) → IsAmong (shown (c || is_erased m) m) n
-unshown true m n clear live = absurd (false≢true (sym clear))
-unshown false m n clear live = not_shown m n live
-
-settles : (f : Flag) (m : Mark) (b : Bool) (n : Mark) → (IsTrue b → f.copied ≡ false) → IsTrue (not (is_erased m)) → IsAmong (shown (is_done f) f.settled) n
-    → IsAmong (shown (is_done (if b then record f { settled = m } else f)) (if b then record f { settled = m } else f).settled) n
-settles f m true n clear live among = unshown f.copied m n (clear refl) live
-settles f m false n clear live among = among
+settles : (f : Flag) (m : Held) (b : Bool) (n : Held) → (IsTrue b → f.copied ≡ false) → IsAmong (shown (is_done f) (shown_by f)) n
+    → IsAmong (shown (is_done (if b then record f { written = true; settled = m } else f)) (shown_by (if b then record f { written = true; settled = m } else f))) n
+settles f m true n clear among = unshown f.copied m n (clear refl)
+settles f m false n clear among = among
 
 clear_of : (number : ℕ) (f : Flag) (b : Bool) → (f.number == number) ≡ b → IsTrue ((if b then record f { copied = false } else f).number == number) → (if b then record f { copied = false } else f).copied ≡ false
 clear_of number f true is same = refl
@@ -113,10 +106,10 @@ cleared_each number [] = tt
 cleared_each number (f ∷ fs) = (clear_of number f (f.number == number) refl, cleared_each number fs)
 
 pub settling_widens : SettlingWidens
-settling_widens fs number m live =
-    let P : Flag → Option (List Mark) = λ f. shown (is_done f) f.settled in
-    more P P (λ f. if f.number == number then record f { settled = m } else f) (λ f. keeps_settled m f (f.number == number)) (cleared number fs)
-    (each_map _ _ (λ f clear n among. settles f m (f.number == number) n clear live among) (cleared number fs) (cleared_each number fs))
+settling_widens fs number m =
+    let P : Flag → Option (List Held) = λ f. shown (is_done f) (shown_by f) in
+    more P P (λ f. if f.number == number then record f { written = true; settled = m } else f) (λ f. keeps_settled m f (f.number == number)) (cleared number fs)
+    (each_map _ _ (λ f clear n among. settles f m (f.number == number) n clear among) (cleared number fs) (cleared_each number fs))
 
 -- A COPY IS COMMITTED
 same_entry : (f : Flag) (a l : ℕ) → ((f.number == a) && (f.length == l)) ≡ true → (f.number ≡ a) × (f.length ≡ l)
@@ -130,14 +123,14 @@ keeps_marked f true = (refl, refl)
 keeps_marked f false = (refl, refl)
 
 -- of the number's own flag
-marks : (f : Flag) (h : RecHead) (body : List ℕ) (b : Bool) (n : Mark) → (f.number == h.number) ≡ b → Copies h body f
-    → IsAmong (if fits f.number f.length h then Some (mark_written h body ∷ []) else shown (is_done f) f.settled) n
-    → IsAmong (shown (is_done (if b then record f { copied = true } else f)) (if b then record f { copied = true } else f).settled) n
+marks : (f : Flag) (h : RecHead) (body : List ℕ) (b : Bool) (n : Held) → (f.number == h.number) ≡ b → Copies h body f
+    → IsAmong (if fits f.number f.length h then Some (held_written h body ∷ []) else shown (is_done f) (shown_by f)) n
+    → IsAmong (shown (is_done (if b then record f { copied = true } else f)) (shown_by (if b then record f { copied = true } else f))) n
 marks f h body true n is copies among =
     let both = copies is in
-    let here : IsAmong (Some (mark_written h body ∷ [])) n = subst (λ (c : Bool). IsAmong (if c then Some (mark_written h body ∷ []) else shown (is_done f) f.settled) n) both.0 among in
-    subst (λ (m : Mark). IsAmong (Some (m ∷ [])) n) (sym both.1) here
-marks f h body false n is copies among = subst (λ (c : Bool). IsAmong (if c then Some (mark_written h body ∷ []) else shown (is_done f) f.settled) n) (other_number f h is) among
+    let here : IsAmong (Some (held_written h body ∷ [])) n = subst (λ (c : Bool). IsAmong (if c then Some (held_written h body ∷ []) else shown (is_done f) (shown_by f)) n) both.0 among in
+    rw both.1 (subst (λ (m : Held). IsAmong (Some (m ∷ [])) n) (sym both.2) here)
+marks f h body false n is copies among = subst (λ (c : Bool). IsAmong (if c then Some (held_written h body ∷ []) else shown (is_done f) (shown_by f)) n) (other_number f h is) among
 
 pub marking_holds : MarkingHolds
 marking_holds [] h body all number length n among = tt
@@ -147,14 +140,14 @@ marking_holds (f ∷ fs) h body all number length n among =
     let c = (f.number == number) && (f.length == length) in
     let keeps = keeps_marked f b in
     let same : ((g.number == number) && (g.length == length)) ≡ c = λ i. (keeps.0 i == number) && (keeps.1 i == length) in
-    let Goal : Bool → Type 0 = λ (d : Bool). IsAmong (if d then shown (is_done g) g.settled else copied_of (marked h.number fs) number length) n in
-    let Given : Bool → Type 0 = λ (d : Bool). IsAmong (if fits number length h then Some (mark_written h body ∷ []) else (if d then shown (is_done f) f.settled else copied_of fs number length)) n in
+    let Goal : Bool → Type 0 = λ (d : Bool). IsAmong (if d then shown (is_done g) (shown_by g) else copied_of (marked h.number fs) number length) n in
+    let Given : Bool → Type 0 = λ (d : Bool). IsAmong (if fits number length h then Some (held_written h body ∷ []) else (if d then shown (is_done f) (shown_by f) else copied_of fs number length)) n in
     subst Goal (sym same) (elim (cases_Bool c) [
       | inl t ↦
           let at = same_entry f number length t in
           subst Goal (sym t) (marks f h body b n refl all.0
-          (subst (λ (a : ℕ). IsAmong (if fits a f.length h then Some (mark_written h body ∷ []) else shown (is_done f) f.settled) n) (sym at.0)
-          (subst (λ (x : ℕ). IsAmong (if fits number x h then Some (mark_written h body ∷ []) else shown (is_done f) f.settled) n) (sym at.1) (subst Given t among))))
+          (subst (λ (a : ℕ). IsAmong (if fits a f.length h then Some (held_written h body ∷ []) else shown (is_done f) (shown_by f)) n) (sym at.0)
+          (subst (λ (x : ℕ). IsAmong (if fits number x h then Some (held_written h body ∷ []) else shown (is_done f) (shown_by f)) n) (sym at.1) (subst Given t among))))
       | inr no_entry ↦ subst Goal (sym no_entry) (marking_holds fs h body all.1 number length n (subst Given no_entry among))
     ])
 

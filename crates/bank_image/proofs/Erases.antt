@@ -8,6 +8,7 @@ use Rattle.nv_base.specs.Geometry.{IsLegal, HasBanks, sectors_of_bank, pages_of_
 use Rattle.fls_model.specs.Bytes.{Grown}
 use Rattle.fls_model.specs.Op.{MayLeave}
 use Rattle.fee_format.specs.Pages.{blank_page}
+use Rattle.fee_format.specs.Formats.{new_format}
 use Rattle.fee_image.specs.Bank.{place_of_page}
 use Rattle.fee_image.specs.Image.{Layout, layout_of, bank_in, image_page}
 use Rattle.fee_image.specs.Laws.{TornErasesSetBits, TornErasesKeepSound, TornErasesMakeNoBank, PagesOutsideStay, OtherBanksStay, ErasedIsBlank, LayoutsAreLegal, SectorsLieInBanks, SectorsHavePages, SectorsFillBanks, place_of_sector}
@@ -71,7 +72,7 @@ module _ (set_bits : TornErasesSetBits) (keep_sound : TornErasesKeepSound) (no_b
   still_blank q below inside =
       let p = g.page in
       let at = sector_at fill g banks s.target sector legal shared in
-      let b = bank_in l 1 s.target in
+      let b = bank_in l new_format s.target in
       let le = mul-le-mul_right p (let t : suc (b.at + q) ≤ b.at + sector * pages_of_sector g = omega arith in t) in
       let one : suc (b.at + q) * p ≡ (b.at + q) * p + p = omega arith in
       beside_stay b old new (place_of_sector g banks s.target sector) g.sector q leaves.0 (inl (omega (arith, at, le, one))) ∙ was.1 q below inside
@@ -110,9 +111,9 @@ module _ (set_bits : TornErasesSetBits) (keep_sound : TornErasesKeepSound) (no_b
       erase_steps set_bits keep_sound no_bank beside_stay others_stay are_legal lie fill stay g banks numbers old new s sector legal shared holds is lt leaves ((sector + 1) * R) (λ q below all. elim (cases_lt q (sector * R)) [
         | inl earlier ↦ still q earlier all
         | inr here ↦
-            let pages = have g banks 1 s.target sector q legal shared here (omega (arith, next)) in
+            let pages = have g banks new_format s.target sector q legal shared here (omega (arith, next)) in
             subst (λ (x : List ℕ). image_page l x s.target q ≡ blank_page l.page) (sym done)
-            (erased (bank_in l 1 s.target) old a g.sector q (omega (arith, inside, within, holds.size)) pages.0 pages.1)
+            (erased (bank_in l new_format s.target) old a g.sector q (omega (arith, inside, within, holds.size)) pages.0 pages.1)
       ])
 
 -- COPIES BEGIN
@@ -127,6 +128,6 @@ copies_begin erased l numbers bytes s n legal holds is all give =
       behind = holds.behind;
       phase = record {
         first = λ q below inside. was.1 q (omega arith) inside;
-        holds = erased (bank_in l 1 s.target) numbers bytes s.copied legal.page legal.pages (λ q low inside. was.1 q (omega arith) inside) give;
+        holds = erased (bank_in l new_format s.target) numbers bytes s.copied legal.page legal.pages (λ q low inside. was.1 q (omega arith) inside) give;
       };
     }

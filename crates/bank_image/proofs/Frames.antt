@@ -3,6 +3,7 @@ use Rattle.std.proofs.Common.{◌≡◌, ◌<◌, ◌≤◌, ℕ, ◌*◌, List,
 use Rattle.nv_base.specs.declared.instance.DeviceNumber.{DeviceNumber}
 use Rattle.fls_model.specs.Op.{MayLeave}
 use Rattle.fee_format.specs.declared.bank_head.BankHead.{BankHead}
+use Rattle.fee_format.specs.Formats.{new_format}
 use Rattle.fee_image.specs.Image.{Layout, IsLegalLayout, bank_in, image_page, BankStands}
 use Rattle.fee_image.specs.Laws.{ProgramsTouchOnePage}
 use Rattle.log_image.specs.Laws.{LogsStay}
@@ -50,8 +51,8 @@ module _ (stay : LogsStay) (l : Layout) (numbers : List (DeviceNumber × ℕ)) (
   pub phase_stays : (s : Banks) (phase : Phase) → SamePages l old new s.target → HoldsPhase l numbers old s phase → HoldsPhase l numbers new s phase
   phase_stays s Idle same behind = behind_stays s.old s.target same behind
   phase_stays s (Erasing n) same (behind, blank) = (behind_stays s.old s.target same behind, λ q below lt. same q lt ∙ blank q below lt)
-  phase_stays s (Copying log) same c = record { first = λ q below lt. same q lt ∙ c.first q below lt; holds = log_stays 1 s.target s.copied log (λ q low lt. same q lt) c.holds }
-  phase_stays s (Sealing log) same c = record { last = c.last; head = same 0 (omega (arith, two)) ∙ c.head; holds = log_stays 1 s.target s.copied log (λ q low lt. same q lt) c.holds; whole = c.whole }
+  phase_stays s (Copying log) same c = record { first = λ q below lt. same q lt ∙ c.first q below lt; holds = log_stays new_format s.target s.copied log (λ q low lt. same q lt) c.holds }
+  phase_stays s (Sealing log) same c = record { last = c.last; head = same 0 (omega (arith, two)) ∙ c.head; holds = log_stays new_format s.target s.copied log (λ q low lt. same q lt) c.holds; whole = c.whole }
 
 -- PROGRAMS
 module _ (touch : ProgramsTouchOnePage) (l : Layout) (old new page : List ℕ) (k q : ℕ) (size : length page ≡ l.page) (lt : q < l.pages) (leaves : MayLeave (program_of l k q page) old new) where

@@ -1,4 +1,5 @@
 -- A page of an append, and of a copy.
+use Rattle.fee_format.specs.Formats.{new_format}
 use Rattle.fee_image.specs.Image.{bank_in}
 use Rattle.fee_image.specs.Laws.{ProgramsTouchTheirBank}
 use Rattle.log_image.specs.Laws.{FailedStepsHold, DoneStepsHold, NextIsFresh}
@@ -28,7 +29,7 @@ module _ (touch : ProgramsTouchTheirBank) (failed : FailedStepsHold) (done : Don
 
   pub copies_done : CopiesDone
   copies_done l numbers old new s log legal holds is due size leaves stands =
-      let b = bank_in l 1 s.target in
+      let b = bank_in l new_format s.target in
       let c = in_phase l numbers old s (Copying log) is holds in
       let at = next b numbers old s.copied log c.holds due in
       let touches = touch b old new (bytes_due l.page log) (page_due log) size leaves in

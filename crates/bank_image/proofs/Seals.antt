@@ -7,6 +7,7 @@ use Rattle.fee_format.specs.declared.bank_head.BankHead.{BankHead}
 use Rattle.fls_model.specs.Op.{MayLeave}
 use Rattle.fee_format.specs.BankHead.{bank_head_page}
 use Rattle.fee_format.specs.Pages.{gate_page, blank_page}
+use Rattle.fee_format.specs.Formats.{new_format}
 use Rattle.fee_image.specs.Sound.{IsSoundImage}
 use Rattle.fee_image.specs.Image.{Layout, IsLegalLayout, bank_in, image_page}
 use Rattle.fee_image.specs.Laws.{HeadsCompute, ProgramsTouchOnePage, ProgramsKeepSound}
@@ -109,11 +110,11 @@ module _ (touch : ProgramsTouchOnePage) (sound : ProgramsKeepSound) (stay : Logs
     λ i below inside. absurd (omega arith),
   )
 
-  pub goes_on : 2 ≤ q → (next : Log) (copied : May) → HoldsLog (bank_in l 1 s.target) numbers new copied next → Holds l numbers new (record s { phase = Copying next; copied = copied })
+  pub goes_on : 2 ≤ q → (next : Log) (copied : May) → HoldsLog (bank_in l new_format s.target) numbers new copied next → Holds l numbers new (record s { phase = Copying next; copied = copied })
   goes_on low next copied at = copy_steps (Copying next) copied (record { first = λ i below inside. same i inside (λ e. omega arith) ∙ c.first i below inside; holds = at })
 
-  pub log_same : q ≡ 0 → HoldsLog (bank_in l 1 s.target) numbers new s.copied log
-  log_same first = log_stays stay l numbers old new legal 1 s.target s.copied log (λ i low inside. same i inside (λ e. omega arith)) c.holds
+  pub log_same : q ≡ 0 → HoldsLog (bank_in l new_format s.target) numbers new s.copied log
+  log_same first = log_stays stay l numbers old new legal new_format s.target s.copied log (λ i low inside. same i inside (λ e. omega arith)) c.holds
 
 module _ (touch : ProgramsTouchOnePage) (sound : ProgramsKeepSound) (stay : LogsStay) where
   pub copies_go_on : CopiesGoOn
@@ -148,14 +149,14 @@ module _ (touch : ProgramsTouchOnePage) (sound : ProgramsKeepSound) (stay : Logs
       let long : length (image_page l old s.target 0) ≡ l.page = ap length head ∙ (let e : length (bank_head_page l.page (next_head s.old)) ≡ l.page = omega (arith, legal.page, length-replicate {A = ℕ} (l.page - 12) 255) in e) in
       record {
         size = omega (arith, holds.size, leaves.0.size);
-        sound = sound l old new page s.target 1 legal.pages size leaves lt (inr (inl (refl, inl (next_head s.old, record { legal = record { format = refl; generation = c.last }; page_is = head ∙ ap (λ (n : ℕ). bank_head_page n (next_head s.old)) (sym long) })))) holds.sound;
+        sound = sound l old new page s.target 1 legal.pages size leaves lt (inr (inl (refl, inl (next_head s.old, record { legal = record { format = inr refl; generation = c.last }; page_is = head ∙ ap (λ (n : ℕ). bank_head_page n (next_head s.old)) (sym long) })))) holds.sound;
         target = holds.target;
         old = old_stays stay l numbers old new legal s.target s.old s.may others holds.old;
         behind = λ j inside other. behind_stays stay l numbers old new legal s.old j (others j other) (holds.behind j inside other);
         phase = subst (HoldsPhase l numbers new s) (sym is) (record {
           last = c.last;
           head = same 0 (omega arith) (λ e. omega (arith, e)) ∙ c.head;
-          holds = log_stays stay l numbers old new legal 1 s.target s.copied log (λ i low inside. same i inside (λ e. omega (arith, e))) c.holds;
+          holds = log_stays stay l numbers old new legal new_format s.target s.copied log (λ i low inside. same i inside (λ e. omega (arith, e))) c.holds;
           whole = c.whole;
         });
       }

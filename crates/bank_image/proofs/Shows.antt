@@ -7,7 +7,7 @@ use Rattle.fee_format.specs.declared.bank_head.BankHead.{BankHead}
 use Rattle.fee_format.specs.Gate.{IsGate, is_gate}
 use Rattle.fee_format.specs.Laws.{GatesCompute}
 use Rattle.fee_format.specs.Pages.{gate_page, blank_page}
-use Rattle.fee_image.specs.Image.{Layout, IsLegalLayout, bank_in, image_page, BankStands, ComesFirst, IsActive, HasNoActive, found_mark, mark_of_bank}
+use Rattle.fee_image.specs.Image.{Layout, IsLegalLayout, bank_in, image_page, BankStands, ComesFirst, IsActive, HasNoActive, found_held, held_of_bank}
 use Rattle.fee_image.specs.Laws.{HeadsCompute, NoActiveComputes, FoundOfActive}
 use Rattle.log_image.specs.Log.{Log, HoldsLog}
 use Rattle.log_image.specs.May.{May, IsAmong}
@@ -24,7 +24,7 @@ copying_shut l numbers bytes t log copied h legal c stands = blank_shut l.page (
 
 -- where the gate of a sealed target is open, it is active
 pub sealed_stands : (l : Layout) (numbers : List (DeviceNumber × ℕ)) (bytes : List ℕ) (s : Banks) (log : Log) → IsSealing l numbers bytes s log → IsGate l.page (image_page l bytes s.target 1) → BankStands l bytes s.target (next_head s.old)
-sealed_stands l numbers bytes s log c gate = record { head = record { legal = record { format = refl; generation = c.last }; page_is = c.head }; gate = gate }
+sealed_stands l numbers bytes s log c gate = record { head = record { legal = record { format = inr refl; generation = c.last }; page_is = c.head }; gate = gate }
 
 newer : HeadsCompute → (l : Layout) (numbers : List (DeviceNumber × ℕ)) (bytes : List ℕ) (t j : ℕ) (o : Old) (may : May) (other : BankHead) → HoldsOld l numbers bytes t o may → IsBehind o j other → BankStands l bytes j other → ComesFirst t (next_head o) j other
 newer heads l numbers bytes t j NoBank may other holds behind stands = absurd behind
@@ -53,7 +53,7 @@ module _ (none_computes : NoActiveComputes) (of_active : FoundOfActive) (l : Lay
   shows_old : (t : ℕ) (o : Old) (may : May) → HoldsOld l numbers bytes t o may → ((j : ℕ) → j < l.banks → StandsBehind l bytes o j) → ImageShows l bytes may
   shows_old t NoBank may give behind =
       let none : HasNoActive l bytes = λ j other inside stands. behind j inside other stands in
-      λ number length. subst (IsAmong (may number length)) (sym (ap (mark_of_bank l bytes number length) ((none_computes l bytes).0 none))) (give number length)
+      λ number length. subst (IsAmong (may number length)) (sym (ap (held_of_bank l bytes number length) ((none_computes l bytes).0 none))) (give number length)
   shows_old t (OldBank k h log) may (apart, holds) behind =
       shows_active k h log may (record { bank = holds.bank; stands = holds.stands; first = λ j other inside ne stands. behind j inside other stands ne }) holds.holds
 
@@ -70,7 +70,7 @@ module _ (none_computes : NoActiveComputes) (of_active : FoundOfActive) (l : Lay
   by_phase gates heads s (Sealing log) legal holds c = elim (cases_Bool (is_gate l.page (image_page l bytes s.target 1))) [
     | inl t ↦
         let active = sealed_active heads l numbers bytes s log holds.target holds.old holds.behind c ((gates l.page (image_page l bytes s.target 1)).0 t) in
-        λ number length. c.whole number length (found_mark l bytes number length) (shows_active s.target (next_head s.old) log s.copied active c.holds number length)
+        λ number length. c.whole number length (found_held l bytes number length) (shows_active s.target (next_head s.old) log s.copied active c.holds number length)
     | inr shut ↦ with_target s holds (λ other stands. absurd (false≢true (sym shut ∙ (gates l.page (image_page l bytes s.target 1)).1 stands.gate)))
   ]
 

@@ -1,15 +1,14 @@
 -- How banks begin.
 use Rattle.std.proofs.Common.{◌≡◌, ◌<◌, suc, List, [], ◌∷◌, length, Some, refl, sym, ap, subst, arith}
-use Rattle.nv_base.specs.declared.mark.Mark.{Mark}
-use Rattle.nv_base.specs.declared.mark.Mark.TheVariants.{Erased}
-use Rattle.fee_image.specs.Image.{bank_in, found_mark, mark_of_bank}
+use Rattle.nv_base.specs.Held.{Held, never_written}
+use Rattle.fee_image.specs.Image.{bank_in, found_held, held_of_bank}
 use Rattle.fee_image.specs.Laws.{ActiveComputes, NoActiveComputes, FoundOfActive}
 use Rattle.log_image.specs.Laws.{LoadedLogsHold, LogsWiden}
 use Rattle.log_image.specs.May.{IsAmong, exactly}
 use Rattle.bank_image.specs.Laws.{found_alone, BanksLoad, NoBankLoads}
 
-pub first_among : (m n : Mark) (marks : List Mark) → m ≡ n → IsAmong (Some (n ∷ marks)) m
-first_among m n marks is = subst (λ (x : Mark). IsAmong (Some (x ∷ marks)) m) is (0, (let lt : 0 < suc (length marks) = omega arith in lt), refl)
+pub first_among : (m n : Held) (marks : List Held) → m ≡ n → IsAmong (Some (n ∷ marks)) m
+first_among m n marks is = subst (λ (x : Held). IsAmong (Some (x ∷ marks)) m) is (0, (let lt : 0 < suc (length marks) = omega arith in lt), refl)
 
 pub banks_load : ActiveComputes → FoundOfActive → LoadedLogsHold → LogsWiden → BanksLoad
 banks_load computes of_active loaded widen l numbers bytes k t h tail copied legal size sound is inside other at =
@@ -25,7 +24,7 @@ banks_load computes of_active loaded widen l numbers bytes k t h tail copied leg
         record {
           bank = active.bank;
           stands = active.stands;
-          holds = widen b numbers bytes (exactly b bytes) (found_alone l bytes) _ (λ number length m among. subst (λ (x : Mark). IsAmong (Some (x ∷ [])) m) (sym (of_active l bytes k h active number length)) among) log;
+          holds = widen b numbers bytes (exactly b bytes) (found_alone l bytes) _ (λ number length m among. subst (λ (x : Held). IsAmong (Some (x ∷ [])) m) (sym (of_active l bytes k h active number length)) among) log;
         },
       );
       behind = λ j within ne head stands differs. active.first j head within differs stands;
@@ -39,7 +38,7 @@ no_bank_loads computes l numbers bytes t copied size sound is inside =
       size = size;
       sound = sound;
       target = inside;
-      old = λ number length. first_among Erased (found_mark l bytes number length) [] (sym (ap (mark_of_bank l bytes number length) is));
+      old = λ number length. first_among never_written (found_held l bytes number length) [] (sym (ap (held_of_bank l bytes number length) is));
       behind = λ j within ne head stands. none j head within stands;
       phase = λ head stands. none t head inside stands;
     }

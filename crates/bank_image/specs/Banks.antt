@@ -1,11 +1,12 @@
 -- The banks of a flash with a switch between two of them, in memory and in the flash's bytes.
 use Rattle.std.specs.Prelude.{◌≡◌, ◌<◌, ◌≤◌, ◌+◌, ◌*◌, ◌^◌, ℕ, List, length}
 use Rattle.nv_base.specs.declared.instance.DeviceNumber.{DeviceNumber}
-use Rattle.nv_base.specs.declared.mark.Mark.TheVariants.{Erased}
+use Rattle.fee_format.specs.Formats.{new_format}
 use Rattle.fee_format.specs.declared.bank_head.BankHead.{BankHead}
 use Rattle.fee_format.specs.BankHead.{bank_head_page}
 use Rattle.fee_format.specs.Pages.{blank_page}
-use Rattle.fee_image.specs.Image.{Layout, bank_in, image_page, BankStands, ComesFirst, found_mark}
+use Rattle.nv_base.specs.Held.{never_written}
+use Rattle.fee_image.specs.Image.{Layout, bank_in, image_page, BankStands, ComesFirst, found_held}
 use Rattle.fee_image.specs.Sound.{IsSoundImage}
 use Rattle.log_image.specs.Log.{Log, HoldsLog}
 use Rattle.log_image.specs.May.{May, IsAmong, IsWider}
@@ -33,7 +34,7 @@ pub record Banks : Type 0 where
   pub phase : Phase
   -- the marks that may be found
   pub may : May
-  -- those that the target may show: of a number whose copy is done, or that is erased, its settled mark alone
+  -- those that the target may show: of a number whose copy is done, or that has no record, what is settled alone
   pub copied : May
 
 -- the target's head: it comes after the old one
@@ -42,12 +43,12 @@ generation_of NoBank = 0
 generation_of (OldBank k h log) = h.generation
 
 abbrev pub next_head : Old → BankHead
-next_head old = record { format = 1; generation = generation_of old + 1 }
+next_head old = record { format = new_format; generation = generation_of old + 1 }
 
 -- IN THE BYTES
 -- each mark that a start-up would find may be found
 abbrev pub ImageShows : Layout → List ℕ → May → Type 0
-ImageShows l bytes may = (number length : ℕ) → IsAmong (may number length) (found_mark l bytes number length)
+ImageShows l bytes may = (number length : ℕ) → IsAmong (may number length) (found_held l bytes number length)
 
 -- the old bank comes before bank j with this head; where there is none, no bank stands
 abbrev pub IsBehind : Old → ℕ → BankHead → Type 0
@@ -64,7 +65,7 @@ pub record HoldsBank (l : Layout) (numbers : List (DeviceNumber × ℕ)) (bytes 
   pub holds : HoldsLog (bank_in l h.format k) numbers bytes may log
 
 abbrev pub HoldsOld : Layout → List (DeviceNumber × ℕ) → List ℕ → ℕ → Old → May → Type 0
-HoldsOld l numbers bytes target NoBank may = (number length : ℕ) → IsAmong (may number length) Erased
+HoldsOld l numbers bytes target NoBank may = (number length : ℕ) → IsAmong (may number length) never_written
 HoldsOld l numbers bytes target (OldBank k h log) may = (k ≡ target → ⊥) × HoldsBank l numbers bytes k h log may
 
 -- the first pages of a bank are blank
@@ -73,12 +74,12 @@ AreBlank l bytes k n = (q : ℕ) → q < n → q < l.pages → image_page l byte
 
 pub record IsCopying (l : Layout) (numbers : List (DeviceNumber × ℕ)) (bytes : List ℕ) (target : ℕ) (log : Log) (copied : May) : Type 0 where
   pub first : AreBlank l bytes target 2
-  pub holds : HoldsLog (bank_in l 1 target) numbers bytes copied log
+  pub holds : HoldsLog (bank_in l new_format target) numbers bytes copied log
 
 pub record IsSealing (l : Layout) (numbers : List (DeviceNumber × ℕ)) (bytes : List ℕ) (s : Banks) (log : Log) : Type 0 where
   pub last : generation_of s.old + 1 < 2 ^ 32
   pub head : image_page l bytes s.target 0 ≡ bank_head_page l.page (next_head s.old)
-  pub holds : HoldsLog (bank_in l 1 s.target) numbers bytes s.copied log
+  pub holds : HoldsLog (bank_in l new_format s.target) numbers bytes s.copied log
   -- each number is copied: the target shows nothing but what may be found
   pub whole : IsWider s.copied s.may
 

@@ -1,9 +1,8 @@
 -- What may be found, computed from the bytes, the places and the open job: nothing of it is kept.
 use Rattle.std.specs.Prelude.{ℕ, List}
 use Rattle.nv_base.specs.declared.instance.DeviceNumber.{DeviceNumber}
-use Rattle.nv_base.specs.declared.mark.Mark.{Mark}
-use Rattle.nv_base.specs.declared.mark.Mark.TheVariants.{Erased}
-use Rattle.fee_image.specs.Found.{mark_in}
+use Rattle.fee_image.specs.Found.{shown_in}
+use Rattle.nv_base.specs.Held.{Held, never_written}
 use Rattle.fee_image.specs.Image.{Layout, bank_in}
 use Rattle.log_image.specs.Laws.{HasWork}
 use Rattle.log_image.specs.May.{May, IsAmong, IsWider, beside}
@@ -11,9 +10,9 @@ use Rattle.log_image.specs.Places.{ArePlaced}
 use Rattle.bank_image.specs.Banks.{Old, NoBank, OldBank, Phase, Sealing, Banks, Holds}
 
 -- what the old bank shows now, whether or not another bank stands before it
-abbrev pub shown_of : Layout → List ℕ → Old → ℕ → ℕ → Mark
-shown_of l bytes NoBank number length = Erased
-shown_of l bytes (OldBank k h log) number length = mark_in (bank_in l h.format k) bytes number length
+abbrev pub shown_of : Layout → List ℕ → Old → ℕ → ℕ → Held
+shown_of l bytes NoBank number length = never_written
+shown_of l bytes (OldBank k h log) number length = shown_in (bank_in l h.format k) bytes number length
 
 -- that, or what may be found anyway: a settled mark, the open job's
 abbrev pub doubting_banks : Layout → List ℕ → Old → May → May

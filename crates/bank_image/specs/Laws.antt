@@ -2,14 +2,14 @@
 use Rattle.std.specs.Prelude.{◌≡◌, ◌<◌, ◌≤◌, ◌+◌, ◌*◌, ◌^◌, ℕ, List, [], ◌∷◌, length, Some, None, slice_get}
 use Rattle.nv_base.specs.declared.geometry.Geometry.{Geometry}
 use Rattle.nv_base.specs.declared.instance.DeviceNumber.{DeviceNumber}
-use Rattle.nv_base.specs.declared.mark.Mark.{Mark}
-use Rattle.nv_base.specs.declared.mark.Mark.TheVariants.{Erased}
+use Rattle.fee_format.specs.Formats.{new_format}
 use Rattle.nv_base.specs.Geometry.{IsLegal, HasBanks, sectors_of_bank, pages_of_sector}
 use Rattle.fls_model.specs.Op.{Op, MayLeave, Program, Erase, after_op}
 use Rattle.fee_format.specs.declared.bank_head.BankHead.{BankHead}
 use Rattle.fee_format.specs.BankHead.{bank_head_page}
 use Rattle.fee_format.specs.Pages.{gate_page}
-use Rattle.fee_image.specs.Image.{Layout, IsLegalLayout, layout_of, bank_in, image_page, active_of, found_mark}
+use Rattle.nv_base.specs.Held.{Held, never_written}
+use Rattle.fee_image.specs.Image.{Layout, IsLegalLayout, layout_of, bank_in, image_page, active_of, found_held}
 pub use Rattle.fee_image.specs.Laws.{GatesStand}
 use Rattle.fee_image.specs.Laws.{place_in_image, place_of_sector}
 use Rattle.fee_image.specs.Sound.{IsSoundImage}
@@ -65,7 +65,7 @@ ErasesDone =
 abbrev pub CopiesBegin : Type 0
 CopiesBegin =
     (l : Layout) (numbers : List (DeviceNumber × ℕ)) (bytes : List ℕ) (s : Banks) (n : ℕ)
-    → IsLegalLayout l → Holds l numbers bytes s → s.phase ≡ Erasing n → l.pages ≤ n → ((number length : ℕ) → IsAmong (s.copied number length) Erased)
+    → IsLegalLayout l → Holds l numbers bytes s → s.phase ≡ Erasing n → l.pages ≤ n → ((number length : ℕ) → IsAmong (s.copied number length) never_written)
     → Holds l numbers bytes (record s { phase = Copying (erased_log numbers) })
 
 -- THE LOGS
@@ -94,13 +94,13 @@ abbrev pub CopiesGoOn : Type 0
 CopiesGoOn =
     (l : Layout) (numbers : List (DeviceNumber × ℕ)) (old new page : List ℕ) (s : Banks) (q : ℕ) (log next : Log) (copied : May)
     → IsLegalLayout l → Holds l numbers old s → s.phase ≡ Copying log
-    → length page ≡ l.page → 2 ≤ q → q < l.pages → MayLeave (program_of l s.target q page) old new → HoldsLog (bank_in l 1 s.target) numbers new copied next
+    → length page ≡ l.page → 2 ≤ q → q < l.pages → MayLeave (program_of l s.target q page) old new → HoldsLog (bank_in l new_format s.target) numbers new copied next
     → Holds l numbers new (record s { phase = Copying next; copied = copied })
 
 abbrev pub CopiesChange : Type 0
 CopiesChange =
     (l : Layout) (numbers : List (DeviceNumber × ℕ)) (bytes : List ℕ) (s : Banks) (log next : Log) (copied : May)
-    → Holds l numbers bytes s → s.phase ≡ Copying log → HoldsLog (bank_in l 1 s.target) numbers bytes copied next
+    → Holds l numbers bytes s → s.phase ≡ Copying log → HoldsLog (bank_in l new_format s.target) numbers bytes copied next
     → Holds l numbers bytes (record s { phase = Copying next; copied = copied })
 
 -- a page of an append, or an owed gate, that failed or was cut
@@ -176,14 +176,14 @@ BanksWiden =
 -- a number that is copied has in the sealed bank the place of its settled mark
 abbrev pub SealsKeepSettled : Type 0
 SealsKeepSettled =
-    (l : Layout) (numbers : List (DeviceNumber × ℕ)) (bytes : List ℕ) (s : Banks) (log : Log) (i : ℕ) (n : DeviceNumber × ℕ) (m : Mark)
+    (l : Layout) (numbers : List (DeviceNumber × ℕ)) (bytes : List ℕ) (s : Banks) (log : Log) (i : ℕ) (n : DeviceNumber × ℕ) (m : Held)
     → Holds l numbers bytes s → s.phase ≡ Sealing log → slice_get numbers i ≡ Some n → s.copied n.0.0 n.1 ≡ Some (m ∷ [])
-    → IsPlaced (bank_in l 1 s.target) bytes (λ number length. Some (m ∷ [])) log.end n log.places i
+    → IsPlaced (bank_in l new_format s.target) bytes (λ number length. Some (m ∷ [])) log.end n log.places i
 
 -- STARTS
 -- nothing but what is found
 abbrev pub found_alone : Layout → List ℕ → May
-found_alone l bytes number length = Some (found_mark l bytes number length ∷ [])
+found_alone l bytes number length = Some (found_held l bytes number length ∷ [])
 
 abbrev pub BanksLoad : Type 0
 BanksLoad =

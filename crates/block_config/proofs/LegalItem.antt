@@ -111,7 +111,7 @@ once_legal Dataset false h = refl
 
 pub block_legal : (d : Data) → keeps 13 d ≡ true → keeps 14 d ≡ true → keeps 16 d ≡ true → keeps 17 d ≡ true → keeps 18 d ≡ true → keeps 20 d ≡ true → keeps 21 d ≡ true → keeps 22 d ≡ true → IsLegalBlock (block_of d)
 block_legal d size priority defaults count rom member once tries =
-    let bounds = needed_in_bounds 1 2048 0 (get (codes "length") d) size in
+    let bounds = needed_in_bounds 1 4096 0 (get (codes "length") d) size in
     let may = member_legal (ram_of d) (truth_of (codes "readall") d) (truth_of (codes "writeall") d) member in
     let two = both_true _ _ tries in
     let one = both_true _ _ two.0 in

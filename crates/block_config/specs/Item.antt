@@ -42,9 +42,9 @@ is_dataset Native = false
 is_dataset Redundant = false
 is_dataset Dataset = true
 
--- 13: a content has 1 to 2,048 bytes
+-- 13: a content has 1 to 4,096 bytes
 abbrev pub length_at : Data → Option ℕ
-length_at d = needed (codes "length") (number_in 1 2048) d
+length_at d = needed (codes "length") (number_in 1 4096) d
 
 abbrev pub length_of : Data → ℕ
 length_of d = unwrap_or (length_at d) 0

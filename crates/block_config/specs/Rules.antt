@@ -18,10 +18,10 @@ pub record IsQueueSize (n : ℕ) : Type 0 where
   pub low : 1 ≤ n
   pub high : n ≤ 256
 
--- 13: a content has 1 to 2,048 bytes
+-- 13: a content has 1 to 4,096 bytes
 pub record IsLength (n : ℕ) : Type 0 where
   pub low : 1 ≤ n
-  pub high : n ≤ 2048
+  pub high : n ≤ 4096
 
 -- 16: defaults have the block's length, and a dataset has none
 abbrev pub AreDefaults : BlockKind → ℕ → Option (List ℕ) → Type 0

@@ -106,7 +106,7 @@ pub fn kind_of(item: &Value) -> BlockKind
 fn length_at(item: &Value) -> Option<u16>
     ensures { result ≡ length_at (view item.now) }
 {
-    Some(number_at(item, "length", 1, 2048)? as u16)
+    Some(number_at(item, "length", 1, 4096)? as u16)
 }
 
 /// The length, or 0 where the item names none that is allowed.

@@ -1,5 +1,5 @@
 -- What pays for the failures of a history.
-use Rattle.std.specs.Prelude.{◌≡◌, ◌⊎◌, ◌≤◌, ◌-◌, ℕ, List, [], ◌∷◌, unwrap_or, Contains, IsSome, Option, Some, None}
+use Rattle.std.specs.Prelude.{◌≡◌, ◌⊎◌, ◌≤◌, ◌-◌, ℕ, Bool, true, if◌then◌else◌, List, [], ◌∷◌, unwrap_or, Contains, IsSome, Some}
 use Rattle.nv_base.specs.Count.{WereCounted}
 use Rattle.nv_base.specs.Marks.{number_of}
 use Rattle.block_machine.specs.Words.{Entry, Post, Configuration}
@@ -28,15 +28,24 @@ IsExcused c worn s (Post block r given refused ops) =
     (j : Job) × (s.hand ≡ Some j) × IsSome (mark_of j) × WasWorn worn block (unwrap_or (failed_set (own_of c s block) j (r, given)) []) ops
 IsExcused c worn s e = ⊥
 
--- so many faults pay for these entries' Posts, each with its price, but for those that are excused
-abbrev pub ArePaid : Configuration → Worn → ℕ → State → List Entry → Type 0
-ArePaid c worn faults s [] = Unit {0}
-ArePaid c worn faults s (e ∷ es) =
-    ((price_in_faults c s e ≤ faults) × ArePaid c worn (faults - price_in_faults c s e) (step c s e) es)
-    ⊎ (IsExcused c worn s e × ArePaid c worn faults (step c s e) es)
+-- the price of a Post of one of these blocks; a Post of another one has none
+abbrev pub price_for : (ℕ → Bool) → Configuration → State → Entry → ℕ
+price_for of c s (Post block r given refused ops) = if of block then price_in_faults c s (Post block r given refused ops) else 0
+price_for of c s e = 0
 
--- so many faults were counted between two values of a count as pay for a history
-pub record IsPaid (c : Configuration) (worn : Worn) (before after : ℕ) (h : List Entry) : Type 0 where
+-- so many faults pay for the Posts of these blocks, each with its price, but for those that are excused
+abbrev pub ArePaid : (ℕ → Bool) → Configuration → Worn → ℕ → State → List Entry → Type 0
+ArePaid of c worn faults s [] = Unit {0}
+ArePaid of c worn faults s (e ∷ es) =
+    ((price_for of c s e ≤ faults) × ArePaid of c worn (faults - price_for of c s e) (step c s e) es)
+    ⊎ (IsExcused c worn s e × ArePaid of c worn faults (step c s e) es)
+
+-- so many faults were counted between two values of a count as pay for the Posts of these blocks in a history
+pub record IsPaid (of : ℕ → Bool) (c : Configuration) (worn : Worn) (before after : ℕ) (h : List Entry) : Type 0 where
   pub faults : ℕ
   pub counted : WereCounted faults before after
-  pub pay : ArePaid c worn faults at_first h
+  pub pay : ArePaid of c worn faults at_first h
+
+-- all blocks
+abbrev pub every_block : ℕ → Bool
+every_block block = true

@@ -6,4 +6,7 @@
 
 mod cases;
 
-pub use cases::{failures_that_are_not_paid, failures_that_are_paid};
+pub use cases::{
+    counts_that_may_be_found, counts_that_may_not_be_found, failures_that_are_not_paid,
+    failures_that_are_paid,
+};

@@ -8,7 +8,8 @@ use Rattle.memif.specs.Clock.{After}
 use Rattle.fls_model.specs.Told.{Told, ToldBytes, Change, IfBothTold, bytes_now, changes_in}
 use Rattle.fls_devices.specs.Cutter.{Cutting, cutting, planning_of, told_cutting, OnlyCuts}
 use Rattle.fls_devices.specs.Journal.{Journaled, HaveParts, merged, bytes_over, empty_journal}
-use Rattle.device_bridge.specs.Bridge.{Making, IsWornOut, wanted_pages}
+use Rattle.device_bridge.specs.Making.{Making}
+use Rattle.device_bridge.specs.Bridge.{IsWornOut, wanted_pages}
 use Rattle.device_bridge.specs.FlashRun.{TellsBytes, TellsOperations, StartsSound, AreSeen, bytes_after}
 use Rattle.device_bridge.specs.Image.{IsSoundFlash, IsOfLastGeneration, HasNoRoomFor, held_in}
 use Rattle.device_clock.specs.Device.{Device}
@@ -42,8 +43,8 @@ as_same P o q same has = subst (λ (x : Option (List ℕ)). IfSome x P) same has
 abbrev tells_over : (inner : Told) (cuts : ℕ) (c : Cutting) (operations : List Change) → TellsBytes (run_within inner c operations) → TellsBytes (run_over inner cuts c operations)
 tells_over inner cuts c operations t = record { first = t.first; entry = same_entry inner cuts ∙ t.entry; last = t.last; exit = same_exit c ∙ t.exit }
 
-sound_over : (g : Geometry) (inner : Told) (cuts : ℕ) (c : Cutting) (operations : List Change) → StartsSound g (run_within inner c operations) → StartsSound g (run_over inner cuts c operations)
-sound_over g inner cuts c operations sound = subst (λ (o : Option (List ℕ)). IfSome o (IsSoundFlash g)) (sym (same_entry inner cuts)) sound
+sound_over : (m : Making) (inner : Told) (cuts : ℕ) (c : Cutting) (operations : List Change) → StartsSound m (run_within inner c operations) → StartsSound m (run_over inner cuts c operations)
+sound_over m inner cuts c operations sound = subst (λ (o : Option (List ℕ)). IfSome o (IsSoundFlash m)) (sym (same_entry inner cuts)) sound
 
 -- WHAT IS TOLD OF THE CHANGES
 all_told : (j : Journaled) (g : Geometry) (b : Option ToldBytes) (last : List ℕ) (changes : List Change)
@@ -66,7 +67,7 @@ if_told None P x is has = cc
 
 -- the operations are the flash's own, but for those that were kept from it
 abbrev was_kept : Device → ℕ → Type 0
-was_kept d k = IsTrue true × (clock_of d).first.off_in k
+was_kept d k = IsTrue true × (clock_of d).off_in k
 
 seen_within : (inner : Told) (c : Cutting) (d : Device) → OnlyCuts c → HandsBack d c → (t : TellsOperations (run_within inner c d.operations)) → AreSeen (was_kept d) 0 t.bytes.last d.operations t.changes
 seen_within inner c d only hands t =
@@ -91,10 +92,10 @@ rose_within a b own none (inr big) = inr (omega (arith, big.0), omega (arith, bi
 worn_within : (m : Making) (inner : Told) (cuts : ℕ) (c : Cutting) (operations : List Change) (k n : ℕ) → OnlyCuts c
     → IsWornOut m (run_over inner cuts c operations) k n → IsWornOut m (run_within inner c operations) k n
 worn_within m inner cuts c operations k n only w = record {
-  last = as_same (IsOfLastGeneration m.geometry) _ _ (same_exit c) w.last;
+  last = as_same (IsOfLastGeneration m) _ _ (same_exit c) w.last;
   no_erase = w.no_erase;
   full = λ t small. elim (w.full (tells_over inner cuts c operations t) small) [
-    | inl room ↦ inl (as_same (HasNoRoomFor (wanted_pages m n) m.geometry) _ _ (same_after inner cuts c operations k) room)
+    | inl room ↦ inl (as_same (HasNoRoomFor (wanted_pages m n) m) _ _ (same_after inner cuts c operations k) room)
     | inr failed ↦ inr (rose_within inner.faults c.flash.inner.faults c.flash.faults only.faults failed.0, failed.1)
   ];
 }
@@ -104,13 +105,13 @@ pub devices_bridge : DevicesBridge
 devices_bridge m cutter inner cuts c d before only hands first b =
     let up = tells_over inner cuts c d.operations in
     let all = operations_over inner cuts c d.operations in
-    let sound = sound_over m.geometry inner cuts c d.operations in
+    let sound = sound_over m inner cuts c d.operations in
     let last : (planning_of c).unplanned ≡ d.flash.planning.unplanned = ap (λ (t : Told). t.planning.unplanned) hands.told in
     record {
       after = λ t s k made small.
-          as_same (λ image. (clock_of d).first.may_find (After k) (held_in m.geometry m.numbers image)) _ _ (same_after inner cuts c d.operations k) (b.after (up t) (sound s) k made small);
+          as_same (λ image. (clock_of d).may_find (After k) (held_in m image)) _ _ (same_after inner cuts c d.operations k) (b.after (up t) (sound s) k made small);
       cut = λ t s k image small leaves. b.cut (all t) (sound s) k image small leaves;
-      sound = λ t s. as_same (IsSoundFlash m.geometry) _ _ (same_exit c) (b.sound (up t) (sound s));
+      sound = λ t s. as_same (IsSoundFlash m) _ _ (same_exit c) (b.sound (up t) (sound s));
       sound_cut = λ t s k image small leaves. b.sound_cut (all t) (sound s) k image small leaves;
       operations = record {
         told_alike = alike (empty_journal cuts) c.flash.journal inner.geometry c.flash.inner.geometry inner.bytes c.flash.inner.bytes b.operations.told_alike;

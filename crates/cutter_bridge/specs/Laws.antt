@@ -3,7 +3,8 @@ use Rattle.std.specs.Prelude.{◌≡◌, ℕ, Bool, true, List, IfSome}
 use Rattle.memif.specs.Told.{PartTold}
 use Rattle.fls_model.specs.Told.{Told, Change, changes_in}
 use Rattle.fls_devices.specs.Cutter.{Cutting, cutting, told_cutting, OnlyCuts}
-use Rattle.device_bridge.specs.Bridge.{Making, Bridges}
+use Rattle.device_bridge.specs.Making.{Making}
+use Rattle.device_bridge.specs.Bridge.{Bridges}
 use Rattle.device_bridge.specs.FlashRun.{FlashRun}
 use Rattle.device_clock.specs.Device.{Device, told_of}
 use Rattle.device_clock.specs.Clock.{clock_of}
@@ -15,7 +16,7 @@ run_over inner cuts c operations = record { entry = told_cutting (cutting inner 
 abbrev pub run_within : Told → Cutting → List Change → FlashRun
 run_within inner c operations = record { entry = inner; exit = c.flash.inner; operations = operations }
 
--- What a device over two banks promises of a cutter that it hands back: where the cutter tells its changes they are those that
+-- What a device over banks promises of a cutter that it hands back: where the cutter tells its changes they are those that
 -- the device asked for.
 pub record HandsBack (d : Device) (c : Cutting) : Type 0 where
   pub told : told_cutting c ≡ d.flash
@@ -26,5 +27,5 @@ abbrev pub DevicesBridge : Type 0
 DevicesBridge =
     (m : Making) (cutter : Bool) (inner : Told) (cuts : ℕ) (c : Cutting) (d : Device) (before : PartTold)
     → OnlyCuts c → HandsBack d c → before.planning.unplanned ≡ inner.cuts
-    → Bridges m cutter (run_over inner cuts c d.operations) before (told_of d).first (clock_of d).first
-    → Bridges m true (run_within inner c d.operations) before (told_of d).first (clock_of d).first
+    → Bridges m cutter (run_over inner cuts c d.operations) before (told_of d) (clock_of d)
+    → Bridges m true (run_within inner c d.operations) before (told_of d) (clock_of d)

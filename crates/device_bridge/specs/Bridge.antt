@@ -3,23 +3,15 @@ use Rattle.std.specs.Prelude.{◌≡◌, ◌⊎◌, ◌<◌, ◌≤◌, ◌+◌,
 use Rattle.std.specs.List.{list_all, list_any}
 use Rattle.nv_base.specs.Count.{last_count, Rose, WereCounted}
 use Rattle.nv_base.specs.Pages.{record_pages_of}
-use Rattle.nv_base.specs.declared.geometry.Geometry.{Geometry}
-use Rattle.nv_base.specs.declared.instance.DeviceNumber.{DeviceNumber}
-use Rattle.memif.specs.Told.{PartTold, length_of}
-use Rattle.memif.specs.Clock.{PartClock, After, CutIn}
+use Rattle.memif.specs.Told.{PartTold, DeviceTold, length_of}
+use Rattle.memif.specs.Clock.{Clock, After, CutIn}
 use Rattle.fls_model.specs.Op.{Op, Program, Erase}
 use Rattle.fls_model.specs.declared.flash.FlashAnswer.{FlashAnswer}
 use Rattle.fls_model.specs.declared.flash.FlashAnswer.TheVariants.{Failed}
 use Rattle.fls_model.specs.Told.{Change, bytes_now}
+use Rattle.device_bridge.specs.Making.{Making}
 use Rattle.device_bridge.specs.Image.{IsSoundFlash, held_in, IsOfLastGeneration, HasNoRoomFor}
 use Rattle.device_bridge.specs.FlashRun.{FlashRun, TellsBytes, TellsOperations, StartsSound, IsCutImage, bytes_after, AreOperations}
-
--- What a device is made for: the shape of its flash, its numbers with their lengths, and the pages that are kept for
--- urgent writes.
-pub record Making : Type 0 where
-  pub geometry : Geometry
-  pub numbers : List (DeviceNumber × ℕ)
-  pub reserve : ℕ
 
 abbrev pub is_program : Op → Bool
 is_program (Program address page) = true
@@ -41,28 +33,28 @@ wanted_pages m n = record_pages_of (unwrap_or (length_of m.numbers n) 0) m.geome
 -- at the end still, nothing is erased from then on, and a record has no room in the bytes, where they are told, or an
 -- operation failed before, which closed the bank.
 pub record IsWornOut (m : Making) (f : FlashRun) (k n : ℕ) : Type 0 where
-  pub last : IfSome (bytes_now f.exit) (IsOfLastGeneration m.geometry)
+  pub last : IfSome (bytes_now f.exit) (IsOfLastGeneration m)
   pub no_erase : k < last_count → IsTrue (list_all (λ x. is_program x.op) (drop k f.operations))
-  pub full : TellsBytes f → k < last_count → IfSome (bytes_after f k) (HasNoRoomFor (wanted_pages m n) m.geometry)
+  pub full : TellsBytes f → k < last_count → IfSome (bytes_after f k) (HasNoRoomFor (wanted_pages m n) m)
       ⊎ (Rose f.entry.faults f.exit.faults × IsTrue (has_failed (take k f.operations)))
 
 -- What a device over a flash tells is so: its part before the first start-up and now, its clock now. A `cutter` between
 -- them keeps an operation from the flash where the power goes off in it.
-pub record Bridges (m : Making) (cutter : Bool) (f : FlashRun) (before now : PartTold) (clock : PartClock) : Type 0 where
+pub record Bridges (m : Making) (cutter : Bool) (f : FlashRun) (before : PartTold) (now : DeviceTold) (clock : Clock) : Type 0 where
   -- its maps are those of the images: of the bytes once k operations were made, and of each that a cut may leave
-  pub after : TellsBytes f → StartsSound m.geometry f → (k : ℕ) → k ≤ length f.operations → k < last_count
-      → IfSome (bytes_after f k) (λ image. clock.may_find (After k) (held_in m.geometry m.numbers image))
-  pub cut : TellsOperations f → StartsSound m.geometry f → (k : ℕ) (image : List ℕ) → k < last_count → IsCutImage f k image
-      → clock.may_find (CutIn k) (held_in m.geometry m.numbers image)
+  pub after : TellsBytes f → StartsSound m f → (k : ℕ) → k ≤ length f.operations → k < last_count
+      → IfSome (bytes_after f k) (λ image. clock.may_find (After k) (held_in m image))
+  pub cut : TellsOperations f → StartsSound m f → (k : ℕ) (image : List ℕ) → k < last_count → IsCutImage f k image
+      → clock.may_find (CutIn k) (held_in m image)
   -- a sound image stays sound
-  pub sound : TellsBytes f → StartsSound m.geometry f → IfSome (bytes_now f.exit) (IsSoundFlash m.geometry)
-  pub sound_cut : TellsOperations f → StartsSound m.geometry f → (k : ℕ) (image : List ℕ) → k < last_count → IsCutImage f k image
-      → IsSoundFlash m.geometry image
+  pub sound : TellsBytes f → StartsSound m f → IfSome (bytes_now f.exit) (IsSoundFlash m)
+  pub sound_cut : TellsOperations f → StartsSound m f → (k : ℕ) (image : List ℕ) → k < last_count → IsCutImage f k image
+      → IsSoundFlash m image
   -- its operations are the run's
   pub operations : AreOperations m.geometry f (λ k. IsTrue cutter × clock.off_in k)
   pub ops : now.ops ≡ min (length f.operations) last_count
   -- what it counted the flash counted too
-  pub faults : (n : ℕ) → WereCounted n before.faults now.faults → WereCounted n f.entry.faults f.exit.faults
-  pub cuts : (n : ℕ) → WereCounted n before.planning.unplanned now.planning.unplanned → WereCounted n f.entry.cuts f.exit.cuts
+  pub faults : (n : ℕ) → WereCounted n before.faults now.first.faults → WereCounted n f.entry.faults f.exit.faults
+  pub cuts : (n : ℕ) → WereCounted n before.planning.unplanned now.first.planning.unplanned → WereCounted n f.entry.cuts f.exit.cuts
   -- and where it says that it is worn out, the flash is
   pub worn : (k n : ℕ) → clock.worn k n → IsWornOut m f k n

@@ -5,6 +5,7 @@ use Rattle.nv_base.specs.declared.geometry.Geometry.{Geometry}
 use Rattle.fls_model.specs.Op.{Op, Program, Erase, MayLeave}
 use Rattle.fls_model.specs.Step.{Leaves}
 use Rattle.fls_model.specs.Told.{Told, Change, IfBothTold, bytes_now, changes_in}
+use Rattle.device_bridge.specs.Making.{Making}
 use Rattle.device_bridge.specs.Image.{attached, IsSoundFlash}
 
 pub record FlashRun : Type 0 where
@@ -35,8 +36,8 @@ pub record TellsOperations (f : FlashRun) : Type 0 where
   pub told : changes_in f.exit.bytes ≡ Some changes
 
 -- the image at the entry is sound
-abbrev pub StartsSound : Geometry → FlashRun → Type 0
-StartsSound g f = IfSome (bytes_now f.entry) (IsSoundFlash g)
+abbrev pub StartsSound : Making → FlashRun → Type 0
+StartsSound m f = IfSome (bytes_now f.entry) (IsSoundFlash m)
 
 -- OPERATIONS AND BYTES
 -- each operation finds the bytes that the one before it left, from the first bytes on to the last

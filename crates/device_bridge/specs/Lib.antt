@@ -1,3 +1,4 @@
+pub mod Making
 pub mod Image
 pub mod FlashRun
 pub mod Bridge

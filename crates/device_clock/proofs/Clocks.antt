@@ -5,15 +5,15 @@ use Rattle.std.proofs.Common.{◌≡◌, ◌⊎◌, inl, inr, ℕ, zero, suc, �
 use Rattle.std.proofs.lemmas.List.{take-append-le, take_all}
 use Rattle.std.proofs.lemmas.Bool.{cases_lt, false≢true}
 use Rattle.nv_base.specs.Count.{last_count}
-use Rattle.nv_base.specs.declared.geometry.Geometry.{Geometry}
-use Rattle.memif.specs.Told.{Held, Slot, First, Second, slot_at}
+use Rattle.memif.specs.Told.{Held, Slot, slot_at}
 use Rattle.memif.specs.Marks.{IsPossible}
-use Rattle.memif.specs.Clock.{When, After, CutIn, PartClock, untold, SamePart, GoesOff, ArePossible}
+use Rattle.memif.specs.Clock.{When, After, CutIn, GoesOff, ArePossible}
 use Rattle.fls_model.specs.declared.flash.FlashAnswer.{FlashAnswer}
 use Rattle.fls_model.specs.Op.{Op, MayLeave}
 use Rattle.fls_model.specs.Step.{IsChanged}
 use Rattle.fls_model.specs.Told.{ToldBytes, Change, IfBothTold, bytes_now}
-use Rattle.device_bridge.specs.Bridge.{Making, has_failed, wanted_pages}
+use Rattle.device_bridge.specs.Making.{Making}
+use Rattle.device_bridge.specs.Bridge.{has_failed, wanted_pages}
 use Rattle.device_bridge.specs.FlashRun.{TellsBytes, bytes_after}
 use Rattle.device_bridge.specs.Image.{held_in, HasNoRoomFor}
 use Rattle.device_clock.specs.Device.{Device, run_of, is_told_sound, tells, slots_in, slots_told, told_of}
@@ -51,14 +51,14 @@ pub record IsTold (o : Option (List ℕ)) : Type 0 where
 abbrev pub now_of : ToldBytes → List ℕ
 now_of b = b.now
 
-alike_told : (g : Geometry) (first now : Option ToldBytes) → IfBothTold first now (λ a b. Unit {0}) → IsTrue (is_told_sound g (option_map now_of first)) → IsTold (option_map now_of now)
-alike_told g (Some a) (Some b) alike told = record { bytes = b.now; is = refl }
-alike_told g (Some a) None alike told = absurd alike
-alike_told g None (Some b) alike told = absurd alike
-alike_told g None None alike told = absurd (false≢true told)
+alike_told : (m : Making) (first now : Option ToldBytes) → IfBothTold first now (λ a b. Unit {0}) → IsTrue (is_told_sound m (option_map now_of first)) → IsTold (option_map now_of now)
+alike_told m (Some a) (Some b) alike told = record { bytes = b.now; is = refl }
+alike_told m (Some a) None alike told = absurd alike
+alike_told m None (Some b) alike told = absurd alike
+alike_told m None None alike told = absurd (false≢true told)
 
 pub told_now : (d : Device) → ToldAlike d → IsTrue (tells d) → IsTold (bytes_now d.flash)
-told_now d alike told = alike_told d.making.geometry d.entry.bytes d.flash.bytes alike told
+told_now d alike told = alike_told d.making d.entry.bytes d.flash.bytes alike told
 
 pub if_some : (o : Option (List ℕ)) (P : List ℕ → Type 0) (bytes : List ℕ) → o ≡ Some bytes → IfSome o P → P bytes
 if_some o P bytes is holds = subst (λ (x : Option (List ℕ)). IfSome x P) is holds
@@ -72,14 +72,14 @@ pub slots_are : (d : Device) (bytes : List ℕ) → IsTrue (tells d) → bytes_n
 slots_are d bytes told is = rw told (ap (option_map (slots_in d)) is)
 
 -- where nothing is told anything is possible
-possible_by : (d : Device) (o : Option (List Slot)) (m : ℕ → Held) → ((slots : List Slot) → o ≡ Some slots → (n : ℕ) → IsPossible (slot_at d.making.numbers slots n) (m n)) → ArePossible First (told_of d) o m
+possible_by : (d : Device) (o : Option (List Slot)) (m : ℕ → Held) → ((slots : List Slot) → o ≡ Some slots → (n : ℕ) → IsPossible (slot_at d.making.numbers slots n) (m n)) → ArePossible (told_of d) o m
 possible_by d None m holds = tt
-possible_by d (Some slots) m holds = λ n part. holds slots refl n
+possible_by d (Some slots) m holds = λ n. holds slots refl n
 
 pub some_is : {A : Type 0} (x y : A) → Some x ≡ Some y → x ≡ y
 some_is x y e = cc e
 
-pub possible_in : (d : Device) (bytes image : List ℕ) (m : ℕ → Held) → IsTrue (tells d) → bytes_now d.flash ≡ Some bytes → ImageIsPossible d bytes image → IsMapOf d image m → ArePossible First (told_of d) (slots_told d) m
+pub possible_in : (d : Device) (bytes image : List ℕ) (m : ℕ → Held) → IsTrue (tells d) → bytes_now d.flash ≡ Some bytes → ImageIsPossible d bytes image → IsMapOf d image m → ArePossible (told_of d) (slots_told d) m
 possible_in d bytes image m told is possible finds = possible_by d (slots_told d) m (λ slots are n.
     subst (λ (s : List Slot). IsPossible (slot_at d.making.numbers s n) (m n)) (some_is (slots_in d bytes) slots (sym (slots_are d bytes told is) ∙ are))
     (subst (λ (h : Held). IsPossible (slot_at d.making.numbers (slots_in d bytes) n) h) (sym (finds n)) (possible n)))
@@ -89,22 +89,18 @@ bytes_at_end : (d : Device) → bytes_after (run_of d) (length d.operations) ≡
 bytes_at_end d = ap (λ (o : Option Change). option_map_or (λ (x : Change). Some x.before) o (bytes_now d.flash)) (get_end d.operations)
 
 pub clocks_find_now : ClocksFindNow
-clocks_find_now d holds First m finds =
+clocks_find_now d holds m finds =
     let f : FindsAfter d (min (length d.operations) last_count) m = finds in
     let at : min (length d.operations) last_count ≡ length d.operations = omega (arith, f.small) in
     let is : bytes_now d.flash ≡ Some f.image = sym (bytes_at_end d) ∙ ap (bytes_after (run_of d)) (sym at) ∙ f.is in
     possible_in d f.image f.image m f.told is (if_some (bytes_now d.flash) (λ bytes. ImageIsPossible d bytes bytes) f.image is (holds f.told)) f.finds
-clocks_find_now d holds Second m finds = absurd finds
 
 -- WITHOUT AN OPERATION
-pub same_part : (c : PartClock) → SamePart c c
-same_part c = record { may_find = λ w m. (λ is. is, λ is. is); off_in = λ k. (λ is. is, λ is. is); worn = λ k n. (λ is. is, λ is. is) }
-
 pub tells_of : (d t : Device) → t.making ≡ d.making → t.entry ≡ d.entry → tells t ≡ tells d
-tells_of d t making entry = λ i. is_told_sound (making i).geometry (bytes_now (entry i))
+tells_of d t making entry = λ i. is_told_sound (making i) (bytes_now (entry i))
 
 map_of : (d t : Device) (image : List ℕ) (m : ℕ → Held) → t.making ≡ d.making → IsMapOf t image m → IsMapOf d image m
-map_of d t image m making finds n = finds n ∙ (λ i. held_in (making i).geometry (making i).numbers image n)
+map_of d t image m making finds n = finds n ∙ (λ i. held_in (making i) image n)
 
 module _ (d t : Device) (none : MakesNone d t) where
   bytes_same : (k : ℕ) → bytes_after (run_of t) k ≡ bytes_after (run_of d) k
@@ -134,9 +130,9 @@ module _ (d t : Device) (none : MakesNone d t) where
   tells_back : TellsBytes (run_of d) → TellsBytes (run_of t)
   tells_back b = record { first = b.first; entry = ap bytes_now none.entry ∙ b.entry; last = b.last; exit = none.bytes ∙ b.exit }
 
-  room_back : (k n : ℕ) → IfSome (bytes_after (run_of t) k) (HasNoRoomFor (wanted_pages t.making n) t.making.geometry)
-      → IfSome (bytes_after (run_of t) k) (HasNoRoomFor (wanted_pages d.making n) d.making.geometry)
-  room_back k n room = subst (λ (making : Making). IfSome (bytes_after (run_of t) k) (HasNoRoomFor (wanted_pages making n) making.geometry)) none.making room
+  room_back : (k n : ℕ) → IfSome (bytes_after (run_of t) k) (HasNoRoomFor (wanted_pages t.making n) t.making)
+      → IfSome (bytes_after (run_of t) k) (HasNoRoomFor (wanted_pages d.making n) d.making)
+  room_back k n room = subst (λ (making : Making). IfSome (bytes_after (run_of t) k) (HasNoRoomFor (wanted_pages making n) making)) none.making room
 
   worn_back : t.worn ≡ d.worn → (k n : ℕ) → IsWornFor t k n → IsWornFor d k n
   worn_back same k n w = record {
@@ -144,7 +140,7 @@ module _ (d t : Device) (none : MakesNone d t) where
     is = sym same ∙ w.is;
     from = w.from;
     full = λ told small. elim (w.full (tells_back told) small) [
-      | inl room ↦ inl (subst (λ (o : Option (List ℕ)). IfSome o (HasNoRoomFor (wanted_pages d.making n) d.making.geometry)) (bytes_same k) (room_back k n room))
+      | inl room ↦ inl (subst (λ (o : Option (List ℕ)). IfSome o (HasNoRoomFor (wanted_pages d.making n) d.making)) (bytes_same k) (room_back k n room))
       | inr failed ↦ inr (subst (λ (l : List Change). IsTrue (has_failed (take k l))) none.operations failed)
     ];
   }
@@ -156,13 +152,22 @@ pub clocks_stay : ClocksStay
 clocks_stay d t none same =
     let again = back_again d t none in
     record {
-      first = record {
-        may_find = λ w m. (find_back d t none w m, find_back t d again w m);
-        off_in = λ k. (off_back d t none k, off_back t d again k);
-        worn = λ k n. (worn_back d t none same k n, worn_back t d again (sym same) k n);
-      };
-      second = same_part untold;
+      may_find = λ w m. (find_back d t none w m, find_back t d again w m);
+      off_in = λ k. (off_back d t none k, off_back t d again k);
+      worn = λ k n. (worn_back d t none same k n, worn_back t d again (sym same) k n);
+      of_second = λ k. (λ is. is, λ is. is);
     }
+
+-- an operation that it says the power went off in was made
+off_made : (d : Device) (k : ℕ) → off_in_of d k → (k < min (length d.operations) last_count) ⊎ (last_count ≤ k)
+off_made d k (inl big) = inr big
+off_made d k (inr (x, at, off)) = elim (cases_lt k last_count) [
+  | inr big ↦ inr big
+  | inl small ↦ inl (let lt : k < length d.operations = get_below d.operations k x at in omega arith)
+]
+
+off_before : (d : Device) (k : ℕ) → off_in_of d k → off_in_of d k × ((k < min (length d.operations) last_count) ⊎ (last_count ≤ k))
+off_before d k is = (is, off_made d k is)
 
 no_cut : {A : Type 0} (d t : Device) (k : ℕ) → MakesNone d t → min (length d.operations) last_count ≤ k → k < min (length t.operations) last_count → A
 no_cut d t k none le lt = let same : length t.operations ≡ length d.operations = ap (length {A = Change}) none.operations in absurd (omega arith)
@@ -173,10 +178,10 @@ worn_kept d t k n none (inr new) w = let no : Some w.since ≡ None = sym w.is �
 
 pub clocks_pass : ClocksPass
 clocks_pass answer d t none worn = record {
-  past = record { after = λ k m le f. find_back d t none (After k) m f; cut = λ k m lt f. find_back d t none (CutIn k) m f; worn = λ k n le w. worn_kept d t k n none worn w };
+  past = record { after = λ k m le f. find_back d t none (After k) m f; cut = λ k m lt f. find_back d t none (CutIn k) m f; worn = λ k n le w. worn_kept d t k n none worn w; of_second = λ k lt. (λ is. is, λ is. is) };
   cut = λ k m le lt f. no_cut d t k none le lt;
-  off = λ k f. inl (off_back d t none k f);
-  other = same_part untold;
+  off = λ k f. inl (off_before d k (off_back d t none k f));
+  part = λ k le lt. no_cut d t k none le lt;
 }
 
 pub worn_now : WornNow
@@ -185,7 +190,7 @@ worn_now d since n is from full = record {
   is = is;
   from = from;
   full = λ told small. elim full [
-    | inl room ↦ inl (subst (λ (o : Option (List ℕ)). IfSome o (HasNoRoomFor (wanted_pages d.making n) d.making.geometry))
+    | inl room ↦ inl (subst (λ (o : Option (List ℕ)). IfSome o (HasNoRoomFor (wanted_pages d.making n) d.making))
         (sym (bytes_at_end d) ∙ ap (bytes_after (run_of d)) (let at : length d.operations ≡ min (length d.operations) last_count = omega (arith, small) in at)) room)
     | inr failed ↦ inr (subst (λ (l : List Change). IsTrue (has_failed l)) (sym (take_all (min (length d.operations) last_count) d.operations (omega (arith, small)))) failed)
   ];
@@ -269,8 +274,8 @@ module _ (op : Op) (answer : FlashAnswer) (d t : Device) (alike : ToldAlike d) (
         let b = told_before d.flash.bytes t.flash.bytes told.last makes.asked.bytes told.exit in
         let d_tells : TellsBytes (run_of d) = record { first = told.first; entry = ap bytes_now (sym makes.entry) ∙ told.entry; last = b.bytes; exit = b.is } in
         elim (w.full d_tells small) [
-          | inl room ↦ inl (subst (λ (making : Making). IfSome (bytes_after (run_of t) k) (HasNoRoomFor (wanted_pages making n) making.geometry)) (sym makes.making)
-              (subst (λ (o : Option (List ℕ)). IfSome o (HasNoRoomFor (wanted_pages d.making n) d.making.geometry)) (sym (after_same k b.bytes b.is (omega arith))) room))
+          | inl room ↦ inl (subst (λ (making : Making). IfSome (bytes_after (run_of t) k) (HasNoRoomFor (wanted_pages making n) making)) (sym makes.making)
+              (subst (λ (o : Option (List ℕ)). IfSome o (HasNoRoomFor (wanted_pages d.making n) d.making)) (sym (after_same k b.bytes b.is (omega arith))) room))
           | inr failed ↦ inr (subst (λ (l : List Change). IsTrue (has_failed l)) (sym (ap (take k) makes.operations ∙ take-append-le k d.operations (change ∷ []) (omega arith))) failed)
         ];
   }
@@ -289,7 +294,12 @@ module _ (op : Op) (answer : FlashAnswer) (d t : Device) (alike : ToldAlike d) (
     ]
   ]
 
-  cut_now : CutsArePossible op d → (k : ℕ) (m : ℕ → Held) → min count last_count ≤ k → k < min (length t.operations) last_count → FindsInCut t k m → ArePossible First (told_of d) (slots_told d) m
+  off_told : (k : ℕ) → off_in_of d k ⊎ GoesOff (turn_of answer) (min count last_count) (min (length t.operations) last_count) k
+      → (off_in_of d k × ((k < min count last_count) ⊎ (last_count ≤ k))) ⊎ GoesOff (turn_of answer) (min count last_count) (min (length t.operations) last_count) k
+  off_told k (inl is) = inl (off_before d k is)
+  off_told k (inr goes) = inr goes
+
+  cut_now : CutsArePossible op d → (k : ℕ) (m : ℕ → Held) → min count last_count ≤ k → k < min (length t.operations) last_count → FindsInCut t k m → ArePossible (told_of d) (slots_told d) m
   cut_now possible k m le lt f =
       let here : k ≡ count = omega (arith, one_more) in
       let told : IsTrue (tells d) = sym told_same ∙ f.told in
@@ -300,8 +310,8 @@ module _ (op : Op) (answer : FlashAnswer) (d t : Device) (alike : ToldAlike d) (
 
 pub clocks_tick : ClocksTick
 clocks_tick op answer d t alike makes possible = record {
-  past = record { after = λ k m le f. find_past op answer d t alike makes k m le f; cut = λ k m lt f. cut_past op answer d t alike makes k m lt f; worn = λ k n le w. worn_past op answer d t alike makes k n le w };
+  past = record { after = λ k m le f. find_past op answer d t alike makes k m le f; cut = λ k m lt f. cut_past op answer d t alike makes k m lt f; worn = λ k n le w. worn_past op answer d t alike makes k n le w; of_second = λ k lt. (λ is. is, λ is. is) };
   cut = λ k m le lt f. cut_now op answer d t alike makes possible k m le lt f;
-  off = off_past op answer d t alike makes;
-  other = same_part untold;
+  off = λ k is. off_told op answer d t alike makes k (off_past op answer d t alike makes k is);
+  part = λ k le lt. (λ no. absurd no, λ is. cc is);
 }

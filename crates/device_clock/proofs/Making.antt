@@ -14,9 +14,10 @@ use Rattle.fls_model.specs.Step.{IsChanged, Leaves, Notes, HasCause}
 use Rattle.fls_model.specs.Told.{Told, ToldBytes, Change, IfBothTold, bytes_now, changes_in}
 use Rattle.fee_image.specs.Laws.{SoundImagesCompute}
 use Rattle.fee_image.specs.Sound.{IsSoundImage}
-use Rattle.device_bridge.specs.Bridge.{Making, is_program, is_failed, has_failed}
+use Rattle.device_bridge.specs.Making.{Making, banks_of}
+use Rattle.device_bridge.specs.Bridge.{is_program, is_failed, has_failed}
 use Rattle.device_bridge.specs.FlashRun.{TellsBytes, IsChain, IsCutImage}
-use Rattle.device_bridge.specs.Image.{two_banks, attached, IsSoundFlash, IsOfLastGeneration}
+use Rattle.device_bridge.specs.Image.{attached, IsSoundFlash, IsOfLastGeneration}
 use Rattle.device_clock.specs.Device.{Device, run_of, tells}
 use Rattle.device_clock.specs.Clock.{MakesNone, Makes, change_of}
 use Rattle.device_clock.specs.Runs.{CountsCuts, IsWornSince, HasRun, RunsBegin, KeepsRun, RunsStay, counts_fault, LeavesSound, KeepsWorn, RunsGoOn}
@@ -65,16 +66,17 @@ no_get (suc k) x is = cc
 
 pub runs_begin : SoundImagesCompute → RunsBegin
 runs_begin computes d made cuts =
-    let g = d.making.geometry in
+    let m = d.making in
+    let g = m.geometry in
     let at = made.attaches in
     record {
       alike = alike_made g d.entry.bytes d.flash.bytes at.bytes;
       chain = λ t. subst (λ (l : List Change). IsChain (attached g t.first) l t.last) (sym made.operations) (filled g d.entry.bytes d.flash.bytes t.first t.last at.bytes t.entry t.exit);
       changes = if_same (changes_in d.flash.bytes) [] d.operations made.operations (none_made d.entry.bytes d.flash.bytes g at.bytes);
-      sound = λ told. some_if (bytes_now d.flash) (IsSoundFlash g) (λ end is.
+      sound = λ told. some_if (bytes_now d.flash) (IsSoundFlash m) (λ end is.
           let first = filled_before g d.entry.bytes d.flash.bytes end at.bytes is in
           let same = filled g d.entry.bytes d.flash.bytes first.bytes end at.bytes first.is is in
-          subst (IsSoundImage (two_banks g)) (sym (ap (attached g) same ∙ twice (size_of g) first.bytes)) (told_sound computes d first.bytes first.is told));
+          subst (IsSoundImage (banks_of m)) (sym (ap (attached g) same ∙ twice (size_of g) first.bytes)) (told_sound computes d first.bytes first.is told));
       sound_cut = λ told k image (x, get, leaves). (let none : slice_get [] k ≡ Some x = ap (λ (l : List Change). slice_get l k) (sym made.operations) ∙ get in absurd (no_get k x none));
       faults = inl (omega (arith, made.faults, at.faults));
       failed = λ failed. absurd (false≢true (subst (λ (l : List Change). IsTrue (has_failed l)) made.operations failed));
@@ -104,7 +106,7 @@ module _ (d t : Device) (has : HasRun d) (keeps : KeepsRun d t) where
 
   worn_in : (since : ℕ) → IsWornSince d since → IsWornSince t since
   worn_in since was = record {
-    last = subst (λ (g : Geometry). IfSome (bytes_now t.flash) (IsOfLastGeneration g)) (sym geometry) (subst (λ (o : Option (List ℕ)). IfSome o (IsOfLastGeneration d.making.geometry)) (sym none.bytes) was.last);
+    last = subst (λ (m : Making). IfSome (bytes_now t.flash) (IsOfLastGeneration m)) (sym none.making) (subst (λ (o : Option (List ℕ)). IfSome o (IsOfLastGeneration d.making)) (sym none.bytes) was.last);
     no_erase = λ small. subst (λ (l : List Change). IsTrue (list_all (λ (x : Change). is_program x.op) (drop since l))) (sym none.operations) (was.no_erase small);
   }
 
@@ -118,8 +120,8 @@ module _ (d t : Device) (has : HasRun d) (keeps : KeepsRun d t) where
     chain = λ b. subst (λ (g : Geometry). IsChain (attached g b.first) t.operations b.last) (sym geometry)
         (subst (λ (l : List Change). IsChain (attached d.making.geometry b.first) l b.last) (sym none.operations) (has.chain (told_in b)));
     changes = if_same (changes_in t.flash.bytes) d.operations t.operations none.operations (subst (λ (o : Option ToldBytes). IfSome (changes_in o) (λ (c : List Change). c ≡ d.operations)) (sym keeps.bytes) has.changes);
-    sound = λ told. subst (λ (g : Geometry). IfSome (bytes_now t.flash) (IsSoundFlash g)) (sym geometry) (subst (λ (o : Option (List ℕ)). IfSome o (IsSoundFlash d.making.geometry)) (sym none.bytes) (has.sound (is_told told)));
-    sound_cut = λ told k image (x, get, leaves). subst (λ (g : Geometry). IsSoundFlash g image) (sym geometry) (has.sound_cut (is_told told) k image (x, ap (λ (l : List Change). slice_get l k) (sym none.operations) ∙ get, leaves));
+    sound = λ told. subst (λ (m : Making). IfSome (bytes_now t.flash) (IsSoundFlash m)) (sym none.making) (subst (λ (o : Option (List ℕ)). IfSome o (IsSoundFlash d.making)) (sym none.bytes) (has.sound (is_told told)));
+    sound_cut = λ told k image (x, get, leaves). subst (λ (m : Making). IsSoundFlash m image) (sym none.making) (has.sound_cut (is_told told) k image (x, ap (λ (l : List Change). slice_get l k) (sym none.operations) ∙ get, leaves));
     faults = keeps.faults;
     failed = λ failed. subst (λ (e : Told). Rose e.faults t.flash.faults) (sym none.entry)
         (rose_more d.entry.faults d.flash.faults t.flash.faults (has.failed (subst (λ (l : List Change). IsTrue (has_failed l)) none.operations failed)) keeps.flash_faults);
@@ -237,20 +239,20 @@ module _ (op : Op) (answer : FlashAnswer) (d t : Device) (has : HasRun d) (makes
       (chain_more (attached d.making.geometry b.first) d.operations was.bytes b.last change (has.chain told) (before_is op answer d t has.alike makes was.bytes was.is) leaves.0))
 
   module _ (sound : LeavesSound op d) where
-    leaves_sound : (bytes image : List ℕ) → IsTrue (tells d) → bytes_now d.flash ≡ Some bytes → MayLeave op bytes image → IsSoundFlash t.making.geometry image
+    leaves_sound : (bytes image : List ℕ) → IsTrue (tells d) → bytes_now d.flash ≡ Some bytes → MayLeave op bytes image → IsSoundFlash t.making image
     leaves_sound bytes image told is leaves =
-        subst (λ (g : Geometry). IsSoundFlash g image) (sym same_geometry)
-        (if_some (bytes_now d.flash) (λ b. (i : List ℕ) → MayLeave op b i → IsSoundFlash d.making.geometry i) bytes is (sound told) image leaves)
+        subst (λ (m : Making). IsSoundFlash m image) (sym makes.making)
+        (if_some (bytes_now d.flash) (λ b. (i : List ℕ) → MayLeave op b i → IsSoundFlash d.making i) bytes is (sound told) image leaves)
 
-    goes_sound : IsTrue (tells t) → IfSome (bytes_now t.flash) (IsSoundFlash t.making.geometry)
-    goes_sound told = some_if (bytes_now t.flash) (IsSoundFlash t.making.geometry) (λ new is.
+    goes_sound : IsTrue (tells t) → IfSome (bytes_now t.flash) (IsSoundFlash t.making)
+    goes_sound told = some_if (bytes_now t.flash) (IsSoundFlash t.making) (λ new is.
         let was = told_before op answer d t has.alike makes d.flash.bytes t.flash.bytes new makes.asked.bytes is in
         leaves_sound was.bytes new (was_told told) was.is (changed d.flash.bytes t.flash.bytes was.bytes new makes.asked.bytes was.is is).1)
 
-    goes_cut : IsTrue (tells t) → (k : ℕ) (image : List ℕ) → IsCutImage (run_of t) k image → IsSoundFlash t.making.geometry image
+    goes_cut : IsTrue (tells t) → (k : ℕ) (image : List ℕ) → IsCutImage (run_of t) k image → IsSoundFlash t.making image
     goes_cut told k image (x, get, leaves) = elim (cases_lt k (length d.operations)) [
       | inl lt ↦
-          subst (λ (g : Geometry). IsSoundFlash g image) (sym same_geometry)
+          subst (λ (m : Making). IsSoundFlash m image) (sym makes.making)
           (has.sound_cut (was_told told) k image (x, sym (early op answer d t has.alike makes k lt) ∙ get, leaves))
       | inr ge ↦
           let below : k < length t.operations = get_below t.operations k x get in
@@ -278,7 +280,7 @@ module _ (op : Op) (answer : FlashAnswer) (d t : Device) (has : HasRun d) (makes
           let was = has.worn since at in
           let keeps = worn since at in
           record {
-            last = subst (λ (g : Geometry). IfSome (bytes_now t.flash) (IsOfLastGeneration g)) (sym same_geometry) keeps.1;
+            last = subst (λ (m : Making). IfSome (bytes_now t.flash) (IsOfLastGeneration m)) (sym makes.making) keeps.1;
             no_erase = λ small. subst (λ (l : List Change). IsTrue (list_all (λ (x : Change). is_program x.op) (drop since l))) (sym makes.operations)
                 (all_more (λ (x : Change). is_program x.op) since d.operations change (was.no_erase small) keeps.0);
           };

@@ -12,8 +12,8 @@ use Rattle.fls_model.specs.Step.{HasCause}
 use Rattle.fls_model.specs.Told.{Told, Change}
 use Rattle.fee_image.specs.Image.{active_of}
 use Rattle.fee_image.specs.Laws.{ActiveStays, ProgramsTouchOnePage}
-use Rattle.device_bridge.specs.Image.{two_banks}
-use Rattle.device_clock.specs.Device.{Device, part_of}
+use Rattle.device_bridge.specs.Making.{banks_of}
+use Rattle.device_clock.specs.Device.{Device, ops_in, part_of}
 use Rattle.device_clock.specs.Clock.{Makes, change_of}
 use Rattle.device_clock.specs.Runs.{counts_fault}
 use Rattle.device_clock.specs.Parts.{PartsWork, PartsCut, PartsRead, PartsPower, ProgramsKeepLast}
@@ -48,39 +48,39 @@ works_off Done s t not_off cause = cause.2
 works_off Failed s t not_off cause = cause.2
 works_off Off s t not_off cause = absurd (not_off refl)
 
-works_plan : (answer : FlashAnswer) (p q : PartTold) → answer ≢ Off → PlanGoes answer p.planning q.planning → q.ops ≡ next_count p.ops → PlanStays p q
-works_plan Done p q not_off goes ops = inr (goes, ops)
-works_plan Failed p q not_off (inl nears) ops = inr (nears, ops)
-works_plan Failed p q not_off (inr same) ops = inl same
-works_plan Off p q not_off goes ops = absurd (not_off refl)
+works_plan : (answer : FlashAnswer) (a b : ℕ) (p q : PartTold) → answer ≢ Off → PlanGoes answer p.planning q.planning → b ≡ next_count a → PlanStays a b p q
+works_plan Done a b p q not_off goes ops = inr (goes, ops)
+works_plan Failed a b p q not_off (inl nears) ops = inr (nears, ops)
+works_plan Failed a b p q not_off (inr same) ops = inl same
+works_plan Off a b p q not_off goes ops = absurd (not_off refl)
 
 pub parts_work : PartsWork
 parts_work op answer d t c not_off =
     let long = one_more op answer d t c.makes in
     let ops : min (length t.operations) last_count ≡ next_count (min (length d.operations) last_count) = omega (arith, long) in
     record {
-      only = λ i. record { ops = min (length t.operations) last_count; faults = t.faults; flash_faults = t.flash.faults; off = works_off answer d.flash t.flash not_off c.makes.asked.cause i; planning = t.flash.planning };
+      only = λ i. record { faults = t.faults; flash_faults = t.flash.faults; off = works_off answer d.flash t.flash not_off c.makes.asked.cause i; planning = t.flash.planning };
       on = c.on;
       later = omega (arith, long);
       one = inr ops;
-      plan = works_plan answer (part_of d) (part_of t) not_off c.makes.asked.planning ops;
+      plan = works_plan answer (ops_in d) (ops_in t) (part_of d) (part_of t) not_off c.makes.asked.planning ops;
       faults = faults_grow answer d t c.makes.asked.cause c.faults c.small;
     }
 
-cut_plan : (p q : PartTold) → PlanGoes Off p.planning q.planning → q.ops ≡ next_count p.ops → PlanCuts p q
-cut_plan p q (inl comes) ops = inl (comes, ops)
-cut_plan p q (inr unplanned) ops = inr unplanned
+cut_plan : (a b : ℕ) (p q : PartTold) → PlanGoes Off p.planning q.planning → b ≡ next_count a → PlanCuts a b p q
+cut_plan a b p q (inl comes) ops = inl (comes, ops)
+cut_plan a b p q (inr unplanned) ops = inr unplanned
 
 pub parts_cut : PartsCut
 parts_cut op d t c =
     let long = one_more op Off d t c.makes in
     let ops : min (length t.operations) last_count ≡ next_count (min (length d.operations) last_count) = omega (arith, long) in
     record {
-      only = λ i. record { ops = min (length t.operations) last_count; faults = t.faults; flash_faults = t.flash.faults; off = c.makes.asked.cause.2 i; planning = t.flash.planning };
+      only = λ i. record { faults = t.faults; flash_faults = t.flash.faults; off = c.makes.asked.cause.2 i; planning = t.flash.planning };
       on = c.on;
       later = omega (arith, long);
       one = inr ops;
-      plan = cut_plan (part_of d) (part_of t) c.makes.asked.planning ops;
+      plan = cut_plan (ops_in d) (ops_in t) (part_of d) (part_of t) c.makes.asked.planning ops;
       faults = faults_grow Off d t c.makes.asked.cause c.faults c.small;
     }
 
@@ -93,7 +93,7 @@ parts_read d t r on =
     let g = grow d.flash.faults t.flash.faults d.faults t.faults r.more r.faults r.small in
     let ops = same_ops d t r.operations in
     record {
-      only = λ i. record { ops = min (length t.operations) last_count; faults = t.faults; flash_faults = t.flash.faults; off = (ap (λ (f : Told). f.off) r.flash ∙ on) i; planning = t.flash.planning };
+      only = λ i. record { faults = t.faults; flash_faults = t.flash.faults; off = (ap (λ (f : Told). f.off) r.flash ∙ on) i; planning = t.flash.planning };
       on = on;
       later = omega (arith, ops);
       one = inl ops;
@@ -105,15 +105,15 @@ pub parts_power : PartsPower
 parts_power d t p =
     let g = grow d.flash.faults t.flash.faults d.faults t.faults p.more p.faults p.small in
     record {
-      only = λ i. record { ops = same_ops d t p.operations i; faults = t.faults; flash_faults = t.flash.faults; off = t.flash.off; planning = p.planning i };
+      only = λ i. record { faults = t.faults; flash_faults = t.flash.faults; off = t.flash.off; planning = p.planning i };
       faults = record { faults = g.0; flash = p.more; tied = g.1 };
       off = λ is. absurd (let e : true ≡ false = sym is ∙ p.off in cc e);
     }
 
 -- A WORN-OUT DEVICE
 pub programs_keep_last : ActiveStays → ProgramsTouchOnePage → ProgramsKeepLast
-programs_keep_last stays touch g old new page k q legal size low high leaves (j, h, active, is_last) =
-    let l = two_banks g in
+programs_keep_last stays touch m old new page k q legal size low high leaves (j, h, active, is_last) =
+    let l = banks_of m in
     let page_same = λ (i : ℕ) (r : ℕ) (few : r < 2). touch l old new page k q i r size leaves high (let lt : r < l.pages = omega (arith, legal.pages) in lt) (λ same. omega (arith, same.1)) in
     let same : active_of l new ≡ active_of l old = stays l old new (λ i few. (page_same i 0 (omega arith), page_same i 1 (omega arith))) in
     (j, h, same ∙ active, is_last)

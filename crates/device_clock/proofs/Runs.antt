@@ -9,23 +9,24 @@ use Rattle.fls_model.specs.Told.{Change, bytes_now, changes_in}
 use Rattle.fee_image.specs.Laws.{SoundImagesCompute}
 use Rattle.device_bridge.specs.Bridge.{is_program, is_failed, IsWornOut}
 use Rattle.device_bridge.specs.FlashRun.{TellsBytes, StartsSound, HasSamePlace, AreSeen, bytes_after}
-use Rattle.device_bridge.specs.Image.{two_banks, attached, IsSoundFlash}
+use Rattle.device_bridge.specs.Making.{banks_of}
+use Rattle.device_bridge.specs.Image.{attached, IsSoundFlash}
 use Rattle.device_clock.specs.Device.{Device, run_of, is_told_sound, tells}
 use Rattle.device_clock.specs.Clock.{IsWornFor}
 use Rattle.device_clock.specs.Runs.{HasRun, RunsBridge}
 use Rattle.device_clock.proofs.Clocks.{some_if, if_some}
 
 -- THE BRIDGE
-sound_told : SoundImagesCompute → (d : Device) → TellsBytes (run_of d) → StartsSound d.making.geometry (run_of d) → IsTrue (tells d)
+sound_told : SoundImagesCompute → (d : Device) → TellsBytes (run_of d) → StartsSound d.making (run_of d) → IsTrue (tells d)
 sound_told computes d t sound =
-    let g = d.making.geometry in
-    let is : IsSoundFlash g t.first = if_some (bytes_now d.entry) (IsSoundFlash g) t.first t.entry sound in
-    subst (λ (o : Option (List ℕ)). IsTrue (is_told_sound g o)) (sym t.entry) ((computes (two_banks g) (attached g t.first)).1 is)
+    let m = d.making in
+    let is : IsSoundFlash m t.first = if_some (bytes_now d.entry) (IsSoundFlash m) t.first t.entry sound in
+    subst (λ (o : Option (List ℕ)). IsTrue (is_told_sound m o)) (sym t.entry) ((computes (banks_of m) (attached m.geometry t.first)).1 is)
 
-pub told_sound : SoundImagesCompute → (d : Device) (first : List ℕ) → bytes_now d.entry ≡ Some first → IsTrue (tells d) → IsSoundFlash d.making.geometry first
+pub told_sound : SoundImagesCompute → (d : Device) (first : List ℕ) → bytes_now d.entry ≡ Some first → IsTrue (tells d) → IsSoundFlash d.making first
 told_sound computes d first is told =
-    let g = d.making.geometry in
-    (computes (two_banks g) (attached g first)).0 (subst (λ (o : Option (List ℕ)). IsTrue (is_told_sound g o)) is told)
+    let m = d.making in
+    (computes (banks_of m) (attached m.geometry first)).0 (subst (λ (o : Option (List ℕ)). IsTrue (is_told_sound m o)) is told)
 
 same_place : (op : Op) → HasSamePlace op op
 same_place (Program address page) = (refl, refl)

@@ -5,7 +5,8 @@ use Rattle.nv_base.specs.declared.geometry.Geometry.{Geometry}
 use Rattle.memif.specs.Told.{Slot, slot_at, IfElse}
 use Rattle.memif.specs.Marks.{Keeps, Doubts, SettlesAs, ComesFrom, IfTold}
 use Rattle.fee_image.specs.Sound.{IsSoundImage}
-use Rattle.device_bridge.specs.Image.{two_banks, attached, found_as}
+use Rattle.device_bridge.specs.Making.{banks_of}
+use Rattle.device_bridge.specs.Image.{attached, held_as}
 use Rattle.memif.specs.Told.{length_of}
 use Rattle.device_clock.specs.Device.{Device, tells, slots_in, slots_told}
 use Rattle.device_clock.specs.Tells.{IsSame, was, AreTold, TellsKeep, TellsSettle, TellsDoubt, TellsStart, ImagesAttach}
@@ -58,7 +59,7 @@ attached_is g [] some = absurd (omega arith)
 attached_is g (x ∷ xs) some = refl
 
 pub images_attach : ImagesAttach
-images_attach g numbers image some = (
-  λ n. ap (λ (i : List ℕ). record { mark = found_as (two_banks g) i n (length_of numbers n) }) (attached_is g image some),
-  λ sound. subst (IsSoundImage (two_banks g)) (sym (attached_is g image some)) sound,
+images_attach m image some = (
+  λ n. ap (λ (i : List ℕ). held_as (banks_of m) i n (length_of m.numbers n)) (attached_is m.geometry image some),
+  λ sound. subst (IsSoundImage (banks_of m)) (sym (attached_is m.geometry image some)) sound,
 )

@@ -1,4 +1,4 @@
--- What a device over two banks tells by the operations of its flash.
+-- What a device over banks tells by the operations of its flash.
 use Rattle.std.specs.Prelude.{◌≡◌, ◌⊎◌, ◌<◌, ◌≤◌, ◌++◌, ◌∷◌, [], ℕ, IsTrue, List, length, take, slice_get}
 use Rattle.std.specs.Prelude.{unwrap_or, Some, None, IfSome}
 use Rattle.nv_base.specs.Count.{last_count}
@@ -6,7 +6,7 @@ use Rattle.memif.specs.declared.answer.DeviceTurn.{DeviceTurn}
 use Rattle.memif.specs.declared.answer.DeviceTurn.TheVariants as turn
 use Rattle.memif.specs.Told.{Held, First, slot_at}
 use Rattle.memif.specs.Marks.{IsPossible}
-use Rattle.memif.specs.Clock.{When, After, CutIn, Clock, untold, SameClock, FindsNow, Ticks}
+use Rattle.memif.specs.Clock.{When, After, CutIn, Clock, SameClock, FindsNow, Ticks}
 use Rattle.fls_model.specs.declared.flash.FlashAnswer.{FlashAnswer}
 use Rattle.fls_model.specs.declared.flash.FlashAnswer.TheVariants.{Done, Failed, Off}
 use Rattle.fls_model.specs.Op.{Op, MayLeave}
@@ -15,12 +15,12 @@ use Rattle.fls_model.specs.Told.{Told, Change, IfBothTold, bytes_now}
 use Rattle.device_bridge.specs.Bridge.{has_failed, wanted_pages}
 use Rattle.device_bridge.specs.FlashRun.{TellsBytes, IsCutImage, bytes_after}
 use Rattle.device_bridge.specs.Image.{HasNoRoomFor, held_in}
-use Rattle.device_clock.specs.Device.{Device, run_of, tells, slots_in, part_of, told_of}
+use Rattle.device_clock.specs.Device.{Device, run_of, tells, slots_in, ops_in, told_of}
 
 -- THE CLOCK
 -- a map is what a start-up finds in an image
 abbrev pub IsMapOf : Device → List ℕ → (ℕ → Held) → Type 0
-IsMapOf d image m = (n : ℕ) → m n ≡ held_in d.making.geometry d.making.numbers image n
+IsMapOf d image m = (n : ℕ) → m n ≡ held_in d.making image n
 
 -- of the bytes once k operations were made
 pub record FindsAfter (d : Device) (k : ℕ) (m : ℕ → Held) : Type 0 where
@@ -53,10 +53,10 @@ pub record IsWornFor (d : Device) (k n : ℕ) : Type 0 where
   pub is : d.worn ≡ Some since
   pub from : since ≤ k
   pub full : TellsBytes (run_of d) → k < last_count
-      → IfSome (bytes_after (run_of d) k) (HasNoRoomFor (wanted_pages d.making n) d.making.geometry) ⊎ IsTrue (has_failed (take k d.operations))
+      → IfSome (bytes_after (run_of d) k) (HasNoRoomFor (wanted_pages d.making n) d.making) ⊎ IsTrue (has_failed (take k d.operations))
 
 abbrev pub clock_of : Device → Clock
-clock_of d = record { first = record { may_find = may_find_of d; off_in = off_in_of d; worn = IsWornFor d }; second = untold }
+clock_of d = record { may_find = may_find_of d; off_in = off_in_of d; worn = IsWornFor d; of_second = λ k. ⊥ }
 
 -- WITHOUT AN OPERATION
 pub record MakesNone (d t : Device) : Type 0 where
@@ -78,9 +78,9 @@ ClocksPass =
 -- it is worn out now for a number of which a record has no room in the bytes, or where an operation failed
 abbrev pub WornNow : Type 0
 WornNow =
-    (d : Device) (since n : ℕ) → d.worn ≡ Some since → since ≤ (part_of d).ops
-    → (IfSome (bytes_now d.flash) (HasNoRoomFor (wanted_pages d.making n) d.making.geometry) ⊎ IsTrue (has_failed d.operations))
-    → (clock_of d).first.worn (part_of d).ops n
+    (d : Device) (since n : ℕ) → d.worn ≡ Some since → since ≤ ops_in d
+    → (IfSome (bytes_now d.flash) (HasNoRoomFor (wanted_pages d.making n) d.making) ⊎ IsTrue (has_failed d.operations))
+    → (clock_of d).worn (ops_in d) n
 
 -- BY AN OPERATION
 abbrev pub change_of : Op → Told → FlashAnswer → Change
@@ -102,7 +102,7 @@ turn_of Off = turn.Off
 -- each map that a start-up would find in an image is possible
 abbrev pub ImageIsPossible : Device → List ℕ → List ℕ → Type 0
 ImageIsPossible d bytes image =
-    (n : ℕ) → IsPossible (slot_at d.making.numbers (slots_in d bytes) n) (held_in d.making.geometry d.making.numbers image n)
+    (n : ℕ) → IsPossible (slot_at d.making.numbers (slots_in d bytes) n) (held_in d.making image n)
 
 -- whatever a cut of an operation leaves
 abbrev pub CutsArePossible : Op → Device → Type 0

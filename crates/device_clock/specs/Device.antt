@@ -1,15 +1,14 @@
--- A device over the two banks of a flash, and what it tells.
+-- A device over the banks of a flash, and what it tells.
 use Rattle.std.specs.Prelude.{ℕ, min, Bool, true, false, if◌then◌else◌, ◌&&◌, List, length, Option, Some, None, option_map}
 use Rattle.nv_base.specs.Count.{last_count}
-use Rattle.nv_base.specs.declared.geometry.Geometry.{Geometry}
 use Rattle.memif.specs.Told.{Slot, Figures, Fixed, PartTold, DeviceTold, no_part}
 use Rattle.fls_model.specs.Told.{Told, Change, bytes_now}
 use Rattle.fee_image.specs.Image.{Layout}
 use Rattle.fee_image.specs.Sound.{is_sound_image}
 use Rattle.bank_image.specs.Banks.{Phase, Idle}
-use Rattle.device_bridge.specs.Bridge.{Making}
+use Rattle.device_bridge.specs.Making.{Making, banks_of}
 use Rattle.device_bridge.specs.FlashRun.{FlashRun}
-use Rattle.device_bridge.specs.Image.{two_banks, attached}
+use Rattle.device_bridge.specs.Image.{attached}
 use Rattle.device_image.specs.Slots.{Memory, slots_held, slots_found}
 
 -- What a device knows, with what its flash tells.
@@ -36,19 +35,19 @@ pub record Device : Type 0 where
   pub wait : Option ℕ
 
 abbrev pub layout_in : Device → Layout
-layout_in d = two_banks d.making.geometry
+layout_in d = banks_of d.making
 
 abbrev pub run_of : Device → FlashRun
 run_of d = record { entry = d.entry; exit = d.flash; operations = d.operations }
 
 -- an image is told, and sound
-abbrev pub is_told_sound : Geometry → Option (List ℕ) → Bool
-is_told_sound g None = false
-is_told_sound g (Some image) = is_sound_image (two_banks g) (attached g image)
+abbrev pub is_told_sound : Making → Option (List ℕ) → Bool
+is_told_sound m None = false
+is_told_sound m (Some image) = is_sound_image (banks_of m) (attached m.geometry image)
 
 -- it tells what its numbers hold where its flash told its bytes, and the image was sound, when it was made
 abbrev pub tells : Device → Bool
-tells d = is_told_sound d.making.geometry (bytes_now d.entry)
+tells d = is_told_sound d.making (bytes_now d.entry)
 
 abbrev pub slots_in : Device → List ℕ → List Slot
 slots_in d bytes = if d.started then slots_held (layout_in d) d.making.numbers bytes d.memory else slots_found (layout_in d) d.making.numbers bytes
@@ -59,10 +58,13 @@ slots_told d = if tells d then option_map (slots_in d) (bytes_now d.flash) else 
 abbrev pub fixed_of : Device → Fixed
 fixed_of d = record { numbers = d.making.numbers; figures = d.figures; reserve = d.making.reserve; own = d.own; two = false }
 
+-- the operations that it asked for, as far as they are counted
+abbrev pub ops_in : Device → ℕ
+ops_in d = min (length d.operations) last_count
+
 -- its one part: it is off while its flash is, and takes the plans that its flash takes
 abbrev pub part_of : Device → PartTold
 part_of d = record {
-  ops = min (length d.operations) last_count;
   faults = d.faults;
   flash_faults = d.flash.faults;
   off = d.flash.off;
@@ -80,6 +82,7 @@ told_of d = record {
   started = d.started;
   stand = d.memory.stand;
   switching = d.started && is_switching d.memory.phase;
+  ops = ops_in d;
   first = part_of d;
   second = no_part;
   left = d.left;

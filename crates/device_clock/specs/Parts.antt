@@ -2,15 +2,15 @@
 use Rattle.std.specs.Prelude.{◌≡◌, ◌≢◌, ◌⊎◌, ◌≤◌, ◌<◌, ℕ, true, false, List, length}
 use Rattle.nv_base.specs.Count.{Rose, next_count, last_count}
 use Rattle.nv_base.specs.Plan.{dropped}
-use Rattle.nv_base.specs.declared.geometry.Geometry.{Geometry}
 use Rattle.memif.specs.Calls.{PartTurns, PowersUp}
 use Rattle.fls_model.specs.declared.flash.FlashAnswer.{FlashAnswer}
 use Rattle.fls_model.specs.declared.flash.FlashAnswer.TheVariants.{Off}
 use Rattle.fls_model.specs.Op.{Op, MayLeave}
 use Rattle.fee_image.specs.Image.{IsLegalLayout}
 use Rattle.bank_image.specs.Laws.{program_of}
-use Rattle.device_bridge.specs.Image.{two_banks, IsOfLastGeneration}
-use Rattle.device_clock.specs.Device.{Device, part_of}
+use Rattle.device_bridge.specs.Making.{Making, banks_of}
+use Rattle.device_bridge.specs.Image.{IsOfLastGeneration}
+use Rattle.device_clock.specs.Device.{Device, ops_in, part_of}
 use Rattle.device_clock.specs.Clock.{Makes}
 use Rattle.device_clock.specs.Runs.{counts_fault}
 
@@ -23,10 +23,10 @@ pub record Counts (op : Op) (answer : FlashAnswer) (d t : Device) : Type 0 where
   pub small : d.faults ≤ last_count
 
 abbrev pub PartsWork : Type 0
-PartsWork = (op : Op) (answer : FlashAnswer) (d t : Device) → Counts op answer d t → answer ≢ Off → PartTurns false (part_of d) (part_of t)
+PartsWork = (op : Op) (answer : FlashAnswer) (d t : Device) → Counts op answer d t → answer ≢ Off → PartTurns false (ops_in d) (ops_in t) (part_of d) (part_of t)
 
 abbrev pub PartsCut : Type 0
-PartsCut = (op : Op) (d t : Device) → Counts op Off d t → PartTurns true (part_of d) (part_of t)
+PartsCut = (op : Op) (d t : Device) → Counts op Off d t → PartTurns true (ops_in d) (ops_in t) (part_of d) (part_of t)
 
 -- WITHOUT ONE
 -- a read, or nothing: the flash may count a fault, and what the device counts it counted
@@ -38,7 +38,7 @@ pub record Reads (d t : Device) : Type 0 where
   pub small : d.faults ≤ last_count
 
 abbrev pub PartsRead : Type 0
-PartsRead = (d t : Device) → Reads d t → d.flash.off ≡ false → PartTurns false (part_of d) (part_of t)
+PartsRead = (d t : Device) → Reads d t → d.flash.off ≡ false → PartTurns false (ops_in d) (ops_in t) (part_of d) (part_of t)
 
 -- a start-up turns the power on, which drops a plan, and reads
 pub record Powers (d t : Device) : Type 0 where
@@ -56,6 +56,6 @@ PartsPower = (d t : Device) → Powers d t → PowersUp (part_of d) (part_of t)
 -- a program behind the gate of any bank leaves the active bank active, with its generation
 abbrev pub ProgramsKeepLast : Type 0
 ProgramsKeepLast =
-    (g : Geometry) (old new page : List ℕ) (k q : ℕ)
-    → IsLegalLayout (two_banks g) → length page ≡ g.page → 2 ≤ q → q < (two_banks g).pages → MayLeave (program_of (two_banks g) k q page) old new
-    → IsOfLastGeneration g old → IsOfLastGeneration g new
+    (m : Making) (old new page : List ℕ) (k q : ℕ)
+    → IsLegalLayout (banks_of m) → length page ≡ m.geometry.page → 2 ≤ q → q < (banks_of m).pages → MayLeave (program_of (banks_of m) k q page) old new
+    → IsOfLastGeneration m old → IsOfLastGeneration m new

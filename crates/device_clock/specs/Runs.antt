@@ -1,4 +1,4 @@
--- What ties a device over two banks to its flash, from its making on.
+-- What ties a device over banks to its flash, from its making on.
 use Rattle.std.specs.Prelude.{◌≡◌, ◌⊎◌, ◌<◌, ◌≤◌, ℕ, Bool, IsTrue, List, [], drop, Some, None, IfSome}
 use Rattle.std.specs.List.{list_all}
 use Rattle.nv_base.specs.Count.{last_count, next_count, Rose, WereCounted}
@@ -11,7 +11,7 @@ use Rattle.fls_model.specs.Told.{Told, bytes_now, changes_in}
 use Rattle.device_bridge.specs.Bridge.{Bridges, is_program, has_failed}
 use Rattle.device_bridge.specs.FlashRun.{TellsBytes, IsChain, IsCutImage}
 use Rattle.device_bridge.specs.Image.{IsSoundFlash, IsOfLastGeneration, attached}
-use Rattle.device_clock.specs.Device.{Device, run_of, tells, part_of}
+use Rattle.device_clock.specs.Device.{Device, run_of, tells, told_of}
 use Rattle.device_clock.specs.Clock.{clock_of, MakesNone, Makes, ToldAlike}
 
 -- a flash counts each cut that no plan asked for
@@ -20,7 +20,7 @@ CountsCuts s t = (n : ℕ) → WereCounted n s.planning.unplanned t.planning.unp
 
 -- since a moment the active bank has the last generation, and nothing was erased
 pub record IsWornSince (d : Device) (since : ℕ) : Type 0 where
-  pub last : IfSome (bytes_now d.flash) (IsOfLastGeneration d.making.geometry)
+  pub last : IfSome (bytes_now d.flash) (IsOfLastGeneration d.making)
   pub no_erase : since < last_count → IsTrue (list_all (λ x. is_program x.op) (drop since d.operations))
 
 pub record HasRun (d : Device) : Type 0 where
@@ -29,8 +29,8 @@ pub record HasRun (d : Device) : Type 0 where
   pub chain : (t : TellsBytes (run_of d)) → IsChain (attached d.making.geometry t.first) d.operations t.last
   pub changes : IfSome (changes_in d.flash.bytes) (λ changes. changes ≡ d.operations)
   -- a sound image stays sound, also in whatever a cut leaves
-  pub sound : IsTrue (tells d) → IfSome (bytes_now d.flash) (IsSoundFlash d.making.geometry)
-  pub sound_cut : IsTrue (tells d) → (k : ℕ) (image : List ℕ) → IsCutImage (run_of d) k image → IsSoundFlash d.making.geometry image
+  pub sound : IsTrue (tells d) → IfSome (bytes_now d.flash) (IsSoundFlash d.making)
+  pub sound_cut : IsTrue (tells d) → (k : ℕ) (image : List ℕ) → IsCutImage (run_of d) k image → IsSoundFlash d.making image
   -- the flash counted each fault that it counts, and each cut without a plan
   pub faults : WereCounted d.faults d.entry.faults d.flash.faults
   pub failed : IsTrue (has_failed d.operations) → Rose d.entry.faults d.flash.faults
@@ -42,11 +42,11 @@ pub record HasRun (d : Device) : Type 0 where
 
 -- its part when it was made
 abbrev pub part_before : Device → PartTold
-part_before d = record { ops = 0; faults = 0; flash_faults = d.entry.faults; off = d.entry.off; planning = d.entry.planning }
+part_before d = record { faults = 0; flash_faults = d.entry.faults; off = d.entry.off; planning = d.entry.planning }
 
 -- what it tells of its flash is so
 abbrev pub RunsBridge : Type 0
-RunsBridge = (cutter : Bool) (d : Device) → HasRun d → Bridges d.making cutter (run_of d) (part_before d) (part_of d) (clock_of d).first
+RunsBridge = (cutter : Bool) (d : Device) → HasRun d → Bridges d.making cutter (run_of d) (part_before d) (told_of d) (clock_of d)
 
 -- WHAT KEEPS IT
 -- a device that was made: its flash is attached, and it asked for no operation
@@ -79,11 +79,11 @@ counts_fault answer faults = faults
 
 abbrev pub LeavesSound : Op → Device → Type 0
 LeavesSound op d =
-    IsTrue (tells d) → IfSome (bytes_now d.flash) (λ bytes. (image : List ℕ) → MayLeave op bytes image → IsSoundFlash d.making.geometry image)
+    IsTrue (tells d) → IfSome (bytes_now d.flash) (λ bytes. (image : List ℕ) → MayLeave op bytes image → IsSoundFlash d.making image)
 
 -- a worn-out device erases nothing, and its active bank stays active
 abbrev pub KeepsWorn : Op → Device → Device → Type 0
-KeepsWorn op d t = (since : ℕ) → d.worn ≡ Some since → IsTrue (is_program op) × IfSome (bytes_now t.flash) (IsOfLastGeneration d.making.geometry)
+KeepsWorn op d t = (since : ℕ) → d.worn ≡ Some since → IsTrue (is_program op) × IfSome (bytes_now t.flash) (IsOfLastGeneration d.making)
 
 abbrev pub RunsGoOn : Type 0
 RunsGoOn =

@@ -1,13 +1,12 @@
 -- From what is told of each number to what a call of a device does.
 use Rattle.std.specs.Prelude.{◌≡◌, ◌<◌, ◌==◌, ℕ, IsTrue, List, [], length, Some}
-use Rattle.nv_base.specs.declared.instance.DeviceNumber.{DeviceNumber}
 use Rattle.nv_base.specs.declared.mark.Mark.{Mark}
-use Rattle.nv_base.specs.declared.geometry.Geometry.{Geometry}
 use Rattle.memif.specs.Told.{Slot, slot_at, IfElse}
 use Rattle.memif.specs.Marks.{Keeps, Doubts, SettlesAs, ComesFrom, KeepsAll, DoubtsAt, Settles, EachNumber}
 use Rattle.fls_model.specs.Told.{bytes_now}
 use Rattle.fee_image.specs.Sound.{IsSoundImage}
-use Rattle.device_bridge.specs.Image.{two_banks, held_in, IsSoundFlash}
+use Rattle.device_bridge.specs.Making.{Making, banks_of}
+use Rattle.device_bridge.specs.Image.{held_in, IsSoundFlash}
 use Rattle.device_image.specs.Slots.{held_of}
 use Rattle.device_image.specs.Laws.{IsStarted}
 use Rattle.device_clock.specs.Device.{Device, tells, slots_in, told_of}
@@ -59,5 +58,5 @@ TellsStart =
 -- an image that isn't empty is attached as it is
 abbrev pub ImagesAttach : Type 0
 ImagesAttach =
-    (g : Geometry) (numbers : List (DeviceNumber × ℕ)) (image : List ℕ) → 0 < length image
-    → ((n : ℕ) → held_in g numbers image n ≡ held_of (two_banks g) numbers image n) × (IsSoundImage (two_banks g) image → IsSoundFlash g image)
+    (m : Making) (image : List ℕ) → 0 < length image
+    → ((n : ℕ) → held_in m image n ≡ held_of (banks_of m) m.numbers image n) × (IsSoundImage (banks_of m) image → IsSoundFlash m image)

@@ -1,4 +1,4 @@
-//! What a memory device over two banks tells as one record, and what it tells by the operations of its flash: its clock.
+//! What a memory device over banks tells as one record, and what it tells by the operations of its flash: its clock.
 //!
 //! Its functions do nothing: their contracts are the laws. A turn adds no map to an earlier moment, what a cut of it may
 //! leave is possible, and what the device tells of its flash is so, from its making on. The program of the device, and

@@ -3,8 +3,7 @@ use Rattle.std.specs.Prelude.{◌==◌}
 use Rattle.std.proofs.Common.{◌≡◌, inl, inr, ℕ, ◌<◌, ◌≤◌, false, List, [], ◌∷◌, length, refl, sym, ap, ◌∙◌, subst, arith}
 use Rattle.std.proofs.lemmas.Bool.{cases_Bool, eqb-true, ne_eqb}
 use Rattle.nv_base.specs.declared.instance.DeviceNumber.{DeviceNumber}
-use Rattle.nv_base.specs.declared.mark.Mark.TheVariants.{Erased}
-use Rattle.memif.specs.Told.{at_number}
+use Rattle.memif.specs.Told.{at_number, never_written}
 use Rattle.fls_model.specs.Op.{MayLeave}
 use Rattle.fee_format.specs.declared.bank_head.BankHead.{BankHead}
 use Rattle.fee_format.specs.declared.rec_head.RecHead.{RecHead}
@@ -18,7 +17,7 @@ use Rattle.log_image.specs.May.{May}
 use Rattle.log_image.specs.Places.{noted, ArePlaced}
 use Rattle.bank_image.specs.Banks.{Old, NoBank, OldBank, Banks, Holds, HoldsOld}
 use Rattle.bank_image.specs.Laws.{program_of}
-use Rattle.device_image.specs.Slots.{marks_at, settled_in, settled_at}
+use Rattle.device_image.specs.Slots.{held_all, settled_in, settled_at}
 use Rattle.device_image.specs.Laws.{SamePlaces, IsBehindLog, ProgramsKeepSettled, ErasesKeepSettled, CommitsKeepOthers}
 
 -- the pages before a log's end are as they were
@@ -26,7 +25,7 @@ abbrev SameBefore : Layout → List ℕ → List ℕ → ℕ → ℕ → Type 0
 SameBefore l old new k end = (q : ℕ) → 2 ≤ q → q < end → image_page l new k q ≡ image_page l old k q
 
 module _ (stay : PlacesStay) (b : Bank) (old new : List ℕ) (may : May) (end : ℕ) (big : 16 ≤ b.page) (same : (q : ℕ) → 2 ≤ q → q < end → page_of b new q ≡ page_of b old q) where
-  marks_same : (ns : List (DeviceNumber × ℕ)) (places : List Place) → ArePlaced b old may end ns places → marks_at b new ns places ≡ marks_at b old ns places
+  marks_same : (ns : List (DeviceNumber × ℕ)) (places : List Place) → ArePlaced b old may end ns places → held_all b new ns places ≡ held_all b old ns places
   marks_same [] [] all = refl
   marks_same [] (place ∷ places) all = absurd all
   marks_same (n ∷ ns) [] all = absurd all
@@ -34,7 +33,7 @@ module _ (stay : PlacesStay) (b : Bank) (old new : List ℕ) (may : May) (end : 
 
   -- a record more gives other numbers no place
   others_same : (r : RecHead) (at n : ℕ) → (n ≡ r.number → ⊥) → (ns : List (DeviceNumber × ℕ)) (places : List Place) → ArePlaced b old may end ns places
-      → at_number Erased ns (marks_at b new ns (noted ns places at r)) n ≡ at_number Erased ns (marks_at b old ns places) n
+      → at_number never_written ns (held_all b new ns (noted ns places at r)) n ≡ at_number never_written ns (held_all b old ns places) n
   others_same r at n differs [] [] all = refl
   others_same r at n differs [] (place ∷ places) all = absurd all
   others_same r at n differs (x ∷ xs) [] all = absurd all
@@ -56,13 +55,13 @@ module _ (stay : PlacesStay) (l : Layout) (numbers : List (DeviceNumber × ℕ))
   settled_same t NoBank (OldBank j i next) may holds same places = absurd places
   settled_same t (OldBank k h log) NoBank may holds same places = absurd places
   settled_same t (OldBank k h log) (OldBank j i next) may holds same (bank, head, places) =
-      (λ x. marks_at (bank_in l (head x).format (bank x)) new numbers (places x))
+      (λ x. held_all (bank_in l (head x).format (bank x)) new numbers (places x))
       ∙ marks_same stay (bank_in l h.format k) old new may log.end legal.page (same k h log refl) numbers log.places holds.1.holds.placed
 
   pub others_settled : (t : ℕ) (k : ℕ) (h : BankHead) (log next : Log) (may : May) (r : RecHead) → HoldsOld l numbers old t (OldBank k h log) may → SameBefore l old new k log.end → next.places ≡ noted numbers log.places log.end r
       → (n : ℕ) → (n ≡ r.number → ⊥) → settled_at l numbers new (OldBank k h next) n ≡ settled_at l numbers old (OldBank k h log) n
   others_settled t k h log next may r holds same is n differs =
-      ap (λ (places : List Place). at_number Erased numbers (marks_at (bank_in l h.format k) new numbers places) n) is
+      ap (λ (places : List Place). at_number never_written numbers (held_all (bank_in l h.format k) new numbers places) n) is
       ∙ others_same stay (bank_in l h.format k) old new may log.end legal.page same r log.end n differs numbers log.places holds.1.holds.placed
 
 -- the bank of a log has the pages before its end

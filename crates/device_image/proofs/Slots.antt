@@ -2,15 +2,15 @@
 use Rattle.std.specs.Prelude.{◌==◌, nat_eq, if◌then◌else◌}
 use Rattle.std.specs.Cmp.Lexicographic.{pointwise}
 use Rattle.std.specs.List.{Contains}
-use Rattle.std.proofs.Common.{◌≡◌, ◌⊎◌, inl, inr, ℕ, zero, suc, ◌<◌, Bool, true, false, List, [], ◌∷◌, length, map, Option, Some, None, refl, sym, ap, ◌∙◌, subst, arith}
+use Rattle.std.proofs.Common.{◌≡◌, ◌⊎◌, inl, inr, ℕ, zero, suc, ◌<◌, Bool, true, false, List, [], ◌∷◌, length, Option, Some, None, refl, sym, ap, ◌∙◌, subst, arith}
 use Rattle.std.proofs.lemmas.Bool.{cases_Bool, and_parts, eqb-true, eq-eqb, false≢true}
 use Rattle.nv_base.specs.declared.instance.DeviceNumber.{DeviceNumber}
 use Rattle.nv_base.specs.declared.mark.Mark.{Mark}
 use Rattle.nv_base.specs.declared.mark.Mark.TheVariants.{Content, Invalid, Erased}
-use Rattle.memif.specs.Told.{Held, Slot, Stand, Open, Ended, at_number, slot_at, no_slot, length_of}
+use Rattle.memif.specs.Told.{Held, never_written, Slot, Stand, Open, Ended, at_number, slot_at, no_slot, length_of}
 use Rattle.memif.specs.Marks.{IsPossible, Keeps}
 use Rattle.log_image.specs.May.{IsAmong}
-use Rattle.device_image.specs.Slots.{same_mark, held, slot_of, job_leaves, slots_with, may_of, allowed}
+use Rattle.device_image.specs.Slots.{same_mark, same_held, slot_of, left_on, job_leaves, slots_with, may_of, allowed}
 use Rattle.device_image.specs.Laws.{GoesOn}
 
 -- MARKS
@@ -42,6 +42,17 @@ same_is Erased (Content b) h = absurd (false≢true h)
 same_is Erased Invalid h = absurd (false≢true h)
 same_is Erased Erased h = refl
 
+pair_same : (m n : Mark) (c d : ℕ) → m ≡ n → c ≡ d → let x : Held = record { mark = m; count = c } in let y : Held = record { mark = n; count = d } in x ≡ y
+pair_same m n c d p q = cc
+
+pub held_same : (a b : Held) → a ≡ b → same_held a b ≡ true
+held_same a b is = subst (λ (x : Held). same_held a x ≡ true) is (rw (mark_same a.mark a.mark refl, eq-eqb a.count a.count refl) refl)
+
+pub held_is : (a b : Held) → same_held a b ≡ true → a ≡ b
+held_is a b h =
+    let parts = and_parts (same_mark a.mark b.mark) (a.count == b.count) h in
+    pair_same a.mark b.mark a.count b.count (same_is a.mark b.mark parts.0) (eqb-true a.count b.count parts.1)
+
 -- LISTS
 pub has_first : {A : Type 0} (x : A) (xs : List A) → Contains (x ∷ xs) x
 has_first x xs = (0, (let lt : 0 < suc (length xs) = omega arith in lt), refl)
@@ -56,51 +67,34 @@ has_cases x y xs (suc k, lt, is) = inr (k, (let l : k < length xs = omega arith 
 pub has_none : {A : Type 0} (y : A) → Contains [] y → ⊥
 has_none y (k, lt, is) = absurd (omega arith)
 
-abbrev mark_of : Held → Mark
-mark_of h = h.mark
-
-held_has : (hs : List Held) (m : Mark) → Contains (map (λ (h : Held). h.mark) hs) m → Contains hs (held m)
-held_has [] m has = absurd (has_none m has)
-held_has (h ∷ hs) m has = elim (has_cases h.mark m (map (λ (h : Held). h.mark) hs) has) [
-  | inl is ↦ subst (λ (x : Mark). Contains (h ∷ hs) (held x)) (sym is) (has_first h hs)
-  | inr more ↦ has_more h (held m) hs (held_has hs m more)
-]
-
-mark_has : (hs : List Held) (m : Mark) → Contains hs (held m) → Contains (map (λ (h : Held). h.mark) hs) m
-mark_has [] m has = absurd (has_none (held m) has)
-mark_has (h ∷ hs) m has = elim (has_cases h (held m) hs has) [
-  | inl is ↦ subst (λ (x : Mark). Contains (map (λ (h : Held). h.mark) (h ∷ hs)) x) (sym (ap mark_of is)) (has_first h.mark (map (λ (h : Held). h.mark) hs))
-  | inr more ↦ has_more h.mark m (map (λ (h : Held). h.mark) hs) (mark_has hs m more)
-]
-
 -- ONE NUMBER
 beside_more : (c : Bool) (h x : Held) (more : List Held) → Contains more x → Contains (if c then more else h ∷ more) x
 beside_more true h x more has = has
 beside_more false h x more has = has_more h x more has
 
-pub job_doubted : (settled shown : Mark) (more : List Held) (h : Held) → Contains more h → Contains (slot_of settled shown more).doubts h
-job_doubted settled shown more h has = beside_more (same_mark settled shown) (held shown) h more has
+pub job_doubted : (settled shown : Held) (more : List Held) (h : Held) → Contains more h → Contains (slot_of settled shown more).doubts h
+job_doubted settled shown more h has = beside_more (same_held settled shown) (shown) h more has
 
-shown_by : (c : Bool) (settled shown : Mark) (more : List Held) → same_mark settled shown ≡ c → (held shown ≡ held settled) ⊎ Contains (if c then more else held shown ∷ more) (held shown)
-shown_by true settled shown more is = inl (ap held (sym (same_is settled shown is)))
-shown_by false settled shown more is = inr (has_first (held shown) more)
+shown_by : (c : Bool) (settled shown : Held) (more : List Held) → same_held settled shown ≡ c → (shown ≡ settled) ⊎ Contains (if c then more else shown ∷ more) (shown)
+shown_by true settled shown more is = inl (sym (held_is settled shown is))
+shown_by false settled shown more is = inr (has_first (shown) more)
 
-pub shown_possible : (settled shown : Mark) (more : List Held) → IsPossible (slot_of settled shown more) (held shown)
-shown_possible settled shown more = shown_by (same_mark settled shown) settled shown more refl
+pub shown_possible : (settled shown : Held) (more : List Held) → IsPossible (slot_of settled shown more) (shown)
+shown_possible settled shown more = shown_by (same_held settled shown) settled shown more refl
 
 -- a doubt is what is shown, where that isn't settled, or what a job may leave
-doubt_by : (c : Bool) (settled shown : Mark) (more : List Held) (h : Held) → same_mark settled shown ≡ c → Contains (if c then more else held shown ∷ more) h → ((h ≡ held shown) × (held shown ≡ held settled → ⊥)) ⊎ Contains more h
+doubt_by : (c : Bool) (settled shown : Held) (more : List Held) (h : Held) → same_held settled shown ≡ c → Contains (if c then more else shown ∷ more) h → ((h ≡ shown) × (shown ≡ settled → ⊥)) ⊎ Contains more h
 doubt_by true settled shown more h is has = inr has
-doubt_by false settled shown more h is has = elim (has_cases (held shown) h more has) [
-  | inl same ↦ inl (same, λ e. false≢true (sym is ∙ mark_same settled shown (sym (ap mark_of e))))
+doubt_by false settled shown more h is has = elim (has_cases (shown) h more has) [
+  | inl same ↦ inl (same, λ e. false≢true (sym is ∙ held_same settled shown (sym e)))
   | inr rest ↦ inr rest
 ]
 
-pub doubt_cases : (settled shown : Mark) (more : List Held) (h : Held) → Contains (slot_of settled shown more).doubts h → ((h ≡ held shown) × (held shown ≡ held settled → ⊥)) ⊎ Contains more h
-doubt_cases settled shown more h has = doubt_by (same_mark settled shown) settled shown more h refl has
+pub doubt_cases : (settled shown : Held) (more : List Held) (h : Held) → Contains (slot_of settled shown more).doubts h → ((h ≡ shown) × (shown ≡ settled → ⊥)) ⊎ Contains more h
+doubt_cases settled shown more h has = doubt_by (same_held settled shown) settled shown more h refl has
 
 -- no more may be found than before
-pub keeps_one : (settled shown shown' : Mark) (more more' : List Held) → IsPossible (slot_of settled shown more) (held shown') → ((h : Held) → Contains more' h → Contains more h) → Keeps (slot_of settled shown more) (slot_of settled shown' more')
+pub keeps_one : (settled shown shown' : Held) (more more' : List Held) → IsPossible (slot_of settled shown more) (shown') → ((h : Held) → Contains more' h → Contains more h) → Keeps (slot_of settled shown more) (slot_of settled shown' more')
 keeps_one settled shown shown' more more' possible fewer = record {
   settled = refl;
   doubts = λ h has. elim (doubt_cases settled shown' more' h has) [
@@ -110,15 +104,15 @@ keeps_one settled shown shown' more more' possible fewer = record {
 }
 
 -- EACH NUMBER
-pub slot_is : (shown : ℕ → ℕ → Mark) (more : ℕ → List Held) (numbers : List (DeviceNumber × ℕ)) (marks : List Mark) (n size : ℕ) → length marks ≡ length numbers → length_of numbers n ≡ Some size
-    → slot_at numbers (slots_with shown more numbers marks) n ≡ slot_of (at_number Erased numbers marks n) (shown n size) (more n)
+pub slot_is : (shown : ℕ → ℕ → Held) (more : ℕ → List Mark) (numbers : List (DeviceNumber × ℕ)) (marks : List Held) (n size : ℕ) → length marks ≡ length numbers → length_of numbers n ≡ Some size
+    → slot_at numbers (slots_with shown more numbers marks) n ≡ slot_of (at_number never_written numbers marks n) (shown n size) (left_on (at_number never_written numbers marks n) (more n))
 slot_is shown more [] marks n size long is = cc
 slot_is shown more (x ∷ xs) [] n size long is = absurd (omega arith)
 slot_is shown more (x ∷ xs) (m ∷ ms) n size long is = elim (cases_Bool (x.0.0 == n)) [
   | inl e ↦
       let same : x.1 ≡ size = (let s : Some x.1 ≡ Some size = rw e at is in cc) in
       let name : x.0.0 ≡ n = eqb-true x.0.0 n e in
-      rw e (λ i. slot_of m (shown (name i) (same i)) (more (name i)))
+      rw e (λ i. slot_of m (shown (name i) (same i)) (left_on m (more (name i))))
   | inr e ↦ rw e (slot_is shown more xs ms n size (omega arith) (rw e at is))
 ]
 
@@ -134,31 +128,31 @@ pub keeps_same : (s : Slot) → Keeps s s
 keeps_same s = record { settled = refl; doubts = λ m has. has }
 
 -- WHAT MAY BE FOUND
-among_here : (size : ℕ) (c : Bool) (s : Slot) (m : Mark) → c ≡ true → IsAmong (if c then Some (s.settled.mark ∷ map (λ (h : Held). h.mark) s.doubts) else None) m → IsPossible s (held m)
+among_here : (size : ℕ) (c : Bool) (s : Slot) (m : Held) → c ≡ true → IsAmong (if c then Some (s.settled ∷ s.doubts) else None) m → IsPossible s m
 among_here size c s m is among =
-    let has : Contains (s.settled.mark ∷ map (λ (h : Held). h.mark) s.doubts) m = rw is at among in
-    elim (has_cases s.settled.mark m (map (λ (h : Held). h.mark) s.doubts) has) [ inl same ↦ inl (ap held same) | inr more ↦ inr (held_has s.doubts m more) ]
+    let has : Contains (s.settled ∷ s.doubts) m = rw is at among in
+    has_cases s.settled m s.doubts has
 
-pub possible_from : (numbers : List (DeviceNumber × ℕ)) (slots : List Slot) (n size : ℕ) (m : Mark) → length_of numbers n ≡ Some size → IsAmong (may_of numbers slots n size) m → IsPossible (slot_at numbers slots n) (held m)
+pub possible_from : (numbers : List (DeviceNumber × ℕ)) (slots : List Slot) (n size : ℕ) (m : Held) → length_of numbers n ≡ Some size → IsAmong (may_of numbers slots n size) m → IsPossible (slot_at numbers slots n) m
 possible_from numbers slots n size m is among = among_here size (size == size) (slot_at numbers slots n) m (eq-eqb size size refl) (rw is at among)
 
-among_by : (c : Bool) (s : Slot) (m : Mark) → IsPossible s (held m) → IsAmong (if c then Some (s.settled.mark ∷ map (λ (h : Held). h.mark) s.doubts) else None) m
+among_by : (c : Bool) (s : Slot) (m : Held) → IsPossible s m → IsAmong (if c then Some (s.settled ∷ s.doubts) else None) m
 among_by false s m possible = tt
-among_by true s m (inl same) = subst (Contains (s.settled.mark ∷ map (λ (h : Held). h.mark) s.doubts)) (sym (ap mark_of same)) (has_first s.settled.mark (map (λ (h : Held). h.mark) s.doubts))
-among_by true s m (inr more) = has_more s.settled.mark m (map (λ (h : Held). h.mark) s.doubts) (mark_has s.doubts m more)
+among_by true s m (inl same) = subst (Contains (s.settled ∷ s.doubts)) (sym same) (has_first s.settled s.doubts)
+among_by true s m (inr more) = has_more s.settled m s.doubts more
 
-allowed_from : (o : Option ℕ) (size : ℕ) (s : Slot) (m : Mark) → (o ≡ Some size → IsPossible s (held m)) → IsAmong (allowed o size s) m
+allowed_from : (o : Option ℕ) (size : ℕ) (s : Slot) (m : Held) → (o ≡ Some size → IsPossible s m) → IsAmong (allowed o size s) m
 allowed_from None size s m possible = tt
 allowed_from (Some n) size s m possible = elim (cases_Bool (n == size)) [
   | inl e ↦ among_by (n == size) s m (possible (ap Some (eqb-true n size e)))
   | inr e ↦ rw e tt
 ]
 
-pub among_from : (numbers : List (DeviceNumber × ℕ)) (slots : List Slot) (n size : ℕ) (m : Mark) → (length_of numbers n ≡ Some size → IsPossible (slot_at numbers slots n) (held m)) → IsAmong (may_of numbers slots n size) m
+pub among_from : (numbers : List (DeviceNumber × ℕ)) (slots : List Slot) (n size : ℕ) (m : Held) → (length_of numbers n ≡ Some size → IsPossible (slot_at numbers slots n) m) → IsAmong (may_of numbers slots n size) m
 among_from numbers slots n size m possible = allowed_from (length_of numbers n) size (slot_at numbers slots n) m possible
 
 -- JOBS
-pub leaves_fewer : (old new : Stand) (n : ℕ) (h : Held) → GoesOn old new → Contains (job_leaves new n) h → Contains (job_leaves old n) h
-leaves_fewer old new n h (inl same) has = subst (λ (s : Stand). Contains (job_leaves s n) h) same has
-leaves_fewer old (Open j) n h (inr shut) has = cc
-leaves_fewer old (Ended result given) n h (inr shut) has = absurd (has_none h has)
+pub leaves_fewer : (old new : Stand) (n : ℕ) (s h : Held) → GoesOn old new → Contains (left_on s (job_leaves new n)) h → Contains (left_on s (job_leaves old n)) h
+leaves_fewer old new n s h (inl same) has = subst (λ (x : Stand). Contains (left_on s (job_leaves x n)) h) same has
+leaves_fewer old (Open j) n s h (inr shut) has = cc
+leaves_fewer old (Ended result given) n s h (inr shut) has = absurd (has_none h has)

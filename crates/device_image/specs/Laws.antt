@@ -5,7 +5,7 @@ use Rattle.nv_base.specs.declared.mark.Mark.{Mark}
 use Rattle.nv_base.specs.declared.geometry.Geometry.{Geometry}
 use Rattle.nv_base.specs.Geometry.{IsLegal, HasBanks, sectors_of_bank}
 use Rattle.nv_base.specs.Lengths.{AreLengths}
-use Rattle.memif.specs.Told.{Slot, Job, Stand, Open, is_open, slot_at, length_of, IfElse}
+use Rattle.memif.specs.Told.{more_writes, Slot, Job, Stand, Open, is_open, slot_at, length_of, IfElse}
 use Rattle.memif.specs.Marks.{IsPossible, Keeps, Doubts, SettlesAs, ComesFrom}
 use Rattle.fls_model.specs.Op.{MayLeave}
 use Rattle.fee_format.specs.declared.bank_head.BankHead.{BankHead}
@@ -14,24 +14,24 @@ use Rattle.fee_image.specs.Found.{fits}
 use Rattle.fee_image.specs.Image.{Layout, IsLegalLayout, layout_of}
 use Rattle.log_image.specs.Log.{Log}
 use Rattle.log_image.specs.Places.{noted}
-use Rattle.log_image.specs.May.{May, IsWider, settling, mark_written}
+use Rattle.log_image.specs.May.{May, IsWider, settling, held_written}
 use Rattle.bank_image.specs.Banks.{Old, NoBank, OldBank, Banks, Holds}
 use Rattle.bank_image.specs.Laws.{found_alone, program_of, erase_of}
-use Rattle.device_image.specs.Slots.{Memory, banks_with, HasJob, slots_held, slots_found, settled_in, settled_at, held_of, may_of, may_told}
+use Rattle.device_image.specs.Slots.{Memory, banks_with, writes_in, HasJob, slots_held, slots_found, settled_in, settled_at, held_of, may_of, may_told}
 use Rattle.device_image.specs.Slots.{AreCopied, IsCopied}
 
 -- WHAT IS TOLD HOLDS
 -- the bytes hold the banks, with no more that may be found than is told
 pub record IsHeld (l : Layout) (numbers : List (DeviceNumber × ℕ)) (bytes : List ℕ) (m : Memory) (copied : May) : Type 0 where
   pub banks : Holds l numbers bytes (banks_with m (may_told l numbers bytes m) copied)
-  pub job : HasJob m.stand m.old
+  pub job : HasJob numbers m.stand m.old
   pub seal : IsCopied l numbers bytes m.phase m.old copied
 
 -- whatever was known of what may be found, what is told is all of it
 abbrev pub HeldAnew : Type 0
 HeldAnew =
     (l : Layout) (numbers : List (DeviceNumber × ℕ)) (bytes : List ℕ) (m : Memory) (may copied : May)
-    → AreLengths 0 numbers → Holds l numbers bytes (banks_with m may copied) → HasJob m.stand m.old
+    → AreLengths 0 numbers → Holds l numbers bytes (banks_with m may copied) → HasJob numbers m.stand m.old
     → IsCopied l numbers bytes m.phase m.old copied
     → IsHeld l numbers bytes m copied
 
@@ -67,10 +67,10 @@ StepsSettle =
     (l : Layout) (numbers : List (DeviceNumber × ℕ)) (old new : List ℕ) (m t : Memory) (before copied : May) (h : RecHead) (body : List ℕ) (size : ℕ)
     → IsHeld l numbers old m before
     → Holds l numbers new (banks_with t (settling (may_told l numbers old m) h body) copied) → is_open t.stand ≡ false
-    → length_of numbers h.number ≡ Some size → IsTrue (fits h.number size h)
+    → length_of numbers h.number ≡ Some size → IsTrue (fits h.number size h) → h.count ≡ more_writes 1 (writes_in numbers m.old h.number)
     → ((n : ℕ) → (n ≡ h.number → ⊥) → settled_at l numbers new t.old n ≡ settled_at l numbers old m.old n)
     → (n : ℕ) → IfElse (n == h.number)
-    (SettlesAs (mark_written h body) (slot_at numbers (slots_held l numbers old m) n) (slot_at numbers (slots_held l numbers new t) n))
+    (SettlesAs (held_written h body).mark (slot_at numbers (slots_held l numbers old m) n) (slot_at numbers (slots_held l numbers new t) n))
     (Keeps (slot_at numbers (slots_held l numbers old m) n) (slot_at numbers (slots_held l numbers new t) n))
 
 -- a step behind which nothing but the settled marks may be found: a target comes to stand

@@ -6,6 +6,7 @@ use Rattle.memif.specs.Told.{Held, Slot, Stand, Open as OpenJob, Ended, slot_at}
 use Rattle.memif.specs.Marks.{IsPossible, Keeps}
 use Rattle.fee_format.specs.declared.bank_head.BankHead.{BankHead}
 use Rattle.fee_image.specs.Image.{Layout}
+use Rattle.log_image.specs.declared.place.Place.{Place}
 use Rattle.log_image.specs.Log.{Open, Closed, Log}
 use Rattle.log_image.specs.May.{May}
 use Rattle.bank_image.specs.Banks.{Old, NoBank, OldBank, Phase, Idle, Erasing, Copying, Sealing, Holds, HoldsOld, HoldsBank}
@@ -36,13 +37,13 @@ takes_within (Erasing n) copied may takes = tt
 takes_within (Copying log) copied may takes = tt
 takes_within (Sealing log) copied may takes = absurd takes
 
-pub none_open : (stand : Stand) → IsWorkOf stand Open
-none_open (OpenJob j) = tt
-none_open (Ended result given) = tt
+pub none_open : (ns : List (DeviceNumber × ℕ)) (ps : List Place) (stand : Stand) → IsWorkOf ns ps stand Open
+none_open ns ps (OpenJob j) = tt
+none_open ns ps (Ended result given) = tt
 
-pub none_closed : (stand : Stand) → IsWorkOf stand Closed
-none_closed (OpenJob j) = tt
-none_closed (Ended result given) = tt
+pub none_closed : (ns : List (DeviceNumber × ℕ)) (ps : List Place) (stand : Stand) → IsWorkOf ns ps stand Closed
+none_closed ns ps (OpenJob j) = tt
+none_closed ns ps (Ended result given) = tt
 
 -- a job that goes on, or ends, without a record
 pub copies_widen : BanksWiden → CopiesWiden
@@ -63,7 +64,7 @@ same_places (OldBank k h log) = (refl, refl, refl)
 -- a step behind which no more may be found, and in which the places stay
 pub kept_by : HeldAnew → StepsKeep → (l : Layout) (numbers : List (DeviceNumber × ℕ)) (old new : List ℕ) (m t : Memory) (copied : May)
     → AreLengths 0 numbers → Holds l numbers new (banks_with t (may_told l numbers old m) copied) → settled_in l numbers new t.old ≡ settled_in l numbers old m.old → GoesOn m.stand t.stand
-    → HasJob t.stand t.old → IsCopied l numbers new t.phase t.old copied → IsKept l numbers old new m t copied
+    → HasJob numbers t.stand t.old → IsCopied l numbers new t.phase t.old copied → IsKept l numbers old new m t copied
 kept_by anew keep l numbers old new m t copied lengths holds same goes job seal = record {
   held = anew l numbers new t (may_told l numbers old m) copied lengths holds job seal;
   keeps = keep l numbers old new m t copied holds same goes;
@@ -72,7 +73,7 @@ kept_by anew keep l numbers old new m t copied lengths holds same goes job seal 
 -- a change in memory alone
 pub kept_memory : HeldAnew → JobsKeep → (l : Layout) (numbers : List (DeviceNumber × ℕ)) (bytes : List ℕ) (m t : Memory) (before may copied : May)
     → AreLengths 0 numbers → IsHeld l numbers bytes m before → Holds l numbers bytes (banks_with t may copied) → SamePlaces m.old t.old → GoesOn m.stand t.stand
-    → HasJob t.stand t.old → IsCopied l numbers bytes t.phase t.old copied → IsKept l numbers bytes bytes m t copied
+    → HasJob numbers t.stand t.old → IsCopied l numbers bytes t.phase t.old copied → IsKept l numbers bytes bytes m t copied
 kept_memory anew jobs l numbers bytes m t before may copied lengths is_held holds same goes job seal = record {
   held = anew l numbers bytes t may copied lengths holds job seal;
   keeps = jobs l numbers bytes m t before is_held same goes;

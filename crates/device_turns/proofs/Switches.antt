@@ -3,11 +3,11 @@ use Rattle.std.proofs.Common.{◌≡◌, inl, ℕ, ◌<◌, ◌+◌, ◌-◌, �
 use Rattle.std.proofs.lemmas.List.{length-replicate}
 use Rattle.nv_base.specs.declared.geometry.Geometry.{Geometry}
 use Rattle.nv_base.specs.declared.instance.DeviceNumber.{DeviceNumber}
-use Rattle.nv_base.specs.declared.mark.Mark.{Mark}
-use Rattle.nv_base.specs.declared.mark.Mark.TheVariants.{Erased}
+use Rattle.nv_base.specs.Held.{Held, never_written}
 use Rattle.nv_base.specs.Geometry.{pages_of_sector}
 use Rattle.memif.specs.Told.{Stand, at_number}
 use Rattle.fls_model.specs.Op.{MayLeave}
+use Rattle.fee_format.specs.Formats.{new_format}
 use Rattle.fee_format.specs.BankHead.{bank_head_page}
 use Rattle.fee_format.specs.Pages.{gate_page}
 use Rattle.fee_image.specs.Image.{Layout, layout_of, bank_in}
@@ -50,7 +50,7 @@ module _ (erase : ErasesKeepSettled) (anew : HeldAnew) (keep : StepsKeep) (g : G
   settled_stay : settled_in l numbers new m.old ≡ settled_in l numbers old m.old
   settled_stay = erase g banks numbers old new (banks_with m told copied) sector m.old step.shape step.shared step.stands.held.banks step.inside step.leaves (same_places m.old)
 
-  erase_fails : BankErasesFail → (stand : Stand) → GoesOn m.stand stand → HasJob stand m.old → IsKept l numbers old new m (record m { stand = stand }) copied
+  erase_fails : BankErasesFail → (stand : Stand) → GoesOn m.stand stand → HasJob numbers stand m.old → IsKept l numbers old new m (record m { stand = stand }) copied
   erase_fails bank stand goes job =
       kept_by anew keep l numbers old new m (record m { stand = stand }) copied step.stands.lengths
       (bank g banks numbers old new (banks_with m told copied) sector step.shape step.shared step.stands.held.banks step.phase step.inside step.leaves)
@@ -91,7 +91,7 @@ module _ (programs : ProgramsKeepSettled) (anew : HeldAnew) (keep : StepsKeep) (
 
   -- the settled marks are still those that are copied
   still_copied : AreCopied l numbers old m.old copied → AreCopied l numbers new m.old copied
-  still_copied are n length x has among = are n length x has among ∙ ap (λ (marks : List Mark). at_number Erased numbers marks n) (sym page_stays)
+  still_copied are n length x has among = are n length x has among ∙ ap (λ (marks : List Held). at_number never_written numbers marks n) (sym page_stays)
 
 pub copies_fail : ProgramsKeepSettled → HeldAnew → StepsKeep → BankCopiesFail → CopiesFail
 copies_fail programs anew keep bank l numbers old new page m before copied q log stand stands is size lt other leaves goes job =
@@ -104,7 +104,7 @@ pub copies_go_on : NextIsFresh → ProgramsKeepSettled → HeldAnew → StepsKee
 copies_go_on next programs anew keep bank l numbers old new m copied log stands is due size leaves done =
     let told = may_told l numbers old m in
     let holds = phase_of l numbers old m told copied (Copying log) is stands.held.banks in
-    let fresh = next (bank_in l 1 m.target) numbers old copied log holds.holds due in
+    let fresh = next (bank_in l new_format m.target) numbers old copied log holds.holds due in
     kept_by anew keep l numbers old new m (record m { phase = Copying (log_done l.page numbers log) }) (may_done l.page copied log) stands.lengths
     (bank l numbers old new (banks_with m told copied) log stands.legal stands.held.banks is due size leaves done)
     (page_stays programs anew keep l numbers old new (bytes_due l.page log) m copied (page_due log) stands size fresh.high leaves) (inl refl) stands.held.job tt
@@ -144,6 +144,6 @@ gates_end anew seal bank l numbers old new m copied log next stands is empty lea
     let t : Memory = record { old = OldBank m.target (next_head m.old) log; target = next; phase = Idle; stand = m.stand } in
     let holds : Holds l numbers new (banks_with t copied copied) = bank l numbers old new (banks_with m told copied) log next stands.legal stands.held.banks is leaves done inside other in
     record {
-      held = anew l numbers new t copied copied stands.lengths holds (subst (IsWorkOf m.stand) (sym empty) (none_open m.stand)) tt;
+      held = anew l numbers new t copied copied stands.lengths holds (subst (IsWorkOf numbers log.places m.stand) (sym empty) (none_open numbers log.places m.stand)) tt;
       keeps = seal l numbers old new m t copied copied copied stands.held holds (seal_of l numbers old m copied log is stands.held) (inl refl);
     }

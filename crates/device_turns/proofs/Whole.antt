@@ -6,8 +6,9 @@ use Rattle.memif.specs.Told.{Slot, Job, slot_at}
 use Rattle.memif.specs.Marks.{IsPossible, Keeps, DoubtsAt}
 use Rattle.fls_model.specs.Op.{Op, Program, Erase, MayLeave}
 use Rattle.fls_model.specs.Told.{bytes_now}
-use Rattle.log_image.specs.May.{mark_written}
-use Rattle.device_bridge.specs.Image.{two_banks, held_in, IsSoundFlash}
+use Rattle.log_image.specs.May.{held_written}
+use Rattle.device_bridge.specs.Making.{banks_of}
+use Rattle.device_bridge.specs.Image.{held_in, IsSoundFlash}
 use Rattle.device_image.specs.Slots.{banks_with, slots_held, slots_found, may_told, held_of}
 use Rattle.device_image.specs.Laws.{UnstartedIsFound, ImagesFind, Opened}
 use Rattle.device_clock.specs.Device.{Device, layout_in, slots_in, told_of}
@@ -34,8 +35,8 @@ possible_in : ImagesAttach → (d : Device) (bytes image : List ℕ) → d.start
     → ((n : ℕ) → IsPossible (slot_at d.making.numbers (slots_held (layout_in d) d.making.numbers bytes d.memory) n) (held_of (layout_in d) d.making.numbers image n))
     → ImageIsPossible d bytes image
 possible_in attach d bytes image started some possible n =
-    subst (λ (s : List Slot). IsPossible (slot_at d.making.numbers s n) (held_in d.making.geometry d.making.numbers image n)) (sym (slots_are d bytes started))
-    (subst (IsPossible (slot_at d.making.numbers (slots_held (layout_in d) d.making.numbers bytes d.memory) n)) (sym ((attach d.making.geometry d.making.numbers image some).0 n)) (possible n))
+    subst (λ (s : List Slot). IsPossible (slot_at d.making.numbers s n) (held_in d.making image n)) (sym (slots_are d bytes started))
+    (subst (IsPossible (slot_at d.making.numbers (slots_held (layout_in d) d.making.numbers bytes d.memory) n)) (sym ((attach d.making image some).0 n)) (possible n))
 
 -- NOW
 pub held_finds_now : ImagesFind → ImagesAttach → ClocksFindNow → HeldFindsNow
@@ -50,8 +51,8 @@ found_are d bytes started = ap (λ (b : Bool). if b then slots_held (layout_in d
 pub unstarted_finds_now : UnstartedIsFound → ImagesAttach → ClocksFindNow → UnstartedFindsNow
 unstarted_finds_now found attach now d started some = now d (λ told.
     both_some (bytes_now d.flash) _ _ (λ bytes. ImageIsPossible d bytes bytes) some some (λ bytes more same n.
-    subst (λ (s : List Slot). IsPossible (slot_at d.making.numbers s n) (held_in d.making.geometry d.making.numbers bytes n)) (sym (found_are d bytes started))
-    (subst (IsPossible (slot_at d.making.numbers (slots_found (layout_in d) d.making.numbers bytes) n)) (sym ((attach d.making.geometry d.making.numbers bytes more).0 n)) (found (layout_in d) d.making.numbers bytes n))))
+    subst (λ (s : List Slot). IsPossible (slot_at d.making.numbers s n) (held_in d.making bytes n)) (sym (found_are d bytes started))
+    (subst (IsPossible (slot_at d.making.numbers (slots_found (layout_in d) d.making.numbers bytes) n)) (sym ((attach d.making bytes more).0 n)) (found (layout_in d) d.making.numbers bytes n))))
 
 -- CUTS
 pub cuts_are_told : KeptIsFound → ImagesAttach → CutsAreTold
@@ -60,10 +61,10 @@ cuts_are_told found attach op d copied holds keep = (
       let k = kept image leaves in
       let more : 0 < length image = omega (arith, same_size op bytes image leaves) in
       possible_in attach d bytes image holds.started more (found (layout_in d) d.making.numbers bytes image d.memory k.behind k.copied holds.legal k.kept)),
-  λ told. both_some (bytes_now d.flash) _ _ (λ bytes. (image : List ℕ) → MayLeave op bytes image → IsSoundFlash d.making.geometry image) holds.some (keep told) (λ bytes some kept image leaves.
+  λ told. both_some (bytes_now d.flash) _ _ (λ bytes. (image : List ℕ) → MayLeave op bytes image → IsSoundFlash d.making image) holds.some (keep told) (λ bytes some kept image leaves.
       let k = kept image leaves in
       let more : 0 < length image = omega (arith, same_size op bytes image leaves) in
-      (attach d.making.geometry d.making.numbers image more).1 k.kept.held.banks.sound),
+      (attach d.making image more).1 k.kept.held.banks.sound),
 )
 
 -- BEFORE AND AFTER
@@ -72,7 +73,7 @@ module _ (d t : Device) (are : AreStarted d t) (old new : List ℕ) where
   was_is n = ap (λ (s : List Slot). slot_at d.making.numbers s n) (slots_are d old are.old)
 
   now_is : (n : ℕ) → was t new n ≡ slot_at d.making.numbers (slots_held (layout_in d) d.making.numbers new t.memory) n
-  now_is n = ap (λ (s : List Slot). slot_at t.making.numbers s n) (slots_are t new are.new) ∙ (λ i. slot_at (are.same.making i).numbers (slots_held (two_banks (are.same.making i).geometry) (are.same.making i).numbers new t.memory) n)
+  now_is n = ap (λ (s : List Slot). slot_at t.making.numbers s n) (slots_are t new are.new) ∙ (λ i. slot_at (are.same.making i).numbers (slots_held (banks_of (are.same.making i)) (are.same.making i).numbers new t.memory) n)
 
   pub by_slots : (P : Slot → Slot → Type 0) (n : ℕ) → P (slot_at d.making.numbers (slots_held (layout_in d) d.making.numbers old d.memory) n) (slot_at d.making.numbers (slots_held (layout_in d) d.making.numbers new t.memory) n) → P (was d old n) (was t new n)
   by_slots P n holds = subst (λ (s : Slot). P s (was t new n)) (sym (was_is n)) (subst (P (slot_at d.making.numbers (slots_held (layout_in d) d.making.numbers old d.memory) n)) (sym (now_is n)) holds)
@@ -82,8 +83,8 @@ kept_is_told tell d t copied are kept = tell d t are.same (λ old new told n. by
 
 pub commits_are_told : TellsSettle → CommitsAreTold
 commits_are_told tell d t copied r body are committed =
-    tell d t r.number (mark_written r body) are.same
-    (λ old new told n. by_slots d t are old new (OneSettles r.number (mark_written r body) n) n ((committed old new told).settles n))
+    tell d t r.number (held_written r body).mark are.same
+    (λ old new told n. by_slots d t are old new (OneSettles r.number (held_written r body).mark n) n ((committed old new told).settles n))
 
 opens_as : TellsKeep → TellsDoubt → (d t : Device) (j : Job) (o : Option Mark) → AreStarted d t → ((old new : List ℕ) → AreTold d t old new → (n : ℕ) → Opened j n (was d old n) (was t new n) o) → DoubtsAt j.number o (told_of d) (told_of t)
 opens_as keep doubt d t j None are opened = keep d t are.same opened

@@ -10,7 +10,7 @@ use Rattle.fee_format.specs.declared.rec_head.RecHead.{RecHead}
 use Rattle.fee_image.specs.Found.{fits}
 use Rattle.fee_image.specs.Image.{Layout, IsLegalLayout, bank_in, image_page}
 use Rattle.log_image.specs.Log.{Tail, Open, Writes, Log}
-use Rattle.log_image.specs.May.{May, mark_written}
+use Rattle.log_image.specs.May.{May, held_written}
 use Rattle.log_image.specs.Step.{IsRecord, IsDue, is_last, page_due, bytes_due, log_begun, log_done, log_failed, log_given_up}
 use Rattle.bank_image.specs.Banks.{OldBank}
 use Rattle.bank_image.specs.Laws.{TakesAppends, program_of}
@@ -34,7 +34,7 @@ RecordsBegin =
     (l : Layout) (numbers : List (DeviceNumber × ℕ)) (bytes : List ℕ) (m : Memory) (copied : May) (k : ℕ)
     (h : BankHead) (log : Log) (r : RecHead) (body : List ℕ)
     → TakesRecord l numbers bytes m copied k h log → log.tail ≡ Open → IsRecord (bank_in l h.format k) log.end r body
-    → IsWorkOf m.stand (Writes r body 0)
+    → IsWorkOf numbers log.places m.stand (Writes r body 0)
     → IsKept l numbers bytes bytes m (with_log m k h (log_begun log r body) m.stand) copied
 
 -- the job is canceled, and its record given up
@@ -77,7 +77,7 @@ pub record IsCommitted (l : Layout) (numbers : List (DeviceNumber × ℕ)) (old 
     (copied : May) (r : RecHead) (body : List ℕ) : Type 0 where
   pub held : IsHeld l numbers new t copied
   pub settles : (n : ℕ) → IfElse (n == r.number)
-      (SettlesAs (mark_written r body) (slot_at numbers (slots_held l numbers old m) n) (slot_at numbers (slots_held l numbers new t) n))
+      (SettlesAs (held_written r body).mark (slot_at numbers (slots_held l numbers old m) n) (slot_at numbers (slots_held l numbers new t) n))
       (Keeps (slot_at numbers (slots_held l numbers old m) n) (slot_at numbers (slots_held l numbers new t) n))
 
 abbrev pub AppendsCommit : Type 0

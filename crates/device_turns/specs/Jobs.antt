@@ -19,7 +19,7 @@ use Rattle.device_turns.specs.Switches.{Stands}
 abbrev pub JobsChange : Type 0
 JobsChange =
     (l : Layout) (numbers : List (DeviceNumber × ℕ)) (bytes : List ℕ) (m : Memory) (copied : May) (stand : Stand)
-    → Stands l numbers bytes m copied → HasJob stand m.old → IsHeld l numbers bytes (record m { stand = stand }) copied
+    → Stands l numbers bytes m copied → HasJob numbers stand m.old → IsHeld l numbers bytes (record m { stand = stand }) copied
 
 -- A START-UP
 -- sound bytes of a flash, in which what was told so far makes possible what a start-up finds

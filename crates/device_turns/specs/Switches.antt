@@ -2,7 +2,7 @@
 use Rattle.std.specs.Prelude.{◌≡◌, ◌<◌, ◌≤◌, ◌+◌, ◌*◌, ◌^◌, ℕ, List, length}
 use Rattle.nv_base.specs.declared.geometry.Geometry.{Geometry}
 use Rattle.nv_base.specs.declared.instance.DeviceNumber.{DeviceNumber}
-use Rattle.nv_base.specs.declared.mark.Mark.TheVariants.{Erased}
+use Rattle.nv_base.specs.Held.{never_written}
 use Rattle.nv_base.specs.Geometry.{IsLegal, HasBanks, sectors_of_bank, pages_of_sector}
 use Rattle.nv_base.specs.Lengths.{AreLengths}
 use Rattle.memif.specs.Told.{Stand}
@@ -37,7 +37,7 @@ SwitchesBegin =
 abbrev pub CopiesBegin : Type 0
 CopiesBegin =
     (l : Layout) (numbers : List (DeviceNumber × ℕ)) (bytes : List ℕ) (m : Memory) (copied : May) (n : ℕ)
-    → Stands l numbers bytes m copied → m.phase ≡ Erasing n → l.pages ≤ n → ((number length : ℕ) → IsAmong (copied number length) Erased)
+    → Stands l numbers bytes m copied → m.phase ≡ Erasing n → l.pages ≤ n → ((number length : ℕ) → IsAmong (copied number length) never_written)
     → IsKept l numbers bytes bytes m (record m { phase = Copying (erased_log numbers) }) copied
 
 -- AN ERASE
@@ -55,7 +55,7 @@ pub record IsErasing (g : Geometry) (banks : ℕ) (numbers : List (DeviceNumber 
 abbrev pub ErasesFail : Type 0
 ErasesFail =
     (g : Geometry) (banks : ℕ) (numbers : List (DeviceNumber × ℕ)) (old new : List ℕ) (m : Memory) (copied : May) (sector : ℕ) (stand : Stand)
-    → IsErasing g banks numbers old new m copied sector → GoesOn m.stand stand → HasJob stand m.old
+    → IsErasing g banks numbers old new m copied sector → GoesOn m.stand stand → HasJob numbers stand m.old
     → IsKept (layout_of g banks) numbers old new m (record m { stand = stand }) copied
 
 abbrev pub ErasesGoOn : Type 0
@@ -70,7 +70,7 @@ abbrev pub CopiesFail : Type 0
 CopiesFail =
     (l : Layout) (numbers : List (DeviceNumber × ℕ)) (old new page : List ℕ) (m : Memory) (before copied : May) (q : ℕ) (log : Log) (stand : Stand)
     → Stands l numbers old m before → m.phase ≡ Copying log → length page ≡ l.page → q < l.pages → (q ≡ 1 → ⊥)
-    → MayLeave (program_of l m.target q page) old new → GoesOn m.stand stand → HasJob stand m.old
+    → MayLeave (program_of l m.target q page) old new → GoesOn m.stand stand → HasJob numbers stand m.old
     → IsKept l numbers old new m (record m { phase = Erasing 0; stand = stand }) copied
 
 abbrev pub CopiesGoOn : Type 0
@@ -95,7 +95,7 @@ abbrev pub GatesFail : Type 0
 GatesFail =
     (l : Layout) (numbers : List (DeviceNumber × ℕ)) (old new : List ℕ) (m : Memory) (copied : May) (log : Log) (stand : Stand)
     → Stands l numbers old m copied → m.phase ≡ Sealing log → MayLeave (program_of l m.target 1 (gate_page l.page)) old new
-    → GoesOn m.stand stand → HasJob stand m.old
+    → GoesOn m.stand stand → HasJob numbers stand m.old
     → IsKept l numbers old new m (record m { stand = stand }) copied
 
 -- it is done: the target is the bank that is active, and the next target any other one

@@ -8,7 +8,7 @@ use Rattle.fls_model.specs.Op.{Op, MayLeave}
 use Rattle.fls_model.specs.Told.{bytes_now}
 use Rattle.fee_format.specs.declared.rec_head.RecHead.{RecHead}
 use Rattle.fee_image.specs.Image.{Layout, IsLegalLayout}
-use Rattle.log_image.specs.May.{May, mark_written}
+use Rattle.log_image.specs.May.{May, held_written}
 use Rattle.device_image.specs.Slots.{Memory}
 use Rattle.device_image.specs.Laws.{IsHeld, Opened}
 use Rattle.device_clock.specs.Device.{Device, layout_in, tells, told_of}
@@ -67,7 +67,7 @@ abbrev pub CommitsAreTold : Type 0
 CommitsAreTold =
     (d t : Device) (copied : May) (r : RecHead) (body : List ℕ) → AreStarted d t
     → ((old new : List ℕ) → AreTold d t old new → IsCommitted (layout_in d) d.making.numbers old new d.memory t.memory copied r body)
-    → Settles r.number (mark_written r body) (told_of d) (told_of t)
+    → Settles r.number (held_written r body).mark (told_of d) (told_of t)
 
 abbrev pub OpensAreTold : Type 0
 OpensAreTold =

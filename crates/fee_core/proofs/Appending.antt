@@ -12,7 +12,7 @@ use Rattle.fee_format.specs.declared.rec_head.RecHead.{RecHead}
 use Rattle.fee_log.specs.Log.{work_in}
 use Rattle.fee_log.specs.Step.{IsPageOf, due_bytes, op_of, after_step}
 use Rattle.fee_switch.specs.Banks.{BanksState}
-use Rattle.device_bridge.specs.Bridge.{Making}
+use Rattle.device_bridge.specs.Making.{Making}
 use Rattle.device_clock.specs.Clock.{change_of}
 use Rattle.fee_state.specs.declared.job.FeeJob.{FeeJob}
 use Rattle.fee_state.specs.Inside.{Parts, IsAtWork, body_of}
@@ -21,9 +21,9 @@ use Rattle.fee_turns.specs.Turn.{IsOn, Drives}
 use Rattle.fee_turns.specs.Appends.{IsAppending, work_body, after_page}
 
 -- THE RECORD IN WORK
-work_of : (b : BanksState) (job : Option FeeJob) (j : FeeJob) (o : Option RecHead) → job ≡ Some j → IfSome o (IsInWork b job) → IsSome o → o ≡ Some (head_of j)
+work_of : (b : BanksState) (job : Option FeeJob) (j : FeeJob) (o : Option RecHead) → job ≡ Some j → IfSome o (IsInWork b job) → IsSome o → o ≡ Some (head_of b.log j)
 work_of b job j None is work some = cc some
-work_of b job j (Some h) is work some = (let same : work.of ≡ j = cc (work.is_open, is) in ap (λ (x : RecHead). Some x) (work.head ∙ ap head_of same))
+work_of b job j (Some h) is work some = (let same : work.of ≡ j = cc (work.is_open, is) in ap (λ (x : RecHead). Some x) (work.head ∙ ap (head_of b.log) same))
 
 -- while the power is on a step is one that was asked for
 pub asked_on : (off : Bool) (op : Op) (s : Told) (answer : FlashAnswer) (t : Told) → off ≡ false → OffOrAsked off op s answer t → IsAsked op s answer t
@@ -34,7 +34,7 @@ module _ (m : Making) (entry : Told) (s : Parts) (listed : List (DeviceNumber ×
   works : IsAtWork m s
   works = on.sound.works on.started
 
-  head_is : work_in s.banks.log.tail ≡ Some (head_of j)
+  head_is : work_in s.banks.log.tail ≡ Some (head_of s.banks.log j)
   head_is = work_of s.banks s.job j (work_in s.banks.log.tail) job works.work work
 
   power : s.fls.flash.off ≡ false

@@ -11,12 +11,11 @@ use Rattle.fee_format.specs.declared.rec_head.RecHead.{RecHead}
 use Rattle.fee_log.specs.declared.tail.Tail.{Tail}
 use Rattle.fee_log.specs.declared.tail.Tail.TheVariants.{Open, Writes, Owes, Closed}
 use Rattle.fee_log.specs.Log.{IsFor, work_in, free_in, tail_begun}
-use Rattle.bank_start.specs.declared.active.ActiveBank.{ActiveBank}
 use Rattle.switch_course.specs.declared.course.Course.{Course}
 use Rattle.switch_course.specs.declared.course.Course.TheVariants.{Erase, Copy, Head, Gate}
 use Rattle.fee_switch.specs.Banks.{BanksState, TakesRecord}
 use Rattle.switch_room.specs.Space.{free_pages, has_room}
-use Rattle.device_bridge.specs.Bridge.{Making}
+use Rattle.device_bridge.specs.Making.{Making}
 use Rattle.fee_state.specs.declared.job.FeeJob.{FeeJob}
 use Rattle.fee_state.specs.Inside.{Parts, IsActiveOf}
 use Rattle.fee_state.specs.Record.{IsJobOf, kind_of, head_of}
@@ -24,7 +23,7 @@ use Rattle.fee_state.specs.Work.{begins_next, fits_in, is_waiting, pages_of_op, 
 use Rattle.fee_turns.specs.Turn.{IsOn}
 use Rattle.fee_turns.specs.Begins.{MayBegin}
 use Rattle.fee_core.specs.Beginning.{begins_beside, begins_now}
-use Rattle.fee_core.proofs.Standing.{job_is, for_job, pages_for}
+use Rattle.fee_core.proofs.Standing.{job_is, for_job, next_counted, pages_for}
 
 -- TESTS
 pub all_four : (a b c d : Bool) → a && b && c && d ≡ true → (a ≡ true) × (b ≡ true) × (c ≡ true) × (d ≡ true)
@@ -65,8 +64,8 @@ module _ (m : Making) (entry : Told) (s : Parts) (listed : List (DeviceNumber ×
   is : IsJobOf m.numbers j
   is = job_is m entry s listed kept count false on.sound on.started j job
 
-  pub configured : IsFor s.banks.log.numbers (head_of j)
-  configured = subst (λ (ns : List (DeviceNumber × ℕ)). IsFor ns (head_of j)) (sym on.sound.made_for.numbers) (for_job m.numbers j.op j refl writes is)
+  pub configured : IsFor s.banks.log.numbers (head_of s.banks.log j)
+  configured = subst (λ (ns : List (DeviceNumber × ℕ)). IsFor ns (head_of s.banks.log j)) (sym on.sound.made_for.numbers) (for_job m.numbers j.op j (head_of s.banks.log j).count refl writes is (next_counted s.banks.log j on.log))
 
   pub may_begin : begins_now kept s.banks j ≡ true → MayBegin m s j
   may_begin begins =
@@ -80,14 +79,9 @@ room_by false true pages reserve free more is = (refl, (let le = leb-true (pages
 room_by true false pages reserve free more is = (let le = leb-true pages 0 is in absurd (omega (arith, le, more)))
 room_by false false pages reserve free more is = (let le = leb-true (pages + reserve) 0 is in absurd (omega (arith, le, more)))
 
-format_by : (b : BanksState) (o : Option ActiveBank) → is_some o ≡ true → IsActiveOf b o → b.log.format ≡ 1
-format_by b None some is = cc some
-format_by b (Some a) some is = is.1
-
 -- what the begin of its record asks for
 pub record HasRoom (b : BanksState) (j : FeeJob) : Type 0 where
   pub active : is_some b.active ≡ true
-  pub format : b.log.format ≡ 1
   pub room : record_pages_of j.length b.geometry.page ≤ free_in b.log
 
 pub has_room_for : (m : Making) (s : Parts) (j : FeeJob) → IsActiveOf s.banks s.banks.active → IsJobOf m.numbers j → MayBegin m s j → HasRoom s.banks j
@@ -97,7 +91,7 @@ has_room_for m s j active is may =
     let pages = pages_for b.geometry.page j.op j.length is.length may.writes is.fits in
     let fits' = subst (λ (n : ℕ). has_room j.urgent n m.reserve (free_pages b) ≡ true) pages fits in
     let room = room_by j.urgent (is_some b.active) (record_pages_of j.length b.geometry.page) m.reserve (free_in b.log) (omega arith) fits' in
-    record { active = room.0; format = format_by b b.active room.0 active; room = room.1 }
+    record { active = room.0; room = room.1 }
 
 -- it is in work then
 pub begun_work : (t : Tail) (h : RecHead) → IsSome (work_in (tail_begun t h))

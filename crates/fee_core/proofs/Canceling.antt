@@ -10,7 +10,7 @@ use Rattle.fls_model.specs.Told.{Told}
 use Rattle.fee_log.specs.Log.{IsLogState, work_in}
 use Rattle.fee_log.specs.Step.{given_up}
 use Rattle.fee_switch.specs.Banks.{BanksState, IsBanksState}
-use Rattle.device_bridge.specs.Bridge.{Making}
+use Rattle.device_bridge.specs.Making.{Making}
 use Rattle.fee_state.specs.declared.job.FeeJob.{FeeJob}
 use Rattle.fee_state.specs.Inside.{Parts, stand_of, IsSound}
 use Rattle.fee_starts.specs.Laws.{JobsCancel}

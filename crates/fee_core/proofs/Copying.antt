@@ -18,7 +18,7 @@ use Rattle.fee_switch.specs.declared.phase.BankStep.{BankStep}
 use Rattle.fee_switch.specs.Banks.{BanksState, IsBanksState, reads_next, reads_source, reads_place, after_answer}
 use Rattle.fee_switch.specs.Copy.{BeginsAt, IsBankStep}
 use Rattle.switch_room.specs.Laws.{StepsMayBeMade}
-use Rattle.device_bridge.specs.Bridge.{Making}
+use Rattle.device_bridge.specs.Making.{Making}
 use Rattle.fee_state.specs.Inside.{Parts}
 use Rattle.fee_turns.specs.Turn.{Turned}
 use Rattle.fee_turns.specs.Switches.{failed_with, CopiesAreRead, CopiesAreNotRead}
@@ -37,14 +37,16 @@ reads_at b (Some (Gate failed)) reads = cc reads
 
 -- while the power is on it isn't cut, and it leaves the shape of the banks
 not_cut : (at : Place) (b : BanksState) (n size : ℕ) (s : Told) (t : BanksState) (s' : Told) → reads_place at ≡ true → s.off ≡ false → BeginsAt at b n size s Off t s' → ⊥
-not_cut (place.Content q) b n size s t s' reads on is = (let off = is.0.2 in cc (on, off))
-not_cut place.Invalid b n size s t s' reads on is = cc reads
-not_cut place.Erased b n size s t s' reads on is = cc reads
+not_cut (place.Content q count) b n size s t s' reads on is = (let off = is.0.2 in cc (on, off))
+not_cut (place.Invalid count) b n size s t s' reads on is = cc reads
+not_cut (place.Erased count) b n size s t s' reads on is = cc reads
+not_cut place.Unwritten b n size s t s' reads on is = cc reads
 
 shape_same : (at : Place) (b : BanksState) (n size : ℕ) (s : Told) (answer : FlashAnswer) (t : BanksState) (s' : Told) → BeginsAt at b n size s answer t s' → (t.geometry ≡ b.geometry) × (t.banks ≡ b.banks)
-shape_same (place.Content q) b n size s answer t s' is = (ap (λ (x : BanksState). x.geometry) is.1, ap (λ (x : BanksState). x.banks) is.1)
-shape_same place.Invalid b n size s answer t s' is = (ap (λ (x : BanksState). x.geometry) is.1, ap (λ (x : BanksState). x.banks) is.1)
-shape_same place.Erased b n size s answer t s' is = (ap (λ (x : BanksState). x.geometry) is.1, ap (λ (x : BanksState). x.banks) is.1)
+shape_same (place.Content q count) b n size s answer t s' is = (ap (λ (x : BanksState). x.geometry) is.1, ap (λ (x : BanksState). x.banks) is.1)
+shape_same (place.Invalid count) b n size s answer t s' is = (ap (λ (x : BanksState). x.geometry) is.1, ap (λ (x : BanksState). x.banks) is.1)
+shape_same (place.Erased count) b n size s answer t s' is = (ap (λ (x : BanksState). x.geometry) is.1, ap (λ (x : BanksState). x.banks) is.1)
+shape_same place.Unwritten b n size s answer t s' is = (ap (λ (x : BanksState). x.geometry) is.1, ap (λ (x : BanksState). x.banks) is.1)
 
 module _ (m : Making) (entry : Told) (s : Parts) (listed : List (DeviceNumber × ℕ)) (kept count : ℕ) (ready : StepsMayBeMade) (f : FlsState) (is : IsCalled m entry s listed kept count (Copy None) f) (result : BankStep) (b : BanksState) (made : IsBankStep s.banks (Copy None) s.fls.flash result b f.flash) (reads : reads_next s.banks.log s.banks.course ≡ true) where
   reads' : reads_next s.banks.log (Some (Copy None)) ≡ true

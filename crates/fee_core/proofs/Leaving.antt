@@ -20,13 +20,13 @@ use Rattle.fee_state.specs.Record.{head_of}
 use Rattle.fee_state.specs.Work.{pages_left, is_owed}
 
 -- of a record in work
-pub record_left : (p wanted : ℕ) (t : Tail) (j : FeeJob) → is_some (work_in t) ≡ true → IfSome (work_in t) (λ h. h ≡ head_of j) → wanted ≡ pages_of_head p (head_of j)
+pub record_left : (p wanted : ℕ) (t : Tail) (log : LogState) (j : FeeJob) → is_some (work_in t) ≡ true → IfSome (work_in t) (λ h. h ≡ head_of log j) → wanted ≡ pages_of_head p (head_of log j)
     → left_in p t ≡ pages_left p wanted t + turns_owed (is_owed t)
-record_left p wanted Open j some of is = cc some
-record_left p wanted (Writes head done) j some of is = omega arith
-record_left p wanted (Owes head None) j some of is = cc some
-record_left p wanted (Owes head (Some next)) j some of is = (let same : pages_of_head p next ≡ pages_of_head p (head_of j) = ap (λ (h : RecHead). pages_of_head p h) of in omega (arith, same, is))
-record_left p wanted Closed j some of is = cc some
+record_left p wanted Open log j some of is = cc some
+record_left p wanted (Writes head done) log j some of is = omega arith
+record_left p wanted (Owes head None) log j some of is = cc some
+record_left p wanted (Owes head (Some next)) log j some of is = (let same : pages_of_head p next ≡ pages_of_head p (head_of log j) = ap (λ (h : RecHead). pages_of_head p h) of in omega (arith, same, is))
+record_left p wanted Closed log j some of is = cc some
 
 -- of a switch without an active bank
 copies_none : (p : ℕ) (ns : List (DeviceNumber × ℕ)) → copies_left p ns (erased_places ns) (clear_flags ns) ≡ 0

@@ -16,7 +16,7 @@ use Rattle.device_figures.specs.Figures.{figures_for}
 use Rattle.fee_state.specs.Work.{pages_of_op}
 use Rattle.memif.specs.Calls.{refusal_of, length_refusal}
 use Rattle.fls_model.specs.Told.{Told}
-use Rattle.device_bridge.specs.Bridge.{Making}
+use Rattle.device_bridge.specs.Making.{Making}
 use Rattle.device_clock.specs.Device.{told_of}
 use Rattle.fee_state.specs.declared.job.FeeJob.{FeeJob}
 use Rattle.fee_state.specs.Inside.{Parts, device_of, stand_of, mark_of}

@@ -40,9 +40,9 @@ pub read_some : (numbers : List (DeviceNumber × ℕ)) (j : FeeJob) → AreLengt
 read_some numbers j are is op = (let e = size_is numbers j is op in let some = some_at 0 numbers j.number.0 is.length are is.configured in omega (arith, e, some))
 
 -- it lies before the end of its log
-pub read_within : (numbers : List (DeviceNumber × ℕ)) (log : LogState) (j : FeeJob) (at : ℕ) (place : Place) → IsJobOf numbers j → j.op ≡ Read → log.numbers ≡ numbers
-    → ((size : ℕ) → Contains log.numbers (j.number, size) → IsWithin log.geometry.page log.end size place) → place ≡ Content at → at + record_pages_of j.length log.geometry.page ≤ log.end
-read_within numbers log j at place is op same within content =
+pub read_within : (numbers : List (DeviceNumber × ℕ)) (log : LogState) (j : FeeJob) (at writes : ℕ) (place : Place) → IsJobOf numbers j → j.op ≡ Read → log.numbers ≡ numbers
+    → ((size : ℕ) → Contains log.numbers (j.number, size) → IsWithin log.geometry.page log.end size place) → place ≡ Content at writes → at + record_pages_of j.length log.geometry.page ≤ log.end
+read_within numbers log j at writes place is op same within content =
     let listed = subst (λ (ns : List (DeviceNumber × ℕ)). Contains ns (j.number, is.length)) (sym same) (is_listed numbers j.number.0 is.length is.configured) in
     let e = size_is numbers j is op in
     let h = (subst (λ (x : Place). IsWithin log.geometry.page log.end is.length x) content (within is.length listed)).1 in
@@ -55,11 +55,11 @@ read_failed address s before Done into t on never is = absurd (never refl)
 read_failed address s before Failed into t on never is = refl
 read_failed address s before Off into t on never is = (let off = is.2 in cc (on, off))
 
-pub asked_for : (s : Parts) (j : FeeJob) (at : ℕ) (content : List ℕ) (answer : FlashAnswer) (f : FlsState) (log : LogState)
-    → IsSome s.banks.active → log ≡ s.banks.log → place_now s j ≡ Content at
+pub asked_for : (s : Parts) (j : FeeJob) (at writes : ℕ) (content : List ℕ) (answer : FlashAnswer) (f : FlsState) (log : LogState)
+    → IsSome s.banks.active → log ≡ s.banks.log → place_now s j ≡ Content at writes
     → IsRead (address_of_page log.geometry log.banks log.bank (at + 2)) s.fls.flash (take j.length s.content) answer (take j.length content) f.flash
-    → f ≡ record s.fls { flash = f.flash; result = closed_as answer } → length content ≡ 4096 → IsAsked s j at content answer f
-asked_for s j at content answer f log active same place read only room = record {
+    → f ≡ record s.fls { flash = f.flash; result = closed_as answer } → length content ≡ 4096 → IsAsked s j at writes content answer f
+asked_for s j at writes content answer f log active same place read only room = record {
   place = place;
   active = active;
   only = only ∙ (λ i. record s.fls { flash = f.flash; result = sym (ap (λ (x : FlsState). x.result) only) i });

@@ -1,26 +1,24 @@
 -- What a number holds, without its content.
 use Rattle.std.specs.Prelude.{map, slice_get, option_map, is_some, IfSome}
-use Rattle.std.proofs.Common.{◌≡◌, ◌==◌, ◌+◌, ℕ, Bool, true, false, if◌then◌else◌, List, [], ◌∷◌, Option, Some, None, refl, sym, ap, ◌∙◌, subst, add-one}
+use Rattle.std.proofs.Common.{◌≡◌, ◌⊎◌, inl, inr, ◌==◌, ◌+◌, ℕ, Bool, true, false, if◌then◌else◌, List, [], ◌∷◌, Option, Some, None, refl, sym, ap, ◌∙◌, subst, add-one}
 use Rattle.nv_base.specs.Lengths.{place_of}
 use Rattle.nv_base.specs.declared.instance.DeviceNumber.{DeviceNumber}
 use Rattle.nv_base.specs.declared.mark.Mark.{Mark}
-use Rattle.nv_base.specs.declared.mark.Mark.TheVariants as mark
 use Rattle.memif.specs.declared.answer.PlainMark.{PlainMark}
 use Rattle.memif.specs.declared.answer.PlainMark.TheVariants as plain
-use Rattle.memif.specs.Told.{Held, Slot, at_number, slot_at}
+use Rattle.memif.specs.Told.{Held, never_written, Slot, at_number, slot_at}
 use Rattle.memif.specs.Calls.{kind_of}
 use Rattle.fls_model.specs.Told.{Told}
 use Rattle.fee_image.specs.Bank.{Bank}
 use Rattle.fee_image.specs.Image.{bank_in}
 use Rattle.log_image.specs.declared.place.Place.{Place}
-use Rattle.log_image.specs.declared.place.Place.TheVariants.{Content, Invalid, Erased}
-use Rattle.log_image.specs.Places.{mark_at}
+use Rattle.log_image.specs.declared.place.Place.TheVariants.{Content, Invalid, Erased, Unwritten}
+use Rattle.log_image.specs.Places.{held_at}
 use Rattle.bank_image.specs.Doubts.{shown_of}
 use Rattle.bank_start.specs.declared.active.ActiveBank.{ActiveBank}
 use Rattle.fee_log.specs.Index.{at_index, or_else, place_in}
-use Rattle.device_bridge.specs.Bridge.{Making}
-use Rattle.device_bridge.specs.Image.{two_banks}
-use Rattle.device_image.specs.Slots.{slots_with, slots_held, slots_found, marks_at, settled_in, job_leaves}
+use Rattle.device_bridge.specs.Making.{Making, banks_of}
+use Rattle.device_image.specs.Slots.{slots_with, slots_held, slots_found, held_all, settled_in, job_leaves}
 use Rattle.device_clock.specs.Device.{tells, slots_told}
 use Rattle.fls_model.specs.Told.{bytes_now}
 use Rattle.switch_promise.specs.Shown.{old_shown}
@@ -29,74 +27,80 @@ use Rattle.fee_state.specs.Inside.{Parts, device_of, memory_of, body_of}
 
 -- of a place
 abbrev pub kind_at : Place → PlainMark
-kind_at (Content at) = plain.Content
-kind_at Invalid = plain.Invalid
-kind_at Erased = plain.Erased
+kind_at (Content at count) = plain.Content
+kind_at (Invalid count) = plain.Invalid
+kind_at (Erased count) = plain.Erased
+kind_at Unwritten = plain.Erased
 
-kind_same : (b : Bank) (bytes : List ℕ) (size : ℕ) (place : Place) → kind_at place ≡ kind_of (mark_at b bytes size place)
-kind_same b bytes size (Content at) = refl
-kind_same b bytes size Invalid = refl
-kind_same b bytes size Erased = refl
+kind_same : (b : Bank) (bytes : List ℕ) (size : ℕ) (place : Place) → kind_at place ≡ kind_of (held_at b bytes size place).mark
+kind_same b bytes size (Content at count) = refl
+kind_same b bytes size (Invalid count) = refl
+kind_same b bytes size (Erased count) = refl
+kind_same b bytes size Unwritten = refl
 
--- THE SETTLED MARK
-settled_by : (a b : Slot) (x y : Mark) (t : Bool) → a.settled.mark ≡ x → b.settled.mark ≡ y → (if t then a else b).settled.mark ≡ (if t then x else y)
+pub kind_erased : (p : Place) → ((count : ℕ) × (p ≡ Erased count)) ⊎ (p ≡ Unwritten) → plain.Erased ≡ kind_at p
+kind_erased p (inl (count, e)) = sym (ap kind_at e)
+kind_erased p (inr e) = sym (ap kind_at e)
+
+-- WHAT IS SETTLED
+settled_by : (a b : Slot) (x y : Held) (t : Bool) → a.settled ≡ x → b.settled ≡ y → (if t then a else b).settled ≡ (if t then x else y)
 settled_by a b x y true p q = p
 settled_by a b x y false p q = q
 
-pub settled_at : (shown : ℕ → ℕ → Mark) (more : ℕ → List Held) (ns : List (DeviceNumber × ℕ)) (ms : List Mark) (n : ℕ) → (slot_at ns (slots_with shown more ns ms) n).settled.mark ≡ at_number mark.Erased ns ms n
+pub settled_at : (shown : ℕ → ℕ → Held) (more : ℕ → List Mark) (ns : List (DeviceNumber × ℕ)) (ms : List Held) (n : ℕ) → (slot_at ns (slots_with shown more ns ms) n).settled ≡ at_number never_written ns ms n
 settled_at shown more [] ms n = refl
 settled_at shown more (x ∷ xs) [] n = refl
-settled_at shown more (x ∷ xs) (m ∷ ms) n = settled_by _ _ m (at_number mark.Erased xs ms n) (x.0.0 == n) refl (settled_at shown more xs ms n)
+settled_at shown more (x ∷ xs) (m ∷ ms) n = settled_by _ _ m (at_number never_written xs ms n) (x.0.0 == n) refl (settled_at shown more xs ms n)
 
 -- THE PLACE
-no_places : (o : Option ℕ) → or_else Erased (at_index [] o) ≡ Erased
+no_places : (o : Option ℕ) → or_else Unwritten (at_index [] o) ≡ Unwritten
 no_places None = refl
 no_places (Some i) = refl
 
-later_place : (place : Place) (places : List Place) (o : Option ℕ) → or_else Erased (at_index (place ∷ places) (option_map (λ k. k + 1) o)) ≡ or_else Erased (at_index places o)
+later_place : (place : Place) (places : List Place) (o : Option ℕ) → or_else Unwritten (at_index (place ∷ places) (option_map (λ k. k + 1) o)) ≡ or_else Unwritten (at_index places o)
 later_place place places None = refl
-later_place place places (Some k) = ap (λ (j : ℕ). or_else Erased (slice_get (place ∷ places) j)) (add-one k)
+later_place place places (Some k) = ap (λ (j : ℕ). or_else Unwritten (slice_get (place ∷ places) j)) (add-one k)
 
-place_by : (b : Bank) (bytes : List ℕ) (size : ℕ) (place : Place) (places : List Place) (o : Option ℕ) (y : Mark) (t : Bool) → kind_at (or_else Erased (at_index places o)) ≡ kind_of y
-    → kind_at (or_else Erased (at_index (place ∷ places) (if t then Some 0 else option_map (λ k. k + 1) o))) ≡ kind_of (if t then mark_at b bytes size place else y)
+place_by : (b : Bank) (bytes : List ℕ) (size : ℕ) (place : Place) (places : List Place) (o : Option ℕ) (y : Held) (t : Bool) → kind_at (or_else Unwritten (at_index places o)) ≡ kind_of y.mark
+    → kind_at (or_else Unwritten (at_index (place ∷ places) (if t then Some 0 else option_map (λ k. k + 1) o))) ≡ kind_of (if t then held_at b bytes size place else y).mark
 place_by b bytes size place places o y true rest = kind_same b bytes size place
 place_by b bytes size place places o y false rest = ap kind_at (later_place place places o) ∙ rest
 
-pub kind_shown : (b : Bank) (bytes : List ℕ) (ns : List (DeviceNumber × ℕ)) (places : List Place) (n : ℕ) → kind_at (place_in ns places n) ≡ kind_of (at_number mark.Erased ns (marks_at b bytes ns places) n)
+pub kind_shown : (b : Bank) (bytes : List ℕ) (ns : List (DeviceNumber × ℕ)) (places : List Place) (n : ℕ) → kind_at (place_in ns places n) ≡ kind_of (at_number never_written ns (held_all b bytes ns places) n).mark
 kind_shown b bytes [] places n = refl
 kind_shown b bytes (x ∷ xs) [] n = ap kind_at (no_places (place_of (x ∷ xs) n))
-kind_shown b bytes (x ∷ xs) (place ∷ places) n = place_by b bytes x.1 place places (place_of xs n) (at_number mark.Erased xs (marks_at b bytes xs places) n) (x.0.0 == n) (kind_shown b bytes xs places n)
+kind_shown b bytes (x ∷ xs) (place ∷ places) n = place_by b bytes x.1 place places (place_of xs n) (at_number never_written xs (held_all b bytes xs places) n) (x.0.0 == n) (kind_shown b bytes xs places n)
 
-erased_by : (m : Mark) (t : Bool) → m ≡ mark.Erased → (if t then mark.Erased else m) ≡ mark.Erased
+erased_by : (m : Held) (t : Bool) → m ≡ never_written → (if t then never_written else m) ≡ never_written
 erased_by m true e = refl
 erased_by m false e = e
 
-pub none_held : (ns : List (DeviceNumber × ℕ)) (n : ℕ) → at_number mark.Erased ns (map (λ x. mark.Erased) ns) n ≡ mark.Erased
+pub none_held : (ns : List (DeviceNumber × ℕ)) (n : ℕ) → at_number never_written ns (map (λ x. never_written) ns) n ≡ never_written
 none_held [] n = refl
-none_held (x ∷ xs) n = erased_by (at_number mark.Erased xs (map (λ y. mark.Erased) xs) n) (x.0.0 == n) (none_held xs n)
+none_held (x ∷ xs) n = erased_by (at_number never_written xs (map (λ y. never_written) xs) n) (x.0.0 == n) (none_held xs n)
 
 -- WHERE IT IS TOLD
--- the place of a number; without an active bank it is erased
+-- the place of a number; without an active bank it was never written
 abbrev pub place_now : Parts → Option ActiveBank → ℕ → Place
-place_now s None n = Erased
+place_now s None n = Unwritten
 place_now s (Some a) n = place_in s.banks.log.numbers s.banks.log.places n
 
 module _ (m : Making) (entry : Told) (s : Parts) (numbers : s.banks.log.numbers ≡ m.numbers) (n : ℕ) where
-  kind_by : (active : Option ActiveBank) (bytes body : List ℕ) → kind_at (place_now s active n) ≡ kind_of (at_number mark.Erased m.numbers (settled_in (two_banks m.geometry) m.numbers bytes (old_shown active s.banks.log body)) n)
-  kind_by None bytes body = sym (ap kind_of (none_held m.numbers n))
+  kind_by : (active : Option ActiveBank) (bytes body : List ℕ) → kind_at (place_now s active n) ≡ kind_of (at_number never_written m.numbers (settled_in (banks_of m) m.numbers bytes (old_shown active s.banks.log body)) n).mark
+  kind_by None bytes body = sym (ap (λ (h : Held). kind_of h.mark) (none_held m.numbers n))
   kind_by (Some a) bytes body =
-      subst (λ (ns : List (DeviceNumber × ℕ)). kind_at (place_in ns s.banks.log.places n) ≡ kind_of (at_number mark.Erased m.numbers (marks_at (bank_in (two_banks m.geometry) a.head.format a.bank) bytes m.numbers s.banks.log.places) n))
-      (sym numbers) (kind_shown (bank_in (two_banks m.geometry) a.head.format a.bank) bytes m.numbers s.banks.log.places n)
+      subst (λ (ns : List (DeviceNumber × ℕ)). kind_at (place_in ns s.banks.log.places n) ≡ kind_of (at_number never_written m.numbers (held_all (bank_in (banks_of m) a.head.format a.bank) bytes m.numbers s.banks.log.places) n).mark)
+      (sym numbers) (kind_shown (bank_in (banks_of m) a.head.format a.bank) bytes m.numbers s.banks.log.places n)
 
-  kind_in : (bytes : List ℕ) → kind_at (place_now s s.banks.active n) ≡ kind_of (slot_at m.numbers (slots_held (two_banks m.geometry) m.numbers bytes (memory_of s)) n).settled.mark
+  kind_in : (bytes : List ℕ) → kind_at (place_now s s.banks.active n) ≡ kind_of (slot_at m.numbers (slots_held (banks_of m) m.numbers bytes (memory_of s)) n).settled.mark
   kind_in bytes =
       let old = (memory_of s).old in
       kind_by s.banks.active bytes (body_of (work_in s.banks.log.tail) s.content)
-      ∙ ap kind_of (sym (settled_at (shown_of (two_banks m.geometry) bytes old) (job_leaves (memory_of s).stand) m.numbers (settled_in (two_banks m.geometry) m.numbers bytes old) n))
+      ∙ ap (λ (h : Held). kind_of h.mark) (sym (settled_at (shown_of (banks_of m) bytes old) (job_leaves (memory_of s).stand) m.numbers (settled_in (banks_of m) m.numbers bytes old) n))
 
   -- while it is started
   kind_told : (told started : Bool) (o : Option (List ℕ)) → started ≡ true
-      → IfSome (if told then option_map (λ bytes. if started then slots_held (two_banks m.geometry) m.numbers bytes (memory_of s) else slots_found (two_banks m.geometry) m.numbers bytes) o else None)
+      → IfSome (if told then option_map (λ bytes. if started then slots_held (banks_of m) m.numbers bytes (memory_of s) else slots_found (banks_of m) m.numbers bytes) o else None)
       (λ slots. kind_at (place_now s s.banks.active n) ≡ kind_of (slot_at m.numbers slots n).settled.mark)
   kind_told true true (Some bytes) on = kind_in bytes
   kind_told true true None on = tt

@@ -1,19 +1,24 @@
 -- What a turn that does something begins with, and the open job of a started device.
-use Rattle.std.specs.Prelude.{Contains, is_some, IfSome}
-use Rattle.std.proofs.Common.{◌≡◌, ◌≢◌, inl, inr, ◌≤◌, ◌==◌, ◌++◌, ℕ, suc, Bool, true, false, List, [], ◌∷◌, Option, Some, None, refl, sym, ap, ◌∙◌, subst, arith}
+use Rattle.std.specs.Prelude.{Contains, is_some, IfSome, slice_get}
+use Rattle.std.proofs.Common.{◌≡◌, ◌≢◌, inl, inr, ◌≤◌, ◌<◌, ◌^◌, ◌==◌, ◌++◌, ℕ, zero, suc, Bool, true, false, List, [], ◌∷◌, Option, Some, None, refl, sym, ap, ◌∙◌, subst, arith}
 use Rattle.std.proofs.lemmas.Bool.{cond_both, eqb-true}
 use Rattle.nv_base.specs.Pages.{record_pages_of}
 use Rattle.nv_base.specs.declared.instance.DeviceNumber.{DeviceNumber}
+use Rattle.nv_base.specs.Lengths.{place_of}
 use Rattle.nv_base.specs.declared.job.DeviceOp.{DeviceOp}
 use Rattle.nv_base.specs.declared.job.DeviceOp.TheVariants.{Read, Write, Invalidate, Erase}
 use Rattle.memif.specs.Told.{length_of}
 use Rattle.memif.specs.declared.answer.DeviceTurn.{DeviceTurn}
 use Rattle.fls_model.specs.Told.{Told, Change}
 use Rattle.fee_format.specs.declared.rec_head.RecHead.{RecHead}
-use Rattle.fee_log.specs.Log.{IsLogState, IsFor, work_in}
+use Rattle.log_image.specs.declared.place.Place.{Place}
+use Rattle.log_image.specs.declared.place.Place.TheVariants.{Unwritten}
+use Rattle.log_image.specs.Places.{count_at}
+use Rattle.fee_log.specs.Index.{at_index, or_else, AreCounted}
+use Rattle.fee_log.specs.Log.{LogState, IsLogState, IsFor, work_in}
 use Rattle.switch_course.specs.declared.course.Course.{Course}
 use Rattle.fee_switch.specs.Banks.{BanksState, IsBanksState}
-use Rattle.device_bridge.specs.Bridge.{Making}
+use Rattle.device_bridge.specs.Making.{Making}
 use Rattle.fee_state.specs.declared.job.FeeJob.{FeeJob}
 use Rattle.fee_state.specs.Inside.{Parts, IsSound}
 use Rattle.fee_state.specs.Record.{IsInWork, IsJobOf, IsLengthOf, kind_of, head_of}
@@ -107,18 +112,31 @@ is_listed (x ∷ xs) n size is =
     (λ e is'. (0, omega arith, (let at : x.0.0 ≡ n = eqb-true x.0.0 n e in let same : x.1 ≡ size = cc is' in (λ i. (record { 0 = at i }, same i)))))
     (λ e is'. (let later = is_listed xs n size is' in (suc later.0, (let less = later.1 in omega (arith, less)), later.2))) is
 
+-- the count of its record fits
+counted_at : (ps : List Place) (i : ℕ) → AreCounted ps → count_at (or_else Unwritten (slice_get ps i)) < 2 ^ 32
+counted_at [] i are = omega arith
+counted_at (p ∷ ps) zero are = are.0
+counted_at (p ∷ ps) (suc i) are = counted_at ps i are.1
+
+place_counted : (ps : List Place) (o : Option ℕ) → AreCounted ps → count_at (or_else Unwritten (at_index ps o)) < 2 ^ 32
+place_counted ps None are = omega arith
+place_counted ps (Some i) are = counted_at ps i are
+
+pub next_counted : (log : LogState) (j : FeeJob) → IsLogState log → (head_of log j).count < 2 ^ 32
+next_counted log j is = (let few = place_counted log.places (place_of log.numbers j.number.0) is.counts in omega (arith, few))
+
 -- its record is for its number, with so many pages
-pub for_job : (numbers : List (DeviceNumber × ℕ)) (op : DeviceOp) (j : FeeJob) → j.op ≡ op → op ≢ Read → IsJobOf numbers j → IsFor numbers (head_of j)
-for_job numbers Read j e writes is = absurd (writes refl)
-for_job numbers Write j e writes is =
+pub for_job : (numbers : List (DeviceNumber × ℕ)) (op : DeviceOp) (j : FeeJob) (count : ℕ) → j.op ≡ op → op ≢ Read → IsJobOf numbers j → count < 2 ^ 32 → IsFor numbers (record { number = j.number.0; kind = kind_of j.op; length = j.length; count = count })
+for_job numbers Read j count e writes is counted = absurd (writes refl)
+for_job numbers Write j count e writes is counted =
     let fits = subst (λ (o : DeviceOp). IsLengthOf o j.length is.length) e is.fits in
-    record { length = is.length; configured = is_listed numbers j.number.0 is.length is.configured; kind = inl (ap kind_of e, fits) }
-for_job numbers Invalidate j e writes is =
+    record { length = is.length; configured = is_listed numbers j.number.0 is.length is.configured; kind = inl (ap kind_of e, fits); count = counted }
+for_job numbers Invalidate j count e writes is counted =
     let fits = subst (λ (o : DeviceOp). IsLengthOf o j.length is.length) e is.fits in
-    record { length = is.length; configured = is_listed numbers j.number.0 is.length is.configured; kind = inr (inl (ap kind_of e), fits) }
-for_job numbers Erase j e writes is =
+    record { length = is.length; configured = is_listed numbers j.number.0 is.length is.configured; kind = inr (inl (ap kind_of e), fits); count = counted }
+for_job numbers Erase j count e writes is counted =
     let fits = subst (λ (o : DeviceOp). IsLengthOf o j.length is.length) e is.fits in
-    record { length = is.length; configured = is_listed numbers j.number.0 is.length is.configured; kind = inr (inr (ap kind_of e), fits) }
+    record { length = is.length; configured = is_listed numbers j.number.0 is.length is.configured; kind = inr (inr (ap kind_of e), fits); count = counted }
 
 pub pages_for : (p : ℕ) (op : DeviceOp) (length of : ℕ) → op ≢ Read → IsLengthOf op length of → pages_of_op p op length ≡ record_pages_of length p
 pages_for p Read length of writes fits = absurd (writes refl)

@@ -18,7 +18,7 @@ use Rattle.fee_log.specs.Index.{clear_flags}
 use Rattle.fee_log.specs.Log.{LogState, erased_state, work_in, is_closed}
 use Rattle.bank_start.specs.declared.active.ActiveBank.{ActiveBank}
 use Rattle.fee_switch.specs.Banks.{BanksState, IsBanksState, IsSameFlash, FindsActive, LoadsActive}
-use Rattle.device_bridge.specs.Bridge.{Making}
+use Rattle.device_bridge.specs.Making.{Making}
 use Rattle.device_clock.specs.Device.{told_of}
 use Rattle.device_clock.specs.Clock.{clock_of}
 use Rattle.fee_state.specs.Inside.{Parts, device_of, IsSound, IsActiveOf}
@@ -50,7 +50,7 @@ resting s f b ready faults = record s { fls = f; banks = b; job = None; last = J
 
 -- what the banks are where they are ready
 pub record IsLoaded (old b : BanksState) : Type 0 where
-  pub format : IfSome b.active (λ a. (a.head.format ≡ 1) × (b.log.format ≡ 1))
+  pub format : IfSome b.active (λ a. b.log.format ≡ a.head.format)
   pub blank : b.active ≡ None → b.log ≡ erased_state old.geometry old.banks 0 old.log.numbers
   pub clear : b.log.flags ≡ clear_flags b.log.numbers
   pub idle : work_in b.log.tail ≡ None
@@ -63,7 +63,7 @@ blank_log old b of is =
 
 active_at : (old b : BanksState) → IsSameFlash old b → IsLoaded old b → (o : Option ActiveBank) → b.active ≡ o → IsActiveOf b o
 active_at old b of loaded None e = blank_log old b of (loaded.blank e)
-active_at old b of loaded (Some a) e = subst (λ (o : Option ActiveBank). IfSome o (λ x. (x.head.format ≡ 1) × (b.log.format ≡ 1))) e loaded.format
+active_at old b of loaded (Some a) e = subst (λ (o : Option ActiveBank). IfSome o (λ x. b.log.format ≡ x.head.format)) e loaded.format
 
 are_ready : (old b : BanksState) → IsSameFlash old b → IsLoaded old b → AreReady b
 are_ready old b of loaded = record { active = active_at old b of loaded b.active refl; clear = loaded.clear; idle = loaded.idle }
@@ -82,7 +82,7 @@ module _ (m : Making) (entry : Told) (s : Parts) (listed : List (DeviceNumber ×
   are : AreOf m b
   are = record {
     geometry = of.geometry ∙ sound.made_for.banks_geometry;
-    two = of.banks ∙ sound.made_for.two;
+    shared = of.banks ∙ sound.made_for.shared;
     numbers = of.numbers ∙ sound.made_for.numbers;
     closed = closed;
     state = state;

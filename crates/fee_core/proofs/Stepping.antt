@@ -24,9 +24,9 @@ use Rattle.switch_course.specs.declared.course.Course.TheVariants.{Erase, Copy, 
 use Rattle.fee_switch.specs.declared.phase.BankStep.{BankStep}
 use Rattle.fee_switch.specs.declared.phase.BankStep.TheVariants as step
 use Rattle.fee_switch.specs.Banks.{BanksState, is_worn_out, reads_next, step_of, after_answer}
-use Rattle.fee_switch.specs.Copy.{CanGoOn, BeginsAt, MakesNext, IsBankStep}
+use Rattle.fee_switch.specs.Copy.{CanGoOn, BeginsAt, head_at, MakesNext, IsBankStep}
 use Rattle.switch_room.specs.Laws.{StepsMayBeMade}
-use Rattle.device_bridge.specs.Bridge.{Making}
+use Rattle.device_bridge.specs.Making.{Making}
 use Rattle.device_clock.specs.Clock.{change_of}
 use Rattle.device_clock.specs.Runs.{counts_fault}
 use Rattle.fee_state.specs.Inside.{Parts, HasSwitch}
@@ -100,13 +100,14 @@ read_counted a before into s t Done is = (let same = is.1 in same_counted s t (a
 read_counted a before into s t Failed is = (let same = is.1 in same_counted s t (ap (λ (x : Told). x.planning.unplanned) same) (ap (λ (x : Told). x.cuts) same))
 read_counted a before into s t Off is = (let same = is.1 in same_counted s t (ap (λ (x : Told). x.planning.unplanned) same) (ap (λ (x : Told). x.cuts) same))
 
-abbrev mark_begun : BanksState → ℕ → Op
-mark_begun b n = op_of (begun b.copies (record { number = n; kind = 2; length = 0 })) []
+abbrev mark_begun : BanksState → Place → ℕ → ℕ → Op
+mark_begun b at n size = op_of (begun b.copies (head_at at n size)) []
 
 begun_counted : (at : Place) (b : BanksState) (n size : ℕ) (s : Told) (answer : FlashAnswer) (t : BanksState) (s' : Told) → s.off ≡ false → BeginsAt at b n size s answer t s' → IsCounted s s'
-begun_counted (place.Content q) b n size s answer t s' on is = read_counted (address_of_page b.geometry b.banks b.log.bank (q + 2)) (take size b.buffer) (take size t.buffer) s s' answer is.0
-begun_counted place.Invalid b n size s answer t s' on is = (asked_on s.off (mark_begun b n) s answer s' on is.0).counted
-begun_counted place.Erased b n size s answer t s' on is = (asked_on s.off (mark_begun b n) s answer s' on is.0).counted
+begun_counted (place.Content q count) b n size s answer t s' on is = read_counted (address_of_page b.geometry b.banks b.log.bank (q + 2)) (take size b.buffer) (take size t.buffer) s s' answer is.0
+begun_counted (place.Invalid count) b n size s answer t s' on is = (asked_on s.off (mark_begun b (place.Invalid count) n size) s answer s' on is.0).counted
+begun_counted (place.Erased count) b n size s answer t s' on is = (asked_on s.off (mark_begun b (place.Erased count) n size) s answer s' on is.0).counted
+begun_counted place.Unwritten b n size s answer t s' on is = (asked_on s.off (mark_begun b place.Unwritten n size) s answer s' on is.0).counted
 
 copy_counted : (b : BanksState) (o : Option RecHead) (s : Told) (answer : FlashAnswer) (s' : Told) → s.off ≡ false → IsSome o → ForSome o (λ h. IsStep (op_of b.copies (take h.length b.buffer)) s answer s') → IsCounted s s'
 copy_counted b None s answer s' on some is = cc some

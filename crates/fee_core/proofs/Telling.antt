@@ -15,17 +15,14 @@ use Rattle.fee_core.specs.Tells.{told_clock}
 -- WHAT STAYS
 pub same_told : (d t : Device) → SameClock (clock_of d) (clock_of t) → SameClock (told_clock d) (told_clock t)
 same_told d t same = record {
-  first = record {
-    may_find = same.first.may_find;
-    off_in = λ k. ((λ x. (x.0, (same.first.off_in k).0 x.1)), (λ x. (x.0, (same.first.off_in k).1 x.1)));
-    worn = same.first.worn;
-  };
-  second = same.second;
+  may_find = same.may_find;
+  off_in = λ k. ((λ x. (x.0, (same.off_in k).0 x.1)), (λ x. (x.0, (same.off_in k).1 x.1)));
+  worn = same.worn;
+  of_second = same.of_second;
 }
 
 finds_told : (told : DeviceTold) (d : Device) → FindsNow told (clock_of d) → FindsNow told (told_clock d)
-finds_told told d finds First m may = finds First m may
-finds_told told d finds Second m may = finds Second m may
+finds_told told d finds m may = finds m may
 
 pub order_told : (told : DeviceTold) (d : Device) → InOrder told (clock_of d) → InOrder told (told_clock d)
 order_told told d order = record {
@@ -64,6 +61,7 @@ jobs_told p (Ended result given) b old new t turns = turns
 works_told : (p : Part) (old new : DeviceTold) (t : Device) → Works p old new (clock_of t) → Works p old new (told_clock t)
 works_told p old new t works = record {
   only = works.only;
+  up = works.up;
   of = works.of;
   part = works.part;
   job = jobs_told p old.stand new.stand old new t works.job;
@@ -74,24 +72,14 @@ works_told p old new t works = record {
 
 ticks_told : (p : Part) (answer : DeviceTurn) (old new : DeviceTold) (d t : Device) → Ticks p answer old (clock_of d) new (clock_of t)
     → Ticks p answer old (told_clock d) new (told_clock t)
-ticks_told First answer old new d t ticks = record {
-  past = record { after = ticks.past.after; cut = ticks.past.cut; worn = ticks.past.worn };
+ticks_told p answer old new d t ticks = record {
+  past = record { after = ticks.past.after; cut = ticks.past.cut; worn = ticks.past.worn; of_second = ticks.past.of_second };
   cut = ticks.cut;
   off = λ k off. elim (ticks.off k off.1) [
-    | inl was ↦ inl (off.0, was)
+    | inl was ↦ inl ((off.0, was.0), was.1)
     | inr goes ↦ inr goes
   ];
-  other = ticks.other;
-}
-ticks_told Second answer old new d t ticks = record {
-  past = record { after = ticks.past.after; cut = ticks.past.cut; worn = ticks.past.worn };
-  cut = ticks.cut;
-  off = ticks.off;
-  other = record {
-    may_find = ticks.other.may_find;
-    off_in = λ k. ((λ x. (x.0, (ticks.other.off_in k).0 x.1)), (λ x. (x.0, (ticks.other.off_in k).1 x.1)));
-    worn = ticks.other.worn;
-  };
+  part = ticks.part;
 }
 
 turned_told : (answer : DeviceTurn) (old new : DeviceTold) (d t : Device) → TurnsAs answer old (clock_of d) new (clock_of t) → TurnsAs answer old (told_clock d) new (told_clock t)

@@ -88,7 +88,11 @@ impl<F: Flash, O: Origin> FeeParts<F, O> {
         calls_follow();
         let _active = self.banks.active();
         let kind = kind_of(job.op);
-        self.banks.append_start(job.number, kind, job.length);
+        let Some(log) = self.banks.log() else {
+            unreachable!()
+        };
+        let head = log.head_next(job.number, kind, job.length);
+        self.banks.append_start(head);
         self.turn_record(job)
     }
 }

@@ -1,6 +1,6 @@
 // The device.
 ghost use Rattle.std.specs.Prelude.{◌≡◌, IfOk, length};
-ghost use Rattle.nv_base.specs.Geometry.{IsLegal};
+ghost use Rattle.nv_base.specs.Geometry.{IsLegal, HasBanks};
 ghost use Rattle.fee_switch.specs.Banks.{IsMade};
 ghost use Rattle.fee_core.specs.Whole.{unstarted};
 
@@ -19,7 +19,7 @@ use std::alloc::{AllocError, Global};
 use std::marker::{Model, PhantomData};
 use value_traces::Trace;
 
-/// A memory device over the two banks of a flash: one job at a time, in turns of at most one flash call. It takes memory at
+/// A memory device over the banks of a flash: one job at a time, in turns of at most one flash call. It takes memory at
 /// `make` alone. Contracts see what it knows as one record.
 #[derive(Drop)]
 pub struct Fee<F: Flash, O: Origin> {
@@ -42,14 +42,16 @@ impl<F: Flash, O: Origin> Model for Fee<F, O> {
 fn room_for(
     alloc: Global,
     geometry: Geometry,
+    banks: u32,
     numbers: &Lengths,
 ) -> Result<(Banks, Lengths, Content), AllocError>
-    requires { IsLegal geometry }
-    ensures banks { IfOk result (λ r. IsMade r.0 geometry 2 numbers.now) }
+    requires legal { IsLegal geometry }
+    requires shared { HasBanks geometry banks }
+    ensures banks { IfOk result (λ r. IsMade r.0 geometry banks numbers.now) }
     ensures numbers { IfOk result (λ r. r.1 ≡ numbers.now) }
     ensures content { IfOk result (λ r. length r.2 ≡ 4096) }
 {
-    let banks = Banks::make(alloc, geometry, numbers)?;
+    let banks = Banks::make(alloc, geometry, numbers, banks)?;
     let listed = lengths_of(alloc, numbers.as_slice())?;
     Ok((banks, listed, Content::make(alloc)?))
 }
@@ -85,7 +87,7 @@ fn unstarted<F: Flash, O: Origin>(
 
 impl<F: Flash, O: Origin> Fee<F, O> {
     ghost use Rattle.std.specs.Prelude.{◌≡◌, ◌≤◌, ℕ, Bool, [], IfOk, IfErr, IfSome, Err};
-    ghost use Rattle.nv_base.specs.Geometry.{IsLegal, sectors_of_bank};
+    ghost use Rattle.nv_base.specs.Geometry.{IsLegal, HasBanks, sectors_of_bank};
     ghost use Rattle.fls_model.specs.Told.{changes_in};
     ghost use Rattle.fls_model.specs.Attach.{IsAttach};
     ghost use Rattle.device_bridge.specs.Bridge.{Bridges};
@@ -97,26 +99,29 @@ impl<F: Flash, O: Origin> Fee<F, O> {
     ghost use Rattle.device_clock.specs.Clock.{clock_of};
 
     /// Attaches the flash and takes all memory that the device ever needs; a refusal hands the flash back. The device is of
-    /// what was picked, and isn't started. `reserve` is the pages that are kept for urgent writes.
+    /// what was picked, and isn't started. `banks` is how many share the sectors, `reserve` the pages that are kept for urgent
+    /// writes.
     pub fn make(
         alloc: Global,
         flash: F,
         geometry: Geometry,
+        banks: u32,
         numbers: &Lengths,
         reserve: u32,
     ) -> Result<Fee<F, O>, (AttachFault, F)>
         requires legal { IsLegal geometry }
-        requires making { O.making ≡ record { geometry = geometry; numbers = numbers.now; reserve = reserve } }
+        requires shared { HasBanks geometry banks }
+        requires making { O.making ≡ record { geometry = geometry; banks = banks; numbers = numbers.now; reserve = reserve } }
         requires entry { O.entry ≡ F.told flash }
-        requires space { HasSpace numbers.now geometry 2 reserve }
+        requires space { HasSpace numbers.now geometry banks reserve }
         ensures made { IfOk result (λ f. IsMadeOf O.making O.entry f) }
         ensures parts { IfOk result (λ f. (n : ℕ) → (figures_at (told_of f).fixed n).part ≡ First) }
-        ensures fixed { IfOk result (λ f. (told_of f).fixed ≡ fixed_for geometry.page (sectors_of_bank geometry 2) numbers.now reserve) }
+        ensures fixed { IfOk result (λ f. (told_of f).fixed ≡ fixed_for geometry.page (sectors_of_bank geometry banks) numbers.now reserve) }
         ensures refused { IfErr result (λ e. IsAttach geometry (F.told flash) (Err e.0) (F.told e.1)) }
     {
         devices_are_made();
         starts_follow();
-        let Ok((banks, numbers, content)) = room_for(alloc, geometry, numbers) else {
+        let Ok((banks, numbers, content)) = room_for(alloc, geometry, banks, numbers) else {
             return Err((AttachFault::Memory, flash));
         };
         let mut fls = Fls::make(flash, geometry);
@@ -133,9 +138,10 @@ impl<F: Flash, O: Origin> Fee<F, O> {
         ensures told { F.told result ≡ self.flash }
         ensures geometry { (F.told result).geometry ≡ O.making.geometry }
         ensures more { O.entry.faults ≤ (F.told result).faults }
+        ensures parts { (n : ℕ) → (figures_at (told_of self).fixed n).part ≡ First }
         ensures none { self.operations ≡ [] → ((F.told result).ops ≡ O.entry.ops) × ((F.told result).cuts ≡ O.entry.cuts) }
         ensures changes { IfSome (changes_in (F.told result).bytes) (λ changes. changes ≡ self.operations) }
-        ensures bridge { (cutter : Bool) → Bridges O.making cutter (record { entry = O.entry; exit = F.told result; operations = self.operations }) (part_at O.entry) (told_of self).first (clock_of self).first }
+        ensures bridge { (cutter : Bool) → Bridges O.making cutter (record { entry = O.entry; exit = F.told result; operations = self.operations }) (part_at O.entry) (told_of self) (clock_of self) }
     {
         runs_bridge();
         let Fee { parts } = self;

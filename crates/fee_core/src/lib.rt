@@ -1,4 +1,4 @@
-//! The memory device over the two banks of a flash.
+//! The memory device over the banks of a flash.
 //!
 //! It promises all that a memory device promises, with turns of at most one flash call, and that what it tells of its flash
 //! is so, from its making on. What a call or a turn comes to are laws of the crates below it; that a configuration leaves

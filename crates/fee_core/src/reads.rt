@@ -32,15 +32,15 @@ impl<F: Flash, O: Origin> FeeParts<F, O> {
             return DeviceTurn::Worked;
         };
         match log.find(job.number) {
-            Place::Invalid => {
+            Place::Invalid { count: _ } => {
                 self.last = JobResult::BlockInvalid;
                 DeviceTurn::Worked
             }
-            Place::Erased => {
+            Place::Erased { count: _ } | Place::Unwritten => {
                 self.last = JobResult::BlockInconsistent;
                 DeviceTurn::Worked
             }
-            Place::Content { at } => {
+            Place::Content { at, count: _ } => {
                 let answer = self.content.read(&mut self.fls, log, job.length, at);
                 match answer {
                     FlashAnswer::Done => {

@@ -119,14 +119,13 @@ pub(crate) fn begins_now(banks: &Banks, job: FeeJob, reserve: u32) -> bool
 
 // The turns of a switch that would begin now.
 fn whole_switch(banks: &Banks) -> u64
-    requires two { banks.now.banks ≡ 2 }
     requires active { IsActiveOf banks.now banks.now.active }
     requires clear { banks.now.log.flags ≡ clear_flags banks.now.log.numbers }
     requires idle { work_in banks.now.log.tail ≡ None }
     ensures { result ≡ left_of (begun_again banks.now (Erase 0)) }
 {
     let geometry = banks.geometry();
-    let sectors = geometry.bank_sectors(2);
+    let sectors = banks.bank_sectors();
     match banks.log() {
         Some(log) => {
             let (numbers, places, flags) = log.lists();
@@ -151,7 +150,6 @@ fn turns_beside(banks: &Banks, job: FeeJob) -> u64
 
 /// The turns of the switch that is open, or that a job needs.
 pub(crate) fn switch_turns(banks: &Banks, job: FeeJob, reserve: u32) -> u64
-    requires two { banks.now.banks ≡ 2 }
     requires active { IsActiveOf banks.now banks.now.active }
     requires clear { banks.now.course ≡ None → banks.now.log.flags ≡ clear_flags banks.now.log.numbers }
     requires few { switch_turns reserve banks.now (Some job) banks.now.course < 2 ^ 63 }
@@ -170,8 +168,8 @@ pub(crate) fn switch_turns(banks: &Banks, job: FeeJob, reserve: u32) -> u64
 /// The turns of the pages of a job's record that are left, and of a gate that is owed before it.
 pub(crate) fn record_turns(banks: &Banks, job: FeeJob) -> u64
     requires active { IsActiveOf banks.now banks.now.active }
-    requires work { IfSome (work_in banks.now.log.tail) (λ h. h ≡ head_of job) }
-    requires pages { pages_of_op banks.now.geometry.page job.op job.length ≡ pages_of_head banks.now.geometry.page (head_of job) }
+    requires work { IfSome (work_in banks.now.log.tail) (λ h. h ≡ head_of banks.now.log job) }
+    requires pages { pages_of_op banks.now.geometry.page job.op job.length ≡ pages_of_head banks.now.geometry.page (head_of banks.now.log job) }
     ensures { result ≡ pages_left banks.now.geometry.page (pages_of_op banks.now.geometry.page job.op job.length) banks.now.log.tail + turns_owed (is_owed banks.now.log.tail) }
 {
     let page = banks.geometry().page;

@@ -95,8 +95,8 @@ impl<F: Flash, O: Origin> FeeParts<F, O> {
         };
         match log.find(number) {
             Place::Content { .. } => PlainMark::Content,
-            Place::Invalid => PlainMark::Invalid,
-            Place::Erased => PlainMark::Erased,
+            Place::Invalid { count: _ } => PlainMark::Invalid,
+            Place::Erased { count: _ } | Place::Unwritten => PlainMark::Erased,
         }
     }
 
@@ -123,7 +123,7 @@ impl<F: Flash, O: Origin> FeeParts<F, O> {
         match op {
             DeviceOp::Read => 1,
             _ => {
-                let switch = most_turns(geometry.page, geometry.bank_sectors(2), &self.numbers);
+                let switch = most_turns(geometry.page, self.banks.bank_sectors(), &self.numbers);
                 u64::from(pages_of_op(geometry.page, op, length)) + 1 + switch
             }
         }

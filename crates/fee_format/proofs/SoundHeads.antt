@@ -2,18 +2,19 @@
 use Rattle.std.specs.Prelude.{◌==◌, ◌&&◌, not, nat_lt, nat_le, bit_and, get_or, is_some}
 use Rattle.std.specs.Int.{w32, to_be_bytes, from_be_bytes, byte_at}
 use Rattle.std.specs.Int.Bits.{and_self}
-use Rattle.std.proofs.Common.{◌≡◌, inl, inr, ◌↔◌, ◌<◌, ◌≤◌, ◌^◌, ℕ, zero, suc, ◌-◌, Bool, true, false, IsTrue, List, [], ◌∷◌, length, drop, replicate, Option, Some, None, refl, sym, ap, ◌∙◌, subst, arith}
+use Rattle.std.proofs.Common.{◌≡◌, ◌⊎◌, inl, inr, ◌↔◌, ◌<◌, ◌≤◌, ◌^◌, ℕ, zero, suc, ◌-◌, Bool, true, false, IsTrue, List, [], ◌∷◌, length, drop, replicate, Option, Some, None, refl, sym, ap, ◌∙◌, subst, arith}
 use Rattle.std.proofs.lemmas.Bool.{false≢true}
 use Rattle.std.proofs.lemmas.Nat.{and_le_r, and_le_l, and_comm, and_assoc, and-not, be_bytes_4}
 use Rattle.std.proofs.lemmas.Option.{none-some}
 use Rattle.fls_model.specs.Bytes.{Grown}
 use Rattle.fee_format.specs.declared.bank_head.BankHead.{BankHead}
 use Rattle.fee_format.specs.BankHead.{IsLegalBankHead, IsBankHead, IsNoBankHead, bank_head_page, bank_head_of}
-use Rattle.fee_format.specs.SoundHead.{IsSoundHead, GrowsNoBankHead, IsSomeBankHead, is_part, is_apart, are_bytes, may_grow, grows_bank_head}
+use Rattle.fee_format.specs.SoundHead.{IsSoundHead, GrowsNoBankHead, IsSomeBankHead, is_part, is_apart, are_bytes, may_grow_as, may_grow, grows_bank_head}
+use Rattle.fee_format.specs.Formats.{IsFormat}
 use Rattle.fee_format.specs.Laws.{SoundHeadsCompute}
 use Rattle.fee_format.proofs.Heads.{bank_heads_compute}
 use Rattle.fee_format.proofs.Tests.{both, either, same, lt_is, le_is, eq_is}
-use Rattle.fee_format.proofs.Torn.{grown_le, byte_small}
+use Rattle.fee_format.proofs.Torn.{grown_le, byte_small, format_small}
 
 -- BYTES AND COMPLEMENTS
 apart_grows : (x y : ℕ) → x < 256 → y < 256 → bit_and x y ≡ 0 → bit_and y (255 - x) ≡ y
@@ -68,21 +69,28 @@ module _ (x0 x1 x2 x3 x4 x5 y0 y1 y2 y3 y4 y5 : ℕ) (rest : List ℕ) where
   abbrev Apart : ℕ → ℕ → Type 0
   Apart x y = ((x < 256) × (y < 256)) × (bit_and x y ≡ 0)
 
+  -- of a format
+  abbrev MayAs : ℕ → Type 0
+  MayAs v = (bit_and x0 0x42 ≡ x0) × ((bit_and x1 v ≡ x1) × (Apart x2 y2 × (Apart x3 y3 × (Apart x4 y4 × (Apart x5 y5 × ((bit_and y0 0xbd ≡ y0) × (bit_and y1 (255 - v) ≡ y1)))))))
+
   abbrev May : Type 0
-  May = (bit_and x0 0x42 ≡ x0) × ((bit_and x1 1 ≡ x1) × (Apart x2 y2 × (Apart x3 y3 × (Apart x4 y4 × (Apart x5 y5 × ((bit_and y0 0xbd ≡ y0) × (bit_and y1 0xfe ≡ y1)))))))
+  May = MayAs 1 ⊎ MayAs 2
 
   abbrev Parts : Type 0
   Parts = May × IsTrue (are_bytes rest)
 
-  may_are : IsTrue (may_grow page) ↔ May
-  may_are =
+  may_as_are : (v : ℕ) → IsTrue (may_grow_as v page) ↔ MayAs v
+  may_as_are v =
       both (is_part x0 0x42) _ (bit_and x0 0x42 ≡ x0) _ (eq_is (bit_and x0 0x42) x0)
-      (both (is_part x1 1) _ (bit_and x1 1 ≡ x1) _ (eq_is (bit_and x1 1) x1)
+      (both (is_part x1 v) _ (bit_and x1 v ≡ x1) _ (eq_is (bit_and x1 v) x1)
       (both (is_apart x2 y2) _ (Apart x2 y2) _ (apart_is x2 y2)
       (both (is_apart x3 y3) _ (Apart x3 y3) _ (apart_is x3 y3)
       (both (is_apart x4 y4) _ (Apart x4 y4) _ (apart_is x4 y4)
       (both (is_apart x5 y5) _ (Apart x5 y5) _ (apart_is x5 y5)
-      (both (is_part y0 0xbd) (is_part y1 0xfe) (bit_and y0 0xbd ≡ y0) (bit_and y1 0xfe ≡ y1) (eq_is (bit_and y0 0xbd) y0) (eq_is (bit_and y1 0xfe) y1)))))))
+      (both (is_part y0 0xbd) (is_part y1 (255 - v)) (bit_and y0 0xbd ≡ y0) (bit_and y1 (255 - v) ≡ y1) (eq_is (bit_and y0 0xbd) y0) (eq_is (bit_and y1 (255 - v)) y1)))))))
+
+  may_are : IsTrue (may_grow page) ↔ May
+  may_are = either (may_grow_as 1 page) (may_grow_as 2 page) (MayAs 1) (MayAs 2) (may_as_are 1) (may_as_are 2)
 
   parts_are : IsTrue (grows_bank_head page) ↔ Parts
   parts_are =
@@ -92,8 +100,8 @@ module _ (x0 x1 x2 x3 x4 x5 y0 y1 y2 y3 y4 y5 : ℕ) (rest : List ℕ) where
   abbrev value : ℕ
   value = from_be_bytes w32 (x2 ∷ x3 ∷ x4 ∷ x5 ∷ [])
 
-  grows_head : Parts → GrowsTo page
-  grows_head ((p0, (p1, (((l2, m2), a2), (((l3, m3), a3), (((l4, m4), a4), (((l5, m5), a5), (q0, q1))))))), bytes) =
+  grows_as : (v : ℕ) → IsFormat v → MayAs v → IsTrue (are_bytes rest) → GrowsTo page
+  grows_as v is (p0, (p1, (((l2, m2), a2), (((l3, m3), a3), (((l4, m4), a4), (((l5, m5), a5), (q0, q1))))))) bytes =
       let bytes_are : to_be_bytes w32 value ≡ x2 ∷ x3 ∷ x4 ∷ x5 ∷ [] = be_bytes_4 (x2 ∷ x3 ∷ x4 ∷ x5 ∷ []) value refl (four x2 x3 x4 x5 l2 l3 l4 l5) refl in
       let b3 : byte_at 3 value ≡ x2 = cc bytes_are in
       let b2 : byte_at 2 value ≡ x3 = cc bytes_are in
@@ -102,14 +110,14 @@ module _ (x0 x1 x2 x3 x4 x5 y0 y1 y2 y3 y4 y5 : ℕ) (rest : List ℕ) where
       let up : (x v : ℕ) → v ≡ x → bit_and x v ≡ x = λ x v e. ap (bit_and x) e ∙ and_self x in
       let down : (x y v : ℕ) → v ≡ x → x < 256 → y < 256 → bit_and x y ≡ 0 → bit_and y (255 - v) ≡ y = λ x y v e l m a. ap (λ (n : ℕ). bit_and y (255 - n)) e ∙ apart_grows x y l m a in
       let small : value < 2 ^ 32 = from_small x2 x3 x4 x5 l2 l3 l4 l5 in (
-        record { format = 1; generation = value },
-        record { format = refl; generation = small },
+        record { format = v; generation = value },
+        record { format = is; generation = small },
         (
           p0,
           λ l. omega arith,
           (
             p1,
-            λ l. omega arith,
+            λ l. format_small v is,
             (
               up x2 (byte_at 3 value) b3,
               λ l. byte_small 3 value,
@@ -155,8 +163,12 @@ module _ (x0 x1 x2 x3 x4 x5 y0 y1 y2 y3 y4 y5 : ℕ) (rest : List ℕ) where
         ),
       )
 
-  head_grows : GrowsTo page → Parts
-  head_grows (h, legal, grown) =
+  grows_head : Parts → GrowsTo page
+  grows_head (inl may, bytes) = grows_as 1 (inl refl) may bytes
+  grows_head (inr may, bytes) = grows_as 2 (inr refl) may bytes
+
+  head_grows_as : (v : ℕ) (h : BankHead) → h.format ≡ v → Grown page (bank_head_page (length page) h) → MayAs v × IsTrue (are_bytes rest)
+  head_grows_as v h is grown =
       let from = grown.2.2 in
       let guard = from.2.2.2.2 in
       let low = guard.2.2 in
@@ -164,11 +176,17 @@ module _ (x0 x1 x2 x3 x4 x5 y0 y1 y2 y3 y4 y5 : ℕ) (rest : List ℕ) where
       let lx : x < 256 = omega (arith, grown_le x (byte_at k h.generation) up, byte_small k h.generation) in
       let ly : y < 256 = omega (arith, grown_le y (255 - byte_at k h.generation) down) in
       ((lx, ly), grows_apart x y (byte_at k h.generation) (byte_small k h.generation) ly up down) in
-      let format : bit_and x1 1 ≡ x1 = subst (λ (n : ℕ). bit_and x1 n ≡ x1) legal.format grown.2.0 in
-      let guarded : bit_and y1 0xfe ≡ y1 = subst (λ (n : ℕ). bit_and y1 (255 - n) ≡ y1) legal.format guard.2.0 in (
+      let format : bit_and x1 v ≡ x1 = subst (λ (n : ℕ). bit_and x1 n ≡ x1) is grown.2.0 in
+      let guarded : bit_and y1 (255 - v) ≡ y1 = subst (λ (n : ℕ). bit_and y1 (255 - n) ≡ y1) is guard.2.0 in (
         (grown.0, (format, (pair x2 y2 3 from.0 low.0, (pair x3 y3 2 from.2.0 low.2.0, (pair x4 y4 1 from.2.2.0 low.2.2.0, (pair x5 y5 0 from.2.2.2.0 low.2.2.2.0, (guard.0, guarded))))))),
         grown_rest rest (subst (λ (n : ℕ). Grown rest (replicate n 255)) long low.2.2.2.2),
       )
+
+  head_grows : GrowsTo page → Parts
+  head_grows (h, legal, grown) = elim legal.format [
+    | inl one ↦ let both_are = head_grows_as 1 h one grown in (inl both_are.0, both_are.1)
+    | inr two ↦ let both_are = head_grows_as 2 h two grown in (inr both_are.0, both_are.1)
+  ]
 
 grows_is : (page : List ℕ) → IsTrue (grows_bank_head page) ↔ GrowsTo page
 grows_is (x0 ∷ x1 ∷ x2 ∷ x3 ∷ x4 ∷ x5 ∷ y0 ∷ y1 ∷ y2 ∷ y3 ∷ y4 ∷ y5 ∷ rest) =

@@ -7,6 +7,7 @@ use Rattle.std.proofs.lemmas.Nat.{and_le_r, and_assoc, from_be_bytes-to_be_bytes
 use Rattle.fls_model.specs.Bytes.{Grown}
 use Rattle.fee_format.specs.declared.bank_head.BankHead.{BankHead}
 use Rattle.fee_format.specs.BankHead.{IsLegalBankHead, IsBankHead, bank_head_page}
+use Rattle.fee_format.specs.Formats.{IsFormat}
 use Rattle.fee_format.specs.Pages.{gate_page, same_bytes}
 use Rattle.fee_format.specs.Laws.{TornPagesKeepSize, TornHeadsAreSame, TornGatesWereGates, TornHeadsStaySound, BeginsBlank, BlankHeadsAreSound}
 use Rattle.fee_format.proofs.Tests.{bytes_are}
@@ -52,6 +53,10 @@ pub byte_small : (k n : ℕ) → byte_at k n < 256
 byte_small zero n = omega arith
 byte_small (suc k) n = omega arith
 
+pub format_small : (n : ℕ) → IsFormat n → n < 256
+format_small n (inl one) = omega (arith, one)
+format_small n (inr two) = omega (arith, two)
+
 same_head : (p : ℕ) (h i : BankHead) → IsLegalBankHead h → IsLegalBankHead i → Grown (bank_head_page p h) (bank_head_page p i) → h ≡ i
 same_head p h i one two grown =
     let from = grown.2.2 in
@@ -63,7 +68,8 @@ same_head p h i one two grown =
     let b1 = byte 1 from.2.2.0 guard.2.2.0 in
     let b0 = byte 0 from.2.2.2.0 guard.2.2.2.0 in
     let generation : h.generation ≡ i.generation = same_32 h.generation i.generation one.generation two.generation (λ j. b3 j ∷ b2 j ∷ b1 j ∷ b0 j ∷ []) in
-    λ j. record { format = (one.format ∙ sym two.format) j; generation = generation j }
+    let format : h.format ≡ i.format = held h.format i.format (format_small h.format one.format) (format_small i.format two.format) grown.2.0 from.2.2.2.2.2.0 in
+    λ j. record { format = format j; generation = generation j }
 
 pub torn_heads_are_same : TornHeadsAreSame
 torn_heads_are_same p page torn h i head grown head2 =

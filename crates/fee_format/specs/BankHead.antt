@@ -1,12 +1,13 @@
 -- The page that a bank begins with.
-use Rattle.std.specs.Prelude.{◌≡◌, ℕ, ◌-◌, ◌<◌, ◌^◌, ◌&&◌, nat_lt, if◌then◌else◌, List, ◌∷◌, ◌++◌, take, drop, map, replicate, Option, Some, None}
+use Rattle.std.specs.Prelude.{◌≡◌, ℕ, ◌-◌, ◌<◌, ◌^◌, ◌&&◌, nat_lt, if◌then◌else◌, List, ◌∷◌, ◌++◌, take, drop, get_or, map, replicate, Option, Some, None}
 use Rattle.std.specs.Int.{w32, bytes_high_first, from_be_bytes}
 use Rattle.fee_format.specs.declared.bank_head.BankHead.{BankHead}
+use Rattle.fee_format.specs.Formats.{IsFormat, is_format}
 use Rattle.fee_format.specs.Pages.{same_bytes}
 
--- the one format that there is, and a generation of 32 bits
+-- a format, and a generation of 32 bits
 pub record IsLegalBankHead (h : BankHead) : Type 0 where
-  pub format : h.format ≡ 1
+  pub format : IsFormat h.format
   pub generation : h.generation < 2 ^ 32
 
 -- the magic byte, the format, and the generation, big-endian
@@ -33,9 +34,9 @@ IsNoBankHead p page = (h : BankHead) → IsBankHead p page h → ⊥
 -- THE SAME, COMPUTED
 -- the head that a page would have
 abbrev pub bank_head_in : List ℕ → BankHead
-bank_head_in page = record { format = 1; generation = from_be_bytes w32 (take 4 (drop 2 page)) }
+bank_head_in page = record { format = get_or page 1 0; generation = from_be_bytes w32 (take 4 (drop 2 page)) }
 
 -- the head that a page of p bytes has
 abbrev pub bank_head_of : ℕ → List ℕ → Option BankHead
 bank_head_of p page =
-    if nat_lt (bank_head_in page).generation (2 ^ 32) && same_bytes page (bank_head_page p (bank_head_in page)) then Some (bank_head_in page) else None
+    if (is_format (bank_head_in page).format && nat_lt (bank_head_in page).generation (2 ^ 32)) && same_bytes page (bank_head_page p (bank_head_in page)) then Some (bank_head_in page) else None

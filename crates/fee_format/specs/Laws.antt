@@ -16,7 +16,7 @@ abbrev pub BankHeadsCompute : Type 0
 BankHeadsCompute = (p : ℕ) (page : List ℕ) (h : BankHead) → IsBankHead p page h ↔ (bank_head_of p page ≡ Some h)
 
 abbrev pub RecHeadsCompute : Type 0
-RecHeadsCompute = (p : ℕ) (page : List ℕ) (h : RecHead) → IsRecHead p page h ↔ (rec_head_of p page ≡ Some h)
+RecHeadsCompute = (format p : ℕ) (page : List ℕ) (h : RecHead) → IsRecHead format p page h ↔ (rec_head_of format p page ≡ Some h)
 
 abbrev pub SoundHeadsCompute : Type 0
 SoundHeadsCompute = (page : List ℕ) → IsTrue (is_sound_head page) ↔ IsSoundHead page

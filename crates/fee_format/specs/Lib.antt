@@ -1,4 +1,5 @@
 pub mod BankHead
+pub mod Formats
 pub mod Gate
 pub mod Laws
 pub mod Pages

@@ -1,41 +1,52 @@
 -- The page that a record begins with.
-use Rattle.std.specs.Prelude.{◌≡◌, ◌⊎◌, ℕ, ◌-◌, ◌<◌, ◌==◌, ◌&&◌, ◌||◌, nat_lt, if◌then◌else◌, Bool, List, ◌∷◌, ◌++◌, take, drop, get_or, replicate, Option, Some, None}
-use Rattle.std.specs.Int.{w16, bytes_high_first, from_be_bytes}
+use Rattle.std.specs.Prelude.{◌≡◌, ◌⊎◌, ℕ, ◌-◌, ◌<◌, ◌^◌, ◌==◌, ◌&&◌, ◌||◌, nat_lt, if◌then◌else◌, Bool, List, ◌∷◌, ◌++◌, take, drop, get_or, replicate, Option, Some, None}
+use Rattle.std.specs.Int.{w16, w32, bytes_high_first, from_be_bytes}
 use Rattle.fee_format.specs.declared.rec_head.RecHead.{RecHead}
+use Rattle.fee_format.specs.Formats.{new_format, IsCountIn, is_count_in, count_bytes}
 use Rattle.fee_format.specs.Pages.{same_bytes}
 
 -- a number that is neither 0 nor 65,535; a content (kind 1) of 1 byte or more, or the mark of an invalidated (2) or
--- erased (3) instance, which has no body
+-- erased (3) instance, which has no body; and a count of 32 bits
 pub record IsLegalRecHead (h : RecHead) : Type 0 where
   pub number_low : 0 < h.number
   pub number_high : h.number < 65535
   pub kind : ((h.kind ≡ 1) × (0 < h.length)) ⊎ (((h.kind ≡ 2) ⊎ (h.kind ≡ 3)) × (h.length ≡ 0))
   pub length : h.length < 65536
+  pub count : h.count < 2 ^ 32
 
--- the magic byte, the kind, the number and the length, big-endian, and the rest of the page blank
-abbrev pub rec_head_page : ℕ → RecHead → List ℕ
-rec_head_page p h = 0x52 ∷ h.kind ∷ (bytes_high_first 2 h.number ++ bytes_high_first 2 h.length ++ replicate (p - 6) 255)
+-- the magic byte, the kind, the number, the length and the count, big-endian, and the rest of the page blank
+abbrev pub rec_head_bytes : ℕ → RecHead → List ℕ
+rec_head_bytes format h = 0x52 ∷ h.kind ∷ (bytes_high_first 2 h.number ++ bytes_high_first 2 h.length ++ count_bytes format h.count)
 
--- a page of p bytes is the written form of a legal record header
-pub record IsRecHead (p : ℕ) (page : List ℕ) (h : RecHead) : Type 0 where
+abbrev pub rec_head_page : ℕ → ℕ → RecHead → List ℕ
+rec_head_page format p h = rec_head_bytes format h ++ replicate (p - 10) 255
+
+-- a page of p bytes is the written form of a legal record header, in a bank of a format
+pub record IsRecHead (format p : ℕ) (page : List ℕ) (h : RecHead) : Type 0 where
   pub legal : IsLegalRecHead h
-  pub page_is : page ≡ rec_head_page p h
+  pub counted : IsCountIn format h.count
+  pub page_is : page ≡ rec_head_page format p h
 
 -- a page is the written form of no legal record header
-abbrev pub IsNoRecHead : ℕ → List ℕ → Type 0
-IsNoRecHead p page = (h : RecHead) → IsRecHead p page h → ⊥
+abbrev pub IsNoRecHead : ℕ → ℕ → List ℕ → Type 0
+IsNoRecHead format p page = (h : RecHead) → IsRecHead format p page h → ⊥
 
 -- THE SAME, COMPUTED
+-- the count that a page would have
+abbrev pub count_in : ℕ → List ℕ → ℕ
+count_in format page = if format == new_format then from_be_bytes w32 (take 4 (drop 6 page)) else 0
+
 -- the header that a page would have
-abbrev pub rec_head_in : List ℕ → RecHead
-rec_head_in page = record { number = from_be_bytes w16 (take 2 (drop 2 page)); kind = get_or page 1 0; length = from_be_bytes w16 (take 2 (drop 4 page)) }
+abbrev pub rec_head_in : ℕ → List ℕ → RecHead
+rec_head_in format page =
+    record { number = from_be_bytes w16 (take 2 (drop 2 page)); kind = get_or page 1 0; length = from_be_bytes w16 (take 2 (drop 4 page)); count = count_in format page }
 
 abbrev pub is_legal_rec_head : RecHead → Bool
 is_legal_rec_head h =
-    (nat_lt 0 h.number && nat_lt h.number 65535)
-    && ((((h.kind == 1) && nat_lt 0 h.length) || (((h.kind == 2) || (h.kind == 3)) && (h.length == 0))) && nat_lt h.length 65536)
+    nat_lt h.count (2 ^ 32) && ((nat_lt 0 h.number && nat_lt h.number 65535)
+    && ((((h.kind == 1) && nat_lt 0 h.length) || (((h.kind == 2) || (h.kind == 3)) && (h.length == 0))) && nat_lt h.length 65536))
 
 -- the header that a page of p bytes has
-abbrev pub rec_head_of : ℕ → List ℕ → Option RecHead
-rec_head_of p page =
-    if is_legal_rec_head (rec_head_in page) && same_bytes page (rec_head_page p (rec_head_in page)) then Some (rec_head_in page) else None
+abbrev pub rec_head_of : ℕ → ℕ → List ℕ → Option RecHead
+rec_head_of format p page =
+    if (is_count_in format (rec_head_in format page).count && is_legal_rec_head (rec_head_in format page)) && same_bytes page (rec_head_page format p (rec_head_in format page)) then Some (rec_head_in format page) else None

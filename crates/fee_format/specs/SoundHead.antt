@@ -1,5 +1,5 @@
 -- Pages of which a torn erase makes no bank head.
-use Rattle.std.specs.Prelude.{◌⊎◌, ℕ, ◌==◌, ◌&&◌, ◌||◌, not, nat_lt, nat_le, Bool, true, List, [], ◌∷◌, length, drop, get_or, is_some, bit_and}
+use Rattle.std.specs.Prelude.{◌⊎◌, ℕ, ◌-◌, ◌==◌, ◌&&◌, ◌||◌, not, nat_lt, nat_le, Bool, true, List, [], ◌∷◌, length, drop, get_or, is_some, bit_and}
 use Rattle.fls_model.specs.Bytes.{Grown}
 use Rattle.fee_format.specs.declared.bank_head.BankHead.{BankHead}
 use Rattle.fee_format.specs.BankHead.{IsBankHead, IsNoBankHead, bank_head_of}
@@ -29,18 +29,22 @@ abbrev pub are_bytes : List ℕ → Bool
 are_bytes [] = true
 are_bytes (x ∷ xs) = nat_lt x 256 && are_bytes xs
 
--- the magic byte and the format, and their complements, lack no bit; the generation and its complement have no bit in
+-- the magic byte and a format, and their complements, lack no bit; the generation and its complement have no bit in
 -- common
-abbrev pub may_grow : List ℕ → Bool
-may_grow page =
+abbrev pub may_grow_as : ℕ → List ℕ → Bool
+may_grow_as format page =
     is_part (get_or page 0 0) 0x42
-    && (is_part (get_or page 1 0) 1
+    && (is_part (get_or page 1 0) format
     && (is_apart (get_or page 2 0) (get_or page 8 0)
     && (is_apart (get_or page 3 0) (get_or page 9 0)
     && (is_apart (get_or page 4 0) (get_or page 10 0)
     && (is_apart (get_or page 5 0) (get_or page 11 0)
     && (is_part (get_or page 6 0) 0xbd
-    && is_part (get_or page 7 0) 0xfe))))))
+    && is_part (get_or page 7 0) (255 - format)))))))
+
+-- of either format
+abbrev pub may_grow : List ℕ → Bool
+may_grow page = may_grow_as 1 page || may_grow_as 2 page
 
 -- more bits can make a bank head of a page
 abbrev pub grows_bank_head : List ℕ → Bool

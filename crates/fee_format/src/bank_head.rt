@@ -3,10 +3,11 @@ ghost use Rattle.std.specs.Prelude.{◌≡◌, ◌≤◌, ◌↔◌, length, IsT
 ghost use Rattle.fee_format.specs.BankHead.{IsLegalBankHead, guarded_bytes, bank_head_page, IsBankHead, IsNoBankHead};
 ghost use Rattle.fee_format.specs.declared.bank_head.BankHead.{BankHead};
 
+use crate::formats::is_format;
 use byteorder::{BigEndian, ByteOrder};
 use nv_base::all_are;
 
-/// The head of a bank: its format, which is 1, and its generation.
+/// The head of a bank: its format, which is 1 or 2, and its generation.
 #[derive(Clone, Copy)]
 pub struct BankHead {
     pub format: u8,
@@ -60,7 +61,7 @@ fn has_head(page: &[u8], head: BankHead) -> bool
     requires { 12 ≤ length page.now }
     ensures { IsTrue result ↔ IsBankHead (length page.now) page.now head }
 {
-    head.format == 1 && &page[..12] == bytes_of(head).as_slice() && all_are(&page[12..], 255)
+    is_format(head.format) && &page[..12] == bytes_of(head).as_slice() && all_are(&page[12..], 255)
 }
 
 /// Reads a bank head from a page of any length. None exactly where the page is no bank head's written form.

@@ -6,6 +6,7 @@
 #![tactic(auto)]
 
 mod bank_head;
+mod formats;
 mod gate;
 mod laws;
 mod pages;
@@ -13,6 +14,7 @@ mod rec_head;
 mod sound_head;
 
 pub use bank_head::{BankHead, read_bank_head, write_bank_head};
+pub use formats::{NEW_FORMAT, OLD_FORMAT};
 pub use gate::{gate_stands, write_gate};
 pub use laws::{pages_compute, torn_erases_make_nothing};
 pub use pages::pages_of;

@@ -1,19 +1,28 @@
 // Record headers.
-ghost use Rattle.std.specs.Prelude.{◌≡◌, ◌≤◌, ◌↔◌, ◌∷◌, ◌++◌, length, IsTrue, MatchOption};
-ghost use Rattle.std.specs.Int.{bytes_high_first};
+ghost use Rattle.std.specs.Prelude.{◌≡◌, ◌≤◌, ◌↔◌, ◌++◌, ◌-◌, length, replicate, IsTrue, MatchOption};
 ghost use Rattle.fee_format.specs.declared.rec_head.RecHead.{RecHead};
-ghost use Rattle.fee_format.specs.RecHead.{IsLegalRecHead, rec_head_page, IsRecHead, IsNoRecHead};
+ghost use Rattle.fee_format.specs.Formats.{IsFormat, IsCountIn, count_bytes};
+ghost use Rattle.fee_format.specs.RecHead.{IsLegalRecHead, rec_head_bytes, rec_head_page, IsRecHead, IsNoRecHead, count_in};
 
+use crate::formats::NEW_FORMAT;
 use byteorder::{BigEndian, ByteOrder};
 use nv_base::all_are;
 
 /// The header of a record: the device number of its instance, its kind (1 a content, 2 an invalidated instance, 3 an
-/// erased one), and the length of its content in bytes, 0 for the kinds 2 and 3.
+/// erased one), the length of its content in bytes, 0 for the kinds 2 and 3, and the count of the writes of its instance,
+/// which format 2 has, and 0 in format 1.
 #[derive(Clone, Copy)]
 pub struct RecHead {
     pub number: u16,
     pub kind: u8,
     pub length: u16,
+    pub count: u32,
+}
+
+fn is_counted(format: u8, count: u32) -> bool
+    ensures { IsTrue result ↔ IsCountIn format count }
+{
+    format == NEW_FORMAT || count == 0
 }
 
 fn is_legal(head: RecHead) -> bool
@@ -25,53 +34,90 @@ fn is_legal(head: RecHead) -> bool
             || ((head.kind == 2 || head.kind == 3) && head.length == 0))
 }
 
-fn bytes_of(head: RecHead) -> [u8; 6]
-    ensures { result ≡ 0x52 ∷ head.kind ∷ (bytes_high_first 2 head.number ++ bytes_high_first 2 head.length) }
+// The four bytes of a count, which are blank in format 1.
+fn count_bytes(format: u8, count: u32) -> [u8; 4]
+    ensures { result ≡ count_bytes format count }
 {
-    let mut bytes = [0x52, head.kind, 0, 0, 0, 0];
+    let mut bytes = [255; 4];
+    if format == NEW_FORMAT {
+        BigEndian::write_u32(&mut bytes, count);
+    }
+    bytes
+}
+
+fn bytes_of(head: RecHead, format: u8) -> [u8; 10]
+    ensures { result ≡ rec_head_bytes format head }
+{
+    let [c3, c2, c1, c0] = count_bytes(format, head.count);
+    let mut bytes = [0x52, head.kind, 0, 0, 0, 0, c3, c2, c1, c0];
     BigEndian::write_u16(&mut bytes[2..], head.number);
     BigEndian::write_u16(&mut bytes[4..], head.length);
     bytes
 }
 
-/// Writes a record header, which fills the page.
-pub fn write_rec_head(head: RecHead, page: &mut [u8])
+/// Writes a record header of a bank of a format, which fills the page.
+pub fn write_rec_head(head: RecHead, format: u8, page: &mut [u8])
     requires size { 16 ≤ length page.old }
+    requires format { IsFormat format }
     requires legal { IsLegalRecHead head }
-    ensures { page.new ≡ rec_head_page (length page.old) head }
+    requires counted { IsCountIn format head.count }
+    ensures { page.new ≡ rec_head_page format (length page.old) head }
 {
-    page[..6].copy_from_slice(&bytes_of(head));
-    page[6..].fill(255);
+    page[..10].copy_from_slice(&bytes_of(head, format));
+    page[10..].fill(255);
+}
+
+// The count that a page has, if it is a header.
+fn count_of(page: &[u8], format: u8) -> u32
+    requires { 10 ≤ length page.now }
+    ensures { result ≡ count_in format page.now }
+{
+    if format == NEW_FORMAT {
+        BigEndian::read_u32(&page[6..])
+    } else {
+        0
+    }
 }
 
 // The header that a page has, if it has one.
-fn fields_of(page: &[u8]) -> RecHead
-    requires { 6 ≤ length page.now }
-    ensures { (h : RecHead) → IsRecHead (length page.now) page.now h → result ≡ h }
+fn fields_of(page: &[u8], format: u8) -> RecHead
+    requires { 10 ≤ length page.now }
+    ensures { (h : RecHead) → IsRecHead format (length page.now) page.now h → result ≡ h }
 {
     RecHead {
         number: BigEndian::read_u16(&page[2..]),
         kind: page[1],
         length: BigEndian::read_u16(&page[4..]),
+        count: count_of(page, format),
     }
 }
 
-fn has_head(page: &[u8], head: RecHead) -> bool
-    requires { 6 ≤ length page.now }
-    ensures { IsTrue result ↔ IsRecHead (length page.now) page.now head }
+// Whether a page has these bytes, and is blank behind them.
+fn begins_with(page: &[u8], bytes: [u8; 10]) -> bool
+    requires { 10 ≤ length page.now }
+    ensures { IsTrue result ↔ (page.now ≡ bytes ++ replicate (length page.now - 10) 255) }
 {
-    is_legal(head) && &page[..6] == bytes_of(head).as_slice() && all_are(&page[6..], 255)
+    &page[..10] == bytes.as_slice() && all_are(&page[10..], 255)
 }
 
-/// Reads a record header from a page of any length. None exactly where the page is no header's written form.
-pub fn read_rec_head(page: &[u8]) -> Option<RecHead>
-    ensures { MatchOption result (IsNoRecHead (length page.now) page.now) (λ h. IsRecHead (length page.now) page.now h) }
+fn has_head(page: &[u8], format: u8, head: RecHead) -> bool
+    requires { 10 ≤ length page.now }
+    ensures { IsTrue result ↔ IsRecHead format (length page.now) page.now head }
 {
-    if page.len() < 6 {
+    is_legal(head) && is_counted(format, head.count) && begins_with(page, bytes_of(head, format))
+}
+
+/// Reads a record header from a page of any length, in a bank of a format. None exactly where the page is no header's
+/// written form.
+pub fn read_rec_head(page: &[u8], format: u8) -> Option<RecHead>
+    requires format { IsFormat format }
+    ensures { MatchOption result (IsNoRecHead format (length page.now) page.now) (λ h. IsRecHead format (length page.now) page.now h) }
+{
+    if page.len() < 10 {
         return None;
     }
-    let head = fields_of(page);
-    if has_head(page, head) {
+    let head = fields_of(page, format);
+    if has_head(page, format, head) {
         Some(head)
     } else {
         None

@@ -1,16 +1,18 @@
 -- What an append leaves.
 use Rattle.std.specs.Prelude.{◌&&◌, if◌then◌else◌}
-use Rattle.std.proofs.Common.{◌≡◌, ◌⊎◌, inl, inr, ◌<◌, ◌≤◌, ℕ, ◌+◌, ◌-◌, false, List, [], ◌∷◌, ◌++◌, length, take, Option, Some, refl, sym, ap, ◌∙◌, eq-eqb, arith}
+use Rattle.std.proofs.Common.{◌≡◌, ◌⊎◌, inl, inr, ◌<◌, ◌≤◌, ℕ, ◌+◌, ◌-◌, false, List, [], ◌∷◌, ◌++◌, length, take, Option, Some, refl, sym, ap, ◌∙◌, subst, eq-eqb, arith}
 use Rattle.std.proofs.lemmas.Bool.{cases_eq, cases_lt, cases_Bool, false≢true, ne_eqb}
 use Rattle.fee_format.specs.declared.rec_head.RecHead.{RecHead}
 use Rattle.fee_format.specs.Gate.{IsGate, is_gate}
+use Rattle.fee_format.specs.Formats.{new_format}
+use Rattle.fee_format.specs.RecHead.{IsLegalRecHead, IsRecHead, rec_head_page}
 use Rattle.fee_format.specs.Pages.{gate_page, blank_page, body_pages_of}
 use Rattle.fee_format.specs.RecordPages.{body_page, record_page}
 use Rattle.fee_format.specs.Laws.{GatesCompute}
 use Rattle.fee_image.specs.Append.{Staged, Touches, whole, IsNoMore, IsOneMore, AppendsLeaveOneMore, CutsOfAppend, AppendsGoOn, WholeIsLast, LastIsNew}
 use Rattle.fee_image.specs.Bank.{Bank, page_of, pages_from}
 use Rattle.fee_image.specs.RecordList.{Rec, HasHead, Stops, Walks, IsLog, pages_of_head}
-use Rattle.fee_image.specs.Found.{counts, fits, last_from, last_record, last_mark, mark_shown}
+use Rattle.fee_image.specs.Found.{counts, fits, last_from, last_record, last_held, held_shown}
 use Rattle.fee_image.specs.Laws.{LogsCompute}
 use Rattle.fee_image.proofs.Walks.{walk_push, walk_same}
 use Rattle.fee_image.proofs.Bodies.{blank_gate, enough, body_bytes}
@@ -39,6 +41,11 @@ content b bytes e h body big size written =
     let at : e + (2 + i) ≡ e + 2 + i = omega arith in
     ap (page_of b bytes) (sym at) ∙ written (2 + i) (omega arith) ∙ body_at p h body i below in
     sym (body_bytes b bytes n body (e + 2) (omega arith) pages (omega (arith, size, enough h.length p (omega arith)))) ∙ ap (λ (s : ℕ). take s (pages_from b bytes (e + 2) n)) size
+
+-- a header that was written is one of its bank's format
+head_on : (f p : ℕ) (page : List ℕ) (h : RecHead) → f ≡ new_format → IsLegalRecHead h → page ≡ rec_head_page new_format p h → IsRecHead f p page h
+head_on f p page h format legal is =
+    subst (λ (n : ℕ). IsRecHead n p page h) (sym format) (let new : IsRecHead new_format p page h = record { legal = legal; counted = tt; page_is = is } in new)
 
 -- behind the last page there is no record
 stops_behind : (b : Bank) (bytes : List ℕ) (e : ℕ) → 16 ≤ b.page → (e + 1 < b.pages → page_of b bytes (e + 1) ≡ blank_page b.page) → Stops b bytes e
@@ -83,7 +90,7 @@ module _ (gates : GatesCompute) (b : Bank) (old new : List ℕ) (rs : List Rec) 
         | inr none ↦ absurd (blank_gate p (omega arith) (sym (behind (e + 1) (omega arith) (omega (arith, room))) ∙ gate))
       ] in
       let at_e : e + 0 ≡ e = omega arith in
-      record { format = staged.format; page = record { legal = staged.legal; page_is = ap Q (sym at_e) ∙ ahead 0 some }; within = room }
+      record { format = inr staged.format; page = head_on b.format p (Q e) h staged.format staged.legal (ap Q (sym at_e) ∙ ahead 0 some); within = room }
 
   -- the record without its commit gate
   abbrev part : Rec
@@ -160,22 +167,22 @@ appends_leave_one_more gates b old new rs e h body k big staged lt touches = lea
 
 -- CUTS
 -- a record that isn't committed changes no mark
-uncounted : (number length : ℕ) (rs : List Rec) (r : Rec) → r.committed ≡ false → last_mark number length (rs ++ r ∷ []) ≡ last_mark number length rs
+uncounted : (number length : ℕ) (rs : List Rec) (r : Rec) → r.committed ≡ false → last_held number length (rs ++ r ∷ []) ≡ last_held number length rs
 uncounted number length rs r shut =
-    ap mark_shown (last_is_new number length rs r ∙ ap (λ c. if c && fits number length r.head then Some r else last_record number length rs) shut)
+    ap held_shown (last_is_new number length rs r ∙ ap (λ c. if c && fits number length r.head then Some r else last_record number length rs) shut)
 
 pub cuts_of_append : GatesCompute → LogsCompute → CutsOfAppend
 cuts_of_append gates logs b old new rs e h body k big staged lt touches number length m found =
     let one : (ss : List Rec) (f : ℕ) → IsLog b new ss f → found.records ≡ ss = λ ss f log. ((logs b new found.records found.end).0 found.log).0 ∙ sym ((logs b new ss f).0 log).0 in
     elim (leaves gates b old new rs e h body k big staged lt touches) [
-      | inl (early, log) ↦ inl (found.is ∙ ap (last_mark number length) (one rs e log))
+      | inl (early, log) ↦ inl (found.is ∙ ap (last_held number length) (one rs e log))
       | inr more ↦
-          let is : m ≡ last_mark number length (rs ++ more.last ∷ []) = found.is ∙ ap (last_mark number length) (one (rs ++ more.last ∷ []) _ more.log) in
+          let is : m ≡ last_held number length (rs ++ more.last ∷ []) = found.is ∙ ap (last_held number length) (one (rs ++ more.last ∷ []) _ more.log) in
           elim (cases_Bool more.last.committed) [
             | inr shut ↦ inl (is ∙ uncounted number length rs more.last shut)
             | inl t ↦
                 let all = more.committed t in
-                inr (all.0, is ∙ ap (λ (r : Rec). last_mark number length (rs ++ r ∷ [])) all.1)
+                inr (all.0, is ∙ ap (λ (r : Rec). last_held number length (rs ++ r ∷ [])) all.1)
           ]
     ]
 
@@ -207,7 +214,7 @@ whole_is_last b bytes rs e h body big staged =
     record {
       walk = walk_push b bytes rs 2 e (whole e h body) staged.front (record {
         place = refl;
-        head = record { format = staged.format; page = record { legal = staged.legal; page_is = ap (page_of b bytes) (sym at_e) ∙ staged.written 0 (omega arith) }; within = staged.room };
+        head = record { format = inr staged.format; page = head_on b.format p (page_of b bytes e) h staged.format staged.legal (ap (page_of b bytes) (sym at_e) ∙ staged.written 0 (omega arith)); within = staged.room };
         gate = staged.written 1 (omega arith);
         commit = (λ t. ap (page_of b bytes) (sym commit_at) ∙ staged.written (2 + n) (omega arith) ∙ commit_page, λ c. refl);
         payload = content b bytes e h body big staged.size (λ j below. staged.written j (omega arith));

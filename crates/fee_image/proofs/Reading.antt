@@ -1,11 +1,12 @@
 -- What a bank's records read.
-use Rattle.std.specs.Prelude.{◌==◌, nat_le}
+use Rattle.std.specs.Prelude.{nat_le}
 use Rattle.std.proofs.Common.{◌≡◌, ◌<◌, ◌≤◌, ℕ, zero, suc, ◌+◌, ◌*◌, IsTrue, List, ◌∷◌, ◌++◌, take, drop, Option, Some, None, refl, sym, ap, ◌∙◌, arith}
 use Rattle.std.proofs.lemmas.Bool.Decides.{nat_tests}
 use Rattle.std.proofs.lemmas.List.{drop-drop, drop-take, take-take}
 use Rattle.std.proofs.Math.Nat.{mul-le-mul_right}
 use Rattle.std.proofs.Math.Seq.{take-add}
 use Rattle.fee_format.specs.declared.rec_head.RecHead.{RecHead}
+use Rattle.fee_format.specs.Formats.{is_format}
 use Rattle.fee_format.specs.Gate.{is_gate}
 use Rattle.fee_format.specs.RecHead.{rec_head_of}
 use Rattle.fee_format.specs.Pages.{body_pages_of}
@@ -45,11 +46,11 @@ module _ (b : Bank) (old new : List ℕ) (at : ℕ) (same : (q : ℕ) → 2 ≤ 
 
   at_same : (q : ℕ) → 2 ≤ q → record_at (moved b at) new q ≡ record_at b old q
   at_same q low =
-      ifs_alike (b.format == 1) (nat_le (q + 3) b.pages) (is_gate p (page_of (moved b at) new (q + 1))) (is_gate p (page_of b old (q + 1)))
-      (rec_within (moved b at) new q (rec_head_of p (page_of (moved b at) new q))) (rec_within b old q (rec_head_of p (page_of b old q))) None
+      ifs_alike (is_format b.format) (nat_le (q + 3) b.pages) (is_gate p (page_of (moved b at) new (q + 1))) (is_gate p (page_of b old (q + 1)))
+      (rec_within (moved b at) new q (rec_head_of b.format p (page_of (moved b at) new q))) (rec_within b old q (rec_head_of b.format p (page_of b old q))) None
       (λ t.
       let room : q + 3 ≤ b.pages = le_of (q + 3) b.pages t in
-      (ap (is_gate p) (same (q + 1) (omega arith) (omega arith)), within_same q (rec_head_of p (page_of (moved b at) new q)) low ∙ ap (λ (l : List ℕ). rec_within b old q (rec_head_of p l)) (same q low (omega arith))))
+      (ap (is_gate p) (same (q + 1) (omega arith) (omega arith)), within_same q (rec_head_of b.format p (page_of (moved b at) new q)) low ∙ ap (λ (l : List ℕ). rec_within b old q (rec_head_of b.format p l)) (same q low (omega arith))))
 
   list_same : (n q : ℕ) → 2 ≤ q → records_from (moved b at) new n q ≡ records_from b old n q
   list_same zero q low = refl

@@ -1,17 +1,18 @@
 -- The record list of a bank, computed.
-use Rattle.std.specs.Prelude.{◌==◌, ◌&&◌, nat_le}
-use Rattle.std.proofs.Common.{◌≡◌, inl, inr, ◌≤◌, ℕ, zero, suc, ◌+◌, Bool, IsTrue, List, [], ◌∷◌, Option, Some, None, refl, sym, ap, ◌∙◌, subst, arith}
-use Rattle.std.proofs.lemmas.Bool.{cases_lt, cases_Bool, false≢true, and_from, and_parts}
+use Rattle.std.specs.Prelude.{◌==◌, ◌&&◌, ◌||◌, nat_le}
+use Rattle.std.proofs.Common.{◌≡◌, inl, inr, ◌≤◌, ℕ, zero, suc, ◌+◌, Bool, true, false, IsTrue, List, [], ◌∷◌, Option, Some, None, refl, sym, ap, ◌∙◌, subst, arith}
+use Rattle.std.proofs.lemmas.Bool.{cases_lt, cases_Bool, false≢true, and_from, and_parts, eqb-true}
 use Rattle.std.proofs.lemmas.Bool.Decides.{nat_tests}
 use Rattle.std.proofs.lemmas.Option.{none-some, same_Some}
 use Rattle.fee_format.specs.declared.rec_head.RecHead.{RecHead}
+use Rattle.fee_format.specs.Formats.{IsFormat, is_format}
 use Rattle.fee_format.specs.Gate.{IsGate, is_gate}
 use Rattle.fee_format.specs.RecHead.{IsRecHead, rec_head_of}
 use Rattle.fee_format.specs.Pages.{body_pages_of}
 use Rattle.fee_format.specs.Laws.{GatesCompute, RecHeadsCompute}
 use Rattle.fee_image.specs.Bank.{Bank, page_of}
 use Rattle.fee_image.specs.RecordList.{Rec, HasHead, Stands, Stops, Walks, IsLog, pages_of_head, rec_of, rec_within, record_at, and_behind, records_from, records_left, records_of, end_after, end_of}
-use Rattle.fee_image.specs.Found.{last_mark}
+use Rattle.fee_image.specs.Found.{last_held}
 use Rattle.fee_image.specs.Laws.{LogsCompute, ListsUnfold, MarksCompute}
 use Rattle.fee_image.proofs.Picks.{then_is, if_some, same_bool}
 
@@ -24,8 +25,19 @@ true_le m n t = grind (arith, nat_tests)
 eq_true : (m n : ℕ) → m ≡ n → IsTrue (m == n)
 eq_true m n e = grind (arith, nat_tests)
 
-true_eq : (m n : ℕ) → IsTrue (m == n) → m ≡ n
-true_eq m n t = grind (arith, nat_tests)
+format_true : (n : ℕ) → IsFormat n → IsTrue (is_format n)
+format_true n (inl one) = rw (eq_true n 1 one) refl
+format_true n (inr two) = or_true (n == 1) (n == 2) (eq_true n 2 two)
+  where
+    or_true : (a b : Bool) → IsTrue b → IsTrue (a || b)
+    or_true true b t = refl
+    or_true false b t = t
+
+true_format : (n : ℕ) → IsTrue (is_format n) → IsFormat n
+true_format n t = elim (cases_Bool (n == 1)) [
+  | inl one ↦ inl (eqb-true n 1 one)
+  | inr other ↦ inr (eqb-true n 2 (let rest : IsTrue (n == 2) = rw other at t in rest))
+]
 
 module _ (gates : GatesCompute) (heads : RecHeadsCompute) (b : Bank) (bytes : List ℕ) where
   abbrev p : ℕ
@@ -38,7 +50,7 @@ module _ (gates : GatesCompute) (heads : RecHeadsCompute) (b : Bank) (bytes : Li
   gate_at q = is_gate p (P (q + 1))
 
   abbrev test : ℕ → Bool
-  test q = (b.format == 1) && (nat_le (q + 3) b.pages && gate_at q)
+  test q = is_format b.format && (nat_le (q + 3) b.pages && gate_at q)
 
   -- A RECORD AT A PAGE
   built : (q : ℕ) (h : RecHead) → HasHead b bytes q h → IsGate p (P (q + 1)) → Stands b bytes q (rec_of b bytes q h)
@@ -47,9 +59,9 @@ module _ (gates : GatesCompute) (heads : RecHeadsCompute) (b : Bank) (bytes : Li
   seen : (q : ℕ) (h : RecHead) → HasHead b bytes q h → IsGate p (P (q + 1)) → record_at b bytes q ≡ Some (rec_of b bytes q h)
   seen q h has gate =
       let room : q + 3 ≤ b.pages = omega (arith, has.within) in
-      let all : IsTrue (test q) = and_from (b.format == 1) (nat_le (q + 3) b.pages && gate_at q) (eq_true b.format 1 has.format) (and_from (nat_le (q + 3) b.pages) (gate_at q) (le_true (q + 3) b.pages room) ((gates p (P (q + 1))).1 gate)) in
-      then_is (test q) (rec_within b bytes q (rec_head_of p (P q))) None all
-      ∙ ap (rec_within b bytes q) ((heads p (P q) h).0 has.page)
+      let all : IsTrue (test q) = and_from (is_format b.format) (nat_le (q + 3) b.pages && gate_at q) (format_true b.format has.format) (and_from (nat_le (q + 3) b.pages) (gate_at q) (le_true (q + 3) b.pages room) ((gates p (P (q + 1))).1 gate)) in
+      then_is (test q) (rec_within b bytes q (rec_head_of b.format p (P q))) None all
+      ∙ ap (rec_within b bytes q) ((heads b.format p (P q) h).0 has.page)
       ∙ then_is (nat_le (q + pages_of_head p h) b.pages) (Some (rec_of b bytes q h)) None (le_true (q + pages_of_head p h) b.pages has.within)
 
   pub stands_seen : (q : ℕ) (r : Rec) → Stands b bytes q r → record_at b bytes q ≡ Some r
@@ -58,19 +70,19 @@ module _ (gates : GatesCompute) (heads : RecHeadsCompute) (b : Bank) (bytes : Li
       let same : rec_of b bytes q r.head ≡ r = λ i. record { at = sym stands.place i; head = r.head; committed = commit i; payload = sym stands.payload i } in
       seen q r.head stands.head stands.gate ∙ ap Some same
 
-  within_stands : (q : ℕ) (r : Rec) (o : Option RecHead) → ((h : RecHead) → o ≡ Some h → IsRecHead p (P q) h) → IsTrue (test q) → rec_within b bytes q o ≡ Some r → Stands b bytes q r
+  within_stands : (q : ℕ) (r : Rec) (o : Option RecHead) → ((h : RecHead) → o ≡ Some h → IsRecHead b.format p (P q) h) → IsTrue (test q) → rec_within b bytes q o ≡ Some r → Stands b bytes q r
   within_stands q r None head passed e = absurd (none-some r e)
   within_stands q r (Some h) head passed e =
-      let one = and_parts (b.format == 1) (nat_le (q + 3) b.pages && gate_at q) passed in
+      let one = and_parts (is_format b.format) (nat_le (q + 3) b.pages && gate_at q) passed in
       let two = and_parts (nat_le (q + 3) b.pages) (gate_at q) one.1 in
       let fit = if_some (nat_le (q + pages_of_head p h) b.pages) (Some (rec_of b bytes q h)) r e in
-      let has : HasHead b bytes q h = record { format = true_eq b.format 1 one.0; page = head h refl; within = true_le (q + pages_of_head p h) b.pages fit.0 } in
+      let has : HasHead b bytes q h = record { format = true_format b.format one.0; page = head h refl; within = true_le (q + pages_of_head p h) b.pages fit.0 } in
       subst (Stands b bytes q) (same_Some (rec_of b bytes q h) r fit.1) (built q h has ((gates p (P (q + 1))).0 two.1))
 
   pub seen_stands : (q : ℕ) (r : Rec) → record_at b bytes q ≡ Some r → Stands b bytes q r
   seen_stands q r e =
-      let all = if_some (test q) (rec_within b bytes q (rec_head_of p (P q))) r e in
-      within_stands q r (rec_head_of p (P q)) (λ h is. (heads p (P q) h).1 is) all.0 all.1
+      let all = if_some (test q) (rec_within b bytes q (rec_head_of b.format p (P q))) r e in
+      within_stands q r (rec_head_of b.format p (P q)) (λ h is. (heads b.format p (P q) h).1 is) all.0 all.1
 
   stops_not : (q : ℕ) (r : Rec) → Stops b bytes q → Stands b bytes q r → ⊥
   stops_not q r (inl few) stands = absurd (omega (arith, stands.head.within))
@@ -143,6 +155,6 @@ logs_compute gates heads b bytes rs e = (
 
 pub marks_compute : GatesCompute → RecHeadsCompute → MarksCompute
 marks_compute gates heads b bytes number length m = (
-  λ found. found.is ∙ ap (last_mark number length) (one_log gates heads b bytes found.records found.end found.log).0,
+  λ found. found.is ∙ ap (last_held number length) (one_log gates heads b bytes found.records found.end found.log).0,
   λ is. record { records = records_of b bytes; end = end_of b bytes; log = log_of gates heads b bytes; is = is },
 )

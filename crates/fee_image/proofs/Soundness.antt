@@ -10,7 +10,7 @@ use Rattle.fee_format.specs.BankHead.{IsBankHead}
 use Rattle.fee_format.specs.Gate.{IsGate, is_gate}
 use Rattle.fee_format.specs.SoundHead.{IsSoundHead, is_sound_head}
 use Rattle.fee_format.specs.Laws.{GatesCompute, SoundHeadsCompute, TornPagesKeepSize, TornHeadsAreSame, TornGatesWereGates, TornHeadsStaySound, BeginsBlank, BlankHeadsAreSound}
-use Rattle.fee_image.specs.Image.{Layout, image_page, mark_of_bank}
+use Rattle.fee_image.specs.Image.{Layout, image_page, held_of_bank}
 use Rattle.fee_image.specs.Sound.{IsSoundBank, is_sound_bank, are_sound_below}
 use Rattle.fee_image.specs.Laws.{SoundImagesCompute, NoActiveComputes, TornErasesSetBits, TornErasesKeepSound, TornErasesMakeNoBank, TornErasesKeepActive, BlankIsSound, BlankHasErased}
 
@@ -138,4 +138,4 @@ no_head p page h blank is = let none : 255 ≤ 0x42 = subst BeginsBlank is.page_
 
 pub blank_has_erased : NoActiveComputes → BlankHasErased
 blank_has_erased computes l n number length =
-    ap (mark_of_bank l (replicate n 255) number length) ((computes l (replicate n 255)).0 (λ k h lt stands. no_head l.page (image_page l (replicate n 255) k 0) h (blank_page_of l n k 0) stands.head))
+    ap (held_of_bank l (replicate n 255) number length) ((computes l (replicate n 255)).0 (λ k h lt stands. no_head l.page (image_page l (replicate n 255) k 0) h (blank_page_of l n k 0) stands.head))

@@ -24,7 +24,7 @@ stands_same b old new q r same stands =
       place = stands.place;
       head = record {
         format = stands.head.format;
-        page = record { legal = stands.head.page.legal; page_is = same q (omega arith) (omega arith) ∙ stands.head.page.page_is };
+        page = record { legal = stands.head.page.legal; counted = stands.head.page.counted; page_is = same q (omega arith) (omega arith) ∙ stands.head.page.page_is };
         within = stands.head.within;
       };
       gate = same (q + 1) (omega arith) (omega arith) ∙ stands.gate;

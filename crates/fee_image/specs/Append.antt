@@ -1,13 +1,14 @@
 -- An append on a bank's pages, and what is left of it.
 use Rattle.std.specs.Prelude.{◌≡◌, ◌⊎◌, ◌<◌, ◌≤◌, ◌+◌, ◌++◌, ◌∷◌, [], if◌then◌else◌, ℕ, IsTrue, List, true, length, Some}
-use Rattle.nv_base.specs.declared.mark.Mark.{Mark}
 use Rattle.fee_format.specs.declared.rec_head.RecHead.{RecHead}
+use Rattle.fee_format.specs.Formats.{new_format}
 use Rattle.fee_format.specs.Pages.{blank_page}
 use Rattle.fee_format.specs.RecHead.{IsLegalRecHead}
 use Rattle.fee_format.specs.RecordPages.{record_page}
 use Rattle.fee_image.specs.Bank.{Bank, page_of}
 use Rattle.fee_image.specs.RecordList.{Rec, Walks, IsLog, pages_of_head}
-use Rattle.fee_image.specs.Found.{IsFound, last_mark, last_record, counts}
+use Rattle.fee_image.specs.Found.{IsFound, last_held, last_record, counts}
+use Rattle.nv_base.specs.Held.{Held}
 
 -- the record of a header and a content at a page once it is committed
 abbrev pub whole : ℕ → RecHead → List ℕ → Rec
@@ -15,7 +16,7 @@ whole at h body = record { at = at; head = h; committed = true; payload = body }
 
 -- k pages of a record stand behind these records, and all else is blank
 pub record Staged (b : Bank) (bytes : List ℕ) (records : List Rec) (end : ℕ) (h : RecHead) (body : List ℕ) (k : ℕ) : Type 0 where
-  pub format : b.format ≡ 1
+  pub format : b.format ≡ new_format
   pub front : Walks b bytes 2 records end
   pub legal : IsLegalRecHead h
   pub size : length body ≡ h.length
@@ -47,18 +48,18 @@ AppendsLeaveOneMore =
     → 16 ≤ b.page → Staged b old records end h body k → k < pages_of_head b.page h → Touches b (end + k) old new
     → IsNoMore b new records end k ⊎ IsOneMore b new records end h body k
 
--- a number has the mark of these records or, at a record's last page, the one with this record behind them
-abbrev pub IsOldOrNew : ℕ → List Rec → ℕ → RecHead → List ℕ → ℕ → ℕ → ℕ → Mark → Type 0
-IsOldOrNew p records end h body k number length m =
-    (m ≡ last_mark number length records)
-    ⊎ ((k + 1 ≡ pages_of_head p h) × (m ≡ last_mark number length (records ++ whole end h body ∷ [])))
+-- a number has what these records show or, at a record's last page, with this record behind them
+abbrev pub IsOldOrNew : ℕ → List Rec → ℕ → RecHead → List ℕ → ℕ → ℕ → ℕ → Held → Type 0
+IsOldOrNew p records end h body k number length held =
+    (held ≡ last_held number length records)
+    ⊎ ((k + 1 ≡ pages_of_head p h) × (held ≡ last_held number length (records ++ whole end h body ∷ [])))
 
 -- so each number is found as before or, at the record's last page, as after it
 abbrev pub CutsOfAppend : Type 0
 CutsOfAppend =
     (b : Bank) (old new : List ℕ) (records : List Rec) (end : ℕ) (h : RecHead) (body : List ℕ) (k : ℕ)
     → 16 ≤ b.page → Staged b old records end h body k → k < pages_of_head b.page h → Touches b (end + k) old new
-    → (number length : ℕ) (m : Mark) → IsFound b new number length m → IsOldOrNew b.page records end h body k number length m
+    → (number length : ℕ) (held : Held) → IsFound b new number length held → IsOldOrNew b.page records end h body k number length held
 
 -- WHAT A DONE PAGE LEAVES
 -- one page more of the record stands

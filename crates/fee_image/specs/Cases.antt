@@ -15,6 +15,10 @@ small_bank = record { page = 16; pages = 12; format = 1; at = 0 }
 abbrev pub ring : Layout
 ring = record { page = 16; pages = 12; banks = 3 }
 
+-- the same bank in format 2
+abbrev pub new_bank : Bank
+new_bank = record { page = 16; pages = 12; format = 2; at = 0 }
+
 -- n pages of one byte
 abbrev pub pages : ℕ → ℕ → List ℕ
 pages n byte = replicate (n * 16) byte
@@ -43,7 +47,14 @@ content_2 = 0x55 ∷ 0x66 ∷ 0x77 ∷ 0x88 ∷ []
 
 -- its record
 abbrev pub record_1 : Rec
-record_1 = record { at = 2; head = record { number = 128; kind = 1; length = 4 }; committed = true; payload = content_1 }
+record_1 = record { at = 2; head = record { number = 128; kind = 1; length = 4; count = 0 }; committed = true; payload = content_1 }
+
+-- the page 0 of a bank of format 2 and generation 1, and the header of a write with this count
+abbrev pub new_head_page : List ℕ
+new_head_page = 0x42 ∷ 2 ∷ 0 ∷ 0 ∷ 0 ∷ 1 ∷ 0xbd ∷ 0xfd ∷ 0xff ∷ 0xff ∷ 0xff ∷ 0xfe ∷ replicate 4 0xff
+
+abbrev pub counted_header : ℕ → List ℕ
+counted_header count = 0x52 ∷ 1 ∷ 0 ∷ 0x80 ∷ 0 ∷ 4 ∷ 0 ∷ 0 ∷ 0 ∷ count ∷ replicate 6 0xff
 
 -- a page that a content begins
 abbrev pub body : List ℕ → List ℕ
@@ -52,6 +63,10 @@ body content = content ++ replicate 12 0xff
 -- the first write of content_1, then four pages of a second one, and all else blank
 abbrev pub after_first : List ℕ → List ℕ
 after_first second = head_page 1 0xfe ++ pages 1 0 ++ header ++ pages 1 0 ++ body content_1 ++ pages 1 0 ++ second ++ pages 14 0xff
+
+-- the same first write in format 2
+abbrev pub after_new : List ℕ → List ℕ
+after_new second = new_head_page ++ pages 1 0 ++ counted_header 1 ++ pages 1 0 ++ body content_1 ++ pages 1 0 ++ second ++ pages 14 0xff
 
 -- two banks with these pages 0 and with open gates, and nothing else
 abbrev pub two_banks : List ℕ → List ℕ → List ℕ

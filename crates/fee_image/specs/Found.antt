@@ -4,6 +4,7 @@ use Rattle.nv_base.specs.declared.mark.Mark.{Mark}
 use Rattle.nv_base.specs.declared.mark.Mark.TheVariants.{Content, Invalid, Erased}
 use Rattle.fee_format.specs.declared.rec_head.RecHead.{RecHead}
 use Rattle.fee_image.specs.Bank.{Bank}
+use Rattle.nv_base.specs.Held.{Held, never_written}
 use Rattle.fee_image.specs.RecordList.{Rec, IsLog, records_of}
 
 -- a record header is one of this number, and a content's length is the number's length
@@ -26,21 +27,25 @@ last_record number length records = last_from number length None records
 abbrev pub mark_of : Rec → Mark
 mark_of r = if r.head.kind == 1 then Content r.payload else (if r.head.kind == 2 then Invalid else Erased)
 
--- the mark of that record, Erased where there is none
-abbrev pub mark_shown : Option Rec → Mark
-mark_shown None = Erased
-mark_shown (Some r) = mark_of r
+-- and with its count
+abbrev pub held_of : Rec → Held
+held_of r = record { mark = mark_of r; count = r.head.count }
 
-abbrev pub last_mark : ℕ → ℕ → List Rec → Mark
-last_mark number length records = mark_shown (last_record number length records)
+-- what that record shows; nothing was written where there is none
+abbrev pub held_shown : Option Rec → Held
+held_shown None = never_written
+held_shown (Some r) = held_of r
+
+abbrev pub last_held : ℕ → ℕ → List Rec → Held
+last_held number length records = held_shown (last_record number length records)
 
 -- what a start-up finds for a number of this length in a bank that stands
-pub record IsFound (b : Bank) (bytes : List ℕ) (number length : ℕ) (m : Mark) : Type 0 where
+pub record IsFound (b : Bank) (bytes : List ℕ) (number length : ℕ) (held : Held) : Type 0 where
   pub records : List Rec
   pub end : ℕ
   pub log : IsLog b bytes records end
-  pub is : m ≡ last_mark number length records
+  pub is : held ≡ last_held number length records
 
 -- the same, computed
-abbrev pub mark_in : Bank → List ℕ → ℕ → ℕ → Mark
-mark_in b bytes number length = last_mark number length (records_of b bytes)
+abbrev pub shown_in : Bank → List ℕ → ℕ → ℕ → Held
+shown_in b bytes number length = last_held number length (records_of b bytes)

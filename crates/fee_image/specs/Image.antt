@@ -4,7 +4,6 @@ use Rattle.nv_base.specs.declared.geometry.Geometry.{Geometry}
 use Rattle.nv_base.specs.declared.instance.DeviceNumber.{DeviceNumber}
 use Rattle.nv_base.specs.declared.instance.Instance.{Instance}
 use Rattle.nv_base.specs.declared.mark.Mark.{Mark}
-use Rattle.nv_base.specs.declared.mark.Mark.TheVariants.{Erased}
 use Rattle.nv_base.specs.Geometry.{pages_of_bank}
 use Rattle.nv_base.specs.Marks.{instance_of, listed}
 use Rattle.fee_format.specs.declared.bank_head.BankHead.{BankHead}
@@ -12,7 +11,8 @@ use Rattle.fee_format.specs.BankHead.{bank_head_of}
 use Rattle.fee_format.specs.Gate.{is_gate}
 use Rattle.fee_image.specs.Bank.{Bank, page_of}
 use Rattle.fee_image.specs.RecordList.{StandsAs}
-use Rattle.fee_image.specs.Found.{IsFound, mark_in}
+use Rattle.fee_image.specs.Found.{IsFound, shown_in}
+use Rattle.nv_base.specs.Held.{Held, never_written}
 
 -- BANKS
 -- how an image is cut into banks, one behind another
@@ -63,17 +63,17 @@ abbrev pub HasNoActive : Layout → List ℕ → Type 0
 HasNoActive l bytes = (k : ℕ) (h : BankHead) → k < l.banks → BankStands l bytes k h → ⊥
 
 -- THE FOUND MAP
--- what a start-up finds for a number of this length: what the active bank holds, Erased where none is active
-abbrev pub IsFoundIn : Layout → List ℕ → ℕ → ℕ → Mark → Type 0
-IsFoundIn l bytes number length m =
-    ((k : ℕ) × (h : BankHead) × IsActive l bytes k h × IsFound (bank_in l h.format k) bytes number length m)
-    ⊎ (HasNoActive l bytes × (m ≡ Erased))
+-- what a start-up finds for a number of this length: what the active bank holds, nothing where none is active
+abbrev pub IsFoundIn : Layout → List ℕ → ℕ → ℕ → Held → Type 0
+IsFoundIn l bytes number length held =
+    ((k : ℕ) × (h : BankHead) × IsActive l bytes k h × IsFound (bank_in l h.format k) bytes number length held)
+    ⊎ (HasNoActive l bytes × (held ≡ never_written))
 
 -- these marks are what a start-up finds for these numbers with their lengths, one after another
 abbrev pub AreFound : Layout → List (DeviceNumber × ℕ) → List ℕ → List (Instance × Mark) → Type 0
 AreFound l [] bytes marks = marks ≡ []
 AreFound l (x ∷ xs) bytes marks =
-    (m : Mark) × (rest : List (Instance × Mark)) × IsFoundIn l bytes x.0.0 x.1 m × AreFound l xs bytes rest × (marks ≡ listed (instance_of x.0) m rest)
+    (held : Held) × (rest : List (Instance × Mark)) × IsFoundIn l bytes x.0.0 x.1 held × AreFound l xs bytes rest × (marks ≡ listed (instance_of x.0) held.mark rest)
 
 -- THE SAME, COMPUTED
 -- the head with which bank k stands
@@ -98,13 +98,16 @@ active_below l bytes (suc k) = first_of (active_below l bytes k) k (head_of_bank
 abbrev pub active_of : Layout → List ℕ → Option (ℕ × BankHead)
 active_of l bytes = active_below l bytes l.banks
 
-abbrev pub mark_of_bank : Layout → List ℕ → ℕ → ℕ → Option (ℕ × BankHead) → Mark
-mark_of_bank l bytes number length None = Erased
-mark_of_bank l bytes number length (Some x) = mark_in (bank_in l x.1.format x.0) bytes number length
+abbrev pub held_of_bank : Layout → List ℕ → ℕ → ℕ → Option (ℕ × BankHead) → Held
+held_of_bank l bytes number length None = never_written
+held_of_bank l bytes number length (Some x) = shown_in (bank_in l x.1.format x.0) bytes number length
 
--- what a start-up finds for a number of this length
+-- what a start-up finds for a number of this length, and its mark
+abbrev pub found_held : Layout → List ℕ → ℕ → ℕ → Held
+found_held l bytes number length = held_of_bank l bytes number length (active_of l bytes)
+
 abbrev pub found_mark : Layout → List ℕ → ℕ → ℕ → Mark
-found_mark l bytes number length = mark_of_bank l bytes number length (active_of l bytes)
+found_mark l bytes number length = (found_held l bytes number length).mark
 
 -- and for these numbers with their lengths, one after another
 abbrev pub found_list : Layout → List (DeviceNumber × ℕ) → List ℕ → List (Instance × Mark)

@@ -3,7 +3,6 @@ use Rattle.std.specs.Prelude.{◌≡◌, ◌⊎◌, ◌↔◌, ◌<◌, ◌≤�
 use Rattle.nv_base.specs.declared.geometry.Geometry.{Geometry}
 use Rattle.nv_base.specs.declared.instance.DeviceNumber.{DeviceNumber}
 use Rattle.nv_base.specs.declared.mark.Mark.{Mark}
-use Rattle.nv_base.specs.declared.mark.Mark.TheVariants.{Erased}
 use Rattle.nv_base.specs.declared.instance.Instance.{Instance}
 use Rattle.nv_base.specs.Lengths.{AreLengths}
 use Rattle.nv_base.specs.Marks.{AreMarks}
@@ -18,8 +17,9 @@ use Rattle.std.specs.List.{All}
 use Rattle.fee_image.specs.Append.{Touches}
 use Rattle.fee_image.specs.Bank.{Bank, page_of, place_of_page, pages_from, moved}
 use Rattle.fee_image.specs.RecordList.{Rec, Stands, Stops, Walks, IsLog, pages_of_head, records_left, records_of, end_of}
-use Rattle.fee_image.specs.Found.{IsFound, mark_in}
-use Rattle.fee_image.specs.Image.{Layout, IsLegalLayout, layout_of, bank_in, image_page, BankStands, IsActive, HasNoActive, IsFoundIn, AreFound, head_of_bank, active_of, found_mark, found_list}
+use Rattle.fee_image.specs.Found.{IsFound, shown_in}
+use Rattle.nv_base.specs.Held.{Held, never_written}
+use Rattle.fee_image.specs.Image.{Layout, IsLegalLayout, layout_of, bank_in, image_page, BankStands, IsActive, HasNoActive, IsFoundIn, AreFound, head_of_bank, active_of, found_held, found_list}
 use Rattle.fee_image.specs.Sound.{IsSoundImage, is_sound_image}
 
 -- WHAT THE RELATIONS ARE, COMPUTED
@@ -41,7 +41,7 @@ abbrev pub ListsUnfold : Type 0
 ListsUnfold = (b : Bank) (bytes : List ℕ) (q : ℕ) → RecordsUnfold b bytes q
 
 abbrev pub MarksCompute : Type 0
-MarksCompute = (b : Bank) (bytes : List ℕ) (number length : ℕ) (m : Mark) → IsFound b bytes number length m ↔ (m ≡ mark_in b bytes number length)
+MarksCompute = (b : Bank) (bytes : List ℕ) (number length : ℕ) (held : Held) → IsFound b bytes number length held ↔ (held ≡ shown_in b bytes number length)
 
 abbrev pub HeadsCompute : Type 0
 HeadsCompute = (l : Layout) (bytes : List ℕ) (k : ℕ) (h : BankHead) → BankStands l bytes k h ↔ (head_of_bank l bytes k ≡ Some h)
@@ -53,7 +53,7 @@ abbrev pub NoActiveComputes : Type 0
 NoActiveComputes = (l : Layout) (bytes : List ℕ) → HasNoActive l bytes ↔ (active_of l bytes ≡ None)
 
 abbrev pub FoundComputes : Type 0
-FoundComputes = (l : Layout) (bytes : List ℕ) (number length : ℕ) (m : Mark) → IsFoundIn l bytes number length m ↔ (m ≡ found_mark l bytes number length)
+FoundComputes = (l : Layout) (bytes : List ℕ) (number length : ℕ) (held : Held) → IsFoundIn l bytes number length held ↔ (held ≡ found_held l bytes number length)
 
 abbrev pub FoundListsCompute : Type 0
 FoundListsCompute = (l : Layout) (numbers : List (DeviceNumber × ℕ)) (bytes : List ℕ) (marks : List (Instance × Mark)) → AreFound l numbers bytes marks ↔ (marks ≡ found_list l numbers bytes)
@@ -100,7 +100,7 @@ FoundMapStays =
     (l : Layout) (old new : List ℕ) (k : ℕ) (h : BankHead)
     → 2 ≤ l.pages → IsActive l old k h → ((q : ℕ) → q < l.pages → image_page l new k q ≡ image_page l old k q)
     → ((j : ℕ) (other : BankHead) → j < l.banks → (j ≡ k → ⊥) → BankStands l new j other → BankStands l old j other)
-    → (number length : ℕ) → found_mark l new number length ≡ found_mark l old number length
+    → (number length : ℕ) → found_held l new number length ≡ found_held l old number length
 
 -- a bank that comes to stand with a greater generation than the active one is active, and shows what it holds
 abbrev pub SealedIsActive : Type 0
@@ -122,7 +122,7 @@ FirstIsActive =
 abbrev pub FoundOfActive : Type 0
 FoundOfActive =
     (l : Layout) (bytes : List ℕ) (k : ℕ) (h : BankHead) → IsActive l bytes k h
-    → (number length : ℕ) → found_mark l bytes number length ≡ mark_in (bank_in l h.format k) bytes number length
+    → (number length : ℕ) → found_held l bytes number length ≡ shown_in (bank_in l h.format k) bytes number length
 
 -- WHAT A TORN ERASE LEAVES
 -- all bytes of the flash have the bits that they had, and maybe more
@@ -241,4 +241,4 @@ abbrev pub BlankIsSound : Type 0
 BlankIsSound = (l : Layout) (n : ℕ) → IsSoundImage l (replicate n 255)
 
 abbrev pub BlankHasErased : Type 0
-BlankHasErased = (l : Layout) (n number length : ℕ) → found_mark l (replicate n 255) number length ≡ Erased
+BlankHasErased = (l : Layout) (n number length : ℕ) → found_held l (replicate n 255) number length ≡ never_written

@@ -1,8 +1,9 @@
 -- The records of a bank.
-use Rattle.std.specs.Prelude.{◌≡◌, ◌⊎◌, ◌↔◌, ◌<◌, ◌≤◌, ◌+◌, ◌-◌, ◌==◌, ◌&&◌, nat_le, ℕ, zero, suc, Bool, if◌then◌else◌, IsTrue, List, [], ◌∷◌, take, Option, Some, None}
+use Rattle.std.specs.Prelude.{◌≡◌, ◌≢◌, ◌⊎◌, ◌↔◌, ◌<◌, ◌≤◌, ◌+◌, ◌-◌, ◌&&◌, nat_le, ℕ, zero, suc, Bool, if◌then◌else◌, IsTrue, List, [], ◌∷◌, take, Option, Some, None}
 use Rattle.fee_format.specs.declared.bank_head.BankHead.{BankHead}
 use Rattle.fee_format.specs.declared.rec_head.RecHead.{RecHead}
 use Rattle.fee_format.specs.BankHead.{IsBankHead}
+use Rattle.fee_format.specs.Formats.{IsFormat, is_format, new_format}
 use Rattle.fee_format.specs.RecHead.{IsRecHead, rec_head_of}
 use Rattle.fee_format.specs.Gate.{IsGate, is_gate}
 use Rattle.fee_format.specs.Pages.{blank_page, body_pages_of, record_pages_of}
@@ -30,10 +31,10 @@ pub record Rec : Type 0 where
 abbrev pub pages_of_head : ℕ → RecHead → ℕ
 pages_of_head p h = record_pages_of h.length p
 
--- page q is a record header that lies within the bank with all its record. Format 1 is the one that has records
+-- page q is a record header that lies within the bank with all its record, written as the bank's format says
 pub record HasHead (b : Bank) (bytes : List ℕ) (q : ℕ) (h : RecHead) : Type 0 where
-  pub format : b.format ≡ 1
-  pub page : IsRecHead b.page (page_of b bytes q) h
+  pub format : IsFormat b.format
+  pub page : IsRecHead b.format b.page (page_of b bytes q) h
   pub within : q + pages_of_head b.page h ≤ b.pages
 
 -- this record stands at page q: its header, an open header gate, its body, and, exactly where it is committed, an
@@ -77,8 +78,8 @@ rec_within b bytes q (Some h) = if nat_le (q + pages_of_head b.page h) b.pages t
 -- the record that stands at page q
 abbrev pub record_at : Bank → List ℕ → ℕ → Option Rec
 record_at b bytes q =
-    if (b.format == 1) && (nat_le (q + 3) b.pages && is_gate b.page (page_of b bytes (q + 1)))
-    then rec_within b bytes q (rec_head_of b.page (page_of b bytes q)) else None
+    if is_format b.format && (nat_le (q + 3) b.pages && is_gate b.page (page_of b bytes (q + 1)))
+    then rec_within b bytes q (rec_head_of b.format b.page (page_of b bytes q)) else None
 
 -- a record, if there is one, and those behind it
 abbrev pub and_behind : Option Rec → (Rec → List Rec) → List Rec
@@ -111,9 +112,9 @@ end_of b bytes = end_after b.page 2 (records_of b bytes)
 abbrev pub IsTailBlank : Bank → List ℕ → ℕ → Type 0
 IsTailBlank b bytes end = (q : ℕ) → end ≤ q → q < b.pages → page_of b bytes q ≡ blank_page b.page
 
--- a bank is closed for appending exactly where its tail isn't blank
+-- a bank is closed for appending exactly where its tail isn't blank or its format is an old one
 abbrev pub IsClosed : Bank → List ℕ → ℕ → Type 0
-IsClosed b bytes end = IsTailBlank b bytes end → ⊥
+IsClosed b bytes end = (b.format ≢ new_format) ⊎ (IsTailBlank b bytes end → ⊥)
 
 -- the free pages of a bank of so many: those of the tail, none in a closed bank
 abbrev pub free_pages_of : ℕ → ℕ → Bool → ℕ

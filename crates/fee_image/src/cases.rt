@@ -5,9 +5,10 @@ ghost use Rattle.nv_base.specs.declared.mark.Mark.TheVariants.{Content, Erased};
 ghost use Rattle.fls_model.specs.Bytes.{Grown};
 ghost use Rattle.fee_format.specs.declared.bank_head.BankHead.{BankHead};
 ghost use Rattle.fee_image.specs.RecordList.{records_of, end_of, IsClosed, IsTailBlank};
-ghost use Rattle.fee_image.specs.Image.{head_of_bank, active_of, found_mark, found_list};
+ghost use Rattle.nv_base.specs.Held.{Held};
+ghost use Rattle.fee_image.specs.Image.{head_of_bank, active_of, found_mark, found_held, found_list};
 ghost use Rattle.fee_image.specs.Sound.{is_sound_image};
-ghost use Rattle.fee_image.specs.Cases.{small, small_bank, ring, pages, head_page, torn_gate, header, torn_header, content_1, content_2, record_1, body, after_first, two_banks, three_banks};
+ghost use Rattle.fee_image.specs.Cases.{small, small_bank, new_bank, new_head_page, counted_header, after_new, ring, pages, head_page, torn_gate, header, torn_header, content_1, content_2, record_1, body, after_first, two_banks, three_banks};
 
 /// The image that the first write of `11 22 33 44` to the number 128 leaves, byte for byte.
 pub fn first_write()
@@ -20,6 +21,15 @@ pub fn first_write()
     ensures other_length { (length : ℕ) → length ≢ 4 → found_mark small (after_first (pages 4 0xff)) 128 length ≡ Erased }
     ensures list { found_list small ((record { 0 = 128 }, 4) ∷ (record { 0 = 129 }, 7) ∷ []) (after_first (pages 4 0xff)) ≡ (record { block = 2; index = 0 }, Content content_1) ∷ [] }
     ensures tail { IsTailBlank small_bank (after_first (pages 4 0xff)) 6 }
+{}
+
+/// The image that it leaves in format 2, and a second write behind it, cut at its last page and whole: each has its count.
+pub fn counted_writes()
+    ensures active { active_of small (after_new (pages 4 0xff)) ≡ Some (0, record { format = 2; generation = 1 }) }
+    ensures first { found_held small (after_new (pages 4 0xff)) 128 4 ≡ record { mark = Content content_1; count = 1 } }
+    ensures cut { found_held small (after_new (counted_header 2 ++ pages 1 0 ++ body content_2 ++ torn_gate)) 128 4 ≡ record { mark = Content content_1; count = 1 } }
+    ensures second { found_held small (after_new (counted_header 2 ++ pages 1 0 ++ body content_2 ++ pages 1 0)) 128 4 ≡ record { mark = Content content_2; count = 2 } }
+    ensures old_header { records_of new_bank (new_head_page ++ pages 1 0 ++ header ++ pages 1 0 ++ body content_1 ++ pages 19 0) ≡ record { at = 2; head = record { number = 128; kind = 1; length = 4; count = 4294967295 }; committed = true; payload = content_1 } ∷ [] }
 {}
 
 /// A second write that was cut at each of its pages leaves the first content, and the second one only once its last

@@ -14,8 +14,8 @@ mod reading_laws;
 
 pub use append_laws::appends_leave_one_more;
 pub use cases::{
-    active_of_three, active_of_two, first_write, second_write_cut, sound_or_not, torn_erase,
-    torn_programs,
+    active_of_three, active_of_two, counted_writes, first_write, second_write_cut, sound_or_not,
+    torn_erase, torn_programs,
 };
 pub use compute_laws::{found_computes, images_compute, records_compute, soundness_computes};
 pub use flash_laws::{

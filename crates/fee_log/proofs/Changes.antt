@@ -9,14 +9,14 @@ use Rattle.nv_base.specs.Lengths.{AreLengths}
 use Rattle.fee_format.specs.declared.rec_head.RecHead.{RecHead}
 use Rattle.fee_image.specs.Found.{fits}
 use Rattle.log_image.specs.declared.place.Place.{Place}
-use Rattle.log_image.specs.declared.place.Place.TheVariants.{Erased}
+use Rattle.log_image.specs.declared.place.Place.TheVariants.{Unwritten}
 use Rattle.log_image.specs.Places.{place_at, noted, erased_places}
 use Rattle.fee_log.specs.Index.{with_flag, clear_flags}
 
 -- nothing is found of any number, and no flag is set
-pub erased : (ns : List (DeviceNumber × ℕ)) → replicate (length ns) Erased ≡ erased_places ns
+pub erased : (ns : List (DeviceNumber × ℕ)) → replicate (length ns) Unwritten ≡ erased_places ns
 erased [] = refl
-erased (n ∷ ns) = ap (λ (l : List Place). Erased ∷ l) (erased ns)
+erased (n ∷ ns) = ap (λ (l : List Place). Unwritten ∷ l) (erased ns)
 
 pub clear : (ns : List (DeviceNumber × ℕ)) → replicate (length ns) false ≡ clear_flags ns
 clear [] = refl

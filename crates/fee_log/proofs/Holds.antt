@@ -4,6 +4,7 @@ use Rattle.nv_base.specs.Laws.{NumbersAreInBounds}
 use Rattle.nv_base.specs.Pages.{record_pages_of}
 use Rattle.fee_format.specs.declared.rec_head.RecHead.{RecHead}
 use Rattle.fee_image.specs.Bank.{Bank, page_of, moved}
+use Rattle.fee_format.specs.Formats.{new_format}
 use Rattle.fee_format.specs.RecHead.{IsLegalRecHead}
 use Rattle.fee_image.specs.Image.{layout_of, bank_in}
 use Rattle.fee_view.specs.View.{View, bank_of as viewed_bank}
@@ -14,7 +15,7 @@ use Rattle.log_image.specs.Step.{IsRecord}
 use Rattle.fee_log.specs.declared.tail.Tail.{Tail}
 use Rattle.fee_log.specs.declared.tail.Tail.TheVariants.{Open, Writes, Owes, Closed}
 use Rattle.fee_log.specs.Laws.{HoldsState, MayFollow, LoadsAreLoaded, GivenUpFollows, LoadsHold, ErasedHolds, BeginsHold, GivenUpHolds, FlagsHold}
-use Rattle.fee_log.specs.Log.{LogState, IsLogState, IsTailSeen, bank_of, pages_in, free_behind, log_of, tail_with, work_in, tail_begun}
+use Rattle.fee_log.specs.Log.{LogState, IsLogState, HasFormat, IsTailSeen, bank_of, pages_in, free_behind, log_of, tail_with, work_in, tail_begun}
 use Rattle.fee_log.specs.Step.{given_up}
 use Rattle.fee_log.proofs.Soundness.{legal_for}
 
@@ -51,13 +52,13 @@ pub erased_holds : ErasedLogsHold → ErasedHolds
 erased_holds erased g banks bank numbers body bytes may sound size blank each = record {
   size = size;
   holds =
-      erased (bank_in (layout_of g banks) 1 bank) numbers bytes may sound.geometry.page_low sound.end_high blank each;
+      erased (bank_in (layout_of g banks) new_format bank) numbers bytes may sound.geometry.page_low sound.end_high blank each;
   follows = tt;
 }
 
 -- A RECORD BEGINS
 begins_at : RecordsBegin → (s : LogState) (tail : Tail) (head : RecHead) (before body bytes : List ℕ) (may : May)
-    → IsLogState s → s.format ≡ 1 → IsLegalRecHead head → length body ≡ head.length → MayCommit may head body
+    → IsLogState s → HasFormat s.format tail → IsLegalRecHead head → length body ≡ head.length → MayCommit may head body
     → work_in tail ≡ None
     → record_pages_of head.length s.geometry.page ≤ free_behind s.geometry.page (pages_in s) s.end tail
     → HoldsLog (bank_of s) s.numbers bytes may (log_of (record s { tail = tail }) before)
@@ -73,9 +74,9 @@ begins_at begin s Closed head before body bytes may sound format legal size comm
     absurd (omega (arith, room))
 
 pub begins_hold : NumbersAreInBounds → RecordsBegin → BeginsHold
-begins_hold bounds begin s head before body bytes may sound holds idle format is room size commit =
+begins_hold bounds begin s head before body bytes may sound holds idle is room size commit =
     let legal : IsLegalRecHead head = legal_for bounds s.numbers head sound.numbers is in
-    let both = begins_at begin s s.tail head before body bytes may sound format legal size commit idle room holds.holds in
+    let both = begins_at begin s s.tail head before body bytes may sound sound.format legal size commit idle room holds.holds in
     record { size = holds.size; holds = both.0; follows = both.1 }
 
 -- A RECORD IS GIVEN UP

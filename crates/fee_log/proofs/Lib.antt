@@ -1,4 +1,5 @@
 pub mod Changes
+pub mod Counts
 pub mod Follows
 pub mod Holds
 pub mod Loads

@@ -14,7 +14,7 @@ use Rattle.fee_log.specs.Log.{LogState, IsTailSeen, log_of, tail_with}
 
 seen_tail : (v : View) (body : List ℕ) (tail : Tail) → IsTailSeen v tail
     → IsLoadedTail (viewed_bank v) v.bytes (tail_with tail body)
-seen_tail v body Open seen = inl (refl, seen)
+seen_tail v body Open seen = inl (refl, seen.0, seen.1)
 seen_tail v body (Writes h k) seen = absurd seen
 seen_tail v body (Owes h next) seen = absurd seen
 seen_tail v body Closed seen = inr refl
@@ -36,8 +36,9 @@ loaded_logs_move stay b numbers own image at tail same is =
       elim is as (λ _. IsLoadedTail (moved b at) image tail) [
         | inl blank ↦ inl (
           blank.0,
+          blank.1,
           λ q low lt. same q (omega
-              (arith, low, end_low b.page 2 (records_of (moved b at) image))) lt ∙ blank.1 q (omega (arith, low, end)) lt,
+              (arith, low, end_low b.page 2 (records_of (moved b at) image))) lt ∙ blank.2 q (omega (arith, low, end)) lt,
         )
         | inr closed ↦ inr closed
       ],

@@ -8,6 +8,7 @@ use Rattle.nv_base.specs.Laws.{NumbersAreInBounds}
 use Rattle.nv_base.specs.Lengths.{AreLengths}
 use Rattle.nv_base.specs.Pages.{record_pages_of}
 use Rattle.fee_format.specs.declared.rec_head.RecHead.{RecHead}
+use Rattle.fee_format.specs.Formats.{new_format}
 use Rattle.fee_format.specs.RecHead.{IsLegalRecHead}
 use Rattle.fee_image.specs.RecordList.{pages_of_head, records_of, end_of}
 use Rattle.fee_view.specs.View.{View, IsView, bank_of as viewed_bank}
@@ -18,7 +19,9 @@ use Rattle.log_image.specs.Places.{noted, places_of}
 use Rattle.fee_log.specs.declared.tail.Tail.{Tail}
 use Rattle.fee_log.specs.declared.tail.Tail.TheVariants.{Open, Writes, Owes, Closed}
 use Rattle.fee_log.specs.Index.{clear_flags, AreWithin}
-use Rattle.fee_log.specs.Log.{LogState, IsLogState, IsTail, IsTailSeen, IsViewOf, IsFor, pages_in, free_in, free_behind, work_in, tail_begun, begun, erased_state}
+use Rattle.fee_log.specs.Log.{LogState, IsLogState, HasFormat, IsTail, IsTailSeen, IsViewOf, IsFor, pages_in, free_in, free_behind, work_in, tail_begun, begun, erased_state}
+use Rattle.fee_image.specs.Laws.{LogsCompute}
+use Rattle.fee_log.proofs.Counts.{erased_counted, loaded_counted, noted_counted}
 use Rattle.fee_log.proofs.Changes.{clear_length, flag_length}
 use Rattle.fee_log.proofs.Within.{erased_within, placed_within, further, noted_within}
 
@@ -26,6 +29,13 @@ use Rattle.fee_log.proofs.Within.{erased_within, placed_within, further, noted_w
 tail_sound : (s : LogState) (tail : Tail) → IsLogState s → s.tail ≡ tail
     → IsTail s.geometry.page (pages_in s) s.end tail
 tail_sound s tail sound is = subst (IsTail s.geometry.page (pages_in s) s.end) is sound.tail
+
+-- a log that writes a record has the format that is written
+writes_format : (s : LogState) (h : RecHead) (k : ℕ) → IsLogState s → s.tail ≡ Writes h k → s.format ≡ new_format
+writes_format s h k sound is = subst (HasFormat s.format) is sound.format
+
+owes_format : (s : LogState) (h : RecHead) (next : Option RecHead) → IsLogState s → s.tail ≡ Owes h next → s.format ≡ new_format
+owes_format s h next sound is = subst (HasFormat s.format) is sound.format
 
 -- the next record goes behind one that was in work
 pub behind_sound : (s : LogState) (h : RecHead) (k : ℕ) → IsLogState s → s.tail ≡ Writes h k
@@ -36,9 +46,11 @@ behind_sound s h k sound is =
       geometry = sound.geometry;
       shared = sound.shared;
       bank = sound.bank;
+      format = writes_format s h k sound is;
       numbers = sound.numbers;
       places =
           further s.geometry.page s.end (s.end + pages_of_head s.geometry.page h) s.numbers s.places (omega arith) sound.places;
+      counts = sound.counts;
       flags = sound.flags;
       end_low = omega (arith, sound.end_low);
       end_high = tail.2;
@@ -54,9 +66,11 @@ committed_sound s h k sound is =
       geometry = sound.geometry;
       shared = sound.shared;
       bank = sound.bank;
+      format = writes_format s h k sound is;
       numbers = sound.numbers;
       places =
           noted_within s.geometry.page s.end (s.end + pages_of_head s.geometry.page h) s.numbers s.places h sound.end_low (omega arith) sound.places;
+      counts = noted_counted s.numbers s.places s.end h tail.0.count sound.counts;
       flags = sound.flags;
       end_low = omega (arith, sound.end_low);
       end_high = tail.2;
@@ -72,9 +86,11 @@ followed_sound s h next sound is =
       geometry = sound.geometry;
       shared = sound.shared;
       bank = sound.bank;
+      format = owes_format s h (Some next) sound is;
       numbers = sound.numbers;
       places =
           further s.geometry.page s.end (s.end + pages_of_head s.geometry.page h) s.numbers s.places (omega arith) sound.places;
+      counts = sound.counts;
       flags = sound.flags;
       end_low = omega (arith, sound.end_low);
       end_high = omega (arith, tail.0);
@@ -95,8 +111,9 @@ legal_for bounds numbers h all is =
         kind = inl
             (content.0, omega (arith, content.1, up.2));
         length = omega (arith, content.1, up.3);
+        count = is.count;
       }
-      | inr mark ↦ record { number_low = up.0; number_high = up.1; kind = inr mark; length = omega (arith, mark.1) }
+      | inr mark ↦ record { number_low = up.0; number_high = up.1; kind = inr mark; length = omega (arith, mark.1); count = is.count }
     ]
 
 begun_tail : (p pages end : ℕ) (tail : Tail) (h : RecHead) → end ≤ pages → IsTail p pages end tail
@@ -110,14 +127,23 @@ begun_tail p pages end (Owes head next) h high is idle room legal =
     (omega (arith, free), legal)
 begun_tail p pages end Closed h high is idle room legal = absurd (omega (arith, room))
 
+begun_format : (format p pages end : ℕ) (tail : Tail) (h : RecHead) → work_in tail ≡ None → HasFormat format tail
+    → record_pages_of h.length p ≤ free_behind p pages end tail → HasFormat format (tail_begun tail h)
+begun_format format p pages end Open h idle is room = is
+begun_format format p pages end (Writes head done) h idle is room = cc
+begun_format format p pages end (Owes head next) h idle is room = is
+begun_format format p pages end Closed h idle is room = absurd (omega (arith, room))
+
 pub begun_sound : NumbersAreInBounds → (s : LogState) (h : RecHead) → IsLogState s → work_in s.tail ≡ None → IsFor s.numbers h
     → record_pages_of h.length s.geometry.page ≤ free_in s → IsLogState (begun s h)
 begun_sound bounds s h sound idle is room = record {
   geometry = sound.geometry;
   shared = sound.shared;
   bank = sound.bank;
+  format = begun_format s.format s.geometry.page (pages_in s) s.end s.tail h idle sound.format room;
   numbers = sound.numbers;
   places = sound.places;
+  counts = sound.counts;
   flags = rw (flag_length s.numbers s.flags h.number false) sound.flags;
   end_low = sound.end_low;
   end_high = sound.end_high;
@@ -132,8 +158,10 @@ erased_sound g banks bank numbers legal shared lt two all = record {
   geometry = legal;
   shared = shared;
   bank = lt;
+  format = refl;
   numbers = all;
   places = erased_within g.page 2 numbers;
+  counts = erased_counted numbers;
   flags = clear_length numbers;
   end_low = omega arith;
   end_high = two;
@@ -146,7 +174,13 @@ seen_tail p pages end v (Writes head done) seen = absurd seen
 seen_tail p pages end v (Owes head next) seen = absurd seen
 seen_tail p pages end v Closed seen = tt
 
-pub loaded_sound : LoadedLogsHold → (s : LogState) (v : View) (tail : Tail) → IsLogState s → IsView v → IsViewOf s v
+seen_format : (s : LogState) (v : View) (tail : Tail) → IsView v → IsTailSeen v tail → HasFormat v.head.format tail
+seen_format s v Open view seen = seen.0
+seen_format s v (Writes head done) view seen = absurd seen
+seen_format s v (Owes head next) view seen = absurd seen
+seen_format s v Closed view seen = view.stands.head.legal.format
+
+pub loaded_sound : LogsCompute → LoadedLogsHold → (s : LogState) (v : View) (tail : Tail) → IsLogState s → IsView v → IsViewOf s v
     → IsTailSeen v tail
     → let b = viewed_bank v in let end = end_of b v.bytes in 2 ≤ end → end ≤ v.pages
     → IsLogState (record s {
@@ -156,7 +190,7 @@ pub loaded_sound : LoadedLogsHold → (s : LogState) (v : View) (tail : Tail) �
       end = end;
       tail = tail;
     })
-loaded_sound loaded s v tail sound view is seen low high =
+loaded_sound logs loaded s v tail sound view is seen low high =
     let b = viewed_bank v in
     let end = end_of b v.bytes in
     let places = places_of s.numbers (records_of b v.bytes) in
@@ -165,9 +199,11 @@ loaded_sound loaded s v tail sound view is seen low high =
       geometry = sound.geometry;
       shared = sound.shared;
       bank = sound.bank;
+      format = seen_format s v tail view seen;
       numbers = sound.numbers;
       places =
           subst (λ (p : ℕ). AreWithin p end s.numbers places) is.page (placed_within b v.bytes (exactly b v.bytes) end s.numbers places holds.placed);
+      counts = loaded_counted logs b v.bytes s.numbers;
       flags = clear_length s.numbers;
       end_low = low;
       end_high = subst (λ (n : ℕ). end ≤ n) is.pages high;

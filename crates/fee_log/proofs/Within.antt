@@ -8,7 +8,7 @@ use Rattle.fee_format.specs.declared.rec_head.RecHead.{RecHead}
 use Rattle.fee_image.specs.Bank.{Bank}
 use Rattle.fee_image.specs.Found.{fits}
 use Rattle.log_image.specs.declared.place.Place.{Place}
-use Rattle.log_image.specs.declared.place.Place.TheVariants.{Content, Invalid, Erased}
+use Rattle.log_image.specs.declared.place.Place.TheVariants.{Content, Invalid, Erased, Unwritten}
 use Rattle.log_image.specs.May.{May}
 use Rattle.log_image.specs.Places.{place_at, noted, erased_places, IsWithin, ArePlaced}
 use Rattle.fee_log.specs.Index.{AreWithin, or_else}
@@ -33,9 +33,10 @@ placed_within b bytes may end (n ∷ ns) (place ∷ places) all = (all.0, placed
 
 further_one : (p end end' length : ℕ) (place : Place) → end ≤ end' → IsWithin p end length place
     → IsWithin p end' length place
-further_one p end end' length (Content at) le within = (within.0, omega (arith, within.1))
-further_one p end end' length Invalid le within = tt
-further_one p end end' length Erased le within = tt
+further_one p end end' length (Content at count) le within = (within.0, omega (arith, within.1))
+further_one p end end' length (Invalid count) le within = tt
+further_one p end end' length (Erased count) le within = tt
+further_one p end end' length Unwritten le within = tt
 
 -- a log that goes on keeps its places
 pub further : (p end end' : ℕ) (ns : List (DeviceNumber × ℕ)) (places : List Place) → end ≤ end'
@@ -46,11 +47,11 @@ further p end end' (n ∷ ns) [] le all = absurd all
 further p end end' (n ∷ ns) (place ∷ places) le all =
     (further_one p end end' n.1 place le all.0, further p end end' ns places le all.1)
 
-kind_within : (p end length at : ℕ) (b c : Bool) → (b ≡ true → (2 ≤ at) × (at + record_pages_of length p ≤ end))
-    → IsWithin p end length (if b then Content at else (if c then Invalid else Erased))
-kind_within p end length at true c content = content refl
-kind_within p end length at false true content = tt
-kind_within p end length at false false content = tt
+kind_within : (p end length at count : ℕ) (b c : Bool) → (b ≡ true → (2 ≤ at) × (at + record_pages_of length p ≤ end))
+    → IsWithin p end length (if b then Content at count else (if c then Invalid count else Erased count))
+kind_within p end length at count true c content = content refl
+kind_within p end length at count false true content = tt
+kind_within p end length at count false false content = tt
 
 pick_within : (p end length : ℕ) (b : Bool) (x y : Place) → (b ≡ true → IsWithin p end length x)
     → IsWithin p end length y → IsWithin p end length (if b then x else y)
@@ -69,14 +70,14 @@ noted_within p end end' [] (place ∷ places) h low le all = absurd all
 noted_within p end end' (n ∷ ns) [] h low le all = absurd all
 noted_within p end end' (n ∷ ns) (place ∷ places) h low le all = (
   pick_within p end' n.1 (fits n.0.0 n.1 h) (place_at end h) place
-      (λ fit. kind_within p end' n.1 end (h.kind == 1) (h.kind == 2) (λ kind. (low, rw (← fits_length n.0.0 n.1 h fit kind) le)))
+      (λ fit. kind_within p end' n.1 end h.count (h.kind == 1) (h.kind == 2) (λ kind. (low, rw (← fits_length n.0.0 n.1 h fit kind) le)))
       (further_one p end end' n.1 place (omega arith) all.0),
   noted_within p end end' ns places h low le all.1,
 )
 
 -- what stands at an index lies among them
 pub index_within : (p end : ℕ) (ns : List (DeviceNumber × ℕ)) (places : List Place) (i : ℕ) (x : DeviceNumber × ℕ)
-    → AreWithin p end ns places → slice_get ns i ≡ Some x → IsWithin p end x.1 (or_else Erased (slice_get places i))
+    → AreWithin p end ns places → slice_get ns i ≡ Some x → IsWithin p end x.1 (or_else Unwritten (slice_get places i))
 index_within p end [] places i x within is = cc
 index_within p end (n ∷ ns) [] i x within is = absurd within
 index_within p end (n ∷ ns) (place ∷ places) zero x within is =

@@ -1,10 +1,10 @@
 -- The places and the flags of the numbers, in their order.
-use Rattle.std.specs.Prelude.{◌==◌, ℕ, Bool, false, if◌then◌else◌, List, [], ◌∷◌, map, Option, Some, None, slice_get}
+use Rattle.std.specs.Prelude.{◌==◌, ◌<◌, ◌^◌, ℕ, Bool, false, if◌then◌else◌, List, [], ◌∷◌, map, Option, Some, None, slice_get}
 use Rattle.nv_base.specs.declared.instance.DeviceNumber.{DeviceNumber}
 use Rattle.nv_base.specs.Lengths.{place_of}
 use Rattle.log_image.specs.declared.place.Place.{Place}
-use Rattle.log_image.specs.declared.place.Place.TheVariants.{Erased}
-use Rattle.log_image.specs.Places.{IsWithin}
+use Rattle.log_image.specs.declared.place.Place.TheVariants.{Unwritten}
+use Rattle.log_image.specs.Places.{IsWithin, count_at}
 
 -- what stands at an index, or this where there is none
 abbrev pub at_index : {A : Type 0} → List A → Option ℕ → Option A
@@ -15,9 +15,9 @@ abbrev pub or_else : {A : Type 0} → A → Option A → A
 or_else d None = d
 or_else d (Some x) = x
 
--- the place of a number; Erased where it isn't configured
+-- the place of a number; Unwritten where it isn't configured
 abbrev pub place_in : List (DeviceNumber × ℕ) → List Place → ℕ → Place
-place_in numbers places number = or_else Erased (at_index places (place_of numbers number))
+place_in numbers places number = or_else Unwritten (at_index places (place_of numbers number))
 
 -- the flag of a number; clear where it isn't configured
 abbrev pub flag_in : List (DeviceNumber × ℕ) → List Bool → ℕ → Bool
@@ -37,3 +37,8 @@ abbrev pub AreWithin : ℕ → ℕ → List (DeviceNumber × ℕ) → List Place
 AreWithin p end [] [] = Unit {0}
 AreWithin p end (n ∷ ns) (place ∷ places) = IsWithin p end n.1 place × AreWithin p end ns places
 AreWithin p end _ _ = ⊥
+
+-- and has been written so often that 32 bits have room for it
+abbrev pub AreCounted : List Place → Type 0
+AreCounted [] = Unit {0}
+AreCounted (place ∷ places) = (count_at place < 2 ^ 32) × AreCounted places

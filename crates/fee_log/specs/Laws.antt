@@ -1,17 +1,19 @@
 -- Laws of a log and its bank's pages, for the layers above.
-use Rattle.std.specs.Prelude.{◌≡◌, ◌<◌, ◌≤◌, ◌*◌, ℕ, Bool, List, length, None, Some, IsSome}
+use Rattle.std.specs.Prelude.{◌≡◌, ◌<◌, ◌≤◌, ◌*◌, ◌^◌, slice_get, ℕ, Bool, List, length, None, Some, IsSome}
 use Rattle.nv_base.specs.declared.geometry.Geometry.{Geometry}
 use Rattle.nv_base.specs.declared.instance.DeviceNumber.{DeviceNumber}
-use Rattle.nv_base.specs.declared.mark.Mark.TheVariants.{Erased}
 use Rattle.nv_base.specs.Pages.{record_pages_of}
 use Rattle.fls_model.specs.declared.flash.FlashAnswer.{FlashAnswer}
 use Rattle.fls_model.specs.declared.flash.FlashAnswer.TheVariants.{Done, Off}
 use Rattle.fls_model.specs.Op.{MayLeave}
 use Rattle.fls_model.specs.Step.{Leaves}
 use Rattle.fee_format.specs.declared.rec_head.RecHead.{RecHead}
+use Rattle.nv_base.specs.Held.{never_written}
 use Rattle.fee_image.specs.Bank.{Bank, page_of, moved}
 use Rattle.fee_image.specs.RecordList.{IsTailBlank}
 use Rattle.fee_view.specs.View.{View, IsView, bank_of as viewed_bank}
+use Rattle.log_image.specs.declared.place.Place.{Place}
+use Rattle.log_image.specs.Places.{count_at}
 use Rattle.log_image.specs.Laws.{loaded_log, IsLoadedTail}
 use Rattle.log_image.specs.Log.{Tail as LogTail, HoldsLog}
 use Rattle.log_image.specs.May.{May, IsAmong, MayCommit, exactly}
@@ -19,7 +21,7 @@ use Rattle.log_image.specs.Step.{IsDue, page_due, log_begun, log_failed, log_giv
 use Rattle.fee_log.specs.declared.tail.Tail.{Tail}
 use Rattle.fee_log.specs.declared.tail.Tail.TheVariants.{Open, Owes}
 use Rattle.fee_log.specs.Index.{with_flag}
-use Rattle.fee_log.specs.Log.{LogState, IsLogState, IsViewOf, IsLoaded, IsFor, bank_of, pages_in, free_in, log_of, tail_with, work_in, begun, erased_state}
+use Rattle.fee_log.specs.Log.{LogState, head_next, IsLogState, IsViewOf, IsLoaded, IsFor, bank_of, pages_in, free_in, log_of, tail_with, work_in, begun, erased_state}
 use Rattle.fee_log.specs.Step.{IsPageOf, due_page, due_bytes, op_of, log_after, after_step, given_up}
 
 -- THE LOG THAT A STATE IS
@@ -80,14 +82,14 @@ abbrev pub ErasedHolds : Type 0
 ErasedHolds =
     (g : Geometry) (banks bank : ℕ) (numbers : List (DeviceNumber × ℕ)) (body bytes : List ℕ) (may : May)
     → let s = erased_state g banks bank numbers in
-    IsLogState s → pages_in s * g.page * banks ≤ length bytes → IsTailBlank (bank_of s) bytes 2 → ((number length : ℕ) → IsAmong (may number length) Erased)
+    IsLogState s → pages_in s * g.page * banks ≤ length bytes → IsTailBlank (bank_of s) bytes 2 → ((number length : ℕ) → IsAmong (may number length) never_written)
     → HoldsState s body bytes may
 
 -- a record begins, whose mark may be found
 abbrev pub BeginsHold : Type 0
 BeginsHold =
     (s : LogState) (head : RecHead) (before body bytes : List ℕ) (may : May)
-    → IsLogState s → HoldsState s before bytes may → work_in s.tail ≡ None → s.format ≡ 1 → IsFor s.numbers head
+    → IsLogState s → HoldsState s before bytes may → work_in s.tail ≡ None → IsFor s.numbers head
     → record_pages_of head.length s.geometry.page ≤ free_in s → length body ≡ head.length → MayCommit may head body
     → HoldsState (begun s head) body bytes may
 
@@ -101,6 +103,14 @@ abbrev pub FlagsHold : Type 0
 FlagsHold =
     (s : LogState) (body bytes : List ℕ) (may : May) (number : ℕ) (on : Bool)
     → HoldsState s body bytes may → HoldsState (record s { flags = with_flag s.numbers s.flags number on }) body bytes may
+
+-- COUNTS
+-- they have 32 bits, and so has that of the next record
+abbrev pub PlacesAreCounted : Type 0
+PlacesAreCounted = (s : LogState) (i : ℕ) (place : Place) → IsLogState s → slice_get s.places i ≡ Some place → count_at place < 2 ^ 32
+
+abbrev pub NextIsCounted : Type 0
+NextIsCounted = (s : LogState) (number kind length : ℕ) → IsLogState s → (head_next s number kind length).count < 2 ^ 32
 
 -- STEPS
 -- what may be found after an answer: after a record's last page its mark alone

@@ -1,21 +1,23 @@
 -- The log of one bank, as contracts see it.
-use Rattle.std.specs.Prelude.{◌≡◌, ◌⊎◌, ◌<◌, ◌≤◌, ◌+◌, ◌-◌, ℕ, Bool, true, false, List, length, Option, Some, None, Contains, IfSome}
+use Rattle.std.specs.Prelude.{◌≡◌, ◌⊎◌, ◌<◌, ◌≤◌, ◌+◌, ◌-◌, ◌^◌, ℕ, Bool, true, false, List, length, Option, Some, None, Contains, IfSome}
 use Rattle.nv_base.specs.declared.geometry.Geometry.{Geometry}
 use Rattle.nv_base.specs.declared.instance.DeviceNumber.{DeviceNumber}
 use Rattle.nv_base.specs.Geometry.{IsLegal, HasBanks, pages_of_bank}
 use Rattle.nv_base.specs.Lengths.{AreLengths}
+use Rattle.fee_format.specs.Formats.{IsFormat, new_format}
 use Rattle.fee_format.specs.declared.rec_head.RecHead.{RecHead}
 use Rattle.fee_format.specs.RecHead.{IsLegalRecHead}
 use Rattle.fee_image.specs.Bank.{Bank}
+use Rattle.nv_base.specs.Held.{more_writes}
 use Rattle.fee_image.specs.Image.{layout_of, bank_in}
-use Rattle.fee_image.specs.RecordList.{records_of, end_of, IsTailBlank, pages_of_head}
+use Rattle.fee_image.specs.RecordList.{records_of, end_of, IsClosed, IsTailBlank, pages_of_head}
 use Rattle.fee_view.specs.View.{View, bank_of as viewed_bank}
 use Rattle.log_image.specs.declared.place.Place.{Place}
 use Rattle.log_image.specs.Log.{Tail as LogTail, Open as LogOpen, Writes as LogWrites, Owes as LogOwes, Closed as LogClosed, Log}
-use Rattle.log_image.specs.Places.{erased_places, places_of}
+use Rattle.log_image.specs.Places.{count_at, erased_places, places_of}
 use Rattle.fee_log.specs.declared.tail.Tail.{Tail}
 use Rattle.fee_log.specs.declared.tail.Tail.TheVariants.{Open, Writes, Owes, Closed}
-use Rattle.fee_log.specs.Index.{with_flag, clear_flags, AreWithin}
+use Rattle.fee_log.specs.Index.{place_in, with_flag, clear_flags, AreCounted, AreWithin}
 
 pub record LogState : Type 0 where
   pub geometry : Geometry
@@ -109,12 +111,19 @@ IsTail p pages end (Writes head done) = IsLegalRecHead head × (done < pages_of_
 IsTail p pages end (Owes head next) = (end + (pages_of_head p head + pages_with p next) ≤ pages) × IfSome next IsLegalRecHead
 IsTail p pages end _ = Unit {0}
 
+-- records are written in one format alone: a bank of another one is closed
+abbrev pub HasFormat : ℕ → Tail → Type 0
+HasFormat format Closed = IsFormat format
+HasFormat format tail = format ≡ new_format
+
 pub record IsLogState (s : LogState) : Type 0 where
   pub geometry : IsLegal s.geometry
   pub shared : HasBanks s.geometry s.banks
   pub bank : s.bank < s.banks
+  pub format : HasFormat s.format s.tail
   pub numbers : AreLengths 0 s.numbers
   pub places : AreWithin s.geometry.page s.end s.numbers s.places
+  pub counts : AreCounted s.places
   pub flags : length s.flags ≡ length s.numbers
   pub end_low : 2 ≤ s.end
   pub end_high : s.end ≤ pages_in s
@@ -127,7 +136,7 @@ erased_state g banks bank numbers = record {
   geometry = g;
   banks = banks;
   bank = bank;
-  format = 1;
+  format = new_format;
   numbers = numbers;
   places = erased_places numbers;
   flags = clear_flags numbers;
@@ -140,10 +149,10 @@ pub record IsViewOf (s : LogState) (v : View) : Type 0 where
   pub page : v.page ≡ s.geometry.page
   pub pages : v.pages ≡ pages_in s
 
--- closed exactly where the tail isn't blank
+-- closed exactly where the bank is: its format isn't the one that is written, or its tail isn't blank
 abbrev pub IsTailSeen : View → Tail → Type 0
-IsTailSeen v Open = IsTailBlank (viewed_bank v) v.bytes (end_of (viewed_bank v) v.bytes)
-IsTailSeen v Closed = IsTailBlank (viewed_bank v) v.bytes (end_of (viewed_bank v) v.bytes) → ⊥
+IsTailSeen v Open = (v.head.format ≡ new_format) × IsTailBlank (viewed_bank v) v.bytes (end_of (viewed_bank v) v.bytes)
+IsTailSeen v Closed = IsClosed (viewed_bank v) v.bytes (end_of (viewed_bank v) v.bytes)
 IsTailSeen v _ = ⊥
 
 -- the log of a bank that stands
@@ -163,6 +172,11 @@ pub record IsFor (numbers : List (DeviceNumber × ℕ)) (h : RecHead) : Type 0 w
   pub length : ℕ
   pub configured : Contains numbers (record { 0 = h.number }, length)
   pub kind : ((h.kind ≡ 1) × (h.length ≡ length)) ⊎ (((h.kind ≡ 2) ⊎ (h.kind ≡ 3)) × (h.length ≡ 0))
+  pub count : h.count < 2 ^ 32
+
+-- the header of the next record of a number
+abbrev pub head_next : LogState → ℕ → ℕ → ℕ → RecHead
+head_next s number kind length = record { number = number; kind = kind; length = length; count = more_writes 1 (count_at (place_in s.numbers s.places number)) }
 
 -- behind an owed gate it waits for that gate
 abbrev pub tail_begun : Tail → RecHead → Tail

@@ -1,7 +1,7 @@
 // The places and flags by number.
 ghost use Rattle.std.specs.Prelude.{◌≡◌, false, length, IfOk};
 ghost use Rattle.fee_image.specs.Found.{fits};
-ghost use Rattle.log_image.specs.Places.{place_at, noted, erased_places};
+ghost use Rattle.log_image.specs.Places.{place_at, count_at, noted, erased_places};
 ghost use Rattle.fee_log.specs.Index.{place_in, flag_in, with_flag, clear_flags};
 
 use log_image::Place;
@@ -13,7 +13,7 @@ use std::alloc::{AllocError, Global};
 pub(crate) fn erased_places(alloc: Global, numbers: &Lengths) -> Result<Vec<Place>, AllocError>
     ensures { IfOk result (λ v. v.items ≡ erased_places numbers.now) }
 {
-    vec![in alloc; Place::Erased; numbers.as_slice().len()]
+    vec![in alloc; Place::Unwritten; numbers.as_slice().len()]
 }
 
 /// Clear flags for all numbers.
@@ -29,7 +29,7 @@ pub(crate) fn forget(numbers: &Lengths, places: &mut [Place])
     requires { length places.old ≡ length numbers.now }
     ensures { places.new ≡ erased_places numbers.now }
 {
-    places.fill(Place::Erased);
+    places.fill(Place::Unwritten);
 }
 
 /// No flag is set from now on.
@@ -40,14 +40,14 @@ pub(crate) fn clear_all(numbers: &Lengths, flags: &mut [bool])
     flags.fill(false);
 }
 
-/// The place of a number, of the places in the order of the numbers. Erased where it isn't configured.
+/// The place of a number, of the places in the order of the numbers. Unwritten where it isn't configured.
 pub(crate) fn place_of(numbers: &Lengths, places: &[Place], number: DeviceNumber) -> Place
     requires { length places.now ≡ length numbers.now }
     ensures { result ≡ place_in numbers.now places.now number.0 }
 {
     match numbers.place_of(number) {
         Some(i) => places[i],
-        None => Place::Erased,
+        None => Place::Unwritten,
     }
 }
 
@@ -75,19 +75,29 @@ pub(crate) fn put_flag(numbers: &Lengths, flags: &mut [bool], number: DeviceNumb
     flags[i] = on;
 }
 
-fn place_at(at: u32, kind: u8) -> Place
-    ensures { (h : _) → h.kind ≡ kind → result ≡ place_at at h }
+fn place_at(at: u32, kind: u8, count: u32) -> Place
+    ensures { (h : _) → h.kind ≡ kind → h.count ≡ count → result ≡ place_at at h }
 {
     match kind {
-        1 => Place::Content { at },
-        2 => Place::Invalid,
-        _ => Place::Erased,
+        1 => Place::Content { at, count },
+        2 => Place::Invalid { count },
+        _ => Place::Erased { count },
+    }
+}
+
+/// How often a number was written, by its place.
+pub(crate) fn count_at(place: Place) -> u32
+    ensures { result ≡ count_at place }
+{
+    match place {
+        Place::Content { count, .. } | Place::Invalid { count } | Place::Erased { count } => count,
+        Place::Unwritten => 0,
     }
 }
 
 // Whether a record of this number is one of its length, for a content.
 fn fits(wanted: (DeviceNumber, u16), number: DeviceNumber, kind: u8, size: usize) -> bool
-    ensures { result ≡ fits wanted.0.0 wanted.1 (record { number = number.0; kind = kind; length = size }) }
+    ensures { (count : _) → result ≡ fits wanted.0.0 wanted.1 (record { number = number.0; kind = kind; length = size; count = count }) }
 {
     number.0 == wanted.0.0 && (kind != 1 || size == usize::from(wanted.1))
 }
@@ -100,9 +110,10 @@ pub(crate) fn note(
     number: DeviceNumber,
     kind: u8,
     size: usize,
+    count: u32,
 )
     requires { length places.old ≡ length numbers.now }
-    ensures { places.new ≡ noted numbers.now places.old at (record { number = number.0; kind = kind; length = size }) }
+    ensures { places.new ≡ noted numbers.now places.old at (record { number = number.0; kind = kind; length = size; count = count }) }
 {
     numbers_ascend();
     let Some(i) = numbers.place_of(number) else {
@@ -112,5 +123,5 @@ pub(crate) fn note(
     if !fits(list[i], number, kind, size) {
         return;
     }
-    places[i] = place_at(at, kind);
+    places[i] = place_at(at, kind, count);
 }

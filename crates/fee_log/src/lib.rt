@@ -14,6 +14,6 @@ mod tail;
 mod walk;
 
 pub use log::Log;
-pub use log_laws::{answers_hold, loads_agree, states_follow, states_hold};
+pub use log_laws::{answers_hold, counts_fit, loads_agree, states_follow, states_hold};
 pub use log_step::LogStep;
 pub use tail::Tail;

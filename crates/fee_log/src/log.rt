@@ -8,18 +8,18 @@ ghost use Rattle.fls_jobs.specs.CallOf.{closed_as};
 ghost use Rattle.fls_jobs.specs.Start.{IsIdle};
 ghost use Rattle.log_image.specs.Places.{IsWithin};
 ghost use Rattle.fee_log.specs.Index.{place_in, flag_in, with_flag, clear_flags};
-ghost use Rattle.fee_log.specs.Log.{IsLogState, IsViewOf, IsLoaded, IsFor, work_in, is_closed, is_owed, free_in, left_in, pages_in, erased_state, begun};
+ghost use Rattle.fee_log.specs.Log.{IsLogState, IsViewOf, IsLoaded, IsFor, head_next, work_in, is_closed, is_owed, free_in, left_in, pages_in, erased_state, begun};
 ghost use Rattle.fee_log.specs.Step.{IsPageOf, IsStepAt, due_bytes, due_page, op_of, answer_of, after_step, given_up};
 
 use crate::index::{
-    clear_all, clear_flags, erased_places, flag_of, forget, note, place_of, put_flag,
+    clear_all, clear_flags, count_at, erased_places, flag_of, forget, note, place_of, put_flag,
 };
 use crate::page::{fill_gate, fill_page};
 use crate::tail::{tail_begun, tail_seen};
 use crate::walk::take_records;
 use crate::{LogStep, Tail};
-use fee_format::{RecHead, pages_of};
-use fee_image::records_stay;
+use fee_format::{NEW_FORMAT, RecHead, pages_of};
+use fee_image::{records_compute, records_stay};
 use fee_view::BankView;
 use fls_jobs::Fls;
 use fls_model::{Flash, FlashAnswer};
@@ -97,7 +97,7 @@ impl Log {
             geometry,
             banks,
             bank,
-            format: 1,
+            format: NEW_FORMAT,
             numbers,
             places,
             flags,
@@ -171,7 +171,7 @@ impl Log {
         }
     }
 
-    /// Where the last committed record of a number stands. Erased where the number isn't configured.
+    /// Where the last committed record of a number stands. Unwritten where the number isn't configured.
     pub fn find(&self, number: DeviceNumber) -> Place
         ensures place { result ≡ place_in self.now.numbers self.now.places number.0 }
         ensures within { (length : ℕ) → Contains self.now.numbers (number, length) → IsWithin self.now.geometry.page self.now.end length result }
@@ -249,7 +249,7 @@ impl Log {
     {
         forget(&self.numbers, &mut self.places);
         clear_all(&self.numbers, &mut self.flags);
-        self.format = 1;
+        self.format = NEW_FORMAT;
         self.end = 2;
         self.tail = Tail::Open;
     }
@@ -259,6 +259,7 @@ impl Log {
         ensures log { IsLoaded view.now self.old self.new }
     {
         logs_begin();
+        records_compute();
         take_records(view, &self.numbers, &mut self.places);
         clear_all(&self.numbers, &mut self.flags);
         self.format = view.head().format;
@@ -266,23 +267,35 @@ impl Log {
         self.tail = tail_seen(view);
     }
 
-    /// Begins a record of a configured number: a content (kind 1) of its length, or the mark of an invalidated (2) or
-    /// erased (3) instance, of length 0. Behind an owed gate it waits for that gate. The number's flag is cleared.
-    pub fn append_start(&mut self, number: DeviceNumber, kind: u8, length: u16)
-        requires idle { work_in self.old.tail ≡ None }
-        requires format { self.old.format ≡ 1 }
-        requires configured { IsFor self.old.numbers (record { number = number.0; kind = kind; length = length }) }
-        requires room { record_pages_of length self.old.geometry.page ≤ free_in self.old }
-        ensures { self.new ≡ begun self.old (record { number = number.0; kind = kind; length = length }) }
+    /// The header of the next record of a number, which is counted by one more.
+    pub fn head_next(&self, number: DeviceNumber, kind: u8, length: u16) -> RecHead
+        ensures head { result ≡ head_next self.now number.0 kind length }
+        ensures state { IsLogState self.now }
     {
-        numbers_ascend();
-        put_flag(&self.numbers, &mut self.flags, number, false);
-        let record = RecHead {
+        RecHead {
             number: number.0,
             kind,
             length,
-        };
-        self.tail = tail_begun(self.tail, record);
+            count: count_at(self.find(number)).saturating_add(1),
+        }
+    }
+
+    /// Begins a record of a configured number: a content (kind 1) of its length, or the mark of an invalidated (2) or
+    /// erased (3) instance, of length 0. Behind an owed gate it waits for that gate. The number's flag is cleared.
+    pub fn append_start(&mut self, head: RecHead)
+        requires idle { work_in self.old.tail ≡ None }
+        requires configured { IsFor self.old.numbers head }
+        requires room { record_pages_of head.length self.old.geometry.page ≤ free_in self.old }
+        ensures { self.new ≡ begun self.old head }
+    {
+        numbers_ascend();
+        put_flag(
+            &self.numbers,
+            &mut self.flags,
+            DeviceNumber(head.number),
+            false,
+        );
+        self.tail = tail_begun(self.tail, head);
     }
 
     /// Programs the page that is due, by one call of the flash, and leaves no job open: the next page of the record in work,
@@ -393,6 +406,7 @@ impl Log {
             DeviceNumber(head.number),
             head.kind,
             usize::from(head.length),
+            head.count,
         );
         self.end += pages;
         self.tail = Tail::Open;

@@ -1,5 +1,5 @@
 // Laws: what a log is to the bytes of its bank. Their functions do nothing.
-ghost use Rattle.fee_log.specs.Laws.{StepsFollow, GivenUpFollows, BeginsOpen, BeginsOwing, WorkIsDue, LoadsAreLoaded, LoadedLogsMove};
+ghost use Rattle.fee_log.specs.Laws.{PlacesAreCounted, NextIsCounted, StepsFollow, GivenUpFollows, BeginsOpen, BeginsOwing, WorkIsDue, LoadsAreLoaded, LoadedLogsMove};
 ghost use Rattle.fee_log.specs.Laws.{LoadsHold, ErasedHolds, BeginsHold, GivenUpHolds, FlagsHold, CutsHold, AnswersHold, PagesStand};
 
 use fee_image::{programs_keep_soundness, records_stay};
@@ -40,6 +40,12 @@ pub fn states_hold()
     logs_stay();
     memory_alone();
 }
+
+/// How often a number was written has room in 32 bits, and so has the count of its next record.
+pub fn counts_fit()
+    ensures places { PlacesAreCounted }
+    ensures next { NextIsCounted }
+{}
 
 /// They hold it after each step, done or failed, and whatever a cut leaves, the bank shows a number's old mark or the new
 /// one.

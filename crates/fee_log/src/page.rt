@@ -5,7 +5,7 @@ ghost use Rattle.fee_format.specs.Pages.{gate_page};
 ghost use Rattle.fee_format.specs.RecHead.{IsLegalRecHead};
 ghost use Rattle.fee_format.specs.RecordPages.{filled, body_page, record_page};
 
-use fee_format::{RecHead, pages_of, write_gate, write_rec_head};
+use fee_format::{NEW_FORMAT, RecHead, pages_of, write_gate, write_rec_head};
 
 fn piece_of(body: &[u8], from: usize, count: usize) -> &[u8]
     ensures { result.now ≡ take count (drop from body.now) }
@@ -43,7 +43,7 @@ fn write_page(head: RecHead, body: &[u8], done: u32, page: &mut [u8])
 {
     let pages = pages_of(head.length, page.len() as u32);
     if done == 0 {
-        write_rec_head(head, page);
+        write_rec_head(head, NEW_FORMAT, page);
     } else if done == 1 || done + 1 == pages {
         write_gate(page);
     } else {

@@ -2,7 +2,7 @@
 ghost use Rattle.std.specs.Prelude.{◌≡◌};
 ghost use Rattle.fee_log.specs.Log.{IsTailSeen, tail_begun};
 
-use fee_format::RecHead;
+use fee_format::{NEW_FORMAT, RecHead};
 use fee_view::BankView;
 
 /// Blank pages; so many pages of the record in work; the header of a record that was given up before its header gate,
@@ -37,11 +37,11 @@ pub(crate) fn tail_begun(tail: Tail, begun: RecHead) -> Tail
     }
 }
 
-/// What stands behind the records of a bank: blank pages, or anything.
+/// What stands behind the records of a bank: blank pages of the format that is written, or anything.
 pub(crate) fn tail_seen(view: &BankView<'_>) -> Tail
     ensures { IsTailSeen view.now result }
 {
-    if view.tail_blank() {
+    if view.head().format == NEW_FORMAT && view.tail_blank() {
         Tail::Open
     } else {
         Tail::Closed

@@ -24,6 +24,7 @@ fn take_record(numbers: &Lengths, places: &mut [Place], item: Record<'_>)
             number,
             item.kind,
             item.payload.len(),
+            item.count,
         );
     }
 }

@@ -34,16 +34,15 @@ each (Some a) P Q goes is = goes a refl is
 -- where one is active the log has room
 pub record MayBeginIn (s : BanksState) (head : RecHead) (content : List ℕ) : Type 0 where
   pub idle : work_in s.log.tail ≡ None
-  pub format : IfSome s.active (λ a. s.log.format ≡ 1)
   pub configured : IsFor s.log.numbers head
   pub room : IfSome s.active (λ a. record_pages_of head.length s.log.geometry.page ≤ free_in s.log)
   pub size : length (body_of (Some head) content) ≡ head.length
 
-pub log_begins : BeginsHold → (s : LogState) (head : RecHead) (content bytes : List ℕ) (xs : List Change) → IsLogState s → work_in s.tail ≡ None → s.format ≡ 1 → IsFor s.numbers head → record_pages_of head.length s.geometry.page ≤ free_in s
+pub log_begins : BeginsHold → (s : LogState) (head : RecHead) (content bytes : List ℕ) (xs : List Change) → IsLogState s → work_in s.tail ≡ None → IsFor s.numbers head → record_pages_of head.length s.geometry.page ≤ free_in s
     → length (body_of (Some head) content) ≡ head.length → FollowsLog s (body_of (work_in s.tail) content) xs bytes → FollowsLog (begun s head) (body_of (work_in (begun s head).tail) content) xs bytes
-log_begins begins s head content bytes xs state idle format configured room size follows = record {
+log_begins begins s head content bytes xs state idle configured room size follows = record {
   holds = subst (λ (o : Option RecHead). HoldsState (begun s head) (body_of o content) bytes anything) (sym (begun_work s.tail head))
-      (begins s head (body_of (work_in s.tail) content) (body_of (Some head) content) bytes anything state follows.holds idle format configured room size (λ number length fit. tt));
+      (begins s head (body_of (work_in s.tail) content) (body_of (Some head) content) bytes anything state follows.holds idle configured room size (λ number length fit. tt));
   closed = λ shut. (let wide = begun_open s.tail head in cc (shut, wide));
 }
 
@@ -51,14 +50,14 @@ pub record_begins : BeginsHold → (s : BanksState) (head : RecHead) (content by
 record_begins begins s head content bytes xs state may follows =
     let then = append_begun s head in
     record {
-      log = by_active s.active may.format may.room follows.log;
+      log = by_active s.active may.room follows.log;
       banks = with_log s then.log then.course then.course bytes (appended s (place_of s.log.numbers head.number) s.course bytes follows.banks);
     }
   where
-    by_active : (o : Option ActiveBank) → IfSome o (λ a. s.log.format ≡ 1) → IfSome o (λ a. record_pages_of head.length s.log.geometry.page ≤ free_in s.log)
+    by_active : (o : Option ActiveBank) → IfSome o (λ a. record_pages_of head.length s.log.geometry.page ≤ free_in s.log)
         → IfSome o (λ a. FollowsLog s.log (body_of (work_in s.log.tail) content) xs bytes) → IfSome o (λ a. FollowsLog (begun s.log head) (body_of (work_in (begun s.log head).tail) content) xs bytes)
-    by_active None format room follows' = tt
-    by_active (Some a) format room follows' = log_begins begins s.log head content bytes xs state may.idle format may.configured room may.size follows'
+    by_active None room follows' = tt
+    by_active (Some a) room follows' = log_begins begins s.log head content bytes xs state may.idle may.configured room may.size follows'
 
 -- A RECORD IS GIVEN UP
 log_given : GivenUpHolds → (s : LogState) (content bytes : List ℕ) (xs : List Change) → IsLogState s → FollowsLog s (body_of (work_in s.tail) content) xs bytes → FollowsLog (given_up s) (body_of (work_in (given_up s).tail) content) xs bytes

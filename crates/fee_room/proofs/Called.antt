@@ -25,9 +25,9 @@ use Rattle.bank_start.specs.declared.active.ActiveBank.{ActiveBank}
 use Rattle.fee_switch.specs.Banks.{BanksState, FindsActive, LoadsActive, append_begun, begun_again}
 use Rattle.switch_course.specs.declared.course.Course.TheVariants as course
 use Rattle.switch_room.specs.Space.{free_pages, has_room}
-use Rattle.device_bridge.specs.Bridge.{Making}
+use Rattle.device_bridge.specs.Making.{Making}
 use Rattle.fee_state.specs.declared.job.FeeJob.{FeeJob}
-use Rattle.fee_state.specs.Inside.{Parts, body_of, IsActiveOf}
+use Rattle.fee_state.specs.Inside.{Parts, body_of}
 use Rattle.fee_state.specs.Record.{IsJobOf, IsLengthOf, IsInWork, head_of}
 use Rattle.fee_state.specs.Work.{pages_of_op}
 use Rattle.fee_turns.specs.Turn.{IsOn}
@@ -113,21 +113,16 @@ room_by : (o : Option ActiveBank) (pages free : ℕ) → pages ≤ (if is_some o
 room_by None pages free less = tt
 room_by (Some a) pages free less = less
 
-format_by : (b : BanksState) (o : Option ActiveBank) → IsActiveOf b o → IfSome o (λ a. b.log.format ≡ 1)
-format_by b None is = tt
-format_by b (Some a) is = is.1
-
-may_begin : NumbersAreInBounds → (m : Making) (entry : Told) (s : Parts) (listed : List (DeviceNumber × ℕ)) (kept count : ℕ) (j : FeeJob) → IsOn m entry s listed kept count → MayBegin m s j → MayBeginIn s.banks (head_of j) s.content
+may_begin : NumbersAreInBounds → (m : Making) (entry : Told) (s : Parts) (listed : List (DeviceNumber × ℕ)) (kept count : ℕ) (j : FeeJob) → IsOn m entry s listed kept count → MayBegin m s j → MayBeginIn s.banks (head_of s.banks.log j) s.content
 may_begin bounds m entry s listed kept count j on may =
     let at_work = on.sound.works on.started in
     let job : IsJobOf m.numbers j = subst (λ (o : Option FeeJob). IfSome o (IsJobOf m.numbers)) may.job at_work.job in
     let p = s.banks.geometry.page in
     let pages = has_pages p j.op j.length job.length may.writes job.fits in
     let free = has_free j.urgent (pages_of_op p j.op j.length) m.reserve (free_pages s.banks) may.room in
-    let few = few_for bounds s.banks.log.numbers (head_of j) on.log.numbers may.configured in
+    let few = few_for bounds s.banks.log.numbers (head_of s.banks.log j) on.log.numbers may.configured in
     record {
       idle = may.idle;
-      format = format_by s.banks s.banks.active at_work.active;
       configured = may.configured;
       room = room_by s.banks.active (record_pages_of j.length s.banks.log.geometry.page) (free_in s.banks.log)
           (subst (λ (g : Geometry). record_pages_of j.length g.page ≤ free_pages s.banks) (sym on.banks.log.shape) (omega (arith, pages, free)));
@@ -136,8 +131,8 @@ may_begin bounds m entry s listed kept count j on may =
 
 pub begun_follows : NumbersAreInBounds → BeginsHold → BegunFollows
 begun_follows bounds begins m entry s listed kept count j on may follows = λ started power'.
-    each_now s.fls.flash.bytes (FollowsBytes (append_begun s.banks (head_of j)) s.content s.operations) (λ bytes at.
-    record_begins begins s.banks (head_of j) s.content bytes s.operations on.log (may_begin bounds m entry s listed kept count j on may) (now_at s.fls.flash.bytes (FollowsBytes s.banks s.content s.operations) bytes at (follows started power')))
+    each_now s.fls.flash.bytes (FollowsBytes (append_begun s.banks (head_of s.banks.log j)) s.content s.operations) (λ bytes at.
+    record_begins begins s.banks (head_of s.banks.log j) s.content bytes s.operations on.log (may_begin bounds m entry s listed kept count j on may) (now_at s.fls.flash.bytes (FollowsBytes s.banks s.content s.operations) bytes at (follows started power')))
 
 pub switching_follows : ActiveComputes → NoActiveComputes → SwitchingFollows
 switching_follows active none m entry s listed kept count j on may follows = λ started power'.
@@ -150,7 +145,7 @@ no_work s j None job reads work = refl
 no_work s j (Some h) job reads work = absurd (work.writes (let same : work.of ≡ j = (let a = work.is_open in cc (a, job)) in ap (λ (x : FeeJob). x.op) same ∙ reads))
 
 pub reads_follow : ReadsFollow
-reads_follow m entry s listed kept count j at content answer f reading asked follows =
+reads_follow m entry s listed kept count j at writes content answer f reading asked follows =
     let on = reading.on in
     let idle = no_work s j (work_in s.banks.log.tail) reading.job reading.op (on.sound.works on.started).work in
     let address = address_of_page s.banks.log.geometry s.banks.log.banks s.banks.log.bank (at + 2) in

@@ -37,7 +37,7 @@ module _ (laws : Laws) (begins : BeginsHold) (s : BanksState) (is : IsBanksState
 
   pub content_copied : (answer : FlashAnswer) → (answer ≡ Off → ⊥) → (answer ≡ Done → length (body_of (Some head) buffer) ≡ head.length) → FollowsBytes (after_answer (record s { copies = begun_where answer s.copies head; buffer = buffer }) c answer) content xs bytes
   content_copied Done on fits =
-      let both : FollowsTarget (record s { copies = begun s.copies head; buffer = buffer }) c bytes = (target.0, begun_holds begins s.copies copies may.tail may.format head may.configured may.room before buffer bytes (fits refl) target.1) in
+      let both : FollowsTarget (record s { copies = begun s.copies head; buffer = buffer }) c bytes = (target.0, begun_holds begins s.copies copies may.tail head may.configured may.room before buffer bytes (fits refl) target.1) in
       let goes = λ (next : Course) (holds : FollowsTarget (record s { course = Some next; copies = begun s.copies head; buffer = buffer }) next bytes).
       builds laws s is content bytes bytes xs [] c course refl same follows s.log.flags next (begun s.copies head) buffer holds in
       let t = λ (next : Course). record s { course = Some next; copies = begun s.copies head; buffer = buffer } in

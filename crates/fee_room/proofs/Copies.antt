@@ -20,7 +20,7 @@ use Rattle.fee_log.specs.declared.tail.Tail.{Tail}
 use Rattle.fee_log.specs.declared.tail.Tail.TheVariants.{Open, Writes}
 use Rattle.fee_log.specs.Index.{with_flag}
 use Rattle.fee_log.specs.Laws.{HoldsState, BeginsHold}
-use Rattle.fee_log.specs.Log.{LogState, IsLogState, IsTail, IsFor, bank_of, pages_in, free_in, tail_with, work_in, begun, tail_begun}
+use Rattle.fee_log.specs.Log.{LogState, HasFormat, IsLogState, IsTail, IsFor, bank_of, pages_in, free_in, tail_with, work_in, begun, tail_begun}
 use Rattle.fee_log.specs.Step.{IsPageOf, due_bytes, op_of, after_step}
 use Rattle.switch_course.specs.declared.copies.Source.{Source}
 use Rattle.switch_course.specs.declared.course.Copying.{Copying}
@@ -94,12 +94,12 @@ many_flags [] flags n on = refl
 many_flags (x ∷ xs) [] n on = refl
 many_flags (x ∷ xs) (c ∷ cs) n on = ap suc (many_flags xs cs n on)
 
-module _ (begins : BeginsHold) (k : LogState) (state : IsLogState k) (tail : k.tail ≡ Open) (format : k.format ≡ 1) (head : RecHead) (configured : IsFor k.numbers head) (room : record_pages_of head.length k.geometry.page ≤ free_in k) (before buffer bytes : List ℕ) (size : length (body_of (Some head) buffer) ≡ head.length) (holds : HoldsState k before bytes anything) where
+module _ (begins : BeginsHold) (k : LogState) (state : IsLogState k) (tail : k.tail ≡ Open) (head : RecHead) (configured : IsFor k.numbers head) (room : record_pages_of head.length k.geometry.page ≤ free_in k) (before buffer bytes : List ℕ) (size : length (body_of (Some head) buffer) ≡ head.length) (holds : HoldsState k before bytes anything) where
   pub begun_tail : (begun k head).tail ≡ Writes head 0
   begun_tail = ap (λ (t : Tail). tail_begun t head) tail
 
   whole : HoldsState (begun k head) (body_of (Some head) buffer) bytes anything
-  whole = begins k head before (body_of (Some head) buffer) bytes anything state holds (ap work_in tail) format configured room size (λ number length fit. tt)
+  whole = begins k head before (body_of (Some head) buffer) bytes anything state holds (ap work_in tail) configured room size (λ number length fit. tt)
 
   pub begun_holds : HoldsState (begun k head) (body_of (work_in (begun k head).tail) buffer) bytes anything
   begun_holds = subst (λ (o : Option RecHead). HoldsState (begun k head) (body_of o buffer) bytes anything) (sym (begun_work k.tail head)) whole
@@ -112,8 +112,10 @@ module _ (begins : BeginsHold) (k : LogState) (state : IsLogState k) (tail : k.t
     geometry = state.geometry;
     shared = state.shared;
     bank = state.bank;
+    format = subst (HasFormat k.format) (sym begun_tail) (subst (HasFormat k.format) tail state.format);
     numbers = state.numbers;
     places = state.places;
+    counts = state.counts;
     flags = many_flags k.numbers k.flags head.number false ∙ state.flags;
     end_low = state.end_low;
     end_high = state.end_high;

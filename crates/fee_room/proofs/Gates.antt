@@ -7,6 +7,7 @@ use Rattle.std.proofs.lemmas.List.{length-replicate}
 use Rattle.fls_model.specs.Op.{MayLeave, after_op}
 use Rattle.fls_model.specs.Told.{Change}
 use Rattle.fee_format.specs.declared.bank_head.BankHead.{BankHead}
+use Rattle.fee_format.specs.Formats.{new_format}
 use Rattle.fee_format.specs.BankHead.{bank_head_page}
 use Rattle.fee_format.specs.Pages.{gate_page}
 use Rattle.fee_image.specs.Image.{Layout, bank_in, image_page, BankStands, ComesFirst, IsActive}
@@ -81,14 +82,14 @@ module _ (laws : Laws) (stand : GatesStand) (heads : HeadsCompute) (active : Act
   module _ (wide : l.pages * l.page * s.banks ≤ length old) (worn : is_worn_out s.active ≡ false) (tail : s.copies.tail ≡ Open) (done : new ≡ after_op (op_at (target_at s stage.Gate) stage.Gate) old) where
     gate_on : image_page l new s.target 1 ≡ page
     gate_on =
-        let stood = stand (bank_in l 1 s.target) old 1 (page_inside l old s.target 1 wide is.target (omega (arith, two))) in
+        let stood = stand (bank_in l new_format s.target) old 1 (page_inside l old s.target 1 wide is.target (omega (arith, two))) in
         subst (λ (bytes : List ℕ). image_page l bytes s.target 1 ≡ page) (sym done) stood.0
 
     first_on : StandsFirst s new
     first_on = first laws s is content old new xs (x ∷ []) (Gate failed) course leaves.0.size apart follows
 
     stands : BankStands l new s.target (target_head s)
-    stands = record { head = record { legal = record { format = refl; generation = next_fits s.active l new first_on.stands worn }; page_is = head_on }; gate = gate_on }
+    stands = record { head = record { legal = record { format = inr refl; generation = next_fits s.active l new first_on.stands worn }; page_is = head_on }; gate = gate_on }
 
     is_active : IsActive l new s.target (target_head s)
     is_active = record {

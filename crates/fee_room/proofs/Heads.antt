@@ -2,6 +2,7 @@
 use Rattle.std.proofs.Common.{◌≡◌, ◌≤◌, ◌*◌, ◌++◌, ◌∷◌, ℕ, false, List, [], length, Some, sym, subst, arith}
 use Rattle.fls_model.specs.Op.{MayLeave, after_op}
 use Rattle.fls_model.specs.Told.{Change}
+use Rattle.fee_format.specs.Formats.{new_format}
 use Rattle.fee_format.specs.BankHead.{bank_head_page}
 use Rattle.fee_image.specs.Image.{Layout, bank_in, image_page}
 use Rattle.fee_image.specs.Laws.{ProgramsStand}
@@ -42,7 +43,7 @@ module _ (laws : Laws) (stand : ProgramsStand) (s : BanksState) (is : IsBanksSta
   pub head_stands : l.pages * l.page * s.banks ≤ length old → new ≡ after_op (op_at (target_at s stage.Head) stage.Head) old → FollowsBytes (advanced s Head) content (xs ++ x ∷ []) new
   head_stands wide done =
       let page_of = bank_head_is s.geometry.page (next_generation s.active) is.legal.page_low in
-      let stood = stand (bank_in l 1 s.target) old page 0 page_of.size page_of.bytes (page_inside l old s.target 0 wide is.target (omega (arith, two))) (was'.0 0 (omega arith) (omega (arith, two))) in
+      let stood = stand (bank_in l new_format s.target) old page 0 page_of.size page_of.bytes (page_inside l old s.target 0 wide is.target (omega (arith, two))) (was'.0 0 (omega arith) (omega (arith, two))) in
       let here : image_page l new s.target 0 ≡ page = subst (λ (bytes : List ℕ). image_page l bytes s.target 0 ≡ page) (sym done) stood.0 in
       let same = page_stays laws.touch l old new page s.target 0 size (omega (arith, two)) leaves in
       builds laws s is content old new xs (x ∷ []) Head course leaves.0.size apart follows s.log.flags (Gate false) s.copies s.buffer

@@ -20,8 +20,9 @@ use Rattle.bank_start.specs.Active.{active_shown}
 use Rattle.switch_course.specs.declared.course.Course.{Course}
 use Rattle.switch_promise.specs.Shown.{layout_in}
 use Rattle.switch_room.specs.Space.{free_pages}
-use Rattle.device_bridge.specs.Bridge.{Making, has_failed}
-use Rattle.device_bridge.specs.Image.{two_banks, HasNoRoomFor}
+use Rattle.device_bridge.specs.Making.{Making, banks_of}
+use Rattle.device_bridge.specs.Bridge.{has_failed}
+use Rattle.device_bridge.specs.Image.{HasNoRoomFor}
 use Rattle.fee_state.specs.Inside.{Parts, body_of, IsActiveOf}
 use Rattle.fee_turns.specs.Turn.{IsOn}
 use Rattle.fee_turns.specs.Worn.{KnowsRoom}
@@ -46,13 +47,13 @@ module _ (logs : LogsCompute) (one_more : AppendsLeaveOneMore) (b : Bank) (bytes
   no_more (tail.Writes h done) at high idle wide = cc idle
   no_more (tail.Owes h next) owes high idle wide =
       elim (one_more b bytes bytes owes.records end h owes.body 1 big owes.staged (omega arith) (λ q inside other. refl)) [
-        | inl none ↦ inl (λ blank.
+        | inl none ↦ inl (inr (λ blank.
             (let is_end = ((logs b bytes owes.records end).0 none.1).1 in
             let start : end + 0 ≡ end = omega arith in
             let room = owes.staged.room in
             let written = owes.staged.written 0 (omega arith) in
             let page = sym written ∙ ap (page_of b bytes) start ∙ blank end (omega (arith, is_end)) (omega (arith, room)) in
-            no_header b.page _ (omega (arith, big)) page))
+            no_header b.page _ (omega (arith, big)) page)))
         | inr more ↦ (
             let is_end = ((logs b bytes (owes.records ++ more.last ∷ []) (end + pages_of_head b.page h)).0 more.log).1 in
             let room = owes.staged.room in
@@ -70,41 +71,41 @@ module _ (logs : LogsCompute) (one_more : AppendsLeaveOneMore) (m : Making) (ent
   abbrev body' : List ℕ
   body' = body_of (work_in s.banks.log.tail) s.content
 
-  layout_is : layout_in s.banks ≡ two_banks m.geometry
-  layout_is = λ i. layout_of (on.sound.made_for.banks_geometry i) (on.sound.made_for.two i)
+  layout_is : layout_in s.banks ≡ banks_of m
+  layout_is = λ i. layout_of (on.sound.made_for.banks_geometry i) (on.sound.made_for.shared i)
 
   module _ (a : ActiveBank) (active : s.banks.active ≡ Some a) where
     log : FollowsLog s.banks.log body' s.operations bytes
     log = subst (λ (o : Option ActiveBank). IfSome o (λ y. FollowsLog s.banks.log body' s.operations bytes)) active follows.log
 
-    formats : (a.head.format ≡ 1) × (s.banks.log.format ≡ 1)
+    formats : s.banks.log.format ≡ a.head.format
     formats = subst (IsActiveOf s.banks) active (on.sound.works on.started).active
 
     bank : s.banks.log.bank ≡ a.bank
     bank = (subst (λ (o : Option ActiveBank). IfSome o (λ y. (y.bank ≡ s.banks.target → ⊥) × (s.banks.log.bank ≡ y.bank))) active on.banks.active).1
 
-    bank_is : bank_of s.banks.log ≡ bank_in (two_banks m.geometry) a.head.format a.bank
-    bank_is = λ i. bank_in (layout_of ((on.banks.log.shape ∙ on.sound.made_for.banks_geometry) i) ((on.banks.log.shared ∙ on.sound.made_for.two) i)) ((formats.1 ∙ sym formats.0) i) (bank i)
+    bank_is : bank_of s.banks.log ≡ bank_in (banks_of m) a.head.format a.bank
+    bank_is = λ i. bank_in (layout_of ((on.banks.log.shape ∙ on.sound.made_for.banks_geometry) i) ((on.banks.log.shared ∙ on.sound.made_for.shared) i)) (formats i) (bank i)
 
-    closed_at : is_closed s.banks.log.tail ≡ true → (let b = bank_in (two_banks m.geometry) a.head.format a.bank in IsClosed b bytes (end_of b bytes)) ⊎ IsTrue (has_failed s.operations)
+    closed_at : is_closed s.banks.log.tail ≡ true → (let b = bank_in (banks_of m) a.head.format a.bank in IsClosed b bytes (end_of b bytes)) ⊎ IsTrue (has_failed s.operations)
     closed_at shut = elim (log.closed shut) [ inl is ↦ inl (subst (λ (b : Bank). IsClosed b bytes (end_of b bytes)) bank_is is) | inr failed ↦ inr failed ]
 
     free_is : free_pages s.banks ≡ free_in s.banks.log
     free_is = ap (λ (o : Option ActiveBank). if is_some o then free_in s.banks.log else 0) active
 
-    room_at : work_in s.banks.log.tail ≡ None → (let b = bank_in (two_banks m.geometry) a.head.format a.bank in HasNoMore b bytes (free_pages s.banks)) ⊎ IsTrue (has_failed s.operations)
+    room_at : work_in s.banks.log.tail ≡ None → (let b = bank_in (banks_of m) a.head.format a.bank in HasNoMore b bytes (free_pages s.banks)) ⊎ IsTrue (has_failed s.operations)
     room_at idle = elim (test (is_closed s.banks.log.tail)) [
       | inl shut ↦ (elim (closed_at shut) [ inl is ↦ inl (inl is) | inr failed ↦ inr failed ])
       | inr wide ↦ inl (
           let held = log.holds.holds in
           let none = no_more logs one_more (bank_of s.banks.log) bytes anything (subst (λ (g : Geometry). 16 ≤ g.page) (sym on.banks.log.shape) on.banks.legal.page_low) s.banks.log.end body' s.banks.log.tail held.tail held.high idle wide in
-          subst (λ (n : ℕ). HasNoMore (bank_in (two_banks m.geometry) a.head.format a.bank) bytes n) (sym free_is) (subst (λ (b : Bank). HasNoMore b bytes (free_in s.banks.log)) bank_is none))
+          subst (λ (n : ℕ). HasNoMore (bank_in (banks_of m) a.head.format a.bank) bytes n) (sym free_is) (subst (λ (b : Bank). HasNoMore b bytes (free_in s.banks.log)) bank_is none))
     ]
 
-  shows_active : s.banks.course ≡ None → active_shown s.banks.active ≡ active_of (two_banks m.geometry) bytes
+  shows_active : s.banks.course ≡ None → active_shown s.banks.active ≡ active_of (banks_of m) bytes
   shows_active shut = subst (λ (l : Layout). active_shown s.banks.active ≡ active_of l bytes) layout_is (subst (λ (c : Option Course). FollowsBanks s.banks c bytes) shut follows.banks)
 
-  room_by : (o : Option ActiveBank) → s.banks.active ≡ o → active_shown o ≡ active_of (two_banks m.geometry) bytes → work_in s.banks.log.tail ≡ None → IsSome o → HasNoRoomFor (free_pages s.banks + 1) m.geometry bytes ⊎ IsTrue (has_failed s.operations)
+  room_by : (o : Option ActiveBank) → s.banks.active ≡ o → active_shown o ≡ active_of (banks_of m) bytes → work_in s.banks.log.tail ≡ None → IsSome o → HasNoRoomFor (free_pages s.banks + 1) m bytes ⊎ IsTrue (has_failed s.operations)
   room_by None active shown idle some = cc some
   room_by (Some a) active shown idle some = elim (room_at a active idle) [ inl none ↦ inl (a.bank, a.head, sym shown, none) | inr failed ↦ inr failed ]
 

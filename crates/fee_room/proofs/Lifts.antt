@@ -14,7 +14,7 @@ use Rattle.fls_model.specs.Told.{Told, ToldBytes, IfBothTold}
 use Rattle.fls_jobs.specs.State.{FlsState}
 use Rattle.fee_switch.specs.Banks.{BanksState}
 use Rattle.switch_promise.specs.Shown.{layout_in}
-use Rattle.device_bridge.specs.Bridge.{Making}
+use Rattle.device_bridge.specs.Making.{Making}
 use Rattle.device_clock.specs.Clock.{change_of}
 use Rattle.fee_state.specs.Inside.{Parts}
 use Rattle.fee_turns.specs.Turn.{IsOn, operated}

@@ -29,7 +29,6 @@ use Rattle.fee_room.proofs.Copies.{page_small, apart, page_goes_on, begun_course
 -- the target's log may take this record
 pub record MayCopy (s : BanksState) (head : RecHead) : Type 0 where
   pub tail : s.copies.tail ≡ Open
-  pub format : s.copies.format ≡ 1
   pub configured : IsFor s.copies.numbers head
   pub room : record_pages_of head.length s.copies.geometry.page ≤ free_in s.copies
 
@@ -65,10 +64,10 @@ module _ (laws : Laws) (begins : BeginsHold) (s : BanksState) (is : IsBanksState
   target = (subst (λ (o : Option Course). FollowsBanks s o old) course follows.banks).1
 
   tail : k.tail ≡ Writes head 0
-  tail = begun_tail begins s.copies copies may.tail may.format head may.configured may.room before s.buffer old fits target.1
+  tail = begun_tail begins s.copies copies may.tail head may.configured may.room before s.buffer old fits target.1
 
   state : IsLogState k
-  state = begun_state begins s.copies copies may.tail may.format head may.configured may.room before s.buffer old fits target.1
+  state = begun_state begins s.copies copies may.tail head may.configured may.room before s.buffer old fits target.1
 
   of : IsLogOf s.geometry s.banks k
   of = record { shape = is.copies.shape; shared = is.copies.shared }
@@ -89,7 +88,7 @@ module _ (laws : Laws) (begins : BeginsHold) (s : BanksState) (is : IsBanksState
   mark_copied Done on left =
       let done = subst (λ (b : List ℕ). Leaves (op_of k b) Done old new) (sym body_none) left in
       let both = page_goes_on laws s is content old new xs x c course k of is.target_log state some page programs follows target.0
-      (begun_holds begins s.copies copies may.tail may.format head may.configured may.room before s.buffer old fits target.1) done in
+      (begun_holds begins s.copies copies may.tail head may.configured may.room before s.buffer old fits target.1) done in
       let goes = λ (next : Course) (holds : FollowsTarget (record s { course = Some next; copies = after_step k Done }) next new).
       builds laws s is content old new xs (x ∷ []) c course size other follows s.log.flags next (after_step k Done) s.buffer holds in
       begun_course s.geometry.page (next_copy s.log.numbers s.log.places s.log.flags) (λ (next : Course). record s { course = Some next; copies = after_step k Done }) (λ (t : BanksState). FollowsBytes t content (xs ++ x ∷ []) new)

@@ -1,5 +1,5 @@
 -- Logs whose banks' pages stay, and logs of which nothing but the content of a record in work changes.
-use Rattle.std.proofs.Common.{◌≡◌, ◌<◌, ◌≤◌, ℕ, ◌+◌, ◌*◌, Bool, List, [], ◌∷◌, length, Some, None, refl, sym, ap, ◌∙◌, subst, arith}
+use Rattle.std.proofs.Common.{◌≡◌, inl, inr, ◌<◌, ◌≤◌, ℕ, ◌+◌, ◌*◌, Bool, List, [], ◌∷◌, length, Some, None, refl, sym, ap, ◌∙◌, subst, arith}
 use Rattle.fee_image.specs.Bank.{Bank, page_of}
 use Rattle.fee_image.specs.Laws.{RecordsStay}
 use Rattle.fee_image.specs.RecordList.{Rec, IsClosed, end_after, end_of, records_of, pages_of_head}
@@ -36,10 +36,11 @@ module _ (stay : RecordsStay) (s : LogState) (old new : List ℕ) (same : SameBo
   end_same = ap (end_after b.page 2) (stay b old new (s.bank * pages_in s) same)
 
   pub closed_moves : IsClosed b old (end_of b old) → IsClosed b new (end_of b new)
-  closed_moves closed blank = closed (λ q above inside.
+  closed_moves (inl other) = inl other
+  closed_moves (inr closed) = inr (λ blank. closed (λ q above inside.
       (let low = low_end b.page 2 (records_of b old) in
       let e = end_same in
-      sym (same q (omega (arith, low, above)) inside) ∙ blank q (omega (arith, e, above)) inside))
+      sym (same q (omega (arith, low, above)) inside) ∙ blank q (omega (arith, e, above)) inside)))
 
 -- THE CONTENT
 -- with no record in work there is none

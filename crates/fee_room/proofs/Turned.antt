@@ -31,7 +31,7 @@ use Rattle.fee_switch.specs.Copy.{CanCopy, CanGoOn, BeginsAt, begun_where, head_
 use Rattle.switch_promise.specs.Shown.{layout_in}
 use Rattle.switch_room.specs.KeepsRoom.{IsRoomy, IsTargetLog, IsOpenCopy}
 use Rattle.switch_room.specs.Laws.{StepsMayBeMade}
-use Rattle.device_bridge.specs.Bridge.{Making}
+use Rattle.device_bridge.specs.Making.{Making}
 use Rattle.device_clock.specs.Clock.{change_of}
 use Rattle.fee_state.specs.Inside.{Parts, body_of}
 use Rattle.fee_state.specs.Record.{IsInWork}
@@ -98,21 +98,24 @@ module _ (laws : Laws) (own : StepLaws) (m : Making) (entry : Told) (s : Parts) 
 
 -- ITS FIRST ONE
 -- the number that is copied next, in what makes its copy, and in what was known before
-not_read : (p : Place) (n size : ℕ) → reads_place p ≡ false → head_at p n size ≡ record { number = n; kind = 2; length = 0 }
-not_read (place.Content at) n size reads = cc reads
-not_read place.Invalid n size reads = refl
-not_read place.Erased n size reads = refl
+mark_length : (p : Place) (n size : ℕ) → reads_place p ≡ false → (head_at p n size).length ≡ 0
+mark_length (place.Content at count) n size reads = cc reads
+mark_length (place.Invalid count) n size reads = refl
+mark_length (place.Erased count) n size reads = refl
+mark_length place.Unwritten n size reads = refl
 
 mark_begins : (p : Place) (s : BanksState) (n size : ℕ) (told told' : Told) (answer : FlashAnswer) (made : BanksState) → reads_place p ≡ false → BeginsAt p s n size told answer made told'
-    → let k = begun s.copies (record { number = n; kind = 2; length = 0 }) in IsStep (op_of k []) told answer told' × (made ≡ record s { copies = after_step k answer })
-mark_begins (place.Content at) s n size told told' answer made reads begins = cc reads
-mark_begins place.Invalid s n size told told' answer made reads begins = begins
-mark_begins place.Erased s n size told told' answer made reads begins = begins
+    → let k = begun s.copies (head_at p n size) in IsStep (op_of k []) told answer told' × (made ≡ record s { copies = after_step k answer })
+mark_begins (place.Content at count) s n size told told' answer made reads begins = cc reads
+mark_begins (place.Invalid count) s n size told told' answer made reads begins = begins
+mark_begins (place.Erased count) s n size told told' answer made reads begins = begins
+mark_begins place.Unwritten s n size told told' answer made reads begins = begins
 
-is_content : (p : Place) → reads_place p ≡ true → (at : ℕ) × (p ≡ place.Content at)
-is_content (place.Content at) reads = (at, refl)
-is_content place.Invalid reads = cc reads
-is_content place.Erased reads = cc reads
+is_content : (p : Place) → reads_place p ≡ true → (at : ℕ) × (count : ℕ) × (p ≡ place.Content at count)
+is_content (place.Content at count) reads = (at, count, refl)
+is_content (place.Invalid count) reads = cc reads
+is_content (place.Erased count) reads = cc reads
+is_content place.Unwritten reads = cc reads
 
 module _ (own : StepLaws) (m : Making) (entry : Told) (s : Parts) (listed : List (DeviceNumber × ℕ)) (kept count : ℕ) (made : BanksState) (answer : FlashAnswer) (f : FlsState) (is : IsStepping m entry s listed kept count (Copy None) made answer f) where
   can : CanCopy s.banks
@@ -145,7 +148,6 @@ module _ (own : StepLaws) (m : Making) (entry : Told) (s : Parts) (listed : List
   may_copy : MayCopy s.banks (head_at src.place num.0 src.length)
   may_copy = record {
     tail = target.work;
-    format = target.format;
     configured = can.can.configured;
     room = subst (λ (g : Geometry). record_pages_of (head_at src.place num.0 src.length).length g.page ≤ free_in s.banks.copies) (sym is.on.banks.copies.shape) can.can.room;
   }
@@ -156,28 +158,28 @@ module _ (own : StepLaws) (m : Making) (entry : Told) (s : Parts) (listed : List
     unread = sym (ap reads_source can.next.first) ∙ changes
 
     abbrev mark : RecHead
-    mark = record { number = num.0; kind = 2; length = 0 }
+    mark = head_at src.place num.0 src.length
 
-    may_mark : MayCopy s.banks mark
-    may_mark = subst (MayCopy s.banks) (not_read src.place num.0 src.length unread) may_copy
+    none : mark.length ≡ 0
+    none = mark_length src.place num.0 src.length unread
 
     begins_mark : IsStep (op_of (begun s.banks.copies mark) []) s.fls.flash answer f.flash × (made ≡ record s.banks { copies = after_step (begun s.banks.copies mark) answer })
     begins_mark = mark_begins src.place s.banks num.0 src.length s.fls.flash f.flash answer made unread begins_at
 
   -- a content
   module _ (reads : reads_next s.banks.log (Some (Copy None)) ≡ true) where
-    content_at : (at : ℕ) × (src.place ≡ place.Content at)
+    content_at : (at : ℕ) × (count : ℕ) × (src.place ≡ place.Content at count)
     content_at = is_content src.place (sym (ap reads_source can.next.first) ∙ reads)
 
     abbrev copy : RecHead
-    copy = record { number = num.0; kind = 1; length = src.length }
+    copy = record { number = num.0; kind = 1; length = src.length; count = content_at.1 }
 
     may_content : MayCopy s.banks copy
-    may_content = subst (MayCopy s.banks) (ap (λ (p : Place). head_at p num.0 src.length) content_at.1) may_copy
+    may_content = subst (MayCopy s.banks) (ap (λ (p : Place). head_at p num.0 src.length) content_at.2) may_copy
 
     begins_content : IsRead (address_of_page s.banks.geometry s.banks.banks s.banks.log.bank (content_at.0 + 2)) s.fls.flash (take src.length s.banks.buffer) answer (take src.length made.buffer) f.flash
         × (made ≡ record s.banks { copies = begun_where answer s.banks.copies copy; buffer = made.buffer })
-    begins_content = subst (λ (p : Place). BeginsAt p s.banks num.0 src.length s.fls.flash answer made f.flash) content_at.1 begins_at
+    begins_content = subst (λ (p : Place). BeginsAt p s.banks num.0 src.length s.fls.flash answer made f.flash) content_at.2 begins_at
 
     content_fits : length made.buffer ≡ length s.banks.buffer → length (body_of (Some copy) made.buffer) ≡ copy.length
     content_fits wide = (let few = can.can.fits in length-take-le src.length made.buffer (omega (arith, few, wide)))
@@ -222,10 +224,11 @@ steps laws own m entry s listed kept count (Copy (Some w)) made answer f is chan
     (λ not_off old new wide leaves left was. page_copied laws s.banks is.on.banks s.content old new s.operations (change_of (step_op s.banks (Copy (Some w))) s.fls.flash answer) w is.course is.copies here.head here.done here.tail is.bytes leaves was answer not_off left)
 steps laws own m entry s listed kept count (Copy None) made answer f is changes =
     let begins = begins_mark own m entry s listed kept count made answer f is changes in
-    let may = may_mark own m entry s listed kept count made answer f is changes in
-    let mark : RecHead = record { number = (can own m entry s listed kept count made answer f is).number.0; kind = 2; length = 0 } in
-    lift laws own m entry s listed kept count (Copy None) made answer f is (op_of (begun s.banks.copies mark) []) (record s.banks { copies = after_step (begun s.banks.copies mark) answer }) begins.0 begins.1
-    (λ not_off old new wide leaves left was. mark_copied laws own.begins s.banks is.on.banks s.content old new s.operations (change_of (step_op s.banks (Copy None)) s.fls.flash answer) is.course is.copies mark refl may leaves was answer not_off left)
+    let may = may_copy own m entry s listed kept count made answer f is in
+    let mark' = mark own m entry s listed kept count made answer f is changes in
+    let none' = none own m entry s listed kept count made answer f is changes in
+    lift laws own m entry s listed kept count (Copy None) made answer f is (op_of (begun s.banks.copies mark') []) (record s.banks { copies = after_step (begun s.banks.copies mark') answer }) begins.0 begins.1
+    (λ not_off old new wide leaves left was. mark_copied laws own.begins s.banks is.on.banks s.content old new s.operations (change_of (step_op s.banks (Copy None)) s.fls.flash answer) is.course is.copies mark' none' may leaves was answer not_off left)
 
 pub steps_follow : Laws → StepLaws → StepsFollow
 steps_follow laws own m entry s listed kept count c made answer f is changes follows = steps laws own m entry s listed kept count c made answer f is changes follows

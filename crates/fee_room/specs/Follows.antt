@@ -2,6 +2,7 @@
 use Rattle.std.specs.Prelude.{◌≡◌, ◌⊎◌, ◌<◌, ◌*◌, ℕ, true, false, IsTrue, List, Option, Some, None, IfSome}
 use Rattle.nv_base.specs.Geometry.{pages_of_sector}
 use Rattle.fls_model.specs.Told.{Change}
+use Rattle.fee_format.specs.Formats.{new_format}
 use Rattle.fee_format.specs.declared.bank_head.BankHead.{BankHead}
 use Rattle.fee_format.specs.BankHead.{bank_head_page}
 use Rattle.fee_image.specs.Image.{image_page, BankStands, ComesFirst, active_of}
@@ -45,7 +46,7 @@ pub record StandsFirst (s : BanksState) (bytes : List ℕ) : Type 0 where
   pub behind : (j : ℕ) (other : BankHead) → j < s.banks → (j ≡ s.target → ⊥) → BankStands (layout_in s) bytes j other → ComesBehind s.active j other
 
 abbrev pub target_head : BanksState → BankHead
-target_head s = record { format = 1; generation = next_generation s.active }
+target_head s = record { format = new_format; generation = next_generation s.active }
 
 -- the target's bank holds its log
 abbrev pub FollowsCopies : BanksState → List ℕ → Type 0

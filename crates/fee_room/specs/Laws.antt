@@ -14,7 +14,7 @@ use Rattle.switch_course.specs.declared.course.Course.{Course}
 use Rattle.switch_course.specs.declared.course.Course.TheVariants.{Copy}
 use Rattle.fee_switch.specs.Banks.{BanksState, IsBanksState, FindsActive, LoadsActive, reads_next, after_answer}
 use Rattle.switch_promise.specs.Shown.{layout_in}
-use Rattle.device_bridge.specs.Bridge.{Making}
+use Rattle.device_bridge.specs.Making.{Making}
 use Rattle.fee_state.specs.declared.job.FeeJob.{FeeJob}
 use Rattle.fee_state.specs.Inside.{Parts}
 use Rattle.fee_turns.specs.Turn.{IsOn, operated}
@@ -111,5 +111,5 @@ CopiesFollow =
 -- the read of a job, whatever the answer
 abbrev pub ReadsFollow : Type 0
 ReadsFollow =
-    (m : Making) (entry : Told) (s : Parts) (listed : List (DeviceNumber × ℕ)) (kept count : ℕ) (j : FeeJob) (at : ℕ) (content : List ℕ) (answer : FlashAnswer) (f : FlsState)
-    → IsReading m entry s listed kept count j → IsAsked s j at content answer f → Follows s → Follows (record s { fls = f; content = content })
+    (m : Making) (entry : Told) (s : Parts) (listed : List (DeviceNumber × ℕ)) (kept count : ℕ) (j : FeeJob) (at writes : ℕ) (content : List ℕ) (answer : FlashAnswer) (f : FlsState)
+    → IsReading m entry s listed kept count j → IsAsked s j at writes content answer f → Follows s → Follows (record s { fls = f; content = content })

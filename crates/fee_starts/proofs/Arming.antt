@@ -5,7 +5,7 @@ use Rattle.nv_base.specs.Count.{WereCounted, last_count}
 use Rattle.nv_base.specs.Plan.{Planning, planned}
 use Rattle.memif.specs.Calls.{ClockStays}
 use Rattle.fls_model.specs.Told.{Told, armed}
-use Rattle.device_bridge.specs.Bridge.{Making}
+use Rattle.device_bridge.specs.Making.{Making}
 use Rattle.device_clock.specs.Device.{Device, told_of}
 use Rattle.device_clock.specs.Clock.{ClocksStay, MakesNone, clock_of}
 use Rattle.device_clock.specs.Runs.{RunsStay, CountsCuts}
@@ -39,7 +39,7 @@ module _ (stay : ClocksStay) (runs : RunsStay) (m : Making) (entry : Told) (s : 
   arm_keeps is = record {
     run = runs d t is.run (record { none = none; bytes = refl; counts = (refl, refl); flash_faults = omega arith; faults = is.run.faults; cuts = counted is.run.cuts; worn = λ since e. inl e });
     held = λ started. (let h = is.held started in record { behind = h.behind; copied = h.copied; banks = record { started = h.banks.started; alike = h.banks.alike; legal = h.banks.legal; some = h.banks.some; held = h.banks.held }; places = h.places; stand = h.stand; on = h.on; idle = h.idle });
-    order = record { bounded = is.order.bounded; fits = is.order.fits; ready = is.order.ready; wait = is.order.wait; second = is.order.second; now = finds_on (told_of d) (told_of t) (clock_of d).first (clock_of t).first (stay d t none refl).first refl refl refl is.order.now };
+    order = record { bounded = is.order.bounded; fits = is.order.fits; ready = is.order.ready; wait = is.order.wait; second = is.order.second; now = finds_on (told_of d) (told_of t) (clock_of d) (clock_of t) (stay d t none refl) refl refl refl is.order.now };
     faults = is.faults;
   }
 
@@ -58,7 +58,7 @@ module _ (stay : ClocksStay) (runs : RunsStay) (m : Making) (entry : Told) (s : 
           geometry = was.geometry;
           idle = record { job = was.idle.job; attached = was.idle.attached };
           banks_geometry = was.banks_geometry;
-          two = was.two;
+          shared = was.shared;
           numbers = was.numbers;
           space = was.space;
           bytes = was.bytes;

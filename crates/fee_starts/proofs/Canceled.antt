@@ -10,7 +10,7 @@ use Rattle.fee_format.specs.declared.rec_head.RecHead.{RecHead}
 use Rattle.fee_log.specs.Log.{work_in}
 use Rattle.fee_log.specs.Step.{given_up}
 use Rattle.fee_switch.specs.Banks.{BanksState}
-use Rattle.device_bridge.specs.Bridge.{Making}
+use Rattle.device_bridge.specs.Making.{Making}
 use Rattle.device_clock.specs.Device.{Device, told_of}
 use Rattle.device_clock.specs.Clock.{ClocksStay, clock_of}
 use Rattle.device_image.specs.Laws.{SamePlaces}

@@ -6,6 +6,7 @@ use Rattle.memif.specs.Told.{Slot, Stand, Open, Ended, slot_at}
 use Rattle.memif.specs.Marks.{Keeps, KeepsAll}
 use Rattle.fls_model.specs.Told.{Told, bytes_now}
 use Rattle.fee_image.specs.Image.{Layout}
+use Rattle.log_image.specs.declared.place.Place.{Place}
 use Rattle.bank_image.specs.Banks.{Old, NoBank, OldBank}
 use Rattle.bank_start.specs.declared.active.ActiveBank.{ActiveBank}
 use Rattle.fee_log.specs.declared.tail.Tail.{Tail}
@@ -13,8 +14,7 @@ use Rattle.fee_log.specs.declared.tail.Tail.TheVariants as tail
 use Rattle.fee_log.specs.Log.{LogState, work_in, tail_with}
 use Rattle.fee_switch.specs.Banks.{BanksState}
 use Rattle.switch_promise.specs.Shown.{old_shown}
-use Rattle.device_bridge.specs.Bridge.{Making}
-use Rattle.device_bridge.specs.Image.{two_banks}
+use Rattle.device_bridge.specs.Making.{Making, banks_of}
 use Rattle.device_image.specs.Slots.{Memory, HasJob, IsWorkOf, slots_held, slots_found}
 use Rattle.device_image.specs.Laws.{SamePlaces, IsHeld, JobsKeep}
 use Rattle.device_clock.specs.Device.{Device, tells, told_of}
@@ -26,19 +26,19 @@ use Rattle.fee_starts.proofs.Starting.{told_bytes, each_told, same_bytes, same_p
 
 -- WITHOUT A RECORD IN WORK
 -- any job may end or open
-pub idle_tail : (stand : Stand) (t : Tail) (body : List ℕ) → work_in t ≡ None → IsWorkOf stand (tail_with t body)
-idle_tail (Open j) tail.Open body idle = tt
-idle_tail (Open j) (tail.Writes head done) body idle = cc idle
-idle_tail (Open j) (tail.Owes head next) body idle = tt
-idle_tail (Open j) tail.Closed body idle = tt
-idle_tail (Ended r g) tail.Open body idle = tt
-idle_tail (Ended r g) (tail.Writes head done) body idle = cc idle
-idle_tail (Ended r g) (tail.Owes head next) body idle = tt
-idle_tail (Ended r g) tail.Closed body idle = tt
+pub idle_tail : (ns : List (DeviceNumber × ℕ)) (ps : List Place) (stand : Stand) (t : Tail) (body : List ℕ) → work_in t ≡ None → IsWorkOf ns ps stand (tail_with t body)
+idle_tail ns ps (Open j) tail.Open body idle = tt
+idle_tail ns ps (Open j) (tail.Writes head done) body idle = cc idle
+idle_tail ns ps (Open j) (tail.Owes head next) body idle = tt
+idle_tail ns ps (Open j) tail.Closed body idle = tt
+idle_tail ns ps (Ended r g) tail.Open body idle = tt
+idle_tail ns ps (Ended r g) (tail.Writes head done) body idle = cc idle
+idle_tail ns ps (Ended r g) (tail.Owes head next) body idle = tt
+idle_tail ns ps (Ended r g) tail.Closed body idle = tt
 
-pub idle_job : (stand : Stand) (active : Option ActiveBank) (log : LogState) (body : List ℕ) → work_in log.tail ≡ None → HasJob stand (old_shown active log body)
-idle_job stand None log body idle = tt
-idle_job stand (Some a) log body idle = idle_tail stand log.tail body idle
+pub idle_job : (ns : List (DeviceNumber × ℕ)) (stand : Stand) (active : Option ActiveBank) (log : LogState) (body : List ℕ) → work_in log.tail ≡ None → HasJob ns stand (old_shown active log body)
+idle_job ns stand None log body idle = tt
+idle_job ns stand (Some a) log body idle = idle_tail ns log.places stand log.tail body idle
 
 pub record CancelLaws : Type 0 where
   pub base : OpenLaws
@@ -67,7 +67,7 @@ module _ (laws : CancelLaws) (m : Making) (entry : Told) (s : Parts) (listed : L
   t = device_of m entry u
 
   abbrev l : Layout
-  l = two_banks m.geometry
+  l = banks_of m
 
   abbrev st : Stand
   st = (memory_of u).stand
@@ -101,7 +101,7 @@ module _ (laws : CancelLaws) (m : Making) (entry : Told) (s : Parts) (listed : L
       (slot_at m.numbers (if x then slots_held l m.numbers old (memory_of u) else slots_found l m.numbers old) n)) (sym started) (keeps_at old told.1 told.0 n)))
 
   -- the bytes hold it where any job fits what is behind
-  module _ (fits : (stand : Stand) → HasJob stand h.behind.old) (on : s.fls.flash.off ≡ false → behind ≡ memory_of u) where
+  module _ (fits : (stand : Stand) → HasJob m.numbers stand h.behind.old) (on : s.fls.flash.off ≡ false → behind ≡ memory_of u) where
     holds_at : (bytes : List ℕ) → bytes_now s.fls.flash ≡ Some bytes → IsTrue (tells d) → IsHeld l m.numbers bytes behind h.copied
     holds_at bytes at told = laws.base.job l m.numbers bytes h.behind h.copied st (record { lengths = sound.made_for.space.lengths; legal = h.banks.legal; held = held_at bytes at told }) (fits st)
 

@@ -14,8 +14,7 @@ use Rattle.switch_course.specs.Course.{most_turns}
 use Rattle.fee_switch.specs.Banks.{BanksState, IsBanksState}
 use Rattle.switch_room.specs.Space.{free_pages}
 use Rattle.switch_room.specs.KeepsRoom.{KeepsRoom}
-use Rattle.device_bridge.specs.Bridge.{Making}
-use Rattle.device_bridge.specs.Image.{two_banks}
+use Rattle.device_bridge.specs.Making.{Making, banks_of}
 use Rattle.device_image.specs.Slots.{Memory, HasJob}
 use Rattle.device_image.specs.Laws.{SamePlaces}
 use Rattle.device_clock.specs.Device.{Device, told_of}
@@ -29,7 +28,7 @@ use Rattle.fee_starts.specs.Parts.{canceled}
 use Rattle.fee_starts.proofs.Behind.{finds_now, run_stays}
 use Rattle.fee_starts.proofs.Canceling.{CancelLaws, keeps_all, behind_it, idle_job}
 use Rattle.fee_starts.proofs.Making.{shown_as}
-use Rattle.fee_starts.proofs.Opening.{own_small, half}
+use Rattle.fee_starts.proofs.Opening.{own_small, each_some}
 use Rattle.fee_starts.proofs.Order.{few_before, ready_kept}
 use Rattle.fee_starts.proofs.Raising.{adds, base_few, none_of}
 use Rattle.fee_starts.proofs.Starting.{same_places}
@@ -51,7 +50,7 @@ module _ (laws : CancelLaws) (m : Making) (entry : Told) (s : Parts) (listed : L
   t = device_of m entry u
 
   own_is : (fixed_in m).own ≤ 20000000
-  own_is = own_small m.numbers m.geometry 2 m.reserve legal sound.made_for.space
+  own_is = own_small m.numbers m.geometry m.banks m.reserve legal sound.made_for.space
 
   order : HoldsBehind t → t.left ≤ (fixed_in m).own → InOrder (told_of t) (clock_of t)
   order behind few = record {
@@ -118,9 +117,9 @@ module _ (laws : CancelLaws) (m : Making) (entry : Told) (s : Parts) (listed : L
   abbrev h : HoldsBehind g
   h = sound.device.held started
 
-  fits : (stand : Stand) → HasJob stand h.behind.old
+  fits : (stand : Stand) → HasJob m.numbers stand h.behind.old
   fits stand = elim h.idle [
-    | inl same ↦ subst (λ (x : Memory). HasJob stand x.old) (sym same) (idle_job stand s.banks.active s.banks.log _ idle)
+    | inl same ↦ subst (λ (x : Memory). HasJob m.numbers stand x.old) (sym same) (idle_job m.numbers stand s.banks.active s.banks.log _ idle)
     | inr fit ↦ fit stand
   ]
 
@@ -134,10 +133,10 @@ module _ (laws : CancelLaws) (m : Making) (entry : Told) (s : Parts) (listed : L
   of_banks = subst (λ (ns : List (DeviceNumber × ℕ)). IsJobOf ns j) (sym sound.made_for.numbers) of
 
   some : 0 < sectors_of_bank s.banks.geometry s.banks.banks
-  some = half s.banks.geometry.sectors s.banks.banks sound.made_for.two state.legal.sectors_low
+  some = each_some s.banks.geometry s.banks.banks state.legal state.shared
 
   own_same : most_turns s.banks.geometry.page (sectors_of_bank s.banks.geometry s.banks.banks) s.banks.log.numbers ≡ (fixed_in m).own
-  own_same = λ i. most_turns (sound.made_for.banks_geometry i).page (sectors_of_bank (sound.made_for.banks_geometry i) (sound.made_for.two i)) (sound.made_for.numbers i)
+  own_same = λ i. most_turns (sound.made_for.banks_geometry i).page (sectors_of_bank (sound.made_for.banks_geometry i) (sound.made_for.shared i)) (sound.made_for.numbers i)
 
   few : f.left ≤ (fixed_in m).own
   few = (let low = base_few laws.base.few m.reserve s.banks j of_banks idle works.switch some s.banks.course works.switch refl in omega (arith, low, own_same))
@@ -160,7 +159,7 @@ module _ (laws : CancelLaws) (m : Making) (entry : Told) (s : Parts) (listed : L
 
   shows : (x : ToldBytes) (c : Course) → ShowsCopies m s c x.now → ShowsCopies m v c x.now
   shows x c was = record {
-    held = laws.base.job (two_banks m.geometry) m.numbers x.now (memory_of s) (copied_of (flags_in m s x.now)) (memory_of v).stand (record { lengths = sound.made_for.space.lengths; legal = h.banks.legal; held = was.held }) (idle_job (memory_of v).stand s.banks.active s.banks.log _ idle);
+    held = laws.base.job (banks_of m) m.numbers x.now (memory_of s) (copied_of (flags_in m s x.now)) (memory_of v).stand (record { lengths = sound.made_for.space.lengths; legal = h.banks.legal; held = was.held }) (idle_job m.numbers (memory_of v).stand s.banks.active s.banks.log _ idle);
     copy = was.copy;
   }
 
@@ -169,7 +168,7 @@ module _ (laws : CancelLaws) (m : Making) (entry : Told) (s : Parts) (listed : L
       let was = sound.made_for in
       record {
         behind = behind;
-        made_for = record { geometry = was.geometry; idle = was.idle; banks_geometry = was.banks_geometry; two = was.two; numbers = was.numbers; space = was.space; bytes = was.bytes; room = was.room; given = omega arith; ended = λ e. cc e };
+        made_for = record { geometry = was.geometry; idle = was.idle; banks_geometry = was.banks_geometry; shared = was.shared; numbers = was.numbers; space = was.space; bytes = was.bytes; room = was.room; given = omega arith; ended = λ e. cc e };
         works = record { active = works.active; job = tt; work = no_record s.banks (work_in s.banks.log.tail) idle; ready = tt; switch = works.switch };
         room = λ on. sound.room started on;
         copies = λ on told. shown_as s.fls.flash.bytes s.banks.course (λ x c. ShowsCopies m s c x.now) (λ x c. ShowsCopies m v c x.now) shows (sound.copies on told);

@@ -9,7 +9,7 @@ use Rattle.memif.specs.Told.{nothing_open}
 use Rattle.fls_model.specs.Attach.{IsAttached, IsFilled, AreBytesOf}
 use Rattle.fls_model.specs.Told.{Told, ToldBytes, IfBothTold}
 use Rattle.fls_jobs.specs.Start.{IsIdle}
-use Rattle.device_bridge.specs.Bridge.{Making}
+use Rattle.device_bridge.specs.Making.{Making}
 use Rattle.device_clock.specs.Device.{Device, told_of}
 use Rattle.device_clock.specs.Runs.{CountsCuts, IsMade, RunsBegin}
 use Rattle.device_turns.specs.Whole.{UnstartedFindsNow}
@@ -62,7 +62,7 @@ shown_as None c P Q stays shows = tt
 shown_as (Some b) None P Q stays shows = tt
 shown_as (Some b) (Some k) P Q stays shows = stays b k shows
 
-module _ (find : UnstartedFindsNow) (begin : RunsBegin) (m : Making) (entry : Told) (s : Parts) (legal : IsLegal m.geometry) (at : IsAttached m.geometry entry s.fls.flash) (space : HasSpace m.numbers m.geometry 2 m.reserve) (made : AreMade s.banks m.geometry 2 m.numbers) where
+module _ (find : UnstartedFindsNow) (begin : RunsBegin) (m : Making) (entry : Told) (s : Parts) (legal : IsLegal m.geometry) (at : IsAttached m.geometry entry s.fls.flash) (space : HasSpace m.numbers m.geometry m.banks m.reserve) (made : AreMade s.banks m.geometry m.banks m.numbers) where
   abbrev d : Device
   d = device_of m entry (fresh s)
 
@@ -80,7 +80,7 @@ module _ (find : UnstartedFindsNow) (begin : RunsBegin) (m : Making) (entry : To
 
   pub made_sound : s.fls.geometry ≡ m.geometry → IsIdle s.fls → length s.content ≡ 4096 → IsSound m entry (fresh s) m.numbers m.reserve 0 false
   made_sound geometry idle room = record {
-    made_for = record { geometry = geometry; idle = idle; banks_geometry = made.shape; two = made.shared; numbers = made.configured; space = space; bytes = bytes; room = room; given = omega arith; ended = λ e. cc e };
+    made_for = record { geometry = geometry; idle = idle; banks_geometry = made.shape; shared = made.shared; numbers = made.configured; space = space; bytes = bytes; room = room; given = omega arith; ended = λ e. cc e };
     device = record {
       run = begin d is_made (cuts_counted entry s.fls.flash at.planning at.cuts counted);
       held = λ started. cc started;
@@ -103,4 +103,4 @@ module _ (find : UnstartedFindsNow) (begin : RunsBegin) (m : Making) (entry : To
   rests_made = refl
 
   pub made_of : IsMadeOf m entry d
-  made_of = record { making = refl; told_entry = refl; made = is_made; started = refl; stand = refl; part = λ i. record { ops = 0; faults = 0; flash_faults = at.faults i; off = at.off i; planning = at.planning i }; rests = rests_made }
+  made_of = record { making = refl; told_entry = refl; made = is_made; started = refl; stand = refl; ops = refl; part = λ i. record { faults = 0; flash_faults = at.faults i; off = at.off i; planning = at.planning i }; rests = rests_made }

@@ -17,8 +17,7 @@ use Rattle.switch_course.specs.declared.course.Course.{Course}
 use Rattle.switch_course.specs.declared.course.Course.TheVariants as course
 use Rattle.fee_switch.specs.Banks.{BanksState, IsBanksState}
 use Rattle.switch_room.specs.Space.{free_pages}
-use Rattle.device_bridge.specs.Bridge.{Making}
-use Rattle.device_bridge.specs.Image.{two_banks}
+use Rattle.device_bridge.specs.Making.{Making, banks_of}
 use Rattle.device_image.specs.Slots.{HasJob, slots_held, slots_found, settled_in}
 use Rattle.device_image.specs.Laws.{JobsOpen, Opened, IsHeld, SamePlaces}
 use Rattle.device_clock.specs.Device.{Device, tells, told_of}
@@ -124,18 +123,18 @@ module _ (laws : OpenLaws) (more : MoreLaws) (m : Making) (entry : Told) (s : Pa
 
     shows : (b : ToldBytes) (c : Course) → ShowsCopies m s c b.now → ShowsCopies m u c b.now
     shows b c was =
-        let job = job_in (memory_of u).stand s.last (take s.given s.content) (memory_of s).old (subst (λ (x : Stand). HasJob x (memory_of s).old) (ap (λ (o : Option FeeJob). stand_of s.content o s.last s.given) shut) was.held.job) in
-        let held = laws.job (two_banks m.geometry) m.numbers b.now (memory_of s) _ (memory_of u).stand (record { lengths = sound.made_for.space.lengths; legal = before.banks.legal; held = was.held }) job in
+        let job = job_in m.numbers (memory_of u).stand s.last (take s.given s.content) (memory_of s).old (subst (λ (x : Stand). HasJob m.numbers x (memory_of s).old) (ap (λ (o : Option FeeJob). stand_of s.content o s.last s.given) shut) was.held.job) in
+        let held = laws.job (banks_of m) m.numbers b.now (memory_of s) _ (memory_of u).stand (record { lengths = sound.made_for.space.lengths; legal = before.banks.legal; held = was.held }) job in
         record {
-          held = subst (λ (o : Old). IsHeld (two_banks m.geometry) m.numbers b.now (record (memory_of u) { old = o }) (copied_of (flags_of m.numbers s.banks.log.flags (settled_in (two_banks m.geometry) m.numbers b.now o)))) (sym same_old) held;
-          copy = subst (λ (o : Old). IsCopying c (work_in s.banks.copies.tail) s.banks.buffer (flags_of m.numbers s.banks.log.flags (settled_in (two_banks m.geometry) m.numbers b.now o))) (sym same_old) was.copy;
+          held = subst (λ (o : Old). IsHeld (banks_of m) m.numbers b.now (record (memory_of u) { old = o }) (copied_of (flags_of m.numbers s.banks.log.places s.banks.log.flags (settled_in (banks_of m) m.numbers b.now o)))) (sym same_old) held;
+          copy = subst (λ (o : Old). IsCopying c (work_in s.banks.copies.tail) s.banks.buffer (flags_of m.numbers s.banks.log.places s.banks.log.flags (settled_in (banks_of m) m.numbers b.now o))) (sym same_old) was.copy;
         }
 
     pub opened_sound : IsSound m entry u listed kept count is_off
     opened_sound =
         let was = sound.made_for in
         record {
-          made_for = record { geometry = was.geometry; idle = was.idle; banks_geometry = was.banks_geometry; two = was.two; numbers = was.numbers; space = was.space; bytes = was.bytes; room = room; given = omega arith; ended = was.ended };
+          made_for = record { geometry = was.geometry; idle = was.idle; banks_geometry = was.banks_geometry; shared = was.shared; numbers = was.numbers; space = was.space; bytes = was.bytes; room = room; given = omega arith; ended = was.ended };
           device = record {
             run = run_stays laws.runs m entry s s.banks content (Some j) s.last 0 sound.device.run;
             held = λ e. behind_it laws m entry s listed kept count is_off sound state started shut j content room of size;
@@ -159,21 +158,21 @@ module _ (laws : OpenLaws) (more : MoreLaws) (m : Making) (entry : Told) (s : Pa
   jb = record { number = j.number.0; mark = mark_of j.op (take j.length content); urgent = j.urgent }
 
   opened_at : (bytes : List ℕ) → bytes_now s.fls.flash ≡ Some bytes → IsTrue (tells d) → (n : ℕ)
-      → Opened jb n (slot_at m.numbers (slots_held (two_banks m.geometry) m.numbers bytes (memory_of s)) n) (slot_at m.numbers (slots_held (two_banks m.geometry) m.numbers bytes (memory_of u)) n) jb.mark
+      → Opened jb n (slot_at m.numbers (slots_held (banks_of m) m.numbers bytes (memory_of s)) n) (slot_at m.numbers (slots_held (banks_of m) m.numbers bytes (memory_of u)) n) jb.mark
   opened_at bytes at told n =
-      let held : IsHeld (two_banks m.geometry) m.numbers bytes before.behind before.copied = told_bytes s.fls.flash.bytes (λ (x : List ℕ). IsHeld (two_banks m.geometry) m.numbers x before.behind before.copied) bytes at (before.banks.held told) in
+      let held : IsHeld (banks_of m) m.numbers bytes before.behind before.copied = told_bytes s.fls.flash.bytes (λ (x : List ℕ). IsHeld (banks_of m) m.numbers x before.behind before.copied) bytes at (before.banks.held told) in
       let places = subst (SamePlaces before.behind.old) (sym same_old) before.places in
       let closed : is_open before.behind.stand ≡ false = ap (λ (x : Stand). is_open x) (before.stand ∙ ap (λ (o : Option FeeJob). stand_of s.content o s.last s.given) shut) in
-      let o = more.opens (two_banks m.geometry) m.numbers bytes before.behind (memory_of u) before.copied jb of.length held places closed refl of.configured n in
-      subst (λ (slots : List Slot). Opened jb n (slot_at m.numbers slots n) (slot_at m.numbers (slots_held (two_banks m.geometry) m.numbers bytes (memory_of u)) n) jb.mark)
-      (sym (laws.same (two_banks m.geometry) m.numbers bytes before.behind (memory_of s) before.places (sym before.stand))) o
+      let o = more.opens (banks_of m) m.numbers bytes before.behind (memory_of u) before.copied jb of.length held places closed refl of.configured n in
+      subst (λ (slots : List Slot). Opened jb n (slot_at m.numbers slots n) (slot_at m.numbers (slots_held (banks_of m) m.numbers bytes (memory_of u)) n) jb.mark)
+      (sym (laws.same (banks_of m) m.numbers bytes before.behind (memory_of s) before.places (sym before.stand))) o
 
   marks : DoubtsAt jb.number jb.mark (told_of d) (told_of t)
   marks = more.tell d t jb (record { same = record { making = refl; entry = refl; old = sound.device.run.alike; new = sound.device.run.alike }; old = started; new = started }) (λ old new told n.
       subst (λ (x : List ℕ). Opened jb n (was d old n) (was t x n) jb.mark) (same_bytes (bytes_now s.fls.flash) old new told.1 told.2)
       (subst (λ (x : Bool). Opened jb n
-      (slot_at m.numbers (if x then slots_held (two_banks m.geometry) m.numbers old (memory_of s) else slots_found (two_banks m.geometry) m.numbers old) n)
-      (slot_at m.numbers (if x then slots_held (two_banks m.geometry) m.numbers old (memory_of u) else slots_found (two_banks m.geometry) m.numbers old) n) jb.mark) (sym started) (opened_at old told.1 told.0 n)))
+      (slot_at m.numbers (if x then slots_held (banks_of m) m.numbers old (memory_of s) else slots_found (banks_of m) m.numbers old) n)
+      (slot_at m.numbers (if x then slots_held (banks_of m) m.numbers old (memory_of u) else slots_found (banks_of m) m.numbers old) n) jb.mark) (sym started) (opened_at old told.1 told.0 n)))
 
   -- URGENT WRITES
   abbrev part : Part

@@ -1,8 +1,9 @@
 -- A job opens.
 use Rattle.std.specs.Prelude.{IsTrue, nat_le, take}
-use Rattle.std.proofs.Common.{◌≡◌, inl, inr, ◌≤◌, ◌<◌, ◌+◌, ◌-◌, ◌*◌, ◌/◌, ◌^◌, ℕ, Bool, true, false, List, length, Option, Some, None, refl, sym, ap, ◌∙◌, subst, arith}
-use Rattle.std.proofs.Math.Nat.{div-le_self}
-use Rattle.nv_base.specs.Geometry.{IsLegal, sectors_of_bank}
+use Rattle.std.proofs.Common.{◌≡◌, inl, inr, ◌≤◌, ◌<◌, ◌+◌, ◌-◌, ◌*◌, ◌/◌, ◌%◌, ◌^◌, ℕ, Bool, true, false, List, length, Option, Some, None, refl, sym, ap, ◌∙◌, subst, arith}
+use Rattle.std.proofs.Math.Nat.{div-le_self, div-add-mod}
+use Rattle.std.proofs.lemmas.Bool.{cases_lt}
+use Rattle.nv_base.specs.Geometry.{IsLegal, HasBanks, sectors_of_bank}
 use Rattle.nv_base.specs.declared.geometry.Geometry.{Geometry}
 use Rattle.nv_base.specs.declared.instance.DeviceNumber.{DeviceNumber}
 use Rattle.nv_base.specs.declared.job.DeviceOp.{DeviceOp}
@@ -19,8 +20,7 @@ use Rattle.switch_course.specs.Laws.{TurnsAreFew}
 use Rattle.fee_switch.specs.Banks.{IsBanksState}
 use Rattle.switch_promise.specs.Shown.{old_shown}
 use Rattle.switch_room.specs.Space.{HasSpace}
-use Rattle.device_bridge.specs.Bridge.{Making}
-use Rattle.device_bridge.specs.Image.{two_banks}
+use Rattle.device_bridge.specs.Making.{Making, banks_of}
 use Rattle.device_image.specs.Slots.{Memory, HasJob}
 use Rattle.device_image.specs.Laws.{PlacesTell, SamePlaces, IsHeld}
 use Rattle.device_clock.specs.Device.{Device, tells, told_of}
@@ -51,8 +51,15 @@ pub record OpenLaws : Type 0 where
   pub start : StartsRaise
 
 -- SIZES
-pub half : (x n : ℕ) → n ≡ 2 → 2 ≤ x → 0 < x / n
-half x n two low = subst (λ (k : ℕ). 0 < x / k) (sym two) (omega arith)
+-- each bank has a sector
+pub each_some : (g : Geometry) (banks : ℕ) → IsLegal g → HasBanks g banks → 0 < sectors_of_bank g banks
+each_some g banks legal shared = elim (cases_lt 0 (g.sectors / banks)) [
+  | inl some ↦ some
+  | inr none ↦
+      let is : g.sectors / banks ≡ 0 = omega arith in
+      let all : banks * 0 + g.sectors % banks ≡ g.sectors = subst (λ (k : ℕ). banks * k + g.sectors % banks ≡ g.sectors) is (div-add-mod g.sectors banks) in
+      absurd (omega (arith, legal.sectors_low, shared.whole, all))
+]
 
 pub own_small : (ns : List (DeviceNumber × ℕ)) (g : Geometry) (banks reserve : ℕ) → IsLegal g → HasSpace ns g banks reserve → most_turns g.page (sectors_of_bank g banks) ns ≤ 20000000
 own_small ns g banks reserve legal space =
@@ -90,7 +97,7 @@ module _ (laws : OpenLaws) (m : Making) (entry : Told) (s : Parts) (listed : Lis
   t = device_of m entry u
 
   abbrev l : Layout
-  l = two_banks m.geometry
+  l = banks_of m
 
   abbrev st : Stand
   st = stand_of content (Some j) s.last 0
@@ -117,7 +124,7 @@ module _ (laws : OpenLaws) (m : Making) (entry : Told) (s : Parts) (listed : Lis
   held_at : (bytes : List ℕ) → bytes_now s.fls.flash ≡ Some bytes → IsTrue (tells d) → IsHeld l m.numbers bytes behind h.copied
   held_at bytes at told =
       let held : IsHeld l m.numbers bytes h.behind h.copied = told_bytes s.fls.flash.bytes (λ (x : List ℕ). IsHeld l m.numbers x h.behind h.copied) bytes at (h.banks.held told) in
-      let job = job_in st s.last (take s.given s.content) h.behind.old (subst (λ (x : Stand). HasJob x h.behind.old) (h.stand ∙ stand_was) held.job) in
+      let job = job_in m.numbers st s.last (take s.given s.content) h.behind.old (subst (λ (x : Stand). HasJob m.numbers x h.behind.old) (h.stand ∙ stand_was) held.job) in
       laws.job l m.numbers bytes h.behind h.copied st (record { lengths = sound.made_for.space.lengths; legal = h.banks.legal; held = held }) job
 
   holds : HoldsBanks (record t { memory = behind }) h.copied
@@ -145,10 +152,10 @@ module _ (laws : OpenLaws) (m : Making) (entry : Told) (s : Parts) (listed : Lis
 
   -- THE TURNS
   some : 0 < sectors_of_bank s.banks.geometry s.banks.banks
-  some = half s.banks.geometry.sectors s.banks.banks sound.made_for.two state.legal.sectors_low
+  some = each_some s.banks.geometry s.banks.banks state.legal state.shared
 
   fixed_same : fixed_for s.banks.geometry.page (sectors_of_bank s.banks.geometry s.banks.banks) s.banks.log.numbers m.reserve ≡ fixed_in m
-  fixed_same = λ i. fixed_for (sound.made_for.banks_geometry i).page (sectors_of_bank (sound.made_for.banks_geometry i) (sound.made_for.two i)) (sound.made_for.numbers i) m.reserve
+  fixed_same = λ i. fixed_for (sound.made_for.banks_geometry i).page (sectors_of_bank (sound.made_for.banks_geometry i) (sound.made_for.shared i)) (sound.made_for.numbers i) m.reserve
 
   of_banks : IsJobOf s.banks.log.numbers j
   of_banks = subst (λ (ns : List (DeviceNumber × ℕ)). IsJobOf ns j) (sym sound.made_for.numbers) of
@@ -176,7 +183,7 @@ module _ (laws : OpenLaws) (m : Making) (entry : Told) (s : Parts) (listed : Lis
   base_small = (let few = base_few laws.few m.reserve s.banks j of_banks idle works.switch some s.banks.course works.switch refl in omega (arith, left_was, own_same))
 
   own_is : (fixed_in m).own ≤ 20000000
-  own_is = own_small m.numbers m.geometry 2 m.reserve (subst IsLegal sound.made_for.banks_geometry state.legal) sound.made_for.space
+  own_is = own_small m.numbers m.geometry m.banks m.reserve (subst IsLegal sound.made_for.banks_geometry state.legal) sound.made_for.space
 
   left_fits : t.left < 2 ^ 63
   left_fits =

@@ -1,17 +1,17 @@
 -- What is in order at any time.
 use Rattle.std.specs.Prelude.{nat_le}
 use Rattle.std.proofs.Common.{◌≡◌, ◌≤◌, ℕ, Bool, true, false, List, Option, Some, None, refl, sym, subst, arith}
-use Rattle.memif.specs.Told.{DeviceTold, Part, First, Second, Held, Slot, Fixed, figures_at, slot_at}
+use Rattle.memif.specs.Told.{DeviceTold, Held, Slot, Fixed, slot_at}
 use Rattle.memif.specs.Marks.{IsPossible}
 use Rattle.memif.specs.Calls.{InOrder}
-use Rattle.memif.specs.Clock.{PartClock, SamePart, untold, FindsNow, After, ArePossible}
+use Rattle.memif.specs.Clock.{Clock, SameClock, FindsNow, After, ArePossible}
 use Rattle.fls_model.specs.Told.{Told}
 use Rattle.switch_course.specs.declared.course.Course.{Course}
 use Rattle.switch_course.specs.declared.course.Course.TheVariants.{Erase, Copy, Head, Gate}
 use Rattle.fee_log.specs.declared.tail.Tail.{Tail}
 use Rattle.fee_log.specs.declared.tail.Tail.TheVariants.{Open, Writes, Owes, Closed}
 use Rattle.fee_switch.specs.Banks.{BanksState}
-use Rattle.device_bridge.specs.Bridge.{Making}
+use Rattle.device_bridge.specs.Making.{Making}
 use Rattle.device_clock.specs.Device.{told_of}
 use Rattle.device_clock.specs.Clock.{clock_of}
 use Rattle.device_figures.specs.Figures.{ready_of}
@@ -59,14 +59,13 @@ at_rest m entry s closed now =
     }
 
 -- WHERE THE CLOCK STAYS
-possible_as : (p : Part) (old new : DeviceTold) (o : Option (List Slot)) (m : ℕ → Held) → new.fixed ≡ old.fixed → ArePossible p old o m → ArePossible p new o m
-possible_as p old new None m same is = tt
-possible_as p old new (Some slots) m same is = λ n. subst (λ (f : Fixed). (figures_at f n).part ≡ p → IsPossible (slot_at f.numbers slots n) (m n)) (sym same) (is n)
+possible_as : (old new : DeviceTold) (o : Option (List Slot)) (m : ℕ → Held) → new.fixed ≡ old.fixed → ArePossible old o m → ArePossible new o m
+possible_as old new None m same is = tt
+possible_as old new (Some slots) m same is = λ n. subst (λ (f : Fixed). IsPossible (slot_at f.numbers slots n) (m n)) (sym same) (is n)
 
 -- what would be found now is possible still, where the operations and what the numbers hold are the same
-pub finds_on : (old new : DeviceTold) (clock then : PartClock) → SamePart clock then → new.fixed ≡ old.fixed → new.slots ≡ old.slots → new.first.ops ≡ old.first.ops
-    → FindsNow old (record { first = clock; second = untold }) → FindsNow new (record { first = then; second = untold })
-finds_on old new clock then same fixed slots ops now First m finds =
-    let found = now First m ((same.may_find (After old.first.ops) m).0 (subst (λ (k : ℕ). then.may_find (After k) m) ops finds)) in
-    subst (λ (o : Option (List Slot)). ArePossible First new o m) (sym slots) (possible_as First old new old.slots m fixed found)
-finds_on old new clock then same fixed slots ops now Second m finds = absurd finds
+pub finds_on : (old new : DeviceTold) (clock now : Clock) → SameClock clock now → new.fixed ≡ old.fixed → new.slots ≡ old.slots → new.ops ≡ old.ops
+    → FindsNow old clock → FindsNow new now
+finds_on old new clock now same fixed slots ops is m finds =
+    let found = is m ((same.may_find (After old.ops) m).0 (subst (λ (k : ℕ). now.may_find (After k) m) ops finds)) in
+    subst (λ (o : Option (List Slot)). ArePossible new o m) (sym slots) (possible_as old new old.slots m fixed found)

@@ -31,8 +31,8 @@ use Rattle.switch_course.specs.declared.course.Course.{Course}
 use Rattle.fee_switch.specs.Start.{IsLoadedAs}
 use Rattle.fee_switch.specs.Banks.{BanksState, FindsActive, LoadsActive}
 use Rattle.switch_promise.specs.Shown.{old_shown, phase_shown}
-use Rattle.device_bridge.specs.Bridge.{Making}
-use Rattle.device_bridge.specs.Image.{two_banks, IsSoundFlash}
+use Rattle.device_bridge.specs.Making.{Making, banks_of}
+use Rattle.device_bridge.specs.Image.{IsSoundFlash}
 use Rattle.device_image.specs.Slots.{Memory, slots_held, slots_found, held_of, banks_with, may_told}
 use Rattle.device_image.specs.Laws.{ImagesFind, PlacesTell, SamePlaces, IsStarted, UnstartedFind, UnstartedIsFound, IsHeld}
 use Rattle.device_clock.specs.Device.{Device, tells, told_of, part_of, slots_in, is_switching}
@@ -91,9 +91,9 @@ few_counted a b own own' few (inl same) = omega arith
 few_counted a b own own' few (inr (is, rose)) = omega arith
 
 -- BYTES
-sound_in : (g : Geometry) (bytes : List ℕ) → 0 < length bytes → IsSoundFlash g bytes → IsSoundImage (two_banks g) bytes
-sound_in g [] some sound = absurd (omega arith)
-sound_in g (x ∷ xs) some sound = sound
+sound_in : (m : Making) (bytes : List ℕ) → 0 < length bytes → IsSoundFlash m bytes → IsSoundImage (banks_of m) bytes
+sound_in m [] some sound = absurd (omega arith)
+sound_in m (x ∷ xs) some sound = sound
 
 pub told_bytes : (o : Option ToldBytes) (P : List ℕ → Type 0) (bytes : List ℕ) → option_map (λ (b : ToldBytes). b.now) o ≡ Some bytes → IfSome (option_map (λ (b : ToldBytes). b.now) o) P → P bytes
 told_bytes None P bytes is holds = cc is
@@ -132,13 +132,13 @@ module _ (laws : Laws) (m : Making) (entry : Told) (s : Parts) (made : IsMadeFor
   t = device_of m entry u
 
   abbrev l : Layout
-  l = two_banks m.geometry
+  l = banks_of m
 
   legal : IsLegal m.geometry
   legal = subst IsLegal are.geometry are.state.legal
 
-  shared : HasBanks m.geometry 2
-  shared = subst (λ (g : Geometry). HasBanks g 2) are.geometry (subst (HasBanks b.geometry) are.two are.state.shared)
+  shared : HasBanks m.geometry m.banks
+  shared = subst (λ (g : Geometry). HasBanks g m.banks) are.geometry (subst (HasBanks b.geometry) are.shared are.state.shared)
 
   none : MakesNone d t
   none = record { making = refl; entry = refl; operations = refl; bytes = refl }
@@ -182,16 +182,16 @@ module _ (laws : Laws) (m : Making) (entry : Told) (s : Parts) (made : IsMadeFor
   may : (bytes : List ℕ) → bytes_now s.fls.flash ≡ Some bytes → IsTrue (tells d) → MayStart l m.numbers bytes (slots_in d bytes) b.target (Ended JobOk [])
   may bytes at told = record {
     lengths = lengths;
-    legal = laws.legal m.geometry 2 legal shared;
-    size = at_most (l.pages * l.page * l.banks) (length bytes) (size_of m.geometry) (laws.fill m.geometry 2 legal shared).0 (told_now s.fls.flash.bytes (AreBytesOf m.geometry) bytes at made.bytes).size;
-    sound = sound_in m.geometry bytes (told_bytes s.fls.flash.bytes (λ (x : List ℕ). 0 < length x) bytes at some) (told_bytes s.fls.flash.bytes (IsSoundFlash m.geometry) bytes at (is.run.sound told));
-    target_in = omega (arith, are.state.target, are.two);
+    legal = laws.legal m.geometry m.banks legal shared;
+    size = at_most (l.pages * l.page * l.banks) (length bytes) (size_of m.geometry) (laws.fill m.geometry m.banks legal shared).0 (told_now s.fls.flash.bytes (AreBytesOf m.geometry) bytes at made.bytes).size;
+    sound = sound_in m bytes (told_bytes s.fls.flash.bytes (λ (x : List ℕ). 0 < length x) bytes at some) (told_bytes s.fls.flash.bytes (IsSoundFlash m) bytes at (is.run.sound told));
+    target_in = omega (arith, are.state.target, are.shared);
     possible = possible bytes at told;
     shut = refl;
   }
 
   lay : layout_of b.geometry b.banks ≡ l
-  lay = λ i. layout_of (are.geometry i) (are.two i)
+  lay = λ i. layout_of (are.geometry i) (are.shared i)
 
   abbrev body : List ℕ
   body = body_of (work_in b.log.tail) s.content
@@ -257,7 +257,7 @@ module _ (laws : Laws) (m : Making) (entry : Told) (s : Parts) (made : IsMadeFor
   unplanned since = since
 
   space : HasSpace b.log.numbers b.geometry b.banks m.reserve
-  space = subst (λ (ns : List (DeviceNumber × ℕ)). HasSpace ns b.geometry b.banks m.reserve) (sym are.numbers) (subst (λ (g : Geometry). HasSpace m.numbers g b.banks m.reserve) (sym are.geometry) (subst (λ (n : ℕ). HasSpace m.numbers m.geometry n m.reserve) (sym are.two) made.space))
+  space = subst (λ (ns : List (DeviceNumber × ℕ)). HasSpace ns b.geometry b.banks m.reserve) (sym are.numbers) (subst (λ (g : Geometry). HasSpace m.numbers g b.banks m.reserve) (sym are.geometry) (subst (λ (n : ℕ). HasSpace m.numbers m.geometry n m.reserve) (sym are.shared) made.space))
 
   shut_room : (c : Option Course) → c ≡ None → IfSome c (IsRoomy m.reserve b)
   shut_room None closed = tt
@@ -269,7 +269,7 @@ module _ (laws : Laws) (m : Making) (entry : Told) (s : Parts) (made : IsMadeFor
       geometry = made.geometry;
       idle = record { job = made.idle.job; attached = made.idle.attached };
       banks_geometry = are.geometry;
-      two = are.two;
+      shared = are.shared;
       numbers = are.numbers;
       space = made.space;
       bytes = made.bytes;
@@ -302,16 +302,16 @@ module _ (laws : Laws) (m : Making) (entry : Told) (s : Parts) (made : IsMadeFor
     ready_more : s.fls.flash.faults ≤ s.fls.flash.faults
     ready_more = omega arith
 
-    banks_start : (bytes : List ℕ) → bytes_now s.fls.flash ≡ Some bytes → IsTrue (tells (device_of m entry s)) → AreStarted (two_banks m.geometry) m.numbers bytes (slots_in (device_of m entry s) bytes) (memory_of ready_parts) none_copied
+    banks_start : (bytes : List ℕ) → bytes_now s.fls.flash ≡ Some bytes → IsTrue (tells (device_of m entry s)) → AreStarted (banks_of m) m.numbers bytes (slots_in (device_of m entry s) bytes) (memory_of ready_parts) none_copied
     banks_start = starts laws m entry s made is lengths b are result s.fls.flash.faults true s.faults ready_more (inl refl) finds loads
 
     ready_holds : HoldsBanks ready_device none_copied
     ready_holds = record {
       started = refl;
       alike = is.run.alike;
-      legal = laws.legal m.geometry 2 (legal laws m entry s made is lengths b are result s.fls.flash.faults true s.faults ready_more (inl refl)) (shared laws m entry s made is lengths b are result s.fls.flash.faults true s.faults ready_more (inl refl));
+      legal = laws.legal m.geometry m.banks (legal laws m entry s made is lengths b are result s.fls.flash.faults true s.faults ready_more (inl refl)) (shared laws m entry s made is lengths b are result s.fls.flash.faults true s.faults ready_more (inl refl));
       some = some laws m entry s made is lengths b are result s.fls.flash.faults true s.faults ready_more (inl refl);
-      held = λ told. each_told s.fls.flash.bytes (λ (x : List ℕ). IsHeld (two_banks m.geometry) m.numbers x (memory_of ready_parts) none_copied) (λ bytes at. (banks_start bytes at told).held);
+      held = λ told. each_told s.fls.flash.bytes (λ (x : List ℕ). IsHeld (banks_of m) m.numbers x (memory_of ready_parts) none_copied) (λ bytes at. (banks_start bytes at told).held);
     }
 
     ready_behind : HoldsBehind ready_device
@@ -358,7 +358,7 @@ module _ (laws : Laws) (m : Making) (entry : Told) (s : Parts) (made : IsMadeFor
     failed_each : EachNumber (λ n x y. ComesFrom x y) (told_of (device_of m entry s)) (told_of failed_device) × EachNumber (λ n x y. y.doubts ≡ []) (told_of (device_of m entry s)) (told_of failed_device)
     failed_each = laws.tell (device_of m entry s) failed_device (same laws m entry s made is lengths b are result flash_faults false (next_count s.faults) risen (inr (refl, rose))) (λ old new told n.
         subst (λ (x : List ℕ). IsStarted (was (device_of m entry s) old n) (was failed_device x n)) (same_bytes (bytes_now s.fls.flash) old new told.1 told.2)
-        (laws.unstarted (two_banks m.geometry) m.numbers old (slots_in (device_of m entry s) old) (possible laws m entry s made is lengths b are result flash_faults false (next_count s.faults) risen (inr (refl, rose)) old told.1 told.0) n))
+        (laws.unstarted (banks_of m) m.numbers old (slots_in (device_of m entry s) old) (possible laws m entry s made is lengths b are result flash_faults false (next_count s.faults) risen (inr (refl, rose)) old told.1 told.0) n))
 
     pub failed_starts : StartsUp (Err Fault) (told_of (device_of m entry s)) (clock_of (device_of m entry s)) (told_of failed_device) (clock_of failed_device)
     failed_starts = record {

@@ -16,8 +16,7 @@ use Rattle.fee_switch.specs.Banks.{BanksState, IsBanksState}
 use Rattle.switch_promise.specs.Shown.{old_shown}
 use Rattle.switch_room.specs.Space.{free_pages}
 use Rattle.switch_room.specs.KeepsRoom.{IsRoomy}
-use Rattle.device_bridge.specs.Bridge.{Making}
-use Rattle.device_bridge.specs.Image.{two_banks}
+use Rattle.device_bridge.specs.Making.{Making, banks_of}
 use Rattle.device_image.specs.Slots.{Memory}
 use Rattle.device_image.specs.Laws.{SamePlaces, IsHeld}
 use Rattle.device_clock.specs.Device.{Device, is_switching}
@@ -96,7 +95,7 @@ module _ (laws : CancelLaws) (give_up : RecordsGiveUp) (m : Making) (entry : Tol
   -- WHAT THE BYTES HOLD
   behind_own : h.behind ≡ memory_of s → (a : ActiveBank) → s.banks.active ≡ Some a → HoldsBehind f
   behind_own own a at =
-      let l = two_banks m.geometry in
+      let l = banks_of m in
       let log1 = log_of s.banks.log body in
       let old_was : (memory_of s).old ≡ OldBank a.bank a.head log1 = ap (λ (o : Option ActiveBank). old_shown o s.banks.log body) at in
       let page : s.banks.log.geometry.page ≡ m.geometry.page = ap (λ (x : Geometry). x.page) (state.log.shape ∙ sound.made_for.banks_geometry) in
@@ -154,7 +153,7 @@ module _ (laws : CancelLaws) (give_up : RecordsGiveUp) (m : Making) (entry : Tol
       let was = sound.made_for in
       record {
         behind = behind_by s.fls.flash.off refl;
-        made_for = record { geometry = was.geometry; idle = was.idle; banks_geometry = was.banks_geometry; two = was.two; numbers = was.numbers; space = was.space; bytes = was.bytes; room = was.room; given = omega arith; ended = λ e. cc e };
+        made_for = record { geometry = was.geometry; idle = was.idle; banks_geometry = was.banks_geometry; shared = was.shared; numbers = was.numbers; space = was.space; bytes = was.bytes; room = was.room; given = omega arith; ended = λ e. cc e };
         works = record { active = active_same s.banks s.banks.active active works.active; job = tt; work = no_record b (work_in (given_up s.banks.log).tail) (none_left s.banks.log); ready = tt; switch = switch_same s.banks s.banks.course shut works.switch };
         room = λ on. record { space = (sound.room started on).space; switch = shut_room m.reserve b s.banks.course shut };
         copies = λ on told. none_shows s.fls.flash.bytes s.banks.course (λ x c. ShowsCopies m v c x.now) shut;

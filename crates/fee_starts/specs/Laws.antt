@@ -13,7 +13,7 @@ use Rattle.fee_log.specs.Index.{clear_flags}
 use Rattle.fee_log.specs.Log.{work_in}
 use Rattle.fee_switch.specs.Banks.{BanksState, IsBanksState, IsMade, FindsActive, LoadsActive}
 use Rattle.switch_room.specs.Space.{HasSpace, free_pages}
-use Rattle.device_bridge.specs.Bridge.{Making}
+use Rattle.device_bridge.specs.Making.{Making}
 use Rattle.device_clock.specs.Device.{told_of}
 use Rattle.device_clock.specs.Clock.{clock_of}
 use Rattle.device_figures.specs.Figures.{ready_of}
@@ -28,9 +28,9 @@ use Rattle.fee_starts.specs.Parts.{fresh, with_plan, started_with, opened, witho
 -- over a flash that is attached, with banks that were made
 pub record IsNew (m : Making) (entry : Told) (s : Parts) : Type 0 where
   pub legal : IsLegal m.geometry
-  pub space : HasSpace m.numbers m.geometry 2 m.reserve
+  pub space : HasSpace m.numbers m.geometry m.banks m.reserve
   pub attached : IsAttached m.geometry entry s.fls.flash
-  pub banks : IsMade s.banks m.geometry 2 m.numbers
+  pub banks : IsMade s.banks m.geometry m.banks m.numbers
   pub geometry : s.fls.geometry ≡ m.geometry
   pub idle : IsIdle s.fls
   pub room : length s.content ≡ 4096
@@ -52,7 +52,7 @@ PlansAreSound =
 -- what the banks are behind it
 pub record AreOf (m : Making) (b : BanksState) : Type 0 where
   pub geometry : b.geometry ≡ m.geometry
-  pub two : b.banks ≡ 2
+  pub shared : b.banks ≡ m.banks
   pub numbers : b.log.numbers ≡ m.numbers
   pub closed : b.course ≡ None
   pub state : IsBanksState b

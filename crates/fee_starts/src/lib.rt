@@ -1,4 +1,4 @@
-//! What each call of a device over two banks that isn't a turn makes of it: its making, a plan of a power cut, a start-up, the
+//! What each call of a device over banks that isn't a turn makes of it: its making, a plan of a power cut, a start-up, the
 //! start of a job and its cancel.
 //!
 //! Its functions do nothing: their contracts are the laws. Each such call leaves the parts of the device sound and does what

@@ -27,8 +27,7 @@ use Rattle.switch_promise.specs.Shown.{old_shown, phase_shown}
 use Rattle.switch_promise.specs.Turns.{IsGoing}
 use Rattle.switch_room.specs.KeepsRoom.{KeepsRoom}
 use Rattle.switch_room.specs.Space.{HasSpace}
-use Rattle.device_bridge.specs.Bridge.{Making}
-use Rattle.device_bridge.specs.Image.{two_banks}
+use Rattle.device_bridge.specs.Making.{Making, banks_of}
 use Rattle.device_image.specs.Slots.{Memory, HasJob, settled_in}
 use Rattle.device_image.specs.Laws.{IsHeld, SamePlaces}
 use Rattle.device_clock.specs.Device.{Device, tells, told_of}
@@ -80,9 +79,9 @@ memory_of s = record {
   stand = stand_of s.content s.job s.last s.given;
 }
 
--- of two banks
+-- over its banks
 abbrev pub fixed_in : Making → Fixed
-fixed_in m = fixed_for m.geometry.page (sectors_of_bank m.geometry 2) m.numbers m.reserve
+fixed_in m = fixed_for m.geometry.page (sectors_of_bank m.geometry m.banks) m.numbers m.reserve
 
 abbrev pub device_of : Making → Told → Parts → Device
 device_of m entry s = record {
@@ -107,28 +106,28 @@ pub record IsMadeFor (m : Making) (s : Parts) : Type 0 where
   pub geometry : s.fls.geometry ≡ m.geometry
   pub idle : IsIdle s.fls
   pub banks_geometry : s.banks.geometry ≡ m.geometry
-  pub two : s.banks.banks ≡ 2
+  pub shared : s.banks.banks ≡ m.banks
   pub numbers : s.banks.log.numbers ≡ m.numbers
-  pub space : HasSpace m.numbers m.geometry 2 m.reserve
+  pub space : HasSpace m.numbers m.geometry m.banks m.reserve
   pub bytes : IfSome s.fls.flash.bytes (λ b. AreBytesOf m.geometry b.now)
   -- a content of any length fits
   pub room : length s.content ≡ 4096
   pub given : s.given ≤ 4096
   pub ended : s.last ≢ JobPending
 
--- the active bank, whose records are written as today; without one the log is empty, but for its flags
+-- the active bank, in whose format the log is; without one the log is empty, but for its flags
 abbrev pub IsActiveOf : BanksState → Option ActiveBank → Type 0
 IsActiveOf s None = s.log ≡ record (erased_state s.geometry s.banks s.log.bank s.log.numbers) { flags = s.log.flags }
-IsActiveOf s (Some a) = (a.head.format ≡ 1) × (s.log.format ≡ 1)
+IsActiveOf s (Some a) = s.log.format ≡ a.head.format
 
 -- THE OPEN SWITCH
--- the flags of the numbers, with the marks that these bytes show at their places
+-- the flags of the numbers, with what these bytes show at their places
 abbrev pub flags_in : Making → Parts → List ℕ → List Flag
-flags_in m s bytes = flags_of m.numbers s.banks.log.flags (settled_in (two_banks m.geometry) m.numbers bytes (memory_of s).old)
+flags_in m s bytes = flags_of m.numbers s.banks.log.places s.banks.log.flags (settled_in (banks_of m) m.numbers bytes (memory_of s).old)
 
 -- the target may show what the flags say
 pub record ShowsCopies (m : Making) (s : Parts) (c : Course) (bytes : List ℕ) : Type 0 where
-  pub held : IsHeld (two_banks m.geometry) m.numbers bytes (memory_of s) (copied_of (flags_in m s bytes))
+  pub held : IsHeld (banks_of m) m.numbers bytes (memory_of s) (copied_of (flags_in m s bytes))
   pub copy : IsCopying c (work_in s.banks.copies.tail) s.banks.buffer (flags_in m s bytes)
 
 -- one is open where the active bank has not the last generation, and is under way; without one no flag is set
@@ -164,7 +163,7 @@ pub record HoldsBehind (d : Device) : Type 0 where
   pub places : SamePlaces behind.old d.memory.old
   pub stand : behind.stand ≡ d.memory.stand
   pub on : d.flash.off ≡ false → behind ≡ d.memory
-  pub idle : (behind ≡ d.memory) ⊎ ((stand : Stand) → HasJob stand behind.old)
+  pub idle : (behind ≡ d.memory) ⊎ ((stand : Stand) → HasJob d.making.numbers stand behind.old)
 
 pub record IsDevice (d : Device) : Type 0 where
   pub run : HasRun d

@@ -6,7 +6,7 @@ use Rattle.nv_base.specs.declared.job.DeviceOp.TheVariants.{Read, Write, Invalid
 use Rattle.memif.specs.Told.{length_of}
 use Rattle.fee_format.specs.declared.rec_head.RecHead.{RecHead}
 use Rattle.fee_log.specs.Index.{with_flag}
-use Rattle.fee_log.specs.Log.{work_in}
+use Rattle.fee_log.specs.Log.{LogState, head_next, work_in}
 use Rattle.fee_switch.specs.Banks.{BanksState, TakesRecord, course_appended}
 use Rattle.fee_state.specs.declared.job.FeeJob.{FeeJob}
 use Rattle.fee_state.specs.Work.{begins_next, seal_turns}
@@ -18,8 +18,9 @@ kind_of Write = 1
 kind_of Invalidate = 2
 kind_of Erase = 3
 
-abbrev pub head_of : FeeJob → RecHead
-head_of j = record { number = j.number.0; kind = kind_of j.op; length = j.length }
+-- the header of its record, the next one of its number
+abbrev pub head_of : LogState → FeeJob → RecHead
+head_of log j = head_next log j.number.0 (kind_of j.op) j.length
 
 -- a content has its number's length, and a mark none
 abbrev pub IsLengthOf : DeviceOp → ℕ → ℕ → Type 0
@@ -41,7 +42,7 @@ pub record IsJobOf (numbers : List (DeviceNumber × ℕ)) (j : FeeJob) : Type 0 
 pub record IsInWork (s : BanksState) (job : Option FeeJob) (h : RecHead) : Type 0 where
   pub of : FeeJob
   pub is_open : job ≡ Some of
-  pub head : h ≡ head_of of
+  pub head : h ≡ head_of s.log of
   pub writes : of.op ≢ Read
   pub active : is_some s.active ≡ true
   pub taken : TakesRecord h.kind s.course

@@ -1,5 +1,5 @@
 -- What is loaded from a bank that was read.
-use Rattle.std.proofs.Common.{◌≡◌, ◌≤◌, ◌<◌, ◌+◌, ◌*◌, ◌/◌, ℕ, Bool, true, false, List, [], ◌∷◌, length, Option, Some, None, sym, ap, ◌∙◌, refl, subst, add-one, arith}
+use Rattle.std.proofs.Common.{◌≡◌, inl, inr, ◌≤◌, ◌<◌, ◌+◌, ◌*◌, ◌/◌, ℕ, true, List, [], ◌∷◌, length, Option, Some, None, sym, ap, ◌∙◌, refl, subst, add-one, arith}
 use Rattle.std.specs.Prelude.{IfSome}
 use Rattle.std.proofs.lemmas.Nat.{div-mul-add}
 use Rattle.nv_base.specs.declared.geometry.Geometry.{Geometry}
@@ -59,11 +59,17 @@ blank_there stay b own image at same blank = λ q low lt.
     let end : end_of (moved b at) image ≡ end_of b own = ap (end_after b.page 2) (stay b own image at same) in
     sym (same q (omega (arith, low, end_low b.page 2 (records_of b own))) lt) ∙ blank q (omega (arith, low, end)) lt
 
-closed_seen : (v : View) (t : Tail) → is_closed t ≡ true → IsTailSeen v t → IsTailBlank (viewed_bank v) v.bytes (end_of (viewed_bank v) v.bytes) → ⊥
+closed_seen : (v : View) (t : Tail) → is_closed t ≡ true → IsTailSeen v t → IsClosed (viewed_bank v) v.bytes (end_of (viewed_bank v) v.bytes)
 closed_seen v tail.Open closed seen = cc
 closed_seen v (tail.Writes h k) closed seen = cc
 closed_seen v (tail.Owes h next) closed seen = cc
 closed_seen v tail.Closed closed seen = seen
+
+-- a bank that is closed is so in both places
+closed_there : RecordsStay → (b : Bank) (own image : List ℕ) (at : ℕ) → ((q : ℕ) → 2 ≤ q → q < b.pages → page_of (moved b at) image q ≡ page_of b own q)
+    → IsClosed b own (end_of b own) → IsClosed (moved b at) image (end_of (moved b at) image)
+closed_there stay b own image at same (inl other) = inl other
+closed_there stay b own image at same (inr used) = inr (λ blank. used (blank_there stay b own image at same blank))
 
 pub loaded_as : LoadsAreLoaded → LoadedLogsMove → PagesAreRead → RecordsStay
     → (l : Layout) (bytes own : List ℕ) (k : ℕ) (h : BankHead) (g : Geometry) (banks : ℕ) (numbers : List (DeviceNumber × ℕ)) (new : LogState) (v : View)
@@ -84,8 +90,8 @@ loaded_as loads moves read stay l bytes own k h g banks numbers new v low size i
       flags = ap (λ (s : LogState). s.flags) here.same ∙ ap clear_flags (sym ns);
       loaded = λ body. rw ns ((own_log body).0 ∙ sym (moved_log body).0);
       tail = λ body. (moved_log body).1;
-      closed = λ closed. λ blank. closed_seen w new.tail closed here.tail
-          (blank_there stay (own_bank l.page l.pages h.format) own bytes (k * l.pages) (λ q low' lt. read l bytes own k h.format q is lt) blank);
+      closed = λ closed. closed_there stay (own_bank l.page l.pages h.format) own bytes (k * l.pages) (λ q low' lt. read l bytes own k h.format q is lt)
+          (closed_seen w new.tail closed here.tail);
     }
   where
     pages_of : length own / l.page ≡ l.pages

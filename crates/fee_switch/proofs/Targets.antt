@@ -45,10 +45,10 @@ byte_small (suc k) n = omega arith
 turned : (x : ℕ) → 255 - x < 256
 turned x = omega arith
 
-head_small : (p g : ℕ) → All (λ (x : ℕ). x < 256) (bank_head_page p (record { format = 1; generation = g }))
+head_small : (p g : ℕ) → All (λ (x : ℕ). x < 256) (bank_head_page p (record { format = 2; generation = g }))
 head_small p g =
     let low : Small ((255 - byte_at 3 g) ∷ (255 - byte_at 2 g) ∷ (255 - byte_at 1 g) ∷ (255 - byte_at 0 g) ∷ replicate (p - 12) 255) = (turned (byte_at 3 g), (turned (byte_at 2 g), (turned (byte_at 1 g), (turned (byte_at 0 g), blank_small (p - 12))))) in
-    all_small (bank_head_page p (record { format = 1; generation = g })) (omega arith, (omega arith, (byte_small 3 g, (byte_small 2 g, (byte_small 1 g, (byte_small 0 g, (omega arith, (omega arith, low))))))))
+    all_small (bank_head_page p (record { format = 2; generation = g })) (omega arith, (omega arith, (byte_small 3 g, (byte_small 2 g, (byte_small 1 g, (byte_small 0 g, (omega arith, (omega arith, low))))))))
 
 -- a page of a bank lies in the bytes
 page_inside : (l : Layout) (bytes : List ℕ) (k q : ℕ) → l.pages * l.page * l.banks ≤ length bytes → k < l.banks → q < l.pages → place_of_page (bank_in l 1 k) q + l.page ≤ length bytes

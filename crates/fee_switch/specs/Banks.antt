@@ -8,6 +8,7 @@ use Rattle.nv_base.specs.Lengths.{place_of}
 use Rattle.fls_model.specs.declared.flash.FlashAnswer.{FlashAnswer}
 use Rattle.fls_model.specs.declared.flash.FlashAnswer.TheVariants.{Done, Failed as FlashFailed, Off}
 use Rattle.fls_model.specs.Told.{Told}
+use Rattle.fee_format.specs.Formats.{new_format}
 use Rattle.fee_format.specs.declared.rec_head.RecHead.{RecHead}
 use Rattle.fee_log.specs.Index.{with_flag, clear_flags}
 use Rattle.fee_log.specs.Log.{LogState, erased_state, work_in, begun}
@@ -130,7 +131,7 @@ left_of s = left_with s s.course
 
 -- the next step reads a content
 abbrev pub reads_place : Place → Bool
-reads_place (Content at) = true
+reads_place (Content at count) = true
 reads_place place = false
 
 abbrev pub reads_source : Option Source → Bool
@@ -175,7 +176,7 @@ append_begun s head = record s { log = begun s.log head; course = course_appende
 -- STEPS
 -- the target stands: the roles turn
 abbrev pub stood : BanksState → Option ActiveBank
-stood s = Some (record { bank = s.target; head = record { format = 1; generation = next_generation s.active } })
+stood s = Some (record { bank = s.target; head = record { format = new_format; generation = next_generation s.active } })
 
 abbrev pub ended : BanksState → BanksState
 ended s =

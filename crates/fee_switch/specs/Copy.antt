@@ -11,7 +11,7 @@ use Rattle.fls_model.specs.Read.{IsRead}
 use Rattle.fls_model.specs.Step.{IsStep}
 use Rattle.fee_format.specs.declared.rec_head.RecHead.{RecHead}
 use Rattle.log_image.specs.declared.place.Place.{Place}
-use Rattle.log_image.specs.declared.place.Place.TheVariants.{Content}
+use Rattle.log_image.specs.declared.place.Place.TheVariants.{Content, Invalid, Erased, Unwritten}
 use Rattle.log_image.specs.Places.{IsWithin}
 use Rattle.fee_log.specs.Log.{LogState, IsFor, work_in, free_in, begun}
 use Rattle.fee_log.specs.Step.{op_of, after_step}
@@ -30,10 +30,12 @@ abbrev pub begun_where : FlashAnswer → LogState → RecHead → LogState
 begun_where Done log head = begun log head
 begun_where _ log head = log
 
--- the record that copies what stands at a place
+-- the record that copies what stands at a place, as often written
 abbrev pub head_at : Place → ℕ → ℕ → RecHead
-head_at (Content at) number length = record { number = number; kind = 1; length = length }
-head_at _ number length = record { number = number; kind = 2; length = 0 }
+head_at (Content at count) number length = record { number = number; kind = 1; length = length; count = count }
+head_at (Invalid count) number length = record { number = number; kind = 2; length = 0; count = count }
+head_at (Erased count) number length = record { number = number; kind = 3; length = 0; count = count }
+head_at Unwritten number length = record { number = number; kind = 3; length = 0; count = 0 }
 
 -- the copy of a number has its content, and has room
 pub record CanBegin (s : BanksState) (number : DeviceNumber) (source : Source) : Type 0 where
@@ -41,17 +43,16 @@ pub record CanBegin (s : BanksState) (number : DeviceNumber) (source : Source) :
   pub some : 0 < source.length
   pub fits : source.length ≤ length s.buffer
   pub idle : work_in s.copies.tail ≡ None
-  pub format : s.copies.format ≡ 1
   pub configured : IsFor s.copies.numbers (head_at source.place number.0 source.length)
   pub room : record_pages_of (head_at source.place number.0 source.length).length s.geometry.page ≤ free_in s.copies
 
 -- a content is read to the front of the buffer, and of a mark the first page is programmed
 abbrev pub BeginsAt : Place → BanksState → ℕ → ℕ → Told → FlashAnswer → BanksState → Told → Type 0
-BeginsAt (Content at) s number length told answer t told' =
+BeginsAt (Content at count) s number length told answer t told' =
     IsRead (address_of_page s.geometry s.banks s.log.bank (at + 2)) told (take length s.buffer) answer (take length t.buffer) told'
-    × (t ≡ record s { copies = begun_where answer s.copies (record { number = number; kind = 1; length = length }); buffer = t.buffer })
-BeginsAt _ s number length told answer t told' =
-    let log = begun s.copies (record { number = number; kind = 2; length = 0 }) in
+    × (t ≡ record s { copies = begun_where answer s.copies (head_at (Content at count) number length); buffer = t.buffer })
+BeginsAt place s number length told answer t told' =
+    let log = begun s.copies (head_at place number length) in
     IsStep (op_of log []) told answer told' × (t ≡ record s { copies = after_step log answer })
 
 -- the number that is copied next, with its number

@@ -33,12 +33,11 @@ AreTaken l bytes n first log = (active_shown first ≡ active_below l bytes n) �
 abbrev pub TakesNext : Told → Layout → ℕ → Option ActiveBank → LogState → Option ActiveBank → LogState → Type 0
 TakesNext told l n first log first' log' = IfSome told.bytes (λ b. AreTaken l b.now n first log → AreTaken l b.now (n + 1) first' log')
 
--- it is a log of that bank, in the one format that there is; no flag is set, and no record in work
+-- it is a log of that bank, in its format; no flag is set, and no record in work
 pub record IsLogIn (banks : ℕ) (a : ActiveBank) (log : LogState) : Type 0 where
   pub inside : a.bank < banks
   pub bank : log.bank ≡ a.bank
-  pub head : a.head.format ≡ 1
-  pub format : log.format ≡ 1
+  pub format : log.format ≡ a.head.format
   pub clear : log.flags ≡ clear_flags log.numbers
   pub idle : work_in log.tail ≡ None
 

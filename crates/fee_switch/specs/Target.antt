@@ -6,6 +6,7 @@ use Rattle.fls_model.specs.declared.flash.FlashAnswer.{FlashAnswer}
 use Rattle.fls_model.specs.declared.flash.FlashAnswer.TheVariants.{Done, Failed}
 use Rattle.fls_model.specs.Op.{Op, MayLeave}
 use Rattle.fls_model.specs.Step.{Leaves, programs}
+use Rattle.fee_format.specs.Formats.{new_format}
 use Rattle.fee_format.specs.declared.bank_head.BankHead.{BankHead}
 use Rattle.fee_format.specs.BankHead.{bank_head_page}
 use Rattle.fee_format.specs.Pages.{gate_page}
@@ -34,7 +35,7 @@ pub record IsTarget (t : Target) : Type 0 where
 
 -- the head that the target gets
 abbrev pub head_of : Target → BankHead
-head_of t = record { format = 1; generation = t.generation }
+head_of t = record { format = new_format; generation = t.generation }
 
 abbrev pub op_at : Target → Stage → Op
 op_at t (Erase done) = erase_of t.geometry t.banks t.bank done

@@ -20,13 +20,13 @@ ghost use Rattle.fee_switch.specs.Target.{IsWorking, op_at};
 ghost use Rattle.fee_switch.specs.Copy.{CanBegin, BeginsAt, CanCopy, BeginsNext, CanGoOn, MakesNext, IsBankStep};
 ghost use Rattle.fee_switch.specs.Banks.{TakesRecord, left_of, is_worn_out, target_after, target_at, flagged_by, reads_place, reads_next, ended, advanced, fallen_back, after_answer, step_of, begun_again, append_begun, FindsActive, LoadsActive};
 
-use crate::copy::{begin_mark, copy_page, read_content};
+use crate::copy::{begin_mark, copy_page, head_at, read_content};
 use crate::due::{reads_place, set_flag_due, target_of};
 use crate::phase::phase_of;
 use crate::start::take_banks;
 use crate::{BankBegin, BankStart, BankStep, Phase, Stage, Target};
 use bank_start::ActiveBank;
-use fee_format::BankHead;
+use fee_format::{BankHead, NEW_FORMAT, RecHead};
 use fee_log::{Log, LogStep};
 use fls_jobs::Fls;
 use fls_model::{Flash, FlashAnswer};
@@ -36,8 +36,8 @@ use std::alloc::{AllocError, Global};
 use std::marker::Model;
 use switch_course::{Course, Source, next_copy};
 
-/// The banks of a flash, of which one at most is active, with the logs of that one and of the target of a switch. Nothing in it
-/// but `make` names how many they are.
+/// The banks of a flash, of which one at most is active, with the logs of that one and of the target of a switch. How many they
+/// are says who makes them.
 #[derive(Drop)]
 pub struct Banks {
     geometry: Geometry,
@@ -79,13 +79,17 @@ impl Model for Banks {
 }
 
 impl Banks {
-    /// Two banks, none of which is active. It takes all the memory that they ever need.
-    pub fn make(alloc: Global, geometry: Geometry, numbers: &Lengths) -> Result<Banks, AllocError>
+    /// So many banks, none of which is active. It takes all the memory that they ever need.
+    pub fn make(
+        alloc: Global,
+        geometry: Geometry,
+        numbers: &Lengths,
+        banks: u32,
+    ) -> Result<Banks, AllocError>
         requires legal { IsLegal geometry }
-        requires shared { HasBanks geometry 2 }
-        ensures { IfOk result (λ b. IsMade b geometry 2 numbers.now) }
+        requires shared { HasBanks geometry banks }
+        ensures { IfOk result (λ b. IsMade b geometry banks numbers.now) }
     {
-        let banks = 2;
         let log = Log::make(alloc, numbers, geometry, 0, banks)?;
         let copies = Log::make(alloc, numbers, geometry, 0, banks)?;
         let size = geometry.bank_size(banks) as usize;
@@ -125,6 +129,13 @@ impl Banks {
         ensures state { IsBanksState self.now }
     {
         self.geometry
+    }
+
+    /// The sectors of each bank.
+    pub fn bank_sectors(&self) -> u32
+        ensures { result ≡ sectors_of_bank self.now.geometry self.now.banks }
+    {
+        self.geometry.bank_sectors(self.banks)
     }
 
     /// Lends the active log. None exactly where no bank is active.
@@ -172,7 +183,7 @@ impl Banks {
             Some(head) => numbers.place_of(DeviceNumber(head.number)),
             None => None,
         };
-        let sectors = self.geometry.bank_sectors(self.banks);
+        let sectors = self.bank_sectors();
         course.left(
             self.geometry.page,
             sectors,
@@ -204,17 +215,16 @@ impl Banks {
 
     /// Begins a record in the active log: before a switch, or in its phases `Erase` and `Copy` a content. Its number's flag is
     /// cleared, and a copy of it that is in work sets none.
-    pub fn append_start(&mut self, number: DeviceNumber, kind: u8, length: u16)
+    pub fn append_start(&mut self, head: RecHead)
         requires active { is_some self.old.active ≡ true }
         requires idle { work_in self.old.log.tail ≡ None }
-        requires format { self.old.log.format ≡ 1 }
-        requires open { TakesRecord kind self.old.course }
-        requires configured { IsFor self.old.log.numbers (record { number = number.0; kind = kind; length = length }) }
-        requires room { record_pages_of length self.old.geometry.page ≤ free_in self.old.log }
-        ensures { self.new ≡ append_begun self.old (record { number = number.0; kind = kind; length = length }) }
+        requires open { TakesRecord head.kind self.old.course }
+        requires configured { IsFor self.old.log.numbers head }
+        requires room { record_pages_of head.length self.old.geometry.page ≤ free_in self.old.log }
+        ensures { self.new ≡ append_begun self.old head }
     {
-        let index = self.log.lists().0.place_of(number);
-        self.log.append_start(number, kind, length);
+        let index = self.log.lists().0.place_of(DeviceNumber(head.number));
+        self.log.append_start(head);
         if let (Some(course), Some(index)) = (self.course, index) {
             self.course = Some(course.appended_to(index));
         }
@@ -255,7 +265,7 @@ impl Banks {
         ensures loaded { result ≡ BankStart.Ready → IfSome fls.old.flash.bytes (λ b. LoadsActive b.now self.new) }
         ensures flash { IsStartOf fls.old.flash result fls.new.flash }
         ensures failed { result ≡ BankStart.Failed → self.new.active ≡ None }
-        ensures format { IfSome self.new.active (λ a. (a.head.format ≡ 1) × (self.new.log.format ≡ 1)) }
+        ensures format { IfSome self.new.active (λ a. self.new.log.format ≡ a.head.format) }
         ensures clear { result ≡ BankStart.Ready → self.new.log.flags ≡ clear_flags self.new.log.numbers }
         ensures idle { result ≡ BankStart.Ready → work_in self.new.log.tail ≡ None }
         ensures blank { result ≡ BankStart.Ready → self.new.active ≡ None → self.new.log ≡ erased_state self.old.geometry self.old.banks 0 self.old.log.numbers }
@@ -330,7 +340,7 @@ impl Banks {
             None => 1,
         };
         let head = BankHead {
-            format: 1,
+            format: NEW_FORMAT,
             generation,
         };
         let active = Some(ActiveBank {
@@ -408,17 +418,17 @@ impl Banks {
         ensures begins { BeginsAt source.place self.old number.0 source.length fls.old.flash result self.new fls.new.flash }
         ensures same { fls.new ≡ record fls.old { flash = fls.new.flash; result = closed_as result } }
     {
+        let head = head_at(source.place, number, source.length);
         match source.place {
-            Place::Content { at } => read_content(
+            Place::Content { at, .. } => read_content(
                 fls,
                 &self.log,
                 &mut self.copies,
                 &mut self.buffer,
-                number,
-                source.length,
+                head,
                 at,
             ),
-            _ => begin_mark(fls, &mut self.copies, number),
+            _ => begin_mark(fls, &mut self.copies, head),
         }
     }
 
@@ -466,7 +476,7 @@ impl Banks {
     }
 
     /// Makes the next operation of the open switch by one call of the flash, and leaves no job open. A done erase is followed
-    /// by the next one, and behind the last one the copies come: of each number in order that has no copy and isn't erased,
+    /// by the next one, and behind the last one the copies come: of each number in order that has a record and no copy,
     /// with one read of a content and one turn a page. The head and the gate come only where no copy is left; after a
     /// failed copy or head the first erase comes again, and a failed gate is programmed again until one is done: then the
     /// target is active.

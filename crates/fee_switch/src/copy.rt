@@ -9,12 +9,32 @@ ghost use Rattle.fls_jobs.specs.CallOf.{closed_as};
 ghost use Rattle.fls_jobs.specs.Start.{IsIdle};
 ghost use Rattle.fee_log.specs.Log.{IsFor, work_in, free_in, begun};
 ghost use Rattle.fee_log.specs.Step.{op_of, after_step, answer_of};
-ghost use Rattle.fee_switch.specs.Copy.{begun_where};
+ghost use Rattle.fee_switch.specs.Copy.{begun_where, head_at};
 
+use fee_format::RecHead;
 use fee_log::{Log, LogStep};
 use fls_jobs::Fls;
 use fls_model::{Flash, FlashAnswer};
+use log_image::Place;
 use nv_base::DeviceNumber;
+
+/// The record that copies what stands at a place of a number, as often written.
+pub(crate) fn head_at(place: Place, number: DeviceNumber, size: u16) -> RecHead
+    ensures { result ≡ head_at place number.0 size }
+{
+    let (kind, length, count) = match place {
+        Place::Content { count, .. } => (1, size, count),
+        Place::Invalid { count } => (2, 0, count),
+        Place::Erased { count } => (3, 0, count),
+        Place::Unwritten => (3, 0, 0),
+    };
+    RecHead {
+        number: number.0,
+        kind,
+        length,
+        count,
+    }
+}
 
 // The flash's answer to a step of a log.
 fn answer_of(step: LogStep) -> FlashAnswer
@@ -33,51 +53,45 @@ pub(crate) fn read_content<F: Flash>(
     log: &Log,
     copies: &mut Log,
     buffer: &mut [u8],
-    number: DeviceNumber,
-    size: u16,
+    head: RecHead,
     at: u32,
 ) -> FlashAnswer
     requires idle { IsIdle fls.old }
     requires geometry { fls.old.geometry ≡ log.now.geometry }
-    requires within { at + record_pages_of size log.now.geometry.page ≤ log.now.end }
-    requires some { 0 < size }
-    requires buffer { size ≤ length buffer.old }
+    requires within { at + record_pages_of head.length log.now.geometry.page ≤ log.now.end }
+    requires some { 0 < head.length }
+    requires buffer { head.length ≤ length buffer.old }
     requires no_work { work_in copies.old.tail ≡ None }
-    requires format { copies.old.format ≡ 1 }
-    requires configured { IsFor copies.old.numbers (record { number = number.0; kind = 1; length = size }) }
-    requires room { record_pages_of size copies.old.geometry.page ≤ free_in copies.old }
-    ensures read { IsRead (address_of_page log.now.geometry log.now.banks log.now.bank (at + 2)) fls.old.flash (take size buffer.old) result (take size buffer.new) fls.new.flash }
-    ensures begins { copies.new ≡ begun_where result copies.old (record { number = number.0; kind = 1; length = size }) }
+    requires configured { IsFor copies.old.numbers head }
+    requires room { record_pages_of head.length copies.old.geometry.page ≤ free_in copies.old }
+    ensures read { IsRead (address_of_page log.now.geometry log.now.banks log.now.bank (at + 2)) fls.old.flash (take head.length buffer.old) result (take head.length buffer.new) fls.new.flash }
+    ensures begins { copies.new ≡ begun_where result copies.old head }
     ensures whole { length buffer.new ≡ length buffer.old }
     ensures same { fls.new ≡ record fls.old { flash = fls.new.flash; result = closed_as result } }
 {
     fls.status();
     log.lists();
     let address = log.content_address(at);
-    let answer = fls.read_range(address, &mut buffer[..usize::from(size)]);
+    let answer = fls.read_range(address, &mut buffer[..usize::from(head.length)]);
     if let FlashAnswer::Done = answer {
-        copies.append_start(number, 1, size);
+        copies.append_start(head);
     }
     answer
 }
 
-/// Begins the copy of an invalidated mark, and programs its first page.
-pub(crate) fn begin_mark<F: Flash>(
-    fls: &mut Fls<F>,
-    copies: &mut Log,
-    number: DeviceNumber,
-) -> FlashAnswer
+/// Begins the copy of a mark without content, and programs its first page.
+pub(crate) fn begin_mark<F: Flash>(fls: &mut Fls<F>, copies: &mut Log, head: RecHead) -> FlashAnswer
     requires idle { IsIdle fls.old }
     requires geometry { fls.old.geometry ≡ copies.old.geometry }
     requires no_work { work_in copies.old.tail ≡ None }
-    requires format { copies.old.format ≡ 1 }
-    requires configured { IsFor copies.old.numbers (record { number = number.0; kind = 2; length = 0 }) }
-    requires room { record_pages_of 0 copies.old.geometry.page ≤ free_in copies.old }
-    ensures step { IsStep (op_of (begun copies.old (record { number = number.0; kind = 2; length = 0 })) []) fls.old.flash result fls.new.flash }
-    ensures after { copies.new ≡ after_step (begun copies.old (record { number = number.0; kind = 2; length = 0 })) result }
+    requires mark { head.length ≡ 0 }
+    requires configured { IsFor copies.old.numbers head }
+    requires room { record_pages_of head.length copies.old.geometry.page ≤ free_in copies.old }
+    ensures step { IsStep (op_of (begun copies.old head) []) fls.old.flash result fls.new.flash }
+    ensures after { copies.new ≡ after_step (begun copies.old head) result }
     ensures same { fls.new ≡ record fls.old { flash = fls.new.flash; result = closed_as result } }
 {
-    copies.append_start(number, 2, 0);
+    copies.append_start(head);
     answer_of(copies.step(fls, &[]))
 }
 

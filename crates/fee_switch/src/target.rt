@@ -11,7 +11,7 @@ ghost use Rattle.fee_format.specs.Pages.{gate_page};
 ghost use Rattle.bank_image.specs.Laws.{erase_of};
 ghost use Rattle.fee_switch.specs.Target.{IsTarget, op_of, stage_after};
 
-use fee_format::{BankHead, write_bank_head, write_gate};
+use fee_format::{BankHead, NEW_FORMAT, write_bank_head, write_gate};
 use fls_jobs::Fls;
 use fls_model::{Flash, FlashAnswer};
 use nv_base::Geometry;
@@ -38,12 +38,12 @@ fn fill_head(generation: u32, size: usize, buffer: &mut [u8])
     requires whole { length buffer.old ≡ 256 }
     requires low { 16 ≤ size }
     requires high { size ≤ 256 }
-    ensures page { take size buffer.new ≡ bank_head_page size (record { format = 1; generation = generation }) }
+    ensures page { take size buffer.new ≡ bank_head_page size (record { format = 2; generation = generation }) }
     ensures size { length (take size buffer.new) ≡ size }
     ensures bytes { All (λ x. x < 256) (take size buffer.new) }
 {
     let head = BankHead {
-        format: 1,
+        format: NEW_FORMAT,
         generation,
     };
     write_bank_head(head, &mut buffer[..size]);

@@ -11,8 +11,7 @@ use Rattle.fls_model.specs.Told.{Told, ToldBytes, bytes_now}
 use Rattle.fee_image.specs.Image.{Layout, IsLegalLayout}
 use Rattle.fee_image.specs.Laws.{LayoutsAreLegal}
 use Rattle.log_image.specs.May.{May}
-use Rattle.device_bridge.specs.Bridge.{Making}
-use Rattle.device_bridge.specs.Image.{two_banks}
+use Rattle.device_bridge.specs.Making.{Making, banks_of}
 use Rattle.device_image.specs.Slots.{Memory}
 use Rattle.device_image.specs.Laws.{IsHeld}
 use Rattle.device_clock.specs.Device.{Device, tells}
@@ -56,7 +55,7 @@ module _ (m : Making) (entry : Told) (s : Parts) (listed : List (DeviceNumber ×
   d = device_of m entry s
 
   abbrev pub l : Layout
-  l = two_banks m.geometry
+  l = banks_of m
 
   pub power : s.fls.flash.off ≡ false
   power = sym (on.sound.off on.started)
@@ -64,14 +63,14 @@ module _ (m : Making) (entry : Told) (s : Parts) (listed : List (DeviceNumber ×
   pub shape : IsLegal m.geometry
   shape = subst IsLegal on.sound.made_for.banks_geometry on.banks.legal
 
-  pub shared : HasBanks m.geometry 2
-  shared = subst (λ (g : Geometry). HasBanks g 2) on.sound.made_for.banks_geometry (subst (HasBanks s.banks.geometry) on.sound.made_for.two on.banks.shared)
+  pub shared : HasBanks m.geometry m.banks
+  shared = subst (λ (g : Geometry). HasBanks g m.banks) on.sound.made_for.banks_geometry (subst (HasBanks s.banks.geometry) on.sound.made_for.shared on.banks.shared)
 
   pub lengths : AreLengths 0 m.numbers
   lengths = on.sound.made_for.space.lengths
 
   pub legal : LayoutsAreLegal → IsLegalLayout l
-  legal legals = legals m.geometry 2 shape shared
+  legal legals = legals m.geometry m.banks shape shared
 
   pub some : IfSome (bytes_now s.fls.flash) (λ bytes. 0 < length bytes)
   some = some_told m.geometry s.fls.flash.bytes shape on.sound.made_for.bytes
@@ -92,5 +91,5 @@ module _ (m : Making) (entry : Told) (s : Parts) (listed : List (DeviceNumber ×
   pub log_geometry : s.banks.log.geometry ≡ m.geometry
   log_geometry = on.banks.log.shape ∙ on.sound.made_for.banks_geometry
 
-  pub log_banks : s.banks.log.banks ≡ 2
-  log_banks = on.banks.log.shared ∙ on.sound.made_for.two
+  pub log_banks : s.banks.log.banks ≡ m.banks
+  log_banks = on.banks.log.shared ∙ on.sound.made_for.shared

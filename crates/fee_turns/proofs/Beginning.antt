@@ -10,7 +10,7 @@ use Rattle.nv_base.specs.Pages.{record_pages_of}
 use Rattle.memif.specs.Told.{length_of, Slot, Stand, Open as StandOpen, Ended as StandEnded, is_open}
 use Rattle.fls_model.specs.Told.{Told}
 use Rattle.fee_format.specs.declared.rec_head.RecHead.{RecHead}
-use Rattle.fee_image.specs.Image.{Layout, layout_of, bank_in}
+use Rattle.fee_image.specs.Image.{Layout, bank_in}
 use Rattle.fee_image.specs.RecordList.{pages_of_head}
 use Rattle.log_image.specs.Log.{Log, Open as LogOpen, Writes as LogWrites}
 use Rattle.log_image.specs.May.{May}
@@ -20,7 +20,7 @@ use Rattle.bank_image.specs.Laws.{TakesAppends}
 use Rattle.fee_log.specs.declared.tail.Tail.{Tail}
 use Rattle.fee_log.specs.declared.tail.Tail.TheVariants.{Open, Writes, Owes, Closed}
 use Rattle.fee_log.specs.Index.{clear_flags, with_flag}
-use Rattle.fee_log.specs.Log.{pages_in, work_in, free_in, free_behind, log_of, tail_begun, tail_with}
+use Rattle.fee_log.specs.Log.{HasFormat, pages_in, work_in, free_in, free_behind, log_of, tail_begun, tail_with}
 use Rattle.nv_base.specs.Lengths.{place_of}
 use Rattle.bank_start.specs.declared.active.ActiveBank.{ActiveBank}
 use Rattle.switch_course.specs.declared.course.Course.{Course}
@@ -29,7 +29,7 @@ use Rattle.fee_switch.specs.Banks.{TakesRecord, appended_at, index_of, left_of, 
 use Rattle.switch_promise.specs.Shown.{old_shown}
 use Rattle.switch_room.specs.KeepsRoom.{KeepsRoom}
 use Rattle.switch_room.specs.Space.{free_pages, has_room}
-use Rattle.device_bridge.specs.Bridge.{Making}
+use Rattle.device_bridge.specs.Making.{Making, banks_of}
 use Rattle.device_image.specs.Slots.{Memory, IsWorkOf, slots_found}
 use Rattle.device_image.specs.Laws.{IsHeld, SamePlaces}
 use Rattle.device_clock.specs.Device.{Device, tells, told_of, slots_in}
@@ -55,6 +55,7 @@ use Rattle.fee_turns.proofs.Before.{lengths, legal, some, copied, held_at, each_
 use Rattle.fee_turns.proofs.Places.{same_places}
 use Rattle.fee_turns.proofs.Order.{tells_by}
 use Rattle.fee_turns.proofs.Heads.{IsAmong, among, mark_is, legal_head}
+use Rattle.fee_turns.proofs.Marks.{counted_by}
 use Rattle.fee_turns.proofs.Begun.{no_course, Ready, opens, owes, ready_by, free_less, begun_work, begun_pages, begun_owed, ready_pages, room_is}
 use Rattle.fee_turns.proofs.Beside.{appended_phase, appended_takes, appended_none, takes_now, flag_at, named, places_many}
 use Rattle.fee_turns.proofs.GoneOn.{no_seal}
@@ -93,10 +94,10 @@ module _ (laws : Laws) (own : BeginLaws) (m : Making) (entry : Told) (s : Parts)
   t = begun_with j s
 
   abbrev pub r : RecHead
-  r = head_of j
+  r = head_of s.banks.log j
 
   abbrev l : Layout
-  l = layout_of m.geometry 2
+  l = banks_of m
 
   abbrev d : Device
   d = device_of m entry s
@@ -117,7 +118,7 @@ module _ (laws : Laws) (own : BeginLaws) (m : Making) (entry : Told) (s : Parts)
   number = among 0 m.numbers j.number.0 job_of.length (lengths m entry s listed kept count on) job_of.configured
 
   pub pages_are : pages_of_head p r ≡ pages_of_op p j.op j.length
-  pages_are = pages_by p j.op j.number.0 j.length job_of.length may.writes job_of.fits
+  pages_are = pages_by p j.op j.number.0 j.length job_of.length r.count may.writes job_of.fits
 
   -- it has room
   pub has_free : pages_of_head p r ≤ free_pages s.banks
@@ -132,7 +133,7 @@ module _ (laws : Laws) (own : BeginLaws) (m : Making) (entry : Told) (s : Parts)
   pub active_is : s.banks.active ≡ Some a
   active_is = (some_of s.banks.active active).1
 
-  pub formats : (a.head.format ≡ 1) × (s.banks.log.format ≡ 1)
+  pub formats : s.banks.log.format ≡ a.head.format
   formats = subst (IsActiveOf s.banks) active_is was_at_work.active
 
   log_free : pages_of_head p r ≤ free_in s.banks.log
@@ -200,14 +201,14 @@ module _ (laws : Laws) (own : BeginLaws) (m : Making) (entry : Told) (s : Parts)
       let two = subst (λ (g : Geometry). s.banks.log.end + pages_of_head p r ≤ pages_of_bank g s.banks.log.banks) (log_geometry m entry s listed kept count on) one in
       let three = subst (λ (n : ℕ). s.banks.log.end + pages_of_head p r ≤ pages_of_bank m.geometry n) (log_banks m entry s listed kept count on) two in
       record {
-        format = formats.0;
-        legal = legal_head j.op j.number.0 j.length job_of.length may.writes number job_of.fits;
+        format = sym formats ∙ subst (HasFormat s.banks.log.format) at on.log.format;
+        legal = legal_head j.op j.number.0 j.length job_of.length r.count may.writes number may.configured.count job_of.fits;
         size = length-take-le j.length s.content few;
-        room = subst (λ (g : Geometry). s.banks.log.end + pages_of_head g.page r ≤ pages_of_bank m.geometry 2) on.sound.made_for.banks_geometry three;
+        room = subst (λ (g : Geometry). s.banks.log.end + pages_of_head g.page r ≤ pages_of_bank m.geometry m.banks) on.sound.made_for.banks_geometry three;
       }
 
-  work_of_job : IsWorkOf mem.stand (LogWrites r body 0)
-  work_of_job = subst (λ (o : Option FeeJob). IsWorkOf (stand_of s.content o s.last s.given) (LogWrites r body 0)) (sym may.job) (refl, mark_is j.op j.number.0 j.length s.content may.writes)
+  work_of_job : IsWorkOf m.numbers s.banks.log.places mem.stand (LogWrites r body 0)
+  work_of_job = subst (λ (o : Option FeeJob). IsWorkOf m.numbers s.banks.log.places (stand_of s.content o s.last s.given) (LogWrites r body 0)) (sym may.job) (refl, mark_is j.op j.number.0 j.length r.count s.content may.writes, counted_by s.banks.log.numbers m.numbers s.banks.log.places j.number.0 on.sound.made_for.numbers)
 
   pub held_by : (tl : Tail) → s.banks.log.tail ≡ tl → Ready tl → (bytes : List ℕ) (more : May) → IsHeld l m.numbers bytes mem more → IsHeld l m.numbers bytes (memory_of t) more
   held_by Open at opens bytes more held =
@@ -345,18 +346,18 @@ module _ (laws : Laws) (own : BeginLaws) (m : Making) (entry : Told) (s : Parts)
   pub left_few : (told_of e).left ≤ (told_of d).left
   left_few = left_less (stand_of s.content s.job s.last s.given) v w pages_same owed_same switch_few
 
-  pub work_then : IsWork m.geometry.page (sectors_of_bank m.geometry 2) m.numbers m.reserve (stand_of s.content s.job s.last s.given) v
+  pub work_then : IsWork m.geometry.page (sectors_of_bank m.geometry m.banks) m.numbers m.reserve (stand_of s.content s.job s.last s.given) v
   work_then =
       let geo = on.sound.made_for.banks_geometry in
       let few' = few_left own.few t.banks switch_on in
       let fits = subst (λ (g : Geometry). left_of t.banks ≤ most_turns g.page (sectors_of_bank g s.banks.banks) ns) geo few' in
-      let fits2 = subst (λ (n : ℕ). left_of t.banks ≤ most_turns m.geometry.page (sectors_of_bank m.geometry n) ns) on.sound.made_for.two fits in
-      let fits3 = subst (λ (x : List (DeviceNumber × ℕ)). left_of t.banks ≤ most_turns m.geometry.page (sectors_of_bank m.geometry 2) x) on.sound.made_for.numbers fits2 in
+      let fits2 = subst (λ (n : ℕ). left_of t.banks ≤ most_turns m.geometry.page (sectors_of_bank m.geometry n) ns) on.sound.made_for.shared fits in
+      let fits3 = subst (λ (x : List (DeviceNumber × ℕ)). left_of t.banks ≤ most_turns m.geometry.page (sectors_of_bank m.geometry m.banks) x) on.sound.made_for.numbers fits2 in
       record {
         job = subst (λ (o : Option FeeJob). IsOfJob m.geometry.page m.numbers (stand_of s.content o s.last s.given) v) (sym may.job)
             (of_job m.geometry.page m.numbers s.content j s.last s.given v job_of
             (subst (λ (g : Geometry). v.pages ≤ pages_of_op g.page j.op j.length) geo (let one = pages_then in let two = wanted in omega (arith, one, two))));
-        few = subst (λ (n : ℕ). n ≤ most_turns m.geometry.page (sectors_of_bank m.geometry 2) m.numbers) (sym switch_then) fits3;
+        few = subst (λ (n : ℕ). n ≤ most_turns m.geometry.page (sectors_of_bank m.geometry m.banks) m.numbers) (sym switch_then) fits3;
       }
 
   -- free pages

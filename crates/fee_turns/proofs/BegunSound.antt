@@ -11,8 +11,7 @@ use Rattle.fee_log.specs.Log.{work_in}
 use Rattle.switch_course.specs.declared.course.Course.{Course}
 use Rattle.switch_course.specs.Course.{appended_to}
 use Rattle.fee_switch.specs.Banks.{appended_at}
-use Rattle.device_bridge.specs.Bridge.{Making}
-use Rattle.device_bridge.specs.Image.{two_banks}
+use Rattle.device_bridge.specs.Making.{Making, banks_of}
 use Rattle.device_image.specs.Slots.{settled_in}
 use Rattle.device_image.specs.Laws.{IsHeld}
 use Rattle.fee_state.specs.declared.job.FeeJob.{FeeJob}
@@ -52,16 +51,16 @@ module _ (laws : Laws) (own : BeginLaws) (m : Making) (entry : Told) (s : Parts)
   -- THE TARGET
   flags_then : (bytes : List ℕ) → flags_in m begun bytes ≡ cleared j.number.0 (flags_in m s bytes)
   flags_then bytes =
-      let settled = same_settled (two_banks m.geometry) m.numbers bytes (memory_of s).old (memory_of begun).old (places_by laws own m entry s listed kept count j on may s.banks.log.tail refl (ready laws own m entry s listed kept count j on may)) in
-      (λ i. flags_of m.numbers (with_flag (on.sound.made_for.numbers i) s.banks.log.flags j.number.0 false) (settled i))
-      ∙ flags_cleared m.numbers s.banks.log.flags (settled_in (two_banks m.geometry) m.numbers bytes (memory_of s).old) j.number.0
+      let settled = same_settled (banks_of m) m.numbers bytes (memory_of s).old (memory_of begun).old (places_by laws own m entry s listed kept count j on may s.banks.log.tail refl (ready laws own m entry s listed kept count j on may)) in
+      (λ i. flags_of m.numbers s.banks.log.places (with_flag (on.sound.made_for.numbers i) s.banks.log.flags j.number.0 false) (settled i))
+      ∙ flags_cleared m.numbers s.banks.log.places s.banks.log.flags (settled_in (banks_of m) m.numbers bytes (memory_of s).old) j.number.0
 
-  held_then : (bytes : List ℕ) → IsHeld (two_banks m.geometry) m.numbers bytes (memory_of s) (copied_of (flags_in m s bytes)) → IsHeld (two_banks m.geometry) m.numbers bytes (memory_of begun) (copied_of (flags_in m begun bytes))
+  held_then : (bytes : List ℕ) → IsHeld (banks_of m) m.numbers bytes (memory_of s) (copied_of (flags_in m s bytes)) → IsHeld (banks_of m) m.numbers bytes (memory_of begun) (copied_of (flags_in m begun bytes))
   held_then bytes held =
       let fs = flags_in m s bytes in
-      let wide = own.wider (two_banks m.geometry) m.numbers bytes (memory_of s) (copied_of fs) (copied_of (cleared j.number.0 fs)) held (own.clearing fs j.number.0) (taking laws own m entry s listed kept count j on may) in
+      let wide = own.wider (banks_of m) m.numbers bytes (memory_of s) (copied_of fs) (copied_of (cleared j.number.0 fs)) held (own.clearing fs j.number.0) (taking laws own m entry s listed kept count j on may) in
       held_by laws own m entry s listed kept count j on may s.banks.log.tail refl (ready laws own m entry s listed kept count j on may) bytes (copied_of (flags_in m begun bytes))
-      (subst (λ (x : List Flag). IsHeld (two_banks m.geometry) m.numbers bytes (memory_of s) (copied_of x)) (sym (flags_then bytes)) wide)
+      (subst (λ (x : List Flag). IsHeld (banks_of m) m.numbers bytes (memory_of s) (copied_of x)) (sym (flags_then bytes)) wide)
 
   shows_by : (bytes : List ℕ) (o : Option ℕ) (c : Option Course) → IfSome c (λ x. ShowsCopies m s x bytes) → IfSome (appended_at o c) (λ x. ShowsCopies m begun x bytes)
   shows_by bytes None None shows = tt
@@ -98,7 +97,7 @@ module _ (laws : Laws) (own : BeginLaws) (m : Making) (entry : Told) (s : Parts)
           geometry = made.geometry;
           idle = record { job = made.idle.job; attached = made.idle.attached };
           banks_geometry = made.banks_geometry;
-          two = made.two;
+          shared = made.shared;
           numbers = made.numbers;
           space = made.space;
           bytes = made.bytes;

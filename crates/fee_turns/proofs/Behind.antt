@@ -16,14 +16,13 @@ use Rattle.fls_model.specs.Step.{IsAsked}
 use Rattle.fls_model.specs.Told.{Told, Change, bytes_now}
 use Rattle.fee_image.specs.Laws.{LayoutsAreLegal}
 use Rattle.log_image.specs.May.{May}
-use Rattle.device_bridge.specs.Image.{two_banks}
+use Rattle.device_bridge.specs.Making.{Making, banks_of}
 use Rattle.device_image.specs.Laws.{IsHeld}
 use Rattle.device_clock.specs.Device.{tells}
 use Rattle.fls_jobs.specs.Start.{IsIdle}
 use Rattle.fls_jobs.specs.State.{FlsState}
 use Rattle.fee_switch.specs.Banks.{BanksState, IsSameFlash}
 use Rattle.switch_room.specs.KeepsRoom.{KeepsRoom}
-use Rattle.device_bridge.specs.Bridge.{Making}
 use Rattle.device_clock.specs.Device.{Device, told_of}
 use Rattle.device_clock.specs.Clock.{clock_of, change_of}
 use Rattle.device_clock.specs.Runs.{HasRun, counts_fault}
@@ -68,7 +67,7 @@ module _ (laws : Laws) (m : Making) (entry : Told) (s : Parts) (listed : List (D
     geometry = geometry;
     idle = idle;
     banks_geometry = is.same.geometry ∙ on.sound.made_for.banks_geometry;
-    two = is.same.banks ∙ on.sound.made_for.two;
+    shared = is.same.banks ∙ on.sound.made_for.shared;
     numbers = is.same.numbers ∙ on.sound.made_for.numbers;
     space = on.sound.made_for.space;
     bytes = bytes;
@@ -78,7 +77,7 @@ module _ (laws : Laws) (m : Making) (entry : Told) (s : Parts) (listed : List (D
   }
 
   -- the bytes hold its banks
-  pub held_behind : LayoutsAreLegal → HasRun e → (more : May) → ((new : List ℕ) → bytes_now f.flash ≡ Some new → IsTrue (tells e) → IsHeld (two_banks m.geometry) m.numbers new (memory_of t) more) → HoldsBehind e
+  pub held_behind : LayoutsAreLegal → HasRun e → (more : May) → ((new : List ℕ) → bytes_now f.flash ≡ Some new → IsTrue (tells e) → IsHeld (banks_of m) m.numbers new (memory_of t) more) → HoldsBehind e
   held_behind legals run more held = record {
     behind = memory_of t;
     copied = more;
@@ -87,7 +86,7 @@ module _ (laws : Laws) (m : Making) (entry : Told) (s : Parts) (listed : List (D
       alike = run.alike;
       legal = legal m entry s listed kept count on legals;
       some = some_told m.geometry f.flash.bytes (shape m entry s listed kept count on) bytes;
-      held = λ told. each_told f.flash.bytes (λ (x : List ℕ). IsHeld (two_banks m.geometry) m.numbers x (memory_of t) more) (λ new at. held new at told);
+      held = λ told. each_told f.flash.bytes (λ (x : List ℕ). IsHeld (banks_of m) m.numbers x (memory_of t) more) (λ new at. held new at told);
     };
     places = same_places (memory_of t).old;
     stand = refl;
@@ -100,7 +99,7 @@ module _ (laws : Laws) (m : Making) (entry : Told) (s : Parts) (listed : List (D
     pub ends : Ends
     pub run : HasRun e
     pub behind : HoldsBehind e
-    pub work : IsWork m.geometry.page (sectors_of_bank m.geometry 2) m.numbers m.reserve (stand_of s.content job last given) (work_of m.reserve b job)
+    pub work : IsWork m.geometry.page (sectors_of_bank m.geometry m.banks) m.numbers m.reserve (stand_of s.content job last given) (work_of m.reserve b job)
     pub at_work : IsAtWork m t
     pub shut : (since : ℕ) → s.worn ≡ Some since → b.course ≡ None
     pub room : f.flash.off ≡ false → KeepsRoom m.reserve b

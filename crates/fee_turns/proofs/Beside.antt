@@ -1,16 +1,16 @@
 -- What a record that begins changes of an open switch.
-use Rattle.std.specs.Prelude.{◌||◌, is_some, set, slice_get, IsTrue}
+use Rattle.std.specs.Prelude.{◌||◌, not, is_some, set, slice_get, IsTrue}
 use Rattle.std.proofs.Common.{◌≡◌, ◌≤◌, ◌==◌, ℕ, zero, suc, Bool, true, false, if◌then◌else◌, List, [], ◌∷◌, length, Option, Some, None, refl, ap, subst, arith}
 use Rattle.std.proofs.lemmas.Bool.{cond_both, eqb-true, eq-eqb, ne_eqb}
 use Rattle.nv_base.specs.Laws.{NumbersAreInBounds}
 use Rattle.nv_base.specs.Lengths.{AreLengths}
 use Rattle.nv_base.specs.declared.instance.DeviceNumber.{DeviceNumber}
-use Rattle.nv_base.specs.declared.mark.Mark.{Mark}
-use Rattle.memif.specs.Told.{length_of}
+use Rattle.memif.specs.Told.{Held, length_of}
 use Rattle.fee_format.specs.declared.rec_head.RecHead.{RecHead}
 use Rattle.log_image.specs.declared.place.Place.{Place}
+use Rattle.log_image.specs.Places.{is_written}
 use Rattle.bank_image.specs.Banks.{Old, NoBank, OldBank}
-use Rattle.bank_image.specs.Copies.{Flag, Each, Copies, is_done, is_erased, cleared}
+use Rattle.bank_image.specs.Copies.{Flag, Each, Copies, is_done, cleared}
 use Rattle.fee_image.specs.Image.{Layout, bank_in}
 use Rattle.fee_log.specs.Index.{with_flag, AreWithin}
 use Rattle.fee_log.specs.Log.{LogState}
@@ -20,7 +20,7 @@ use Rattle.switch_course.specs.Course.{appended_to}
 use Rattle.fee_switch.specs.Banks.{BanksState, TakesRecord, appended_at}
 use Rattle.switch_image.specs.Flags.{IsOpenFor}
 use Rattle.switch_promise.specs.Shown.{phase_shown}
-use Rattle.device_image.specs.Slots.{settled_in, marks_at}
+use Rattle.device_image.specs.Slots.{settled_in, held_all}
 use Rattle.device_image.specs.Laws.{SamePlaces}
 use Rattle.fee_state.specs.Copied.{flags_of, IsCopyIn, IsCopying}
 use Rattle.fee_state.specs.Work.{takes_append}
@@ -103,16 +103,18 @@ clear_again [] flags number = refl
 clear_again (x ∷ xs) [] number = refl
 clear_again (x ∷ xs) (c ∷ cs) number = λ i. clear_one (x.0.0 == number) c i ∷ clear_again xs cs number i
 
-one_cleared : (x : DeviceNumber × ℕ) (c b : Bool) (y : Mark)
-    → record { number = x.0.0; length = x.1; copied = if b then false else c; settled = y } ≡ (let f : Flag = record { number = x.0.0; length = x.1; copied = c; settled = y } in if b then record f { copied = false } else f)
-one_cleared x c true y = refl
-one_cleared x c false y = refl
+one_cleared : (x : DeviceNumber × ℕ) (w c b : Bool) (y : Held)
+    → record { number = x.0.0; length = x.1; copied = if b then false else c; written = w; settled = y } ≡ (let f : Flag = record { number = x.0.0; length = x.1; copied = c; written = w; settled = y } in if b then record f { copied = false } else f)
+one_cleared x w c true y = refl
+one_cleared x w c false y = refl
 
-pub flags_cleared : (ns : List (DeviceNumber × ℕ)) (flags : List Bool) (marks : List Mark) (number : ℕ) → flags_of ns (with_flag ns flags number false) marks ≡ cleared number (flags_of ns flags marks)
-flags_cleared [] flags marks number = refl
-flags_cleared (x ∷ xs) [] marks number = refl
-flags_cleared (x ∷ xs) (c ∷ cs) [] number = refl
-flags_cleared (x ∷ xs) (c ∷ cs) (y ∷ ys) number = λ i. one_cleared x c (x.0.0 == number) y i ∷ flags_cleared xs cs ys number i
+pub flags_cleared : (ns : List (DeviceNumber × ℕ)) (ps : List Place) (flags : List Bool) (held : List Held) (number : ℕ) → flags_of ns ps (with_flag ns flags number false) held ≡ cleared number (flags_of ns ps flags held)
+flags_cleared [] ps flags held number = refl
+flags_cleared (x ∷ xs) [] [] held number = refl
+flags_cleared (x ∷ xs) [] (c ∷ cs) held number = refl
+flags_cleared (x ∷ xs) (p ∷ ps) [] held number = refl
+flags_cleared (x ∷ xs) (p ∷ ps) (c ∷ cs) [] number = refl
+flags_cleared (x ∷ xs) (p ∷ ps) (c ∷ cs) (y ∷ ys) number = λ i. one_cleared x (is_written p) c (x.0.0 == number) y i ∷ flags_cleared xs ps cs ys number i
 
 -- the flag of a number is the one at its place
 flags_above : (number low : ℕ) (ns : List (DeviceNumber × ℕ)) (cs : List Bool) → AreLengths low ns → number ≤ low → with_flag ns cs number false ≡ cs
@@ -162,7 +164,7 @@ or_right false b e = e
 clears_open : (number n : ℕ) (fs : List Flag) → IsOpenFor number fs → IsOpenFor number (cleared n fs)
 clears_open number n [] open' = tt
 clears_open number n (f ∷ fs) open' = (
-  cond_both (f.number == n) (record f { copied = false }) f (λ (g : Flag). IsTrue (g.number == number) → is_done g ≡ false) (λ e same. or_right f.copied (is_erased f.settled) (open'.0 same)) (λ e. open'.0),
+  cond_both (f.number == n) (record f { copied = false }) f (λ (g : Flag). IsTrue (g.number == number) → is_done g ≡ false) (λ e same. or_right f.copied (not f.written) (open'.0 same)) (λ e. open'.0),
   clears_open number n fs open'.1,
 )
 
@@ -200,4 +202,4 @@ pub same_settled : (l : Layout) (ns : List (DeviceNumber × ℕ)) (bytes : List 
 same_settled l ns bytes NoBank NoBank same = refl
 same_settled l ns bytes NoBank (OldBank k h log) same = absurd same
 same_settled l ns bytes (OldBank k h log) NoBank same = absurd same
-same_settled l ns bytes (OldBank k h log) (OldBank j i next) same = λ x. marks_at (bank_in l (same.1 x).format (same.0 x)) bytes ns (same.2 x)
+same_settled l ns bytes (OldBank k h log) (OldBank j i next) same = λ x. held_all (bank_in l (same.1 x).format (same.0 x)) bytes ns (same.2 x)

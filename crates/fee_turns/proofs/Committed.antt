@@ -8,11 +8,10 @@ use Rattle.nv_base.specs.declared.instance.DeviceNumber.{DeviceNumber}
 use Rattle.nv_base.specs.declared.job.DeviceOp.{DeviceOp}
 use Rattle.nv_base.specs.declared.job.DeviceOp.TheVariants.{Write}
 use Rattle.nv_base.specs.declared.mark.Mark.{Mark}
-use Rattle.nv_base.specs.declared.mark.Mark.TheVariants as mark
 use Rattle.nv_base.specs.Lengths.{place_of}
 use Rattle.memif.specs.declared.answer.DeviceTurn.TheVariants as turn
 use Rattle.memif.specs.declared.answer.JobResult.TheVariants.{JobOk}
-use Rattle.memif.specs.Told.{First, Job, Stand, Open, Ended, is_open, length_of}
+use Rattle.memif.specs.Told.{First, Held, Job, Stand, Open, Ended, at_number, held_next, more_writes, never_written, is_open, length_of}
 use Rattle.memif.specs.Marks.{Settles}
 use Rattle.memif.specs.Calls.{Works, IsOf, JobTurns, EndsAs, Nearer, TurnsReady, is_read, urgent_first}
 use Rattle.fls_model.specs.declared.flash.FlashAnswer.TheVariants.{Done}
@@ -20,7 +19,7 @@ use Rattle.fls_model.specs.Told.{Told, bytes_now}
 use Rattle.fls_jobs.specs.State.{FlsState}
 use Rattle.fee_format.specs.declared.rec_head.RecHead.{RecHead}
 use Rattle.fee_image.specs.Found.{fits}
-use Rattle.fee_image.specs.Image.{Layout}
+use Rattle.fee_image.specs.Image.{Layout, bank_in}
 use Rattle.fee_image.specs.RecordList.{pages_of_head}
 use Rattle.fee_log.specs.declared.tail.Tail.{Tail}
 use Rattle.fee_log.specs.declared.tail.Tail.TheVariants.{Open as TailOpen, Writes, Owes, Closed}
@@ -29,10 +28,11 @@ use Rattle.fee_log.specs.Log.{LogState, IsTail, tail_with, pages_in, work_in}
 use Rattle.fee_log.specs.Step.{after_step, commits}
 use Rattle.log_image.specs.Log.{Log, Writes as LogWrites}
 use Rattle.log_image.specs.declared.place.Place.{Place}
-use Rattle.log_image.specs.May.{May, IsWider, mark_written}
+use Rattle.log_image.specs.May.{May, IsWider, held_written}
 use Rattle.log_image.specs.Places.{noted}
 use Rattle.log_image.specs.Step.{log_done, is_last}
-use Rattle.bank_image.specs.Copies.{Flag, is_erased, copied_of, cleared, settled_at}
+use Rattle.bank_image.specs.Banks.{Old}
+use Rattle.bank_image.specs.Copies.{Flag, copied_of, cleared, settled_at}
 use Rattle.bank_image.specs.Doubts.{shown_of}
 use Rattle.bank_image.specs.Laws.{TakesAppends}
 use Rattle.switch_course.specs.declared.course.Copying.{Copying}
@@ -42,8 +42,8 @@ use Rattle.switch_course.specs.Course.{turns_left as switch_turns_left, most_tur
 use Rattle.fee_switch.specs.Banks.{BanksState, TakesRecord, appended_at, index_of, left_of, left_with}
 use Rattle.switch_room.specs.KeepsRoom.{KeepsRoom, IsRoomy}
 use Rattle.switch_room.specs.Space.{free_pages}
-use Rattle.device_bridge.specs.Bridge.{Making}
-use Rattle.device_image.specs.Slots.{Memory, settled_in, job_leaves}
+use Rattle.device_bridge.specs.Making.{Making}
+use Rattle.device_image.specs.Slots.{Memory, settled_in, job_leaves, writes_of}
 use Rattle.device_image.specs.Laws.{IsHeld}
 use Rattle.device_clock.specs.Device.{Device, told_of}
 use Rattle.device_clock.specs.Clock.{clock_of}
@@ -62,15 +62,15 @@ use Rattle.fee_turns.proofs.Laws.{Laws, AppendLaws}
 use Rattle.fee_turns.proofs.Before.{power, log_geometry, copied, held_at, each_now, now_at}
 use Rattle.fee_turns.proofs.Beside.{content_beside, flags_cleared, named, places_many}
 use Rattle.fee_turns.proofs.Noted.{noted_set}
-use Rattle.fee_turns.proofs.Settled.{flags_settled, settles_one, settled_many, noted_many, settles_in, sets_none}
+use Rattle.fee_turns.proofs.Settled.{flags_settled, notes, settles_one, settled_count, settled_many, noted_many, settles_in, sets_none}
 use Rattle.fee_turns.proofs.Order.{first_of, urgent_is}
 use Rattle.fee_turns.proofs.Operation.{part_works, ticks, left, before_told, started}
 use Rattle.fee_turns.proofs.Behind.{Facts, held_behind, order, sound}
 use Rattle.fee_turns.proofs.Tails.{tailed, shown, page_commits, free_on}
 use Rattle.fee_turns.proofs.Figures.{free_is, switch_is}
 use Rattle.fee_turns.proofs.Heads.{head_fits}
-use Rattle.fee_turns.proofs.Page.{takes, in_work, h, work_is, a, active_is, formats, at_work, body, log, appending, stands}
-use Rattle.fee_turns.proofs.Shown.{after_is, j, open_is, mark as its_mark, head_is, writes, job_of, content_fits}
+use Rattle.fee_turns.proofs.Page.{takes, in_work, h, work_is, a, active_is, old_is, formats, at_work, body, log, appending, stands}
+use Rattle.fee_turns.proofs.Shown.{after_is, counted, j, open_is, mark as its_mark, head_is, writes, job_of, content_fits}
 use Rattle.fee_turns.proofs.Appended.{has_switch, flags_clear, few_left}
 use Rattle.fee_turns.proofs.GoneOn.{if_else, no_seal}
 use Rattle.fee_turns.proofs.Left.{l, asked, keeps, run_on}
@@ -165,7 +165,7 @@ module _ (laws : Laws) (own : AppendLaws) (told : CommitsAreTold) (m : Making) (
   configured = ap (λ (x : RecHead). length_of m.numbers x.number) (head_is m entry s listed kept count is.on is.work) ∙ (job_of m entry s listed kept count is.on is.work).configured
 
   fits_it : IsTrue (fits r.number size r)
-  fits_it = subst (λ (x : RecHead). IsTrue (fits x.number size x)) (sym (head_is m entry s listed kept count is.on is.work)) (head_fits jb.op jb.number.0 jb.length size (writes m entry s listed kept count is.on is.work) (job_of m entry s listed kept count is.on is.work).fits)
+  fits_it = subst (λ (x : RecHead). IsTrue (fits x.number size x)) (sym (head_is m entry s listed kept count is.on is.work)) (head_fits jb.op jb.number.0 jb.length size r.count (writes m entry s listed kept count is.on is.work) (job_of m entry s listed kept count is.on is.work).fits)
 
   was_tail : was.tail ≡ LogWrites r content at_last.done
   was_tail = ap (λ (x : Tail). tail_with x content) at_last.tail ∙ ap (λ (x : RecHead). LogWrites x content at_last.done) (sym head_same)
@@ -193,7 +193,7 @@ module _ (laws : Laws) (own : AppendLaws) (told : CommitsAreTold) (m : Making) (
       (let before = before_told s.fls.flash.bytes f.flash.bytes (work_op s) Done new (asked laws own m entry s listed kept count Done f is).bytes at in
       (committed before.0 new before.1 at more (held_at m entry s listed kept count is.on before.0 before.1 told')).held))
 
-  settles : Settles r.number (mark_written r content) (told_of d) (told_of e)
+  settles : Settles r.number (held_written r content).mark (told_of d) (told_of e)
   settles = told d e more r content (started laws m entry s listed kept count is.on (work_op s) Done f is.drives (asked laws own m entry s listed kept count Done f is) (keeps laws own m entry s listed kept count Done f is) b None JobOk 0 (run_on laws own m entry s listed kept count Done f is None JobOk 0))
       (λ old new at. committed old new at.1 at.2 more (held_at m entry s listed kept count is.on old at.1 at.0))
 
@@ -204,8 +204,8 @@ module _ (laws : Laws) (own : AppendLaws) (told : CommitsAreTold) (m : Making) (
   abbrev number : ℕ
   number = r.number
 
-  abbrev settled : Mark
-  settled = mark_written r content
+  abbrev settled : Held
+  settled = held_written r content
 
   abbrev its : IsInWork s.banks s.job r
   its = in_work m entry s listed kept count is.on is.work
@@ -213,13 +213,6 @@ module _ (laws : Laws) (own : AppendLaws) (told : CommitsAreTold) (m : Making) (
   -- its record has a content then
   is_write : (c : Course) → s.banks.course ≡ Some c → jb.op ≡ Write
   is_write c at = (job_of m entry s listed kept count is.on is.work).urgent (its.beside (ap (λ (o : Option Course). is_some o) at))
-
-  is_content : (c : Course) → s.banks.course ≡ Some c → is_erased settled ≡ false
-  is_content c at =
-      let xs = take jb.length s.content in
-      let same : Some (mark.Content xs) ≡ Some settled = sym (ap (λ (o : DeviceOp). mark_of o xs) (is_write c at)) ∙ its_mark m entry s listed kept count is.on is.work in
-      let is_it : mark.Content xs ≡ settled = cc same in
-      sym (ap is_erased is_it)
 
   of_kind : (c : Course) → s.banks.course ≡ Some c → r.kind ≡ 1
   of_kind c at = content_beside r.kind c (subst (TakesRecord r.kind) at its.taken)
@@ -255,32 +248,47 @@ module _ (laws : Laws) (own : AppendLaws) (told : CommitsAreTold) (m : Making) (
       let places = places_then ∙ noted_set 0 ns s.banks.log.places s.banks.log.end r stands_at.0 size is.on.log.numbers places_many_are place_is length_in (of_kind c at) (size_is c at) in
       let index : index_of ns (work_in s.banks.log.tail) ≡ Some stands_at.0 = ap (index_of ns) (work_is m entry s listed kept count is.on is.work) ∙ place_is in
       (λ i. turns (places i) (index_of ns (work_in (tail_open i))) c)
-      ∙ own.course s.banks.geometry.page (sectors_of_bank s.banks.geometry s.banks.banks) stands_at.0 s.banks.log.end ns s.banks.log.places s.banks.log.flags c
+      ∙ own.course s.banks.geometry.page (sectors_of_bank s.banks.geometry s.banks.banks) stands_at.0 s.banks.log.end r.count ns s.banks.log.places s.banks.log.flags c
       ∙ (λ i. turns s.banks.log.places (sym index i) c)
 
   same_left : left_of b ≡ left_of s.banks
   same_left = same_left_by s.banks.course refl
+
+  places_here : then_log.places ≡ noted m.numbers s.banks.log.places s.banks.log.end r
+  places_here = places_then ∙ ap (λ (x : List (DeviceNumber × ℕ)). noted x s.banks.log.places s.banks.log.end r) is.on.sound.made_for.numbers
+
+  -- what it settles counts one more than what was settled
+  next_is : (old : List ℕ) → held_next settled.mark (at_number never_written m.numbers (settled_in layout m.numbers old (memory_of s).old) number) ≡ settled
+  next_is old =
+      let here = a m entry s listed kept count is.on is.work in
+      let count_is : (at_number never_written m.numbers (settled_in layout m.numbers old (memory_of s).old) number).count ≡ writes_of m.numbers s.banks.log.places number =
+      ap (λ (o : Old). (at_number never_written m.numbers (settled_in layout m.numbers old o) number).count) (old_is m entry s listed kept count is.on is.work)
+      ∙ settled_count (bank_in layout here.head.format here.bank) old m.numbers s.banks.log.places number size configured in
+      λ i. record { mark = settled.mark; count = (ap (more_writes 1) count_is ∙ sym (counted m entry s listed kept count is.on is.work)) i }
 
   -- its number's mark is settled, and no other
   flags_are : (old new : List ℕ) (showing : May) → IsCommitted layout m.numbers old new (memory_of s) (memory_of t) showing r content → flags_in m t new ≡ settled_at number settled (flags_in m s old)
   flags_are old new showing done_so =
       let many : length s.banks.log.places ≡ length m.numbers = places_many_are ∙ ap (λ (x : List (DeviceNumber × ℕ)). length x) is.on.sound.made_for.numbers in
       let many_then : length then_log.places ≡ length m.numbers = ap (λ (x : List Place). length x) places_then ∙ noted_many ns s.banks.log.places s.banks.log.end r ∙ many in
-      flags_settled 0 number settled m.numbers s.banks.log.flags (settled_in layout m.numbers old (memory_of s).old) (settled_in layout m.numbers new (memory_of t).old) is.on.sound.made_for.space.lengths
+      let next = (settled_in layout m.numbers new (memory_of t).old) in
+      (λ i. flags_of m.numbers (places_here i) s.banks.log.flags next)
+      ∙ flags_settled 0 r s.banks.log.end settled m.numbers s.banks.log.places s.banks.log.flags (settled_in layout m.numbers old (memory_of s).old) next is.on.sound.made_for.space.lengths
+      (notes 0 r size m.numbers is.on.sound.made_for.space.lengths configured fits_it)
       (settled_many layout m.numbers old s.banks.active s.banks.log (body_of (work_in s.banks.log.tail) s.content) many)
       (settled_many layout m.numbers new s.banks.active then_log (body_of (work_in then_log.tail) s.content) many_then)
-      (settles_one number settled (shown_of layout old (memory_of s).old) (shown_of layout new (memory_of t).old) (job_leaves (memory_of s).stand) (job_leaves (memory_of t).stand) m.numbers
-      (settled_in layout m.numbers old (memory_of s).old) (settled_in layout m.numbers new (memory_of t).old) done_so.settles)
+      (settles_one number settled.mark settled (shown_of layout old (memory_of s).old) (shown_of layout new (memory_of t).old) (job_leaves (memory_of s).stand) (job_leaves (memory_of t).stand) m.numbers
+      (settled_in layout m.numbers old (memory_of s).old) next (next_is old) done_so.settles)
 
   clear_is : (old : List ℕ) → cleared number (flags_in m s old) ≡ flags_in m s old
   clear_is old =
-      sym (flags_cleared m.numbers s.banks.log.flags (settled_in layout m.numbers old (memory_of s).old) number)
-      ∙ ap (λ (x : List Bool). flags_of m.numbers x (settled_in layout m.numbers old (memory_of s).old)) (ap (λ (x : List (DeviceNumber × ℕ)). with_flag x s.banks.log.flags number false) (sym is.on.sound.made_for.numbers) ∙ its.clear)
+      sym (flags_cleared m.numbers s.banks.log.places s.banks.log.flags (settled_in layout m.numbers old (memory_of s).old) number)
+      ∙ ap (λ (x : List Bool). flags_of m.numbers s.banks.log.places x (settled_in layout m.numbers old (memory_of s).old)) (ap (λ (x : List (DeviceNumber × ℕ)). with_flag x s.banks.log.flags number false) (sym is.on.sound.made_for.numbers) ∙ its.clear)
 
   wide_is : (c : Course) → s.banks.course ≡ Some c → (old : List ℕ) → IsWider (copied_of (flags_in m s old)) (copied_of (settled_at number settled (flags_in m s old)))
   wide_is c at old =
       subst (λ (x : List Flag). IsWider (copied_of x) (copied_of (settled_at number settled x))) (clear_is old)
-      (own.settling (flags_in m s old) number settled (ap (λ (x : Bool). not x) (is_content c at)))
+      (own.settling (flags_in m s old) number settled)
 
   -- a copy that sets a flag is of another number
   differs : (w : Copying) → s.banks.course ≡ Some (course.Copy (Some w)) → w.sets ≡ true → IfSome (work_in s.banks.copies.tail) (λ x. x.number ≢ number)
@@ -297,7 +305,7 @@ module _ (laws : Laws) (own : AppendLaws) (told : CommitsAreTold) (m : Making) (
   copying_by : (c : Course) → s.banks.course ≡ Some c → (fs : List Flag) → IsCopying c (work_in s.banks.copies.tail) s.banks.buffer fs → IsCopying c (work_in s.banks.copies.tail) s.banks.buffer (settled_at number settled fs)
   copying_by (course.Erase n) at fs copy = tt
   copying_by (course.Copy None) at fs copy = tt
-  copying_by (course.Copy (Some w)) at fs copy = settles_in w.sets (work_in s.banks.copies.tail) s.banks.buffer number settled fs (is_content (course.Copy (Some w)) at) (differs w at) copy
+  copying_by (course.Copy (Some w)) at fs copy = settles_in w.sets (work_in s.banks.copies.tail) s.banks.buffer number settled fs (differs w at) copy
   copying_by course.Head at fs copy = tt
   copying_by (course.Gate failed) at fs copy = tt
 
@@ -343,13 +351,13 @@ module _ (laws : Laws) (own : AppendLaws) (told : CommitsAreTold) (m : Making) (
   switch_then : switch_turns m.reserve b None b.course ≡ left_of b
   switch_then = left_alone b m.reserve b.course refl
 
-  work_then : IsWork m.geometry.page (sectors_of_bank m.geometry 2) m.numbers m.reserve ended (work_of m.reserve b None)
+  work_then : IsWork m.geometry.page (sectors_of_bank m.geometry m.banks) m.numbers m.reserve ended (work_of m.reserve b None)
   work_then =
       let few = few_left own.few b switch_on in
       let fits1 = subst (λ (g : Geometry). left_of b ≤ most_turns g.page (sectors_of_bank g s.banks.banks) ns) is.on.sound.made_for.banks_geometry few in
-      let fits2 = subst (λ (n : ℕ). left_of b ≤ most_turns m.geometry.page (sectors_of_bank m.geometry n) ns) is.on.sound.made_for.two fits1 in
-      let fits3 = subst (λ (x : List (DeviceNumber × ℕ)). left_of b ≤ most_turns m.geometry.page (sectors_of_bank m.geometry 2) x) is.on.sound.made_for.numbers fits2 in
-      record { job = tt; few = subst (λ (n : ℕ). n ≤ most_turns m.geometry.page (sectors_of_bank m.geometry 2) m.numbers) (sym switch_then) fits3 }
+      let fits2 = subst (λ (n : ℕ). left_of b ≤ most_turns m.geometry.page (sectors_of_bank m.geometry n) ns) is.on.sound.made_for.shared fits1 in
+      let fits3 = subst (λ (x : List (DeviceNumber × ℕ)). left_of b ≤ most_turns m.geometry.page (sectors_of_bank m.geometry m.banks) x) is.on.sound.made_for.numbers fits2 in
+      record { job = tt; few = subst (λ (n : ℕ). n ≤ most_turns m.geometry.page (sectors_of_bank m.geometry m.banks) m.numbers) (sym switch_then) fits3 }
 
   facts : Facts laws m entry s listed kept count is.on (work_op s) Done f is.drives (asked laws own m entry s listed kept count Done f is) b None JobOk 0
   facts = record {
@@ -370,7 +378,7 @@ module _ (laws : Laws) (own : AppendLaws) (told : CommitsAreTold) (m : Making) (
   abbrev asks : Job
   asks = record { number = jb.number.0; mark = mark_of jb.op (take jb.length s.content); urgent = jb.urgent }
 
-  mark_at : asks.mark ≡ Some (mark_written r content)
+  mark_at : asks.mark ≡ Some (held_written r content).mark
   mark_at = its_mark m entry s listed kept count is.on is.work
 
   is_none_of : is_none asks.mark ≡ false
@@ -378,7 +386,7 @@ module _ (laws : Laws) (own : AppendLaws) (told : CommitsAreTold) (m : Making) (
 
   ends : EndsAs asks.mark asks.number JobOk [] (told_of d) (told_of e)
   ends = subst (λ (o : Option Mark). EndsAs o asks.number JobOk [] (told_of d) (told_of e)) (sym mark_at)
-      (subst (λ (n : ℕ). Settles n (mark_written r content) (told_of d) (told_of e)) (ap (λ (x : RecHead). x.number) (head_is m entry s listed kept count is.on is.work)) settles, refl)
+      (subst (λ (n : ℕ). Settles n (held_written r content).mark (told_of d) (told_of e)) (ap (λ (x : RecHead). x.number) (head_is m entry s listed kept count is.on is.work)) settles, refl)
 
   abbrev w : Work
   w = work_of m.reserve s.banks s.job
@@ -395,7 +403,7 @@ module _ (laws : Laws) (own : AppendLaws) (told : CommitsAreTold) (m : Making) (
       let same = same_left in
       let was_it : w.switch ≡ left_of s.banks = switch_is s.banks is.work m.reserve s.job in
       let one = one_page in
-      let open_left : switch_turns m.reserve b None b.course < turns_left (Open (record asks { mark = Some (mark_written r content) })) w = omega (arith, is_then, same, was_it, one) in
+      let open_left : switch_turns m.reserve b None b.course < turns_left (Open (record asks { mark = Some (held_written r content).mark })) w = omega (arith, is_then, same, was_it, one) in
       subst (λ (o : Option FeeJob). switch_turns m.reserve b None b.course < turns_left (at o) w) (sym job_at) (subst (λ (o : Option Mark). switch_turns m.reserve b None b.course < turns_left (Open (record asks { mark = o })) w) (sym mark_at) open_left)
 
   ready_same : (told_of d).ready ≤ (told_of e).ready
@@ -428,10 +436,11 @@ module _ (laws : Laws) (own : AppendLaws) (told : CommitsAreTold) (m : Making) (
   works : Works First (told_of d) (told_of e) (clock_of e)
   works = record {
     only = refl;
+    up = is.on.started;
     of = subst (λ (o : Option FeeJob). IsOf First (fixed_in m) (at o)) (sym job_at) (tt, sym (first_of m asks.number));
     part = part_works laws m entry s listed kept count is.on (work_op s) Done f is.drives (asked laws own m entry s listed kept count Done f is) (keeps laws own m entry s listed kept count Done f is) b None JobOk 0 (λ off. cc);
     job = subst (λ (o : Option FeeJob). JobTurns First (at o) ended (told_of d) (told_of e) (clock_of e)) (sym job_at) (ends, λ failed. cc);
-    read = subst (λ (o : Option FeeJob). is_read (at o) ≡ true → ((told_of e).first.ops ≡ (told_of d).first.ops) × ((told_of e).slots ≡ (told_of d).slots)) (sym job_at) (λ read. (let none = is_none_of in absurd (cc (read, none))));
+    read = subst (λ (o : Option FeeJob). is_read (at o) ≡ true → ((told_of e).ops ≡ (told_of d).ops) × ((told_of e).slots ≡ (told_of d).slots)) (sym job_at) (λ read. (let none = is_none_of in absurd (cc (read, none))));
     nearer = inl falls_at;
     ready = readies;
   }

@@ -5,14 +5,14 @@ use Rattle.nv_base.specs.declared.instance.DeviceNumber.{DeviceNumber}
 use Rattle.memif.specs.Told.{Stand}
 use Rattle.fls_model.specs.Op.{Op, MayLeave}
 use Rattle.fls_model.specs.Told.{Told}
-use Rattle.fee_image.specs.Image.{Layout, layout_of}
+use Rattle.fee_image.specs.Image.{Layout}
 use Rattle.log_image.specs.Log.{Log}
 use Rattle.log_image.specs.May.{May}
 use Rattle.log_image.specs.Step.{page_due, bytes_due, done_of}
 use Rattle.bank_image.specs.Banks.{Old, OldBank}
 use Rattle.fee_log.specs.Log.{LogState, work_in}
 use Rattle.fee_log.specs.Step.{IsPageOf, due_bytes}
-use Rattle.device_bridge.specs.Bridge.{Making}
+use Rattle.device_bridge.specs.Making.{Making, banks_of}
 use Rattle.device_image.specs.Slots.{banks_with, may_told, settled_in}
 use Rattle.device_image.specs.Laws.{IsHeld, IsBehindLog, SamePlaces}
 use Rattle.fee_state.specs.Inside.{Parts, memory_of}
@@ -24,9 +24,9 @@ use Rattle.fee_turns.proofs.Tails.{shown}
 use Rattle.fee_turns.proofs.Page.{a, log, old_is, op_is, inside, size}
 use Rattle.fee_turns.proofs.Shown.{after, after_is}
 
-module _ (laws : Laws) (own : AppendLaws) (m : Making) (entry : Told) (s : Parts) (listed : List (DeviceNumber × ℕ)) (kept count : ℕ) (on : IsOn m entry s listed kept count) (work : IsSome (work_in s.banks.log.tail)) (page : IsPageOf s.banks.geometry.page (due_bytes s.banks.log (work_body s))) (old new : List ℕ) (more : May) (held : IsHeld (layout_of m.geometry 2) m.numbers old (memory_of s) more) (leaves : MayLeave (work_op s) old new) where
+module _ (laws : Laws) (own : AppendLaws) (m : Making) (entry : Told) (s : Parts) (listed : List (DeviceNumber × ℕ)) (kept count : ℕ) (on : IsOn m entry s listed kept count) (work : IsSome (work_in s.banks.log.tail)) (page : IsPageOf s.banks.geometry.page (due_bytes s.banks.log (work_body s))) (old new : List ℕ) (more : May) (held : IsHeld (banks_of m) m.numbers old (memory_of s) more) (leaves : MayLeave (work_op s) old new) where
   abbrev l : Layout
-  l = layout_of m.geometry 2
+  l = banks_of m
 
   abbrev was : Log
   was = log m entry s listed kept count on work

@@ -16,13 +16,14 @@ use Rattle.fls_model.specs.Told.{Told, bytes_now}
 use Rattle.fls_jobs.specs.State.{FlsState}
 use Rattle.fee_image.specs.RecordList.{pages_of_head}
 use Rattle.fee_image.specs.Image.{Layout}
+use Rattle.log_image.specs.declared.place.Place.{Place}
 use Rattle.log_image.specs.Log.{Log, Open as LogOpen, Closed as LogClosed, Writes as LogWrites, Owes as LogOwes, Tail as LogTail}
 use Rattle.log_image.specs.Step.{log_failed, failed_with, log_behind}
 use Rattle.log_image.specs.May.{May}
 use Rattle.bank_image.specs.Banks.{Old}
 use Rattle.switch_course.specs.Course.{most_turns}
 use Rattle.fee_switch.specs.Banks.{left_of}
-use Rattle.device_bridge.specs.Bridge.{Making}
+use Rattle.device_bridge.specs.Making.{Making}
 use Rattle.device_image.specs.Slots.{Memory, IsWorkOf, slots_held, slots_found}
 use Rattle.device_image.specs.Laws.{IsHeld, SamePlaces}
 use Rattle.device_clock.specs.Device.{Device, told_of}
@@ -54,20 +55,20 @@ places_by p x (LogOwes h) = refl
 places_by p x LogClosed = refl
 
 -- and leaves no record in work, which any job fits
-open_fits : (stand : Stand) → IsWorkOf stand LogOpen
-open_fits (Open j) = tt
-open_fits (Ended result given) = tt
+open_fits : (ns : List (DeviceNumber × ℕ)) (ps : List Place) (stand : Stand) → IsWorkOf ns ps stand LogOpen
+open_fits ns ps (Open j) = tt
+open_fits ns ps (Ended result given) = tt
 
-closed_fits : (stand : Stand) → IsWorkOf stand LogClosed
-closed_fits (Open j) = tt
-closed_fits (Ended result given) = tt
+closed_fits : (ns : List (DeviceNumber × ℕ)) (ps : List Place) (stand : Stand) → IsWorkOf ns ps stand LogClosed
+closed_fits ns ps (Open j) = tt
+closed_fits ns ps (Ended result given) = tt
 
-torn_fits : (p : ℕ) (x : Log) (t : LogTail) → x.tail ≡ t → (stand : Stand) → IsWorkOf stand (failed_with p x t).tail
-torn_fits p x LogOpen is stand = subst (λ (y : LogTail). IsWorkOf stand y) (sym is) (open_fits stand)
-torn_fits p x (LogWrites h body done) is stand =
-    cond_both (nat_lt done 2) (record x { tail = LogClosed }) (log_behind p x h) (λ (c : Log). IsWorkOf stand c.tail) (λ e. closed_fits stand) (λ e. open_fits stand)
-torn_fits p x (LogOwes h) is stand = closed_fits stand
-torn_fits p x LogClosed is stand = subst (λ (y : LogTail). IsWorkOf stand y) (sym is) (closed_fits stand)
+torn_fits : (ns : List (DeviceNumber × ℕ)) (ps : List Place) (p : ℕ) (x : Log) (t : LogTail) → x.tail ≡ t → (stand : Stand) → IsWorkOf ns ps stand (failed_with p x t).tail
+torn_fits ns ps p x LogOpen is stand = subst (λ (y : LogTail). IsWorkOf ns ps stand y) (sym is) (open_fits ns ps stand)
+torn_fits ns ps p x (LogWrites h body done) is stand =
+    cond_both (nat_lt done 2) (record x { tail = LogClosed }) (log_behind p x h) (λ (c : Log). IsWorkOf ns ps stand c.tail) (λ e. closed_fits ns ps stand) (λ e. open_fits ns ps stand)
+torn_fits ns ps p x (LogOwes h) is stand = closed_fits ns ps stand
+torn_fits ns ps p x LogClosed is stand = subst (λ (y : LogTail). IsWorkOf ns ps stand y) (sym is) (closed_fits ns ps stand)
 
 module _ (laws : Laws) (own : AppendLaws) (m : Making) (entry : Told) (s : Parts) (listed : List (DeviceNumber × ℕ)) (kept count : ℕ) (f : FlsState) (is : IsAppending m entry s listed kept count Off f) where
   abbrev t : Parts
@@ -124,7 +125,7 @@ module _ (laws : Laws) (own : AppendLaws) (m : Making) (entry : Told) (s : Parts
     places = same_places;
     stand = refl;
     on = λ power. (let off = went_off in cc (off, power));
-    idle = inr (λ stand. torn_fits layout.page was was.tail refl stand);
+    idle = inr (λ stand. torn_fits m.numbers (log_failed layout.page was).places layout.page was was.tail refl stand);
   }
 
   slots_at : (x : List ℕ) (o : Memory) → (if s.started then slots_held layout m.numbers x o else slots_found layout m.numbers x) ≡ slots_held layout m.numbers x o
@@ -166,18 +167,18 @@ module _ (laws : Laws) (own : AppendLaws) (m : Making) (entry : Told) (s : Parts
   was_at_work : IsAtWork m s
   was_at_work = at_work m entry s listed kept count is.on is.work
 
-  work_then : IsWork m.geometry.page (sectors_of_bank m.geometry 2) m.numbers m.reserve (stand_of s.content s.job s.last s.given) w
+  work_then : IsWork m.geometry.page (sectors_of_bank m.geometry m.banks) m.numbers m.reserve (stand_of s.content s.job s.last s.given) w
   work_then =
       let geo = is.on.sound.made_for.banks_geometry in
       let few = few_left own.few s.banks was_at_work.switch in
       let fits = subst (λ (g : Geometry). left_of s.banks ≤ most_turns g.page (sectors_of_bank g s.banks.banks) s.banks.log.numbers) geo few in
-      let fits2 = subst (λ (n : ℕ). left_of s.banks ≤ most_turns m.geometry.page (sectors_of_bank m.geometry n) s.banks.log.numbers) is.on.sound.made_for.two fits in
-      let fits3 = subst (λ (ns : List (DeviceNumber × ℕ)). left_of s.banks ≤ most_turns m.geometry.page (sectors_of_bank m.geometry 2) ns) is.on.sound.made_for.numbers fits2 in
+      let fits2 = subst (λ (n : ℕ). left_of s.banks ≤ most_turns m.geometry.page (sectors_of_bank m.geometry n) s.banks.log.numbers) is.on.sound.made_for.shared fits in
+      let fits3 = subst (λ (ns : List (DeviceNumber × ℕ)). left_of s.banks ≤ most_turns m.geometry.page (sectors_of_bank m.geometry m.banks) ns) is.on.sound.made_for.numbers fits2 in
       record {
         job = subst (λ (o : Option FeeJob). IsOfJob m.geometry.page m.numbers (stand_of s.content o s.last s.given) w) (sym job_at)
             (of_job m.geometry.page m.numbers s.content jb s.last s.given w (job_of m entry s listed kept count is.on is.work)
             (subst (λ (g : Geometry). w.pages ≤ pages_of_op g.page jb.op jb.length) geo pages_now));
-        few = subst (λ (n : ℕ). n ≤ most_turns m.geometry.page (sectors_of_bank m.geometry 2) m.numbers) (sym (switch_is s.banks is.work m.reserve s.job)) fits3;
+        few = subst (λ (n : ℕ). n ≤ most_turns m.geometry.page (sectors_of_bank m.geometry m.banks) m.numbers) (sym (switch_is s.banks is.work m.reserve s.job)) fits3;
       }
 
   facts : Facts laws m entry s listed kept count is.on (work_op s) Off f is.drives (asked laws own m entry s listed kept count Off f is) t.banks s.job s.last s.given

@@ -21,7 +21,7 @@ use Rattle.switch_course.specs.declared.course.Course.{Course}
 use Rattle.switch_course.specs.Course.{most_turns}
 use Rattle.fee_switch.specs.Banks.{BanksState, left_of}
 use Rattle.switch_room.specs.KeepsRoom.{KeepsRoom}
-use Rattle.device_bridge.specs.Bridge.{Making}
+use Rattle.device_bridge.specs.Making.{Making}
 use Rattle.device_image.specs.Slots.{Memory}
 use Rattle.device_clock.specs.Device.{Device, told_of}
 use Rattle.device_clock.specs.Clock.{clock_of}
@@ -102,13 +102,13 @@ module _ (laws : Laws) (own : AppendLaws) (m : Making) (entry : Told) (s : Parts
     switch = switch_on;
   }
 
-  work_then : IsWork m.geometry.page (sectors_of_bank m.geometry 2) m.numbers m.reserve ended (work_of m.reserve b None)
+  work_then : IsWork m.geometry.page (sectors_of_bank m.geometry m.banks) m.numbers m.reserve ended (work_of m.reserve b None)
   work_then =
       let few = few_left own.few b switch_on in
       let fits = subst (λ (g : Geometry). left_of b ≤ most_turns g.page (sectors_of_bank g s.banks.banks) s.banks.log.numbers) is.on.sound.made_for.banks_geometry few in
-      let fits2 = subst (λ (n : ℕ). left_of b ≤ most_turns m.geometry.page (sectors_of_bank m.geometry n) s.banks.log.numbers) is.on.sound.made_for.two fits in
-      let fits3 = subst (λ (ns : List (DeviceNumber × ℕ)). left_of b ≤ most_turns m.geometry.page (sectors_of_bank m.geometry 2) ns) is.on.sound.made_for.numbers fits2 in
-      record { job = tt; few = resting_few m.reserve (most_turns m.geometry.page (sectors_of_bank m.geometry 2) m.numbers) b b.course fits3 }
+      let fits2 = subst (λ (n : ℕ). left_of b ≤ most_turns m.geometry.page (sectors_of_bank m.geometry n) s.banks.log.numbers) is.on.sound.made_for.shared fits in
+      let fits3 = subst (λ (ns : List (DeviceNumber × ℕ)). left_of b ≤ most_turns m.geometry.page (sectors_of_bank m.geometry m.banks) ns) is.on.sound.made_for.numbers fits2 in
+      record { job = tt; few = resting_few m.reserve (most_turns m.geometry.page (sectors_of_bank m.geometry m.banks) m.numbers) b b.course fits3 }
 
   facts : Facts laws m entry s listed kept count is.on (work_op s) Failed f is.drives (asked laws own m entry s listed kept count Failed f is) b None JobFailed 0
   facts = record {
@@ -147,10 +147,11 @@ module _ (laws : Laws) (own : AppendLaws) (m : Making) (entry : Told) (s : Parts
   works : Works First (told_of d) (told_of e) (clock_of e)
   works = record {
     only = refl;
+    up = is.on.started;
     of = subst (λ (o : Option FeeJob). IsOf First (fixed_in m) (at o)) (sym job_at) (tt, sym (first_of m asks.number));
     part = part_works laws m entry s listed kept count is.on (work_op s) Failed f is.drives (asked laws own m entry s listed kept count Failed f is) (keeps laws own m entry s listed kept count Failed f is) b None JobFailed 0 (λ off. cc);
     job = subst (λ (o : Option FeeJob). JobTurns First (at o) ended (told_of d) (told_of e) (clock_of e)) (sym job_at) (ends, λ failed. inl rose);
-    read = subst (λ (o : Option FeeJob). is_read (at o) ≡ true → ((told_of e).first.ops ≡ (told_of d).first.ops) × ((told_of e).slots ≡ (told_of d).slots)) (sym job_at) (λ read. (let none = is_none_of in absurd (cc (read, none))));
+    read = subst (λ (o : Option FeeJob). is_read (at o) ≡ true → ((told_of e).ops ≡ (told_of d).ops) × ((told_of e).slots ≡ (told_of d).slots)) (sym job_at) (λ read. (let none = is_none_of in absurd (cc (read, none))));
     nearer = inr rose;
     ready = λ calm. absurd (calm.faults rose);
   }

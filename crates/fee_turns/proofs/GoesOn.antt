@@ -17,7 +17,7 @@ use Rattle.device_figures.specs.Figures.{Work, turns_owed}
 use Rattle.device_figures.specs.Laws.{IsWork, IsOfJob}
 use Rattle.fee_switch.specs.Banks.{BanksState, left_of}
 use Rattle.switch_room.specs.KeepsRoom.{KeepsRoom}
-use Rattle.device_bridge.specs.Bridge.{Making}
+use Rattle.device_bridge.specs.Making.{Making}
 use Rattle.device_clock.specs.Device.{Device}
 use Rattle.device_clock.specs.Runs.{HasRun, KeepsWorn}
 use Rattle.device_turns.specs.Whole.{CutsKeep}
@@ -30,6 +30,7 @@ use Rattle.fee_turns.proofs.Laws.{Laws, AppendLaws}
 use Rattle.fee_turns.proofs.Before.{power}
 use Rattle.fee_turns.proofs.Operation.{run, worn_by}
 use Rattle.fee_turns.proofs.Tails.{GoesOn, goes_on}
+use Rattle.fee_turns.proofs.Heads.{same_head}
 use Rattle.fee_turns.proofs.Page.{h, work_is, in_work, active_is, formats, at_work, cut_keeps, keeps_last}
 use Rattle.fee_turns.proofs.Appended.{has_switch, flags_clear, few_left, pages_few, of_job}
 use Rattle.fee_turns.proofs.Figures.{switch_is, same_turns, pages_fall}
@@ -78,7 +79,7 @@ module _ (laws : Laws) (own : AppendLaws) (m : Making) (entry : Told) (s : Parts
   some_work = ap (λ (o : Option RecHead). is_some o) work_on
 
   in_work_on : IsInWork b s.job (h m entry s listed kept count is.on is.work)
-  in_work_on = let w = in_work m entry s listed kept count is.on is.work in record { of = w.of; is_open = w.is_open; head = w.head; writes = w.writes; active = w.active; taken = w.taken; beside = w.beside; clear = w.clear; alone = w.alone }
+  in_work_on = let w = in_work m entry s listed kept count is.on is.work in record { of = w.of; is_open = w.is_open; head = w.head ∙ sym (same_head s.banks.log b.log w.of refl going.places); writes = w.writes; active = w.active; taken = w.taken; beside = w.beside; clear = w.clear; alone = w.alone }
 
   was_at_work : IsAtWork m s
   was_at_work = at_work m entry s listed kept count is.on is.work
@@ -142,16 +143,16 @@ module _ (laws : Laws) (own : AppendLaws) (m : Making) (entry : Told) (s : Parts
       subst (λ (n : ℕ). v.pages ≤ n) wanted
       (pages_few p (pages_of_job p s.job) b.log.tail (λ r some. each_fits r (sym going.work ∙ some)))
 
-  pub work_then : IsWork m.geometry.page (sectors_of_bank m.geometry 2) m.numbers m.reserve (stand_of s.content s.job s.last s.given) v
+  pub work_then : IsWork m.geometry.page (sectors_of_bank m.geometry m.banks) m.numbers m.reserve (stand_of s.content s.job s.last s.given) v
   work_then =
       let geo = is.on.sound.made_for.banks_geometry in
       let few = few_left own.few b switch_on in
       let fits = subst (λ (g : Geometry). left_of b ≤ most_turns g.page (sectors_of_bank g s.banks.banks) s.banks.log.numbers) geo few in
-      let fits2 = subst (λ (n : ℕ). left_of b ≤ most_turns m.geometry.page (sectors_of_bank m.geometry n) s.banks.log.numbers) is.on.sound.made_for.two fits in
-      let fits3 = subst (λ (ns : List (DeviceNumber × ℕ)). left_of b ≤ most_turns m.geometry.page (sectors_of_bank m.geometry 2) ns) is.on.sound.made_for.numbers fits2 in
+      let fits2 = subst (λ (n : ℕ). left_of b ≤ most_turns m.geometry.page (sectors_of_bank m.geometry n) s.banks.log.numbers) is.on.sound.made_for.shared fits in
+      let fits3 = subst (λ (ns : List (DeviceNumber × ℕ)). left_of b ≤ most_turns m.geometry.page (sectors_of_bank m.geometry m.banks) ns) is.on.sound.made_for.numbers fits2 in
       record {
         job = subst (λ (o : Option FeeJob). IsOfJob m.geometry.page m.numbers (stand_of s.content o s.last s.given) v) (sym job_is)
             (of_job m.geometry.page m.numbers s.content jb s.last s.given v (job_of m entry s listed kept count is.on is.work)
             (subst (λ (g : Geometry). v.pages ≤ pages_of_op g.page jb.op jb.length) geo pages_then));
-        few = subst (λ (n : ℕ). n ≤ most_turns m.geometry.page (sectors_of_bank m.geometry 2) m.numbers) (sym switch_then) fits3;
+        few = subst (λ (n : ℕ). n ≤ most_turns m.geometry.page (sectors_of_bank m.geometry m.banks) m.numbers) (sym switch_then) fits3;
       }

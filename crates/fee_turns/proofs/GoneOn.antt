@@ -12,7 +12,7 @@ use Rattle.memif.specs.Calls.{Works, IsOf, JobTurns, Nearer, TurnsReady, is_read
 use Rattle.fls_model.specs.declared.flash.FlashAnswer.TheVariants.{Done}
 use Rattle.fls_model.specs.Told.{Told, bytes_now}
 use Rattle.fls_jobs.specs.State.{FlsState}
-use Rattle.fee_image.specs.Image.{Layout, layout_of}
+use Rattle.fee_image.specs.Image.{Layout}
 use Rattle.fee_log.specs.Log.{work_in}
 use Rattle.fee_log.specs.Step.{commits}
 use Rattle.log_image.specs.May.{May}
@@ -20,7 +20,7 @@ use Rattle.bank_image.specs.Copies.{Flag, copied_of}
 use Rattle.switch_course.specs.declared.course.Course.{Course}
 use Rattle.switch_course.specs.declared.course.Course.TheVariants as course
 use Rattle.fee_switch.specs.Banks.{TakesRecord}
-use Rattle.device_bridge.specs.Bridge.{Making}
+use Rattle.device_bridge.specs.Making.{Making, banks_of}
 use Rattle.device_image.specs.Laws.{IsHeld}
 use Rattle.device_clock.specs.Device.{Device, told_of}
 use Rattle.device_clock.specs.Clock.{clock_of}
@@ -60,7 +60,7 @@ no_seal kind (Some (course.Gate failed)) taken = absurd taken
 
 module _ (laws : Laws) (own : AppendLaws) (m : Making) (entry : Told) (s : Parts) (listed : List (DeviceNumber × ℕ)) (kept count : ℕ) (f : FlsState) (is : IsAppending m entry s listed kept count Done f) (goes : commits s.banks.geometry.page s.banks.log.tail ≡ false) where
   abbrev l : Layout
-  l = layout_of m.geometry 2
+  l = banks_of m
 
   abbrev d : Device
   d = device_of m entry s
@@ -95,7 +95,9 @@ module _ (laws : Laws) (own : AppendLaws) (m : Making) (entry : Told) (s : Parts
   same_flags : (old new : List ℕ) → bytes_now s.fls.flash ≡ Some old → bytes_now f.flash ≡ Some new → (more : May) → IsHeld l m.numbers old (memory_of s) more → flags_in m t new ≡ flags_in m s old
   same_flags old new at_old at_new more held =
       let both = left laws m entry s listed kept count is.on (work_op s) Done f is.drives (asked laws own m entry s listed kept count f is goes) old new at_old at_new in
-      ap (flags_of m.numbers s.banks.log.flags) (settled_stays laws own m entry s listed kept count is.on is.work is.page old new more held both.0 t.banks.log (memory_of s).stand (going laws own m entry s listed kept count f is goes).places)
+      let places = (going laws own m entry s listed kept count f is goes).places in
+      let settled = (settled_stays laws own m entry s listed kept count is.on is.work is.page old new more held both.0 t.banks.log (memory_of s).stand places) in
+      λ i. flags_of m.numbers (places i) s.banks.log.flags (settled i)
 
   shows_by : (old new : List ℕ) → bytes_now s.fls.flash ≡ Some old → bytes_now f.flash ≡ Some new → (c : Option Course) → IfSome c (λ x. ShowsCopies m s x old) → IfSome c (λ x. ShowsCopies m t x new)
   shows_by old new at_old at_new None shows = tt
@@ -190,10 +192,11 @@ module _ (laws : Laws) (own : AppendLaws) (m : Making) (entry : Told) (s : Parts
   works : Works First (told_of d) (told_of e) (clock_of e)
   works = record {
     only = refl;
+    up = is.on.started;
     of = subst (λ (o : Option FeeJob). IsOf First (fixed_in m) (at o)) (sym job_at) (tt, sym (first_of m asks.number));
     part = part_works laws m entry s listed kept count is.on (work_op s) Done f is.drives (asked laws own m entry s listed kept count f is goes) (keeps laws own m entry s listed kept count f is goes) t.banks s.job s.last s.given (λ off. cc);
     job = subst (λ (o : Option FeeJob). JobTurns First (at o) (at o) (told_of d) (told_of e) (clock_of e)) (sym job_at) (refl, keeps_all, falls_at);
-    read = subst (λ (o : Option FeeJob). is_read (at o) ≡ true → ((told_of e).first.ops ≡ (told_of d).first.ops) × ((told_of e).slots ≡ (told_of d).slots)) (sym job_at) (λ read. (let none = is_none_of in absurd (cc (read, none))));
+    read = subst (λ (o : Option FeeJob). is_read (at o) ≡ true → ((told_of e).ops ≡ (told_of d).ops) × ((told_of e).slots ≡ (told_of d).slots)) (sym job_at) (λ read. (let none = is_none_of in absurd (cc (read, none))));
     nearer = inl falls_at;
     ready = readies;
   }

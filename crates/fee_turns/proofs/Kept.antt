@@ -10,19 +10,21 @@ use Rattle.fls_model.specs.declared.flash.FlashAnswer.TheVariants.{Done}
 use Rattle.nv_base.specs.declared.geometry.Geometry.{Geometry}
 use Rattle.fls_model.specs.Op.{MayLeave}
 use Rattle.fls_model.specs.Step.{Leaves}
+use Rattle.fee_format.specs.Formats.{new_format}
 use Rattle.fee_format.specs.declared.bank_head.BankHead.{BankHead}
 use Rattle.fls_model.specs.Told.{Told}
 use Rattle.fee_format.specs.declared.rec_head.RecHead.{RecHead}
-use Rattle.fee_image.specs.Image.{Layout, layout_of, bank_in}
+use Rattle.fee_image.specs.Image.{Layout, bank_in}
 use Rattle.fee_image.specs.RecordList.{pages_of_head}
 use Rattle.log_image.specs.Log.{Log, Open as LogOpen, Writes as LogWrites}
 use Rattle.log_image.specs.May.{May}
 use Rattle.log_image.specs.Step.{log_done, log_begun, is_last, IsRecord}
 use Rattle.fee_log.specs.declared.tail.Tail.{Tail}
 use Rattle.fee_log.specs.declared.tail.Tail.TheVariants.{Open, Writes, Owes, Closed}
-use Rattle.fee_log.specs.Log.{LogState, IsTail, log_of, tail_with, work_in, pages_in}
+use Rattle.log_image.specs.declared.place.Place.{Place}
+use Rattle.fee_log.specs.Log.{LogState, HasFormat, IsTail, log_of, tail_with, work_in, pages_in}
 use Rattle.fee_log.specs.Step.{IsPageOf, due_bytes, after_step, commits}
-use Rattle.device_bridge.specs.Bridge.{Making}
+use Rattle.device_bridge.specs.Making.{Making, banks_of}
 use Rattle.device_image.specs.Slots.{Memory, IsWorkOf, slots_held}
 use Rattle.device_image.specs.Laws.{IsHeld}
 use Rattle.device_turns.specs.Appends.{commits as commits_log}
@@ -46,9 +48,9 @@ commits_same p (Writes r done) content = refl
 commits_same p (Owes r next) content = refl
 commits_same p Closed content = refl
 
-module _ (laws : Laws) (own : AppendLaws) (m : Making) (entry : Told) (s : Parts) (listed : List (DeviceNumber × ℕ)) (kept count : ℕ) (on : IsOn m entry s listed kept count) (work : IsSome (work_in s.banks.log.tail)) (page : IsPageOf s.banks.geometry.page (due_bytes s.banks.log (work_body s))) (goes : commits s.banks.geometry.page s.banks.log.tail ≡ false) (old new : List ℕ) (more : May) (held : IsHeld (layout_of m.geometry 2) m.numbers old (memory_of s) more) (leaves : MayLeave (work_op s) old new) (left : Leaves (work_op s) Done old new) where
+module _ (laws : Laws) (own : AppendLaws) (m : Making) (entry : Told) (s : Parts) (listed : List (DeviceNumber × ℕ)) (kept count : ℕ) (on : IsOn m entry s listed kept count) (work : IsSome (work_in s.banks.log.tail)) (page : IsPageOf s.banks.geometry.page (due_bytes s.banks.log (work_body s))) (goes : commits s.banks.geometry.page s.banks.log.tail ≡ false) (old new : List ℕ) (more : May) (held : IsHeld (banks_of m) m.numbers old (memory_of s) more) (leaves : MayLeave (work_op s) old new) (left : Leaves (work_op s) Done old new) where
   abbrev l : Layout
-  l = layout_of m.geometry 2
+  l = banks_of m
 
   abbrev then_log : LogState
   then_log = after_step s.banks.log Done
@@ -71,8 +73,8 @@ module _ (laws : Laws) (own : AppendLaws) (m : Making) (entry : Told) (s : Parts
   geo : s.banks.log.geometry ≡ m.geometry
   geo = log_geometry m entry s listed kept count on
 
-  two : s.banks.log.banks ≡ 2
-  two = log_banks m entry s listed kept count on
+  banks_are : s.banks.log.banks ≡ m.banks
+  banks_are = log_banks m entry s listed kept count on
 
   numbers : s.banks.log.numbers ≡ m.numbers
   numbers = on.sound.made_for.numbers
@@ -102,7 +104,7 @@ module _ (laws : Laws) (own : AppendLaws) (m : Making) (entry : Told) (s : Parts
       let is = subst (λ (t : Tail). shown (after_step (tailed s.banks.log t) Done) s.content ≡ log_begun (log_done s.banks.log.geometry.page s.banks.log.numbers (shown (tailed s.banks.log t) s.content)) r content) (sym e) (owed_shown s.banks.log owed r s.content) in
       let tail_is = subst (IsTail s.banks.log.geometry.page (pages_in s.banks.log) s.banks.log.end) e on.log.tail in
       let one = subst (λ (g : Geometry). s.banks.log.end + (pages_of_head g.page owed + pages_of_head g.page r) ≤ pages_of_bank g s.banks.log.banks) geo tail_is.0 in
-      let room = subst (λ (n : ℕ). s.banks.log.end + (pages_of_head l.page owed + pages_of_head l.page r) ≤ pages_of_bank m.geometry n) two one in
+      let room = subst (λ (n : ℕ). s.banks.log.end + (pages_of_head l.page owed + pages_of_head l.page r) ≤ pages_of_bank m.geometry n) banks_are one in
       let open_tail : next.tail ≡ LogOpen = subst (λ (t : Tail). (log_done l.page m.numbers (log_of (tailed s.banks.log t) (body m entry s listed kept count on work))).tail ≡ LogOpen) (sym e) refl in
       let end : next.end ≡ s.banks.log.end + pages_of_head l.page owed = subst (λ (t : Tail). (log_done l.page m.numbers (log_of (tailed s.banks.log t) (body m entry s listed kept count on work))).end ≡ s.banks.log.end + pages_of_head l.page owed) (sym e) refl in
       let fits = subst (λ (t : Tail). IfSome (work_in t) (λ x. x.length ≤ length s.content)) e (content_fits m entry s listed kept count on work) in
@@ -110,10 +112,13 @@ module _ (laws : Laws) (own : AppendLaws) (m : Making) (entry : Told) (s : Parts
       let also : work_in s.banks.log.tail ≡ Some r = ap work_in e in
       let same : h m entry s listed kept count on work ≡ r = cc (some, also) in
       let body_same : body m entry s listed kept count on work ≡ content = ap (λ (t : Tail). body_of (work_in t) s.content) e in
-      let job = subst (λ (x : List ℕ). IsWorkOf memory.stand (LogWrites r x 0)) body_same (subst (λ (x : RecHead). IsWorkOf memory.stand (LogWrites x (body m entry s listed kept count on work) 0)) same (work_of_job m entry s listed kept count on work 0)) in
+      let job = subst (λ (x : List ℕ). IsWorkOf m.numbers s.banks.log.places memory.stand (LogWrites r x 0)) body_same (subst (λ (x : RecHead). IsWorkOf m.numbers s.banks.log.places memory.stand (LogWrites x (body m entry s listed kept count on work) 0)) same (work_of_job m entry s listed kept count on work 0)) in
+      let places : next.places ≡ s.banks.log.places = subst (λ (t : Tail). (log_done l.page m.numbers (log_of (tailed s.banks.log t) (body m entry s listed kept count on work))).places ≡ s.banks.log.places) (sym e) refl in
+      let job_then = subst (λ (ps : List Place). IsWorkOf m.numbers ps memory.stand (LogWrites r content 0)) (sym places) job in
+      let format : s.banks.log.format ≡ new_format = subst (HasFormat s.banks.log.format) e on.log.format in
       let middle : Memory = with_log memory k head next memory.stand in
-      let record_at : IsRecord (bank_in l head.format k) next.end r content = record { format = (formats m entry s listed kept count on work).0; legal = tail_is.1; size = length-take-le r.length s.content fits; room = omega (arith, end, room) } in
-      let second = own.begin l m.numbers new middle more k head next r content (record { lengths = lengths m entry s listed kept count on; legal = legal m entry s listed kept count on laws.legal; held = first.held; bank = refl; takes = taking m entry s listed kept count on work }) open_tail record_at job in
+      let record_at : IsRecord (bank_in l head.format k) next.end r content = record { format = sym (formats m entry s listed kept count on work) ∙ format; legal = tail_is.1; size = length-take-le r.length s.content fits; room = omega (arith, end, room) } in
+      let second = own.begin l m.numbers new middle more k head next r content (record { lengths = lengths m entry s listed kept count on; legal = legal m entry s listed kept count on laws.legal; held = first.held; bank = refl; takes = taking m entry s listed kept count on work }) open_tail record_at job_then in
       let both : IsKept l m.numbers old new memory (with_log memory k head (log_begun next r content) memory.stand) more = record {
         held = second.held;
         keeps = λ n. keeps_on (slot_at m.numbers (slots_held l m.numbers old memory) n) (slot_at m.numbers (slots_held l m.numbers new middle) n) (slot_at m.numbers (slots_held l m.numbers new (with_log memory k head (log_begun next r content) memory.stand)) n) (first.keeps n) (second.keeps n);

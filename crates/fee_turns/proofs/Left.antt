@@ -9,13 +9,13 @@ use Rattle.fls_model.specs.Op.{MayLeave}
 use Rattle.fls_model.specs.Step.{IsAsked, OffOrAsked, Leaves}
 use Rattle.fls_model.specs.Told.{Told, bytes_now}
 use Rattle.fls_jobs.specs.State.{FlsState}
-use Rattle.fee_image.specs.Image.{Layout, layout_of}
+use Rattle.fee_image.specs.Image.{Layout}
 use Rattle.log_image.specs.May.{May}
 use Rattle.bank_image.specs.Copies.{Flag, copied_of}
 use Rattle.fee_log.specs.Log.{work_in}
 use Rattle.fee_log.specs.Step.{after_step}
 use Rattle.switch_course.specs.declared.course.Course.{Course}
-use Rattle.device_bridge.specs.Bridge.{Making}
+use Rattle.device_bridge.specs.Making.{Making, banks_of}
 use Rattle.device_image.specs.Laws.{IsHeld}
 use Rattle.device_clock.specs.Device.{Device, told_of}
 use Rattle.device_clock.specs.Runs.{HasRun, KeepsWorn}
@@ -34,7 +34,7 @@ use Rattle.fee_turns.proofs.Copies.{settled_stays}
 
 module _ (laws : Laws) (own : AppendLaws) (m : Making) (entry : Told) (s : Parts) (listed : List (DeviceNumber × ℕ)) (kept count : ℕ) (answer : FlashAnswer) (f : FlsState) (is : IsAppending m entry s listed kept count answer f) where
   abbrev pub l : Layout
-  l = layout_of m.geometry 2
+  l = banks_of m
 
   pub asked : IsAsked (work_op s) s.fls.flash answer f.flash
   asked = subst (λ (b : Bool). OffOrAsked b (work_op s) s.fls.flash answer f.flash) (power m entry s listed kept count is.on) is.step
@@ -85,7 +85,7 @@ module _ (laws : Laws) (own : AppendLaws) (m : Making) (entry : Told) (s : Parts
       same_flags old new at_old at_new more held =
           let both = left laws m entry s listed kept count is.on (work_op s) answer f is.drives asked old new at_old at_new in
           let settled = (settled_stays laws own m entry s listed kept count is.on is.work is.page old new more held both.0 t.banks.log (stand_of s.content job last given) places) in
-          λ i. flags_of m.numbers (flags i) (settled i)
+          λ i. flags_of m.numbers (places i) (flags i) (settled i)
 
       shows_by : (old new : List ℕ) → bytes_now s.fls.flash ≡ Some old → bytes_now f.flash ≡ Some new → (c : Option Course) → IfSome c (λ x. ShowsCopies m s x old) → IfSome c (λ x. ShowsCopies m t x new)
       shows_by old new at_old at_new None shows = tt

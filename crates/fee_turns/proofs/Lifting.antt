@@ -1,11 +1,11 @@
 -- From what was begun to what was there before.
 use Rattle.std.specs.Prelude.{◌&&◌, not}
 use Rattle.std.proofs.Common.{◌≡◌, ◌⊎◌, inl, inr, ◌≤◌, ◌<◌, ℕ, Bool, true, false, List, Option, Some, None, refl, subst, arith}
-use Rattle.nv_base.specs.Count.{Rose}
+use Rattle.nv_base.specs.Count.{Rose, last_count}
 use Rattle.memif.specs.declared.answer.DeviceTurn.{DeviceTurn}
 use Rattle.memif.specs.declared.answer.DeviceTurn.TheVariants.{Idle, Worked, Off}
 use Rattle.memif.specs.Told.{DeviceTold, Part, First, Second, Slot, Stand, Open, Ended, is_open, nothing_open, part_at}
-use Rattle.memif.specs.Clock.{Clock, SameClock, SamePart, Past, PartClock, clock_at, Ticks, OtherStays, After, CutIn, GoesOff}
+use Rattle.memif.specs.Clock.{Clock, SameClock, Past, Ticks, After, CutIn, GoesOff}
 use Rattle.memif.specs.declared.answer.JobResult.{JobResult}
 use Rattle.memif.specs.declared.answer.JobResult.TheVariants.{JobOk, JobFailed, JobPending, JobCanceled, BlockInconsistent, BlockInvalid}
 use Rattle.nv_base.specs.declared.mark.Mark.{Mark}
@@ -16,31 +16,18 @@ use Rattle.fee_state.specs.Inside.{device_of}
 use Rattle.fee_turns.specs.Begins.{HasBegun, BegunTurns}
 
 -- THE CLOCK
-past_by : (ops : ℕ) (a b c : PartClock) → SamePart a b → Past ops b c → Past ops a c
+past_by : (ops : ℕ) (a b c : Clock) → SameClock a b → Past ops b c → Past ops a c
 past_by ops a b c same past = record {
   after = λ k m few finds. (same.may_find (After k) m).0 (past.after k m few finds);
   cut = λ k m few finds. (same.may_find (CutIn k) m).0 (past.cut k m few finds);
   worn = λ k n few is. past.worn k n few ((same.worn k n).1 is);
+  of_second = λ k few. ((λ is. (same.of_second k).0 ((past.of_second k few).0 is)), (λ is. (past.of_second k few).1 ((same.of_second k).1 is)));
 }
 
-same_by : (a b c : PartClock) → SamePart a b → SamePart b c → SamePart a c
-same_by a b c x y = record {
-  may_find = λ w m. ((λ h. (x.may_find w m).0 ((y.may_find w m).0 h)), (λ h. (y.may_find w m).1 ((x.may_find w m).1 h)));
-  off_in = λ k. ((λ h. (x.off_in k).0 ((y.off_in k).0 h)), (λ h. (y.off_in k).1 ((x.off_in k).1 h)));
-  worn = λ k n. ((λ h. (x.worn k n).0 ((y.worn k n).0 h)), (λ h. (y.worn k n).1 ((x.worn k n).1 h)));
-}
-
-part_same : (p : Part) (a b : Clock) → SameClock a b → SamePart (clock_at p a) (clock_at p b)
-part_same First a b same = same.first
-part_same Second a b same = same.second
-
-off_by : (p : Part) (answer : DeviceTurn) (ops ops' k : ℕ) (a b : Clock) → SameClock a b → (clock_at p b).off_in k ⊎ GoesOff answer ops ops' k → (clock_at p a).off_in k ⊎ GoesOff answer ops ops' k
-off_by p answer ops ops' k a b same (inl is) = inl (((part_same p a b same).off_in k).0 is)
-off_by p answer ops ops' k a b same (inr goes) = inr goes
-
-other_by : (p : Part) (a b c : Clock) → SameClock a b → OtherStays p b c → OtherStays p a c
-other_by First a b c same stays = same_by a.second b.second c.second same.second stays
-other_by Second a b c same stays = same_by a.first b.first c.first same.first stays
+off_by : (answer : DeviceTurn) (ops ops' k : ℕ) (a b : Clock) → SameClock a b → (b.off_in k × ((k < ops) ⊎ (last_count ≤ k))) ⊎ GoesOff answer ops ops' k
+    → (a.off_in k × ((k < ops) ⊎ (last_count ≤ k))) ⊎ GoesOff answer ops ops' k
+off_by answer ops ops' k a b same (inl is) = inl ((same.off_in k).0 is.0, is.1)
+off_by answer ops ops' k a b same (inr goes) = inr goes
 
 is_shut : (a b : Bool) → a ≡ true → not a && not b ≡ true → ⊥
 is_shut true b e h = cc h
@@ -51,17 +38,11 @@ module _ (old new : DeviceTold) (switching : Bool) (left : ℕ) (clock clock_mid
   mid = record old { switching = switching; left = left }
 
   ticks_by : (p : Part) (answer : DeviceTurn) → Ticks p answer mid clock_mid new clock_new → Ticks p answer old clock new clock_new
-  ticks_by First answer t = record {
-    past = past_by old.first.ops clock.first clock_mid.first clock_new.first same.first t.past;
+  ticks_by p answer t = record {
+    past = past_by old.ops clock clock_mid clock_new same t.past;
     cut = t.cut;
-    off = λ k is. off_by First answer old.first.ops new.first.ops k clock clock_mid same (t.off k is);
-    other = other_by First clock clock_mid clock_new same t.other;
-  }
-  ticks_by Second answer t = record {
-    past = past_by old.second.ops clock.second clock_mid.second clock_new.second same.second t.past;
-    cut = t.cut;
-    off = λ k is. off_by Second answer old.second.ops new.second.ops k clock clock_mid same (t.off k is);
-    other = other_by Second clock clock_mid clock_new same t.other;
+    off = λ k is. off_by answer old.ops new.ops k clock clock_mid same (t.off k is);
+    part = t.part;
   }
 
   reads_by : (number : ℕ) (o : Option (List Slot)) (result : JobResult) (given : List ℕ) → ReadsAt number o result given mid → ReadsAt number o result given old
@@ -96,8 +77,8 @@ module _ (old new : DeviceTold) (switching : Bool) (left : ℕ) (clock clock_mid
   ready_by t calm = t (record { faults = calm.faults; off = calm.off })
 
   works_by : (p : Part) → Works p mid new clock_new → Works p old new clock_new
-  works_by First w = record { only = w.only; of = w.of; part = w.part; job = job_by First old.stand new.stand w.job; read = w.read; nearer = nearer_by old.first.faults new.first.faults w.nearer; ready = ready_by w.ready }
-  works_by Second w = record { only = w.only; of = w.of; part = w.part; job = job_by Second old.stand new.stand w.job; read = w.read; nearer = nearer_by old.second.faults new.second.faults w.nearer; ready = ready_by w.ready }
+  works_by First w = record { only = w.only; up = w.up; of = w.of; part = w.part; job = job_by First old.stand new.stand w.job; read = w.read; nearer = nearer_by old.first.faults new.first.faults w.nearer; ready = ready_by w.ready }
+  works_by Second w = record { only = w.only; up = w.up; of = w.of; part = w.part; job = job_by Second old.stand new.stand w.job; read = w.read; nearer = nearer_by old.second.faults new.second.faults w.nearer; ready = ready_by w.ready }
 
   cut_by : (p : Part) → IsCut p mid new → IsCut p old new
   cut_by First w = record { only = w.only; of = w.of; part = w.part; no_read = w.no_read; marks = w.marks }

@@ -16,9 +16,10 @@ use Rattle.fls_model.specs.Step.{IsAsked, IsChanged, Leaves, HasCause}
 use Rattle.fls_model.specs.Told.{Told, ToldBytes, IfBothTold, Change, bytes_now}
 use Rattle.fls_jobs.specs.State.{FlsState}
 use Rattle.fee_switch.specs.Banks.{BanksState}
-use Rattle.device_bridge.specs.Bridge.{Making, is_program}
+use Rattle.device_bridge.specs.Making.{Making}
+use Rattle.device_bridge.specs.Bridge.{is_program}
 use Rattle.device_bridge.specs.Image.{IsOfLastGeneration}
-use Rattle.device_clock.specs.Device.{Device, told_of, part_of}
+use Rattle.device_clock.specs.Device.{Device, told_of, ops_in, part_of}
 use Rattle.device_clock.specs.Clock.{Makes, CutsArePossible, change_of, turn_of, clock_of}
 use Rattle.device_clock.specs.Parts.{Counts}
 use Rattle.device_clock.specs.Runs.{HasRun, LeavesSound, KeepsWorn, CountsCuts as RunCounts, counts_fault}
@@ -115,7 +116,7 @@ module _ (laws : Laws) (m : Making) (entry : Told) (s : Parts) (listed : List (D
       pub counts : Counts op answer d e
       counts = record { makes = makes; on = power m entry s listed kept count on; faults = refl; small = on.sound.device.faults }
 
-      pub part_works : answer ≢ Off → PartTurns false (part_of d) (part_of e)
+      pub part_works : answer ≢ Off → PartTurns false (ops_in d) (ops_in e) (part_of d) (part_of e)
       part_works on' = laws.work op answer d e counts on'
 
       pub ticks : Ticks First (turn_of answer) (told_of d) (clock_of d) (told_of e) (clock_of e)
@@ -134,10 +135,10 @@ module _ (laws : Laws) (m : Making) (entry : Told) (s : Parts) (listed : List (D
       faults = few_faults answer s.faults on.sound.device.faults
 
       -- whatever it leaves, a worn-out device stays so
-      pub worn_by : IsTrue (is_program op) → ((old new : List ℕ) → MayLeave op old new → IsOfLastGeneration m.geometry old → IsOfLastGeneration m.geometry new) → KeepsWorn op d e
+      pub worn_by : IsTrue (is_program op) → ((old new : List ℕ) → MayLeave op old new → IsOfLastGeneration m old → IsOfLastGeneration m new) → KeepsWorn op d e
       worn_by program stays since is = (
         program,
-        each_told f.flash.bytes (IsOfLastGeneration m.geometry) (λ new at.
+        each_told f.flash.bytes (IsOfLastGeneration m) (λ new at.
             (let before = before_told s.fls.flash.bytes f.flash.bytes op answer new asked.bytes at in
-            stays before.0 new (left before.0 new before.1 at).0 (told_at s.fls.flash.bytes (IsOfLastGeneration m.geometry) before.0 before.1 (on.sound.device.run.worn since is).last))),
+            stays before.0 new (left before.0 new before.1 at).0 (told_at s.fls.flash.bytes (IsOfLastGeneration m) before.0 before.1 (on.sound.device.run.worn since is).last))),
       )

@@ -5,7 +5,7 @@ use Rattle.std.proofs.lemmas.Bool.{cond_both}
 use Rattle.nv_base.specs.Geometry.{IsLegal, sectors_of_bank}
 use Rattle.nv_base.specs.Lengths.{AreLengths}
 use Rattle.nv_base.specs.declared.instance.DeviceNumber.{DeviceNumber}
-use Rattle.memif.specs.Told.{DeviceTold, Part, First, Second, Figures, Fixed, Job, Stand, Open, Slot, figures_at, at_number, no_figures}
+use Rattle.memif.specs.Told.{DeviceTold, Part, First, Figures, Fixed, Job, Stand, Open, Slot, figures_at, at_number, no_figures}
 use Rattle.memif.specs.Calls.{InOrder, urgent_first, is_first}
 use Rattle.memif.specs.Clock.{FindsNow, ArePossible}
 use Rattle.fls_model.specs.Told.{Told, ToldBytes}
@@ -13,8 +13,7 @@ use Rattle.fee_log.specs.declared.tail.Tail.{Tail}
 use Rattle.fee_log.specs.declared.tail.Tail.TheVariants as tail
 use Rattle.switch_course.specs.declared.course.Course.{Course}
 use Rattle.switch_course.specs.declared.course.Course.TheVariants as course
-use Rattle.device_bridge.specs.Bridge.{Making}
-use Rattle.device_bridge.specs.Image.{two_banks}
+use Rattle.device_bridge.specs.Making.{Making, banks_of}
 use Rattle.device_image.specs.Slots.{slots_found}
 use Rattle.device_image.specs.Laws.{PlacesTell}
 use Rattle.device_clock.specs.Device.{Device, tells, told_of, slots_in}
@@ -66,21 +65,20 @@ tells_by false o f g same = refl
 tells_by true None f g same = refl
 tells_by true (Some y) f g same = ap (λ (x : List Slot). Some x) (same y.now)
 
-possible_so : (p : Part) (old new : DeviceTold) (x y : Option (List Slot)) (m : _) → new.fixed ≡ old.fixed → x ≡ y → ArePossible p old x m → ArePossible p new y m
-possible_so p old new x y m fixed same is = subst (λ (f : Fixed). ArePossible p (record new { fixed = f }) y m) (sym fixed) (subst (λ (o : Option (List Slot)). ArePossible p (record new { fixed = old.fixed }) o m) same is)
+possible_so : (old new : DeviceTold) (x y : Option (List Slot)) (m : _) → new.fixed ≡ old.fixed → x ≡ y → ArePossible old x m → ArePossible new y m
+possible_so old new x y m fixed same is = subst (λ (f : Fixed). ArePossible (record new { fixed = f }) y m) (sym fixed) (subst (λ (o : Option (List Slot)). ArePossible (record new { fixed = old.fixed }) o m) same is)
 
 -- what the bytes of another memory's banks show is possible by its own, where the places and the job are the same
 pub behind_finds : HeldFindsNow → PlacesTell → (d : Device) → d.started ≡ true → HoldsBehind d → FindsNow (told_of d) (clock_of d)
-behind_finds finds places d started h First m found =
+behind_finds finds places d started h m found =
     let e : Device = record d { memory = h.behind } in
-    let now = finds e h.copied h.banks First m (record { told = found.told; made = found.made; small = found.small; image = found.image; is = found.is; finds = found.finds }) in
-    possible_so First (told_of e) (told_of d) (told_of e).slots (told_of d).slots m refl (tells_by (tells d) d.flash.bytes (slots_in e) (slots_in d) same) now
+    let now = finds e h.copied h.banks m (record { told = found.told; made = found.made; small = found.small; image = found.image; is = found.is; finds = found.finds }) in
+    possible_so (told_of e) (told_of d) (told_of e).slots (told_of d).slots m refl (tells_by (tells d) d.flash.bytes (slots_in e) (slots_in d) same) now
   where
     same : (x : List ℕ) → slots_in (record d { memory = h.behind }) x ≡ slots_in d x
     same x =
-        let l = two_banks d.making.geometry in
+        let l = banks_of d.making in
         ap (λ (z : List Slot). if d.started then z else slots_found l d.making.numbers x) (sym (places l d.making.numbers x h.behind d.memory h.places (sym h.stand)))
-behind_finds finds places d started h Second m found = absurd found
 
 -- IN ORDER
 module _ (laws : Laws) (m : Making) (entry : Told) (t : Parts) (shape : IsLegal m.geometry) (lengths : AreLengths 0 m.numbers) where
@@ -91,7 +89,7 @@ module _ (laws : Laws) (m : Making) (entry : Told) (t : Parts) (shape : IsLegal 
   stand = stand_of t.content t.job t.last t.given
 
   abbrev sectors : ℕ
-  sectors = sectors_of_bank m.geometry 2
+  sectors = sectors_of_bank m.geometry m.banks
 
   few_sectors : sectors ≤ 64
   few_sectors = let h = shape.sectors_high in omega (arith, h)

@@ -28,7 +28,7 @@ use Rattle.switch_course.specs.declared.course.Course.{Course}
 use Rattle.switch_course.specs.declared.course.Course.TheVariants as course
 use Rattle.fee_switch.specs.Banks.{BanksState, TakesRecord}
 use Rattle.switch_promise.specs.Shown.{old_shown, phase_shown}
-use Rattle.device_bridge.specs.Bridge.{Making}
+use Rattle.device_bridge.specs.Making.{Making, banks_of}
 use Rattle.device_bridge.specs.Image.{IsOfLastGeneration}
 use Rattle.device_image.specs.Slots.{Memory, may_told}
 use Rattle.device_image.specs.Laws.{IsHeld}
@@ -86,7 +86,7 @@ module _ (m : Making) (entry : Told) (s : Parts) (listed : List (DeviceNumber ×
   d = device_of m entry s
 
   abbrev l : Layout
-  l = layout_of m.geometry 2
+  l = banks_of m
 
   pub at_work : IsAtWork m s
   at_work = on.sound.works on.started
@@ -106,7 +106,7 @@ module _ (m : Making) (entry : Told) (s : Parts) (listed : List (DeviceNumber ×
   pub active_is : s.banks.active ≡ Some a
   active_is = (some_of s.banks.active in_work.active).1
 
-  pub formats : (a.head.format ≡ 1) × (s.banks.log.format ≡ 1)
+  pub formats : s.banks.log.format ≡ a.head.format
   formats = subst (IsActiveOf s.banks) active_is at_work.active
 
   bank : s.banks.log.bank ≡ a.bank
@@ -157,19 +157,19 @@ module _ (m : Making) (entry : Told) (s : Parts) (listed : List (DeviceNumber ×
         let old_held = subst (λ (o : Old). HoldsOld l m.numbers old mem.target o may) old_is held.banks.old in
         let any = widen (bank_in l a.head.format a.bank) m.numbers old may any_mark log (wider may) old_held.1.holds in
         let geo = log_geometry m entry s listed kept count on in
-        let two = log_banks m entry s listed kept count on in
-        let bank_path : bank_in l a.head.format a.bank ≡ bank_of s.banks.log = λ i. bank_in (layout_of (sym geo i) (sym two i)) ((formats.0 ∙ sym formats.1) i) (sym bank i) in
+        let banks_are = log_banks m entry s listed kept count on in
+        let bank_path : bank_in l a.head.format a.bank ≡ bank_of s.banks.log = λ i. bank_in (layout_of (sym geo i) (sym banks_are i)) (sym formats i) (sym bank i) in
         let holds = subst (λ (b : Bank). HoldsLog b s.banks.log.numbers old any_mark log) bank_path (subst (λ (ns : List (DeviceNumber × ℕ)). HoldsLog (bank_in l a.head.format a.bank) ns old any_mark log) (sym on.sound.made_for.numbers) any) in
-        let size_path : l.pages * l.page * l.banks ≡ pages_in s.banks.log * s.banks.log.geometry.page * s.banks.log.banks = λ i. pages_of_bank (sym geo i) (sym two i) * (sym geo i).page * sym two i in
+        let size_path : l.pages * l.page * l.banks ≡ pages_in s.banks.log * s.banks.log.geometry.page * s.banks.log.banks = λ i. pages_of_bank (sym geo i) (sym banks_are i) * (sym geo i).page * sym banks_are i in
         let state : HoldsState s.banks.log body old any_mark = record { size = subst (λ (n : ℕ). n ≤ length old) size_path held.banks.size; holds = holds; follows = follows s.banks.log.tail s.content fits } in
         let page_path : s.banks.geometry.page ≡ s.banks.log.geometry.page = ap (λ (g : Geometry). g.page) (sym on.banks.log.shape) in
         let is = stand s.banks.log body old new any_mark (record { state = on.log; holds = state; work = work; page = subst (λ (p : ℕ). IsPageOf p (due_bytes s.banks.log body)) page_path page }) left in
-        (λ i. page_of (bank_in (layout_of (sym geo i) (sym two i)) (sym formats.1 i) (sym bank i)) new (sym (due s.banks.log body work).1 i))
+        (λ i. page_of (bank_in (layout_of (sym geo i) (sym banks_are i)) s.banks.log.format (sym bank i)) new (sym (due s.banks.log body work).1 i))
         ∙ is ∙ (λ i. bytes_due (geo i).page log)
 
     -- A WORN-OUT DEVICE
-    pub keeps_last : ProgramsKeepLast → (old new : List ℕ) → MayLeave (work_op s) old new → IsOfLastGeneration m.geometry old → IsOfLastGeneration m.geometry new
-    keeps_last last old new leaves = last m.geometry old new (bytes_due l.page log) a.bank (page_due log) (legal m entry s listed kept count on laws.legal) size inside.0 inside.1 (subst (λ (o : Op). MayLeave o old new) op_is leaves)
+    pub keeps_last : ProgramsKeepLast → (old new : List ℕ) → MayLeave (work_op s) old new → IsOfLastGeneration m old → IsOfLastGeneration m new
+    keeps_last last old new leaves = last m old new (bytes_due l.page log) a.bank (page_due log) (legal m entry s listed kept count on laws.legal) size inside.0 inside.1 (subst (λ (o : Op). MayLeave o old new) op_is leaves)
 
     -- WHATEVER A CUT LEAVES
     pub cut_keeps : AppendsFail → CutsKeep (work_op s) d

@@ -12,29 +12,30 @@ use Rattle.nv_base.specs.declared.mark.Mark.TheVariants as mark
 use Rattle.memif.specs.declared.answer.DeviceTurn.TheVariants as turn
 use Rattle.memif.specs.declared.answer.JobResult.{JobResult}
 use Rattle.memif.specs.declared.answer.JobResult.TheVariants.{JobPending, JobOk, JobFailed, BlockInvalid, BlockInconsistent}
-use Rattle.memif.specs.Told.{at_number, length_of, slot_at}
+use Rattle.memif.specs.Told.{Held, never_written, at_number, length_of, slot_at}
 use Rattle.memif.specs.Calls.{Gives, Reads}
 use Rattle.fls_model.specs.Bytes.{piece}
 use Rattle.fls_model.specs.declared.flash.FlashAnswer.TheVariants.{Done, Failed}
 use Rattle.fls_model.specs.Told.{Told}
 use Rattle.fls_jobs.specs.State.{FlsState}
-use Rattle.fee_image.specs.Image.{Layout, layout_of, bank_in}
+use Rattle.fee_image.specs.Image.{Layout, bank_in}
 use Rattle.fee_log.specs.Index.{place_in}
 use Rattle.fee_log.specs.Log.{work_in}
-use Rattle.log_image.specs.declared.place.Place.TheVariants.{Content, Invalid, Erased}
-use Rattle.log_image.specs.Places.{mark_at}
+use Rattle.log_image.specs.declared.place.Place.{Place}
+use Rattle.log_image.specs.declared.place.Place.TheVariants.{Content, Invalid, Erased, Unwritten}
+use Rattle.log_image.specs.Places.{held_at}
 use Rattle.bank_image.specs.Banks.{Old}
 use Rattle.bank_image.specs.Doubts.{shown_of}
 use Rattle.bank_start.specs.declared.active.ActiveBank.{ActiveBank}
 use Rattle.switch_promise.specs.Shown.{old_shown}
-use Rattle.device_bridge.specs.Bridge.{Making}
+use Rattle.device_bridge.specs.Making.{Making, banks_of}
 use Rattle.device_image.specs.Slots.{job_leaves, settled_in, slots_found, slots_held}
 use Rattle.device_clock.specs.Device.{slots_in}
 use Rattle.fee_state.specs.declared.job.FeeJob.{FeeJob}
 use Rattle.fee_state.specs.Inside.{Parts, body_of, device_of, memory_of}
 use Rattle.fee_state.specs.Record.{IsJobOf, IsLengthOf}
 use Rattle.fee_turns.specs.Turn.{Turned, ended_as}
-use Rattle.fee_turns.specs.Reads.{IsReading, IsAsked, place_now, ContentsAreRead, ReadsFail, MarksAreRead}
+use Rattle.fee_turns.specs.Reads.{IsReading, IsAsked, IsErasedAt, place_now, ContentsAreRead, ReadsFail, MarksAreRead}
 use Rattle.fee_turns.proofs.Laws.{Laws, ReadLaws}
 use Rattle.fee_turns.proofs.Before.{lengths, log_geometry, log_banks, now_at}
 use Rattle.fee_turns.proofs.Heads.{among}
@@ -43,9 +44,9 @@ use Rattle.fee_turns.proofs.Operation.{rose_next}
 use Rattle.fee_turns.proofs.Page.{some_of}
 use Rattle.fee_turns.proofs.Reading.{read_so}
 
-erased_at : (ns : List (DeviceNumber × ℕ)) (n : ℕ) → at_number mark.Erased ns (map (λ (x : DeviceNumber × ℕ). mark.Erased) ns) n ≡ mark.Erased
+erased_at : (ns : List (DeviceNumber × ℕ)) (n : ℕ) → at_number never_written ns (map (λ (x : DeviceNumber × ℕ). never_written) ns) n ≡ never_written
 erased_at [] n = refl
-erased_at (x ∷ xs) n = cond_both (x.0.0 == n) mark.Erased (at_number mark.Erased xs (map (λ (y : DeviceNumber × ℕ). mark.Erased) xs) n) (λ (k : Mark). k ≡ mark.Erased) (λ e. refl) (λ e. erased_at xs n)
+erased_at (x ∷ xs) n = cond_both (x.0.0 == n) never_written (at_number never_written xs (map (λ (y : DeviceNumber × ℕ). never_written) xs) n) (λ (k : Held). k ≡ never_written) (λ e. refl) (λ e. erased_at xs n)
 
 more_by : (a b : ℕ) → Rose a b → a ≤ b
 more_by a b (inl less) = omega arith
@@ -53,7 +54,7 @@ more_by a b (inr (big, le)) = le
 
 module _ (laws : Laws) (own : ReadLaws) (m : Making) (entry : Told) (s : Parts) (listed : List (DeviceNumber × ℕ)) (kept count : ℕ) (j : FeeJob) (is : IsReading m entry s listed kept count j) where
   abbrev l : Layout
-  l = layout_of m.geometry 2
+  l = banks_of m
 
   job_of : IsJobOf m.numbers j
   job_of = subst (λ (o : Option FeeJob). IfSome o (IsJobOf m.numbers)) is.job (is.on.sound.works is.on.started).job
@@ -67,21 +68,21 @@ module _ (laws : Laws) (own : ReadLaws) (m : Making) (entry : Told) (s : Parts) 
   abbrev old : Option ActiveBank → Old
   old o = old_shown o s.banks.log (body_of (work_in s.banks.log.tail) s.content)
 
-  -- the settled mark, by the active bank
-  settled_is : (bytes : List ℕ) (o : Option ActiveBank) → s.banks.active ≡ o → (slot_at m.numbers (slots_in (device_of m entry s) bytes) j.number.0).settled.mark ≡ at_number mark.Erased m.numbers (settled_in l m.numbers bytes (old o)) j.number.0
+  -- what is settled, by the active bank
+  settled_is : (bytes : List ℕ) (o : Option ActiveBank) → s.banks.active ≡ o → (slot_at m.numbers (slots_in (device_of m entry s) bytes) j.number.0).settled ≡ at_number never_written m.numbers (settled_in l m.numbers bytes (old o)) j.number.0
   settled_is bytes o at =
-      ap (λ (b : Bool). (slot_at m.numbers (if b then slots_held l m.numbers bytes (memory_of s) else slots_found l m.numbers bytes) j.number.0).settled.mark) is.on.started
+      ap (λ (b : Bool). (slot_at m.numbers (if b then slots_held l m.numbers bytes (memory_of s) else slots_found l m.numbers bytes) j.number.0).settled) is.on.started
       ∙ settled_of (shown_of l bytes (memory_of s).old) (job_leaves (memory_of s).stand) m.numbers (settled_in l m.numbers bytes (memory_of s).old) j.number.0
-      ∙ ap (λ (x : Option ActiveBank). at_number mark.Erased m.numbers (settled_in l m.numbers bytes (old x)) j.number.0) at
+      ∙ ap (λ (x : Option ActiveBank). at_number never_written m.numbers (settled_in l m.numbers bytes (old x)) j.number.0) at
 
-  mark_is : (bytes : List ℕ) (a : ActiveBank) → s.banks.active ≡ Some a → (slot_at m.numbers (slots_in (device_of m entry s) bytes) j.number.0).settled.mark ≡ mark_at (bank_in l a.head.format a.bank) bytes job_of.length (place_now s j)
-  mark_is bytes a at =
+  held_is : (bytes : List ℕ) (a : ActiveBank) → s.banks.active ≡ Some a → (slot_at m.numbers (slots_in (device_of m entry s) bytes) j.number.0).settled ≡ held_at (bank_in l a.head.format a.bank) bytes job_of.length (place_now s j)
+  held_is bytes a at =
       settled_is bytes (Some a) at
       ∙ shows_at (bank_in l a.head.format a.bank) bytes m.numbers s.banks.log.places j.number.0 job_of.length job_of.configured
-      ∙ ap (λ (ns : List (DeviceNumber × ℕ)). mark_at (bank_in l a.head.format a.bank) bytes job_of.length (place_in ns s.banks.log.places j.number.0)) (sym is.on.sound.made_for.numbers)
+      ∙ ap (λ (ns : List (DeviceNumber × ℕ)). held_at (bank_in l a.head.format a.bank) bytes job_of.length (place_in ns s.banks.log.places j.number.0)) (sym is.on.sound.made_for.numbers)
 
-  mark_none : (bytes : List ℕ) → s.banks.active ≡ None → (slot_at m.numbers (slots_in (device_of m entry s) bytes) j.number.0).settled.mark ≡ mark.Erased
-  mark_none bytes at = settled_is bytes None at ∙ erased_at m.numbers j.number.0
+  held_none : (bytes : List ℕ) → s.banks.active ≡ None → (slot_at m.numbers (slots_in (device_of m entry s) bytes) j.number.0).settled ≡ never_written
+  held_none bytes at = settled_is bytes None at ∙ erased_at m.numbers j.number.0
 
   -- IN MEMORY
   in_memory : (result : JobResult) (marked : Mark) → result ≢ JobPending → ((bytes : List ℕ) → (slot_at m.numbers (slots_in (device_of m entry s) bytes) j.number.0).settled.mark ≡ marked) → Reads marked result [] → Gives result (length_of m.numbers j.number.0) [] → (result ≡ JobFailed → ⊥)
@@ -90,33 +91,37 @@ module _ (laws : Laws) (own : ReadLaws) (m : Making) (entry : Told) (s : Parts) 
       read_so laws own m entry s listed kept count j is s.fls.flash.faults s.fls.result s.content result 0 s.faults (omega arith) (inl refl) is.on.sound.made_for.room ended (omega arith)
       (λ bytes at told. subst (λ (x : Mark). Reads x result []) (sym (shows bytes)) reads) gives (λ failed. absurd (never failed))
 
-  invalid : IsSome s.banks.active → place_now s j ≡ Invalid → Turned m entry turn.Worked s (ended_as BlockInvalid s) listed kept count false
-  invalid active place =
+  mark_at : (bytes : List ℕ) (a : ActiveBank) (p : Place) → s.banks.active ≡ Some a → place_now s j ≡ p → (slot_at m.numbers (slots_in (device_of m entry s) bytes) j.number.0).settled.mark ≡ (held_at (bank_in l a.head.format a.bank) bytes job_of.length p).mark
+  mark_at bytes a p at place = ap (λ (h : Held). h.mark) (held_is bytes a at ∙ ap (held_at (bank_in l a.head.format a.bank) bytes job_of.length) place)
+
+  invalid : IsSome s.banks.active → (writes : ℕ) → place_now s j ≡ Invalid writes → Turned m entry turn.Worked s (ended_as BlockInvalid s) listed kept count false
+  invalid active writes place =
       let a = some_of s.banks.active active in
-      in_memory BlockInvalid mark.Invalid (λ same. cc) (λ bytes. mark_is bytes a.0 a.1 ∙ ap (mark_at (bank_in l a.0.head.format a.0.bank) bytes job_of.length) place) refl refl (λ same. cc)
+      in_memory BlockInvalid mark.Invalid (λ same. cc) (λ bytes. mark_at bytes a.0 (Invalid writes) a.1 place) refl refl (λ same. cc)
 
-  erased_by : (o : Option ActiveBank) → s.banks.active ≡ o → (s.banks.active ≡ None) ⊎ (place_now s j ≡ Erased) → (bytes : List ℕ) → (slot_at m.numbers (slots_in (device_of m entry s) bytes) j.number.0).settled.mark ≡ mark.Erased
-  erased_by None at either bytes = mark_none bytes at
+  erased_by : (o : Option ActiveBank) → s.banks.active ≡ o → (s.banks.active ≡ None) ⊎ IsErasedAt (place_now s j) → (bytes : List ℕ) → (slot_at m.numbers (slots_in (device_of m entry s) bytes) j.number.0).settled.mark ≡ mark.Erased
+  erased_by None at either bytes = ap (λ (h : Held). h.mark) (held_none bytes at)
   erased_by (Some a) at (inl none) bytes = cc (at, none)
-  erased_by (Some a) at (inr place) bytes = mark_is bytes a at ∙ ap (mark_at (bank_in l a.head.format a.bank) bytes job_of.length) place
+  erased_by (Some a) at (inr (inl (writes, place))) bytes = mark_at bytes a (Erased writes) at place
+  erased_by (Some a) at (inr (inr place)) bytes = mark_at bytes a Unwritten at place
 
-  erased : (s.banks.active ≡ None) ⊎ (place_now s j ≡ Erased) → Turned m entry turn.Worked s (ended_as BlockInconsistent s) listed kept count false
+  erased : (s.banks.active ≡ None) ⊎ IsErasedAt (place_now s j) → Turned m entry turn.Worked s (ended_as BlockInconsistent s) listed kept count false
   erased either = in_memory BlockInconsistent mark.Erased (λ same. cc) (erased_by s.banks.active refl either) refl refl (λ same. cc)
 
-module _ (laws : Laws) (own : ReadLaws) (m : Making) (entry : Told) (s : Parts) (listed : List (DeviceNumber × ℕ)) (kept count : ℕ) (j : FeeJob) (is : IsReading m entry s listed kept count j) (at : ℕ) (content : List ℕ) (f : FlsState) where
+module _ (laws : Laws) (own : ReadLaws) (m : Making) (entry : Told) (s : Parts) (listed : List (DeviceNumber × ℕ)) (kept count : ℕ) (j : FeeJob) (is : IsReading m entry s listed kept count j) (at written : ℕ) (content : List ℕ) (f : FlsState) where
   abbrev lay : Layout
-  lay = layout_of m.geometry 2
+  lay = banks_of m
 
   -- over the flash
   driver : (flash_faults : ℕ) → f ≡ record s.fls { flash = f.flash; result = f.result } → f.flash ≡ record s.fls.flash { faults = flash_faults } → record s.fls { flash = record s.fls.flash { faults = flash_faults }; result = f.result } ≡ f
   driver flash_faults only flash = sym (only ∙ (λ i. record s.fls { flash = flash i; result = f.result }))
 
   -- what a content's number has settled
-  content_is : (a : ActiveBank) → s.banks.active ≡ Some a → place_now s j ≡ Content at → (bytes : List ℕ)
-      → (slot_at m.numbers (slots_in (device_of m entry s) bytes) j.number.0).settled.mark ≡ mark.Content (piece (address_of_page m.geometry 2 a.bank (at + 2)) (job_of laws own m entry s listed kept count j is).length bytes)
-  content_is a active place bytes = mark_is laws own m entry s listed kept count j is bytes a active ∙ ap (mark_at (bank_in lay a.head.format a.bank) bytes (job_of laws own m entry s listed kept count j is).length) place
+  content_is : (a : ActiveBank) → s.banks.active ≡ Some a → place_now s j ≡ Content at written → (bytes : List ℕ)
+      → (slot_at m.numbers (slots_in (device_of m entry s) bytes) j.number.0).settled.mark ≡ mark.Content (piece (address_of_page m.geometry m.banks a.bank (at + 2)) (job_of laws own m entry s listed kept count j is).length bytes)
+  content_is a active place bytes = mark_at laws own m entry s listed kept count j is bytes a (Content at written) active place
 
-  pub is_read : IsAsked s j at content Done f → Turned m entry turn.Worked s (record s { fls = f; content = content; job = None; last = JobOk; given = j.length }) listed kept count false
+  pub is_read : IsAsked s j at written content Done f → Turned m entry turn.Worked s (record s { fls = f; content = content; job = None; last = JobOk; given = j.length }) listed kept count false
   is_read asked =
       let a = some_of s.banks.active asked.active in
       let size = size_is laws own m entry s listed kept count j is in
@@ -131,7 +136,7 @@ module _ (laws : Laws) (own : ReadLaws) (m : Making) (entry : Told) (s : Parts) 
       (subst (λ (o : Option ℕ). Gives JobOk o (take j.length content)) (sym (job_of laws own m entry s listed kept count j is).configured) (whole ∙ size))
       (λ failed. cc))
 
-  pub has_failed : IsAsked s j at content Failed f → Turned m entry turn.Worked s (ended_as JobFailed (record s { fls = f; content = content; faults = next_count s.faults })) listed kept count false
+  pub has_failed : IsAsked s j at written content Failed f → Turned m entry turn.Worked s (ended_as JobFailed (record s { fls = f; content = content; faults = next_count s.faults })) listed kept count false
   has_failed asked =
       let a = some_of s.banks.active asked.active in
       subst (λ (x : FlsState). Turned m entry turn.Worked s (ended_as JobFailed (record s { fls = x; content = content; faults = next_count s.faults })) listed kept count false)
@@ -141,10 +146,10 @@ module _ (laws : Laws) (own : ReadLaws) (m : Making) (entry : Told) (s : Parts) 
       refl (λ failed. rose_next s.faults is.on.sound.device.faults))
 
 pub contents_are_read : Laws → ReadLaws → ContentsAreRead
-contents_are_read laws own m entry s listed kept count j at content f is asked = is_read laws own m entry s listed kept count j is at content f asked
+contents_are_read laws own m entry s listed kept count j at written content f is asked = is_read laws own m entry s listed kept count j is at written content f asked
 
 pub reads_fail : Laws → ReadLaws → ReadsFail
-reads_fail laws own m entry s listed kept count j at content f is asked = has_failed laws own m entry s listed kept count j is at content f asked
+reads_fail laws own m entry s listed kept count j at written content f is asked = has_failed laws own m entry s listed kept count j is at written content f asked
 
 pub marks_are_read : Laws → ReadLaws → MarksAreRead
 marks_are_read laws own m entry s listed kept count j is = (invalid laws own m entry s listed kept count j is, erased laws own m entry s listed kept count j is)

@@ -11,12 +11,12 @@ use Rattle.nv_base.specs.declared.mark.Mark.{Mark}
 use Rattle.memif.specs.declared.answer.DeviceTurn.TheVariants as turn
 use Rattle.memif.specs.declared.answer.JobResult.{JobResult}
 use Rattle.memif.specs.declared.answer.JobResult.TheVariants.{JobFailed, JobPending}
-use Rattle.memif.specs.Told.{DeviceTold, First, Held, Job, Slot, Stand, Ended, is_open, length_of, slot_at}
+use Rattle.memif.specs.Told.{DeviceTold, First, Job, Slot, Stand, Ended, is_open, length_of, slot_at}
 use Rattle.memif.specs.Calls.{Works, IsOf, JobTurns, EndsAs, Nearer, Reads, ReadsAt, Gives, urgent_first}
 use Rattle.fls_model.specs.Told.{Told, ToldBytes, bytes_now}
 use Rattle.fls_jobs.specs.declared.answer.FlsResult.{FlsResult}
 use Rattle.fee_format.specs.declared.rec_head.RecHead.{RecHead}
-use Rattle.fee_image.specs.Image.{Layout, layout_of}
+use Rattle.fee_image.specs.Image.{Layout}
 use Rattle.log_image.specs.May.{May}
 use Rattle.bank_image.specs.Banks.{Old}
 use Rattle.bank_image.specs.Copies.{Flag, copied_of}
@@ -29,7 +29,7 @@ use Rattle.switch_course.specs.declared.course.Course.{Course}
 use Rattle.switch_course.specs.Course.{most_turns}
 use Rattle.fee_switch.specs.Banks.{BanksState, left_of}
 use Rattle.switch_promise.specs.Shown.{old_shown}
-use Rattle.device_bridge.specs.Bridge.{Making}
+use Rattle.device_bridge.specs.Making.{Making, banks_of}
 use Rattle.device_image.specs.Slots.{Memory, HasJob, job_leaves, left_by, slots_found, slots_with, settled_in}
 use Rattle.device_image.specs.Laws.{IsHeld}
 use Rattle.device_clock.specs.Device.{Device, tells, told_of, slots_in}
@@ -62,14 +62,14 @@ idle_by s job j (Some r) open' op work =
     absurd (work.writes (ap (λ (x : FeeJob). x.op) same ∙ op))
 
 -- an ended job has no record in work
-pub has_none : (o : Option ActiveBank) (log : LogState) (t : Tail) (body given : List ℕ) (result : JobResult) → work_in t ≡ None → HasJob (Ended result given) (old_shown o (record log { tail = t }) body)
-has_none None log t body given result idle = tt
-has_none (Some a) log tail.Open body given result idle = tt
-has_none (Some a) log (tail.Writes h done) body given result idle = cc idle
-has_none (Some a) log (tail.Owes h next) body given result idle = tt
-has_none (Some a) log tail.Closed body given result idle = tt
+pub has_none : (ns : List (DeviceNumber × ℕ)) (o : Option ActiveBank) (log : LogState) (t : Tail) (body given : List ℕ) (result : JobResult) → work_in t ≡ None → HasJob ns (Ended result given) (old_shown o (record log { tail = t }) body)
+has_none ns None log t body given result idle = tt
+has_none ns (Some a) log tail.Open body given result idle = tt
+has_none ns (Some a) log (tail.Writes h done) body given result idle = cc idle
+has_none ns (Some a) log (tail.Owes h next) body given result idle = tt
+has_none ns (Some a) log tail.Closed body given result idle = tt
 
-empty_by : (b : Bool) (none : List Held) → (if b then none else none) ≡ none
+empty_by : (b : Bool) (none : List Mark) → (if b then none else none) ≡ none
 empty_by true none = refl
 empty_by false none = refl
 
@@ -101,7 +101,7 @@ module _ (laws : Laws) (own : ReadLaws) (m : Making) (entry : Told) (s : Parts) 
   e = device_of m entry t
 
   abbrev l : Layout
-  l = layout_of m.geometry 2
+  l = banks_of m
 
   abbrev mem : Memory
   mem = memory_of s
@@ -121,8 +121,8 @@ module _ (laws : Laws) (own : ReadLaws) (m : Making) (entry : Told) (s : Parts) 
   mem_is : memory_of t ≡ record mem { stand = stand }
   mem_is = λ i. record { old = old_same i; target = s.banks.target; phase = mem.phase; stand = stand }
 
-  has_job : HasJob stand mem.old
-  has_job = has_none s.banks.active s.banks.log s.banks.log.tail (body_of (work_in s.banks.log.tail) s.content) (take given content) result idle
+  has_job : HasJob m.numbers stand mem.old
+  has_job = has_none m.numbers s.banks.active s.banks.log s.banks.log.tail (body_of (work_in s.banks.log.tail) s.content) (take given content) result idle
 
   held_then : (bytes : List ℕ) (wide : May) → IsHeld l m.numbers bytes mem wide → IsHeld l m.numbers bytes (memory_of t) wide
   held_then bytes wide held = subst (λ (x : Memory). IsHeld l m.numbers bytes x wide) (sym mem_is)
@@ -185,7 +185,7 @@ module _ (laws : Laws) (own : ReadLaws) (m : Making) (entry : Told) (s : Parts) 
   shows_by : (x : List ℕ) (c : Option Course) → IfSome c (λ y. ShowsCopies m s y x) → IfSome c (λ y. ShowsCopies m t y x)
   shows_by x None shows = tt
   shows_by x (Some c) shows =
-      let same : flags_in m t x ≡ flags_in m s x = ap (λ (o : Old). flags_of m.numbers s.banks.log.flags (settled_in l m.numbers x o)) old_same in
+      let same : flags_in m t x ≡ flags_in m s x = ap (λ (o : Old). flags_of m.numbers s.banks.log.places s.banks.log.flags (settled_in l m.numbers x o)) old_same in
       record {
         held = subst (λ (y : List Flag). IsHeld l m.numbers x (memory_of t) (copied_of y)) (sym same) (held_then x (copied_of (flags_in m s x)) shows.held);
         copy = subst (λ (y : List Flag). IsCopying c (work_in s.banks.copies.tail) s.banks.buffer y) (sym same) shows.copy;
@@ -196,13 +196,13 @@ module _ (laws : Laws) (own : ReadLaws) (m : Making) (entry : Told) (s : Parts) 
       shows_by bytes s.banks.course (now_at s.fls.flash.bytes (λ (x : List ℕ). IfSome s.banks.course (λ c. ShowsCopies m s c x)) bytes at' (is.on.sound.copies (power m entry s listed kept count is.on) told)))
 
   -- THE PARTS
-  work_then : IsWork m.geometry.page (sectors_of_bank m.geometry 2) m.numbers m.reserve stand (work_of m.reserve s.banks None)
+  work_then : IsWork m.geometry.page (sectors_of_bank m.geometry m.banks) m.numbers m.reserve stand (work_of m.reserve s.banks None)
   work_then =
       let few = few_left own.few s.banks at_work.switch in
       let fits = subst (λ (g : Geometry). left_of s.banks ≤ most_turns g.page (sectors_of_bank g s.banks.banks) s.banks.log.numbers) is.on.sound.made_for.banks_geometry few in
-      let fits2 = subst (λ (n : ℕ). left_of s.banks ≤ most_turns m.geometry.page (sectors_of_bank m.geometry n) s.banks.log.numbers) is.on.sound.made_for.two fits in
-      let fits3 = subst (λ (ns : List (DeviceNumber × ℕ)). left_of s.banks ≤ most_turns m.geometry.page (sectors_of_bank m.geometry 2) ns) is.on.sound.made_for.numbers fits2 in
-      record { job = tt; few = resting_few m.reserve (most_turns m.geometry.page (sectors_of_bank m.geometry 2) m.numbers) s.banks s.banks.course fits3 }
+      let fits2 = subst (λ (n : ℕ). left_of s.banks ≤ most_turns m.geometry.page (sectors_of_bank m.geometry n) s.banks.log.numbers) is.on.sound.made_for.shared fits in
+      let fits3 = subst (λ (ns : List (DeviceNumber × ℕ)). left_of s.banks ≤ most_turns m.geometry.page (sectors_of_bank m.geometry m.banks) ns) is.on.sound.made_for.numbers fits2 in
+      record { job = tt; few = resting_few m.reserve (most_turns m.geometry.page (sectors_of_bank m.geometry m.banks) m.numbers) s.banks s.banks.course fits3 }
 
   sound : IsSound m entry t listed kept count false
   sound =
@@ -212,7 +212,7 @@ module _ (laws : Laws) (own : ReadLaws) (m : Making) (entry : Told) (s : Parts) 
           geometry = made.geometry;
           idle = record { job = made.idle.job; attached = made.idle.attached };
           banks_geometry = made.banks_geometry;
-          two = made.two;
+          shared = made.shared;
           numbers = made.numbers;
           space = made.space;
           bytes = made.bytes;
@@ -286,6 +286,7 @@ module _ (laws : Laws) (own : ReadLaws) (m : Making) (entry : Told) (s : Parts) 
     works : Works First (told_of d) (told_of e) (clock_of e)
     works = record {
       only = refl;
+      up = is.on.started;
       of = subst (λ (o : Option FeeJob). IsOf First (fixed_in m) (at o)) (sym is.job) (tt, sym (first_of m j.number.0));
       part = own.read d e (record { flash = refl; operations = refl; more = more; faults = counted; small = is.on.sound.device.faults }) (power m entry s listed kept count is.on);
       job = subst (λ (o : Option FeeJob). JobTurns First (at o) stand (told_of d) (told_of e) (clock_of e)) (sym is.job) (ends, λ failed. inl (may_fail failed));

@@ -4,14 +4,14 @@ use Rattle.std.proofs.Common.{◌≡◌, ◌⊎◌, inl, inr, ℕ, Bool, true, f
 use Rattle.nv_base.specs.declared.instance.DeviceNumber.{DeviceNumber}
 use Rattle.memif.specs.Told.{First, Stand, is_open, nothing_open}
 use Rattle.memif.specs.Calls.{IsOf}
-use Rattle.memif.specs.Clock.{SamePart, SameClock, PartClock, Clock}
+use Rattle.memif.specs.Clock.{SameClock, Clock}
 use Rattle.fls_model.specs.Told.{Told}
 use Rattle.switch_course.specs.declared.course.Course.{Course}
 use Rattle.switch_course.specs.declared.course.Course.TheVariants as course
 use Rattle.fee_log.specs.Log.{work_in}
 use Rattle.fee_switch.specs.Banks.{BanksState}
 use Rattle.switch_promise.specs.Shown.{phase_shown}
-use Rattle.device_bridge.specs.Bridge.{Making}
+use Rattle.device_bridge.specs.Making.{Making}
 use Rattle.device_clock.specs.Device.{is_switching, told_of}
 use Rattle.device_clock.specs.Clock.{clock_of}
 use Rattle.fee_state.specs.declared.job.FeeJob.{FeeJob}
@@ -19,11 +19,8 @@ use Rattle.fee_state.specs.Inside.{Parts, body_of, device_of, memory_of, stand_o
 use Rattle.fee_turns.specs.Rests.{IdleTurns, OffTurns}
 use Rattle.fee_turns.proofs.Order.{first_of}
 
-same_part : (c : PartClock) → SamePart c c
-same_part c = record { may_find = λ w m. ((λ h. h), (λ h. h)); off_in = λ k. ((λ h. h), (λ h. h)); worn = λ k n. ((λ h. h), (λ h. h)) }
-
 same_clock : (c : Clock) → SameClock c c
-same_clock c = record { first = same_part c.first; second = same_part c.second }
+same_clock c = record { may_find = λ w m. ((λ h. h), (λ h. h)); off_in = λ k. ((λ h. h), (λ h. h)); worn = λ k n. ((λ h. h), (λ h. h)); of_second = λ k. ((λ h. h), (λ h. h)) }
 
 -- with no job, whether a switch is open
 shut_by : (c : Option Course) (s : BanksState) (body : List ℕ) → c ≡ None → is_switching (phase_shown c s body) ≡ false

@@ -5,7 +5,7 @@ use Rattle.nv_base.specs.declared.instance.DeviceNumber.{DeviceNumber}
 use Rattle.nv_base.specs.declared.job.DeviceOp.{DeviceOp}
 use Rattle.nv_base.specs.declared.job.DeviceOp.TheVariants.{Read, Write, Invalidate, Erase}
 use Rattle.nv_base.specs.Pages.{record_pages_of}
-use Rattle.memif.specs.Told.{Stand}
+use Rattle.memif.specs.Told.{more_writes, Stand}
 use Rattle.fls_model.specs.Told.{Told}
 use Rattle.fee_format.specs.declared.rec_head.RecHead.{RecHead}
 use Rattle.fee_image.specs.RecordList.{pages_of_head}
@@ -17,16 +17,17 @@ use Rattle.switch_course.specs.declared.course.Course.TheVariants as course
 use Rattle.fee_switch.specs.Banks.{BanksState}
 use Rattle.switch_promise.specs.Shown.{old_shown, phase_shown}
 use Rattle.fee_log.specs.Log.{work_in}
-use Rattle.device_bridge.specs.Bridge.{Making}
-use Rattle.device_image.specs.Slots.{Memory, IsWorkOf}
+use Rattle.device_bridge.specs.Making.{Making}
+use Rattle.device_image.specs.Slots.{Memory, writes_of, IsWorkOf}
 use Rattle.device_turns.specs.Kept.{with_log}
-use Rattle.log_image.specs.May.{mark_written}
+use Rattle.log_image.specs.May.{held_written}
 use Rattle.fee_state.specs.declared.job.FeeJob.{FeeJob}
 use Rattle.fee_state.specs.Inside.{Parts, body_of, mark_of, stand_of}
 use Rattle.fee_state.specs.Record.{IsJobOf, IsLengthOf, head_of}
 use Rattle.fee_state.specs.Work.{pages_of_op}
 use Rattle.fee_turns.specs.Turn.{IsOn}
 use Rattle.fee_turns.proofs.Heads.{IsAmong, among, mark_is, head_with}
+use Rattle.fee_turns.proofs.Marks.{counted_by}
 use Rattle.fee_turns.proofs.Tails.{shown}
 use Rattle.fee_turns.proofs.Page.{at_work, h, work_is, in_work, a, active_is, body, mem}
 
@@ -45,11 +46,11 @@ few_by Write length of few fits = omega arith
 few_by Invalidate length of few fits = omega arith
 few_by Erase length of few fits = omega arith
 
-pub pages_by : (p : ℕ) (op : DeviceOp) (number length of : ℕ) → op ≢ Read → IsLengthOf op length of → pages_of_head p (head_with op number length) ≡ pages_of_op p op length
-pages_by p Read number length of writes fits = absurd (writes refl)
-pages_by p Write number length of writes fits = refl
-pages_by p Invalidate number length of writes fits = ap (λ (n : ℕ). record_pages_of n p) fits
-pages_by p Erase number length of writes fits = ap (λ (n : ℕ). record_pages_of n p) fits
+pub pages_by : (p : ℕ) (op : DeviceOp) (number length of count : ℕ) → op ≢ Read → IsLengthOf op length of → pages_of_head p (head_with op number length count) ≡ pages_of_op p op length
+pages_by p Read number length of count writes fits = absurd (writes refl)
+pages_by p Write number length of count writes fits = refl
+pages_by p Invalidate number length of count writes fits = ap (λ (n : ℕ). record_pages_of n p) fits
+pages_by p Erase number length of count writes fits = ap (λ (n : ℕ). record_pages_of n p) fits
 
 module _ (m : Making) (entry : Told) (s : Parts) (listed : List (DeviceNumber × ℕ)) (kept count : ℕ) (on : IsOn m entry s listed kept count) (work : IsSome (work_in s.banks.log.tail)) where
   -- with another log, and where the jobs stand then
@@ -87,7 +88,7 @@ module _ (m : Making) (entry : Told) (s : Parts) (listed : List (DeviceNumber ×
   number = among 0 m.numbers j.number.0 job_of.length on.sound.made_for.space.lengths job_of.configured
 
   -- its header is that of the record in work
-  pub head_is : h m entry s listed kept count on work ≡ head_of j
+  pub head_is : h m entry s listed kept count on work ≡ head_of s.banks.log j
   head_is = (in_work m entry s listed kept count on work).head
 
   pub few : (h m entry s listed kept count on work).length ≤ length s.content
@@ -103,16 +104,23 @@ module _ (m : Making) (entry : Told) (s : Parts) (listed : List (DeviceNumber ×
   body_is = ap (λ (o : Option RecHead). body_of o s.content) (work_is m entry s listed kept count on work) ∙ ap (λ (r : RecHead). take r.length s.content) head_is
 
   -- with its mark, where it stands open
-  pub mark : mark_of j.op (take j.length s.content) ≡ Some (mark_written (h m entry s listed kept count on work) (body m entry s listed kept count on work))
+  pub mark : mark_of j.op (take j.length s.content) ≡ Some (held_written (h m entry s listed kept count on work) (body m entry s listed kept count on work)).mark
   mark =
-      mark_is j.op j.number.0 j.length s.content writes
-      ∙ (λ i. Some (mark_written (sym head_is i) (sym body_is i)))
+      mark_is j.op j.number.0 j.length (head_of s.banks.log j).count s.content writes
+      ∙ (λ i. Some (held_written (sym head_is i) (sym body_is i)).mark)
 
-  pub work_of_job : (done : ℕ) → IsWorkOf (stand_of s.content s.job s.last s.given) (LogWrites (h m entry s listed kept count on work) (body m entry s listed kept count on work) done)
+  -- and counts one more than its number has
+  pub counted : (h m entry s listed kept count on work).count ≡ more_writes 1 (writes_of m.numbers s.banks.log.places (h m entry s listed kept count on work).number)
+  counted =
+      ap (λ (r : RecHead). r.count) head_is
+      ∙ counted_by s.banks.log.numbers m.numbers s.banks.log.places j.number.0 on.sound.made_for.numbers
+      ∙ ap (λ (r : RecHead). more_writes 1 (writes_of m.numbers s.banks.log.places r.number)) (sym head_is)
+
+  pub work_of_job : (done : ℕ) → IsWorkOf m.numbers s.banks.log.places (stand_of s.content s.job s.last s.given) (LogWrites (h m entry s listed kept count on work) (body m entry s listed kept count on work) done)
   work_of_job done =
-      subst (λ (o : Option FeeJob). IsWorkOf (stand_of s.content o s.last s.given) (LogWrites (h m entry s listed kept count on work) (body m entry s listed kept count on work) done)) (sym open_is)
-      (ap (λ (r : RecHead). r.number) (sym head_is), mark)
+      subst (λ (o : Option FeeJob). IsWorkOf m.numbers s.banks.log.places (stand_of s.content o s.last s.given) (LogWrites (h m entry s listed kept count on work) (body m entry s listed kept count on work) done)) (sym open_is)
+      (ap (λ (r : RecHead). r.number) (sym head_is), mark, counted)
 
   -- its pages
   pub pages : pages_of_head s.banks.geometry.page (h m entry s listed kept count on work) ≡ pages_of_op s.banks.geometry.page j.op j.length
-  pages = ap (λ (r : RecHead). pages_of_head s.banks.geometry.page r) head_is ∙ pages_by s.banks.geometry.page j.op j.number.0 j.length job_of.length writes job_of.fits
+  pages = ap (λ (r : RecHead). pages_of_head s.banks.geometry.page r) head_is ∙ pages_by s.banks.geometry.page j.op j.number.0 j.length job_of.length (head_of s.banks.log j).count writes job_of.fits

@@ -8,7 +8,7 @@ use Rattle.nv_base.specs.declared.instance.DeviceNumber.{DeviceNumber}
 use Rattle.memif.specs.Told.{Slot, is_open}
 use Rattle.fls_model.specs.Told.{Told}
 use Rattle.fee_format.specs.declared.rec_head.RecHead.{RecHead}
-use Rattle.fee_image.specs.Image.{Layout, layout_of}
+use Rattle.fee_image.specs.Image.{Layout}
 use Rattle.fee_image.specs.RecordList.{pages_of_head}
 use Rattle.log_image.specs.May.{May}
 use Rattle.bank_image.specs.Banks.{Old, Idle, Erasing}
@@ -24,7 +24,7 @@ use Rattle.fee_switch.specs.Banks.{BanksState, begun_again, left_of}
 use Rattle.switch_promise.specs.Shown.{old_shown, phase_shown}
 use Rattle.switch_room.specs.KeepsRoom.{KeepsRoom}
 use Rattle.switch_room.specs.Space.{free_pages, has_room}
-use Rattle.device_bridge.specs.Bridge.{Making}
+use Rattle.device_bridge.specs.Making.{Making, banks_of}
 use Rattle.device_image.specs.Slots.{Memory, slots_found}
 use Rattle.device_image.specs.Laws.{IsHeld, SamePlaces}
 use Rattle.device_clock.specs.Device.{Device, tells, told_of, slots_in}
@@ -81,7 +81,7 @@ module _ (laws : Laws) (own : SwitchLaws) (m : Making) (entry : Told) (s : Parts
   t = switching_with s
 
   abbrev l : Layout
-  l = layout_of m.geometry 2
+  l = banks_of m
 
   abbrev d : Device
   d = device_of m entry s
@@ -108,8 +108,8 @@ module _ (laws : Laws) (own : SwitchLaws) (m : Making) (entry : Told) (s : Parts
   mem_is : memory_of t ≡ record mem { target = s.banks.target; phase = Erasing 0 }
   mem_is = λ i. record { old = old_same i; target = s.banks.target; phase = Erasing (no_pages (pages_of_sector s.banks.geometry) i); stand = mem.stand }
 
-  target_in : s.banks.target < 2
-  target_in = let less = on.banks.target in let two = on.sound.made_for.two in omega (arith, less, two)
+  target_in : s.banks.target < m.banks
+  target_in = let less = on.banks.target in let same = on.sound.made_for.shared in omega (arith, less, same)
 
   held_then : (bytes : List ℕ) (wide more : May) → IsHeld l m.numbers bytes mem wide → IsHeld l m.numbers bytes (memory_of t) more
   held_then bytes wide more held = subst (λ (x : Memory). IsHeld l m.numbers bytes x more) (sym mem_is)
@@ -157,14 +157,14 @@ module _ (laws : Laws) (own : SwitchLaws) (m : Making) (entry : Told) (s : Parts
       record { held = held_then bytes more (copied_of (flags_in m t bytes)) (held_at m entry s listed kept count on bytes at told); copy = tt })
 
   -- THE SWITCH
-  pages_are : pages_of_head p (head_of j) ≡ pages_of_op p j.op j.length
-  pages_are = pages_by p j.op j.number.0 j.length job_of.length may.writes job_of.fits
+  pages_are : pages_of_head p (head_of s.banks.log j) ≡ pages_of_op p j.op j.length
+  pages_are = pages_by p j.op j.number.0 j.length job_of.length (head_of s.banks.log j).count may.writes job_of.fits
 
-  full : has_room j.urgent (pages_of_head p (head_of j)) m.reserve (free_pages s.banks) ≡ false
+  full : has_room j.urgent (pages_of_head p (head_of s.banks.log j)) m.reserve (free_pages s.banks) ≡ false
   full = ap (λ (n : ℕ). has_room j.urgent n m.reserve (free_pages s.banks)) pages_are ∙ may.full
 
   room_on : KeepsRoom m.reserve t.banks
-  room_on = own.room m.reserve s.banks (head_of j) j.urgent on.banks (on.sound.room on.started (power m entry s listed kept count on)) may.idle may.worn may.configured full
+  room_on = own.room m.reserve s.banks (head_of s.banks.log j) j.urgent on.banks (on.sound.room on.started (power m entry s listed kept count on)) may.idle may.worn may.configured full
 
   switch_on : HasSwitch t.banks (Some (Erase 0))
   switch_on = (may.worn, room_on.switch.going)
@@ -230,13 +230,13 @@ module _ (laws : Laws) (own : SwitchLaws) (m : Making) (entry : Told) (s : Parts
   pages_now : v.pages ≤ pages_of_op p j.op j.length
   pages_now = subst (λ (n : ℕ). v.pages ≤ n) wanted (pages_few p (pages_of_job p s.job) s.banks.log.tail (λ r some'. (let idle = may.idle in absurd (cc (idle, some')))))
 
-  work_then : IsWork m.geometry.page (sectors_of_bank m.geometry 2) m.numbers m.reserve (stand_of s.content s.job s.last s.given) v
+  work_then : IsWork m.geometry.page (sectors_of_bank m.geometry m.banks) m.numbers m.reserve (stand_of s.content s.job s.last s.given) v
   work_then =
       let geo = on.sound.made_for.banks_geometry in
       let few = few_left own.few t.banks switch_on in
       let fits = subst (λ (g : Geometry). left_of t.banks ≤ most_turns g.page (sectors_of_bank g s.banks.banks) s.banks.log.numbers) geo few in
-      let fits2 = subst (λ (n : ℕ). left_of t.banks ≤ most_turns m.geometry.page (sectors_of_bank m.geometry n) s.banks.log.numbers) on.sound.made_for.two fits in
-      let fits3 = subst (λ (ns : List (DeviceNumber × ℕ)). left_of t.banks ≤ most_turns m.geometry.page (sectors_of_bank m.geometry 2) ns) on.sound.made_for.numbers fits2 in
+      let fits2 = subst (λ (n : ℕ). left_of t.banks ≤ most_turns m.geometry.page (sectors_of_bank m.geometry n) s.banks.log.numbers) on.sound.made_for.shared fits in
+      let fits3 = subst (λ (ns : List (DeviceNumber × ℕ)). left_of t.banks ≤ most_turns m.geometry.page (sectors_of_bank m.geometry m.banks) ns) on.sound.made_for.numbers fits2 in
       let is = switch_same ∙ switch_was in
       record {
         job = subst (λ (o : Option FeeJob). IsOfJob m.geometry.page m.numbers (stand_of s.content o s.last s.given) v) (sym may.job)
@@ -276,7 +276,7 @@ module _ (laws : Laws) (own : SwitchLaws) (m : Making) (entry : Told) (s : Parts
           geometry = made.geometry;
           idle = record { job = made.idle.job; attached = made.idle.attached };
           banks_geometry = made.banks_geometry;
-          two = made.two;
+          shared = made.shared;
           numbers = made.numbers;
           space = made.space;
           bytes = made.bytes;

@@ -7,6 +7,7 @@ use Rattle.std.proofs.lemmas.Bool.{cond_both}
 use Rattle.std.proofs.lemmas.List.Elements.{All-take, All-drop, All-append, All-replicate}
 use Rattle.std.proofs.Math.ListN.{length-replicate, length-append, length-take}
 use Rattle.fee_format.specs.declared.rec_head.RecHead.{RecHead}
+use Rattle.fee_format.specs.Formats.{new_format}
 use Rattle.fee_format.specs.RecHead.{IsLegalRecHead, rec_head_page}
 use Rattle.fee_format.specs.Pages.{gate_page, body_pages_of}
 use Rattle.fee_format.specs.RecordPages.{filled, body_page, record_page}
@@ -29,18 +30,32 @@ kind_small h legal = elim legal.kind [
   | inr is ↦ elim is.0 [ inl e ↦ omega (arith, e) | inr e ↦ omega (arith, e) ]
 ]
 
-head_page : (p : ℕ) (h : RecHead) → 16 ≤ p → IsLegalRecHead h → IsPageOf p (rec_head_page p h)
-head_page p h low legal = record {
-  size = omega (arith, length-replicate {A = ℕ} (p - 6) 255);
-  bytes =
-      (let rest = All-replicate Small (p - 6) 255 (omega arith) in
-      let d = all_cons (byte_at 0 h.length) (replicate (p - 6) 255) (byte_small 0 h.length) rest in
-      let c = all_cons (byte_at 1 h.length) (byte_at 0 h.length ∷ replicate (p - 6) 255) (byte_small 1 h.length) d in
-      let b = all_cons (byte_at 0 h.number) (byte_at 1 h.length ∷ byte_at 0 h.length ∷ replicate (p - 6) 255) (byte_small 0 h.number) c in
-      let a = all_cons (byte_at 1 h.number) (byte_at 0 h.number ∷ byte_at 1 h.length ∷ byte_at 0 h.length ∷ replicate (p - 6) 255) (byte_small 1 h.number) b in
-      let k = all_cons h.kind (byte_at 1 h.number ∷ byte_at 0 h.number ∷ byte_at 1 h.length ∷ byte_at 0 h.length ∷ replicate (p - 6) 255) (kind_small h legal) a in
-      all_cons 0x52 (h.kind ∷ byte_at 1 h.number ∷ byte_at 0 h.number ∷ byte_at 1 h.length ∷ byte_at 0 h.length ∷ replicate (p - 6) 255) (omega arith) k);
-}
+head_page : (p : ℕ) (h : RecHead) → 16 ≤ p → IsLegalRecHead h → IsPageOf p (rec_head_page new_format p h)
+head_page p h low legal =
+    let blank = replicate (p - 10) 255 in
+    let t0 = byte_at 0 h.count ∷ blank in
+    let t1 = byte_at 1 h.count ∷ t0 in
+    let t2 = byte_at 2 h.count ∷ t1 in
+    let t3 = byte_at 3 h.count ∷ t2 in
+    let l0 = byte_at 0 h.length ∷ t3 in
+    let l1 = byte_at 1 h.length ∷ l0 in
+    let n0 = byte_at 0 h.number ∷ l1 in
+    let n1 = byte_at 1 h.number ∷ n0 in
+    record {
+      size = omega (arith, length-replicate {A = ℕ} (p - 10) 255);
+      bytes =
+          (let rest = All-replicate Small (p - 10) 255 (omega arith) in
+          let h' = all_cons (byte_at 0 h.count) blank (byte_small 0 h.count) rest in
+          let g = all_cons (byte_at 1 h.count) t0 (byte_small 1 h.count) h' in
+          let f = all_cons (byte_at 2 h.count) t1 (byte_small 2 h.count) g in
+          let e = all_cons (byte_at 3 h.count) t2 (byte_small 3 h.count) f in
+          let d = all_cons (byte_at 0 h.length) t3 (byte_small 0 h.length) e in
+          let c = all_cons (byte_at 1 h.length) l0 (byte_small 1 h.length) d in
+          let b = all_cons (byte_at 0 h.number) l1 (byte_small 0 h.number) c in
+          let a = all_cons (byte_at 1 h.number) n0 (byte_small 1 h.number) b in
+          let k = all_cons h.kind n1 (kind_small h legal) a in
+          all_cons 0x52 (h.kind ∷ n1) (omega arith) k);
+    }
 
 pub gate_is : (p : ℕ) → IsPageOf p (gate_page p)
 gate_is p = record { size = length-replicate {A = ℕ} p 0; bytes = All-replicate Small p 0 (omega arith) }
@@ -56,7 +71,7 @@ filled_is p xs few all = record {
 
 pub record_page_is : (p : ℕ) (h : RecHead) (payload : List ℕ) (k : ℕ) → 16 ≤ p → IsLegalRecHead h → All (λ x. x < 256) payload → IsPageOf p (record_page p h payload k)
 record_page_is p h payload k low legal all =
-    cond_both (k == 0) (rec_head_page p h) (if (k == 1) || (k == 2 + body_pages_of h.length p) then gate_page p else body_page p payload (k - 2)) (IsPageOf p)
+    cond_both (k == 0) (rec_head_page new_format p h) (if (k == 1) || (k == 2 + body_pages_of h.length p) then gate_page p else body_page p payload (k - 2)) (IsPageOf p)
     (λ e. head_page p h low legal)
     (λ e. cond_both ((k == 1) || (k == 2 + body_pages_of h.length p)) (gate_page p) (body_page p payload (k - 2)) (IsPageOf p) (λ e'. gate_is p)
     (λ e'. filled_is p (take p (drop ((k - 2) * p) payload)) (few_taken p (drop ((k - 2) * p) payload)) (All-take Small p (drop ((k - 2) * p) payload) (All-drop Small ((k - 2) * p) payload all))))

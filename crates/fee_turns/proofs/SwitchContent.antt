@@ -10,7 +10,7 @@ use Rattle.fls_model.specs.declared.flash.FlashAnswer.TheVariants.{Done, Failed}
 use Rattle.fls_model.specs.Told.{Told}
 use Rattle.fls_jobs.specs.State.{FlsState}
 use Rattle.fee_format.specs.declared.rec_head.RecHead.{RecHead}
-use Rattle.fee_image.specs.Image.{Layout, layout_of}
+use Rattle.fee_image.specs.Image.{Layout}
 use Rattle.bank_image.specs.Banks.{Phase, Erasing, Copying}
 use Rattle.bank_image.specs.Copies.{Each, copied_of}
 use Rattle.fee_log.specs.Index.{clear_flags}
@@ -21,7 +21,7 @@ use Rattle.switch_course.specs.Course.{after_done}
 use Rattle.fee_switch.specs.Banks.{BanksState, after_answer, left_of}
 use Rattle.switch_promise.specs.Shown.{phase_shown, phase_at}
 use Rattle.switch_room.specs.KeepsRoom.{KeepsRoom}
-use Rattle.device_bridge.specs.Bridge.{Making}
+use Rattle.device_bridge.specs.Making.{Making, banks_of}
 use Rattle.device_image.specs.Slots.{Memory, settled_in}
 use Rattle.device_turns.specs.Kept.{IsKept}
 use Rattle.fee_state.specs.Copied.{flags_of, IsCopying}
@@ -34,7 +34,7 @@ use Rattle.fee_turns.proofs.Before.{legal}
 use Rattle.fee_turns.proofs.SwitchShown.{no_job, standing}
 use Rattle.nv_base.specs.Geometry.{address_of_page}
 use Rattle.fee_image.specs.Image.{bank_in}
-use Rattle.log_image.specs.May.{mark_written}
+use Rattle.log_image.specs.May.{held_written}
 use Rattle.fee_log.specs.declared.tail.Tail.{Tail}
 use Rattle.fee_log.specs.declared.tail.Tail.TheVariants.{Writes}
 use Rattle.log_image.specs.declared.place.Place.{Place}
@@ -45,7 +45,7 @@ use Rattle.switch_course.specs.declared.course.Course.TheVariants.{Copy}
 use Rattle.fee_switch.specs.Copy.{head_at, IsNext}
 use Rattle.fee_turns.proofs.Before.{power}
 use Rattle.std.specs.Prelude.{take}
-use Rattle.log_image.specs.Places.{mark_at}
+use Rattle.log_image.specs.Places.{held_at}
 use Rattle.switch_course.specs.Course.{begun as course_begun}
 use Rattle.fee_switch.specs.Banks.{reads_next, reads_place, reads_source}
 use Rattle.fee_switch.specs.Copy.{BeginsAt}
@@ -78,10 +78,11 @@ use Rattle.fee_turns.proofs.Laws.{ReadLaws}
 use Rattle.fee_turns.proofs.SwitchFailed.{last_by, given_by, failed_is, stand_goes}
 use Rattle.fee_turns.proofs.SwitchMark.{begins_at}
 
-is_content : (p : Place) → reads_place p ≡ true → (at : ℕ) × (p ≡ place.Content at)
-is_content (place.Content at) reads = (at, refl)
-is_content place.Invalid reads = cc reads
-is_content place.Erased reads = cc reads
+is_content : (p : Place) → reads_place p ≡ true → (at : ℕ) × (written : ℕ) × (p ≡ place.Content at written)
+is_content (place.Content at written) reads = (at, written, refl)
+is_content (place.Invalid written) reads = cc reads
+is_content (place.Erased written) reads = cc reads
+is_content place.Unwritten reads = cc reads
 
 stays : (x : Slot) → Keeps x x
 stays x = record { settled = refl; doubts = λ held among. among }
@@ -99,27 +100,27 @@ module _ (laws : Laws) (own : SwitchLaws) (beg : BeginLaws) (m : Making) (entry 
   abbrev next_is : IsNext s.banks src num
   next_is = (can laws own beg m entry s listed kept count made answer f is).next
 
-  pub content : (at : ℕ) × (src.place ≡ place.Content at)
+  pub content : (at : ℕ) × (written : ℕ) × (src.place ≡ place.Content at written)
   content = is_content src.place (sym (ap reads_source next_is.first) ∙ reads)
 
   abbrev pub at : ℕ
   at = content.0
 
   abbrev pub copy : RecHead
-  copy = record { number = num.0; kind = 1; length = src.length }
+  copy = record { number = num.0; kind = 1; length = src.length; count = content.1 }
 
   abbrev head : RecHead
   head = h laws own beg m entry s listed kept count made answer f is
 
   pub head_is : head ≡ copy
-  head_is = ap (λ (p : Place). head_at p num.0 src.length) content.1
+  head_is = ap (λ (p : Place). head_at p num.0 src.length) content.2
 
   pub begins : IsRead (address_of_page s.banks.geometry s.banks.banks s.banks.log.bank (at + 2)) s.fls.flash (take src.length s.banks.buffer) answer (take src.length made.buffer) f.flash
       × (made ≡ record s.banks { copies = begun_where answer s.banks.copies copy; buffer = made.buffer })
-  begins = subst (λ (p : Place). BeginsAt p s.banks num.0 src.length s.fls.flash answer made f.flash) content.1 (begins_at laws own beg m entry s listed kept count made answer f is)
+  begins = subst (λ (p : Place). BeginsAt p s.banks num.0 src.length s.fls.flash answer made f.flash) content.2 (begins_at laws own beg m entry s listed kept count made answer f is)
 
   abbrev l : Layout
-  l = layout_of m.geometry 2
+  l = banks_of m
 
   abbrev mem : Memory
   mem = memory_of s
@@ -174,14 +175,14 @@ module _ (laws : Laws) (own : SwitchLaws) (beg : BeginLaws) (m : Making) (entry 
           let x = found laws own beg m entry s listed kept count made answer f is old in
           let bank' = bank_in l x.active.head.format x.active.bank in
           let geo' = is.on.sound.made_for.banks_geometry in
-          let two' = is.on.sound.made_for.two in
+          let banks_are' = is.on.sound.made_for.shared in
           let bank_is : s.banks.log.bank ≡ x.active.bank = (subst (λ (o : Option ActiveBank). IfSome o (λ y. (y.bank ≡ s.banks.target → ⊥) × (s.banks.log.bank ≡ y.bank))) x.is is.on.banks.active).1 in
           let whole' : length (take src.length made.buffer) ≡ src.length = length-take-le src.length made.buffer few in
-          let is_read : take head.length made.buffer ≡ piece (address_of_page m.geometry 2 x.active.bank (at + 2)) src.length old =
-          (λ i. take (length_is i) made.buffer) ∙ read_in old now ∙ (λ i. piece (address_of_page (geo' i) (two' i) (bank_is i) (at + 2)) (whole' i) old) in
-          let writes = subst (λ (p : Place). mark_written (head_at p num.0 src.length) (take head.length made.buffer) ≡ mark_at bank' old src.length p) (sym content.1) (ap (λ (y : List ℕ). mark.Content y) is_read) in
-          subst (λ (ns : List (DeviceNumber × ℕ)). Each (Copies head (take head.length made.buffer)) (flags_of ns s.banks.log.flags (settled_in l ns old mem.old))) is.on.sound.made_for.numbers
-          (found_copies bank' old (take head.length made.buffer) src.place src.length num.0 (flags_of s.banks.log.numbers s.banks.log.flags (settled_in l s.banks.log.numbers old mem.old)) x.left_in writes x.flags_in)
+          let is_read : take head.length made.buffer ≡ piece (address_of_page m.geometry m.banks x.active.bank (at + 2)) src.length old =
+          (λ i. take (length_is i) made.buffer) ∙ read_in old now ∙ (λ i. piece (address_of_page (geo' i) (banks_are' i) (bank_is i) (at + 2)) (whole' i) old) in
+          let writes = subst (λ (p : Place). held_written (head_at p num.0 src.length) (take head.length made.buffer) ≡ held_at bank' old src.length p) (sym content.2) (λ i. record { mark = mark.Content (is_read i); count = content.1 }) in
+          subst (λ (ns : List (DeviceNumber × ℕ)). Each (Copies head (take head.length made.buffer)) (flags_of ns s.banks.log.places s.banks.log.flags (settled_in l ns old mem.old))) is.on.sound.made_for.numbers
+          (found_copies bank' old (take head.length made.buffer) src.place src.length num.0 (flags_of s.banks.log.numbers s.banks.log.places s.banks.log.flags (settled_in l s.banks.log.numbers old mem.old)) x.left_in writes x.flags_in)
 
       pub copying_then : (old : List ℕ) → bytes_now s.fls.flash ≡ Some old → IsCopying next (work_in log_k.tail) made.buffer (flags_in m s old)
       copying_then old now =
@@ -227,7 +228,7 @@ pub copies_are_not_read : Laws → SwitchLaws → ReadLaws → BeginLaws → Cop
 copies_are_not_read laws own rd beg m entry s listed kept count made f is reads =
     let c : Course = Copy None in
     let mem = memory_of s in
-    let l = layout_of m.geometry 2 in
+    let l = banks_of m in
     let start = begins laws own beg m entry s listed kept count made Failed f is reads in
     let room = is.on.sound.room is.on.started (power m entry s listed kept count is.on) in
     let flags = clear_flags s.banks.log.numbers in

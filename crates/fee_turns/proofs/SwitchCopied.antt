@@ -5,7 +5,7 @@ use Rattle.std.proofs.lemmas.Bool.{cond_both, eqb-true}
 use Rattle.nv_base.specs.Count.{next_count}
 use Rattle.nv_base.specs.declared.geometry.Geometry.{Geometry}
 use Rattle.nv_base.specs.declared.instance.DeviceNumber.{DeviceNumber}
-use Rattle.nv_base.specs.declared.mark.Mark.{Mark}
+use Rattle.nv_base.specs.Held.{Held}
 use Rattle.memif.specs.declared.answer.DeviceTurn.TheVariants as turn
 use Rattle.fls_model.specs.declared.flash.FlashAnswer.{FlashAnswer}
 use Rattle.fls_model.specs.declared.flash.FlashAnswer.TheVariants.{Done, Failed, Off}
@@ -14,17 +14,18 @@ use Rattle.fls_model.specs.Step.{IsStep, Leaves}
 use Rattle.fls_model.specs.Told.{Told}
 use Rattle.fls_jobs.specs.State.{FlsState}
 use Rattle.fee_format.specs.declared.rec_head.RecHead.{RecHead}
-use Rattle.fee_image.specs.Image.{Layout, layout_of}
+use Rattle.fee_image.specs.Image.{Layout}
 use Rattle.log_image.specs.Log.{Log}
 use Rattle.log_image.specs.May.{May}
 use Rattle.bank_image.specs.Banks.{Phase, Copying}
 use Rattle.bank_image.specs.Copies.{Flag, copied_of}
+use Rattle.fee_format.specs.Formats.{new_format}
 use Rattle.fee_log.specs.Log.{LogState, log_of, work_in}
 use Rattle.switch_course.specs.declared.course.Course.{Course}
 use Rattle.switch_course.specs.Course.{settled}
 use Rattle.fee_switch.specs.Banks.{BanksState, after_answer}
 use Rattle.switch_promise.specs.Shown.{phase_shown, phase_at}
-use Rattle.device_bridge.specs.Bridge.{Making}
+use Rattle.device_bridge.specs.Making.{Making, banks_of}
 use Rattle.device_image.specs.Slots.{Memory, settled_in}
 use Rattle.device_image.specs.Laws.{IsHeld}
 use Rattle.device_turns.specs.Kept.{IsKept}
@@ -40,7 +41,7 @@ use Rattle.std.specs.Prelude.{◌&&◌}
 use Rattle.std.proofs.lemmas.Bool.{cases_Bool}
 use Rattle.fee_image.specs.Found.{fits}
 use Rattle.fee_image.specs.RecordList.{pages_of_head}
-use Rattle.log_image.specs.May.{IsAmong, IsWider, mark_written, settling}
+use Rattle.log_image.specs.May.{IsAmong, IsWider, held_written, settling}
 use Rattle.log_image.specs.Step.{log_done, may_done}
 use Rattle.bank_image.specs.Laws.{program_of}
 use Rattle.bank_image.specs.Copies.{marked, MarkingHolds}
@@ -84,7 +85,7 @@ settling_open : (h : RecHead) (body : List ℕ) (fs : List Flag) → IsOpenFor h
 settling_open h body fs open' number length m among =
     by_fit (fits number length h) refl among
   where
-    by_fit : (b : Bool) → fits number length h ≡ b → IsAmong (if b then Some (mark_written h body ∷ []) else copied_of fs number length) m → IsAmong (copied_of fs number length) m
+    by_fit : (b : Bool) → fits number length h ≡ b → IsAmong (if b then Some (held_written h body ∷ []) else copied_of fs number length) m → IsAmong (copied_of fs number length) m
     by_fit false e among' = among'
     by_fit true e among' = (let same : h.number ≡ number = eqb-true h.number number (both (h.number == number) (if h.kind == 1 then h.length == length else true) e) in subst (λ (n : ℕ). IsAmong (copied_of fs n length) m) same (open_any h.number fs length m open'))
       where
@@ -107,9 +108,9 @@ flag_set : (log : LogState) (i : ℕ) (n : DeviceNumber × ℕ) (b : Bool) → s
 flag_set log i n true at = ap (flagged_at log) at
 flag_set log i n false at = refl
 
-flags_if : (ns : List (DeviceNumber × ℕ)) (flags : List Bool) (marks : List Mark) (number : ℕ) (b : Bool) → flags_of ns (if b then with_flag ns flags number true else flags) marks ≡ marked_if b number (flags_of ns flags marks)
-flags_if ns flags marks number true = flags_marked ns flags marks number
-flags_if ns flags marks number false = refl
+flags_if : (ns : List (DeviceNumber × ℕ)) (ps : List Place) (flags : List Bool) (held : List Held) (number : ℕ) (b : Bool) → flags_of ns ps (if b then with_flag ns flags number true else flags) held ≡ marked_if b number (flags_of ns ps flags held)
+flags_if ns ps flags held number true = flags_marked ns ps flags held number
+flags_if ns ps flags held number false = refl
 
 -- what comes behind it
 and_false : (a : Bool) → a && false ≡ false
@@ -128,7 +129,7 @@ module _ (laws : Laws) (own : SwitchLaws) (m : Making) (entry : Told) (s : Parts
   mem = memory_of s
 
   abbrev l : Layout
-  l = layout_of m.geometry 2
+  l = banks_of m
 
   abbrev pub k : LogState
   k = s.banks.copies
@@ -160,13 +161,13 @@ module _ (laws : Laws) (own : SwitchLaws) (m : Making) (entry : Told) (s : Parts
   pub geo : k.geometry ≡ m.geometry
   geo = is.on.banks.copies.shape ∙ is.on.sound.made_for.banks_geometry
 
-  pub two : k.banks ≡ 2
-  two = is.on.banks.copies.shared ∙ is.on.sound.made_for.two
+  pub banks_are : k.banks ≡ m.banks
+  banks_are = is.on.banks.copies.shared ∙ is.on.sound.made_for.shared
 
   pub bank : k.bank ≡ s.banks.target
   bank = is.on.banks.target_log
 
-  pub format : k.format ≡ 1
+  pub format : k.format ≡ new_format
   format = target.format
 
   pub numbers : k.numbers ≡ m.numbers
@@ -181,8 +182,8 @@ module _ (laws : Laws) (own : SwitchLaws) (m : Making) (entry : Told) (s : Parts
   op_body : op ≡ op_of k body
   op_body = ap (copy_op_of s.banks) work ∙ ap (op_of k) (sym body_is)
 
-  pub op_is : op ≡ program_of l s.banks.target (q laws own m entry s listed kept count c made answer f is k body h done tail is.copies geo two bank format numbers small) (page laws own m entry s listed kept count c made answer f is k body h done tail is.copies geo two bank format numbers small)
-  op_is = op_body ∙ op_of_is laws own m entry s listed kept count c made answer f is k body h done tail is.copies geo two bank format numbers small
+  pub op_is : op ≡ program_of l s.banks.target (q laws own m entry s listed kept count c made answer f is k body h done tail is.copies geo banks_are bank format numbers small) (page laws own m entry s listed kept count c made answer f is k body h done tail is.copies geo banks_are bank format numbers small)
+  op_is = op_body ∙ op_of_is laws own m entry s listed kept count c made answer f is k body h done tail is.copies geo banks_are bank format numbers small
 
   pub step : IsStep op s.fls.flash answer f.flash
   step = subst (λ (o : Op). IsStep o s.fls.flash answer f.flash) (sym (ap (copy_op_of s.banks) work)) (is.makes.0 h work)
@@ -192,7 +193,7 @@ module _ (laws : Laws) (own : SwitchLaws) (m : Making) (entry : Told) (s : Parts
 
   -- WHERE IT IS DONE
   abbrev N : Log
-  N = log_done l.page m.numbers (L laws own m entry s listed kept count c made answer f is k body h done tail is.copies geo two bank format numbers small)
+  N = log_done l.page m.numbers (L laws own m entry s listed kept count c made answer f is k body h done tail is.copies geo banks_are bank format numbers small)
 
   pages_at : (p : ℕ) → p ≡ s.banks.geometry.page → done + w.pages ≡ pages_of_head p h
   pages_at p same = subst (λ (x : ℕ). done + w.pages ≡ pages_of_head x h) (sym same) here.pages
@@ -249,18 +250,18 @@ module _ (laws : Laws) (own : SwitchLaws) (m : Making) (entry : Told) (s : Parts
   fs bytes = flags_in m s bytes
 
   abbrev pub fs' : List ℕ → List Flag
-  fs' bytes = flags_of m.numbers set.flags (settled_in l m.numbers bytes old')
+  fs' bytes = flags_of m.numbers s.banks.log.places set.flags (settled_in l m.numbers bytes old')
 
   flags_then : (old new : List ℕ) → ShowsCopies m s c old → MayLeave op old new → fs' new ≡ marked_if sets_now h.number (fs old)
   flags_then old new shows leaves =
-      let settled' = settled_same laws own m entry s listed kept count c made answer f is op step (q laws own m entry s listed kept count c made answer f is k body h done tail is.copies geo two bank format numbers small)
-      (page laws own m entry s listed kept count c made answer f is k body h done tail is.copies geo two bank format numbers small) op_is (size laws own m entry s listed kept count c made answer f is k body h done tail is.copies geo two bank format numbers small)
-      (inside laws own m entry s listed kept count c made answer f is k body h done tail is.copies geo two bank format numbers small) old new (copied_of (fs old)) shows.held leaves in
-      let marks = settled_in l m.numbers old mem.old in
-      let same : settled_in l m.numbers new old' ≡ marks = ap (settled_in l m.numbers new) old_is ∙ settled' in
+      let settled' = settled_same laws own m entry s listed kept count c made answer f is op step (q laws own m entry s listed kept count c made answer f is k body h done tail is.copies geo banks_are bank format numbers small)
+      (page laws own m entry s listed kept count c made answer f is k body h done tail is.copies geo banks_are bank format numbers small) op_is (size laws own m entry s listed kept count c made answer f is k body h done tail is.copies geo banks_are bank format numbers small)
+      (inside laws own m entry s listed kept count c made answer f is k body h done tail is.copies geo banks_are bank format numbers small) old new (copied_of (fs old)) shows.held leaves in
+      let held = settled_in l m.numbers old mem.old in
+      let same : settled_in l m.numbers new old' ≡ held = ap (settled_in l m.numbers new) old_is ∙ settled' in
       let set_flags : set.flags ≡ (if sets_now then with_flag m.numbers s.banks.log.flags h.number true else s.banks.log.flags) =
       ap (λ (x : LogState). x.flags) set_is ∙ (λ i. if sets_now then with_flag (is.on.sound.made_for.numbers i) s.banks.log.flags h.number true else s.banks.log.flags) in
-      (λ i. flags_of m.numbers (set_flags i) (same i)) ∙ flags_if m.numbers s.banks.log.flags marks h.number sets_now
+      (λ i. flags_of m.numbers s.banks.log.places (set_flags i) (same i)) ∙ flags_if m.numbers s.banks.log.places s.banks.log.flags held h.number sets_now
 
   copy_was : (old : List ℕ) → ShowsCopies m s c old → CopiesOrNot w.sets h (take h.length s.banks.buffer) (fs old) × IsOpenFor h.number (fs old)
   copy_was old shows = subst (λ (o : Option RecHead). IsCopying c o s.banks.buffer (fs old)) work shows.copy
@@ -274,7 +275,7 @@ module _ (laws : Laws) (own : SwitchLaws) (m : Making) (entry : Told) (s : Parts
   kept_then old new shows leaves left =
       let cop = copied_of (fs old) in
       let held' = subst (λ (x : Phase). IsHeld l m.numbers old (record mem { phase = x }) cop) phase shows.held in
-      let first = done_kept laws own m entry s listed kept count c made answer f is k body h done tail is.copies geo two bank format numbers small old new cop held'
+      let first = done_kept laws own m entry s listed kept count c made answer f is k body h done tail is.copies geo banks_are bank format numbers small old new cop held'
       (subst (λ (o : Op). MayLeave o old new) op_body leaves) (subst (λ (o : Op). Leaves o Done old new) op_body left) in
       let held_if = subst (λ (x : May). IsHeld l m.numbers new (record mem { phase = Copying N }) x) (may_is cop) first.held in
       let copies = subst (λ (x : List ℕ). CopiesOrNot w.sets h x (fs old)) (sym body_is) (copy_was old shows).0 in
@@ -309,19 +310,19 @@ module _ (laws : Laws) (own : SwitchLaws) (m : Making) (entry : Told) (s : Parts
 
   module _ (answer : FlashAnswer) (is : IsStepping m entry s listed kept count (Copy (Some w)) made answer f) where
     abbrev q' : ℕ
-    q' = q laws own m entry s listed kept count at made answer f is (k laws own m entry s listed kept count w made answer f is) (body laws own m entry s listed kept count w made answer f is) (h laws own m entry s listed kept count w made answer f is) (done laws own m entry s listed kept count w made answer f is) (tail laws own m entry s listed kept count w made answer f is) is.copies (geo laws own m entry s listed kept count w made answer f is) (two laws own m entry s listed kept count w made answer f is) (bank laws own m entry s listed kept count w made answer f is) (format laws own m entry s listed kept count w made answer f is) (numbers laws own m entry s listed kept count w made answer f is) (small laws own m entry s listed kept count w made answer f is)
+    q' = q laws own m entry s listed kept count at made answer f is (k laws own m entry s listed kept count w made answer f is) (body laws own m entry s listed kept count w made answer f is) (h laws own m entry s listed kept count w made answer f is) (done laws own m entry s listed kept count w made answer f is) (tail laws own m entry s listed kept count w made answer f is) is.copies (geo laws own m entry s listed kept count w made answer f is) (banks_are laws own m entry s listed kept count w made answer f is) (bank laws own m entry s listed kept count w made answer f is) (format laws own m entry s listed kept count w made answer f is) (numbers laws own m entry s listed kept count w made answer f is) (small laws own m entry s listed kept count w made answer f is)
 
     abbrev page' : List ℕ
-    page' = page laws own m entry s listed kept count at made answer f is (k laws own m entry s listed kept count w made answer f is) (body laws own m entry s listed kept count w made answer f is) (h laws own m entry s listed kept count w made answer f is) (done laws own m entry s listed kept count w made answer f is) (tail laws own m entry s listed kept count w made answer f is) is.copies (geo laws own m entry s listed kept count w made answer f is) (two laws own m entry s listed kept count w made answer f is) (bank laws own m entry s listed kept count w made answer f is) (format laws own m entry s listed kept count w made answer f is) (numbers laws own m entry s listed kept count w made answer f is) (small laws own m entry s listed kept count w made answer f is)
+    page' = page laws own m entry s listed kept count at made answer f is (k laws own m entry s listed kept count w made answer f is) (body laws own m entry s listed kept count w made answer f is) (h laws own m entry s listed kept count w made answer f is) (done laws own m entry s listed kept count w made answer f is) (tail laws own m entry s listed kept count w made answer f is) is.copies (geo laws own m entry s listed kept count w made answer f is) (banks_are laws own m entry s listed kept count w made answer f is) (bank laws own m entry s listed kept count w made answer f is) (format laws own m entry s listed kept count w made answer f is) (numbers laws own m entry s listed kept count w made answer f is) (small laws own m entry s listed kept count w made answer f is)
 
     size' : length page' ≡ m.geometry.page
-    size' = size laws own m entry s listed kept count at made answer f is (k laws own m entry s listed kept count w made answer f is) (body laws own m entry s listed kept count w made answer f is) (h laws own m entry s listed kept count w made answer f is) (done laws own m entry s listed kept count w made answer f is) (tail laws own m entry s listed kept count w made answer f is) is.copies (geo laws own m entry s listed kept count w made answer f is) (two laws own m entry s listed kept count w made answer f is) (bank laws own m entry s listed kept count w made answer f is) (format laws own m entry s listed kept count w made answer f is) (numbers laws own m entry s listed kept count w made answer f is) (small laws own m entry s listed kept count w made answer f is)
+    size' = size laws own m entry s listed kept count at made answer f is (k laws own m entry s listed kept count w made answer f is) (body laws own m entry s listed kept count w made answer f is) (h laws own m entry s listed kept count w made answer f is) (done laws own m entry s listed kept count w made answer f is) (tail laws own m entry s listed kept count w made answer f is) is.copies (geo laws own m entry s listed kept count w made answer f is) (banks_are laws own m entry s listed kept count w made answer f is) (bank laws own m entry s listed kept count w made answer f is) (format laws own m entry s listed kept count w made answer f is) (numbers laws own m entry s listed kept count w made answer f is) (small laws own m entry s listed kept count w made answer f is)
 
-    inside' : q' < (layout_of m.geometry 2).pages
-    inside' = inside laws own m entry s listed kept count at made answer f is (k laws own m entry s listed kept count w made answer f is) (body laws own m entry s listed kept count w made answer f is) (h laws own m entry s listed kept count w made answer f is) (done laws own m entry s listed kept count w made answer f is) (tail laws own m entry s listed kept count w made answer f is) is.copies (geo laws own m entry s listed kept count w made answer f is) (two laws own m entry s listed kept count w made answer f is) (bank laws own m entry s listed kept count w made answer f is) (format laws own m entry s listed kept count w made answer f is) (numbers laws own m entry s listed kept count w made answer f is) (small laws own m entry s listed kept count w made answer f is)
+    inside' : q' < (banks_of m).pages
+    inside' = inside laws own m entry s listed kept count at made answer f is (k laws own m entry s listed kept count w made answer f is) (body laws own m entry s listed kept count w made answer f is) (h laws own m entry s listed kept count w made answer f is) (done laws own m entry s listed kept count w made answer f is) (tail laws own m entry s listed kept count w made answer f is) is.copies (geo laws own m entry s listed kept count w made answer f is) (banks_are laws own m entry s listed kept count w made answer f is) (bank laws own m entry s listed kept count w made answer f is) (format laws own m entry s listed kept count w made answer f is) (numbers laws own m entry s listed kept count w made answer f is) (small laws own m entry s listed kept count w made answer f is)
 
     not_gate' : q' ≡ 1 → ⊥
-    not_gate' = not_gate laws own m entry s listed kept count at made answer f is (k laws own m entry s listed kept count w made answer f is) (body laws own m entry s listed kept count w made answer f is) (h laws own m entry s listed kept count w made answer f is) (done laws own m entry s listed kept count w made answer f is) (tail laws own m entry s listed kept count w made answer f is) is.copies (geo laws own m entry s listed kept count w made answer f is) (two laws own m entry s listed kept count w made answer f is) (bank laws own m entry s listed kept count w made answer f is) (format laws own m entry s listed kept count w made answer f is) (numbers laws own m entry s listed kept count w made answer f is) (small laws own m entry s listed kept count w made answer f is)
+    not_gate' = not_gate laws own m entry s listed kept count at made answer f is (k laws own m entry s listed kept count w made answer f is) (body laws own m entry s listed kept count w made answer f is) (h laws own m entry s listed kept count w made answer f is) (done laws own m entry s listed kept count w made answer f is) (tail laws own m entry s listed kept count w made answer f is) is.copies (geo laws own m entry s listed kept count w made answer f is) (banks_are laws own m entry s listed kept count w made answer f is) (bank laws own m entry s listed kept count w made answer f is) (format laws own m entry s listed kept count w made answer f is) (numbers laws own m entry s listed kept count w made answer f is) (small laws own m entry s listed kept count w made answer f is)
 
     abbrev log' : Log
     log' = log_of (k laws own m entry s listed kept count w made answer f is) (body laws own m entry s listed kept count w made answer f is)

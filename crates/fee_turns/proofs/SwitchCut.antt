@@ -17,7 +17,7 @@ use Rattle.fee_switch.specs.Banks.{BanksState}
 use Rattle.fee_format.specs.declared.rec_head.RecHead.{RecHead}
 use Rattle.nv_base.specs.declared.job.DeviceOp.TheVariants.{Read}
 use Rattle.switch_promise.specs.Shown.{phase_shown}
-use Rattle.device_bridge.specs.Bridge.{Making}
+use Rattle.device_bridge.specs.Making.{Making}
 use Rattle.bank_image.specs.Banks.{Old}
 use Rattle.device_image.specs.Slots.{Memory, HasJob}
 use Rattle.device_clock.specs.Device.{Device, tells, told_of, is_switching}
@@ -107,7 +107,7 @@ module _ (laws : Laws) (own : SwitchLaws) (m : Making) (entry : Told) (s : Parts
     places = places;
     stand = stands;
     on = λ power. (let off = went_off in absurd (let z : true ≡ false = sym off ∙ power in cc z));
-    idle = inr (λ stand. subst (HasJob stand) (sym same_old) (no_job laws m entry s listed kept count c made Off f is stand));
+    idle = inr (λ stand. subst (HasJob m.numbers stand) (sym same_old) (no_job laws m entry s listed kept count c made Off f is stand));
   }
 
   slots_at : (x : List ℕ) (o : Memory) → (if s.started then slots_held (l laws m entry s listed kept count c made Off f is op step) m.numbers x o else slots_found (l laws m entry s listed kept count c made Off f is op step) m.numbers x) ≡ slots_held (l laws m entry s listed kept count c made Off f is op step) m.numbers x o
@@ -140,7 +140,7 @@ module _ (laws : Laws) (own : SwitchLaws) (m : Making) (entry : Told) (s : Parts
     ends = record { same = record { geometry = refl; banks = refl; numbers = refl }; ended = is.on.sound.made_for.ended; given_few = is.on.sound.made_for.given };
     run = run_then;
     behind = behind_then;
-    work = work_none own.few m s.content b s.job s.last s.given c (record { geometry = is.on.sound.made_for.banks_geometry; two = is.on.sound.made_for.two; numbers = is.on.sound.made_for.numbers }) is.course is.idle (switch_by s.banks.course was_at_work.switch) none_then was_at_work.job;
+    work = work_none own.few m s.content b s.job s.last s.given c (record { geometry = is.on.sound.made_for.banks_geometry; shared = is.on.sound.made_for.shared; numbers = is.on.sound.made_for.numbers }) is.course is.idle (switch_by s.banks.course was_at_work.switch) none_then was_at_work.job;
     at_work = record {
       active = was_at_work.active;
       job = was_at_work.job;

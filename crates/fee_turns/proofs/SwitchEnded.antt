@@ -15,6 +15,7 @@ use Rattle.fls_model.specs.Op.{Op}
 use Rattle.fls_model.specs.Step.{IsStep}
 use Rattle.fls_model.specs.Told.{Told}
 use Rattle.fls_jobs.specs.State.{FlsState}
+use Rattle.fee_format.specs.Formats.{new_format}
 use Rattle.fee_log.specs.declared.tail.Tail.{Tail}
 use Rattle.fee_log.specs.Log.{work_in}
 use Rattle.switch_course.specs.declared.course.Course.{Course}
@@ -25,7 +26,7 @@ use Rattle.nv_base.specs.declared.job.DeviceOp.TheVariants.{Read}
 use Rattle.switch_room.specs.KeepsRoom.{KeepsRoom}
 use Rattle.switch_room.specs.Space.{free_pages}
 use Rattle.switch_promise.specs.Shown.{phase_shown}
-use Rattle.device_bridge.specs.Bridge.{Making}
+use Rattle.device_bridge.specs.Making.{Making, banks_of}
 use Rattle.device_image.specs.Slots.{Memory}
 use Rattle.device_clock.specs.Device.{Device, told_of, is_switching}
 use Rattle.device_clock.specs.Clock.{clock_of}
@@ -59,7 +60,7 @@ use Rattle.bank_image.specs.Copies.{copied_of}
 use Rattle.fee_log.specs.declared.tail.Tail.TheVariants.{Open, Writes, Owes, Closed}
 use Rattle.fee_log.specs.Log.{IsFor, log_of, tail_with}
 use Rattle.switch_course.specs.declared.course.Course.TheVariants.{Gate}
-use Rattle.fee_image.specs.Image.{Layout, layout_of}
+use Rattle.fee_image.specs.Image.{Layout}
 use Rattle.fls_model.specs.Step.{IsAsked}
 use Rattle.device_turns.specs.Whole.{CutsKeep}
 use Rattle.std.proofs.lemmas.Bool.{leb-true, le-leb}
@@ -80,7 +81,8 @@ use Rattle.device_clock.specs.Device.{tells}
 use Rattle.device_clock.specs.Runs.{HasRun}
 use Rattle.device_turns.specs.Kept.{IsKept}
 use Rattle.fee_state.specs.Inside.{memory_of, flags_in, HoldsBehind}
-use Rattle.fee_state.specs.Record.{IsLengthOf, kind_of, head_of}
+use Rattle.fee_state.specs.Record.{IsLengthOf, kind_of}
+use Rattle.fee_turns.proofs.Heads.{head_with}
 use Rattle.fee_state.specs.Work.{pages_of_op, fits_in, is_waiting, needs_switch, claimed}
 use Rattle.fee_turns.specs.Switches.{step_op}
 use Rattle.fee_turns.proofs.Operation.{run, left, before_told, started}
@@ -109,17 +111,17 @@ is_listed (x ∷ xs) n size is =
     (λ e is'. (0, omega arith, (let at : x.0.0 ≡ n = eqb-true x.0.0 n e in let same : x.1 ≡ size = cc is' in (λ i. (record { 0 = at i }, same i)))))
     (λ e is'. (let later = is_listed xs n size is' in (suc later.0, (let less = later.1 in omega (arith, less)), later.2))) is
 
-for_job : (numbers : List (DeviceNumber × ℕ)) (op : DeviceOp) (j : FeeJob) → j.op ≡ op → op ≢ Read → IsJobOf numbers j → IsFor numbers (head_of j)
+for_job : (numbers : List (DeviceNumber × ℕ)) (op : DeviceOp) (j : FeeJob) → j.op ≡ op → op ≢ Read → IsJobOf numbers j → IsFor numbers (head_with j.op j.number.0 j.length 0)
 for_job numbers Read j e writes is = absurd (writes refl)
 for_job numbers Write j e writes is =
     let fits = subst (λ (o : DeviceOp). IsLengthOf o j.length is.length) e is.fits in
-    record { length = is.length; configured = is_listed numbers j.number.0 is.length is.configured; kind = inl (ap kind_of e, fits) }
+    record { length = is.length; configured = is_listed numbers j.number.0 is.length is.configured; kind = inl (ap kind_of e, fits); count = omega arith }
 for_job numbers Invalidate j e writes is =
     let fits = subst (λ (o : DeviceOp). IsLengthOf o j.length is.length) e is.fits in
-    record { length = is.length; configured = is_listed numbers j.number.0 is.length is.configured; kind = inr (inl (ap kind_of e), fits) }
+    record { length = is.length; configured = is_listed numbers j.number.0 is.length is.configured; kind = inr (inl (ap kind_of e), fits); count = omega arith }
 for_job numbers Erase j e writes is =
     let fits = subst (λ (o : DeviceOp). IsLengthOf o j.length is.length) e is.fits in
-    record { length = is.length; configured = is_listed numbers j.number.0 is.length is.configured; kind = inr (inr (ap kind_of e), fits) }
+    record { length = is.length; configured = is_listed numbers j.number.0 is.length is.configured; kind = inr (inr (ap kind_of e), fits); count = omega arith }
 
 pages_for : (p : ℕ) (op : DeviceOp) (length of : ℕ) → op ≢ Read → IsLengthOf op length of → pages_of_op p op length ≡ record_pages_of length p
 pages_for p Read length of writes fits = absurd (writes refl)
@@ -130,7 +132,7 @@ pages_for p Erase length of writes fits = ap (λ (n : ℕ). record_pages_of n p)
 pub job_fits : RecordsHaveRoom → (reserve : ℕ) (b : BanksState) (j : FeeJob) → 16 ≤ b.geometry.page → j.op ≢ Read → IsJobOf b.log.numbers j → most_pages b.geometry.page b.log.numbers reserve ≤ free_pages b → fits_in reserve b j ≡ true
 job_fits records reserve b j low writes is room =
     ap (λ (n : ℕ). has_room j.urgent n reserve (free_pages b)) (pages_for b.geometry.page j.op j.length is.length writes is.fits)
-    ∙ records b.geometry.page reserve (free_pages b) b.log.numbers (head_of j) j.urgent low (for_job b.log.numbers j.op j refl writes is) room
+    ∙ records b.geometry.page reserve (free_pages b) b.log.numbers (head_with j.op j.number.0 j.length 0) j.urgent low (for_job b.log.numbers j.op j refl writes is) room
 
 -- so none needs another switch
 pub no_need : (reserve : ℕ) (b : BanksState) (j : FeeJob) → fits_in reserve b j ≡ true → needs_switch reserve b (Some j) ≡ false
@@ -148,7 +150,7 @@ module _ (laws : Laws) (own : SwitchLaws) (m : Making) (entry : Told) (s : Parts
   mem = memory_of s
 
   abbrev l : Layout
-  l = layout_of m.geometry 2
+  l = banks_of m
 
   abbrev o : Op
   o = op laws own m entry s listed kept count doubtful made f
@@ -196,7 +198,7 @@ module _ (laws : Laws) (own : SwitchLaws) (m : Making) (entry : Told) (s : Parts
   next_ok : (next < l.banks) × (next ≡ s.banks.target → ⊥)
   next_ok =
       let ok = target_other s.banks.target s.banks.banks is.on.banks.target is.on.banks.shared.low in
-      (subst (λ (n : ℕ). next < n) is.on.sound.made_for.two ok.0, ok.1)
+      (subst (λ (n : ℕ). next < n) is.on.sound.made_for.shared ok.0, ok.1)
 
   abbrev then' : Memory
   then' = record { old = OldBank s.banks.target (next_head mem.old) was; target = next; phase = Idle; stand = mem.stand }
@@ -209,7 +211,7 @@ module _ (laws : Laws) (own : SwitchLaws) (m : Making) (entry : Told) (s : Parts
 
   memory_is : then' ≡ memory_of t
   memory_is = λ i. record {
-    old = OldBank s.banks.target (record { format = 1; generation = sym (next_is s.banks.active s.banks.log (body_of (work_in s.banks.log.tail) s.content)) i }) (sym log_path i);
+    old = OldBank s.banks.target (record { format = new_format; generation = sym (next_is s.banks.active s.banks.log (body_of (work_in s.banks.log.tail) s.content)) i }) (sym log_path i);
     target = next;
     phase = Idle;
     stand = mem.stand;
@@ -278,7 +280,7 @@ module _ (laws : Laws) (own : SwitchLaws) (m : Making) (entry : Told) (s : Parts
   room_beside : (j : FeeJob) → IsJobOf m.numbers j → j.op ≢ Read → pages_of_op b.geometry.page j.op j.length + m.reserve ≤ free_pages b
   room_beside j is' w' =
       let is'' = subst (λ (ns : List (DeviceNumber × ℕ)). IsJobOf ns j) (sym numbers) is' in
-      let has = own.records b.geometry.page m.reserve (free_pages b) b.log.numbers (head_of j) false low (for_job b.log.numbers j.op j refl w' is'') behind_switch.room in
+      let has = own.records b.geometry.page m.reserve (free_pages b) b.log.numbers (head_with j.op j.number.0 j.length 0) false low (for_job b.log.numbers j.op j refl w' is'') behind_switch.room in
       let same = pages_for b.geometry.page j.op j.length is'.length w' is'.fits in
       let le = leb-true (record_pages_of j.length b.geometry.page + m.reserve) (free_pages b) has in
       omega (arith, same, le)
@@ -369,7 +371,7 @@ module _ (laws : Laws) (own : SwitchLaws) (m : Making) (entry : Told) (s : Parts
   geo : b.geometry ≡ m.geometry
   geo = is.on.sound.made_for.banks_geometry
 
-  work_then : IsWork m.geometry.page (sectors_of_bank m.geometry 2) m.numbers m.reserve (at s.job) (v s.job)
+  work_then : IsWork m.geometry.page (sectors_of_bank m.geometry m.banks) m.numbers m.reserve (at s.job) (v s.job)
   work_then =
       let none = no_switch s.job was_at_work.job writes in
       let pages = pages_then s.job in
@@ -380,7 +382,7 @@ module _ (laws : Laws) (own : SwitchLaws) (m : Making) (entry : Told) (s : Parts
 
   at_work_then : IsAtWork m t
   at_work_then = record {
-    active = (refl, behind_switch.format);
+    active = behind_switch.format;
     job = was_at_work.job;
     work = subst (λ (x : Option RecHead). IfSome x (IsInWork b s.job)) (sym idle_then) tt;
     ready = both_jobs (IsJobOf m.numbers) (λ j. j.op ≢ Read) (IsReady b) s.job ready_by was_at_work.job writes;
@@ -439,6 +441,7 @@ module _ (laws : Laws) (own : SwitchLaws) (m : Making) (entry : Told) (s : Parts
   works : Works First (told_of d) (told_of e) (clock_of e)
   works = record {
     only = refl;
+    up = is.on.started;
     of = of_by s.job;
     part = part_works laws m entry s listed kept count is.on o Done f is.drives asks keep b s.job s.last s.given (λ off. cc off);
     job = turns_by s.job keeping falls;

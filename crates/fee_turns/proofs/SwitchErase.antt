@@ -12,7 +12,7 @@ use Rattle.fls_model.specs.Step.{IsStep, Leaves}
 use Rattle.fls_model.specs.Told.{Told}
 use Rattle.fls_jobs.specs.State.{FlsState}
 use Rattle.fee_format.specs.declared.rec_head.RecHead.{RecHead}
-use Rattle.fee_image.specs.Image.{Layout, layout_of}
+use Rattle.fee_image.specs.Image.{Layout}
 use Rattle.log_image.specs.Laws.{erased_log}
 use Rattle.log_image.specs.May.{May}
 use Rattle.bank_image.specs.Banks.{Phase, Erasing, Copying}
@@ -26,7 +26,7 @@ use Rattle.switch_course.specs.Course.{settled, after_done}
 use Rattle.fee_switch.specs.Banks.{BanksState, after_answer}
 use Rattle.switch_promise.specs.Shown.{phase_shown, phase_at}
 use Rattle.switch_room.specs.KeepsRoom.{IsEmptyTarget}
-use Rattle.device_bridge.specs.Bridge.{Making}
+use Rattle.device_bridge.specs.Making.{Making, banks_of}
 use Rattle.device_image.specs.Slots.{Memory, banks_with, may_told, settled_in}
 use Rattle.device_image.specs.Laws.{IsHeld, GoesOn}
 use Rattle.device_turns.specs.Kept.{IsKept}
@@ -46,7 +46,7 @@ module _ (laws : Laws) (own : SwitchLaws) (m : Making) (entry : Told) (s : Parts
   mem = memory_of s
 
   abbrev l : Layout
-  l = layout_of m.geometry 2
+  l = banks_of m
 
   abbrev pub op : Op
   op = step_op s.banks (Erase n)
@@ -54,8 +54,8 @@ module _ (laws : Laws) (own : SwitchLaws) (m : Making) (entry : Told) (s : Parts
   geo : s.banks.geometry ≡ m.geometry
   geo = is.on.sound.made_for.banks_geometry
 
-  two : s.banks.banks ≡ 2
-  two = is.on.sound.made_for.two
+  banks_are : s.banks.banks ≡ m.banks
+  banks_are = is.on.sound.made_for.shared
 
   abbrev body : List ℕ
   body = body_of (work_in s.banks.copies.tail) s.banks.buffer
@@ -63,10 +63,10 @@ module _ (laws : Laws) (own : SwitchLaws) (m : Making) (entry : Told) (s : Parts
   phase : mem.phase ≡ Erasing (n * pages_of_sector m.geometry)
   phase = ap (λ (o : Option Course). phase_shown o s.banks body) is.course ∙ ap (λ (g : Geometry). Erasing (n * pages_of_sector g)) geo
 
-  op_is : op ≡ erase_of m.geometry 2 s.banks.target n
-  op_is = λ i. erase_of (geo i) (two i) s.banks.target n
+  op_is : op ≡ erase_of m.geometry m.banks s.banks.target n
+  op_is = λ i. erase_of (geo i) (banks_are i) s.banks.target n
 
-  erasing : (old new : List ℕ) (copied : May) → IsHeld l m.numbers old mem copied → MayLeave op old new → IsErasing m.geometry 2 m.numbers old new mem copied n
+  erasing : (old new : List ℕ) (copied : May) → IsHeld l m.numbers old mem copied → MayLeave op old new → IsErasing m.geometry m.banks m.numbers old new mem copied n
   erasing old new copied held leaves = record {
     shape = shape m entry s listed kept count is.on;
     shared = shared m entry s listed kept count is.on;
@@ -79,19 +79,19 @@ module _ (laws : Laws) (own : SwitchLaws) (m : Making) (entry : Told) (s : Parts
   -- the places of the active bank show what they showed
   settled_same : (old new : List ℕ) (copied : May) → IsHeld l m.numbers old mem copied → MayLeave op old new → settled_in l m.numbers new mem.old ≡ settled_in l m.numbers old mem.old
   settled_same old new copied held leaves =
-      own.erase_settled m.geometry 2 m.numbers old new (banks_with mem (may_told l m.numbers old mem) copied) n mem.old (shape m entry s listed kept count is.on) (shared m entry s listed kept count is.on) held.banks
+      own.erase_settled m.geometry m.banks m.numbers old new (banks_with mem (may_told l m.numbers old mem) copied) n mem.old (shape m entry s listed kept count is.on) (shared m entry s listed kept count is.on) held.banks
       (short laws m entry s listed kept count (Erase n) made answer f is) (subst (λ (o : Op). MayLeave o old new) op_is leaves) (same_places mem.old)
 
   abbrev fs : List ℕ → List Flag
   fs bytes = flags_in m s bytes
 
   flags_same : (old new : List ℕ) (copied : May) → IsHeld l m.numbers old mem copied → MayLeave op old new → fs new ≡ fs old
-  flags_same old new copied held leaves = ap (flags_of m.numbers s.banks.log.flags) (settled_same old new copied held leaves)
+  flags_same old new copied held leaves = ap (flags_of m.numbers s.banks.log.places s.banks.log.flags) (settled_same old new copied held leaves)
 
   -- WHATEVER IT LEAVES
   failing : (old new : List ℕ) (copied : May) (stand : Stand) → IsHeld l m.numbers old mem copied → MayLeave op old new → GoesOn mem.stand stand → IsKept l m.numbers old new mem (record mem { stand = stand }) copied
   failing old new copied stand held leaves goes =
-      own.erase_fails m.geometry 2 m.numbers old new mem copied n stand (erasing old new copied held leaves) goes (no_job laws m entry s listed kept count (Erase n) made answer f is stand)
+      own.erase_fails m.geometry m.banks m.numbers old new mem copied n stand (erasing old new copied held leaves) goes (no_job laws m entry s listed kept count (Erase n) made answer f is stand)
 
   pub step : IsStep op s.fls.flash answer f.flash
   step = is.makes.0
@@ -123,9 +123,9 @@ module _ (laws : Laws) (own : SwitchLaws) (m : Making) (entry : Told) (s : Parts
 
   clear : (bytes : List ℕ) → Each (λ x. x.copied ≡ false) (fs bytes)
   clear bytes =
-      let marks = settled_in l m.numbers bytes mem.old in
+      let held = settled_in l m.numbers bytes mem.old in
       let none = target.clear ∙ ap clear_flags is.on.sound.made_for.numbers in
-      subst (λ (x : List Bool). Each (λ y. y.copied ≡ false) (flags_of m.numbers x marks)) (sym none) (each_clear m.numbers marks)
+      subst (λ (x : List Bool). Each (λ y. y.copied ≡ false) (flags_of m.numbers s.banks.log.places x held)) (sym none) (each_clear m.numbers s.banks.log.places held)
 
   abbrev with_phase : Phase → Memory
   with_phase x = record mem { phase = x }
@@ -137,14 +137,14 @@ module _ (laws : Laws) (own : SwitchLaws) (m : Making) (entry : Told) (s : Parts
   going : (old new : List ℕ) → ShowsCopies m s (Erase n) old → MayLeave op old new → Leaves op Done old new → IsKept l m.numbers old new mem (with_phase (phase_at next b body)) (copied_of (fs old))
   going old new shows leaves left =
       let cop = copied_of (fs old) in
-      let first = own.erase m.geometry 2 m.numbers old new mem cop n (erasing old new cop shows.held leaves) (subst (λ (o : Op). new ≡ after_op o old) op_is left) in
+      let first = own.erase m.geometry m.banks m.numbers old new mem cop n (erasing old new cop shows.held leaves) (subst (λ (o : Op). new ≡ after_op o old) op_is left) in
       let N = (n + 1) * pages_of_sector m.geometry in
       cond_both (n + 1 == sectors) rest (Erase (n + 1)) (λ (c : Course). IsKept l m.numbers old new mem (with_phase (phase_at c b body)) cop)
       (λ e.
       (let last : n + 1 ≡ sectors = eqb-true (n + 1) sectors e in
       let all : l.pages ≤ N =
-      (let one = own.fill m.geometry 2 (shape m entry s listed kept count is.on) (shared m entry s listed kept count is.on) in
-      let same : n + 1 ≡ sectors_of_bank m.geometry 2 = last ∙ (λ i. sectors_of_bank (geo i) (two i)) in
+      (let one = own.fill m.geometry m.banks (shape m entry s listed kept count is.on) (shared m entry s listed kept count is.on) in
+      let same : n + 1 ≡ sectors_of_bank m.geometry m.banks = last ∙ (λ i. sectors_of_bank (geo i) (banks_are i)) in
       subst (λ (k : ℕ). l.pages ≤ k * pages_of_sector m.geometry) (sym same) (omega (arith, one))) in
       let second = own.copies l m.numbers new (with_phase (Erasing N)) cop N (standing_on old new cop first) refl all (own.clear (fs old) (clear old)) in
       let both = kept_both l m.numbers old new new mem (with_phase (Erasing N)) (with_phase (Copying (erased_log m.numbers))) cop cop first second in

@@ -7,13 +7,12 @@ use Rattle.fls_model.specs.declared.flash.FlashAnswer.TheVariants.{Done, Failed,
 use Rattle.fls_model.specs.Told.{Told}
 use Rattle.fls_jobs.specs.State.{FlsState}
 use Rattle.bank_image.specs.Copies.{copied_of}
-use Rattle.fee_image.specs.Image.{layout_of}
 use Rattle.fee_log.specs.Log.{work_in}
 use Rattle.switch_course.specs.declared.course.Course.{Course}
 use Rattle.switch_course.specs.declared.course.Course.TheVariants.{Erase}
 use Rattle.fee_switch.specs.Banks.{BanksState, after_answer}
 use Rattle.switch_promise.specs.Shown.{phase_shown}
-use Rattle.device_bridge.specs.Bridge.{Making}
+use Rattle.device_bridge.specs.Making.{Making, banks_of}
 use Rattle.device_image.specs.Slots.{Memory}
 use Rattle.device_turns.specs.Kept.{IsKept}
 use Rattle.fee_state.specs.Inside.{Parts, memory_of, body_of, flags_in, stand_of}
@@ -47,7 +46,7 @@ module _ (laws : Laws) (own : SwitchLaws) (m : Making) (entry : Told) (s : Parts
       (let is' = failed laws own m entry s listed kept count n made Failed f is old new stand shows leaves (stand_goes s.content s.job s.last s.given) in
       let path : record (memory_of s) { stand = stand } ≡ record (memory_of s) { phase = phase_shown (Some c) s.banks body; stand = stand } = λ i. record (memory_of s) { phase = phase_shown (is.course i) s.banks body; stand = stand } in
       record {
-        kept_all = subst (λ (x : Memory). IsKept (layout_of m.geometry 2) m.numbers old new (memory_of s) x (copied_of (flags_in m s new))) path is';
+        kept_all = subst (λ (x : Memory). IsKept (banks_of m) m.numbers old new (memory_of s) x (copied_of (flags_in m s new))) path is';
         copying = tt;
       }))
 

@@ -13,6 +13,7 @@ use Rattle.fls_model.specs.Op.{Op}
 use Rattle.fls_model.specs.Step.{IsStep}
 use Rattle.fls_model.specs.Told.{Told}
 use Rattle.fls_jobs.specs.State.{FlsState}
+use Rattle.log_image.specs.declared.place.Place.{Place}
 use Rattle.fee_log.specs.declared.tail.Tail.{Tail}
 use Rattle.fee_log.specs.Log.{LogState, work_in}
 use Rattle.switch_course.specs.declared.course.Course.{Course}
@@ -21,7 +22,7 @@ use Rattle.fee_format.specs.declared.rec_head.RecHead.{RecHead}
 use Rattle.nv_base.specs.declared.job.DeviceOp.TheVariants.{Read}
 use Rattle.switch_room.specs.KeepsRoom.{KeepsRoom}
 use Rattle.switch_promise.specs.Shown.{phase_shown}
-use Rattle.device_bridge.specs.Bridge.{Making}
+use Rattle.device_bridge.specs.Making.{Making}
 use Rattle.device_image.specs.Slots.{Memory}
 use Rattle.device_clock.specs.Device.{Device, told_of, is_switching}
 use Rattle.device_clock.specs.Clock.{clock_of}
@@ -79,19 +80,19 @@ pub stand_goes : (content : List ℕ) (o : Option FeeJob) (last : JobResult) (gi
 stand_goes content None last given = inl refl
 stand_goes content (Some j) last given = inr refl
 
-no_work : (stand : Stand) (t : Tail) (body : List ℕ) → work_in t ≡ None → IsWorkOf stand (tail_with t body)
-no_work (Open j) Open body idle = tt
-no_work (Open j) (Writes h done) body idle = cc idle
-no_work (Open j) (Owes h next) body idle = tt
-no_work (Open j) Closed body idle = tt
-no_work (Ended result given) Open body idle = tt
-no_work (Ended result given) (Writes h done) body idle = cc idle
-no_work (Ended result given) (Owes h next) body idle = tt
-no_work (Ended result given) Closed body idle = tt
+no_work : (ns : List (DeviceNumber × ℕ)) (ps : List Place) (stand : Stand) (t : Tail) (body : List ℕ) → work_in t ≡ None → IsWorkOf ns ps stand (tail_with t body)
+no_work ns ps (Open j) Open body idle = tt
+no_work ns ps (Open j) (Writes h done) body idle = cc idle
+no_work ns ps (Open j) (Owes h next) body idle = tt
+no_work ns ps (Open j) Closed body idle = tt
+no_work ns ps (Ended result given) Open body idle = tt
+no_work ns ps (Ended result given) (Writes h done) body idle = cc idle
+no_work ns ps (Ended result given) (Owes h next) body idle = tt
+no_work ns ps (Ended result given) Closed body idle = tt
 
-pub has_none : (stand : Stand) (a : Option ActiveBank) (log : LogState) (body : List ℕ) → work_in log.tail ≡ None → HasJob stand (old_shown a log body)
-has_none stand None log body idle = tt
-has_none stand (Some a) log body idle = no_work stand log.tail body idle
+pub has_none : (ns : List (DeviceNumber × ℕ)) (stand : Stand) (a : Option ActiveBank) (log : LogState) (body : List ℕ) → work_in log.tail ≡ None → HasJob ns stand (old_shown a log body)
+has_none ns stand None log body idle = tt
+has_none ns stand (Some a) log body idle = no_work ns log.places stand log.tail body idle
 
 module _ (laws : Laws) (own : SwitchLaws) (m : Making) (entry : Told) (s : Parts) (listed : List (DeviceNumber × ℕ)) (kept count : ℕ) (c : Course) (made : BanksState) (f : FlsState) (is : IsStepping m entry s listed kept count c made Failed f) (op : Op) (step : IsStep op s.fls.flash Failed f.flash) (torn : Memory) (cutting : Cutting laws m entry s listed kept count c made Failed f is op step torn) (c' : Course) (flags : List Bool) (log : LogState) where
   abbrev pub b : BanksState
@@ -132,7 +133,7 @@ module _ (laws : Laws) (own : SwitchLaws) (m : Making) (entry : Told) (s : Parts
     }
 
     shape : IsShaped m b
-    shape = record { geometry = is.on.sound.made_for.banks_geometry; two = is.on.sound.made_for.two; numbers = is.on.sound.made_for.numbers }
+    shape = record { geometry = is.on.sound.made_for.banks_geometry; shared = is.on.sound.made_for.shared; numbers = is.on.sound.made_for.numbers }
 
     facts : Facts laws m entry s listed kept count is.on op Failed f is.drives (asked laws m entry s listed kept count c made Failed f is op step) b None last given
     facts = record {
@@ -183,6 +184,7 @@ module _ (laws : Laws) (own : SwitchLaws) (m : Making) (entry : Told) (s : Parts
     works : Works First (told_of d) (told_of e) (clock_of e)
     works = record {
       only = refl;
+      up = is.on.started;
       of = of_by s.job;
       part = part_works laws m entry s listed kept count is.on op Failed f is.drives (asked laws m entry s listed kept count c made Failed f is op step) (keeps laws m entry s listed kept count c made Failed f is op step torn cutting) b None last given (λ off. cc off);
       job = turns_by s.job writes;

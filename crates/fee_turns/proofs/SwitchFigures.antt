@@ -13,7 +13,7 @@ use Rattle.switch_course.specs.Course.{most_turns}
 use Rattle.switch_course.specs.Laws.{TurnsAreFew}
 use Rattle.fee_switch.specs.Banks.{BanksState, left_of}
 use Rattle.switch_room.specs.Space.{free_pages}
-use Rattle.device_bridge.specs.Bridge.{Making}
+use Rattle.device_bridge.specs.Making.{Making}
 use Rattle.device_figures.specs.Figures.{Work, turns_owed, left_of as left_in}
 use Rattle.device_figures.specs.Laws.{IsWork, IsOfJob, TurnsLower}
 use Rattle.fee_state.specs.declared.job.FeeJob.{FeeJob}
@@ -59,23 +59,23 @@ job_part p numbers content (Some j) last given w is few = of_job p numbers conte
 -- of banks of this shape
 pub record IsShaped (m : Making) (b : BanksState) : Type 0 where
   pub geometry : b.geometry ≡ m.geometry
-  pub two : b.banks ≡ 2
+  pub shared : b.banks ≡ m.banks
   pub numbers : b.log.numbers ≡ m.numbers
 
 pub work_none : TurnsAreFew → (m : Making) (content : List ℕ) (b : BanksState) (job : Option FeeJob) (last : JobResult) (given : ℕ) (c : Course) → IsShaped m b → b.course ≡ Some c → work_in b.log.tail ≡ None → HasSwitch b b.course
     → NoneBegins b job → IfSome job (IsJobOf m.numbers)
-    → IsWork m.geometry.page (sectors_of_bank m.geometry 2) m.numbers m.reserve (stand_of content job last given) (work_of m.reserve b job)
+    → IsWork m.geometry.page (sectors_of_bank m.geometry m.banks) m.numbers m.reserve (stand_of content job last given) (work_of m.reserve b job)
 work_none few m content b job last given c shape at idle has none is =
     let most = few_left few b has in
     let one = subst (λ (g : Geometry). left_of b ≤ most_turns g.page (sectors_of_bank g b.banks) b.log.numbers) shape.geometry most in
-    let two = subst (λ (n : ℕ). left_of b ≤ most_turns m.geometry.page (sectors_of_bank m.geometry n) b.log.numbers) shape.two one in
-    let three = subst (λ (ns : List (DeviceNumber × ℕ)). left_of b ≤ most_turns m.geometry.page (sectors_of_bank m.geometry 2) ns) shape.numbers two in
+    let two = subst (λ (n : ℕ). left_of b ≤ most_turns m.geometry.page (sectors_of_bank m.geometry n) b.log.numbers) shape.shared one in
+    let three = subst (λ (ns : List (DeviceNumber × ℕ)). left_of b ≤ most_turns m.geometry.page (sectors_of_bank m.geometry m.banks) ns) shape.numbers two in
     let same : switch_turns m.reserve b job b.course ≡ left_of b = ap (switch_turns m.reserve b job) at ∙ switch_none m.reserve b job c none in
     let pages = pages_few b.geometry.page (pages_of_job b.geometry.page job) b.log.tail (λ r some. cc (idle, some)) in
     record {
       job = job_part m.geometry.page m.numbers content job last given (work_of m.reserve b job) is
           (subst (λ (g : Geometry). pages_left b.geometry.page (pages_of_job b.geometry.page job) b.log.tail ≤ pages_of_job g.page job) shape.geometry pages);
-      few = subst (λ (n : ℕ). n ≤ most_turns m.geometry.page (sectors_of_bank m.geometry 2) m.numbers) (sym same) three;
+      few = subst (λ (n : ℕ). n ≤ most_turns m.geometry.page (sectors_of_bank m.geometry m.banks) m.numbers) (sym same) three;
     }
 
 -- LEFT

@@ -19,7 +19,7 @@ use Rattle.fee_log.specs.Log.{log_of, work_in}
 use Rattle.switch_course.specs.declared.course.Course.{Course}
 use Rattle.fee_switch.specs.Banks.{BanksState, after_answer}
 use Rattle.switch_promise.specs.Shown.{phase_shown}
-use Rattle.device_bridge.specs.Bridge.{Making}
+use Rattle.device_bridge.specs.Making.{Making, banks_of}
 use Rattle.device_image.specs.Slots.{Memory, may_told}
 use Rattle.device_image.specs.Laws.{IsHeld, GoesOn}
 use Rattle.device_turns.specs.Kept.{IsKept}
@@ -54,7 +54,7 @@ module _ (laws : Laws) (own : SwitchLaws) (m : Making) (entry : Told) (s : Parts
   mem = memory_of s
 
   abbrev l : Layout
-  l = layout_of m.geometry 2
+  l = banks_of m
 
   abbrev pub op : Op
   op = step_op s.banks c
@@ -73,7 +73,7 @@ module _ (laws : Laws) (own : SwitchLaws) (m : Making) (entry : Told) (s : Parts
     geo = is.on.sound.made_for.banks_geometry
 
     op_is : op ≡ program_of l s.banks.target 1 page
-    op_is = λ i. programs (address_of_page (geo i) (is.on.sound.made_for.two i) s.banks.target 1) (gate_page (geo i).page)
+    op_is = λ i. programs (address_of_page (geo i) (is.on.sound.made_for.shared i) s.banks.target 1) (gate_page (geo i).page)
 
     size : length page ≡ m.geometry.page
     size = length-replicate {A = ℕ} m.geometry.page 0
@@ -91,7 +91,7 @@ module _ (laws : Laws) (own : SwitchLaws) (m : Making) (entry : Told) (s : Parts
     page_leaves old new leaves = leaves_page laws own m entry s listed kept count c made answer f is op step 1 page op_is size inside old new leaves
 
     pub flags_same : (old new : List ℕ) → ShowsCopies m s c old → MayLeave op old new → flags_in m s new ≡ flags_in m s old
-    flags_same old new shows leaves = ap (flags_of m.numbers s.banks.log.flags) (settled_same laws own m entry s listed kept count c made answer f is op step 1 page op_is size inside old new (copied_of (flags_in m s old)) shows.held leaves)
+    flags_same old new shows leaves = ap (flags_of m.numbers s.banks.log.places s.banks.log.flags) (settled_same laws own m entry s listed kept count c made answer f is op step 1 page op_is size inside old new (copied_of (flags_in m s old)) shows.held leaves)
 
     failing : (old new : List ℕ) (copied : May) (stand : Stand) → IsHeld l m.numbers old mem copied → MayLeave op old new → GoesOn mem.stand stand → IsKept l m.numbers old new mem (record mem { stand = stand }) copied
     failing old new copied stand held leaves goes =
@@ -101,7 +101,7 @@ module _ (laws : Laws) (own : SwitchLaws) (m : Making) (entry : Told) (s : Parts
     cutting old image shows leaves = failing old image (copied_of (flags_in m s old)) mem.stand shows.held leaves (inl refl)
 
     pub layout_is : layout_in s.banks ≡ l
-    layout_is = λ i. layout_of (geo i) (is.on.sound.made_for.two i)
+    layout_is = λ i. layout_of (geo i) (is.on.sound.made_for.shared i)
 
     -- what is done stands
     pub stood : (old new : List ℕ) → ShowsCopies m s c old → MayLeave op old new → Leaves op Done old new → image_page l new s.banks.target 1 ≡ page

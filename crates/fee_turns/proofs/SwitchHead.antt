@@ -19,7 +19,7 @@ use Rattle.fee_log.specs.Log.{LogState, log_of, work_in}
 use Rattle.switch_course.specs.declared.course.Course.{Course}
 use Rattle.fee_switch.specs.Banks.{BanksState, after_answer}
 use Rattle.switch_promise.specs.Shown.{phase_shown}
-use Rattle.device_bridge.specs.Bridge.{Making}
+use Rattle.device_bridge.specs.Making.{Making, banks_of}
 use Rattle.device_image.specs.Slots.{Memory, may_told, settled_in}
 use Rattle.device_turns.specs.Kept.{IsKept}
 use Rattle.fee_state.specs.Copied.{flags_of}
@@ -35,6 +35,7 @@ use Rattle.std.proofs.lemmas.Bool.{cases_lt, eqb-false}
 use Rattle.std.proofs.Common.{◌^◌}
 use Rattle.nv_base.specs.Geometry.{address_of_page}
 use Rattle.fls_model.specs.Step.{programs}
+use Rattle.fee_format.specs.Formats.{new_format}
 use Rattle.fee_format.specs.declared.bank_head.BankHead.{BankHead}
 use Rattle.fee_format.specs.BankHead.{bank_head_page}
 use Rattle.bank_image.specs.Banks.{Holds, HoldsOld, Sealing, generation_of, next_head}
@@ -71,7 +72,7 @@ module _ (laws : Laws) (own : SwitchLaws) (m : Making) (entry : Told) (s : Parts
   mem = memory_of s
 
   abbrev l : Layout
-  l = layout_of m.geometry 2
+  l = banks_of m
 
   abbrev op : Op
   op = step_op s.banks Head
@@ -85,15 +86,15 @@ module _ (laws : Laws) (own : SwitchLaws) (m : Making) (entry : Told) (s : Parts
   abbrev log : Log
   log = log_of s.banks.copies body
 
-  op_is : s.banks.geometry ≡ m.geometry → s.banks.banks ≡ 2 → op ≡ program_of l s.banks.target 0 page
-  op_is geo two = λ i. programs (address_of_page (geo i) (two i) s.banks.target 0) (bank_head_page (geo i).page (record { format = 1; generation = next_is s.banks.active s.banks.log (body_of (work_in s.banks.log.tail) s.content) i }))
+  op_is : s.banks.geometry ≡ m.geometry → s.banks.banks ≡ m.banks → op ≡ program_of l s.banks.target 0 page
+  op_is geo banks_are = λ i. programs (address_of_page (geo i) (banks_are i) s.banks.target 0) (bank_head_page (geo i).page (record { format = new_format; generation = next_is s.banks.active s.banks.log (body_of (work_in s.banks.log.tail) s.content) i }))
 
   module _ (answer : FlashAnswer) (is : IsStepping m entry s listed kept count Head made answer f) where
     geo : s.banks.geometry ≡ m.geometry
     geo = is.on.sound.made_for.banks_geometry
 
     op_at : op ≡ program_of l s.banks.target 0 page
-    op_at = op_is geo is.on.sound.made_for.two
+    op_at = op_is geo is.on.sound.made_for.shared
 
     size : length page ≡ m.geometry.page
     size = head_size m.geometry.page (next_head mem.old) (shape m entry s listed kept count is.on).page_low
@@ -111,14 +112,14 @@ module _ (laws : Laws) (own : SwitchLaws) (m : Making) (entry : Told) (s : Parts
     not_gate same = cc same
 
     layout_is : layout_in s.banks ≡ l
-    layout_is = λ i. layout_of (geo i) (is.on.sound.made_for.two i)
+    layout_is = λ i. layout_of (geo i) (is.on.sound.made_for.shared i)
 
     -- each number is copied
     whole : (old : List ℕ) → AreCopied l m.numbers old mem.old (copied_of (flags_in m s old))
     whole old =
         let none = (roomy laws m entry s listed kept count Head made answer f is).going.fitting in
         let a = are_copied l old s.banks.active s.banks.log (body_of (work_in s.banks.log.tail) s.content) is.on.log none in
-        subst (λ (ns : List (DeviceNumber × ℕ)). AreCopied l ns old mem.old (copied_of (flags_of ns s.banks.log.flags (settled_in l ns old mem.old)))) is.on.sound.made_for.numbers a
+        subst (λ (ns : List (DeviceNumber × ℕ)). AreCopied l ns old mem.old (copied_of (flags_of ns s.banks.log.places s.banks.log.flags (settled_in l ns old mem.old)))) is.on.sound.made_for.numbers a
 
     -- and what is done stands
     stood : (old new : List ℕ) → ShowsCopies m s Head old → MayLeave op old new → Leaves op Done old new → image_page l new s.banks.target 0 ≡ page
@@ -155,7 +156,7 @@ module _ (laws : Laws) (own : SwitchLaws) (m : Making) (entry : Told) (s : Parts
       let first = own.head l m.numbers old new mem cop log (standing laws m entry s listed kept count Head made Done f is old cop shows.held) (phase Done is) fits (whole Done is old)
       (leaves_page laws own m entry s listed kept count Head made Done f is op (step Done is) 0 page (op_at Done is) (size Done is) (inside Done is) old new leaves) (stood Done is old new shows leaves left) in
       let same = settled_same laws own m entry s listed kept count Head made Done f is op (step Done is) 0 page (op_at Done is) (size Done is) (inside Done is) old new cop shows.held leaves in
-      let path : flags_in m s new ≡ flags_in m s old = ap (flags_of m.numbers s.banks.log.flags) same in
+      let path : flags_in m s new ≡ flags_in m s old = ap (flags_of m.numbers s.banks.log.places s.banks.log.flags) same in
       record {
         kept_all = subst (λ (x : List Flag). IsKept l m.numbers old new mem (record mem { phase = Sealing log }) (copied_of x)) (sym path) first;
         copying = tt;

@@ -13,7 +13,7 @@ use Rattle.switch_course.specs.declared.course.Course.{Course}
 use Rattle.switch_course.specs.Laws.{IsBeforeGate}
 use Rattle.fee_switch.specs.Banks.{BanksState, after_answer, left_of}
 use Rattle.switch_room.specs.KeepsRoom.{KeepsRoom}
-use Rattle.device_bridge.specs.Bridge.{Making}
+use Rattle.device_bridge.specs.Making.{Making}
 use Rattle.device_image.specs.Slots.{Memory}
 use Rattle.fee_state.specs.Inside.{Parts, memory_of}
 use Rattle.fee_turns.specs.Turn.{operated, Turned}

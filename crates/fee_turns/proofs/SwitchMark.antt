@@ -1,6 +1,6 @@
 -- The turns of the header of a mark's copy.
 use Rattle.std.specs.Prelude.{length}
-use Rattle.std.proofs.Common.{◌≡◌, ◌<◌, ◌+◌, ℕ, Bool, true, false, if◌then◌else◌, List, [], ◌∷◌, Option, Some, None, refl, sym, ap, ◌∙◌, subst, arith}
+use Rattle.std.proofs.Common.{◌≡◌, ◌<◌, ◌+◌, ℕ, Bool, false, if◌then◌else◌, List, [], ◌∷◌, Option, Some, None, refl, sym, ap, ◌∙◌, subst, arith}
 use Rattle.nv_base.specs.Geometry.{sectors_of_bank}
 use Rattle.nv_base.specs.declared.geometry.Geometry.{Geometry}
 use Rattle.nv_base.specs.declared.instance.DeviceNumber.{DeviceNumber}
@@ -11,17 +11,19 @@ use Rattle.fls_model.specs.Step.{IsStep, Leaves}
 use Rattle.fls_model.specs.Told.{Told}
 use Rattle.fls_jobs.specs.State.{FlsState}
 use Rattle.fee_format.specs.declared.rec_head.RecHead.{RecHead}
-use Rattle.fee_image.specs.Image.{Layout, layout_of}
+use Rattle.fee_image.specs.Image.{Layout}
 use Rattle.log_image.specs.Log.{Log}
 use Rattle.log_image.specs.May.{May}
 use Rattle.bank_image.specs.Banks.{Phase, Copying}
 use Rattle.bank_image.specs.Copies.{Flag, Each, copied_of}
+use Rattle.fee_format.specs.Formats.{new_format}
+use Rattle.fee_image.specs.Bank.{Bank}
 use Rattle.fee_log.specs.Log.{LogState, log_of, work_in}
 use Rattle.switch_course.specs.declared.course.Course.{Course}
 use Rattle.switch_course.specs.Course.{after_done}
 use Rattle.fee_switch.specs.Banks.{BanksState, after_answer}
 use Rattle.switch_promise.specs.Shown.{phase_shown, phase_at}
-use Rattle.device_bridge.specs.Bridge.{Making}
+use Rattle.device_bridge.specs.Making.{Making, banks_of}
 use Rattle.device_image.specs.Slots.{Memory, settled_in}
 use Rattle.device_image.specs.Laws.{IsHeld}
 use Rattle.device_turns.specs.Kept.{IsKept}
@@ -33,7 +35,7 @@ use Rattle.fee_turns.proofs.SwitchLaws.{SwitchLaws}
 use Rattle.std.specs.List.{All}
 use Rattle.fee_image.specs.Image.{bank_in}
 use Rattle.fee_image.specs.RecordList.{pages_of_head}
-use Rattle.log_image.specs.May.{mark_written, settling}
+use Rattle.log_image.specs.May.{held_written, settling}
 use Rattle.log_image.specs.Step.{log_done, may_done}
 use Rattle.bank_image.specs.Laws.{program_of}
 use Rattle.fee_log.specs.declared.tail.Tail.{Tail}
@@ -48,13 +50,12 @@ use Rattle.log_image.specs.declared.place.Place.TheVariants as place
 use Rattle.fee_log.specs.Log.{begun}
 use Rattle.switch_course.specs.declared.copies.Source.{Source}
 use Rattle.switch_course.specs.declared.course.Course.TheVariants.{Copy}
-use Rattle.switch_course.specs.Copies.{is_left}
 use Rattle.fee_switch.specs.Copy.{head_at, IsNext}
 use Rattle.fee_turns.proofs.SwitchNext.{Named}
 use Rattle.std.specs.Prelude.{slice_get, take}
 use Rattle.fee_log.specs.Step.{after_step}
 use Rattle.log_image.specs.Step.{is_last}
-use Rattle.log_image.specs.Places.{mark_at}
+use Rattle.log_image.specs.Places.{held_at}
 use Rattle.switch_course.specs.Course.{begun as course_begun}
 use Rattle.fee_switch.specs.Banks.{reads_next, reads_place, reads_source}
 use Rattle.fee_switch.specs.Copy.{BeginsAt}
@@ -65,17 +66,32 @@ use Rattle.fee_turns.proofs.SwitchKinds.{done_by}
 use Rattle.fee_turns.proofs.SwitchPage.{settled_same, torn, cutting, page_failed, page_cut}
 use Rattle.fee_turns.proofs.SwitchCopy.{q, page, op_of_is, size, inside, not_gate, done_kept}
 use Rattle.fee_turns.proofs.SwitchNext.{found_copies}
-use Rattle.fee_turns.proofs.SwitchFirst.{BeginLaws, can, source, number, h, k, tail, state, geo, two, bank, format, numbers, found, is_open, begun_held}
+use Rattle.fee_turns.proofs.SwitchFirst.{BeginLaws, can, source, number, h, k, tail, state, geo, banks_are, bank, format, numbers, found, is_open, begun_held}
 
 slice_is : (ns : List (DeviceNumber × ℕ)) (i : ℕ) (n : DeviceNumber) (size : ℕ) → i < length ns → Named ns i n size → slice_get ns i ≡ Some (n, size)
 slice_is [] i n size less named = absurd (omega arith)
 slice_is (x ∷ xs) zero n size less named = ap (λ (y : DeviceNumber × ℕ). Some y) (named x)
 slice_is (x ∷ xs) (suc i) n size less named = slice_is xs i n size (omega arith) named
 
-only_invalid : (p : Place) → reads_place p ≡ false → is_left p false ≡ true → p ≡ place.Invalid
-only_invalid (place.Content at) reads left = cc reads
-only_invalid place.Invalid reads left = refl
-only_invalid place.Erased reads left = cc left
+-- of a place that isn't read the record's header is programmed, which is all that it shows
+begins_mark : (p : Place) (s : BanksState) (n size : ℕ) (told : Told) (answer : FlashAnswer) (made : BanksState) (then_told : Told) → reads_place p ≡ false → BeginsAt p s n size told answer made then_told
+    → IsStep (op_of (begun s.copies (head_at p n size)) []) told answer then_told × (made ≡ record s { copies = after_step (begun s.copies (head_at p n size)) answer })
+begins_mark (place.Content at count) s n size told answer made then_told reads begins = cc reads
+begins_mark (place.Invalid count) s n size told answer made then_told reads begins = begins
+begins_mark (place.Erased count) s n size told answer made then_told reads begins = begins
+begins_mark place.Unwritten s n size told answer made then_told reads begins = begins
+
+mark_length : (p : Place) (n size : ℕ) → reads_place p ≡ false → (head_at p n size).length ≡ 0
+mark_length (place.Content at count) n size reads = cc reads
+mark_length (place.Invalid count) n size reads = refl
+mark_length (place.Erased count) n size reads = refl
+mark_length place.Unwritten n size reads = refl
+
+mark_shown : (b : Bank) (bytes body : List ℕ) (p : Place) (n size : ℕ) → reads_place p ≡ false → held_written (head_at p n size) body ≡ held_at b bytes size p
+mark_shown b bytes body (place.Content at count) n size reads = cc reads
+mark_shown b bytes body (place.Invalid count) n size reads = refl
+mark_shown b bytes body (place.Erased count) n size reads = refl
+mark_shown b bytes body place.Unwritten n size reads = refl
 
 module _ (laws : Laws) (own : SwitchLaws) (beg : BeginLaws) (m : Making) (entry : Told) (s : Parts) (listed : List (DeviceNumber × ℕ)) (kept count : ℕ) (made : BanksState) (answer : FlashAnswer) (f : FlsState) (is : IsStepping m entry s listed kept count (Copy None) made answer f) where
   abbrev c : Course
@@ -118,23 +134,17 @@ module _ (laws : Laws) (own : SwitchLaws) (beg : BeginLaws) (m : Making) (entry 
   body = body_of (work_in log_k.tail) s.banks.buffer
 
   module _ (changes : reads_next s.banks.log (Some (Copy None)) ≡ false) where
-    place_is : src.place ≡ place.Invalid
-    place_is = only_invalid src.place (sym (ap reads_source next_is.first) ∙ changes) (found laws own beg m entry s listed kept count made answer f is []).left_in
+    reads : reads_place src.place ≡ false
+    reads = sym (ap reads_source next_is.first) ∙ changes
 
-    abbrev mark : RecHead
-    mark = record { number = num.0; kind = 2; length = 0 }
-
-    head_is : head ≡ mark
-    head_is = ap (λ (p : Place). head_at p num.0 src.length) place_is
-
-    begins : IsStep (op_of (begun s.banks.copies mark) []) s.fls.flash answer f.flash × (made ≡ record s.banks { copies = after_step (begun s.banks.copies mark) answer })
-    begins = subst (λ (p : Place). BeginsAt p s.banks num.0 src.length s.fls.flash answer made f.flash) place_is begins_at
+    begins : IsStep (op_of (begun s.banks.copies head) []) s.fls.flash answer f.flash × (made ≡ record s.banks { copies = after_step (begun s.banks.copies head) answer })
+    begins = begins_mark src.place s.banks num.0 src.length s.fls.flash answer made f.flash reads begins_at
 
     made_is : made ≡ record s.banks { copies = after_step log_k answer }
-    made_is = begins.1 ∙ (λ i. record s.banks { copies = after_step (begun s.banks.copies (sym head_is i)) answer })
+    made_is = begins.1
 
     length_none : head.length ≡ 0
-    length_none = ap (λ (x : RecHead). x.length) head_is
+    length_none = mark_length src.place num.0 src.length reads
 
     body_is : body ≡ take head.length s.banks.buffer
     body_is = ap (λ (t : Tail). body_of (work_in t) s.banks.buffer) tail_k
@@ -153,23 +163,23 @@ module _ (laws : Laws) (own : SwitchLaws) (beg : BeginLaws) (m : Making) (entry 
 
     op_body : op ≡ op_of log_k body
     op_body =
-        ap (mark_op_of s.banks) next_is.first ∙ ap (mark_op_for s.banks.copies) (slice_is s.banks.log.numbers src.index num src.length next_is.inside next_is.named)
-        ∙ (λ i. op_of (begun s.banks.copies (sym head_is i)) (sym body_none i))
+        ap (mark_op_of s.banks) next_is.first ∙ ap (mark_op_for s.banks.copies src.place) (slice_is s.banks.log.numbers src.index num src.length next_is.inside next_is.named)
+        ∙ (λ i. op_of (begun s.banks.copies head) (sym body_none i))
 
     step : IsStep op s.fls.flash answer f.flash
     step = subst (λ (o : Op). IsStep o s.fls.flash answer f.flash)
-        (sym (ap (mark_op_of s.banks) next_is.first ∙ ap (mark_op_for s.banks.copies) (slice_is s.banks.log.numbers src.index num src.length next_is.inside next_is.named))) begins.0
+        (sym (ap (mark_op_of s.banks) next_is.first ∙ ap (mark_op_for s.banks.copies src.place) (slice_is s.banks.log.numbers src.index num src.length next_is.inside next_is.named))) begins.0
 
     abbrev g : log_k.geometry ≡ m.geometry
     g = geo laws own beg m entry s listed kept count made answer f is
 
-    abbrev w2 : log_k.banks ≡ 2
-    w2 = two laws own beg m entry s listed kept count made answer f is
+    abbrev w2 : log_k.banks ≡ m.banks
+    w2 = banks_are laws own beg m entry s listed kept count made answer f is
 
     abbrev bk : log_k.bank ≡ s.banks.target
     bk = bank laws own beg m entry s listed kept count made answer f is
 
-    abbrev fm : log_k.format ≡ 1
+    abbrev fm : log_k.format ≡ new_format
     fm = format laws own beg m entry s listed kept count made answer f is
 
     abbrev nb : log_k.numbers ≡ m.numbers
@@ -179,7 +189,7 @@ module _ (laws : Laws) (own : SwitchLaws) (beg : BeginLaws) (m : Making) (entry 
     st = state laws own beg m entry s listed kept count made answer f is
 
     abbrev l : Layout
-    l = layout_of m.geometry 2
+    l = banks_of m
 
     abbrev mem : Memory
     mem = memory_of s
@@ -239,7 +249,7 @@ module _ (laws : Laws) (own : SwitchLaws) (beg : BeginLaws) (m : Making) (entry 
     phase_then = ap (λ (x : Course). phase_at x b body') next_course ∙ ap Copying shown_is
 
     flags_same : (old new : List ℕ) → ShowsCopies m s c old → MayLeave op old new → flags_in m s new ≡ flags_in m s old
-    flags_same old new shows leaves = ap (flags_of m.numbers s.banks.log.flags) (settled_same laws own m entry s listed kept count c made answer f is op step q' page' op_is size' inside' old new (copied_of (flags_in m s old)) shows.held leaves)
+    flags_same old new shows leaves = ap (flags_of m.numbers s.banks.log.places s.banks.log.flags) (settled_same laws own m entry s listed kept count c made answer f is op step q' page' op_is size' inside' old new (copied_of (flags_in m s old)) shows.held leaves)
 
     may_is : (may : May) → may_done l.page may (log_of log_k body) ≡ may
     may_is may =
@@ -261,9 +271,9 @@ module _ (laws : Laws) (own : SwitchLaws) (beg : BeginLaws) (m : Making) (entry 
     copies_it old =
         let x = found laws own beg m entry s listed kept count made answer f is old in
         let bank' = bank_in l x.active.head.format x.active.bank in
-        let writes = subst (λ (p : Place). mark_written (head_at p num.0 src.length) (take head.length s.banks.buffer) ≡ mark_at bank' old src.length p) (sym place_is) refl in
-        subst (λ (ns : List (DeviceNumber × ℕ)). Each (Copies head (take head.length s.banks.buffer)) (flags_of ns s.banks.log.flags (settled_in l ns old mem.old))) is.on.sound.made_for.numbers
-        (found_copies bank' old (take head.length s.banks.buffer) src.place src.length num.0 (flags_of s.banks.log.numbers s.banks.log.flags (settled_in l s.banks.log.numbers old mem.old)) x.left_in writes x.flags_in)
+        let writes = mark_shown bank' old (take head.length s.banks.buffer) src.place num.0 src.length reads in
+        subst (λ (ns : List (DeviceNumber × ℕ)). Each (Copies head (take head.length s.banks.buffer)) (flags_of ns s.banks.log.places s.banks.log.flags (settled_in l ns old mem.old))) is.on.sound.made_for.numbers
+        (found_copies bank' old (take head.length s.banks.buffer) src.place src.length num.0 (flags_of s.banks.log.numbers s.banks.log.places s.banks.log.flags (settled_in l s.banks.log.numbers old mem.old)) x.left_in writes x.flags_in)
 
     copying_then : (old new : List ℕ) → ShowsCopies m s c old → MayLeave op old new → IsCopying next (work_in (after_step log_k Done).tail) s.banks.buffer (flags_in m s new)
     copying_then old new shows leaves =

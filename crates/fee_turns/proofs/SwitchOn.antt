@@ -24,7 +24,7 @@ use Rattle.fee_format.specs.declared.rec_head.RecHead.{RecHead}
 use Rattle.nv_base.specs.declared.job.DeviceOp.TheVariants.{Read}
 use Rattle.switch_room.specs.KeepsRoom.{KeepsRoom}
 use Rattle.switch_promise.specs.Shown.{phase_shown}
-use Rattle.device_bridge.specs.Bridge.{Making}
+use Rattle.device_bridge.specs.Making.{Making}
 use Rattle.device_image.specs.Slots.{Memory}
 use Rattle.device_clock.specs.Device.{Device, told_of, is_switching}
 use Rattle.device_clock.specs.Clock.{clock_of}
@@ -140,7 +140,7 @@ module _ (laws : Laws) (own : SwitchLaws) (m : Making) (entry : Told) (s : Parts
     }
 
     shape : IsShaped m b
-    shape = record { geometry = is.on.sound.made_for.banks_geometry; two = is.on.sound.made_for.two; numbers = is.on.sound.made_for.numbers }
+    shape = record { geometry = is.on.sound.made_for.banks_geometry; shared = is.on.sound.made_for.shared; numbers = is.on.sound.made_for.numbers }
 
     facts : Facts laws m entry s listed kept count is.on op Done f is.drives (asked laws m entry s listed kept count c made Done f is op step) b s.job s.last s.given
     facts = record {
@@ -239,6 +239,7 @@ module _ (laws : Laws) (own : SwitchLaws) (m : Making) (entry : Told) (s : Parts
     works : Works First (told_of d) (told_of e) (clock_of e)
     works = record {
       only = refl;
+      up = is.on.started;
       of = of_by s.job;
       part = part_works laws m entry s listed kept count is.on op Done f is.drives (asked laws m entry s listed kept count c made Done f is op step) (keeps laws m entry s listed kept count c made Done f is op step torn cutting) b s.job s.last s.given (λ off. cc off);
       job = turns_by s.job keeping falls;

@@ -12,7 +12,7 @@ use Rattle.fls_model.specs.Op.{Op, MayLeave}
 use Rattle.fls_model.specs.Step.{IsStep}
 use Rattle.fls_model.specs.Told.{Told}
 use Rattle.fls_jobs.specs.State.{FlsState}
-use Rattle.fee_image.specs.Image.{Layout, layout_of}
+use Rattle.fee_image.specs.Image.{Layout}
 use Rattle.log_image.specs.Log.{Log}
 use Rattle.log_image.specs.May.{May}
 use Rattle.bank_image.specs.Banks.{Erasing, Copying}
@@ -22,7 +22,7 @@ use Rattle.fee_log.specs.Log.{LogState, work_in, erased_state}
 use Rattle.switch_course.specs.declared.course.Course.{Course}
 use Rattle.switch_course.specs.declared.course.Course.TheVariants.{Erase}
 use Rattle.fee_switch.specs.Banks.{BanksState, after_answer}
-use Rattle.device_bridge.specs.Bridge.{Making}
+use Rattle.device_bridge.specs.Making.{Making, banks_of}
 use Rattle.device_image.specs.Slots.{Memory, banks_with, may_told, settled_in}
 use Rattle.device_image.specs.Laws.{IsHeld, GoesOn}
 use Rattle.device_turns.specs.Kept.{IsKept}
@@ -49,12 +49,12 @@ pub beside : (a : Option ActiveBank) (log : LogState) (body : List ℕ) (target 
 beside None log body target at q other = tt
 beside (Some a) log body target at q other = λ same. absurd (other.0 (sym same))
 
-module _ (laws : Laws) (own : SwitchLaws) (m : Making) (entry : Told) (s : Parts) (listed : List (DeviceNumber × ℕ)) (kept count : ℕ) (c : Course) (made : BanksState) (answer : FlashAnswer) (f : FlsState) (is : IsStepping m entry s listed kept count c made answer f) (op : Op) (step : IsStep op s.fls.flash answer f.flash) (q : ℕ) (page : List ℕ) (op_is : op ≡ program_of (layout_of m.geometry 2) s.banks.target q page) (size : length page ≡ m.geometry.page) (inside : q < (layout_of m.geometry 2).pages) where
+module _ (laws : Laws) (own : SwitchLaws) (m : Making) (entry : Told) (s : Parts) (listed : List (DeviceNumber × ℕ)) (kept count : ℕ) (c : Course) (made : BanksState) (answer : FlashAnswer) (f : FlsState) (is : IsStepping m entry s listed kept count c made answer f) (op : Op) (step : IsStep op s.fls.flash answer f.flash) (q : ℕ) (page : List ℕ) (op_is : op ≡ program_of (banks_of m) s.banks.target q page) (size : length page ≡ m.geometry.page) (inside : q < (banks_of m).pages) where
   abbrev mem : Memory
   mem = memory_of s
 
   abbrev l : Layout
-  l = layout_of m.geometry 2
+  l = banks_of m
 
   abbrev body : List ℕ
   body = body_of (work_in s.banks.copies.tail) s.banks.buffer
@@ -98,7 +98,7 @@ module _ (laws : Laws) (own : SwitchLaws) (m : Making) (entry : Told) (s : Parts
         record { kept_all = subst (λ (y : Memory). IsKept l m.numbers old new mem y (copied_of (flags_in m x new))) path is'; copying = tt }
 
 -- THE TURNS
-module _ (laws : Laws) (own : SwitchLaws) (m : Making) (entry : Told) (s : Parts) (listed : List (DeviceNumber × ℕ)) (kept count : ℕ) (c : Course) (made : BanksState) (f : FlsState) (op : Op) (q : ℕ) (page : List ℕ) (op_is : op ≡ program_of (layout_of m.geometry 2) s.banks.target q page) (size : length page ≡ m.geometry.page) (inside : q < (layout_of m.geometry 2).pages) (log : Log) (phase_is : (memory_of s).phase ≡ Copying log) (not_gate : q ≡ 1 → ⊥) where
+module _ (laws : Laws) (own : SwitchLaws) (m : Making) (entry : Told) (s : Parts) (listed : List (DeviceNumber × ℕ)) (kept count : ℕ) (c : Course) (made : BanksState) (f : FlsState) (op : Op) (q : ℕ) (page : List ℕ) (op_is : op ≡ program_of (banks_of m) s.banks.target q page) (size : length page ≡ m.geometry.page) (inside : q < (banks_of m).pages) (log : Log) (phase_is : (memory_of s).phase ≡ Copying log) (not_gate : q ≡ 1 → ⊥) where
   pub page_failed : (is : IsStepping m entry s listed kept count c made Failed f) (step : IsStep op s.fls.flash Failed f.flash)
       → record s.banks { course = Some (Erase 0); log = record s.banks.log { flags = clear_flags s.banks.log.numbers }; copies = erased_state s.banks.geometry s.banks.banks s.banks.target s.banks.copies.numbers } ≡ after_answer made c Failed
       → Turned m entry turn.Worked s (failed_with s.job (operated op Failed f (after_answer made c Failed) s)) listed kept (next_count count) false

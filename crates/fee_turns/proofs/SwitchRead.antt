@@ -6,14 +6,14 @@ use Rattle.nv_base.specs.Geometry.{sectors_of_bank}
 use Rattle.nv_base.specs.declared.instance.DeviceNumber.{DeviceNumber}
 use Rattle.fls_model.specs.Told.{Told}
 use Rattle.fls_jobs.specs.State.{FlsState}
-use Rattle.fee_image.specs.Image.{Layout, layout_of}
+use Rattle.fee_image.specs.Image.{Layout}
 use Rattle.log_image.specs.May.{May}
 use Rattle.bank_image.specs.Copies.{copied_of}
 use Rattle.fee_log.specs.Log.{work_in}
 use Rattle.switch_course.specs.declared.course.Course.{Course}
 use Rattle.fee_switch.specs.Banks.{BanksState}
 use Rattle.switch_room.specs.KeepsRoom.{KeepsRoom}
-use Rattle.device_bridge.specs.Bridge.{Making}
+use Rattle.device_bridge.specs.Making.{Making, banks_of}
 use Rattle.device_image.specs.Laws.{IsHeld}
 use Rattle.device_turns.specs.Kept.{IsKept}
 use Rattle.fee_state.specs.Copied.{IsCopying}
@@ -63,7 +63,7 @@ module _ (laws : Laws) (own : SwitchLaws) (rd : ReadLaws) (m : Making) (entry : 
   e = device_of m entry t
 
   abbrev l : Layout
-  l = layout_of m.geometry 2
+  l = banks_of m
 
   pub shows_now : (old : List ℕ) → bytes_now s.fls.flash ≡ Some old → IsTrue (tells d) → ShowsCopies m s c old
   shows_now old at told =
@@ -141,7 +141,7 @@ module _ (laws : Laws) (own : SwitchLaws) (rd : ReadLaws) (m : Making) (entry : 
       pub same : IsSameFlash s.banks b
       pub ended : last ≢ JobPending
       pub given_few : given ≤ 4096
-      pub work : IsWork m.geometry.page (sectors_of_bank m.geometry 2) m.numbers m.reserve (stand_of s.content job last given) (work_of m.reserve b job)
+      pub work : IsWork m.geometry.page (sectors_of_bank m.geometry m.banks) m.numbers m.reserve (stand_of s.content job last given) (work_of m.reserve b job)
       pub at_work : IsAtWork m t
       pub room : KeepsRoom m.reserve b
 
@@ -153,7 +153,7 @@ module _ (laws : Laws) (own : SwitchLaws) (rd : ReadLaws) (m : Making) (entry : 
             geometry = made'.geometry;
             idle = record { job = made'.idle.job; attached = made'.idle.attached };
             banks_geometry = x.same.geometry ∙ made'.banks_geometry;
-            two = x.same.banks ∙ made'.two;
+            shared = x.same.banks ∙ made'.shared;
             numbers = x.same.numbers ∙ made'.numbers;
             space = made'.space;
             bytes = made'.bytes;

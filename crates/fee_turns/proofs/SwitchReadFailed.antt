@@ -17,7 +17,7 @@ use Rattle.fee_format.specs.declared.rec_head.RecHead.{RecHead}
 use Rattle.nv_base.specs.declared.job.DeviceOp.TheVariants.{Read}
 use Rattle.switch_room.specs.KeepsRoom.{KeepsRoom}
 use Rattle.switch_promise.specs.Shown.{phase_shown}
-use Rattle.device_bridge.specs.Bridge.{Making}
+use Rattle.device_bridge.specs.Making.{Making}
 use Rattle.device_clock.specs.Device.{Device, told_of, is_switching}
 use Rattle.device_clock.specs.Clock.{clock_of}
 use Rattle.fee_state.specs.declared.job.FeeJob.{FeeJob}
@@ -81,7 +81,7 @@ module _ (laws : Laws) (own : SwitchLaws) (rd : ReadLaws) (m : Making) (entry : 
     }
 
     shape : IsShaped m b
-    shape = record { geometry = on.sound.made_for.banks_geometry; two = on.sound.made_for.two; numbers = on.sound.made_for.numbers }
+    shape = record { geometry = on.sound.made_for.banks_geometry; shared = on.sound.made_for.shared; numbers = on.sound.made_for.numbers }
 
     facts : Behind laws own rd m entry s listed kept count c course_is on idle flash_faults fls_result (next_count s.faults) more (inr (refl, rose_flash)) b c' refl None last given falls.reading
     facts = record {
@@ -130,6 +130,7 @@ module _ (laws : Laws) (own : SwitchLaws) (rd : ReadLaws) (m : Making) (entry : 
     works : Works First (told_of d) (told_of e) (clock_of e)
     works = record {
       only = refl;
+      up = on.started;
       of = of_by s.job;
       part = rd.read d e (record { flash = refl; operations = refl; more = more; faults = inr (refl, rose_flash); small = on.sound.device.faults }) (power m entry s listed kept count on);
       job = turns_by s.job writes;

@@ -16,7 +16,7 @@ use Rattle.fee_format.specs.declared.rec_head.RecHead.{RecHead}
 use Rattle.nv_base.specs.declared.job.DeviceOp.TheVariants.{Read}
 use Rattle.switch_room.specs.KeepsRoom.{KeepsRoom}
 use Rattle.switch_promise.specs.Shown.{phase_shown}
-use Rattle.device_bridge.specs.Bridge.{Making}
+use Rattle.device_bridge.specs.Making.{Making}
 use Rattle.device_clock.specs.Device.{Device, told_of, is_switching}
 use Rattle.device_clock.specs.Clock.{clock_of}
 use Rattle.device_figures.specs.Figures.{Work, Waits, wait_of}
@@ -94,7 +94,7 @@ module _ (laws : Laws) (own : SwitchLaws) (rd : ReadLaws) (m : Making) (entry : 
     }
 
     shape : IsShaped m b
-    shape = record { geometry = on.sound.made_for.banks_geometry; two = on.sound.made_for.two; numbers = on.sound.made_for.numbers }
+    shape = record { geometry = on.sound.made_for.banks_geometry; shared = on.sound.made_for.shared; numbers = on.sound.made_for.numbers }
 
     facts : Behind laws own rd m entry s listed kept count c course_is on idle s.fls.flash.faults fls_result s.faults (omega arith) (inl refl) b c' refl s.job s.last s.given goes.reading
     facts = record {
@@ -191,6 +191,7 @@ module _ (laws : Laws) (own : SwitchLaws) (rd : ReadLaws) (m : Making) (entry : 
     works : Works First (told_of d) (told_of e) (clock_of e)
     works = record {
       only = refl;
+      up = on.started;
       of = of_by s.job;
       part = rd.read d e (record { flash = refl; operations = refl; more = omega arith; faults = inl refl; small = on.sound.device.faults }) (power m entry s listed kept count on);
       job = turns_by s.job keeping falls;

@@ -5,14 +5,14 @@ use Rattle.std.proofs.lemmas.Bool.{cond_both}
 use Rattle.nv_base.specs.Geometry.{sectors_of_bank}
 use Rattle.nv_base.specs.declared.geometry.Geometry.{Geometry}
 use Rattle.nv_base.specs.declared.instance.DeviceNumber.{DeviceNumber}
-use Rattle.nv_base.specs.declared.mark.Mark.{Mark}
+use Rattle.nv_base.specs.Held.{Held}
 use Rattle.memif.specs.Told.{Slot, Stand, slot_at}
 use Rattle.memif.specs.Marks.{Keeps}
 use Rattle.fls_model.specs.declared.flash.FlashAnswer.{FlashAnswer}
 use Rattle.fls_model.specs.Told.{Told}
 use Rattle.fls_jobs.specs.State.{FlsState}
 use Rattle.fee_format.specs.declared.rec_head.RecHead.{RecHead}
-use Rattle.fee_image.specs.Image.{Layout, layout_of}
+use Rattle.fee_image.specs.Image.{Layout}
 use Rattle.log_image.specs.declared.place.Place.{Place}
 use Rattle.log_image.specs.May.{May}
 use Rattle.bank_image.specs.Banks.{Copying}
@@ -27,7 +27,7 @@ use Rattle.switch_course.specs.Course.{settled, IsShort}
 use Rattle.fee_switch.specs.Banks.{BanksState}
 use Rattle.switch_promise.specs.Shown.{old_shown, phase_at}
 use Rattle.switch_room.specs.KeepsRoom.{IsRoomy}
-use Rattle.device_bridge.specs.Bridge.{Making}
+use Rattle.device_bridge.specs.Making.{Making, banks_of}
 use Rattle.device_image.specs.Slots.{Memory, HasJob, slots_held}
 use Rattle.device_turns.specs.Kept.{IsKept}
 use Rattle.device_turns.specs.Switches.{Stands}
@@ -52,10 +52,11 @@ kept_both l numbers old mid new m t u first copied a b = record {
 }
 
 -- FLAGS
-pub each_clear : (numbers : List (DeviceNumber × ℕ)) (marks : List Mark) → Each (λ f. f.copied ≡ false) (flags_of numbers (clear_flags numbers) marks)
-each_clear [] marks = tt
-each_clear (n ∷ ns) [] = tt
-each_clear (n ∷ ns) (x ∷ xs) = (refl, each_clear ns xs)
+pub each_clear : (numbers : List (DeviceNumber × ℕ)) (places : List Place) (held : List Held) → Each (λ f. f.copied ≡ false) (flags_of numbers places (clear_flags numbers) held)
+each_clear [] places held = tt
+each_clear (n ∷ ns) [] held = tt
+each_clear (n ∷ ns) (p ∷ ps) [] = tt
+each_clear (n ∷ ns) (p ∷ ps) (x ∷ xs) = (refl, each_clear ns ps xs)
 
 -- they are none of what a log shows
 pub flags_hidden : (a : Option ActiveBank) (log : LogState) (flags : List Bool) (body : List ℕ) → old_shown a (record log { flags = flags }) body ≡ old_shown a log body
@@ -78,20 +79,20 @@ module _ (laws : Laws) (m : Making) (entry : Told) (s : Parts) (listed : List (D
   mem = memory_of s
 
   abbrev l : Layout
-  l = layout_of m.geometry 2
+  l = banks_of m
 
   pub roomy : IsRoomy m.reserve s.banks c
   roomy = subst (λ (o : Option Course). IfSome o (IsRoomy m.reserve s.banks)) is.course (is.on.sound.room is.on.started (power m entry s listed kept count is.on)).switch
 
-  pub short : IsShort (sectors_of_bank m.geometry 2) c
+  pub short : IsShort (sectors_of_bank m.geometry m.banks) c
   short =
       let geo = is.on.sound.made_for.banks_geometry in
-      let two = is.on.sound.made_for.two in
-      subst (λ (n : ℕ). IsShort (sectors_of_bank m.geometry n) c) two (subst (λ (g : Geometry). IsShort (sectors_of_bank g s.banks.banks) c) geo
+      let same = is.on.sound.made_for.shared in
+      subst (λ (n : ℕ). IsShort (sectors_of_bank m.geometry n) c) same (subst (λ (g : Geometry). IsShort (sectors_of_bank g s.banks.banks) c) geo
       (subst (λ (o : Option Course). IfSome o (IsShort (sectors_of_bank s.banks.geometry s.banks.banks))) is.course is.on.banks.course))
 
-  pub no_job : (stand : Stand) → HasJob stand mem.old
-  no_job stand = has_none stand s.banks.active s.banks.log (body_of (work_in s.banks.log.tail) s.content) is.idle
+  pub no_job : (stand : Stand) → HasJob m.numbers stand mem.old
+  no_job stand = has_none m.numbers stand s.banks.active s.banks.log (body_of (work_in s.banks.log.tail) s.content) is.idle
 
   pub standing : (old : List ℕ) (copied : May) → IsHeld l m.numbers old mem copied → Stands l m.numbers old mem copied
   standing old copied held = record { lengths = lengths m entry s listed kept count is.on; legal = legal m entry s listed kept count is.on laws.legal; held = held }

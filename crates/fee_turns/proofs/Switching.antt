@@ -9,13 +9,13 @@ use Rattle.fls_model.specs.Op.{Op, MayLeave}
 use Rattle.fls_model.specs.Step.{IsAsked, IsStep, OffOrAsked, Leaves}
 use Rattle.fls_model.specs.Told.{Told, bytes_now}
 use Rattle.fls_jobs.specs.State.{FlsState}
-use Rattle.fee_image.specs.Image.{Layout, layout_of}
+use Rattle.fee_image.specs.Image.{Layout}
 use Rattle.log_image.specs.May.{May}
 use Rattle.bank_image.specs.Copies.{copied_of}
 use Rattle.fee_log.specs.Log.{work_in}
 use Rattle.switch_course.specs.declared.course.Course.{Course}
 use Rattle.fee_switch.specs.Banks.{BanksState}
-use Rattle.device_bridge.specs.Bridge.{Making}
+use Rattle.device_bridge.specs.Making.{Making, banks_of}
 use Rattle.device_image.specs.Slots.{Memory}
 use Rattle.device_image.specs.Laws.{IsHeld}
 use Rattle.device_clock.specs.Device.{Device, tells, told_of}
@@ -39,7 +39,7 @@ may_in m t (Some bytes) = copied_of (flags_in m t bytes)
 
 module _ (laws : Laws) (m : Making) (entry : Told) (s : Parts) (listed : List (DeviceNumber × ℕ)) (kept count : ℕ) (c : Course) (made : BanksState) (answer : FlashAnswer) (f : FlsState) (is : IsStepping m entry s listed kept count c made answer f) (op : Op) (step : IsStep op s.fls.flash answer f.flash) where
   abbrev pub l : Layout
-  l = layout_of m.geometry 2
+  l = banks_of m
 
   abbrev pub d : Device
   d = device_of m entry s

@@ -1,16 +1,15 @@
 -- What a job without room asks of the pages.
-use Rattle.std.specs.Prelude.{◌&&◌, nat_le, not, is_some, unwrap_or, ◌*◌, ◌/◌}
-use Rattle.std.proofs.Common.{◌≡◌, ◌≢◌, ◌≤◌, ◌<◌, ◌+◌, ◌-◌, ℕ, Bool, true, false, Option, Some, None, refl, sym, ap, ◌∙◌, subst, arith}
+use Rattle.std.specs.Prelude.{◌&&◌, ◌/◌}
+use Rattle.std.proofs.Common.{◌≡◌, ◌≢◌, ◌≤◌, ◌<◌, ◌+◌, ◌-◌, ℕ, Bool, true, false, None, refl, ap, ◌∙◌, subst, arith}
 use Rattle.std.proofs.lemmas.Bool.{leb-false}
 use Rattle.std.proofs.lemmas.Nat.{le-div}
 use Rattle.std.proofs.Math.Nat.{div-mul-le_self}
-use Rattle.nv_base.specs.Pages.{body_pages_of, record_pages_of}
+use Rattle.nv_base.specs.Pages.{record_pages_of}
 use Rattle.nv_base.specs.declared.job.DeviceOp.{DeviceOp}
 use Rattle.nv_base.specs.declared.job.DeviceOp.TheVariants.{Read, Write, Invalidate, Erase}
 use Rattle.fee_log.specs.declared.tail.Tail.{Tail}
 use Rattle.fee_log.specs.declared.tail.Tail.TheVariants as tail
 use Rattle.fee_log.specs.Log.{work_in}
-use Rattle.switch_course.specs.declared.course.Course.{Course}
 use Rattle.switch_room.specs.Space.{free_pages, has_room}
 use Rattle.fee_switch.specs.Banks.{BanksState}
 use Rattle.fee_state.specs.declared.job.FeeJob.{FeeJob}

@@ -1,32 +1,31 @@
 -- What the invariant of a device tells of its active bank and its room.
 use Rattle.std.specs.Prelude.{IsSome, IsTrue, if◌then◌else◌, is_some}
-use Rattle.std.proofs.Common.{◌≡◌, ◌⊎◌, inl, inr, ◌≤◌, ◌<◌, ◌+◌, ◌-◌, ℕ, Bool, true, false, List, Option, Some, None, refl, sym, ap, ◌∙◌, subst, arith}
+use Rattle.std.proofs.Common.{◌≡◌, ◌⊎◌, inl, inr, ◌+◌, ℕ, Bool, true, false, List, Option, Some, None, refl, sym, ap, ◌∙◌, subst}
 use Rattle.nv_base.specs.Geometry.{pages_of_bank}
 use Rattle.nv_base.specs.declared.geometry.Geometry.{Geometry}
 use Rattle.nv_base.specs.declared.instance.DeviceNumber.{DeviceNumber}
 use Rattle.fls_model.specs.Told.{Told, bytes_now}
 use Rattle.fee_image.specs.Append.{AppendsLeaveOneMore}
-use Rattle.fee_image.specs.Bank.{Bank}
 use Rattle.fee_image.specs.Image.{Layout, bank_in, active_of}
 use Rattle.fee_image.specs.Laws.{LogsCompute, ActiveComputes, NoActiveComputes}
-use Rattle.fee_image.specs.RecordList.{IsClosed, end_of}
 use Rattle.bank_image.specs.Banks.{Idle, Banks}
 use Rattle.bank_start.specs.declared.active.ActiveBank.{ActiveBank}
 use Rattle.bank_start.specs.Active.{active_shown}
-use Rattle.fee_log.specs.Log.{LogState, work_in, is_closed, free_behind, free_in, pages_in, log_of}
+use Rattle.fee_log.specs.Log.{work_in, is_closed, free_behind, free_in, pages_in, log_of}
 use Rattle.switch_course.specs.declared.course.Course.{Course}
 use Rattle.fee_switch.specs.Banks.{BanksState}
 use Rattle.switch_promise.specs.Shown.{old_shown, phase_shown}
 use Rattle.switch_room.specs.Space.{free_pages}
-use Rattle.device_bridge.specs.Bridge.{Making, has_failed}
-use Rattle.device_bridge.specs.Image.{two_banks, HasNoRoomFor}
+use Rattle.device_bridge.specs.Making.{Making, banks_of}
+use Rattle.device_bridge.specs.Bridge.{has_failed}
+use Rattle.device_bridge.specs.Image.{HasNoRoomFor}
 use Rattle.device_image.specs.Slots.{banks_with, may_told}
 use Rattle.device_image.specs.Laws.{IsHeld}
 use Rattle.device_clock.specs.Device.{tells}
 use Rattle.fee_state.specs.Inside.{Parts, body_of, device_of, memory_of}
 use Rattle.fee_turns.specs.Turn.{IsOn}
 use Rattle.fee_turns.specs.Worn.{ShowsRoom, ShowsClosed}
-use Rattle.fee_turns.proofs.Before.{power, shape, copied, held_at, log_geometry, log_banks}
+use Rattle.fee_turns.proofs.Before.{shape, copied, held_at, log_geometry, log_banks}
 use Rattle.fee_turns.proofs.WornShown.{active_is, none_is, own_bank, no_more, HasNoMore}
 
 pub record ShownLaws : Type 0 where
@@ -45,7 +44,7 @@ test false = inr refl
 
 module _ (own : ShownLaws) (m : Making) (entry : Told) (s : Parts) (listed : List (DeviceNumber × ℕ)) (kept count : ℕ) (on : IsOn m entry s listed kept count) (idle : work_in s.banks.log.tail ≡ None) (shut : s.banks.course ≡ None) (bytes : List ℕ) (at : bytes_now s.fls.flash ≡ Some bytes) (told : IsTrue (tells (device_of m entry s))) where
   abbrev l : Layout
-  l = two_banks m.geometry
+  l = banks_of m
 
   abbrev body : List ℕ
   body = body_of (work_in s.banks.log.tail) s.content
@@ -67,20 +66,20 @@ module _ (own : ShownLaws) (m : Making) (entry : Told) (s : Parts) (listed : Lis
   page_is : s.banks.log.geometry.page ≡ m.geometry.page
   page_is = ap (λ (g : Geometry). g.page) (log_geometry m entry s listed kept count on)
 
-  pages_are : pages_in s.banks.log ≡ pages_of_bank m.geometry 2
+  pages_are : pages_in s.banks.log ≡ pages_of_bank m.geometry m.banks
   pages_are = λ i. pages_of_bank (log_geometry m entry s listed kept count on i) (log_banks m entry s listed kept count on i)
 
-  free_is : (a : ActiveBank) → s.banks.active ≡ Some a → free_pages s.banks ≡ free_behind m.geometry.page (pages_of_bank m.geometry 2) s.banks.log.end s.banks.log.tail
+  free_is : (a : ActiveBank) → s.banks.active ≡ Some a → free_pages s.banks ≡ free_behind m.geometry.page (pages_of_bank m.geometry m.banks) s.banks.log.end s.banks.log.tail
   free_is a some = ap (λ (o : Option ActiveBank). if is_some o then free_in s.banks.log else 0) some ∙ (λ i. free_behind (page_is i) (pages_are i) s.banks.log.end s.banks.log.tail)
 
-  open_room : (a : ActiveBank) → s.banks.active ≡ Some a → is_closed s.banks.log.tail ≡ false → HasNoMore (bank_in l a.head.format a.bank) bytes (free_behind m.geometry.page (pages_of_bank m.geometry 2) s.banks.log.end s.banks.log.tail)
+  open_room : (a : ActiveBank) → s.banks.active ≡ Some a → is_closed s.banks.log.tail ≡ false → HasNoMore (bank_in l a.head.format a.bank) bytes (free_behind m.geometry.page (pages_of_bank m.geometry m.banks) s.banks.log.end s.banks.log.tail)
   open_room a some wide =
       let bank = own_bank own.active own.none l m.numbers bytes banks held.banks no_phase a.bank a.head (log_of s.banks.log body) (ap (λ (o : Option ActiveBank). old_shown o s.banks.log body) some) in
       let log = bank.1.holds in
       let low = (shape m entry s listed kept count on).page_low in
       no_more own.logs own.more (bank_in l a.head.format a.bank) bytes (may_told l m.numbers bytes (memory_of s)) low s.banks.log.end body s.banks.log.tail log.tail log.high idle wide
 
-  shows_by : ShowsClosed m s bytes → (o : Option ActiveBank) → s.banks.active ≡ o → IsSome o → HasNoRoomFor (free_pages s.banks + 1) m.geometry bytes ⊎ IsTrue (has_failed s.operations)
+  shows_by : ShowsClosed m s bytes → (o : Option ActiveBank) → s.banks.active ≡ o → IsSome o → HasNoRoomFor (free_pages s.banks + 1) m bytes ⊎ IsTrue (has_failed s.operations)
   shows_by closed None none some = cc some
   shows_by closed (Some a) some' some = elim (test (is_closed s.banks.log.tail)) [
     | inl shut' ↦ (elim (closed a some' shut') [

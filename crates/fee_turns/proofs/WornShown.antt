@@ -1,22 +1,21 @@
 -- What the bytes of a flash show of the active bank and its room.
 use Rattle.std.specs.Prelude.{◌++◌, ◌∷◌, [], get_or, replicate}
-use Rattle.std.proofs.Common.{◌≡◌, ◌⊎◌, inl, inr, ◌≤◌, ◌<◌, ◌+◌, ◌-◌, ℕ, zero, suc, Bool, true, false, List, Option, Some, None, refl, sym, ap, ◌∙◌, subst, arith}
+use Rattle.std.proofs.Common.{◌≡◌, ◌⊎◌, inl, inr, ◌≤◌, ◌<◌, ◌+◌, ◌-◌, ℕ, zero, suc, false, List, Option, Some, None, refl, sym, ap, ◌∙◌, subst, arith}
 use Rattle.std.proofs.lemmas.Bool.Decides.{eqb_tells}
-use Rattle.nv_base.specs.declared.geometry.Geometry.{Geometry}
 use Rattle.nv_base.specs.declared.instance.DeviceNumber.{DeviceNumber}
 use Rattle.fee_format.specs.declared.bank_head.BankHead.{BankHead}
 use Rattle.fee_format.specs.declared.rec_head.RecHead.{RecHead}
 use Rattle.fee_image.specs.Append.{AppendsLeaveOneMore}
 use Rattle.fee_image.specs.Bank.{Bank, page_of}
-use Rattle.fee_image.specs.Image.{Layout, bank_in, active_of}
+use Rattle.fee_image.specs.Image.{Layout, active_of}
 use Rattle.fee_image.specs.Laws.{LogsCompute, ActiveComputes, NoActiveComputes}
 use Rattle.fee_image.specs.RecordList.{IsClosed, end_of, pages_of_head}
-use Rattle.log_image.specs.Log.{Log, HasTail, HoldsLog}
+use Rattle.log_image.specs.Log.{Log, HasTail}
 use Rattle.log_image.specs.May.{May}
 use Rattle.bank_image.specs.Banks.{Old, NoBank, OldBank, Phase, Idle, Banks, Holds, HoldsOld, HoldsPhase, IsBehind, StandsBehind}
 use Rattle.fee_log.specs.declared.tail.Tail.{Tail}
 use Rattle.fee_log.specs.declared.tail.Tail.TheVariants as tail
-use Rattle.fee_log.specs.Log.{LogState, work_in, is_closed, free_behind, tail_with, pages_with}
+use Rattle.fee_log.specs.Log.{work_in, is_closed, free_behind, tail_with, pages_with}
 
 -- THE ACTIVE BANK
 module _ (active : ActiveComputes) (none : NoActiveComputes) (l : Layout) (numbers : List (DeviceNumber × ℕ)) (bytes : List ℕ) (x : Banks) (holds : Holds l numbers bytes x) (shut : x.phase ≡ Idle) where
@@ -63,13 +62,13 @@ module _ (logs : LogsCompute) (one_more : AppendsLeaveOneMore) (b : Bank) (bytes
   no_more (tail.Writes h done) at high idle wide = cc idle
   no_more (tail.Owes h next) owes high idle wide =
       elim (one_more b bytes bytes owes.records end h owes.body 1 big owes.staged (omega arith) (λ q inside other. refl)) [
-        | inl none ↦ inl (λ blank.
+        | inl none ↦ inl (inr (λ blank.
             (let is_end = ((logs b bytes owes.records end).0 none.1).1 in
             let start : end + 0 ≡ end = omega arith in
             let room = owes.staged.room in
             let written = owes.staged.written 0 (omega arith) in
             let page = sym written ∙ ap (page_of b bytes) start ∙ blank end (omega (arith, is_end)) (omega (arith, room)) in
-            no_header b.page _ (omega (arith, big)) page))
+            no_header b.page _ (omega (arith, big)) page)))
         | inr more ↦ (
             let is_end = ((logs b bytes (owes.records ++ more.last ∷ []) (end + pages_of_head b.page h)).0 more.log).1 in
             let room = owes.staged.room in

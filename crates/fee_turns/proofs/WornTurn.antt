@@ -1,48 +1,46 @@
 -- The turn of a device that is worn out.
-use Rattle.std.specs.Prelude.{IfSome, IsSome, IsTrue, ◌&&◌, not, is_some, is_none, nat_le, min, length, take, drop, unwrap_or, option_map, if◌then◌else◌}
-use Rattle.std.proofs.Common.{◌≡◌, ◌≢◌, ◌⊎◌, inl, inr, ◌≤◌, ◌<◌, ◌+◌, ◌-◌, ℕ, Bool, true, false, List, [], Option, Some, None, refl, sym, ap, ◌∙◌, subst, arith}
+use Rattle.std.specs.Prelude.{IfSome, IsSome, IsTrue, ◌&&◌, not, is_none, nat_le, min, length, take, drop, unwrap_or, option_map, if◌then◌else◌}
+use Rattle.std.proofs.Common.{◌≡◌, ◌⊎◌, inl, inr, ◌≤◌, ◌<◌, ◌+◌, ℕ, Bool, true, false, List, [], Option, Some, None, refl, sym, ap, ◌∙◌, subst, arith}
 use Rattle.std.specs.List.{list_all}
 use Rattle.std.proofs.lemmas.Bool.{eqb-true}
 use Rattle.std.proofs.Math.Seq.{drop-length}
 use Rattle.nv_base.specs.Count.{last_count}
 use Rattle.nv_base.specs.Pages.{record_pages_of}
-use Rattle.nv_base.specs.Geometry.{IsLegal, sectors_of_bank}
+use Rattle.nv_base.specs.Geometry.{sectors_of_bank}
 use Rattle.nv_base.specs.declared.geometry.Geometry.{Geometry}
 use Rattle.nv_base.specs.declared.instance.DeviceNumber.{DeviceNumber}
 use Rattle.nv_base.specs.declared.mark.Mark.{Mark}
 use Rattle.memif.specs.declared.answer.DeviceTurn.TheVariants as turn
 use Rattle.memif.specs.declared.answer.JobResult.TheVariants.{JobFailed}
-use Rattle.memif.specs.Told.{First, Job, Stand, Ended, is_open, length_of, slot_at}
-use Rattle.memif.specs.Marks.{KeepsAll, Keeps}
+use Rattle.memif.specs.Told.{First, Job, Stand, Ended, is_open}
+use Rattle.memif.specs.Marks.{KeepsAll}
 use Rattle.memif.specs.Calls.{Works, IsOf, JobTurns, EndsAs, MayFail, Nearer, is_read, urgent_first}
 use Rattle.fls_model.specs.Told.{Told, ToldBytes, Change, bytes_now}
 use Rattle.fee_format.specs.declared.bank_head.BankHead.{BankHead}
 use Rattle.fee_format.specs.declared.rec_head.RecHead.{RecHead}
-use Rattle.fee_image.specs.Image.{Layout, layout_of, bank_in, active_of}
-use Rattle.fee_image.specs.RecordList.{IsClosed, end_of}
+use Rattle.fee_image.specs.Image.{Layout, active_of}
 use Rattle.log_image.specs.May.{May}
 use Rattle.fee_log.specs.Log.{work_in}
 use Rattle.bank_start.specs.declared.active.ActiveBank.{ActiveBank}
 use Rattle.bank_start.specs.Active.{active_shown}
 use Rattle.switch_course.specs.declared.course.Course.{Course}
 use Rattle.fee_switch.specs.Banks.{BanksState, is_worn_out}
-use Rattle.switch_promise.specs.Shown.{phase_shown}
 use Rattle.switch_room.specs.Space.{free_pages}
-use Rattle.device_bridge.specs.Bridge.{Making, has_failed, is_program, wanted_pages}
-use Rattle.device_bridge.specs.Image.{two_banks, HasNoRoomFor, IsOfLastGeneration}
-use Rattle.device_image.specs.Slots.{Memory, HasJob, slots_held}
+use Rattle.device_bridge.specs.Making.{Making, banks_of}
+use Rattle.device_bridge.specs.Bridge.{has_failed, is_program, wanted_pages}
+use Rattle.device_bridge.specs.Image.{HasNoRoomFor, IsOfLastGeneration}
+use Rattle.device_image.specs.Slots.{Memory, HasJob}
 use Rattle.device_image.specs.Laws.{IsHeld, JobsKeep}
-use Rattle.device_clock.specs.Device.{Device, tells, told_of, part_of}
+use Rattle.device_clock.specs.Device.{Device, tells, told_of, ops_in}
 use Rattle.device_clock.specs.Clock.{MakesNone, clock_of, ClocksPass, WornNow}
 use Rattle.device_clock.specs.Parts.{PartsRead}
 use Rattle.device_clock.specs.Runs.{HasRun, IsWornSince, RunsStay}
 use Rattle.device_turns.specs.Jobs.{JobsChange}
 use Rattle.device_turns.specs.Kept.{IsKept}
-use Rattle.device_turns.specs.Whole.{AreStarted}
 use Rattle.device_figures.specs.Figures.{left_of as turns_left, ready_of, turns_of, wait_of}
 use Rattle.device_figures.specs.Laws.{IsWork}
 use Rattle.fee_state.specs.declared.job.FeeJob.{FeeJob}
-use Rattle.fee_state.specs.Inside.{Parts, body_of, device_of, memory_of, mark_of, stand_of, fixed_in, HoldsBehind, IsAtWork, IsWorn, ShowsCopies, TellsCopies, IsSound}
+use Rattle.fee_state.specs.Inside.{Parts, body_of, device_of, memory_of, mark_of, stand_of, fixed_in, HoldsBehind, IsAtWork, IsWorn, ShowsCopies, IsSound}
 use Rattle.fee_state.specs.Record.{IsInWork, IsJobOf, IsReady}
 use Rattle.fee_state.specs.Work.{work_of, waits_of, switch_turns, begins_next, claimed, pages_free, pages_left, pages_of_job, pages_of_op, seal_turns}
 use Rattle.fee_turns.specs.Turn.{IsOn, Turned}
@@ -87,9 +85,9 @@ marked op content None at some' = let z : true ≡ false = sym (ap (λ (o : Opti
 marked op content (Some x) at some' = (x, at)
 
 -- more pages have no room either
-more_pages : (g : Geometry) (n wanted : ℕ) (bytes : List ℕ) → n ≤ wanted → HasNoRoomFor n g bytes → HasNoRoomFor wanted g bytes
-more_pages g n wanted bytes less (k, h, at, inl closed) = (k, h, at, inl closed)
-more_pages g n wanted bytes less (k, h, at, inr few) = (k, h, at, inr (omega (arith, less, few)))
+more_pages : (m : Making) (n wanted : ℕ) (bytes : List ℕ) → n ≤ wanted → HasNoRoomFor n m bytes → HasNoRoomFor wanted m bytes
+more_pages m n wanted bytes less (k, h, at, inl closed) = (k, h, at, inl closed)
+more_pages m n wanted bytes less (k, h, at, inr few) = (k, h, at, inr (omega (arith, less, few)))
 
 -- no operation came since now
 none_since : (n : ℕ) (xs : List Change) → n ≡ min (length xs) last_count → n < last_count → IsTrue (list_all (λ x. is_program x.op) (drop n xs))
@@ -108,9 +106,9 @@ active_some : (o : Option ActiveBank) (x : ℕ × BankHead) → active_shown o �
 active_some None x shown = cc shown
 active_some (Some a) x shown = refl
 
-last_shown : (o : Option ActiveBank) (g : Geometry) (bytes : List ℕ) → is_worn_out o ≡ true → active_shown o ≡ active_of (two_banks g) bytes → IsOfLastGeneration g bytes
-last_shown None g bytes worn shown = cc worn
-last_shown (Some a) g bytes worn shown = (a.bank, a.head, sym shown, eqb-true a.head.generation 4294967295 worn)
+last_shown : (o : Option ActiveBank) (m : Making) (bytes : List ℕ) → is_worn_out o ≡ true → active_shown o ≡ active_of (banks_of m) bytes → IsOfLastGeneration m bytes
+last_shown None m bytes worn shown = cc worn
+last_shown (Some a) m bytes worn shown = (a.bank, a.head, sym shown, eqb-true a.head.generation 4294967295 worn)
 
 module _ (laws : Laws) (own : WornLaws) (m : Making) (entry : Told) (s : Parts) (listed : List (DeviceNumber × ℕ)) (kept count : ℕ) (j : FeeJob) (on : IsOn m entry s listed kept count) (is : IsWornNow m entry s j) where
   abbrev since : ℕ
@@ -126,7 +124,7 @@ module _ (laws : Laws) (own : WornLaws) (m : Making) (entry : Told) (s : Parts) 
   e = device_of m entry t
 
   abbrev l : Layout
-  l = layout_of m.geometry 2
+  l = banks_of m
 
   abbrev p : ℕ
   p = s.banks.geometry.page
@@ -151,14 +149,14 @@ module _ (laws : Laws) (own : WornLaws) (m : Making) (entry : Told) (s : Parts) 
   shows_at : (bytes : List ℕ) → bytes_now s.fls.flash ≡ Some bytes → ShowsRoom m s bytes
   shows_at bytes at = shows_by bytes at (tells d) refl (now_at s.fls.flash.bytes (KnowsRoom m entry s) bytes at is.bytes)
 
-  last_at : (bytes : List ℕ) → bytes_now s.fls.flash ≡ Some bytes → IsOfLastGeneration m.geometry bytes
+  last_at : (bytes : List ℕ) → bytes_now s.fls.flash ≡ Some bytes → IsOfLastGeneration m bytes
   last_at bytes at = elim is.worn [
-    | inl before ↦ (let x = some_of s.worn before in told_at s.fls.flash.bytes (IsOfLastGeneration m.geometry) bytes at (on.sound.device.run.worn x.0 x.1).last)
-    | inr worn ↦ last_shown s.banks.active m.geometry bytes worn (shows_at bytes at).active
+    | inl before ↦ (let x = some_of s.worn before in told_at s.fls.flash.bytes (IsOfLastGeneration m) bytes at (on.sound.device.run.worn x.0 x.1).last)
+    | inr worn ↦ last_shown s.banks.active m bytes worn (shows_at bytes at).active
   ]
 
-  last_now : IfSome (bytes_now s.fls.flash) (IsOfLastGeneration m.geometry)
-  last_now = each_told s.fls.flash.bytes (IsOfLastGeneration m.geometry) last_at
+  last_now : IfSome (bytes_now s.fls.flash) (IsOfLastGeneration m)
+  last_now = each_told s.fls.flash.bytes (IsOfLastGeneration m) last_at
 
   since_few : (o : Option ℕ) → s.worn ≡ o → unwrap_or o count ≤ min (length s.operations) last_count
   since_few None at = let h = on.sound.ops in omega (arith, h)
@@ -195,20 +193,20 @@ module _ (laws : Laws) (own : WornLaws) (m : Making) (entry : Told) (s : Parts) 
       let same = wanted_is in
       omega (arith, less, fits, same)
 
-  room_at : (bytes : List ℕ) → bytes_now s.fls.flash ≡ Some bytes → HasNoRoomFor (wanted_pages m j.number.0) m.geometry bytes ⊎ IsTrue (has_failed s.operations)
+  room_at : (bytes : List ℕ) → bytes_now s.fls.flash ≡ Some bytes → HasNoRoomFor (wanted_pages m j.number.0) m bytes ⊎ IsTrue (has_failed s.operations)
   room_at bytes at =
       let shows = shows_at bytes at in
       let last = last_at bytes at in
       elim (shows.room (active_some s.banks.active (last.0, last.1) (shows.active ∙ last.2))) [
-        | inl none ↦ inl (more_pages m.geometry (free_pages s.banks + 1) (wanted_pages m j.number.0) bytes few_free none)
+        | inl none ↦ inl (more_pages m (free_pages s.banks + 1) (wanted_pages m j.number.0) bytes few_free none)
         | inr failed ↦ inr failed
       ]
 
-  room_now : IfSome (bytes_now s.fls.flash) (HasNoRoomFor (wanted_pages m j.number.0) m.geometry) ⊎ IsTrue (has_failed s.operations)
-  room_now = told_or s.fls.flash.bytes (HasNoRoomFor (wanted_pages m j.number.0) m.geometry) (IsTrue (has_failed s.operations))
-      (each_now s.fls.flash.bytes (λ (x : List ℕ). HasNoRoomFor (wanted_pages m j.number.0) m.geometry x ⊎ IsTrue (has_failed s.operations)) room_at)
+  room_now : IfSome (bytes_now s.fls.flash) (HasNoRoomFor (wanted_pages m j.number.0) m) ⊎ IsTrue (has_failed s.operations)
+  room_now = told_or s.fls.flash.bytes (HasNoRoomFor (wanted_pages m j.number.0) m) (IsTrue (has_failed s.operations))
+      (each_now s.fls.flash.bytes (λ (x : List ℕ). HasNoRoomFor (wanted_pages m j.number.0) m x ⊎ IsTrue (has_failed s.operations)) room_at)
 
-  is_worn : (clock_of e).first.worn (part_of e).ops j.number.0
+  is_worn : (clock_of e).worn (ops_in e) j.number.0
   is_worn = own.now e since j.number.0 refl few_now room_now
 
   -- BEHIND IT
@@ -226,8 +224,8 @@ module _ (laws : Laws) (own : WornLaws) (m : Making) (entry : Told) (s : Parts) 
     worn = λ x at. inr (subst (IsWornSince e) (some_is x at) (worn_since s.worn refl));
   })
 
-  has_job : HasJob ended mem.old
-  has_job = has_none s.banks.active s.banks.log s.banks.log.tail (body_of (work_in s.banks.log.tail) s.content) [] JobFailed is.idle
+  has_job : HasJob m.numbers ended mem.old
+  has_job = has_none m.numbers s.banks.active s.banks.log s.banks.log.tail (body_of (work_in s.banks.log.tail) s.content) [] JobFailed is.idle
 
   held_then : (bytes : List ℕ) (wide : May) → IsHeld l m.numbers bytes mem wide → IsHeld l m.numbers bytes (memory_of t) wide
   held_then bytes wide held = own.job l m.numbers bytes mem wide ended (record { lengths = lengths m entry s listed kept count on; legal = legal m entry s listed kept count on laws.legal; held = held }) has_job
@@ -269,7 +267,7 @@ module _ (laws : Laws) (own : WornLaws) (m : Making) (entry : Told) (s : Parts) 
   no_switch : switch_turns m.reserve s.banks None s.banks.course ≡ 0
   no_switch = rests_none m.reserve s.banks s.banks.course is.shut
 
-  work_then : IsWork m.geometry.page (sectors_of_bank m.geometry 2) m.numbers m.reserve ended (work_of m.reserve s.banks None)
+  work_then : IsWork m.geometry.page (sectors_of_bank m.geometry m.banks) m.numbers m.reserve ended (work_of m.reserve s.banks None)
   work_then = record { job = tt; few = let h = no_switch in omega (arith, h) }
 
   sound : IsSound m entry t listed kept count false
@@ -280,7 +278,7 @@ module _ (laws : Laws) (own : WornLaws) (m : Making) (entry : Told) (s : Parts) 
           geometry = made.geometry;
           idle = record { job = made.idle.job; attached = made.idle.attached };
           banks_geometry = made.banks_geometry;
-          two = made.two;
+          shared = made.shared;
           numbers = made.numbers;
           space = made.space;
           bytes = made.bytes;
@@ -375,10 +373,11 @@ module _ (laws : Laws) (own : WornLaws) (m : Making) (entry : Told) (s : Parts) 
   works : Works First (told_of d) (told_of e) (clock_of e)
   works = record {
     only = refl;
+    up = on.started;
     of = subst (λ (o : Option FeeJob). IsOf First (fixed_in m) (at o)) (sym is.job) (tt, sym (first_of m j.number.0));
     part = own.read d e (record { flash = refl; operations = refl; more = omega arith; faults = inl refl; small = on.sound.device.faults }) (power m entry s listed kept count on);
     job = subst (λ (o : Option FeeJob). JobTurns First (at o) ended (told_of d) (told_of e) (clock_of e)) (sym is.job) (ends, λ failed. may_fail);
-    read = subst (λ (o : Option FeeJob). is_read (at o) ≡ true → ((told_of e).first.ops ≡ (told_of d).first.ops) × ((told_of e).slots ≡ (told_of d).slots)) (sym is.job) (λ read. (let none = has_none' in absurd (cc (read, none))));
+    read = subst (λ (o : Option FeeJob). is_read (at o) ≡ true → ((told_of e).ops ≡ (told_of d).ops) × ((told_of e).slots ≡ (told_of d).slots)) (sym is.job) (λ read. (let none = has_none' in absurd (cc (read, none))));
     nearer = inl falls;
     ready = λ calm. if_else (urgent_first (fixed_in m) (at s.job)) (Nearer (told_of d) (told_of e)) ((told_of d).ready ≤ (told_of e).ready) (λ urgent v wait. (let none = waits_none urgent in absurd (cc (wait, none)))) (λ calm'. ready_same);
   }

@@ -12,7 +12,7 @@ use Rattle.fls_model.specs.Told.{Told}
 use Rattle.fls_jobs.specs.State.{FlsState}
 use Rattle.fee_log.specs.Log.{work_in}
 use Rattle.fee_log.specs.Step.{IsPageOf, due_bytes, op_of, after_step, commits}
-use Rattle.device_bridge.specs.Bridge.{Making}
+use Rattle.device_bridge.specs.Making.{Making}
 use Rattle.fee_state.specs.Inside.{Parts, body_of}
 use Rattle.fee_turns.specs.Turn.{IsOn, Drives, operated, ended_as, Turned}
 

@@ -10,7 +10,7 @@ use Rattle.fls_model.specs.Told.{Told}
 use Rattle.fee_log.specs.Log.{IsFor, work_in}
 use Rattle.switch_course.specs.declared.course.Course.TheVariants.{Erase}
 use Rattle.fee_switch.specs.Banks.{TakesRecord, append_begun, begun_again, is_worn_out}
-use Rattle.device_bridge.specs.Bridge.{Making}
+use Rattle.device_bridge.specs.Making.{Making}
 use Rattle.device_clock.specs.Device.{told_of}
 use Rattle.device_clock.specs.Clock.{clock_of}
 use Rattle.fee_state.specs.declared.job.FeeJob.{FeeJob}
@@ -42,11 +42,11 @@ pub record MayBegin (m : Making) (s : Parts) (j : FeeJob) : Type 0 where
   pub idle : work_in s.banks.log.tail ≡ None
   pub taken : TakesRecord (kind_of j.op) s.banks.course
   pub beside : is_some s.banks.course ≡ true → j.urgent ≡ true
-  pub configured : IsFor s.banks.log.numbers (head_of j)
+  pub configured : IsFor s.banks.log.numbers (head_of s.banks.log j)
   pub room : fits_in m.reserve s.banks j ≡ true
 
 abbrev pub begun_with : FeeJob → Parts → Parts
-begun_with j s = record s { banks = append_begun s.banks (head_of j) }
+begun_with j s = record s { banks = append_begun s.banks (head_of s.banks.log j) }
 
 pub record Begun (m : Making) (entry : Told) (s t : Parts) (listed : List (DeviceNumber × ℕ)) (kept count : ℕ) : Type 0 where
   pub told : HasBegun (told_of (device_of m entry s)) (told_of (device_of m entry t)) (clock_of (device_of m entry s)) (clock_of (device_of m entry t))
@@ -63,7 +63,7 @@ pub record MaySwitch (m : Making) (s : Parts) (j : FeeJob) : Type 0 where
   pub writes : j.op ≢ Read
   pub idle : work_in s.banks.log.tail ≡ None
   pub shut : s.banks.course ≡ None
-  pub configured : IsFor s.banks.log.numbers (head_of j)
+  pub configured : IsFor s.banks.log.numbers (head_of s.banks.log j)
   pub full : fits_in m.reserve s.banks j ≡ false
   pub fresh : s.worn ≡ None
   pub worn : is_worn_out s.banks.active ≡ false

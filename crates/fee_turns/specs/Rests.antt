@@ -5,7 +5,7 @@ use Rattle.memif.specs.declared.answer.DeviceTurn.{DeviceTurn}
 use Rattle.memif.specs.declared.answer.DeviceTurn.TheVariants as turn
 use Rattle.memif.specs.Calls.{Turns}
 use Rattle.fls_model.specs.Told.{Told}
-use Rattle.device_bridge.specs.Bridge.{Making}
+use Rattle.device_bridge.specs.Making.{Making}
 use Rattle.device_clock.specs.Device.{told_of}
 use Rattle.device_clock.specs.Clock.{clock_of}
 use Rattle.fee_state.specs.Inside.{Parts, device_of, IsSound}

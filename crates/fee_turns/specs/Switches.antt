@@ -12,6 +12,7 @@ use Rattle.fls_model.specs.Op.{Op, Erase as Erases}
 use Rattle.fls_model.specs.Told.{Told}
 use Rattle.fls_jobs.specs.State.{FlsState}
 use Rattle.fee_format.specs.declared.rec_head.RecHead.{RecHead}
+use Rattle.log_image.specs.declared.place.Place.{Place}
 use Rattle.fee_log.specs.Log.{LogState, IsLogState, work_in, begun}
 use Rattle.fee_log.specs.Step.{op_of}
 use Rattle.switch_course.specs.declared.copies.Source.{Source}
@@ -22,8 +23,8 @@ use Rattle.fee_switch.specs.declared.target.Stage.{Stage}
 use Rattle.fee_switch.specs.declared.target.Stage.TheVariants as stage
 use Rattle.fee_switch.specs.Target.{op_at}
 use Rattle.fee_switch.specs.Banks.{BanksState, target_at, reads_next, after_answer}
-use Rattle.fee_switch.specs.Copy.{MakesNext}
-use Rattle.device_bridge.specs.Bridge.{Making}
+use Rattle.fee_switch.specs.Copy.{MakesNext, head_at}
+use Rattle.device_bridge.specs.Making.{Making}
 use Rattle.fee_state.specs.declared.job.FeeJob.{FeeJob}
 use Rattle.fee_state.specs.Inside.{Parts}
 use Rattle.fee_state.specs.Work.{begins_next}
@@ -38,13 +39,13 @@ abbrev pub op_in : BanksState → Stage → Op
 op_in s at = op_at (target_at s at) at
 
 -- of the header of the record that copies a mark
-abbrev pub mark_op_for : LogState → Option (DeviceNumber × ℕ) → Op
-mark_op_for copies None = nothing
-mark_op_for copies (Some n) = op_of (begun copies (record { number = n.0.0; kind = 2; length = 0 })) []
+abbrev pub mark_op_for : LogState → Place → Option (DeviceNumber × ℕ) → Op
+mark_op_for copies place None = nothing
+mark_op_for copies place (Some n) = op_of (begun copies (head_at place n.0.0 n.1)) []
 
 abbrev pub mark_op_of : BanksState → Option Source → Op
 mark_op_of s None = nothing
-mark_op_of s (Some source) = mark_op_for s.copies (slice_get s.log.numbers source.index)
+mark_op_of s (Some source) = mark_op_for s.copies source.place (slice_get s.log.numbers source.index)
 
 -- of the copy in work, whose content stands in the buffer
 abbrev pub copy_op_of : BanksState → Option RecHead → Op

@@ -11,7 +11,7 @@ use Rattle.fls_model.specs.Told.{Told}
 use Rattle.fls_jobs.specs.State.{FlsState, IsDriverState}
 use Rattle.fee_log.specs.Log.{IsLogState}
 use Rattle.fee_switch.specs.Banks.{BanksState, IsBanksState}
-use Rattle.device_bridge.specs.Bridge.{Making}
+use Rattle.device_bridge.specs.Making.{Making}
 use Rattle.device_clock.specs.Device.{told_of}
 use Rattle.device_clock.specs.Clock.{clock_of, change_of}
 use Rattle.device_clock.specs.Runs.{counts_fault}

@@ -12,8 +12,9 @@ use Rattle.bank_start.specs.declared.active.ActiveBank.{ActiveBank}
 use Rattle.bank_start.specs.Active.{active_shown}
 use Rattle.fee_switch.specs.Banks.{is_worn_out}
 use Rattle.switch_room.specs.Space.{free_pages}
-use Rattle.device_bridge.specs.Bridge.{Making, has_failed}
-use Rattle.device_bridge.specs.Image.{two_banks, HasNoRoomFor}
+use Rattle.device_bridge.specs.Making.{Making, banks_of}
+use Rattle.device_bridge.specs.Bridge.{has_failed}
+use Rattle.device_bridge.specs.Image.{HasNoRoomFor}
 use Rattle.device_clock.specs.Device.{tells}
 use Rattle.fee_state.specs.declared.job.FeeJob.{FeeJob}
 use Rattle.fee_state.specs.Inside.{Parts, device_of}
@@ -23,14 +24,14 @@ use Rattle.fee_turns.specs.Turn.{IsOn, ended_as, Turned}
 -- the active bank is the one that these bytes show, and it has no more pages free in them than in memory, or an operation
 -- failed before
 pub record ShowsRoom (m : Making) (s : Parts) (bytes : List ℕ) : Type 0 where
-  pub active : active_shown s.banks.active ≡ active_of (two_banks m.geometry) bytes
-  pub room : IsSome s.banks.active → HasNoRoomFor (free_pages s.banks + 1) m.geometry bytes ⊎ IsTrue (has_failed s.operations)
+  pub active : active_shown s.banks.active ≡ active_of (banks_of m) bytes
+  pub room : IsSome s.banks.active → HasNoRoomFor (free_pages s.banks + 1) m bytes ⊎ IsTrue (has_failed s.operations)
 
 -- where its log is closed, the bank is closed in the bytes, or an operation failed before
 abbrev pub ShowsClosed : Making → Parts → List ℕ → Type 0
 ShowsClosed m s bytes =
     (a : ActiveBank) → s.banks.active ≡ Some a → is_closed s.banks.log.tail ≡ true
-    → (let b = bank_in (two_banks m.geometry) a.head.format a.bank in IsClosed b bytes (end_of b bytes)) ⊎ IsTrue (has_failed s.operations)
+    → (let b = bank_in (banks_of m) a.head.format a.bank in IsClosed b bytes (end_of b bytes)) ⊎ IsTrue (has_failed s.operations)
 
 -- What is known of the bytes beside the invariant, where they are told: why a log is closed, and where they weren't sound
 -- when the device was made, which bank is active and what room it has.

@@ -1,4 +1,4 @@
-//! The turns of a memory device over the two banks of a flash.
+//! The turns of a memory device over the banks of a flash.
 //!
 //! Its functions do nothing: their contracts are the laws. From the parts of a device before a turn, and what the call of
 //! its flash answered, each gives that the turn is a memory device's and that the parts behind it are sound. The program of

@@ -15,7 +15,7 @@ rec_seen b bytes at s =
 abbrev pub rec_shown : Record → Rec
 rec_shown r = record {
   at = r.at;
-  head = record { number = r.number; kind = r.kind; length = length r.payload.now };
+  head = record { number = r.number; kind = r.kind; length = length r.payload.now; count = r.count };
   committed = r.committed;
   payload = r.payload.now;
 }

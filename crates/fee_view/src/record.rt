@@ -10,13 +10,14 @@ use fee_format::{RecHead, gate_stands, pages_of, read_rec_head};
 use fee_image::records_stay;
 
 /// A record as its bank shows it: the page of the bank where its header stands, its number and kind (1 a content, 2 an
-/// invalidated instance, 3 an erased one), whether it is one of the bank's list, which each item of it is, whether its
+/// invalidated instance, 3 an erased one), its count (0 in format 1), whether it is one of the bank's list, which each item of it is, whether its
 /// commit gate stands open, and its content, a slice of the bank.
 #[derive(Clone, Copy)]
 pub struct Record<'a> {
     pub at: u32,
     pub number: u16,
     pub kind: u8,
+    pub count: u32,
     pub trusted: bool,
     pub committed: bool,
     pub payload: &'a [u8],
@@ -38,10 +39,10 @@ pub(crate) fn seen_at(bank: &[u8], page: u32, pages: u32, format: u8, at: u32) -
     requires place { at ≤ pages }
     ensures { MatchOption result (Stops (own_bank page pages format) bank.now at) (λ s. Stands (own_bank page pages format) bank.now at (rec_seen (own_bank page pages format) bank.now at s)) }
 {
-    if format != 1 || pages < at + 3 || !gate_stands(page_of(bank, page, at + 1)) {
+    if (format != 1 && format != 2) || pages < at + 3 || !gate_stands(page_of(bank, page, at + 1)) {
         return None;
     }
-    let head = read_rec_head(page_of(bank, page, at))?;
+    let head = read_rec_head(page_of(bank, page, at), format)?;
     let next = at + pages_of(head.length, page);
     if pages < next {
         return None;
@@ -64,6 +65,7 @@ pub(crate) fn record_of<'a>(bank: &'a [u8], page: u32, at: u32, seen: Seen) -> R
         at,
         number: seen.head.number,
         kind: seen.head.kind,
+        count: seen.head.count,
         trusted: true,
         committed: seen.committed,
         payload: &bank[from..from + usize::from(seen.head.length)],

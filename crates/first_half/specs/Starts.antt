@@ -4,7 +4,7 @@ use Rattle.nv_base.specs.declared.instance.Instance.{Instance}
 use Rattle.nv_base.specs.declared.job.DeviceOp.{DeviceOp}
 use Rattle.memif.specs.Told.{DeviceTold}
 use Rattle.nv_base.specs.declared.job.JobStep.TheVariants as step
-use Rattle.memif.specs.Clock.{PartClock}
+use Rattle.memif.specs.Clock.{Clock}
 use Rattle.memif.specs.Calls.{AcceptsAs}
 use Rattle.memif.specs.declared.answer.DeviceRefusal.{DeviceRefusal}
 use Rattle.block_machine.specs.State.{Job}
@@ -31,7 +31,7 @@ IsStarted answer desk op i old new =
     → AcceptsAs (wish_for desk.config h names.job names.index) answer old new
 
 -- its start keeps what the stack keeps
-abbrev pub StartKeeps : DeskState → DeviceOp → Instance → DeviceTold → PartClock → DeviceTold → PartClock → Type 0
+abbrev pub StartKeeps : DeskState → DeviceOp → Instance → DeviceTold → Clock → DeviceTold → Clock → Type 0
 StartKeeps desk op i old clock new clock_new =
     (h : HandState) → Names desk.config (state_of desk) h op i → h.step ≡ step.Device op i → IsInHand desk.config (state_of desk) h old
     → StaysKept desk (Some h) old clock desk (Some (with_start h)) new clock_new
@@ -43,7 +43,7 @@ IsWritten answer desk number old new =
     → AcceptsAs (write_wish number x.0 (rank_of desk.config j).immediate) answer old new
 
 -- that start keeps it too, where the write is what the hand names
-abbrev pub WriteKeeps : DeskState → ℕ → DeviceTold → PartClock → DeviceTold → PartClock → Type 0
+abbrev pub WriteKeeps : DeskState → ℕ → DeviceTold → Clock → DeviceTold → Clock → Type 0
 WriteKeeps desk number old clock new clock_new =
     (h : HandState) (op : DeviceOp) (i : Instance) (names : Names desk.config (state_of desk) h op i) (x : List ℕ × ℕ) → h.step ≡ step.Device op i
     → IsInHand desk.config (state_of desk) h old → names.job.content ≡ Some x

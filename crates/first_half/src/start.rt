@@ -14,7 +14,7 @@ pub(crate) fn start_on<D: MemDevice>(
 ) -> Result<(), DeviceRefusal>
     requires { IsOfHand desk.now instance }
     ensures started { IsStarted result desk.now op instance (D.told device.old) (D.told device.new) }
-    ensures keeps { StartKeeps desk.now op instance (D.told device.old) (D.clock device.old).first (D.told device.new) (D.clock device.new).first }
+    ensures keeps { StartKeeps desk.now op instance (D.told device.old) (D.clock device.old) (D.told device.new) (D.clock device.new) }
 {
     let _blocks = desk.config().blocks();
     let Some(desc) = desk.desc_in_hand() else {
@@ -36,7 +36,7 @@ fn start_write<D: MemDevice>(
     number: DeviceNumber,
 ) -> Result<(), DeviceRefusal>
     ensures started { IsWritten result desk.now number.0 (D.told device.old) (D.told device.new) }
-    ensures keeps { WriteKeeps desk.now number.0 (D.told device.old) (D.clock device.old).first (D.told device.new) (D.clock device.new).first }
+    ensures keeps { WriteKeeps desk.now number.0 (D.told device.old) (D.clock device.old) (D.told device.new) (D.clock device.new) }
 {
     let urgent = desk.is_urgent();
     match desk.hand() {

@@ -30,7 +30,7 @@ pub(crate) fn go_on<D: MemDevice>(desk: &Desk, hand: &mut Option<Hand>, device: 
     ensures tied { IsTied desk.now hand.new (D.told device.new) }
     ensures started { IfSome hand.new (λ h. h.started ≡ true) }
     ensures device { LeavesDevice (D.told device.old) (D.told device.new) }
-    ensures keeps { StaysKept desk.now hand.old (D.told device.old) (D.clock device.old).first desk.now hand.new (D.told device.new) (D.clock device.new).first }
+    ensures keeps { StaysKept desk.now hand.old (D.told device.old) (D.clock device.old) desk.now hand.new (D.told device.new) (D.clock device.new) }
     ensures lowers { stack_work desk.now hand.new (D.told device.new) ≤ stack_work desk.now hand.old (D.told device.old) }
     ensures left { stack_left (program_in_hand hand.new) (D.told device.new) ≤ stack_left (program_in_hand hand.old) (D.told device.old) }
     ensures goes { GoesOn hand.old (D.told device.old) hand.new (D.told device.new) }
@@ -51,7 +51,7 @@ fn go_on_with<D: MemDevice>(desk: &Desk, hand: &mut Hand, device: &mut D)
     ensures paired { IsInHand desk.now.config (state_of desk.now) hand.new (D.told device.new) }
     ensures started { hand.new.started ≡ true }
     ensures device { LeavesDevice (D.told device.old) (D.told device.new) }
-    ensures keeps { StaysKept desk.now (Some hand.old) (D.told device.old) (D.clock device.old).first desk.now (Some hand.new) (D.told device.new) (D.clock device.new).first }
+    ensures keeps { StaysKept desk.now (Some hand.old) (D.told device.old) (D.clock device.old) desk.now (Some hand.new) (D.told device.new) (D.clock device.new) }
     ensures lowers { stack_work desk.now (Some hand.new) (D.told device.new) ≤ stack_work desk.now (Some hand.old) (D.told device.old) }
     ensures left { stack_left (Some hand.new.program) (D.told device.new) ≤ stack_left (Some hand.old.program) (D.told device.old) }
     ensures goes { GoesOn (Some hand.old) (D.told device.old) (Some hand.new) (D.told device.new) }

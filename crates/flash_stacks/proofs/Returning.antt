@@ -5,13 +5,14 @@ use Rattle.std.proofs.Math.Nat.{eq-or-lt_of_le}
 use Rattle.nv_base.specs.Count.{last_count, Rose}
 use Rattle.nv_base.specs.declared.geometry.Geometry.{Geometry}
 use Rattle.block_config.specs.Config.{Configuration}
-use Rattle.memif.specs.Told.{PartTold}
-use Rattle.memif.specs.Clock.{PartClock}
+use Rattle.memif.specs.Told.{PartTold, DeviceTold}
+use Rattle.memif.specs.Clock.{Clock}
 use Rattle.memif.specs.Calls.{PowersUp}
 use Rattle.found_marks.specs.Found.{FailsToFind}
 use Rattle.fls_model.specs.Told.{Told, ToldBytes, Change, IfBothTold, changes_in}
 use Rattle.fls_devices.specs.Cutter.{Cutting, OnlyCuts, cutting, told_cutting}
-use Rattle.device_bridge.specs.Bridge.{Making, Bridges}
+use Rattle.device_bridge.specs.Making.{Making}
+use Rattle.device_bridge.specs.Bridge.{Bridges}
 use Rattle.device_bridge.specs.FlashRun.{FlashRun, IsChain}
 use Rattle.device_bridge.specs.Image.{attached}
 use Rattle.device_clock.specs.Device.{Device, told_of}
@@ -38,15 +39,16 @@ none_made n (x ∷ xs) is none = absurd (omega (arith, is, none))
 
 pub back : DevicesBridge → TellsWithin → CountsStayWithin → (c : Configuration) (inner : Told) (cuts : ℕ) (making : Making) (entry exit : Told) (k : Cutting) (d : Device) → IsOrigin c inner cuts making entry → OnlyCuts k → exit ≡ k.flash.inner
     → told_cutting k ≡ d.flash → IfSome (changes_in (told_cutting k).bytes) (λ changes. changes ≡ d.operations) → (d.operations ≡ [] → ((told_cutting k).ops ≡ entry.ops) × ((told_cutting k).cuts ≡ entry.cuts)) → entry.faults ≤ (told_cutting k).faults
-    → ((cutter : Bool) → Bridges making cutter (record { entry = entry; exit = told_cutting k; operations = d.operations }) (part_at entry) (told_of d).first (clock_of d).first)
-    → IsBack c inner exit (part_at entry) (told_of d).first (clock_of d).first
-back devices tells counts c inner cuts making entry exit k d origin only is_exit told changes none more bridge =
-    subst (λ (e : Told). IsBack c inner exit (part_at e) (told_of d).first (clock_of d).first) (sym origin.over)
-    (subst (λ (x : Told). IsBack c inner x (part_at (told_cutting (cutting inner cuts))) (told_of d).first (clock_of d).first) (sym is_exit) (record {
+    → AreOfFirst d → ((cutter : Bool) → Bridges making cutter (record { entry = entry; exit = told_cutting k; operations = d.operations }) (part_at entry) (told_of d) (clock_of d))
+    → IsBack c inner exit (part_at entry) (told_of d) (clock_of d)
+back devices tells counts c inner cuts making entry exit k d origin only is_exit told changes none more parts bridge =
+    subst (λ (e : Told). IsBack c inner exit (part_at e) (told_of d) (clock_of d)) (sym origin.over)
+    (subst (λ (x : Told). IsBack c inner x (part_at (told_cutting (cutting inner cuts))) (told_of d) (clock_of d)) (sym is_exit) (record {
       operations = d.operations;
       bridges = devices (making_of c) true inner cuts k d (part_at (told_cutting (cutting inner cuts))) only (record { told = told; changes = changes }) refl
-          (subst (λ (m : Making). Bridges m true (record { entry = told_cutting (cutting inner cuts); exit = told_cutting k; operations = d.operations }) (part_at (told_cutting (cutting inner cuts))) (told_of d).first (clock_of d).first) origin.made_for
-          (subst (λ (e : Told). Bridges making true (record { entry = e; exit = told_cutting k; operations = d.operations }) (part_at e) (told_of d).first (clock_of d).first) origin.over (bridge true)));
+          (subst (λ (m : Making). Bridges m true (record { entry = told_cutting (cutting inner cuts); exit = told_cutting k; operations = d.operations }) (part_at (told_cutting (cutting inner cuts))) (told_of d) (clock_of d)) origin.made_for
+          (subst (λ (e : Told). Bridges making true (record { entry = e; exit = told_cutting k; operations = d.operations }) (part_at e) (told_of d) (clock_of d)) origin.over (bridge true)));
+      parts = parts;
       faults = (tells k only).1 ∙ ap (λ t. t.faults) told;
       more = let over = ap (λ t. t.faults) origin.over in let within = (tells k only).1 in omega (arith, over, within, more);
       none = λ no_ops unplanned.
@@ -69,7 +71,7 @@ both_told g None None alike chain = tt
 both_told g (Some x) None alike chain = absurd alike
 both_told g None (Some y) alike chain = absurd alike
 
-pub comes_back : (c : Configuration) (inner exit : Told) (before now : PartTold) (clock : PartClock) (fault : MakeFault) → IsBack c inner exit before now clock → now.ops ≡ 0 → now.planning.unplanned ≡ inner.cuts → inner.faults ≤ now.flash_faults
+pub comes_back : (c : Configuration) (inner exit : Told) (before : PartTold) (now : DeviceTold) (clock : Clock) (fault : MakeFault) → IsBack c inner exit before now clock → now.ops ≡ 0 → now.first.planning.unplanned ≡ inner.cuts → inner.faults ≤ now.first.flash_faults
     → IsCause c fault inner exit → ComesBack c fault inner exit
 comes_back c inner exit before now clock fault back no_ops unplanned less cause =
     let (empty, ops, cuts) = back.none no_ops unplanned in
@@ -88,11 +90,11 @@ comes_back c inner exit before now clock fault back no_ops unplanned less cause 
 
 -- a device that was made alone
 pub made_back : (c : Configuration) (inner : Told) (cuts : ℕ) (making : Making) (entry exit : Told) (d e : Device) → IsOrigin c inner cuts making entry → IsMadeOf making entry d → e ≡ d
-    → IsBack c inner exit (part_at entry) (told_of e).first (clock_of e).first → ComesBack c Memory inner exit
+    → IsBack c inner exit (part_at entry) (told_of e) (clock_of e) → ComesBack c Memory inner exit
 made_back c inner cuts making entry exit d e origin made same back =
     let part : (told_of e).first ≡ part_at entry = ap (λ (x : Device). (told_of x).first) same ∙ made.part in
     let from : part_at entry ≡ part_at (told_cutting (cutting inner cuts)) = ap part_at origin.over in
-    comes_back c inner exit (part_at entry) (told_of e).first (clock_of e).first Memory back (ap (λ p. p.ops) part) (ap (λ p. p.planning.unplanned) (part ∙ from))
+    comes_back c inner exit (part_at entry) (told_of e) (clock_of e) Memory back (ap (λ (x : Device). (told_of x).ops) same ∙ made.ops) (ap (λ p. p.planning.unplanned) (part ∙ from))
     (let flash = ap (λ p. p.flash_faults) (part ∙ from) in omega (arith, flash)) tt
 
 -- a device whose first start-up failed by a fault
@@ -102,10 +104,10 @@ rose_with a b d e (inr (full, stays)) (inl tied) none less = absurd (omega (arit
 rose_with a b d e rose (inr end) none less = elim (eq-or-lt_of_le less) [ inl same ↦ inr (omega (arith, same, end), less) | inr more ↦ inl more ]
 
 pub failed_back : (c : Configuration) (inner : Told) (cuts : ℕ) (making : Making) (entry exit : Told) (d e : Device) → IsOrigin c inner cuts making entry → IsMadeOf making entry d → FailsToFind (told_of d) (told_of e)
-    → IsBack c inner exit (part_at entry) (told_of e).first (clock_of e).first → ComesBack c Flash inner exit
+    → IsBack c inner exit (part_at entry) (told_of e) (clock_of e) → ComesBack c Flash inner exit
 failed_back c inner cuts making entry exit d e origin made fails back =
-    comes_back c inner exit (part_at entry) (told_of e).first (clock_of e).first Flash back
-    (ap (λ p. p.ops) up.only ∙ ap (λ p. p.ops) part) (ap (λ p. p.planning.unplanned) up.only ∙ ap (λ p. p.planning.unplanned) part) (omega (arith, grown, flash))
+    comes_back c inner exit (part_at entry) (told_of e) (clock_of e) Flash back
+    (fails.restarted.ops ∙ made.ops) (ap (λ p. p.planning.unplanned) up.only ∙ ap (λ p. p.planning.unplanned) part) (omega (arith, grown, flash))
     (let at = back.faults in subst (λ (n : ℕ). Rose inner.faults n) (sym at) (subst (λ (n : ℕ). Rose n (told_of e).first.flash_faults) flash rose))
   where
     up : PowersUp (told_of d).first (told_of e).first

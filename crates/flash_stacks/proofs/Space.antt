@@ -8,6 +8,7 @@ use Rattle.nv_base.specs.declared.instance.DeviceNumber.{DeviceNumber}
 use Rattle.nv_base.specs.Lengths.{AreLengths}
 use Rattle.nv_base.specs.Pages.{record_pages_of}
 use Rattle.block_config.specs.declared.block.BlockDesc.{BlockDesc}
+use Rattle.block_config.specs.Banks.{bank_count}
 use Rattle.block_config.specs.Config.{Configuration}
 use Rattle.block_config.specs.Lengths.{length_at, block_lengths, lengths_from, lengths_of}
 use Rattle.block_config.specs.Rules.{IsLegalConfig}
@@ -64,7 +65,7 @@ greatest_blocks p id (b ∷ bs) =
     let here = fold_from (size_of p) (max 0 (size_of p b)) bs in
     let grows = fold_grows (size_of p) 0 (max 0 (size_of p b)) bs (omega arith) in omega (arith, one, more, rest, here, grows)
 
-pub has_space : (c : Configuration) (numbers : List (DeviceNumber × ℕ)) → IsLegalConfig c → numbers ≡ lengths_of c → AreLengths 0 numbers → HasSpace numbers c.geometry 2 (measures_of c.geometry.page c.blocks).urgent
+pub has_space : (c : Configuration) (numbers : List (DeviceNumber × ℕ)) → IsLegalConfig c → numbers ≡ lengths_of c → AreLengths 0 numbers → HasSpace numbers c.geometry bank_count (measures_of c.geometry.page c.blocks).urgent
 has_space c numbers legal is lengths = record {
   lengths = lengths;
   space =

@@ -3,13 +3,14 @@ use Rattle.std.specs.Prelude.{◌≡◌, ◌≢◌, ◌≤◌, ℕ, false, true,
 use Rattle.nv_base.specs.Count.{Rose}
 use Rattle.nv_base.specs.Geometry.{size_of}
 use Rattle.block_config.specs.Config.{Configuration}
-use Rattle.memif.specs.Told.{PartTold, First, figures_at}
-use Rattle.memif.specs.Clock.{PartClock}
+use Rattle.memif.specs.Told.{PartTold, DeviceTold, First, figures_at}
+use Rattle.memif.specs.Clock.{Clock}
 use Rattle.fls_model.specs.Told.{Told, Change, bytes_now}
 use Rattle.fls_model.specs.declared.flash.AttachFault.{AttachFault}
 use Rattle.fls_model.specs.declared.flash.AttachFault.TheVariants as attach
 use Rattle.fls_devices.specs.Cutter.{cutting, told_cutting}
-use Rattle.device_bridge.specs.Bridge.{Making, Bridges}
+use Rattle.device_bridge.specs.Making.{Making}
+use Rattle.device_bridge.specs.Bridge.{Bridges}
 use Rattle.device_clock.specs.Device.{Device, told_of}
 use Rattle.fee_starts.specs.Made.{IsMadeOf}
 use Rattle.ram_blocks.specs.declared.plain_block.PlainBlock.{PlainBlock}
@@ -50,12 +51,14 @@ pub record ComesBack (c : Configuration) (fault : MakeFault) (s t : Told) : Type
 
 -- THE DEVICE IS TAKEN APART
 -- What its part told of the flash is so. Where it asked for no operation, the flash counted none.
-pub record IsBack (c : Configuration) (inner exit : Told) (before now : PartTold) (clock : PartClock) : Type 0 where
+pub record IsBack (c : Configuration) (inner exit : Told) (before : PartTold) (now : DeviceTold) (clock : Clock) : Type 0 where
   pub operations : List Change
   pub bridges : Bridges (making_of c) true (record { entry = inner; exit = exit; operations = operations }) before now clock
-  pub faults : exit.faults ≡ now.flash_faults
+  -- all numbers are of its one part
+  pub parts : (n : ℕ) → (figures_at now.fixed n).part ≡ First
+  pub faults : exit.faults ≡ now.first.flash_faults
   pub more : inner.faults ≤ exit.faults
-  pub none : now.ops ≡ 0 → now.planning.unplanned ≡ inner.cuts → (operations ≡ []) × (exit.ops ≡ inner.ops) × (exit.cuts ≡ inner.cuts)
+  pub none : now.ops ≡ 0 → now.first.planning.unplanned ≡ inner.cuts → (operations ≡ []) × (exit.ops ≡ inner.ops) × (exit.cuts ≡ inner.cuts)
 
 -- THE STACK
 -- all numbers are of its one part

@@ -1,6 +1,7 @@
 -- How many turns a job takes at most, where nothing fails: a number of the configuration alone.
 use Rattle.std.specs.Prelude.{ℕ}
 use Rattle.nv_base.specs.Geometry.{sectors_of_bank}
+use Rattle.block_config.specs.Banks.{bank_count}
 use Rattle.block_config.specs.Config.{Configuration}
 use Rattle.block_config.specs.Lengths.{lengths_of}
 use Rattle.block_config.specs.Sizes.{measures_of}
@@ -10,9 +11,9 @@ use Rattle.device_figures.specs.Figures.{fixed_for}
 use Rattle.hand_laws.specs.Hands.{program_for}
 use Rattle.turn_figures.specs.Left.{most_turns}
 
--- the figures of a device over two banks, made for the configuration
+-- the figures of its device, made for the configuration
 abbrev pub fixed_by : Configuration → Fixed
-fixed_by c = fixed_for c.geometry.page (sectors_of_bank c.geometry 2) (lengths_of c) (measures_of c.geometry.page c.blocks).urgent
+fixed_by c = fixed_for c.geometry.page (sectors_of_bank c.geometry bank_count) (lengths_of c) (measures_of c.geometry.page c.blocks).urgent
 
 -- a job in hand is posted within so many
 abbrev pub job_turns : Configuration → State → Job → ℕ

@@ -14,7 +14,7 @@ use fls_model::Flash;
 
 /// Gives the flash of a device back.
 pub fn give_back<F: Flash, O: Origin>(device: Fee<Cutter<F>, O>) -> F
-    ensures { (c : Configuration) (inner : Told) (cuts : ℕ) → IsOrigin c inner cuts O.making O.entry → IsBack c inner (F.told result) (part_at O.entry) (told_of device).first (clock_of device).first }
+    ensures { (c : Configuration) (inner : Told) (cuts : ℕ) → IsOrigin c inner cuts O.making O.entry → IsBack c inner (F.told result) (part_at O.entry) (told_of device) (clock_of device) }
 {
     cuts_bridge();
     flash_stays();

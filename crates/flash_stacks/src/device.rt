@@ -6,7 +6,7 @@ ghost use Rattle.fee_starts.specs.Made.{IsMadeOf};
 ghost use Rattle.flash_stacks.specs.Made.{AreOfFirst, ComesBack, IsOrigin, fault_of};
 ghost use Rattle.flash_stacks.specs.Turns.{fixed_by};
 
-use block_config::Config;
+use block_config::{BANKS, Config};
 use cutter_bridge::flash_stays;
 use fee_core::{Fee, Origin};
 use fls_devices::Cutter;
@@ -43,7 +43,14 @@ pub fn make_device<F: Flash, O: Origin>(
     numbers.len();
     match Cutter::make(alloc, flash, cuts) {
         Ok(cutter) => {
-            match Fee::make(alloc, cutter, geometry, &numbers, config.reserve_pages()) {
+            match Fee::make(
+                alloc,
+                cutter,
+                geometry,
+                BANKS,
+                &numbers,
+                config.reserve_pages(),
+            ) {
                 Ok(device) => Ok(device),
                 Err((fault, cutter)) => Err((fault_of(fault), cutter.into_inner())),
             }

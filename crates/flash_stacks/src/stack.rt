@@ -52,7 +52,7 @@ pub fn start_stack<F: Flash, O: Origin>(
 ) -> Result<FlashStack<F, O>, (MakeFault, F)>
     requires { IsMadeStack stack.desk.config O.making O.entry stack }
     ensures started { IfOk result (λ s. StartsUp told_of stack s) }
-    ensures keeps { IfOk result (λ s. StartsKeep FoundAnswer.Ready stack.desk (told_of stack.device) (told_clock stack.device).first s.desk (told_of s.device) (told_clock s.device).first) }
+    ensures keeps { IfOk result (λ s. StartsKeep FoundAnswer.Ready stack.desk (told_of stack.device) (told_clock stack.device) s.desk (told_of s.device) (told_clock s.device)) }
     ensures stopped { IfErr result (λ e. (inner : Told) (cuts : ℕ) → IsOrigin stack.desk.config inner cuts O.making O.entry → ComesBack stack.desk.config e.0 inner (F.told e.1)) }
 {
     let mut stack = stack;

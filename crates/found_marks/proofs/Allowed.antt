@@ -7,9 +7,9 @@ use Rattle.nv_base.specs.Marks.{instance_of, listed}
 use Rattle.nv_base.specs.declared.instance.DeviceNumber.{DeviceNumber}
 use Rattle.nv_base.specs.declared.mark.Mark.TheVariants.{Content, Invalid, Erased}
 use Rattle.memif.specs.Told as device
-use Rattle.memif.specs.Told.{DeviceTold, PartTold, Slot, Held, Fixed, slot_at}
+use Rattle.memif.specs.Told.{DeviceTold, PartTold, Slot, Held, Fixed, slot_at, Part}
 use Rattle.memif.specs.Marks.{ComesFrom, IfTold}
-use Rattle.memif.specs.Clock.{PartClock}
+use Rattle.memif.specs.Clock.{Clock}
 use Rattle.block_config.specs.Lengths.{lengths_of}
 use Rattle.block_machine.specs.Words.{Instance, Mark, Entry, Found, Configuration}
 use Rattle.block_machine.specs.State.{State}
@@ -20,6 +20,7 @@ use Rattle.block_machine.specs.History.{MayStandIn}
 use Rattle.block_machine.specs.Legal.{IsAllowed, IsFound, MayBeFound, marks_of, has_length}
 use Rattle.block_promise.specs.OverDevice.{HasStarted}
 use Rattle.machine_laws.specs.Laws.{EntriesAreCounted, FoundMayStand}
+use Rattle.block_promise.specs.Counts.{count_due}
 use Rattle.turn_laws.specs.Pairing.{Allows, Pairs}
 use Rattle.turn_laws.specs.Turn.{Keeps, ListsSettled, down, IsBehind}
 use Rattle.found_marks.specs.Found.{relisted, HasLength, IsListOf, AreHeld, Finds}
@@ -59,15 +60,15 @@ settled_list c marks numbers P (Some u) None each told same held = absurd each
 settled_list c marks numbers P None n each told same held = cc
 
 -- what was possible before may stand
-found_stands : (c : Configuration) (s : State) (marks : List (Instance × Mark)) (numbers : List (DeviceNumber × ℕ))
+found_stands : (c : Configuration) (s : State) (due : ℕ → ℕ) (marks : List (Instance × Mark)) (numbers : List (DeviceNumber × ℕ))
     → (o n : Option (List Slot)) → IfTold o n (λ u v. (i : ℕ) → ComesFrom (slot_at numbers u i) (slot_at numbers v i))
-    → Pairs Allows c s numbers o → ListsSettled c marks numbers n → (x : DeviceNumber × ℕ) → Contains (lengths_of c) x
+    → Pairs Allows c s due numbers o → ListsSettled c marks numbers n → (x : DeviceNumber × ℕ) → Contains (lengths_of c) x
     → MayStandIn (instance_at s (instance_of x.0)) (listed_mark marks (instance_of x.0))
-found_stands c s marks numbers (Some u) (Some v) each pairs lists x has =
+found_stands c s due marks numbers (Some u) (Some v) each pairs lists x has =
     let (y, at, allows) = pairs x has in
-    rw (at, lists x has) (allows (slot_at numbers v x.0.0).settled (each x.0.0).settled)
-found_stands c s marks numbers (Some u) None each pairs lists x has = absurd each
-found_stands c s marks numbers None n each pairs lists x has = absurd pairs
+    rw (at, lists x has) (allows (slot_at numbers v x.0.0).settled (each x.0.0).settled).mark
+found_stands c s due marks numbers (Some u) None each pairs lists x has = absurd each
+found_stands c s due marks numbers None n each pairs lists x has = absurd pairs
 
 -- before the first start-up there is nothing
 first_found : (c : Configuration) (h : List Entry) (marks : List (Instance × Mark)) → (HasStarted h → MayBeFound marks (after c h).instances)
@@ -75,8 +76,8 @@ first_found : (c : Configuration) (h : List Entry) (marks : List (Instance × Ma
 first_found c [] marks later = tt
 first_found c (e ∷ es) marks later = later tt
 
-module _ (counted : EntriesAreCounted) (later : FoundMayStand) (c : Configuration) (cap : ℕ) (h : List Entry) (before : PartTold)
-    (old : DeviceTold) (clock : PartClock) (new : DeviceTold) (marks : List (Instance × Mark)) where
+module _ (counted : EntriesAreCounted) (later : FoundMayStand) (c : Configuration) (cap : ℕ) (h : List Entry) (before : Part → PartTold)
+    (old : DeviceTold) (clock : Clock) (new : DeviceTold) (marks : List (Instance × Mark)) where
   pub found_allowed : IsBehind old clock → Finds marks old new → IsSome old.slots → length h + 2 ≤ cap → Keeps c cap h before (down old) clock
       → IsAllowed c cap (after c h) (Found marks (device.ops_of new)) × ListsSettled c marks new.fixed.numbers new.slots
   found_allowed behind finds told fits keeps =
@@ -87,9 +88,7 @@ module _ (counted : EntriesAreCounted) (later : FoundMayStand) (c : Configuratio
       settled_list c marks new.fixed.numbers (λ u v. (i : ℕ) → ComesFrom (slot_at old.fixed.numbers u i) (slot_at old.fixed.numbers v i)) old.slots new.slots was.marks told configured finds.held in
       let listed_old : ListsSettled c marks old.fixed.numbers new.slots = subst (λ ns. ListsSettled c marks ns new.slots) numbers settled in
       let (few, started) = behind c cap h before keeps in
-      let first : new.first.ops ≡ old.first.ops = ap (λ (p : PartTold). p.ops) was.first.only in
-      let second : new.second.ops ≡ old.second.ops = ap (λ (p : PartTold). p.ops) was.second.only in
-      let now : device.ops_of new ≡ device.ops_of old = omega (arith, first, second) in
+      let now : device.ops_of new ≡ device.ops_of old = was.ops in
       let list : IsListOf (lengths_of c) marks = subst (λ ns. IsListOf ns marks) configured finds.lists in
       let whole : list_all (λ (x : Instance × Mark). has_length c x.0 x.1) (relisted marks (lengths_of c)) ≡ true =
       each_whole c marks (lengths_of c) list.lengths (λ x has. own_length c x keeps.device.rules has) in
@@ -99,6 +98,6 @@ module _ (counted : EntriesAreCounted) (later : FoundMayStand) (c : Configuratio
         lists = list.lists ∙ sym (relists marks (lengths_of c));
         lengths = ap (λ ms. list_all (λ (x : Instance × Mark). has_length c x.0 x.1) ms) list.lists ∙ whole;
         stands = first_found c h marks (λ has. later c cap h marks keeps.over.legal (started has)
-            (found_stands c (after c h) marks old.fixed.numbers old.slots new.slots was.marks (keeps.marks has) listed_old));
+            (found_stands c (after c h) (count_due h keeps.base) marks old.fixed.numbers old.slots new.slots was.marks (keeps.marks has) listed_old));
       } in
       (allowed, settled)

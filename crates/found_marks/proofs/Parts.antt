@@ -31,7 +31,6 @@ grows_more a b c one two = record {
 -- A PART
 pub part_same : (a b : PartTold) → b ≡ a → PartReads a b
 part_same a b same = record {
-  ops = ap (λ (p : PartTold). p.ops) same;
   off = ap (λ (p : PartTold). p.off) same;
   faults = record {
     faults = (let e = ap (λ (p : PartTold). p.faults) same in omega (arith, e));
@@ -44,24 +43,23 @@ part_same a b same = record {
 no_nearer : (p q : Planning) → p.plan ≡ None → Nears p q → q ≡ p
 no_nearer p q none nears = nears.planning ∙ (λ i. record p { plan = (ap nearer none ∙ sym none) i })
 
-pub part_turned : (a b : PartTold) → PartTurns false a b → b.ops ≡ a.ops → PartReads a b
-part_turned a b turns ops = record {
-  ops = ops;
+pub part_turned : (n : ℕ) (a b : PartTold) → PartTurns false n n a b → PartReads a b
+part_turned n a b turns = record {
   off = ap (λ (p : PartTold). p.off) turns.only ∙ sym turns.on;
   faults = turns.faults;
   plan = λ none. elim turns.plan [ inl same ↦ same | inr nears ↦ no_nearer a.planning b.planning none nears.0 ];
 }
 
-powered : (a b : PartTold) (planning : Planning) → b.ops ≡ a.ops → b.planning ≡ planning
+powered : (a b : PartTold) (planning : Planning) → b.planning ≡ planning
     → b ≡ record a { faults = b.faults; flash_faults = b.flash_faults; off = b.off; planning = planning }
-powered a b planning ops plan = λ i. record { ops = ops i; faults = b.faults; flash_faults = b.flash_faults; off = b.off; planning = plan i }
+powered a b planning plan = λ i. record { faults = b.faults; flash_faults = b.flash_faults; off = b.off; planning = plan i }
 
 pub powers_on : (a b c : PartTold) → PowersUp a b → PartReads b c → PowersUp a c
 powers_on a b c up reads =
     let was : b.planning ≡ dropped a.planning = ap (λ (p : PartTold). p.planning) up.only in
     let none : b.planning.plan ≡ None = ap (λ (p : Planning). p.plan) was in
     record {
-      only = powered a c (dropped a.planning) (reads.ops ∙ ap (λ (p : PartTold). p.ops) up.only) (reads.plan none ∙ was);
+      only = powered a c (dropped a.planning) (reads.plan none ∙ was);
       faults = grows_more a b c up.faults reads.faults;
       off = λ is. up.off (sym reads.off ∙ is);
     }
@@ -118,13 +116,14 @@ clear_more a b c clear two = no_doubts c.doubts (λ h has. subst (λ (l : List H
 
 -- A DEVICE
 -- what a read leaves of a device that was started up
-pub up_more : (a b c : DeviceTold) → c.fixed ≡ b.fixed → c.started ≡ b.started → PartReads b.first c.first
+pub up_more : (a b c : DeviceTold) → c.fixed ≡ b.fixed → c.ops ≡ b.ops → c.started ≡ b.started → PartReads b.first c.first
     → PartReads b.second c.second → KeepsAll b c → IsUp a b → IsUp a c
-up_more a b c fixed started first second marks up =
+up_more a b c fixed ops started first second marks up =
     let was = up.restarted in
     record {
       restarted = record {
         fixed = fixed ∙ was.fixed;
+        ops = ops ∙ was.ops;
         first = powers_on a.first b.first c.first was.first first;
         second = powers_on a.second b.second c.second was.second second;
         marks = each_more ComesFrom Keeps ComesFrom comes_more a b c was.fixed was.marks marks;

@@ -1,12 +1,12 @@
 -- What the start-up and its reads keep.
-use Rattle.std.proofs.Common.{◌≡◌, ℕ, false, List, [], ◌∷◌, ◌++◌, length, map, IfSome, Option, Some, None, Result, Ok, Err, sym, ap, ◌∙◌, subst, inl, inr, arith}
+use Rattle.std.proofs.Common.{◌≡◌, ℕ, false, List, [], ◌∷◌, ◌++◌, length, map, IfSome, Option, Some, None, Result, Ok, Err, sym, ap, ◌∙◌, subst, inl, inr}
 use Rattle.std.specs.Result.{OnOk}
 use Rattle.nv_base.specs.declared.instance.DeviceNumber.{DeviceNumber}
 use Rattle.memif.specs.Told as device
-use Rattle.memif.specs.Told.{DeviceTold, PartTold, Slot, Held, Fixed, slot_at, is_open}
+use Rattle.memif.specs.Told.{DeviceTold, Slot, Held, Fixed, slot_at, is_open}
 use Rattle.nv_base.specs.Lengths.{AreLengths}
 use Rattle.memif.specs.Marks.{Keeps as KeepsSlot, IfTold}
-use Rattle.memif.specs.Clock.{PartClock}
+use Rattle.memif.specs.Clock.{Clock}
 use Rattle.block_machine.specs.Words.{Instance, Mark, Entry, Found, Configuration}
 use Rattle.block_machine.specs.Steps.{after}
 use Rattle.block_machine.specs.Legal.{IsAllowed}
@@ -32,13 +32,13 @@ started_with [] e = tt
 started_with (x ∷ es) e = tt
 
 -- the reads keep what the start-up asks for
-pub ups_more : (old : DeviceTold) (clock : PartClock) (mid : DeviceTold) (clock_mid : PartClock) (new : DeviceTold) (clock_new : PartClock)
+pub ups_more : (old : DeviceTold) (clock : Clock) (mid : DeviceTold) (clock_mid : Clock) (new : DeviceTold) (clock_new : Clock)
     → StartUpsKeep (Ok tt) old clock mid clock_mid → ReadsOn mid clock_mid new clock_new → StartUpsKeep (Ok tt) old clock new clock_new
 ups_more old clock mid clock_mid new clock_new ups reads c cap h before marks first allowed lists keeps =
     let numbers : new.fixed.numbers ≡ mid.fixed.numbers = ap (λ (f : Fixed). f.numbers) reads.fixed in
-    let now : device.ops_of new ≡ device.ops_of mid = (let f = reads.first_ops in let s = reads.second_ops in omega (arith, f, s)) in
+    let now : device.ops_of new ≡ device.ops_of mid = reads.ops in
     let before_reads : Keeps c cap (h ++ Found marks (device.ops_of mid) ∷ []) before mid clock_mid =
-    ups c cap h before marks (elim first [ inl has ↦ inl has | inr none ↦ inr (sym reads.first_ops ∙ none) ])
+    ups c cap h before marks (elim first [ inl has ↦ inl has | inr none ↦ inr (sym reads.ops ∙ none) ])
     (subst (λ (n : ℕ). IsAllowed c cap (after c h) (Found marks n)) now allowed)
     (lists_before c marks mid.fixed.numbers mid.slots new.slots reads.marks (subst (λ ns. ListsSettled c marks ns new.slots) numbers lists)) keeps in
     subst (λ (n : ℕ). Keeps c cap (h ++ Found marks n ∷ []) before new clock_new) (sym now)
@@ -52,7 +52,7 @@ pub any_ok : {T E : Type 0} (r : Result T E) {P : Type 0} → P → OnOk r P
 any_ok (Ok v) p = p
 any_ok (Err e) p = tt
 
-pub finds_keep : EntriesAreCounted → FoundMayStand → (old : DeviceTold) (clock : PartClock) (new : DeviceTold) (clock_new : PartClock)
+pub finds_keep : EntriesAreCounted → FoundMayStand → (old : DeviceTold) (clock : Clock) (new : DeviceTold) (clock_new : Clock)
     (marks : List (Instance × Mark)) → IsBehind old clock → StartUpsKeep (Ok tt) old clock new clock_new → Finds marks old new
     → FindsKeep {E = List (DeviceNumber × ℕ)} (Ok marks) old clock new clock_new
 finds_keep counted later old clock new clock_new marks behind ups finds c cap h before told first fits keeps =

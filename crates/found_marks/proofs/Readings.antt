@@ -13,8 +13,8 @@ use Rattle.memif.specs.declared.answer.StartFault.{StartFault}
 use Rattle.memif.specs.Told as device
 use Rattle.memif.specs.Told.{DeviceTold, PartTold, Fixed, Slot, Part, First, Second, part_at, Stand, Job, Open, Ended, is_open, nothing_open, length_of, slot_at}
 use Rattle.memif.specs.Marks.{Keeps, KeepsAll, IfTold}
-use Rattle.memif.specs.Clock.{Clock, PartClock}
-use Rattle.memif.specs.Calls.{Accepts, Opens, StartsUp, Turns, Works, JobTurns, EndsAs, Reads, ReadsAt, Gives, is_read, refusal_of}
+use Rattle.memif.specs.Clock.{Clock}
+use Rattle.memif.specs.Calls.{PartTurns, Accepts, Opens, StartsUp, Turns, Works, JobTurns, EndsAs, Reads, ReadsAt, Gives, is_read, refusal_of}
 use Rattle.block_machine.specs.Words.{Entry}
 use Rattle.turn_laws.specs.Turn.{Stays, StaysBy, StaysDown, TurnsKeep, settled_by, read_wish}
 use Rattle.found_marks.specs.Found.{IsRestarted, IsUp}
@@ -31,13 +31,12 @@ not_both : (b : Bool) → b ≡ false → b ≡ true → ⊥
 not_both b off on = cc
 
 -- READS ONE AFTER ANOTHER
-pub reads_more : (a : DeviceTold) (ca : PartClock) (b : DeviceTold) (cb : PartClock) (c : DeviceTold) (ct : PartClock)
+pub reads_more : (a : DeviceTold) (ca : Clock) (b : DeviceTold) (cb : Clock) (c : DeviceTold) (ct : Clock)
     → ReadsOn a ca b cb → ReadsOn b cb c ct → ReadsOn a ca c ct
 reads_more a ca b cb c ct one two = record {
   fixed = two.fixed ∙ one.fixed;
   marks = keeps_all_more a b c one.fixed one.marks two.marks;
-  first_ops = two.first_ops ∙ one.first_ops;
-  second_ops = two.second_ops ∙ one.second_ops;
+  ops = two.ops ∙ one.ops;
   up = λ begun is. two.up begun (one.up begun is);
   stays = λ x cap h before started keeps. two.stays x cap h before started (one.stays x cap h before started keeps);
   down = λ x cap h before keeps. two.down x cap h before (one.down x cap h before keeps);
@@ -55,8 +54,8 @@ taken number size old r ready configured refused =
     no_refusal r is = cc
 
 module _ (number size : ℕ) (old : DeviceTold) (clock : Clock) (new : DeviceTold) (clock_new : Clock) where
-  opened : Opens (read_wish number size).job old new → Stays old clock.first new clock_new.first → StaysDown old clock.first new clock_new.first
-      → ReadsOn old clock.first new clock_new.first
+  opened : Opens (read_wish number size).job old new → Stays old clock new clock_new → StaysDown old clock new clock_new
+      → ReadsOn old clock new clock_new
   opened opens stays down =
       let fixed : new.fixed ≡ old.fixed = ap (λ (d : DeviceTold). d.fixed) opens.only in
       let first : new.first ≡ old.first = ap (λ (d : DeviceTold). d.first) opens.only in
@@ -64,16 +63,15 @@ module _ (number size : ℕ) (old : DeviceTold) (clock : Clock) (new : DeviceTol
       record {
         fixed = fixed;
         marks = opens.marks;
-        first_ops = ap (λ (p : PartTold). p.ops) first;
-        second_ops = ap (λ (p : PartTold). p.ops) second;
-        up = λ begun is. up_more begun old new fixed (ap (λ (d : DeviceTold). d.started) opens.only) (part_same old.first new.first first) (part_same old.second new.second second) opens.marks is;
+        ops = ap (λ (d : DeviceTold). d.ops) opens.only;
+        up = λ begun is. up_more begun old new fixed (ap (λ (d : DeviceTold). d.ops) opens.only) (ap (λ (d : DeviceTold). d.started) opens.only) (part_same old.first new.first first) (part_same old.second new.second second) opens.marks is;
         stays = stays;
         down = down;
       }
 
   pub begins : (answer : Result (Unit {0}) DeviceRefusal) → IsReady old → length_of old.fixed.numbers number ≡ Some size
-      → Accepts (read_wish number size) answer old clock new clock_new → Stays old clock.first new clock_new.first
-      → StaysDown old clock.first new clock_new.first → IsReading number size old clock.first new clock_new.first
+      → Accepts (read_wish number size) answer old clock new clock_new → Stays old clock new clock_new
+      → StaysDown old clock new clock_new → IsReading number size old clock new clock_new
   begins (Err r) ready configured accepts stays down = absurd (taken number size old r ready configured accepts.0.0)
   begins (Ok u) ready configured accepts stays down =
       let opens = accepts.0.1 in
@@ -110,12 +108,12 @@ some_mark o none some = some none
 -- the rest of what the turn of a part leaves
 module _ (old : DeviceTold) (new : DeviceTold) (clock_new : Clock) where
   first_reads : (p : Part) → Works p old new clock_new → is_read old.stand ≡ true → PartReads old.first new.first
-  first_reads First works read = part_turned old.first new.first works.part (works.read read).0
+  first_reads First works read = part_turned old.ops old.first new.first (subst (λ (n : ℕ). PartTurns false old.ops n old.first new.first) (works.read read).0 works.part)
   first_reads Second works read = part_same old.first new.first (ap (λ (d : DeviceTold). d.first) works.only)
 
   second_reads : (p : Part) → Works p old new clock_new → is_read old.stand ≡ true → PartReads old.second new.second
   second_reads First works read = part_same old.second new.second (ap (λ (d : DeviceTold). d.second) works.only)
-  second_reads Second works read = part_turned old.second new.second works.part (works.read read).0
+  second_reads Second works read = part_turned old.ops old.second new.second (subst (λ (n : ℕ). PartTurns false old.ops n old.second new.second) (works.read read).0 works.part)
 
   works_fixed : (p : Part) → Works p old new clock_new → new.fixed ≡ old.fixed
   works_fixed First works = ap (λ (d : DeviceTold). d.fixed) works.only
@@ -130,16 +128,15 @@ module _ (old : DeviceTold) (new : DeviceTold) (clock_new : Clock) where
   has_fault First begun up rose = inl (rose_since begun.first.faults old.first.faults new.first.faults up.restarted.first.faults.faults rose)
   has_fault Second begun up rose = inr (rose_since begun.second.faults old.second.faults new.second.faults up.restarted.second.faults.faults rose)
 
-  pub works_on : (p : Part) (clock : PartClock) → Works p old new clock_new → is_read old.stand ≡ true → Stays old clock new clock_new.first
-      → StaysDown old clock new clock_new.first → ReadsOn old clock new clock_new.first
+  pub works_on : (p : Part) (clock : Clock) → Works p old new clock_new → is_read old.stand ≡ true → Stays old clock new clock_new
+      → StaysDown old clock new clock_new → ReadsOn old clock new clock_new
   works_on p clock works read stays down =
       let marks : KeepsAll old new = keeps_same old.fixed.numbers old.slots new.slots (works.read read).1 in
       record {
         fixed = works_fixed p works;
         marks = marks;
-        first_ops = (first_reads p works read).ops;
-        second_ops = (second_reads p works read).ops;
-        up = λ begun is. up_more begun old new (works_fixed p works) (works_started p works) (first_reads p works read) (second_reads p works read) marks is;
+        ops = (works.read read).0;
+        up = λ begun is. up_more begun old new (works_fixed p works) (works.read read).0 (works_started p works) (first_reads p works read) (second_reads p works read) marks is;
         stays = stays;
         down = down;
       }
@@ -152,8 +149,8 @@ part_off Second d first second = second
 read_open : (s : Stand) (j : Job) → s ≡ Open j → j.mark ≡ None → is_read s ≡ true
 read_open s j is none = rw (is, none) refl
 
-module _ (number size : ℕ) (begun : DeviceTold) (clock_begun : PartClock) (old : DeviceTold) (clock : Clock) (new : DeviceTold) (clock_new : Clock)
-    (so : IsReading number size begun clock_begun old clock.first) (configured : length_of begun.fixed.numbers number ≡ Some size)
+module _ (number size : ℕ) (begun : DeviceTold) (clock_begun : Clock) (old : DeviceTold) (clock : Clock) (new : DeviceTold) (clock_new : Clock)
+    (so : IsReading number size begun clock_begun old clock) (configured : length_of begun.fixed.numbers number ≡ Some size)
     (j : Job) (is : old.stand ≡ Open j) where
   job_is : (j.number ≡ number) × (j.mark ≡ None)
   job_is = subst (λ (s : Stand). StandsAs number size begun old s) is so.stand
@@ -172,11 +169,11 @@ module _ (number size : ℕ) (begun : DeviceTold) (clock_begun : PartClock) (old
     | inr cut ↦ absurd (not_both (is_read old.stand) cut.0.no_read is_reading)
   ]
 
-  stays_by : TurnsKeep turn.Worked old clock.first new clock_new.first → Stays old clock.first new clock_new.first
+  stays_by : TurnsKeep turn.Worked old clock new clock_new → Stays old clock new clock_new
   stays_by keeps =
       let none : settled_by old.stand new.stand (device.ops_of new) ≡ None =
       ap (λ (s : Stand). settled_by s new.stand (device.ops_of new)) is ∙ none_settled j new.stand (device.ops_of new) job_is.1 in
-      subst (λ (e : Option Entry). StaysBy e old clock.first new clock_new.first) none keeps
+      subst (λ (e : Option Entry). StaysBy e old clock new clock_new) none keeps
 
   -- where the job stands behind it
   turned_to : (p : Part) (b : Stand) → Works p old new clock_new → JobTurns p (Open j) b old new clock_new → StandsAs number size begun new b
@@ -195,16 +192,16 @@ module _ (number size : ℕ) (begun : DeviceTold) (clock_begun : PartClock) (old
       }
 
   pub goes_on : (answer : DeviceTurn) → Turns answer old clock new clock_new
-      → TurnsKeep answer old clock.first new clock_new.first → (is_read old.stand ≡ true → StaysDown old clock.first new clock_new.first)
-      → IsReading number size begun clock_begun new clock_new.first
+      → TurnsKeep answer old clock new clock_new → (is_read old.stand ≡ true → StaysDown old clock new clock_new)
+      → IsReading number size begun clock_begun new clock_new
   goes_on answer turns keeps down =
       let (p, works, work) = worked answer turns in
-      let stays = stays_by (subst (λ (a : DeviceTurn). TurnsKeep a old clock.first new clock_new.first) work keeps) in
+      let stays = stays_by (subst (λ (a : DeviceTurn). TurnsKeep a old clock new clock_new) work keeps) in
       record {
         started = works_started old new clock_new p works ∙ so.started;
         first_on = (first_reads old new clock_new p works is_reading).off ∙ so.first_on;
         second_on = (second_reads old new clock_new p works is_reading).off ∙ so.second_on;
-        reads = reads_more begun clock_begun old clock.first new clock_new.first so.reads (works_on old new clock_new p clock.first works is_reading stays (down is_reading));
+        reads = reads_more begun clock_begun old clock new clock_new so.reads (works_on old new clock_new p clock works is_reading stays (down is_reading));
         stand = turned_to p new.stand works (subst (λ (s : Stand). JobTurns p s new.stand old new clock_new) is works.job);
       }
 
@@ -224,10 +221,10 @@ open_job : (s : Stand) → is_open s ≡ true → (j : Job) × (s ≡ Open j)
 open_job (Open j) on = (j, refl)
 open_job (Ended outcome given) on = cc
 
-pub turns_on : (number size : ℕ) (begun : DeviceTold) (clock_begun : PartClock) (old : DeviceTold) (clock : Clock) (new : DeviceTold) (clock_new : Clock)
-    → IsReading number size begun clock_begun old clock.first → length_of begun.fixed.numbers number ≡ Some size → is_open old.stand ≡ true
-    → (answer : DeviceTurn) → Turns answer old clock new clock_new → TurnsKeep answer old clock.first new clock_new.first
-    → (is_read old.stand ≡ true → StaysDown old clock.first new clock_new.first) → IsReading number size begun clock_begun new clock_new.first
+pub turns_on : (number size : ℕ) (begun : DeviceTold) (clock_begun : Clock) (old : DeviceTold) (clock : Clock) (new : DeviceTold) (clock_new : Clock)
+    → IsReading number size begun clock_begun old clock → length_of begun.fixed.numbers number ≡ Some size → is_open old.stand ≡ true
+    → (answer : DeviceTurn) → Turns answer old clock new clock_new → TurnsKeep answer old clock new clock_new
+    → (is_read old.stand ≡ true → StaysDown old clock new clock_new) → IsReading number size begun clock_begun new clock_new
 turns_on number size begun clock_begun old clock new clock_new so configured on =
     let (j, is) = open_job old.stand on in
     goes_on number size begun clock_begun old clock new clock_new so configured j is
@@ -238,7 +235,7 @@ ended_is : (number size : ℕ) (old new : DeviceTold) (s : Stand) → is_open s 
 ended_is number size old new (Open j) off stands = cc
 ended_is number size old new (Ended outcome given) off stands = stands
 
-pub ends : (number size : ℕ) (old : DeviceTold) (clock : PartClock) (new : DeviceTold) (clock_new : PartClock) (outcome : JobResult)
+pub ends : (number size : ℕ) (old : DeviceTold) (clock : Clock) (new : DeviceTold) (clock_new : Clock) (outcome : JobResult)
     → IsReading number size old clock new clock_new → is_open new.stand ≡ false → outcome ≡ device.result_of new.stand
     → ReadComesTo number size old outcome (device.given_by new.stand) new
 ends number size old clock new clock_new outcome so off is = subst (λ (r : JobResult). ReadComesTo number size old r (device.given_by new.stand) new) (sym is)
@@ -249,6 +246,7 @@ pub restarts : (answer : Result (Unit {0}) StartFault) (old : DeviceTold) (clock
     → StartsUp answer old clock new clock_new → IsRestarted old new
 restarts answer old clock new clock_new up = record {
   fixed = ap (λ (d : DeviceTold). d.fixed) up.only;
+  ops = ap (λ (d : DeviceTold). d.ops) up.only;
   first = up.first;
   second = up.second;
   marks = up.marks;

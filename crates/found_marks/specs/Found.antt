@@ -6,10 +6,10 @@ use Rattle.nv_base.specs.declared.instance.Instance.{Instance}
 use Rattle.nv_base.specs.declared.instance.DeviceNumber.{DeviceNumber}
 use Rattle.nv_base.specs.declared.mark.Mark.{Mark}
 use Rattle.nv_base.specs.declared.mark.Mark.TheVariants.{Content, Invalid, Erased}
-use Rattle.memif.specs.Told.{DeviceTold, PartTold, Slot, is_open, slot_at}
+use Rattle.memif.specs.Told.{DeviceTold, Slot, is_open, slot_at, Part, PartTold}
 use Rattle.memif.specs.Told as device
 use Rattle.memif.specs.Marks.{ComesFrom, EachNumber}
-use Rattle.memif.specs.Clock.{PartClock}
+use Rattle.memif.specs.Clock.{Clock}
 use Rattle.memif.specs.Calls.{PowersUp}
 use Rattle.block_machine.specs.Words.{Entry, Found, Configuration}
 use Rattle.block_machine.specs.StartUp.{listed_mark}
@@ -23,6 +23,7 @@ use Rattle.turn_laws.specs.Turn.{Keeps, down}
 -- its settled mark or a doubt of it before
 pub record IsRestarted (old new : DeviceTold) : Type 0 where
   pub fixed : new.fixed ≡ old.fixed
+  pub ops : new.ops ≡ old.ops
   pub first : PowersUp old.first new.first
   pub second : PowersUp old.second new.second
   pub marks : EachNumber (λ n s t. ComesFrom s t) old new
@@ -73,11 +74,11 @@ pub record FailsToFind (old new : DeviceTold) : Type 0 where
 -- THE PROMISE
 -- Where the device tells what it holds and the entry fits with an Off behind it, the Found of these marks is allowed, and
 -- keeps all, the first before any operation. At a fault the history that stands keeps all, until a start-up answers Ok.
-abbrev pub FindsKeep : {E : Type 0} → Result (List (Instance × Mark)) E → DeviceTold → PartClock → DeviceTold → PartClock → Type 0
+abbrev pub FindsKeep : {E : Type 0} → Result (List (Instance × Mark)) E → DeviceTold → Clock → DeviceTold → Clock → Type 0
 FindsKeep (Ok marks) old clock new clock_new =
-    (c : Configuration) (cap : ℕ) (h : List Entry) (before : PartTold) → IsSome old.slots → HasStarted h ⊎ (new.first.ops ≡ 0)
+    (c : Configuration) (cap : ℕ) (h : List Entry) (before : Part → PartTold) → IsSome old.slots → HasStarted h ⊎ (new.ops ≡ 0)
     → length h + 2 ≤ cap → Keeps c cap h before (down old) clock
     → IsAllowed c cap (after c h) (Found marks (device.ops_of new)) × Keeps c cap (h ++ Found marks (device.ops_of new) ∷ []) before new clock_new
 FindsKeep (Err fault) old clock new clock_new =
-    (c : Configuration) (cap : ℕ) (h : List Entry) (before : PartTold) → Keeps c cap h before (down old) clock
+    (c : Configuration) (cap : ℕ) (h : List Entry) (before : Part → PartTold) → Keeps c cap h before (down old) clock
     → Keeps c cap h before (down new) clock_new

@@ -12,7 +12,7 @@ use Rattle.memif.specs.declared.answer.JobResult.{JobResult}
 use Rattle.memif.specs.declared.answer.JobResult.TheVariants.{JobFailed}
 use Rattle.memif.specs.Told.{DeviceTold, Slot, is_open, slot_at}
 use Rattle.memif.specs.Marks.{KeepsAll}
-use Rattle.memif.specs.Clock.{PartClock}
+use Rattle.memif.specs.Clock.{Clock}
 use Rattle.memif.specs.Calls.{ReadsAt, Gives}
 use Rattle.turn_laws.specs.Turn.{Stays, StaysDown}
 use Rattle.found_marks.specs.declared.place.Place.{Place}
@@ -74,11 +74,10 @@ pub record IsReady (d : DeviceTold) : Type 0 where
   pub at_rest : is_open d.stand ≡ false
 
 -- what reads leave of a device that was started up
-pub record ReadsOn (old : DeviceTold) (clock : PartClock) (new : DeviceTold) (clock_new : PartClock) : Type 0 where
+pub record ReadsOn (old : DeviceTold) (clock : Clock) (new : DeviceTold) (clock_new : Clock) : Type 0 where
   pub fixed : new.fixed ≡ old.fixed
   pub marks : KeepsAll old new
-  pub first_ops : new.first.ops ≡ old.first.ops
-  pub second_ops : new.second.ops ≡ old.second.ops
+  pub ops : new.ops ≡ old.ops
   pub up : (begun : DeviceTold) → IsUp begun old → IsUp begun new
   pub stays : Stays old clock new clock_new
   pub down : StaysDown old clock new clock_new

@@ -1,13 +1,12 @@
 -- A read that is under way.
 use Rattle.std.specs.Prelude.{◌≡◌, ℕ, true, false, None}
 use Rattle.memif.specs.Told.{DeviceTold, PartTold, Stand, Open, Ended}
-use Rattle.memif.specs.Clock.{PartClock}
+use Rattle.memif.specs.Clock.{Clock}
 use Rattle.memif.specs.Calls.{FaultsGrow}
 use Rattle.found_marks.specs.Places.{ReadsOn, ReadComesTo}
 
 -- what reads change of a part: its faults
 pub record PartReads (old new : PartTold) : Type 0 where
-  pub ops : new.ops ≡ old.ops
   pub off : new.off ≡ old.off
   pub faults : FaultsGrow old new
   pub plan : old.planning.plan ≡ None → new.planning ≡ old.planning
@@ -17,7 +16,7 @@ abbrev pub StandsAs : ℕ → ℕ → DeviceTold → DeviceTold → Stand → Ty
 StandsAs number size old new (Open j) = (j.number ≡ number) × (j.mark ≡ None)
 StandsAs number size old new (Ended outcome given) = ReadComesTo number size old outcome given new
 
-pub record IsReading (number size : ℕ) (old : DeviceTold) (clock : PartClock) (new : DeviceTold) (clock_new : PartClock) : Type 0 where
+pub record IsReading (number size : ℕ) (old : DeviceTold) (clock : Clock) (new : DeviceTold) (clock_new : Clock) : Type 0 where
   pub started : new.started ≡ true
   pub first_on : new.first.off ≡ false
   pub second_on : new.second.off ≡ false

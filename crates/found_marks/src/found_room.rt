@@ -54,7 +54,7 @@ impl FoundRoom {
         ensures room { IfErr result (λ room. room ≡ self) }
         ensures failed { OnErr result (FailsToFind (D.told device.old) (D.told device.new)) }
         ensures order { InOrder (D.told device.new) (D.clock device.new) }
-        ensures keeps { FindsKeep result (D.told device.old) (D.clock device.old).first (D.told device.new) (D.clock device.new).first }
+        ensures keeps { FindsKeep result (D.told device.old) (D.clock device.old) (D.told device.new) (D.clock device.new) }
     {
         histories_grow();
         what_is_found_is_settled();
@@ -79,10 +79,10 @@ fn find_all<D: MemDevice>(device: &mut D, places: &mut [Place]) -> Result<(), St
     ensures at_rest { is_open (D.told device.new).stand ≡ false }
     ensures up { OnOk result (IsUp (D.told device.old) (D.told device.new)) }
     ensures held { OnOk result (FirstHeld (D.told device.new) (length places.new) places.new) }
-    ensures keeps { OnOk result (StartUpsKeep (Ok tt) (D.told device.old) (D.clock device.old).first (D.told device.new) (D.clock device.new).first) }
+    ensures keeps { OnOk result (StartUpsKeep (Ok tt) (D.told device.old) (D.clock device.old) (D.told device.new) (D.clock device.new)) }
     ensures failed { OnErr result (IsRestarted (D.told device.old) (D.told device.new)) }
     ensures fault { OnErr result (HasFault (D.told device.old) (D.told device.new)) }
-    ensures down { StaysDown (D.told device.old) (D.clock device.old).first (D.told device.new) (D.clock device.new).first }
+    ensures down { StaysDown (D.told device.old) (D.clock device.old) (D.told device.new) (D.clock device.new) }
 {
     start_up(device)?;
     read_all(device, places)
@@ -97,7 +97,7 @@ fn read_all<D: MemDevice>(device: &mut D, places: &mut [Place]) -> Result<(), St
     ensures numbers { map number_at places.new ≡ map number_at places.old }
     ensures whole { AreWhole places.new }
     ensures ready { IsReady (D.told device.new) }
-    ensures reads { ReadsOn (D.told device.old) (D.clock device.old).first (D.told device.new) (D.clock device.new).first }
+    ensures reads { ReadsOn (D.told device.old) (D.clock device.old) (D.told device.new) (D.clock device.new) }
     ensures held { OnOk result (FirstHeld (D.told device.old) (length places.new) places.new) }
     ensures fault { OnErr result ((begun : _) → IsUp begun (D.told device.old) → HasFault begun (D.told device.new)) }
 {

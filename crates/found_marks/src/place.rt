@@ -55,7 +55,7 @@ impl Place {
         ensures number { number_at self.new ≡ number_at self.old }
         ensures whole { IsWhole self.new }
         ensures ready { IsReady (D.told device.new) }
-        ensures reads { ReadsOn (D.told device.old) (D.clock device.old).first (D.told device.new) (D.clock device.new).first }
+        ensures reads { ReadsOn (D.told device.old) (D.clock device.old) (D.told device.new) (D.clock device.new) }
         ensures held { OnOk result (IsHeld (D.told device.old) self.new) }
         ensures fault { OnErr result ((begun : _) → IsUp begun (D.told device.old) → HasFault begun (D.told device.new)) }
     {

@@ -12,7 +12,7 @@ pub(crate) fn read<D: MemDevice>(device: &mut D, number: DeviceNumber, length: u
     requires ready { IsReady (D.told device.old) }
     requires configured { length_of (D.told device.old).fixed.numbers number.0 ≡ Some length }
     ensures ready { IsReady (D.told device.new) }
-    ensures reads { ReadsOn (D.told device.old) (D.clock device.old).first (D.told device.new) (D.clock device.new).first }
+    ensures reads { ReadsOn (D.told device.old) (D.clock device.old) (D.told device.new) (D.clock device.new) }
     ensures outcome { ReadComesTo number.0 length (D.told device.old) result (given_by (D.told device.new).stand) (D.told device.new) }
 {
     let _taken = start_read(device, number, length);

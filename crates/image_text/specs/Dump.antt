@@ -1,9 +1,10 @@
 -- The text of an image.
-use Rattle.std.specs.Prelude.{ℕ, zero, suc, ◌-◌, ◌&&◌, Bool, true, if◌then◌else◌, List, [], ◌++◌, codes, Option, Some, None}
+use Rattle.std.specs.Prelude.{ℕ, zero, suc, ◌-◌, ◌==◌, ◌&&◌, Bool, true, if◌then◌else◌, List, [], ◌++◌, codes, Option, Some, None}
 use Rattle.std.specs.Fmt.{decimal}
 use Rattle.std.specs.List.{flat_map}
 use Rattle.std.specs.Str.{bytes_eq}
 use Rattle.fee_format.specs.declared.bank_head.BankHead.{BankHead}
+use Rattle.fee_format.specs.Formats.{new_format}
 use Rattle.fee_format.specs.Pages.{blank_page}
 use Rattle.fee_image.specs.Bank.{Bank, page_of}
 use Rattle.fee_image.specs.Image.{Layout, bank_in, head_of_bank, active_of}
@@ -17,9 +18,14 @@ abbrev pub numbers_line : ℕ → ℕ → ℕ → ℕ → List ℕ → List ℕ
 numbers_line at number kind length commit =
     codes "at " ++ (decimal at ++ (codes " number " ++ (decimal number ++ (codes " kind " ++ (decimal kind ++ (codes " length " ++ (decimal length ++ (codes " " ++ (commit ++ codes "\n")))))))))
 
--- the page of its bank where its header stands, what the header says, and whether its commit gate is open
-abbrev pub record_line : Rec → List ℕ
-record_line r = numbers_line r.at r.head.number r.head.kind r.head.length (commit_text r.committed)
+-- the count of a record
+abbrev pub counted_text : ℕ → List ℕ → List ℕ
+counted_text count commit = codes "count " ++ (decimal count ++ (codes " " ++ commit))
+
+-- the page of its bank where its header stands, what the header says in the bank's format, and whether its commit gate is open
+abbrev pub record_line : ℕ → Rec → List ℕ
+record_line format r = numbers_line r.at r.head.number r.head.kind r.head.length
+    (if format == new_format then counted_text r.head.count (commit_text r.committed) else commit_text r.committed)
 
 -- THE TAIL
 -- n pages of a bank from page q on are blank
@@ -42,13 +48,13 @@ abbrev pub head_line : ℕ → BankHead → List ℕ
 head_line k h = codes "bank " ++ (decimal k ++ (codes " format " ++ (decimal h.format ++ (codes " generation " ++ (decimal h.generation ++ codes "\n")))))
 
 -- what stands behind the head of a bank: its records in order, and its tail
-abbrev pub log_text : List Rec → Bool → List ℕ
-log_text records blank = flat_map record_line records ++ tail_line blank
+abbrev pub log_text : ℕ → List Rec → Bool → List ℕ
+log_text format records blank = flat_map (record_line format) records ++ tail_line blank
 
 -- bank k, by the head with which it stands
 abbrev pub bank_text : Layout → List ℕ → ℕ → Option BankHead → List ℕ
 bank_text l bytes k None = none_line k
-bank_text l bytes k (Some h) = head_line k h ++ log_text (records_of (bank_in l h.format k) bytes) (has_blank_tail (bank_in l h.format k) bytes)
+bank_text l bytes k (Some h) = head_line k h ++ log_text h.format (records_of (bank_in l h.format k) bytes) (has_blank_tail (bank_in l h.format k) bytes)
 
 -- AN IMAGE
 -- the first n banks, one after another

@@ -15,10 +15,11 @@ use std::alloc::{AllocError, Global};
 
 // Adds the lines of a bank's records.
 fn push_records(alloc: Global, view: &BankView<'_>, text: &mut String) -> Result<(), AllocError>
-    ensures { OnOk result (string_bytes text.new ≡ string_bytes text.old ++ flat_map record_text (records_of (bank_seen view.now) view.now.bytes)) }
+    ensures { OnOk result (string_bytes text.new ≡ string_bytes text.old ++ flat_map (record_text view.now.head.format) (records_of (bank_seen view.now) view.now.bytes)) }
 {
+    let format = view.head().format;
     for record in view.records() {
-        let line = record_line(alloc, &record)?;
+        let line = record_line(alloc, format, &record)?;
         text.push_str(line.as_str())?;
     }
     Ok(())

@@ -1,7 +1,7 @@
 // The lines of a dump, each with its newline.
 ghost use Rattle.std.specs.Prelude.{◌≡◌, IfOk, string_bytes};
 ghost use Rattle.fee_view.specs.Record.{rec_shown};
-ghost use Rattle.image_text.specs.Dump.{commit_text, numbers_line as numbers_text, record_line as record_text, head_line as head_text, none_line as none_text, tail_line as tail_text, active_line as active_text};
+ghost use Rattle.image_text.specs.Dump.{commit_text, numbers_line as numbers_text, counted_text, record_line as record_text, head_line as head_text, none_line as none_text, tail_line as tail_text, active_line as active_text};
 
 use fee_format::BankHead;
 use fee_view::Record;
@@ -26,18 +26,33 @@ fn numbers_line(
     format!(in alloc; "at {at} number {number} kind {kind} length {length} {commit}\n")
 }
 
-/// Of a record: the page of its header, what the header says, and whether it is committed.
-pub(crate) fn record_line(alloc: Global, shown: &Record<'_>) -> Result<String, AllocError>
-    ensures { IfOk result (λ t. string_bytes t ≡ record_text (rec_shown shown.now)) }
+fn counted(alloc: Global, count: u32, commit: &str) -> Result<String, AllocError>
+    ensures { IfOk result (λ t. string_bytes t ≡ counted_text count commit.now) }
+{
+    format!(in alloc; "count {count} {commit}")
+}
+
+/// Of a record: the page of its header, what the header says in the bank's format, and whether it is committed.
+pub(crate) fn record_line(
+    alloc: Global,
+    format: u8,
+    shown: &Record<'_>,
+) -> Result<String, AllocError>
+    ensures { IfOk result (λ t. string_bytes t ≡ record_text format (rec_shown shown.now)) }
 {
     let commit = commit_word(shown.committed);
+    let length = shown.payload.len();
+    if format != 2 {
+        return numbers_line(alloc, shown.at, shown.number, shown.kind, length, commit);
+    }
+    let counted = counted(alloc, shown.count, commit)?;
     numbers_line(
         alloc,
         shown.at,
         shown.number,
         shown.kind,
-        shown.payload.len(),
-        commit,
+        length,
+        counted.as_str(),
     )
 }
 

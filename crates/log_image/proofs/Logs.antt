@@ -1,11 +1,11 @@
 -- What becomes of a log in memory, what it reads, and how it begins.
 use Rattle.std.proofs.Common.{◌≡◌, inl, inr, ◌<◌, ◌≤◌, ℕ, suc, ◌+◌, List, [], ◌∷◌, ◌++◌, length, Option, Some, None, refl, sym, ap, ◌∙◌, subst, arith}
 use Rattle.std.proofs.lemmas.List.{append-nil}
-use Rattle.nv_base.specs.declared.mark.Mark.{Mark}
+use Rattle.nv_base.specs.Held.{Held}
 use Rattle.fee_format.specs.declared.rec_head.RecHead.{RecHead}
 use Rattle.fee_image.specs.Append.{Staged, AppendsLeaveOneMore}
 use Rattle.fee_image.specs.Bank.{Bank, page_of, moved}
-use Rattle.fee_image.specs.Found.{last_mark, mark_in}
+use Rattle.fee_image.specs.Found.{last_held, shown_in}
 use Rattle.fee_image.specs.Laws.{LogsCompute, RecordsStay, PagesAreOneRange, BodiesHaveRoom}
 use Rattle.fee_image.specs.RecordList.{Rec, Walks, records_of, end_of, end_after, pages_of_head}
 use Rattle.log_image.specs.Laws.{RecordsBegin, FreePagesAreRoom, LogsWiden, HasWork, LogsTighten, LogsStay, LoadedLogsHold, ErasedLogsHold, PlacesShowLast, IsLoadedTail}
@@ -65,22 +65,22 @@ pub logs_widen : LogsWiden
 logs_widen b numbers bytes may wide log more holds = record {
   low = holds.low;
   high = holds.high;
-  shows = λ number length. more number length (mark_in b bytes number length) (holds.shows number length);
+  shows = λ number length. more number length (shown_in b bytes number length) (holds.shows number length);
   tail = tail_widens b bytes may wide log.end log.tail more holds.tail;
   placed = placed_wider b bytes may wide log.end numbers log.places more holds.placed;
 }
 
 -- DOUBTS
-first_among : (m : Mark) (o : Option (List Mark)) → IsAmong (beside m o) m
+first_among : (m : Held) (o : Option (List Held)) → IsAmong (beside m o) m
 first_among m None = tt
 first_among m (Some marks) = (0, (let lt : 0 < suc (length marks) = omega arith in lt), refl)
 
-later_among : (m n : Mark) (o : Option (List Mark)) → IsAmong o n → IsAmong (beside m o) n
+later_among : (m n : Held) (o : Option (List Held)) → IsAmong o n → IsAmong (beside m o) n
 later_among m n None is = tt
 later_among m n (Some marks) (k, lt, is) = (suc k, (let l : suc k < suc (length marks) = omega arith in l), is)
 
 more_wide : (b : Bank) (bytes : List ℕ) (more : May) → IsWider more (doubting b bytes more)
-more_wide b bytes more number length m is = later_among (mark_in b bytes number length) m (more number length) is
+more_wide b bytes more number length m is = later_among (shown_in b bytes number length) m (more number length) is
 
 tail_tightens : (b : Bank) (bytes : List ℕ) (may more : May) (end : ℕ) (tail : Tail) → HasTail b bytes may end tail → HasWork more tail → HasTail b bytes (doubting b bytes more) end tail
 tail_tightens b bytes may more end Open o work = o
@@ -92,7 +92,7 @@ pub logs_tighten : LogsTighten
 logs_tighten b numbers bytes may more log holds placed work = record {
   low = holds.low;
   high = holds.high;
-  shows = λ number length. first_among (mark_in b bytes number length) (more number length);
+  shows = λ number length. first_among (shown_in b bytes number length) (more number length);
   tail = tail_tightens b bytes may more log.end log.tail holds.tail work;
   placed = placed_wider b bytes more (doubting b bytes more) log.end numbers log.places (more_wide b bytes more) placed;
 }
@@ -137,7 +137,7 @@ pub logs_stay : LogsCompute → RecordsStay → PagesAreOneRange → BodiesHaveR
 logs_stay logs stay range room one_more b numbers old new at may log big same holds = record {
   low = holds.low;
   high = holds.high;
-  shows = λ number length. subst (λ (l : List Rec). IsAmong (may number length) (last_mark number length l)) (sym (list_same logs stay b old new at big same)) (holds.shows number length);
+  shows = λ number length. subst (λ (l : List Rec). IsAmong (may number length) (last_held number length l)) (sym (list_same logs stay b old new at big same)) (holds.shows number length);
   tail = tail_stays logs stay b old new at big same one_more may log.end log.tail holds.low holds.tail;
   placed = placed_stay range room b old new at log.end (omega arith) (λ q low lt. same q low (omega (arith, holds.high))) may log.end numbers log.places (omega arith) holds.placed;
 }
@@ -153,13 +153,13 @@ walk_high b bytes [] q e le walk = omega (arith, walk)
 walk_high b bytes (r ∷ rs) q e le walk = walk_high b bytes rs (q + pages_of_head b.page r.head) e walk.0.head.within walk.1
 
 loaded_tail : (b : Bank) (bytes : List ℕ) (may : May) (tail : Tail) → IsLoadedTail b bytes tail → HasTail b bytes may (end_of b bytes) tail
-loaded_tail b bytes may tail (inl (is, blank)) = subst (HasTail b bytes may (end_of b bytes)) (sym is) (record { is_end = refl; blank = blank })
+loaded_tail b bytes may tail (inl (is, format, blank)) = subst (HasTail b bytes may (end_of b bytes)) (sym is) (record { is_end = refl; blank = blank })
 loaded_tail b bytes may tail (inr is) = subst (HasTail b bytes may (end_of b bytes)) (sym is) tt
 
 pub loaded_logs_hold : LogsCompute → PlacesShowLast → LoadedLogsHold
 loaded_logs_hold logs last b numbers bytes tail big two is =
     let walk = ((logs b bytes (records_of b bytes) (end_of b bytes)).1 (refl, refl)).walk in
-    let give : (number length : ℕ) → IsAmong (exactly b bytes number length) (mark_in b bytes number length) = λ number length. first_among (mark_in b bytes number length) (Some []) in
+    let give : (number length : ℕ) → IsAmong (exactly b bytes number length) (shown_in b bytes number length) = λ number length. first_among (shown_in b bytes number length) (Some []) in
     record {
       low = walk_low b bytes (records_of b bytes) 2 (end_of b bytes) walk;
       high = walk_high b bytes (records_of b bytes) 2 (end_of b bytes) two walk;
@@ -174,7 +174,7 @@ erased_logs_hold logs last b numbers bytes may big two blank give =
     record {
       low = omega arith;
       high = two;
-      shows = λ number length. subst (λ (l : List Rec). IsAmong (may number length) (last_mark number length l)) all.0 (give number length);
+      shows = λ number length. subst (λ (l : List Rec). IsAmong (may number length) (last_held number length l)) all.0 (give number length);
       tail = record { is_end = all.1; blank = blank };
       placed = placed_loaded last b bytes may numbers [] 2 big refl give;
     }

@@ -4,20 +4,20 @@ use Rattle.std.proofs.Common.{rules, ◌++◌, ◌≡◌, ℕ, zero, suc, ◌<�
 use Rattle.std.proofs.lemmas.Bool.Decides.{nat_tests}
 use Rattle.std.proofs.lemmas.List.{take-take}
 use Rattle.nv_base.specs.declared.instance.DeviceNumber.{DeviceNumber}
-use Rattle.nv_base.specs.declared.mark.Mark.{Mark}
 use Rattle.nv_base.specs.declared.mark.Mark.TheVariants.{Content, Invalid, Erased}
 use Rattle.nv_base.specs.Pages.{body_pages_of, record_pages_of}
 use Rattle.fls_model.specs.Bytes.{piece}
 use Rattle.fee_format.specs.declared.rec_head.RecHead.{RecHead}
 use Rattle.fee_image.specs.Bank.{Bank, page_of, place_of_page, pages_from, moved}
-use Rattle.fee_image.specs.Found.{fits, counts, last_from, last_mark, mark_of, mark_shown}
+use Rattle.fee_image.specs.Found.{fits, counts, last_from, last_held, held_of, held_shown}
+use Rattle.nv_base.specs.Held.{Held}
 use Rattle.fee_image.specs.Laws.{PagesAreOneRange, BodiesHaveRoom}
 use Rattle.fee_image.specs.RecordList.{Rec, Stands, Walks, pages_of_head}
 use Rattle.log_image.specs.declared.place.Place.{Place}
-use Rattle.log_image.specs.declared.place.Place.TheVariants.{Content as PlaceContent, Invalid as PlaceInvalid, Erased as PlaceErased}
+use Rattle.log_image.specs.declared.place.Place.TheVariants.{Content as PlaceContent, Invalid as PlaceInvalid, Erased as PlaceErased, Unwritten}
 use Rattle.log_image.specs.Laws.{PlacesShowLast, EachIsPlaced, PlacesStay}
-use Rattle.log_image.specs.May.{May, IsAmong, IsWider, settling, mark_written}
-use Rattle.log_image.specs.Places.{place_at, place_shown, mark_at, places_of, noted, IsWithin, ArePlaced}
+use Rattle.log_image.specs.May.{May, IsAmong, IsWider, settling, held_written}
+use Rattle.log_image.specs.Places.{place_at, place_shown, held_at, places_of, noted, IsWithin, ArePlaced}
 
 -- a content that fits has the number's length
 fits_length : (number length : ℕ) (h : RecHead) → fits number length h ≡ true → (h.kind == 1) ≡ true → h.length ≡ length
@@ -34,49 +34,50 @@ range_pages range room b bytes q length one =
     sym (ap (take length) (range b bytes q n) ∙ take-take length (n * b.page) (drop (place_of_page b q) bytes) (room length b.page one))
 
 module _ (range : PagesAreOneRange) (room : BodiesHaveRoom) (b : Bank) (bytes : List ℕ) (one : 1 ≤ b.page) where
-  by_kind : (length at : ℕ) (payload : List ℕ) (k c : Bool) → (k ≡ true → payload ≡ piece (place_of_page b (at + 2)) length bytes)
-      → mark_at b bytes length (if k then PlaceContent at else (if c then PlaceInvalid else PlaceErased)) ≡ (if k then Content payload else (if c then Invalid else Erased))
-  by_kind length at payload true c is = ap Content (sym (is refl))
-  by_kind length at payload false true is = refl
-  by_kind length at payload false false is = refl
+  by_kind : (length at count : ℕ) (payload : List ℕ) (k c : Bool) → (k ≡ true → payload ≡ piece (place_of_page b (at + 2)) length bytes)
+      → held_at b bytes length (if k then PlaceContent at count else (if c then PlaceInvalid count else PlaceErased count)) ≡ (let h : Held = record { mark = if k then Content payload else (if c then Invalid else Erased); count = count } in h)
+  by_kind length at count payload true c is = ap (λ (xs : List ℕ). let h : Held = record { mark = Content xs; count = count } in h) (sym (is refl))
+  by_kind length at count payload false true is = refl
+  by_kind length at count payload false false is = refl
 
   -- a record that fits shows its mark at its place
-  pub shows : (number length q : ℕ) (r : Rec) → fits number length r.head ≡ true → Stands b bytes q r → mark_at b bytes length (place_at q r.head) ≡ mark_of r
+  pub shows : (number length q : ℕ) (r : Rec) → fits number length r.head ≡ true → Stands b bytes q r → held_at b bytes length (place_at q r.head) ≡ held_of r
   shows number length q r fit stands =
-      by_kind length q r.payload (r.head.kind == 1) (r.head.kind == 2)
+      by_kind length q r.head.count r.payload (r.head.kind == 1) (r.head.kind == 2)
       (λ kind. stands.payload
       ∙ ap (λ (n : ℕ). take n (pages_from b bytes (q + 2) (body_pages_of n b.page))) (fits_length number length r.head fit kind)
       ∙ sym (range_pages range room b bytes (q + 2) length one))
 
-  chosen : (length : ℕ) (c : Bool) (r : Rec) (o : Option Rec) → (c ≡ true → mark_at b bytes length (place_at r.at r.head) ≡ mark_of r) → mark_at b bytes length (place_shown o) ≡ mark_shown o → mark_at b bytes length (place_shown (if c then Some r else o)) ≡ mark_shown (if c then Some r else o)
+  chosen : (length : ℕ) (c : Bool) (r : Rec) (o : Option Rec) → (c ≡ true → held_at b bytes length (place_at r.at r.head) ≡ held_of r) → held_at b bytes length (place_shown o) ≡ held_shown o → held_at b bytes length (place_shown (if c then Some r else o)) ≡ held_shown (if c then Some r else o)
   chosen length true r o this rest = this refl
   chosen length false r o this rest = rest
 
-  last_shows : (number length : ℕ) (rs : List Rec) (q e : ℕ) (o : Option Rec) → Walks b bytes q rs e → mark_at b bytes length (place_shown o) ≡ mark_shown o
-      → mark_at b bytes length (place_shown (last_from number length o rs)) ≡ mark_shown (last_from number length o rs)
+  last_shows : (number length : ℕ) (rs : List Rec) (q e : ℕ) (o : Option Rec) → Walks b bytes q rs e → held_at b bytes length (place_shown o) ≡ held_shown o
+      → held_at b bytes length (place_shown (last_from number length o rs)) ≡ held_shown (last_from number length o rs)
   last_shows number length [] q e o walk is = is
   last_shows number length (r ∷ rs) q e o walk is =
       last_shows number length rs (q + pages_of_head b.page r.head) e (if counts number length r then Some r else o) walk.1
       (chosen length (counts number length r) r o
-      (λ count. ap (λ (n : ℕ). mark_at b bytes length (place_at n r.head)) walk.0.place ∙ shows number length q r (counts_fits number length r count) walk.0) is)
+      (λ count. ap (λ (n : ℕ). held_at b bytes length (place_at n r.head)) walk.0.place ∙ shows number length q r (counts_fits number length r count) walk.0) is)
 
 pub places_show_last : PagesAreOneRange → BodiesHaveRoom → PlacesShowLast
 places_show_last range room b bytes number length rs e big walk = last_shows range room b bytes (omega arith) number length rs 2 e None walk refl
 
 -- WITHIN
 further : (p end later length : ℕ) (place : Place) → end ≤ later → IsWithin p end length place → IsWithin p later length place
-further p end later length (PlaceContent at) le within = (within.0, omega (arith, within.1))
-further p end later length PlaceInvalid le within = tt
-further p end later length PlaceErased le within = tt
+further p end later length (PlaceContent at count) le within = (within.0, omega (arith, within.1))
+further p end later length (PlaceInvalid count) le within = tt
+further p end later length (PlaceErased count) le within = tt
+further p end later length Unwritten le within = tt
 
-kind_within : (p end length at : ℕ) (k c : Bool) → (k ≡ true → (2 ≤ at) × (at + record_pages_of length p ≤ end)) → IsWithin p end length (if k then PlaceContent at else (if c then PlaceInvalid else PlaceErased))
-kind_within p end length at true c content = content refl
-kind_within p end length at false true content = tt
-kind_within p end length at false false content = tt
+kind_within : (p end length at count : ℕ) (k c : Bool) → (k ≡ true → (2 ≤ at) × (at + record_pages_of length p ≤ end)) → IsWithin p end length (if k then PlaceContent at count else (if c then PlaceInvalid count else PlaceErased count))
+kind_within p end length at count true c content = content refl
+kind_within p end length at count false true content = tt
+kind_within p end length at count false false content = tt
 
 record_within : (p number length at : ℕ) (h : RecHead) → 2 ≤ at → fits number length h ≡ true → IsWithin p (at + pages_of_head p h) length (place_at at h)
 record_within p number length at h low fit =
-    kind_within p (at + pages_of_head p h) length at (h.kind == 1) (h.kind == 2)
+    kind_within p (at + pages_of_head p h) length at h.count (h.kind == 1) (h.kind == 2)
     (λ kind. (low, (let same : record_pages_of h.length p ≡ record_pages_of length p = ap (λ (n : ℕ). record_pages_of n p) (fits_length number length h fit kind) in omega (arith, same))))
 
 pick_within : (p end length : ℕ) (c : Bool) (x y : Place) → (c ≡ true → IsWithin p end length x) → IsWithin p end length y → IsWithin p end length (if c then x else y)
@@ -97,7 +98,7 @@ last_within b bytes number length (r ∷ rs) q e o low walk within =
     (further b.page q next length (place_shown o) (omega arith) within))
 
 -- PLACES OF A LOG
-pub placed_loaded : PlacesShowLast → (b : Bank) (bytes : List ℕ) (may : May) (numbers : List (DeviceNumber × ℕ)) (rs : List Rec) (e : ℕ) → 16 ≤ b.page → Walks b bytes 2 rs e → ((number length : ℕ) → IsAmong (may number length) (last_mark number length rs)) → ArePlaced b bytes may e numbers (places_of numbers rs)
+pub placed_loaded : PlacesShowLast → (b : Bank) (bytes : List ℕ) (may : May) (numbers : List (DeviceNumber × ℕ)) (rs : List Rec) (e : ℕ) → 16 ≤ b.page → Walks b bytes 2 rs e → ((number length : ℕ) → IsAmong (may number length) (last_held number length rs)) → ArePlaced b bytes may e numbers (places_of numbers rs)
 placed_loaded last b bytes may [] rs e big walk give = tt
 placed_loaded last b bytes may (n ∷ ns) rs e big walk give = (
   last_within b bytes n.0.0 n.1 rs 2 e None (omega arith) walk tt,
@@ -109,7 +110,7 @@ pub placed_wider : (b : Bank) (bytes : List ℕ) (may wide : May) (end : ℕ) (n
 placed_wider b bytes may wide end [] [] more all = tt
 placed_wider b bytes may wide end [] (place ∷ places) more all = absurd all
 placed_wider b bytes may wide end (n ∷ ns) [] more all = absurd all
-placed_wider b bytes may wide end (n ∷ ns) (place ∷ places) more all = (all.0, more n.0.0 n.1 (mark_at b bytes n.1 place) all.1, placed_wider b bytes may wide end ns places more all.2)
+placed_wider b bytes may wide end (n ∷ ns) (place ∷ places) more all = (all.0, more n.0.0 n.1 (held_at b bytes n.1 place) all.1, placed_wider b bytes may wide end ns places more all.2)
 
 -- a content whose pages are as they were
 module _ (range : PagesAreOneRange) (room : BodiesHaveRoom) (b : Bank) (old new : List ℕ) (at end : ℕ) (one : 1 ≤ b.page) (same : (q : ℕ) → 2 ≤ q → q < end → page_of (moved b at) new q ≡ page_of b old q) where
@@ -117,14 +118,15 @@ module _ (range : PagesAreOneRange) (room : BodiesHaveRoom) (b : Bank) (old new 
   pages_same zero q low le = refl
   pages_same (suc n) q low le = λ i. same q low (omega arith) i ++ pages_same n (suc q) (omega arith) (omega arith) i
 
-  stays_at : (length : ℕ) (place : Place) → IsWithin b.page end length place → mark_at (moved b at) new length place ≡ mark_at b old length place
-  stays_at length (PlaceContent q) within =
+  stays_at : (length : ℕ) (place : Place) → IsWithin b.page end length place → held_at (moved b at) new length place ≡ held_at b old length place
+  stays_at length (PlaceContent q count) within =
       let n = body_pages_of length b.page in
-      ap Content (range_pages range room (moved b at) new (q + 2) length one
+      ap (λ (xs : List ℕ). let h : Held = record { mark = Content xs; count = count } in h) (range_pages range room (moved b at) new (q + 2) length one
       ∙ ap (take length) (pages_same n (q + 2) (omega arith) (omega (arith, within.1)))
       ∙ sym (range_pages range room b old (q + 2) length one))
-  stays_at length PlaceInvalid within = refl
-  stays_at length PlaceErased within = refl
+  stays_at length (PlaceInvalid count) within = refl
+  stays_at length (PlaceErased count) within = refl
+  stays_at length Unwritten within = refl
 
   pub placed_stay : (may : May) (later : ℕ) (numbers : List (DeviceNumber × ℕ)) (places : List Place) → end ≤ later → ArePlaced b old may end numbers places → ArePlaced (moved b at) new may later numbers places
   placed_stay may later [] [] le all = tt
@@ -137,11 +139,11 @@ module _ (range : PagesAreOneRange) (room : BodiesHaveRoom) (b : Bank) (old new 
   )
 
 -- ONE RECORD MORE
-among_chosen : (b : Bank) (bytes : List ℕ) (length : ℕ) (c : Bool) (may : Option (List Mark)) (m : Mark) (x y : Place) → (c ≡ true → mark_at b bytes length x ≡ m) → IsAmong may (mark_at b bytes length y) → IsAmong (if c then Some (m ∷ []) else may) (mark_at b bytes length (if c then x else y))
+among_chosen : (b : Bank) (bytes : List ℕ) (length : ℕ) (c : Bool) (may : Option (List Held)) (m : Held) (x y : Place) → (c ≡ true → held_at b bytes length x ≡ m) → IsAmong may (held_at b bytes length y) → IsAmong (if c then Some (m ∷ []) else may) (held_at b bytes length (if c then x else y))
 among_chosen b bytes length true may m x y this rest = subst (IsAmong (Some (m ∷ []))) (sym (this refl)) (let here : IsAmong (Some (m ∷ [])) m = search rules in here)
 among_chosen b bytes length false may m x y this rest = rest
 
-pub placed_note : PagesAreOneRange → BodiesHaveRoom → (b : Bank) (bytes : List ℕ) (may : May) (end : ℕ) (r : Rec) (numbers : List (DeviceNumber × ℕ)) (places : List Place) → 1 ≤ b.page → 2 ≤ end → Stands b bytes end r → mark_of r ≡ mark_written r.head r.payload → ArePlaced b bytes may end numbers places
+pub placed_note : PagesAreOneRange → BodiesHaveRoom → (b : Bank) (bytes : List ℕ) (may : May) (end : ℕ) (r : Rec) (numbers : List (DeviceNumber × ℕ)) (places : List Place) → 1 ≤ b.page → 2 ≤ end → Stands b bytes end r → held_of r ≡ held_written r.head r.payload → ArePlaced b bytes may end numbers places
     → ArePlaced b bytes (settling may r.head r.payload) (end + pages_of_head b.page r.head) numbers (noted numbers places end r.head)
 placed_note range room b bytes may end r [] [] one low stands is all = tt
 placed_note range room b bytes may end r [] (place ∷ places) one low stands is all = absurd all
@@ -152,7 +154,7 @@ placed_note range room b bytes may end r (n ∷ ns) (place ∷ places) one low s
       pick_within b.page next n.1 fit (place_at end r.head) place
           (λ fits. record_within b.page n.0.0 n.1 end r.head low fits)
           (further b.page end next n.1 place (omega arith) all.0),
-      among_chosen b bytes n.1 fit (may n.0.0 n.1) (mark_written r.head r.payload) (place_at end r.head) place
+      among_chosen b bytes n.1 fit (may n.0.0 n.1) (held_written r.head r.payload) (place_at end r.head) place
           (λ fits. shows range room b bytes one n.0.0 n.1 end r fits stands ∙ is) all.1,
       placed_note range room b bytes may end r ns places one low stands is all.2,
     )
@@ -163,7 +165,7 @@ each_is_placed b bytes may end i [] places n all is = cc is
 each_is_placed b bytes may end i (x ∷ xs) [] n all is = absurd all
 each_is_placed b bytes may end zero (x ∷ xs) (place ∷ places) n all is =
     let e : x ≡ n = cc is in
-    record { place = place; is = refl; within = subst (λ (y : DeviceNumber × ℕ). IsWithin b.page end y.1 place) e all.0; among = subst (λ (y : DeviceNumber × ℕ). IsAmong (may y.0.0 y.1) (mark_at b bytes y.1 place)) e all.1 }
+    record { place = place; is = refl; within = subst (λ (y : DeviceNumber × ℕ). IsWithin b.page end y.1 place) e all.0; among = subst (λ (y : DeviceNumber × ℕ). IsAmong (may y.0.0 y.1) (held_at b bytes y.1 place)) e all.1 }
 each_is_placed b bytes may end (suc i) (x ∷ xs) (place ∷ places) n all is =
     let rest = each_is_placed b bytes may end i xs places n all.2 is in
     record { place = rest.place; is = rest.is; within = rest.within; among = rest.among }

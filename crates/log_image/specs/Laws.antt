@@ -1,17 +1,18 @@
 -- Laws of a log and its bank's pages, for the layers above.
 use Rattle.std.specs.Prelude.{◌≡◌, ◌⊎◌, ◌<◌, ◌≤◌, ◌+◌, ℕ, List, Some, slice_get}
 use Rattle.nv_base.specs.declared.instance.DeviceNumber.{DeviceNumber}
-use Rattle.nv_base.specs.declared.mark.Mark.TheVariants.{Erased}
 use Rattle.fee_format.specs.declared.rec_head.RecHead.{RecHead}
+use Rattle.fee_format.specs.Formats.{new_format}
 use Rattle.fee_format.specs.Pages.{blank_page}
 use Rattle.fee_image.specs.Append.{Touches}
 use Rattle.fee_image.specs.Bank.{Bank, page_of, moved}
-use Rattle.fee_image.specs.Found.{last_mark, last_record}
+use Rattle.fee_image.specs.Found.{last_held, last_record}
+use Rattle.nv_base.specs.Held.{never_written}
 use Rattle.fee_image.specs.RecordList.{Rec, Walks, IsTailBlank, records_of, end_of, pages_of_head}
 use Rattle.log_image.specs.declared.place.Place.{Place}
 use Rattle.log_image.specs.May.{May, IsAmong, IsWider, MayCommit, exactly, doubting}
 use Rattle.log_image.specs.Log.{Tail, Open, Writes, Closed, Log, free_of, HoldsLog}
-use Rattle.log_image.specs.Places.{mark_at, place_shown, places_of, erased_places, IsWithin, ArePlaced}
+use Rattle.log_image.specs.Places.{held_at, place_shown, places_of, erased_places, IsWithin, ArePlaced}
 use Rattle.log_image.specs.Step.{IsRecord, IsDue, log_begun, page_due, bytes_due, log_done, may_done, log_failed, log_given_up}
 
 -- STEPS
@@ -90,7 +91,7 @@ abbrev pub loaded_log : Bank → List (DeviceNumber × ℕ) → List ℕ → Tai
 loaded_log b numbers bytes tail = record { end = end_of b bytes; tail = tail; places = places_of numbers (records_of b bytes) }
 
 abbrev pub IsLoadedTail : Bank → List ℕ → Tail → Type 0
-IsLoadedTail b bytes tail = ((tail ≡ Open) × IsTailBlank b bytes (end_of b bytes)) ⊎ (tail ≡ Closed)
+IsLoadedTail b bytes tail = ((tail ≡ Open) × (b.format ≡ new_format) × IsTailBlank b bytes (end_of b bytes)) ⊎ (tail ≡ Closed)
 
 -- nothing but what the bank shows may be found
 abbrev pub LoadedLogsHold : Type 0
@@ -106,7 +107,7 @@ erased_log numbers = record { end = 2; tail = Open; places = erased_places numbe
 abbrev pub ErasedLogsHold : Type 0
 ErasedLogsHold =
     (b : Bank) (numbers : List (DeviceNumber × ℕ)) (bytes : List ℕ) (may : May)
-    → 16 ≤ b.page → 2 ≤ b.pages → IsTailBlank b bytes 2 → ((number length : ℕ) → IsAmong (may number length) Erased)
+    → 16 ≤ b.page → 2 ≤ b.pages → IsTailBlank b bytes 2 → ((number length : ℕ) → IsAmong (may number length) never_written)
     → HoldsLog b numbers bytes may (erased_log numbers)
 
 -- PLACES
@@ -114,14 +115,14 @@ ErasedLogsHold =
 abbrev pub PlacesShowLast : Type 0
 PlacesShowLast =
     (b : Bank) (bytes : List ℕ) (number length : ℕ) (records : List Rec) (end : ℕ)
-    → 16 ≤ b.page → Walks b bytes 2 records end → mark_at b bytes length (place_shown (last_record number length records)) ≡ last_mark number length records
+    → 16 ≤ b.page → Walks b bytes 2 records end → held_at b bytes length (place_shown (last_record number length records)) ≡ last_held number length records
 
 -- the place of the number at an index
 pub record IsPlaced (b : Bank) (bytes : List ℕ) (may : May) (end : ℕ) (n : DeviceNumber × ℕ) (places : List Place) (i : ℕ) : Type 0 where
   pub place : Place
   pub is : slice_get places i ≡ Some place
   pub within : IsWithin b.page end n.1 place
-  pub among : IsAmong (may n.0.0 n.1) (mark_at b bytes n.1 place)
+  pub among : IsAmong (may n.0.0 n.1) (held_at b bytes n.1 place)
 
 abbrev pub EachIsPlaced : Type 0
 EachIsPlaced =
@@ -133,4 +134,4 @@ abbrev pub PlacesStay : Type 0
 PlacesStay =
     (b : Bank) (old new : List ℕ) (at end length : ℕ) (place : Place)
     → 16 ≤ b.page → ((q : ℕ) → 2 ≤ q → q < end → page_of (moved b at) new q ≡ page_of b old q)
-    → IsWithin b.page end length place → mark_at (moved b at) new length place ≡ mark_at b old length place
+    → IsWithin b.page end length place → held_at (moved b at) new length place ≡ held_at b old length place

@@ -2,6 +2,7 @@
 use Rattle.std.specs.Prelude.{◌≡◌, ◌≤◌, ◌+◌, ◌==◌, nat_lt, if◌then◌else◌, ℕ, zero, suc, Bool, List, [], length}
 use Rattle.nv_base.specs.declared.instance.DeviceNumber.{DeviceNumber}
 use Rattle.fee_format.specs.declared.rec_head.RecHead.{RecHead}
+use Rattle.fee_format.specs.Formats.{new_format}
 use Rattle.fee_format.specs.Pages.{gate_page}
 use Rattle.fee_format.specs.RecHead.{IsLegalRecHead}
 use Rattle.fee_format.specs.RecordPages.{record_page}
@@ -14,7 +15,7 @@ use Rattle.log_image.specs.Log.{Tail, Open, Writes, Owes, Closed, Log}
 -- A RECORD BEGINS
 -- a record that may begin at a page: it is whole, and lies within the bank
 pub record IsRecord (b : Bank) (end : ℕ) (h : RecHead) (body : List ℕ) : Type 0 where
-  pub format : b.format ≡ 1
+  pub format : b.format ≡ new_format
   pub legal : IsLegalRecHead h
   pub size : length body ≡ h.length
   pub room : end + pages_of_head b.page h ≤ b.pages

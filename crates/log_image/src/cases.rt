@@ -2,10 +2,11 @@
 ghost use Rattle.std.specs.Prelude.{◌≡◌, ◌++◌, ℕ, List, [], ◌∷◌, Some};
 ghost use Rattle.nv_base.specs.declared.instance.DeviceNumber.{DeviceNumber};
 ghost use Rattle.nv_base.specs.declared.mark.Mark.TheVariants.{Content};
-ghost use Rattle.fee_image.specs.Cases.{small_bank, pages, torn_header, content_1, content_2, body, after_first};
+ghost use Rattle.fee_image.specs.Cases.{new_bank, pages, torn_header, content_1, content_2, body, after_new};
+ghost use Rattle.nv_base.specs.Held.{Held};
 ghost use Rattle.log_image.specs.declared.place.Place.TheVariants.{Content as ContentPlace};
 ghost use Rattle.log_image.specs.May.{May, exactly};
-ghost use Rattle.log_image.specs.Places.{mark_at};
+ghost use Rattle.log_image.specs.Places.{held_at};
 ghost use Rattle.log_image.specs.Log.{Tail, Open, Writes, Owes, Closed, Log, free_of, HoldsLog};
 ghost use Rattle.log_image.specs.Laws.{loaded_log, erased_log};
 ghost use Rattle.log_image.specs.Step.{page_due, bytes_due, log_done, may_done, log_failed, log_given_up};
@@ -13,10 +14,10 @@ ghost use Rattle.log_image.specs.Cases.{numbers, head_128, first_log, second, se
 
 /// What is loaded from a blank bank, and from the one that the first write left.
 pub fn loaded_logs()
-    ensures blank { loaded_log small_bank numbers (pages 24 0xff) Open ≡ erased_log numbers }
-    ensures first { loaded_log small_bank numbers (after_first (pages 4 0xff)) Open ≡ first_log Open }
-    ensures content { mark_at small_bank (after_first (pages 4 0xff)) 4 (ContentPlace 2) ≡ Content content_1 }
-    ensures free { free_of small_bank (first_log Open) ≡ 6 }
+    ensures blank { loaded_log new_bank numbers (pages 24 0xff) Open ≡ erased_log numbers }
+    ensures first { loaded_log new_bank numbers (after_new (pages 4 0xff)) Open ≡ first_log Open }
+    ensures content { held_at new_bank (after_new (pages 4 0xff)) 4 (ContentPlace 2 1) ≡ record { mark = Content content_1; count = 1 } }
+    ensures free { free_of new_bank (first_log Open) ≡ 6 }
 {}
 
 /// The last two pages of a second write: its body, and the commit gate behind which its mark alone may be found.
@@ -27,7 +28,7 @@ pub fn second_write()
     ensures gate_page { page_due (second 3) ≡ 9 }
     ensures gate_bytes { bytes_due 16 (second 3) ≡ pages 1 0 }
     ensures commits { log_done 16 numbers (second 3) ≡ second_log }
-    ensures settled { (may : May) → may_done 16 may (second 3) 128 4 ≡ Some (Content content_2 ∷ []) }
+    ensures settled { (may : May) → may_done 16 may (second 3) 128 4 ≡ Some (record { mark = Content content_2; count = 2 } ∷ []) }
     ensures others_stay { (may : May) → may_done 16 may (second 3) 129 7 ≡ may 129 7 }
 {}
 
@@ -47,7 +48,7 @@ pub fn second_write_given_up()
 /// What isn't held: a bank shows no content that may not be found, a log isn't open over a torn header, and no number has
 /// the place of a record that isn't its own.
 pub fn refused()
-    ensures other_content { (ns : List (DeviceNumber × ℕ)) (log : Log) → HoldsLog small_bank ns (after_first (pages 4 0xff)) (λ number length. Some (Content content_2 ∷ [])) log → ⊥ }
-    ensures torn_header { (ns : List (DeviceNumber × ℕ)) (may : May) → HoldsLog small_bank ns (after_first (torn_header ++ pages 3 0xff)) may (first_log Open) → ⊥ }
-    ensures wrong_place { HoldsLog small_bank numbers (after_first (pages 4 0xff)) (exactly small_bank (after_first (pages 4 0xff))) wrong_log → ⊥ }
+    ensures other_content { (ns : List (DeviceNumber × ℕ)) (log : Log) → HoldsLog new_bank ns (after_new (pages 4 0xff)) (λ number length. Some (record { mark = Content content_2; count = 1 } ∷ [])) log → ⊥ }
+    ensures torn_header { (ns : List (DeviceNumber × ℕ)) (may : May) → HoldsLog new_bank ns (after_new (torn_header ++ pages 3 0xff)) may (first_log Open) → ⊥ }
+    ensures wrong_place { HoldsLog new_bank numbers (after_new (pages 4 0xff)) (exactly new_bank (after_new (pages 4 0xff))) wrong_log → ⊥ }
 {}

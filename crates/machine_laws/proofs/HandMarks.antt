@@ -6,7 +6,7 @@ use Rattle.block_machine.specs.State.{BlockState, InstanceState, Job}
 use Rattle.block_machine.specs.Blocks.{same_instance, indices_of, job_block, is_in}
 use Rattle.block_machine.specs.Steps.{after}
 use Rattle.machine_laws.specs.Consistent.{Each}
-use Rattle.machine_laws.specs.Laws.{MarksInHandStand}
+use Rattle.machine_laws.specs.Laws.{MarksInHandStand, MarksInHandAreDoubts}
 use Rattle.machine_laws.proofs.MarkCells.{FitsJob, at_instance, same_is}
 use Rattle.machine_laws.proofs.MarkSteps.{marks_in_hand}
 use Rattle.machine_laws.proofs.JobBlocks.{follows}
@@ -25,6 +25,9 @@ fits_at c bs j i (y ∷ xs) x fits is = elim (cases_Bool (same_instance i y.inst
   | inr off ↦ fits_at c bs j i xs x fits.1 (rw off at is)
 ]
 
+same_back : (a b : Instance) → b ≡ a → a ≡ b
+same_back a b is = cc
+
 pub marks_in_hand_stand : MarksInHandStand
 marks_in_hand_stand c cap h j mark i x legal hand takes block index is =
     let s = after c h in
@@ -32,6 +35,12 @@ marks_in_hand_stand c cap h j mark i x legal hand takes block index is =
     let (fits, same) = fits_at c s.blocks j i s.instances x (marks_in_hand c s j hand f.marks) is in
     fits.doubts mark takes (ap (λ (k : Instance). k.block) (same_back x.instance i same) ∙ block)
     (ap (λ (k : Instance). is_in (indices_of c s (job_block j)) k.index) (same_back x.instance i same) ∙ index)
-  where
-    same_back : (a b : Instance) → b ≡ a → a ≡ b
-    same_back a b is = cc
+
+pub marks_in_hand_are_doubts : MarksInHandAreDoubts
+marks_in_hand_are_doubts c cap h j mark i x legal hand takes block index left is =
+    let s = after c h in
+    let f = follows c cap h legal in
+    let (fits, same) = fits_at c s.blocks j i s.instances x (marks_in_hand c s j hand f.marks) is in
+    fits.owed mark takes (ap (λ (k : Instance). k.block) (same_back x.instance i same) ∙ block)
+    (ap (λ (k : Instance). is_in (indices_of c s (job_block j)) k.index) (same_back x.instance i same) ∙ index)
+    (ap (λ (k : Instance). is_in j.written k.index) (same_back x.instance i same) ∙ left)

@@ -8,7 +8,7 @@ use Rattle.block_machine.specs.State.{State, InstanceState}
 use Rattle.block_machine.specs.StartUp.{at_first}
 use Rattle.block_machine.specs.Steps.{step, after_from}
 use Rattle.block_machine.specs.History.{is_driver_until, up_to, MayStandIn}
-use Rattle.machine_laws.specs.Laws.{AllowedStandNow}
+use Rattle.machine_laws.specs.Laws.{AllowedStandNow, InstancesStandNow}
 use Rattle.machine_laws.proofs.HistoryLaws.{asks_are_local}
 use Rattle.machine_laws.proofs.MarkCells.{at_instance}
 
@@ -52,3 +52,6 @@ pub allowed_stand_now : AllowedStandNow
 allowed_stand_now c h k i mark few =
     let same = up_to_same c k at_first h few in
     (λ stands. subst (λ (xs : List InstanceState). MayStandIn (at_instance i xs) mark) same stands, λ stands. subst (λ (xs : List InstanceState). MayStandIn (at_instance i xs) mark) (sym same) stands)
+
+pub instances_stand_now : InstancesStandNow
+instances_stand_now c h k few = up_to_same c k at_first h few

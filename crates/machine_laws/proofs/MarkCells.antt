@@ -20,10 +20,12 @@ use Rattle.machine_laws.specs.Consistent.{Each}
 abbrev pub indices_in : Configuration → List BlockState → ℕ → List ℕ
 indices_in c bs id = indices_by (desc_of c id).kind (desc_of c id).nv (get_or bs id no_block).index
 
--- where the job in hand works, its mark may stand, and where it has written, nothing else
+-- where the job in hand works, its mark may stand, where it has written, nothing else, and where it has not, it's a doubt
 pub record FitsJob (c : Configuration) (bs : List BlockState) (j : Job) (x : InstanceState) : Type 0 where
   pub doubts : (m : Mark) → mark_of j ≡ Some m → x.instance.block ≡ job_block j → is_in (indices_in c bs (job_block j)) x.instance.index ≡ true → MayStand x.cell m
   pub settles : (m : Mark) → mark_of j ≡ Some m → x.instance.block ≡ job_block j → is_in j.written x.instance.index ≡ true → x.cell ≡ settled_as m
+  pub owed : (m : Mark) → mark_of j ≡ Some m → x.instance.block ≡ job_block j → is_in (indices_in c bs (job_block j)) x.instance.index ≡ true
+      → is_in j.written x.instance.index ≡ false → Contains x.cell.doubts m
 
 -- NUMBERS AND INSTANCES
 
@@ -86,7 +88,7 @@ each_any P [] f = tt
 each_any P (x ∷ xs) f = (f x, each_any P xs f)
 
 none_fits : (c : Configuration) (bs : List BlockState) (j : Job) (x : InstanceState) → mark_of j ≡ None → FitsJob c bs j x
-none_fits c bs j x none = record { doubts = λ m is b i. let e : None ≡ Some m = sym none ∙ is in cc; settles = λ m is b i. let e : None ≡ Some m = sym none ∙ is in cc }
+none_fits c bs j x none = record { doubts = λ m is b i. let e : None ≡ Some m = sym none ∙ is in cc; settles = λ m is b i. let e : None ≡ Some m = sym none ∙ is in cc; owed = λ m is b i w. let e : None ≡ Some m = sym none ∙ is in cc }
 
 none_in : (ws : List ℕ) (n : ℕ) → ws ≡ [] → is_in ws n ≡ true → ⊥
 none_in [] n none is = cc
@@ -96,12 +98,14 @@ doubt_fits : (c : Configuration) (bs : List BlockState) (j : Job) (mark : Mark) 
 doubt_fits c bs j mark x is none = record {
   doubts = λ m at b i. inr (Contains-append_right x.cell.doubts (mark ∷ []) m (0, omega arith, some_mark mark m (sym is ∙ at)));
   settles = λ m at b i. absurd (none_in j.written x.instance.index none i);
+  owed = λ m at b i w. Contains-append_right x.cell.doubts (mark ∷ []) m (0, omega arith, some_mark mark m (sym is ∙ at));
 }
 
 other_fits : (c : Configuration) (bs : List BlockState) (j : Job) (x : InstanceState) → j.written ≡ [] → ((x.instance.block == job_block j) && is_in (indices_in c bs (job_block j)) x.instance.index) ≡ false → FitsJob c bs j x
 other_fits c bs j x none off = record {
   doubts = λ m at b i. absurd (both (x.instance.block == job_block j) (is_in (indices_in c bs (job_block j)) x.instance.index) (eq-eqb x.instance.block (job_block j) b) i off);
   settles = λ m at b i. absurd (none_in j.written x.instance.index none i);
+  owed = λ m at b i w. absurd (both (x.instance.block == job_block j) (is_in (indices_in c bs (job_block j)) x.instance.index) (eq-eqb x.instance.block (job_block j) b) i off);
 }
 
 pub doubts_fit : (c : Configuration) (bs : List BlockState) (j : Job) (o : Option Mark) (xs : List InstanceState) → mark_of j ≡ o → j.written ≡ [] → Each (FitsJob c bs j) (with_doubt (job_block j) (indices_in c bs (job_block j)) o xs)
@@ -162,6 +166,13 @@ either false q is = inr is
 last_in : (w n : ℕ) → is_in (w ∷ []) n ≡ true → w ≡ n
 last_in w n is = grind (arith, nat_tests)
 
+neither : (p q : Bool) → (p || q) ≡ false → (p ≡ false) × (q ≡ false)
+neither true q is = cc
+neither false q is = (refl, is)
+
+not_written : (ws : List ℕ) (w n : ℕ) → is_in (ws ++ w ∷ []) n ≡ false → (is_in ws n ≡ false) × (is_in (w ∷ []) n ≡ false)
+not_written ws w n is = neither (is_in ws n) (is_in (w ∷ []) n) (sym (list_any-append (λ k. k == n) ws (w ∷ [])) ∙ is)
+
 wrote_fits : (c : Configuration) (bs : List BlockState) (j : Job) (w : Instance) (mark : Mark) (e : ℕ) (x : InstanceState) → Writes c bs j w mark → FitsJob c bs j x → same_instance w x.instance ≡ false → FitsJob c bs (record j { reserved = e; written = j.written ++ w.index ∷ [] }) x
 wrote_fits c bs j w mark e x writes fits off = record {
   doubts = fits.doubts;
@@ -169,18 +180,24 @@ wrote_fits c bs j w mark e x writes fits off = record {
     | inl before ↦ fits.settles m at b before
     | inr now ↦ let on : same_instance w x.instance ≡ true = same_from w x.instance (writes.block ∙ sym b) (last_in w.index x.instance.index now) in let no_ : true ≡ false = sym on ∙ off in cc
   ];
+  owed = λ m at b i left. fits.owed m at b i (not_written j.written w.index x.instance.index left).0;
 }
 
-settled_fits : (c : Configuration) (bs : List BlockState) (j : Job) (mark : Mark) (x : InstanceState) → mark_of j ≡ Some mark → FitsJob c bs j (record x { cell = settled_as mark })
-settled_fits c bs j mark x takes = record {
+settled_fits : (c : Configuration) (bs : List BlockState) (j : Job) (w : Instance) (mark : Mark) (e : ℕ) (x : InstanceState) → mark_of j ≡ Some mark → same_instance w x.instance ≡ true
+    → FitsJob c bs (record j { reserved = e; written = j.written ++ w.index ∷ [] }) (record x { cell = settled_as mark })
+settled_fits c bs j w mark e x takes on = record {
   doubts = λ m at b i. inl (some_mark m mark (sym at ∙ takes));
   settles = λ m at b i. ap settled_as (some_mark mark m (sym takes ∙ at));
+  owed = λ m at b i left.
+      let here : is_in (w.index ∷ []) x.instance.index ≡ true = rw (eq-eqb w.index x.instance.index (same_parts w x.instance on).1) refl in
+      let no_ : true ≡ false = sym here ∙ (not_written j.written w.index x.instance.index left).1 in
+      cc;
 }
 
 pub writes_fit : (c : Configuration) (bs : List BlockState) (j : Job) (w : Instance) (mark : Mark) (e : ℕ) (xs : List InstanceState) → Writes c bs j w mark → Each (FitsJob c bs j) xs → Each (FitsJob c bs (record j { reserved = e; written = j.written ++ w.index ∷ [] })) (settled_in w mark xs)
 writes_fit c bs j w mark e [] writes fits = tt
 writes_fit c bs j w mark e (x ∷ xs) writes fits = elim (cases_Bool (same_instance w x.instance)) [
-  | inl on ↦ rw on (settled_fits c bs (record j { reserved = e; written = j.written ++ w.index ∷ [] }) mark x writes.takes, writes_fit c bs j w mark e xs writes fits.1)
+  | inl on ↦ rw on (settled_fits c bs j w mark e x writes.takes on, writes_fit c bs j w mark e xs writes fits.1)
   | inr off ↦ rw off (wrote_fits c bs j w mark e x writes fits.0 off, writes_fit c bs j w mark e xs writes fits.1)
 ]
 

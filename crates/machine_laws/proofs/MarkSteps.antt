@@ -40,7 +40,7 @@ pub record Follows (c : Configuration) (h : List Entry) (s : State) : Type 0 whe
 -- BLOCKS AND THE SWEEP ALONE
 
 fits_look : (c : Configuration) (bs cs : List BlockState) (j : Job) (xs : List InstanceState) → (get_or cs (job_block j) no_block).index ≡ (get_or bs (job_block j) no_block).index → Each (FitsJob c bs j) xs → Each (FitsJob c cs j) xs
-fits_look c bs cs j xs same fits = each_more (FitsJob c bs j) (FitsJob c cs j) xs (λ x f. record { doubts = λ m at b i. f.doubts m at b (rw same at i); settles = f.settles }) fits
+fits_look c bs cs j xs same fits = each_more (FitsJob c bs j) (FitsJob c cs j) xs (λ x f. record { doubts = λ m at b i. f.doubts m at b (rw same at i); settles = f.settles; owed = λ m at b i. f.owed m at b (rw same at i) }) fits
 
 marks_look : (c : Configuration) (h : List Entry) (bs cs : List BlockState) (xs : List InstanceState) (o : Option Job) (waiting : List Job) → Looks bs cs → AreJobs h bs (option_to_list o ++ waiting) → HoldsMarks c bs xs o → HoldsMarks c cs xs o
 marks_look c h bs cs xs None waiting looks jobs marks = tt

@@ -71,6 +71,10 @@ AllowedStandNow =
     (c : Configuration) (h : List Entry) (k : ℕ) (i : Instance) (mark : Mark) → (after c h).ops ≤ k
     → IsAllowedAt c h k i mark ↔ MayStandIn (instance_at (after c h) i) mark
 
+-- and the instances those of now
+abbrev pub InstancesStandNow : Type 0
+InstancesStandNow = (c : Configuration) (h : List Entry) (k : ℕ) → (after c h).ops ≤ k → (after c (up_to k h)).instances ≡ (after c h).instances
+
 -- RESULTS
 
 -- Where the operations of a job failed on one of the sets that the history leaves open, a failed set explains its Post, and
@@ -202,6 +206,13 @@ MarksInHandStand =
     (c : Configuration) (cap : ℕ) (h : List Entry) (j : Job) (mark : Mark) (i : Instance) (x : InstanceState) → IsLegal c cap h
     → (after c h).hand ≡ Some j → mark_of j ≡ Some mark → i.block ≡ job_block j → is_in (indices_of c (after c h) (job_block j)) i.index ≡ true
     → instance_at (after c h) i ≡ Some x → MayStand x.cell mark
+
+-- it is a doubt in each that it has not written yet
+abbrev pub MarksInHandAreDoubts : Type 0
+MarksInHandAreDoubts =
+    (c : Configuration) (cap : ℕ) (h : List Entry) (j : Job) (mark : Mark) (i : Instance) (x : InstanceState) → IsLegal c cap h
+    → (after c h).hand ≡ Some j → mark_of j ≡ Some mark → i.block ≡ job_block j → is_in (indices_of c (after c h) (job_block j)) i.index ≡ true
+    → is_in j.written i.index ≡ false → instance_at (after c h) i ≡ Some x → Contains x.cell.doubts mark
 
 -- where a mark is listed of each configured instance that may stand there, a later start-up may find them
 abbrev pub FoundMayStand : Type 0

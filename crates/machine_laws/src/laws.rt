@@ -1,5 +1,5 @@
 // Laws of the block machine.
-ghost use Rattle.machine_laws.specs.Laws.{HistoriesStep, HistoriesGoOn, HistoriesStayLegal, BeginningsAreLegal, EntriesAreCounted, AsksAreLocal, LateEntriesAreCutOff, EarlyEntriesAreKept, UpToIsABeginning, AllowedStandNow, FailedSetsAreLeast, AcceptedPass, FittingHasRoom, NextIsWaiting, NextGoesFirst, NoneWaits, PickTakesInHand, EntriesOfTheJobInHand, FoundIsSettled, AllowedStepsStayConsistent, LegalStatesAreConsistent, DriverEntriesAreReserved, EntriesFit, EntriesAreLocal, JobsSplit, MarksAreBrought, MarksAreNotOlder, MarksAreAccepted, JobsArePending, JobsAreConfigured, JobsHaveTheirBlocks, PlacesAreConfigured, ContentsHaveLengths, WrittenAscends, EntriesGiveStatus, PostsAreNotPending, PendingHaveJobs, ReadsGiveSettled, CellsChange, FoundCells, SumsGrow, JobIsFound, MarksInHandStand, FoundMayStand};
+ghost use Rattle.machine_laws.specs.Laws.{HistoriesStep, HistoriesGoOn, HistoriesStayLegal, BeginningsAreLegal, EntriesAreCounted, AsksAreLocal, LateEntriesAreCutOff, EarlyEntriesAreKept, UpToIsABeginning, AllowedStandNow, InstancesStandNow, FailedSetsAreLeast, AcceptedPass, FittingHasRoom, NextIsWaiting, NextGoesFirst, NoneWaits, PickTakesInHand, EntriesOfTheJobInHand, FoundIsSettled, AllowedStepsStayConsistent, LegalStatesAreConsistent, DriverEntriesAreReserved, EntriesFit, EntriesAreLocal, JobsSplit, MarksAreBrought, MarksAreNotOlder, MarksAreAccepted, JobsArePending, JobsAreConfigured, JobsHaveTheirBlocks, PlacesAreConfigured, ContentsHaveLengths, WrittenAscends, EntriesGiveStatus, PostsAreNotPending, PendingHaveJobs, ReadsGiveSettled, CellsChange, FoundCells, SumsGrow, JobIsFound, MarksInHandStand, MarksInHandAreDoubts, FoundMayStand};
 
 /// How a history grows.
 pub fn histories_grow()
@@ -22,6 +22,7 @@ pub fn entries_come_in_time_or_late()
     ensures early { EarlyEntriesAreKept }
     ensures beginning { UpToIsABeginning }
     ensures now { AllowedStandNow }
+    ensures instances { InstancesStandNow }
 {}
 
 /// Each failure of the device has an explanation, and none that is dearer than it was.
@@ -82,6 +83,7 @@ pub fn marks_that_stand()
     ensures newest { MarksAreNotOlder }
     ensures accepted { MarksAreAccepted }
     ensures in_hand { MarksInHandStand }
+    ensures doubts { MarksInHandAreDoubts }
 {}
 
 /// After a legal history a block has one job at most, and is PENDING then; blocks and instances are the configured ones.

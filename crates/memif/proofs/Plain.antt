@@ -80,7 +80,7 @@ length_none [] number none = refl
 length_none (n ∷ ns) number none = grind (arith, nat_tests, none 0 n (omega arith), length_none ns number (λ k d lt. none (suc k) d (omega arith)))
 
 pub blank : Kept
-blank = record { settled = record { kind = plain.Erased; content = [] }; next = record { kind = plain.Erased; content = [] }; doubted = false }
+blank = record { settled = record { kind = plain.Erased; content = [] }; count = 0; next = record { kind = plain.Erased; content = [] }; doubted = false }
 
 -- ROOM
 pub kept_length : (numbers : List (DeviceNumber × ℕ)) (kept : List Kept) → AreKept numbers kept → length kept ≡ length numbers

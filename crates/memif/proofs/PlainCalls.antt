@@ -11,14 +11,14 @@ use Rattle.memif.specs.declared.answer.JobResult.TheVariants.{JobOk, JobFailed, 
 use Rattle.memif.specs.declared.answer.DeviceTurn.TheVariants.{Worked}
 use Rattle.memif.specs.declared.kept.Kept.{Kept}
 use Rattle.memif.specs.declared.plain_store.PlainJob.{PlainJob}
-use Rattle.memif.specs.Told.{DeviceTold, Slot, Held, Job, Figures, First, Second, Open, slot_at, length_of, figures_at, no_figures, no_part, part_of, result_of, op_of, most_of, IfElse, given_by, IsConfigured}
+use Rattle.memif.specs.Told.{DeviceTold, Slot, Held, held_next, Job, Figures, First, Second, Open, slot_at, length_of, figures_at, no_figures, no_part, part_of, result_of, op_of, most_of, IfElse, given_by, IsConfigured}
 use Rattle.memif.specs.Marks.{Keeps, Doubts, DoubtsAt, SettlesAs}
 use Rattle.memif.specs.Clock.{FindsNow, Ticks}
 use Rattle.memif.specs.Calls.{InOrder, ClockStays, Arms, IsPrompt, Nearer, is_first, StartsUp, PowersUp, Opens, Turns, PartTurns, Reads, Gives, EndsAs, refusal_of, length_refusal, Accepts, IsKind, kind_of}
 use Rattle.memif.specs.Plain.{plain_figures, plain_fixed, no_clock}
 use Rattle.memif.specs.Kept.{settled, undoubted}
 use Rattle.memif.specs.PlainInside.{mark_of, held_of, slot_of, next_of, turns_of, job_of, told_with, given_of, AreKept, IsSoundWith, content_of, IsSoundJob, GivesBehind, stand_of, IsSoundGiven}
-use Rattle.memif.proofs.Turning.{none_in, same_clock}
+use Rattle.memif.proofs.Turning.{none_in, same_clock, past_same}
 use Rattle.memif.proofs.Plain.{at_same, length_at, length_none, refusal_is, blank, place_within, slot_is, slot_set, get_is, get_set, none_open, kept_length, size_is, room_at, room_set}
 use Rattle.memif.specs.declared.answer.DeviceRefusal.{DeviceRefusal}
 use Rattle.memif.specs.declared.answer.DeviceRefusal.TheVariants.{BadLength}
@@ -51,8 +51,7 @@ slots_undoubted (x ∷ xs) (k ∷ ks) n = elim (cases_Bool (x.0.0 == n)) [ inl e
 
 -- nothing is told by the clock
 finds_now : (d : DeviceTold) → FindsNow d no_clock
-finds_now d First m finds = absurd finds
-finds_now d Second m finds = absurd finds
+finds_now d m finds = absurd finds
 
 -- IN ORDER
 pub order_none : (numbers : List (DeviceNumber × ℕ)) (kept : List Kept) (started : Bool) (last : JobResult) (given : Option ℕ) → InOrder (told_with numbers kept started None last given) no_clock
@@ -78,19 +77,22 @@ order_open numbers kept started j last given at = record {
   now = finds_now (told_with numbers kept started (Some j) last given);
 }
 
-pub in_order : (numbers : List (DeviceNumber × ℕ)) (kept : List Kept) (started : Bool) (job : Option PlainJob) (last : JobResult) (given : Option ℕ) (now : DeviceTold) → told_with numbers kept started job last given ≡ now → IsSoundWith numbers kept job last given → InOrder now no_clock
+pub in_order : (numbers : List (DeviceNumber × ℕ)) (kept : List Kept) (started : Bool) (job : Option PlainJob) (last : JobResult) (given : Option ℕ) (now : DeviceTold) → told_with numbers kept started job last given ≡ now → IsSoundWith numbers kept started job last given → InOrder now no_clock
 in_order numbers kept started None last given now view sound = subst (λ (d : DeviceTold). InOrder d no_clock) view (order_none numbers kept started last given)
 in_order numbers kept started (Some j) last given now view sound = subst (λ (d : DeviceTold). InOrder d no_clock) view (order_open numbers kept started j last given sound.at)
 
 pub stays : (d : DeviceTold) → InOrder d no_clock → ClockStays no_clock d no_clock
 stays d order = record { same = same_clock no_clock; order = order }
 
+not_second : First ≡ Second → ⊥
+not_second is = cc
+
 pub ticks : (old new : DeviceTold) → Ticks First Worked old no_clock new no_clock
 ticks old new = record {
-  past = record { after = λ k m le h. h; cut = λ k m lt h. h; worn = λ k n le h. h };
+  past = past_same old.ops no_clock no_clock (same_clock no_clock);
   cut = λ k m le lt h. absurd h;
   off = λ k h. absurd h;
-  other = (same_clock no_clock).second;
+  part = λ k le lt. (λ h. absurd h, λ is. absurd (not_second is));
 }
 
 powers_up : PowersUp no_part no_part
@@ -147,18 +149,22 @@ module _ (numbers : List (DeviceNumber × ℕ)) (kept : List Kept) (started : Bo
   pub read_taken : j.reads ≡ true → Opens (record { number = j.number.0; mark = None; urgent = j.urgent }) (told_with numbers kept started None last given) (told_with numbers kept started (Some j) last None)
   read_taken reads = opens kept None (rw reads refl) (λ n. keeps_same (slot_at numbers (map slot_of kept) n))
 
-  takes_for : (v : Kept) → mark_of v.settled ≡ mark_of one.settled → v.doubted ≡ true → Doubts (mark_of v.next) (slot_of one) (slot_of v)
+  -- what it leaves for certain is as it was, and what it may leave is one more
+  takes_for : (v : Kept) → held_of v ≡ held_of one → v.doubted ≡ true → Doubts (mark_of v.next) (slot_of one) (slot_of v)
   takes_for v same doubted = record {
-    settled = ap (λ (m : Mark). record { mark = m }) same;
-    doubts = λ h has. last_one h (subst (λ (b : Bool). Contains (if b then held_of v.next ∷ [] else []) h) doubted has);
-    taken = subst (λ (b : Bool). Contains (if b then held_of v.next ∷ [] else []) (held_of v.next)) (sym doubted) (0, omega arith, refl);
+    settled = same;
+    doubts = λ h has. last_one h (subst (λ (b : Bool). Contains (if b then next ∷ [] else []) h) doubted has);
+    taken = subst (λ (b : Bool). Contains (if b then next ∷ [] else []) (held_next (mark_of v.next) (held_of one))) (sym doubted) (0, omega arith, ap (held_next (mark_of v.next)) same);
   }
     where
-      last_one : (h : Held) → Contains (held_of v.next ∷ []) h → Contains (slot_of one).doubts h ⊎ (h ≡ held_of v.next)
-      last_one h (zero, lt, is) = inr (sym is)
+      next : Held
+      next = held_next (mark_of v.next) (held_of v)
+
+      last_one : (h : Held) → Contains (next ∷ []) h → Contains (slot_of one).doubts h ⊎ (h ≡ held_next (mark_of v.next) (held_of one))
+      last_one h (zero, lt, is) = inr (sym is ∙ ap (held_next (mark_of v.next)) same)
       last_one h (suc i, lt, is) = absurd (omega arith)
 
-  pub mark_taken : (v : Kept) → j.reads ≡ false → mark_of v.settled ≡ mark_of one.settled → v.doubted ≡ true
+  pub mark_taken : (v : Kept) → j.reads ≡ false → held_of v ≡ held_of one → v.doubted ≡ true
       → Opens (record { number = j.number.0; mark = Some (mark_of v.next); urgent = j.urgent }) (told_with numbers kept started None last given) (told_with numbers (set kept j.place v) started (Some j) last None)
   mark_taken v reads same doubted = opens (set kept j.place v) (Some (mark_of v.next)) (rw (reads, get_set numbers kept j.number.0 j.place room at v) refl) (each_set (Doubts (mark_of v.next)) v (takes_for v same doubted))
 
@@ -169,7 +175,7 @@ module _ (numbers : List (DeviceNumber × ℕ)) (kept : List Kept) (started : Bo
   abbrev before : DeviceTold
   before = told_with numbers kept started (Some j) last given
 
-  part_works : PartTurns false no_part no_part
+  part_works : PartTurns false 0 0 no_part no_part
   part_works = record { only = refl; on = refl; later = omega arith; one = inl refl; plan = inl refl; faults = record { faults = omega arith; flash = omega arith; tied = inl (omega arith) } }
 
   of_first : First ≡ part_of (plain_fixed numbers) the_job
@@ -188,15 +194,16 @@ module _ (numbers : List (DeviceNumber × ℕ)) (kept : List Kept) (started : Bo
   none_by None is = refl
   none_by (Some m) is = cc
 
-  ends : (k : List Kept) (r : JobResult) (g : Option ℕ) → EndsAs the_job.mark j.number.0 r (given_of k g) before (told_with numbers k started None r g) → r ≢ JobFailed
+  ends : (k : List Kept) (r : JobResult) (g : Option ℕ) → EndsAs the_job.mark j.number.0 r (given_of k g) before (told_with numbers k started None r g) → started ≡ true → r ≢ JobFailed
       → (the_job.mark ≡ None → Some (map slot_of k) ≡ Some (map slot_of kept)) → Turns Worked before no_clock (told_with numbers k started None r g) no_clock
-  ends k r g so done reads = (
+  ends k r g so on done reads = (
     (
       refl,
       (
         First,
         record {
           only = refl;
+          up = on;
           of = (tt, of_first);
           part = part_works;
           job = (so, λ is. absurd (done is));
@@ -210,18 +217,18 @@ module _ (numbers : List (DeviceNumber × ℕ)) (kept : List Kept) (started : Bo
     order_none numbers k started r g,
   )
 
-  pub write_turns : j.reads ≡ false → given ≡ None → Turns Worked (told_with numbers kept started (Some j) last given) no_clock (told_with numbers (set kept j.place (settled one)) started None JobOk given) no_clock
-  write_turns reads none =
+  pub write_turns : started ≡ true → j.reads ≡ false → given ≡ None → Turns Worked (told_with numbers kept started (Some j) last given) no_clock (told_with numbers (set kept j.place (settled one)) started None JobOk given) no_clock
+  write_turns on reads none =
       let e : the_job.mark ≡ Some (mark_of one.next) = rw (reads, get_is numbers kept j.number.0 j.place room at) refl in
       let after : List Kept = set kept j.place (settled one) in
-      ends after JobOk given (subst (λ (m : Option Mark). EndsAs m j.number.0 JobOk (given_of after given) before (told_with numbers after started None JobOk given)) (sym e) (each_set (SettlesAs (mark_of one.next)) (settled one) (record { settled = refl; doubts = refl }), ap (given_of after) none)) (λ is. cc) (λ is. cc)
+      ends after JobOk given (subst (λ (m : Option Mark). EndsAs m j.number.0 JobOk (given_of after given) before (told_with numbers after started None JobOk given)) (sym e) (each_set (SettlesAs (mark_of one.next)) (settled one) (record { settled = refl; doubts = refl }), ap (given_of after) none)) on (λ is. cc) (λ is. cc)
 
-  pub read_turns : (r : JobResult) (g : Option ℕ) → j.reads ≡ true → Reads (mark_of one.settled) r (given_of kept g) → Gives r (length_of numbers j.number.0) (given_of kept g) → r ≢ JobFailed → Turns Worked (told_with numbers kept started (Some j) last given) no_clock (told_with numbers kept started None r g) no_clock
-  read_turns r g is_read reads gives done =
+  pub read_turns : started ≡ true → (r : JobResult) (g : Option ℕ) → j.reads ≡ true → Reads (mark_of one.settled) r (given_of kept g) → Gives r (length_of numbers j.number.0) (given_of kept g) → r ≢ JobFailed → Turns Worked (told_with numbers kept started (Some j) last given) no_clock (told_with numbers kept started None r g) no_clock
+  read_turns on r g is_read reads gives done =
       let e : the_job.mark ≡ None = rw is_read refl in
       let was : slot_at numbers (map slot_of kept) j.number.0 ≡ slot_of one = slot_is numbers kept j.number.0 j.place room at in
       let shows : Reads (slot_at numbers (map slot_of kept) j.number.0).settled.mark r (given_of kept g) = subst (λ (s : Slot). Reads s.settled.mark r (given_of kept g)) (sym was) reads in
-      ends kept r g (subst (λ (m : Option Mark). EndsAs m j.number.0 r (given_of kept g) before (told_with numbers kept started None r g)) (sym e) (shows, gives)) done (λ is. refl)
+      ends kept r g (subst (λ (m : Option Mark). EndsAs m j.number.0 r (given_of kept g) before (told_with numbers kept started None r g)) (sym e) (shows, gives)) on done (λ is. refl)
 
 -- a plan isn't taken
 unarmed : (a b : Bool) (d : DeviceTold) → d ≡ (if a then d else (if b then d else d))
@@ -229,7 +236,7 @@ unarmed true b d = refl
 unarmed false true d = refl
 unarmed false false d = refl
 
-pub arms : (which nth keep : ℕ) (numbers : List (DeviceNumber × ℕ)) (kept : List Kept) (started : Bool) (job : Option PlainJob) (last : JobResult) (given : Option ℕ) (now : DeviceTold) → told_with numbers kept started job last given ≡ now → IsSoundWith numbers kept job last given → Arms which nth keep now no_clock now no_clock
+pub arms : (which nth keep : ℕ) (numbers : List (DeviceNumber × ℕ)) (kept : List Kept) (started : Bool) (job : Option PlainJob) (last : JobResult) (given : Option ℕ) (now : DeviceTold) → told_with numbers kept started job last given ≡ now → IsSoundWith numbers kept started job last given → Arms which nth keep now no_clock now no_clock
 arms which nth keep numbers kept started job last given now view sound =
     let d : DeviceTold = told_with numbers kept started job last given in
     subst (λ (x : DeviceTold). Arms which nth keep x no_clock x no_clock) view (unarmed (which == 0) (which == 1) d, stays d (in_order numbers kept started job last given d refl sound))
@@ -247,7 +254,7 @@ same_mark plain.Content a b other = absurd (other refl)
 same_mark plain.Invalid a b other = refl
 same_mark plain.Erased a b other = refl
 
-module _ (numbers : List (DeviceNumber × ℕ)) (kept : List Kept) (started : Bool) (job : Option PlainJob) (last : JobResult) (given : Option ℕ) (now : DeviceTold) (view : told_with numbers kept started job last given ≡ now) (number : DeviceNumber) (place : ℕ) (size : Option ℕ) (sound : IsSoundWith numbers kept job last given) (none : refusal_of now number.0 size ≡ None) (at : place_of now.fixed.numbers number.0 ≡ Some place) where
+module _ (numbers : List (DeviceNumber × ℕ)) (kept : List Kept) (started : Bool) (job : Option PlainJob) (last : JobResult) (given : Option ℕ) (now : DeviceTold) (view : told_with numbers kept started job last given ≡ now) (number : DeviceNumber) (place : ℕ) (size : Option ℕ) (sound : IsSoundWith numbers kept started job last given) (none : refusal_of now number.0 size ≡ None) (at : place_of now.fixed.numbers number.0 ≡ Some place) where
   abbrev job_with : Bool → Bool → PlainJob
   job_with reads urgent = record { number = number; place = place; reads = reads; urgent = urgent }
 
@@ -273,7 +280,7 @@ module _ (numbers : List (DeviceNumber × ℕ)) (kept : List Kept) (started : Bo
       let j : PlainJob = job_with true false in
       ((none, subst (λ (d : DeviceTold). Opens (record { number = number.0; mark = None; urgent = false }) d (told_with numbers kept started (Some j) last None)) told_none (read_taken numbers kept started last given j sound.room here refl)), opened kept true false)
 
-  pub mark_starts : (u : Bool) (v : Kept) (after : List Kept) → after ≡ set kept place v → mark_of v.settled ≡ mark_of (get_or kept place blank).settled → v.doubted ≡ true
+  pub mark_starts : (u : Bool) (v : Kept) (after : List Kept) → after ≡ set kept place v → held_of v ≡ held_of (get_or kept place blank) → v.doubted ≡ true
       → Accepts (record { job = record { number = number.0; mark = Some (mark_of v.next); urgent = u }; length = size }) (Ok tt) now no_clock (told_with numbers after started (Some (job_with false u)) last None) no_clock
   mark_starts u v after is same doubted =
       let j : PlainJob = job_with false u in
@@ -293,21 +300,29 @@ module _ (numbers : List (DeviceNumber × ℕ)) (kept : List Kept) (started : Bo
       accepted true is = is
       accepted false is = cc
 
-  pub sound_after : (u : Bool) (v : Kept) (after : List Kept) → after ≡ set kept place v → length v.settled.content ≡ length (get_or kept place blank).settled.content → length v.next.content ≡ length (get_or kept place blank).next.content → IsSoundWith numbers after (Some (job_with false u)) last None
+  pub sound_after : (u : Bool) (v : Kept) (after : List Kept) → after ≡ set kept place v → length v.settled.content ≡ length (get_or kept place blank).settled.content → length v.next.content ≡ length (get_or kept place blank).next.content → IsSoundWith numbers after started (Some (job_with false u)) last None
   sound_after u v after is one two = record {
     room = subst (AreKept numbers) (sym is) (room_set numbers kept place v sound.room (λ d. (one ∙ (room_at numbers kept place d blank sound.room (place_within numbers number.0 place here)).0, two ∙ (room_at numbers kept place d blank sound.room (place_within numbers number.0 place here)).1)));
     at = here;
     gives = tt;
     behind = tt;
     ended = sound.ended;
+    up = λ shut. up_now started (subst (λ (d : DeviceTold). refusal_of d number.0 size ≡ None) told_none none);
   }
+    where
+      told_none : now ≡ told_with numbers kept started None last given
+      told_none = sym view ∙ ap (λ (o : Option PlainJob). told_with numbers kept started o last given) open_none
+
+      up_now : (on : Bool) → refusal_of (told_with numbers kept on None last given) number.0 size ≡ None → on ≡ true
+      up_now true is = refl
+      up_now false is = cc is
 
 -- TURNS
 behind_none : (j : PlainJob) (given : Option ℕ) → GivesBehind (Some j) given → given ≡ None
 behind_none j None behind = refl
 behind_none j (Some place) behind = absurd behind
 
-module _ (numbers : List (DeviceNumber × ℕ)) (kept : List Kept) (started : Bool) (job : Option PlainJob) (last : JobResult) (given : Option ℕ) (now : DeviceTold) (view : told_with numbers kept started job last given ≡ now) (j : PlainJob) (is : job ≡ Some j) (sound : IsSoundWith numbers kept job last given) where
+module _ (numbers : List (DeviceNumber × ℕ)) (kept : List Kept) (started : Bool) (job : Option PlainJob) (last : JobResult) (given : Option ℕ) (now : DeviceTold) (view : told_with numbers kept started job last given ≡ now) (j : PlainJob) (is : job ≡ Some j) (sound : IsSoundWith numbers kept started job last given) where
   stands : place_of numbers j.number.0 ≡ Some j.place
   stands = subst (IsSoundJob numbers) is sound.at
 
@@ -326,28 +341,30 @@ module _ (numbers : List (DeviceNumber × ℕ)) (kept : List Kept) (started : Bo
   pub turn_room : (d : Kept) → length (get_or kept j.place d).next.content ≡ length (get_or kept j.place d).settled.content
   turn_room d = (room_at numbers kept j.place first d sound.room (place_within numbers j.number.0 j.place stands)).1 ∙ sym (room_at numbers kept j.place first d sound.room (place_within numbers j.number.0 j.place stands)).0
 
-  pub write_sound : (after : List Kept) → after ≡ set kept j.place (settled (get_or kept j.place blank)) → IsSoundWith numbers after None JobOk given
+  pub write_sound : (after : List Kept) → after ≡ set kept j.place (settled (get_or kept j.place blank)) → IsSoundWith numbers after started None JobOk given
   write_sound after same = record {
     room = subst (AreKept numbers) (sym same) (room_set numbers kept j.place (settled (get_or kept j.place blank)) sound.room (λ d. let r = (room_at numbers kept j.place d blank sound.room (place_within numbers j.number.0 j.place stands)).1 in (r, r)));
     at = tt;
     gives = sound.gives;
     behind = tt;
     ended = λ h. cc;
+    up = λ shut. cc shut;
   }
 
   -- the content that was read stands at the job's place
-  pub read_sound : IsSoundWith numbers kept None JobOk (Some j.place)
+  pub read_sound : IsSoundWith numbers kept started None JobOk (Some j.place)
   read_sound = record {
     room = sound.room;
     at = tt;
     gives = place_within numbers j.number.0 j.place stands;
     behind = tt;
     ended = λ h. cc;
+    up = λ shut. cc shut;
   }
 
   pub write_is : (after : List Kept) → after ≡ set kept j.place (settled (get_or kept j.place blank)) → not j.reads ≡ true → Turns Worked now no_clock (told_with numbers after started None JobOk given) no_clock
   write_is after same writes =
-      let turned = write_turns numbers kept started last given j sound.room stands (not-true j.reads writes) none_given in
+      let turned = write_turns numbers kept started last given j sound.room stands (sound.up (ap is_some is)) (not-true j.reads writes) none_given in
       let moved = subst (λ (d : DeviceTold). Turns Worked d no_clock (told_with numbers (set kept j.place (settled (get_or kept j.place blank))) started None JobOk given) no_clock) told_some turned in
       subst (λ (l : List Kept). Turns Worked now no_clock (told_with numbers l started None JobOk given) no_clock) (sym same) moved
 
@@ -358,7 +375,7 @@ module _ (numbers : List (DeviceNumber × ℕ)) (kept : List Kept) (started : Bo
 
     read_is : (r : JobResult) (g : Option ℕ) → Reads (mark_of k.settled) r (given_of kept g) → Gives r (length_of numbers j.number.0) (given_of kept g) → r ≢ JobFailed → Turns Worked now no_clock (told_with numbers kept started None r g) no_clock
     read_is r g shows gives done =
-        let turned = read_turns numbers kept started last given j sound.room stands r g (not-false j.reads reads) (subst (λ (x : Kept). Reads (mark_of x.settled) r (given_of kept g)) the_one shows) gives done in
+        let turned = read_turns numbers kept started last given j sound.room stands (sound.up (ap is_some is)) r g (not-false j.reads reads) (subst (λ (x : Kept). Reads (mark_of x.settled) r (given_of kept g)) the_one shows) gives done in
         subst (λ (d : DeviceTold). Turns Worked d no_clock (told_with numbers kept started None r g) no_clock) told_some turned
 
     pub content_is : k.settled.kind ≡ plain.Content → Turns Worked now no_clock (told_with numbers kept started None JobOk (Some j.place)) no_clock
@@ -392,7 +409,7 @@ module _ (numbers : List (DeviceNumber × ℕ)) (kept : List Kept) (started : Bo
       let at : IsKind (told_with numbers kept started job last given) n None = record { configured = rw (length_none numbers n none) refl; kind = tt } in
       subst (λ (d : DeviceTold). IsKind d n None) view at
 
-  pub kind_some : (n place : ℕ) (k : Kept) → IsSoundWith numbers kept job last given → place_of numbers n ≡ Some place → k ≡ get_or kept place k → IsKind now n (Some k.settled.kind)
+  pub kind_some : (n place : ℕ) (k : Kept) → IsSoundWith numbers kept started job last given → place_of numbers n ≡ Some place → k ≡ get_or kept place k → IsKind now n (Some k.settled.kind)
   kind_some n place k sound at item =
       let lt : place < length kept = omega (arith, place_within numbers n place at, kept_length numbers kept sound.room) in
       let one : k ≡ get_or kept place blank = item ∙ get_or_default kept place k blank lt in
@@ -411,12 +428,12 @@ module _ (numbers : List (DeviceNumber × ℕ)) (kept : List Kept) (started : Bo
       most_with (Some size) is known = most_is op ∙ ap (λ f. most_of f op) (sym (at_same no_figures numbers plain_figures n size is))
       most_with None is known = cc
 
-  pub lent_within : (place : ℕ) → IsSoundWith numbers kept job last given → given ≡ Some place → place < length kept
+  pub lent_within : (place : ℕ) → IsSoundWith numbers kept started job last given → given ≡ Some place → place < length kept
   lent_within place sound is =
       let at : place < length numbers = subst (IsSoundGiven numbers) is sound.gives in
       omega (arith, kept_length numbers kept sound.room)
 
-  pub lent_is : (place : ℕ) (k : Kept) (bytes : List ℕ) → IsSoundWith numbers kept job last given → given ≡ Some place → k ≡ get_or kept place k → bytes ≡ k.settled.content → bytes ≡ given_by now.stand
+  pub lent_is : (place : ℕ) (k : Kept) (bytes : List ℕ) → IsSoundWith numbers kept started job last given → given ≡ Some place → k ≡ get_or kept place k → bytes ≡ k.settled.content → bytes ≡ given_by now.stand
   lent_is place k bytes sound is item same =
       let there : slice_get kept place ≡ Some k = slice_get-get_or kept place k (lent_within place sound is) ∙ ap Some (sym item) in
       let lent : given_of kept given ≡ k.settled.content = ap (given_of kept) is ∙ ap content_of there in

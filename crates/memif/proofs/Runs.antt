@@ -16,7 +16,7 @@ use Rattle.memif.specs.declared.answer.JobResult.TheVariants.{JobOk, JobFailed, 
 use Rattle.memif.specs.declared.run.DeviceCall.{DeviceCall}
 use Rattle.memif.specs.declared.run.DeviceCall.TheVariants as call
 use Rattle.memif.specs.declared.run.DeviceStep.{DeviceStep}
-use Rattle.memif.specs.Told.{DeviceTold, Fixed, Slot, Held, Job, Part, First, Second, Stand, Open, Ended, held_next, slot_at, part_at, figures_at, length_of, is_open, is_urgent, result_of, ops_of, IfElse}
+use Rattle.memif.specs.Told.{DeviceTold, Fixed, Slot, Held, Job, Part, First, Second, Stand, Open, Ended, held_next, slot_at, part_at, length_of, is_open, is_urgent, result_of, ops_of, IfElse}
 use Rattle.memif.specs.Marks.{IsPossible, Keeps, Doubts, SettlesAs, IfTold, DoubtsAt}
 use Rattle.memif.specs.Clock.{Clock, SameClock, ArePossible}
 use Rattle.memif.specs.Calls.{Wish, refusal_of, Opens, Accepts, IsCanceled, Cancels, Turns, IsCut, JobTurns, EndsAs, Writes, Gives, is_read}
@@ -89,8 +89,8 @@ module _ (c : DeviceCall) (old : DeviceTold) (clock : Clock) (new : DeviceTold) 
     fixed = ap (λ (d : DeviceTold). d.fixed) same;
     ties = λ k ties. stays new new.stand k refl (subst (λ (d : DeviceTold). Ties d k) (sym same) ties);
     urgent = λ before known. subst (λ (d : DeviceTold). IsUrgentKnown before d.stand) (sym same) known;
-    lasts = still_lasts old clock new clock_new (λ p. ap (λ (d : DeviceTold). (part_at p d).ops) same) clocks;
-    cut = still_leaves old new clock_new (λ p. ap (λ (d : DeviceTold). (part_at p d).ops) same);
+    lasts = still_lasts old clock new clock_new (ap (λ (d : DeviceTold). d.ops) same) clocks;
+    cut = still_leaves old new clock_new (ap (λ (d : DeviceTold). d.ops) same);
   }
 
   -- A START
@@ -98,9 +98,8 @@ module _ (c : DeviceCall) (old : DeviceTold) (clock : Clock) (new : DeviceTold) 
   doubts_known j None known marks is = same_known old.fixed.numbers known j.number new.slots (keeps_known old.fixed.numbers known old.slots new.slots marks is)
   doubts_known j (Some mark) known marks is = changes_known old.fixed.numbers known j.number (doubted (Some mark)) (Doubts mark) (doubts_more mark) old.slots new.slots marks is
 
-  parts_stay : (w : Wish) → Opens w.job old new → (p : Part) → (part_at p new).ops ≡ (part_at p old).ops
-  parts_stay w opens First = ap (λ (d : DeviceTold). d.first.ops) opens.only
-  parts_stay w opens Second = ap (λ (d : DeviceTold). d.second.ops) opens.only
+  ops_stay : (w : Wish) → Opens w.job old new → new.ops ≡ old.ops
+  ops_stay w opens = ap (λ (d : DeviceTold). d.ops) opens.only
 
   refused : (r : Option DeviceRefusal) (refusal : DeviceRefusal) → r ≡ Some refusal → r ≢ None
   refused r refusal is none = cc
@@ -115,8 +114,8 @@ module _ (c : DeviceCall) (old : DeviceTold) (clock : Clock) (new : DeviceTold) 
         fixed = fixed;
         ties = λ k ties. rw is (record { slots = known_at old new (at_one w.job.number (doubted w.job.mark) k.slots) fixed (doubts_known w.job w.job.mark k.slots opens.marks ties.slots); job = ap open_job stand });
         urgent = λ before known. rw (is, stand) refl;
-        lasts = still_lasts old clock new clock_new (parts_stay w opens) accepts.1.same;
-        cut = still_leaves old new clock_new (parts_stay w opens);
+        lasts = still_lasts old clock new clock_new (ops_stay w opens) accepts.1.same;
+        cut = still_leaves old new clock_new (ops_stay w opens);
       }
   start_made w (Err refusal) is accepts = nothing_made accepts.0.1 accepts.1.same (rw is (refused (refusal_of old w.job.number w.length) refusal accepts.0.0, accepts.0.1))
 
@@ -150,9 +149,8 @@ cancel_made old clock new clock_new cancels = elim (cases_Bool (is_open old.stan
           cut = still_leaves old new clock_new parts;
         }
       where
-        parts : (p : Part) → (part_at p new).ops ≡ (part_at p old).ops
-        parts First = ap (λ (d : DeviceTold). d.first.ops) is.only
-        parts Second = ap (λ (d : DeviceTold). d.second.ops) is.only
+        parts : new.ops ≡ old.ops
+        parts = ap (λ (d : DeviceTold). d.ops) is.only
 
 -- A TURN
 module _ (old : DeviceTold) (clock : Clock) (new : DeviceTold) (clock_new : Clock) where
@@ -242,31 +240,31 @@ after_push k [] m = refl
 after_push k (x ∷ run) m = after_push (after_call x.call x.step.taken x.step.result k) run m
 
 -- a call that ends behind an operation changes nothing that was known by it
-by_late : (p : Part) (o : ℕ) (k : Known) (run : List Made) (m : Made) → o < (part_at p m.device).ops → known_by p o k (run ++ m ∷ []) ≡ known_by p o k run
-by_late p o k [] m late = rw (lt-leb (part_at p m.device).ops o late) refl
-by_late p o k (x ∷ run) m late = ap (λ (e : Known). if nat_le (part_at p x.device).ops o then e else k) (by_late p o (after_call x.call x.step.taken x.step.result k) run m late)
+by_late : (o : ℕ) (k : Known) (run : List Made) (m : Made) → o < m.device.ops → known_by o k (run ++ m ∷ []) ≡ known_by o k run
+by_late o k [] m late = rw (lt-leb m.device.ops o late) refl
+by_late o k (x ∷ run) m late = ap (λ (e : Known). if nat_le x.device.ops o then e else k) (by_late o (after_call x.call x.step.taken x.step.result k) run m late)
 
 -- where no call ends behind it, all is known by it
-by_all : (p : Part) (o : ℕ) (k : Known) (run : List Made) → AllBy p o run → known_by p o k run ≡ known_after k run
-by_all p o k [] all = refl
-by_all p o k (x ∷ run) all = rw (le-leb (part_at p x.device).ops o all.0) (by_all p o (after_call x.call x.step.taken x.step.result k) run all.1)
+by_all : (o : ℕ) (k : Known) (run : List Made) → AllBy o run → known_by o k run ≡ known_after k run
+by_all o k [] all = refl
+by_all o k (x ∷ run) all = rw (le-leb x.device.ops o all.0) (by_all o (after_call x.call x.step.taken x.step.result k) run all.1)
 
-all_more : (p : Part) (o q : ℕ) (run : List Made) → o ≤ q → AllBy p o run → AllBy p q run
-all_more p o q [] le all = tt
-all_more p o q (x ∷ run) le all = (omega (arith, all.0), all_more p o q run le all.1)
+all_more : (o q : ℕ) (run : List Made) → o ≤ q → AllBy o run → AllBy q run
+all_more o q [] le all = tt
+all_more o q (x ∷ run) le all = (omega (arith, le, all.0), all_more o q run le all.1)
 
-all_push : (p : Part) (o : ℕ) (run : List Made) (m : Made) → (part_at p m.device).ops ≤ o → AllBy p o run → AllBy p o (run ++ m ∷ [])
-all_push p o [] m by all = (by, tt)
-all_push p o (x ∷ run) m by all = (all.0, all_push p o run m by all.1)
+all_push : (o : ℕ) (run : List Made) (m : Made) → m.device.ops ≤ o → AllBy o run → AllBy o (run ++ m ∷ [])
+all_push o [] m by all = (by, tt)
+all_push o (x ∷ run) m by all = (all.0, all_push o run m by all.1)
 
 made_push : (old : DeviceTold) (run : List Made) (m : Made) (now : DeviceTold) → AreMade old run now → IsMade now m → AreMade old (run ++ m ∷ []) m.device
 made_push old [] m now made one = (subst (λ (d : DeviceTold). IsMade d m) made one, refl)
 made_push old (x ∷ run) m now made one = (made.0, made_push x.device run m now made.1 one)
 
 -- what was possible before a call is allowed by what was known
-possible : (p : Part) (d : DeviceTold) (slots : Option (List Slot)) (known : ℕ → Slot) (m : ℕ → Held) → AreKnown d.fixed.numbers slots known → ArePossible p d slots m → (n : ℕ) → (figures_at d.fixed n).part ≡ p → IsPossible (known n) (m n)
-possible p d None known m is all n of = absurd is
-possible p d (Some s) known m is all n of = elim (all n of) [ inl same ↦ inl (same ∙ (is n).settled) | inr doubt ↦ inr ((is n).doubts (m n) doubt) ]
+possible : (d : DeviceTold) (slots : Option (List Slot)) (known : ℕ → Slot) (m : ℕ → Held) → AreKnown d.fixed.numbers slots known → ArePossible d slots m → (n : ℕ) → IsPossible (known n) (m n)
+possible d None known m is all n = absurd is
+possible d (Some s) known m is all n = elim (all n) [ inl same ↦ inl (same ∙ (is n).settled) | inr doubt ↦ inr ((is n).doubts (m n) doubt) ]
 
 -- what a run keeps
 pub record IsKept (begun : DeviceTold) (asked : List DeviceCall) (shown : List DeviceStep) (run : List Made) (now : DeviceTold) (clock : Clock) : Type 0 where
@@ -274,8 +272,8 @@ pub record IsKept (begun : DeviceTold) (asked : List DeviceCall) (shown : List D
   pub steps : map (λ m. m.step) run ≡ shown
   pub made : AreMade begun run now
   pub fixed : now.fixed ≡ begun.fixed
-  pub ops : (p : Part) → (part_at p begun).ops ≤ (part_at p now).ops
-  pub times : (p : Part) → AllBy p (part_at p now).ops run
+  pub ops : begun.ops ≤ now.ops
+  pub times : AllBy now.ops run
   pub ends : is_some begun.slots ≡ true → Ties now (known_after (known_of begun) run)
   pub cuts : is_some begun.slots ≡ true → CutsAreAllowed (known_of begun) begun run now clock
 
@@ -285,10 +283,10 @@ begins d clock closed = record {
   steps = refl;
   made = refl;
   fixed = refl;
-  ops = λ p. omega arith;
-  times = λ p. tt;
+  ops = omega arith;
+  times = tt;
   ends = λ tells. record { slots = told d.slots tells; job = none d.stand closed };
-  cuts = λ tells p o m le lt finds n of. absurd (omega arith);
+  cuts = λ tells o m le lt finds n. absurd (omega (arith, le, lt));
 }
   where
     told : (slots : Option (List Slot)) → is_some slots ≡ true → AreKnown d.fixed.numbers slots (known_slots d.fixed.numbers slots)
@@ -308,16 +306,15 @@ goes_on begun calls steps run c s old clock new clock_new kept is_result is_ops 
       steps = map-append (λ (x : Made). x.step) run (m ∷ []) ∙ ap (λ (l : List DeviceStep). l ++ s ∷ []) kept.steps;
       made = made_push begun run m old kept.made (record { makes = made.makes; result = is_result; ops = is_ops });
       fixed = made.fixed ∙ kept.fixed;
-      ops = λ p. omega (arith, kept.ops p, made.lasts.ops p);
-      times = λ p. all_push p (part_at p new).ops run m (omega arith) (all_more p (part_at p old).ops (part_at p new).ops run (made.lasts.ops p) (kept.times p));
+      ops = omega (arith, kept.ops, made.lasts.ops);
+      times = all_push new.ops run m (omega arith) (all_more old.ops new.ops run made.lasts.ops kept.times);
       ends = λ tells. subst (Ties new) (sym (after_push (known_of begun) run m)) (subst (λ (r : JobResult). Ties new (after_call c s.taken r (known_after (known_of begun) run))) (sym is_result) (made.ties (known_after (known_of begun) run) (kept.ends tells)));
-      cuts = λ tells p o map le lt finds n of.
-          let late = by_late p o (known_of begun) run m lt in
-          elim (cases_lt o (part_at p old).ops) [
-            | inl past ↦ subst (λ (e : Known). IsPossible (e.slots n) (map n)) (sym late) (kept.cuts tells p o map le past ((made.lasts.past p).cut o map past finds) n of)
+      cuts = λ tells o map le lt finds n.
+          let late = by_late o (known_of begun) run m lt in
+          elim (cases_lt o old.ops) [
+            | inl past ↦ subst (λ (e : Known). IsPossible (e.slots n) (map n)) (sym late) (kept.cuts tells o map le past (made.lasts.past.cut o map past finds) n)
             | inr now ↦
-                let all = by_all p o (known_of begun) run (all_more p (part_at p old).ops o run now (kept.times p)) in
-                let of_old : (figures_at old.fixed n).part ≡ p = ap (λ (f : Fixed). (figures_at f n).part) kept.fixed ∙ of in
-                subst (λ (e : Known). IsPossible (e.slots n) (map n)) (sym (late ∙ all)) (possible p old old.slots (known_after (known_of begun) run).slots map (kept.ends tells).slots (made.cut p o map now lt finds) n of_old)
+                let all = by_all o (known_of begun) run (all_more old.ops o run now kept.times) in
+                subst (λ (e : Known). IsPossible (e.slots n) (map n)) (sym (late ∙ all)) (possible old old.slots (known_after (known_of begun) run).slots map (kept.ends tells).slots (made.cut o map now lt finds) n)
           ];
     }

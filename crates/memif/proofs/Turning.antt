@@ -5,7 +5,7 @@ use Rattle.memif.specs.declared.answer.DeviceTurn.TheVariants.{Idle, Worked, Off
 use Rattle.memif.specs.declared.answer.DeviceTurn.{DeviceTurn}
 use Rattle.memif.specs.Told.{DeviceTold, PartTold, Slot, Held, Part, First, Second, part_at, with_part, slot_at, Stand, Open, Ended, is_open, is_off, figures_at}
 use Rattle.memif.specs.Marks.{IfTold}
-use Rattle.memif.specs.Clock.{Clock, PartClock, SamePart, SameClock, Past, After, CutIn, Ticks, ArePossible, clock_at}
+use Rattle.memif.specs.Clock.{Clock, SameClock, Past, After, CutIn, ArePossible}
 use Rattle.memif.specs.Calls.{Works, IsCut, Turns, InOrder, JobTurns}
 use Rattle.memif.specs.Trials.{AreSettled, Lasts, IsFaultless}
 use Rattle.std.specs.Prelude.{◌||◌}
@@ -16,58 +16,48 @@ use Rattle.nv_base.specs.Count.{Rose}
 pub none_in : (h : Held) → Contains [] h → ⊥
 none_in h has = absurd (omega (arith, has.1))
 
-settled_at : (p : Part) (d : DeviceTold) (old new : Option (List Slot)) (m : ℕ → Held) → IfTold old new (λ s t. (n : ℕ) → (slot_at d.fixed.numbers t n).doubts ≡ []) → ArePossible p d new m → AreSettled p d new m
-settled_at p d (Some s) (Some t) m clear possible = λ n of. elim (possible n of) [
+settled_at : (d : DeviceTold) (old new : Option (List Slot)) (m : ℕ → Held) → IfTold old new (λ s t. (n : ℕ) → (slot_at d.fixed.numbers t n).doubts ≡ []) → ArePossible d new m → AreSettled d new m
+settled_at d (Some s) (Some t) m clear possible = λ n. elim (possible n) [
   | inl same ↦ same
   | inr has ↦ absurd (none_in (m n) (subst (λ (l : List Held). Contains l (m n)) (clear n) has))
 ]
-settled_at p d (Some s) None m clear possible = absurd clear
-settled_at p d None (Some t) m clear possible = absurd clear
-settled_at p d None None m clear possible = tt
+settled_at d (Some s) None m clear possible = absurd clear
+settled_at d None (Some t) m clear possible = absurd clear
+settled_at d None None m clear possible = tt
 
 pub lasts_more : (a : DeviceTold) (ca : Clock) (b : DeviceTold) (cb : Clock) (c : DeviceTold) (ct : Clock) → Lasts a ca b cb → Lasts b cb c ct → Lasts a ca c ct
 lasts_more a ca b cb c ct one two = record {
-  ops = λ p. omega (arith, one.ops p, two.ops p);
-  past = λ p. record {
-    after = λ k m le finds. (one.past p).after k m le ((two.past p).after k m (omega (arith, le, one.ops p)) finds);
-    cut = λ k m lt finds. (one.past p).cut k m lt ((two.past p).cut k m (omega (arith, lt, one.ops p)) finds);
-    worn = λ k n le is. (two.past p).worn k n (omega (arith, le, one.ops p)) ((one.past p).worn k n le is);
+  ops = omega (arith, one.ops, two.ops);
+  past = record {
+    after = λ k m le finds. one.past.after k m le (two.past.after k m (omega (arith, le, one.ops)) finds);
+    cut = λ k m lt finds. one.past.cut k m lt (two.past.cut k m (omega (arith, lt, one.ops)) finds);
+    worn = λ k n le is. two.past.worn k n (omega (arith, le, one.ops)) (one.past.worn k n le is);
+    of_second = λ k lt.
+        let first = one.past.of_second k lt in
+        let second = two.past.of_second k (omega (arith, lt, one.ops)) in
+        (λ is. first.0 (second.0 is), λ is. second.1 (first.1 is));
   };
 }
 
 pub same_clock : (c : Clock) → SameClock c c
-same_clock c = record { first = same c.first; second = same c.second }
-  where
-    same : (p : PartClock) → SamePart p p
-    same p = record { may_find = λ w m. (λ h. h, λ h. h); off_in = λ k. (λ h. h, λ h. h); worn = λ k n. (λ h. h, λ h. h) }
+same_clock c = record {
+  may_find = λ w m. (λ h. h, λ h. h);
+  off_in = λ k. (λ h. h, λ h. h);
+  worn = λ k n. (λ h. h, λ h. h);
+  of_second = λ k. (λ h. h, λ h. h);
+}
 
-past_same : (ops : ℕ) (old new : PartClock) → SamePart old new → Past ops old new
+pub past_same : (ops : ℕ) (old new : Clock) → SameClock old new → Past ops old new
 past_same ops old new same = record {
   after = λ k m le finds. (same.may_find (After k) m).0 finds;
   cut = λ k m lt finds. (same.may_find (CutIn k) m).0 finds;
   worn = λ k n le is. (same.worn k n).1 is;
+  of_second = λ k lt. same.of_second k;
 }
 
 -- no operation was made, and the clock is as it was
-pub still_lasts : (old : DeviceTold) (clock : Clock) (new : DeviceTold) (clock_new : Clock) → ((p : Part) → (part_at p new).ops ≡ (part_at p old).ops) → SameClock clock clock_new → Lasts old clock new clock_new
-still_lasts old clock new clock_new still same = record { ops = λ p. omega (arith, still p); past = past }
-  where
-    past : (p : Part) → Past (part_at p old).ops (clock_at p clock) (clock_at p clock_new)
-    past First = past_same old.first.ops clock.first clock_new.first same.first
-    past Second = past_same old.second.ops clock.second clock_new.second same.second
-
--- a turn that works on a part
-ticks_last : (p : Part) (answer : DeviceTurn) (old : DeviceTold) (clock : Clock) (new : DeviceTold) (clock_new : Clock) → Ticks p answer old clock new clock_new → ((q : Part) → (part_at q old).ops ≤ (part_at q new).ops) → Lasts old clock new clock_new
-ticks_last First answer old clock new clock_new ticks grows = record { ops = grows; past = past }
-  where
-    past : (p : Part) → Past (part_at p old).ops (clock_at p clock) (clock_at p clock_new)
-    past First = ticks.past
-    past Second = past_same old.second.ops clock.second clock_new.second ticks.other
-ticks_last Second answer old clock new clock_new ticks grows = record { ops = grows; past = past }
-  where
-    past : (p : Part) → Past (part_at p old).ops (clock_at p clock) (clock_at p clock_new)
-    past First = past_same old.first.ops clock.first clock_new.first ticks.other
-    past Second = ticks.past
+pub still_lasts : (old : DeviceTold) (clock : Clock) (new : DeviceTold) (clock_new : Clock) → new.ops ≡ old.ops → SameClock clock clock_new → Lasts old clock new clock_new
+still_lasts old clock new clock_new still same = record { ops = omega (arith, still); past = past_same old.ops clock clock_new same }
 
 -- on both parts, by a turn that works on one or is cut there
 on_parts : (p : Part) (old new : DeviceTold) (P : PartTold → PartTold → Type 0) → ((t : PartTold) → P t t) → P (part_at p old) (part_at p new) → ((q : Part) → part_at q new ≡ part_at q (with_part p (part_at p new) old)) → (q : Part) → P (part_at q old) (part_at q new)
@@ -76,41 +66,29 @@ on_parts First old new P same here rest Second = subst (P old.second) (sym (rest
 on_parts Second old new P same here rest First = subst (P old.first) (sym (rest First)) (same old.first)
 on_parts Second old new P same here rest Second = here
 
-ops_grow : (p : Part) (old new : DeviceTold) → (part_at p old).ops ≤ (part_at p new).ops
-    → ((q : Part) → part_at q new ≡ part_at q (with_part p (part_at p new) old)) → (q : Part) → (part_at q old).ops ≤ (part_at q new).ops
-ops_grow p old new = on_parts p old new (λ a b. a.ops ≤ b.ops) (λ t. omega arith)
-
 works_rest : (p : Part) (old new : DeviceTold) (clock : Clock) → Works p old new clock → (q : Part) → part_at q new ≡ part_at q (with_part p (part_at p new) old)
-works_rest p old new clock works First = ap (λ (d : DeviceTold). d.first) works.only
-works_rest p old new clock works Second = ap (λ (d : DeviceTold). d.second) works.only
-
-cut_rest : (p : Part) (old new : DeviceTold) → IsCut p old new → (q : Part) → part_at q new ≡ part_at q (with_part p (part_at p new) old)
-cut_rest p old new cut First = ap (λ (d : DeviceTold). d.first) cut.only
-cut_rest p old new cut Second = ap (λ (d : DeviceTold). d.second) cut.only
+works_rest First old new clock works First = ap (λ (d : DeviceTold). d.first) works.only
+works_rest First old new clock works Second = ap (λ (d : DeviceTold). d.second) works.only
+works_rest Second old new clock works First = ap (λ (d : DeviceTold). d.first) works.only
+works_rest Second old new clock works Second = ap (λ (d : DeviceTold). d.second) works.only
 
 -- what a cut may leave was possible before the turn
 abbrev pub Leaves : DeviceTold → DeviceTold → Clock → Type 0
-Leaves old new clock = (p : Part) (o : ℕ) (m : ℕ → Held) → (part_at p old).ops ≤ o → o < (part_at p new).ops → (clock_at p clock).may_find (CutIn o) m → ArePossible p old old.slots m
+Leaves old new clock = (o : ℕ) (m : ℕ → Held) → old.ops ≤ o → o < new.ops → clock.may_find (CutIn o) m → ArePossible old old.slots m
 
-pub still_leaves : (old new : DeviceTold) (clock : Clock) → ((p : Part) → (part_at p new).ops ≡ (part_at p old).ops) → Leaves old new clock
-still_leaves old new clock still p o m le lt finds = absurd (omega (arith, still p))
-
-ticks_leave : (p : Part) (answer : DeviceTurn) (old : DeviceTold) (clock : Clock) (new : DeviceTold) (clock_new : Clock) → Ticks p answer old clock new clock_new → ((q : Part) → part_at q new ≡ part_at q (with_part p (part_at p new) old)) → Leaves old new clock_new
-ticks_leave First answer old clock new clock_new ticks rest First o m le lt finds = ticks.cut o m le lt finds
-ticks_leave First answer old clock new clock_new ticks rest Second o m le lt finds = absurd (omega (arith, ap (λ (t : PartTold). t.ops) (rest Second)))
-ticks_leave Second answer old clock new clock_new ticks rest First o m le lt finds = absurd (omega (arith, ap (λ (t : PartTold). t.ops) (rest First)))
-ticks_leave Second answer old clock new clock_new ticks rest Second o m le lt finds = ticks.cut o m le lt finds
+pub still_leaves : (old new : DeviceTold) (clock : Clock) → new.ops ≡ old.ops → Leaves old new clock
+still_leaves old new clock still o m le lt finds = absurd (omega (arith, still, le, lt))
 
 pub turn_lasts : (answer : DeviceTurn) (old : DeviceTold) (clock : Clock) (new : DeviceTold) (clock_new : Clock) → Turns answer old clock new clock_new → Lasts old clock new clock_new × Leaves old new clock_new
-turn_lasts Idle old clock new clock_new turns = (still_lasts old clock new clock_new (λ p. ap (λ (d : DeviceTold). (part_at p d).ops) turns.0.1) turns.0.2, still_leaves old new clock_new (λ p. ap (λ (d : DeviceTold). (part_at p d).ops) turns.0.1))
-turn_lasts Worked old clock new clock_new turns =
-    let rest = works_rest turns.0.1.0 old new clock_new turns.0.1.1 in
-    (ticks_last turns.0.1.0 Worked old clock new clock_new turns.0.1.2 (ops_grow turns.0.1.0 old new turns.0.1.1.part.later rest), ticks_leave turns.0.1.0 Worked old clock new clock_new turns.0.1.2 rest)
+turn_lasts Idle old clock new clock_new turns =
+    let same : new.ops ≡ old.ops = ap (λ (d : DeviceTold). d.ops) turns.0.1 in
+    (still_lasts old clock new clock_new same turns.0.2, still_leaves old new clock_new same)
+turn_lasts Worked old clock new clock_new turns = (record { ops = turns.0.1.1.part.later; past = turns.0.1.2.past }, turns.0.1.2.cut)
 turn_lasts Off old clock new clock_new turns = elim turns.0.1.1 [
-  | inl still ↦ (still_lasts old clock new clock_new (λ p. ap (λ (d : DeviceTold). (part_at p d).ops) still.2) still.3, still_leaves old new clock_new (λ p. ap (λ (d : DeviceTold). (part_at p d).ops) still.2))
-  | inr cut ↦
-      let rest = cut_rest turns.0.1.0 old new cut.0 in
-      (ticks_last turns.0.1.0 Off old clock new clock_new cut.1 (ops_grow turns.0.1.0 old new cut.0.part.later rest), ticks_leave turns.0.1.0 Off old clock new clock_new cut.1 rest)
+  | inl still ↦
+      let same : new.ops ≡ old.ops = ap (λ (d : DeviceTold). d.ops) still.2 in
+      (still_lasts old clock new clock_new same still.3, still_leaves old new clock_new same)
+  | inr cut ↦ (record { ops = cut.0.part.later; past = cut.1.past }, cut.1.cut)
 ]
 
 pub lasts_on : (answer : DeviceTurn) (a : DeviceTold) (ca : Clock) (b : DeviceTold) (cb : Clock) (c : DeviceTold) (ct : Clock) → Lasts a ca b cb → Turns answer b cb c ct → Lasts a ca c ct

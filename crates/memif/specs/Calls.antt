@@ -15,7 +15,7 @@ use Rattle.memif.specs.declared.answer.PlainMark.TheVariants as plain
 use Rattle.memif.specs.declared.answer.StartFault.{StartFault}
 use Rattle.memif.specs.Told.{DeviceTold, PartTold, Part, First, Second, HasPart, Slot, Job, Stand, Open, Ended, Fixed, no_part, part_at, with_part, armed, slot_at, length_of, figures_at, part_of, is_open, nothing_open, most_of, most_open, op_of, IfElse}
 use Rattle.memif.specs.Marks.{KeepsAll, DoubtsAt, Settles, ComesFrom, EachNumber}
-use Rattle.memif.specs.Clock.{Clock, clock_at, SameClock, FindsNow, Ticks}
+use Rattle.memif.specs.Clock.{Clock, SameClock, FindsNow, Ticks}
 
 -- URGENT WRITES
 -- Writes of p pages in all that are ready, started urgent one after another, end with JobOk within p + 2 turns, while no
@@ -170,7 +170,7 @@ EndsAs (Some mark) number result given old new = Writes result number mark old n
 
 -- it failed only where the count of its part rose in this very turn, or, unless it is a read, where it is worn out
 abbrev pub MayFail : Part → Job → DeviceTold → DeviceTold → Clock → Type 0
-MayFail p j old new clock_new = Rose (part_at p old).faults (part_at p new).faults ⊎ ((j.mark ≢ None) × (clock_at p clock_new).worn (part_at p new).ops j.number)
+MayFail p j old new clock_new = Rose (part_at p old).faults (part_at p new).faults ⊎ ((j.mark ≢ None) × clock_new.worn new.ops j.number)
 
 -- A TURN
 -- the turn works on the part of the open job; with none open, on that of the device's own work
@@ -189,37 +189,39 @@ is_read (Open j) = is_none j.mark
 is_read (Ended result given) = false
 
 -- without a cut the plan is one operation nearer, or as it was
-abbrev pub PlanStays : PartTold → PartTold → Type 0
-PlanStays old new = (new.planning ≡ old.planning) ⊎ (Nears old.planning new.planning × (new.ops ≡ next_count old.ops))
+abbrev pub PlanStays : ℕ → ℕ → PartTold → PartTold → Type 0
+PlanStays ops ops_new old new = (new.planning ≡ old.planning) ⊎ (Nears old.planning new.planning × (ops_new ≡ next_count ops))
 
 -- a cut was planned for its operation, or is counted as one without a plan
-abbrev pub PlanCuts : PartTold → PartTold → Type 0
-PlanCuts old new = (Comes old.planning new.planning × (new.ops ≡ next_count old.ops)) ⊎ ComesUnplanned old.planning new.planning
+abbrev pub PlanCuts : ℕ → ℕ → PartTold → PartTold → Type 0
+PlanCuts ops ops_new old new = (Comes old.planning new.planning × (ops_new ≡ next_count ops)) ⊎ ComesUnplanned old.planning new.planning
 
 -- the part that is worked on was on, and is off behind a cut; at most one changing operation
-pub record PartTurns (cut : Bool) (old new : PartTold) : Type 0 where
-  pub only : new ≡ record old { ops = new.ops; faults = new.faults; flash_faults = new.flash_faults; off = cut; planning = new.planning }
+pub record PartTurns (cut : Bool) (ops ops_new : ℕ) (old new : PartTold) : Type 0 where
+  pub only : new ≡ record old { faults = new.faults; flash_faults = new.flash_faults; off = cut; planning = new.planning }
   pub on : old.off ≡ false
-  pub later : old.ops ≤ new.ops
-  pub one : (new.ops ≡ old.ops) ⊎ (new.ops ≡ next_count old.ops)
-  pub plan : IfElse cut (PlanCuts old new) (PlanStays old new)
+  pub later : ops ≤ ops_new
+  pub one : (ops_new ≡ ops) ⊎ (ops_new ≡ next_count ops)
+  pub plan : IfElse cut (PlanCuts ops ops_new old new) (PlanStays ops ops_new old new)
   pub faults : FaultsGrow old new
 
 pub record Works (p : Part) (old new : DeviceTold) (clock_new : Clock) : Type 0 where
-  pub only : new ≡ record (with_part p (part_at p new) old) { slots = new.slots; stand = new.stand; switching = new.switching; left = new.left; ready = new.ready; wait = new.wait }
+  pub only : new ≡ record (with_part p (part_at p new) old) { slots = new.slots; stand = new.stand; switching = new.switching; ops = new.ops; left = new.left; ready = new.ready; wait = new.wait }
+  -- the last start-up answered Ok
+  pub up : old.started ≡ true
   pub of : IsOf p old.fixed old.stand
-  pub part : PartTurns false (part_at p old) (part_at p new)
+  pub part : PartTurns false old.ops new.ops (part_at p old) (part_at p new)
   pub job : JobTurns p old.stand new.stand old new clock_new
   -- a turn of a read makes no changing operation, and leaves every number's slot as it was
-  pub read : is_read old.stand ≡ true → ((part_at p new).ops ≡ (part_at p old).ops) × (new.slots ≡ old.slots)
+  pub read : is_read old.stand ≡ true → (new.ops ≡ old.ops) × (new.slots ≡ old.slots)
   pub nearer : (new.left < old.left) ⊎ Rose (part_at p old).faults (part_at p new).faults
   pub ready : TurnsReady old new
 
 -- a cut comes: no job ends in it, and it is no turn of a read
 pub record IsCut (p : Part) (old new : DeviceTold) : Type 0 where
-  pub only : new ≡ record (with_part p (part_at p new) old) { slots = new.slots; switching = new.switching; left = new.left; ready = new.ready; wait = new.wait }
+  pub only : new ≡ record (with_part p (part_at p new) old) { slots = new.slots; switching = new.switching; ops = new.ops; left = new.left; ready = new.ready; wait = new.wait }
   pub of : IsOf p old.fixed old.stand
-  pub part : PartTurns true (part_at p old) (part_at p new)
+  pub part : PartTurns true old.ops new.ops (part_at p old) (part_at p new)
   pub no_read : is_read old.stand ≡ false
   pub marks : KeepsAll old new
 

@@ -23,6 +23,7 @@ plain_store numbers = record {
   started = false;
   stand = Ended JobOk [];
   switching = false;
+  ops = 0;
   first = no_part;
   second = no_part;
   left = 0;
@@ -32,7 +33,7 @@ plain_store numbers = record {
 
 -- it has no operation of a flash to tell of
 abbrev pub no_clock : Clock
-no_clock = record { first = untold; second = untold }
+no_clock = untold
 
 -- a turn ends the job that is open, without a fault or a cut
 pub record IsPlainTurn (answer : DeviceTurn) (old new : DeviceTold) : Type 0 where

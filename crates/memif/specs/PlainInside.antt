@@ -1,5 +1,5 @@
 -- The fields of a device in memory.
-use Rattle.std.specs.Prelude.{◌≡◌, ◌≢◌, ◌<◌, ℕ, Bool, false, if◌then◌else◌, List, [], ◌∷◌, map, length, slice_get, Option, Some, None, is_some}
+use Rattle.std.specs.Prelude.{◌≡◌, ◌≢◌, ◌<◌, ℕ, Bool, true, false, if◌then◌else◌, List, [], ◌∷◌, map, length, slice_get, Option, Some, None, is_some}
 use Rattle.nv_base.specs.declared.instance.DeviceNumber.{DeviceNumber}
 use Rattle.nv_base.specs.declared.mark.Mark.{Mark}
 use Rattle.nv_base.specs.declared.mark.Mark.TheVariants as mark
@@ -11,18 +11,18 @@ use Rattle.memif.specs.declared.kept.Cell.{Cell}
 use Rattle.memif.specs.declared.kept.Kept.{Kept}
 use Rattle.memif.specs.declared.plain_store.PlainJob.{PlainJob}
 use Rattle.memif.specs.declared.plain_store.PlainStore.TheInside.{Inside}
-use Rattle.memif.specs.Told.{DeviceTold, Slot, Held, Job, Stand, Open, Ended}
+use Rattle.memif.specs.Told.{DeviceTold, Slot, Held, held_next, Job, Stand, Open, Ended}
 use Rattle.memif.specs.Plain.{plain_store}
 
 -- a mark of a kind, with these bytes if it is a content
 abbrev pub mark_of : Cell → Mark
 mark_of c = elim c.kind [ plain.Content ↦ mark.Content c.content | plain.Invalid ↦ mark.Invalid | plain.Erased ↦ mark.Erased ]
 
-abbrev pub held_of : Cell → Held
-held_of c = record { mark = mark_of c }
+abbrev pub held_of : Kept → Held
+held_of k = record { mark = mark_of k.settled; count = k.count }
 
 abbrev pub slot_of : Kept → Slot
-slot_of k = record { settled = held_of k.settled; doubts = if k.doubted then held_of k.next ∷ [] else [] }
+slot_of k = record { settled = held_of k; doubts = if k.doubted then held_next (mark_of k.next) (held_of k) ∷ [] else [] }
 
 -- what was staged last
 abbrev pub next_of : Option Kept → Mark
@@ -89,12 +89,13 @@ GivesBehind (Some j) (Some place) = ⊥
 GivesBehind (Some j) None = Unit {0}
 GivesBehind None given = Unit {0}
 
-pub record IsSoundWith (numbers : List (DeviceNumber × ℕ)) (kept : List Kept) (job : Option PlainJob) (last : JobResult) (given : Option ℕ) : Type 0 where
+pub record IsSoundWith (numbers : List (DeviceNumber × ℕ)) (kept : List Kept) (started : Bool) (job : Option PlainJob) (last : JobResult) (given : Option ℕ) : Type 0 where
   pub room : AreKept numbers kept
   pub at : IsSoundJob numbers job
   pub gives : IsSoundGiven numbers given
   pub behind : GivesBehind job given
   pub ended : last ≢ JobPending
+  pub up : is_some job ≡ true → started ≡ true
 
 abbrev pub IsSound : Inside → Type 0
-IsSound p = IsSoundWith p.numbers p.kept.items p.job p.last p.given
+IsSound p = IsSoundWith p.numbers p.kept.items p.started p.job p.last p.given

@@ -11,9 +11,9 @@ use Rattle.memif.specs.declared.answer.JobResult.TheVariants.{JobOk, JobPending}
 use Rattle.memif.specs.declared.run.DeviceCall.{DeviceCall}
 use Rattle.memif.specs.declared.run.DeviceCall.TheVariants as call
 use Rattle.memif.specs.declared.run.DeviceStep.{DeviceStep}
-use Rattle.memif.specs.Told.{DeviceTold, Slot, Held, Job, Part, Stand, Open, Ended, held_next, no_slot, slot_at, part_at, figures_at, ops_of, is_open, is_off, is_urgent, nothing_open, result_of}
+use Rattle.memif.specs.Told.{DeviceTold, Slot, Held, Job, Part, Stand, Open, Ended, held_next, no_slot, slot_at, part_at, ops_of, is_open, is_off, is_urgent, nothing_open, result_of}
 use Rattle.memif.specs.Marks.{IsPossible, Keeps}
-use Rattle.memif.specs.Clock.{Clock, CutIn, ArePossible, clock_at}
+use Rattle.memif.specs.Clock.{Clock, CutIn, ArePossible}
 use Rattle.memif.specs.Calls.{Wish, refusal_of}
 use Rattle.memif.specs.Trials.{Lasts}
 
@@ -75,10 +75,10 @@ abbrev pub known_after : Known → List Made → Known
 known_after k [] = k
 known_after k (m ∷ ms) = known_after (after_call m.call m.step.taken m.step.result k) ms
 
--- what was known as a changing operation of a part, by its number from 0, was asked for: after the calls that end before it
-abbrev pub known_by : Part → ℕ → Known → List Made → Known
-known_by p o k [] = k
-known_by p o k (m ∷ ms) = if nat_le (part_at p m.device).ops o then known_by p o (after_call m.call m.step.taken m.step.result k) ms else k
+-- what was known as a changing operation, by its number from 0, was asked for: after the calls that end before it
+abbrev pub known_by : ℕ → Known → List Made → Known
+known_by o k [] = k
+known_by o k (m ∷ ms) = if nat_le m.device.ops o then known_by o (after_call m.call m.step.taken m.step.result k) ms else k
 
 -- THE THEOREM
 abbrev pub known_slots : List (DeviceNumber × ℕ) → Option (List Slot) → ℕ → Slot
@@ -102,11 +102,11 @@ pub record Ties (d : DeviceTold) (k : Known) : Type 0 where
   pub slots : AreKnown d.fixed.numbers d.slots k.slots
   pub job : open_job d.stand ≡ k.job
 
--- whatever map a start-up may find after a cut at any operation of the run, each number of the part has in it what was
+-- whatever map a start-up may find after a cut at any operation of the run, each number has in it what was
 -- settled then, or what a job may have left since
 abbrev pub CutsAreAllowed : Known → DeviceTold → List Made → DeviceTold → Clock → Type 0
-CutsAreAllowed k old run new clock = (p : Part) (o : ℕ) (m : ℕ → Held) → (part_at p old).ops ≤ o → o < (part_at p new).ops → (clock_at p clock).may_find (CutIn o) m
-    → (n : ℕ) → (figures_at old.fixed n).part ≡ p → IsPossible ((known_by p o k run).slots n) (m n)
+CutsAreAllowed k old run new clock = (o : ℕ) (m : ℕ → Held) → old.ops ≤ o → o < new.ops → clock.may_find (CutIn o) m
+    → (n : ℕ) → IsPossible ((known_by o k run).slots n) (m n)
 
 -- THE CALLS
 abbrev pub TurnMade : DeviceTurn → DeviceTold → DeviceTold → Type 0
@@ -162,9 +162,9 @@ pub record IsCallMade (c : DeviceCall) (taken : Bool) (old : DeviceTold) (clock 
   pub ties : (k : Known) → Ties old k → Ties new (after_call c taken (result_of new.stand) k)
   pub urgent : (before : Bool) → IsUrgentKnown before old.stand → IsUrgentKnown (urgent_after c taken before) new.stand
   pub lasts : Lasts old clock new clock_new
-  pub cut : (p : Part) (o : ℕ) (m : ℕ → Held) → (part_at p old).ops ≤ o → o < (part_at p new).ops → (clock_at p clock_new).may_find (CutIn o) m → ArePossible p old old.slots m
+  pub cut : (o : ℕ) (m : ℕ → Held) → old.ops ≤ o → o < new.ops → clock_new.may_find (CutIn o) m → ArePossible old old.slots m
 
--- no call was behind so many operations of a part
-abbrev pub AllBy : Part → ℕ → List Made → Type 0
-AllBy p o [] = Unit {0}
-AllBy p o (m ∷ ms) = ((part_at p m.device).ops ≤ o) × AllBy p o ms
+-- no call was behind so many operations
+abbrev pub AllBy : ℕ → List Made → Type 0
+AllBy o [] = Unit {0}
+AllBy o (m ∷ ms) = (m.device.ops ≤ o) × AllBy o ms

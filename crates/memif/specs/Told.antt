@@ -1,5 +1,6 @@
 -- What is told of a memory device.
-use Rattle.std.specs.Prelude.{◌≡◌, ◌==◌, ◌+◌, ◌&&◌, ◌||◌, ℕ, Bool, true, false, not, min, if◌then◌else◌, List, [], ◌∷◌, Option, Some, None, is_some}
+use Rattle.std.specs.Prelude.{◌≡◌, ◌==◌, ◌+◌, ◌*◌, ◌&&◌, ◌||◌, ℕ, Bool, true, false, not, min, if◌then◌else◌, List, [], ◌∷◌, Option, Some, None, is_some}
+pub use Rattle.nv_base.specs.Held.{Held, more_writes, held_next, never_written}
 use Rattle.nv_base.specs.declared.instance.DeviceNumber.{DeviceNumber}
 use Rattle.nv_base.specs.declared.mark.Mark.{Mark}
 use Rattle.nv_base.specs.declared.mark.Mark.TheVariants.{Content, Invalid, Erased}
@@ -40,14 +41,6 @@ pub record Fixed : Type 0 where
   pub two : Bool
 
 -- WHAT CHANGES
--- what a number holds; a field more of what is stored with a mark would stand here, and no clause would change
-pub record Held : Type 0 where
-  pub mark : Mark
-
--- what it holds once this mark is settled, behind what it held before
-abbrev pub held_next : Mark → Held → Held
-held_next mark before = record { mark = mark }
-
 -- of one number: what it holds for certain, and what a start-up may find beside it
 pub record Slot : Type 0 where
   pub settled : Held
@@ -66,8 +59,6 @@ pub data Stand : Type 0 where
 
 -- what each part has of its own
 pub record PartTold : Type 0 where
-  -- the changing operations of its flash that were asked for
-  pub ops : ℕ
   -- its faults, and those that its flash counts
   pub faults : ℕ
   pub flash_faults : ℕ
@@ -85,6 +76,8 @@ pub record DeviceTold : Type 0 where
   pub stand : Stand
   -- it is at work of its own, behind or beside the jobs
   pub switching : Bool
+  -- the changing operations that were asked for, of both parts
+  pub ops : ℕ
   pub first : PartTold
   pub second : PartTold
   -- the turns that the open work takes, where no fault comes
@@ -100,6 +93,11 @@ abbrev pub HasPart : Fixed → Part → Type 0
 HasPart f First = Unit {0}
 HasPart f Second = f.two ≡ true
 
+abbrev pub is_part : Part → Part → Bool
+is_part First First = true
+is_part Second Second = true
+is_part p q = false
+
 abbrev pub part_at : Part → DeviceTold → PartTold
 part_at First d = d.first
 part_at Second d = d.second
@@ -108,14 +106,15 @@ abbrev pub with_part : Part → PartTold → DeviceTold → DeviceTold
 with_part First p d = record d { first = p }
 with_part Second p d = record d { second = p }
 
--- a part that has no flash: no operation, no fault, no cut, and it takes no plan
+-- a part that has no flash: no fault, no cut, and it takes no plan
 abbrev pub no_part : PartTold
-no_part = record { ops = 0; faults = 0; flash_faults = 0; off = false; planning = no_planning }
+no_part = record { faults = 0; flash_faults = 0; off = false; planning = no_planning }
 
--- the counts of the device are the sums of its parts', and stand still at their end
+-- its operations, which stand still at the end of the count
 abbrev pub ops_of : DeviceTold → ℕ
-ops_of d = min (d.first.ops + d.second.ops) last_count
+ops_of d = d.ops
 
+-- its faults are the sum of its parts', and stand still at their end
 abbrev pub faults_of : DeviceTold → ℕ
 faults_of d = min (d.first.faults + d.second.faults) last_count
 
@@ -142,9 +141,9 @@ abbrev pub length_of : List (DeviceNumber × ℕ) → ℕ → Option ℕ
 length_of [] n = None
 length_of (x ∷ xs) n = if x.0.0 == n then Some x.1 else length_of xs n
 
--- a number that isn't configured is erased, with no doubt
+-- a number that isn't configured was never written, and has no doubt
 abbrev pub no_slot : Slot
-no_slot = record { settled = record { mark = Erased }; doubts = [] }
+no_slot = record { settled = never_written; doubts = [] }
 
 abbrev pub slot_at : List (DeviceNumber × ℕ) → List Slot → ℕ → Slot
 slot_at numbers slots n = at_number no_slot numbers slots n
@@ -154,6 +153,10 @@ no_figures = record { part = First; pages = 0; read = 0; write = 0; invalidate =
 
 abbrev pub figures_at : Fixed → ℕ → Figures
 figures_at f n = at_number no_figures f.numbers f.figures n
+
+-- the part of a block is that of its first number
+abbrev pub part_of_block : Fixed → ℕ → Part
+part_of_block f block = (figures_at f (block * 64)).part
 
 -- the part of a job is that of its number
 abbrev pub part_of : Fixed → Job → Part

@@ -6,7 +6,7 @@ use Rattle.memif.specs.declared.answer.JobResult.{JobResult}
 use Rattle.memif.specs.declared.answer.JobResult.TheVariants.{JobOk, JobFailed, JobPending}
 use Rattle.memif.specs.declared.run.DeviceCall.{DeviceCall}
 use Rattle.memif.specs.declared.run.DeviceCall.TheVariants as call
-use Rattle.memif.specs.Told.{DeviceTold, Slot, Held, Job, Open, Ended, no_part}
+use Rattle.memif.specs.Told.{DeviceTold, Slot, Held, Job, Open, Ended, Second, no_part, no_figures}
 use Rattle.memif.specs.Clock.{When, After, CutIn, Clock, untold}
 use Rattle.memif.specs.Plain.{plain_store}
 use Rattle.memif.specs.Run.{Made, Known, known_of}
@@ -16,10 +16,10 @@ one_number = (record { 0 = 128 }, 2) ∷ []
 
 -- a content that stands, and one that a job took
 abbrev pub old_content : Held
-old_content = record { mark = Content (1 ∷ 2 ∷ []) }
+old_content = record { mark = Content (1 ∷ 2 ∷ []); count = 6 }
 
 abbrev pub new_content : Held
-new_content = record { mark = Content (3 ∷ 4 ∷ []) }
+new_content = record { mark = Content (3 ∷ 4 ∷ []); count = 7 }
 
 abbrev pub doubtful : Slot
 doubtful = record { settled = old_content; doubts = new_content ∷ [] }
@@ -51,17 +51,29 @@ after_failure = record (at_rest doubtful) { stand = Ended JobFailed [] }
 abbrev pub faulty : DeviceTold → DeviceTold
 faulty d = record d { first = record no_part { faults = 1; flash_faults = 1 } }
 
+-- a power cut is planned for the operation that comes next, with none of its bytes done
+abbrev pub planned : DeviceTold → DeviceTold
+planned d = record d { first = record no_part { planning = record { plan = Some (record { left = 1; keep = 0 }); takes = 0; unplanned = 0 } } }
+
+-- the power is off, and no plan stands
+abbrev pub without_power : DeviceTold → DeviceTold
+without_power d = record d { first = record no_part { off = true } }
+
+-- a device of two parts, whose number is of the second one
+abbrev pub of_two : DeviceTold → DeviceTold
+of_two d = record d { fixed = record d.fixed { figures = record no_figures { part = Second } ∷ []; two = true } }
+
 -- a clock of a flash without operations, on which the old content stands
 abbrev pub finds_old : When → (ℕ → Held) → Type 0
 finds_old (After k) m = (n : ℕ) → m n ≡ old_content
 finds_old (CutIn k) m = ⊥
 
 abbrev pub old_stands : Clock
-old_stands = record { first = record untold { may_find = finds_old }; second = untold }
+old_stands = record untold { may_find = finds_old }
 
 -- a run of a write of two operations
 abbrev pub behind : ℕ → DeviceTold
-behind ops = record (at_rest doubtful) { first = record no_part { ops = ops } }
+behind ops = record (at_rest doubtful) { ops = ops }
 
 abbrev pub made : DeviceCall → Bool → JobResult → ℕ → Made
 made c taken result ops = record { call = c; step = record { taken = taken; result = result; ops = ops }; device = behind ops }

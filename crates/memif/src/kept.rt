@@ -15,10 +15,11 @@ pub(crate) struct Cell {
     pub content: Bytes,
 }
 
-/// The settled mark, and the mark that a job took last, which is a doubt until it is settled.
+/// The settled mark with the count of writes, and the mark that a job took last, which is a doubt until it is settled.
 #[derive(Drop)]
 pub(crate) struct Kept {
     pub settled: Cell,
+    pub count: u32,
     pub next: Cell,
     pub doubted: bool,
 }
@@ -44,6 +45,7 @@ pub(crate) fn room_for(
     for number in numbers {
         list.push(Kept {
             settled: erased_cell(alloc, number.1)?,
+            count: 0,
             next: erased_cell(alloc, number.1)?,
             doubted: false,
         })?;
@@ -81,6 +83,7 @@ pub(crate) fn settle(kept: &mut Vec<Kept>, place: usize)
 {
     let one = &mut kept[place];
     one.settled.kind = one.next.kind;
+    one.count = one.count.saturating_add(1);
     one.settled
         .content
         .copy_from_slice(one.next.content.as_slice());

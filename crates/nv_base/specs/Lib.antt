@@ -3,6 +3,7 @@ pub mod Count
 pub mod Decimal
 pub mod Entry
 pub mod Geometry
+pub mod Held
 pub mod History
 pub mod Laws
 pub mod Lengths

@@ -1,25 +1,28 @@
 -- The stack over a flash: what it is behind its first start-up, and what its flash comes back with.
 use Rattle.std.specs.Prelude.{IfSome, IfOk, IsSome, slice_get, option_map, unwrap_or, replicate, min, ◌-◌}
-use Rattle.std.proofs.Common.{◌≡◌, ◌≢◌, ◌<◌, ◌≤◌, ◌+◌, ◌⊎◌, ◌==◌, ℕ, zero, suc, Bool, true, false, IsTrue, List, [], ◌∷◌, ◌++◌, Option, Some, None, Result, Ok, Err, length, map, if◌then◌else◌, refl, sym, ap, ◌∙◌, subst, inl, inr, arith}
+use Rattle.std.proofs.Common.{◌≡◌, ◌≢◌, ◌<◌, ◌≤◌, ◌+◌, ◌*◌, ◌⊎◌, ◌==◌, ℕ, zero, suc, Bool, true, false, IsTrue, List, [], ◌∷◌, ◌++◌, Option, Some, None, Result, Ok, Err, length, map, if◌then◌else◌, refl, sym, ap, ◌∙◌, subst, inl, inr, arith}
 use Rattle.std.proofs.lemmas.Bool.{cases_Bool}
 use Rattle.std.proofs.lemmas.Bool.Decides.{leb_tells}
 use Rattle.std.proofs.Math.Nat.{eq-or-lt_of_le}
 use Rattle.nv_base.specs.Count.{last_count, Rose, WereCounted}
 use Rattle.nv_base.specs.Geometry.{size_of}
+use Rattle.nv_base.specs.Marks.{instance_of}
 use Rattle.nv_base.specs.declared.geometry.Geometry.{Geometry}
 use Rattle.block_config.specs.Config.{Configuration}
 use Rattle.block_config.specs.Rules.{IsLegalConfig}
 use Rattle.block_machine.specs.Words.{Entry, Found}
 use Rattle.block_machine.specs.State.{State, Job}
 use Rattle.block_machine.specs.Steps.{after}
-use Rattle.memif.specs.Told.{PartTold, Fixed, First, ops_of}
+use Rattle.memif.specs.Told.{Part, PartTold, DeviceTold, Fixed, First, Second, ops_of, figures_at, part_at as at_part}
 use Rattle.memif.specs.Calls.{InOrder}
+use Rattle.memif.specs.Clock.{Clock}
 use Rattle.fls_model.specs.Told.{Told, ToldBytes, Change, IfBothTold, bytes_now}
 use Rattle.fls_devices.specs.Cutter.{cutting, told_cutting}
 use Rattle.fee_image.specs.Laws.{SoundImagesCompute}
-use Rattle.device_bridge.specs.Bridge.{Making, Bridges}
+use Rattle.device_bridge.specs.Making.{Making, banks_of}
+use Rattle.device_bridge.specs.Bridge.{Bridges}
 use Rattle.device_bridge.specs.FlashRun.{AreSeen}
-use Rattle.device_bridge.specs.Image.{two_banks, attached}
+use Rattle.device_bridge.specs.Image.{attached}
 use Rattle.device_clock.specs.Device.{Device, told_of, is_told_sound, tells, slots_told}
 use Rattle.device_clock.specs.Clock.{clock_of, off_in_of}
 use Rattle.fee_core.specs.Tells.{told_clock}
@@ -49,7 +52,7 @@ use Rattle.turn_figures.specs.Left.{most_turns}
 use Rattle.flash_stacks.specs.Turns.{fixed_by}
 use Rattle.flash_stacks.specs.Made.{IsOrigin, IsMadeStack, AreOfFirst, ComesBack, IsBack}
 use Rattle.nvm_top.specs.Machine.{IsStarted, StartsWell, StopsAtStart, Vouches}
-use Rattle.nvm_top.specs.Machine.{run_of}
+use Rattle.nvm_top.specs.Machine.{run_of, one_part}
 use Rattle.nvm_top.specs.Play.{IsWrongSize}
 use Rattle.nvm_top.specs.Stack.{stop_of_make}
 use Rattle.nvm_top.specs.declared.stop.Stop.{Stop}
@@ -86,26 +89,29 @@ none_off k [] none x at = cc at
 none_off k (y ∷ ys) none x at = cc none
 
 -- before it the empty history keeps all
-pub fresh_down : (d : Device) (c : Configuration) (inner : Told) (cuts : ℕ) (making : Making) (entry : Told) (most : ℕ) → BeginsKept (told_of d) (told_clock d).first → InOrder (told_of d) (told_clock d) → IsOrigin c inner cuts making entry → IsLegalConfig c
-    → IsMadeOf making entry d → AreOfFirst d → Keeps c most [] (part_at entry) (down (told_of d)) (told_clock d).first
+pub fresh_down : (d : Device) (c : Configuration) (inner : Told) (cuts : ℕ) (making : Making) (entry : Told) (most : ℕ) → BeginsKept (told_of d) (told_clock d) → InOrder (told_of d) (told_clock d) → IsOrigin c inner cuts making entry → IsLegalConfig c
+    → IsMadeOf making entry d → AreOfFirst d → Keeps c most [] (one_part (part_at entry)) (down (told_of d)) (told_clock d)
 fresh_down d c inner cuts making entry most begins order origin legal made parts =
-    subst (λ (p : PartTold). Keeps c most [] p (down (told_of d)) (told_clock d).first) made.part
-    (subst (λ (x : _). Keeps c most [] (told_of d).first x (told_clock d).first) (ap (λ b. record (told_of d) { started = b }) made.started)
-    (begins c most
-    (record { rules = legal; numbers = ap (λ m. m.numbers) (made.making ∙ origin.made_for); one = refl; second = refl; parts = parts })
-    (record { ops = ap (λ p. p.ops) made.part; on = λ k off. never k off.0 off.1; finds = λ held finds. order.now First held finds })))
+    subst (λ (x : DeviceTold). Keeps c most [] (one_part (part_at entry)) x (told_clock d)) (ap (λ b. record (told_of d) { started = b }) made.started)
+    (begins c most (one_part (part_at entry)) same
+    (record { rules = legal; numbers = ap (λ m. m.numbers) (made.making ∙ origin.made_for); parts = λ x has. parts x.0.0 ∙ sym (parts ((instance_of x.0).block * 64)) })
+    (record { ops = made.ops; on = λ k off. never k off.0 off.1; finds = λ held finds. order.now held finds }))
   where
     never : (k : ℕ) → k < last_count → off_in_of d k → ⊥
     never k small (inl full) = absurd (omega (arith, small, full))
     never k small (inr (x, at, is)) = none_off k d.operations made.made.operations x at
 
-pub begins_up : (c : Configuration) (making : Making) (entry : Told) (m s : StackState Device (List PlainBlock)) → IsMadeStack m.desk.config making entry m → BeginsKept (told_of m.device) (told_clock m.device).first → InOrder (told_of m.device) (told_clock m.device)
-    → StartsUp told_of m s → StartsKeep found.Ready m.desk (told_of m.device) (told_clock m.device).first s.desk (told_of s.device) (told_clock s.device).first
-    → (inner : Told) (cuts : ℕ) → m.desk.config ≡ c → IsLegalConfig c → IsOrigin c inner cuts making entry → IsSome (told_of m.device).slots → StackKeeps (part_at entry) s.desk None (told_of s.device) (told_clock s.device).first
+    same : (p : Part) → (one_part (part_at entry) p).faults ≡ (at_part p (told_of d)).faults
+    same First = sym (ap (λ p. p.faults) made.part)
+    same Second = refl
+
+pub begins_up : (c : Configuration) (making : Making) (entry : Told) (m s : StackState Device (List PlainBlock)) → IsMadeStack m.desk.config making entry m → BeginsKept (told_of m.device) (told_clock m.device) → InOrder (told_of m.device) (told_clock m.device)
+    → StartsUp told_of m s → StartsKeep found.Ready m.desk (told_of m.device) (told_clock m.device) s.desk (told_of s.device) (told_clock s.device)
+    → (inner : Told) (cuts : ℕ) → m.desk.config ≡ c → IsLegalConfig c → IsOrigin c inner cuts making entry → IsSome (told_of m.device).slots → StackKeeps (one_part (part_at entry)) s.desk None (told_of s.device) (told_clock s.device)
 begins_up c making entry m s made begins order starts keeps inner cuts same legal origin slots =
-    keeps (part_at entry) slots (inr (ap (λ p. p.ops) starts.finds.up.restarted.first.only ∙ ap (λ p. p.ops) made.device.part))
-    (subst (λ (h : List Entry). Keeps m.desk.config m.desk.cap h (part_at entry) (down (told_of m.device)) (told_clock m.device).first) (sym (ap (λ x. x.desk.entries) made.only))
-    (subst (λ (x : Configuration). Keeps x m.desk.cap [] (part_at entry) (down (told_of m.device)) (told_clock m.device).first) (sym same)
+    keeps (one_part (part_at entry)) slots (inr (starts.finds.up.restarted.ops ∙ made.device.ops))
+    (subst (λ (h : List Entry). Keeps m.desk.config m.desk.cap h (one_part (part_at entry)) (down (told_of m.device)) (told_clock m.device)) (sym (ap (λ x. x.desk.entries) made.only))
+    (subst (λ (x : Configuration). Keeps x m.desk.cap [] (one_part (part_at entry)) (down (told_of m.device)) (told_clock m.device)) (sym same)
     (fresh_down m.device c inner cuts making entry m.desk.cap begins order origin legal made.device made.parts)))
 
 -- WHERE THE FLASH TELLS ITS BYTES
@@ -125,9 +131,9 @@ some_slots d image last told bytes = rw (told, bytes) refl
 pub tells_slots : SoundImagesCompute → (c : Configuration) (inner : Told) (cuts : ℕ) (making : Making) (entry : Told) (d : Device) → IsOrigin c inner cuts making entry → IsMadeOf making entry d → StartsWell c inner → IsSome (told_of d).slots
 tells_slots sounds c inner cuts making entry d origin made well =
     let bytes : bytes_now d.entry ≡ Some well.first = ap bytes_now (made.told_entry ∙ origin.over) ∙ now_told inner.bytes _ ∙ well.bytes in
-    let geometry : d.making.geometry ≡ c.geometry = ap (λ m. m.geometry) (made.making ∙ origin.made_for) in
-    let sound : is_told_sound c.geometry (Some well.first) ≡ true = (sounds (two_banks c.geometry) (attached c.geometry well.first)).1 well.sound in
-    let told : tells d ≡ true = ap (λ o. is_told_sound d.making.geometry o) bytes ∙ ap (λ g. is_told_sound g (Some well.first)) geometry ∙ sound in
+    let made_for : d.making ≡ making_of c = made.making ∙ origin.made_for in
+    let sound : is_told_sound (making_of c) (Some well.first) ≡ true = (sounds (banks_of (making_of c)) (attached c.geometry well.first)).1 well.sound in
+    let told : tells d ≡ true = ap (λ o. is_told_sound d.making o) bytes ∙ ap (λ m. is_told_sound m (Some well.first)) made_for ∙ sound in
     let (last, out) = both_some d.entry.bytes d.flash.bytes _ well.first made.made.attaches.bytes bytes in
     some_slots d well.first last told out
 
@@ -196,18 +202,32 @@ started c inner cuts making entry m s origin made starts = record {
     part : (told_of m.device).first ≡ part_at (told_cutting (cutting inner cuts))
     part = made.device.part ∙ ap part_at origin.over
 
-pub kept_up : (before : PartTold) (m s t : StackState Device (List PlainBlock)) → t ≡ s → StartsUp told_of m s → StackKeeps before s.desk None (told_of s.device) (told_clock s.device).first
-    → IsKept t.ready before t.desk t.hand (told_of t.device) (told_clock t.device).first
+pub kept_up : (before : Part → PartTold) (m s t : StackState Device (List PlainBlock)) → t ≡ s → StartsUp told_of m s → StackKeeps before s.desk None (told_of s.device) (told_clock s.device)
+    → IsKept t.ready before t.desk t.hand (told_of t.device) (told_clock t.device)
 kept_up before m s t same starts keeps =
-    subst (λ (x : StackState Device (List PlainBlock)). IsKept x.ready before x.desk x.hand (told_of x.device) (told_clock x.device).first) (sym same)
-    (subst (λ (b : Bool). IsKept b before s.desk s.hand (told_of s.device) (told_clock s.device).first) (sym (ap (λ x. x.ready) starts.only))
-    (subst (λ (h : Option HandState). StackKeeps before s.desk h (told_of s.device) (told_clock s.device).first) (sym (ap (λ x. x.hand) starts.only)) keeps))
+    subst (λ (x : StackState Device (List PlainBlock)). IsKept x.ready before x.desk x.hand (told_of x.device) (told_clock x.device)) (sym same)
+    (subst (λ (b : Bool). IsKept b before s.desk s.hand (told_of s.device) (told_clock s.device)) (sym (ap (λ x. x.ready) starts.only))
+    (subst (λ (h : Option HandState). StackKeeps before s.desk h (told_of s.device) (told_clock s.device)) (sym (ap (λ x. x.hand) starts.only)) keeps))
 
 -- ITS END
 
-over_of : (b : Bool) (before : PartTold) (desk : DeskState) (hand : Option HandState) (d : Device) → IsKept b before desk hand (told_of d) (told_clock d).first → KeepsOver desk.config desk.cap desk.entries before (told_of d).first (told_clock d).first
+-- what a history keeps doesn't look at whether the device is started
+up_over : (c : Configuration) (most : ℕ) (h : List Entry) (before : Part → PartTold) (d : DeviceTold) (clock : Clock) → KeepsOver c most h before (down d) clock → KeepsOver c most h before d clock
+up_over c most h before d clock over = record {
+  cut = over.cut;
+  found = over.found;
+  counts = over.counts;
+  at_end = over.at_end;
+  legal = over.legal;
+  paid = elim [ First ↦ over.paid First | Second ↦ over.paid Second ];
+  begins = over.begins;
+  counted = over.counted;
+  off = over.off;
+}
+
+over_of : (b : Bool) (before : Part → PartTold) (desk : DeskState) (hand : Option HandState) (d : Device) → IsKept b before desk hand (told_of d) (told_clock d) → KeepsOver desk.config desk.cap desk.entries before (told_of d) (told_clock d)
 over_of true before desk hand d keeps = keeps.keeps.over
-over_of false before desk hand d keeps = keeps.keeps.over
+over_of false before desk hand d keeps = up_over desk.config desk.cap desk.entries before (told_of d) (told_clock d) keeps.keeps.over
 
 seen_more : (kept other : ℕ → Type 0) (k : ℕ) (last : List ℕ) (xs ys : List Change) → ((n : ℕ) → kept n → other n) → AreSeen kept k last xs ys → AreSeen other k last xs ys
 seen_more kept other k last [] ys more seen = seen
@@ -216,8 +236,8 @@ seen_more kept other k last (x ∷ xs) (y ∷ ys) more (inl (place, same, rest))
 seen_more kept other k last (x ∷ xs) (y ∷ ys) more (inr ((is, same), rest)) = inr ((more k is, same), seen_more kept other (k + 1) last xs (y ∷ ys) more rest)
 
 -- what the device told of its operations, by the clock that it tells
-told_bridge : (m : Making) (inner exit : Told) (operations : List Change) (before : PartTold) (d : Device) → Bridges m true (record { entry = inner; exit = exit; operations = operations }) before (told_of d).first (clock_of d).first
-    → Bridges m true (record { entry = inner; exit = exit; operations = operations }) before (told_of d).first (beyond_end (told_clock d).first)
+told_bridge : (m : Making) (inner exit : Told) (operations : List Change) (before : PartTold) (d : Device) → Bridges m true (record { entry = inner; exit = exit; operations = operations }) before (told_of d) (clock_of d)
+    → Bridges m true (record { entry = inner; exit = exit; operations = operations }) before (told_of d) (beyond_end (told_clock d))
 told_bridge m inner exit operations before d b = record {
   after = b.after;
   cut = b.cut;
@@ -245,32 +265,36 @@ once : (f n : ℕ) → n ≡ min (f + 0) last_count → Rose 0 n → WereCounted
 once f n is (inl more) = inl (omega (arith, is, more))
 once f n is (inr (full, stays)) = absurd (omega (arith, full))
 
-pub vouched : (c : Configuration) (inner : Told) (cuts : ℕ) (making : Making) (entry exit : Told) (s : StackState Device (List PlainBlock)) (e : Device) → e ≡ s.device → HalvesMakeIt (told_clock e).first → IsOrigin c inner cuts making entry → s.desk.config ≡ c → s.desk.cap ≡ cap
-    → IsBack c inner exit (part_at entry) (told_of e).first (clock_of e).first
-    → Vouches (IsKept s.ready (part_at entry) s.desk s.hand (told_of s.device) (told_clock s.device).first) (part_at entry) (told_by told_of s) inner exit
+pub vouched : (c : Configuration) (inner : Told) (cuts : ℕ) (making : Making) (entry exit : Told) (s : StackState Device (List PlainBlock)) (e : Device) → e ≡ s.device → HalvesMakeIt (told_clock e) → IsOrigin c inner cuts making entry → s.desk.config ≡ c → s.desk.cap ≡ cap
+    → IsBack c inner exit (part_at entry) (told_of e) (clock_of e)
+    → Vouches (IsKept s.ready (one_part (part_at entry)) s.desk s.hand (told_of s.device) (told_clock s.device)) (part_at entry) (told_by told_of s) inner exit
 vouched c inner cuts making entry exit s e same halves origin config most back = record {
   operations = back.operations;
   faults = λ rose. counted_rose inner.faults exit.faults (own.faults 1 (once (told_of s.device).first.faults (told_by told_of s).faults refl rose)) back.more;
-  cuts = λ n counted. own.cuts n (subst (λ (k : ℕ). WereCounted n (part_at entry).planning.unplanned k) one_part counted);
+  cuts = λ n counted. own.cuts n (subst (λ (k : ℕ). WereCounted n (part_at entry).planning.unplanned k) one_part_cuts counted);
   promise = λ kept made left pieces end order refusals off.
-      its (run_of s.desk.config s.desk.entries inner exit back.operations (Played made pieces left) end) (part_at entry) (told_of s.device).first
+      its (run_of s.desk.config s.desk.entries inner exit back.operations (Played made pieces left) end) (one_part (part_at entry)) (told_of s.device)
       (record {
         order = order;
-        over = subst (λ (n : ℕ). KeepsOver s.desk.config n s.desk.entries (part_at entry) (told_of s.device).first (told_clock s.device).first) most (over_of s.ready (part_at entry) s.desk s.hand s.device kept);
+        over = subst (λ (n : ℕ). KeepsOver s.desk.config n s.desk.entries (one_part (part_at entry)) (told_of s.device) (told_clock s.device)) most (over_of s.ready (one_part (part_at entry)) s.desk s.hand s.device kept);
         refusals = refusals;
-        off = subst (λ (k : ℕ). WereCounted (offs_of_flash (Played made pieces left) s.desk.entries) (part_at entry).planning.unplanned k) one_part off;
+        off = subst (λ (k : ℕ). WereCounted (offs_of_flash (Played made pieces left) s.desk.entries) (part_at entry).planning.unplanned k) one_part_cuts off;
+        one = λ block. rw (parts (block * 64)) refl;
       })
-      (told_bridge (making_of s.desk.config) inner exit back.operations (part_at entry) s.device (subst (λ (x : Configuration). Bridges (making_of x) true (record { entry = inner; exit = exit; operations = back.operations }) (part_at entry) (told_of s.device).first (clock_of s.device).first) (sym config) own));
+      (told_bridge (making_of s.desk.config) inner exit back.operations (part_at entry) s.device (subst (λ (x : Configuration). Bridges (making_of x) true (record { entry = inner; exit = exit; operations = back.operations }) (part_at entry) (told_of s.device) (clock_of s.device)) (sym config) own));
 }
   where
-    own : Bridges (making_of c) true (record { entry = inner; exit = exit; operations = back.operations }) (part_at entry) (told_of s.device).first (clock_of s.device).first
-    own = subst (λ (d : Device). Bridges (making_of c) true (record { entry = inner; exit = exit; operations = back.operations }) (part_at entry) (told_of d).first (clock_of d).first) same back.bridges
+    own : Bridges (making_of c) true (record { entry = inner; exit = exit; operations = back.operations }) (part_at entry) (told_of s.device) (clock_of s.device)
+    own = subst (λ (d : Device). Bridges (making_of c) true (record { entry = inner; exit = exit; operations = back.operations }) (part_at entry) (told_of d) (clock_of d)) same back.bridges
 
-    its : HalvesMakeIt (told_clock s.device).first
-    its = subst (λ (d : Device). HalvesMakeIt (told_clock d).first) same halves
+    its : HalvesMakeIt (told_clock s.device)
+    its = subst (λ (d : Device). HalvesMakeIt (told_clock d)) same halves
 
-    one_part : (told_of s.device).first.planning.unplanned + 0 ≡ (told_of s.device).first.planning.unplanned
-    one_part = omega arith
+    one_part_cuts : (told_of s.device).first.planning.unplanned + 0 ≡ (told_of s.device).first.planning.unplanned
+    one_part_cuts = omega arith
+
+    parts : (n : ℕ) → (figures_at (told_of s.device).fixed n).part ≡ First
+    parts = subst AreOfFirst same back.parts
 
 -- a stack that wasn't started, by its own configuration
 pub stops_by : (c d : Configuration) (why : MakeFault) (s t : Told) (g : Geometry) (x : Stop) → d ≡ c → g ≡ c.geometry → x ≡ stop_of_make why (size_of g) → ComesBack d why s t → StopsAtStart c s t x

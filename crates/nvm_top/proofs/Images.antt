@@ -4,7 +4,6 @@ use Rattle.std.proofs.Math.Seq.{take-add}
 use Rattle.nv_base.specs.declared.geometry.Geometry.{Geometry}
 use Rattle.nv_base.specs.Geometry.{size_of}
 use Rattle.fls_model.specs.Attach.{IsAttached, IsFilled, enlarged}
-use Rattle.fls_model.specs.declared.flash.AttachFault.TheVariants as fault
 use Rattle.fls_model.specs.Told.{Told, ToldBytes, IfBothTold, powered}
 use Rattle.nvm_top.specs.declared.stop.Stop.{Stop}
 use Rattle.nvm_top.specs.declared.stop.Stop.TheVariants.{FlashFault, Memory}

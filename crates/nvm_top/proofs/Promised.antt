@@ -20,7 +20,7 @@ use Rattle.block_machine.specs.Steps.{after}
 use Rattle.block_machine.specs.Prices.{prices_in_refusals}
 use Rattle.run_promise.specs.Run.{Run, Course, Played, End, Whole, cap, HasOrder, LeavesFor, EndsAtStart, HasNoRoom, RefusalsExplain, refusals_of, unpaid_offs}
 use Rattle.run_promise.specs.Run.{FlashFault, HistoryFull, Memory}
-use Rattle.run_promise.specs.Promise.{Promise}
+use Rattle.run_promise.specs.Promise.{Promise, making_of}
 use Rattle.run_promise.specs.Call.{Ends, last_line, IsCourseOf, IsInputOf}
 use Rattle.nvm_script.specs.Script.{IsScript, later_lines}
 use Rattle.nvm_script.specs.declared.script.Mode.TheVariants as mode
@@ -62,6 +62,7 @@ pub early_promise : (c : Configuration) (steps : List Step) (entry exit : Told) 
 early_promise c steps entry exit stop end stops ends = record {
   order = (ends, (refl, refl), stops.flash);
   power_cut = λ tells sound k image few is. absurd (let none = is.1 in cc none);
+  counts = λ tells sound k ops image few is last. absurd (let none = is.1 in cc none);
   found = λ tells sound marks ops has few. absurd (not_there (Found marks ops) has);
   at_exit = λ tells sound started few. absurd started;
   block_machine = tt;
@@ -263,11 +264,11 @@ has_run Kept c cuts all made left end before old t entry exit Tells started walk
     off : WereCounted (unpaid_offs None 0 made walked.pieces) before.planning.unplanned t.causes.unplanned
     off = counted_from (unpaid_offs None 0 made walked.pieces) before.planning.unplanned old.causes.unplanned t.causes.unplanned started.unplanned walked.off
 
-    well : (told : TellsBytes (record { entry = entry; exit = exit; operations = v.operations })) → StartsSound t.configuration.geometry (record { entry = entry; exit = exit; operations = v.operations }) → StartsWell c entry
+    well : (told : TellsBytes (record { entry = entry; exit = exit; operations = v.operations })) → StartsSound (making_of t.configuration) (record { entry = entry; exit = exit; operations = v.operations }) → StartsWell c entry
     well told sound = record {
       first = told.first;
       bytes = told.entry;
-      sound = subst (λ (x : Configuration). IsSoundFlash x.geometry told.first) of (subst (λ (o : Option (List ℕ)). IfSome o (IsSoundFlash t.configuration.geometry)) told.entry sound);
+      sound = subst (λ (x : Configuration). IsSoundFlash (making_of x) told.first) of (subst (λ (o : Option (List ℕ)). IfSome o (IsSoundFlash (making_of t.configuration))) told.entry sound);
     }
 
 -- of the status, the output and the steps

@@ -2,6 +2,7 @@
 use Rattle.std.specs.Prelude.{◌≡◌, ℕ, List, Option, IfSome}
 use Rattle.nv_base.specs.declared.geometry.Geometry.{Geometry}
 use Rattle.nv_base.specs.Geometry.{size_of}
+use Rattle.block_config.specs.Banks.{bank_count}
 use Rattle.block_config.specs.Config.{Configuration}
 use Rattle.fls_model.specs.Attach.{HasSize, enlarged}
 use Rattle.fls_model.specs.Told.{Told, ToldBytes, IfBothTold}
@@ -19,13 +20,13 @@ use Rattle.nvm_top.specs.Stop.{line_of}
 abbrev pub IsImageOf : Geometry → Option ToldBytes → List ℕ → Type 0
 IsImageOf g flash image = IfSome flash (λ b. HasSize g b.now × (image ≡ enlarged (size_of g) b.now))
 
--- a command ends well, and writes the text of these bytes of two banks
+-- a command ends well, and writes the text of these bytes, bank by bank
 abbrev pub IsDump : Geometry → List ℕ → Status → List ℕ → Type 0
-IsDump g image x text = (x ≡ status.Ok) × (text ≡ dump_text (layout_of g 2) image)
+IsDump g image x text = (x ≡ status.Ok) × (text ≡ dump_text (layout_of g bank_count) image)
 
 -- from the attach of a flash of this shape on, with its bytes, where they are told, and with what is written
 abbrev pub DumpsFlash : Geometry → Option ToldBytes → Status → List ℕ → Type 0
-DumpsFlash g flash status.Ok text = (image : List ℕ) × IsImageOf g flash image × (text ≡ dump_text (layout_of g 2) image)
+DumpsFlash g flash status.Ok text = (image : List ℕ) × IsImageOf g flash image × (text ≡ dump_text (layout_of g bank_count) image)
 DumpsFlash g flash status.WrongSize line = IsWrongSize (size_of g) flash × TellsSize (size_of g) flash line
 DumpsFlash g flash status.FlashFault line = line ≡ line_of stop.FlashFault
 DumpsFlash g flash status.Memory line = line ≡ line_of stop.Memory

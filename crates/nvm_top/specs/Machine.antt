@@ -3,13 +3,13 @@ use Rattle.std.specs.Prelude.{◌≡◌, ◌≤◌, ℕ, List, [], Some}
 use Rattle.nv_base.specs.Count.{Rose, WereCounted}
 use Rattle.nv_base.specs.Geometry.{size_of}
 use Rattle.block_config.specs.Config.{Configuration}
-use Rattle.memif.specs.Told.{PartTold}
+use Rattle.memif.specs.Told.{Part, First, Second, PartTold, no_part}
 use Rattle.fls_model.specs.Told.{Told, Change, bytes_now}
 use Rattle.device_bridge.specs.Image.{IsSoundFlash}
 use Rattle.script_walks.specs.Words.{Step}
 use Rattle.block_machine.specs.Words.{Entry}
 use Rattle.run_promise.specs.Run.{Run, Course, Played, End, cap, HasOrder, LeavesFlash, RefusalsExplain, offs_of_flash}
-use Rattle.run_promise.specs.Promise.{Promise}
+use Rattle.run_promise.specs.Promise.{Promise, making_of}
 use Rattle.stack_steps.specs.Told.{StackTold}
 use Rattle.stack_steps.specs.Made.{IsFresh}
 use Rattle.flash_stacks.specs.Turns.{job_turns}
@@ -21,6 +21,11 @@ use Rattle.nvm_top.specs.Stop.{status_of}
 abbrev pub run_of : Configuration → List Entry → Told → Told → List Change → Course → End → Run
 run_of c h entry exit operations course end =
     record { configuration = c; course = course; end = end; history = h; flash = record { entry = entry; exit = exit; operations = operations } }
+
+-- a device of one part
+abbrev pub one_part : PartTold → Part → PartTold
+one_part p First = p
+one_part p Second = no_part
 
 -- behind its first start-up, with so many power cuts that can be planned
 pub record IsStarted (c : Configuration) (cuts : ℕ) (before : PartTold) (t : StackTold) : Type 0 where
@@ -44,7 +49,7 @@ pub record StopsAtStart (c : Configuration) (entry exit : Told) (stop : Stop) : 
 pub record StartsWell (c : Configuration) (entry : Told) : Type 0 where
   pub first : List ℕ
   pub bytes : bytes_now entry ≡ Some first
-  pub sound : IsSoundFlash c.geometry first
+  pub sound : IsSoundFlash (making_of c) first
 
 -- The flash is given back: the faults and the cuts that the stack was told are its own; and where this was kept, a run that
 -- followed a script keeps the promise, where its steps explain its refused copies and its power cuts.

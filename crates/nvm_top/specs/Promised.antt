@@ -11,7 +11,7 @@ use Rattle.block_machine.specs.Words.{Entry}
 use Rattle.run_promise.specs.Run.{Run, End, Whole, Memory, HasOrder, RefusalsExplain, offs_of_flash}
 use Rattle.nv_base.specs.Count.{WereCounted}
 use Rattle.device_bridge.specs.FlashRun.{TellsBytes, StartsSound}
-use Rattle.run_promise.specs.Promise.{Promise}
+use Rattle.run_promise.specs.Promise.{Promise, making_of}
 use Rattle.run_promise.specs.Completeness.{Completeness}
 use Rattle.run_promise.specs.Call.{Call, IsCourseOf, IsRunOf, status_of_end, last_line}
 use Rattle.nvm_top.specs.declared.status.Status.{Status}
@@ -36,7 +36,7 @@ pub record KeepsRun (r : Run) : Type 0 where
   pub refusals : (id : ℕ) → RefusalsExplain r.configuration r.course r.history id
   pub off : WereCounted (offs_of_flash r.course r.history) r.flash.entry.cuts r.flash.exit.cuts
   pub complete : Completeness (job_turns r.configuration) r r.course
-  pub promise : TellsBytes r.flash → StartsSound r.configuration.geometry r.flash → Promise r
+  pub promise : TellsBytes r.flash → StartsSound (making_of r.configuration) r.flash → Promise r
 
 -- THE WHOLE CALL
 

@@ -74,6 +74,9 @@ module _ {D : Type 0} (device : D → DeviceTold) (clock : D → Clock) (steps :
       by None is = due_rest (state_of old.desk) (rests is)
       by (Some j) is = due_hand (state_of old.desk) j is
 
+  made : (device between.device).ops ≡ (device old.device).ops
+  made = ap (λ (d : DeviceTold). d.ops) half.device
+
   one : (device between.device).first ≡ (device old.device).first
   one = ap (λ (d : DeviceTold). d.first) half.device
 
@@ -85,7 +88,7 @@ module _ {D : Type 0} (device : D → DeviceTold) (clock : D → Clock) (steps :
 
   module _ (answer : Turned) (second : IsSecondHalf device clock answer between new) (behind : IsBehind device answer old new) where
     goes : Goes (device old.device) (device new.device)
-    goes = goes_from (device old.device) (device between.device) (device new.device) one two
+    goes = goes_from (device old.device) (device between.device) (device new.device) made one two
         (turn_goes answer (device between.device) (device new.device) (clock between.device) (clock new.device) second.turns)
 
     stores : map store_of new.copies ≡ map store_of old.copies
@@ -173,7 +176,7 @@ module _ {D : Type 0} (device : D → DeviceTold) (clock : D → Clock) (steps :
   went_off power second behind =
       adds_one turned.Off second behind (Off (ops_of (device new.device))) second.adds.0 (λ id. (refl, refl)) tt
       (subst (λ (plan : Option ℕ). WereCounted (sum_by (unpaid_off plan) (Off (ops_of (device new.device)) ∷ [])) (unplanned_in (device old.device)) (unplanned_in (device new.device)))
-      (plan_same (device old.device) (device between.device) one two)
+      (plan_same (device old.device) (device between.device) made one two)
       (subst (λ (n : ℕ). WereCounted (sum_by (unpaid_off (plan_in (device between.device))) (Off (ops_of (device new.device)) ∷ [])) n (unplanned_in (device new.device)))
       (unplanned_same (device old.device) (device between.device) one two)
       (one_off (off_counted (device between.device) (device new.device) (clock between.device) (clock new.device) second.turns (on (is_off (device old.device)) refl)))))

@@ -25,29 +25,29 @@ pub record Goes (old new : DeviceTold) : Type 0 where
 pub goes_on : (d : DeviceTold) → Goes d d
 goes_on d = record { unplanned = omega arith; takes = omega arith; plan = no_earlier (plan_in d) }
 
--- the parts alone tell
-parts_tell : (old new : DeviceTold) → new.first ≡ old.first → new.second ≡ old.second
+-- the operations and the parts alone tell
+parts_tell : (old new : DeviceTold) → new.ops ≡ old.ops → new.first ≡ old.first → new.second ≡ old.second
     → (unplanned_in new ≡ unplanned_in old) × (takes_in new ≡ takes_in old) × (plan_in new ≡ plan_in old)
-parts_tell old new one two = rw (one, two) (refl, refl, refl)
+parts_tell old new made one two = rw (made, one, two) (refl, refl, refl)
 
-pub goes_same : (old new : DeviceTold) → new.first ≡ old.first → new.second ≡ old.second → Goes old new
-goes_same old new one two =
-    let (unplanned, takes, plan) = parts_tell old new one two in record {
+pub goes_same : (old new : DeviceTold) → new.ops ≡ old.ops → new.first ≡ old.first → new.second ≡ old.second → Goes old new
+goes_same old new made one two =
+    let (unplanned, takes, plan) = parts_tell old new made one two in record {
       unplanned = omega (arith, unplanned);
       takes = omega (arith, takes);
       plan = subst (λ (p : Option ℕ). IsNoEarlier (plan_in old) p) (sym plan) (no_earlier (plan_in old));
     }
 
-pub plan_same : (old new : DeviceTold) → new.first ≡ old.first → new.second ≡ old.second → plan_in new ≡ plan_in old
-plan_same old new one two = (parts_tell old new one two).2
+pub plan_same : (old new : DeviceTold) → new.ops ≡ old.ops → new.first ≡ old.first → new.second ≡ old.second → plan_in new ≡ plan_in old
+plan_same old new made one two = (parts_tell old new made one two).2
 
 pub unplanned_same : (old new : DeviceTold) → new.first ≡ old.first → new.second ≡ old.second → unplanned_in new ≡ unplanned_in old
-unplanned_same old new one two = (parts_tell old new one two).0
+unplanned_same old new one two = rw (one, two) refl
 
 -- what becomes of them behind a call that leaves the parts
-pub goes_from : (old between new : DeviceTold) → between.first ≡ old.first → between.second ≡ old.second → Goes between new → Goes old new
-goes_from old between new one two goes =
-    let (unplanned, takes, plan) = parts_tell old between one two in record {
+pub goes_from : (old between new : DeviceTold) → between.ops ≡ old.ops → between.first ≡ old.first → between.second ≡ old.second → Goes between new → Goes old new
+goes_from old between new made one two goes =
+    let (unplanned, takes, plan) = parts_tell old between made one two in record {
       unplanned = let less = goes.unplanned in omega (arith, unplanned, less);
       takes = let less = goes.takes in omega (arith, takes, less);
       plan = subst (λ (p : Option ℕ). IsNoEarlier p (plan_in new)) plan goes.plan;
@@ -65,42 +65,32 @@ takes_stay (Some n) b t u is less = omega arith
 takes_stay None b t u is less = subst (λ (o : Option ℕ). t ≤ (if is_some o then 0 else u)) (sym (none_later None b is refl)) less
 
 -- the first part makes the turn
-module _ (cut : Bool) (old new : DeviceTold) (turns : PartTurns cut old.first new.first) (other : new.second ≡ old.second) where
-  moved_first : ops_in new + old.first.ops ≡ ops_in old + new.first.ops
-  moved_first = let same = ap (λ (p : PartTold). p.ops) other in omega (arith, same)
-
+module _ (cut : Bool) (old new : DeviceTold) (turns : PartTurns cut old.ops new.ops old.first new.first) (other : new.second ≡ old.second) where
   second_waits : IsNoEarlier (plan_of (ops_in old) old.second) (plan_of (ops_in new) new.second)
   second_waits =
-      let same = ap (λ (p : PartTold). p.ops) other in
-      let later = turns.later in
-      subst (λ (p : PartTold). IsNoEarlier (plan_of (ops_in old) old.second) (plan_of (ops_in new) p)) (sym other) (plan_waits (ops_in old) (ops_in new) old.second (omega (arith, same, later)))
+      subst (λ (p : PartTold). IsNoEarlier (plan_of (ops_in old) old.second) (plan_of (ops_in new) p)) (sym other) (plan_waits (ops_in old) (ops_in new) old.second turns.later)
 
   pub first_goes : Goes old new
   first_goes = record {
-    unplanned = let one = part_unplanned cut old.first new.first turns in let two = ap (λ (p : PartTold). p.planning.unplanned) other in omega (arith, one, two);
+    unplanned = let one = part_unplanned cut old.ops new.ops old.first new.first turns in let two = ap (λ (p : PartTold). p.planning.unplanned) other in omega (arith, one, two);
     takes = takes_stay (plan_of (ops_in old) old.second) (plan_of (ops_in new) new.second) old.first.planning.takes new.first.planning.takes second_waits
-        (let same = part_takes cut old.first new.first turns in omega (arith, same));
+        (let same = part_takes cut old.ops new.ops old.first new.first turns in omega (arith, same));
     plan = earlier_stays (plan_of (ops_in old) old.first) (plan_of (ops_in old) old.second) (plan_of (ops_in new) new.first) (plan_of (ops_in new) new.second)
-        (part_plan cut (ops_in old) (ops_in new) old.first new.first moved_first (omega arith) turns) second_waits;
+        (part_plan cut (ops_in old) (ops_in new) old.first new.first turns) second_waits;
   }
 
 -- the second part does
-module _ (cut : Bool) (old new : DeviceTold) (turns : PartTurns cut old.second new.second) (other : new.first ≡ old.first) where
-  moved_second : ops_in new + old.second.ops ≡ ops_in old + new.second.ops
-  moved_second = let same = ap (λ (p : PartTold). p.ops) other in omega (arith, same)
-
+module _ (cut : Bool) (old new : DeviceTold) (turns : PartTurns cut old.ops new.ops old.second new.second) (other : new.first ≡ old.first) where
   first_waits : IsNoEarlier (plan_of (ops_in old) old.first) (plan_of (ops_in new) new.first)
   first_waits =
-      let same = ap (λ (p : PartTold). p.ops) other in
-      let later = turns.later in
-      subst (λ (p : PartTold). IsNoEarlier (plan_of (ops_in old) old.first) (plan_of (ops_in new) p)) (sym other) (plan_waits (ops_in old) (ops_in new) old.first (omega (arith, same, later)))
+      subst (λ (p : PartTold). IsNoEarlier (plan_of (ops_in old) old.first) (plan_of (ops_in new) p)) (sym other) (plan_waits (ops_in old) (ops_in new) old.first turns.later)
 
   second_plan : IsNoEarlier (plan_of (ops_in old) old.second) (plan_of (ops_in new) new.second)
-  second_plan = part_plan cut (ops_in old) (ops_in new) old.second new.second moved_second (omega arith) turns
+  second_plan = part_plan cut (ops_in old) (ops_in new) old.second new.second turns
 
   pub second_goes : Goes old new
   second_goes = record {
-    unplanned = let one = part_unplanned cut old.second new.second turns in let two = ap (λ (p : PartTold). p.planning.unplanned) other in omega (arith, one, two);
+    unplanned = let one = part_unplanned cut old.ops new.ops old.second new.second turns in let two = ap (λ (p : PartTold). p.planning.unplanned) other in omega (arith, one, two);
     takes = takes_stay (plan_of (ops_in old) old.second) (plan_of (ops_in new) new.second) old.first.planning.takes new.first.planning.takes second_plan
         (let same = ap (λ (p : PartTold). p.planning.takes) other in omega (arith, same));
     plan = earlier_stays (plan_of (ops_in old) old.first) (plan_of (ops_in old) old.second) (plan_of (ops_in new) new.first) (plan_of (ops_in new) new.second)
@@ -171,12 +161,12 @@ cut_counted : (p : Part) (old new : DeviceTold) → IsCut p old new → WereCoun
 cut_counted First old new cut =
     let other = ap (λ (d : DeviceTold). d.second) cut.only in
     in_all_first (unpaid_off (plan_in old) (Off (ops_of new))) old.first.planning.unplanned new.first.planning.unplanned old.second.planning.unplanned new.second.planning.unplanned
-    (part_off (ops_in old) (ops_in new) old.first new.first (plan_in old) (moved_first true old new cut.part other) (omega arith) cut.part
+    (part_off (ops_in old) (ops_in new) old.first new.first (plan_in old) cut.part
     (λ x is. earlier_first (plan_of (ops_in old) old.first) (plan_of (ops_in old) old.second) x is)) (ap (λ (q : PartTold). q.planning.unplanned) other)
 cut_counted Second old new cut =
     let other = ap (λ (d : DeviceTold). d.first) cut.only in
     in_all_second (unpaid_off (plan_in old) (Off (ops_of new))) old.second.planning.unplanned new.second.planning.unplanned old.first.planning.unplanned new.first.planning.unplanned
-    (part_off (ops_in old) (ops_in new) old.second new.second (plan_in old) (moved_second true old new cut.part other) (omega arith) cut.part
+    (part_off (ops_in old) (ops_in new) old.second new.second (plan_in old) cut.part
     (λ x is. earlier_second (plan_of (ops_in old) old.first) (plan_of (ops_in old) old.second) x is)) (ap (λ (q : PartTold). q.planning.unplanned) other)
 
 part_on : (p : Part) (d : DeviceTold) → is_off d ≡ false → (part_at p d).off ≡ true → ⊥

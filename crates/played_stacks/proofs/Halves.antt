@@ -112,13 +112,14 @@ module _ {D : Type 0} (device : D → DeviceTold) (steps : HistoriesStep) (waits
       → IsAnswer answer [] (told_by device old) (told_by device new) → Lowers answer (told_by device old) (told_by device new) → IsServing device old new []
       → Turns answer (told_by device old) (told_by device new)
   quiet answer half behind same due answers lowers serves =
+      let made = ap (λ (d : DeviceTold). d.ops) half.device in
       let one = ap (λ (d : DeviceTold). d.first) half.device in
       let two = ap (λ (d : DeviceTold). d.second) half.device in record {
         entries = [];
         grows = grown device old new [] (none_more old.desk new.desk same) (same_stores old.copies new.copies half.sizes half.stores_stay) half.ready (ap (λ (d : DeviceTold). d.fixed) half.device);
         counted = behind.counted;
         turn = record { entry = tt; begins = begins_late (state_of old.desk) [] due };
-        explained = explained device old new [] (goes_same (device old.device) (device new.device) one two)
+        explained = explained device old new [] (goes_same (device old.device) (device new.device) made one two)
             (λ id. let less = fewer (map told_of old.copies) (map told_of new.copies) half.refuses id (state_of old.desk).hand (state_of new.desk).hand
             (let hand = ap (λ (x : DeskState). untold_of id (state_of x).hand) same in omega (arith, hand)) in omega (arith, less))
             (none_off _ _ (let as_many = unplanned_same (device old.device) (device new.device) one two in omega (arith, as_many)));
@@ -134,6 +135,7 @@ module _ {D : Type 0} (device : D → DeviceTold) (steps : HistoriesStep) (waits
       let block = half.half.0 in
       let picked = half.half.1 in
       let ops = ops_of (device new.device) in
+      let made = ap (λ (d : DeviceTold). d.ops) half.device in
       let one = ap (λ (d : DeviceTold). d.first) half.device in
       let two = ap (λ (d : DeviceTold). d.second) half.device in
       let stores = same_stores old.copies new.copies half.sizes half.stores_stay in
@@ -151,7 +153,7 @@ module _ {D : Type 0} (device : D → DeviceTold) (steps : HistoriesStep) (waits
           };
           begins = begins_by (is_due s);
         };
-        explained = explained device old new (Pick block picked.kind picked.taken ops ∷ []) (goes_same (device old.device) (device new.device) one two)
+        explained = explained device old new (Pick block picked.kind picked.taken ops ∷ []) (goes_same (device old.device) (device new.device) made one two)
             (λ id. one_price c s id (Pick block picked.kind picked.taken ops) (map told_of old.copies) (map told_of new.copies) s.hand _ (state_of new.desk).hand
             (ap (λ (x : State). x.hand) (one_more steps old.desk new.desk (Pick block picked.kind picked.taken ops) picked.adds))
             (let less = pick_keeps (map told_of old.copies) (map told_of new.copies) half.refuses c s id block ops picked.kind picked.taken may within (behind.small block) refused in omega (arith, less)))
@@ -167,6 +169,7 @@ module _ {D : Type 0} (device : D → DeviceTold) (steps : HistoriesStep) (waits
       let s = state_of old.desk in
       let ops = ops_of (device new.device) in
       let post = posting _ ops old.desk new.desk (map told_of old.copies) (map told_of new.copies) half.refuses half.half in
+      let made = ap (λ (d : DeviceTold). d.ops) half.device in
       let one = ap (λ (d : DeviceTold). d.first) half.device in
       let two = ap (λ (d : DeviceTold). d.second) half.device in
       let stores = same_stores old.copies new.copies half.sizes half.stores_stay in
@@ -175,7 +178,7 @@ module _ {D : Type 0} (device : D → DeviceTold) (steps : HistoriesStep) (waits
         grows = grown device old new (Post post.block post.result post.given post.refused ops ∷ []) post.adds stores half.ready (ap (λ (d : DeviceTold). d.fixed) half.device);
         counted = behind.counted;
         turn = record { entry = tt; begins = begins_by (is_due s) };
-        explained = explained device old new (Post post.block post.result post.given post.refused ops ∷ []) (goes_same (device old.device) (device new.device) one two)
+        explained = explained device old new (Post post.block post.result post.given post.refused ops ∷ []) (goes_same (device old.device) (device new.device) made one two)
             (λ id. one_price c s id (Post post.block post.result post.given post.refused ops) (map told_of old.copies) (map told_of new.copies) s.hand _ (state_of new.desk).hand
             (ap (λ (x : State). x.hand) (one_more steps old.desk new.desk (Post post.block post.result post.given post.refused ops) post.adds))
             (post_keeps (map told_of old.copies) (map told_of new.copies) half.refuses c s id post.block post.refused ops post.result post.given post.on within (behind.small post.block) post.told))

@@ -52,7 +52,7 @@ plan_of ops p = if p.off then None else option_map (λ x. ops + x.left) p.planni
 
 -- the operations of both parts
 abbrev pub ops_in : DeviceTold → ℕ
-ops_in d = d.first.ops + d.second.ops
+ops_in d = d.ops
 
 -- the earlier one of two plans
 abbrev pub earlier : Option ℕ → Option ℕ → Option ℕ

@@ -1,6 +1,5 @@
 // The stack, as its player sees it.
 ghost use Rattle.std.specs.Prelude.{◌≡◌, ◌++◌, ◌∷◌, [], List};
-ghost use Rattle.memif.specs.Told.{PartTold};
 ghost use Rattle.block_machine.specs.Words.{Configuration, Entry};
 ghost use Rattle.ram_blocks.specs.Plain.{plain_blocks_of};
 ghost use Rattle.played_stacks.specs.Told.{AreWithin, IfCopied};
@@ -68,7 +67,7 @@ impl<D: MemDevice> PlayedStack for PlainStack<D> {
 
     ghost told = { λ s. told_by D.told s };
 
-    ghost kept = { λ s before. IsKept s.ready before s.desk s.hand (D.told s.device) (D.clock s.device).first };
+    ghost kept = { λ s before. IsKept s.ready before s.desk s.hand (D.told s.device) (D.clock s.device) };
 
     fn ask(&mut self, alloc: Global, caller: u8, request: Request) -> Result<Reply, AskFault> {
         histories_grow();

@@ -1,5 +1,5 @@
 -- Runs that keep the promise.
-use Rattle.std.specs.Prelude.{Contains}
+use Rattle.std.specs.Prelude.{Contains, IfSome}
 use Rattle.std.proofs.Common.{◌≡◌, ℕ, zero, suc, ◌≤◌, true, IsTrue, List, [], ◌∷◌, replicate, Option, Some, None, refl, sym, ap, subst, ◌∙◌, inl, arith, ◌⊎◌, inr}
 use Rattle.nv_base.specs.declared.instance.DeviceNumber.{DeviceNumber}
 use Rattle.nv_base.specs.Count.{last_count, next_count}
@@ -10,7 +10,7 @@ use Rattle.fls_model.specs.Bytes.{Grown}
 use Rattle.fls_model.specs.Op.{Erase, MayLeave}
 use Rattle.fls_model.specs.declared.flash.FlashAnswer.TheVariants.{Off as FlashOff}
 use Rattle.fls_model.specs.Told.{Change}
-use Rattle.memif.specs.Told.{length_of}
+use Rattle.memif.specs.Told.{length_of, more_writes}
 use Rattle.block_machine.specs.Words.{Instance, Mark, Erased, Entry, Found}
 use Rattle.block_machine.specs.Blocks.{instance_at}
 use Rattle.block_machine.specs.History.{MayStandIn, up_to}
@@ -19,15 +19,18 @@ use Rattle.block_machine.specs.Steps.{after}
 use Rattle.block_machine.specs.StartUp.{listed_mark}
 use Rattle.block_machine.specs.Legal.{IsLegal}
 use Rattle.fee_format.specs.declared.bank_head.BankHead.{BankHead}
-use Rattle.fee_image.specs.Image.{Layout, active_of, found_mark, mark_of_bank}
+use Rattle.nv_base.specs.Held.{Held, never_written}
+use Rattle.fee_image.specs.Image.{Layout, active_of, found_held, held_of_bank}
 use Rattle.fee_image.specs.Laws.{BlankIsSound, BlankHasErased, NoActiveComputes, TornErasesSetBits, TornErasesKeepSound, TornErasesMakeNoBank}
+use Rattle.block_promise.specs.Counts.{KeepsCounts, MayCountIn, count_due}
 use Rattle.block_promise.specs.Marks.{KeepsMarks, Lists}
 use Rattle.block_promise.specs.OverDevice.{HasOffAt, TellsAtMost}
-use Rattle.device_bridge.specs.Image.{two_banks, attached, found_as}
-use Rattle.device_bridge.specs.FlashRun.{IsCutImage, IsChain, AreSeen}
+use Rattle.device_bridge.specs.Making.{banks_of}
+use Rattle.device_bridge.specs.Image.{attached, held_as}
+use Rattle.device_bridge.specs.FlashRun.{IsCutImage, IsChain, AreSeen, bytes_after}
 use Rattle.fee_image.specs.Sound.{IsSoundImage}
 use Rattle.run_promise.specs.Run.{cap, RefusalsExplain}
-use Rattle.run_promise.specs.Promise.{Promise, Keeps, StartUpsFind, found_by}
+use Rattle.run_promise.specs.Promise.{CutsCount, Promise, Keeps, counts_by, StartUpsFind, found_by, making_of}
 use Rattle.run_promise.specs.Cases.{small, blank, taken, kept_write}
 
 -- a fact on each entry of a list
@@ -80,12 +83,18 @@ keeps_erased h found erased stands accepted newest = record {
   newest = λ x has. subst (λ (m : Mark). IsNotOlder small h (instance_of x.0) m) (sym (erased x.0.0)) (newest (instance_of x.0));
 }
 
-all_erased : (l : Layout) (image : List ℕ) (n : ℕ) (length : Option ℕ) → ((size : ℕ) → found_mark l image n size ≡ Erased) → found_as l image n length ≡ Erased
+all_erased : (l : Layout) (image : List ℕ) (n : ℕ) (length : Option ℕ) → ((size : ℕ) → found_held l image n size ≡ never_written) → held_as l image n length ≡ never_written
 all_erased l image n None erased = refl
 all_erased l image n (Some size) erased = erased size
 
+abbrev Finds : List ℕ → ℕ → Held
+Finds image n = held_as (banks_of (making_of small)) (attached small.geometry image) n (length_of (lengths_of small) n)
+
+blank_holds : BlankHasErased → (n : ℕ) → Finds blank n ≡ never_written
+blank_holds erased n = all_erased (banks_of (making_of small)) blank n (length_of (lengths_of small) n) (erased (banks_of (making_of small)) 320 n)
+
 blank_found : BlankHasErased → (n : ℕ) → found_by small blank n ≡ Erased
-blank_found erased n = all_erased (two_banks small.geometry) blank n (length_of (lengths_of small) n) (erased (two_banks small.geometry) 320 n)
+blank_found erased n = ap (λ (h : Held). h.mark) (blank_holds erased n)
 
 -- A TORN ERASE OF A BLANK FLASH
 grown_same : (n : ℕ) → Grown (replicate n 255) (replicate n 255)
@@ -96,16 +105,19 @@ not_empty : (image : List ℕ) → Grown blank image → attached small.geometry
 not_empty [] grown = absurd grown
 not_empty (x ∷ xs) grown = refl
 
-finds_none : NoActiveComputes → TornErasesMakeNoBank → BlankIsSound → (image : List ℕ) → Grown blank image → active_of (two_banks small.geometry) image ≡ None
+finds_none : NoActiveComputes → TornErasesMakeNoBank → BlankIsSound → (image : List ℕ) → Grown blank image → active_of (banks_of (making_of small)) image ≡ None
 finds_none computes makes sound image grown =
-    let l = two_banks small.geometry in
+    let l = banks_of (making_of small) in
     (computes l image).0 (λ k h few stands. (computes l blank).1 refl k h few (makes l blank image k h (omega arith) (sound l 320) grown few stands))
 
+torn_holds : NoActiveComputes → TornErasesMakeNoBank → BlankIsSound → (image : List ℕ) → Grown blank image → (n : ℕ) → Finds image n ≡ never_written
+torn_holds computes makes sound image grown n =
+    let l = banks_of (making_of small) in
+    subst (λ (bytes : List ℕ). held_as l bytes n (length_of (lengths_of small) n) ≡ never_written) (sym (not_empty image grown))
+    (all_erased l image n (length_of (lengths_of small) n) (λ size. ap (λ (a : Option (ℕ × BankHead)). held_of_bank l image n size a) (finds_none computes makes sound image grown)))
+
 torn_found : NoActiveComputes → TornErasesMakeNoBank → BlankIsSound → (image : List ℕ) → Grown blank image → (n : ℕ) → found_by small image n ≡ Erased
-torn_found computes makes sound image grown n =
-    let l = two_banks small.geometry in
-    subst (λ (bytes : List ℕ). found_as l bytes n (length_of (lengths_of small) n) ≡ Erased) (sym (not_empty image grown))
-    (all_erased l image n (length_of (lengths_of small) n) (λ size. ap (λ (a : Option (ℕ × BankHead)). mark_of_bank l image n size a) (finds_none computes makes sound image grown)))
+torn_found computes makes sound image grown n = ap (λ (h : Held). h.mark) (torn_holds computes makes sound image grown n)
 
 -- THE WRITE
 abbrev whole : List Entry
@@ -115,7 +127,7 @@ torn_keeps : NoActiveComputes → TornErasesMakeNoBank → TornErasesKeepSound �
 torn_keeps computes makes stays sound image grown = record {
   marks = keeps_erased taken (found_by small image) (torn_found computes makes sound image grown) (each (Stands taken) (inl refl) (inl refl) (inl refl))
       (λ i. record { whole = refl; brought = inl refl }) (λ i. (λ a is. inl is, (λ a none. absurd none, (λ a none. absurd none, tt))));
-  sound = subst (λ (bytes : List ℕ). IsSoundImage (two_banks small.geometry) bytes) (sym (not_empty image grown)) (stays (two_banks small.geometry) blank image (sound (two_banks small.geometry) 320) grown);
+  sound = subst (λ (bytes : List ℕ). IsSoundImage (banks_of (making_of small)) bytes) (sym (not_empty image grown)) (stays (banks_of (making_of small)) blank image (sound (banks_of (making_of small)) 320) grown);
 }
 
 cuts_keep : NoActiveComputes → TornErasesMakeNoBank → TornErasesKeepSound → TornErasesSetBits → BlankIsSound → (k : ℕ) (image : List ℕ) → IsCutImage kept_write.flash k image → Keeps small (up_to k whole) image
@@ -124,12 +136,29 @@ cuts_keep computes makes stays bits sound zero image (x, at, may) =
     torn_keeps computes makes stays sound image (bits 0 160 blank image (subst (λ (y : Change). MayLeave y.op y.before image) (sym same) may))
 cuts_keep computes makes stays bits sound (suc k) image (x, at, may) = absurd (cc at)
 
+-- no count
+same_count : (n : ℕ) (image : List ℕ) → Finds image n ≡ never_written → counts_by small image n ≡ 0
+same_count n image is = ap (λ (h : Held). h.count) is
+
+taken_counts : (image : List ℕ) → ((n : ℕ) → counts_by small image n ≡ 0) → ((n : ℕ) → counts_by small blank n ≡ 0) → KeepsCounts small taken (counts_by small blank) (counts_by small image)
+taken_counts image none nothing = each (λ x. MayCountIn (instance_at (after small taken) (instance_of x.0)) (count_due taken (counts_by small blank) x.0.0) (counts_by small image x.0.0))
+    (inl (none 64 ∙ sym (ap (more_writes 0) (nothing 64)))) (inl (none 65 ∙ sym (ap (more_writes 0) (nothing 65)))) (inl (none 128 ∙ sym (ap (more_writes 0) (nothing 128))))
+
+cuts_count : NoActiveComputes → TornErasesMakeNoBank → TornErasesSetBits → BlankIsSound → BlankHasErased → CutsCount kept_write
+cuts_count computes makes bits sound erased zero ops image small_k (x, at, may) last =
+    let same : record { op = Erase 0 160; before = blank; answer = FlashOff } ≡ x = some_change _ x at in
+    let grown = bits 0 160 blank image (subst (λ (y : Change). MayLeave y.op y.before image) (sym same) may) in
+    let first : 0 ≡ ops = some_is 0 ops last in
+    subst (λ (m : ℕ). IfSome (bytes_after kept_write.flash m) (λ b. KeepsCounts small taken (counts_by small b) (counts_by small image))) first
+    (taken_counts image (λ n. same_count n image (torn_holds computes makes sound image grown n)) (λ n. same_count n blank (blank_holds erased n)))
+cuts_count computes makes bits sound erased (suc k) ops image small_k (x, at, may) last = absurd (cc at)
+
 exit_keeps : BlankIsSound → BlankHasErased → Keeps small whole blank
 exit_keeps sound erased = record {
   marks = keeps_erased whole (found_by small blank) (blank_found erased) (each (Stands whole) (inl refl) (inl refl) (inl refl))
       (λ i. record { whole = refl; brought = inl refl })
       (λ i. (λ a is. inl is, (λ a none. absurd none, (λ a none. absurd none, (λ a none. absurd none, (λ a is. inl is, tt))))));
-  sound = sound (two_banks small.geometry) 320;
+  sound = sound (banks_of (making_of small)) 320;
 }
 
 abbrev FindsNothing : Entry → Type 0
@@ -180,6 +209,7 @@ pub write_keeps : NoActiveComputes → TornErasesMakeNoBank → TornErasesKeepSo
 write_keeps computes makes stays bits sound erased = record {
   order = ((refl, ((refl, tt), (((refl, refl), (tt, tt)), ((record { played = refl; ends = refl }, (tt, (tt, tt))), ((tt, (tt, tt)), tt))))), refl);
   power_cut = λ told from k image few cut. cuts_keep computes makes stays bits sound k image cut;
+  counts = λ told from. cuts_count computes makes bits sound erased;
   found = λ told from. start_ups_find erased;
   at_exit = λ told from started few. exit_keeps sound erased;
   block_machine = is_legal;

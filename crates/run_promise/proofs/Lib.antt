@@ -1,3 +1,4 @@
+mod Founds
 mod Composition
 mod Spells
 mod WrongOrders

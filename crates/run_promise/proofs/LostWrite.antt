@@ -19,10 +19,11 @@ use Rattle.block_machine.specs.Legal.{IsLegal}
 use Rattle.fee_image.specs.Laws.{SoundImagesCompute}
 use Rattle.block_promise.specs.Marks.{Lists}
 use Rattle.block_promise.specs.OverDevice.{HasOffAt, TellsAtMost}
-use Rattle.device_bridge.specs.Image.{two_banks, attached}
+use Rattle.device_bridge.specs.Making.{banks_of}
+use Rattle.device_bridge.specs.Image.{attached}
 use Rattle.device_bridge.specs.FlashRun.{IsChain, AreSeen, AreOperations}
 use Rattle.run_promise.specs.Run.{cap, HasOrder, RefusalsExplain, has_cutter}
-use Rattle.run_promise.specs.Promise.{Keeps, StartUpsFind, FailuresArePaid, found_by}
+use Rattle.run_promise.specs.Promise.{Keeps, StartUpsFind, FailuresArePaid, found_by, making_of}
 use Rattle.run_promise.specs.Cases.{small, one, begun, operations, taken, lost_write}
 use Rattle.run_promise.proofs.KeptRuns.{every, at_most, some_list, some_changes, tells, each}
 
@@ -100,7 +101,7 @@ exit_keeps computes = record {
     accepted = each Accepted_at (record { whole = refl; brought = inl refl }) (record { whole = refl; brought = inl refl }) (record { whole = refl; brought = inr (inr (inl took)) });
     newest = each Newest_at (newest_of_1 0) (newest_of_1 1) newest_of_2;
   };
-  sound = (computes (two_banks small.geometry) (begun 4)).0 refl;
+  sound = (computes (banks_of (making_of small)) (begun 4)).0 refl;
 }
 
 -- THE REST

@@ -19,10 +19,11 @@ use Rattle.block_machine.specs.Accepted.{IsNotOlder, IsTakenIn}
 use Rattle.block_promise.specs.Marks.{Lists}
 use Rattle.block_promise.specs.OverDevice.{BeginsBefore, HasStarted}
 use Rattle.fee_image.specs.Sound.{IsSoundImage}
-use Rattle.device_bridge.specs.Image.{two_banks, found_as, IsSoundFlash}
+use Rattle.device_bridge.specs.Making.{banks_of}
+use Rattle.device_bridge.specs.Image.{held_as, IsSoundFlash}
 use Rattle.device_bridge.specs.FlashRun.{TellsBytes, StartsSound, bytes_after, IsChain}
 use Rattle.run_promise.specs.Run.{Run, HasOrder}
-use Rattle.run_promise.specs.Promise.{Promise, Keeps, found_by}
+use Rattle.run_promise.specs.Promise.{Promise, Keeps, found_by, making_of}
 use Rattle.run_promise.specs.Life.{Spell, IsSpell, LeavesImage, history_by, Holds, UnitsHoldMarks}
 
 -- a flash that was enlarged is large enough
@@ -33,17 +34,17 @@ twice n (x ∷ xs) = refl
 
 -- WHAT ONE SPELL COMES TO
 record Passes (c : Configuration) (first : List ℕ) (h : List Entry) (image : List ℕ) : Type 0 where
-  sound : IsSoundFlash c.geometry image
+  sound : IsSoundFlash (making_of c) image
   newest : (x : DeviceNumber × ℕ) → Contains (lengths_of c) x → IsNotOlder c h (instance_of x.0) (found_by c image x.0.0)
   taken : (x : DeviceNumber × ℕ) → Contains (lengths_of c) x → (found_by c image x.0.0 ≡ found_by c first x.0.0) ⊎ IsTakenIn c h at_first (instance_of x.0) (found_by c image x.0.0) h
 
 same_found : (c : Configuration) (a b : List ℕ) (n : ℕ) → enlarged (size_of c.geometry) a ≡ enlarged (size_of c.geometry) b → found_by c a n ≡ found_by c b n
-same_found c a b n same = ap (λ (bytes : List ℕ). found_as (two_banks c.geometry) bytes n (length_of (lengths_of c) n)) same
+same_found c a b n same = ap (λ (bytes : List ℕ). (held_as (banks_of (making_of c)) bytes n (length_of (lengths_of c) n)).mark) same
 
 -- where no start-up was made the image is the same, once it is enlarged
-idles : (c : Configuration) (first image : List ℕ) → IsSoundFlash c.geometry first → enlarged (size_of c.geometry) image ≡ enlarged (size_of c.geometry) first → Passes c first [] image
+idles : (c : Configuration) (first image : List ℕ) → IsSoundFlash (making_of c) first → enlarged (size_of c.geometry) image ≡ enlarged (size_of c.geometry) first → Passes c first [] image
 idles c first image sound same = record {
-  sound = subst (λ (bytes : List ℕ). IsSoundImage (two_banks c.geometry) bytes) (sym same) sound;
+  sound = subst (λ (bytes : List ℕ). IsSoundImage (banks_of (making_of c)) bytes) (sym same) sound;
   newest = λ x has. tt;
   taken = λ x has. inl (same_found c image first x.0.0 same);
 }
@@ -75,7 +76,7 @@ starts_with [] exit start last told chain = told ∙ ap (λ (bytes : List ℕ). 
 starts_with (x ∷ xs) exit start last told chain = ap (λ (bytes : List ℕ). Some bytes) chain.0
 
 -- it lists what was found in the first image
-lists_first : (r : Run) (t : TellsBytes r.flash) (marks : List (Instance × Mark)) (es : List Entry) → Promise r → StartsSound r.configuration.geometry r.flash
+lists_first : (r : Run) (t : TellsBytes r.flash) (marks : List (Instance × Mark)) (es : List Entry) → Promise r → StartsSound (making_of r.configuration) r.flash
     → r.history ≡ Found marks 0 ∷ es → Lists r.configuration marks (found_by r.configuration t.first)
 lists_first r t marks es promise sound is x has =
     let c = r.configuration in
@@ -102,7 +103,7 @@ both_are g entry exit first image a b both =
 
 -- without a start-up no operation can be cut
 idle_spell : (r : Run) (cut : Option ℕ) (first image : List ℕ) → Promise r → bytes_now r.flash.entry ≡ Some first → LeavesImage r cut image
-    → IsSoundFlash r.configuration.geometry first → r.history ≡ [] → Passes r.configuration first (history_by cut r.history) image
+    → IsSoundFlash (making_of r.configuration) first → r.history ≡ [] → Passes r.configuration first (history_by cut r.history) image
 idle_spell r None first image promise starts leaves sound empty =
     let order : HasOrder r [] = subst (λ (h : List Entry). HasOrder r h) empty promise.order in
     subst (λ (h : List Entry). Passes r.configuration first h image) (sym empty)
@@ -116,14 +117,14 @@ idle_spell r (Some k) first image promise starts leaves sound empty =
 begins_too : (k : ℕ) (marks : List (Instance × Mark)) (es : List Entry) → up_to k (Found marks 0 ∷ es) ≡ Found marks 0 ∷ up_to k es
 begins_too k marks es = ap (λ (b : Bool). cond (b || list_any (is_driver_until k) es) (Found marks 0 ∷ up_to k es) []) (leb-zero k)
 
-sound_start : (r : Run) (first : List ℕ) → bytes_now r.flash.entry ≡ Some first → IsSoundFlash r.configuration.geometry first → StartsSound r.configuration.geometry r.flash
-sound_start r first starts sound = subst (λ (bytes : Option (List ℕ)). IfSome bytes (IsSoundFlash r.configuration.geometry)) (sym starts) sound
+sound_start : (r : Run) (first : List ℕ) → bytes_now r.flash.entry ≡ Some first → IsSoundFlash (making_of r.configuration) first → StartsSound (making_of r.configuration) r.flash
+sound_start r first starts sound = subst (λ (bytes : Option (List ℕ)). IfSome bytes (IsSoundFlash (making_of r.configuration))) (sym starts) sound
 
 busy_spell : (r : Run) (cut : Option ℕ) (first image : List ℕ) (marks : List (Instance × Mark)) (es : List Entry) → Promise r → bytes_now r.flash.entry ≡ Some first → LeavesImage r cut image
-    → IsSoundFlash r.configuration.geometry first → r.history ≡ Found marks 0 ∷ es → Passes r.configuration first (history_by cut r.history) image
+    → IsSoundFlash (making_of r.configuration) first → r.history ≡ Found marks 0 ∷ es → Passes r.configuration first (history_by cut r.history) image
 busy_spell r None first image marks es promise starts leaves sound is =
     let t : TellsBytes r.flash = record { first = first; entry = starts; last = image; exit = leaves.0 } in
-    let from : StartsSound r.configuration.geometry r.flash = sound_start r first starts sound in
+    let from : StartsSound (making_of r.configuration) r.flash = sound_start r first starts sound in
     let started : HasStarted r.history = subst (λ (h : List Entry). HasStarted h) (sym is) tt in
     let keeps : Keeps r.configuration r.history image =
     subst (λ (bytes : Option (List ℕ)). IfSome bytes (Keeps r.configuration r.history)) leaves.0 (promise.at_exit t from started leaves.1) in
@@ -131,21 +132,21 @@ busy_spell r None first image marks es promise starts leaves sound is =
     (keeps_on r.configuration first image marks es (subst (λ (h : List Entry). Keeps r.configuration h image) is keeps) (lists_first r t marks es promise from is))
 busy_spell r (Some k) first image marks es promise starts leaves sound is =
     let t : TellsBytes r.flash = record { first = first; entry = starts; last = leaves.0.bytes.last; exit = leaves.0.bytes.exit } in
-    let from : StartsSound r.configuration.geometry r.flash = sound_start r first starts sound in
+    let from : StartsSound (making_of r.configuration) r.flash = sound_start r first starts sound in
     let same : up_to k r.history ≡ Found marks 0 ∷ up_to k es = ap (λ (h : List Entry). up_to k h) is ∙ begins_too k marks es in
     let keeps : Keeps r.configuration (up_to k r.history) image = promise.power_cut leaves.0 from k image leaves.1 leaves.2 in
     subst (λ (h : List Entry). Passes r.configuration first h image) (sym same)
     (keeps_on r.configuration first image marks (up_to k es) (subst (λ (h : List Entry). Keeps r.configuration h image) same keeps) (lists_first r t marks es promise from is))
 
 passes_by : (r : Run) (cut : Option ℕ) (first image : List ℕ) → Promise r → bytes_now r.flash.entry ≡ Some first → LeavesImage r cut image
-    → IsSoundFlash r.configuration.geometry first → Passes r.configuration first (history_by cut r.history) image
+    → IsSoundFlash (making_of r.configuration) first → Passes r.configuration first (history_by cut r.history) image
 passes_by r cut first image promise starts leaves sound = elim (begins_with r.history promise.begins) [
   | inl empty ↦ idle_spell r cut first image promise starts leaves sound empty
   | inr (marks, es, is) ↦ busy_spell r cut first image marks es promise starts leaves sound is
 ]
 
-passes : (c : Configuration) (first image : List ℕ) (x : Spell) → IsSpell c first x image → IsSoundFlash c.geometry first → Passes c first (history_by x.cut x.run.history) image
-passes c first image x spell = subst (λ (d : Configuration). IsSoundFlash d.geometry first → Passes d first (history_by x.cut x.run.history) image) spell.same_unit
+passes : (c : Configuration) (first image : List ℕ) (x : Spell) → IsSpell c first x image → IsSoundFlash (making_of c) first → Passes c first (history_by x.cut x.run.history) image
+passes c first image x spell = subst (λ (d : Configuration). IsSoundFlash (making_of d) first → Passes d first (history_by x.cut x.run.history) image) spell.same_unit
     (passes_by x.run x.cut first image spell.promise spell.starts spell.leaves)
 
 -- ONE AFTER ANOTHER
@@ -174,7 +175,7 @@ pub holds : UnitsHoldMarks
 holds c first [] last sound same = record {
   newest = λ x has. tt;
   taken = λ x has. inl (ap (λ (bytes : List ℕ). found_by c bytes x.0.0) same);
-  sound = subst (λ (bytes : List ℕ). IsSoundFlash c.geometry bytes) (sym same) sound;
+  sound = subst (λ (bytes : List ℕ). IsSoundFlash (making_of c) bytes) (sym same) sound;
 }
 holds c first (x ∷ xs) last sound (image, spell, rest) =
     let one : Passes c first (history_by x.cut x.run.history) image = passes c first image x spell sound in

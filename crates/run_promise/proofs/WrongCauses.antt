@@ -8,11 +8,12 @@ use Rattle.block_machine.specs.State.{Job}
 use Rattle.block_machine.specs.Results.{own_of, failed_set}
 use Rattle.block_machine.specs.Steps.{after}
 use Rattle.block_machine.specs.StartUp.{at_first}
-use Rattle.block_promise.specs.Payment.{ArePaid}
+use Rattle.block_promise.specs.Payment.{ArePaid, every_block}
 use Rattle.fee_format.specs.declared.bank_head.BankHead.{BankHead}
 use Rattle.fee_image.specs.RecordList.{IsTailBlank, IsClosed, end_of}
 use Rattle.fee_image.specs.Image.{bank_in}
-use Rattle.device_bridge.specs.Image.{two_banks, HasNoRoomFor}
+use Rattle.device_bridge.specs.Making.{banks_of}
+use Rattle.device_bridge.specs.Image.{HasNoRoomFor}
 use Rattle.device_bridge.specs.Bridge.{has_failed, IsWornOut}
 use Rattle.run_promise.specs.Run.{offs_of_flash}
 use Rattle.run_promise.specs.Promise.{FailuresArePaid, making_of}
@@ -30,7 +31,7 @@ no_off_without_a_cut counted = let few : 1 ≤ 0 = few_counted 1 0 (omega arith)
 abbrev roomy : List ℕ
 roomy = image_of 4294967295 (replicate 128 255)
 
-all_blank : IsTailBlank (bank_in (two_banks small.geometry) 1 0) roomy 2
+all_blank : IsTailBlank (bank_in (banks_of (making_of small)) 2 0) roomy 2
 all_blank zero low high = absurd (omega (arith, low))
 all_blank (suc zero) low high = absurd (omega (arith, low))
 all_blank (suc (suc zero)) low high = refl
@@ -44,20 +45,21 @@ all_blank (suc (suc (suc (suc (suc (suc (suc (suc (suc zero))))))))) low high = 
 all_blank (suc (suc (suc (suc (suc (suc (suc (suc (suc (suc q)))))))))) low high = absurd (omega (arith, high))
 
 abbrev head : BankHead
-head = record { format = 1; generation = 4294967295 }
+head = record { format = 2; generation = 4294967295 }
 
 abbrev Full : ℕ × BankHead → Type 0
-Full x = IsClosed (bank_in (two_banks small.geometry) x.1.format x.0) roomy (end_of (bank_in (two_banks small.geometry) x.1.format x.0) roomy)
-    ⊎ (10 < end_of (bank_in (two_banks small.geometry) x.1.format x.0) roomy + 4)
+Full x = IsClosed (bank_in (banks_of (making_of small)) x.1.format x.0) roomy (end_of (bank_in (banks_of (making_of small)) x.1.format x.0) roomy)
+    ⊎ (10 < end_of (bank_in (banks_of (making_of small)) x.1.format x.0) roomy + 4)
 
 not_full : Full (0, head) → ⊥
-not_full (inl closed) = closed all_blank
+not_full (inl (inl other)) = other refl
+not_full (inl (inr closed)) = closed all_blank
 not_full (inr few) = let f : 10 < 6 = few in omega arith
 
 same_pair : (x y : ℕ × BankHead) → Some x ≡ Some y → x ≡ y
 same_pair x y is = cc
 
-has_room : HasNoRoomFor 4 small.geometry roomy → ⊥
+has_room : HasNoRoomFor 4 (making_of small) roomy → ⊥
 has_room (k, h, active, why) =
     let same : (0, head) ≡ (k, h) = same_pair (0, head) (k, h) active in
     not_full (subst Full (sym same) why)
@@ -81,7 +83,7 @@ not_worn moment index soon is worn =
       | inr (rose, failed) ↦ none_failed moment failed
     ]
 
-unpaid : (n : ℕ) → n ≤ 1 → ArePaid tried_twice (IsWornOut (making_of tried_twice) worn_but_roomy.flash) n at_first worn_but_roomy.history → ⊥
+unpaid : (n : ℕ) → n ≤ 1 → ArePaid every_block tried_twice (IsWornOut (making_of tried_twice) worn_but_roomy.flash) n at_first worn_but_roomy.history → ⊥
 unpaid n is (inr (none, rest)) = none
 unpaid n is (inl (p0, inr (none, rest))) = none
 unpaid n is (inl (p0, inl (p1, inr (none, rest)))) = none

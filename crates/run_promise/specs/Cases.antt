@@ -31,11 +31,11 @@ blank = replicate 320 255
 
 -- bank 0 stands with this generation and with eight pages behind its gate, and bank 1 is blank
 abbrev pub image_of : ℕ → List ℕ → List ℕ
-image_of generation pages = bank_head_page 16 (record { format = 1; generation = generation }) ++ gate_page 16 ++ pages ++ replicate 160 255
+image_of generation pages = bank_head_page 16 (record { format = 2; generation = generation }) ++ gate_page 16 ++ pages ++ replicate 160 255
 
 -- the committed record of a content with this number
 abbrev pub record_of : ℕ → List ℕ → List ℕ
-record_of number content = rec_head_page 16 (record { number = number; kind = 1; length = 4 }) ++ gate_page 16 ++ content ++ replicate 12 255 ++ gate_page 16
+record_of number content = rec_head_page 2 16 (record { number = number; kind = 1; length = 4; count = 1 }) ++ gate_page 16 ++ content ++ replicate 12 255 ++ gate_page 16
 
 abbrev pub one : List ℕ
 one = 0x11 ∷ 0x22 ∷ 0x33 ∷ 0x44 ∷ []
@@ -159,7 +159,7 @@ programs pages =
 abbrev pub operations : List Change
 operations =
     programs 0 ∷ programs 1 ∷ programs 2 ∷ programs 3
-    ∷ record { op = Program 0 (bank_head_page 16 (record { format = 1; generation = 1 })); before = begun 4; answer = Done } ∷ []
+    ∷ record { op = Program 0 (bank_head_page 16 (record { format = 2; generation = 1 })); before = begun 4; answer = Done } ∷ []
 
 abbrev pub lost_write : Run
 lost_write =

@@ -13,7 +13,7 @@ use Rattle.fls_model.specs.Told.{bytes_now}
 use Rattle.device_bridge.specs.Image.{IsSoundFlash}
 use Rattle.device_bridge.specs.FlashRun.{TellsOperations, IsCutImage}
 use Rattle.run_promise.specs.Run.{Run}
-use Rattle.run_promise.specs.Promise.{Promise, found_by}
+use Rattle.run_promise.specs.Promise.{Promise, found_by, making_of}
 
 -- From switching on to switching off: a run that came to its end, or that a power cut broke off before or within one of its
 -- operations.
@@ -65,9 +65,9 @@ pub record Holds (c : Configuration) (first : List ℕ) (life : List Spell) (las
   pub taken : (x : DeviceNumber × ℕ) → Contains (lengths_of c) x
       → (found_by c last x.0.0 ≡ found_by c first x.0.0) ⊎ IsTakenInOne c (instance_of x.0) (found_by c last x.0.0) (histories_of life)
   -- in an image that the next run can go on with
-  pub sound : IsSoundFlash c.geometry last
+  pub sound : IsSoundFlash (making_of c) last
 
 abbrev pub UnitsHoldMarks : Type 0
 UnitsHoldMarks =
-    (c : Configuration) (first : List ℕ) (life : List Spell) (last : List ℕ) → IsSoundFlash c.geometry first → IsLife c first life last
+    (c : Configuration) (first : List ℕ) (life : List Spell) (last : List ℕ) → IsSoundFlash (making_of c) first → IsLife c first life last
     → Holds c first life last

@@ -1,28 +1,35 @@
 -- What the stack promises of each run. Its fields, read one after another, are one sentence, and behind it the bookkeeping.
-use Rattle.std.specs.Prelude.{◌⊎◌, ◌<◌, ◌≤◌, ℕ, IsTrue, List, length, Contains, IfSome}
+use Rattle.std.specs.Prelude.{◌≡◌, ◌⊎◌, ◌<◌, ◌≤◌, ℕ, IsTrue, List, length, Contains, Some, IfSome}
 use Rattle.nv_base.specs.Count.{last_count, next_count, WereCounted}
+use Rattle.block_config.specs.Banks.{bank_count}
 use Rattle.block_config.specs.Lengths.{lengths_of}
 use Rattle.block_config.specs.Sizes.{measures_of}
 use Rattle.block_machine.specs.Words.{Instance, Mark, Entry, Found, Configuration}
 use Rattle.block_machine.specs.Legal.{IsLegal}
 use Rattle.block_machine.specs.History.{up_to}
 use Rattle.block_promise.specs.Marks.{KeepsMarks, Lists}
-use Rattle.block_promise.specs.Payment.{IsPaid}
+use Rattle.block_promise.specs.Counts.{KeepsCounts, counts_in, last_found}
+use Rattle.block_promise.specs.Payment.{IsPaid, every_block}
 use Rattle.block_promise.specs.OverDevice.{HasStarted, BeginsBefore, TellsAtMost, HasOffAt}
 use Rattle.fls_model.specs.Told.{bytes_now}
-use Rattle.device_bridge.specs.Image.{IsSoundFlash, found_in}
+use Rattle.device_bridge.specs.Image.{IsSoundFlash, found_in, held_in}
 use Rattle.device_bridge.specs.FlashRun.{TellsBytes, TellsOperations, StartsSound, IsCutImage, bytes_after, AreOperations}
-use Rattle.device_bridge.specs.Bridge.{Making, IsWornOut}
+use Rattle.device_bridge.specs.Making.{Making}
+use Rattle.device_bridge.specs.Bridge.{IsWornOut}
 use Rattle.run_promise.specs.Run.{Run, cap, HasOrder, offs_of_flash, has_cutter, RefusalsExplain}
+
+-- the device is made for this configuration, over the banks that a configuration has
+abbrev pub making_of : Configuration → Making
+making_of c = record { geometry = c.geometry; banks = bank_count; numbers = lengths_of c; reserve = (measures_of c.geometry.page c.blocks).urgent }
 
 -- what a start-up finds in an image
 abbrev pub found_by : Configuration → List ℕ → ℕ → Mark
-found_by c image = found_in c.geometry (lengths_of c) image
+found_by c image = found_in (making_of c) image
 
 -- an image keeps to a history: what is found in it of each instance does, and it is sound
 pub record Keeps (c : Configuration) (h : List Entry) (image : List ℕ) : Type 0 where
   pub marks : KeepsMarks c h (found_by c image)
-  pub sound : IsSoundFlash c.geometry image
+  pub sound : IsSoundFlash (making_of c) image
 
 -- each start-up lists what it found in the bytes of its moment
 abbrev pub StartUpsFind : Run → Type 0
@@ -38,9 +45,16 @@ CutsKeep r = (k : ℕ) (image : List ℕ) → k < last_count → IsCutImage r.fl
 abbrev pub ExitKeeps : Run → Type 0
 ExitKeeps r = HasStarted r.history → length r.flash.operations < last_count → IfSome (bytes_now r.flash.exit) (Keeps r.configuration r.history)
 
--- the device is made for this configuration
-abbrev pub making_of : Configuration → Making
-making_of c = record { geometry = c.geometry; numbers = lengths_of c; reserve = (measures_of c.geometry.page c.blocks).urgent }
+-- how often each instance was written, by what an image has of it
+abbrev pub counts_by : Configuration → List ℕ → ℕ → ℕ
+counts_by c image = counts_in (held_in (making_of c) image)
+
+-- each image that a power cut may leave has the counts that the last start-up by then found, with the writes since
+abbrev pub CutsCount : Run → Type 0
+CutsCount r =
+    (k ops : ℕ) (image : List ℕ) → k < last_count → IsCutImage r.flash k image → last_found (up_to k r.history) ≡ Some ops
+    → IfSome (bytes_after r.flash ops)
+    (λ first. KeepsCounts r.configuration (up_to k r.history) (counts_by r.configuration first) (counts_by r.configuration image))
 
 -- A planned cut kept this operation from the flash: the power went off in it. Past the end of the count no Off tells which.
 abbrev pub MayBeKept : Run → ℕ → Type 0
@@ -48,16 +62,18 @@ MayBeKept r k = IsTrue (has_cutter r.course) × ((last_count ≤ k) ⊎ HasOffAt
 
 -- the flash's faults pay for each failure, but where the flash is worn out
 abbrev pub FailuresArePaid : Run → Type 0
-FailuresArePaid r = IsPaid r.configuration (IsWornOut (making_of r.configuration) r.flash) r.flash.entry.faults r.flash.exit.faults r.history
+FailuresArePaid r = IsPaid every_block r.configuration (IsWornOut (making_of r.configuration) r.flash) r.flash.entry.faults r.flash.exit.faults r.history
 
 pub record Promise (r : Run) : Type 0 where
   -- For every order of callers' requests and main-function turns,
   pub order : HasOrder r r.history
   -- and a power cut before or within any flash operation, start-up finds in each stored instance one whole accepted mark,
   -- not older than the last acknowledged by then;
-  pub power_cut : TellsOperations r.flash → StartsSound r.configuration.geometry r.flash → CutsKeep r
-  pub found : TellsBytes r.flash → StartsSound r.configuration.geometry r.flash → StartUpsFind r
-  pub at_exit : TellsBytes r.flash → StartsSound r.configuration.geometry r.flash → ExitKeeps r
+  pub power_cut : TellsOperations r.flash → StartsSound (making_of r.configuration) r.flash → CutsKeep r
+  -- with the count of its writes;
+  pub counts : TellsOperations r.flash → StartsSound (making_of r.configuration) r.flash → CutsCount r
+  pub found : TellsBytes r.flash → StartsSound (making_of r.configuration) r.flash → StartUpsFind r
+  pub at_exit : TellsBytes r.flash → StartsSound (making_of r.configuration) r.flash → ExitKeeps r
   -- every reply, choice and result is the block machine's over the one history;
   pub block_machine : IsLegal r.configuration cap r.history
   -- a failure result comes only from counted faults, refused copies or what the flash holds written.

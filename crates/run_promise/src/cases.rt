@@ -6,7 +6,7 @@ ghost use Rattle.block_machine.specs.Legal.{IsLegal};
 ghost use Rattle.block_promise.specs.OverDevice.{BeginsBefore, TellsAtMost};
 ghost use Rattle.device_bridge.specs.FlashRun.{AreOperations};
 ghost use Rattle.run_promise.specs.Run.{cap, HasOrder, RefusalsExplain, offs_of_flash};
-ghost use Rattle.run_promise.specs.Promise.{Promise, StartUpsFind, CutsKeep, ExitKeeps, FailuresArePaid, MayBeKept};
+ghost use Rattle.run_promise.specs.Promise.{Promise, StartUpsFind, CutsCount, CutsKeep, ExitKeeps, FailuresArePaid, MayBeKept};
 ghost use Rattle.run_promise.specs.Call.{IsRunOf, text_of};
 ghost use Rattle.run_promise.specs.Completeness.{Completeness};
 ghost use Rattle.run_promise.specs.Cases.{BreaksBy, small, quiet, wiped, empty_at_11, made_up_mark, off_without_a_cut, stale_in_play, invented_store, second_found, other_dataset, worn_but_roomy, worn_and_full, kept_write, lost_write, two_callers, written_at, always, turned, not_drained, ends_for_nothing, demo_run, demo_call};
@@ -52,9 +52,10 @@ pub fn wrong_causes_break_it()
     ensures worn_and_full { FailuresArePaid worn_and_full }
 {}
 
-/// A run that may lose an acknowledged write at a cut breaks it, and by its power cut alone: all other fields hold.
+/// A run that may lose an acknowledged write at a cut breaks it, by its power cut and its counts alone: all other fields hold.
 pub fn a_lost_write_breaks_it()
     ensures breaks { BreaksBy lost_write (CutsKeep lost_write) }
+    ensures counts { BreaksBy lost_write (CutsCount lost_write) }
     ensures order { HasOrder lost_write lost_write.history }
     ensures found { StartUpsFind lost_write }
     ensures at_exit { ExitKeeps lost_write }

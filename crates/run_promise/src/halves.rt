@@ -7,5 +7,5 @@ use memif::MemDevice;
 /// Over each device: what the stack promises of a run over it, and what it promises of the run's flash, make the promise
 /// of the run.
 pub fn halves_make_the_promise<D: MemDevice>(device: &D)
-    ensures { HalvesMakeIt (D.clock device.now).first }
+    ensures { HalvesMakeIt (D.clock device.now) }
 {}

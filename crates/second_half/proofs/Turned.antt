@@ -32,39 +32,33 @@ stand_by p (Ended r given) n old new clock is = is.0
 
 worked : (p : Part) (old new : DeviceTold) (clock : Clock) → Works p old new clock → HasTurned turn.Worked old new
 worked First old new clock is =
-    let later : old.first.ops ≤ new.first.ops = is.part.later in
-    let other : new.second.ops ≡ old.second.ops = ap (λ (x : DeviceTold). x.second.ops) is.only in record {
+    record {
       fixed = ap (λ (x : DeviceTold). x.fixed) is.only;
       started = ap (λ (x : DeviceTold). x.started) is.only;
-      later = omega (arith, later, other);
+      later = is.part.later;
       stand = stand_by First old.stand new.stand old new clock is.job;
     }
 worked Second old new clock is =
-    let later : old.second.ops ≤ new.second.ops = is.part.later in
-    let other : new.first.ops ≡ old.first.ops = ap (λ (x : DeviceTold). x.first.ops) is.only in record {
+    record {
       fixed = ap (λ (x : DeviceTold). x.fixed) is.only;
       started = ap (λ (x : DeviceTold). x.started) is.only;
-      later = omega (arith, later, other);
+      later = is.part.later;
       stand = stand_by Second old.stand new.stand old new clock is.job;
     }
 
 cut : (p : Part) (old new : DeviceTold) → IsCut p old new → HasTurned turn.Off old new
 cut First old new is =
-    let later : old.first.ops ≤ new.first.ops = is.part.later in
-    let other : new.second.ops ≡ old.second.ops = ap (λ (x : DeviceTold). x.second.ops) is.only in
     let off : new.first.off ≡ true = ap (λ x. x.off) is.part.only in record {
       fixed = ap (λ (x : DeviceTold). x.fixed) is.only;
       started = ap (λ (x : DeviceTold). x.started) is.only;
-      later = omega (arith, later, other);
+      later = is.part.later;
       stand = (ap (λ (x : DeviceTold). x.stand) is.only, off_by First new off);
     }
 cut Second old new is =
-    let later : old.second.ops ≤ new.second.ops = is.part.later in
-    let other : new.first.ops ≡ old.first.ops = ap (λ (x : DeviceTold). x.first.ops) is.only in
     let off : new.second.off ≡ true = ap (λ x. x.off) is.part.only in record {
       fixed = ap (λ (x : DeviceTold). x.fixed) is.only;
       started = ap (λ (x : DeviceTold). x.started) is.only;
-      later = omega (arith, later, other);
+      later = is.part.later;
       stand = (ap (λ (x : DeviceTold). x.stand) is.only, off_by Second new off);
     }
 

@@ -22,7 +22,7 @@ pub fn device_turn<D: MemDevice>(desk: &mut Desk, hand: &mut Option<Hand>, devic
     ensures adds { AddsBy (asked_by result (D.told device.old).stand (D.told device.new).stand (ops_of (D.told device.new))) desk.old desk.new }
     ensures hand { hand.new ≡ hand_by (D.told device.old).stand (D.told device.new).stand hand.old }
     ensures tied { IsTied desk.new hand.new (D.told device.new) }
-    ensures keeps { StaysKept desk.old hand.old (D.told device.old) (D.clock device.old).first desk.new hand.new (D.told device.new) (D.clock device.new).first }
+    ensures keeps { StaysKept desk.old hand.old (D.told device.old) (D.clock device.old) desk.new hand.new (D.told device.new) (D.clock device.new) }
 {
     let turned = turn(device);
     second_half(desk, hand, device, turned)

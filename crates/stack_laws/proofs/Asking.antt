@@ -5,8 +5,8 @@ use Rattle.std.proofs.Common.{◌≡◌, ◌≢◌, ◌⊎◌, ℕ, true, false,
 use Rattle.std.proofs.lemmas.Bool.{false≢true}
 use Rattle.std.proofs.lemmas.Bool.Decides.{eqb_tells}
 use Rattle.std.proofs.Math.Dec.{eqb}
-use Rattle.memif.specs.Told.{DeviceTold, PartTold}
-use Rattle.memif.specs.Clock.{PartClock}
+use Rattle.memif.specs.Told.{DeviceTold, Part, PartTold}
+use Rattle.memif.specs.Clock.{Clock}
 use Rattle.block_machine.specs.Words.{Mark, Erased, Entry, Request, Read, Write, Restore, Erase, Invalidate, SetIndex, GetIndex, SetProtection, SetLock, SetRam, PutRam, Status, ReadAll, WriteAll, CancelWriteAll, Reply, Accepted, Refused, StatusIs, IndexIs, Refusal, BlockPending, MultiPending, Ask, Configuration}
 use Rattle.block_machine.specs.State.{State, BlockState, InstanceState, Job}
 use Rattle.block_machine.specs.Blocks.{desc_of, block_at, status_of, is_pending, indices_by, same_instance, asked_block, job_block}
@@ -102,8 +102,8 @@ marks_stay c s t id instances block = ap (λ (xs : List InstanceState). marks_wi
     ∙ ap (λ (b : BlockState). marks_with c id s.instances b) block
 
 module _ (steps : HistoriesStep) (pass : AcceptedPass) (local : AsksAreLocal) (pending : JobsArePending) (configured : JobsAreConfigured) (places : PlacesAreConfigured)
-    (d : DeviceTold) (clock : PartClock) (keep : EntriesKeep d clock) (stay : TriesStayWith d clock) (old : DeskState) (caller : ℕ) (r : Request) (reply : Reply)
-    (allowed : IsAllowed old.config old.cap (state_of old) (Ask caller r reply)) (before : PartTold) where
+    (d : DeviceTold) (clock : Clock) (keep : EntriesKeep d clock) (stay : TriesStayWith d clock) (old : DeskState) (caller : ℕ) (r : Request) (reply : Reply)
+    (allowed : IsAllowed old.config old.cap (state_of old) (Ask caller r reply)) (before : Part → PartTold) where
   abbrev e : Entry
   e = Ask caller r reply
 
@@ -130,8 +130,8 @@ module _ (steps : HistoriesStep) (pass : AcceptedPass) (local : AsksAreLocal) (p
   hand_fits None kept = tt
   hand_fits (Some h) kept = fits_on h kept
 
-  paid_on : (hand : Option HandState) → IfSome hand (λ x. TriesArePaid old.config clock.worn before d.first old.entries x.program)
-      → IfSome hand (λ x. TriesArePaid old.config clock.worn before d.first (old.entries ++ e ∷ []) x.program)
+  paid_on : (hand : Option HandState) → IfSome hand (λ x. TriesArePaid old.config clock.worn before d old.entries x.program)
+      → IfSome hand (λ x. TriesArePaid old.config clock.worn before d (old.entries ++ e ∷ []) x.program)
   paid_on None paid = tt
   paid_on (Some x) paid = stay old.config old.entries before x.program e refl paid
 
@@ -143,7 +143,7 @@ module _ (steps : HistoriesStep) (pass : AcceptedPass) (local : AsksAreLocal) (p
     paid = paid_on hand kept.paid;
   })
 
-pub asks_keep : HistoriesStep → AcceptedPass → AsksAreLocal → JobsArePending → JobsAreConfigured → PlacesAreConfigured → (d : DeviceTold) (clock : PartClock)
+pub asks_keep : HistoriesStep → AcceptedPass → AsksAreLocal → JobsArePending → JobsAreConfigured → PlacesAreConfigured → (d : DeviceTold) (clock : Clock)
     → EntriesKeep d clock → TriesStayWith d clock → AsksKeep d clock
 asks_keep steps pass local pending configured places d clock keep stay old new hand caller r reply adds allowed before kept =
     asked_keeps steps pass local pending configured places d clock keep stay old caller r reply allowed before new hand adds kept

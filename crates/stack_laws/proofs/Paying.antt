@@ -4,7 +4,7 @@ use Rattle.std.specs.Option.{option_map_or}
 use Rattle.std.specs.List.{Contains}
 use Rattle.std.proofs.Common.{◌≡◌, ℕ, zero, suc, ◌+◌, ◌*◌, ◌-◌, ◌⊎◌, Bool, true, false, if◌then◌else◌, List, [], ◌∷◌, ◌++◌, length, map, Option, Some, None, refl, sym, ap, ◌∙◌, inl, inr, arith}
 use Rattle.std.proofs.lemmas.List.Elements.{Contains-append_left}
-use Rattle.block_machine.specs.Words.{Entry, Post, ReqResult, NotOk, JobKind, ReadJob, WriteJob, RestoreJob, EraseJob, InvalidateJob, ReadAllJob, WriteAllJob, Configuration}
+use Rattle.block_machine.specs.Words.{Entry, Ask, Pick, Wrote, Off, Found, Post, ReqResult, NotOk, JobKind, ReadJob, WriteJob, RestoreJob, EraseJob, InvalidateJob, ReadAllJob, WriteAllJob, Configuration}
 use Rattle.block_machine.specs.State.{State, Job}
 use Rattle.block_machine.specs.Blocks.{job_block, kind_of}
 use Rattle.block_machine.specs.StartUp.{at_first}
@@ -12,21 +12,34 @@ use Rattle.block_machine.specs.Steps.{step, after, after_from}
 use Rattle.block_machine.specs.Results.{Answer, Own, own_of, own_indices, result_of, open_sets, sets_of, failed_set, took_none, unwritten}
 use Rattle.block_machine.specs.Prices.{device_tries, faults_of, price_in_faults}
 use Rattle.machine_laws.specs.Laws.{FailedSetsAreLeast}
-use Rattle.block_promise.specs.Payment.{Worn, ArePaid, IsPaid}
+use Rattle.block_promise.specs.Payment.{Worn, ArePaid, IsPaid, price_for}
 use Rattle.ram_blocks.specs.Told.{Told}
 use Rattle.nv_front.specs.Posts.{IsHandedOver}
 
 -- AN ENTRY WITHOUT A PRICE
-no_price : (c : Configuration) (worn : Worn) (n : ℕ) (s : State) (es : List Entry) (e : Entry)
-    → price_in_faults c (after_from c s es) e ≡ 0 → ArePaid c worn n s es → ArePaid c worn n s (es ++ e ∷ [])
-no_price c worn n s [] e free paid = inl (omega (arith, free), tt)
-no_price c worn n s (x ∷ es) e free (inl (cheap, rest)) = inl (cheap, no_price c worn (n - price_in_faults c s x) (step c s x) es e free rest)
-no_price c worn n s (x ∷ es) e free (inr (excused, rest)) = inr (excused, no_price c worn n (step c s x) es e free rest)
+no_price : (of : ℕ → Bool) (c : Configuration) (worn : Worn) (n : ℕ) (s : State) (es : List Entry) (e : Entry)
+    → price_for of c (after_from c s es) e ≡ 0 → ArePaid of c worn n s es → ArePaid of c worn n s (es ++ e ∷ [])
+no_price of c worn n s [] e free paid = inl (omega (arith, free), tt)
+no_price of c worn n s (x ∷ es) e free (inl (cheap, rest)) = inl (cheap, no_price of c worn (n - price_for of c s x) (step c s x) es e free rest)
+no_price of c worn n s (x ∷ es) e free (inr (excused, rest)) = inr (excused, no_price of c worn n (step c s x) es e free rest)
 
-pub pays_free : (c : Configuration) (worn : Worn) (before now : ℕ) (h : List Entry) (e : Entry)
-    → price_in_faults c (after c h) e ≡ 0 → IsPaid c worn before now h → IsPaid c worn before now (h ++ e ∷ [])
-pays_free c worn before now h e free paid =
-    record { faults = paid.faults; counted = paid.counted; pay = no_price c worn paid.faults at_first h e free paid.pay }
+-- what has no price has none for some blocks
+price_by : (b : Bool) (price : ℕ) → price ≡ 0 → (if b then price else 0) ≡ 0
+price_by true price none = none
+price_by false price none = refl
+
+none_for : (of : ℕ → Bool) (c : Configuration) (s : State) (e : Entry) → price_in_faults c s e ≡ 0 → price_for of c s e ≡ 0
+none_for of c s (Post block r given refused ops) none = price_by (of block) (price_in_faults c s (Post block r given refused ops)) none
+none_for of c s (Ask caller r reply) none = refl
+none_for of c s (Pick block kind t ops) none = refl
+none_for of c s (Wrote i mark ops) none = refl
+none_for of c s (Off ops) none = refl
+none_for of c s (Found marks ops) none = refl
+
+pub pays_free : (of : ℕ → Bool) (c : Configuration) (worn : Worn) (before now : ℕ) (h : List Entry) (e : Entry)
+    → price_in_faults c (after c h) e ≡ 0 → IsPaid of c worn before now h → IsPaid of c worn before now (h ++ e ∷ [])
+pays_free of c worn before now h e free paid =
+    record { faults = paid.faults; counted = paid.counted; pay = no_price of c worn paid.faults at_first h e (none_for of c (after c h) e free) paid.pay }
 
 -- PRICES
 -- with no job in hand

@@ -2,13 +2,14 @@
 use Rattle.std.specs.Prelude.{option_map, IfSome}
 use Rattle.std.proofs.Common.{◌≡◌, ℕ, Bool, true, false, List, [], ◌∷◌, ◌++◌, Option, Some, None, refl, sym, subst}
 use Rattle.nv_base.specs.declared.job.JobStep.TheVariants as step
-use Rattle.memif.specs.Told.{DeviceTold, PartTold, Stand, ops_of}
-use Rattle.memif.specs.Clock.{PartClock}
+use Rattle.memif.specs.Told.{DeviceTold, Stand, ops_of, Part, part_at, PartTold}
+use Rattle.memif.specs.Clock.{Clock}
 use Rattle.block_machine.specs.Words.{Entry, Pick, JobKind, ReadJob, WriteJob, RestoreJob, EraseJob, InvalidateJob, ReadAllJob, WriteAllJob, ReqResult, FromDevice, Configuration}
 use Rattle.block_machine.specs.State.{State, Job}
 use Rattle.block_machine.specs.Results.{took_none}
 use Rattle.block_machine.specs.Steps.{after}
 use Rattle.block_promise.specs.OverDevice.{HasStarted}
+use Rattle.block_promise.specs.OverDevice.{is_of}
 use Rattle.block_promise.specs.Payment.{IsPaid}
 use Rattle.turn_laws.specs.Turn.{Keeps, EntriesKeep}
 use Rattle.turn_laws.specs.Tries.{TriesArePaid, TriesBegin}
@@ -56,14 +57,14 @@ failures_are : (c : Configuration) (s : State) (j : Job) (t : Bool) → (hand_by
 failures_are c s j true = refl
 failures_are c s j false = refl
 
-paid_by : (d : DeviceTold) (clock : PartClock) → TriesBegin d clock → (c : Configuration) (s : State) (h : List Entry) (before : PartTold)
-    → IsPaid c clock.worn before.faults d.first.faults h → (o : Option Job)
-    → IfSome (option_map (hand_for c s) o) (λ x. TriesArePaid c clock.worn before d.first h x.program)
+paid_by : (d : DeviceTold) (clock : Clock) → TriesBegin d clock → (c : Configuration) (s : State) (h : List Entry) (before : Part → PartTold)
+    → ((p : Part) → IsPaid (is_of p d.fixed) c clock.worn (before p).faults (part_at p d).faults h) → (o : Option Job)
+    → IfSome (option_map (hand_for c s) o) (λ x. TriesArePaid c clock.worn before d h x.program)
 paid_by d clock begins c s h before paid None = tt
 paid_by d clock begins c s h before paid (Some j) = begins c h before (hand_for c s j).program (done_is c s j (took_none j.taken)) (failures_are c s j (took_none j.taken)) paid
 
 -- THE PICK
-pub picks_keep : (d : DeviceTold) (clock : PartClock) → EntriesKeep d clock → TriesBegin d clock → PicksKeep d clock
+pub picks_keep : (d : DeviceTold) (clock : Clock) → EntriesKeep d clock → TriesBegin d clock → PicksKeep d clock
 picks_keep d clock keep begins old new hand block kind taken adds allowed before kept =
     subst (λ (x : DeskState). StackKeeps before x (hand_in x) d clock) (sym adds) (record {
       started = started_push old.entries e;

@@ -3,8 +3,8 @@ use Rattle.std.specs.Prelude.{unwrap_or}
 use Rattle.std.specs.List.{Contains}
 use Rattle.std.proofs.Common.{◌≡◌, ℕ, ◌+◌, ◌⊎◌, Bool, true, false, List, [], ◌∷◌, ◌++◌, Option, Some, None, refl, sym, ap, ◌∙◌, subst, inl, inr}
 use Rattle.nv_base.specs.declared.job.JobStep.TheVariants as step
-use Rattle.memif.specs.Told.{DeviceTold, PartTold, ops_of, given_by, IfElse}
-use Rattle.memif.specs.Clock.{PartClock}
+use Rattle.memif.specs.Told.{DeviceTold, ops_of, given_by, IfElse, Part, part_at, PartTold}
+use Rattle.memif.specs.Clock.{Clock}
 use Rattle.block_machine.specs.Words.{Entry, Post, ReqResult, GivenFrom, JobKind, ReadJob, RestoreJob, Request, Read, Write, Restore, Erase, Invalidate, SetIndex, GetIndex, SetProtection, SetLock, SetRam, PutRam, Status, ReadAll, WriteAll, CancelWriteAll}
 use Rattle.block_machine.specs.State.{Job}
 use Rattle.block_machine.specs.Blocks.{desc_of, job_block, job_kind, kind_of, names_ram}
@@ -13,6 +13,7 @@ use Rattle.block_machine.specs.Results.{Answer, Own, own_of, open_sets, result_o
 use Rattle.block_machine.specs.Sweeps.{sweep_result}
 use Rattle.block_machine.specs.Prices.{price_in_faults}
 use Rattle.machine_laws.specs.Laws.{FailedSetsAreLeast}
+use Rattle.block_promise.specs.OverDevice.{is_of}
 use Rattle.block_promise.specs.Payment.{IsPaid}
 use Rattle.turn_laws.specs.Turn.{EntriesKeep}
 use Rattle.turn_laws.specs.Tries.{PostsArePaid}
@@ -60,9 +61,9 @@ step_is false h some is = is
 
 -- THE JOB IN HAND
 module _ (least : FailedSetsAreLeast) (machines : EndsAreTheMachines) (explained : EndsAreExplained) (programs : EndsAreOfPrograms)
-    (d : DeviceTold) (clock : PartClock) (keep : EntriesKeep d clock) (pay : PostsArePaid d clock)
+    (d : DeviceTold) (clock : Clock) (keep : EntriesKeep d clock) (pay : PostsArePaid d clock)
     (old : DeskState) (h : HandState) (j : Job) (r : ReqResult) (source : GivenFrom) (hand : (state_of old).hand ≡ Some j)
-    (is : IsInHand old.config (state_of old) h d) (over : h.step ≡ step.Ended r source) (before : PartTold) (kept : StackKeeps before old (Some h) d clock) where
+    (is : IsInHand old.config (state_of old) h d) (over : h.step ≡ step.Ended r source) (before : Part → PartTold) (kept : StackKeeps before old (Some h) d clock) where
   abbrev own : Own
   own = own_of old.config (state_of old) (job_block j)
 
@@ -74,10 +75,10 @@ module _ (least : FailedSetsAreLeast) (machines : EndsAreTheMachines) (explained
   is_machines failed ex = machines old.config (state_of old) j r source (given_by d.stand) failed (record { open_set = ex.open_set; ends = ex.ends; gives = ex.gives })
 
   abbrev IsPaidNow : Answer → ℕ → Type 0
-  IsPaidNow a refused = IsPaid old.config clock.worn before.faults d.first.faults (old.entries ++ Post (job_block j) a.0 a.1 refused (ops_of d) ∷ [])
+  IsPaidNow a refused = (p : Part) → IsPaid (is_of p d.fixed) old.config clock.worn (before p).faults (part_at p d).faults (old.entries ++ Post (job_block j) a.0 a.1 refused (ops_of d) ∷ [])
 
   free : (a : Answer) (refused : ℕ) → price_in_faults old.config (state_of old) (Post (job_block j) a.0 a.1 refused (ops_of d)) ≡ 0 → IsPaidNow a refused
-  free a refused none = pays_free old.config clock.worn before.faults d.first.faults old.entries (Post (job_block j) a.0 a.1 refused (ops_of d)) none kept.keeps.over.paid
+  free a refused none = λ p. pays_free (is_of p d.fixed) old.config clock.worn (before p).faults (part_at p d).faults old.entries (Post (job_block j) a.0 a.1 refused (ops_of d)) none (kept.keeps.over.paid p)
 
   -- its program is over
   next_is : took_none j.taken ≡ false → next_in h.program ≡ None
@@ -130,21 +131,21 @@ module _ (least : FailedSetsAreLeast) (machines : EndsAreTheMachines) (explained
       by (inr each) = free (posted.result, post.given) post.refused
           (free_refused old.config (state_of old) (job_block j) posted.result post.given post.refused (desc_of old.config (job_block j)).repeats (ops_of d) each)
 
-pub posts_keep : FailedSetsAreLeast → EndsAreTheMachines → EndsAreExplained → EndsAreOfPrograms → (d : DeviceTold) (clock : PartClock)
+pub posts_keep : FailedSetsAreLeast → EndsAreTheMachines → EndsAreExplained → EndsAreOfPrograms → (d : DeviceTold) (clock : Clock)
     → EntriesKeep d clock → PostsArePaid d clock → PostsKeep d clock
 posts_keep least machines explained programs d clock keep pay old new h j r source told behind posted hand is over post before kept =
     posted_keeps least machines explained programs d clock keep pay old h j r source hand is over before kept new told behind posted post
 
 -- WITHOUT A PICK
-module _ (d : DeviceTold) (clock : PartClock) (keep : EntriesKeep d clock) (old new : DeskState) (told behind : List Told) (posted : Posted)
-    (none : (state_of old).hand ≡ None) (before : PartTold) (kept : StackKeeps before old None d clock) where
+module _ (d : DeviceTold) (clock : Clock) (keep : EntriesKeep d clock) (old new : DeskState) (told behind : List Told) (posted : Posted)
+    (none : (state_of old).hand ≡ None) (before : Part → PartTold) (kept : StackKeeps before old None d clock) where
   alone : (block : ℕ) (ram : Bool) (ended : Answer) → IsPosted (Unit {0}) block ram ended (ops_of d) old new told behind posted → StackKeeps before new None d clock
   alone block ram ended post =
       subst (λ (x : DeskState). StackKeeps before x None d clock) (sym post.adds) (record {
         started = started_push old.entries e;
         keeps = keep old.config old.cap old.entries before e kept.started kept.keeps refl (post.allowed tt) refl
-            (pays_free old.config clock.worn before.faults d.first.faults old.entries e
-            (free_alone old.config (state_of old) block posted.result post.given post.refused (ops_of d) none) kept.keeps.over.paid);
+            (λ p. pays_free (is_of p d.fixed) old.config clock.worn (before p).faults (part_at p d).faults old.entries e
+            (free_alone old.config (state_of old) block posted.result post.given post.refused (ops_of d) none) (kept.keeps.over.paid p));
         fits = tt;
         paid = tt;
       })
@@ -160,6 +161,6 @@ module _ (d : DeviceTold) (clock : PartClock) (keep : EntriesKeep d clock) (old 
   alone_by (BeginSweep sw) post = absurd post
   alone_by (PickMember sw id) post = absurd post
 
-pub skipped_keep : (d : DeviceTold) (clock : PartClock) → EntriesKeep d clock → SkippedKeep d clock
+pub skipped_keep : (d : DeviceTold) (clock : Clock) → EntriesKeep d clock → SkippedKeep d clock
 skipped_keep d clock keep old new told behind posted none post before kept =
     alone_by d clock keep old new told behind posted none before kept (next_of old.config (state_of old)) post

@@ -1,18 +1,20 @@
 -- A turn of the device, with the entry that it asks for.
 use Rattle.std.specs.Prelude.{IfSome}
-use Rattle.std.proofs.Common.{◌≡◌, ◌⊎◌, ℕ, true, false, List, [], ◌∷◌, ◌++◌, Option, Some, None, refl, sym, ap, ◌∙◌, subst, inl, inr}
+use Rattle.std.proofs.Common.{arith, ◌≡◌, ◌⊎◌, ℕ, true, false, List, [], ◌∷◌, ◌++◌, Option, Some, None, refl, sym, ap, ◌∙◌, subst, inl, inr}
 use Rattle.memif.specs.declared.answer.DeviceTurn.{DeviceTurn}
 use Rattle.memif.specs.declared.answer.DeviceTurn.TheVariants as turn
 use Rattle.memif.specs.declared.answer.JobResult.{JobResult}
 use Rattle.memif.specs.declared.answer.JobResult.TheVariants.{JobOk}
+use Rattle.nv_base.specs.Marks.{instance_of}
 use Rattle.memif.specs.Told as device
-use Rattle.memif.specs.Told.{DeviceTold, PartTold, Part, First, Second, Stand, Open, Ended, is_open, ops_of}
+use Rattle.memif.specs.Told.{DeviceTold, Part, First, Second, Stand, Open, Ended, is_open, ops_of, PartTold}
 use Rattle.memif.specs.Clock.{Clock}
 use Rattle.memif.specs.Calls.{JobTurns, IsCut, Turns}
 use Rattle.block_machine.specs.Words.{Mark, Entry, Off, Configuration}
 use Rattle.block_machine.specs.State.{State}
 use Rattle.block_machine.specs.Steps.{step}
 use Rattle.machine_laws.specs.Laws.{HistoriesStep, LegalStatesAreConsistent, JobsAreConfigured}
+use Rattle.block_promise.specs.Counts.{count_due}
 use Rattle.turn_laws.specs.Outcomes.{outcome_by, OutcomesFit}
 use Rattle.turn_laws.specs.Turn.{StaysBy, TurnsKeep, settled_by, wrote_by}
 use Rattle.turn_laws.specs.Tries.{TriesArePaid, TriesStay, TriesGoOn, TriesStayWith, is_post}
@@ -76,26 +78,26 @@ fits_off c s None d ops fits = tt
 fits_off c s (Some h) d ops fits = λ j held. record { fit = (fits j held).fit; last = (fits j held).last }
 
 module _ (steps : HistoriesStep) (consistent : LegalStatesAreConsistent) (configured : JobsAreConfigured) (old : DeviceTold) (clock : Clock) (new : DeviceTold) (clock_new : Clock)
-    (tries : TriesStay old clock.first new clock_new.first) (goes_on : TriesGoOn old clock.first new clock_new.first) (outcomes : OutcomesFit old new)
-    (stay_with : TriesStayWith new clock_new.first) (before : PartTold) (desk desk_new : DeskState) (hand : Option HandState)
-    (up : old.started ≡ true) (paired : IsPaired desk.config (state_of desk) hand old) (kept : StackKeeps before desk hand old clock.first) where
+    (tries : TriesStay old clock new clock_new) (goes_on : TriesGoOn old clock new clock_new) (outcomes : OutcomesFit old new)
+    (stay_with : TriesStayWith new clock_new) (before : Part → PartTold) (desk desk_new : DeskState) (hand : Option HandState)
+    (up : old.started ≡ true) (paired : IsPaired desk.config (state_of desk) hand old) (kept : StackKeeps before desk hand old clock) where
   abbrev ArePaidAt : List Entry → Option HandState → Type 0
-  ArePaidAt entries held = IfSome held (λ x. TriesArePaid desk.config clock_new.first.worn before new.first entries x.program)
+  ArePaidAt entries held = IfSome held (λ x. TriesArePaid desk.config clock_new.worn before new entries x.program)
 
   paid_with : (e : Entry) → is_post e ≡ false → (held : Option HandState) → ArePaidAt desk.entries held → ArePaidAt (desk.entries ++ e ∷ []) held
   paid_with e plain None paid = tt
   paid_with e plain (Some x) paid = stay_with desk.config desk.entries before x.program e plain paid
 
   -- all is kept behind an entry, or without one
-  made : (e : Option Entry) → IsNoPost e → StaysBy e old clock.first new clock_new.first → AddsBy e desk desk_new → (held : Option HandState)
-      → HandFits desk.config (state_by desk.config (state_of desk) e) held new → ArePaidAt desk.entries held → StackKeeps before desk_new held new clock_new.first
-  made None plain stays adds held fits paid = subst (λ (x : DeskState). StackKeeps before x held new clock_new.first) (sym adds) (record {
+  made : (e : Option Entry) → IsNoPost e → StaysBy e old clock new clock_new → AddsBy e desk desk_new → (held : Option HandState)
+      → HandFits desk.config (state_by desk.config (state_of desk) e) held new → ArePaidAt desk.entries held → StackKeeps before desk_new held new clock_new
+  made None plain stays adds held fits paid = subst (λ (x : DeskState). StackKeeps before x held new clock_new) (sym adds) (record {
     started = kept.started;
     keeps = stays desk.config desk.cap desk.entries before kept.started kept.keeps;
     fits = fits;
     paid = paid;
   })
-  made (Some e) plain stays adds held fits paid = subst (λ (x : DeskState). StackKeeps before x held new clock_new.first) (sym adds.0) (record {
+  made (Some e) plain stays adds held fits paid = subst (λ (x : DeskState). StackKeeps before x held new clock_new) (sym adds.0) (record {
     started = started_push desk.entries e;
     keeps = stays desk.config desk.cap desk.entries before kept.started adds.1 kept.keeps;
     fits = subst (λ (t : State). HandFits desk.config t held new) (sym (steps desk.config desk.entries e)) fits;
@@ -103,24 +105,24 @@ module _ (steps : HistoriesStep) (consistent : LegalStatesAreConsistent) (config
   })
 
   paid_now : ArePaidAt desk.entries hand
-  paid_now = paid_stays old clock.first new clock_new.first tries desk.config desk.cap desk.entries before kept.keeps hand kept.paid
+  paid_now = paid_stays old clock new clock_new tries desk.config desk.cap desk.entries before kept.keeps hand kept.paid
 
   abbrev Done : Type 0
-  Done = StackKeeps before desk_new (hand_by old.stand new.stand hand) new clock_new.first
+  Done = StackKeeps before desk_new (hand_by old.stand new.stand hand) new clock_new
 
   -- the power goes off
-  went_off : new.stand ≡ old.stand → StaysBy (Some (Off (ops_of new))) old clock.first new clock_new.first → AddsBy (Some (Off (ops_of new))) desk desk_new → Done
-  went_off same stays adds = subst (λ (x : Option HandState). StackKeeps before desk_new x new clock_new.first) (sym (hand_same old.stand new.stand hand same))
+  went_off : new.stand ≡ old.stand → StaysBy (Some (Off (ops_of new))) old clock new clock_new → AddsBy (Some (Off (ops_of new))) desk desk_new → Done
+  went_off same stays adds = subst (λ (x : Option HandState). StackKeeps before desk_new x new clock_new) (sym (hand_same old.stand new.stand hand same))
       (made (Some (Off (ops_of new))) refl stays adds hand
       (fits_off desk.config (state_of desk) hand new (ops_of new) (fits_stay desk.config (state_of desk) hand old new same kept.fits)) paid_now)
 
   -- no job ended
-  stood : new.stand ≡ old.stand → StaysBy (settled_by old.stand new.stand (ops_of new)) old clock.first new clock_new.first
+  stood : new.stand ≡ old.stand → StaysBy (settled_by old.stand new.stand (ops_of new)) old clock new clock_new
       → AddsBy (settled_by old.stand new.stand (ops_of new)) desk desk_new → Done
   stood same stays adds =
       let none = settled_same old.stand new.stand (ops_of new) same in
-      subst (λ (x : Option HandState). StackKeeps before desk_new x new clock_new.first) (sym (hand_same old.stand new.stand hand same))
-      (made None tt (subst (λ (e : Option Entry). StaysBy e old clock.first new clock_new.first) none stays) (subst (λ (e : Option Entry). AddsBy e desk desk_new) none adds) hand
+      subst (λ (x : Option HandState). StackKeeps before desk_new x new clock_new) (sym (hand_same old.stand new.stand hand same))
+      (made None tt (subst (λ (e : Option Entry). StaysBy e old clock new clock_new) none stays) (subst (λ (e : Option Entry). AddsBy e desk desk_new) none adds) hand
       (fits_stay desk.config (state_of desk) hand old new same kept.fits) paid_now)
 
   -- THE JOB ENDED
@@ -129,11 +131,17 @@ module _ (steps : HistoriesStep) (consistent : LegalStatesAreConsistent) (config
     hand_is h held = ap (λ (a : Stand). hand_by a new.stand hand) on ∙ (ap (λ (b : Stand). hand_by (Open job) b hand) off
         ∙ ap (λ (x : Option HandState). hand_by (Open job) (Ended r given) x) held)
 
-    ended_paid : (h : HandState) → hand ≡ Some h → IsInHand desk.config (state_of desk) h old → TriesArePaid desk.config clock.first.worn before old.first desk.entries h.program
+    ended_paid : (h : HandState) → hand ≡ Some h → IsInHand desk.config (state_of desk) h old → TriesArePaid desk.config clock.worn before old desk.entries h.program
         → ArePaidAt desk.entries (Some (ended (outcome_by job.mark r) h))
-    ended_paid h held is paid = goes_on desk.config desk.cap desk.entries before h.program job
-        (index desk.config (state_of desk) h old new job r given is on off) r given kept.keeps on off
-        (next desk.config (state_of desk) h old new job r given is on off) (number_is desk.config (state_of desk) h old new job r given is on off)
+    ended_paid h held is paid =
+        let (x, has, same) = listed desk.config (state_of desk) h old new job r given is on off
+        (is_block consistent configured desk.config desk.cap desk.entries is.job kept.keeps.device.rules kept.keeps.over.legal is.hand) in
+        let number = number_is desk.config (state_of desk) h old new job r given is on off in
+        let small = small_index desk.config (state_of desk) h old new job r given is on off kept.keeps.device.rules in
+        let own : (instance_of x.0).block ≡ h.program.block = omega (arith, number, small, same) in
+        goes_on desk.config desk.cap desk.entries before h.program job
+        (index desk.config (state_of desk) h old new job r given is on off) x r given kept.keeps on off
+        (next desk.config (state_of desk) h old new job r given is on off) number has same own
         (read_has_none desk.config (state_of desk) h old new job r given is on off) is.working.tries paid
 
     ended_seen : (h : HandState) → IsInHand desk.config (state_of desk) h old → HandFits desk.config (state_of desk) (Some h) old
@@ -143,26 +151,26 @@ module _ (steps : HistoriesStep) (consistent : LegalStatesAreConsistent) (config
         (is_block consistent configured desk.config desk.cap desk.entries is.job kept.keeps.device.rules kept.keeps.over.legal is.hand) in
         ended_fits desk.config (state_of desk) h old new job r given is on off (ops_of new) x same
         (small_index desk.config (state_of desk) h old new job r given is on off kept.keeps.device.rules)
-        (outcomes desk.config (state_of desk) job x r given on off (kept.keeps.settled kept.started up) has same) fits
+        (outcomes desk.config (state_of desk) (count_due desk.entries kept.keeps.base) job x r given on off (kept.keeps.settled kept.started up) has same) fits
 
     entry_is : settled_by old.stand new.stand (ops_of new) ≡ settled_by (Open job) (Ended r given) (ops_of new)
     entry_is = ap (λ (a : Stand). settled_by a new.stand (ops_of new)) on ∙ ap (λ (b : Stand). settled_by (Open job) b (ops_of new)) off
 
-    ended_with : (h : HandState) → hand ≡ Some h → StaysBy (settled_by old.stand new.stand (ops_of new)) old clock.first new clock_new.first
+    ended_with : (h : HandState) → hand ≡ Some h → StaysBy (settled_by old.stand new.stand (ops_of new)) old clock new clock_new
         → AddsBy (settled_by old.stand new.stand (ops_of new)) desk desk_new → Done
     ended_with h held stays adds =
         let is : IsInHand desk.config (state_of desk) h old = subst (λ (x : Option HandState). IsPaired desk.config (state_of desk) x old) held paired in
         let fits : HandFits desk.config (state_of desk) (Some h) old = subst (λ (x : Option HandState). HandFits desk.config (state_of desk) x old) held kept.fits in
-        let paid : TriesArePaid desk.config clock.first.worn before old.first desk.entries h.program =
-        subst (λ (x : Option HandState). IfSome x (λ y. TriesArePaid desk.config clock.first.worn before old.first desk.entries y.program)) held kept.paid in
-        subst (λ (x : Option HandState). StackKeeps before desk_new x new clock_new.first) (sym (hand_is h held))
+        let paid : TriesArePaid desk.config clock.worn before old desk.entries h.program =
+        subst (λ (x : Option HandState). IfSome x (λ y. TriesArePaid desk.config clock.worn before old desk.entries y.program)) held kept.paid in
+        subst (λ (x : Option HandState). StackKeeps before desk_new x new clock_new) (sym (hand_is h held))
         (made (settled_by (Open job) (Ended r given) (ops_of new)) (no_post (Open job) (Ended r given) (ops_of new))
-        (subst (λ (e : Option Entry). StaysBy e old clock.first new clock_new.first) entry_is stays)
+        (subst (λ (e : Option Entry). StaysBy e old clock new clock_new) entry_is stays)
         (subst (λ (e : Option Entry). AddsBy e desk desk_new) entry_is adds)
         (Some (ended (outcome_by job.mark r) h)) (ended_seen h is fits) (ended_paid h held is paid))
 
     -- a device that has a job open has one in hand
-    ended_by_hand : (held : Option HandState) → hand ≡ held → StaysBy (settled_by old.stand new.stand (ops_of new)) old clock.first new clock_new.first
+    ended_by_hand : (held : Option HandState) → hand ≡ held → StaysBy (settled_by old.stand new.stand (ops_of new)) old clock new clock_new
         → AddsBy (settled_by old.stand new.stand (ops_of new)) desk desk_new → Done
     ended_by_hand (Some h) is stays adds = ended_with h is stays adds
     ended_by_hand None is stays adds =
@@ -170,20 +178,20 @@ module _ (steps : HistoriesStep) (consistent : LegalStatesAreConsistent) (config
         let closed : is_open old.stand ≡ false = none.1 in
         let open_now : is_open old.stand ≡ true = ap is_open on in cc
 
-  moved : Moves old.stand new.stand → StaysBy (settled_by old.stand new.stand (ops_of new)) old clock.first new clock_new.first
+  moved : Moves old.stand new.stand → StaysBy (settled_by old.stand new.stand (ops_of new)) old clock new clock_new
       → AddsBy (settled_by old.stand new.stand (ops_of new)) desk desk_new → Done
   moved (inl same) stays adds = stood same stays adds
   moved (inr (job, r, given, on, off)) stays adds = ended_by_hand job r given on off hand refl stays adds
 
-  pub turned : (answer : DeviceTurn) → Turns answer old clock new clock_new → TurnsKeep answer old clock.first new clock_new.first
+  pub turned : (answer : DeviceTurn) → Turns answer old clock new clock_new → TurnsKeep answer old clock new clock_new
       → AddsBy (entry_by answer old.stand new.stand (ops_of new)) desk desk_new → Done
   turned turn.Off turns keeps adds = went_off (off_stand old clock new clock_new turns) keeps adds
   turned turn.Idle turns keeps adds = stood (ap (λ (d : DeviceTold). d.stand) turns.0.1) keeps adds
   turned turn.Worked turns keeps adds = moved (moves_by turns.0.1.0 old new clock_new old.stand new.stand turns.0.1.1.job) keeps adds
 
 pub turns_keep : HistoriesStep → LegalStatesAreConsistent → JobsAreConfigured → (old : DeviceTold) (clock : Clock) (new : DeviceTold) (clock_new : Clock) → (answer : DeviceTurn)
-    → Turns answer old clock new clock_new → TurnsKeep answer old clock.first new clock_new.first → TriesStay old clock.first new clock_new.first
-    → TriesGoOn old clock.first new clock_new.first → OutcomesFit old new → TriesStayWith new clock_new.first
-    → DeviceTurnsKeep answer old clock.first new clock_new.first
+    → Turns answer old clock new clock_new → TurnsKeep answer old clock new clock_new → TriesStay old clock new clock_new
+    → TriesGoOn old clock new clock_new → OutcomesFit old new → TriesStayWith new clock_new
+    → DeviceTurnsKeep answer old clock new clock_new
 turns_keep steps consistent configured old clock new clock_new answer turns keeps tries goes_on outcomes stay_with desk desk_new hand up paired adds before kept =
     turned steps consistent configured old clock new clock_new tries goes_on outcomes stay_with before desk desk_new hand up paired kept answer turns keeps adds

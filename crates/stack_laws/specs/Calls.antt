@@ -4,7 +4,7 @@ use Rattle.nv_base.specs.declared.instance.Instance.{Instance}
 use Rattle.nv_base.specs.declared.job.DeviceOp.{DeviceOp}
 use Rattle.nv_base.specs.declared.job.JobStep.TheVariants as step
 use Rattle.memif.specs.Told.{DeviceTold, is_open, ops_of}
-use Rattle.memif.specs.Clock.{PartClock}
+use Rattle.memif.specs.Clock.{Clock}
 use Rattle.memif.specs.Calls.{Wish, refusal_of}
 use Rattle.memif.specs.declared.answer.DeviceTurn.{DeviceTurn}
 use Rattle.block_config.specs.Lengths.{lengths_of}
@@ -19,7 +19,7 @@ use Rattle.stack_turns.specs.Turns.{wish_for, entry_by, AddsBy, hand_by}
 use Rattle.stack_turns.specs.Keeps.{StaysKept}
 
 -- the start of the operation that the hand names
-abbrev pub StartsKeep : Wish → DeviceTold → PartClock → DeviceTold → PartClock → Type 0
+abbrev pub StartsKeep : Wish → DeviceTold → Clock → DeviceTold → Clock → Type 0
 StartsKeep w old clock new clock_new =
     (desk : DeskState) (h : HandState) (op : DeviceOp) (i : Instance) (names : Names desk.config (state_of desk) h op i)
     → h.step ≡ step.Device op i → IsInHand desk.config (state_of desk) h old → w.job ≡ job_for desk.config names.job h.program names.index
@@ -36,15 +36,15 @@ RefusalsDontCome =
     → refusal_of d (wish_for desk.config h names.job names.index).job.number (wish_for desk.config h names.job names.index).length ≡ None
 
 -- a cancel drops the job in hand
-abbrev pub CancelsKeep : DeviceTold → PartClock → DeviceTold → PartClock → Type 0
+abbrev pub CancelsKeep : DeviceTold → Clock → DeviceTold → Clock → Type 0
 CancelsKeep old clock new clock_new = (desk : DeskState) (hand : Option HandState) → StaysKept desk hand old clock desk None new clock_new
 
 -- a planned cut leaves it
-abbrev pub ArmsKeep : DeviceTold → PartClock → DeviceTold → PartClock → Type 0
+abbrev pub ArmsKeep : DeviceTold → Clock → DeviceTold → Clock → Type 0
 ArmsKeep old clock new clock_new = (desk : DeskState) (hand : Option HandState) → StaysKept desk hand old clock desk hand new clock_new
 
 -- a turn of a device that is up, with the entry that it asks for; the job in hand goes on by what its operation came to
-abbrev pub DeviceTurnsKeep : DeviceTurn → DeviceTold → PartClock → DeviceTold → PartClock → Type 0
+abbrev pub DeviceTurnsKeep : DeviceTurn → DeviceTold → Clock → DeviceTold → Clock → Type 0
 DeviceTurnsKeep answer old clock new clock_new =
     (desk desk_new : DeskState) (hand : Option HandState) → old.started ≡ true → IsPaired desk.config (state_of desk) hand old
     → AddsBy (entry_by answer old.stand new.stand (ops_of new)) desk desk_new

@@ -2,7 +2,7 @@
 use Rattle.std.specs.Prelude.{◌≡◌, ℕ, List, Option, Some, None}
 use Rattle.nv_base.specs.declared.job.JobStep.TheVariants as step
 use Rattle.memif.specs.Told.{DeviceTold, ops_of, given_by}
-use Rattle.memif.specs.Clock.{PartClock}
+use Rattle.memif.specs.Clock.{Clock}
 use Rattle.block_machine.specs.Words.{Ask, Pick, JobKind, Taken, Request, Reply, ReqResult, GivenFrom}
 use Rattle.block_machine.specs.State.{Job}
 use Rattle.block_machine.specs.Blocks.{job_block, names_ram}
@@ -19,14 +19,14 @@ use Rattle.stack_turns.specs.Turns.{hand_in}
 use Rattle.stack_turns.specs.Keeps.{StaysKept}
 
 -- a Pick with the hand of the job that it takes, whatever was in hand before
-abbrev pub PicksKeep : DeviceTold → PartClock → Type 0
+abbrev pub PicksKeep : DeviceTold → Clock → Type 0
 PicksKeep d clock =
     (old new : DeskState) (hand : Option HandState) (block : ℕ) (kind : JobKind) (taken : Taken)
     → Adds (Pick block kind taken (ops_of d)) old new → IsAllowed old.config old.cap (state_of old) (Pick block kind taken (ops_of d))
     → StaysKept old hand d clock new (hand_in new) d clock
 
 -- the Post of a finished job, with what its program ended with
-abbrev pub PostsKeep : DeviceTold → PartClock → Type 0
+abbrev pub PostsKeep : DeviceTold → Clock → Type 0
 PostsKeep d clock =
     (old new : DeskState) (h : HandState) (j : Job) (r : ReqResult) (source : GivenFrom) (before after : List Told) (posted : Posted)
     → (state_of old).hand ≡ Some j → IsInHand old.config (state_of old) h d → h.step ≡ step.Ended r source
@@ -35,14 +35,14 @@ PostsKeep d clock =
     → StaysKept old (Some h) d clock new None d clock
 
 -- a Post without a Pick, with no job in hand
-abbrev pub SkippedKeep : DeviceTold → PartClock → Type 0
+abbrev pub SkippedKeep : DeviceTold → Clock → Type 0
 SkippedKeep d clock =
     (old new : DeskState) (before after : List Told) (posted : Posted) → (state_of old).hand ≡ None
     → IsPostedNext (next_of old.config (state_of old)) (ops_of d) old new before after posted
     → StaysKept old None d clock new None d clock
 
 -- a request, with whatever is in hand
-abbrev pub AsksKeep : DeviceTold → PartClock → Type 0
+abbrev pub AsksKeep : DeviceTold → Clock → Type 0
 AsksKeep d clock =
     (old new : DeskState) (hand : Option HandState) (caller : ℕ) (r : Request) (reply : Reply)
     → Adds (Ask caller r reply) old new → IsAllowed old.config old.cap (state_of old) (Ask caller r reply)

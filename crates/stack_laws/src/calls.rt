@@ -25,7 +25,7 @@ pub fn start_read<D: MemDevice>(
     length: u16,
 ) -> Result<(), DeviceRefusal>
     ensures accepts { Accepts (read_wish number.0 length) result (D.told device.old) (D.clock device.old) (D.told device.new) (D.clock device.new) }
-    ensures keeps { StartsKeep (read_wish number.0 length) (D.told device.old) (D.clock device.old).first (D.told device.new) (D.clock device.new).first }
+    ensures keeps { StartsKeep (read_wish number.0 length) (D.told device.old) (D.clock device.old) (D.told device.new) (D.clock device.new) }
 {
     turn_laws::start_read(device, number, length)
 }
@@ -38,7 +38,7 @@ pub fn start_write<D: MemDevice>(
     urgent: bool,
 ) -> Result<(), DeviceRefusal>
     ensures accepts { Accepts (write_wish number.0 content.now urgent) result (D.told device.old) (D.clock device.old) (D.told device.new) (D.clock device.new) }
-    ensures keeps { StartsKeep (write_wish number.0 content.now urgent) (D.told device.old) (D.clock device.old).first (D.told device.new) (D.clock device.new).first }
+    ensures keeps { StartsKeep (write_wish number.0 content.now urgent) (D.told device.old) (D.clock device.old) (D.told device.new) (D.clock device.new) }
 {
     marks_that_stand();
     turn_laws::start_write(device, number, content, urgent)
@@ -50,7 +50,7 @@ pub fn start_invalidate<D: MemDevice>(
     number: DeviceNumber,
 ) -> Result<(), DeviceRefusal>
     ensures accepts { Accepts (mark_wish number.0 mark.Invalid) result (D.told device.old) (D.clock device.old) (D.told device.new) (D.clock device.new) }
-    ensures keeps { StartsKeep (mark_wish number.0 mark.Invalid) (D.told device.old) (D.clock device.old).first (D.told device.new) (D.clock device.new).first }
+    ensures keeps { StartsKeep (mark_wish number.0 mark.Invalid) (D.told device.old) (D.clock device.old) (D.told device.new) (D.clock device.new) }
 {
     marks_that_stand();
     turn_laws::start_invalidate(device, number)
@@ -59,7 +59,7 @@ pub fn start_invalidate<D: MemDevice>(
 /// The start of an erase.
 pub fn start_erase<D: MemDevice>(device: &mut D, number: DeviceNumber) -> Result<(), DeviceRefusal>
     ensures accepts { Accepts (mark_wish number.0 mark.Erased) result (D.told device.old) (D.clock device.old) (D.told device.new) (D.clock device.new) }
-    ensures keeps { StartsKeep (mark_wish number.0 mark.Erased) (D.told device.old) (D.clock device.old).first (D.told device.new) (D.clock device.new).first }
+    ensures keeps { StartsKeep (mark_wish number.0 mark.Erased) (D.told device.old) (D.clock device.old) (D.told device.new) (D.clock device.new) }
 {
     marks_that_stand();
     turn_laws::start_erase(device, number)
@@ -69,7 +69,7 @@ pub fn start_erase<D: MemDevice>(device: &mut D, number: DeviceNumber) -> Result
 pub fn cancel<D: MemDevice>(device: &mut D)
     requires { is_urgent (D.told device.old).stand ≡ false }
     ensures cancels { Cancels (D.told device.old) (D.clock device.old) (D.told device.new) (D.clock device.new) }
-    ensures keeps { CancelsKeep (D.told device.old) (D.clock device.old).first (D.told device.new) (D.clock device.new).first }
+    ensures keeps { CancelsKeep (D.told device.old) (D.clock device.old) (D.told device.new) (D.clock device.new) }
 {
     turn_laws::cancel(device);
 }
@@ -77,7 +77,7 @@ pub fn cancel<D: MemDevice>(device: &mut D)
 /// Plans a power cut.
 pub fn arm<D: MemDevice>(device: &mut D, which: u8, nth: u32, keep: u32)
     ensures arms { Arms which nth keep (D.told device.old) (D.clock device.old) (D.told device.new) (D.clock device.new) }
-    ensures keeps { ArmsKeep (D.told device.old) (D.clock device.old).first (D.told device.new) (D.clock device.new).first }
+    ensures keeps { ArmsKeep (D.told device.old) (D.clock device.old) (D.told device.new) (D.clock device.new) }
 {
     turn_laws::arm(device, which, nth, keep);
 }
@@ -85,7 +85,7 @@ pub fn arm<D: MemDevice>(device: &mut D, which: u8, nth: u32, keep: u32)
 /// A turn of the device.
 pub fn turn<D: MemDevice>(device: &mut D) -> DeviceTurn
     ensures turns { Turns result (D.told device.old) (D.clock device.old) (D.told device.new) (D.clock device.new) }
-    ensures keeps { DeviceTurnsKeep result (D.told device.old) (D.clock device.old).first (D.told device.new) (D.clock device.new).first }
+    ensures keeps { DeviceTurnsKeep result (D.told device.old) (D.clock device.old) (D.told device.new) (D.clock device.new) }
 {
     legal_states_are_consistent();
     jobs_are_pending();

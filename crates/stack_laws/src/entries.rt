@@ -14,7 +14,7 @@ use turn_laws::{entries_keep, start_ups_may_follow, tries_pay_for_posts};
 
 /// A Pick that the machine allows keeps all, with the hand of the job that it takes.
 pub fn picks_keep<D: MemDevice>(device: &D)
-    ensures { PicksKeep (D.told device.now) (D.clock device.now).first }
+    ensures { PicksKeep (D.told device.now) (D.clock device.now) }
 {
     histories_grow();
     hands_begin();
@@ -24,8 +24,8 @@ pub fn picks_keep<D: MemDevice>(device: &D)
 
 /// The Post of a finished job keeps all, as its failed tries pay for it; so does a Post without a Pick.
 pub fn posts_keep<D: MemDevice>(device: &D)
-    ensures in_hand { PostsKeep (D.told device.now) (D.clock device.now).first }
-    ensures skipped { SkippedKeep (D.told device.now) (D.clock device.now).first }
+    ensures in_hand { PostsKeep (D.told device.now) (D.clock device.now) }
+    ensures skipped { SkippedKeep (D.told device.now) (D.clock device.now) }
 {
     failures_are_explained();
     ends_are_the_machines();
@@ -36,7 +36,7 @@ pub fn posts_keep<D: MemDevice>(device: &D)
 
 /// A request that is allowed keeps all, whatever is in hand.
 pub fn asks_keep<D: MemDevice>(device: &D)
-    ensures { AsksKeep (D.told device.now) (D.clock device.now).first }
+    ensures { AsksKeep (D.told device.now) (D.clock device.now) }
 {
     histories_grow();
     asks_are_local();
@@ -48,8 +48,8 @@ pub fn asks_keep<D: MemDevice>(device: &D)
 
 /// A start-up may come at any time, and behind its entry all is kept, with no job in hand.
 pub fn stacks_come_up<D: MemDevice>(device: &D)
-    ensures down { StacksComeDown (D.told device.now) (D.clock device.now).first }
-    ensures up { StacksComeUp (D.told device.now) (D.clock device.now).first }
+    ensures down { StacksComeDown (D.told device.now) (D.clock device.now) }
+    ensures up { StacksComeUp (D.told device.now) (D.clock device.now) }
 {
     start_ups_may_follow(device);
 }

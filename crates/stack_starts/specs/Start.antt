@@ -1,8 +1,8 @@
 -- What a start-up of a stack adds and keeps.
 use Rattle.std.specs.Prelude.{◌≡◌, ◌⊎◌, ◌++◌, ◌∷◌, [], List, IsSome, Result, Ok, Err}
 use Rattle.nv_base.specs.declared.mark.Mark.{Mark}
-use Rattle.memif.specs.Told.{DeviceTold, PartTold, ops_of}
-use Rattle.memif.specs.Clock.{PartClock}
+use Rattle.memif.specs.Told.{DeviceTold, ops_of, Part, PartTold}
+use Rattle.memif.specs.Clock.{Clock}
 use Rattle.block_machine.specs.Words.{Instance, Found}
 use Rattle.block_promise.specs.OverDevice.{HasStarted}
 use Rattle.turn_laws.specs.Turn.{Keeps, down}
@@ -17,10 +17,10 @@ pub record IsListed (old new : DeskState) (device device_new : DeviceTold) : Typ
 
 -- Where the device tells what it holds, the desk's history keeps all, the first start-up before any operation; at a fault
 -- until a start-up answers Ok.
-abbrev pub StartKeeps : {E : Type 0} → Result (Unit {0}) E → DeskState → DeskState → DeviceTold → PartClock → DeviceTold → PartClock → Type 0
+abbrev pub StartKeeps : {E : Type 0} → Result (Unit {0}) E → DeskState → DeskState → DeviceTold → Clock → DeviceTold → Clock → Type 0
 StartKeeps (Ok _) old new device clock device_new clock_new =
-    (before : PartTold) → IsSome device.slots → HasStarted old.entries ⊎ (device_new.first.ops ≡ 0)
+    (before : Part → PartTold) → IsSome device.slots → HasStarted old.entries ⊎ (device_new.ops ≡ 0)
     → Keeps old.config old.cap old.entries before (down device) clock → Keeps new.config new.cap new.entries before device_new clock_new
 StartKeeps (Err fault) old new device clock device_new clock_new =
-    (before : PartTold) → Keeps old.config old.cap old.entries before (down device) clock
+    (before : Part → PartTold) → Keeps old.config old.cap old.entries before (down device) clock
     → Keeps new.config new.cap new.entries before (down device_new) clock_new

@@ -21,7 +21,7 @@ pub fn start_up<D: MemDevice>(
     ensures desk { OnErr result (desk.new ≡ desk.old) }
     ensures failed { OnErr result (FailsToFind (D.told device.old) (D.told device.new)) }
     ensures room { IfErr result (λ again. again ≡ room) }
-    ensures keeps { StartKeeps result desk.old desk.new (D.told device.old) (D.clock device.old).first (D.told device.new) (D.clock device.new).first }
+    ensures keeps { StartKeeps result desk.old desk.new (D.told device.old) (D.clock device.old) (D.told device.new) (D.clock device.new) }
 {
     match room.find(device) {
         Ok(marks) => {

@@ -1,6 +1,6 @@
 // The steps of a script.
 ghost use Rattle.std.specs.Prelude.{◌≡◌, ◌<◌, ◌≤◌, ◌^◌, ℕ, List, true, length, OnOk, IfOk, IfErr};
-ghost use Rattle.memif.specs.Told.{PartTold};
+ghost use Rattle.memif.specs.Told.{Part, PartTold};
 ghost use Rattle.block_machine.specs.Words.{Configuration};
 ghost use Rattle.block_machine.specs.Legal.{HasStore};
 ghost use Rattle.script_walks.specs.Words.{Step as Made, AskStep, Restart};
@@ -56,7 +56,7 @@ pub fn make_steps<S: PlayedStack>(
     ensures configuration { (S.told stack.new).configuration ≡ (S.told stack.old).configuration }
     ensures most { (S.told stack.new).cap ≡ (S.told stack.old).cap }
     ensures counted { (S.told stack.old).faults ≤ (S.told stack.new).faults }
-    ensures keeps { (before : PartTold) → S.kept stack.old before → S.kept stack.new before }
+    ensures keeps { (before : Part → PartTold) → S.kept stack.old before → S.kept stack.new before }
 {
     turns_keep_what_is_stored();
     stores_are_newest();
@@ -87,7 +87,7 @@ fn make_next<S: PlayedStack>(
     requires synchronized { HoldsSynchronized (S.told stack.old).configuration stores.old }
     ensures made { OnOk result (MakesAt steps.now i stores.old stores.new (S.told stack.old) (S.told stack.new)) }
     ensures left { IfErr result (λ fault. LeavesAt fault steps.now i (S.told stack.old) (S.told stack.new)) }
-    ensures keeps { (before : PartTold) → S.kept stack.old before → S.kept stack.new before }
+    ensures keeps { (before : Part → PartTold) → S.kept stack.old before → S.kept stack.new before }
 {
     match steps.get(i) {
         Some(step) => make_step(alloc, step, stores, stack),
@@ -109,7 +109,7 @@ pub fn make_step<S: PlayedStack>(
     ensures ready { OnOk result ((S.told stack.new).ready ≡ true) }
     ensures made { OnOk result (Makes step.now stores.old stores.new (S.told stack.old) (S.told stack.new)) }
     ensures left { IfErr result (λ fault. IsLeft fault step.now (S.told stack.old) (S.told stack.new)) }
-    ensures keeps { (before : PartTold) → S.kept stack.old before → S.kept stack.new before }
+    ensures keeps { (before : Part → PartTold) → S.kept stack.old before → S.kept stack.new before }
 {
     turns_keep_what_is_stored();
     stores_are_newest();
@@ -182,7 +182,7 @@ fn ask<S: PlayedStack>(
     ensures ready { OnOk result ((S.told stack.new).ready ≡ true) }
     ensures asked { OnOk result (IsAsked caller request.now stores.now (S.told stack.old) (S.told stack.new)) }
     ensures left { IfErr result (λ fault. (line : ℕ) → IsLeft fault (record { line = line; caller = caller; kind = AskStep request.now }) (S.told stack.old) (S.told stack.new)) }
-    ensures keeps { (before : PartTold) → S.kept stack.old before → S.kept stack.new before }
+    ensures keeps { (before : Part → PartTold) → S.kept stack.old before → S.kept stack.new before }
 {
     let request = request_with(copied(request)?, caller, stores);
     match stack.ask(alloc, caller, request) {
@@ -196,7 +196,7 @@ fn restart<S: PlayedStack>(alloc: Global, stack: &mut S) -> Result<(), StepFault
     ensures ready { OnOk result ((S.told stack.new).ready ≡ true) }
     ensures made { OnOk result (StartsAgain (S.told stack.old) (S.told stack.new)) }
     ensures left { IfErr result (λ fault. (line caller : ℕ) → IsLeft fault (record { line = line; caller = caller; kind = Restart }) (S.told stack.old) (S.told stack.new)) }
-    ensures keeps { (before : PartTold) → S.kept stack.old before → S.kept stack.new before }
+    ensures keeps { (before : Part → PartTold) → S.kept stack.old before → S.kept stack.new before }
 {
     match stack.restart(alloc) {
         FoundAnswer::Ready => Ok(()),

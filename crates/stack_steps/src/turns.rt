@@ -2,7 +2,7 @@
 ghost use Rattle.std.specs.Prelude.{◌≡◌, ◌<◌, ◌≤◌, ◌||◌, ℕ, List, IsTrue, true, false};
 ghost use Rattle.script_walks.specs.Words.{Step};
 ghost use Rattle.script_walks.specs.Walk.{is_at_rest};
-ghost use Rattle.memif.specs.Told.{PartTold};
+ghost use Rattle.memif.specs.Told.{Part, PartTold};
 ghost use Rattle.nv_base.specs.Count.{Rose};
 ghost use Rattle.stack_steps.specs.Told.{state_of};
 ghost use Rattle.stack_steps.specs.Calls.{is_last};
@@ -18,7 +18,7 @@ pub fn make_turns<S: PlayedStack>(stack: &mut S, count: u32)
     requires { (S.told stack.old).ready ≡ true }
     ensures ready { (S.told stack.new).ready ≡ true }
     ensures turns { (before : List Step) → IsKept before (S.told stack.old) → MakesTurns count before (S.told stack.old) (S.told stack.new) × IsKept before (S.told stack.new) }
-    ensures keeps { (before : PartTold) → S.kept stack.old before → S.kept stack.new before }
+    ensures keeps { (before : Part → PartTold) → S.kept stack.old before → S.kept stack.new before }
 {
     turns_keep_what_is_stored();
     histories_grow();
@@ -34,7 +34,7 @@ pub fn drain<S: PlayedStack>(stack: &mut S)
     ensures ready { (S.told stack.new).ready ≡ true }
     ensures drains { (before : List Step) → IsKept before (S.told stack.old) → Drains before (S.told stack.old) (S.told stack.new) × IsKept before (S.told stack.new) }
     ensures at_rest { ¬ Rose (S.told stack.old).faults (S.told stack.new).faults → (state_of (S.told stack.new)).off ≡ false → (S.told stack.new).busy ≡ false }
-    ensures keeps { (before : PartTold) → S.kept stack.old before → S.kept stack.new before }
+    ensures keeps { (before : Part → PartTold) → S.kept stack.old before → S.kept stack.new before }
 {
     turns_keep_what_is_stored();
     histories_grow();
@@ -48,7 +48,7 @@ fn ends_drain<S: PlayedStack>(stack: &mut S) -> bool
     ensures ends { result ≡ true → IsTrue (is_at_rest (state_of (S.told stack.new)) || (state_of (S.told stack.new)).off) }
     ensures at_rest { result ≡ true → ¬ Rose (S.told stack.old).faults (S.told stack.new).faults → (state_of (S.told stack.new)).off ≡ false → (S.told stack.new).busy ≡ false }
     ensures goes_on { result ≡ false → (S.told stack.new).work < (S.told stack.old).work }
-    ensures keeps { (before : PartTold) → S.kept stack.old before → S.kept stack.new before }
+    ensures keeps { (before : Part → PartTold) → S.kept stack.old before → S.kept stack.new before }
 {
     histories_grow();
     let in_hand = stack.in_hand();

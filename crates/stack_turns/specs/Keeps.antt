@@ -1,7 +1,7 @@
 -- What a stack keeps from turn to turn, over a device that tells what it holds.
 use Rattle.std.specs.Prelude.{Option, IfSome}
-use Rattle.memif.specs.Told.{DeviceTold, PartTold}
-use Rattle.memif.specs.Clock.{PartClock}
+use Rattle.memif.specs.Told.{DeviceTold, Part, PartTold}
+use Rattle.memif.specs.Clock.{Clock}
 use Rattle.block_promise.specs.OverDevice.{HasStarted}
 use Rattle.turn_laws.specs.Turn.{Keeps}
 use Rattle.turn_laws.specs.Tries.{TriesArePaid}
@@ -11,13 +11,13 @@ use Rattle.hand_laws.specs.Hands.{HandFits}
 
 -- The block side's half of the promise; what the job in hand saw fits the settled marks; and its failed tries are paid for,
 -- beside the Posts so far. The device's part is told before the first start-up and now, its clock now.
-pub record StackKeeps (before : PartTold) (desk : DeskState) (hand : Option HandState) (d : DeviceTold) (clock : PartClock) : Type 0 where
+pub record StackKeeps (before : Part → PartTold) (desk : DeskState) (hand : Option HandState) (d : DeviceTold) (clock : Clock) : Type 0 where
   pub started : HasStarted desk.entries
   pub keeps : Keeps desk.config desk.cap desk.entries before d clock
   pub fits : HandFits desk.config (state_of desk) hand d
-  pub paid : IfSome hand (λ h. TriesArePaid desk.config clock.worn before d.first desk.entries h.program)
+  pub paid : IfSome hand (λ h. TriesArePaid desk.config clock.worn before d desk.entries h.program)
 
 -- it stays so
-abbrev pub StaysKept : DeskState → Option HandState → DeviceTold → PartClock → DeskState → Option HandState → DeviceTold → PartClock → Type 0
+abbrev pub StaysKept : DeskState → Option HandState → DeviceTold → Clock → DeskState → Option HandState → DeviceTold → Clock → Type 0
 StaysKept desk hand d clock desk_new hand_new d_new clock_new =
-    (before : PartTold) → StackKeeps before desk hand d clock → StackKeeps before desk_new hand_new d_new clock_new
+    (before : Part → PartTold) → StackKeeps before desk hand d clock → StackKeeps before desk_new hand_new d_new clock_new

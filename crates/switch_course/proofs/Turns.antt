@@ -7,7 +7,7 @@ use Rattle.std.proofs.lemmas.Nat.{div-mul-add}
 use Rattle.nv_base.specs.Pages.{record_pages_of}
 use Rattle.nv_base.specs.declared.instance.DeviceNumber.{DeviceNumber}
 use Rattle.log_image.specs.declared.place.Place.{Place}
-use Rattle.log_image.specs.declared.place.Place.TheVariants.{Content, Invalid, Erased}
+use Rattle.log_image.specs.declared.place.Place.TheVariants.{Content, Invalid, Erased, Unwritten}
 use Rattle.switch_course.specs.declared.copies.Source.{Source}
 use Rattle.switch_course.specs.declared.course.Copying.{Copying}
 use Rattle.switch_course.specs.declared.course.Course.{Course}
@@ -19,50 +19,52 @@ use Rattle.switch_course.specs.Laws.{IsBeforeGate, TurnsFall, StaysUnderWay, Tur
 -- SUMS
 most_is_content : (p length : ℕ) (place : Place) (c : Bool) → turns_of p length place c ≤ record_pages_of length p + 1
 most_is_content p length place true = omega arith
-most_is_content p length (Content at) false = omega arith
-most_is_content p length Invalid false = omega arith
-most_is_content p length Erased false = omega arith
+most_is_content p length (Content at count) false = omega arith
+most_is_content p length (Invalid count) false = omega arith
+most_is_content p length (Erased count) false = omega arith
+most_is_content p length Unwritten false = omega arith
 
-content_is_more : (p length at : ℕ) (place : Place) (c : Bool) → turns_of p length place c ≤ turns_of p length (Content at) c
-content_is_more p length at place true = omega arith
-content_is_more p length at (Content at') false = omega arith
-content_is_more p length at Invalid false = omega arith
-content_is_more p length at Erased false = omega arith
+content_is_more : (p length at count : ℕ) (place : Place) (c : Bool) → turns_of p length place c ≤ turns_of p length (Content at count) c
+content_is_more p length at count place true = omega arith
+content_is_more p length at count (Content at' more) false = omega arith
+content_is_more p length at count (Invalid more) false = omega arith
+content_is_more p length at count (Erased more) false = omega arith
+content_is_more p length at count Unwritten false = omega arith
 
-content_is_alike : (p length at at' : ℕ) (c : Bool) → turns_of p length (Content at) c ≡ turns_of p length (Content at') c
-content_is_alike p length at at' true = refl
-content_is_alike p length at at' false = refl
+content_is_alike : (p length at count at' count' : ℕ) (c : Bool) → turns_of p length (Content at count) c ≡ turns_of p length (Content at' count') c
+content_is_alike p length at count at' count' true = refl
+content_is_alike p length at count at' count' false = refl
 
-set_alike : (p : ℕ) (ns : List (DeviceNumber × ℕ)) (ps : List Place) (cs : List Bool) (i at at' : ℕ)
-    → copies_left p ns (set ps i (Content at)) cs ≡ copies_left p ns (set ps i (Content at')) cs
-set_alike p [] ps cs i at at' = refl
-set_alike p (n ∷ ns) [] cs i at at' = refl
-set_alike p (n ∷ ns) (x ∷ ps) [] zero at at' = refl
-set_alike p (n ∷ ns) (x ∷ ps) [] (suc i) at at' = refl
-set_alike p (n ∷ ns) (x ∷ ps) (c ∷ cs) zero at at' = ap (λ (t : ℕ). t + copies_left p ns ps cs) (content_is_alike p n.1 at at' c)
-set_alike p (n ∷ ns) (x ∷ ps) (c ∷ cs) (suc i) at at' = ap (λ (t : ℕ). turns_of p n.1 x c + t) (set_alike p ns ps cs i at at')
+set_alike : (p : ℕ) (ns : List (DeviceNumber × ℕ)) (ps : List Place) (cs : List Bool) (i at count at' count' : ℕ)
+    → copies_left p ns (set ps i (Content at count)) cs ≡ copies_left p ns (set ps i (Content at' count')) cs
+set_alike p [] ps cs i at count at' count' = refl
+set_alike p (n ∷ ns) [] cs i at count at' count' = refl
+set_alike p (n ∷ ns) (x ∷ ps) [] zero at count at' count' = refl
+set_alike p (n ∷ ns) (x ∷ ps) [] (suc i) at count at' count' = refl
+set_alike p (n ∷ ns) (x ∷ ps) (c ∷ cs) zero at count at' count' = ap (λ (t : ℕ). t + copies_left p ns ps cs) (content_is_alike p n.1 at count at' count' c)
+set_alike p (n ∷ ns) (x ∷ ps) (c ∷ cs) (suc i) at count at' count' = ap (λ (t : ℕ). turns_of p n.1 x c + t) (set_alike p ns ps cs i at count at' count')
 
-set_more : (p : ℕ) (ns : List (DeviceNumber × ℕ)) (ps : List Place) (cs : List Bool) (i at : ℕ)
-    → copies_left p ns ps cs ≤ copies_left p ns (set ps i (Content at)) cs
-set_more p [] ps cs i at = omega arith
-set_more p (n ∷ ns) [] cs i at = omega arith
-set_more p (n ∷ ns) (x ∷ ps) [] zero at = omega arith
-set_more p (n ∷ ns) (x ∷ ps) [] (suc i) at = omega arith
-set_more p (n ∷ ns) (x ∷ ps) (c ∷ cs) zero at = omega (arith, content_is_more p n.1 at x c)
-set_more p (n ∷ ns) (x ∷ ps) (c ∷ cs) (suc i) at = omega (arith, set_more p ns ps cs i at)
+set_more : (p : ℕ) (ns : List (DeviceNumber × ℕ)) (ps : List Place) (cs : List Bool) (i at count : ℕ)
+    → copies_left p ns ps cs ≤ copies_left p ns (set ps i (Content at count)) cs
+set_more p [] ps cs i at count = omega arith
+set_more p (n ∷ ns) [] cs i at count = omega arith
+set_more p (n ∷ ns) (x ∷ ps) [] zero at count = omega arith
+set_more p (n ∷ ns) (x ∷ ps) [] (suc i) at count = omega arith
+set_more p (n ∷ ns) (x ∷ ps) (c ∷ cs) zero at count = omega (arith, content_is_more p n.1 at count x c)
+set_more p (n ∷ ns) (x ∷ ps) (c ∷ cs) (suc i) at count = omega (arith, set_more p ns ps cs i at count)
 
-set_adds : (p : ℕ) (ns : List (DeviceNumber × ℕ)) (ps : List Place) (cs : List Bool) (i at : ℕ) (n : DeviceNumber × ℕ)
+set_adds : (p : ℕ) (ns : List (DeviceNumber × ℕ)) (ps : List Place) (cs : List Bool) (i at count : ℕ) (n : DeviceNumber × ℕ)
     → slice_get ns i ≡ Some n
-    → copies_left p ns (set ps i (Content at)) (set cs i false) ≤ copies_left p ns ps cs + (record_pages_of n.1 p + 1)
-set_adds p [] ps cs i at n is = omega arith
-set_adds p (m ∷ ns) [] cs i at n is = omega arith
-set_adds p (m ∷ ns) (x ∷ ps) [] zero at n is = omega arith
-set_adds p (m ∷ ns) (x ∷ ps) [] (suc i) at n is = omega arith
-set_adds p (m ∷ ns) (x ∷ ps) (c ∷ cs) zero at n is =
+    → copies_left p ns (set ps i (Content at count)) (set cs i false) ≤ copies_left p ns ps cs + (record_pages_of n.1 p + 1)
+set_adds p [] ps cs i at count n is = omega arith
+set_adds p (m ∷ ns) [] cs i at count n is = omega arith
+set_adds p (m ∷ ns) (x ∷ ps) [] zero at count n is = omega arith
+set_adds p (m ∷ ns) (x ∷ ps) [] (suc i) at count n is = omega arith
+set_adds p (m ∷ ns) (x ∷ ps) (c ∷ cs) zero at count n is =
     let same : m ≡ n = cc in
     let e : record_pages_of m.1 p ≡ record_pages_of n.1 p = ap (λ (y : DeviceNumber × ℕ). record_pages_of y.1 p) same in
     omega (arith, e)
-set_adds p (m ∷ ns) (x ∷ ps) (c ∷ cs) (suc i) at n is = omega (arith, set_adds p ns ps cs i at n is)
+set_adds p (m ∷ ns) (x ∷ ps) (c ∷ cs) (suc i) at count n is = omega (arith, set_adds p ns ps cs i at count n is)
 
 -- THE NEXT COPY
 -- its turns, beside those of the others, are all
@@ -85,9 +87,10 @@ chosen_later p n ns x ps c cs (Some t) s behind e =
 
 chosen_here : (p : ℕ) (n : DeviceNumber × ℕ) (ns : List (DeviceNumber × ℕ)) (x : Place) (ps : List Place) (c : Bool) (cs : List Bool) (s : Source)
     → is_left x c ≡ true → record { index = 0; length = n.1; place = x } ≡ s → Chosen p (n ∷ ns) (x ∷ ps) (c ∷ cs) s
-chosen_here p n ns (Content at) ps false cs s is same = subst (Chosen p (n ∷ ns) (Content at ∷ ps) (false ∷ cs)) same (refl, omega arith, omega arith)
-chosen_here p n ns Invalid ps false cs s is same = subst (Chosen p (n ∷ ns) (Invalid ∷ ps) (false ∷ cs)) same (refl, omega arith, omega arith)
-chosen_here p n ns Erased ps false cs s is same = absurd cc
+chosen_here p n ns (Content at count) ps false cs s is same = subst (Chosen p (n ∷ ns) (Content at count ∷ ps) (false ∷ cs)) same (refl, omega arith, omega arith)
+chosen_here p n ns (Invalid count) ps false cs s is same = subst (Chosen p (n ∷ ns) (Invalid count ∷ ps) (false ∷ cs)) same (refl, omega arith, omega arith)
+chosen_here p n ns (Erased count) ps false cs s is same = subst (Chosen p (n ∷ ns) (Erased count ∷ ps) (false ∷ cs)) same (refl, omega arith, omega arith)
+chosen_here p n ns Unwritten ps false cs s is same = absurd cc
 chosen_here p n ns x ps true cs s is same = absurd cc
 
 chosen_by : (p : ℕ) (n : DeviceNumber × ℕ) (ns : List (DeviceNumber × ℕ)) (x : Place) (ps : List Place) (c : Bool) (cs : List Bool) (s : Source) (b : Bool)
@@ -102,17 +105,22 @@ chosen p (n ∷ ns) [] cs s e = absurd (none_is_some s e)
 chosen p (n ∷ ns) (x ∷ ps) [] s e = absurd (none_is_some s e)
 chosen p (n ∷ ns) (x ∷ ps) (c ∷ cs) s e = chosen_by p n ns x ps c cs s (is_left x c) refl (λ (t : Source) h. chosen p ns ps cs t h) e
 
-mark_pages : (p length : ℕ) → 16 ≤ p → record_pages_of 0 p ≤ record_pages_of length p
-mark_pages p length low =
+-- a mark without content
+three_pages : (p : ℕ) → 16 ≤ p → record_pages_of 0 p ≡ 3
+three_pages p low =
     let e = div-mul-add 0 p (p - 1) (omega arith) in
     let f : 0 * p + (p - 1) ≡ 0 + (p - 1) = omega arith in
     let g : (0 + (p - 1)) / p ≡ 0 = subst (λ (x : ℕ). x / p ≡ 0) f e in
     omega (arith, g)
 
+mark_pages : (p length : ℕ) → 16 ≤ p → record_pages_of 0 p ≤ record_pages_of length p
+mark_pages p length low = omega (arith, three_pages p low)
+
 fewer_pages : (p length : ℕ) (place : Place) → 16 ≤ p → is_left place false ≡ true → pages_begun p length place < turns_of p length place false
-fewer_pages p length (Content at) low is = omega arith
-fewer_pages p length Invalid low is = omega (arith, mark_pages p length low)
-fewer_pages p length Erased low is = absurd cc
+fewer_pages p length (Content at count) low is = omega arith
+fewer_pages p length (Invalid count) low is = omega (arith, three_pages p low)
+fewer_pages p length (Erased count) low is = omega (arith, three_pages p low)
+fewer_pages p length Unwritten low is = absurd cc
 
 -- OPERATIONS
 module _ (p sectors : ℕ) (ns : List (DeviceNumber × ℕ)) (ps : List Place) where
@@ -168,14 +176,16 @@ module _ (p sectors : ℕ) (ns : List (DeviceNumber × ℕ)) (ps : List Place) w
   begun_stays cs (Some s) low is some = let h = chosen p ns ps cs s is in record { short = begun_short s.length s.place; fitting = tt; few = begun_few s.length s.place h.2 }
     where
       begun_short : (length : ℕ) (place : Place) → 0 < pages_begun p length place
-      begun_short length (Content at) = omega arith
-      begun_short length Invalid = omega arith
-      begun_short length Erased = omega arith
+      begun_short length (Content at count) = omega arith
+      begun_short length (Invalid count) = omega arith
+      begun_short length (Erased count) = omega arith
+      begun_short length Unwritten = omega arith
 
       begun_few : (length : ℕ) (place : Place) → record_pages_of length p ≤ greatest p ns → pages_begun p length place ≤ greatest p ns
-      begun_few length (Content at) le = le
-      begun_few length Invalid le = omega (arith, mark_pages p length low)
-      begun_few length Erased le = omega (arith, mark_pages p length low)
+      begun_few length (Content at count) le = le
+      begun_few length (Invalid count) le = omega (arith, mark_pages p length low)
+      begun_few length (Erased count) le = omega (arith, mark_pages p length low)
+      begun_few length Unwritten le = omega (arith, mark_pages p length low)
 
   page_stays : (cs : List Bool) (w : Copying) → 0 < w.pages → w.pages ≤ greatest p ns → IsUnderWay p sectors ns ps cs (page_done ns ps cs w)
   page_stays cs w some few =
@@ -226,24 +236,24 @@ module _ (p sectors i : ℕ) (ns : List (DeviceNumber × ℕ)) (ps : List Place)
       ≤ turns_left p sectors ns ps cs None (Copy (Some w)) + (record_pages_of n.1 p + 1)
   copy_adds cs index pages true true e =
       let same : index ≡ i = eqb-true index i e in
-      let a = set_adds p ns ps (set cs index true) i 0 n is in
+      let a = set_adds p ns ps (set cs index true) i 0 0 n is in
       let f : set (set cs index true) i false ≡ set cs i false = rw same (set-set cs i true false) in
-      let g = subst (λ (x : List Bool). copies_left p ns (set ps i (Content 0)) x ≤ copies_left p ns ps (set cs index true) + (record_pages_of n.1 p + 1)) f a in
+      let g = subst (λ (x : List Bool). copies_left p ns (set ps i (Content 0 0)) x ≤ copies_left p ns ps (set cs index true) + (record_pages_of n.1 p + 1)) f a in
       omega (arith, g)
-  copy_adds cs index pages false true e = omega (arith, set_adds p ns ps cs i 0 n is)
+  copy_adds cs index pages false true e = omega (arith, set_adds p ns ps cs i 0 0 n is)
   copy_adds cs index pages true false e =
-      let a = set_adds p ns ps (set cs index true) i 0 n is in
+      let a = set_adds p ns ps (set cs index true) i 0 0 n is in
       let f : set (set cs index true) i false ≡ set (set cs i false) index true = set_comm cs index i true false (λ same. absurd (differ same)) in
-      let g = subst (λ (x : List Bool). copies_left p ns (set ps i (Content 0)) x ≤ copies_left p ns ps (set cs index true) + (record_pages_of n.1 p + 1)) f a in
+      let g = subst (λ (x : List Bool). copies_left p ns (set ps i (Content 0 0)) x ≤ copies_left p ns ps (set cs index true) + (record_pages_of n.1 p + 1)) f a in
       omega (arith, g)
     where
       differ : index ≡ i → ⊥
       differ same = let t : eqb index i ≡ true = eq-eqb index i same in cc
-  copy_adds cs index pages false false e = omega (arith, set_adds p ns ps cs i 0 n is)
+  copy_adds cs index pages false false e = omega (arith, set_adds p ns ps cs i 0 0 n is)
 
   adds : (cs : List Bool) (c : Course) → turns_left p sectors ns ps (set cs i false) (Some i) (appended_to i c) ≤ turns_left p sectors ns ps cs None c + (record_pages_of n.1 p + 1)
-  adds cs (Erase done) = omega (arith, set_adds p ns ps cs i 0 n is)
-  adds cs (Copy None) = omega (arith, set_adds p ns ps cs i 0 n is)
+  adds cs (Erase done) = omega (arith, set_adds p ns ps cs i 0 0 n is)
+  adds cs (Copy None) = omega (arith, set_adds p ns ps cs i 0 0 n is)
   adds cs (Copy (Some w)) = copy_adds cs w.index w.pages w.sets (eqb w.index i) refl
   adds cs Head = omega arith
   adds cs (Gate failed) = omega arith
@@ -252,13 +262,13 @@ pub appends_add : AppendsAdd
 appends_add p sectors i ns ps cs c n is a b = adds p sectors i ns ps n is cs c
 
 pub appends_end : AppendsEnd
-appends_end p sectors i at ns ps cs (Erase done) = ap (λ (t : ℕ). sectors - done + t + 2) (set_alike p ns ps cs i at 0)
-appends_end p sectors i at ns ps cs (Copy work) = ap (λ (t : ℕ). t + pages_left work + 2) (set_alike p ns ps (as_copied (copied_by work) cs) i at 0)
-appends_end p sectors i at ns ps cs Head = refl
-appends_end p sectors i at ns ps cs (Gate failed) = refl
+appends_end p sectors i at count ns ps cs (Erase done) = ap (λ (t : ℕ). sectors - done + t + 2) (set_alike p ns ps cs i at count 0 0)
+appends_end p sectors i at count ns ps cs (Copy work) = ap (λ (t : ℕ). t + pages_left work + 2) (set_alike p ns ps (as_copied (copied_by work) cs) i at count 0 0)
+appends_end p sectors i at count ns ps cs Head = refl
+appends_end p sectors i at count ns ps cs (Gate failed) = refl
 
 pub appends_given_up : AppendsGivenUp
-appends_given_up p sectors i ns ps cs (Erase done) = omega (arith, set_more p ns ps cs i 0)
-appends_given_up p sectors i ns ps cs (Copy work) = omega (arith, set_more p ns ps (as_copied (copied_by work) cs) i 0)
+appends_given_up p sectors i ns ps cs (Erase done) = omega (arith, set_more p ns ps cs i 0 0)
+appends_given_up p sectors i ns ps cs (Copy work) = omega (arith, set_more p ns ps (as_copied (copied_by work) cs) i 0 0)
 appends_given_up p sectors i ns ps cs Head = omega arith
 appends_given_up p sectors i ns ps cs (Gate failed) = omega arith

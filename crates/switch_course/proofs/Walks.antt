@@ -36,7 +36,7 @@ greatest_step p ns i n lt = rw (drop-cons ns i n) refl
 
 pub appended_length : (a : Option ℕ) (ps : List Place) → length (as_appended a ps) ≡ length ps
 appended_length None ps = refl
-appended_length (Some i) ps = length-set ps i (Content 0)
+appended_length (Some i) ps = length-set ps i (Content 0 0)
 
 pub copied_length : (a : Option ℕ) (cs : List Bool) → length (as_copied a cs) ≡ length cs
 copied_length None cs = refl

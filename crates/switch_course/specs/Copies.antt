@@ -3,16 +3,15 @@ use Rattle.std.specs.Prelude.{◌+◌, ℕ, Bool, true, false, if◌then◌else�
 use Rattle.nv_base.specs.declared.instance.DeviceNumber.{DeviceNumber}
 use Rattle.nv_base.specs.Pages.{record_pages_of}
 use Rattle.log_image.specs.declared.place.Place.{Place}
-use Rattle.log_image.specs.declared.place.Place.TheVariants.{Content, Invalid, Erased}
+use Rattle.log_image.specs.declared.place.Place.TheVariants.{Content, Unwritten}
 use Rattle.switch_course.specs.declared.copies.Source.{Source}
 
 -- THE CHOICE
--- a copy is to be made: the record isn't erased, and has no copy
+-- a copy is to be made: there is a record, and it has no copy
 abbrev pub is_left : Place → Bool → Bool
 is_left place true = false
-is_left (Content at) false = true
-is_left Invalid false = true
-is_left Erased false = false
+is_left Unwritten false = false
+is_left place false = true
 
 -- a number that comes so many places later
 abbrev pub later : ℕ → Source → Source
@@ -25,12 +24,12 @@ next_copy (n ∷ ns) (place ∷ places) (done ∷ copied) =
 next_copy _ _ _ = None
 
 -- TURNS
--- those of one number's copy: each page of its record takes one, and a content is read before
+-- those of one number's copy: each page of its record takes one, three of a mark without content, and a content is read before
 abbrev pub turns_of : ℕ → ℕ → Place → Bool → ℕ
 turns_of p length place true = 0
-turns_of p length (Content at) false = record_pages_of length p + 1
-turns_of p length Invalid false = record_pages_of length p
-turns_of p length Erased false = 0
+turns_of p length (Content at count) false = record_pages_of length p + 1
+turns_of p length Unwritten false = 0
+turns_of p length place false = 3
 
 -- those of all copies that are to be made
 abbrev pub copies_left : ℕ → List (DeviceNumber × ℕ) → List Place → List Bool → ℕ
@@ -45,7 +44,7 @@ as_copied (Some i) copied = set copied i true
 -- as if the number at this place of the list had a content
 abbrev pub as_appended : Option ℕ → List Place → List Place
 as_appended None places = places
-as_appended (Some i) places = set places i (Content 0)
+as_appended (Some i) places = set places i (Content 0 0)
 
 -- THE GREATEST FIGURES
 -- the turns of a copy of each number

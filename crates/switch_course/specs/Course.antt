@@ -13,7 +13,7 @@ use Rattle.switch_course.specs.Copies.{next_copy, copies_left, as_copied, as_app
 -- WHAT COMES BEHIND AN OPERATION
 -- a copy is in work: of a content, which was read, all pages of its record are left, of a mark all but the first
 abbrev pub pages_begun : ℕ → ℕ → Place → ℕ
-pages_begun p length (Content at) = record_pages_of length p
+pages_begun p length (Content at count) = record_pages_of length p
 pages_begun p length _ = record_pages_of 0 p - 1
 
 abbrev pub begun : ℕ → Option Source → Course

@@ -40,8 +40,8 @@ AppendsAdd =
 -- once its content is the number's, as many are left as in its course, and where it is given up no more
 abbrev pub AppendsEnd : Type 0
 AppendsEnd =
-    (p sectors i at : ℕ) (ns : List (DeviceNumber × ℕ)) (places : List Place) (copied : List Bool) (c : Course)
-    → turns_left p sectors ns (set places i (Content at)) copied None c ≡ turns_left p sectors ns places copied (Some i) c
+    (p sectors i at count : ℕ) (ns : List (DeviceNumber × ℕ)) (places : List Place) (copied : List Bool) (c : Course)
+    → turns_left p sectors ns (set places i (Content at count)) copied None c ≡ turns_left p sectors ns places copied (Some i) c
 
 abbrev pub AppendsGivenUp : Type 0
 AppendsGivenUp =

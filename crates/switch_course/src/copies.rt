@@ -13,14 +13,14 @@ pub struct Source {
     pub place: Place,
 }
 
-// Whether a copy is to be made: the record isn't erased, and has no copy.
+// Whether a copy is to be made: there is a record, and it has no copy.
 fn is_left(place: Place, copied: bool) -> bool
     ensures { result ≡ is_left place copied }
 {
-    !copied && place != Place::Erased
+    !copied && place != Place::Unwritten
 }
 
-/// The first number that has no copy and isn't erased. It looks at each number once at most.
+/// The first number that has a record and no copy. It looks at each number once at most.
 pub fn next_copy(numbers: &Lengths, places: &[Place], copied: &[bool]) -> Option<Source>
     requires places { length places.now ≡ length numbers.now }
     requires copied { length copied.now ≡ length numbers.now }
@@ -53,8 +53,8 @@ fn turns_of(page: u32, length: u16, place: Place, copied: bool) -> u64
     let pages = u64::from(record_pages(length, page));
     match place {
         Place::Content { .. } => pages + 1,
-        Place::Invalid => pages,
-        Place::Erased => 0,
+        Place::Invalid { .. } | Place::Erased { .. } => 3,
+        Place::Unwritten => 0,
     }
 }
 
@@ -64,7 +64,7 @@ fn place_as(places: &[Place], appended: Option<usize>, i: usize) -> Place
     ensures { (d : _) → result ≡ get_or (as_appended appended places.now) i d }
 {
     if appended == Some(i) {
-        Place::Content { at: 0 }
+        Place::Content { at: 0, count: 0 }
     } else {
         places[i]
     }

@@ -1,7 +1,7 @@
 //! The course of a switch of banks: which number is copied next, what follows each operation that is done, and how many
 //! turns are left.
 //!
-//! It promises that the first number is chosen whose place isn't erased and that has no copy, that each operation that is
+//! It promises that the first number is chosen that has a record and no copy, that each operation that is
 //! done leaves fewer turns, and that an urgent append adds no more than its own. It knows no flash: the operations
 //! themselves, and the logs whose places and flags it reads, are left to the crates above.
 #![tactic(auto)]

@@ -5,11 +5,12 @@ use Rattle.std.proofs.lemmas.Bool.{eqb-true}
 use Rattle.nv_base.specs.declared.instance.DeviceNumber.{DeviceNumber}
 use Rattle.nv_base.specs.Lengths.{AreLengths}
 use Rattle.log_image.specs.declared.place.Place.{Place}
-use Rattle.log_image.specs.declared.place.Place.TheVariants.{Content, Invalid, Erased}
-use Rattle.bank_image.specs.Copies.{Flag, is_erased, is_done, Each}
+use Rattle.log_image.specs.declared.place.Place.TheVariants.{Content, Invalid, Erased, Unwritten}
+use Rattle.log_image.specs.Places.{is_written}
+use Rattle.bank_image.specs.Copies.{Flag, is_done, Each}
 use Rattle.switch_course.specs.declared.copies.Source.{Source}
 use Rattle.switch_course.specs.Copies.{is_left, later, next_copy}
-use Rattle.switch_image.specs.Flags.{is_erased_at, AreFlagsOf, IsOpenFor}
+use Rattle.switch_image.specs.Flags.{AreFlagsOf, IsOpenFor}
 use Rattle.switch_image.specs.Laws.{NextIsOpen}
 
 none_is_some : {A : Type 0} (x : A) → None ≡ Some x → ⊥
@@ -22,11 +23,12 @@ unsome : (a b : Source) → Some a ≡ Some b → a ≡ b
 unsome a b e = cc
 
 -- a copy is left exactly where a flag isn't done
-left_is_open : (x : Place) (c d e : Bool) → d ≡ c → e ≡ is_erased_at x → (d || e) ≡ not (is_left x c)
+left_is_open : (x : Place) (c d e : Bool) → d ≡ c → e ≡ is_written x → (d || not e) ≡ not (is_left x c)
 left_is_open x true d e a b = rw a refl
-left_is_open (Content at) false d e a b = rw (a, b) refl
-left_is_open Invalid false d e a b = rw (a, b) refl
-left_is_open Erased false d e a b = rw (a, b) refl
+left_is_open (Content at count) false d e a b = rw (a, b) refl
+left_is_open (Invalid count) false d e a b = rw (a, b) refl
+left_is_open (Erased count) false d e a b = rw (a, b) refl
+left_is_open Unwritten false d e a b = rw (a, b) refl
 
 -- numbers behind a greater one aren't this one
 behind_is_other : (low number : ℕ) (ns : List (DeviceNumber × ℕ)) (ps : List Place) (cs : List Bool) (fs : List Flag) → AreLengths low ns → AreFlagsOf ns ps cs fs → number ≤ low → IsOpenFor number fs
@@ -55,7 +57,7 @@ open_by low (m ∷ ns) (x ∷ ps) (c ∷ cs) (f ∷ fs) s n order are next is = 
     at_head left zero_is =
         let same : Some m ≡ Some n = rw zero_is at is in
         let number : m.0.0 ≡ n.0.0 = ap (λ (o : Option (DeviceNumber × ℕ)). number_of o) same in
-        let done : is_done f ≡ false = left_is_open x c f.copied (is_erased f.settled) are.2 are.3 ∙ ap not left in
+        let done : is_done f ≡ false = left_is_open x c f.copied f.written are.2 are.3 ∙ ap not left in
         (((λ _. done), behind_is_other m.0.0 n.0.0 ns ps cs fs order.4 are.4 (omega arith)), let lt = order.0 in omega arith)
       where
         number_of : Option (DeviceNumber × ℕ) → ℕ
@@ -101,4 +103,4 @@ each_is_done (n ∷ ns) (x ∷ ps) (c ∷ cs) (f ∷ fs) are none = split (λ e.
     split : (next_copy ns ps cs ≡ None → Each (λ g. IsTrue (is_done g)) fs) → (b : Bool) → is_left x c ≡ b → cond b (Some (record { index = 0; length = n.1; place = x })) (option_map (later 1) (next_copy ns ps cs)) ≡ None → Each (λ g. IsTrue (is_done g)) (f ∷ fs)
     split behind true left e = absurd (some_is_none (record { index = 0; length = n.1; place = x }) e)
     split behind false left e =
-        (left_is_open x c f.copied (is_erased f.settled) are.2 are.3 ∙ ap not left, behind (rest (next_copy ns ps cs) e))
+        (left_is_open x c f.copied f.written are.2 are.3 ∙ ap not left, behind (rest (next_copy ns ps cs) e))

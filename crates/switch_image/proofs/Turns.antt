@@ -3,16 +3,17 @@ use Rattle.std.proofs.Common.{◌≡◌, ℕ, Bool, true, false, ◌&&◌, List,
 use Rattle.std.proofs.lemmas.Bool.{eqb-true, and_parts}
 use Rattle.nv_base.specs.declared.instance.DeviceNumber.{DeviceNumber}
 use Rattle.fls_model.specs.Op.{MayLeave}
-use Rattle.nv_base.specs.declared.mark.Mark.{Mark}
+use Rattle.fee_format.specs.Formats.{new_format}
+use Rattle.nv_base.specs.Held.{Held}
 use Rattle.fee_format.specs.declared.rec_head.RecHead.{RecHead}
 use Rattle.fee_image.specs.Found.{fits}
 use Rattle.fee_image.specs.Image.{Layout, IsLegalLayout, bank_in, image_page}
 use Rattle.log_image.specs.Laws.{RecordsBegin}
 use Rattle.log_image.specs.Log.{Tail, Open, Writes, Owes, Closed, Log}
-use Rattle.log_image.specs.May.{May, IsAmong, IsWider, mark_written, settling}
+use Rattle.log_image.specs.May.{May, IsAmong, IsWider, held_written, settling}
 use Rattle.log_image.specs.Step.{IsRecord, IsDue, is_last, page_due, bytes_due, log_begun, log_done, may_with, may_done}
 use Rattle.bank_image.specs.Banks.{OldBank, Phase, Idle, Erasing, Copying, Sealing, Banks, Holds, HoldsOld, HoldsPhase, IsCopying}
-use Rattle.bank_image.specs.Copies.{Flag, is_done, copied_of, cleared, settled_at, marked, Each, ClearingWidens, SettlingWidens, MarkingHolds}
+use Rattle.bank_image.specs.Copies.{Flag, shown_by, is_done, copied_of, cleared, settled_at, marked, Each, ClearingWidens, SettlingWidens, MarkingHolds}
 use Rattle.bank_image.specs.Laws.{program_of, TakesAppends, OldLogsChange, CopiesChange, AppendsDone, CopiesDone, CopiesFail, BanksWiden, SealsWithin}
 use Rattle.switch_image.specs.Flags.{flagged, IsOpenFor, all_clear, CopiesOrNot, IsCopyOf, flags_copied, IsAppendTo, flags_appended}
 use Rattle.switch_image.specs.Laws.{CopiesMayBegin, CopiedPagesHold, FailedCopiesHold, FlagsMayClear, AppendsMayBegin, AppendedPagesHold}
@@ -21,12 +22,12 @@ use Rattle.switch_image.specs.Laws.{CopiesMayBegin, CopiedPagesHold, FailedCopie
 open_is_any : (fs : List Flag) (number length : ℕ) → IsOpenFor number fs → copied_of fs number length ≡ None
 open_is_any [] number length open' = refl
 open_is_any (f ∷ fs) number length open' = split (eqb f.number number) refl (eqb f.length length)
-    (λ same. ap (λ (b : Bool). cond b (Some (f.settled ∷ [])) None) (open'.0 same)) (open_is_any fs number length open'.1)
+    (λ same. ap (λ (b : Bool). cond b (Some (shown_by f ∷ [])) None) (open'.0 same)) (open_is_any fs number length open'.1)
   where
     split : (b : Bool) → eqb f.number number ≡ b → (c : Bool)
-        → (eqb f.number number ≡ true → cond (is_done f) (Some (f.settled ∷ [])) None ≡ None)
+        → (eqb f.number number ≡ true → cond (is_done f) (Some (shown_by f ∷ [])) None ≡ None)
         → copied_of fs number length ≡ None
-        → cond (b && c) (cond (is_done f) (Some (f.settled ∷ [])) None) (copied_of fs number length) ≡ None
+        → cond (b && c) (cond (is_done f) (Some (shown_by f ∷ [])) None) (copied_of fs number length) ≡ None
     split true is true here behind = here is
     split true is false here behind = behind
     split false is c here behind = behind
@@ -34,16 +35,16 @@ open_is_any (f ∷ fs) number length open' = split (eqb f.number number) refl (e
 number_of_fit : (number length : ℕ) (h : RecHead) → fits number length h ≡ true → h.number ≡ number
 number_of_fit number length h fit = eqb-true h.number number (and_parts (eqb h.number number) _ fit).0
 
-open_may_be : (fs : List Flag) (h : RecHead) (number length : ℕ) (m : Mark) → IsOpenFor h.number fs → fits number length h ≡ true → IsAmong (copied_of fs number length) m
+open_may_be : (fs : List Flag) (h : RecHead) (number length : ℕ) (m : Held) → IsOpenFor h.number fs → fits number length h ≡ true → IsAmong (copied_of fs number length) m
 open_may_be fs h number length m open' fit =
     let same = number_of_fit number length h fit in
     let none : copied_of fs number length ≡ None = open_is_any fs number length (subst (λ (n : ℕ). IsOpenFor n fs) same open') in
-    subst (λ (o : Option (List Mark)). IsAmong o m) (sym none) tt
+    subst (λ (o : Option (List Held)). IsAmong o m) (sym none) tt
 
 open_wide : (fs : List Flag) (h : RecHead) (body : List ℕ) → IsOpenFor h.number fs → IsWider (settling (copied_of fs) h body) (copied_of fs)
 open_wide fs h body open' number length m = split (fits number length h) refl
   where
-    split : (b : Bool) → fits number length h ≡ b → IsAmong (cond b (Some (mark_written h body ∷ [])) (copied_of fs number length)) m → IsAmong (copied_of fs number length) m
+    split : (b : Bool) → fits number length h ≡ b → IsAmong (cond b (Some (held_written h body ∷ [])) (copied_of fs number length)) m → IsAmong (copied_of fs number length) m
     split true fit among = open_may_be fs h number length m open' fit
     split false fit among = among
 
@@ -64,11 +65,11 @@ module _ (l : Layout) (ns : List (DeviceNumber × ℕ)) (old new : List ℕ) (s 
   copying : IsCopying l ns old s.target log (copied_of fs)
   copying = subst (HoldsPhase l ns old (flagged s fs)) phase holds.phase
 
-  begins : RecordsBegin → CopiesChange → (h : RecHead) (body : List ℕ) → log.tail ≡ Open → IsRecord (bank_in l 1 s.target) log.end h body → IsOpenFor h.number fs
+  begins : RecordsBegin → CopiesChange → (h : RecHead) (body : List ℕ) → log.tail ≡ Open → IsRecord (bank_in l new_format s.target) log.end h body → IsOpenFor h.number fs
       → Holds l ns old (flagged (record s { phase = Copying (log_begun log h body) }) fs)
   begins begin change h body idle is open' =
       change l ns old (flagged s fs) log (log_begun log h body) (copied_of fs) holds phase
-      (begin (bank_in l 1 s.target) ns old (copied_of fs) log h body copying.holds idle is (λ number length fit. open_may_be fs h number length (mark_written h body) open' fit))
+      (begin (bank_in l new_format s.target) ns old (copied_of fs) log h body copying.holds idle is (λ number length fit. open_may_be fs h number length (held_written h body) open' fit))
 
   page_holds : CopiesDone → BanksWiden → MarkingHolds → (sets : Bool) → IsLegalLayout l → IsCopyOf sets log.tail fs
       → IsDue log.tail → length (bytes_due l.page log) ≡ l.page → MayLeave (program_of l s.target (page_due log) (bytes_due l.page log)) old new
@@ -123,8 +124,8 @@ appended_wide settles p (Owes h) fs is = λ number length m among. among
 appended_wide settles p Closed fs is = λ number length m among. among
 appended_wide settles p (Writes h body done) fs is = split (is_last p h done)
   where
-    split : (b : Bool) → IsWider (copied_of fs) (copied_of (cond b (settled_at h.number (mark_written h body) fs) fs))
-    split true = subst (λ (x : List Flag). IsWider (copied_of x) (copied_of (settled_at h.number (mark_written h body) x))) is.1 (settles fs h.number (mark_written h body) is.0)
+    split : (b : Bool) → IsWider (copied_of fs) (copied_of (cond b (settled_at h.number (held_written h body) fs) fs))
+    split true = subst (λ (x : List Flag). IsWider (copied_of x) (copied_of (settled_at h.number (held_written h body) x))) is (settles fs h.number (held_written h body))
     split false = λ number length m among. among
 
 pub appended_pages_hold : AppendsDone → BanksWiden → SettlingWidens → AppendedPagesHold

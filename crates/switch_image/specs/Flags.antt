@@ -1,28 +1,24 @@
 -- The flags of the numbers, beside their places.
-use Rattle.std.specs.Prelude.{◌≡◌, ◌==◌, ◌&&◌, not, if◌then◌else◌, ℕ, Bool, true, false, IsTrue, List, [], ◌∷◌, map}
+use Rattle.std.specs.Prelude.{◌≡◌, ◌==◌, ◌&&◌, if◌then◌else◌, ℕ, Bool, true, false, IsTrue, List, [], ◌∷◌, map}
 use Rattle.nv_base.specs.declared.instance.DeviceNumber.{DeviceNumber}
 use Rattle.fee_format.specs.declared.rec_head.RecHead.{RecHead}
 use Rattle.log_image.specs.declared.place.Place.{Place}
-use Rattle.log_image.specs.declared.place.Place.TheVariants.{Erased}
 use Rattle.log_image.specs.Log.{Tail, Writes}
-use Rattle.log_image.specs.May.{mark_written}
+use Rattle.log_image.specs.May.{held_written}
+use Rattle.log_image.specs.Places.{is_written}
 use Rattle.log_image.specs.Step.{is_last}
 use Rattle.bank_image.specs.Banks.{Banks}
-use Rattle.bank_image.specs.Copies.{Flag, is_erased, is_done, copied_of, cleared, settled_at, marked, Each, Copies}
+use Rattle.bank_image.specs.Copies.{Flag, is_done, copied_of, cleared, settled_at, marked, Each, Copies}
 
 -- the target may show what the flags say
 abbrev pub flagged : Banks → List Flag → Banks
 flagged s fs = record s { copied = copied_of fs }
 
-abbrev pub is_erased_at : Place → Bool
-is_erased_at Erased = true
-is_erased_at _ = false
-
--- these flags are those of the numbers with their places: a settled mark is erased exactly where its place is
+-- these flags are those of the numbers with their places: there is a record exactly where the place has one
 abbrev pub AreFlagsOf : List (DeviceNumber × ℕ) → List Place → List Bool → List Flag → Type 0
 AreFlagsOf [] [] [] [] = Unit {0}
 AreFlagsOf (n ∷ ns) (place ∷ places) (done ∷ copied) (f ∷ fs) =
-    (f.number ≡ n.0.0) × (f.length ≡ n.1) × (f.copied ≡ done) × (is_erased f.settled ≡ is_erased_at place) × AreFlagsOf ns places copied fs
+    (f.number ≡ n.0.0) × (f.length ≡ n.1) × (f.copied ≡ done) × (f.written ≡ is_written place) × AreFlagsOf ns places copied fs
 AreFlagsOf _ _ _ _ = ⊥
 
 -- a copy is left to make of a number
@@ -49,12 +45,12 @@ flags_copied p sets (Writes h body done) fs = if is_last p h done && sets then m
 flags_copied p sets _ fs = fs
 
 -- AN APPEND
--- the record in work has a content or an invalidated mark, and its number's flag is clear
+-- the flag of the record's number is clear
 abbrev pub IsAppendTo : Tail → List Flag → Type 0
-IsAppendTo (Writes h body done) fs = IsTrue (not (is_erased (mark_written h body))) × (cleared h.number fs ≡ fs)
+IsAppendTo (Writes h body done) fs = cleared h.number fs ≡ fs
 IsAppendTo _ fs = Unit {0}
 
 -- its last page settles its mark
 abbrev pub flags_appended : ℕ → Tail → List Flag → List Flag
-flags_appended p (Writes h body done) fs = if is_last p h done then settled_at h.number (mark_written h body) fs else fs
+flags_appended p (Writes h body done) fs = if is_last p h done then settled_at h.number (held_written h body) fs else fs
 flags_appended p _ fs = fs

@@ -1,7 +1,8 @@
 -- Laws of the copies of a switch and of the appends beside it, for the layers above.
 use Rattle.std.specs.Prelude.{◌≡◌, ◌<◌, ◌≤◌, ℕ, Bool, false, List, length, Some, None, slice_get}
 use Rattle.nv_base.specs.declared.instance.DeviceNumber.{DeviceNumber}
-use Rattle.nv_base.specs.declared.mark.Mark.{Mark}
+use Rattle.fee_format.specs.Formats.{new_format}
+use Rattle.nv_base.specs.Held.{Held}
 use Rattle.nv_base.specs.Lengths.{AreLengths}
 use Rattle.fls_model.specs.Op.{MayLeave}
 use Rattle.fee_format.specs.declared.bank_head.BankHead.{BankHead}
@@ -29,7 +30,7 @@ NextIsOpen =
 -- where none is left, the target shows nothing but what may be found
 abbrev pub SealsMayBegin : Type 0
 SealsMayBegin =
-    (ns : List (DeviceNumber × ℕ)) (places : List Place) (copied : List Bool) (fs : List Flag) (doubts : ℕ → List Mark)
+    (ns : List (DeviceNumber × ℕ)) (places : List Place) (copied : List Bool) (fs : List Flag) (doubts : ℕ → List Held)
     → AreFlagsOf ns places copied fs → next_copy ns places copied ≡ None → IsWider (copied_of fs) (may_of fs doubts)
 
 -- THE COPIES
@@ -44,7 +45,7 @@ CopiesStart =
 abbrev pub CopiesMayBegin : Type 0
 CopiesMayBegin =
     (l : Layout) (ns : List (DeviceNumber × ℕ)) (bytes : List ℕ) (s : Banks) (log : Log) (h : RecHead) (body : List ℕ) (fs : List Flag)
-    → Holds l ns bytes (flagged s fs) → s.phase ≡ Copying log → log.tail ≡ Open → IsRecord (bank_in l 1 s.target) log.end h body → IsOpenFor h.number fs
+    → Holds l ns bytes (flagged s fs) → s.phase ≡ Copying log → log.tail ≡ Open → IsRecord (bank_in l new_format s.target) log.end h body → IsOpenFor h.number fs
     → Holds l ns bytes (flagged (record s { phase = Copying (log_begun log h body) }) fs)
 
 -- a page of it is done, the last one with its flag

@@ -143,7 +143,7 @@ begun_phase s head body =
 
 pub appends_begin : BeginsHold → OldLogsChange → AppendsBegin
 appends_begin begins change s bodies bytes body may copied a head is active may_begin holds =
-    let h = begins s.log head bodies.append body bytes may active.state (state s bodies bytes may copied a is active holds) may_begin.idle may_begin.format may_begin.configured may_begin.room may_begin.size may_begin.commit in
+    let h = begins s.log head bodies.append body bytes may active.state (state s bodies bytes may copied a is active holds) may_begin.idle may_begin.configured may_begin.room may_begin.size may_begin.commit in
     let banks = in_memory s bodies bytes may copied a is active holds change (begun s.log head) body (takes head.kind s.course s bodies.copy may_begin.taken) refl refl h in
     record {
       banks =

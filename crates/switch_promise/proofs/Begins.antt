@@ -11,11 +11,12 @@ use Rattle.fls_model.specs.declared.flash.FlashAnswer.TheVariants.{Done, Failed}
 use Rattle.fls_model.specs.Op.{MayLeave, after_op}
 use Rattle.fee_format.specs.declared.rec_head.RecHead.{RecHead}
 use Rattle.fee_format.specs.RecHead.{IsLegalRecHead}
+use Rattle.fee_format.specs.Formats.{new_format}
 use Rattle.fee_image.specs.Image.{IsLegalLayout, bank_in}
 use Rattle.fee_image.specs.Laws.{LayoutsAreLegal}
 use Rattle.fee_image.specs.RecordList.{pages_of_head}
 use Rattle.log_image.specs.declared.place.Place.{Place}
-use Rattle.log_image.specs.declared.place.Place.TheVariants.{Content, Invalid, Erased}
+use Rattle.log_image.specs.declared.place.Place.TheVariants.{Content, Invalid, Erased, Unwritten}
 use Rattle.log_image.specs.Laws.{NextIsFresh}
 use Rattle.log_image.specs.Log.{Log, Open as LogOpen}
 use Rattle.log_image.specs.May.{May}
@@ -56,8 +57,8 @@ legal_for bounds numbers h all is =
     let x : DeviceNumber × ℕ = (record { 0 = h.number }, is.length) in
     let up = bounds 0 numbers is.configured.0 x all (slice_get-get_or numbers is.configured.0 x is.configured.1 ∙ ap Some is.configured.2) in
     elim is.kind as (λ _. IsLegalRecHead h) [
-      | inl content ↦ record { number_low = up.0; number_high = up.1; kind = inl (content.0, omega (arith, content.1, up.2)); length = omega (arith, content.1, up.3) }
-      | inr mark ↦ record { number_low = up.0; number_high = up.1; kind = inr mark; length = omega (arith, mark.1) }
+      | inl content ↦ record { number_low = up.0; number_high = up.1; kind = inl (content.0, omega (arith, content.1, up.2)); length = omega (arith, content.1, up.3); count = is.count }
+      | inr mark ↦ record { number_low = up.0; number_high = up.1; kind = inr mark; length = omega (arith, mark.1); count = is.count }
     ]
 
 module _ (next_open : NextIsOpen) (bounds : NumbersAreInBounds) (may_begin : CopiesMayBegin) (opens : BeginsOpen) (s : BanksState) (bodies : Bodies) (bytes body : List ℕ) (may : May) (fs : List Flag)
@@ -71,14 +72,15 @@ module _ (next_open : NextIsOpen) (bounds : NumbersAreInBounds) (may_begin : Cop
       next_open s.log.numbers s.log.places s.log.flags fs source (number, source.length) (subst (AreLengths 0) is.numbers target.state.numbers) holds.flags begins.next.first there
 
   number_is : (place : Place) → (head_at place number.0 source.length).number ≡ number.0
-  number_is (Content at) = refl
-  number_is Invalid = refl
-  number_is Erased = refl
+  number_is (Content at count) = refl
+  number_is (Invalid count) = refl
+  number_is (Erased count) = refl
+  number_is Unwritten = refl
 
   phase : phase_shown s.course s bodies.copy ≡ Copying (log_of s.copies bodies.copy)
   phase = ap (λ (c : Option Course). phase_shown c s bodies.copy) begins.course
 
-  is_record : IsRecord (bank_in (layout_in s) 1 s.target) s.copies.end head body
+  is_record : IsRecord (bank_in (layout_in s) new_format s.target) s.copies.end head body
   is_record =
       let room = subst (λ (t : Tail). pages_of_head s.geometry.page head ≤ free_behind s.copies.geometry.page (pages_in s.copies) s.copies.end t) begins.tail begins.can.room in
       let pages : pages_in s.copies ≡ (layout_in s).pages = λ i. pages_of_bank (is.copies.shape i) (is.copies.shared i) in
@@ -97,11 +99,10 @@ module _ (next_open : NextIsOpen) (bounds : NumbersAreInBounds) (may_begin : Cop
       subst (λ (x : Log). Held s bodies bytes may (Copying x) fs) (sym (opens s.copies head body begins.tail)) h
 
 pub contents_begin : NextIsOpen → NumbersAreInBounds → CopiesMayBegin → BeginsOpen → ContentsBegin
-contents_begin next bounds may_begin opens s bodies bytes buffer body may fs source number at is target place begins holds =
+contents_begin next bounds may_begin opens s bodies bytes buffer body may fs source number at count is target place begins holds =
     let h = begun_held next bounds may_begin opens s bodies bytes body may fs source number is target begins holds in
     let made : BanksState = record s { copies = begun s.copies (head_at source.place number.0 source.length); buffer = buffer } in
-    let after = advanced_holds made (record bodies { copy = body }) bytes may fs (Copy None) (first_stays made body) (record { flags = s.log.flags; is = refl; are = holds.flags }) h in
-    subst (λ (x : Place). HoldsFlags (advanced (record s { copies = begun s.copies (head_at x number.0 source.length); buffer = buffer }) (Copy None)) (record bodies { copy = body }) bytes may fs) place after
+    advanced_holds made (record bodies { copy = body }) bytes may fs (Copy None) (first_stays made body) (record { flags = s.log.flags; is = refl; are = holds.flags }) h
 
 pub contents_fall_back : LayoutsAreLegal → FailedCopiesHold → ContentsFallBack
 contents_fall_back legal fail s bodies bytes buffer may fs is course holds =
@@ -117,7 +118,7 @@ contents_fall_back legal fail s bodies bytes buffer may fs is course holds =
 module _ (next_open : NextIsOpen) (bounds : NumbersAreInBounds) (may_begin : CopiesMayBegin) (opens : BeginsOpen) (s : BanksState) (bodies : Bodies) (old new : List ℕ) (may : May) (fs : List Flag)
     (source : Source) (number : DeviceNumber) (is : IsBanksState s) (target : IsCopyLog s) (begins : IsMarkBeginning s source number fs) (holds : HoldsFlags s bodies old may fs) where
   abbrev mark : RecHead
-  mark = mark_head number
+  mark = mark_head source number
 
   abbrev made : BanksState
   made = record s { copies = begun s.copies mark }
@@ -149,7 +150,7 @@ module _ (next_open : NextIsOpen) (bounds : NumbersAreInBounds) (may_begin : Cop
   phase_made = ap (λ (c : Option Course). phase_shown c made []) begins.begins.course
 
   same_mark : head_at source.place number.0 source.length ≡ mark
-  same_mark = ap (λ (x : Place). head_at x number.0 source.length) begins.place
+  same_mark = refl
 
   held : HoldsFlags made with_mark old may fs
   held =
@@ -183,7 +184,7 @@ marks_begin next bounds may_begin opens stand fresh legal follow pages s bodies 
 pub marks_fall_back : NextIsOpen → NumbersAreInBounds → CopiesMayBegin → BeginsOpen → PagesStand → NextIsFresh → LayoutsAreLegal → FailedCopiesHold → MarksFallBack
 marks_fall_back next bounds may_begin opens stand fresh legal fail s bodies old new may fs source number is target begins holds leaves =
     let h = mark_failed next bounds may_begin opens s bodies old new may fs source number is target begins holds stand fresh legal fail leaves in
-    (again_holds (record s { copies = after_step (begun s.copies (mark_head number)) Failed }) bodies new may fs holds.flags h.0, h.1)
+    (again_holds (record s { copies = after_step (begun s.copies (mark_head source number)) Failed }) bodies new may fs holds.flags h.0, h.1)
 
 pub cut_marks_show : NextIsOpen → NumbersAreInBounds → CopiesMayBegin → BeginsOpen → PagesStand → NextIsFresh → LayoutsAreLegal → FailedCopiesHold → BanksShow → CutMarksShow
 cut_marks_show next bounds may_begin opens stand fresh legal fail show s bodies old image may fs source number is target begins holds leaves =

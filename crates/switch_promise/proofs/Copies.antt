@@ -7,6 +7,7 @@ use Rattle.nv_base.specs.Geometry.{sectors_of_bank, pages_of_sector}
 use Rattle.fls_model.specs.declared.flash.FlashAnswer.TheVariants.{Done, Failed}
 use Rattle.fls_model.specs.Op.{MayLeave, after_op}
 use Rattle.fee_format.specs.declared.rec_head.RecHead.{RecHead}
+use Rattle.fee_format.specs.Formats.{new_format}
 use Rattle.fee_image.specs.Image.{IsLegalLayout, bank_in}
 use Rattle.fee_image.specs.Laws.{LayoutsAreLegal, SectorsFillBanks}
 use Rattle.fee_image.specs.RecordList.{pages_of_head}
@@ -126,7 +127,7 @@ log_at s h k = record {
   geometry = s.geometry;
   banks = s.banks;
   bank = s.target;
-  format = 1;
+  format = new_format;
   numbers = s.log.numbers;
   places = s.copies.places;
   flags = s.copies.flags;
@@ -134,7 +135,7 @@ log_at s h k = record {
   tail = Writes h k;
 }
 
-pub is_at : (s : BanksState) (h : RecHead) (k : ℕ) → IsBanksState s → s.copies.format ≡ 1 → s.copies.tail ≡ Writes h k → s.copies ≡ log_at s h k
+pub is_at : (s : BanksState) (h : RecHead) (k : ℕ) → IsBanksState s → s.copies.format ≡ new_format → s.copies.tail ≡ Writes h k → s.copies ≡ log_at s h k
 is_at s h k is format tail = λ i. record {
   geometry = is.copies.shape i;
   banks = is.copies.shared i;
@@ -189,7 +190,7 @@ module _ (stand : PagesStand) (fresh : NextIsFresh) (s : BanksState) (bodies : B
   pub failed_holds : FailedCopiesHold → before.phase ≡ Copying log → IsPageOf s.geometry.page (due_bytes here bodies.copy) → MayLeave (op_of here bodies.copy) old new
       → Held s bodies new may (Erasing 0) (all_clear fs) × Each (λ f. f.copied ≡ false) (all_clear fs)
   failed_holds fail phase page leaves =
-      let f = fresh (bank_in (layout_in s) 1 s.target) s.log.numbers old (copied_of fs) log (copying phase).holds tt in
+      let f = fresh (bank_in (layout_in s) new_format s.target) s.log.numbers old (copied_of fs) log (copying phase).holds tt in
       fail (layout_in s) s.log.numbers old new (due_bytes here bodies.copy) before (page_due log) log fs legal holds.banks phase page.size f.high (let low = f.low in λ e. omega arith) leaves
 
 module _ (s : BanksState) (bodies : Bodies) (old new : List ℕ) (may : May) (fs : List Flag) (h : RecHead) (k : ℕ) (sets : Bool) where

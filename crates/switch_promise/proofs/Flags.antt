@@ -2,22 +2,20 @@
 use Rattle.std.proofs.Common.{◌≡◌, ◌∙◌, ℕ, Bool, true, false, IsTrue, List, [], ◌∷◌, cond, eqb, sym, ap, refl}
 use Rattle.std.proofs.lemmas.Bool.{eqb-false, ne_eqb}
 use Rattle.nv_base.specs.declared.instance.DeviceNumber.{DeviceNumber}
-use Rattle.nv_base.specs.declared.mark.Mark.{Mark}
-use Rattle.nv_base.specs.declared.mark.Mark.TheVariants.{Content, Invalid, Erased}
+use Rattle.nv_base.specs.Held.{Held}
 use Rattle.fee_format.specs.declared.rec_head.RecHead.{RecHead}
 use Rattle.fee_image.specs.Found.{fits}
 use Rattle.log_image.specs.declared.place.Place.{Place}
-use Rattle.log_image.specs.declared.place.Place.TheVariants.{Content as ContentPlace, Invalid as InvalidPlace, Erased as ErasedPlace}
-use Rattle.log_image.specs.May.{mark_written}
-use Rattle.log_image.specs.Places.{place_at, noted}
-use Rattle.bank_image.specs.Copies.{Flag, Each, is_erased, at_number, settled_at}
+use Rattle.log_image.specs.declared.place.Place.TheVariants.{Content, Invalid, Erased}
+use Rattle.log_image.specs.Places.{is_written, place_at, noted}
+use Rattle.bank_image.specs.Copies.{Flag, Each, at_number, settled_at}
 use Rattle.fee_log.specs.Index.{with_flag, clear_flags}
-use Rattle.switch_image.specs.Flags.{is_erased_at, AreFlagsOf, all_clear}
+use Rattle.switch_image.specs.Flags.{AreFlagsOf, all_clear}
 
 -- one flag, set or cleared where its number is the one
 one_with : (n : DeviceNumber × ℕ) (x : Place) (c on : Bool) (f : Flag) (a b : Bool) → a ≡ b
-    → f.number ≡ n.0.0 → f.length ≡ n.1 → f.copied ≡ c → is_erased f.settled ≡ is_erased_at x
-    → let g = cond a (record f { copied = on }) f in (g.number ≡ n.0.0) × (g.length ≡ n.1) × (g.copied ≡ cond b on c) × (is_erased g.settled ≡ is_erased_at x)
+    → f.number ≡ n.0.0 → f.length ≡ n.1 → f.copied ≡ c → f.written ≡ is_written x
+    → let g = cond a (record f { copied = on }) f in (g.number ≡ n.0.0) × (g.length ≡ n.1) × (g.copied ≡ cond b on c) × (g.written ≡ is_written x)
 one_with n x c on f true true same i j k l = (i, j, refl, l)
 one_with n x c on f false false same i j k l = (i, j, k, l)
 one_with n x c on f true false same i j k l = cc
@@ -52,15 +50,15 @@ fit_is : (f : Flag) (h : RecHead) (b : Bool) → eqb f.number h.number ≡ b →
 fit_is f h true e fit = sym (fit e)
 fit_is f h false e fit = sym (rw (ne_eqb h.number f.number (λ same. eqb-false f.number h.number e (sym same))) refl)
 
-one_settled : (n : DeviceNumber × ℕ) (x y : Place) (c : Bool) (f : Flag) (m : Mark) (a b : Bool) → a ≡ b → is_erased m ≡ is_erased_at y
-    → f.number ≡ n.0.0 → f.length ≡ n.1 → f.copied ≡ c → is_erased f.settled ≡ is_erased_at x
-    → let g = cond a (record f { settled = m }) f in (g.number ≡ n.0.0) × (g.length ≡ n.1) × (g.copied ≡ c) × (is_erased g.settled ≡ is_erased_at (cond b y x))
+one_settled : (n : DeviceNumber × ℕ) (x y : Place) (c : Bool) (f : Flag) (m : Held) (a b : Bool) → a ≡ b → true ≡ is_written y
+    → f.number ≡ n.0.0 → f.length ≡ n.1 → f.copied ≡ c → f.written ≡ is_written x
+    → let g = cond a (record f { written = true; settled = m }) f in (g.number ≡ n.0.0) × (g.length ≡ n.1) × (g.copied ≡ c) × (g.written ≡ is_written (cond b y x))
 one_settled n x y c f m true true same new i j k l = (i, j, k, new)
 one_settled n x y c f m false false same new i j k l = (i, j, k, l)
 one_settled n x y c f m true false same new i j k l = cc
 one_settled n x y c f m false true same new i j k l = cc
 
-pub are_settled : (ns : List (DeviceNumber × ℕ)) (ps : List Place) (cs : List Bool) (fs : List Flag) (at : ℕ) (h : RecHead) (m : Mark) → is_erased m ≡ is_erased_at (place_at at h)
+pub are_settled : (ns : List (DeviceNumber × ℕ)) (ps : List Place) (cs : List Bool) (fs : List Flag) (at : ℕ) (h : RecHead) (m : Held) → true ≡ is_written (place_at at h)
     → Each (λ f. IsTrue (eqb f.number h.number) → IsTrue (fits f.number f.length h)) fs → AreFlagsOf ns ps cs fs → AreFlagsOf ns (noted ns ps at h) cs (settled_at h.number m fs)
 are_settled [] [] [] [] at h m new fit are = tt
 are_settled [] [] [] (f ∷ fs) at h m new fit are = absurd are
@@ -74,11 +72,11 @@ are_settled (n ∷ ns) (x ∷ ps) (c ∷ cs) (f ∷ fs) at h m new fit are =
     let g = one_settled n x (place_at at h) c f m (eqb f.number h.number) (fits n.0.0 n.1 h) (fit_is f h (eqb f.number h.number) refl fit.0 ∙ one) new are.0 are.1 are.2 are.3 in
     (g.0, g.1, g.2, g.3, are_settled ns ps cs fs at h m new fit.1 are.4)
 
--- a mark is erased exactly where its record's place is
-kind_is : (a b : Bool) (body : List ℕ) (at : ℕ) → is_erased (cond a (Content body) (cond b Invalid Erased)) ≡ is_erased_at (cond a (ContentPlace at) (cond b InvalidPlace ErasedPlace))
-kind_is true b body at = refl
-kind_is false true body at = refl
-kind_is false false body at = refl
+-- there is one then
+kind_is : (a b : Bool) (at count : ℕ) → true ≡ is_written (cond a (Content at count) (cond b (Invalid count) (Erased count)))
+kind_is true b at count = refl
+kind_is false true at count = refl
+kind_is false false at count = refl
 
-pub mark_is : (h : RecHead) (body : List ℕ) (at : ℕ) → is_erased (mark_written h body) ≡ is_erased_at (place_at at h)
-mark_is h body at = kind_is (eqb h.kind 1) (eqb h.kind 2) body at
+pub is_placed : (h : RecHead) (at : ℕ) → true ≡ is_written (place_at at h)
+is_placed h at = kind_is (eqb h.kind 1) (eqb h.kind 2) at h.count

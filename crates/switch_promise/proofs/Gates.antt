@@ -4,6 +4,7 @@ use Rattle.std.proofs.lemmas.Bool.{cond_both, eqb-true, eqb-false}
 use Rattle.nv_base.specs.declared.instance.DeviceNumber.{DeviceNumber}
 use Rattle.fls_model.specs.declared.flash.FlashAnswer.TheVariants.{Done, Failed}
 use Rattle.fls_model.specs.Op.{MayLeave, after_op}
+use Rattle.fee_format.specs.Formats.{new_format}
 use Rattle.log_image.specs.Log.{Log}
 use Rattle.log_image.specs.May.{May}
 use Rattle.bank_image.specs.Banks.{OldBank, Phase, Idle, Sealing, Holds, next_head}
@@ -23,7 +24,7 @@ next_inside banks target two lt = cond_both (eqb (target + 1) banks) 0 (target +
 pub next_other : (banks : ℕ) (target : ℕ) → 2 ≤ banks → cond (eqb (target + 1) banks) 0 (target + 1) ≡ target → ⊥
 next_other banks target two = cond_both (eqb (target + 1) banks) 0 (target + 1) (λ (x : ℕ). x ≡ target → ⊥) (λ e same. let h = eqb-true (target + 1) banks e in omega arith) (λ _ same. omega arith)
 
-pub same_head : (active : Option ActiveBank) (s : BanksState) (body : List ℕ) → next_head (old_shown active s.log body) ≡ record { format = 1; generation = next_generation active }
+pub same_head : (active : Option ActiveBank) (s : BanksState) (body : List ℕ) → next_head (old_shown active s.log body) ≡ record { format = new_format; generation = next_generation active }
 same_head None s body = refl
 same_head (Some a) s body = refl
 
@@ -49,7 +50,7 @@ module _ (targets : TargetsHold) (s : BanksState) (bodies : Bodies) (old new : L
   stands : new ≡ after_op (gate_of s) old → HoldsBanks (ended s) (record { append = bodies.copy; copy = [] }) new copied copied
   stands done =
       let h = targets (target_at s Gate) s.log.numbers old new (banks_shown s bodies may copied) log (target_after s.banks (stood s)) Done target held inside other leaves done in
-      subst (λ (ns : List (DeviceNumber × ℕ)). Holds (layout_in s) ns new (record { old = OldBank s.target (record { format = 1; generation = next_generation s.active }) log; target = target_after s.banks (stood s); phase = Idle; may = copied; copied = copied })) (sym is.numbers)
+      subst (λ (ns : List (DeviceNumber × ℕ)). Holds (layout_in s) ns new (record { old = OldBank s.target (record { format = new_format; generation = next_generation s.active }) log; target = target_after s.banks (stood s); phase = Idle; may = copied; copied = copied })) (sym is.numbers)
       (rw (← same_head s.active s bodies.append) h)
 
   fails : HoldsBanks (fallen_back s (CourseGate failed)) bodies new may copied

@@ -3,7 +3,7 @@ use Rattle.std.proofs.Common.{ℕ, ◌+◌, Bool, true, false, List, [], Some, N
 use Rattle.nv_base.specs.declared.geometry.Geometry.{Geometry}
 use Rattle.fls_model.specs.declared.flash.FlashAnswer.TheVariants.{Done}
 use Rattle.log_image.specs.Log.{Tail as LogTail, Open as LogOpen, Writes as LogWrites, Owes as LogOwes, Closed as LogClosed}
-use Rattle.log_image.specs.May.{May, IsWider, mark_written}
+use Rattle.log_image.specs.May.{May, IsWider, held_written}
 use Rattle.log_image.specs.Places.{noted}
 use Rattle.log_image.specs.Step.{is_last, log_behind}
 use Rattle.bank_image.specs.Banks.{Phase, Idle, Erasing, Copying, Sealing}
@@ -19,7 +19,7 @@ use Rattle.fee_switch.specs.Banks.{BanksState}
 use Rattle.switch_promise.specs.Appends.{AppendsGoOn, AppendsSettle, FitsFlags}
 use Rattle.switch_promise.specs.Shown.{layout_in, phase_shown, banks_shown}
 use Rattle.switch_promise.proofs.Appends.{other_log}
-use Rattle.switch_promise.proofs.Flags.{are_settled, mark_is}
+use Rattle.switch_promise.proofs.Flags.{are_settled, is_placed}
 
 -- the flags are those of the places behind a page that is done
 after_flags : (s : LogState) (tail : Tail) (body : List ℕ) (fs : List Flag) → AreFlagsOf s.numbers s.places s.flags fs → FitsFlags (tail_with tail body) fs
@@ -29,8 +29,8 @@ after_flags s (Writes h k) body fs are fit = split (is_last s.geometry.page h k)
   where
     split : (b : Bool)
         → AreFlagsOf s.numbers (cond b (record (log_behind s.geometry.page (log_of (record s { tail = Writes h k }) []) h) { places = noted s.numbers s.places s.end h }) (record (log_of (record s { tail = Writes h k }) []) { tail = LogWrites h [] (k + 1) })).places s.flags
-        (cond b (settled_at h.number (mark_written h body) fs) fs)
-    split true = are_settled s.numbers s.places s.flags fs s.end h (mark_written h body) (mark_is h body s.end) fit are
+        (cond b (settled_at h.number (held_written h body) fs) fs)
+    split true = are_settled s.numbers s.places s.flags fs s.end h (held_written h body) (is_placed h s.end) fit are
     split false = are
 after_flags s (Owes h None) body fs are fit = are
 after_flags s (Owes h (Some next)) body fs are fit = are
@@ -43,8 +43,8 @@ settled_wide settles p (LogOwes h) fs is = λ number length m among. among
 settled_wide settles p LogClosed fs is = λ number length m among. among
 settled_wide settles p (LogWrites h body k) fs is = split (is_last p h k)
   where
-    split : (b : Bool) → IsWider (copied_of fs) (copied_of (cond b (settled_at h.number (mark_written h body) fs) fs))
-    split true = subst (λ (x : List Flag). IsWider (copied_of x) (copied_of (settled_at h.number (mark_written h body) x))) is.1 (settles fs h.number (mark_written h body) is.0)
+    split : (b : Bool) → IsWider (copied_of fs) (copied_of (cond b (settled_at h.number (held_written h body) fs) fs))
+    split true = subst (λ (x : List Flag). IsWider (copied_of x) (copied_of (settled_at h.number (held_written h body) x))) is (settles fs h.number (held_written h body))
     split false = λ number length m among. among
 
 within : (phase : Phase) (copied may : May) → TakesAppends phase → SealsWithin phase copied may

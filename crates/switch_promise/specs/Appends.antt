@@ -47,7 +47,6 @@ pub record IsDueNow (s : BanksState) (body : List ℕ) : Type 0 where
 pub record MayBegin (s : BanksState) (head : RecHead) (body : List ℕ) (may : May) : Type 0 where
   pub taken : TakesRecord head.kind s.course
   pub idle : work_in s.log.tail ≡ None
-  pub format : s.log.format ≡ 1
   pub configured : IsFor s.log.numbers head
   pub room : record_pages_of head.length s.log.geometry.page ≤ free_in s.log
   pub size : length body ≡ head.length

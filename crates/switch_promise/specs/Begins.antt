@@ -5,7 +5,7 @@ use Rattle.fls_model.specs.declared.flash.FlashAnswer.TheVariants.{Done, Failed}
 use Rattle.fls_model.specs.Op.{MayLeave, after_op}
 use Rattle.fee_format.specs.declared.rec_head.RecHead.{RecHead}
 use Rattle.fee_image.specs.Sound.{IsSoundImage}
-use Rattle.log_image.specs.declared.place.Place.TheVariants.{Content, Invalid}
+use Rattle.log_image.specs.declared.place.Place.TheVariants.{Content}
 use Rattle.log_image.specs.May.{May}
 use Rattle.bank_image.specs.Banks.{ImageShows}
 use Rattle.bank_image.specs.Copies.{Flag, Each, Copies}
@@ -15,7 +15,7 @@ use Rattle.fee_log.specs.Step.{IsPageOf, due_bytes, op_of, after_step}
 use Rattle.switch_course.specs.declared.copies.Source.{Source}
 use Rattle.switch_course.specs.declared.course.Course.TheVariants.{Copy}
 use Rattle.switch_image.specs.Flags.{all_clear}
-use Rattle.fee_switch.specs.Banks.{BanksState, IsBanksState, advanced, fallen_back}
+use Rattle.fee_switch.specs.Banks.{BanksState, IsBanksState, reads_place, advanced, fallen_back}
 use Rattle.fee_switch.specs.Copy.{IsNext, CanBegin, head_at}
 use Rattle.switch_promise.specs.Flagged.{HoldsFlags, IsCopyLog}
 use Rattle.switch_promise.specs.Shown.{Bodies, layout_in}
@@ -29,22 +29,22 @@ pub record IsBeginning (s : BanksState) (source : Source) (number : DeviceNumber
   pub size : length body ≡ (head_at source.place number.0 source.length).length
   pub copies : Each (Copies (head_at source.place number.0 source.length) body) fs
 
--- the header of an invalidated mark is programmed at once
-abbrev pub mark_head : DeviceNumber → RecHead
-mark_head number = record { number = number.0; kind = 2; length = 0 }
+-- the header of a mark without content is programmed at once
+abbrev pub mark_head : Source → DeviceNumber → RecHead
+mark_head source number = head_at source.place number.0 source.length
 
 pub record IsMarkBeginning (s : BanksState) (source : Source) (number : DeviceNumber) (fs : List Flag) : Type 0 where
-  pub place : source.place ≡ Invalid
+  pub place : reads_place source.place ≡ false
   pub begins : IsBeginning s source number [] fs
-  pub state : IsLogState (begun s.copies (mark_head number))
-  pub page : IsPageOf s.geometry.page (due_bytes (begun s.copies (mark_head number)) [])
+  pub state : IsLogState (begun s.copies (mark_head source number))
+  pub page : IsPageOf s.geometry.page (due_bytes (begun s.copies (mark_head source number)) [])
 
 -- a content is read
 abbrev pub ContentsBegin : Type 0
 ContentsBegin =
-    (s : BanksState) (bodies : Bodies) (bytes buffer body : List ℕ) (may : May) (fs : List Flag) (source : Source) (number : DeviceNumber) (at : ℕ)
-    → IsBanksState s → IsCopyLog s → source.place ≡ Content at → IsBeginning s source number body fs → HoldsFlags s bodies bytes may fs
-    → HoldsFlags (advanced (record s { copies = begun s.copies (record { number = number.0; kind = 1; length = source.length }); buffer = buffer }) (Copy None))
+    (s : BanksState) (bodies : Bodies) (bytes buffer body : List ℕ) (may : May) (fs : List Flag) (source : Source) (number : DeviceNumber) (at count : ℕ)
+    → IsBanksState s → IsCopyLog s → source.place ≡ Content at count → IsBeginning s source number body fs → HoldsFlags s bodies bytes may fs
+    → HoldsFlags (advanced (record s { copies = begun s.copies (head_at source.place number.0 source.length); buffer = buffer }) (Copy None))
     (record bodies { copy = body }) bytes may fs
 
 -- it failed: the first erase comes with no flag
@@ -59,7 +59,7 @@ abbrev pub MarksBegin : Type 0
 MarksBegin =
     (s : BanksState) (bodies : Bodies) (old new : List ℕ) (may : May) (fs : List Flag) (source : Source) (number : DeviceNumber)
     → IsBanksState s → IsCopyLog s → IsMarkBeginning s source number fs → HoldsFlags s bodies old may fs
-    → let copies = begun s.copies (mark_head number) in
+    → let copies = begun s.copies (mark_head source number) in
     MayLeave (op_of copies []) old new → new ≡ after_op (op_of copies []) old
     → HoldsFlags (advanced (record s { copies = after_step copies Done }) (Copy None)) (record bodies { copy = [] }) new may fs
 
@@ -68,7 +68,7 @@ abbrev pub MarksFallBack : Type 0
 MarksFallBack =
     (s : BanksState) (bodies : Bodies) (old new : List ℕ) (may : May) (fs : List Flag) (source : Source) (number : DeviceNumber)
     → IsBanksState s → IsCopyLog s → IsMarkBeginning s source number fs → HoldsFlags s bodies old may fs
-    → let copies = begun s.copies (mark_head number) in
+    → let copies = begun s.copies (mark_head source number) in
     MayLeave (op_of copies []) old new
     → HoldsFlags (fallen_back (record s { copies = after_step copies Failed }) (Copy None)) bodies new may (all_clear fs) × Each (λ f. f.copied ≡ false) (all_clear fs)
 
@@ -77,4 +77,4 @@ abbrev pub CutMarksShow : Type 0
 CutMarksShow =
     (s : BanksState) (bodies : Bodies) (old image : List ℕ) (may : May) (fs : List Flag) (source : Source) (number : DeviceNumber)
     → IsBanksState s → IsCopyLog s → IsMarkBeginning s source number fs → HoldsFlags s bodies old may fs
-    → MayLeave (op_of (begun s.copies (mark_head number)) []) old image → ImageShows (layout_in s) image may × IsSoundImage (layout_in s) image
+    → MayLeave (op_of (begun s.copies (mark_head source number)) []) old image → ImageShows (layout_in s) image may × IsSoundImage (layout_in s) image

@@ -1,5 +1,6 @@
 -- The flags of the numbers, beside the banks in memory.
 use Rattle.std.specs.Prelude.{◌≡◌, ◌+◌, ◌<◌, ℕ, false, List, Some, slice_get}
+use Rattle.fee_format.specs.Formats.{new_format}
 use Rattle.fee_format.specs.declared.rec_head.RecHead.{RecHead}
 use Rattle.fee_image.specs.RecordList.{pages_of_head}
 use Rattle.log_image.specs.May.{May}
@@ -22,10 +23,10 @@ pub record IsErasing (s : BanksState) (fs : List Flag) : Type 0 where
   pub copies : s.copies ≡ erased_state s.geometry s.banks s.target s.copies.numbers
   pub clear : Each (λ f. f.copied ≡ false) fs
 
--- the log of the target, whose records are written as today
+-- the log of the target, in the format that is written
 pub record IsCopyLog (s : BanksState) : Type 0 where
   pub state : IsLogState s.copies
-  pub format : s.copies.format ≡ 1
+  pub format : s.copies.format ≡ new_format
 
 -- the copy in work is of the number at its place in the list, with as many pages left, and copies its settled mark
 pub record IsInWork (s : BanksState) (body : List ℕ) (w : Copying) (fs : List Flag) : Type 0 where

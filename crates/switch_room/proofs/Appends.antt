@@ -50,7 +50,7 @@ stepped : (c : LogState) (answer : FlashAnswer) (tail : Tail) (end : ℕ) (next 
     → free_in (record c { end = end; tail = next }) ≤ free_in (record c { tail = tail }) → IfSome (work_in next) (λ h. h.kind ≡ 1) → IsStepped (record c { tail = tail }) answer
 stepped c answer tail end next is free work = record { end = end; tail = next; places = c.places; is = is; free = free; work = work; left = λ flags l. l }
 
-content_at : (at : ℕ) (h : RecHead) → h.kind ≡ 1 → place_at at h ≡ Content at
+content_at : (at : ℕ) (h : RecHead) → h.kind ≡ 1 → place_at at h ≡ Content at h.count
 content_at at h content = rw (eq-eqb h.kind 1 content) refl
 
 writes_done : (c : LogState) (h : RecHead) (done : ℕ) (b : Bool) → is_last c.geometry.page h done ≡ b → h.kind ≡ 1 → IsStepped (record c { tail = Writes h done }) Done

@@ -82,17 +82,17 @@ clear_leaves (n ∷ ns) (x ∷ ps) (c ∷ cs) (suc i) is =
     step_more (is_left x c) (is_left x c) _ _ (next_copy ns ps cs) (next_copy ns ps (set cs i false)) (λ h. h) (clear_leaves ns ps cs i) is
 
 -- where a content is written
-content_is_left : (b : Bool) (at : ℕ) (x : Place) (c : Bool) → is_left x c ≡ true → is_left (cond b (Content at) x) c ≡ true
-content_is_left b at x true is = absurd cc
-content_is_left true at x false is = refl
-content_is_left false at x false is = is
+content_is_left : (b : Bool) (at count : ℕ) (x : Place) (c : Bool) → is_left x c ≡ true → is_left (cond b (Content at count) x) c ≡ true
+content_is_left b at count x true is = absurd cc
+content_is_left true at count x false is = refl
+content_is_left false at count x false is = is
 
-pub content_leaves : (ns : List (DeviceNumber × ℕ)) (ps : List Place) (cs : List Bool) (at : ℕ) (h : RecHead) → place_at at h ≡ Content at
+pub content_leaves : (ns : List (DeviceNumber × ℕ)) (ps : List Place) (cs : List Bool) (at : ℕ) (h : RecHead) → place_at at h ≡ Content at h.count
     → is_some (next_copy ns ps cs) ≡ true → is_some (next_copy ns (noted ns ps at h) cs) ≡ true
 content_leaves [] ps cs at h content is = is
 content_leaves (n ∷ ns) [] cs at h content is = is
 content_leaves (n ∷ ns) (x ∷ ps) [] at h content is = is
 content_leaves (n ∷ ns) (x ∷ ps) (c ∷ cs) at h content is =
     let b = fits n.0.0 n.1 h in
-    let here : is_left x c ≡ true → is_left (cond b (place_at at h) x) c ≡ true = λ l. rw content (content_is_left b at x c l) in
+    let here : is_left x c ≡ true → is_left (cond b (place_at at h) x) c ≡ true = λ l. rw content (content_is_left b at h.count x c l) in
     step_more (is_left x c) (is_left (cond b (place_at at h) x) c) _ _ (next_copy ns ps cs) (next_copy ns (noted ns ps at h) cs) here (content_leaves ns ps cs at h content) is

@@ -1,6 +1,6 @@
 -- What the next step of a switch asks for.
-use Rattle.std.proofs.Common.{◌≡◌, ◌≤◌, ◌+◌, ◌-◌, ◌*◌, ◌/◌, ℕ, zero, suc, inl, inr, true, List, [], ◌∷◌, length, Option, Some, None, refl, sym, ap, ◌∙◌, subst, arith}
-use Rattle.std.specs.Prelude.{slice_get, is_some, IfSome}
+use Rattle.std.proofs.Common.{◌≡◌, ◌<◌, ◌≤◌, ◌+◌, ◌-◌, ◌*◌, ◌/◌, ℕ, zero, suc, inl, inr, true, List, [], ◌∷◌, length, Option, Some, None, refl, sym, ap, ◌∙◌, subst, arith}
+use Rattle.std.specs.Prelude.{◌^◌, slice_get, is_some, IfSome}
 use Rattle.std.proofs.lemmas.Option.{slice_get_within, get_or_from_slice_get}
 use Rattle.std.proofs.Math.Nat.{div-add-mod, mul_comm, mul-le-mul_right}
 use Rattle.nv_base.specs.declared.geometry.Geometry.{Geometry}
@@ -12,10 +12,10 @@ use Rattle.fee_format.specs.declared.rec_head.RecHead.{RecHead}
 use Rattle.fee_image.specs.Laws.{BodiesHaveRoom, SectorsFillBanks}
 use Rattle.fee_image.specs.RecordList.{pages_of_head}
 use Rattle.log_image.specs.declared.place.Place.{Place}
-use Rattle.log_image.specs.declared.place.Place.TheVariants.{Content, Invalid, Erased}
-use Rattle.log_image.specs.Places.{IsWithin}
+use Rattle.log_image.specs.declared.place.Place.TheVariants.{Content, Invalid, Erased, Unwritten}
+use Rattle.log_image.specs.Places.{IsWithin, count_at}
 use Rattle.fee_log.specs.declared.tail.Tail.TheVariants.{Open}
-use Rattle.fee_log.specs.Index.{AreWithin}
+use Rattle.fee_log.specs.Index.{AreCounted, AreWithin}
 use Rattle.fee_log.specs.Log.{IsLogState, IsFor, work_in, taken_in, free_behind, free_in, pages_in}
 use Rattle.switch_course.specs.declared.copies.Source.{Source}
 use Rattle.switch_course.specs.declared.course.Copying.{Copying}
@@ -64,20 +64,28 @@ index_within p end (m ∷ ns) (place ∷ places) zero n x within is at =
 index_within p end (m ∷ ns) (place ∷ places) (suc i) n x within is at = index_within p end ns places i n x within.1 is at
 
 -- its record is of the number
-for_number : (ns : List (DeviceNumber × ℕ)) (i length' : ℕ) (number : DeviceNumber) (place : Place) → slice_get ns i ≡ Some (number, length')
+for_number : (ns : List (DeviceNumber × ℕ)) (i length' : ℕ) (number : DeviceNumber) (place : Place) → slice_get ns i ≡ Some (number, length') → count_at place < 2 ^ 32
     → IsFor ns (head_at place number.0 length')
-for_number ns i length' number (Content at) is =
-    record { length = length'; configured = (i, slice_get_within ns i (number, length') is, get_or_from_slice_get ns i (number, length') (number, length') is); kind = inl (refl, refl) }
-for_number ns i length' number Invalid is =
-    record { length = length'; configured = (i, slice_get_within ns i (number, length') is, get_or_from_slice_get ns i (number, length') (number, length') is); kind = inr (inl refl, refl) }
-for_number ns i length' number Erased is =
-    record { length = length'; configured = (i, slice_get_within ns i (number, length') is, get_or_from_slice_get ns i (number, length') (number, length') is); kind = inr (inl refl, refl) }
+for_number ns i length' number (Content at count) is few =
+    record { length = length'; configured = (i, slice_get_within ns i (number, length') is, get_or_from_slice_get ns i (number, length') (number, length') is); kind = inl (refl, refl); count = few }
+for_number ns i length' number (Invalid count) is few =
+    record { length = length'; configured = (i, slice_get_within ns i (number, length') is, get_or_from_slice_get ns i (number, length') (number, length') is); kind = inr (inl refl, refl); count = few }
+for_number ns i length' number (Erased count) is few =
+    record { length = length'; configured = (i, slice_get_within ns i (number, length') is, get_or_from_slice_get ns i (number, length') (number, length') is); kind = inr (inr refl, refl); count = few }
+for_number ns i length' number Unwritten is few =
+    record { length = length'; configured = (i, slice_get_within ns i (number, length') is, get_or_from_slice_get ns i (number, length') (number, length') is); kind = inr (inr refl, refl); count = few }
+
+counted_at : (places : List Place) (i : ℕ) (place : Place) → AreCounted places → slice_get places i ≡ Some place → count_at place < 2 ^ 32
+counted_at [] i place all is = cc
+counted_at (x ∷ xs) zero place all is = let same : x ≡ place = cc in subst (λ (p : Place). count_at p < 2 ^ 32) same all.0
+counted_at (x ∷ xs) (suc i) place all is = counted_at xs i place all.1 is
 
 -- and has no more pages than its content
 head_pages : (p length' number : ℕ) (place : Place) → 16 ≤ p → record_pages_of (head_at place number length').length p ≤ record_pages_of length' p
-head_pages p length' number (Content at) low = omega arith
-head_pages p length' number Invalid low = mark_pages p length' low
-head_pages p length' number Erased low = mark_pages p length' low
+head_pages p length' number (Content at count) low = omega arith
+head_pages p length' number (Invalid count) low = mark_pages p length' low
+head_pages p length' number (Erased count) low = mark_pages p length' low
+head_pages p length' number Unwritten low = mark_pages p length' low
 
 module _ (bodies : BodiesHaveRoom) (fill : SectorsFillBanks) (bounds : NumbersAreInBounds) (reserve : ℕ) (s : BanksState)
     (is : IsBanksState s) (state : IsLogState s.log) (space : HasSpace s.log.numbers s.geometry s.banks reserve) where
@@ -102,9 +110,8 @@ module _ (bodies : BodiesHaveRoom) (fill : SectorsFillBanks) (bounds : NumbersAr
         some = omega (arith, (bounds 0 s.log.numbers source.index n space.lengths named).2);
         fits = fits_buffer bodies fill s source.length is (omega (arith, takes, r.room));
         idle = ap work_in tail;
-        format = r.target.format;
         configured = subst (λ (ns : List (DeviceNumber × ℕ)). IsFor ns (head_at source.place number.0 source.length)) (sym is.numbers)
-            (for_number s.log.numbers source.index source.length number source.place named);
+            (for_number s.log.numbers source.index source.length number source.place named (counted_at s.log.places source.index source.place state.counts h.place));
         room = omega (arith, head_pages page source.length number.0 source.place is.legal.page_low, takes, r.room, taken, free, pages);
       }
 

@@ -11,10 +11,11 @@ use Rattle.fls_model.specs.declared.flash.FlashAnswer.{FlashAnswer}
 use Rattle.fls_model.specs.declared.flash.FlashAnswer.TheVariants.{Done, Failed, Off}
 use Rattle.fls_model.specs.Told.{Told}
 use Rattle.fee_format.specs.declared.rec_head.RecHead.{RecHead}
+use Rattle.fee_format.specs.Formats.{new_format}
 use Rattle.fee_image.specs.Laws.{SectorsFillBanks}
 use Rattle.fee_image.specs.RecordList.{pages_of_head}
 use Rattle.log_image.specs.declared.place.Place.{Place}
-use Rattle.log_image.specs.declared.place.Place.TheVariants.{Content, Invalid, Erased}
+use Rattle.log_image.specs.declared.place.Place.TheVariants.{Content, Invalid, Erased, Unwritten}
 use Rattle.log_image.specs.Places.{noted}
 use Rattle.log_image.specs.Step.{is_last}
 use Rattle.fee_log.specs.declared.tail.Tail.{Tail}
@@ -30,7 +31,7 @@ use Rattle.switch_course.specs.Copies.{next_copy, greatest}
 use Rattle.switch_course.specs.Course.{begun as course_begun, settled, after_done, flag_due}
 use Rattle.switch_course.specs.Laws.{IsBeforeGate}
 use Rattle.fee_switch.specs.Banks.{BanksState, IsBanksState, TakesRecord, is_worn_out, begun_again, flagged_by, flagged_at, advanced, ended, after_answer, left_of}
-use Rattle.fee_switch.specs.Copy.{IsNext, MakesNext, BeginsAt}
+use Rattle.fee_switch.specs.Copy.{IsNext, MakesNext, BeginsAt, head_at}
 use Rattle.switch_promise.specs.Turns.{IsGoing, LeftFalls}
 use Rattle.switch_room.specs.Space.{HasSpace, most_pages, free_pages, has_room}
 use Rattle.switch_room.specs.KeepsRoom.{IsOpenCopy, HasTarget, uncopied_pages, flags_due, taken_pages, IsRoomy, KeepsRoom}
@@ -49,9 +50,10 @@ made_as : (s made : BanksState) → made ≡ s → IsMadeOf s made
 made_as s made e = record { copies = s.copies; buffer = s.buffer; is = e }
 
 begins_of : (s made : BanksState) (place : Place) (number length' : ℕ) (told told' : Told) (answer : FlashAnswer) → BeginsAt place s number length' told answer made told' → IsMadeOf s made
-begins_of s made (Content at) number length' told told' answer begins = record { copies = _; buffer = made.buffer; is = begins.1 }
-begins_of s made Invalid number length' told told' answer begins = record { copies = _; buffer = s.buffer; is = begins.1 }
-begins_of s made Erased number length' told told' answer begins = record { copies = _; buffer = s.buffer; is = begins.1 }
+begins_of s made (Content at count) number length' told told' answer begins = record { copies = _; buffer = made.buffer; is = begins.1 }
+begins_of s made (Invalid count) number length' told told' answer begins = record { copies = _; buffer = s.buffer; is = begins.1 }
+begins_of s made (Erased count) number length' told told' answer begins = record { copies = _; buffer = s.buffer; is = begins.1 }
+begins_of s made Unwritten number length' told told' answer begins = record { copies = _; buffer = s.buffer; is = begins.1 }
 
 made_of : (s made : BanksState) (course : Course) (told told' : Told) (answer : FlashAnswer) → MakesNext s course told answer made told' → IsMadeOf s made
 made_of s made (Erase done) told told' answer makes = made_as s made makes.1
@@ -94,7 +96,7 @@ page_last c head done last = rw last refl
 
 -- a copy that begins: its record is this one, with so many pages done
 record IsBegun (s : BanksState) (source : Source) (number : DeviceNumber) (copies : LogState) (head : RecHead) (done pages : ℕ) : Type 0 where
-  format : copies.format ≡ 1
+  format : copies.format ≡ new_format
   clear : copies.flags ≡ clear_flags copies.numbers
   end : copies.end ≡ s.copies.end
   tail : copies.tail ≡ Writes head done
@@ -144,7 +146,7 @@ module _ (falls : LeftFalls) (bounds : NumbersAreInBounds) (reserve : ℕ) (s : 
   -- no copy is in work behind it
   settled_keeps : (flags : List Bool) (old : Course) (copies : LogState) (buffer : List ℕ) → IsRoomy reserve s old
       → let course = settled ns s.log.places flags in
-      IsGoing (next flags course copies buffer) course → copies.format ≡ 1 → copies.flags ≡ clear_flags copies.numbers → copies.tail ≡ Open
+      IsGoing (next flags course copies buffer) course → copies.format ≡ new_format → copies.flags ≡ clear_flags copies.numbers → copies.tail ≡ Open
       → copies.end + uncopied_pages page ns flags ≤ taken_pages s + uncopied_pages page ns (flags_due old s.log.flags)
       → IsRoomy reserve (next flags course copies buffer) course
   settled_keeps flags old copies buffer r going format clear tail less =
@@ -212,10 +214,10 @@ module _ (falls : LeftFalls) (bounds : NumbersAreInBounds) (reserve : ℕ) (s : 
     begun_clear : (number' : ℕ) → with_flag s.copies.numbers s.copies.flags number' false ≡ clear_flags s.copies.numbers
     begun_clear number' = ap (λ (f : List Bool). with_flag s.copies.numbers f number' false) r.target.clear ∙ clear_stays s.copies.numbers number'
 
-    content_keeps : (buffer : List ℕ) (at' : ℕ) → source.place ≡ Content at'
-        → KeepsRoom reserve (advanced (record s { copies = begun s.copies (record { number = number.0; kind = 1; length = source.length }); buffer = buffer }) (Copy None))
-    content_keeps buffer at' place =
-        let head : RecHead = record { number = number.0; kind = 1; length = source.length } in
+    content_keeps : (buffer : List ℕ) (at' count : ℕ) → source.place ≡ Content at' count
+        → KeepsRoom reserve (advanced (record s { copies = begun s.copies (head_at (Content at' count) number.0 source.length); buffer = buffer }) (Copy None))
+    content_keeps buffer at' count place =
+        let head : RecHead = head_at (Content at' count) number.0 source.length in
         after_begun (begun s.copies head) buffer head 0 (record_pages_of source.length page)
         (record {
           format = r.target.format;
@@ -228,10 +230,10 @@ module _ (falls : LeftFalls) (bounds : NumbersAreInBounds) (reserve : ℕ) (s : 
         })
         (ap (λ (x : Place). course_begun page (Some (record source { place = x }))) place)
 
-    mark_keeps : course_begun page (Some source) ≡ Copy (Some (record { index = source.index; pages = record_pages_of 0 page - 1; sets = true }))
-        → KeepsRoom reserve (advanced (record s { copies = after_step (begun s.copies (record { number = number.0; kind = 2; length = 0 })) Done }) (Copy None))
-    mark_keeps is_course =
-        let head : RecHead = record { number = number.0; kind = 2; length = 0 } in
+    mark_keeps : (head : RecHead) → head.number ≡ number.0 → head.length ≡ 0 → course_begun page (Some source) ≡ Copy (Some (record { index = source.index; pages = record_pages_of 0 page - 1; sets = true }))
+        → KeepsRoom reserve (advanced (record s { copies = after_step (begun s.copies head) Done }) (Copy None))
+    mark_keeps head named_so none is_course =
+        let pages : pages_of_head page head ≡ record_pages_of 0 page = ap (λ (n : ℕ). record_pages_of n page) none in
         let c : LogState = begun s.copies head in
         let opened : c ≡ record c { tail = Writes head 0 } = ap (λ (t : Tail). record c { tail = tail_begun t head }) r.target.work in
         let more : is_last c.geometry.page head 0 ≡ false = ne_eqb 1 (pages_of_head c.geometry.page head) (λ e. omega arith) in
@@ -239,17 +241,19 @@ module _ (falls : LeftFalls) (bounds : NumbersAreInBounds) (reserve : ℕ) (s : 
         let few : record_pages_of 0 page ≤ record_pages_of source.length page = mark_pages page source.length is.legal.page_low in
         subst (λ (x : LogState). KeepsRoom reserve (advanced (record s { copies = x }) (Copy None))) (sym stepped)
         (after_begun (record c { tail = Writes head 1 }) s.buffer head 1 (record_pages_of 0 page - 1)
-        (record { format = r.target.format; clear = begun_clear number.0; end = refl; tail = refl; number_is = refl; all = omega arith; few = few })
+        (record { format = r.target.format; clear = begun_clear head.number; end = refl; tail = refl; number_is = named_so; all = omega (arith, pages); few = omega (arith, few, pages) })
         is_course)
 
     begin_keeps : (made : BanksState) (told told' : Told) (place : Place) → source.place ≡ place → BeginsAt place s number.0 source.length told Done made told'
         → KeepsRoom reserve (advanced made (Copy None))
-    begin_keeps made told told' (Content at') place begins =
-        subst (λ (x : BanksState). KeepsRoom reserve (advanced x (Copy None))) (sym begins.1) (content_keeps made.buffer at' place)
-    begin_keeps made told told' Invalid place begins =
-        subst (λ (x : BanksState). KeepsRoom reserve (advanced x (Copy None))) (sym begins.1) (mark_keeps (ap (λ (x : Place). course_begun page (Some (record source { place = x }))) place))
-    begin_keeps made told told' Erased place begins =
-        subst (λ (x : BanksState). KeepsRoom reserve (advanced x (Copy None))) (sym begins.1) (mark_keeps (ap (λ (x : Place). course_begun page (Some (record source { place = x }))) place))
+    begin_keeps made told told' (Content at' count) place begins =
+        subst (λ (x : BanksState). KeepsRoom reserve (advanced x (Copy None))) (sym begins.1) (content_keeps made.buffer at' count place)
+    begin_keeps made told told' (Invalid count) place begins =
+        subst (λ (x : BanksState). KeepsRoom reserve (advanced x (Copy None))) (sym begins.1) (mark_keeps (head_at (Invalid count) number.0 source.length) refl refl (ap (λ (x : Place). course_begun page (Some (record source { place = x }))) place))
+    begin_keeps made told told' (Erased count) place begins =
+        subst (λ (x : BanksState). KeepsRoom reserve (advanced x (Copy None))) (sym begins.1) (mark_keeps (head_at (Erased count) number.0 source.length) refl refl (ap (λ (x : Place). course_begun page (Some (record source { place = x }))) place))
+    begin_keeps made told told' Unwritten place begins =
+        subst (λ (x : BanksState). KeepsRoom reserve (advanced x (Copy None))) (sym begins.1) (mark_keeps (head_at Unwritten number.0 source.length) refl refl (ap (λ (x : Place). course_begun page (Some (record source { place = x }))) place))
 
   -- A PAGE OF A COPY
   -- what the page is followed by, with this log and this log of the target, where it was the last one or not

@@ -3,6 +3,7 @@ use Rattle.std.specs.Prelude.{◌≡◌, ◌<◌, ◌≤◌, ◌+◌, ℕ, Bool,
 use Rattle.nv_base.specs.declared.instance.DeviceNumber.{DeviceNumber}
 use Rattle.nv_base.specs.Geometry.{pages_of_bank}
 use Rattle.nv_base.specs.Pages.{record_pages_of}
+use Rattle.fee_format.specs.Formats.{new_format}
 use Rattle.fee_format.specs.declared.rec_head.RecHead.{RecHead}
 use Rattle.fee_image.specs.RecordList.{pages_of_head}
 use Rattle.fee_log.specs.declared.tail.Tail.TheVariants.{Open, Writes}
@@ -31,9 +32,9 @@ abbrev pub HasCopy : BanksState → Course → Type 0
 HasCopy s (Copy (Some w)) = IsOpenCopy s w
 HasCopy s _ = s.copies.tail ≡ Open
 
--- it is written as today, none of its flags is set, and a record is in work in it exactly where the course says so
+-- it is in the format that is written, none of its flags is set, and a record is in work in it exactly where the course says so
 pub record IsTargetLog (s : BanksState) (course : Course) : Type 0 where
-  pub format : s.copies.format ≡ 1
+  pub format : s.copies.format ≡ new_format
   pub clear : s.copies.flags ≡ clear_flags s.copies.numbers
   pub work : HasCopy s course
 
@@ -47,7 +48,7 @@ HasTarget s (Erase done) = IsEmptyTarget s
 HasTarget s course = IsTargetLog s course
 
 -- PAGES
--- the pages of the numbers without a copy at their full lengths, erased or not: an urgent write may come
+-- the pages of the numbers without a copy at their full lengths, with a record or not: an urgent write may come
 abbrev pub uncopied_pages : ℕ → List (DeviceNumber × ℕ) → List Bool → ℕ
 uncopied_pages p (n ∷ ns) (copied ∷ flags) = (if copied then 0 else record_pages_of n.1 p) + uncopied_pages p ns flags
 uncopied_pages p _ _ = 0

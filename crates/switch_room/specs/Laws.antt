@@ -6,6 +6,7 @@ use Rattle.nv_base.specs.Pages.{record_pages_of}
 use Rattle.fls_model.specs.declared.flash.FlashAnswer.{FlashAnswer}
 use Rattle.fls_model.specs.declared.flash.FlashAnswer.TheVariants.{Done, Off}
 use Rattle.fls_model.specs.Told.{Told}
+use Rattle.fee_format.specs.Formats.{new_format}
 use Rattle.fee_format.specs.declared.rec_head.RecHead.{RecHead}
 use Rattle.fee_log.specs.declared.tail.Tail.TheVariants.{Open}
 use Rattle.fee_log.specs.Index.{with_flag, clear_flags}
@@ -36,7 +37,7 @@ pub record IsBehindSwitch (reserve : ℕ) (s : BanksState) : Type 0 where
   pub active : IsSome s.active
   pub closed : s.course ≡ None
   pub tail : s.log.tail ≡ Open
-  pub format : s.log.format ≡ 1
+  pub format : s.log.format ≡ new_format
   pub clear : s.log.flags ≡ clear_flags s.log.numbers
   pub room : most_pages s.geometry.page s.log.numbers reserve ≤ free_pages s
 

@@ -27,6 +27,7 @@ at_rest left = record {
   started = true;
   stand = Ended JobOk [];
   switching = false;
+  ops = 0;
   first = no_part;
   second = no_part;
   left = left;

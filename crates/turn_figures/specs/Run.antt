@@ -40,7 +40,7 @@ pub record IsTurnOf (content : List ℕ) (urgent : Bool) (p : Program) (old : De
   pub begun : DeviceTold
   pub begins : ((begun ≡ old) × (old.stand ≡ Open (job_at p index content urgent)))
       ⊎ ((is_open old.stand ≡ false) × Opens (job_at p index content urgent) old begun)
-  pub turn : (part : Part) × PartTurns false (part_at part begun) (part_at part new)
+  pub turn : (part : Part) × PartTurns false begun.ops new.ops (part_at part begun) (part_at part new)
   pub comes : Comes p (job_at p index content urgent) begun q new new.stand
 
 -- What follows: no count of faults falls, it lowers what is left or a fault was counted, it lowers the work of a drain, and

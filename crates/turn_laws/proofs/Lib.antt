@@ -1,5 +1,6 @@
 pub mod Pairings
 pub mod Payments
+pub mod Writes
 pub mod Moments
 pub mod Pushed
 pub mod Called

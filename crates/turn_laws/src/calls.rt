@@ -15,11 +15,11 @@ use nv_base::DeviceNumber;
 /// A turn of the device: it asks for a Wrote exactly where a job settled its mark, and for an Off where the power is off.
 pub fn turn<D: MemDevice>(device: &mut D) -> DeviceTurn
     ensures turns { Turns result (D.told device.old) (D.clock device.old) (D.told device.new) (D.clock device.new) }
-    ensures keeps { TurnsKeep result (D.told device.old) (D.clock device.old).first (D.told device.new) (D.clock device.new).first }
-    ensures tries { TriesStay (D.told device.old) (D.clock device.old).first (D.told device.new) (D.clock device.new).first }
-    ensures goes_on { TriesGoOn (D.told device.old) (D.clock device.old).first (D.told device.new) (D.clock device.new).first }
+    ensures keeps { TurnsKeep result (D.told device.old) (D.clock device.old) (D.told device.new) (D.clock device.new) }
+    ensures tries { TriesStay (D.told device.old) (D.clock device.old) (D.told device.new) (D.clock device.new) }
+    ensures goes_on { TriesGoOn (D.told device.old) (D.clock device.old) (D.told device.new) (D.clock device.new) }
     ensures fits { OutcomesFit (D.told device.old) (D.told device.new) }
-    ensures down { is_read (D.told device.old).stand ≡ true → StaysDown (D.told device.old) (D.clock device.old).first (D.told device.new) (D.clock device.new).first }
+    ensures down { is_read (D.told device.old).stand ≡ true → StaysDown (D.told device.old) (D.clock device.old) (D.told device.new) (D.clock device.new) }
 {
     machine();
     programs_count_their_failures();
@@ -30,8 +30,8 @@ pub fn turn<D: MemDevice>(device: &mut D) -> DeviceTurn
 /// all with the history that stands.
 pub fn start_up<D: MemDevice>(device: &mut D) -> Result<(), StartFault>
     ensures starts { StartsUp result (D.told device.old) (D.clock device.old) (D.told device.new) (D.clock device.new) }
-    ensures keeps { StartUpsKeep result (D.told device.old) (D.clock device.old).first (D.told device.new) (D.clock device.new).first }
-    ensures down { StaysDown (D.told device.old) (D.clock device.old).first (D.told device.new) (D.clock device.new).first }
+    ensures keeps { StartUpsKeep result (D.told device.old) (D.clock device.old) (D.told device.new) (D.clock device.new) }
+    ensures down { StaysDown (D.told device.old) (D.clock device.old) (D.told device.new) (D.clock device.new) }
 {
     machine();
     device.start()
@@ -44,9 +44,9 @@ pub fn start_read<D: MemDevice>(
     length: u16,
 ) -> Result<(), DeviceRefusal>
     ensures accepts { Accepts (read_wish number.0 length) result (D.told device.old) (D.clock device.old) (D.told device.new) (D.clock device.new) }
-    ensures keeps { Stays (D.told device.old) (D.clock device.old).first (D.told device.new) (D.clock device.new).first }
-    ensures down { StaysDown (D.told device.old) (D.clock device.old).first (D.told device.new) (D.clock device.new).first }
-    ensures tries { TriesStay (D.told device.old) (D.clock device.old).first (D.told device.new) (D.clock device.new).first }
+    ensures keeps { Stays (D.told device.old) (D.clock device.old) (D.told device.new) (D.clock device.new) }
+    ensures down { StaysDown (D.told device.old) (D.clock device.old) (D.told device.new) (D.clock device.new) }
+    ensures tries { TriesStay (D.told device.old) (D.clock device.old) (D.told device.new) (D.clock device.new) }
 {
     machine();
     device.start_read(number, length)
@@ -60,8 +60,8 @@ pub fn start_write<D: MemDevice>(
     urgent: bool,
 ) -> Result<(), DeviceRefusal>
     ensures accepts { Accepts (write_wish number.0 content.now urgent) result (D.told device.old) (D.clock device.old) (D.told device.new) (D.clock device.new) }
-    ensures keeps { StartsStay (write_wish number.0 content.now urgent) (D.told device.old) (D.clock device.old).first (D.told device.new) (D.clock device.new).first }
-    ensures tries { TriesStay (D.told device.old) (D.clock device.old).first (D.told device.new) (D.clock device.new).first }
+    ensures keeps { StartsStay (write_wish number.0 content.now urgent) (D.told device.old) (D.clock device.old) (D.told device.new) (D.clock device.new) }
+    ensures tries { TriesStay (D.told device.old) (D.clock device.old) (D.told device.new) (D.clock device.new) }
 {
     machine();
     device.start_write(number, content, urgent)
@@ -73,8 +73,8 @@ pub fn start_invalidate<D: MemDevice>(
     number: DeviceNumber,
 ) -> Result<(), DeviceRefusal>
     ensures accepts { Accepts (mark_wish number.0 mark.Invalid) result (D.told device.old) (D.clock device.old) (D.told device.new) (D.clock device.new) }
-    ensures keeps { StartsStay (mark_wish number.0 mark.Invalid) (D.told device.old) (D.clock device.old).first (D.told device.new) (D.clock device.new).first }
-    ensures tries { TriesStay (D.told device.old) (D.clock device.old).first (D.told device.new) (D.clock device.new).first }
+    ensures keeps { StartsStay (mark_wish number.0 mark.Invalid) (D.told device.old) (D.clock device.old) (D.told device.new) (D.clock device.new) }
+    ensures tries { TriesStay (D.told device.old) (D.clock device.old) (D.told device.new) (D.clock device.new) }
 {
     machine();
     device.start_invalidate(number)
@@ -83,8 +83,8 @@ pub fn start_invalidate<D: MemDevice>(
 /// The start of an erase.
 pub fn start_erase<D: MemDevice>(device: &mut D, number: DeviceNumber) -> Result<(), DeviceRefusal>
     ensures accepts { Accepts (mark_wish number.0 mark.Erased) result (D.told device.old) (D.clock device.old) (D.told device.new) (D.clock device.new) }
-    ensures keeps { StartsStay (mark_wish number.0 mark.Erased) (D.told device.old) (D.clock device.old).first (D.told device.new) (D.clock device.new).first }
-    ensures tries { TriesStay (D.told device.old) (D.clock device.old).first (D.told device.new) (D.clock device.new).first }
+    ensures keeps { StartsStay (mark_wish number.0 mark.Erased) (D.told device.old) (D.clock device.old) (D.told device.new) (D.clock device.new) }
+    ensures tries { TriesStay (D.told device.old) (D.clock device.old) (D.told device.new) (D.clock device.new) }
 {
     machine();
     device.start_erase(number)
@@ -94,8 +94,8 @@ pub fn start_erase<D: MemDevice>(device: &mut D, number: DeviceNumber) -> Result
 pub fn cancel<D: MemDevice>(device: &mut D)
     requires { is_urgent (D.told device.old).stand ≡ false }
     ensures cancels { Cancels (D.told device.old) (D.clock device.old) (D.told device.new) (D.clock device.new) }
-    ensures keeps { Stays (D.told device.old) (D.clock device.old).first (D.told device.new) (D.clock device.new).first }
-    ensures tries { TriesStay (D.told device.old) (D.clock device.old).first (D.told device.new) (D.clock device.new).first }
+    ensures keeps { Stays (D.told device.old) (D.clock device.old) (D.told device.new) (D.clock device.new) }
+    ensures tries { TriesStay (D.told device.old) (D.clock device.old) (D.told device.new) (D.clock device.new) }
 {
     machine();
     device.cancel()
@@ -104,8 +104,8 @@ pub fn cancel<D: MemDevice>(device: &mut D)
 /// Plans a power cut.
 pub fn arm<D: MemDevice>(device: &mut D, which: u8, nth: u32, keep: u32)
     ensures arms { Arms which nth keep (D.told device.old) (D.clock device.old) (D.told device.new) (D.clock device.new) }
-    ensures keeps { Stays (D.told device.old) (D.clock device.old).first (D.told device.new) (D.clock device.new).first }
-    ensures tries { TriesStay (D.told device.old) (D.clock device.old).first (D.told device.new) (D.clock device.new).first }
+    ensures keeps { Stays (D.told device.old) (D.clock device.old) (D.told device.new) (D.clock device.new) }
+    ensures tries { TriesStay (D.told device.old) (D.clock device.old) (D.told device.new) (D.clock device.new) }
 {
     machine();
     device.arm(which, nth, keep)

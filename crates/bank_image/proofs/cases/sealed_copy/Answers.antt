@@ -1,4 +1,4 @@
-use Rattle.std.proofs.Common.{◌≡◌, inl, ◌<◌, ◌≤◌, ℕ, zero, suc, ◌+◌, ◌-◌, refl, subst, arith}
+use Rattle.std.proofs.Common.{◌≡◌, inl, inr, ◌<◌, ◌≤◌, ℕ, zero, suc, ◌+◌, ◌-◌, refl, subst, arith}
 use Rattle.fee_format.specs.declared.bank_head.BankHead.{BankHead}
 use Rattle.fee_image.specs.Bank.{page_of}
 use Rattle.fee_image.specs.Cases.{small, pages}
@@ -10,7 +10,7 @@ use Rattle.bank_image.specs.Cases.{sealing}
 use Rattle.bank_image.proofs.cases.sealed_copy.Goals as goal
 
 -- behind the record each bank is blank
-tail_at : (k n : ℕ) → k < 2 → n < 6 → page_of (bank_in small 1 k) (sealing (pages 1 255)) (6 + n) ≡ blank_page 16
+tail_at : (k n : ℕ) → k < 2 → n < 6 → page_of (bank_in small 2 k) (sealing (pages 1 255)) (6 + n) ≡ blank_page 16
 tail_at zero zero two lt = refl
 tail_at zero (suc zero) two lt = refl
 tail_at zero (suc (suc zero)) two lt = refl
@@ -27,11 +27,11 @@ tail_at zero (suc (suc (suc (suc (suc (suc n)))))) two lt = absurd (omega arith)
 tail_at (suc zero) (suc (suc (suc (suc (suc (suc n)))))) two lt = absurd (omega arith)
 tail_at (suc (suc k)) n two lt = absurd (omega arith)
 
-blank_behind : (k q : ℕ) → k < 2 → 6 ≤ q → q < 12 → page_of (bank_in small 1 k) (sealing (pages 1 255)) q ≡ blank_page 16
-blank_behind k q two low lt = subst (λ (n : ℕ). page_of (bank_in small 1 k) (sealing (pages 1 255)) n ≡ blank_page 16) (let e : 6 + (q - 6) ≡ q = omega arith in e) (tail_at k (q - 6) two (omega arith))
+blank_behind : (k q : ℕ) → k < 2 → 6 ≤ q → q < 12 → page_of (bank_in small 2 k) (sealing (pages 1 255)) q ≡ blank_page 16
+blank_behind k q two low lt = subst (λ (n : ℕ). page_of (bank_in small 2 k) (sealing (pages 1 255)) n ≡ blank_page 16) (let e : 6 + (q - 6) ≡ q = omega arith in e) (tail_at k (q - 6) two (omega arith))
 
 first : BankHead
-first = record { format = 1; generation = 1 }
+first = record { format = 2; generation = 1 }
 
 -- a bank that stands beside the target is the first one
 only_first : (k : ℕ) → k < 2 → (k ≡ 1 → ⊥) → k ≡ 0
@@ -49,15 +49,15 @@ returns-clause-held c =
         (λ e. omega (arith, e)),
         record {
           bank = omega arith;
-          stands = record { head = record { legal = record { format = refl; generation = omega arith }; page_is = refl }; gate = refl };
-          holds = load (bank_in small 1 0) numbers bytes Open (omega arith) (omega arith) (inl (refl, λ q low lt. blank_behind 0 q (omega arith) low lt));
+          stands = record { head = record { legal = record { format = inr refl; generation = omega arith }; page_is = refl }; gate = refl };
+          holds = load (bank_in small 2 0) numbers bytes Open (omega arith) (omega arith) (inl (refl, refl, λ q low lt. blank_behind 0 q (omega arith) low lt));
         },
       );
       behind = λ j lt ne other stands here. absurd (here (only_first j lt ne));
       phase = record {
         last = omega arith;
         head = refl;
-        holds = load (bank_in small 1 1) numbers bytes Open (omega arith) (omega arith) (inl (refl, λ q low lt. blank_behind 1 q (omega arith) low lt));
+        holds = load (bank_in small 2 1) numbers bytes Open (omega arith) (omega arith) (inl (refl, refl, λ q low lt. blank_behind 1 q (omega arith) low lt));
         whole = λ number length m among. among;
       };
     }

@@ -1,8 +1,8 @@
-use Rattle.std.proofs.Common.{◌<◌, ◌≤◌, ◌≡◌, ◌+◌, ℕ, refl, inl, inr, arith}
+use Rattle.std.proofs.Common.{◌<◌, ◌≤◌, ◌+◌, ℕ, inl, inr, arith}
 use Rattle.nv_base.specs.Count.{WereCounted}
 use Rattle.block_config.specs.DemoConfig.{demo_config}
 use Rattle.block_machine.specs.StartUp.{at_first}
-use Rattle.block_promise.specs.Payment.{Worn, ArePaid, WasWorn}
+use Rattle.block_promise.specs.Payment.{Worn, ArePaid, every_block}
 use Rattle.block_promise.specs.Cases.{failed_write, never_worn, worn_from}
 use Rattle.block_promise.proofs.cases.failures_that_are_not_paid.Goals as goal
 
@@ -10,7 +10,7 @@ few : (n before after : ℕ) → after < 10 → WereCounted n before after → b
 few n before after small (inl is) = is
 few n before after small (inr full) = omega (arith, full)
 
-unpaid : (worn : Worn) (n : ℕ) → n < 2 → ((ops number : ℕ) → ops ≤ 7 → worn ops number → ⊥) → ArePaid demo_config worn n at_first failed_write → ⊥
+unpaid : (worn : Worn) (n : ℕ) → n < 2 → ((ops number : ℕ) → ops ≤ 7 → worn ops number → ⊥) → ArePaid every_block demo_config worn n at_first failed_write → ⊥
 unpaid worn n small fresh (inr (none, rest)) = none
 unpaid worn n small fresh (inl (p0, inr (none, rest))) = none
 unpaid worn n small fresh (inl (p0, inl (p1, inr (none, rest)))) = none

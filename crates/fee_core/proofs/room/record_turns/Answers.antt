@@ -14,4 +14,4 @@ returns-in-Some c =
     let state = c.geometry-page.ensures.state in
     let work : is_some (work_in b.log.tail) ≡ true = sym (ap (λ (o : Option RecHead). is_some o) (c.work.ensures ∙ ap (λ (l : LogState). work_in l.tail) log)) ∙ sym c.is_some.ensures ∙ c.if-is_some.true in
     let left = c.from.ensures ∙ c.pages_left.ensures ∙ ap (λ (l : LogState). left_in l.geometry.page l.tail) log ∙ ap (λ (g : Geometry). left_in g.page b.log.tail) state.log.shape in
-    left ∙ record_left b.geometry.page (pages_of_op b.geometry.page c.args.job.op c.args.job.length) b.log.tail c.args.job work c.requires.work c.requires.pages
+    left ∙ record_left b.geometry.page (pages_of_op b.geometry.page c.args.job.op c.args.job.length) b.log.tail b.log c.args.job work c.requires.work c.requires.pages

@@ -14,8 +14,8 @@ returns-clause-held g c =
 
 pub returns-clause-keeps : goal.returns-clause-keeps
 returns-clause-keeps g c = any_ok c.read_all.result
-    (ups_more (g.D.MemDevice.told c.args.device.now) (g.D.MemDevice.clock c.args.device.now).first (g.D.MemDevice.told c.start_up.new.device)
-    (g.D.MemDevice.clock c.start_up.new.device).first (g.D.MemDevice.told c.read_all.new.device) (g.D.MemDevice.clock c.read_all.new.device).first
+    (ups_more (g.D.MemDevice.told c.args.device.now) (g.D.MemDevice.clock c.args.device.now) (g.D.MemDevice.told c.start_up.new.device)
+    (g.D.MemDevice.clock c.start_up.new.device) (g.D.MemDevice.told c.read_all.new.device) (g.D.MemDevice.clock c.read_all.new.device)
     c.in_ok-start_up.ensures.keeps c.read_all.ensures.reads)
 
 pub returns-clause-down : goal.returns-clause-down

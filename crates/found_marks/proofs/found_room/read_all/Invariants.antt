@@ -7,6 +7,6 @@ invariant-loop-place g l = record {
   numbers : map number_at l.places ≡ map number_at l.fn.places;
   whole : AreWhole l.places;
   ready : IsReady (g.D.MemDevice.told l.device);
-  reads : ReadsOn (g.D.MemDevice.told l.fn.device) (g.D.MemDevice.clock l.fn.device).first (g.D.MemDevice.told l.device) (g.D.MemDevice.clock l.device).first;
+  reads : ReadsOn (g.D.MemDevice.told l.fn.device) (g.D.MemDevice.clock l.fn.device) (g.D.MemDevice.told l.device) (g.D.MemDevice.clock l.device);
   held : FirstHeld (g.D.MemDevice.told l.fn.device) l.place-index l.places;
 }

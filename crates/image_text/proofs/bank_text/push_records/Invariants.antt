@@ -11,5 +11,5 @@ abbrev pub invariant-loop-record : goal.invariant-loop-record
 invariant-loop-record l = record {
   can_next : (goal.iterator-loop-record).can_next l.record-iterator;
   is_finite : (goal.iterator-loop-record).is_finite l.record-iterator;
-  lines : string_bytes l.text ++ flat_map record_line (records_in l.record-iterator) ≡ string_bytes l.initial.text ++ flat_map record_line (records_of (bank_of l.view) l.view.bytes);
+  lines : string_bytes l.text ++ flat_map (record_line l.view.head.format) (records_in l.record-iterator) ≡ string_bytes l.initial.text ++ flat_map (record_line l.view.head.format) (records_of (bank_of l.view) l.view.bytes);
 }

@@ -9,3 +9,7 @@ returns-clause-first c = refl
 pub returns-clause-cut : goal.returns-clause-cut
 unfolding digits
 returns-clause-cut c = refl
+
+pub returns-clause-counted : goal.returns-clause-counted
+unfolding digits
+returns-clause-counted c = refl

@@ -1,5 +1,5 @@
 use Rattle.machine_laws.proofs.HistoryLaws as law
-use Rattle.machine_laws.proofs.LateEntries.{allowed_stand_now}
+use Rattle.machine_laws.proofs.LateEntries.{allowed_stand_now, instances_stand_now}
 use Rattle.machine_laws.proofs.laws.entries_come_in_time_or_late.Goals as goal
 
 pub returns-clause-late : goal.returns-clause-late
@@ -13,3 +13,6 @@ returns-clause-beginning c = law.up_to_is_a_beginning
 
 pub returns-clause-now : goal.returns-clause-now
 returns-clause-now c = allowed_stand_now
+
+pub returns-clause-instances : goal.returns-clause-instances
+returns-clause-instances c = instances_stand_now

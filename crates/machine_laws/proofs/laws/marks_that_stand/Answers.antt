@@ -1,6 +1,6 @@
 use Rattle.machine_laws.proofs.MarkOrigins as law
 use Rattle.machine_laws.proofs.WholeSteps as whole
-use Rattle.machine_laws.proofs.HandMarks.{marks_in_hand_stand}
+use Rattle.machine_laws.proofs.HandMarks.{marks_in_hand_stand, marks_in_hand_are_doubts}
 use Rattle.machine_laws.proofs.laws.marks_that_stand.Goals as goal
 
 pub returns-clause-brought : goal.returns-clause-brought
@@ -14,3 +14,6 @@ returns-clause-accepted c = whole.marks_are_accepted
 
 pub returns-clause-in_hand : goal.returns-clause-in_hand
 returns-clause-in_hand c = marks_in_hand_stand
+
+pub returns-clause-doubts : goal.returns-clause-doubts
+returns-clause-doubts c = marks_in_hand_are_doubts

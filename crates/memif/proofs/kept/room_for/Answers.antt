@@ -13,9 +13,9 @@ room_more [] (y ∷ ks) x k room one two = absurd room
 room_more (y ∷ xs) [] x k room one two = absurd room
 room_more (y ∷ xs) (z ∷ ks) x k room one two = (room.0, room.1, room_more xs ks x k room.2 one two)
 
-erased_more : (xs : List (DeviceNumber × ℕ)) (ks : List Kept) (x : DeviceNumber × ℕ) (k : Kept) → map slot_of ks ≡ map (λ n. no_slot) xs → k.settled.kind ≡ Erased → k.doubted ≡ false → map slot_of (ks ++ k ∷ []) ≡ map (λ n. no_slot) (xs ++ x ∷ [])
-erased_more xs ks x k same kind doubted =
-    let one : slot_of k ≡ no_slot = rw (kind, doubted) refl in
+erased_more : (xs : List (DeviceNumber × ℕ)) (ks : List Kept) (x : DeviceNumber × ℕ) (k : Kept) → map slot_of ks ≡ map (λ n. no_slot) xs → k.settled.kind ≡ Erased → k.count ≡ 0 → k.doubted ≡ false → map slot_of (ks ++ k ∷ []) ≡ map (λ n. no_slot) (xs ++ x ∷ [])
+erased_more xs ks x k same kind none doubted =
+    let one : slot_of k ≡ no_slot = rw (kind, none, doubted) refl in
     map-append slot_of ks (k ∷ []) ∙ (λ i. same i ++ one i ∷ []) ∙ sym (map-append (λ n. no_slot) xs (x ∷ []))
 
 pub loop-number-preserved : goal.loop-number-preserved
@@ -24,5 +24,5 @@ loop-number-preserved c =
     let lt : c.loop-number.number-index < length c.args.numbers.now = omega arith in
     rw (c.in_ok-push.ensures.items, take_more c.args.numbers.now c.loop-number.number-index d lt) (record {
       room = room_more _ _ _ _ c.loop-number.invariant.room c.in_ok-erased_cell.ensures.1 c.in_ok-erased_cell-2.ensures.1;
-      erased = erased_more _ _ _ _ c.loop-number.invariant.erased c.in_ok-erased_cell.ensures.0 refl;
+      erased = erased_more _ _ _ _ c.loop-number.invariant.erased c.in_ok-erased_cell.ensures.0 refl refl;
     })

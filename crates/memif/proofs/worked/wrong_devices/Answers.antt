@@ -1,7 +1,7 @@
 use Rattle.std.proofs.Common.{◌≡◌, inl, inr, ℕ, get_or, refl, ap, arith}
 use Rattle.nv_base.specs.declared.mark.Mark.{Mark}
 use Rattle.nv_base.specs.declared.mark.Mark.TheVariants.{Content, Invalid, Erased}
-use Rattle.memif.specs.Told.{First, Held}
+use Rattle.memif.specs.Told.{Held}
 use Rattle.memif.specs.Worked.{old_content, new_content}
 use Rattle.memif.proofs.worked.wrong_devices.Goals as goal
 
@@ -14,7 +14,7 @@ other : old_content ≡ new_content → ⊥
 other same = let one : 1 ≡ 3 = ap (λ (h : Held). byte_of h.mark) same in absurd (omega (arith, one))
 
 pub returns-clause-a_start_up_settles_another : goal.returns-clause-a_start_up_settles_another
-returns-clause-a_start_up_settles_another c = λ up. elim (up.clock_stays.order.now First (λ n. old_content) (λ n. refl) 128 refl) [
+returns-clause-a_start_up_settles_another c = λ up. elim (up.clock_stays.order.now (λ n. old_content) (λ n. refl) 128) [
   | inl same ↦ other same
   | inr has ↦ absurd (omega (arith, has.1))
 ]

@@ -8,7 +8,7 @@ use Rattle.nvm_top.proofs.stack.begin.Goals as goal
 
 pub returns-clause-kept : goal.returns-clause-kept
 returns-clause-kept g c =
-    let begins = subst (λ (d : Device). BeginsKept (told_of d) (told_clock d).first) c.device.ensures.device c.begins_kept.ensures in
+    let begins = subst (λ (d : Device). BeginsKept (told_of d) (told_clock d)) c.device.ensures.device c.begins_kept.ensures in
     let order = subst (λ (d : Device). InOrder (told_of d) (told_clock d)) c.device-2.ensures.device c.left.ensures.order in
     if_ok c.start_stack.result c.start_stack.ensures.started c.start_stack.ensures.keeps (λ s starts keeps. λ x inner cuts same legal origin slots.
     begins_up x g.O.Origin.making g.O.Origin.entry c.args.stack s c.requires begins order starts keeps inner cuts same legal origin slots)

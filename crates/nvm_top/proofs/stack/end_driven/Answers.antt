@@ -9,5 +9,5 @@ pub returns : goal.returns
 returns g c = λ x inner cuts origin config most.
     let device = ap (λ s. s.device) c.into_stack-stack.ensures in
     let same = c.into_device.ensures ∙ device in
-    let halves = subst (λ (d : Device). HalvesMakeIt (told_clock d).first) (c.device.ensures.device ∙ sym c.into_device.ensures) c.halves_make_the_promise.ensures in
+    let halves = subst (λ (d : Device). HalvesMakeIt (told_clock d)) (c.device.ensures.device ∙ sym c.into_device.ensures) c.halves_make_the_promise.ensures in
     vouched x inner cuts g.O.Origin.making g.O.Origin.entry (g.F.Flash.told c.give_back.result) c.args.machine c.into_device.result same halves origin config most (c.give_back.ensures x inner cuts origin)

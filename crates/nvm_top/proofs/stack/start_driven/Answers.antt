@@ -6,7 +6,7 @@ use Rattle.flash_stacks.specs.Made.{IsOrigin}
 use Rattle.played_stacks.specs.Told.{told_by}
 use Rattle.ram_blocks.specs.declared.plain_block.PlainBlock.{PlainBlock}
 use Rattle.nvm_core.specs.Stack.{StackState}
-use Rattle.nvm_top.specs.Machine.{IsStarted}
+use Rattle.nvm_top.specs.Machine.{IsStarted, one_part}
 use Rattle.nvm_top.proofs.Driven.{started, kept_up, tells_slots, stops_by}
 use Rattle.nvm_top.proofs.stack.start_driven.Goals as goal
 
@@ -17,7 +17,7 @@ returns-in-Ok-begin-clause-started g c =
 
 pub returns-in-Ok-begin-clause-kept : goal.returns-in-Ok-begin-clause-kept
 returns-in-Ok-begin-clause-kept g c = λ well.
-    kept_up (part_at g.O.Origin.entry) c.in-Ok.stack c.in-Ok-begin.stack c.over.result c.over.ensures c.in-Ok-begin.ensures.started
+    kept_up (one_part (part_at g.O.Origin.entry)) c.in-Ok.stack c.in-Ok-begin.stack c.over.result c.over.ensures c.in-Ok-begin.ensures.started
     (c.in-Ok-begin.ensures.kept c.args.config (g.F.Flash.told c.args.flash) c.args.cuts (ap (λ s. s.desk.config) c.in-Ok.ensures.made.only) c.geometry-geometry.ensures.legal c.requires
     (tells_slots c.soundness_computes.ensures c.args.config (g.F.Flash.told c.args.flash) c.args.cuts g.O.Origin.making g.O.Origin.entry c.in-Ok.stack.device c.requires c.in-Ok.ensures.made.device well))
 

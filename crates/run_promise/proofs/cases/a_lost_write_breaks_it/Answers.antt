@@ -1,9 +1,12 @@
 use Rattle.run_promise.proofs.LostWrite as law
-use Rattle.run_promise.proofs.WrongMarks.{lost_write_breaks}
+use Rattle.run_promise.proofs.WrongMarks.{lost_count_breaks, lost_write_breaks}
 use Rattle.run_promise.proofs.cases.a_lost_write_breaks_it.Goals as goal
 
 pub returns-clause-breaks : goal.returns-clause-breaks
 returns-clause-breaks c = lost_write_breaks c.soundness_computes.ensures
+
+pub returns-clause-counts : goal.returns-clause-counts
+returns-clause-counts c = lost_count_breaks c.soundness_computes.ensures
 
 pub returns-clause-order : goal.returns-clause-order
 returns-clause-order c = law.keeps_order

@@ -38,8 +38,8 @@ pub returns-clause-keeps : goal.returns-clause-keeps
 returns-clause-keeps g c =
     let old = g.D.MemDevice.told c.args.device.now in
     let new = g.D.MemDevice.told c.turn-turned.new.device in
-    let clock = (g.D.MemDevice.clock c.args.device.now).first in
-    let clock_new = (g.D.MemDevice.clock c.turn-turned.new.device).first in
+    let clock = (g.D.MemDevice.clock c.args.device.now) in
+    let clock_new = (g.D.MemDevice.clock c.turn-turned.new.device) in
     let behind : IsBehindTurn c.turn-turned.result c.args.desk.now c.args.hand.now old new =
     record { tied = c.requires.tied; on = c.requires.on; turned = has_turned c.turn-turned.result _ _ _ _ c.turn-turned.ensures.turns } in
     subst (λ (h : Option HandState). StaysKept c.args.desk.now c.args.hand.now old clock c.second_half.new.desk h new clock_new)

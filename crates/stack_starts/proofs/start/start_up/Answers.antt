@@ -7,7 +7,7 @@ pub returns-in-Ok-clause-keeps : goal.returns-in-Ok-clause-keeps
 returns-in-Ok-clause-keeps g c =
     let d = c.args.desk.now in
     let new = g.D.MemDevice.told c.find.new.device in
-    let clock = (g.D.MemDevice.clock c.find.new.device).first in
+    let clock = (g.D.MemDevice.clock c.find.new.device) in
     let added = rw c.ops.ensures at c.start_up.ensures in
     λ before told first keeps.
     subst (λ (x : DeskState). Keeps x.config x.cap x.entries before new clock) (sym added)

@@ -1,6 +1,6 @@
 use Rattle.std.proofs.Common.{◌≡◌, ◌≤◌, true, List}
 use Rattle.block_machine.specs.Words.{Entry}
-use Rattle.memif.specs.Told.{PartTold}
+use Rattle.memif.specs.Told.{Part, PartTold}
 use Rattle.script_walks.specs.Words.{Step}
 use Rattle.stack_steps.specs.Kept.{IsKept, HasTurned}
 use Rattle.stack_steps.proofs.turns.drain.Given as goal
@@ -11,7 +11,7 @@ invariant-loop g l = record {
   counted : (g.S.PlayedStack.told l.initial.stack).faults ≤ (g.S.PlayedStack.told l.stack).faults;
   kept : (before : List Step) → IsKept before (g.S.PlayedStack.told l.initial.stack)
       → (es : List Entry) × HasTurned 0 before (g.S.PlayedStack.told l.initial.stack) (g.S.PlayedStack.told l.stack) es × IsKept before (g.S.PlayedStack.told l.stack);
-  keeps : (before : PartTold) → g.S.PlayedStack.kept l.initial.stack before → g.S.PlayedStack.kept l.stack before;
+  keeps : (before : Part → PartTold) → g.S.PlayedStack.kept l.initial.stack before → g.S.PlayedStack.kept l.stack before;
 }
 
 abbrev pub decreases-loop : goal.decreases-loop

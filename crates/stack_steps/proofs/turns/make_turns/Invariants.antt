@@ -1,5 +1,5 @@
 use Rattle.std.proofs.Common.{◌≡◌, true, List}
-use Rattle.memif.specs.Told.{PartTold}
+use Rattle.memif.specs.Told.{Part, PartTold}
 use Rattle.script_walks.specs.Words.{Step}
 use Rattle.stack_steps.specs.Kept.{IsKept, MakesTurns}
 use Rattle.stack_steps.proofs.turns.make_turns.Given as goal
@@ -8,5 +8,5 @@ abbrev pub invariant-loop-turn : goal.invariant-loop-turn
 invariant-loop-turn g l = record {
   ready : (g.S.PlayedStack.told l.stack).ready ≡ true;
   turns : (before : List Step) → IsKept before (g.S.PlayedStack.told l.initial.stack) → MakesTurns l._turn before (g.S.PlayedStack.told l.initial.stack) (g.S.PlayedStack.told l.stack) × IsKept before (g.S.PlayedStack.told l.stack);
-  keeps : (before : PartTold) → g.S.PlayedStack.kept l.initial.stack before → g.S.PlayedStack.kept l.stack before;
+  keeps : (before : Part → PartTold) → g.S.PlayedStack.kept l.initial.stack before → g.S.PlayedStack.kept l.stack before;
 }

@@ -1,7 +1,7 @@
 use Rattle.std.proofs.Common.{◌≡◌, ap, length, get_or, add-one, false, arith}
 use Rattle.std.proofs.lemmas.Option.{slice_get-get_or}
 use Rattle.nv_base.specs.Lengths.{AreLengths}
-use Rattle.log_image.specs.declared.place.Place.TheVariants.{Erased}
+use Rattle.log_image.specs.declared.place.Place.TheVariants.{Unwritten}
 use Rattle.switch_course.proofs.Walks.{left_step, appended_length, copied_length}
 use Rattle.switch_course.specs.Copies.{turns_of, as_copied, as_appended}
 use Rattle.switch_course.proofs.copies.copies_left.Goals as goal
@@ -22,7 +22,7 @@ loop-i-preserved c =
     let a = appended_length c.args.appended c.args.places.now in
     let b = copied_length c.args.in_work c.args.copied.now in
     let same : length list ≡ length c.args.numbers.now = ap length c.as_slice-list.ensures.value in
-    let e = left_step c.args.page list places copied i (record { 0 = 0 }, 0) Erased false c.loop-i-test.true (omega arith) (omega arith) in
+    let e = left_step c.args.page list places copied i (record { 0 = 0 }, 0) Unwritten false c.loop-i-test.true (omega arith) (omega arith) in
     let t = c.turns_of-turns.ensures.value in
-    let t2 : c.turns_of-turns.result ≡ turns_of c.args.page (get_or list i (record { 0 = 0 }, 0)).1 (get_or places i Erased) (get_or copied i false) = rw (← c.place_as-place.ensures Erased, ← c.copied_as-done.ensures false) t in
+    let t2 : c.turns_of-turns.result ≡ turns_of c.args.page (get_or list i (record { 0 = 0 }, 0)).1 (get_or places i Unwritten) (get_or copied i false) = rw (← c.place_as-place.ensures Unwritten, ← c.copied_as-done.ensures false) t in
     rw add-one (omega (arith, e, t2), omega (arith, c.turns_of-turns.ensures.most))

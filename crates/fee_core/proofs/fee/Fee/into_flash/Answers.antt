@@ -1,12 +1,16 @@
 use Rattle.std.specs.Prelude.{IfSome}
-use Rattle.std.proofs.Common.{◌≡◌, ◌≤◌, [], ap, ◌∙◌, sym, subst}
+use Rattle.std.proofs.Common.{◌≡◌, ◌≤◌, ℕ, [], ap, ◌∙◌, sym, subst}
+use Rattle.nv_base.specs.Geometry.{sectors_of_bank}
+use Rattle.memif.specs.Told.{First, figures_at}
+use Rattle.switch_course.specs.Course.{most_turns}
 use Rattle.fls_model.specs.Told.{Told, changes_in}
 use Rattle.device_bridge.specs.Bridge.{Bridges}
-use Rattle.device_clock.specs.Device.{Device, part_of}
+use Rattle.device_clock.specs.Device.{Device, told_of}
 use Rattle.device_clock.specs.Clock.{clock_of}
 use Rattle.fee_state.specs.Inside.{device_of}
 use Rattle.fee_starts.specs.Made.{part_at}
 use Rattle.fee_core.specs.Whole.{Whole}
+use Rattle.fee_core.proofs.Telling.{all_first}
 use Rattle.fee_core.proofs.fee.Fee.into_flash.Goals as goal
 
 pub returns-clause-bridge : goal.returns-clause-bridge
@@ -18,8 +22,8 @@ returns-clause-bridge g c cutter =
     let told = g.F.Flash.told c.into_flash.result in
     let same = c.into_flash.ensures ∙ ap (λ (w : Whole). w.parts.fls.flash) c.parts.view_is in
     let holds = c.runs_bridge.ensures cutter d c.self.invariant.parts.device.run in
-    let out = subst (λ (x : Told). Bridges m cutter (record { entry = entry; exit = x; operations = p.parts.operations }) (part_at entry) (part_of d) (clock_of d).first) (sym same) holds in
-    subst (λ (x : Device). Bridges m cutter (record { entry = entry; exit = told; operations = x.operations }) (part_at entry) (part_of x) (clock_of x).first) c.self.view_is out
+    let out = subst (λ (x : Told). Bridges m cutter (record { entry = entry; exit = x; operations = p.parts.operations }) (part_at entry) (told_of d) (clock_of d)) (sym same) holds in
+    subst (λ (x : Device). Bridges m cutter (record { entry = entry; exit = told; operations = x.operations }) (part_at entry) (told_of x) (clock_of x)) c.self.view_is out
 
 pub returns-clause-geometry : goal.returns-clause-geometry
 returns-clause-geometry g c =
@@ -53,3 +57,9 @@ pub returns-clause-more : goal.returns-clause-more
 returns-clause-more g c =
     let same = c.into_flash.ensures ∙ ap (λ (w : Whole). w.parts.fls.flash) c.parts.view_is in
     subst (λ (x : Told). g.O.Origin.entry.faults ≤ x.faults) (sym same) c.self.invariant.parts.device.run.more
+
+pub returns-clause-parts : goal.returns-clause-parts
+returns-clause-parts g c =
+    let m = g.O.Origin.making in
+    subst (λ (x : Device). (n : ℕ) → (figures_at (told_of x).fixed n).part ≡ First) c.self.view_is
+    (λ n. all_first m.geometry.page (most_turns m.geometry.page (sectors_of_bank m.geometry m.banks) m.numbers) m.numbers n)

@@ -9,7 +9,7 @@ use Rattle.fee_log.specs.Log.{LogState}
 use Rattle.device_clock.specs.Device.{slots_told}
 use Rattle.fee_state.specs.Inside.{Parts, device_of}
 use Rattle.fee_core.specs.Whole.{Whole, Sound}
-use Rattle.fee_core.proofs.Settled.{kind_at, place_now, kind_is, kinds_told, place_is}
+use Rattle.fee_core.proofs.Settled.{kind_at, kind_erased, place_now, kind_is, kinds_told, place_is}
 use Rattle.fee_core.proofs.parts.FeeParts.kind.Goals as goal
 
 pub returns-in_default : goal.returns-in_default
@@ -65,7 +65,7 @@ returns-in-Erased g c =
     let n = c.args.number.0 in
     let told = kind_is m entry s was.made_for.numbers n in
     let log = c.in-Some.ensures in
-    let found = sym c.in-Erased.is ∙ c.find.ensures.place ∙ ap (λ (l : LogState). place_in l.numbers l.places n) log.1 in
+    let found = c.find.ensures.place ∙ ap (λ (l : LogState). place_in l.numbers l.places n) log.1 in
     let place = found ∙ sym (place_is s i.banks.active n log.0) in
     subst (λ (w : Whole). IfSome (slots_told (device_of m entry w.parts)) (λ slots. w.parts.started ≡ true → plain.Erased ≡ kind_of (slot_at m.numbers slots n).settled.mark)) c.self.view_is
-    (kinds_told (slots_told (device_of m entry s)) i.started (λ slots. kind_of (slot_at m.numbers slots n).settled.mark) (kind_at (place_now s i.banks.active n)) plain.Erased told (ap kind_at place))
+    (kinds_told (slots_told (device_of m entry s)) i.started (λ slots. kind_of (slot_at m.numbers slots n).settled.mark) (kind_at (place_now s i.banks.active n)) plain.Erased told (kind_erased c.find.result c.in-Erased.is ∙ ap kind_at place))

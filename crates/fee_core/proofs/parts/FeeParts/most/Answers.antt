@@ -17,7 +17,7 @@ returns-in-Read g c =
     let was = (subst (Sound m entry) (sym c.self.view_is) c.requires.sound).parts in
     let n = c.args.number.0 in
     let size = c.length_of-length.result in
-    let own = most_turns m.geometry.page (sectors_of_bank m.geometry 2) m.numbers in
+    let own = most_turns m.geometry.page (sectors_of_bank m.geometry m.banks) m.numbers in
     let figure = figure_at m.geometry.page own m.numbers n size c.length_of-length.ensures in
     one_is m.geometry.page own size c.args.op c.in-Read.is ∙ sym (ap (λ (f : Figures). most_of f c.args.op) figure)
 
@@ -29,15 +29,15 @@ overflow_add-result-in_default g c =
     let was = (subst (Sound m entry) (sym c.self.view_is) c.requires.sound).parts in
     let n = c.args.number.0 in
     let size = c.length_of-length.result in
-    let own = most_turns m.geometry.page (sectors_of_bank m.geometry 2) m.numbers in
+    let own = most_turns m.geometry.page (sectors_of_bank m.geometry m.banks) m.numbers in
     let figure = figure_at m.geometry.page own m.numbers n size c.length_of-length.ensures in
     let shape = c.geometry-geometry.result in
     let of : shape ≡ m.geometry = c.geometry-geometry.ensures.geometry ∙ was.made_for.banks_geometry in
-    let counted : c.most_turns-switch.result ≡ most_turns shape.page (sectors_of_bank shape 2) i.numbers = c.most_turns-switch.ensures ∙ ap (λ (k : ℕ). most_turns shape.page k i.numbers) c.bank_sectors.ensures.value in
-    let switch : c.most_turns-switch.result ≡ own = counted ∙ (λ k. most_turns (of k).page (sectors_of_bank (of k) 2) (was.numbers k)) in
+    let counted : c.most_turns-switch.result ≡ most_turns shape.page (sectors_of_bank i.banks.geometry i.banks.banks) i.numbers = c.most_turns-switch.ensures ∙ ap (λ (k : ℕ). most_turns shape.page k i.numbers) c.bank_sectors.ensures in
+    let switch : c.most_turns-switch.result ≡ own = counted ∙ (λ k. most_turns (of k).page (sectors_of_bank (was.made_for.banks_geometry k) (was.made_for.shared k)) (was.numbers k)) in
     let legal = subst IsLegal was.made_for.banks_geometry c.geometry-geometry.ensures.state.legal in
     let w : Work = record { pages = 0; owed = false; switch = own } in
-    let few = c.left_is_bounded.ensures.fits m.geometry.page (sectors_of_bank m.geometry 2) m.reserve m.numbers (Ended JobOk []) w legal.page_high (let high = legal.sectors_high in omega arith) was.made_for.space.lengths (record { job = tt; few = omega arith }) in
+    let few = c.left_is_bounded.ensures.fits m.geometry.page (sectors_of_bank m.geometry m.banks) m.reserve m.numbers (Ended JobOk []) w legal.page_high (let high = legal.sectors_high in omega arith) was.made_for.space.lengths (record { job = tt; few = omega arith }) in
     omega (arith, switch, few)
 
 pub returns-in_default : goal.returns-in_default
@@ -48,12 +48,12 @@ returns-in_default g c =
     let was = (subst (Sound m entry) (sym c.self.view_is) c.requires.sound).parts in
     let n = c.args.number.0 in
     let size = c.length_of-length.result in
-    let own = most_turns m.geometry.page (sectors_of_bank m.geometry 2) m.numbers in
+    let own = most_turns m.geometry.page (sectors_of_bank m.geometry m.banks) m.numbers in
     let figure = figure_at m.geometry.page own m.numbers n size c.length_of-length.ensures in
     let shape = c.geometry-geometry.result in
     let of : shape ≡ m.geometry = c.geometry-geometry.ensures.geometry ∙ was.made_for.banks_geometry in
-    let counted : c.most_turns-switch.result ≡ most_turns shape.page (sectors_of_bank shape 2) i.numbers = c.most_turns-switch.ensures ∙ ap (λ (k : ℕ). most_turns shape.page k i.numbers) c.bank_sectors.ensures.value in
-    let switch : c.most_turns-switch.result ≡ own = counted ∙ (λ k. most_turns (of k).page (sectors_of_bank (of k) 2) (was.numbers k)) in
+    let counted : c.most_turns-switch.result ≡ most_turns shape.page (sectors_of_bank i.banks.geometry i.banks.banks) i.numbers = c.most_turns-switch.ensures ∙ ap (λ (k : ℕ). most_turns shape.page k i.numbers) c.bank_sectors.ensures in
+    let switch : c.most_turns-switch.result ≡ own = counted ∙ (λ k. most_turns (of k).page (sectors_of_bank (was.made_for.banks_geometry k) (was.made_for.shared k)) (was.numbers k)) in
     let pages : c.from.result ≡ pages_of_op shape.page c.args.op size = c.from.ensures ∙ c.pages_of_op.ensures in
     let here : c.from.result ≡ pages_of_op m.geometry.page c.args.op size = pages ∙ ap (λ (p : ℕ). pages_of_op p c.args.op size) (λ k. (of k).page) in
     (λ k. here k + 1 + switch k) ∙ most_is m.geometry.page own size c.args.op c.in_default.not-Read ∙ sym (ap (λ (f : Figures). most_of f c.args.op) figure)

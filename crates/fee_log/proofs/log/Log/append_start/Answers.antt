@@ -8,5 +8,5 @@ invariant_of-self c =
     let r = rw (← c.self.view_is) at c.requires in
     rw (take_at c.put_flag.new.flags _ c.self.inside.flags.len (omega arith), c.put_flag.ensures, c.deref_mut.ensures.value, c.tail_begun-self-inside.ensures)
     (begun_sound c.numbers_ascend.ensures.bounds _
-    (record { number = c.args.number.0; kind = c.args.kind; length = c.args.length }) c.self.invariant
+    c.args.head c.self.invariant
     r.idle r.configured r.room)

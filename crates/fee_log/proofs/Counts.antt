@@ -1,0 +1,97 @@
+-- How often the numbers were written has room in 32 bits.
+use Rattle.std.specs.Prelude.{if◌then◌else◌, slice_get, ◌^◌, ◌&&◌, ◌==◌}
+use Rattle.std.proofs.Common.{◌≡◌, ℕ, zero, suc, ◌<◌, ◌+◌, Bool, true, false, List, [], ◌∷◌, Option, Some, None, refl, sym, subst, arith}
+use Rattle.nv_base.specs.Held.{more_writes}
+use Rattle.nv_base.specs.Lengths.{place_of}
+use Rattle.nv_base.specs.declared.instance.DeviceNumber.{DeviceNumber}
+use Rattle.fee_format.specs.declared.rec_head.RecHead.{RecHead}
+use Rattle.fee_image.specs.Bank.{Bank}
+use Rattle.fee_image.specs.Found.{fits, last_from, last_record}
+use Rattle.fee_image.specs.Laws.{LogsCompute}
+use Rattle.fee_image.specs.RecordList.{Rec, Walks, pages_of_head, records_of, end_of}
+use Rattle.log_image.specs.declared.place.Place.{Place}
+use Rattle.log_image.specs.declared.place.Place.TheVariants.{Content, Invalid, Erased, Unwritten}
+use Rattle.log_image.specs.Places.{count_at, place_at, place_shown, noted, erased_places, places_of}
+use Rattle.fee_log.specs.Index.{AreCounted, at_index, or_else, place_in}
+use Rattle.fee_log.specs.Laws.{PlacesAreCounted, NextIsCounted}
+
+pub erased_counted : (ns : List (DeviceNumber × ℕ)) → AreCounted (erased_places ns)
+erased_counted [] = tt
+erased_counted (n ∷ ns) = (omega arith, erased_counted ns)
+
+kind_count : (at count : ℕ) (b c : Bool) → count_at (if b then Content at count else (if c then Invalid count else Erased count)) ≡ count
+kind_count at count true c = refl
+kind_count at count false true = refl
+kind_count at count false false = refl
+
+place_counted : (at : ℕ) (h : RecHead) → h.count < 2 ^ 32 → count_at (place_at at h) < 2 ^ 32
+place_counted at h small = subst (λ (n : ℕ). n < 2 ^ 32) (sym (kind_count at h.count (h.kind == 1) (h.kind == 2))) small
+
+pick_counted : (b : Bool) (x y : Place) → count_at x < 2 ^ 32 → count_at y < 2 ^ 32 → count_at (if b then x else y) < 2 ^ 32
+pick_counted true x y one two = one
+pick_counted false x y one two = two
+
+-- one record more
+pub noted_counted : (ns : List (DeviceNumber × ℕ)) (places : List Place) (at : ℕ) (h : RecHead) → h.count < 2 ^ 32 → AreCounted places → AreCounted (noted ns places at h)
+noted_counted [] places at h small all = all
+noted_counted (n ∷ ns) [] at h small all = all
+noted_counted (n ∷ ns) (place ∷ places) at h small all =
+    (pick_counted (fits n.0.0 n.1 h) (place_at at h) place (place_counted at h small) all.0, noted_counted ns places at h small all.1)
+
+-- RECORDS
+-- those of a bank have legal headers
+abbrev AreSmall : List Rec → Type 0
+AreSmall [] = Unit {0}
+AreSmall (r ∷ rs) = (r.head.count < 2 ^ 32) × AreSmall rs
+
+walked : (b : Bank) (bytes : List ℕ) (q e : ℕ) (records : List Rec) → Walks b bytes q records e → AreSmall records
+walked b bytes q e [] walks = tt
+walked b bytes q e (r ∷ rs) walks = (walks.0.head.page.legal.count, walked b bytes (q + pages_of_head b.page r.head) e rs walks.1)
+
+abbrev IsSmall : Option Rec → Type 0
+IsSmall None = Unit {0}
+IsSmall (Some r) = r.head.count < 2 ^ 32
+
+pick_small : (b : Bool) (x y : Option Rec) → IsSmall x → IsSmall y → IsSmall (if b then x else y)
+pick_small true x y one two = one
+pick_small false x y one two = two
+
+last_small : (number length : ℕ) (o : Option Rec) (records : List Rec) → IsSmall o → AreSmall records → IsSmall (last_from number length o records)
+last_small number length o [] small all = small
+last_small number length o (r ∷ rs) small all =
+    last_small number length (if r.committed && fits number length r.head then Some r else o) rs (pick_small (r.committed && fits number length r.head) (Some r) o all.0 small) all.1
+
+shown_counted : (o : Option Rec) → IsSmall o → count_at (place_shown o) < 2 ^ 32
+shown_counted None small = omega arith
+shown_counted (Some r) small = place_counted r.at r.head small
+
+places_counted : (ns : List (DeviceNumber × ℕ)) (records : List Rec) → AreSmall records → AreCounted (places_of ns records)
+places_counted [] records all = tt
+places_counted (n ∷ ns) records all = (shown_counted (last_record n.0.0 n.1 records) (last_small n.0.0 n.1 None records tt all), places_counted ns records all)
+
+pub loaded_counted : LogsCompute → (b : Bank) (bytes : List ℕ) (ns : List (DeviceNumber × ℕ)) → AreCounted (places_of ns (records_of b bytes))
+loaded_counted logs b bytes ns =
+    places_counted ns (records_of b bytes) (walked b bytes 2 (end_of b bytes) (records_of b bytes) ((logs b bytes (records_of b bytes) (end_of b bytes)).1 (refl, refl)).walk)
+
+-- ONE PLACE
+at_counted : (places : List Place) (i : ℕ) (place : Place) → AreCounted places → slice_get places i ≡ Some place → count_at place < 2 ^ 32
+at_counted [] i place all is = cc
+at_counted (x ∷ xs) zero place all is = let same : x ≡ place = cc in subst (λ (p : Place). count_at p < 2 ^ 32) same all.0
+at_counted (x ∷ xs) (suc i) place all is = at_counted xs i place all.1 is
+
+pub places_are_counted : PlacesAreCounted
+places_are_counted s i place sound is = at_counted s.places i place sound.counts is
+
+or_counted : (places : List Place) (o : Option Place) → ((place : Place) → o ≡ Some place → count_at place < 2 ^ 32) → count_at (or_else Unwritten o) < 2 ^ 32
+or_counted places None each = omega arith
+or_counted places (Some place) each = each place refl
+
+found_counted : (places : List Place) (i : Option ℕ) → AreCounted places → count_at (or_else Unwritten (at_index places i)) < 2 ^ 32
+found_counted places None all = omega arith
+found_counted places (Some i) all = or_counted places (slice_get places i) (λ place is. at_counted places i place all is)
+
+next_counted : (count : ℕ) → count < 2 ^ 32 → more_writes 1 count < 2 ^ 32
+next_counted count small = omega (arith, small)
+
+pub next_is_counted : NextIsCounted
+next_is_counted s number kind length sound = next_counted (count_at (place_in s.numbers s.places number)) (found_counted s.places (place_of s.numbers number) sound.counts)
