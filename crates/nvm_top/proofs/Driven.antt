@@ -184,6 +184,7 @@ started c inner cuts making entry m s origin made starts = record {
     none_planned = rw (no_plan _ (told_of s.device).first (ap (λ p. p.planning.plan) starts.finds.up.restarted.first.only)) refl;
   };
   takes = let is = ap (λ p. p.planning.takes) starts.finds.up.restarted.first.only ∙ ap (λ p. p.planning.takes) part in omega (arith, is);
+  none = refl;
   faults = omega arith;
   unplanned =
       let is = ap (λ p. p.planning.unplanned) starts.finds.up.restarted.first.only ∙ ap (λ p. p.planning.unplanned) part in
@@ -265,12 +266,18 @@ once : (f n : ℕ) → n ≡ min (f + 0) last_count → Rose 0 n → WereCounted
 once f n is (inl more) = inl (omega (arith, is, more))
 once f n is (inr (full, stays)) = absurd (omega (arith, full))
 
+-- what both parts' counts tell was counted of the first, where the second has none
+in_first : (a f t n : ℕ) → t ≡ min (f + 0) last_count → WereCounted n a t → WereCounted n a f
+in_first a f t n is (inl more) = inl (omega (arith, is, more))
+in_first a f t n is (inr full) = inr (omega (arith, is, full))
+
 pub vouched : (c : Configuration) (inner : Told) (cuts : ℕ) (making : Making) (entry exit : Told) (s : StackState Device (List PlainBlock)) (e : Device) → e ≡ s.device → HalvesMakeIt (told_clock e) → IsOrigin c inner cuts making entry → s.desk.config ≡ c → s.desk.cap ≡ cap
     → IsBack c inner exit (part_at entry) (told_of e) (clock_of e)
     → Vouches (IsKept s.ready (one_part (part_at entry)) s.desk s.hand (told_of s.device) (told_clock s.device)) (part_at entry) (told_by told_of s) inner exit
 vouched c inner cuts making entry exit s e same halves origin config most back = record {
   operations = back.operations;
   faults = λ rose. counted_rose inner.faults exit.faults (own.faults 1 (once (told_of s.device).first.faults (told_by told_of s).faults refl rose)) back.more;
+  counted = λ n counted. own.faults n (in_first (part_at entry).faults (told_of s.device).first.faults (told_by told_of s).faults n refl counted);
   cuts = λ n counted. own.cuts n (subst (λ (k : ℕ). WereCounted n (part_at entry).planning.unplanned k) one_part_cuts counted);
   promise = λ kept made left pieces end order refusals off.
       its (run_of s.desk.config s.desk.entries inner exit back.operations (Played made pieces left) end) (one_part (part_at entry)) (told_of s.device)

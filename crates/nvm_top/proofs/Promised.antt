@@ -15,7 +15,7 @@ use Rattle.nvm_script.specs.declared.step.StepKind.TheVariants as kind
 use Rattle.script_walks.specs.Words.{Step, StepKind}
 use Rattle.script_walks.specs.Walk.{IsWalkOf, joined}
 use Rattle.block_machine.specs.Words.{Entry, Found}
-use Rattle.block_machine.specs.State.{State}
+use Rattle.block_machine.specs.State.{State, Job}
 use Rattle.block_machine.specs.Steps.{after}
 use Rattle.block_machine.specs.Prices.{prices_in_refusals}
 use Rattle.run_promise.specs.Run.{Run, Course, Played, End, Whole, cap, HasOrder, LeavesFor, EndsAtStart, HasNoRoom, RefusalsExplain, refusals_of, unpaid_offs}
@@ -24,11 +24,13 @@ use Rattle.run_promise.specs.Promise.{Promise, making_of}
 use Rattle.run_promise.specs.Call.{Ends, last_line, IsCourseOf, IsInputOf}
 use Rattle.nvm_script.specs.Script.{IsScript, later_lines}
 use Rattle.nvm_script.specs.declared.script.Mode.TheVariants as mode
+use Rattle.flash_stacks.specs.Turns.{job_turns}
 use Rattle.nvm_top.specs.Ends.{HasPlayable}
 use Rattle.flash_stacks.specs.Made.{LeavesAlone}
 use Rattle.nvm_top.specs.Play.{IsStepsEnd}
 use Rattle.nvm_top.specs.Reading.{IsEarly}
-use Rattle.stack_steps.specs.Told.{StackTold}
+use Rattle.run_promise.specs.Turns.{HasTurns, EachMove, ServesTurn, all_moves}
+use Rattle.stack_steps.specs.Told.{StackTold, moment_of}
 use Rattle.stack_steps.specs.Made as steps
 use Rattle.stack_steps.specs.Made.{HasWalked, WereLeft, WasBroken}
 use Rattle.stack_steps.specs.declared.steps.StepFault.{StepFault}
@@ -74,6 +76,16 @@ early_promise c steps entry exit stop end stops ends = record {
   counted = λ e ops has is. absurd (not_there e has);
 }
 
+-- no step was made
+early_turns : (c : Configuration) (steps : List Step) (entry exit : Told) (end : End) → entry.faults ≤ exit.faults → HasTurns (job_turns c) (run_of c [] entry exit [] (Played [] [] steps) end) (Played [] [] steps)
+early_turns c steps entry exit end more = record {
+  first = record { faults = 0; ops = 0; left = 0 };
+  last = record { faults = 0; ops = 0; left = 0 };
+  moves = record { moves = []; are = tt; tell = refl; behind = refl };
+  counted = inl (omega (arith, more));
+  serves = tt;
+}
+
 pub early_has : (c : Configuration) (steps : List Step) (Tells : Run → Type 0) (entry exit : Told) (stop : Stop) (end : End) → StopsAtStart c entry exit stop → EndsAtStart (record { entry = entry; exit = exit; operations = [] }) end
     → Tells (run_of c [] entry exit [] (Played [] [] steps) end) → HasRun c steps Tells entry exit
 early_has c steps Tells entry exit stop end stops ends tells = record {
@@ -85,7 +97,7 @@ early_has c steps Tells entry exit stop end stops ends tells = record {
   ends = tells;
   keeps =
       let promise = early_promise c steps entry exit stop end stops ends in
-      record { order = promise.order; refusals = promise.refusals; off = promise.off; complete = early_complete c steps entry exit end promise.order; promise = λ told sound. promise };
+      record { order = promise.order; refusals = promise.refusals; off = promise.off; complete = early_complete c steps entry exit end promise.order; turns = early_turns c steps entry exit end stops.faults; promise = λ told sound. promise };
 }
 
 -- WHAT IS TOLD OF A RUN
@@ -248,12 +260,30 @@ has_run Kept c cuts all made left end before old t entry exit Tells started walk
     refusals = refusals;
     off = v.cuts (unpaid_offs None 0 made walked.pieces) off;
     complete = walked_complete made left end before old t entry exit v.operations started walked same v.faults order;
+    turns = record {
+      first = moment_of old;
+      last = walked.last;
+      moves = walked.moves;
+      counted = v.counted walked.last.faults (let none = started.none in let all = walked.counted in inl (omega (arith, none, all)));
+      serves = serves;
+    };
     promise = λ told sound. v.promise (keeps (well told sound)) made left walked.pieces end order refusals off;
   };
 }
   where
     of : t.configuration ≡ c
     of = same ∙ started.configuration
+
+    -- its first entry is the start-up
+    first : take 1 t.entries ≡ old.entries
+    first = ap (take 1) (walked.grows ∙ ap (λ (h : List Entry). h ++ walked.more) started.fresh.entries) ∙ sym started.fresh.entries
+
+    serves : EachMove t.configuration (ServesTurn t.configuration (job_turns t.configuration)) (after t.configuration (take 1 t.entries)) (all_moves walked.moves.moves)
+    serves =
+        subst (λ (h : List Entry). EachMove t.configuration (ServesTurn t.configuration (job_turns t.configuration)) (after t.configuration h) (all_moves walked.moves.moves)) (sym first)
+        (subst (λ (x : Configuration). EachMove x (ServesTurn x (job_turns x)) (after x old.entries) (all_moves walked.moves.moves)) (sym same)
+        (subst (λ (x : Configuration). EachMove old.configuration (ServesTurn old.configuration (job_turns x)) (after old.configuration old.entries) (all_moves walked.moves.moves)) (sym started.configuration)
+        (subst (λ (most : State → Job → ℕ). EachMove old.configuration (ServesTurn old.configuration most) (after old.configuration old.entries) (all_moves walked.moves.moves)) started.turns walked.serves)))
 
     order : HasOrder (run_of t.configuration t.entries entry exit v.operations (Played made walked.pieces left) end) t.entries
     order = ordered made left end old t entry exit v.operations started.fresh walked same leaves

@@ -34,6 +34,7 @@ pub record IsStarted (c : Configuration) (cuts : ℕ) (before : PartTold) (t : S
   pub turns : t.most ≡ job_turns c
   pub fresh : IsFresh t
   pub takes : cuts ≤ t.causes.takes
+  pub none : before.faults ≡ 0
   pub faults : before.faults ≤ t.faults
   pub unplanned : before.planning.unplanned ≤ t.causes.unplanned
 
@@ -56,6 +57,7 @@ pub record StartsWell (c : Configuration) (entry : Told) : Type 0 where
 pub record Vouches (Kept : Type 0) (before : PartTold) (t : StackTold) (entry exit : Told) : Type 0 where
   pub operations : List Change
   pub faults : Rose before.faults t.faults → Rose entry.faults exit.faults
+  pub counted : (n : ℕ) → WereCounted n before.faults t.faults → WereCounted n entry.faults exit.faults
   pub cuts : (n : ℕ) → WereCounted n before.planning.unplanned t.causes.unplanned → WereCounted n entry.cuts exit.cuts
   pub promise : Kept → (made left : List Step) (pieces : List (List Entry)) (end : End)
       → HasOrder (run_of t.configuration t.entries entry exit operations (Played made pieces left) end) t.entries

@@ -13,6 +13,7 @@ use Rattle.nv_base.specs.Count.{WereCounted}
 use Rattle.device_bridge.specs.FlashRun.{TellsBytes, StartsSound}
 use Rattle.run_promise.specs.Promise.{Promise, making_of}
 use Rattle.run_promise.specs.Completeness.{Completeness}
+use Rattle.run_promise.specs.Turns.{HasTurns}
 use Rattle.run_promise.specs.Call.{Call, IsCourseOf, IsRunOf, status_of_end, last_line}
 use Rattle.nvm_top.specs.declared.status.Status.{Status}
 use Rattle.nvm_top.specs.declared.status.Status.TheVariants as status
@@ -29,13 +30,15 @@ played_call input x entry exit written written' =
 -- A RUN
 
 -- What a run keeps over any flash: it follows its script, which explains its refused copies and its power cuts; and where
--- nothing fails each job in hand is posted within its turns, and a drain leaves nothing pending. Over a flash that tells its
+-- nothing fails each job in hand is posted within its turns, and a drain leaves nothing pending. Its steps have their turns, one by one, and each
+-- job is posted within its own, counted from its Pick. Over a flash that tells its
 -- bytes, from a sound image on, it keeps the promise.
 pub record KeepsRun (r : Run) : Type 0 where
   pub order : HasOrder r r.history
   pub refusals : (id : ℕ) → RefusalsExplain r.configuration r.course r.history id
   pub off : WereCounted (offs_of_flash r.course r.history) r.flash.entry.cuts r.flash.exit.cuts
   pub complete : Completeness (job_turns r.configuration) r r.course
+  pub turns : HasTurns (job_turns r.configuration) r r.course
   pub promise : TellsBytes r.flash → StartsSound (making_of r.configuration) r.flash → Promise r
 
 -- THE WHOLE CALL

@@ -1,8 +1,10 @@
 -- A turn of the device behind the first half.
-use Rattle.std.specs.Prelude.{map, sum_by}
+use Rattle.std.specs.Prelude.{IsTrue, map, sum_by}
+use Rattle.std.specs.List.{list_any}
 use Rattle.std.proofs.Common.{◌≡◌, ◌≤◌, ◌⊎◌, ℕ, Bool, true, false, List, [], ◌∷◌, ◌++◌, Option, Some, None, refl, sym, ap, ◌∙◌, subst, inl, inr, arith}
 use Rattle.nv_base.specs.Count.{WereCounted}
 use Rattle.nv_base.specs.Marks.{instance_of}
+use Rattle.nv_base.specs.Entry.{ops_of as ops_told}
 use Rattle.memif.specs.declared.answer.JobResult.TheVariants.{JobOk, JobFailed, JobPending, JobCanceled, BlockInconsistent, BlockInvalid}
 use Rattle.memif.specs.Told.{DeviceTold, Stand, Open, Ended as At, ops_of, is_off}
 use Rattle.memif.specs.Clock.{Clock}
@@ -24,7 +26,7 @@ use Rattle.nvm_core.specs.Stack.{StackState, PowersOff}
 use Rattle.nvm_core.specs.Turns.{IsFirstHalf, IsSecondHalf}
 use Rattle.run_promise.specs.Run.{unpaid_off}
 use Rattle.script_walks.specs.Walk.{is_due, is_at_rest}
-use Rattle.stack_steps.specs.Calls.{Turns, IsAnswer, Lowers}
+use Rattle.stack_steps.specs.Calls.{Turns, IsAnswer, Lowers, is_pick}
 use Rattle.block_machine.specs.Prices.{block_price}
 use Rattle.played_walks.specs.Turn.{IsOfTurn}
 use Rattle.played_stacks.specs.Told.{told_by, refusable_in, untold_of, plan_in, unplanned_in}
@@ -32,7 +34,7 @@ use Rattle.played_stacks.proofs.Devices.{Goes, goes_from, turn_goes, turn_fixed,
 use Rattle.played_stacks.proofs.Picks.{due_hand, due_rest, at_rest}
 use Rattle.played_stacks.proofs.Refused.{fewer, wrote_untold}
 use Rattle.played_stacks.proofs.Serving.{IsServing, off_serves, work_serves}
-use Rattle.played_stacks.proofs.Turning.{same_stores, grown, none_more, one_more, explained, none_off, one_price, begins_late}
+use Rattle.played_stacks.proofs.Turning.{same_stores, grown, none_more, one_more, explained, makes_one, none_off, one_price, begins_late}
 use Rattle.played_stacks.proofs.Halves.{are_told, is_now, IsBehind}
 
 -- THE ENTRY OF A JOB THAT ENDED
@@ -114,12 +116,14 @@ module _ {D : Type 0} (device : D → DeviceTold) (clock : D → Clock) (steps :
           entries = [];
           grows = grown device old new [] (none_more old.desk new.desk desk) stores ready fixed;
           counted = behind.counted;
+          operations = makes_one device old new [] goes tt;
           turn = record { entry = tt; begins = begins_late (state_of old.desk) [] late };
           explained = explained device old new [] goes
               (λ id. let few = less id (state_of new.desk).hand (ap (λ (x : DeskState). untold_of id (state_of x).hand) desk) in omega (arith, few))
               (none_off _ _ goes.unplanned);
           answers = answers;
           lowers = lowers;
+          picks = λ picked. absurd (cc picked);
           serves = serves;
         }
 
@@ -127,17 +131,18 @@ module _ {D : Type 0} (device : D → DeviceTold) (clock : D → Clock) (steps :
     adds e is = subst (λ (x : DeskState). new.desk ≡ record x { entries = x.entries ++ e ∷ [] }) same_desk is
 
     -- a Wrote, or an Off
-    adds_one : (e : Entry) → new.desk ≡ record between.desk { entries = between.desk.entries ++ e ∷ [] }
+    adds_one : (e : Entry) → ops_told e ≡ Some (ops_of (device new.device)) → (IsTrue (list_any is_pick (e ∷ [])) → ⊥) → new.desk ≡ record between.desk { entries = between.desk.entries ++ e ∷ [] }
         → ((id : ℕ) → (block_price id (state_of old.desk) e ≡ 0) × (untold_of id (step old.desk.config (state_of old.desk) e).hand ≡ untold_of id (state_of old.desk).hand))
         → IsOfTurn old.desk.config (state_of old.desk) (map store_of old.copies) e
         → WereCounted (sum_by (unpaid_off (plan_in (device old.device))) (e ∷ [])) (unplanned_in (device old.device)) (unplanned_in (device new.device))
         → IsAnswer answer (e ∷ []) (told_by device old) (told_by device new) → Lowers answer (told_by device old) (told_by device new) → IsServing device old new (e ∷ [])
         → Turns answer (told_by device old) (told_by device new)
-    adds_one e is stays turn off answers lowers serves =
+    adds_one e tells no_pick is stays turn off answers lowers serves =
         let desk = adds e is in record {
           entries = e ∷ [];
           grows = grown device old new (e ∷ []) desk stores ready fixed;
           counted = behind.counted;
+          operations = makes_one device old new (e ∷ []) goes (tells, tt);
           turn = record { entry = turn; begins = begins_late (state_of old.desk) (e ∷ []) late };
           explained = explained device old new (e ∷ []) goes
               (λ id. one_price old.desk.config (state_of old.desk) id e (map told_of old.copies) (map told_of new.copies) (state_of old.desk).hand _ (state_of new.desk).hand
@@ -145,6 +150,7 @@ module _ {D : Type 0} (device : D → DeviceTold) (clock : D → Clock) (steps :
               (let price = (stays id).0 in let few = less id (step old.desk.config (state_of old.desk) e).hand (stays id).1 in omega (arith, price, few))) off;
           answers = answers;
           lowers = lowers;
+          picks = λ picked. absurd (no_pick picked);
           serves = serves;
         }
 
@@ -165,7 +171,7 @@ module _ {D : Type 0} (device : D → DeviceTold) (clock : D → Clock) (steps :
       by e adds (inr (i, mark, some)) =
           let wrote = subst (λ (o : Option Entry). AddsBy o between.desk new.desk) some adds in
           let may = subst (λ (x : DeskState). MayWrite x.config (state_of x) i mark (state_of x).hand) same_desk wrote.1.1 in
-          adds_one turned.Worked second behind (Wrote i mark (ops_of (device new.device))) wrote.0
+          adds_one turned.Worked second behind (Wrote i mark (ops_of (device new.device))) refl (λ is. cc is) wrote.0
           (λ id. (refl, wrote_untold old.desk.config (state_of old.desk) i mark (ops_of (device new.device)) id)) tt
           (none_off _ _ (goes turned.Worked second behind).unplanned)
           (λ hand. absurd (subst (λ (h : Option Job). MayWrite old.desk.config (state_of old.desk) i mark h) hand may)) behind.lowers
@@ -174,7 +180,7 @@ module _ {D : Type 0} (device : D → DeviceTold) (clock : D → Clock) (steps :
   -- an Off
   went_off : PowersOff old.desk (device old.device) → IsSecondHalf device clock turned.Off between new → IsBehind device turned.Off old new → Turns turned.Off (told_by device old) (told_by device new)
   went_off power second behind =
-      adds_one turned.Off second behind (Off (ops_of (device new.device))) second.adds.0 (λ id. (refl, refl)) tt
+      adds_one turned.Off second behind (Off (ops_of (device new.device))) refl (λ is. cc is) second.adds.0 (λ id. (refl, refl)) tt
       (subst (λ (plan : Option ℕ). WereCounted (sum_by (unpaid_off plan) (Off (ops_of (device new.device)) ∷ [])) (unplanned_in (device old.device)) (unplanned_in (device new.device)))
       (plan_same (device old.device) (device between.device) made one two)
       (subst (λ (n : ℕ). WereCounted (sum_by (unpaid_off (plan_in (device between.device))) (Off (ops_of (device new.device)) ∷ [])) n (unplanned_in (device new.device)))

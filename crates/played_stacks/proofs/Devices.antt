@@ -1,7 +1,7 @@
 -- A turn of the device: what becomes of its plans of power cuts.
 use Rattle.std.specs.Prelude.{◌||◌, min, is_some, if◌then◌else◌}
-use Rattle.std.proofs.Common.{◌≡◌, ◌≤◌, ◌+◌, ℕ, Bool, true, false, Option, Some, None, refl, sym, ap, ◌∙◌, subst, inl, inr, arith}
-use Rattle.nv_base.specs.Count.{WereCounted}
+use Rattle.std.proofs.Common.{◌≡◌, ◌≤◌, ◌+◌, ◌⊎◌, ℕ, Bool, true, false, Option, Some, None, refl, sym, ap, ◌∙◌, subst, inl, inr, arith}
+use Rattle.nv_base.specs.Count.{next_count, WereCounted}
 use Rattle.memif.specs.Told.{DeviceTold, PartTold, Part, First, Second, part_at, with_part, ops_of, is_off}
 use Rattle.memif.specs.Clock.{Clock}
 use Rattle.memif.specs.Calls.{PartTurns, Works, IsCut}
@@ -21,9 +21,12 @@ pub record Goes (old new : DeviceTold) : Type 0 where
   pub unplanned : unplanned_in old ≤ unplanned_in new
   pub takes : takes_in old ≤ takes_in new
   pub plan : IsNoEarlier (plan_in old) (plan_in new)
+  -- one changing operation at most is made
+  pub later : ops_in old ≤ ops_in new
+  pub one : ops_in new ≤ ops_in old + 1
 
 pub goes_on : (d : DeviceTold) → Goes d d
-goes_on d = record { unplanned = omega arith; takes = omega arith; plan = no_earlier (plan_in d) }
+goes_on d = record { unplanned = omega arith; takes = omega arith; plan = no_earlier (plan_in d); later = omega arith; one = omega arith }
 
 -- the operations and the parts alone tell
 parts_tell : (old new : DeviceTold) → new.ops ≡ old.ops → new.first ≡ old.first → new.second ≡ old.second
@@ -36,6 +39,8 @@ goes_same old new made one two =
       unplanned = omega (arith, unplanned);
       takes = omega (arith, takes);
       plan = subst (λ (p : Option ℕ). IsNoEarlier (plan_in old) p) (sym plan) (no_earlier (plan_in old));
+      later = omega (arith, made);
+      one = omega (arith, made);
     }
 
 pub plan_same : (old new : DeviceTold) → new.ops ≡ old.ops → new.first ≡ old.first → new.second ≡ old.second → plan_in new ≡ plan_in old
@@ -51,6 +56,8 @@ goes_from old between new made one two goes =
       unplanned = let less = goes.unplanned in omega (arith, unplanned, less);
       takes = let less = goes.takes in omega (arith, takes, less);
       plan = subst (λ (p : Option ℕ). IsNoEarlier p (plan_in new)) plan goes.plan;
+      later = let more = goes.later in omega (arith, made, more);
+      one = let one_more = goes.one in omega (arith, made, one_more);
     }
 
 -- BY PARTS
@@ -63,6 +70,10 @@ none_later (Some n) b is none = cc
 takes_stay : (a b : Option ℕ) (t u : ℕ) → IsNoEarlier a b → t ≤ u → (if is_some a then 0 else t) ≤ (if is_some b then 0 else u)
 takes_stay (Some n) b t u is less = omega arith
 takes_stay None b t u is less = subst (λ (o : Option ℕ). t ≤ (if is_some o then 0 else u)) (sym (none_later None b is refl)) less
+
+one_at_most : (n m : ℕ) → (m ≡ n) ⊎ (m ≡ next_count n) → m ≤ n + 1
+one_at_most n m (inl same) = omega (arith, same)
+one_at_most n m (inr more) = omega (arith, more)
 
 -- the first part makes the turn
 module _ (cut : Bool) (old new : DeviceTold) (turns : PartTurns cut old.ops new.ops old.first new.first) (other : new.second ≡ old.second) where
@@ -77,6 +88,8 @@ module _ (cut : Bool) (old new : DeviceTold) (turns : PartTurns cut old.ops new.
         (let same = part_takes cut old.ops new.ops old.first new.first turns in omega (arith, same));
     plan = earlier_stays (plan_of (ops_in old) old.first) (plan_of (ops_in old) old.second) (plan_of (ops_in new) new.first) (plan_of (ops_in new) new.second)
         (part_plan cut (ops_in old) (ops_in new) old.first new.first turns) second_waits;
+    later = turns.later;
+    one = one_at_most old.ops new.ops turns.one;
   }
 
 -- the second part does
@@ -95,6 +108,8 @@ module _ (cut : Bool) (old new : DeviceTold) (turns : PartTurns cut old.ops new.
         (let same = ap (λ (p : PartTold). p.planning.takes) other in omega (arith, same));
     plan = earlier_stays (plan_of (ops_in old) old.first) (plan_of (ops_in old) old.second) (plan_of (ops_in new) new.first) (plan_of (ops_in new) new.second)
         first_waits second_plan;
+    later = turns.later;
+    one = one_at_most old.ops new.ops turns.one;
   }
 
 -- A TURN

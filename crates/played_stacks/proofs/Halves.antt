@@ -1,5 +1,5 @@
 -- A turn that is its first half alone.
-use Rattle.std.specs.Prelude.{map, not}
+use Rattle.std.specs.Prelude.{IsTrue, map, not}
 use Rattle.std.proofs.Common.{◌≡◌, ◌<◌, ◌≤◌, ℕ, Bool, true, false, List, [], ◌∷◌, ◌++◌, get_or, Option, None, refl, sym, ap, ◌∙◌, subst, inl, inr, arith}
 use Rattle.nv_base.specs.Count.{last_count, WereCounted}
 use Rattle.memif.specs.Told.{DeviceTold, faults_of, ops_of}
@@ -33,8 +33,9 @@ use Rattle.played_stacks.specs.Told.{told_by, untold_of, IfCopied, AreWithin}
 use Rattle.played_stacks.proofs.Devices.{goes_same, unplanned_same}
 use Rattle.played_stacks.proofs.Picks.{newest, counted, due_off, due_rest, at_rest}
 use Rattle.played_stacks.proofs.Refused.{IsOn, fewer, pick_keeps, post_keeps}
+use Rattle.played_stacks.proofs.MostTurns.{within_of}
 use Rattle.played_stacks.proofs.Serving.{IsServing, off_serves, rest_serves, pick_serves, post_serves}
-use Rattle.played_stacks.proofs.Turning.{same_stores, grown, none_more, one_more, explained, none_off, one_price, begins_by, begins_late}
+use Rattle.played_stacks.proofs.Turning.{same_stores, grown, none_more, one_more, explained, makes_one, none_off, one_price, begins_by, begins_late}
 
 -- what is told of the application, and the newest store of a block
 abbrev pub are_told : List PlainBlock → List Told
@@ -96,6 +97,10 @@ posting Fits ops old new before after only adds = elim adds.1 [
 -- THE TURN
 
 -- what is known of a stack behind a turn
+is_on : (off : Bool) → IsTrue (not off) → off ≡ false
+is_on true on = absurd (cc on)
+is_on false on = refl
+
 pub record IsBehind {D : Type 0} (device : D → DeviceTold) (answer : Turned) (old new : StackState D (List PlainBlock)) : Type 0 where
   pub power : PowersOff new.desk (device new.device)
   pub counted : faults_of (device old.device) ≤ faults_of (device new.device)
@@ -118,6 +123,7 @@ module _ {D : Type 0} (device : D → DeviceTold) (steps : HistoriesStep) (waits
         entries = [];
         grows = grown device old new [] (none_more old.desk new.desk same) (same_stores old.copies new.copies half.sizes half.stores_stay) half.ready (ap (λ (d : DeviceTold). d.fixed) half.device);
         counted = behind.counted;
+        operations = makes_one device old new [] (goes_same (device old.device) (device new.device) made one two) tt;
         turn = record { entry = tt; begins = begins_late (state_of old.desk) [] due };
         explained = explained device old new [] (goes_same (device old.device) (device new.device) made one two)
             (λ id. let less = fewer (map told_of old.copies) (map told_of new.copies) half.refuses id (state_of old.desk).hand (state_of new.desk).hand
@@ -125,6 +131,7 @@ module _ {D : Type 0} (device : D → DeviceTold) (steps : HistoriesStep) (waits
             (none_off _ _ (let as_many = unplanned_same (device old.device) (device new.device) one two in omega (arith, as_many)));
         answers = answers;
         lowers = lowers;
+        picks = λ picked. absurd (cc picked);
         serves = serves;
       }
 
@@ -145,6 +152,7 @@ module _ {D : Type 0} (device : D → DeviceTold) (steps : HistoriesStep) (waits
         entries = Pick block picked.kind picked.taken ops ∷ [];
         grows = grown device old new (Pick block picked.kind picked.taken ops ∷ []) picked.adds stores half.ready (ap (λ (d : DeviceTold). d.fixed) half.device);
         counted = behind.counted;
+        operations = makes_one device old new (Pick block picked.kind picked.taken ops ∷ []) (goes_same (device old.device) (device new.device) made one two) (refl, tt);
         turn = record {
           entry = record {
             may = may;
@@ -160,6 +168,7 @@ module _ {D : Type 0} (device : D → DeviceTold) (steps : HistoriesStep) (waits
             (none_off _ _ (let as_many = unplanned_same (device old.device) (device new.device) one two in omega (arith, as_many)));
         answers = tt;
         lowers = behind.lowers;
+        picks = λ is. (within_of new.desk.config (state_of new.desk) new.hand (device new.device) behind.tied_behind.paired behind.takes, is_on (state_of old.desk).off picked.allowed.0.on);
         serves = pick_serves device old new block ops picked.kind picked.taken behind.tied_behind.paired behind.takes;
       }
 
@@ -177,6 +186,7 @@ module _ {D : Type 0} (device : D → DeviceTold) (steps : HistoriesStep) (waits
         entries = Post post.block post.result post.given post.refused ops ∷ [];
         grows = grown device old new (Post post.block post.result post.given post.refused ops ∷ []) post.adds stores half.ready (ap (λ (d : DeviceTold). d.fixed) half.device);
         counted = behind.counted;
+        operations = makes_one device old new (Post post.block post.result post.given post.refused ops ∷ []) (goes_same (device old.device) (device new.device) made one two) (refl, tt);
         turn = record { entry = tt; begins = begins_by (is_due s) };
         explained = explained device old new (Post post.block post.result post.given post.refused ops ∷ []) (goes_same (device old.device) (device new.device) made one two)
             (λ id. one_price c s id (Post post.block post.result post.given post.refused ops) (map told_of old.copies) (map told_of new.copies) s.hand _ (state_of new.desk).hand
@@ -185,6 +195,7 @@ module _ {D : Type 0} (device : D → DeviceTold) (steps : HistoriesStep) (waits
             (none_off _ _ (let as_many = unplanned_same (device old.device) (device new.device) one two in omega (arith, as_many)));
         answers = tt;
         lowers = behind.lowers;
+        picks = λ picked. absurd (cc picked);
         serves = post_serves device old new post.block post.refused ops post.result post.given post.on
             (subst (λ (h : Option HandState). IsPaired new.desk.config (state_of new.desk) h (device new.device)) half.at_device.1 behind.tied_behind.paired).0;
       }

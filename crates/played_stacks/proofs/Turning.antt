@@ -16,9 +16,9 @@ use Rattle.nv_desk.specs.Desk.{DeskState, state_of}
 use Rattle.run_promise.specs.Run.{unpaid_off}
 use Rattle.nvm_core.specs.Stack.{StackState}
 use Rattle.stack_steps.specs.Told.{IsGrown}
-use Rattle.stack_steps.specs.Calls.{AreExplained}
+use Rattle.stack_steps.specs.Calls.{AreExplained, AllTell, MakesOne}
 use Rattle.script_walks.specs.Walk.{is_due, begins_with_pick_or_post}
-use Rattle.played_stacks.specs.Told.{told_by, most_in, refusable_in, plan_in, unplanned_in}
+use Rattle.played_stacks.specs.Told.{told_by, most_in, refusable_in, plan_in, unplanned_in, ops_in}
 use Rattle.played_stacks.proofs.Devices.{Goes}
 
 -- THE STORES
@@ -61,6 +61,11 @@ pub explained : {D : Type 0} (device : D → DeviceTold) (old new : StackState D
     → WereCounted (sum_by (unpaid_off (plan_in (device old.device))) es) (unplanned_in (device old.device)) (unplanned_in (device new.device))
     → AreExplained (plan_in (device old.device)) es (told_by device old) (told_by device new)
 explained device old new es goes refusals off = record { refusals = refusals; off = off; plan_stays = goes.plan; takes = goes.takes }
+
+-- its operations
+pub makes_one : {D : Type 0} (device : D → DeviceTold) (old new : StackState D (List PlainBlock)) (es : List Entry) → Goes (device old.device) (device new.device) → AllTell (ops_in (device new.device)) es
+    → MakesOne es (told_by device old) (told_by device new)
+makes_one device old new es goes tell = record { later = goes.later; one = goes.one; told = tell }
 
 -- no Off among it
 pub none_off : (u v : ℕ) → u ≤ v → WereCounted 0 u v

@@ -94,6 +94,7 @@ shown desk hand copies ready d = record {
   ready = ready;
   stores = map store_of copies;
   faults = faults_of d;
+  ops = ops_in d;
   work = stack_work desk hand d;
   left = left_with hand d;
   most = most_in d.fixed desk.config;

@@ -7,3 +7,4 @@ mod WrongCauses
 mod KeptRuns
 mod LostWrite
 mod WrongCalls
+mod OneByOne

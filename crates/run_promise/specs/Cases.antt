@@ -16,6 +16,8 @@ use Rattle.block_machine.specs.State.{State, Job}
 use Rattle.device_bridge.specs.FlashRun.{FlashRun}
 use Rattle.run_promise.specs.Call.{Call}
 use Rattle.run_promise.specs.Promise.{Promise}
+use Rattle.run_promise.specs.Turns.{Moment, Move, ArePaidSince}
+use Rattle.block_machine.specs.Steps.{after}
 use Rattle.run_promise.specs.Run.{Run, Played, Ran, Whole, FlashFault, HistoryFull, Memory}
 
 -- IMAGES
@@ -194,6 +196,38 @@ not_drained = plays (asks_one ∷ (Drain, picks_one ∷ []) ∷ []) (unchanged [
 -- it ends at a flash fault, and none was counted
 abbrev pub ends_for_nothing : Run
 ends_for_nothing = record quiet { end = FlashFault }
+
+-- TURN BY TURN
+-- a flash whose faults and operations stay, which isn't asked what it tells
+abbrev pub at_rest : FlashRun
+at_rest = unchanged [] blank
+
+-- a write is posted with the sixth of six turns, and its record is four operations
+abbrev pub six_turns : Run
+six_turns = plays (asks_one ∷ (Turn 6, picks_one ∷ written_at 4) ∷ []) at_rest
+
+-- nine turns pick the job, and make no more of it
+abbrev pub lazy : Run
+lazy = plays (asks_one ∷ (Turn 9, picks_one ∷ []) ∷ []) at_rest
+
+-- two turns make four operations
+abbrev pub leaps : Run
+leaps = plays (asks_one ∷ (Turn 2, picks_one ∷ Wrote (record { block = 2; index = 0 }) (Content one) 4 ∷ []) ∷ []) at_rest
+
+-- after so many faults, before any operation
+abbrev pub at_faults : ℕ → Moment
+at_faults n = record { faults = n; ops = 0; left = 0 }
+
+-- The write that is tried twice is posted as failed, with so many faults behind its Post as many were before its Pick, or more. Those
+-- before it were other jobs'.
+abbrev pub posted_after : ℕ → List Move
+posted_after n =
+    record { entry = Some picks_one; behind = at_faults 2 }
+    ∷ record { entry = None; behind = at_faults n }
+    ∷ record { entry = Some (Post 2 NotOk None 0 0); behind = at_faults n } ∷ []
+
+abbrev pub PaysFailed : ℕ → Type 0
+PaysFailed n = ArePaidSince tried_twice (λ operations number. ⊥) 0 (at_faults 2) (after tried_twice (Found [] 0 ∷ Ask 0 (Write 2 (Some one) 0) Accepted ∷ [])) (posted_after n)
 
 -- A CALL
 -- `play` of the demo configuration without a step, with this status and this output

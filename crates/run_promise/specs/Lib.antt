@@ -4,4 +4,5 @@ pub mod Halves
 pub mod Life
 pub mod Call
 pub mod Completeness
+pub mod Turns
 pub mod Cases

@@ -16,7 +16,7 @@ use Rattle.run_promise.specs.Completeness.{is_calm_entry, ends_job}
 -- REQUESTS
 
 -- the job in hand and the power stay
-abbrev Leaves : State → State → Type 0
+abbrev pub Leaves : State → State → Type 0
 Leaves s t = (t.hand ≡ s.hand) × (t.off ≡ s.off)
 
 changed_leaves : (c : Configuration) (s : State) (r : Request) → Leaves s (changed c s r)
@@ -34,7 +34,7 @@ accepted_leaves : (c : Configuration) (s : State) (r : Request) (kind : Option J
 accepted_leaves c s r (Some kind) = (refl, refl)
 accepted_leaves c s r None = changed_leaves c s r
 
-asked_leaves : (c : Configuration) (s : State) (r : Request) (reply : Reply) → Leaves s (asked c s r reply)
+pub asked_leaves : (c : Configuration) (s : State) (r : Request) (reply : Reply) → Leaves s (asked c s r reply)
 asked_leaves c s r Accepted = accepted_leaves c s r (job_kind r)
 asked_leaves c s r (Refused x) = (refl, refl)
 asked_leaves c s r (StatusIs x) = (refl, refl)
@@ -45,7 +45,7 @@ ask_hand c s caller r reply = (asked_leaves c s r reply).0
 
 -- THE POWER
 
-picked_on : (c : Configuration) (s : State) (t : Taken) (next : Next) → s.off ≡ false → (picked c s t next).off ≡ false
+pub picked_on : (c : Configuration) (s : State) (t : Taken) (next : Next) → s.off ≡ false → (picked c s t next).off ≡ false
 picked_on c s t (PickJob j) on = on
 picked_on c s t (BeginSweep sw) on = on
 picked_on c s t (PickMember sw id) on = on
@@ -73,7 +73,7 @@ step_on c s (Post block r given refused ops) on calm = posted_on c s r given s.h
 step_on c s (Off ops) on calm = absurd (cc calm)
 step_on c s (Found marks ops) on calm = refl
 
-stays_on : (c : Configuration) (s : State) (es : List Entry) → s.off ≡ false → IsTrue (list_all is_calm_entry es) → (after_from c s es).off ≡ false
+pub stays_on : (c : Configuration) (s : State) (es : List Entry) → s.off ≡ false → IsTrue (list_all is_calm_entry es) → (after_from c s es).off ≡ false
 stays_on c s [] on calm = on
 stays_on c s (e ∷ es) on calm = let two = and_parts (is_calm_entry e) (list_all is_calm_entry es) calm in stays_on c (step c s e) es (step_on c s e on two.0) two.1
 

@@ -5,6 +5,8 @@ pub mod Turned
 pub mod Causes
 pub mod Walking
 pub mod Grown
+pub mod Moves
+pub mod Chain
 pub mod InHand
 pub mod Serving
 pub mod Served

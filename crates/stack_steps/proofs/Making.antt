@@ -16,10 +16,13 @@ use Rattle.script_walks.specs.Walk.{stores_of, request_after, is_at_rest, copies
 use Rattle.played_steps.specs.Played.{CanBePlayed}
 use Rattle.played_walks.specs.Stores.{AreNewest, JobsTookStored}
 use Rattle.played_walks.specs.Laws.{AsksKeepStored, StartsKeepStored, StepsKeepStored, OthersKeepNewest, StoresAreNewest, StoresAreFew, is_store}
-use Rattle.stack_steps.specs.Told.{StackTold, state_of}
+use Rattle.stack_steps.specs.Told.{StackTold, state_of, moment_of}
 use Rattle.stack_steps.specs.Calls.{StartsAgain, Arms, Stores, Refuses}
-use Rattle.stack_steps.specs.Kept.{IsKept, StaysCalm, HasTurned, MakesTurns, Drains}
+use Rattle.stack_steps.specs.Kept.{IsKept, StaysCalm, HasTurned, AreMade, MakesTurns, Drains}
 use Rattle.stack_steps.specs.Made.{IsMade, IsAsked, IsExplained}
+use Rattle.run_promise.specs.Turns.{Move, AreMovesOf}
+use Rattle.stack_steps.proofs.Moves.{move_to, ask_chain, start_chain}
+use Rattle.stack_steps.specs.Chain.{shown_of}
 use Rattle.stack_steps.proofs.Explained.{by_entries, by_restart, by_nothing}
 use Rattle.stack_steps.proofs.Served.{same_serves, ask_serves, restart_serves, at_rest_where_calm}
 use Rattle.stack_steps.specs.Table.{HasLastStores}
@@ -38,9 +41,9 @@ kept_more others steps before x t none kept = record {
 }
 
 -- a step that adds nothing, and changes the causes at most
-pub nothing_made : OthersKeepNewest → StepsKeepStored → (before : List Step) (line caller : ℕ) (kind : StepKind) (old new : StackTold) → is_store kind ≡ false → turns_of kind ≡ 0 → is_drain kind ≡ false → IsPieceBy old.configuration before (state_of old) caller kind []
+pub nothing_made : OthersKeepNewest → StepsKeepStored → (before : List Step) (line caller : ℕ) (kind : StepKind) (old new : StackTold) → is_store kind ≡ false → turns_of kind ≡ 0 → is_drain kind ≡ false → AreMovesOf kind (moment_of old) [] → IsPieceBy old.configuration before (state_of old) caller kind []
     → new ≡ record old { causes = new.causes } → IsExplained kind [] old new → IsKept before old → IsMade before (record { line = line; caller = caller; kind = kind }) old new
-nothing_made others steps before line caller kind old new none turns no_drain is same explained kept =
+nothing_made others steps before line caller kind old new none turns no_drain rests is same explained kept =
     let x : Step = record { line = line; caller = caller; kind = kind } in
     record {
       piece = [];
@@ -52,6 +55,11 @@ nothing_made others steps before line caller kind old new none turns no_drain is
       is = (is, tt);
       explained = explained;
       serves = λ calm. same_serves kind old new turns no_drain (ap state_of same) (ap (λ t. t.left) same) (ap (λ t. t.most) same);
+      moves = [];
+      moved = rests;
+      tell = refl;
+      behind = sym (ap moment_of same);
+      chain = ap shown_of same;
       kept = subst (λ (t : StackTold). IsKept (before ++ x ∷ []) t) (sym same) (moved (kept_more others steps before x old none kept));
     }
   where
@@ -89,6 +97,11 @@ ask_made one others steps asks before line caller r table old new can asked has 
       counted = let n : new.faults ≡ old.faults = ap (λ t. t.faults) adds.adds in omega (arith, n);
       explained = by_entries (AskStep r) (e ∷ []) old new (λ plan ops. refl) adds.explained;
       serves = λ calm. ask_serves one r caller (request_after old.configuration before caller r) reply old new adds;
+      moves = move_to (e ∷ []) old ∷ [];
+      moved = refl;
+      tell = refl;
+      behind = sym (ap moment_of adds.adds);
+      chain = ask_chain caller (request_after old.configuration before caller r) reply old new adds;
       is = ((refl, refl), (ask_takes old.configuration before (copies_by old.configuration (next_of old.configuration (state_of old))) e caller (request_after old.configuration before caller r) reply, tt));
       kept = subst (λ (t : StackTold). IsKept (before ++ x ∷ []) t) (sym adds.adds) (record {
         ready = kept.ready;
@@ -118,6 +131,11 @@ restart_made one others steps starts before line caller old new starts_again kep
       counted = starts_again.counted;
       explained = by_restart (e ∷ []) old new starts_again.explained;
       serves = λ calm. restart_serves (e ∷ []) old new (ap (λ (s : State). s.hand) (ap state_of same ∙ after_is));
+      moves = move_to (e ∷ []) new ∷ [];
+      moved = (starts_again.counted, starts_again.operations);
+      tell = refl;
+      behind = refl;
+      chain = start_chain marks ops old new (ap (λ t. t.configuration) same) (ap (λ t. t.most) same) (ap (λ t. t.entries) same);
       is = (tt, (found_takes old.configuration before (copies_by old.configuration (next_of old.configuration (state_of old))) marks ops, tt));
       kept = subst (λ (t : StackTold). IsKept (before ++ x ∷ []) t) (sym same) (record {
         ready = refl;
@@ -129,9 +147,9 @@ restart_made one others steps starts before line caller old new starts_again kep
     }
 
 -- turns, with the piece that they added
-turned_made : OthersKeepNewest → StepsKeepStored → (before : List Step) (line caller : ℕ) (kind : StepKind) (old new : StackTold) (es : List Entry) → is_store kind ≡ false → ((plan : Option ℕ) (ops : ℕ) → plan_after kind plan ops ≡ plan)
+turned_made : OthersKeepNewest → StepsKeepStored → (before : List Step) (line caller : ℕ) (kind : StepKind) (old new : StackTold) (es : List Entry) (ms : List Move) → AreMovesOf kind (moment_of old) ms → AreMade es ms old new → is_store kind ≡ false → ((plan : Option ℕ) (ops : ℕ) → plan_after kind plan ops ≡ plan)
     → HasTurned (turns_of kind) before old new es → (StaysCalm old new → is_drain kind ≡ true → IsTrue (is_at_rest (state_of new))) → IsPieceBy old.configuration before (state_of old) caller kind es → IsKept before new → IsMade before (record { line = line; caller = caller; kind = kind }) old new
-turned_made others steps before line caller kind old new es none plans turned drains is kept =
+turned_made others steps before line caller kind old new es ms own moved none plans turned drains is kept =
     let x : Step = record { line = line; caller = caller; kind = kind } in
     record {
       piece = es;
@@ -142,6 +160,11 @@ turned_made others steps before line caller kind old new es none plans turned dr
       counted = turned.counted;
       explained = by_entries kind es old new plans turned.explained;
       serves = λ calm. let serves = turned.serves calm in record { nears = λ on. serves.nears; within = serves.within; drains = drains calm };
+      moves = ms;
+      moved = own;
+      tell = moved.tell;
+      behind = moved.behind;
+      chain = moved.chain;
       is = (is, turned.keeps.stores);
       kept = kept_more others steps before x new none kept;
     }
@@ -149,11 +172,11 @@ turned_made others steps before line caller kind old new es none plans turned dr
 pub turns_made : OthersKeepNewest → StepsKeepStored → (before : List Step) (line caller count : ℕ) (old new : StackTold) → 1 ≤ count → MakesTurns count before old new → IsKept before new
     → IsMade before (record { line = line; caller = caller; kind = Turn count }) old new
 turns_made others steps before line caller zero old new some made kept = absurd (let none : 1 ≤ 0 = some in omega (arith, none))
-turns_made others steps before line caller (suc n) old new some (es, turned, is) kept = turned_made others steps before line caller (Turn (suc n)) old new es refl (λ plan ops. refl) turned (λ calm no_. absurd (cc no_)) is kept
+turns_made others steps before line caller (suc n) old new some (es, turned, is, (ms, many, moved)) kept = turned_made others steps before line caller (Turn (suc n)) old new es ms (many, moved.turns) moved refl (λ plan ops. refl) turned (λ calm no_. absurd (cc no_)) is kept
 
 pub drain_made : HistoriesGoOn → OthersKeepNewest → StepsKeepStored → (before : List Step) (line caller : ℕ) (old new : StackTold) → Drains before old new → IsKept before new → IsMade before (record { line = line; caller = caller; kind = Drain }) old new
-drain_made go others steps before line caller old new (es, turned, is) kept =
-    turned_made others steps before line caller Drain old new es refl (λ plan ops. refl) turned (λ calm drain. at_rest_where_calm go old new es turned.grows calm is.ends) is kept
+drain_made go others steps before line caller old new (es, turned, is, (ms, moved)) kept =
+    turned_made others steps before line caller Drain old new es ms moved.turns moved refl (λ plan ops. refl) turned (λ calm drain. at_rest_where_calm go old new es turned.grows calm is.ends) is kept
 
 -- a store
 pub next_store : (c : Configuration) (before : List Step) (block n : ℕ) → StoresAreFew → length before < 2 ^ 32 → n ≡ length (stores_of block before) → next_number n ≡ length (stores_of block before) + 1
@@ -177,6 +200,11 @@ store_made newest few steps before line caller block number content old new sync
       counted = omega arith;
       explained = by_nothing (Store block content) old (record old { stores = slice_set old.stores block (number, content) }) (λ plan ops. refl) refl;
       serves = λ calm. same_serves (Store block content) old (record old { stores = slice_set old.stores block (number, content) }) refl refl refl refl refl;
+      moves = [];
+      moved = refl;
+      tell = refl;
+      behind = refl;
+      chain = refl;
       is = (refl, tt);
       kept = record {
         ready = kept.ready;

@@ -1,7 +1,7 @@
 -- Turn after turn.
 use Rattle.std.specs.List.{list_all}
 use Rattle.std.specs.Option.{is_some}
-use Rattle.std.proofs.Common.{◌≡◌, ◌<◌, ◌+◌, ◌||◌, ℕ, zero, suc, Bool, true, false, IsTrue, List, [], ◌∷◌, ◌++◌, Option, Some, None, refl, sym, ap, ◌∙◌, subst, inl, inr, arith, append-nil}
+use Rattle.std.proofs.Common.{◌≡◌, ◌<◌, ◌+◌, ◌||◌, ℕ, zero, suc, Bool, true, false, IsTrue, List, [], ◌∷◌, ◌++◌, length, Option, Some, None, refl, sym, ap, ◌∙◌, subst, inl, inr, arith, append-nil, length-append}
 use Rattle.std.proofs.lemmas.Bool.{cases_Bool}
 use Rattle.nv_base.specs.Count.{Rose}
 use Rattle.stack_turns.specs.declared.turned.Turned.{Turned}
@@ -17,9 +17,11 @@ use Rattle.played_walks.specs.Stores.{JobsTookStored}
 use Rattle.played_walks.specs.Laws.{KeepsStored, TurnsKeepStored, KeepingGoesOn, TurnsGrow}
 use Rattle.stack_steps.specs.Told.{StackTold, state_of, IsGrown}
 use Rattle.stack_steps.specs.Calls.{Turns, is_last}
-use Rattle.stack_steps.specs.Kept.{IsKept, HasTurned, MakesTurn, MakesTurns, Drains}
+use Rattle.stack_steps.specs.Kept.{IsKept, HasTurned, AreMade, MakesTurn, MakesTurns, Drains}
 use Rattle.stack_steps.proofs.Explained.{explained_more, none_explained}
 use Rattle.stack_steps.proofs.Grown.{state_more, state_grown, grown_more}
+use Rattle.stack_steps.proofs.Moves.{made_more, move_to, turn_moved}
+use Rattle.run_promise.specs.Turns.{Move}
 use Rattle.stack_steps.proofs.Serving.{calm_until, calm_from, serves_more, none_serves, any_serve, turn_serves}
 
 -- what a turn adds keeps what is kept
@@ -83,34 +85,41 @@ later_turn go old mid es more grows turn =
     subst (λ (s : State). IsTurn old.configuration s old.stores more) (state_more go old.configuration old.entries es)
     (subst (λ (t : StackTold). IsTurn t.configuration (state_of t) t.stores more) grows turn)
 
+one_longer : (n : ℕ) (ms : List Move) (m : Move) → length ms ≡ n → length (ms ++ m ∷ []) ≡ suc n
+one_longer n ms m is = let all = length-append ms (m ∷ []) in omega (arith, all, is)
+
 pub one_turn_more : HistoriesGoOn → TurnsKeepStored → KeepingGoesOn → TurnsGrow → (n : ℕ) (before : List Step) (old mid new : StackTold) → MakesTurns n before old mid → IsKept before mid → MakesTurn mid new
     → MakesTurns (n + 1) before old new × IsKept before new
 one_turn_more go turns on grow zero before old mid new made kept turn =
     let (turned, after) = turn_kept go turns before mid new turn kept in
     let one = first_turns mid.configuration (state_of mid) mid.stores turn.entries turn.turn turned.keeps.played in
-    (subst (λ (t : StackTold). MakesTurns 1 before t new) made (turn.entries, turned, one), after)
-one_turn_more go turns on grow (suc n) before old mid new (es, was, are) kept turn =
+    (subst (λ (t : StackTold). MakesTurns 1 before t new) made (turn.entries, turned, one, (move_to turn.entries new ∷ [], refl, turn_moved mid new turn)), after)
+one_turn_more go turns on grow (suc n) before old mid new (es, was, are, (ms, many, moved)) kept turn =
     let (turned, after) = turn_kept go turns before mid new turn kept in
     let more = grow old.configuration (state_of old) old.stores (suc n) es turn.entries are (omega arith) (later_turn go old mid es turn.entries was.grows turn.turn) turned.keeps.played in
     let count : suc n + 1 ≡ suc (suc n) = omega arith in (
-      subst (λ (m : ℕ). MakesTurns m before old new) (sym count)
-          (es ++ turn.entries, subst (λ (m : ℕ). HasTurned m before old new (es ++ turn.entries)) count (turned_more go on (suc n) 1 before old mid new es turn.entries was turned), subst (λ (m : ℕ). AreTurns (state_of old) m (es ++ turn.entries)) count more),
+      subst (λ (m : ℕ). MakesTurns m before old new) (sym count) (
+        es ++ turn.entries,
+        subst (λ (m : ℕ). HasTurned m before old new (es ++ turn.entries)) count (turned_more go on (suc n) 1 before old mid new es turn.entries was turned),
+        subst (λ (m : ℕ). AreTurns (state_of old) m (es ++ turn.entries)) count more,
+        (ms ++ move_to turn.entries new ∷ [], one_longer (suc n) ms (move_to turn.entries new) many, made_more old mid new es turn.entries ms (move_to turn.entries new ∷ []) moved (turn_moved mid new turn)),
+      ),
       after,
     )
 
 -- A DRAIN
 
 -- it ends
-pub drained : HistoriesGoOn → (before : List Step) (old new : StackTold) (es : List Entry) → HasTurned 0 before old new es → IsTrue (is_at_rest (state_of new) || (state_of new).off) → Drains before old new
-drained go before old new es turned ends =
-    (es, turned, record { played = turned.keeps.played; ends = subst (λ (s : State). IsTrue (is_at_rest s || s.off)) (state_grown go old new es turned.grows) ends })
+pub drained : HistoriesGoOn → (before : List Step) (old new : StackTold) (es : List Entry) (ms : List Move) → HasTurned 0 before old new es → AreMade es ms old new → IsTrue (is_at_rest (state_of new) || (state_of new).off) → Drains before old new
+drained go before old new es ms turned moved ends =
+    (es, turned, record { played = turned.keeps.played; ends = subst (λ (s : State). IsTrue (is_at_rest s || s.off)) (state_grown go old new es turned.grows) ends }, (ms, moved))
 
 none_in : (hand : Option Job) → is_some hand ≡ false → hand ≡ None
 none_in None none = refl
 none_in (Some j) none = cc
 
 pub made_turn : (a : Turned) (old new : StackTold) → Turns a old new → MakesTurn old new
-made_turn a old new turn = record { entries = turn.entries; grows = turn.grows; counted = turn.counted; turn = turn.turn; explained = turn.explained; serves = turn.serves }
+made_turn a old new turn = record { entries = turn.entries; grows = turn.grows; counted = turn.counted; operations = turn.operations; picks = turn.picks; turn = turn.turn; explained = turn.explained; serves = turn.serves }
 
 at_rest_then : (s : State) → is_at_rest s ≡ true → IsTrue (is_at_rest s || s.off)
 at_rest_then s rest = rw rest refl

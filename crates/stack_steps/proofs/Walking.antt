@@ -22,11 +22,15 @@ use Rattle.run_promise.specs.Run.{Played, unpaid_offs, refusals_of, RefusalsExpl
 use Rattle.run_promise.specs.Completeness.{IsServed}
 use Rattle.stack_steps.specs.declared.steps.StepFault.{StepFault}
 use Rattle.stack_steps.specs.declared.steps.StepFault.TheVariants.{Flash, HistoryFull, Memory}
-use Rattle.stack_steps.specs.Told.{StackTold, state_of, IsNoEarlier}
+use Rattle.stack_steps.specs.Told.{StackTold, state_of, moment_of, IsNoEarlier}
 use Rattle.stack_steps.specs.Kept.{IsKept}
 use Rattle.stack_steps.specs.Made.{cuts_in, cuts_of, PaysOffs, IsExplained, HasNoRoom, IsMade, IsLeft, IsFresh, HasWalked, MakesAt, LeavesAt, WereLeft, WasBroken}
 use Rattle.stack_steps.specs.Walking.{plan_behind, refusals_in, IsWalking, AreUnderWay}
 use Rattle.stack_steps.specs.Table.{HasLastStores}
+use Rattle.run_promise.specs.Turns.{all_moves}
+use Rattle.stack_steps.specs.Chain.{shown_of}
+use Rattle.stack_steps.proofs.Chain.{each_posted}
+use Rattle.stack_steps.proofs.Moves.{has_more, chain_more}
 use Rattle.stack_steps.proofs.Table.{first_table}
 use Rattle.stack_steps.proofs.Explained.{counted_more, none_counted}
 use Rattle.stack_steps.proofs.Serving.{rose_later, calm_until, calm_from}
@@ -97,6 +101,8 @@ walks_on grow go made x old mid new same most counted walking step planned = rec
       let cuts = sum_by_push (λ (y : Step). cuts_in y.kind) made x in
       let a = walking.takes in
       let b = explained.takes in omega (arith, cuts, a, b);
+  moves = has_more made x walking.pieces piece step.moves (moment_of old) (moment_of mid) (moment_of new) walking.moves step.moved step.tell step.behind;
+  chain = chain_more walking.moves.moves step.moves (shown_of old) (shown_of mid) (shown_of new) walking.chain step.chain;
   serves = λ calm.
       serving_more go first made walking.pieces x old mid new walking.as_many same most walking.at step
       (walking.serves (calm_until old mid new piece adds step.counted calm)) (step.serves (calm_from old mid new counted calm));
@@ -135,8 +141,8 @@ walks_on grow go made x old mid new same most counted walking step planned = rec
     paid : PaysOffs x.kind (plan_behind None 0 made walking.pieces) (ops_behind 0 (joined walking.pieces)) piece mid new
     paid = explained.offs (plan_behind None 0 made walking.pieces) (ops_behind 0 (joined walking.pieces)) planned few walking.plan_stays
 
-pub has_walked : (made : List Step) (old mid new : StackTold) → new.entries ≡ mid.entries → mid.faults ≤ new.faults → WereCounted 0 mid.causes.unplanned new.causes.unplanned → IsWalking made old mid → HasWalked made old new
-has_walked made old mid new same counted cuts walking = record {
+pub has_walked : HistoriesGoOn → (made : List Step) (old mid new : StackTold) → new.entries ≡ mid.entries → mid.faults ≤ new.faults → WereCounted 0 mid.causes.unplanned new.causes.unplanned → IsWalking made old mid → HasWalked made old new
+has_walked go made old mid new same counted cuts walking = record {
   more = walking.more;
   grows = same ∙ walking.grows;
   pieces = walking.pieces;
@@ -148,6 +154,10 @@ has_walked made old mid new same counted cuts walking = record {
       subst (λ (h : List Entry). IsServed old.configuration old.most made walking.pieces h) (sym (same ∙ walking.at))
       (is_served (Found walking.marks walking.ops) made walking.pieces old mid
       (walking.serves (calm_until old mid new [] (same ∙ sym (append-nil mid.entries)) counted calm)));
+  last = moment_of mid;
+  serves = each_posted go (all_moves walking.moves.moves) (shown_of old) (shown_of mid) walking.chain;
+  moves = walking.moves;
+  counted = counted;
 }
   where
     nothing_more : (n : ℕ) → n + 0 ≡ n
@@ -173,6 +183,8 @@ fresh_walking t fresh = record {
   off = none_counted t.causes.unplanned;
   plan_stays = subst (λ (p : Option ℕ). IsNoEarlier None p) (sym fresh.none_planned) tt;
   takes = omega arith;
+  moves = record { moves = []; are = tt; tell = refl; behind = refl };
+  chain = refl;
   serves = λ calm. record { posts = tt; drains = tt; within = none_within t fresh.marks fresh.ops fresh.entries };
 }
 
@@ -197,19 +209,19 @@ were_left HistoryFull x xs old mid new configuration cap counted left =
     (subst (λ (n : ℕ). HasNoRoom old.configuration n (after old.configuration mid.entries) x.kind) cap
     (subst (λ (c : Configuration). HasNoRoom c mid.cap (after c mid.entries) x.kind) configuration left.why))
 
-pub was_broken : (fault : StepFault) (steps : List Step) (n : ℕ) (x : Step) (old mid new : StackTold) → slice_get steps n ≡ Some x → mid.configuration ≡ old.configuration → mid.cap ≡ old.cap → old.faults ≤ mid.faults
+pub was_broken : HistoriesGoOn → (fault : StepFault) (steps : List Step) (n : ℕ) (x : Step) (old mid new : StackTold) → slice_get steps n ≡ Some x → mid.configuration ≡ old.configuration → mid.cap ≡ old.cap → old.faults ≤ mid.faults
     → IsWalking (take n steps) old mid → IsLeft fault x mid new → WasBroken fault steps old new
-was_broken fault steps n x old mid new is configuration cap counted walking left = record {
+was_broken go fault steps n x old mid new is configuration cap counted walking left = record {
   made = take n steps;
   left = drop n steps;
   order = in_two n steps;
-  walked = has_walked (take n steps) old mid new left.entries left.counted left.cuts walking;
+  walked = has_walked go (take n steps) old mid new left.entries left.counted left.cuts walking;
   why = subst (λ (xs : List Step). WereLeft fault xs old new) (sym (rest_begins n steps x is)) (were_left fault x (drop (suc n) steps) old mid new configuration cap counted left);
 }
 
 -- nothing was made for want of memory
-pub none_made : (steps : List Step) (t : StackTold) → IsFresh t → WasBroken Memory steps t t
-none_made steps t fresh = record { made = []; left = steps; order = refl; walked = has_walked [] t t t refl (omega arith) (none_counted t.causes.unplanned) (fresh_walking t fresh); why = tt }
+pub none_made : HistoriesGoOn → (steps : List Step) (t : StackTold) → IsFresh t → WasBroken Memory steps t t
+none_made go steps t fresh = record { made = []; left = steps; order = refl; walked = has_walked go [] t t t refl (omega arith) (none_counted t.causes.unplanned) (fresh_walking t fresh); why = tt }
 
 -- UNDER WAY
 
@@ -247,9 +259,9 @@ go_on grow go steps i table table' old mid new few planned way makes =
     }
 
 -- all of them
-pub all_made : (steps : List Step) (i : ℕ) (table : List ℕ) (old now : StackTold) → length steps ≤ i → AreUnderWay steps i table old now → HasWalked steps old now
-all_made steps i table old now all way =
-    subst (λ (xs : List Step). HasWalked xs old now) (all_of i steps all) (has_walked (take i steps) old now now refl (omega arith) (none_counted now.causes.unplanned) way.walking)
+pub all_made : HistoriesGoOn → (steps : List Step) (i : ℕ) (table : List ℕ) (old now : StackTold) → length steps ≤ i → AreUnderWay steps i table old now → HasWalked steps old now
+all_made go steps i table old now all way =
+    subst (λ (xs : List Step). HasWalked xs old now) (all_of i steps all) (has_walked go (take i steps) old now now refl (omega arith) (none_counted now.causes.unplanned) way.walking)
 
-pub some_made : (fault : StepFault) (steps : List Step) (i : ℕ) (table : List ℕ) (old mid new : StackTold) → AreUnderWay steps i table old mid → LeavesAt fault steps i mid new → WasBroken fault steps old new
-some_made fault steps i table old mid new way leaves = was_broken fault steps i leaves.step old mid new leaves.at way.configuration way.cap way.counted way.walking leaves.left
+pub some_made : HistoriesGoOn → (fault : StepFault) (steps : List Step) (i : ℕ) (table : List ℕ) (old mid new : StackTold) → AreUnderWay steps i table old mid → LeavesAt fault steps i mid new → WasBroken fault steps old new
+some_made go fault steps i table old mid new way leaves = was_broken go fault steps i leaves.step old mid new leaves.at way.configuration way.cap way.counted way.walking leaves.left

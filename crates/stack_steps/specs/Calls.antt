@@ -2,14 +2,14 @@
 use Rattle.std.specs.Prelude.{◌≡◌, ◌⊎◌, ◌<◌, ◌≤◌, ◌+◌, ℕ, not, ◌&&◌, Bool, true, false, IsTrue, List, [], ◌∷◌, ◌++◌, get_or, slice_set, sum_by, is_some, Option, Some, None, Result, Ok, Err}
 use Rattle.std.specs.List.{list_any}
 use Rattle.nv_base.specs.Count.{Rose, WereCounted}
-use Rattle.nv_base.specs.Entry.{ops_behind}
+use Rattle.nv_base.specs.Entry.{ops_of, ops_behind}
 use Rattle.nv_desk.specs.declared.ask.AskFault.{AskFault}
 use Rattle.nv_desk.specs.declared.ask.AskFault.TheVariants as fault
 use Rattle.stack_turns.specs.declared.turned.Turned.{Turned}
 use Rattle.stack_turns.specs.declared.turned.Turned.TheVariants as turned
 use Rattle.stack_turns.specs.declared.turned.FoundAnswer.{FoundAnswer}
 use Rattle.stack_turns.specs.declared.turned.FoundAnswer.TheVariants as found
-use Rattle.block_machine.specs.Words.{Instance, Mark, Request, Reply, Entry, Ask, Found}
+use Rattle.block_machine.specs.Words.{Instance, Mark, Request, Reply, Entry, Ask, Pick, Found}
 use Rattle.block_machine.specs.State.{Job}
 use Rattle.block_machine.specs.Blocks.{job_block}
 use Rattle.block_machine.specs.Steps.{after_from}
@@ -78,30 +78,49 @@ Lowers turned.Worked old new = (new.work < old.work) ⊎ (((state_of old).hand �
 Lowers turned.Picked old new = new.work < old.work
 Lowers turned.Posted old new = new.work < old.work
 
--- A turn adds one entry at most. It serves the job in hand, where it counted no fault and the power is on behind it.
+-- these entries tell so many operations
+abbrev pub AllTell : ℕ → List Entry → Type 0
+AllTell ops [] = Unit {0}
+AllTell ops (e ∷ es) = (ops_of e ≡ Some ops) × AllTell ops es
+
+-- one changing operation at most was made, and the entries tell the operations behind it
+pub record MakesOne (es : List Entry) (old new : StackTold) : Type 0 where
+  pub later : old.ops ≤ new.ops
+  pub one : new.ops ≤ old.ops + 1
+  pub told : AllTell new.ops es
+
+abbrev pub is_pick : Entry → Bool
+is_pick (Pick block kind t ops) = true
+is_pick e = false
+
+-- A turn adds one entry at most, and makes one changing operation at most. It serves the job in hand, where it counted no fault and the power is on behind it.
 pub record Turns (answer : Turned) (old new : StackTold) : Type 0 where
   pub entries : List Entry
   pub grows : IsGrown entries old new
   pub counted : old.faults ≤ new.faults
+  pub operations : MakesOne entries old new
   pub turn : IsTurn old.configuration (state_of old) old.stores entries
   pub explained : AreExplained old.causes.plan entries old new
   pub answers : IsAnswer answer entries old new
   pub lowers : Lowers answer old new
+  -- behind a Pick its job has its turns, and the power was on
+  pub picks : IsTrue (list_any is_pick entries) → IsWithin new × ((state_of old).off ≡ false)
   pub serves : ¬ Rose old.faults new.faults → (state_of new).off ≡ false → Serves 1 entries old new
 
 -- START-UPS
 
--- a start-up that stands is one entry; no cut is planned behind it
+-- a start-up that stands is one entry, and makes no changing operation; no cut is planned behind it
 pub record StartsAgain (old new : StackTold) : Type 0 where
   pub marks : List (Instance × Mark)
   pub ops : ℕ
   pub grows : IsGrown (Found marks ops ∷ []) (record old { ready = true }) new
   pub counted : old.faults ≤ new.faults
+  pub operations : new.ops ≡ old.ops
   pub explained : AreExplained None (Found marks ops ∷ []) old new
 
 -- one that fails adds no entry, and the stack isn't ready
 pub record FailsToStart (old new : StackTold) : Type 0 where
-  pub only : new ≡ record old { ready = false; faults = new.faults; work = new.work; left = new.left; busy = new.busy; causes = new.causes }
+  pub only : new ≡ record old { ready = false; faults = new.faults; ops = new.ops; work = new.work; left = new.left; busy = new.busy; causes = new.causes }
   pub fault : Rose old.faults new.faults
   pub explained : AreExplained old.causes.plan [] old new
 

@@ -1,6 +1,6 @@
 -- What a stack keeps from step to step.
 use Rattle.std.specs.Prelude.{◌≡◌, ◌+◌, ◌≤◌, ℕ, zero, suc, true, false, IsTrue, List, length}
-use Rattle.std.specs.List.{list_all}
+use Rattle.std.specs.List.{list_all, list_any}
 use Rattle.nv_base.specs.Count.{Rose}
 use Rattle.block_machine.specs.Words.{Entry}
 use Rattle.script_walks.specs.Words.{Step}
@@ -9,8 +9,10 @@ use Rattle.played_walks.specs.Stores.{AreNewest, JobsTookStored}
 use Rattle.played_walks.specs.Turn.{IsTurn}
 use Rattle.played_walks.specs.Laws.{KeepsStored}
 use Rattle.run_promise.specs.Completeness.{is_calm_entry}
-use Rattle.stack_steps.specs.Told.{StackTold, state_of, IsGrown}
-use Rattle.stack_steps.specs.Calls.{AreExplained, Serves}
+use Rattle.run_promise.specs.Turns.{Move, entries_of, moment_behind, AreTurnsMade}
+use Rattle.stack_steps.specs.Told.{StackTold, state_of, moment_of, IsWithin, IsGrown}
+use Rattle.stack_steps.specs.Calls.{AreExplained, MakesOne, Serves, is_pick}
+use Rattle.stack_steps.specs.Chain.{shown_of, AreMoved}
 
 -- after these steps its stores are theirs, and its jobs took none but these
 pub record IsKept (before : List Step) (t : StackTold) : Type 0 where
@@ -32,20 +34,31 @@ pub record HasTurned (turns : ℕ) (before : List Step) (old new : StackTold) (e
   pub keeps : KeepsStored old.configuration before (state_of old) es
   pub serves : StaysCalm old new → Serves turns es old new
 
+-- these moves are turns from one to the other, which added these entries
+pub record AreMade (es : List Entry) (moves : List Move) (old new : StackTold) : Type 0 where
+  pub turns : AreTurnsMade (moment_of old) moves
+  pub tell : es ≡ entries_of moves
+  pub behind : moment_behind (moment_of old) moves ≡ moment_of new
+  pub chain : AreMoved moves (shown_of old) (shown_of new)
+
 -- so many turns
 abbrev pub MakesTurns : ℕ → List Step → StackTold → StackTold → Type 0
 MakesTurns zero before old new = new ≡ old
 MakesTurns (suc n) before old new = (es : List Entry) × HasTurned (suc n) before old new es × AreTurns (state_of old) (suc n) es
+    × ((moves : List Move) × (length moves ≡ suc n) × AreMade es moves old new)
 
 -- turns, however many, until nothing is pending, or the power is off
 abbrev pub Drains : List Step → StackTold → StackTold → Type 0
 Drains before old new = (es : List Entry) × HasTurned 0 before old new es × IsDrain old.configuration (state_of old) es
+    × ((moves : List Move) × AreMade es moves old new)
 
 -- one turn, whatever it answered
 pub record MakesTurn (old new : StackTold) : Type 0 where
   pub entries : List Entry
   pub grows : IsGrown entries old new
   pub counted : old.faults ≤ new.faults
+  pub operations : MakesOne entries old new
   pub turn : IsTurn old.configuration (state_of old) old.stores entries
   pub explained : AreExplained old.causes.plan entries old new
+  pub picks : IsTrue (list_any is_pick entries) → IsWithin new × ((state_of old).off ≡ false)
   pub serves : ¬ Rose old.faults new.faults → (state_of new).off ≡ false → Serves 1 entries old new

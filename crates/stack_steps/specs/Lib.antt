@@ -1,5 +1,6 @@
 pub mod Told
 pub mod Calls
+pub mod Chain
 pub mod Table
 pub mod Kept
 pub mod Made

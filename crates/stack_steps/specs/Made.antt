@@ -12,11 +12,13 @@ use Rattle.script_walks.specs.Words.{Step, StepKind, AskStep, Cut, Restart}
 use Rattle.script_walks.specs.Walk.{request_after, is_at_rest, IsPiece, IsWalkOf}
 use Rattle.run_promise.specs.Run.{Played, plan_after, unpaid_off, offs_of_flash, refusals_of, RefusalsExplain}
 use Rattle.run_promise.specs.Completeness.{turns_of, is_drain, is_restart, IsServed}
+use Rattle.run_promise.specs.Turns.{Moment, Move, entries_of, moment_behind, AreMovesOf, HasMoves, EachMove, ServesTurn, all_moves}
 use Rattle.stack_steps.specs.declared.steps.StepFault.{StepFault}
 use Rattle.stack_steps.specs.declared.steps.StepFault.TheVariants.{Flash, HistoryFull, Memory}
-use Rattle.stack_steps.specs.Told.{StackTold, state_of, IsWithin, IsNoEarlier}
+use Rattle.stack_steps.specs.Told.{StackTold, state_of, moment_of, IsWithin, IsNoEarlier}
 use Rattle.stack_steps.specs.Calls.{Nears, AddsAsk}
 use Rattle.stack_steps.specs.Kept.{IsKept, StaysCalm}
+use Rattle.stack_steps.specs.Chain.{shown_of, AreMoved}
 use Rattle.stack_steps.specs.Table.{HasLastStores}
 
 -- THE CAUSES OF A STEP
@@ -62,6 +64,12 @@ pub record IsMade (before : List Step) (x : Step) (old new : StackTold) : Type 0
   pub is : IsPiece old.configuration before (state_of old) x piece
   pub explained : IsExplained x.kind piece old new
   pub serves : StaysCalm old new → ServesJobs x.kind piece old new
+  -- its moves, whose entries are the piece
+  pub moves : List Move
+  pub moved : AreMovesOf x.kind (moment_of old) moves
+  pub tell : piece ≡ entries_of moves
+  pub behind : moment_behind (moment_of old) moves ≡ moment_of new
+  pub chain : AreMoved moves (shown_of old) (shown_of new)
   pub kept : IsKept (before ++ x ∷ []) new
 
 -- a request was entered as the step asks it
@@ -118,6 +126,12 @@ pub record HasWalked (made : List Step) (old new : StackTold) : Type 0 where
   pub refusals : (id : ℕ) → RefusalsExplain old.configuration (Played made pieces []) new.entries id
   pub off : WereCounted (offs_of_flash (Played made pieces []) new.entries) old.causes.unplanned new.causes.unplanned
   pub complete : StaysCalm old new → IsServed old.configuration old.most made pieces new.entries
+  -- its turns, one by one, from the first moment on
+  pub last : Moment
+  pub moves : HasMoves made pieces (moment_of old) last
+  -- none of which goes by where something is due, and each job that they pick is posted within its own
+  pub serves : EachMove old.configuration (ServesTurn old.configuration old.most) (state_of old) (all_moves moves.moves)
+  pub counted : last.faults ≤ new.faults
 
 -- the step at a place is made, or left
 pub record MakesAt (steps : List Step) (i : ℕ) (table table' : List ℕ) (old new : StackTold) : Type 0 where

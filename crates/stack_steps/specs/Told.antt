@@ -4,6 +4,7 @@ use Rattle.nv_base.specs.Count.{last_count}
 use Rattle.block_machine.specs.Words.{Entry, Configuration}
 use Rattle.block_machine.specs.State.{State, Job}
 use Rattle.block_machine.specs.Steps.{after}
+use Rattle.run_promise.specs.Turns.{Moment}
 
 -- what explains refused copies and power cuts
 pub record Causes : Type 0 where
@@ -28,6 +29,8 @@ pub record StackTold : Type 0 where
   pub stores : List (ℕ × List ℕ)
   -- the device's faults so far
   pub faults : ℕ
+  -- its changing operations so far
+  pub ops : ℕ
   -- a number that falls with each turn until a drain ends
   pub work : ℕ
   -- the turns that are left, where no fault comes
@@ -42,14 +45,18 @@ pub record StackTold : Type 0 where
 abbrev pub state_of : StackTold → State
 state_of t = after t.configuration t.entries
 
+-- what is told of the device at this moment
+abbrev pub moment_of : StackTold → Moment
+moment_of t = record { faults = t.faults; ops = t.ops; left = t.left }
+
 -- a job in hand has a turn left, that of its Post, and no more than its most
 abbrev pub IsWithin : StackTold → Type 0
 IsWithin t = (j : Job) → (state_of t).hand ≡ Some j → (0 < t.left) × (t.left ≤ t.most (state_of t) j)
 
--- these entries more, while faults may be counted, and the work, the turns that are left, what the device is at and the
+-- these entries more, while faults and operations may be counted, and the work, the turns that are left, what the device is at and the
 -- causes change
 abbrev pub IsGrown : List Entry → StackTold → StackTold → Type 0
-IsGrown es old new = new ≡ record old { entries = old.entries ++ es; faults = new.faults; work = new.work; left = new.left; busy = new.busy; causes = new.causes }
+IsGrown es old new = new ≡ record old { entries = old.entries ++ es; faults = new.faults; ops = new.ops; work = new.work; left = new.left; busy = new.busy; causes = new.causes }
 
 -- a cut that is planned at all comes no earlier than another plan says; a count at its end tells no moment
 abbrev pub IsNoEarlier : Option ℕ → Option ℕ → Type 0

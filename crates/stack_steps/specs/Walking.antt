@@ -12,7 +12,9 @@ use Rattle.script_walks.specs.Words.{Step}
 use Rattle.script_walks.specs.Walk.{IsWalkOf, joined}
 use Rattle.run_promise.specs.Run.{plan_after, unpaid_offs, refusals_of}
 use Rattle.run_promise.specs.Completeness.{turns_of, is_drain, is_restart, ends_job, EachPiece, DrainsAll}
-use Rattle.stack_steps.specs.Told.{StackTold, state_of, IsWithin, IsNoEarlier}
+use Rattle.run_promise.specs.Turns.{HasMoves, all_moves}
+use Rattle.stack_steps.specs.Chain.{shown_of, AreMoved}
+use Rattle.stack_steps.specs.Told.{StackTold, state_of, moment_of, IsWithin, IsNoEarlier}
 use Rattle.stack_steps.specs.Kept.{IsKept, StaysCalm}
 use Rattle.stack_steps.specs.Made.{cuts_of}
 use Rattle.stack_steps.specs.Table.{HasLastStores}
@@ -73,6 +75,9 @@ pub record IsWalking (made : List Step) (old now : StackTold) : Type 0 where
   pub off : WereCounted (unpaid_offs None 0 made pieces) old.causes.unplanned now.causes.unplanned
   pub plan_stays : IsNoEarlier (plan_behind None 0 made pieces) now.causes.plan
   pub takes : old.causes.takes ≤ now.causes.takes + cuts_of made
+  -- their turns, one by one
+  pub moves : HasMoves made pieces (moment_of old) (moment_of now)
+  pub chain : AreMoved (all_moves moves.moves) (shown_of old) (shown_of now)
   -- where nothing failed, they serve the jobs
   pub serves : StaysCalm old now → AreServing (Found marks ops) made pieces old now
 

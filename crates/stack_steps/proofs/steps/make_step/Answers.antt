@@ -89,7 +89,7 @@ returns-in-Cut-clause-made g c =
     let x = c.args.step.now in
     at_kind (λ (y : Step). Makes y c.args.stores.now c.args.stores.now old new) x (kind.Cut c.in-Cut.nth c.in-Cut.keep) c.in-Cut.is
     (λ before few kept has. (
-      nothing_made newest.others keep.steps before x.line x.caller (kind.Cut c.in-Cut.nth c.in-Cut.keep) old new refl refl refl refl (same_but_plan old new c.arm.ensures.arms) (by_cut c.in-Cut.nth c.in-Cut.keep old new c.arm.ensures.arms) kept,
+      nothing_made newest.others keep.steps before x.line x.caller (kind.Cut c.in-Cut.nth c.in-Cut.keep) old new refl refl refl refl refl (same_but_plan old new c.arm.ensures.arms) (by_cut c.in-Cut.nth c.in-Cut.keep old new c.arm.ensures.arms) kept,
       same_table newest.last old.configuration before (record { line = x.line; caller = x.caller; kind = kind.Cut c.in-Cut.nth c.in-Cut.keep }) c.args.stores.now refl has,
     ))
 
@@ -102,7 +102,7 @@ returns-in-Refuse-clause-made g c =
     let x = c.args.step.now in
     at_kind (λ (y : Step). Makes y c.args.stores.now c.args.stores.now old new) x (kind.Refuse c.in-Refuse.block c.in-Refuse.count) c.in-Refuse.is
     (λ before few kept has. (
-      nothing_made newest.others keep.steps before x.line x.caller (kind.Refuse c.in-Refuse.block c.in-Refuse.count) old new refl refl refl refl (same_but_refusable old new c.refuse.ensures.refuses) (by_refuse c.in-Refuse.block c.in-Refuse.count old new c.refuse.ensures.refuses) kept,
+      nothing_made newest.others keep.steps before x.line x.caller (kind.Refuse c.in-Refuse.block c.in-Refuse.count) old new refl refl refl refl refl (same_but_refusable old new c.refuse.ensures.refuses) (by_refuse c.in-Refuse.block c.in-Refuse.count old new c.refuse.ensures.refuses) kept,
       same_table newest.last old.configuration before (record { line = x.line; caller = x.caller; kind = kind.Refuse c.in-Refuse.block c.in-Refuse.count }) c.args.stores.now refl has,
     ))
 

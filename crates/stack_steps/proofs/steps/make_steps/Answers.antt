@@ -6,7 +6,7 @@ use Rattle.stack_steps.proofs.Walking.{none_made, begin, go_on, all_made, some_m
 use Rattle.stack_steps.proofs.steps.make_steps.Goals as goal
 
 pub returns-in_default-clause-some : goal.returns-in_default-clause-some
-returns-in_default-clause-some g c = none_made c.args.steps.now (g.S.PlayedStack.told c.args.stack.now) c.requires.fresh
+returns-in_default-clause-some g c = none_made c.histories_grow.ensures.goes_on c.args.steps.now (g.S.PlayedStack.told c.args.stack.now) c.requires.fresh
 
 pub loop-i-init : goal.loop-i-init
 loop-i-init g c = record {
@@ -34,8 +34,8 @@ loop-i-preserved g c =
 
 pub returns-in-Err-clause-some : goal.returns-in-Err-clause-some
 returns-in-Err-clause-some g c =
-    some_made c.in-Err.fault c.args.steps.now c.loop-i.i c.loop-i.stores (g.S.PlayedStack.told c.args.stack.now) (g.S.PlayedStack.told c.loop-i.stack) (g.S.PlayedStack.told c.make_next.new.stack) c.loop-i.invariant.way c.in-Err.ensures.left
+    some_made c.histories_grow.ensures.goes_on c.in-Err.fault c.args.steps.now c.loop-i.i c.loop-i.stores (g.S.PlayedStack.told c.args.stack.now) (g.S.PlayedStack.told c.loop-i.stack) (g.S.PlayedStack.told c.make_next.new.stack) c.loop-i.invariant.way c.in-Err.ensures.left
 
 pub returns-clause-all : goal.returns-clause-all
 returns-clause-all g c =
-    all_made c.args.steps.now c.loop-i.i c.loop-i.stores (g.S.PlayedStack.told c.args.stack.now) (g.S.PlayedStack.told c.loop-i.stack) (omega (arith, c.loop-i-test.false, c.len-i-end.ensures)) c.loop-i.invariant.way
+    all_made c.histories_grow.ensures.goes_on c.args.steps.now c.loop-i.i c.loop-i.stores (g.S.PlayedStack.told c.args.stack.now) (g.S.PlayedStack.told c.loop-i.stack) (omega (arith, c.loop-i-test.false, c.len-i-end.ensures)) c.loop-i.invariant.way

@@ -1,11 +1,12 @@
-use Rattle.std.proofs.Common.{[], ◌++◌, arith}
+use Rattle.std.proofs.Common.{[], ◌∷◌, ◌++◌, arith}
 use Rattle.stack_steps.proofs.Grown.{ready_grown}
+use Rattle.stack_steps.proofs.Moves.{none_moved, made_more, move_to, turn_moved}
 use Rattle.stack_steps.proofs.Serving.{rose_later}
 use Rattle.stack_steps.proofs.Turned.{turn_kept, turned_more, none_turned, any_turned, drained}
 use Rattle.stack_steps.proofs.turns.drain.Goals as goal
 
 pub loop-init : goal.loop-init
-loop-init g c = record { ready = c.requires; counted = omega arith; kept = λ before kept. ([], none_turned before (g.S.PlayedStack.told c.args.stack.now) kept, kept); keeps = λ before kept. kept }
+loop-init g c = record { ready = c.requires; counted = omega arith; kept = λ before kept. ([], none_turned before (g.S.PlayedStack.told c.args.stack.now) kept, ([], none_moved (g.S.PlayedStack.told c.args.stack.now)), kept); keeps = λ before kept. kept }
 
 pub loop-preserved : goal.loop-preserved
 loop-preserved g c =
@@ -14,11 +15,16 @@ loop-preserved g c =
       ready = ready_grown (g.S.PlayedStack.told c.loop.stack) (g.S.PlayedStack.told c.ends_drain.new.stack) c.ends_drain.ensures.turn.entries c.ends_drain.ensures.turn.grows was.ready;
       counted = let more = was.counted in let here = c.ends_drain.ensures.turn.counted in omega (arith, more, here);
       kept = λ before kept.
-          let (es, turned, now) = was.kept before kept in
+          let (es, turned, (ms, moved), now) = was.kept before kept in
           let (one, then_kept) = turn_kept c.histories_grow.ensures.goes_on c.turns_keep_what_is_stored.ensures.turn before (g.S.PlayedStack.told c.loop.stack) (g.S.PlayedStack.told c.ends_drain.new.stack) c.ends_drain.ensures.turn now in (
             es ++ c.ends_drain.ensures.turn.entries,
             turned_more c.histories_grow.ensures.goes_on c.turns_keep_what_is_stored.ensures.goes_on 0 0 before (g.S.PlayedStack.told c.args.stack.now) (g.S.PlayedStack.told c.loop.stack) (g.S.PlayedStack.told c.ends_drain.new.stack) es c.ends_drain.ensures.turn.entries turned
                 (any_turned 1 before (g.S.PlayedStack.told c.loop.stack) (g.S.PlayedStack.told c.ends_drain.new.stack) c.ends_drain.ensures.turn.entries one),
+            (
+              ms ++ move_to c.ends_drain.ensures.turn.entries (g.S.PlayedStack.told c.ends_drain.new.stack) ∷ [],
+              made_more (g.S.PlayedStack.told c.args.stack.now) (g.S.PlayedStack.told c.loop.stack) (g.S.PlayedStack.told c.ends_drain.new.stack) es c.ends_drain.ensures.turn.entries ms (move_to c.ends_drain.ensures.turn.entries (g.S.PlayedStack.told c.ends_drain.new.stack) ∷ []) moved
+                  (turn_moved (g.S.PlayedStack.told c.loop.stack) (g.S.PlayedStack.told c.ends_drain.new.stack) c.ends_drain.ensures.turn),
+            ),
             then_kept,
           );
       keeps = λ before kept. c.ends_drain.ensures.keeps before (was.keeps before kept);
@@ -35,8 +41,12 @@ returns-clause-at_rest g c none on =
 
 pub returns-clause-drains : goal.returns-clause-drains
 returns-clause-drains g c before kept =
-    let (es, turned, now) = c.loop.invariant.kept before kept in
+    let (es, turned, (ms, moved), now) = c.loop.invariant.kept before kept in
     let (one, then_kept) = turn_kept c.histories_grow.ensures.goes_on c.turns_keep_what_is_stored.ensures.turn before (g.S.PlayedStack.told c.loop.stack) (g.S.PlayedStack.told c.ends_drain.new.stack) c.ends_drain.ensures.turn now in
     let all = turned_more c.histories_grow.ensures.goes_on c.turns_keep_what_is_stored.ensures.goes_on 0 0 before (g.S.PlayedStack.told c.args.stack.now) (g.S.PlayedStack.told c.loop.stack) (g.S.PlayedStack.told c.ends_drain.new.stack) es c.ends_drain.ensures.turn.entries turned
-    (any_turned 1 before (g.S.PlayedStack.told c.loop.stack) (g.S.PlayedStack.told c.ends_drain.new.stack) c.ends_drain.ensures.turn.entries one) in
-    (drained c.histories_grow.ensures.goes_on before (g.S.PlayedStack.told c.args.stack.now) (g.S.PlayedStack.told c.ends_drain.new.stack) (es ++ c.ends_drain.ensures.turn.entries) all (c.ends_drain.ensures.ends c.loop-test.false), then_kept)
+    (any_turned 1 before (g.S.PlayedStack.told c.loop.stack) (g.S.PlayedStack.told c.ends_drain.new.stack) c.ends_drain.ensures.turn.entries one) in (
+      drained c.histories_grow.ensures.goes_on before (g.S.PlayedStack.told c.args.stack.now) (g.S.PlayedStack.told c.ends_drain.new.stack) (es ++ c.ends_drain.ensures.turn.entries) (ms ++ move_to c.ends_drain.ensures.turn.entries (g.S.PlayedStack.told c.ends_drain.new.stack) ∷ []) all
+          (made_more (g.S.PlayedStack.told c.args.stack.now) (g.S.PlayedStack.told c.loop.stack) (g.S.PlayedStack.told c.ends_drain.new.stack) es c.ends_drain.ensures.turn.entries ms (move_to c.ends_drain.ensures.turn.entries (g.S.PlayedStack.told c.ends_drain.new.stack) ∷ []) moved
+          (turn_moved (g.S.PlayedStack.told c.loop.stack) (g.S.PlayedStack.told c.ends_drain.new.stack) c.ends_drain.ensures.turn)) (c.ends_drain.ensures.ends c.loop-test.false),
+      then_kept,
+    )

@@ -2,7 +2,8 @@ use Rattle.std.proofs.Common.{◌≡◌, ◌≤◌, true, List}
 use Rattle.block_machine.specs.Words.{Entry}
 use Rattle.memif.specs.Told.{Part, PartTold}
 use Rattle.script_walks.specs.Words.{Step}
-use Rattle.stack_steps.specs.Kept.{IsKept, HasTurned}
+use Rattle.run_promise.specs.Turns.{Move}
+use Rattle.stack_steps.specs.Kept.{IsKept, HasTurned, AreMade}
 use Rattle.stack_steps.proofs.turns.drain.Given as goal
 
 abbrev pub invariant-loop : goal.invariant-loop
@@ -10,7 +11,8 @@ invariant-loop g l = record {
   ready : (g.S.PlayedStack.told l.stack).ready ≡ true;
   counted : (g.S.PlayedStack.told l.initial.stack).faults ≤ (g.S.PlayedStack.told l.stack).faults;
   kept : (before : List Step) → IsKept before (g.S.PlayedStack.told l.initial.stack)
-      → (es : List Entry) × HasTurned 0 before (g.S.PlayedStack.told l.initial.stack) (g.S.PlayedStack.told l.stack) es × IsKept before (g.S.PlayedStack.told l.stack);
+      → (es : List Entry) × HasTurned 0 before (g.S.PlayedStack.told l.initial.stack) (g.S.PlayedStack.told l.stack) es
+      × ((ms : List Move) × AreMade es ms (g.S.PlayedStack.told l.initial.stack) (g.S.PlayedStack.told l.stack)) × IsKept before (g.S.PlayedStack.told l.stack);
   keeps : (before : Part → PartTold) → g.S.PlayedStack.kept l.initial.stack before → g.S.PlayedStack.kept l.stack before;
 }
 
