@@ -38,7 +38,7 @@ pub record IsWornOut (m : Making) (f : FlashRun) (k n : ℕ) : Type 0 where
   pub full : TellsBytes f → k < last_count → IfSome (bytes_after f k) (HasNoRoomFor (wanted_pages m n) m)
       ⊎ (Rose f.entry.faults f.exit.faults × IsTrue (has_failed (take k f.operations)))
 
--- What a device over a flash tells is so: its part before the first start-up and now, its clock now. A `cutter` between
+-- What a device over a flash tells is so: its part before the first start-up, it and its clock now. A `cutter` between
 -- them keeps an operation from the flash where the power goes off in it.
 pub record Bridges (m : Making) (cutter : Bool) (f : FlashRun) (before : PartTold) (now : DeviceTold) (clock : Clock) : Type 0 where
   -- its maps are those of the images: of the bytes once k operations were made, and of each that a cut may leave

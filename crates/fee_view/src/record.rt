@@ -10,8 +10,8 @@ use fee_format::{RecHead, gate_stands, pages_of, read_rec_head};
 use fee_image::records_stay;
 
 /// A record as its bank shows it: the page of the bank where its header stands, its number and kind (1 a content, 2 an
-/// invalidated instance, 3 an erased one), its count (0 in format 1), whether it is one of the bank's list, which each item of it is, whether its
-/// commit gate stands open, and its content, a slice of the bank.
+/// invalidated instance, 3 an erased one), its count (0 in format 1), whether it is one of the bank's list, which each item
+/// of it is, whether its commit gate stands open, and its content, a slice of the bank.
 #[derive(Clone, Copy)]
 pub struct Record<'a> {
     pub at: u32,

@@ -1,4 +1,4 @@
--- The marks that may be found.
+-- What may be found of a number: marks, each with its count.
 use Rattle.std.specs.Prelude.{if◌then◌else◌, ℕ, IsTrue, List, [], ◌∷◌, Option, Some, None, Contains}
 use Rattle.fee_format.specs.declared.rec_head.RecHead.{RecHead}
 use Rattle.fee_image.specs.Append.{whole}

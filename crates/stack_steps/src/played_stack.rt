@@ -16,7 +16,7 @@ pub trait PlayedStack {
     /// What is told of it.
     ghost told: { Self → StackTold };
 
-    /// What each call keeps, with the part of its device as that was told before the first start-up.
+    /// What each call keeps, with the parts of its device as these were told before the first start-up.
     ghost kept: { Self → (Part → PartTold) → Type 0 };
 
     /// Takes a request of a caller.

@@ -10,7 +10,7 @@ use Rattle.job_hands.specs.Hand.{HandState}
 use Rattle.hand_laws.specs.Hands.{HandFits}
 
 -- The block side's half of the promise; what the job in hand saw fits the settled marks; and its failed tries are paid for,
--- beside the Posts so far. The device's part is told before the first start-up and now, its clock now.
+-- beside the Posts so far. The device's parts are told before the first start-up, it and its clock now.
 pub record StackKeeps (before : Part → PartTold) (desk : DeskState) (hand : Option HandState) (d : DeviceTold) (clock : Clock) : Type 0 where
   pub started : HasStarted desk.entries
   pub keeps : Keeps desk.config desk.cap desk.entries before d clock
