@@ -6,7 +6,8 @@ use Rattle.ram_blocks.specs.Copies.{changed}
 use Rattle.copy_tries.specs.declared.tries.Tried.{Tried}
 use Rattle.copy_tries.specs.declared.tries.Tried.TheVariants.{Got, Refused, Stale}
 
--- A content was copied of the store with this number; of a store that is too old there was some content.
+-- A content was copied of the store with this number; of a store that is too old there was some content. What `IsStore` says
+-- of both is the caller's: that it is a store, and that a look within these tries showed it.
 abbrev pub IsOfStore : Tried → (content : List ℕ) → (ℕ → List ℕ → Type 0) → Type 0
 IsOfStore (Got n) content IsStore = IsStore n content
 IsOfStore Refused content IsStore = Unit {0}

@@ -24,7 +24,7 @@ pub fn copy_out<C: SyncCalls>(
 ) -> Tried
     requires { IsSynchronized (C.told copies.old) block (length into.old) }
     ensures tried { IsTried result block asked tries (C.told copies.old) (C.told copies.new) }
-    ensures store { IsOfStore result into.new (λ n x. C.is_store copies.new block n x) }
+    ensures store { IsOfStore result into.new (λ n x. C.is_store copies.new block n x × C.looked copies.old copies.new block n) }
     ensures counts { OnlyCounts block (C.told copies.old) (C.told copies.new) }
     ensures sizes { sizes_of (C.told copies.new) ≡ sizes_of (C.told copies.old) }
     ensures refuses { OnlyRefuses (C.told copies.old) (C.told copies.new) }

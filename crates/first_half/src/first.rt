@@ -39,7 +39,7 @@ pub fn first_half<D: MemDevice, C: SyncCalls>(
     requires tied { IsTied front.old.desk hand.old (D.told device.old) }
     requires staging { StagesAll front.old.desk.config front.old.staging }
     requires synchronized { AreSynchronized front.old.desk.config (C.told copies.old) }
-    ensures half { IsHalf result (λ block t. IsCopied (C.is_store copies.new block) block (C.told copies.old) (C.told copies.new) (source_next front.old.desk.config (next_of front.old.desk.config (state_of front.old.desk))) t)
+    ensures half { IsHalf result (λ block t. IsCopied (λ n x. C.is_store copies.new block n x × C.looked copies.old copies.new block n) block (C.told copies.old) (C.told copies.new) (source_next front.old.desk.config (next_of front.old.desk.config (state_of front.old.desk))) t)
         (HandFits front.old.desk.config (state_of front.old.desk) hand.old (D.told device.old)) front.old.desk front.new.desk (C.told copies.old) (C.told copies.new) (D.told device.new) }
     ensures tied { IsTied front.new.desk hand.new (D.told device.new) }
     ensures started { result ≡ Act.Device → IfSome hand.new (λ h. h.started ≡ true) }

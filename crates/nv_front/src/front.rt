@@ -56,7 +56,7 @@ impl Front {
         requires may { MayPickNow self.old.desk ops }
         requires staging { StagesAll self.old.desk.config self.old.staging }
         requires synchronized { AreSynchronized self.old.desk.config (C.told copies.old) }
-        ensures next { AnswersNext result (λ block t. IsCopied (C.is_store copies.new block) block (C.told copies.old) (C.told copies.new) (source_next self.old.desk.config (next_of self.old.desk.config (state_of self.old.desk))) t) ops self.old.desk self.new.desk }
+        ensures next { AnswersNext result (λ block t. IsCopied (λ n x. C.is_store copies.new block n x × C.looked copies.old copies.new block n) block (C.told copies.old) (C.told copies.new) (source_next self.old.desk.config (next_of self.old.desk.config (state_of self.old.desk))) t) ops self.old.desk self.new.desk }
         ensures room { self.new.staging.room ≡ self.old.staging.room }
         ensures unread { self.new.unread ≡ self.old.unread }
         ensures counts { OnlyRefusals (block_in result) (C.told copies.old) (C.told copies.new) }

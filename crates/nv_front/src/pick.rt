@@ -42,7 +42,7 @@ pub fn pick<C: SyncCalls>(
     requires may { MayPickNow desk.old ops }
     requires staging { StagesAll desk.old.config staging.old }
     requires synchronized { AreSynchronized desk.old.config (C.told copies.old) }
-    ensures next { AnswersNext result (λ block t. IsCopied (C.is_store copies.new block) block (C.told copies.old) (C.told copies.new) (source_next desk.old.config (next_of desk.old.config (state_of desk.old))) t) ops desk.old desk.new }
+    ensures next { AnswersNext result (λ block t. IsCopied (λ n x. C.is_store copies.new block n x × C.looked copies.old copies.new block n) block (C.told copies.old) (C.told copies.new) (source_next desk.old.config (next_of desk.old.config (state_of desk.old))) t) ops desk.old desk.new }
     ensures room { staging.new.room ≡ staging.old.room }
     ensures counts { OnlyRefusals (block_in result) (C.told copies.old) (C.told copies.new) }
     ensures sizes { sizes_of (C.told copies.new) ≡ sizes_of (C.told copies.old) }
@@ -74,7 +74,7 @@ fn pick_job<C: SyncCalls>(desk: &mut Desk, staging: &mut Staging, ops: u64, copi
     requires staging { StagesAll desk.old.config staging.old }
     requires synchronized { AreSynchronized desk.old.config (C.told copies.old) }
     ensures picked { (j : MachineJob) → next_in desk.old.config (state_of desk.old).waiting ≡ Some j
-        → IsPicked (λ t. IsCopied (C.is_store copies.new (job_block j)) (job_block j) (C.told copies.old) (C.told copies.new) (source_of desk.old.config j) t) (job_block j) ops desk.old desk.new }
+        → IsPicked (λ t. IsCopied (λ n x. C.is_store copies.new (job_block j) n x × C.looked copies.old copies.new (job_block j) n) (job_block j) (C.told copies.old) (C.told copies.new) (source_of desk.old.config j) t) (job_block j) ops desk.old desk.new }
     ensures room { staging.new.room ≡ staging.old.room }
     ensures counts { (j : MachineJob) → next_in desk.old.config (state_of desk.old).waiting ≡ Some j → OnlyRefusals (job_block j) (C.told copies.old) (C.told copies.new) }
     ensures sizes { sizes_of (C.told copies.new) ≡ sizes_of (C.told copies.old) }
@@ -102,7 +102,7 @@ fn pick_member<C: SyncCalls>(
     requires staging { StagesAll desk.old.config staging.old }
     requires synchronized { AreSynchronized desk.old.config (C.told copies.old) }
     ensures picked { (sw : MachineSweep) → next_of desk.old.config (state_of desk.old) ≡ PickMember sw block
-        → IsPicked (λ t. IsCopied (C.is_store copies.new block) block (C.told copies.old) (C.told copies.new) (source_of desk.old.config (member_job desk.old.config sw block)) t) block ops desk.old desk.new }
+        → IsPicked (λ t. IsCopied (λ n x. C.is_store copies.new block n x × C.looked copies.old copies.new block n) block (C.told copies.old) (C.told copies.new) (source_of desk.old.config (member_job desk.old.config sw block)) t) block ops desk.old desk.new }
     ensures room { staging.new.room ≡ staging.old.room }
     ensures counts { OnlyRefusals block (C.told copies.old) (C.told copies.new) }
     ensures sizes { sizes_of (C.told copies.new) ≡ sizes_of (C.told copies.old) }
@@ -143,7 +143,7 @@ fn stage<C: SyncCalls>(
     requires staging { StagesAll desk.now.config staging.old }
     requires synchronized { AreSynchronized desk.now.config (C.told copies.old) }
     ensures taken { IsTakenFrom (desc_of desk.now.config block) (block_at (state_of desk.now) block) source result staging.new.bytes }
-    ensures copied { (content : Option (List ℕ × ℕ)) → IsCopied (C.is_store copies.new block) block (C.told copies.old) (C.told copies.new) source (taken_with content (took_of result staging.new.bytes)) }
+    ensures copied { (content : Option (List ℕ × ℕ)) → IsCopied (λ n x. C.is_store copies.new block n x × C.looked copies.old copies.new block n) block (C.told copies.old) (C.told copies.new) source (taken_with content (took_of result staging.new.bytes)) }
     ensures room { staging.new.room ≡ staging.old.room }
     ensures counts { OnlyRefusals block (C.told copies.old) (C.told copies.new) }
     ensures sizes { sizes_of (C.told copies.new) ≡ sizes_of (C.told copies.old) }
@@ -173,7 +173,7 @@ fn stage_copy<C: SyncCalls>(
     requires staging { StagesAll config.now staging.old }
     requires synchronized { AreSynchronized config.now (C.told copies.old) }
     ensures taken { (b : BlockState) → IsTakenFrom (desc_of config.now block) b (from.Copy asked) result staging.new.bytes }
-    ensures copied { (content : Option (List ℕ × ℕ)) → IsCopied (C.is_store copies.new block) block (C.told copies.old) (C.told copies.new) (from.Copy asked) (taken_with content (took_of result staging.new.bytes)) }
+    ensures copied { (content : Option (List ℕ × ℕ)) → IsCopied (λ n x. C.is_store copies.new block n x × C.looked copies.old copies.new block n) block (C.told copies.old) (C.told copies.new) (from.Copy asked) (taken_with content (took_of result staging.new.bytes)) }
     ensures room { staging.new.room ≡ staging.old.room }
     ensures counts { OnlyRefusals block (C.told copies.old) (C.told copies.new) }
     ensures sizes { sizes_of (C.told copies.new) ≡ sizes_of (C.told copies.old) }

@@ -90,7 +90,7 @@ impl Staging {
         ensures room { self.new.room ≡ self.old.room }
         ensures whole { length self.new.bytes ≡ count }
         ensures tried { IsTried result block asked tries (C.told copies.old) (C.told copies.new) }
-        ensures store { IsOfStore result self.new.bytes (λ n x. C.is_store copies.new block n x) }
+        ensures store { IsOfStore result self.new.bytes (λ n x. C.is_store copies.new block n x × C.looked copies.old copies.new block n) }
         ensures counts { OnlyCounts block (C.told copies.old) (C.told copies.new) }
         ensures sizes { sizes_of (C.told copies.new) ≡ sizes_of (C.told copies.old) }
         ensures refuses { OnlyRefuses (C.told copies.old) (C.told copies.new) }
@@ -123,7 +123,7 @@ fn copy_to<C: SyncCalls>(
     requires synchronized { IsSynchronized (C.told copies.old) block count }
     ensures whole { length (take count buffer.new) ≡ count }
     ensures tried { IsTried result block asked tries (C.told copies.old) (C.told copies.new) }
-    ensures store { IsOfStore result (take count buffer.new) (λ n x. C.is_store copies.new block n x) }
+    ensures store { IsOfStore result (take count buffer.new) (λ n x. C.is_store copies.new block n x × C.looked copies.old copies.new block n) }
     ensures counts { OnlyCounts block (C.told copies.old) (C.told copies.new) }
     ensures sizes { sizes_of (C.told copies.new) ≡ sizes_of (C.told copies.old) }
     ensures refuses { OnlyRefuses (C.told copies.old) (C.told copies.new) }

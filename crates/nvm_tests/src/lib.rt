@@ -25,6 +25,10 @@ mod queues;
 #[cfg(test)]
 mod ram;
 #[cfg(test)]
+mod shared;
+#[cfg(test)]
+mod sides;
+#[cfg(test)]
 mod streams;
 #[cfg(test)]
 mod texts;

@@ -35,7 +35,7 @@ use Rattle.played_stacks.proofs.Picks.{due_hand, due_rest, at_rest}
 use Rattle.played_stacks.proofs.Refused.{fewer, wrote_untold}
 use Rattle.played_stacks.proofs.Serving.{IsServing, off_serves, work_serves}
 use Rattle.played_stacks.proofs.Turning.{same_stores, grown, none_more, one_more, explained, makes_one, none_off, one_price, begins_late}
-use Rattle.played_stacks.proofs.Halves.{are_told, is_now, IsBehind}
+use Rattle.played_stacks.proofs.Halves.{are_told, is_now, is_looked, IsBehind}
 
 -- THE ENTRY OF A JOB THAT ENDED
 
@@ -64,7 +64,7 @@ false_true {t} off on = never (sym off ∙ on)
     never e = cc
 
 module _ {D : Type 0} (device : D → DeviceTold) (clock : D → Clock) (steps : HistoriesStep) (waits : NoneWaits) (old between new : StackState D (List PlainBlock))
-    (half : IsFirstHalf device are_told is_now Device old between) where
+    (half : IsFirstHalf device are_told is_now is_looked Device old between) where
   -- nothing comes next where no job is in hand, so no turn goes by
   rests : (state_of old.desk).hand ≡ None → is_at_rest (state_of old.desk) ≡ true
   rests none = at_rest waits old.desk.config (state_of old.desk) none (half.half.3 none)

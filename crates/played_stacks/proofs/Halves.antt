@@ -14,6 +14,7 @@ use Rattle.ram_blocks.specs.Told.{Told, refusals_of, most_of}
 use Rattle.ram_blocks.specs.Plain.{told_of, store_of}
 use Rattle.copy_tries.specs.Tries.{OnlyRefuses}
 use Rattle.nv_desk.specs.Desk.{DeskState, state_of}
+use Rattle.nv_front.specs.Takes.{source_next}
 use Rattle.nv_front.specs.Posts.{IsHandedOver, IsPosted, IsPostedNext}
 use Rattle.nv_front.specs.declared.post.Posted.{Posted}
 use Rattle.job_hands.specs.Hand.{HandState}
@@ -31,7 +32,7 @@ use Rattle.played_walks.specs.Turn.{TakesNewest, copies_next}
 use Rattle.stack_steps.specs.Calls.{Turns, IsAnswer, Lowers}
 use Rattle.played_stacks.specs.Told.{told_by, untold_of, IfCopied, AreWithin}
 use Rattle.played_stacks.proofs.Devices.{goes_same, unplanned_same}
-use Rattle.played_stacks.proofs.Picks.{newest, counted, due_off, due_rest, at_rest}
+use Rattle.played_stacks.proofs.Picks.{newest, stored_so, counted, due_off, due_rest, at_rest}
 use Rattle.played_stacks.proofs.Refused.{IsOn, fewer, pick_keeps, post_keeps}
 use Rattle.played_stacks.proofs.MostTurns.{within_of}
 use Rattle.played_stacks.proofs.Serving.{IsServing, off_serves, rest_serves, pick_serves, post_serves}
@@ -43,6 +44,10 @@ are_told copies = map told_of copies
 
 abbrev pub is_now : List PlainBlock → ℕ → ℕ → List ℕ → Type 0
 is_now copies b n x = get_or (map store_of copies) b (0, []) ≡ (n, x)
+
+-- in memory no look is told apart
+abbrev pub is_looked : List PlainBlock → List PlainBlock → ℕ → ℕ → Type 0
+is_looked old new b n = Unit {0}
 
 -- A POST
 
@@ -113,7 +118,7 @@ pub record IsBehind {D : Type 0} (device : D → DeviceTold) (answer : Turned) (
 
 module _ {D : Type 0} (device : D → DeviceTold) (steps : HistoriesStep) (waits : NoneWaits) (old new : StackState D (List PlainBlock)) where
   -- nothing is added
-  quiet : (answer : Turned) → IsFirstHalf device are_told is_now (Ended answer) old new → IsBehind device answer old new → new.desk ≡ old.desk → is_due (state_of old.desk) ≡ false
+  quiet : (answer : Turned) → IsFirstHalf device are_told is_now is_looked (Ended answer) old new → IsBehind device answer old new → new.desk ≡ old.desk → is_due (state_of old.desk) ≡ false
       → IsAnswer answer [] (told_by device old) (told_by device new) → Lowers answer (told_by device old) (told_by device new) → IsServing device old new []
       → Turns answer (told_by device old) (told_by device new)
   quiet answer half behind same due answers lowers serves =
@@ -135,7 +140,7 @@ module _ {D : Type 0} (device : D → DeviceTold) (steps : HistoriesStep) (waits
         serves = serves;
       }
 
-  picks : IsFirstHalf device are_told is_now (Ended turned.Picked) old new → IsBehind device turned.Picked old new → Turns turned.Picked (told_by device old) (told_by device new)
+  picks : IsFirstHalf device are_told is_now is_looked (Ended turned.Picked) old new → IsBehind device turned.Picked old new → Turns turned.Picked (told_by device old) (told_by device new)
   picks half behind =
       let c = old.desk.config in
       let s = state_of old.desk in
@@ -148,7 +153,7 @@ module _ {D : Type 0} (device : D → DeviceTold) (steps : HistoriesStep) (waits
       let stores = same_stores old.copies new.copies half.sizes half.stores_stay in
       let may = picked.allowed.1 in
       let within = behind.within old.desk.entries (Pick block picked.kind picked.taken ops) (ap (λ (x : DeskState). x.entries) picked.adds) in
-      let refused = counted (is_now new.copies block) block (map told_of old.copies) (map told_of new.copies) (half.refuses block).1 c s picked.kind picked.taken (next_of c s) picked.copied may in record {
+      let refused = counted (λ n x. is_now new.copies block n x × is_looked old.copies new.copies block n) block (map told_of old.copies) (map told_of new.copies) (half.refuses block).1 c s picked.kind picked.taken (next_of c s) picked.copied may in record {
         entries = Pick block picked.kind picked.taken ops ∷ [];
         grows = grown device old new (Pick block picked.kind picked.taken ops ∷ []) picked.adds stores half.ready (ap (λ (d : DeviceTold). d.fixed) half.device);
         counted = behind.counted;
@@ -157,7 +162,7 @@ module _ {D : Type 0} (device : D → DeviceTold) (steps : HistoriesStep) (waits
           entry = record {
             may = may;
             newest = subst (λ (xs : List (ℕ × List ℕ)). TakesNewest xs (copies_next c (next_of c s)) block picked.taken) stores
-                (newest (map store_of new.copies) c s block picked.kind (map told_of old.copies) (map told_of new.copies) picked.taken (next_of c s) picked.copied may);
+                (newest (map store_of new.copies) c s block picked.kind (map told_of old.copies) (map told_of new.copies) picked.taken (next_of c s) (stored_so _ _ block (map told_of old.copies) (map told_of new.copies) (source_next c (next_of c s)) picked.taken (λ n x h. h.0) picked.copied) may);
           };
           begins = begins_by (is_due s);
         };
@@ -172,7 +177,7 @@ module _ {D : Type 0} (device : D → DeviceTold) (steps : HistoriesStep) (waits
         serves = pick_serves device old new block ops picked.kind picked.taken behind.tied_behind.paired behind.takes;
       }
 
-  posts : IsFirstHalf device are_told is_now (Ended turned.Posted) old new → IsBehind device turned.Posted old new → Turns turned.Posted (told_by device old) (told_by device new)
+  posts : IsFirstHalf device are_told is_now is_looked (Ended turned.Posted) old new → IsBehind device turned.Posted old new → Turns turned.Posted (told_by device old) (told_by device new)
   posts half behind =
       let c = old.desk.config in
       let s = state_of old.desk in
@@ -200,7 +205,7 @@ module _ {D : Type 0} (device : D → DeviceTold) (steps : HistoriesStep) (waits
             (subst (λ (h : Option HandState). IsPaired new.desk.config (state_of new.desk) h (device new.device)) half.at_device.1 behind.tied_behind.paired).0;
       }
 
-  pub ended : (answer : Turned) → IsFirstHalf device are_told is_now (Ended answer) old new → IsBehind device answer old new → Turns answer (told_by device old) (told_by device new)
+  pub ended : (answer : Turned) → IsFirstHalf device are_told is_now is_looked (Ended answer) old new → IsBehind device answer old new → Turns answer (told_by device old) (told_by device new)
   ended turned.Picked half behind = picks half behind
   ended turned.Posted half behind = posts half behind
   ended turned.Off half behind =

@@ -12,11 +12,23 @@ use Rattle.block_machine.specs.Prices.{refused_copies}
 use Rattle.machine_laws.specs.Laws.{NoneWaits}
 use Rattle.ram_blocks.specs.Told.{Told, refusals_of}
 use Rattle.nv_front.specs.Takes.{source_by, source_of, source_next, IsCopied}
+use Rattle.nv_front.specs.declared.source.Source.{Source}
 use Rattle.nv_front.specs.declared.source.Source.TheVariants as from
 use Rattle.script_walks.specs.Walk.{is_due, is_at_rest}
 use Rattle.played_walks.specs.Turn.{copies_next, TakesNewest}
 
 -- WHAT A PICK TOOK
+
+-- of what was copied this holds too
+pub stored_so : (P Q : ℕ → List ℕ → Type 0) (block : ℕ) (old new : List Told) (source : Source) (t : Taken) → ((n : ℕ) (x : List ℕ) → P n x → Q n x)
+    → IsCopied P block old new source t → IsCopied Q block old new source t
+stored_so P Q block old new (from.Copy asked) (TookContent bytes number) so is = so number bytes is
+stored_so P Q block old new (from.Copy asked) (TookRefused count) so is = is
+stored_so P Q block old new (from.Copy asked) (TookStale wanted got count) so is = (is.0, so got is.0 is.1)
+stored_so P Q block old new (from.Copy asked) TookNothing so is = is
+stored_so P Q block old new from.Nothing t so is = is
+stored_so P Q block old new from.Own t so is = is
+stored_so P Q block old new from.Ram t so is = is
 
 module _ (stores : List (ℕ × List ℕ)) (block : ℕ) (old new : List Told) where
   -- a store of the application

@@ -98,6 +98,8 @@ impl SyncCalls for PlainSync {
 
     ghost is_store = { λ p b n x. get_or (map store_of p) b (0, []) ≡ (n, x) };
 
+    ghost looked = { λ old new b n. Unit {0} };
+
     fn copy_out(&mut self, block: u16, into: &mut [u8]) -> Copied {
         self.blocks[usize::from(block)].copy_out(into)
     }

@@ -14,7 +14,8 @@ pub record OwnerValue : Type 0 where
   pub size : ℕ
   pub stores : Contents
 
--- which mirror the taker belongs to, the pairs that it got, how many stores there were at its last look, how often it looked, and the content of its last take
+-- which mirror the taker belongs to, the pairs that it got, how many stores there were at its last look, how often it looked, the
+-- content of its last take, and how many stores there were at each of its steps on the word: a take after a look is a step more
 pub record TakerValue : Type 0 where
   pub table : TableId
   pub size : ℕ
@@ -22,6 +23,7 @@ pub record TakerValue : Type 0 where
   pub shown : ℕ
   pub looks : ℕ
   pub content : List ℕ
+  pub all_shown : List ℕ
 
 abbrev pub IsOwnerOf : MirrorValue → OwnerValue → Type 0
 IsOwnerOf m o = (o.table ≡ m.table) × (o.size ≡ m.size)
@@ -44,3 +46,7 @@ NothingNewer t u = (u.got ≡ t.got) × (u.shown ≡ t.shown) × (u.looks ≡ t.
 -- the taker looked once, and got the newest store, which came after its last take
 abbrev pub TakesNewest : TakerValue → ℕ → TakerValue → Type 0
 TakesNewest t n u = (t.shown < u.shown) × (n ≡ store_number u.shown) × (u.got ≡ t.got ++ (n, u.content) ∷ []) × (length u.content ≡ u.size) × (u.looks ≡ t.looks + 1)
+
+-- its last step on the word showed the newest store
+abbrev pub ShowsNewest : TakerValue → TakerValue → Type 0
+ShowsNewest t u = (more : List ℕ) × (u.all_shown ≡ (t.all_shown ++ more) ++ u.shown ∷ [])

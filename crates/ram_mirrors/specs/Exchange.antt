@@ -13,17 +13,17 @@ IsLast log x = (front : Contents) × (log ≡ front ++ x ∷ [])
 
 -- the view of the seat that the table is made with
 abbrev pub maker : ℕ → View
-maker size = record { size = size; owns = true; takes = true; owner_out = false; taker_out = false; owner_slot = 0; taker_slot = 1; stores = []; got = []; taken = 0; shown = 0; looks = 0 }
+maker size = record { size = size; owns = true; takes = true; owner_out = false; taker_out = false; owner_slot = 0; taker_slot = 1; stores = []; got = []; taken = 0; shown = 0; looks = 0; all_shown = [] }
 
 -- the views after a store, a look and a take
 abbrev pub stored : View → List ℕ → ℕ → View
 stored v x slot = record v { stores = v.stores ++ x ∷ []; owner_slot = slot }
 
 abbrev pub looked : View → ℕ → View
-looked v n = record v { shown = n; looks = v.looks + 1 }
+looked v n = record v { shown = n; looks = v.looks + 1; all_shown = v.all_shown ++ n ∷ [] }
 
 abbrev pub took : View → ℕ → List ℕ → ℕ → View
-took v n x slot = record v { got = v.got ++ (store_number n, x) ∷ []; taken = n; shown = n; taker_slot = slot }
+took v n x slot = record v { got = v.got ++ (store_number n, x) ∷ []; taken = n; shown = n; taker_slot = slot; all_shown = v.all_shown ++ n ∷ [] }
 
 -- a look: the n-th store is the newest, and the word is 4 or more exactly where it came after the last take
 abbrev pub Looks : {S : Type 0} → Step S → Me S View → ℕ → Me S View → Type 0
@@ -96,7 +96,7 @@ abbrev pub whole_of : View → View → View
 whole_of v w = record v { got = w.got; shown = w.shown }
 
 abbrev pub nobody : View
-nobody = record { size = 0; owns = false; takes = false; owner_out = false; taker_out = false; owner_slot = 0; taker_slot = 0; stores = []; got = []; taken = 0; shown = 0; looks = 0 }
+nobody = record { size = 0; owns = false; takes = false; owner_out = false; taker_out = false; owner_slot = 0; taker_slot = 0; stores = []; got = []; taken = 0; shown = 0; looks = 0; all_shown = [] }
 
 abbrev pub owner_begins : View → View
 owner_begins v = record v { owner_out = true }

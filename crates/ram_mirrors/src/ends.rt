@@ -31,7 +31,7 @@ impl Model for Owner {
 }
 
 /// The end that takes. Contracts see which mirror it belongs to, the pairs that it got, the content of the last of
-/// them, how often it looked, and the number of the newest store that it was shown.
+/// them, how often it looked, the number of the newest store that it was shown, and all that it was shown.
 #[derive(Drop)]
 pub struct Taker {
     pub(crate) seat: Seat<Vec<u8>, View>,
@@ -49,7 +49,7 @@ impl Model for Taker {
 
     ghost Value = { TakerValue };
 
-    ghost view = { λ t. record { table = t.seat.table_id; size = t.seat.me.0.size; got = t.seat.me.0.got; shown = t.seat.me.0.shown; looks = t.seat.me.0.looks; content = t.buffer.items } };
+    ghost view = { λ t. record { table = t.seat.table_id; size = t.seat.me.0.size; got = t.seat.me.0.got; shown = t.seat.me.0.shown; looks = t.seat.me.0.looks; content = t.buffer.items; all_shown = t.seat.me.0.all_shown } };
 
     ghost invariant = { λ t. (t.seat.me.0.takes ≡ true) × (t.seat.me.0.taker_out ≡ true) × (length t.buffer.items ≡ t.seat.me.0.size) × (t.slot < 4) × (t.slot ≡ t.seat.me.0.taker_slot) × ((b : _) × (t.seat.me.1 ≡ (t.slot, b) ∷ [])) × (t.seat.me.0.owns ≡ false) × (t.seat.me.0.shown ≡ t.seat.me.0.taken) × (t.number ≡ store_number t.seat.me.0.shown) × (t.count ≡ counted t.seat.me.0.looks) };
 }

@@ -1,7 +1,7 @@
 //! The mirror: what an owner and a taker share.
 ghost use Rattle.std.specs.Prelude.{◌≡◌, ℕ, ◌+◌, ◌-◌, ◌<◌, ◌≤◌, ◌^◌, ◌++◌, [], ◌∷◌, length, vec_len, replicate, IfNone, IfSome, IfOk};
 ghost use Rattle.ram_mirrors.specs.Stores.{store_number, AllStored};
-ghost use Rattle.ram_mirrors.specs.Ends.{counted, IsOwnerOf, IsTakerOf, IsFresh, NothingNewer, TakesNewest};
+ghost use Rattle.ram_mirrors.specs.Ends.{counted, IsOwnerOf, IsTakerOf, IsFresh, NothingNewer, TakesNewest, ShowsNewest};
 ghost use Rattle.ram_mirrors.specs.Exchange.{maker, IsMade, owner_begins, taker_begins, owner_half, taker_half};
 
 use crate::ends::{Owner, Taker};
@@ -173,6 +173,7 @@ impl Mirror {
         ensures own { IsTakerOf self.now taker.new }
         ensures none { IfNone result (NothingNewer taker.old taker.new) }
         ensures some { IfSome result (λ n. TakesNewest taker.old n taker.new) }
+        ensures shows { ShowsNewest taker.old taker.new }
     {
         let shared = &self.table.shared;
         let looks = next_look(taker.count);

@@ -15,4 +15,5 @@ pub struct View {
     pub taken: u64,
     pub shown: u64,
     pub looks: u64,
+    pub all_shown: LinkedList<u64>,
 }

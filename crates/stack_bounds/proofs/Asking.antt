@@ -1,9 +1,10 @@
 -- A request, beside what is due.
 use Rattle.std.specs.Prelude.{IfSome, ◌==◌, if◌then◌else◌, not, ◌&&◌, option_to_list}
 use Rattle.std.specs.List.{list_all}
-use Rattle.std.proofs.Common.{◌≡◌, ◌⊎◌, inl, inr, ℕ, ◌+◌, ◌<◌, Bool, true, false, List, [], ◌∷◌, ◌++◌, length, Option, Some, None, refl, sym, ap, ◌∙◌, subst, arith, length-append}
+use Rattle.std.proofs.Common.{◌≡◌, ◌⊎◌, inl, inr, ℕ, ◌+◌, ◌<◌, Bool, true, false, List, [], ◌∷◌, ◌++◌, length, Option, Some, None, refl, sym, ap, ◌∙◌, subst, arith, append_assoc, length-append}
+use Rattle.std.proofs.lemmas.List.{append-nil}
 use Rattle.memif.specs.Told.{DeviceTold, plans}
-use Rattle.block_machine.specs.Words.{Request, Write, SetIndex, SetProtection, SetLock, SetRam, PutRam, ReadAll, WriteAll, CancelWriteAll, Reply, Accepted, JobKind, Ask, Pending, Configuration}
+use Rattle.block_machine.specs.Words.{Request, Write, SetIndex, SetProtection, SetLock, SetRam, PutRam, ReadAll, WriteAll, CancelWriteAll, Reply, Accepted, JobKind, Entry, Ask, Pending, Configuration}
 use Rattle.block_machine.specs.State.{State, BlockState, Job}
 use Rattle.block_machine.specs.Blocks.{asked_block, block_at, is_pending, job_block, job_kind, rank_of, status_of}
 use Rattle.block_machine.specs.Next.{first_of_two, next_in}
@@ -14,8 +15,8 @@ use Rattle.nv_desk.specs.Desk.{DeskState, state_of}
 use Rattle.nv_desk.specs.Sound.{IsPendingJob}
 use Rattle.job_hands.specs.Hand.{HandState}
 use Rattle.hand_laws.specs.Asks.{PendingStay}
-use Rattle.stack_bounds.specs.Due.{IsDue, pages_now, post_first}
-use Rattle.stack_bounds.specs.Laws.{AcceptedAreDue, AsksKeepDue, PlansKeepDue, IsUrgentRequest}
+use Rattle.stack_bounds.specs.Due.{IsDue, IsDueInHand, IsDueNext, pages_now, post_first}
+use Rattle.stack_bounds.specs.Laws.{AcceptedAreDue, AreReplied, AsksKeepDue, NextIsPending, PlansKeepDue, RequestsKeepDue, RequestsKeepDueInHand, IsUrgentRequest, with_entries}
 use Rattle.stack_bounds.proofs.Order.{next_with, stays_first, comes_first}
 use Rattle.stack_bounds.proofs.Blocks.{added, status_index, same_pages}
 
@@ -78,25 +79,36 @@ module _ (steps : HistoriesStep) (counted : EntriesAreCounted) (stay : PendingSt
       ap (λ (t : State). block_at t id) state_is ∙ stay desk.config desk.cap (state_of desk) caller r reply id is pending in
       same_pages desk.config (state_of desk) (state_of (added (Ask caller r reply) desk)) d.fixed id (ap (λ (b : BlockState). b.index) block)
 
-  due_stays : (number turns : ℕ) → reply ≡ reply_of desk.config desk.cap (state_of desk) r
-      → IfSome (next_in desk.config (state_of desk).waiting) (IsPendingJob desk.config (state_of desk))
-      → IsDue number turns (record { desk = desk; hand = hand; device = d }) → IsDue number turns (record { desk = added (Ask caller r reply) desk; hand = hand; device = d })
-  due_stays number turns is pending (inl due) =
-      let own : IsPendingJob desk.config (state_of desk) due.job = rw due.next at pending in
-      let pages : pages_now (added (Ask caller r reply) desk) d.fixed (job_block due.job) ≡ pages_now desk d.fixed (job_block due.job) = pages_stay (job_block due.job) is own.pending in
+  -- its block stays PENDING
+  status_stays : (id : ℕ) → reply ≡ reply_of desk.config desk.cap (state_of desk) r → is_pending (status_of (state_of desk) id) ≡ true
+      → is_pending (status_of (state_of (added (Ask caller r reply) desk)) id) ≡ true
+  status_stays id is pending =
+      ap (λ (t : State). is_pending (status_of t id)) state_is ∙ ap (λ (b : BlockState). is_pending b.status) (stay desk.config desk.cap (state_of desk) caller r reply id is pending) ∙ pending
+
+  next_stays : (number turns : ℕ) → reply ≡ reply_of desk.config desk.cap (state_of desk) r → (due : IsDueNext number turns (record { desk = desk; hand = hand; device = d }))
+      → is_pending (status_of (state_of desk) (job_block due.job)) ≡ true
+      → (later : IsDueNext number turns (record { desk = added (Ask caller r reply) desk; hand = hand; device = d }))
+      × (is_pending (status_of (state_of (added (Ask caller r reply) desk)) (job_block later.job)) ≡ true)
+  next_stays number turns is due pending =
+      let pages : pages_now (added (Ask caller r reply) desk) d.fixed (job_block due.job) ≡ pages_now desk d.fixed (job_block due.job) = pages_stay (job_block due.job) is pending in
       let count : length (desk.entries ++ Ask caller r reply ∷ []) ≡ length desk.entries + 1 = longer desk.entries (Ask caller r reply) in
       let all : (state_of desk).count ≡ length desk.entries = counted desk.config desk.entries in
-      let less : due.job.number < (state_of desk).count = omega (arith, all, due.earlier, due.is.accepted) in
-      inl (record {
-        job = due.job;
-        is = due.is;
-        earlier = omega (arith, count, due.earlier);
-        next = still_next desk.config (state_of desk) (state_of (added (Ask caller r reply) desk)) due.job waits_is due.is.urgent.is_urgent less due.next;
-        standard = subst (λ (o : Option Job). IfSome o (λ h. (rank_of desk.config h).immediate ≡ false)) (sym held_is) due.standard;
-        ready = omega (arith, pages, due.ready);
-        within = omega (arith, pages, due.within);
-      })
-  due_stays number turns is pending (inr due) = inr (record {
+      let less : due.job.number < (state_of desk).count = omega (arith, all, due.earlier, due.is.accepted) in (
+        record {
+          job = due.job;
+          is = due.is;
+          earlier = omega (arith, count, due.earlier);
+          next = still_next desk.config (state_of desk) (state_of (added (Ask caller r reply) desk)) due.job waits_is due.is.urgent.is_urgent less due.next;
+          standard = subst (λ (o : Option Job). IfSome o (λ h. (rank_of desk.config h).immediate ≡ false)) (sym held_is) due.standard;
+          ready = omega (arith, pages, due.ready);
+          within = omega (arith, pages, due.within);
+        },
+        status_stays (job_block due.job) is pending,
+      )
+
+  held_stays : (number turns : ℕ) → IsDueInHand number turns (record { desk = desk; hand = hand; device = d })
+      → IsDueInHand number turns (record { desk = added (Ask caller r reply) desk; hand = hand; device = d })
+  held_stays number turns due = record {
     job = due.job;
     is = due.is;
     held = held_is ∙ due.held;
@@ -104,12 +116,57 @@ module _ (steps : HistoriesStep) (counted : EntriesAreCounted) (stay : PendingSt
     drives = due.drives;
     ready = due.ready;
     within = due.within;
-  })
+  }
+
+  due_stays : (number turns : ℕ) → reply ≡ reply_of desk.config desk.cap (state_of desk) r
+      → IfSome (next_in desk.config (state_of desk).waiting) (IsPendingJob desk.config (state_of desk))
+      → IsDue number turns (record { desk = desk; hand = hand; device = d }) → IsDue number turns (record { desk = added (Ask caller r reply) desk; hand = hand; device = d })
+  due_stays number turns is pending (inl due) =
+      let own : IsPendingJob desk.config (state_of desk) due.job = rw due.next at pending in inl (next_stays number turns is due own.pending).0
+  due_stays number turns is pending (inr due) = inr (held_stays number turns due)
 
 pub asks_keep_due : HistoriesStep → EntriesAreCounted → PendingStay → AsksKeepDue
 asks_keep_due steps counted stay desk new hand d caller r reply number turns adds is pending due =
     subst (λ (x : DeskState). IsDue number turns (record { desk = x; hand = hand; device = d })) (sym adds)
     (due_stays steps counted stay desk hand d caller r reply number turns is pending due)
+
+-- ANY NUMBER OF REQUESTS
+module _ (steps : HistoriesStep) (counted : EntriesAreCounted) (stay : PendingStay) (hand : Option HandState) (d : DeviceTold) (number turns : ℕ) where
+  none_more : (desk : DeskState) → desk ≡ with_entries desk []
+  none_more desk = ap (λ (h : List Entry). record desk { entries = h }) (sym (append-nil desk.entries))
+
+  one_more : (desk : DeskState) (e : Entry) (es : List Entry) → with_entries (added e desk) es ≡ with_entries desk (e ∷ es)
+  one_more desk e es = ap (λ (h : List Entry). record desk { entries = h }) (append_assoc desk.entries (e ∷ []) es)
+
+  replied_on : (desk : DeskState) (caller : ℕ) (r : Request) (reply : Reply) (es : List Entry) → AreReplied desk.config desk.cap (step desk.config (state_of desk) (Ask caller r reply)) es
+      → AreReplied desk.config desk.cap (state_of (added (Ask caller r reply) desk)) es
+  replied_on desk caller r reply es are = subst (λ (s : State). AreReplied desk.config desk.cap s es) (sym (steps desk.config desk.entries (Ask caller r reply))) are
+
+  pub many_held : (desk : DeskState) (more : List Entry) → AreReplied desk.config desk.cap (state_of desk) more
+      → IsDueInHand number turns (record { desk = desk; hand = hand; device = d }) → IsDueInHand number turns (record { desk = with_entries desk more; hand = hand; device = d })
+  many_held desk [] are due = subst (λ (x : DeskState). IsDueInHand number turns (record { desk = x; hand = hand; device = d })) (none_more desk) due
+  many_held desk (Ask caller r reply ∷ es) are due =
+      subst (λ (x : DeskState). IsDueInHand number turns (record { desk = x; hand = hand; device = d })) (one_more desk (Ask caller r reply) es)
+      (many_held (added (Ask caller r reply) desk) es (replied_on desk caller r reply es are.1) (held_stays steps counted stay desk hand d caller r reply number turns due))
+  many_held desk (e ∷ es) are due = absurd are
+
+  pub many_next : (desk : DeskState) (more : List Entry) → AreReplied desk.config desk.cap (state_of desk) more
+      → (due : IsDueNext number turns (record { desk = desk; hand = hand; device = d })) → is_pending (status_of (state_of desk) (job_block due.job)) ≡ true
+      → IsDueNext number turns (record { desk = with_entries desk more; hand = hand; device = d })
+  many_next desk [] are due pending = subst (λ (x : DeskState). IsDueNext number turns (record { desk = x; hand = hand; device = d })) (none_more desk) due
+  many_next desk (Ask caller r reply ∷ es) are due pending =
+      let next = next_stays steps counted stay desk hand d caller r reply number turns are.0 due pending in
+      subst (λ (x : DeskState). IsDueNext number turns (record { desk = x; hand = hand; device = d })) (one_more desk (Ask caller r reply) es)
+      (many_next (added (Ask caller r reply) desk) es (replied_on desk caller r reply es are.1) next.0 next.1)
+  many_next desk (e ∷ es) are due pending = absurd are
+
+pub requests_keep_due : HistoriesStep → EntriesAreCounted → PendingStay → RequestsKeepDue
+requests_keep_due steps counted stay desk hand d more number turns are pending (inl due) =
+    inl (many_next steps counted stay hand d number turns desk more are due (rw due.next at pending))
+requests_keep_due steps counted stay desk hand d more number turns are pending (inr due) = inr (many_held steps counted stay hand d number turns desk more are due)
+
+pub requests_keep_held : HistoriesStep → EntriesAreCounted → PendingStay → RequestsKeepDueInHand
+requests_keep_held steps counted stay desk hand d more number turns are due = many_held steps counted stay hand d number turns desk more are due
 
 -- ONE THAT IS ACCEPTED
 first_true : (a b : Bool) → (a && b) ≡ true → a ≡ true

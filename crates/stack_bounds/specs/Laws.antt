@@ -1,16 +1,17 @@
 -- What is due stays due, and comes nearer.
-use Rattle.std.specs.Prelude.{◌≡◌, ◌⊎◌, ◌≤◌, ◌+◌, ℕ, not, true, List, length, IsTrue, Option, IfSome}
+use Rattle.std.specs.Prelude.{◌≡◌, ◌⊎◌, ◌≤◌, ◌+◌, ◌++◌, ℕ, not, true, List, [], ◌∷◌, length, IsTrue, Option, IfSome}
 use Rattle.std.specs.List.{list_all}
 use Rattle.nv_base.specs.Count.{Rose}
 use Rattle.nv_base.specs.Marks.{number_of}
 use Rattle.memif.specs.Told.{DeviceTold, First, Part, armed, figures_at}
 use Rattle.memif.specs.Clock.{Clock}
 use Rattle.memif.specs.Calls.{InOrder, Works}
-use Rattle.block_machine.specs.Words.{Request, Reply, Accepted, Ask}
-use Rattle.block_machine.specs.State.{jobs_of}
-use Rattle.block_machine.specs.Blocks.{asked_block, is_immediate, rank_of}
+use Rattle.block_machine.specs.Words.{Request, Reply, Accepted, Entry, Ask, Configuration}
+use Rattle.block_machine.specs.State.{State, jobs_of}
+use Rattle.block_machine.specs.Blocks.{asked_block, is_immediate, is_pending, job_block, rank_of, status_of}
 use Rattle.block_machine.specs.Next.{next_in}
 use Rattle.block_machine.specs.Reply.{reply_of}
+use Rattle.block_machine.specs.Steps.{step}
 use Rattle.ram_blocks.specs.Told.{Told}
 use Rattle.turn_laws.specs.Turn.{settled_by}
 use Rattle.nv_desk.specs.Desk.{DeskState, state_of}
@@ -50,6 +51,33 @@ AsksKeepDue =
     → Adds (Ask caller r reply) desk new → reply ≡ reply_of desk.config desk.cap (state_of desk) r
     → IfSome (next_in desk.config (state_of desk).waiting) (IsPendingJob desk.config (state_of desk))
     → IsDue number turns (record { desk = desk; hand = hand; device = d }) → IsDue number turns (record { desk = new; hand = hand; device = d })
+
+-- the block of the next job is PENDING
+abbrev pub NextIsPending : Configuration → State → Type 0
+NextIsPending c s = IfSome (next_in c s.waiting) (λ j. is_pending (status_of s (job_block j)) ≡ true)
+
+-- these are requests, each with the machine's reply in its turn
+abbrev pub AreReplied : Configuration → ℕ → State → List Entry → Type 0
+AreReplied c cap s [] = Unit {0}
+AreReplied c cap s (Ask caller r reply ∷ es) = (reply ≡ reply_of c cap s r) × AreReplied c cap (step c s (Ask caller r reply)) es
+AreReplied c cap s (e ∷ es) = ⊥
+
+abbrev pub with_entries : DeskState → List Entry → DeskState
+with_entries desk more = record desk { entries = desk.entries ++ more }
+
+-- so it does through any number of requests
+abbrev pub RequestsKeepDue : Type 0
+RequestsKeepDue =
+    (desk : DeskState) (hand : Option HandState) (d : DeviceTold) (more : List Entry) (number turns : ℕ) → AreReplied desk.config desk.cap (state_of desk) more
+    → NextIsPending desk.config (state_of desk) → IsDue number turns (record { desk = desk; hand = hand; device = d })
+    → IsDue number turns (record { desk = with_entries desk more; hand = hand; device = d })
+
+-- and what is in hand stays in hand
+abbrev pub RequestsKeepDueInHand : Type 0
+RequestsKeepDueInHand =
+    (desk : DeskState) (hand : Option HandState) (d : DeviceTold) (more : List Entry) (number turns : ℕ) → AreReplied desk.config desk.cap (state_of desk) more
+    → IsDueInHand number turns (record { desk = desk; hand = hand; device = d })
+    → IsDueInHand number turns (record { desk = with_entries desk more; hand = hand; device = d })
 
 -- so it does where a power cut is planned
 abbrev pub PlansKeepDue : Type 0

@@ -1,5 +1,5 @@
 // The laws of what is due. Their functions do nothing.
-ghost use Rattle.stack_bounds.specs.Laws.{AcceptedAreDue, AsksKeepDue, PlansKeepDue, FirstHalvesServe, SecondHalvesServe};
+ghost use Rattle.stack_bounds.specs.Laws.{AcceptedAreDue, AsksKeepDue, RequestsKeepDue, RequestsKeepDueInHand, PlansKeepDue, FirstHalvesServe, SecondHalvesServe};
 ghost use Rattle.stack_bounds.specs.Calls.{CallsPostInTime};
 
 use hand_laws::hands_stay;
@@ -7,10 +7,13 @@ use machine_laws::{a_pick_takes_in_hand, histories_grow, the_next_job_goes_first
 use memif::MemDevice;
 use turn_figures::{picks_are_bounded, starts_keep_figures, turns_keep_figures};
 
-/// An accepted immediate write whose pages are ready is due, and stays so through any request, and where a power cut is planned.
+/// An accepted immediate write whose pages are ready is due, and stays so through any requests, and where a power cut is
+/// planned.
 pub fn asks_keep_due()
     ensures accepted { AcceptedAreDue }
     ensures stays { AsksKeepDue }
+    ensures requests { RequestsKeepDue }
+    ensures in_hand { RequestsKeepDueInHand }
     ensures plans { PlansKeepDue }
 {
     histories_grow();

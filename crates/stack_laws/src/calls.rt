@@ -3,6 +3,7 @@ ghost use Rattle.std.specs.Prelude.{◌≡◌, false};
 ghost use Rattle.nv_base.specs.declared.mark.Mark.TheVariants as mark;
 ghost use Rattle.memif.specs.Told.{is_urgent};
 ghost use Rattle.memif.specs.Calls.{Accepts, Arms, Cancels, Turns};
+ghost use Rattle.turn_laws.specs.Cuts.{CutsInATurnKeep};
 ghost use Rattle.turn_laws.specs.Turn.{mark_wish, read_wish, write_wish};
 ghost use Rattle.stack_laws.specs.Calls.{ArmsKeep, CancelsKeep, DeviceTurnsKeep, RefusalsDontCome, StartsKeep};
 
@@ -86,6 +87,7 @@ pub fn arm<D: MemDevice>(device: &mut D, which: u8, nth: u32, keep: u32)
 pub fn turn<D: MemDevice>(device: &mut D) -> DeviceTurn
     ensures turns { Turns result (D.told device.old) (D.clock device.old) (D.told device.new) (D.clock device.new) }
     ensures keeps { DeviceTurnsKeep result (D.told device.old) (D.clock device.old) (D.told device.new) (D.clock device.new) }
+    ensures cuts { CutsInATurnKeep (D.told device.old) (D.clock device.old) (D.told device.new) (D.clock device.new) }
 {
     legal_states_are_consistent();
     jobs_are_pending();

@@ -1,5 +1,5 @@
 -- Each step that leaves the list as it was keeps the rule: a look, a poll, a draw, an entry.
-use Rattle.std.proofs.Common.{◌≡◌, ◌≢◌, ℕ, ◌+◌, ◌-◌, ◌/◌, ◌%◌, ◌^◌, ◌<◌, ◌≤◌, eqb, List, [], length, set, get_or, Bool, true, false, true≢false, refl, sym, ap, ◌∙◌, subst, ⊎_elim, arith, length-set, get_or-set_other, get_or-set_same, append-nil, lt_of_not-le}
+use Rattle.std.proofs.Common.{◌≡◌, ◌≢◌, ℕ, ◌+◌, ◌-◌, ◌/◌, ◌%◌, ◌^◌, ◌<◌, ◌≤◌, eqb, List, [], length, set, get_or, Bool, true, false, true≢false, refl, sym, ap, ◌∙◌, subst, ⊎_elim, arith, length-set, get_or-set_other, get_or-set_same, append-nil, length-append, ◌∷◌, ◌++◌, lt_of_not-le}
 use Rattle.std.specs.Prelude.{Option, Some}
 use mathlib.Core.Logic.{dite}
 use mathlib.Core.Option as maybe
@@ -14,10 +14,10 @@ use Rattle.atomic_table.proofs.Lists.{at_set, at_snoc, set_here, set_else, excha
 use Rattle.turn_gate.specs.declared.pass.View.{View}
 use Rattle.turn_gate.specs.declared.pass.Place.{Place}
 use Rattle.turn_gate.specs.declared.pass.Place.TheVariants.{Here}
-use Rattle.turn_gate.specs.Entries.{Note, note, StartsWith, Gave, AllAgree, Tells, OpenFrom}
-use Rattle.turn_gate.specs.Pass.{Has, noted}
+use Rattle.turn_gate.specs.Entries.{Note, note, StartsWith, Gave, AllAgree, AllHeard, Tells, OpenFrom}
+use Rattle.turn_gate.specs.Pass.{all_parts, Has, noted}
 use Rattle.turn_gate.specs.Turns.{Knows, Rests, Gated, Enters, Arrives, looked, Looks, queued, entered, Draws, Polls}
-use Rattle.turn_gate.proofs.Histories.{not_true, inside_length, total_set, given_later, starts_longer}
+use Rattle.turn_gate.proofs.Histories.{not_true, inside_length, total_set, total_two, given_later, starts_longer}
 
 module _ {V E R : Type 0} (entries : V → List E) (gives : E → ℕ → Option ℕ) (is_open : E → Bool) (root : V → R) (n : ℕ) (base : R) where
   abbrev St : Type 0
@@ -112,7 +112,7 @@ module _ {V E R : Type 0} (entries : V → List E) (gives : E → ℕ → Option
         u,
         keeps,
         tt,
-        noticed s r w id cs v u at record { same = f.same; some_seen = f.some_seen; idle = f.idle; own_seen = f.own_seen; starts = f.starts; waits = f.waits; inside = f.inside; mark = f.mark; served = f.served; agree = λ j m e. ⊎_elim (f.agree j m) (λ (t : note i (x / 256) (x % 256) ≡ m). subst (λ (z : Note). Gave gives r.log z.0 z.1 z.2) t tells.0) (at_snoc v.notes (note i (x / 256) (x % 256)) m j e) } refl refl refl refl refl refl,
+        noticed s r w id cs v u at record { same = f.same; some_seen = f.some_seen; idle = f.idle; own_seen = f.own_seen; starts = f.starts; heard = f.heard; waits = f.waits; inside = f.inside; mark = f.mark; served = f.served; agree = λ j m e. ⊎_elim (f.agree j m) (λ (t : note i (x / 256) (x % 256) ≡ m). subst (λ (z : Note). Gave gives r.log z.0 z.1 z.2) t tells.0) (at_snoc v.notes (note i (x / 256) (x % 256)) m j e) } refl refl refl refl refl refl,
         (refl, refl, ((λ j y g. tells.1 j y (given_later gives r.log v.seen i j y f.starts g)), (λ j k y e. tells.1 k y (f.agree j (note i k y) e))), (let z = inside_length r.log (x / 256) tells.0.0 tells.0.1 in let y = r.short in omega arith)),
       )
 
@@ -123,6 +123,25 @@ module _ {V E R : Type 0} (entries : V → List E) (gives : E → ℕ → Option
 
   pub live_of : (id : ℕ) (v : View E R) (s : St) (r : Rule s) → get_elem? s.views id ≡ maybe.some v → v.waits ≡ true → 0 < v.parts
   live_of id v s r at waits = dite (ℕ_discrete v.parts 0) (λ none. absurd (true≢false (sym waits ∙ ((r.each id v at).idle none).1))) (λ some. omega arith)
+
+  -- a pass with all parts has seen all
+  pub sees_all : (s : St) (r : Rule s) (id : ℕ) (v : View E R) → get_elem? s.views id ≡ maybe.some v → v.parts ≡ all_parts → r.log ≡ v.seen
+  sees_all s r id v at all =
+      let f = r.each id v at in
+      let idle : (j : ℕ) (u : View E R) → j ≢ id → get_elem? s.views j ≡ maybe.some u → u.own ≡ [] =
+      λ j u other e. ((r.each j u e).idle (let a = total_two (λ (z : View E R). z.parts) s.views j id u v other e at in let b = r.parts in omega arith)).0 in
+      let own : (k : ℕ) → 0 < k → k < length r.log → Has v.own k = λ k pos l. let h = r.covered k pos l in dite (ℕ_discrete h.0 id)
+      (λ same. subst (λ (z : View E R). Has z.own k) (same_view s.views h.0 id h.1 v h.2 at same) h.3)
+      (λ other. absurd (none_in h.1.own k (idle h.0 h.1 other h.2) h.3)) in
+      let some : 0 < length v.seen = f.some_seen (omega arith) in
+      whole v.seen r.log f.starts (λ k l. dite (ℕ_discrete k 0) (λ z. subst (λ (i : ℕ). i < length v.seen) (sym z) some) (λ z. f.own_seen k (own k (omega arith) l)))
+    where
+      none_in : (own : List ℕ) (k : ℕ) → own ≡ [] → Has own k → ⊥
+      none_in own k e h = some-ne-none k (sym h.1 ∙ ap (λ (l : List ℕ). get_elem? l h.0) e)
+
+      whole : (seen log : List E) → StartsWith log seen → ((k : ℕ) → k < length log → k < length seen) → log ≡ seen
+      whole seen log (([], e)) h = e ∙ append-nil seen
+      whole seen log ((x ∷ xs, e)) h = absurd (let a = h (length seen) (omega (arith, ap length e, length-append seen (x ∷ xs))) in omega arith)
 
   pub enters : (slots id : ℕ) (v : View E R) → v.waits ≡ true → v.inside ≡ false → Allows Rule slots id (v, []) 0 (λ x. x) (Enters entries gives is_open root (step slots 0 0 0 maybe.none) (v, []))
   enters slots id v waits out s r wide at _ =
@@ -138,7 +157,7 @@ module _ {V E R : Type 0} (entries : V → List E) (gives : E → ℕ → Option
         ap (λ h. get_elem? h 0) home.1,
         subst (λ (ws : List ℕ). Rule record { words = ws; homes = homes; views = set s.views id w }) (sym (set-get_or s.words 0 0))
             (put s r s.words homes r.log id v w at r.short (length-set s.homes 0 maybe.none ∙ r.one) r.wide r.below r.small r.each_word (λ j u other e. r.each j u e)
-            record { same = f.same; waits = f.waits; agree = f.agree; served = f.served; some_seen = λ p. let a = f.some_seen p in let h = starts_longer r.log v.seen f.starts in omega arith; idle = λ p. absurd (true≢false (sym waits ∙ (f.idle p).1)); own_seen = λ k h. let a = f.own_seen k h in let b = starts_longer r.log v.seen f.starts in omega arith; starts = ([], sym (append-nil r.log)); inside = λ _. (waits, sym served, refl); mark = λ m j e l g. f.mark m j e (let h = starts_longer r.log v.seen f.starts in omega arith) g }
+            record { same = f.same; waits = f.waits; agree = f.agree; served = f.served; some_seen = λ p. let a = f.some_seen p in let h = starts_longer r.log v.seen f.starts in omega arith; idle = λ p. absurd (true≢false (sym waits ∙ (f.idle p).1)); own_seen = λ k h. let a = f.own_seen k h in let b = starts_longer r.log v.seen f.starts in omega arith; starts = ([], sym (append-nil r.log)); heard = f.heard; inside = λ _. (waits, sym served, refl); mark = λ m j e l g. f.mark m j e (let h = starts_longer r.log v.seen f.starts in omega arith) g }
             (λ j u other e p q same. other (r.apart j id u v e at p q same))
             (λ m. m)
             refl (λ k h. h) (λ k a b. absurd (omega arith))
@@ -150,12 +169,14 @@ module _ {V E R : Type 0} (entries : V → List E) (gives : E → ℕ → Option
             refl,
             refl,
             sym home.2,
-            (refl, refl, refl, refl, refl),
+            (refl, refl, refl, refl, refl, refl),
             subst (λ (l : List E). StartsWith l v.seen) (sym home.2) f.starts,
             subst (λ (l : List E). AllAgree gives l v.notes) (sym home.2) f.agree,
             f.same (live_of id v s r at waits) ∙ ap Some (sym home.3),
             (λ m. subst (λ (l : List E). OpenFrom is_open l (length v.seen)) (sym home.2) (f.mark m)),
             live_of id v s r at waits,
+            (λ all. home.2 ∙ sees_all s r id v at all),
+            subst (λ (l : List E). AllHeard l v.heard) (sym home.2) f.heard,
           )),
         ),
       ))
@@ -175,7 +196,7 @@ module _ {V E R : Type 0} (entries : V → List E) (gives : E → ℕ → Option
         w,
         keeps,
         tt,
-        noticed s r 0 id cs v w at record { same = f.same; some_seen = f.some_seen; idle = f.idle; own_seen = f.own_seen; starts = f.starts; waits = f.waits; inside = f.inside; agree = f.agree; mark = f.mark; served = omega arith } refl refl refl refl refl refl,
+        noticed s r 0 id cs v w at record { same = f.same; some_seen = f.some_seen; idle = f.idle; own_seen = f.own_seen; starts = f.starts; heard = f.heard; waits = f.waits; inside = f.inside; agree = f.agree; mark = f.mark; served = omega arith } refl refl refl refl refl refl,
         (refl, refl),
       )
 
@@ -206,8 +227,8 @@ module _ {V E R : Type 0} (entries : V → List E) (gives : E → ℕ → Option
         ap (λ h. get_elem? h 0) home.1,
         put s r ws homes r.log id v w at r.short (length-set s.homes 0 maybe.none ∙ r.one) (length-set s.words 1 (old + 1) ∙ r.wide) (omega arith) (omega arith)
             (λ i l. subst (Tells gives r.log i) (sym (get_or-set_other s.words 1 (i + 2) (old + 1) 0 (λ e. omega arith))) (r.each_word i l))
-            (λ j u other e. let g = r.each j u e in record { same = g.same; some_seen = g.some_seen; idle = g.idle; own_seen = g.own_seen; starts = g.starts; agree = g.agree; mark = g.mark; waits = λ p. absurd (none_waits j u e p); inside = λ p. absurd (none_waits j u e (g.inside p).0); served = let a = g.served in omega arith })
-            record { same = f.same; agree = f.agree; some_seen = λ p. let a = f.some_seen p in let h = starts_longer r.log v.seen f.starts in omega arith; idle = λ p. absurd (omega arith); own_seen = λ k h. let a = f.own_seen k h in let b = starts_longer r.log v.seen f.starts in omega arith; starts = ([], sym (append-nil r.log)); waits = λ _. (omega arith, omega arith); inside = λ _. (refl, sym now ∙ sym zero_is, refl); mark = λ m j e l g. f.mark m j e (let h = starts_longer r.log v.seen f.starts in omega arith) g; served = let a = f.served in omega arith }
+            (λ j u other e. let g = r.each j u e in record { same = g.same; some_seen = g.some_seen; idle = g.idle; own_seen = g.own_seen; starts = g.starts; heard = g.heard; agree = g.agree; mark = g.mark; waits = λ p. absurd (none_waits j u e p); inside = λ p. absurd (none_waits j u e (g.inside p).0); served = let a = g.served in omega arith })
+            record { same = f.same; agree = f.agree; some_seen = λ p. let a = f.some_seen p in let h = starts_longer r.log v.seen f.starts in omega arith; idle = λ p. absurd (omega arith); own_seen = λ k h. let a = f.own_seen k h in let b = starts_longer r.log v.seen f.starts in omega arith; starts = ([], sym (append-nil r.log)); heard = f.heard; waits = λ _. (omega arith, omega arith); inside = λ _. (refl, sym now ∙ sym zero_is, refl); mark = λ m j e l g. f.mark m j e (let h = starts_longer r.log v.seen f.starts in omega arith) g; served = let a = f.served in omega arith }
             (λ j u other e p _ _. none_waits j u e p)
             (λ m. m)
             refl (λ k h. h) (λ k a b. absurd (omega arith))
@@ -219,12 +240,14 @@ module _ {V E R : Type 0} (entries : V → List E) (gives : E → ℕ → Option
             refl,
             refl,
             sym home.2,
-            (refl, refl, refl, refl, refl),
+            (refl, refl, refl, refl, refl, refl),
             subst (λ (l : List E). StartsWith l v.seen) (sym home.2) f.starts,
             subst (λ (l : List E). AllAgree gives l v.notes) (sym home.2) f.agree,
             f.same live ∙ ap Some (sym home.3),
             (λ m. subst (λ (l : List E). OpenFrom is_open l (length v.seen)) (sym home.2) (f.mark m)),
             live,
+            (λ all. home.2 ∙ sees_all s r id v at all),
+            subst (λ (l : List E). AllHeard l v.heard) (sym home.2) f.heard,
           )),
         ),
       ))
@@ -257,8 +280,8 @@ module _ {V E R : Type 0} (entries : V → List E) (gives : E → ℕ → Option
         tt,
         put s r ws s.homes r.log id v w at r.short r.one (length-set s.words 1 (old + 1) ∙ r.wide) (omega arith) (omega arith)
             (λ i l. subst (Tells gives r.log i) (sym (get_or-set_other s.words 1 (i + 2) (old + 1) 0 (λ e. omega arith))) (r.each_word i l))
-            (λ j u other e. let g = r.each j u e in record { same = g.same; some_seen = g.some_seen; idle = g.idle; own_seen = g.own_seen; starts = g.starts; agree = g.agree; mark = g.mark; waits = λ p. let q = g.waits p in (omega arith, omega arith); inside = λ p. let q = g.inside p in (q.0, q.1 ∙ sym zero_is, q.2); served = let a = g.served in omega arith })
-            record { same = f.same; some_seen = f.some_seen; own_seen = f.own_seen; starts = f.starts; agree = f.agree; mark = f.mark; idle = λ p. absurd (omega arith); waits = λ _. (omega arith, omega arith); inside = λ p. absurd (true≢false (sym p ∙ out)); served = let a = f.served in omega arith }
+            (λ j u other e. let g = r.each j u e in record { same = g.same; some_seen = g.some_seen; idle = g.idle; own_seen = g.own_seen; starts = g.starts; heard = g.heard; agree = g.agree; mark = g.mark; waits = λ p. let q = g.waits p in (omega arith, omega arith); inside = λ p. let q = g.inside p in (q.0, q.1 ∙ sym zero_is, q.2); served = let a = g.served in omega arith })
+            record { same = f.same; some_seen = f.some_seen; own_seen = f.own_seen; starts = f.starts; heard = f.heard; agree = f.agree; mark = f.mark; idle = λ p. absurd (omega arith); waits = λ _. (omega arith, omega arith); inside = λ p. absurd (true≢false (sym p ∙ out)); served = let a = f.served in omega arith }
             (λ j u other e p q same. let g = (r.each j u e).waits p in omega arith)
             (λ m. m)
             refl (λ k h. h) (λ k a b. absurd (omega arith))

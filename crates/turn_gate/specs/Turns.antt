@@ -7,7 +7,7 @@ use Rattle.atomic_table.specs.Table.{State, Me, Step}
 use Rattle.turn_gate.specs.declared.pass.View.{View}
 use Rattle.turn_gate.specs.declared.pass.Place.{Place}
 use Rattle.turn_gate.specs.declared.pass.Place.TheVariants.{Here, Told, Empty}
-use Rattle.turn_gate.specs.Entries.{StartsWith, AllAgree, NotBelow, Tells, OpenFrom}
+use Rattle.turn_gate.specs.Entries.{StartsWith, AllAgree, AllHeard, NotBelow, Tells, OpenFrom}
 use Rattle.turn_gate.specs.Pass.{all_parts, Has, IsKin, grown, went_out, noted}
 
 abbrev pub total : {A : Type 0} → (A → ℕ) → List A → ℕ
@@ -25,6 +25,7 @@ module _ {E R : Type 0} (gives : E → ℕ → Option ℕ) (is_open : E → Bool
     pub waits : v.waits ≡ true → (serving ≤ v.ticket) × (v.ticket < next)
     pub inside : v.inside ≡ true → (v.waits ≡ true) × (v.ticket ≡ serving) × (v.seen ≡ log)
     pub agree : AllAgree gives log v.notes
+    pub heard : AllHeard log v.heard
     pub mark : v.mark ≡ true → OpenFrom is_open log (length v.seen)
     pub served : v.served ≤ serving
 
@@ -49,10 +50,11 @@ module _ {V E R : Type 0} (entries : V → List E) (gives : E → ℕ → Option
     pub one_mark : (i j : ℕ) (u v : View E R) → get_elem? s.views i ≡ maybe.some u → get_elem? s.views j ≡ maybe.some v → u.mark ≡ true → v.mark ≡ true → i ≡ j
     pub rests : ((j : ℕ) (v : View E R) → get_elem? s.views j ≡ maybe.some v → v.inside ≡ false) → Rests entries root log base s.homes
 
-  -- the pass took the value. Its list was seen, begins with all that was seen before, and agrees with all notes
+  -- the pass took the value. Its list was seen, begins with all that was seen before, and agrees with all notes. A pass that is
+  -- alone finds what it had seen.
   abbrev pub HasEntered : View E R → Me (Place V) (View E R) → Type 0
   HasEntered v m' = (x : V) × (m'.1 ≡ (0, Here x) ∷ []) × (m'.0.inside ≡ true) × (m'.0.seen ≡ entries x) × IsKin v m'.0 × StartsWith (entries x) v.seen × AllAgree gives (entries x) v.notes × (v.root ≡ Some (root x))
-      × (v.mark ≡ true → OpenFrom is_open (entries x) (length v.seen)) × (0 < v.parts)
+      × (v.mark ≡ true → OpenFrom is_open (entries x) (length v.seen)) × (0 < v.parts) × (v.parts ≡ all_parts → entries x ≡ v.seen) × AllHeard (entries x) v.heard
 
   -- nothing, or the value is taken
   abbrev pub Enters : Step (Place V) → Me (Place V) (View E R) → ℕ → Me (Place V) (View E R) → Type 0

@@ -1,6 +1,6 @@
 //! The gate.
 ghost use Rattle.std.specs.Prelude.{◌≡◌, ◌≢◌, ℕ, ◌+◌, ◌-◌, ◌*◌, ◌<◌, ◌≤◌, ◌^◌, ◌⊎◌, [], ◌∷◌, ◌++◌, length, true, false, Some};
-ghost use Rattle.turn_gate.specs.Entries.{StartsWith, AllAgree, OpenFrom, NotBelow, OnlyGives, GivesNone};
+ghost use Rattle.turn_gate.specs.Entries.{StartsWith, AllAgree, AllHeard, OpenFrom, NotBelow, OnlyGives, GivesNone};
 ghost use Rattle.turn_gate.specs.Pass.{IsPassOf, knows, IsKin, IsInside, IsOutside, IsAway, AddsOne, noted, grown, went_out, left_part, right_part, both, OwnsAll};
 ghost use Rattle.turn_gate.specs.Turns.{HasEntered, HasDrawn, looked};
 
@@ -51,8 +51,10 @@ impl<V: Kept> Gate<V> {
         ensures seen { (knows pass.new).seen ≡ V.entries result }
         ensures starts { StartsWith (V.entries result) (knows pass.old).seen }
         ensures agree { AllAgree V.gives (V.entries result) (knows pass.old).notes }
+        ensures heard { AllHeard (V.entries result) (knows pass.old).heard }
         ensures root { (knows pass.old).root ≡ Some (V.root result) }
         ensures open { (knows pass.old).mark ≡ true → OpenFrom V.is_open (V.entries result) (length (knows pass.old).seen) }
+        ensures alone { (knows pass.old).parts ≡ 2 ^ 64 → V.entries result ≡ (knows pass.old).seen }
         ensures same { IsKin (knows pass.old) (knows pass.new) }
     {
         self.take_turn(rt, pass);
@@ -227,6 +229,7 @@ impl<V: Kept> Gate<V> {
         requires alone { (knows pass).parts ≡ 2 ^ 64 }
         ensures all { OwnsAll (knows pass) (V.entries result) }
         ensures agree { AllAgree V.gives (V.entries result) (knows pass).notes }
+        ensures heard { AllHeard (V.entries result) (knows pass).heard }
         ensures root { (knows pass).root ≡ Some (V.root result) }
     {
         let GateOf { table } = self;

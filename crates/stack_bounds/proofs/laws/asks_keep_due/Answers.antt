@@ -1,4 +1,4 @@
-use Rattle.stack_bounds.proofs.Asking.{accepted_are_due, asks_keep_due, plans_keep_due}
+use Rattle.stack_bounds.proofs.Asking.{accepted_are_due, asks_keep_due, plans_keep_due, requests_keep_due, requests_keep_held}
 use Rattle.stack_bounds.proofs.laws.asks_keep_due.Goals as goal
 
 pub returns-clause-accepted : goal.returns-clause-accepted
@@ -9,3 +9,9 @@ returns-clause-stays c = asks_keep_due c.histories_grow.ensures.steps c.historie
 
 pub returns-clause-plans : goal.returns-clause-plans
 returns-clause-plans c = plans_keep_due
+
+pub returns-clause-requests : goal.returns-clause-requests
+returns-clause-requests c = requests_keep_due c.histories_grow.ensures.steps c.histories_grow.ensures.counted c.hands_stay.ensures.blocks
+
+pub returns-clause-in_hand : goal.returns-clause-in_hand
+returns-clause-in_hand c = requests_keep_held c.histories_grow.ensures.steps c.histories_grow.ensures.counted c.hands_stay.ensures.blocks

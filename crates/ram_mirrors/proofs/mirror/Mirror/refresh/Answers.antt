@@ -1,4 +1,4 @@
-use Rattle.std.proofs.Common.{ℕ, ◌+◌, ◌∷◌, length, ◌%◌, sym, ap, ◌∙◌, arith}
+use Rattle.std.proofs.Common.{ℕ, ◌+◌, [], ◌∷◌, ◌++◌, length, ◌%◌, sym, ap, ◌∙◌, arith}
 use Rattle.atomic_table.specs.Table.{rest}
 use Rattle.ram_mirrors.specs.declared.view.View.{View}
 use Rattle.ram_mirrors.specs.Ends.{counted, MirrorValue, TakerValue}
@@ -83,4 +83,16 @@ invariant_of-taker-2 c =
       ap (λ (z : View). z.shown) now ∙ sym (ap (λ (z : View). z.taken) now),
       f.2.5 ∙ ap store_number (sym (ap (λ (z : View). z.shown) now)),
       c.next_look-looks.ensures ∙ (ap (λ (n : ℕ). counted (n + 1)) i.9 ∙ (counted_more _ ∙ ap counted (sym (ap (λ (z : View). z.looks) now ∙ ap (λ (z : View). z.looks) was)))),
+    )
+
+pub returns-clause-shows : goal.returns-clause-shows
+returns-clause-shows c =
+    let now = ap (λ m. m.0) c.exchange.ensures.3 ∙ c.swap-found.ensures.2.6 in
+    let was = ap (λ m. m.0) c.exchange-empty.ensures.3 ∙ c.load-shown.ensures.2.2 in
+    let looked_at : ℕ = c.load-shown.ensures.2.0 in
+    let newest : ℕ = c.swap-found.ensures.2.0 in (
+      looked_at ∷ [],
+      ap (λ (z : View). z.all_shown) now ∙ ap (λ (z : View). z.all_shown ++ newest ∷ []) was
+          ∙ ap (λ (k : ℕ). (c.taker.inside.seat.me.0.all_shown ++ looked_at ∷ []) ++ k ∷ []) (sym (ap (λ (z : View). z.shown) now))
+          ∙ ap (λ (z : TakerValue). (z.all_shown ++ looked_at ∷ []) ++ c.exchange.new.seat.me.0.shown ∷ []) c.taker.view_is,
     )

@@ -1,0 +1,5 @@
+mod Copying
+mod Copies
+mod Belonging
+mod Blocks
+mod Ending

@@ -1,0 +1,63 @@
+-- The two mirrors of a synchronized block, and the driver's ends of them.
+use Rattle.std.specs.Prelude.{◌≡◌, ◌⊎◌, ◌+◌, ◌≤◌, ℕ, List, [], ◌∷◌, ◌++◌, length, get_or, map, option_map, Option, Some, None, IfSome}
+use mathlib.Core.Option.{some}
+use lib.ListN.{get_elem?}
+use Rattle.ram_mirrors.specs.Stores.{Contents, store_number}
+use Rattle.ram_mirrors.specs.Ends.{MirrorValue, OwnerValue, TakerValue, IsOwnerOf, IsTakerOf, ShowsNewest}
+use Rattle.ram_blocks.specs.Told.{Synchronized}
+
+-- from the application to the driver, and back
+pub record PairValue : Type 0 where
+  pub up : MirrorValue
+  pub down : MirrorValue
+
+-- the driver's ends, and what the application has before its first store
+pub record EndValue : Type 0 where
+  pub up : TakerValue
+  pub down : OwnerValue
+  pub first : List ℕ
+
+-- the last of some contents, none before the first
+abbrev pub last_of : Contents → List ℕ → List ℕ
+last_of [] last = last
+last_of (x ∷ xs) last = last_of xs x
+
+-- nothing was taken yet, or the last pair is the one that is shown, with its content
+abbrev pub IsShown : TakerValue → Type 0
+IsShown t = ((t.got ≡ []) × (t.shown ≡ 0)) ⊎ ((front : List (ℕ × List ℕ)) × (t.got ≡ front ++ (store_number t.shown, t.content) ∷ []))
+
+-- the ends are those of these mirrors, and all have the same length
+pub record IsEndOf (p : PairValue) (e : EndValue) : Type 0 where
+  pub up : IsTakerOf p.up e.up
+  pub down : IsOwnerOf p.down e.down
+  pub same : e.down.size ≡ e.up.size
+  pub first : length e.first ≡ e.up.size
+  pub content : length e.up.content ≡ e.up.size
+  pub shown : IsShown e.up
+
+-- what is told of a block by its end. No copy of it is refused.
+abbrev pub told_of : EndValue → Synchronized
+told_of e = record { bytes = e.up.size; refusals = 0; most = 0; handed = store_number (length e.down.stores); last = last_of e.down.stores [] }
+
+-- a pair that was taken; number 0 is what the application has before its first store
+abbrev pub IsTaken : EndValue → ℕ → List ℕ → Type 0
+IsTaken e n content = ((n ≡ 0) × (content ≡ e.first)) ⊎ ((i : ℕ) × (get_elem? e.up.got i ≡ some (n, content)))
+
+-- a look between these two showed the store with this number as the newest
+abbrev pub HasShown : (old new : EndValue) → ℕ → Type 0
+HasShown old new n = (i : ℕ) × (k : ℕ) × (length old.up.all_shown ≤ i) × (get_elem? new.up.all_shown i ≡ some k) × (n ≡ store_number k)
+
+-- ONE COPY
+-- a copy out looks once, and gives the store that this look showed as the newest, whole
+pub record CopiesEndOut (old : EndValue) (n : ℕ) (content : List ℕ) (new : EndValue) : Type 0 where
+  pub looks : new.up.looks ≡ old.up.looks + 1
+  pub shown : n ≡ store_number new.up.shown
+  pub shows : ShowsNewest old.up new.up
+  pub taken : IsTaken new n content
+  pub stays : (m : ℕ) (x : List ℕ) → IsTaken old m x → IsTaken new m x
+  pub rest : told_of new ≡ told_of old
+
+-- a copy in stores a content
+pub record CopiesEndIn (old : EndValue) (n : ℕ) (content : List ℕ) (new : EndValue) : Type 0 where
+  pub stored : new ≡ record old { down = record old.down { stores = old.down.stores ++ content ∷ [] } }
+  pub number : n ≡ store_number (length new.down.stores)

@@ -1,0 +1,158 @@
+-- The halves of a turn, behind requests of others.
+use Rattle.std.proofs.Common.{◌≡◌, inl, inr, ℕ, Bool, true, false, List, [], ◌∷◌, ◌++◌, length, Option, Some, sym, ap, ◌∙◌, subst}
+use Rattle.memif.specs.Told.{DeviceTold, Part, PartTold}
+use Rattle.memif.specs.Clock.{Clock}
+use Rattle.memif.specs.Calls.{Turns}
+use Rattle.memif.specs.declared.answer.DeviceTurn.{DeviceTurn}
+use Rattle.memif.specs.declared.answer.DeviceTurn.TheVariants as turn
+use Rattle.second_half.specs.Second.{TurnsDevice, answer_by}
+use Rattle.block_machine.specs.Words.{Entry, Ask, Configuration}
+use Rattle.block_machine.specs.Steps.{step}
+use Rattle.stack_bounds.specs.Laws.{AreReplied}
+use Rattle.block_machine.specs.State.{State}
+use Rattle.block_machine.specs.StartUp.{at_first}
+use Rattle.nv_desk.specs.Desk.{DeskState, state_of}
+use Rattle.job_hands.specs.Hand.{HandState}
+use Rattle.hand_laws.specs.Hands.{HandFits}
+use Rattle.stack_turns.specs.Ties.{IsTied}
+use Rattle.stack_turns.specs.Keeps.{StackKeeps}
+use Rattle.atomic_table.proofs.Lists.{at_last, at_longer}
+use Rattle.turn_gate.specs.Entries.{Note, StartsWith, AllAgree, OpenFrom}
+use Rattle.turn_gate.specs.Pass.{IsKin, grown, went_out}
+use Rattle.shared_laws.specs.StatusWords.{gives, is_ask}
+use Rattle.shared_laws.specs.Written.{AreWritten, RestsAreWritten}
+use Rattle.shared_laws.specs.Behind.{AreAsks, AsksStandBehind, HandIsPending, OpenAreAsks, StandsBehind, with_more}
+use Rattle.nvm_shared.specs.declared.terms.Terms.{Terms}
+use Rattle.nvm_shared.specs.Locked.{LockedState, desk_with, terms_of}
+use Rattle.nvm_shared.specs.Passes.{IsExtended, LearnsHalf, IsEntry}
+use Rattle.nvm_shared.proofs.Asking.{V, starts_on}
+use Rattle.nvm_shared.proofs.Writing.{Writes}
+
+-- what the marked pass v finds under the lock, and knows as u
+pub record Enters (t : Terms) (v u : V) (x : LockedState) : Type 0 where
+  pub own : v.root ≡ Some t
+  pub root : v.root ≡ Some (terms_of x)
+  pub seen : u.seen ≡ x.desk.entries
+  pub starts : StartsWith x.desk.entries v.seen
+  pub agree : AllAgree gives x.desk.entries v.notes
+  pub mark : v.mark ≡ true
+  pub open_now : v.mark ≡ true → OpenFrom is_ask x.desk.entries (length v.seen)
+  pub kin : IsKin v u
+  pub written : AreWritten x.tells x.desk.config x.desk.cap at_first x.desk.entries
+
+-- requests stand behind what it knew
+pub record Behind (t : Terms) (seen : List Entry) (x : LockedState) (hand : Option HandState) (d : DeviceTold) (clock : Clock) : Type 0 where
+  pub asks : List Entry
+  pub are : AreAsks asks
+  pub terms : terms_of x ≡ t
+  pub desk : x.desk ≡ with_more (desk_with t seen) asks
+  pub replied : AreReplied (desk_with t seen).config (desk_with t seen).cap (state_of (desk_with t seen)) asks
+  pub stands : StandsBehind (desk_with t seen) x.desk hand d clock
+
+-- requests that were written have the machine's replies
+replied_by : (tells : Bool) (c : Configuration) (cap : ℕ) (s : State) (es : List Entry) → AreAsks es → AreWritten tells c cap s es → AreReplied c cap s es
+replied_by tells c cap s [] are written = tt
+replied_by tells c cap s (Ask caller r reply ∷ es) are written = (written.0.replies, replied_by tells c cap (step c s (Ask caller r reply)) es are.1 written.1)
+replied_by tells c cap s (e ∷ es) are written = let off : false ≡ true = are.0 in cc
+
+same_terms : (o : Option Terms) (s t : Terms) → o ≡ Some s → o ≡ Some t → s ≡ t
+same_terms o s t one other = cc
+
+pub behind : RestsAreWritten → OpenAreAsks → (t : Terms) (v u : V) (x : LockedState) (hand : Option HandState) (d : DeviceTold) (clock : Clock) → AsksStandBehind d clock
+    → Enters t v u x → HandIsPending (state_of (desk_with t v.seen)) → IsTied (desk_with t v.seen) hand d → Behind t v.seen x hand d clock
+behind rests opens t v u x hand d clock law enters pending tied =
+    let terms : terms_of x ≡ t = same_terms v.root (terms_of x) t enters.root enters.own in
+    let (asks, is) = enters.starts in
+    let desk : x.desk ≡ with_more (desk_with t v.seen) asks = ap (λ (s : Terms). desk_with s x.desk.entries) terms ∙ ap (desk_with t) is in
+    let are = opens v.seen asks (subst (λ (l : List Entry). OpenFrom is_ask l (length v.seen)) is (enters.open_now enters.mark)) in
+    let written : AreWritten t.tells t.config t.cap at_first (v.seen ++ asks) =
+    subst (λ (s : Terms). AreWritten s.tells s.config s.cap at_first (v.seen ++ asks)) terms (subst (λ (l : List Entry). AreWritten x.tells x.desk.config x.desk.cap at_first l) is enters.written) in record {
+      asks = asks;
+      are = are;
+      terms = terms;
+      desk = desk;
+      replied = replied_by t.tells t.config t.cap (state_of (desk_with t v.seen)) asks are (rests t.tells t.config t.cap at_first v.seen asks written);
+      stands = subst (λ (y : DeskState). StandsBehind (desk_with t v.seen) y hand d clock) (sym desk)
+          (law t.tells (desk_with t v.seen) hand asks are (rests t.tells t.config t.cap at_first v.seen asks written) pending tied);
+    }
+
+-- the job in hand still fits what the device holds
+pub fits_behind : (t : Terms) (seen : List Entry) (x : LockedState) (hand : Option HandState) (d : DeviceTold) (clock : Clock) → Behind t seen x hand d clock
+    → (t.tells ≡ true → (before : Part → PartTold) × StackKeeps before (desk_with t seen) hand d clock) → x.tells ≡ true → HandFits x.desk.config (state_of x.desk) hand d
+fits_behind t seen x hand d clock behind kept told =
+    let (before, keeps) = kept (ap (λ (s : Terms). s.tells) (sym behind.terms) ∙ told) in (behind.stands.kept before keeps).fits
+
+-- WHAT THE PASS LEARNS
+-- w is u outside, with an entry more or none
+pub record Leaves (u w : V) (log : List Entry) : Type 0 where
+  pub same : log ≡ u.seen → w ≡ went_out u
+  pub more : (e : Entry) → log ≡ u.seen ++ e ∷ [] → w ≡ went_out (grown u log)
+
+pub record Left (v w : V) (log : List Entry) : Type 0 where
+  pub seen : w.seen ≡ log
+  pub root : w.root ≡ v.root
+  pub learns : LearnsHalf v w
+
+agree_on : (log : List Entry) (e : Entry) (notes : List Note) → AllAgree gives log notes → AllAgree gives (log ++ e ∷ []) notes
+agree_on log e notes agree i n at = let (x, here, is) = agree i n at in (x, at_longer log (e ∷ []) n.1 x here, is)
+
+pub extended : (t : Terms) (v u : V) (x y : LockedState) (tells : Bool) → Enters t v u x → Writes tells x.desk y.desk → IsExtended u y.desk.entries
+extended t v u x y tells enters (inl same) = inl (ap (λ (d : DeskState). d.entries) same ∙ sym enters.seen)
+extended t v u x y tells enters (inr (e, adds, written, driven)) = inr (
+  e,
+  ap (λ (d : DeskState). d.entries) adds ∙ ap (λ (l : List Entry). l ++ e ∷ []) (sym enters.seen),
+  (λ off. let on : u.mark ≡ true = enters.kin.3 ∙ enters.mark in cc),
+  driven.1,
+)
+
+module _ (t : Terms) (v u w : V) (x y : LockedState) (tells : Bool) (enters : Enters t v u x) (leaves : Leaves u w y.desk.entries) where
+  pub left : Writes tells x.desk y.desk → Left v w y.desk.entries
+  left (inl same) =
+      let entries : y.desk.entries ≡ u.seen = ap (λ (d : DeskState). d.entries) same ∙ sym enters.seen in
+      let is = leaves.same entries in
+      let log : x.desk.entries ≡ w.seen = sym enters.seen ∙ ap (λ (z : V). z.seen) (sym is) in record {
+        seen = ap (λ (z : V). z.seen) is ∙ sym entries;
+        root = ap (λ (z : V). z.root) is ∙ enters.kin.0;
+        learns = record {
+          starts = subst (λ (l : List Entry). StartsWith l v.seen) log enters.starts;
+          agree = subst (λ (l : List Entry). AllAgree gives l v.notes) log enters.agree;
+          own = inl (ap (λ (z : V). z.own) is ∙ enters.kin.1);
+          notes = ap (λ (z : V). z.notes) is ∙ enters.kin.2;
+          heard = ap (λ (z : V). z.heard) is ∙ enters.kin.5;
+          mark = ap (λ (z : V). z.mark) is ∙ enters.kin.3;
+          parts = ap (λ (z : V). z.parts) is ∙ enters.kin.4;
+        };
+      }
+  left (inr (e, adds, written, driven)) =
+      let grew : y.desk.entries ≡ x.desk.entries ++ e ∷ [] = ap (λ (d : DeskState). d.entries) adds in
+      let is = leaves.more e (grew ∙ ap (λ (l : List Entry). l ++ e ∷ []) (sym enters.seen)) in
+      let log : x.desk.entries ++ e ∷ [] ≡ w.seen = sym grew ∙ ap (λ (z : V). z.seen) (sym is) in record {
+        seen = ap (λ (z : V). z.seen) is;
+        root = ap (λ (z : V). z.root) is ∙ enters.kin.0;
+        learns = record {
+          starts = subst (λ (l : List Entry). StartsWith l v.seen) log (starts_on x.desk.entries v.seen e enters.starts);
+          agree = subst (λ (l : List Entry). AllAgree gives l v.notes) log (agree_on x.desk.entries e v.notes enters.agree);
+          own = inr (
+            length u.seen,
+            e,
+            ap (λ (z : V). z.own) is ∙ ap (λ (l : List ℕ). l ++ length u.seen ∷ []) enters.kin.1,
+            subst (λ (l : List Entry). IsEntry l (length u.seen) e) log (at_last x.desk.entries e (length u.seen) (ap length (sym enters.seen))),
+            driven.0,
+          );
+          notes = ap (λ (z : V). z.notes) is ∙ enters.kin.2;
+          heard = ap (λ (z : V). z.heard) is ∙ enters.kin.5;
+          mark = ap (λ (z : V). z.mark) is ∙ enters.kin.3;
+          parts = ap (λ (z : V). z.parts) is ∙ enters.kin.4;
+        };
+      }
+
+-- the desk behind it
+pub desk_behind : (t : Terms) (x y : LockedState) (seen : List Entry) → terms_of x ≡ t → terms_of y ≡ terms_of x → seen ≡ y.desk.entries → y.desk ≡ desk_with t seen
+desk_behind t x y seen terms same entries = ap (λ (s : Terms). desk_with s y.desk.entries) (same ∙ terms) ∙ ap (desk_with t) (sym entries)
+
+-- the stack's answer is the device's
+pub turns_device : (answer : DeviceTurn) (old : DeviceTold) (clock : Clock) (new : DeviceTold) (clock_new : Clock) → Turns answer old clock new clock_new
+    → TurnsDevice (answer_by answer) old clock new clock_new
+turns_device turn.Idle old clock new clock_new is = is
+turns_device turn.Worked old clock new clock_new is = is
+turns_device turn.Off old clock new clock_new is = is

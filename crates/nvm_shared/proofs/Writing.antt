@@ -1,0 +1,112 @@
+-- What a half of a turn writes.
+use Rattle.std.specs.Prelude.{IsTrue}
+use Rattle.std.proofs.Common.{◌≡◌, ◌⊎◌, inl, inr, ℕ, Bool, true, false, List, Option, Some, None, refl, sym, ap, ◌∙◌, subst}
+use Rattle.memif.specs.Told.{DeviceTold, Stand, Open, Ended as Closed}
+use Rattle.memif.specs.declared.answer.DeviceTurn.{DeviceTurn}
+use Rattle.memif.specs.declared.answer.DeviceTurn.TheVariants as turn
+use Rattle.memif.specs.declared.answer.JobResult.TheVariants.{JobOk}
+use Rattle.block_machine.specs.Words.{Mark}
+use Rattle.block_machine.specs.State.{State}
+use Rattle.turn_laws.specs.Turn.{settled_by, wrote_by}
+use Rattle.block_machine.specs.Words.{Entry, Ask, Pick, Wrote, Post, Off, Found, Taken, Configuration}
+use Rattle.block_machine.specs.StartUp.{at_first}
+use Rattle.block_machine.specs.Next.{Next, Nothing, PickJob, BeginSweep, PickMember, PostMember, EndSweep, next_of}
+use Rattle.block_machine.specs.Legal.{IsAllowed}
+use Rattle.ram_blocks.specs.Told.{Told}
+use Rattle.nv_desk.specs.Desk.{DeskState, state_of}
+use Rattle.nv_front.specs.Front.{StagingState, StagesAll}
+use Rattle.nv_front.specs.Posts.{IsPostedNext}
+use Rattle.nv_front.specs.declared.post.Posted.{Posted}
+use Rattle.stack_turns.specs.Halves.{IsHalf, Adds}
+use Rattle.stack_turns.specs.Turns.{AddsBy, entry_by}
+use Rattle.stack_turns.specs.declared.turned.Turned.TheVariants as turned
+use Rattle.stack_turns.specs.declared.turned.Act.{Act}
+use Rattle.stack_turns.specs.declared.turned.Act.TheVariants.{Ended, Device}
+use Rattle.shared_laws.specs.Written.{IsWritten, AreWritten, HistoriesAreWrittenOn}
+use Rattle.shared_laws.specs.StatusWords.{is_ask, is_found}
+use Rattle.nvm_shared.specs.declared.terms.Terms.{Terms}
+use Rattle.nvm_shared.specs.Locked.{IsLocked, terms_of}
+
+-- an entry of the driver that is no start-up
+abbrev pub IsDriven : Entry → Type 0
+IsDriven e = (is_ask e ≡ false) × (is_found e ≡ false)
+
+-- One entry more, of the driver, which may be written; or none.
+abbrev pub Writes : Bool → DeskState → DeskState → Type 0
+Writes tells old new = (new ≡ old) ⊎ ((e : Entry) × Adds e old new × IsWritten tells old.config old.cap (state_of old) e × IsDriven e)
+
+next_writes : (tells : Bool) (n : Next) (ops : ℕ) (old new : DeskState) (before after : List Told) (posted : Posted) → IsPostedNext n ops old new before after posted → Writes tells old new
+next_writes tells (PostMember sw id) ops old new before after posted is = inr (Post id posted.result is.given is.refused ops, is.adds, (λ told. is.allowed tt), (refl, refl))
+next_writes tells (EndSweep sw) ops old new before after posted is = inr (Post 0 posted.result is.given is.refused ops, is.adds, (λ told. is.allowed tt), (refl, refl))
+next_writes tells Nothing ops old new before after posted is = absurd is
+next_writes tells (PickJob j) ops old new before after posted is = absurd is
+next_writes tells (BeginSweep sw) ops old new before after posted is = absurd is
+next_writes tells (PickMember sw id) ops old new before after posted is = absurd is
+
+pub half_writes : (tells : Bool) (act : Act) (Holds : ℕ → Taken → Type 0) (Fits : Type 0) (old new : DeskState) (before after : List Told) (d : DeviceTold)
+    → IsHalf act Holds Fits old new before after d → (tells ≡ true → Fits) → Writes tells old new
+half_writes tells (Ended turned.Off) Holds Fits old new before after d is fits = inl is.0.0
+half_writes tells (Ended turned.Picked) Holds Fits old new before after d is fits = inr (Pick is.0 is.1.kind is.1.taken _, is.1.adds, (λ told. is.1.allowed), (refl, refl))
+half_writes tells (Ended turned.Posted) Holds Fits old new before after d is fits = elim is.1 [
+  | inl held ↦ inr (_, held.is.adds, (λ told. held.is.allowed (fits told)), (refl, refl))
+  | inr next ↦ next_writes tells (next_of old.config (state_of old)) _ old new before after is.0 next.1
+]
+half_writes tells (Ended turned.Idle) Holds Fits old new before after d is fits = inl is.0.0
+half_writes tells (Ended turned.Worked) Holds Fits old new before after d is fits = absurd is
+half_writes tells Device Holds Fits old new before after d is fits = inl is.0.0
+
+-- WHAT THE VALUE KEEPS
+pub writes_terms : (tells : Bool) (old new : DeskState) → Writes tells old new → terms_of (record { desk = new; tells = tells }) ≡ terms_of (record { desk = old; tells = tells })
+writes_terms tells old new (inl same) = ap (λ (x : DeskState). terms_of (record { desk = x; tells = tells })) same
+writes_terms tells old new (inr (e, adds, written, driven)) = ap (λ (x : DeskState). terms_of (record { desk = x; tells = tells })) adds
+
+pub writes_on : HistoriesAreWrittenOn → (tells : Bool) (old new : DeskState) → Writes tells old new → AreWritten tells old.config old.cap at_first old.entries
+    → AreWritten tells new.config new.cap at_first new.entries
+writes_on on tells old new (inl same) are = subst (λ (x : DeskState). AreWritten tells x.config x.cap at_first x.entries) (sym same) are
+writes_on on tells old new (inr (e, adds, written, driven)) are = subst (λ (x : DeskState). AreWritten tells x.config x.cap at_first x.entries) (sym adds)
+    (on tells old.config old.cap at_first old.entries e are written)
+
+pub locked_on : HistoriesAreWrittenOn → (tells : Bool) (old new : DeskState) (staging staging_new : StagingState) → Writes tells old new → staging_new.room ≡ staging.room
+    → IsTrue (state_of new).started → IsLocked old staging tells → IsLocked new staging_new tells
+locked_on on tells old new staging staging_new writes room started is =
+    let config : new.config ≡ old.config = ap (λ (t : Terms). t.config) (writes_terms tells old new writes) in record {
+      stages = subst (λ (c : Configuration). StagesAll c staging_new) (sym config) (λ id. rw room (is.stages id));
+      started = started;
+      written = writes_on on tells old new writes is.written;
+    }
+
+-- THE SECOND HALF
+abbrev pub IfDriven : Option Entry → Type 0
+IfDriven None = Unit {0}
+IfDriven (Some e) = IsDriven e
+
+wrote_driven : (number : ℕ) (mark : Option Mark) (ops : ℕ) → IfDriven (wrote_by number mark ops)
+wrote_driven number None ops = tt
+wrote_driven number (Some mark) ops = (refl, refl)
+
+settled_driven : (old new : Stand) (ops : ℕ) → IfDriven (settled_by old new ops)
+settled_driven (Open j) (Closed JobOk given) ops = wrote_driven j.number j.mark ops
+settled_driven old new ops = tt
+
+pub entry_driven : (answer : DeviceTurn) (old new : Stand) (ops : ℕ) → IfDriven (entry_by answer old new ops)
+entry_driven turn.Off old new ops = (refl, refl)
+entry_driven turn.Idle old new ops = settled_driven old new ops
+entry_driven turn.Worked old new ops = settled_driven old new ops
+
+written_by : (tells : Bool) (c : Configuration) (cap : ℕ) (s : State) (e : Entry) → IsAllowed c cap s e → IsWritten tells c cap s e
+written_by tells c cap s (Ask caller r reply) is = is
+written_by tells c cap s (Pick block kind t ops) is = λ told. is
+written_by tells c cap s (Wrote i mark ops) is = λ told. is
+written_by tells c cap s (Post block r given refused ops) is = λ told. is
+written_by tells c cap s (Off ops) is = λ told. is
+written_by tells c cap s (Found marks ops) is = λ told. is
+
+pub adds_writes : (tells : Bool) (o : Option Entry) (old new : DeskState) → AddsBy o old new → IfDriven o → Writes tells old new
+adds_writes tells None old new adds driven = inl adds
+adds_writes tells (Some e) old new adds driven = inr (e, adds.0, written_by tells old.config old.cap (state_of old) e adds.1, driven)
+
+-- the power stays off
+pub half_off : (act : Act) (Holds : ℕ → Taken → Type 0) (Fits : Type 0) (old new : DeskState) (before after : List Told) (d : DeviceTold)
+    → IsHalf act Holds Fits old new before after d → act ≡ Ended turned.Off → (state_of old).off ≡ true → (state_of new).off ≡ true
+half_off (Ended turned.Off) Holds Fits old new before after d is now off = ap (λ (x : DeskState). (state_of x).off) is.0.0 ∙ off
+half_off act Holds Fits old new before after d is now off = cc

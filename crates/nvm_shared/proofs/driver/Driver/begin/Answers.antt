@@ -1,0 +1,145 @@
+use Rattle.std.proofs.Common.{◌≡◌, sym, subst, ◌∙◌, true}
+use Rattle.turn_gate.specs.Pass.{knows}
+use Rattle.nv_front.specs.Front.{AreSynchronized}
+use Rattle.nv_desk.specs.Desk.{DeskState, state_of}
+use Rattle.stack_turns.specs.Ties.{IsTied}
+use Rattle.stack_turns.specs.Keeps.{StackKeeps, StaysKept}
+use Rattle.stack_turns.specs.declared.turned.Act.{Act}
+use Rattle.stack_bounds.specs.Laws.{NextIsPending}
+use Rattle.shared_laws.specs.Behind.{HandIsPending}
+use Rattle.stack_work.specs.Work.{program_in_hand}
+use Rattle.first_half.specs.Lowers.{HalfLeft}
+use Rattle.nvm_core.specs.Turns.{IsFirstHalf}
+use Rattle.nvm_core.proofs.Turned.{half_adds}
+use Rattle.nvm_shared.specs.declared.terms.Terms.{Terms}
+use Rattle.nvm_shared.specs.Locked.{desk_with}
+use Rattle.nvm_shared.specs.Driving.{BeginsTurn, DriverState, Drives, stack_with}
+use Rattle.nvm_shared.proofs.Turning.{Behind, Enters, behind, desk_behind, extended, fits_behind, left}
+use Rattle.nvm_shared.proofs.Writing.{Writes, half_writes}
+use Rattle.nvm_shared.proofs.Serving.{begins_served}
+use Rattle.nvm_shared.proofs.Stale.{stale_shown}
+use Rattle.nvm_shared.proofs.driver.Driver.begin.Goals as goal
+
+pub first_half-act-requires-clause-tied : goal.first_half-act-requires-clause-tied
+first_half-act-requires-clause-tied g c =
+    let told = g.D.MemDevice.told in
+    let clocks = g.D.MemDevice.clock in
+    let copies = g.C.SyncCalls.told in
+    let inside = c.self.inside in
+    let t = c.args.shared.now.terms in
+    let v = knows c.args.pass.now in
+    let u = knows c.enter-value.new.pass in
+    let x = c.enter-value.result in
+    let e = c.enter-value.ensures in
+    let d = told inside.device in
+    let clock = clocks inside.device in
+    let drives : Drives told clocks copies t.tells (desk_with t v.seen) (record { device = inside.device; copies = inside.copies; hand = inside.hand }) =
+    subst (λ (s : DriverState g.row.D.Denot g.row.C.Denot). Drives told clocks copies t.tells (desk_with t v.seen) s) (sym c.self.view_is) c.requires.drives in
+    let enters : Enters t v u x = record { own = c.requires.own.root; root = e.root; seen = e.seen; starts = e.starts; agree = e.agree; mark = c.requires.mark; open_now = e.open; kin = e.same; written = c.len-number.ensures.written } in
+    let b : Behind t v.seen x inside.hand d clock =
+    behind c.histories_are_written.ensures.rests c.open_are_asks.ensures t v u x inside.hand d clock c.asks_stand_behind.ensures enters drives.pending drives.tied in
+    b.stands.tied
+
+pub first_half-act-requires-clause-fits : goal.first_half-act-requires-clause-fits
+first_half-act-requires-clause-fits g c =
+    let told = g.D.MemDevice.told in
+    let clocks = g.D.MemDevice.clock in
+    let copies = g.C.SyncCalls.told in
+    let inside = c.self.inside in
+    let t = c.args.shared.now.terms in
+    let v = knows c.args.pass.now in
+    let u = knows c.enter-value.new.pass in
+    let x = c.enter-value.result in
+    let e = c.enter-value.ensures in
+    let d = told inside.device in
+    let clock = clocks inside.device in
+    let drives : Drives told clocks copies t.tells (desk_with t v.seen) (record { device = inside.device; copies = inside.copies; hand = inside.hand }) =
+    subst (λ (s : DriverState g.row.D.Denot g.row.C.Denot). Drives told clocks copies t.tells (desk_with t v.seen) s) (sym c.self.view_is) c.requires.drives in
+    let enters : Enters t v u x = record { own = c.requires.own.root; root = e.root; seen = e.seen; starts = e.starts; agree = e.agree; mark = c.requires.mark; open_now = e.open; kin = e.same; written = c.len-number.ensures.written } in
+    let b : Behind t v.seen x inside.hand d clock =
+    behind c.histories_are_written.ensures.rests c.open_are_asks.ensures t v u x inside.hand d clock c.asks_stand_behind.ensures enters drives.pending drives.tied in
+    fits_behind t v.seen x inside.hand d clock b drives.kept
+
+pub leave-requires-clause-adds : goal.leave-requires-clause-adds
+leave-requires-clause-adds g c =
+    let told = g.D.MemDevice.told in
+    let clocks = g.D.MemDevice.clock in
+    let copies = g.C.SyncCalls.told in
+    let inside = c.self.inside in
+    let t = c.args.shared.now.terms in
+    let v = knows c.args.pass.now in
+    let u = knows c.enter-value.new.pass in
+    let x = c.enter-value.result in
+    let e = c.enter-value.ensures in
+    let d = told inside.device in
+    let clock = clocks inside.device in
+    let drives : Drives told clocks copies t.tells (desk_with t v.seen) (record { device = inside.device; copies = inside.copies; hand = inside.hand }) =
+    subst (λ (s : DriverState g.row.D.Denot g.row.C.Denot). Drives told clocks copies t.tells (desk_with t v.seen) s) (sym c.self.view_is) c.requires.drives in
+    let enters : Enters t v u x = record { own = c.requires.own.root; root = e.root; seen = e.seen; starts = e.starts; agree = e.agree; mark = c.requires.mark; open_now = e.open; kin = e.same; written = c.len-number.ensures.written } in
+    let b : Behind t v.seen x inside.hand d clock =
+    behind c.histories_are_written.ensures.rests c.open_are_asks.ensures t v u x inside.hand d clock c.asks_stand_behind.ensures enters drives.pending drives.tied in
+    let half = c.first_half-act.ensures in
+    let new = c.first_half-act.new in
+    let writes : Writes x.tells x.desk new.self.desk = half_writes x.tells c.first_half-act.result _ _ x.desk new.self.desk _ _ _ half.half.half (fits_behind t v.seen x inside.hand d clock b drives.kept) in
+    extended t v u x new.self x.tells enters writes
+
+pub returns : goal.returns
+returns g c =
+    let told = g.D.MemDevice.told in
+    let clocks = g.D.MemDevice.clock in
+    let copies = g.C.SyncCalls.told in
+    let inside = c.self.inside in
+    let t = c.args.shared.now.terms in
+    let v = knows c.args.pass.now in
+    let u = knows c.enter-value.new.pass in
+    let x = c.enter-value.result in
+    let e = c.enter-value.ensures in
+    let d = told inside.device in
+    let clock = clocks inside.device in
+    let drives : Drives told clocks copies t.tells (desk_with t v.seen) (record { device = inside.device; copies = inside.copies; hand = inside.hand }) =
+    subst (λ (s : DriverState g.row.D.Denot g.row.C.Denot). Drives told clocks copies t.tells (desk_with t v.seen) s) (sym c.self.view_is) c.requires.drives in
+    let enters : Enters t v u x = record { own = c.requires.own.root; root = e.root; seen = e.seen; starts = e.starts; agree = e.agree; mark = c.requires.mark; open_now = e.open; kin = e.same; written = c.len-number.ensures.written } in
+    let b : Behind t v.seen x inside.hand d clock =
+    behind c.histories_are_written.ensures.rests c.open_are_asks.ensures t v u x inside.hand d clock c.asks_stand_behind.ensures enters drives.pending drives.tied in
+    let half = c.first_half-act.ensures in
+    let new = c.first_half-act.new in
+    let writes : Writes x.tells x.desk new.self.desk = half_writes x.tells c.first_half-act.result _ _ x.desk new.self.desk _ _ _ half.half.half (fits_behind t v.seen x inside.hand d clock b drives.kept) in
+    let w = knows c.leave.new.pass in
+    let l = left t v u w x new.self x.tells enters (record { same = c.leave.ensures.same; more = c.leave.ensures.more }) writes in
+    let desk : new.self.desk ≡ desk_with t w.seen = desk_behind t x new.self w.seen b.terms half.terms l.seen in
+    let clock_new = clocks new.device in
+    let is = g.C.SyncCalls.is_store in
+    let looked = g.C.SyncCalls.looked in
+    let first : IsFirstHalf told copies is looked c.first_half-act.result (stack_with x.desk inside.hand inside.device inside.copies) (stack_with new.self.desk new.hand new.device new.copies) = half.half in
+    let behind_it : DriverState g.row.D.Denot g.row.C.Denot = record { device = new.device; copies = new.copies; hand = new.hand } in
+    let begins : BeginsTurn told copies is looked c.first_half-act.result (desk_with t v.seen) (desk_with t w.seen) c.args.self.now behind_it =
+    subst (λ (s : DriverState g.row.D.Denot g.row.C.Denot). BeginsTurn told copies is looked c.first_half-act.result (desk_with t v.seen) (desk_with t w.seen) s behind_it) c.self.view_is
+    (record {
+      asks = b.asks;
+      are = b.are;
+      half = subst (λ (y : DeskState). IsFirstHalf told copies is looked c.first_half-act.result (stack_with y inside.hand inside.device inside.copies) (stack_with (desk_with t w.seen) new.hand new.device new.copies)) b.desk
+          (subst (λ (y : DeskState). IsFirstHalf told copies is looked c.first_half-act.result (stack_with x.desk inside.hand inside.device inside.copies) (stack_with y new.hand new.device new.copies)) desk first);
+      served = begins_served c.asks_keep_due.ensures.requests (desk_with t v.seen) b.asks x.desk new.self.desk (desk_with t w.seen) inside.hand new.hand d (told new.device) c.first_half-act.result
+          b.desk desk b.replied drives.next
+          (λ number turns due. c.halves_bring_nearer.ensures.first c.first_half-act.result x.desk new.self.desk _ _ inside.hand new.hand d number turns (λ picked. c.left-left.ensures.order)
+          (half_adds c.first_half-act.result _ _ x.desk new.self.desk _ _ _ first.half) first.at_device half.first b.stands.tied first.tied due);
+    }) in
+    record {
+      own = record { own = c.leave.ensures.own; outside = c.leave.ensures.outside; root = l.root ∙ c.requires.own.root };
+      begins = begins;
+      stale = λ picked. stale_shown told copies is looked (desk_with t v.seen) (desk_with t w.seen) c.args.self.now behind_it
+          (subst (λ (a : Act). BeginsTurn told copies is looked a (desk_with t v.seen) (desk_with t w.seen) c.args.self.now behind_it) picked begins);
+      drives = record {
+        tied = subst (λ (y : DeskState). IsTied y new.hand (told new.device)) desk first.tied;
+        pending = subst (λ (y : DeskState). HandIsPending (state_of y)) desk c.len-len.ensures.pending;
+        next = subst (λ (y : DeskState). NextIsPending y.config (state_of y)) desk c.len-len.ensures.next;
+        synchronized = subst (λ (s : Terms). AreSynchronized s.config (copies new.copies)) b.terms half.synchronized;
+        kept = λ told_now. let (before, kept) = drives.kept told_now in (before, subst (λ (y : DeskState). StackKeeps before y new.hand (told new.device) clock_new) desk (half.keeps before (b.stands.kept before kept)));
+      };
+      keeps = subst (λ (s : DriverState g.row.D.Denot g.row.C.Denot). StaysKept (desk_with t v.seen) s.hand (told s.device) (clocks s.device) (desk_with t w.seen) new.hand (told new.device) clock_new) c.self.view_is
+          (subst (λ (y : DeskState). StaysKept (desk_with t v.seen) inside.hand d clock y new.hand (told new.device) clock_new) desk
+          (λ before kept. half.keeps before (b.stands.kept before kept)));
+      left = subst (λ (s : DriverState g.row.D.Denot g.row.C.Denot). HalfLeft c.first_half-act.result (program_in_hand s.hand) (told s.device) (program_in_hand new.hand) (told new.device)) c.self.view_is half.left;
+      off = λ now. subst (λ (y : DeskState). (state_of y).off ≡ true) desk (half.off now);
+      learns = l.learns;
+    }

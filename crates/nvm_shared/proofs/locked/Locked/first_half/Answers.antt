@@ -1,0 +1,40 @@
+use Rattle.std.proofs.Common.{refl, sym, ap, subst, ◌∙◌}
+use Rattle.nv_desk.specs.Desk.{state_of}
+use Rattle.hand_laws.specs.Hands.{HandFits}
+use Rattle.nvm_core.specs.Turns.{IsFirstHalf}
+use Rattle.nvm_shared.specs.Locked.{LockedState}
+use Rattle.nvm_shared.specs.Driving.{stack_with}
+use Rattle.nvm_shared.proofs.Writing.{half_off, half_writes, locked_on}
+use Rattle.nvm_shared.proofs.locked.Locked.first_half.Goals as goal
+
+pub invariant_of-self : goal.invariant_of-self
+invariant_of-self g c =
+    let inside = c.self.inside in
+    let ends = c.first_half.ensures in
+    locked_on c.histories_are_written.ensures.on inside.tells.value inside.front.desk c.first_half.new.front.desk inside.front.staging c.first_half.new.front.staging
+    (half_writes inside.tells.value c.first_half.result _ _ inside.front.desk c.first_half.new.front.desk _ _ _ ends.half
+    (λ told. subst (λ (l : LockedState). HandFits l.desk.config (state_of l.desk) c.args.hand.now (g.D.MemDevice.told c.args.device.now)) (sym c.self.view_is) (c.requires.fits (ap (λ (l : LockedState). l.tells) (sym c.self.view_is) ∙ told))))
+    ends.room ends.tied.started c.self.invariant
+
+pub returns-clause-half : goal.returns-clause-half
+returns-clause-half g c =
+    let new = c.first_half.new in
+    let ends = c.first_half.ensures in
+    subst (λ (l : LockedState). IsFirstHalf g.D.MemDevice.told g.C.SyncCalls.told g.C.SyncCalls.is_store g.C.SyncCalls.looked c.first_half.result (stack_with l.desk c.args.hand.now c.args.device.now c.args.copies.now)
+    (stack_with new.front.desk new.hand new.device new.copies)) c.self.view_is
+    (record {
+      half = ends.half;
+      device = ends.device;
+      started = ends.started;
+      at_device = ends.at_device;
+      lowers = ends.lowers;
+      tied = ends.tied;
+      sizes = ends.sizes;
+      refuses = ends.refuses;
+      stores_stay = ends.stores_stay;
+      ready = refl;
+      has_room = refl;
+    })
+
+pub returns-clause-off : goal.returns-clause-off
+returns-clause-off g c = λ now. half_off c.first_half.result _ _ c.self.inside.front.desk c.first_half.new.front.desk _ _ _ c.first_half.ensures.half now (c.first_half.ensures.off now)

@@ -1,0 +1,98 @@
+-- The driver between its turns, and in them.
+use Rattle.std.specs.Prelude.{◌≡◌, ◌⊎◌, ℕ, Bool, true, false, List, Option, IfSome}
+use Rattle.nv_base.specs.Count.{Rose}
+use Rattle.memif.specs.Told.{DeviceTold, Part, PartTold, nothing_open, ops_of}
+use Rattle.memif.specs.Clock.{Clock}
+use Rattle.memif.specs.Calls.{Turns}
+use Rattle.memif.specs.declared.answer.DeviceTurn.{DeviceTurn}
+use Rattle.block_machine.specs.Words.{Entry}
+use Rattle.ram_blocks.specs.Told.{Told}
+use Rattle.nv_desk.specs.Desk.{DeskState, state_of}
+use Rattle.nv_front.specs.Front.{AreSynchronized}
+use Rattle.job_hands.specs.Hand.{HandState}
+use Rattle.stack_turns.specs.Ties.{IsTied}
+use Rattle.stack_turns.specs.Turns.{AddsBy, hand_by}
+use Rattle.stack_turns.specs.Keeps.{StackKeeps, StaysKept}
+use Rattle.stack_turns.specs.declared.turned.Act.{Act}
+use Rattle.stack_turns.specs.declared.turned.Turned.{Turned}
+use Rattle.stack_turns.specs.declared.turned.Turned.TheVariants as turned
+use Rattle.stack_bounds.specs.Due.{IsDue, IsDueInHand, IsNearer, PostsDue}
+use Rattle.stack_bounds.specs.Laws.{IsServed, NextIsPending}
+use Rattle.stack_bounds.specs.Calls.{IsCalmTurn}
+use Rattle.turn_laws.specs.Cuts.{CutsInATurnKeep}
+use Rattle.stack_laws.specs.Calls.{DeviceTurnsKeep}
+use Rattle.second_half.specs.Second.{TurnsDevice, asked_by}
+use Rattle.nvm_core.specs.Stack.{StackState}
+use Rattle.nvm_core.specs.Turns.{IsFirstHalf}
+use Rattle.nvm_core.specs.Due.{now_of}
+use Rattle.nvm_core.specs.Work.{LowersWork}
+use Rattle.shared_laws.specs.Behind.{AreAsks, AsksStandBehind, HandIsPending, with_more}
+
+-- the device, the application's copies, and the job in hand
+pub record DriverState (D C : Type 0) : Type 0 where
+  pub device : D
+  pub copies : C
+  pub hand : Option HandState
+
+-- the parts with a desk are a stack behind its start-up
+abbrev pub stack_with : {D C : Type 0} → DeskState → Option HandState → D → C → StackState D C
+stack_with desk hand device copies = record { desk = desk; hand = hand; device = device; copies = copies; ready = true; has_room = false }
+
+abbrev pub stack_of : {D C : Type 0} → DeskState → DriverState D C → StackState D C
+stack_of desk s = stack_with desk s.hand s.device s.copies
+
+module _ {D C : Type 0} (told : D → DeviceTold) (clock : D → Clock) (copies : C → List Told) where
+  -- The parts are tied to a desk, and where the device tells what it holds the promise is kept.
+  pub record Drives (tells : Bool) (desk : DeskState) (s : DriverState D C) : Type 0 where
+    pub tied : IsTied desk s.hand (told s.device)
+    pub pending : HandIsPending (state_of desk)
+    pub next : NextIsPending desk.config (state_of desk)
+    pub synchronized : AreSynchronized desk.config (copies s.copies)
+    pub kept : tells ≡ true → (before : Part → PartTold) × StackKeeps before desk s.hand (told s.device) (clock s.device)
+
+-- the first half of a turn, behind requests of others
+pub record BeginsTurn {D C : Type 0} (told : D → DeviceTold) (copies : C → List Told) (is_store : C → ℕ → ℕ → List ℕ → Type 0) (looked : C → C → ℕ → ℕ → Type 0) (act : Act) (desk desk_new : DeskState) (old new : DriverState D C) : Type 0 where
+  pub asks : List Entry
+  pub are : AreAsks asks
+  pub half : IsFirstHalf told copies is_store looked act (stack_of (with_more desk asks) old) (stack_of desk_new new)
+  -- what is due is served behind these requests
+  pub served : (number turns : ℕ) → IsDue number turns (now_of told (stack_of desk old))
+      → IsServed act number turns (now_of told (stack_of (with_more desk asks) old)) (now_of told (stack_of desk_new new))
+
+-- the device's own turn: what it keeps with any desk that its parts are tied to, that each cut within it leaves only marks which
+-- such a desk's state allows, and that requests may have come before it
+pub record IsTurned {D C : Type 0} (told : D → DeviceTold) (clock : D → Clock) (answer : DeviceTurn) (old new : DriverState D C) : Type 0 where
+  pub turns : Turns answer (told old.device) (clock old.device) (told new.device) (clock new.device)
+  pub keeps : DeviceTurnsKeep answer (told old.device) (clock old.device) (told new.device) (clock new.device)
+  pub cuts : CutsInATurnKeep (told old.device) (clock old.device) (told new.device) (clock new.device)
+  pub stand : AsksStandBehind (told old.device) (clock old.device)
+  pub only : new ≡ record old { device = new.device }
+
+-- the second half is due: the device made its turn, with parts that are tied to a desk whose power is on
+pub record MayEnd {D C : Type 0} (told : D → DeviceTold) (clock : D → Clock) (copies : C → List Told) (tells : Bool) (answer : DeviceTurn) (desk : DeskState) (before now : DriverState D C) : Type 0 where
+  pub drives : Drives told clock copies tells desk before
+  pub on : (state_of desk).off ≡ false
+  pub turned : IsTurned told clock answer before now
+
+-- the device's turn with the second half, behind requests of others
+pub record EndsTurn {D C : Type 0} (told : D → DeviceTold) (clock : D → Clock) (answer : Turned) (desk desk_new : DeskState) (before new : DriverState D C) : Type 0 where
+  pub asks : List Entry
+  pub are : AreAsks asks
+  pub turns : TurnsDevice answer (told before.device) (clock before.device) (told new.device) (clock new.device)
+  pub adds : AddsBy (asked_by answer (told before.device).stand (told new.device).stand (ops_of (told new.device))) (with_more desk asks) desk_new
+  pub hand : new.hand ≡ hand_by (told before.device).stand (told new.device).stand before.hand
+  pub copies : new.copies ≡ before.copies
+  pub keeps : StaysKept desk before.hand (told before.device) (clock before.device) desk_new new.hand (told new.device) (clock new.device)
+  -- the work of a drain falls, where the job in hand is at the device
+  pub lowers : answer ≡ turned.Worked → IfSome before.hand (λ h. h.started ≡ true) → LowersWork told (stack_of desk before) (stack_of desk_new new)
+  -- and what is due in hand comes nearer
+  pub nearer : (number turns : ℕ) → IfSome before.hand (λ h. h.started ≡ true) → nothing_open (told before.device) ≡ false
+      → ¬ Rose (told before.device).first.faults (told new.device).first.faults → (state_of desk_new).off ≡ false
+      → IsDueInHand number turns (now_of told (stack_of desk before)) → IsNearer number turns (now_of told (stack_of desk_new new))
+
+-- In a whole turn in which no fault of the first part is counted and the power stays on, what is due is posted behind requests of
+-- others, or comes a turn nearer.
+abbrev pub ServesDue : {D C : Type 0} → (told : D → DeviceTold) → (desk desk_new : DeskState) → (old new : DriverState D C) → Type 0
+ServesDue told desk desk_new old new =
+    (number turns : ℕ) → IsCalmTurn (now_of told (stack_of desk old)) (now_of told (stack_of desk_new new)) → IsDue number turns (now_of told (stack_of desk old))
+    → ((asks : List Entry) × AreAsks asks × PostsDue number (with_more desk asks) desk_new) ⊎ IsNearer number turns (now_of told (stack_of desk_new new))

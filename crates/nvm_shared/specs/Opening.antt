@@ -1,0 +1,67 @@
+-- A shared stack at its beginning and at its end.
+use Rattle.std.specs.Prelude.{◌≡◌, ◌<◌, ℕ, Bool, true, false, List, [], ◌∷◌, None, IsSome}
+use Rattle.memif.specs.Told.{DeviceTold, Part, PartTold}
+use Rattle.memif.specs.Clock.{Clock}
+use Rattle.block_machine.specs.Words.{Entry, Instance, Mark, Found, Configuration}
+use Rattle.ram_blocks.specs.Told.{Told}
+use Rattle.nv_desk.specs.Desk.{DeskState, state_of}
+use Rattle.nv_front.specs.Front.{AreSynchronized}
+use Rattle.found_marks.specs.Found.{FailsToFind}
+use Rattle.stack_turns.specs.Ties.{IsTied}
+use Rattle.stack_turns.specs.declared.turned.FoundAnswer.TheVariants as found
+use Rattle.stack_bounds.specs.Laws.{NextIsPending}
+use Rattle.nvm_core.specs.Stack.{StackState}
+use Rattle.nvm_core.specs.StartUps.{KeepsDown, StartsKeep, StartsUp}
+use Rattle.turn_gate.specs.Pass.{beginner, knows}
+use Rattle.shared_laws.specs.Behind.{HandIsPending}
+use Rattle.nvm_shared.specs.declared.terms.Terms.{Terms}
+use Rattle.nvm_shared.specs.declared.opening.ShareFault.{ShareFault}
+use Rattle.nvm_shared.specs.declared.opening.ShareFault.TheVariants as why
+use Rattle.nvm_shared.specs.Locked.{terms_of, desk_with}
+use Rattle.nvm_shared.specs.Passes.{SharedState, PassValue, IsUserOf}
+use Rattle.nvm_shared.specs.Driving.{DriverState, Drives, stack_of}
+
+-- a desk before its first start-up
+abbrev pub first_desk : Configuration → ℕ → DeskState
+first_desk c cap = record { config = c; cap = cap; entries = []; prepared = 0 }
+
+abbrev pub first_stack : {D C : Type 0} → Configuration → ℕ → D → C → StackState D C
+first_stack c cap device copies = record { desk = first_desk c cap; hand = None; device = device; copies = copies; ready = false; has_room = true }
+
+-- it tells what it holds, nothing was asked of it, and the promise is kept so far
+abbrev pub TellsAtFirst : Configuration → ℕ → DeviceTold → Clock → Type 0
+TellsAtFirst c cap d clock = IsSome d.slots × (d.ops ≡ 0) × ((before : Part → PartTold) × KeepsDown before (first_desk c cap) d clock)
+
+-- one start-up and no more
+abbrev pub IsFirst : List Entry → Type 0
+IsFirst h = (marks : List (Instance × Mark)) × (ops : ℕ) × (h ≡ Found marks ops ∷ [])
+
+-- what never changes of a stack's desk
+abbrev pub terms_at : DeskState → Bool → Terms
+terms_at desk tells = terms_of (record { desk = desk; tells = tells })
+
+-- the parts of this stack, which is up
+pub record IsShared {D C : Type 0} (told : D → DeviceTold) (copies : C → List Told) (s : StackState D C) (tells : Bool) (shared : SharedState) (p : PassValue) (r : DriverState D C) : Type 0 where
+  pub terms : shared.terms ≡ terms_at s.desk tells
+  pub own : IsUserOf shared p
+  pub knows_it : knows p ≡ beginner s.desk.entries shared.terms
+  pub driver : r ≡ record { device = s.device; copies = s.copies; hand = s.hand }
+  pub tied : IsTied s.desk s.hand (told s.device)
+  pub pending : HandIsPending (state_of s.desk)
+  pub next : NextIsPending s.desk.config (state_of s.desk)
+  pub synchronized : AreSynchronized s.desk.config (copies s.copies)
+
+-- they are those of this stack behind its first start-up, and the driver's turns may begin
+pub record IsMade {D C : Type 0} (told : D → DeviceTold) (clock : D → Clock) (copies : C → List Told) (s : StackState D C) (tells : Bool) (shared : SharedState) (p : PassValue) (r : DriverState D C) : Type 0 where
+  pub terms : shared.terms ≡ terms_at s.desk tells
+  pub own : IsUserOf shared p
+  pub knows_it : knows p ≡ beginner (knows p).seen shared.terms
+  pub starts : StartsUp told s (stack_of (desk_with shared.terms (knows p).seen) r)
+  pub drives : Drives told clock copies tells (desk_with shared.terms (knows p).seen) r
+  pub keeps : StartsKeep found.Ready s.desk (told s.device) (clock s.device) (desk_with shared.terms (knows p).seen) (told r.device) (clock r.device)
+
+-- why there is none
+abbrev pub WhyNot : DeviceTold → ℕ → ShareFault → DeviceTold → Type 0
+WhyNot old cap why.Fault new = FailsToFind old new
+WhyNot old cap why.NoRoom new = (cap < 2) × (new ≡ old)
+WhyNot old cap why.Memory new = Unit {0}

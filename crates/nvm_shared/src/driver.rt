@@ -1,0 +1,160 @@
+// The driver of a shared stack.
+ghost use Rattle.std.specs.Prelude.{◌≡◌, ◌++◌, ◌∷◌, ◌⊎◌, [], ℕ, List, length, true, false, Some, IfSome};
+ghost use Rattle.memif.specs.Told.{DeviceTold};
+ghost use Rattle.memif.specs.Calls.{Turns};
+ghost use Rattle.block_machine.specs.Words.{Entry as MachineEntry};
+ghost use Rattle.nv_desk.specs.Desk.{state_of};
+ghost use Rattle.turn_gate.specs.Pass.{knows};
+ghost use Rattle.stack_turns.specs.declared.turned.Act.TheVariants.{Device};
+ghost use Rattle.stack_turns.specs.Keeps.{StaysKept};
+ghost use Rattle.stack_laws.specs.Calls.{DeviceTurnsKeep};
+ghost use Rattle.stack_work.specs.Work.{program_in_hand};
+ghost use Rattle.first_half.specs.Lowers.{HalfLeft};
+ghost use Rattle.nvm_core.specs.Turns.{IsFirstHalf};
+ghost use Rattle.nvm_core.specs.Work.{Lowers, TakesTurns};
+ghost use Rattle.shared_laws.specs.Behind.{AreAsks, with_more};
+ghost use Rattle.nvm_shared.specs.Locked.{desk_with};
+ghost use Rattle.nvm_shared.specs.Passes.{IsUserOf, LearnsHalf, LearnsTurn};
+ghost use Rattle.nvm_shared.specs.Stale.{StaleIsShown};
+ghost use Rattle.nvm_shared.specs.Driving.{DriverState, Drives, BeginsTurn, IsTurned, EndsTurn, MayEnd, ServesDue, stack_of};
+
+use crate::shared::{Shared, StackPass};
+use job_hands::Hand;
+use machine_laws::histories_grow;
+use memif::{DeviceTurn, MemDevice};
+use ram_blocks::SyncCalls;
+use shared_laws::{asks_stand_behind, histories_are_written, open_are_asks};
+use stack_bounds::{asks_keep_due, halves_bring_nearer};
+use stack_laws::turn;
+use stack_turns::{Act, Turned};
+use stack_work::{hands_are_small, stack_works};
+use std::marker::Model;
+use std::sync::Wait;
+use turn_figures::turns_keep_figures;
+
+/// The device with the job in hand, and the application's copies of its synchronized blocks. Contracts see these three.
+#[derive(Drop)]
+pub struct Driver<D: MemDevice, C: SyncCalls + Drop> {
+    pub(crate) device: D,
+    pub(crate) copies: C,
+    pub(crate) hand: Option<Hand>,
+}
+
+impl<D: MemDevice, C: SyncCalls + Drop> Model for Driver<D, C> {
+    ghost use Rattle.nvm_shared.specs.Driving.{DriverState};
+
+    ghost Value = { DriverState D C };
+
+    ghost view = { λ d. record { device = d.device; copies = d.copies; hand = d.hand } };
+}
+
+impl<D: MemDevice, C: SyncCalls + Drop> Driver<D, C> {
+    /// Its device, the application's copies, and the job in hand.
+    pub fn into_parts(self) -> (D, C, Option<Hand>)
+        ensures device { result.0 ≡ self.device }
+        ensures copies { result.1 ≡ self.copies }
+        ensures hand { result.2 ≡ self.hand }
+    {
+        let Driver {
+            device,
+            copies,
+            hand,
+        } = self;
+        (device, copies, hand)
+    }
+
+    /// The first half of a turn, under the lock: all but the device's own turn.
+    pub fn begin<W: Wait>(&mut self, rt: &W, shared: &Shared, pass: &mut StackPass) -> Act
+        requires own { IsUserOf shared.now pass.old }
+        requires mark { (knows pass.old).mark ≡ true }
+        requires drives { Drives D.told D.clock C.told shared.now.terms.tells (desk_with shared.now.terms (knows pass.old).seen) self.old }
+        ensures own { IsUserOf shared.now pass.new }
+        ensures begins { BeginsTurn D.told C.told C.is_store C.looked result (desk_with shared.now.terms (knows pass.old).seen) (desk_with shared.now.terms (knows pass.new).seen) self.old self.new }
+        ensures drives { Drives D.told D.clock C.told shared.now.terms.tells (desk_with shared.now.terms (knows pass.new).seen) self.new }
+        ensures keeps { StaysKept (desk_with shared.now.terms (knows pass.old).seen) self.old.hand (D.told self.old.device) (D.clock self.old.device) (desk_with shared.now.terms (knows pass.new).seen) self.new.hand (D.told self.new.device) (D.clock self.new.device) }
+        ensures left { HalfLeft result (program_in_hand self.old.hand) (D.told self.old.device) (program_in_hand self.new.hand) (D.told self.new.device) }
+        ensures stale { result ≡ Act.Ended Turned.Picked → StaleIsShown C.looked (knows pass.new).seen self.old.copies self.new.copies }
+        ensures off { result ≡ Act.Ended Turned.Off → (state_of (desk_with shared.now.terms (knows pass.new).seen)).off ≡ true }
+        ensures learns { LearnsHalf (knows pass.old) (knows pass.new) }
+    {
+        asks_stand_behind(&self.device);
+        asks_keep_due();
+        histories_are_written();
+        open_are_asks();
+        let mut value = shared.gate.enter(rt, pass);
+        let number = value.len();
+        let act = value.first_half(&mut self.hand, &mut self.device, &mut self.copies);
+        halves_bring_nearer(&self.device);
+        let _left = self.device.left();
+        let _len = value.len();
+        shared.leave(pass, value, number);
+        act
+    }
+
+    /// The device's own turn, without the lock.
+    pub fn device_turn(&mut self) -> DeviceTurn
+        ensures turns { IsTurned D.told D.clock result self.old self.new }
+    {
+        asks_stand_behind(&self.device);
+        turn(&mut self.device)
+    }
+
+    /// The second half of a turn, under the lock: what the device's turn came to.
+    pub fn finish<W: Wait>(
+        &mut self,
+        rt: &W,
+        shared: &Shared,
+        pass: &mut StackPass,
+        turned: DeviceTurn,
+    ) -> Turned
+        requires own { IsUserOf shared.now pass.old }
+        requires mark { (knows pass.old).mark ≡ true }
+        requires turned { (before : DriverState D C) × MayEnd D.told D.clock C.told shared.now.terms.tells turned (desk_with shared.now.terms (knows pass.old).seen) before self.old }
+        ensures own { IsUserOf shared.now pass.new }
+        ensures ends { (before : DriverState D C) → MayEnd D.told D.clock C.told shared.now.terms.tells turned (desk_with shared.now.terms (knows pass.old).seen) before self.old
+            → EndsTurn D.told D.clock result (desk_with shared.now.terms (knows pass.old).seen) (desk_with shared.now.terms (knows pass.new).seen) before self.new }
+        ensures drives { Drives D.told D.clock C.told shared.now.terms.tells (desk_with shared.now.terms (knows pass.new).seen) self.new }
+        ensures learns { LearnsHalf (knows pass.old) (knows pass.new) }
+    {
+        asks_keep_due();
+        halves_bring_nearer(&self.device);
+        hands_are_small();
+        histories_are_written();
+        histories_grow();
+        open_are_asks();
+        stack_works(&self.device);
+        turns_keep_figures(&self.device);
+        let mut value = shared.gate.enter(rt, pass);
+        let number = value.len();
+        let answer = value.second_half(&mut self.hand, &self.device, turned);
+        let _len = value.len();
+        shared.leave(pass, value, number);
+        answer
+    }
+
+    /// A whole turn, behind requests of others before each half.
+    pub fn turn<W: Wait>(&mut self, rt: &W, shared: &Shared, pass: &mut StackPass) -> Turned
+        requires own { IsUserOf shared.now pass.old }
+        requires mark { (knows pass.old).mark ≡ true }
+        requires drives { Drives D.told D.clock C.told shared.now.terms.tells (desk_with shared.now.terms (knows pass.old).seen) self.old }
+        ensures own { IsUserOf shared.now pass.new }
+        ensures mark { (knows pass.new).mark ≡ true }
+        ensures parts { (knows pass.new).parts ≡ (knows pass.old).parts }
+        ensures drives { Drives D.told D.clock C.told shared.now.terms.tells (desk_with shared.now.terms (knows pass.new).seen) self.new }
+        ensures keeps { StaysKept (desk_with shared.now.terms (knows pass.old).seen) self.old.hand (D.told self.old.device) (D.clock self.old.device) (desk_with shared.now.terms (knows pass.new).seen) self.new.hand (D.told self.new.device) (D.clock self.new.device) }
+        ensures lowers { Lowers D.told result (stack_of (desk_with shared.now.terms (knows pass.old).seen) self.old) (stack_of (desk_with shared.now.terms (knows pass.new).seen) self.new) }
+        ensures due { ServesDue D.told (desk_with shared.now.terms (knows pass.old).seen) (desk_with shared.now.terms (knows pass.new).seen) self.old self.new }
+        ensures left { TakesTurns D.told result (stack_of (desk_with shared.now.terms (knows pass.old).seen) self.old) (stack_of (desk_with shared.now.terms (knows pass.new).seen) self.new) }
+        ensures learns { LearnsTurn (knows pass.old) (knows pass.new) }
+    {
+        match self.begin(rt, shared, pass) {
+            Act::Ended(turned) => turned,
+            Act::Device => {
+                let turned = self.device_turn();
+                let answer = self.finish(rt, shared, pass, turned);
+                turns_keep_figures(&self.device);
+                answer
+            }
+        }
+    }
+}

@@ -1,0 +1,20 @@
+//! The stack of the NVRAM Manager, shared by threads: callers make requests under a lock and read statuses without it, and one
+//! driver makes the turns, whose device works without it.
+//!
+//! It promises one history, in which each request has its reply and its place, that each status that is read is that of an entry
+//! which every later list has, and that each half of the driver's turn is the stack's own, behind requests of others. When a
+//! lock is got, which thread runs, and what callers ask for are left to the crates above.
+#![tactic(auto)]
+
+mod crossing;
+mod driver;
+mod locked;
+mod opening;
+mod shared;
+mod terms;
+
+pub use driver::Driver;
+pub use locked::{Locked, LockedOf, Tells};
+pub use opening::{NotShared, ShareFault, make};
+pub use shared::{Shared, SharedOf, StackPass, TellsGate, TellsTerms};
+pub use terms::Terms;

@@ -1,0 +1,206 @@
+// The value under the lock.
+ghost use Rattle.std.specs.Prelude.{◌≡◌, ◌++◌, ◌∷◌, ◌≤◌, ◌↔◌, ℕ, [], List, length, true, false, Bool, is_some, IfOk, OnErr, IsErrOf, None, IsTrue};
+ghost use Rattle.nv_base.specs.declared.entry.Entry.TheVariants as Entry;
+ghost use Rattle.nv_desk.specs.declared.ask.AskFault.TheVariants as AskFault;
+ghost use Rattle.memif.specs.Told.{DeviceTold};
+ghost use Rattle.block_machine.specs.Words.{Entry as MachineEntry};
+ghost use Rattle.block_machine.specs.StartUp.{at_first};
+ghost use Rattle.block_machine.specs.Reply.{fits, reply_of};
+ghost use Rattle.block_machine.specs.Legal.{HasStore};
+ghost use Rattle.nv_desk.specs.Desk.{state_of};
+ghost use Rattle.shared_laws.specs.StatusWords.{told_by};
+ghost use Rattle.shared_laws.specs.Written.{AreWritten};
+ghost use Rattle.shared_laws.specs.Behind.{HandIsPending};
+ghost use Rattle.memif.specs.Told.{ops_of};
+ghost use Rattle.nv_front.specs.Front.{AreSynchronized, StagesAll};
+ghost use Rattle.hand_laws.specs.Hands.{HandFits};
+ghost use Rattle.stack_turns.specs.Ties.{IsTied};
+ghost use Rattle.stack_turns.specs.Turns.{AddsBy, entry_by, hand_by};
+ghost use Rattle.stack_turns.specs.Keeps.{StaysKept};
+ghost use Rattle.block_config.specs.Rules.{IsLegalConfig};
+ghost use Rattle.nv_desk.specs.Picks.{IsInterruption};
+ghost use Rattle.stack_bounds.specs.Laws.{NextIsPending};
+ghost use Rattle.stack_work.specs.Work.{program_in_hand};
+ghost use Rattle.first_half.specs.Lowers.{HalfLeft};
+ghost use Rattle.second_half.specs.Second.{IsBehindTurn, answer_by};
+ghost use Rattle.nvm_core.specs.Turns.{IsFirstHalf};
+ghost use Rattle.nvm_shared.specs.Locked.{terms_of};
+ghost use Rattle.nvm_shared.specs.Driving.{stack_with};
+
+use crate::terms::Terms;
+use first_half::first_half;
+use job_hands::Hand;
+use machine_laws::histories_grow;
+use memif::{DeviceTurn, MemDevice};
+use nv_base::{Entry, Reply, Request};
+use nv_desk::AskFault;
+use nv_front::Front;
+use ram_blocks::SyncCalls;
+use second_half::second_half;
+use shared_laws::{asks_leave_power, histories_are_written, told_by};
+use stack_turns::{Act, Turned};
+use std::alloc::Global;
+use std::marker::Model;
+use std::snapshot::Snapshot;
+use turn_gate::Kept;
+
+/// Whether a device tells what it holds, as contracts see it.
+pub trait Tells {
+    ghost use Rattle.std.specs.Prelude.{Bool};
+
+    ghost tells: { Self → Bool };
+}
+
+impl Tells for Snapshot<bool> {
+    ghost tells = { λ s. s.value };
+}
+
+/// The desk, with the memory of its copies. Contracts see the desk, and whether the device tells what it holds.
+#[derive(Drop)]
+pub struct LockedOf<P: Tells + Drop> {
+    front: Front,
+    tells: P,
+}
+
+impl<P: Tells + Drop> Model for LockedOf<P> {
+    ghost use Rattle.nvm_shared.specs.Locked.{LockedState, IsLocked};
+
+    ghost Value = { LockedState };
+
+    ghost view = { λ l. record { desk = l.front.desk; tells = P.tells l.tells } };
+
+    ghost invariant = { λ l. IsLocked l.front.desk l.front.staging (P.tells l.tells) };
+}
+
+/// It is an alias, since threads take a struct whose parameters stand bare.
+pub type Locked = LockedOf<Snapshot<bool>>;
+
+impl Kept for Locked {
+    ghost use Rattle.shared_laws.specs.StatusWords.{gives, is_ask};
+    ghost use Rattle.nvm_shared.specs.Locked.{terms_of};
+
+    type Entry = Entry;
+
+    type Root = Terms;
+
+    ghost entries = { λ l. l.desk.entries };
+
+    ghost gives = { gives };
+
+    ghost is_open = { is_ask };
+
+    ghost root = { terms_of };
+
+    fn count(&self) -> u32 {
+        self.front.desk.history().len()
+    }
+}
+
+impl Locked {
+    // The desk behind a start-up, with the memory of its copies.
+    pub(crate) fn of(front: Front, tells: bool) -> Locked
+        requires stages { StagesAll front.desk.config front.staging }
+        requires started { IsTrue (state_of front.desk).started }
+        requires written { AreWritten tells front.desk.config front.desk.cap at_first front.desk.entries }
+        ensures { result ≡ record { desk = front.desk; tells = tells } }
+    {
+        LockedOf {
+            front,
+            tells: Snapshot::of(&tells),
+        }
+    }
+
+    // Gives the desk.
+    pub(crate) fn into_front(self) -> Front
+        ensures desk { result.desk ≡ self.desk }
+        ensures written { AreWritten self.tells self.desk.config self.desk.cap at_first self.desk.entries }
+        ensures started { IsTrue (state_of self.desk).started }
+    {
+        let LockedOf { front, .. } = self;
+        front
+    }
+
+    /// How many entries there are, at most the cap. A start-up stands, they are written as they may be, and the blocks of the job in
+    /// hand and of the next job are PENDING.
+    pub fn len(&self) -> u32
+        ensures count { result ≡ length self.now.desk.entries }
+        ensures started { IsTrue (state_of self.now.desk).started }
+        ensures written { AreWritten self.now.tells self.now.desk.config self.now.desk.cap at_first self.now.desk.entries }
+        ensures pending { HandIsPending (state_of self.now.desk) }
+        ensures next { NextIsPending self.now.desk.config (state_of self.now.desk) }
+        ensures within { length self.now.desk.entries ≤ self.now.desk.cap }
+        ensures legal { IsLegalConfig self.now.desk.config }
+    {
+        let _desc = self.front.desk.desc_in_hand();
+        let _next = self.front.desk.next_job();
+        let _blocks = self.front.desk.config().blocks();
+        self.front.desk.history().len()
+    }
+
+    /// The word, with its status, that the entry behind so many others changes, if there is one and it changes one.
+    pub fn change_behind(&self, count: u32) -> Option<(u32, u8)>
+        ensures none { length self.now.desk.entries ≡ count → result ≡ None }
+        ensures some { (h : List MachineEntry) (e : MachineEntry) → self.now.desk.entries ≡ h ++ e ∷ [] → length h ≡ count → result ≡ told_by e }
+    {
+        match self.front.desk.history().entry(count) {
+            Some(entry) => told_by(entry),
+            None => None,
+        }
+    }
+
+    /// Takes a request of a caller, and replies.
+    pub fn ask(&mut self, alloc: Global, caller: u8, request: Request) -> Result<Reply, AskFault>
+        requires caller { caller ≤ 15 }
+        requires store { HasStore self.old.desk.config request }
+        ensures ok { IfOk result (λ reply. self.new ≡ record self.old { desk = record self.old.desk { entries = self.old.desk.entries ++ Entry.Ask caller request reply ∷ [] } }) }
+        ensures err { OnErr result (self.new ≡ self.old) }
+        ensures no_room { IsErrOf result AskFault.NoRoom ↔ fits self.old.desk.config self.old.desk.cap (state_of self.old.desk) 1 ≡ false }
+    {
+        histories_grow();
+        histories_are_written();
+        asks_leave_power();
+        self.front.desk.ask(alloc, caller, request)
+    }
+
+    /// The first half of a turn: all but the device's own turn.
+    pub fn first_half<D: MemDevice, C: SyncCalls>(
+        &mut self,
+        hand: &mut Option<Hand>,
+        device: &mut D,
+        copies: &mut C,
+    ) -> Act
+        requires tied { IsTied self.old.desk hand.old (D.told device.old) }
+        requires fits { self.old.tells ≡ true → HandFits self.old.desk.config (state_of self.old.desk) hand.old (D.told device.old) }
+        requires synchronized { AreSynchronized self.old.desk.config (C.told copies.old) }
+        ensures half { IsFirstHalf D.told C.told C.is_store C.looked result (stack_with self.old.desk hand.old device.old copies.old) (stack_with self.new.desk hand.new device.new copies.new) }
+        ensures terms { terms_of self.new ≡ terms_of self.old }
+        ensures synchronized { AreSynchronized self.old.desk.config (C.told copies.new) }
+        ensures off { result ≡ Act.Ended Turned.Off → (state_of self.new.desk).off ≡ true }
+        ensures first { result ≡ Act.Device → ¬ IsInterruption self.old.desk }
+        ensures left { HalfLeft result (program_in_hand hand.old) (D.told device.old) (program_in_hand hand.new) (D.told device.new) }
+        ensures keeps { StaysKept self.old.desk hand.old (D.told device.old) (D.clock device.old) self.new.desk hand.new (D.told device.new) (D.clock device.new) }
+    {
+        histories_are_written();
+        first_half(&mut self.front, hand, device, copies)
+    }
+
+    /// The second half of a turn: what the device's turn came to.
+    pub fn second_half<D: MemDevice>(
+        &mut self,
+        hand: &mut Option<Hand>,
+        device: &D,
+        turned: DeviceTurn,
+    ) -> Turned
+        requires { (old : DeviceTold) × IsBehindTurn turned self.old.desk hand.old old (D.told device.now) }
+        ensures answer { result ≡ answer_by turned }
+        ensures adds { (old : DeviceTold) → IsBehindTurn turned self.old.desk hand.old old (D.told device.now)
+            → AddsBy (entry_by turned old.stand (D.told device.now).stand (ops_of (D.told device.now))) self.old.desk self.new.desk }
+        ensures hand { (old : DeviceTold) → IsBehindTurn turned self.old.desk hand.old old (D.told device.now)
+            → hand.new ≡ hand_by old.stand (D.told device.now).stand hand.old }
+        ensures tied { IsTied self.new.desk hand.new (D.told device.now) }
+        ensures terms { terms_of self.new ≡ terms_of self.old }
+    {
+        histories_are_written();
+        second_half(&mut self.front.desk, hand, device, turned)
+    }
+}

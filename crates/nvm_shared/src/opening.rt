@@ -1,0 +1,118 @@
+// A new shared stack.
+ghost use Rattle.std.specs.Prelude.{◌≡◌, ◌∷◌, ◌<◌, [], true, IfOk, IfErr, IsTrue, None};
+ghost use Rattle.block_config.specs.Lengths.{lengths_of};
+ghost use Rattle.block_machine.specs.Words.{Entry as MachineEntry};
+ghost use Rattle.block_machine.specs.Legal.{IsLegal};
+ghost use Rattle.nv_front.specs.Front.{AreSynchronized};
+ghost use Rattle.nv_desk.specs.Desk.{DeskState};
+ghost use Rattle.stack_turns.specs.declared.turned.FoundAnswer.TheVariants as found;
+ghost use Rattle.stack_turns.specs.Keeps.{StackKeeps};
+ghost use Rattle.nvm_core.specs.Stack.{StackState};
+ghost use Rattle.nvm_core.specs.StartUps.{StartsUp};
+ghost use Rattle.nvm_shared.specs.Opening.{IsFirst, IsMade, IsShared, TellsAtFirst, WhyNot, first_stack};
+
+use crate::driver::Driver;
+use crate::locked::{Locked, LockedOf};
+use crate::shared::{Shared, SharedOf, StackPass};
+use block_config::Config;
+use memif::MemDevice;
+use nvm_core::Stack;
+use ram_blocks::SyncCalls;
+use shared_laws::{WORD_COUNT, histories_are_written};
+use stack_turns::FoundAnswer;
+use std::alloc::Global;
+use std::snapshot::Snapshot;
+
+/// Why a stack isn't shared.
+#[derive(Drop)]
+pub enum ShareFault {
+    /// The start-up found a fault of the device.
+    Fault,
+    /// The start-up's entry, and an Off behind it, don't fit under the cap.
+    NoRoom,
+    /// No memory was left.
+    Memory,
+}
+
+/// Why, with the device, which is handed back.
+#[derive(Drop)]
+pub struct NotShared<D> {
+    pub fault: ShareFault,
+    pub device: D,
+}
+
+/// Starts the device up, and shares the stack over it: what all threads use, the marked pass, and the driver. `tells` is
+/// known in proofs alone: it may be true only where the device tells what it holds.
+pub fn make<D: MemDevice, C: SyncCalls + Drop>(
+    alloc: Global,
+    config: Config,
+    device: D,
+    copies: C,
+    cap: u32,
+    tells: bool,
+) -> Result<(Shared, StackPass, Driver<D, C>), NotShared<D>>
+    requires numbers { (D.told device).fixed.numbers ≡ lengths_of config }
+    requires synchronized { AreSynchronized config (C.told copies) }
+    requires tells { tells ≡ true → TellsAtFirst config cap (D.told device) (D.clock device) }
+    ensures made { IfOk result (λ r. IsMade D.told D.clock C.told (first_stack config cap device copies) tells r.0 r.1 r.2) }
+    ensures why { IfErr result (λ f. WhyNot (D.told device) cap f.fault (D.told f.device)) }
+{
+    let mut stack = match Stack::make(alloc, config, device, copies, cap) {
+        Ok(stack) => stack,
+        Err(failed) => {
+            return Err(NotShared {
+                fault: ShareFault::Memory,
+                device: failed.value,
+            });
+        }
+    };
+    match stack.start() {
+        FoundAnswer::Ready => share(alloc, stack, tells),
+        FoundAnswer::Failed => Err(NotShared {
+            fault: ShareFault::Fault,
+            device: stack.into_device(),
+        }),
+        FoundAnswer::NoRoom => Err(NotShared {
+            fault: ShareFault::NoRoom,
+            device: stack.into_device(),
+        }),
+        FoundAnswer::Memory => Err(NotShared {
+            fault: ShareFault::Memory,
+            device: stack.into_device(),
+        }),
+    }
+}
+
+// A stack behind its first start-up.
+fn share<D: MemDevice, C: SyncCalls + Drop>(
+    alloc: Global,
+    stack: Stack<D, C>,
+    tells: bool,
+) -> Result<(Shared, StackPass, Driver<D, C>), NotShared<D>>
+    requires ready { stack.ready ≡ true }
+    requires first { IsFirst stack.desk.entries }
+    requires legal { tells ≡ true → IsLegal stack.desk.config stack.desk.cap stack.desk.entries }
+    ensures shared { IfOk result (λ r. IsShared D.told C.told stack tells r.0 r.1 r.2) }
+    ensures fault { IfErr result (λ f. f.fault ≡ ShareFault.Memory) }
+{
+    histories_are_written();
+    let (front, device, copies, hand) = stack.into_parts();
+    let value = Locked::of(front, tells);
+    let _len = value.len();
+    let first = Snapshot::of(&value);
+    match turn_gate::make(alloc, value, WORD_COUNT) {
+        Ok((gate, pass)) => Ok((
+            SharedOf { gate, first },
+            pass,
+            Driver {
+                device,
+                copies,
+                hand,
+            },
+        )),
+        Err(_) => Err(NotShared {
+            fault: ShareFault::Memory,
+            device,
+        }),
+    }
+}
