@@ -1,5 +1,6 @@
 // The first half of a turn: all but the device's turn.
 ghost use Rattle.std.specs.Prelude.{◌≡◌, ℕ, List, IfSome, true};
+ghost use Rattle.memif.specs.Clock.{SameClock};
 ghost use Rattle.block_machine.specs.Next.{next_of};
 ghost use Rattle.ram_blocks.specs.Told.{sizes_of};
 ghost use Rattle.copy_tries.specs.Tries.{OnlyRefuses};
@@ -30,6 +31,7 @@ use stack_turns::{Act, Turned};
 /// Does the first of these: where the power is off, nothing; the Post of a finished job; the Pick of an immediate job over
 /// a standard one; the start of the next operation of the job in hand; the Pick, or the Post without a Pick, that comes
 /// next. It makes no turn of the device, adds at most one entry, and takes no memory.
+#[tactic(auto, using(memif::proofs::Turning::same_clock))]
 pub fn first_half<D: MemDevice, C: SyncCalls>(
     front: &mut Front,
     hand: &mut Option<Hand>,
@@ -46,6 +48,7 @@ pub fn first_half<D: MemDevice, C: SyncCalls>(
     ensures first { result ≡ Act.Device → ¬ IsInterruption front.old.desk }
     ensures off { result ≡ Act.Ended Turned.Off → (state_of front.old.desk).off ≡ true }
     ensures device { LeavesDevice (D.told device.old) (D.told device.new) }
+    ensures clock { SameClock (D.clock device.old) (D.clock device.new) }
     ensures unread { NotesReads front.old.desk front.new.desk front.old.unread front.new.unread }
     ensures room { front.new.staging.room ≡ front.old.staging.room }
     ensures sizes { sizes_of (C.told copies.new) ≡ sizes_of (C.told copies.old) }

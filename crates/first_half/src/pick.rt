@@ -1,6 +1,7 @@
 // The Picks of a turn.
 ghost use Rattle.std.specs.Prelude.{◌≡◌, ◌<◌, ℕ, List, Option, false};
 ghost use Rattle.memif.specs.Told.{DeviceTold, IfElse, is_open, ops_of};
+ghost use Rattle.memif.specs.Clock.{SameClock};
 ghost use Rattle.memif.specs.Calls.{IsCanceled};
 ghost use Rattle.block_machine.specs.Blocks.{job_block, kind_of};
 ghost use Rattle.block_machine.specs.Results.{took_none};
@@ -56,6 +57,7 @@ pub(crate) fn interrupt<D: MemDevice, C: SyncCalls>(
     ensures refuses { OnlyRefuses (C.told copies.old) (C.told copies.new) }
     ensures synchronized { AreSynchronized front.old.desk.config (C.told copies.new) }
     ensures device { LeavesDevice (D.told device.old) (D.told device.new) }
+    ensures clock { SameClock (D.clock device.old) (D.clock device.new) }
     ensures stores_stay { (b n : ℕ) (x : List ℕ) → C.is_store copies.old b n x → C.is_store copies.new b n x }
     ensures keeps { StaysKept front.old.desk hand.old (D.told device.old) (D.clock device.old) front.new.desk hand.new (D.told device.new) (D.clock device.new) }
     ensures lowers { stack_work front.new.desk hand.new (D.told device.new) < stack_work front.old.desk hand.old (D.told device.old) }

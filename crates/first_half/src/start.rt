@@ -1,4 +1,5 @@
 // The start of the next operation of the job in hand.
+ghost use Rattle.memif.specs.Clock.{SameClock};
 ghost use Rattle.first_half.specs.Starts.{IsOfHand, IsStarted, IsWritten, StartKeeps, WriteKeeps};
 
 use memif::{DeviceRefusal, MemDevice};
@@ -6,6 +7,7 @@ use nv_base::{DeviceNumber, DeviceOp, Instance, number_of};
 use nv_desk::Desk;
 
 /// Starts an operation that the job in hand names.
+#[tactic(auto, using(memif::proofs::Turning::same_clock))]
 pub(crate) fn start_on<D: MemDevice>(
     desk: &Desk,
     device: &mut D,
@@ -14,6 +16,7 @@ pub(crate) fn start_on<D: MemDevice>(
 ) -> Result<(), DeviceRefusal>
     requires { IsOfHand desk.now instance }
     ensures started { IsStarted result desk.now op instance (D.told device.old) (D.told device.new) }
+    ensures clock { SameClock (D.clock device.old) (D.clock device.new) }
     ensures keeps { StartKeeps desk.now op instance (D.told device.old) (D.clock device.old) (D.told device.new) (D.clock device.new) }
 {
     let _blocks = desk.config().blocks();
@@ -30,12 +33,14 @@ pub(crate) fn start_on<D: MemDevice>(
 }
 
 // The write of what the job in hand has.
+#[tactic(auto, using(memif::proofs::Turning::same_clock))]
 fn start_write<D: MemDevice>(
     desk: &Desk,
     device: &mut D,
     number: DeviceNumber,
 ) -> Result<(), DeviceRefusal>
     ensures started { IsWritten result desk.now number.0 (D.told device.old) (D.told device.new) }
+    ensures clock { SameClock (D.clock device.old) (D.clock device.new) }
     ensures keeps { WriteKeeps desk.now number.0 (D.told device.old) (D.clock device.old) (D.told device.new) (D.clock device.new) }
 {
     let urgent = desk.is_urgent();

@@ -1,6 +1,7 @@
 // The job in hand at the device.
 ghost use Rattle.std.specs.Prelude.{◌≡◌, ◌≤◌, false, true, not, IfSome, Some};
 ghost use Rattle.memif.specs.Told.{is_open, nothing_open};
+ghost use Rattle.memif.specs.Clock.{SameClock};
 ghost use Rattle.block_config.specs.Lengths.{lengths_of};
 ghost use Rattle.nv_desk.specs.Desk.{state_of};
 ghost use Rattle.job_hands.specs.Hand.{is_finished};
@@ -30,6 +31,7 @@ pub(crate) fn go_on<D: MemDevice>(desk: &Desk, hand: &mut Option<Hand>, device: 
     ensures tied { IsTied desk.now hand.new (D.told device.new) }
     ensures started { IfSome hand.new (λ h. h.started ≡ true) }
     ensures device { LeavesDevice (D.told device.old) (D.told device.new) }
+    ensures clock { SameClock (D.clock device.old) (D.clock device.new) }
     ensures keeps { StaysKept desk.now hand.old (D.told device.old) (D.clock device.old) desk.now hand.new (D.told device.new) (D.clock device.new) }
     ensures lowers { stack_work desk.now hand.new (D.told device.new) ≤ stack_work desk.now hand.old (D.told device.old) }
     ensures left { stack_left (program_in_hand hand.new) (D.told device.new) ≤ stack_left (program_in_hand hand.old) (D.told device.old) }
@@ -42,6 +44,7 @@ pub(crate) fn go_on<D: MemDevice>(desk: &Desk, hand: &mut Option<Hand>, device: 
 }
 
 // The same of its hand.
+#[tactic(auto, using(memif::proofs::Turning::same_clock))]
 fn go_on_with<D: MemDevice>(desk: &Desk, hand: &mut Hand, device: &mut D)
     requires paired { IsInHand desk.now.config (state_of desk.now) hand.old (D.told device.old) }
     requires unfinished { is_finished hand.old.step ≡ false }
@@ -51,6 +54,7 @@ fn go_on_with<D: MemDevice>(desk: &Desk, hand: &mut Hand, device: &mut D)
     ensures paired { IsInHand desk.now.config (state_of desk.now) hand.new (D.told device.new) }
     ensures started { hand.new.started ≡ true }
     ensures device { LeavesDevice (D.told device.old) (D.told device.new) }
+    ensures clock { SameClock (D.clock device.old) (D.clock device.new) }
     ensures keeps { StaysKept desk.now (Some hand.old) (D.told device.old) (D.clock device.old) desk.now (Some hand.new) (D.told device.new) (D.clock device.new) }
     ensures lowers { stack_work desk.now (Some hand.new) (D.told device.new) ≤ stack_work desk.now (Some hand.old) (D.told device.old) }
     ensures left { stack_left (Some hand.new.program) (D.told device.new) ≤ stack_left (Some hand.old.program) (D.told device.old) }

@@ -13,7 +13,9 @@ use Rattle.memif.specs.declared.answer.StartFault.{StartFault}
 use Rattle.memif.specs.Told as device
 use Rattle.memif.specs.Told.{DeviceTold, PartTold, Fixed, Slot, Part, First, Second, part_at, Stand, Job, Open, Ended, is_open, nothing_open, length_of, slot_at}
 use Rattle.memif.specs.Marks.{Keeps, KeepsAll, IfTold}
-use Rattle.memif.specs.Clock.{Clock}
+use Rattle.memif.specs.Clock.{Clock, SameClock}
+use Rattle.memif.specs.Trials.{Lasts}
+use Rattle.memif.proofs.Turning.{lasts_more, still_lasts, turn_lasts}
 use Rattle.memif.specs.Calls.{PartTurns, Accepts, Opens, StartsUp, Turns, Works, JobTurns, EndsAs, Reads, ReadsAt, Gives, is_read, refusal_of}
 use Rattle.block_machine.specs.Words.{Entry}
 use Rattle.turn_laws.specs.Turn.{Stays, StaysBy, StaysDown, TurnsKeep, settled_by, read_wish}
@@ -40,6 +42,7 @@ reads_more a ca b cb c ct one two = record {
   up = λ begun is. two.up begun (one.up begun is);
   stays = λ x cap h before started keeps. two.stays x cap h before started (one.stays x cap h before started keeps);
   down = λ x cap h before keeps. two.down x cap h before (one.down x cap h before keeps);
+  lasts = lasts_more a ca b cb c ct one.lasts two.lasts;
 }
 
 -- ITS START
@@ -54,9 +57,9 @@ taken number size old r ready configured refused =
     no_refusal r is = cc
 
 module _ (number size : ℕ) (old : DeviceTold) (clock : Clock) (new : DeviceTold) (clock_new : Clock) where
-  opened : Opens (read_wish number size).job old new → Stays old clock new clock_new → StaysDown old clock new clock_new
+  opened : Opens (read_wish number size).job old new → SameClock clock clock_new → Stays old clock new clock_new → StaysDown old clock new clock_new
       → ReadsOn old clock new clock_new
-  opened opens stays down =
+  opened opens same stays down =
       let fixed : new.fixed ≡ old.fixed = ap (λ (d : DeviceTold). d.fixed) opens.only in
       let first : new.first ≡ old.first = ap (λ (d : DeviceTold). d.first) opens.only in
       let second : new.second ≡ old.second = ap (λ (d : DeviceTold). d.second) opens.only in
@@ -67,6 +70,7 @@ module _ (number size : ℕ) (old : DeviceTold) (clock : Clock) (new : DeviceTol
         up = λ begun is. up_more begun old new fixed (ap (λ (d : DeviceTold). d.ops) opens.only) (ap (λ (d : DeviceTold). d.started) opens.only) (part_same old.first new.first first) (part_same old.second new.second second) opens.marks is;
         stays = stays;
         down = down;
+        lasts = still_lasts old clock new clock_new (ap (λ (d : DeviceTold). d.ops) opens.only) same;
       }
 
   pub begins : (answer : Result (Unit {0}) DeviceRefusal) → IsReady old → length_of old.fixed.numbers number ≡ Some size
@@ -79,7 +83,7 @@ module _ (number size : ℕ) (old : DeviceTold) (clock : Clock) (new : DeviceTol
         started = ap (λ (d : DeviceTold). d.started) opens.only ∙ ready.started;
         first_on = ap (λ (d : DeviceTold). d.first.off) opens.only ∙ ready.first_on;
         second_on = ap (λ (d : DeviceTold). d.second.off) opens.only ∙ ready.second_on;
-        reads = opened opens stays down;
+        reads = opened opens accepts.1.same stays down;
         stand = subst (λ (s : Stand). StandsAs number size old new s) (sym (ap (λ (d : DeviceTold). d.stand) opens.only)) (refl, refl);
       }
 
@@ -129,8 +133,8 @@ module _ (old : DeviceTold) (new : DeviceTold) (clock_new : Clock) where
   has_fault Second begun up rose = inr (rose_since begun.second.faults old.second.faults new.second.faults up.restarted.second.faults.faults rose)
 
   pub works_on : (p : Part) (clock : Clock) → Works p old new clock_new → is_read old.stand ≡ true → Stays old clock new clock_new
-      → StaysDown old clock new clock_new → ReadsOn old clock new clock_new
-  works_on p clock works read stays down =
+      → StaysDown old clock new clock_new → Lasts old clock new clock_new → ReadsOn old clock new clock_new
+  works_on p clock works read stays down lasts =
       let marks : KeepsAll old new = keeps_same old.fixed.numbers old.slots new.slots (works.read read).1 in
       record {
         fixed = works_fixed p works;
@@ -139,6 +143,7 @@ module _ (old : DeviceTold) (new : DeviceTold) (clock_new : Clock) where
         up = λ begun is. up_more begun old new (works_fixed p works) (works.read read).0 (works_started p works) (first_reads p works read) (second_reads p works read) marks is;
         stays = stays;
         down = down;
+        lasts = lasts;
       }
 
 -- the turn worked on the read
@@ -201,7 +206,7 @@ module _ (number size : ℕ) (begun : DeviceTold) (clock_begun : Clock) (old : D
         started = works_started old new clock_new p works ∙ so.started;
         first_on = (first_reads old new clock_new p works is_reading).off ∙ so.first_on;
         second_on = (second_reads old new clock_new p works is_reading).off ∙ so.second_on;
-        reads = reads_more begun clock_begun old clock new clock_new so.reads (works_on old new clock_new p clock works is_reading stays (down is_reading));
+        reads = reads_more begun clock_begun old clock new clock_new so.reads (works_on old new clock_new p clock works is_reading stays (down is_reading) (turn_lasts answer old clock new clock_new turns).0);
         stand = turned_to p new.stand works (subst (λ (s : Stand). JobTurns p s new.stand old new clock_new) is works.job);
       }
 
@@ -242,6 +247,10 @@ ends number size old clock new clock_new outcome so off is = subst (λ (r : JobR
     (ended_is number size old new new.stand off so.stand)
 
 -- START-UPS
+pub starts_last : (answer : Result (Unit {0}) StartFault) (old : DeviceTold) (clock : Clock) (new : DeviceTold) (clock_new : Clock)
+    → StartsUp answer old clock new clock_new → Lasts old clock new clock_new
+starts_last answer old clock new clock_new up = still_lasts old clock new clock_new (ap (λ (d : DeviceTold). d.ops) up.only) up.clock_stays.same
+
 pub restarts : (answer : Result (Unit {0}) StartFault) (old : DeviceTold) (clock : Clock) (new : DeviceTold) (clock_new : Clock)
     → StartsUp answer old clock new clock_new → IsRestarted old new
 restarts answer old clock new clock_new up = record {

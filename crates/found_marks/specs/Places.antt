@@ -14,6 +14,7 @@ use Rattle.memif.specs.Told.{DeviceTold, Slot, is_open, slot_at}
 use Rattle.memif.specs.Marks.{KeepsAll}
 use Rattle.memif.specs.Clock.{Clock}
 use Rattle.memif.specs.Calls.{ReadsAt, Gives}
+use Rattle.memif.specs.Trials.{Lasts}
 use Rattle.turn_laws.specs.Turn.{Stays, StaysDown}
 use Rattle.found_marks.specs.declared.place.Place.{Place}
 use Rattle.found_marks.specs.Found.{IsUp}
@@ -81,6 +82,7 @@ pub record ReadsOn (old : DeviceTold) (clock : Clock) (new : DeviceTold) (clock_
   pub up : (begun : DeviceTold) → IsUp begun old → IsUp begun new
   pub stays : Stays old clock new clock_new
   pub down : StaysDown old clock new clock_new
+  pub lasts : Lasts old clock new clock_new
 
 -- a fault was counted since the device was as it was once
 abbrev pub HasFault : DeviceTold → DeviceTold → Type 0

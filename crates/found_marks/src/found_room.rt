@@ -4,6 +4,7 @@ ghost use Rattle.nv_base.specs.Marks.{next_or};
 ghost use Rattle.nv_base.specs.Lengths.{AreLengths};
 ghost use Rattle.memif.specs.Told.{is_open};
 ghost use Rattle.memif.specs.Calls.{InOrder};
+ghost use Rattle.memif.specs.Trials.{Lasts};
 ghost use Rattle.turn_laws.specs.Turn.{StartUpsKeep, StaysDown};
 ghost use Rattle.found_marks.specs.Found.{FailsToFind, Finds, FindsKeep, IsRestarted, IsUp};
 ghost use Rattle.found_marks.specs.Places.{FirstHeld, AreWhole, HasFault, IsReady, IsWhole, ReadsOn, listed_at, marks_at, number_at};
@@ -54,6 +55,7 @@ impl FoundRoom {
         ensures room { IfErr result (λ room. room ≡ self) }
         ensures failed { OnErr result (FailsToFind (D.told device.old) (D.told device.new)) }
         ensures order { InOrder (D.told device.new) (D.clock device.new) }
+        ensures lasts { Lasts (D.told device.old) (D.clock device.old) (D.told device.new) (D.clock device.new) }
         ensures keeps { FindsKeep result (D.told device.old) (D.clock device.old) (D.told device.new) (D.clock device.new) }
     {
         histories_grow();
@@ -83,6 +85,7 @@ fn find_all<D: MemDevice>(device: &mut D, places: &mut [Place]) -> Result<(), St
     ensures failed { OnErr result (IsRestarted (D.told device.old) (D.told device.new)) }
     ensures fault { OnErr result (HasFault (D.told device.old) (D.told device.new)) }
     ensures down { StaysDown (D.told device.old) (D.clock device.old) (D.told device.new) (D.clock device.new) }
+    ensures lasts { Lasts (D.told device.old) (D.clock device.old) (D.told device.new) (D.clock device.new) }
 {
     start_up(device)?;
     read_all(device, places)

@@ -120,8 +120,8 @@ impl Locked {
         front
     }
 
-    /// How many entries there are, at most the cap. A start-up stands, they are written as they may be, and the blocks of the job in
-    /// hand and of the next job are PENDING.
+    /// How many entries there are, at most the cap. A start-up stands, they are written as they may be, and the blocks of
+    /// the job in hand and of the next job are PENDING.
     pub fn len(&self) -> u32
         ensures count { result ≡ length self.now.desk.entries }
         ensures started { IsTrue (state_of self.now.desk).started }

@@ -12,6 +12,7 @@ use Rattle.run_promise.specs.Run.{Run, Course, Played, Ran, End, FlashFault, Has
 use Rattle.run_promise.specs.Completeness.{Completeness, IsServed}
 use Rattle.stack_steps.specs.Told.{StackTold}
 use Rattle.stack_steps.specs.Made.{HasWalked}
+use Rattle.stack_steps.specs.Paying.{Payer}
 use Rattle.flash_stacks.specs.Turns.{job_turns}
 use Rattle.nvm_top.specs.Machine.{IsStarted, run_of}
 use Rattle.nvm_top.proofs.PlayLemmas.{Rose-after}
@@ -42,10 +43,10 @@ early_complete c steps entry exit end order calm = record {
 }
 
 -- the faults that the stack was told are its flash's
-pub walked_complete : {c : Configuration} {cuts : ℕ} (made left : List Step) (end : End) (before : PartTold) (old t : StackTold) (entry exit : Told) (operations : List Change) → IsStarted c cuts before old → (walked : HasWalked made old t)
+pub walked_complete : {c : Configuration} {cuts : ℕ} {p q : Payer} (made left : List Step) (end : End) (before : PartTold) (old t : StackTold) (entry exit : Told) (operations : List Change) → IsStarted c cuts before old → (walked : HasWalked p q made old t)
     → t.configuration ≡ old.configuration → (Rose before.faults t.faults → Rose entry.faults exit.faults) → HasOrder (run_of t.configuration t.entries entry exit operations (Played made walked.pieces left) end) t.entries
     → Completeness (job_turns t.configuration) (run_of t.configuration t.entries entry exit operations (Played made walked.pieces left) end) (Played made walked.pieces left)
-walked_complete {c} {cuts} made left end before old t entry exit operations started walked same faults order calm = record {
+walked_complete {c} {cuts} {p} {q} made left end before old t entry exit operations started walked same faults order calm = record {
   ends = λ is. calm.no_fault (by_order (run_of t.configuration t.entries entry exit operations (Played made walked.pieces left) end) t.entries is order);
   served =
       subst (λ (x : Configuration). IsServed x (job_turns x) made walked.pieces t.entries) (sym same)

@@ -13,7 +13,7 @@ use Rattle.block_config.specs.Rules.{IsLegalConfig}
 use Rattle.block_machine.specs.Words.{Entry, Found}
 use Rattle.block_machine.specs.State.{State, Job}
 use Rattle.block_machine.specs.Steps.{after}
-use Rattle.memif.specs.Told.{Part, PartTold, DeviceTold, Fixed, First, Second, ops_of, figures_at, part_at as at_part}
+use Rattle.memif.specs.Told.{Part, PartTold, DeviceTold, Fixed, First, Second, ops_of, faults_of, figures_at, part_at as at_part}
 use Rattle.memif.specs.Calls.{InOrder}
 use Rattle.memif.specs.Clock.{Clock}
 use Rattle.fls_model.specs.Told.{Told, ToldBytes, Change, IfBothTold, bytes_now}
@@ -51,7 +51,10 @@ use Rattle.hand_laws.specs.Hands.{program_for}
 use Rattle.turn_figures.specs.Left.{most_turns}
 use Rattle.flash_stacks.specs.Turns.{fixed_by}
 use Rattle.flash_stacks.specs.Made.{IsOrigin, IsMadeStack, AreOfFirst, ComesBack, IsBack}
-use Rattle.nvm_top.specs.Machine.{IsStarted, StartsWell, StopsAtStart, Vouches}
+use Rattle.device_bridge.specs.Bridge.{IsWornOut}
+use Rattle.nvm_core.specs.Paying.{counted_of, TriesSince}
+use Rattle.played_stacks.specs.Paying.{payer_by}
+use Rattle.nvm_top.specs.Machine.{IsKeptFrom, IsStarted, StartsWell, StopsAtStart, Vouches}
 use Rattle.nvm_top.specs.Machine.{run_of, one_part}
 use Rattle.nvm_top.specs.Play.{IsWrongSize}
 use Rattle.nvm_top.specs.Stack.{stop_of_make}
@@ -175,7 +178,7 @@ started c inner cuts making entry m s origin made starts = record {
   fresh = record {
     ready = ap (λ x. x.ready) starts.only;
     marks = starts.marks;
-    ops = _;
+    ops = ops_of (told_of s.device);
     entries = entries;
     stores = ap (λ bs. map store_of bs) copies ∙ ap (λ x. map store_of (plain_blocks_of x)) (sym config);
     none_refused = λ id.
@@ -183,6 +186,7 @@ started c inner cuts making entry m s origin made starts = record {
         let hand : untold_of id (state_of s.desk).hand ≡ 0 = ap (λ h. untold_of id (after s.desk.config h).hand) entries in omega (arith, refused, hand);
     none_planned = rw (no_plan _ (told_of s.device).first (ap (λ p. p.planning.plan) starts.finds.up.restarted.first.only)) refl;
   };
+  ops = refl;
   takes = let is = ap (λ p. p.planning.takes) starts.finds.up.restarted.first.only ∙ ap (λ p. p.planning.takes) part in omega (arith, is);
   none = refl;
   faults = omega arith;
@@ -203,12 +207,22 @@ started c inner cuts making entry m s origin made starts = record {
     part : (told_of m.device).first ≡ part_at (told_cutting (cutting inner cuts))
     part = made.device.part ∙ ap part_at origin.over
 
-pub kept_up : (before : Part → PartTold) (m s t : StackState Device (List PlainBlock)) → t ≡ s → StartsUp told_of m s → StackKeeps before s.desk None (told_of s.device) (told_clock s.device)
+is_kept : (before : Part → PartTold) (m s t : StackState Device (List PlainBlock)) → t ≡ s → StartsUp told_of m s → StackKeeps before s.desk None (told_of s.device) (told_clock s.device)
     → IsKept t.ready before t.desk t.hand (told_of t.device) (told_clock t.device)
-kept_up before m s t same starts keeps =
+is_kept before m s t same starts keeps =
     subst (λ (x : StackState Device (List PlainBlock)). IsKept x.ready before x.desk x.hand (told_of x.device) (told_clock x.device)) (sym same)
     (subst (λ (b : Bool). IsKept b before s.desk s.hand (told_of s.device) (told_clock s.device)) (sym (ap (λ x. x.ready) starts.only))
     (subst (λ (h : Option HandState). StackKeeps before s.desk h (told_of s.device) (told_clock s.device)) (sym (ap (λ x. x.hand) starts.only)) keeps))
+
+-- no job is in hand
+none_owed : (before : Part → PartTold) (m s t : StackState Device (List PlainBlock)) → t ≡ s → StartsUp told_of m s → IfSome t.hand (λ h. TriesSince (told_clock t.device).worn (faults_of (told_of t.device)) (counted_of (told_of t.device)) h.program)
+none_owed before m s t same starts =
+    let none : t.hand ≡ None = ap (λ x. x.hand) same ∙ ap (λ x. x.hand) starts.only in
+    subst (λ (h : Option HandState). IfSome h (λ x. TriesSince (told_clock t.device).worn (faults_of (told_of t.device)) (counted_of (told_of t.device)) x.program)) (sym none) tt
+
+pub kept_up : (before : Part → PartTold) (m s t : StackState Device (List PlainBlock)) → t ≡ s → StartsUp told_of m s → StackKeeps before s.desk None (told_of s.device) (told_clock s.device)
+    → IsKeptFrom (IsKept t.ready before t.desk t.hand (told_of t.device) (told_clock t.device)) (payer_by told_of told_clock t) (told_by told_of t)
+kept_up before m s t same starts keeps = let kept = is_kept before m s t same starts keeps in (kept, ((before, kept), (omega arith, none_owed before m s t same starts)))
 
 -- ITS END
 
@@ -273,12 +287,14 @@ in_first a f t n is (inr full) = inr (omega (arith, is, full))
 
 pub vouched : (c : Configuration) (inner : Told) (cuts : ℕ) (making : Making) (entry exit : Told) (s : StackState Device (List PlainBlock)) (e : Device) → e ≡ s.device → HalvesMakeIt (told_clock e) → IsOrigin c inner cuts making entry → s.desk.config ≡ c → s.desk.cap ≡ cap
     → IsBack c inner exit (part_at entry) (told_of e) (clock_of e)
-    → Vouches (IsKept s.ready (one_part (part_at entry)) s.desk s.hand (told_of s.device) (told_clock s.device)) (part_at entry) (told_by told_of s) inner exit
+    → Vouches (IsKept s.ready (one_part (part_at entry)) s.desk s.hand (told_of s.device) (told_clock s.device)) (payer_by told_of told_clock s) (part_at entry) (told_by told_of s) inner exit
 vouched c inner cuts making entry exit s e same halves origin config most back = record {
   operations = back.operations;
   faults = λ rose. counted_rose inner.faults exit.faults (own.faults 1 (once (told_of s.device).first.faults (told_by told_of s).faults refl rose)) back.more;
   counted = λ n counted. own.faults n (in_first (part_at entry).faults (told_of s.device).first.faults (told_by told_of s).faults n refl counted);
   cuts = λ n counted. own.cuts n (subst (λ (k : ℕ). WereCounted n (part_at entry).planning.unplanned k) one_part_cuts counted);
+  worn = λ k n (few, is).
+      subst (λ (x : Configuration). IsWornOut (making_of x) (record { entry = inner; exit = exit; operations = back.operations }) k n) (sym config) (own.worn k n is);
   promise = λ kept made left pieces end order refusals off.
       its (run_of s.desk.config s.desk.entries inner exit back.operations (Played made pieces left) end) (one_part (part_at entry)) (told_of s.device)
       (record {

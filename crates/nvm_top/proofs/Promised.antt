@@ -1,7 +1,7 @@
 -- A run keeps the promise, by the course of its steps and by what the machine vouches for.
 use Rattle.std.specs.Prelude.{OnOk, IfErr, IfSome, sum_by, take}
 use Rattle.std.specs.List.{Contains}
-use Rattle.std.proofs.Common.{◌≡◌, ◌≤◌, ◌⊎◌, ℕ, zero, suc, List, [], ◌∷◌, ◌++◌, Option, Some, None, Result, Ok, Err, refl, sym, ap, ◌∙◌, subst, inl, inr, arith, append-nil}
+use Rattle.std.proofs.Common.{◌≡◌, ◌≤◌, ◌+◌, ◌⊎◌, ℕ, zero, suc, List, [], ◌∷◌, ◌++◌, Option, Some, None, Result, Ok, Err, refl, sym, ap, ◌∙◌, subst, inl, inr, arith, append-nil}
 use Rattle.std.specs.Io.KnownBytes.{Appends}
 use Rattle.nv_streams.specs.Sink.{AppendsPrefix}
 use Rattle.nv_base.specs.Count.{Rose, WereCounted}
@@ -9,7 +9,7 @@ use Rattle.block_config.specs.Config.{Configuration}
 use Rattle.memif.specs.Told.{PartTold}
 use Rattle.fls_model.specs.Told.{Told, Change}
 use Rattle.device_bridge.specs.Image.{IsSoundFlash}
-use Rattle.device_bridge.specs.FlashRun.{TellsBytes, StartsSound}
+use Rattle.device_bridge.specs.FlashRun.{FlashRun, TellsBytes, StartsSound}
 use Rattle.nvm_script.specs.Printed.{history_text}
 use Rattle.nvm_script.specs.declared.step.StepKind.TheVariants as kind
 use Rattle.script_walks.specs.Words.{Step, StepKind}
@@ -29,7 +29,10 @@ use Rattle.nvm_top.specs.Ends.{HasPlayable}
 use Rattle.flash_stacks.specs.Made.{LeavesAlone}
 use Rattle.nvm_top.specs.Play.{IsStepsEnd}
 use Rattle.nvm_top.specs.Reading.{IsEarly}
-use Rattle.run_promise.specs.Turns.{HasTurns, EachMove, ServesTurn, all_moves}
+use Rattle.run_promise.specs.Turns.{Moment, BeginsAt, EndsBy, ArePaidSince, HasTurns, EachMove, ServesTurn, all_moves}
+use Rattle.run_promise.proofs.Paid.{since_too}
+use Rattle.device_bridge.specs.Bridge.{IsWornOut}
+use Rattle.stack_steps.specs.Paying.{Payer}
 use Rattle.stack_steps.specs.Told.{StackTold, moment_of}
 use Rattle.stack_steps.specs.Made as steps
 use Rattle.stack_steps.specs.Made.{HasWalked, WereLeft, WasBroken}
@@ -76,14 +79,25 @@ early_promise c steps entry exit stop end stops ends = record {
   counted = λ e ops has is. absurd (not_there e has);
 }
 
+-- it failed by a fault of its own
+one_fault : (f : FlashRun) (end : End) → EndsAtStart f end → EndsBy (record { faults = 0; ops = 0; left = 0 }) f end
+one_fault f FlashFault (inl rose) = inl (omega (arith, rose))
+one_fault f FlashFault (inr (full, more)) = inr (omega (arith, full, more))
+one_fault f Memory ends = tt
+one_fault f Whole ends = tt
+one_fault f HistoryFull ends = tt
+
 -- no step was made
-early_turns : (c : Configuration) (steps : List Step) (entry exit : Told) (end : End) → entry.faults ≤ exit.faults → HasTurns (job_turns c) (run_of c [] entry exit [] (Played [] [] steps) end) (Played [] [] steps)
-early_turns c steps entry exit end more = record {
+early_turns : (c : Configuration) (steps : List Step) (entry exit : Told) (end : End) → entry.faults ≤ exit.faults → EndsAtStart (record { entry = entry; exit = exit; operations = [] }) end → HasTurns (job_turns c) (run_of c [] entry exit [] (Played [] [] steps) end) (Played [] [] steps)
+early_turns c steps entry exit end more ends = record {
   first = record { faults = 0; ops = 0; left = 0 };
   last = record { faults = 0; ops = 0; left = 0 };
   moves = record { moves = []; are = tt; tell = refl; behind = refl };
+  begins = tt;
   counted = inl (omega (arith, more));
+  ends = one_fault (record { entry = entry; exit = exit; operations = [] }) end ends;
   serves = tt;
+  paid = λ told sound. tt;
 }
 
 pub early_has : (c : Configuration) (steps : List Step) (Tells : Run → Type 0) (entry exit : Told) (stop : Stop) (end : End) → StopsAtStart c entry exit stop → EndsAtStart (record { entry = entry; exit = exit; operations = [] }) end
@@ -97,7 +111,7 @@ early_has c steps Tells entry exit stop end stops ends tells = record {
   ends = tells;
   keeps =
       let promise = early_promise c steps entry exit stop end stops ends in
-      record { order = promise.order; refusals = promise.refusals; off = promise.off; complete = early_complete c steps entry exit end promise.order; turns = early_turns c steps entry exit end stops.faults; promise = λ told sound. promise };
+      record { order = promise.order; refusals = promise.refusals; off = promise.off; complete = early_complete c steps entry exit end promise.order; turns = early_turns c steps entry exit end stops.faults ends; promise = λ told sound. promise };
 }
 
 -- WHAT IS TOLD OF A RUN
@@ -215,20 +229,32 @@ no_room c s kind.Restart is = is
 no_room c s _ is = absurd is
 
 -- why the steps behind are left
-left_for : (why : StepFault) (left : List Step) (r : Run) (before : PartTold) (old t : StackTold) → old.configuration ≡ r.configuration → old.cap ≡ cap → t.entries ≡ r.history → before.faults ≤ old.faults
-    → (Rose before.faults t.faults → Rose r.flash.entry.faults r.flash.exit.faults) → WereLeft why left old t → LeavesFor r (after r.configuration r.history) (ends.end_of why) left
-left_for fault.Flash (x ∷ xs) r before old t same most entries less faults is = (is.0, faults (Rose-after before.faults old.faults t.faults less is.1))
-left_for fault.HistoryFull (x ∷ xs) r before old t same most entries less faults is =
+left_for : (why : StepFault) (left : List Step) (r : Run) (before : PartTold) (last : Moment) (old t : StackTold) → old.configuration ≡ r.configuration → old.cap ≡ cap → t.entries ≡ r.history → before.faults ≤ last.faults
+    → (Rose before.faults t.faults → Rose r.flash.entry.faults r.flash.exit.faults) → WereLeft why left last old t → LeavesFor r (after r.configuration r.history) (ends.end_of why) left
+left_for fault.Flash (x ∷ xs) r before last old t same most entries less faults is = (is.0, faults (Rose-after before.faults last.faults t.faults less is.1))
+left_for fault.HistoryFull (x ∷ xs) r before last old t same most entries less faults is =
     no_room r.configuration (after r.configuration r.history) x.kind
     (subst (λ (h : List Entry). steps.HasNoRoom r.configuration cap (after r.configuration h) x.kind) entries
     (subst (λ (n : ℕ). steps.HasNoRoom r.configuration n (after r.configuration t.entries) x.kind) most
     (subst (λ (c : Configuration). steps.HasNoRoom c old.cap (after c t.entries) x.kind) same is)))
-left_for fault.Memory xs r before old t same most entries less faults is = tt
-left_for fault.Flash [] r before old t same most entries less faults is = absurd is
-left_for fault.HistoryFull [] r before old t same most entries less faults is = absurd is
+left_for fault.Memory xs r before last old t same most entries less faults is = tt
+left_for fault.Flash [] r before last old t same most entries less faults is = absurd is
+left_for fault.HistoryFull [] r before last old t same most entries less faults is = absurd is
+
+-- and where a start-up failed it counted one fault more
+ends_by : (why : StepFault) (left : List Step) (before : PartTold) (last : Moment) (old t : StackTold) (f : FlashRun) → before.faults ≡ 0 → ((n : ℕ) → WereCounted n before.faults t.faults → WereCounted n f.entry.faults f.exit.faults)
+    → WereLeft why left last old t → EndsBy last f (ends.end_of why)
+ends_by fault.Flash (x ∷ xs) before last old t f none counted is = counted (last.faults + 1) (one_more is.1)
+  where
+    one_more : Rose last.faults t.faults → WereCounted (last.faults + 1) before.faults t.faults
+    one_more (inl rose) = inl (omega (arith, rose, none))
+    one_more (inr (full, more)) = inr (omega (arith, full, more))
+ends_by fault.Flash [] before last old t f none counted is = absurd is
+ends_by fault.HistoryFull left before last old t f none counted is = tt
+ends_by fault.Memory left before last old t f none counted is = tt
 
 -- the history of steps that were made is one of a run
-ordered : (made left : List Step) (end : End) (old t : StackTold) (entry exit : Told) (operations : List Change) (fresh : steps.IsFresh old) (walked : HasWalked made old t) → t.configuration ≡ old.configuration
+ordered : {p q : Payer} (made left : List Step) (end : End) (old t : StackTold) (entry exit : Told) (operations : List Change) (fresh : steps.IsFresh old) (walked : HasWalked p q made old t) → t.configuration ≡ old.configuration
     → LeavesFor (run_of t.configuration t.entries entry exit operations (Played made walked.pieces left) end) (after t.configuration t.entries) end left
     → HasOrder (run_of t.configuration t.entries entry exit operations (Played made walked.pieces left) end) t.entries
 ordered made left end old t entry exit operations fresh walked same leaves =
@@ -244,11 +270,12 @@ counted_from n a b d less (inl is) = inl (omega (arith, less, is))
 counted_from n a b d less (inr full) = inr full
 
 -- a run keeps the promise where its flash starts well
-has_run : (Kept : Type 0) (c : Configuration) (cuts : ℕ) (all made left : List Step) (end : End) (before : PartTold) (old t : StackTold) (entry exit : Told) (Tells : Run → Type 0) (started : IsStarted c cuts before old) (walked : HasWalked made old t)
-    → t.configuration ≡ old.configuration → (StartsWell c entry → Kept) → (v : Vouches Kept before t entry exit) → made ++ left ≡ all
+has_run : (Kept : Type 0) (p q : Payer) (c : Configuration) (cuts : ℕ) (all made left : List Step) (end : End) (before : PartTold) (old t : StackTold) (entry exit : Told) (Tells : Run → Type 0) (started : IsStarted c cuts before old) (walked : HasWalked p q made old t)
+    → t.configuration ≡ old.configuration → (StartsWell c entry → Kept) → (StartsWell c entry → p.owes old.faults) → (v : Vouches Kept q before t entry exit) → made ++ left ≡ all
     → LeavesFor (run_of t.configuration t.entries entry exit v.operations (Played made walked.pieces left) end) (after t.configuration t.entries) end left
+    → EndsBy walked.last (record { entry = entry; exit = exit; operations = v.operations }) end
     → Tells (run_of t.configuration t.entries entry exit v.operations (Played made walked.pieces left) end) → HasRun c all Tells entry exit
-has_run Kept c cuts all made left end before old t entry exit Tells started walked same keeps v parts leaves tells = record {
+has_run Kept p q c cuts all made left end before old t entry exit Tells started walked same keeps owes v parts leaves own tells = record {
   run = run_of t.configuration t.entries entry exit v.operations (Played made walked.pieces left) end;
   configuration = of;
   course = parts;
@@ -264,8 +291,11 @@ has_run Kept c cuts all made left end before old t entry exit Tells started walk
       first = moment_of old;
       last = walked.last;
       moves = walked.moves;
+      begins = begins;
       counted = v.counted walked.last.faults (let none = started.none in let all = walked.counted in inl (omega (arith, none, all)));
+      ends = own;
       serves = serves;
+      paid = λ told sound. paid told sound;
     };
     promise = λ told sound. v.promise (keeps (well told sound)) made left walked.pieces end order refusals off;
   };
@@ -277,6 +307,11 @@ has_run Kept c cuts all made left end before old t entry exit Tells started walk
     -- its first entry is the start-up
     first : take 1 t.entries ≡ old.entries
     first = ap (take 1) (walked.grows ∙ ap (λ (h : List Entry). h ++ walked.more) started.fresh.entries) ∙ sym started.fresh.entries
+
+    begins : BeginsAt (moment_of old) t.entries
+    begins =
+        subst (λ (h : List Entry). BeginsAt (moment_of old) h) (sym (walked.grows ∙ ap (λ (h : List Entry). h ++ walked.more) started.fresh.entries))
+        (ap (λ (n : ℕ). Some n) started.ops)
 
     serves : EachMove t.configuration (ServesTurn t.configuration (job_turns t.configuration)) (after t.configuration (take 1 t.entries)) (all_moves walked.moves.moves)
     serves =
@@ -301,30 +336,43 @@ has_run Kept c cuts all made left end before old t entry exit Tells started walk
       sound = subst (λ (x : Configuration). IsSoundFlash (making_of x) told.first) of (subst (λ (o : Option (List ℕ)). IfSome o (IsSoundFlash (making_of t.configuration))) told.entry sound);
     }
 
+    paid : TellsBytes (record { entry = entry; exit = exit; operations = v.operations }) → StartsSound (making_of t.configuration) (record { entry = entry; exit = exit; operations = v.operations })
+        → ArePaidSince t.configuration (IsWornOut (making_of t.configuration) (record { entry = entry; exit = exit; operations = v.operations })) old.faults (moment_of old) (after t.configuration (take 1 t.entries)) (all_moves walked.moves.moves)
+    paid told sound =
+        since_too t.configuration q.worn (IsWornOut (making_of t.configuration) (record { entry = entry; exit = exit; operations = v.operations })) v.worn old.faults (moment_of old) (after t.configuration (take 1 t.entries)) (all_moves walked.moves.moves)
+        (subst (λ (h : List Entry). ArePaidSince t.configuration q.worn old.faults (moment_of old) (after t.configuration h) (all_moves walked.moves.moves)) (sym first)
+        (subst (λ (x : Configuration). ArePaidSince x q.worn old.faults (moment_of old) (after x old.entries) (all_moves walked.moves.moves)) (sym same)
+        (walked.pays.pays old.faults (owes (well told sound))).0))
+
 -- of the status, the output and the steps
-end_runs : (Kept : Type 0) (c : Configuration) (cuts : ℕ) (all made left : List Step) (end : End) (before : PartTold) (old t : StackTold) (entry exit : Told) (x : Status) (w w' : Option (List ℕ)) (text : List Entry → List ℕ) (line : End → List Entry → List ℕ) (Tells : Status → Run → Type 0)
-    → Telling entry exit w w' text line Tells → IsStarted c cuts before old → (walked : HasWalked made old t) → t.configuration ≡ old.configuration → (StartsWell c entry → Kept) → (v : Vouches Kept before t entry exit) → made ++ left ≡ all
-    → LeavesFor (run_of t.configuration t.entries entry exit v.operations (Played made walked.pieces left) end) (after t.configuration t.entries) end left → WritesText (status_at end) (text t.entries) (line end t.entries) w w' x
+end_runs : (Kept : Type 0) (p q : Payer) (c : Configuration) (cuts : ℕ) (all made left : List Step) (end : End) (before : PartTold) (old t : StackTold) (entry exit : Told) (x : Status) (w w' : Option (List ℕ)) (text : List Entry → List ℕ) (line : End → List Entry → List ℕ) (Tells : Status → Run → Type 0)
+    → Telling entry exit w w' text line Tells → IsStarted c cuts before old → (walked : HasWalked p q made old t) → t.configuration ≡ old.configuration → (StartsWell c entry → Kept) → (StartsWell c entry → p.owes old.faults) → (v : Vouches Kept q before t entry exit) → made ++ left ≡ all
+    → LeavesFor (run_of t.configuration t.entries entry exit v.operations (Played made walked.pieces left) end) (after t.configuration t.entries) end left
+    → EndsBy walked.last (record { entry = entry; exit = exit; operations = v.operations }) end → WritesText (status_at end) (text t.entries) (line end t.entries) w w' x
     → RunsAs x (HasRun c all (Tells x) entry exit) entry exit
-end_runs Kept c cuts all made left end before old t entry exit x w w' text line Tells telling started walked same keeps v parts leaves is =
+end_runs Kept p q c cuts all made left end before old t entry exit x w w' text line Tells telling started walked same keeps owes v parts leaves own is =
     by_status (status_at end) (text t.entries) (line end t.entries) w w' x (λ y. HasRun c all (Tells y) entry exit) entry exit is
-    (λ part. has_run Kept c cuts all made left Memory before old t entry exit (Tells status.Memory) started walked same keeps v parts tt (telling.wanting t.configuration t.entries v.operations (Played made walked.pieces left) part))
-    (λ part. inl (has_run Kept c cuts all made left end before old t entry exit (Tells status.WriteFault) started walked same keeps v parts leaves (telling.failed t.configuration t.entries v.operations (Played made walked.pieces left) end part)))
-    (λ whole. runs_at (λ y. HasRun c all (Tells y) entry exit) entry exit end (has_run Kept c cuts all made left end before old t entry exit (Tells (status_at end)) started walked same keeps v parts leaves (telling.good t.configuration t.entries v.operations (Played made walked.pieces left) end whole)))
+    (λ part. has_run Kept p q c cuts all made left Memory before old t entry exit (Tells status.Memory) started walked same keeps owes v parts tt tt (telling.wanting t.configuration t.entries v.operations (Played made walked.pieces left) part))
+    (λ part. inl (has_run Kept p q c cuts all made left end before old t entry exit (Tells status.WriteFault) started walked same keeps owes v parts leaves own (telling.failed t.configuration t.entries v.operations (Played made walked.pieces left) end part)))
+    (λ whole. runs_at (λ y. HasRun c all (Tells y) entry exit) entry exit end (has_run Kept p q c cuts all made left end before old t entry exit (Tells (status_at end)) started walked same keeps owes v parts leaves own (telling.good t.configuration t.entries v.operations (Played made walked.pieces left) end whole)))
 
 -- the end of steps that were made, or left
 abbrev pub end_by : Result (Unit {0}) StepFault → End
 end_by (Ok done) = Whole
 end_by (Err why) = ends.end_of why
 
-runs_by : (Kept : Type 0) (c : Configuration) (cuts : ℕ) (all : List Step) (before : PartTold) (old t : StackTold) (entry exit : Told) (x : Status) (w w' : Option (List ℕ)) (text : List Entry → List ℕ) (line : End → List Entry → List ℕ) (Tells : Status → Run → Type 0) (result : Result (Unit {0}) StepFault)
-    → Telling entry exit w w' text line Tells → IsStarted c cuts before old → OnOk result (HasWalked all old t) → IfErr result (λ why. WasBroken why all old t) → t.configuration ≡ old.configuration → (StartsWell c entry → Kept) → Vouches Kept before t entry exit
+runs_by : (Kept : Type 0) (p q : Payer) (c : Configuration) (cuts : ℕ) (all : List Step) (before : PartTold) (old t : StackTold) (entry exit : Told) (x : Status) (w w' : Option (List ℕ)) (text : List Entry → List ℕ) (line : End → List Entry → List ℕ) (Tells : Status → Run → Type 0) (result : Result (Unit {0}) StepFault)
+    → Telling entry exit w w' text line Tells → IsStarted c cuts before old → OnOk result (HasWalked p q all old t) → IfErr result (λ why. WasBroken p q why all old t) → t.configuration ≡ old.configuration → (StartsWell c entry → Kept) → (StartsWell c entry → p.owes old.faults) → Vouches Kept q before t entry exit
     → WritesText (status_at (end_by result)) (text t.entries) (line (end_by result) t.entries) w w' x → RunsAs x (HasRun c all (Tells x) entry exit) entry exit
-runs_by Kept c cuts all before old t entry exit x w w' text line Tells (Ok done) telling started walked broken same keeps v is =
-    end_runs Kept c cuts all all [] Whole before old t entry exit x w w' text line Tells telling started walked same keeps v (append-nil all) refl is
-runs_by Kept c cuts all before old t entry exit x w w' text line Tells (Err why) telling started walked broken same keeps v is =
-    end_runs Kept c cuts all broken.made broken.left (ends.end_of why) before old t entry exit x w w' text line Tells telling started broken.walked same keeps v (sym broken.order)
-    (left_for why broken.left (run_of t.configuration t.entries entry exit v.operations (Played broken.made broken.walked.pieces broken.left) (ends.end_of why)) before old t (sym same) started.most refl started.faults v.faults broken.why) is
+runs_by Kept p q c cuts all before old t entry exit x w w' text line Tells (Ok done) telling started walked broken same keeps owes v is =
+    end_runs Kept p q c cuts all all [] Whole before old t entry exit x w w' text line Tells telling started walked same keeps owes v (append-nil all) refl tt is
+runs_by Kept p q c cuts all before old t entry exit x w w' text line Tells (Err why) telling started walked broken same keeps owes v is =
+    end_runs Kept p q c cuts all broken.made broken.left (ends.end_of why) before old t entry exit x w w' text line Tells telling started broken.walked same keeps owes v (sym broken.order)
+    (left_for why broken.left (run_of t.configuration t.entries entry exit v.operations (Played broken.made broken.walked.pieces broken.left) (ends.end_of why)) before broken.walked.last old t (sym same) started.most refl none v.faults broken.why)
+    (ends_by why broken.left before broken.walked.last old t (record { entry = entry; exit = exit; operations = v.operations }) started.none v.counted broken.why) is
+  where
+    none : before.faults ≤ broken.walked.last.faults
+    none = let first = started.none in omega (arith, first)
 
 play_text : (result : Result (Unit {0}) StepFault) (h : List Entry) (w w' : Option (List ℕ)) (x : Status) → WritesText (ends.status_of_run (ends.run_of result)) (history_text h) (ends.line_of_run (ends.run_of result) h) w w' x
     → WritesText (status_at (end_by result)) (history_text h) (last_line (end_by result) h) w w' x
@@ -340,31 +388,31 @@ soaked_text (Err fault.Flash) h w w' x is = is
 soaked_text (Err fault.HistoryFull) h w w' x is = is
 soaked_text (Err fault.Memory) h w w' x is = is
 
-pub play_runs : (Kept : Type 0) (c : Configuration) (cuts : ℕ) (all : List Step) (before : PartTold) (old t : StackTold) (entry exit : Told) (x : Status) (w w' input : Option (List ℕ)) (result : Result (Unit {0}) StepFault) → IsStarted c cuts before old
-    → OnOk result (HasWalked all old t) → IfErr result (λ why. WasBroken why all old t) → t.configuration ≡ old.configuration → (StartsWell c entry → Kept) → Vouches Kept before t entry exit
+pub play_runs : (Kept : Type 0) (p q : Payer) (c : Configuration) (cuts : ℕ) (all : List Step) (before : PartTold) (old t : StackTold) (entry exit : Told) (x : Status) (w w' input : Option (List ℕ)) (result : Result (Unit {0}) StepFault) → IsStarted c cuts before old
+    → OnOk result (HasWalked p q all old t) → IfErr result (λ why. WasBroken p q why all old t) → t.configuration ≡ old.configuration → (StartsWell c entry → Kept) → (StartsWell c entry → p.owes old.faults) → Vouches Kept q before t entry exit
     → WritesText (ends.status_of_run (ends.run_of result)) (history_text t.entries) (ends.line_of_run (ends.run_of result) t.entries) w w' x
     → RunsAs x (HasRun c all (λ r. Ends (played_call input x entry exit w w') r r.end) entry exit) entry exit
-play_runs Kept c cuts all before old t entry exit x w w' input result started walked broken same keeps v is =
-    runs_by Kept c cuts all before old t entry exit x w w' history_text last_line (λ y r. Ends (played_call input y entry exit w w') r r.end) result (play_tells input entry exit w w') started walked broken same keeps v (play_text result t.entries w w' x is)
+play_runs Kept p q c cuts all before old t entry exit x w w' input result started walked broken same keeps owes v is =
+    runs_by Kept p q c cuts all before old t entry exit x w w' history_text last_line (λ y r. Ends (played_call input y entry exit w w') r r.end) result (play_tells input entry exit w w') started walked broken same keeps owes v (play_text result t.entries w w' x is)
 
 -- a summary of the history and the run as they were
-pub soak_ran : (Kept : Type 0) (c : Configuration) (cuts : ℕ) (all : List Step) (before : PartTold) (old t : StackTold) (entry exit : Told) (x : Status) (w w' input : Option (List ℕ)) (result : Result (Unit {0}) StepFault) (run : Result (Unit {0}) Stop) (h : List Entry) → IsStarted c cuts before old
-    → OnOk result (HasWalked all old t) → IfErr result (λ why. WasBroken why all old t) → t.configuration ≡ old.configuration → (StartsWell c entry → Kept) → Vouches Kept before t entry exit → run ≡ ends.run_of result → h ≡ t.entries
+pub soak_ran : (Kept : Type 0) (p q : Payer) (c : Configuration) (cuts : ℕ) (all : List Step) (before : PartTold) (old t : StackTold) (entry exit : Told) (x : Status) (w w' input : Option (List ℕ)) (result : Result (Unit {0}) StepFault) (run : Result (Unit {0}) Stop) (h : List Entry) → IsStarted c cuts before old
+    → OnOk result (HasWalked p q all old t) → IfErr result (λ why. WasBroken p q why all old t) → t.configuration ≡ old.configuration → (StartsWell c entry → Kept) → (StartsWell c entry → p.owes old.faults) → Vouches Kept q before t entry exit → run ≡ ends.run_of result → h ≡ t.entries
     → Writes (ends.IsSummaryLine run h) w w' x → RunsAs x (HasRun c all (λ r. SoakEnds (played_call input x entry exit w w') r r.end) entry exit) entry exit
-soak_ran Kept c cuts all before old t entry exit x w w' input result run h started walked broken same keeps v is_run is_history is =
+soak_ran Kept p q c cuts all before old t entry exit x w w' input result run h started walked broken same keeps owes v is_run is_history is =
     let text = text_alone (ends.IsSummaryLine run h) (ends.status_of_run run) (ends.summary_of_run run h) w w' x (λ y l at. at) is in
-    runs_by Kept c cuts all before old t entry exit x w w' (λ es. []) soak_text (λ y r. SoakEnds (played_call input y entry exit w w') r r.end) result (soak_tells input entry exit w w') started walked broken same keeps v
+    runs_by Kept p q c cuts all before old t entry exit x w w' (λ es. []) soak_text (λ y r. SoakEnds (played_call input y entry exit w w') r r.end) result (soak_tells input entry exit w w') started walked broken same keeps owes v
     (soaked_text result t.entries w w' x
     (subst (λ (r : Result (Unit {0}) Stop). WritesText (ends.status_of_run r) [] (ends.summary_of_run r t.entries) w w' x) is_run
     (subst (λ (es : List Entry). WritesText (ends.status_of_run run) [] (ends.summary_of_run run es) w w' x) is_history text)))
 
 -- with the history and the run as they were written
-pub play_ran : (Kept : Type 0) (c : Configuration) (cuts : ℕ) (all : List Step) (before : PartTold) (old t : StackTold) (entry exit : Told) (x : Status) (w w' input : Option (List ℕ)) (result : Result (Unit {0}) StepFault) (run : Result (Unit {0}) Stop) (h : List Entry) → IsStarted c cuts before old
-    → OnOk result (HasWalked all old t) → IfErr result (λ why. WasBroken why all old t) → t.configuration ≡ old.configuration → (StartsWell c entry → Kept) → Vouches Kept before t entry exit → run ≡ ends.run_of result → h ≡ t.entries
+pub play_ran : (Kept : Type 0) (p q : Payer) (c : Configuration) (cuts : ℕ) (all : List Step) (before : PartTold) (old t : StackTold) (entry exit : Told) (x : Status) (w w' input : Option (List ℕ)) (result : Result (Unit {0}) StepFault) (run : Result (Unit {0}) Stop) (h : List Entry) → IsStarted c cuts before old
+    → OnOk result (HasWalked p q all old t) → IfErr result (λ why. WasBroken p q why all old t) → t.configuration ≡ old.configuration → (StartsWell c entry → Kept) → (StartsWell c entry → p.owes old.faults) → Vouches Kept q before t entry exit → run ≡ ends.run_of result → h ≡ t.entries
     → WritesText (ends.status_of_run run) (history_text h) (ends.line_of_run run h) w w' x
     → RunsAs x (HasRun c all (λ r. Ends (played_call input x entry exit w w') r r.end) entry exit) entry exit
-play_ran Kept c cuts all before old t entry exit x w w' input result run h started walked broken same keeps v is_run is_history is =
-    play_runs Kept c cuts all before old t entry exit x w w' input result started walked broken same keeps v
+play_ran Kept p q c cuts all before old t entry exit x w w' input result run h started walked broken same keeps owes v is_run is_history is =
+    play_runs Kept p q c cuts all before old t entry exit x w w' input result started walked broken same keeps owes v
     (subst (λ (r : Result (Unit {0}) Stop). WritesText (ends.status_of_run r) (history_text t.entries) (ends.line_of_run r t.entries) w w' x) is_run
     (subst (λ (es : List Entry). WritesText (ends.status_of_run run) (history_text es) (ends.line_of_run run es) w w' x) is_history is))
 

@@ -10,7 +10,9 @@ use Rattle.script_walks.specs.Words.{Step}
 use Rattle.block_machine.specs.Words.{Entry}
 use Rattle.run_promise.specs.Run.{Run, Course, Played, End, cap, HasOrder, LeavesFlash, RefusalsExplain, offs_of_flash}
 use Rattle.run_promise.specs.Promise.{Promise, making_of}
+use Rattle.device_bridge.specs.Bridge.{IsWornOut}
 use Rattle.stack_steps.specs.Told.{StackTold}
+use Rattle.stack_steps.specs.Paying.{Payer}
 use Rattle.stack_steps.specs.Made.{IsFresh}
 use Rattle.flash_stacks.specs.Turns.{job_turns}
 use Rattle.nvm_top.specs.declared.stop.Stop.{Stop}
@@ -33,6 +35,7 @@ pub record IsStarted (c : Configuration) (cuts : ℕ) (before : PartTold) (t : S
   pub most : t.cap ≡ cap
   pub turns : t.most ≡ job_turns c
   pub fresh : IsFresh t
+  pub ops : fresh.ops ≡ t.ops
   pub takes : cuts ≤ t.causes.takes
   pub none : before.faults ≡ 0
   pub faults : before.faults ≤ t.faults
@@ -52,13 +55,19 @@ pub record StartsWell (c : Configuration) (entry : Told) : Type 0 where
   pub bytes : bytes_now entry ≡ Some first
   pub sound : IsSoundFlash (making_of c) first
 
--- The flash is given back: the faults and the cuts that the stack was told are its own; and where this was kept, a run that
--- followed a script keeps the promise, where its steps explain its refused copies and its power cuts.
-pub record Vouches (Kept : Type 0) (before : PartTold) (t : StackTold) (entry exit : Told) : Type 0 where
+-- all is kept, and nothing is owed for any fault yet
+abbrev pub IsKeptFrom : Type 0 → Payer → StackTold → Type 0
+IsKeptFrom Kept p t = Kept × p.owes t.faults
+
+-- The flash is given back: the faults and the cuts that the stack was told are its own, and where it says that it is worn
+-- out the flash is; and where this was kept, a run that followed a script keeps the promise, where its steps explain its
+-- refused copies and its power cuts.
+pub record Vouches (Kept : Type 0) (p : Payer) (before : PartTold) (t : StackTold) (entry exit : Told) : Type 0 where
   pub operations : List Change
   pub faults : Rose before.faults t.faults → Rose entry.faults exit.faults
   pub counted : (n : ℕ) → WereCounted n before.faults t.faults → WereCounted n entry.faults exit.faults
   pub cuts : (n : ℕ) → WereCounted n before.planning.unplanned t.causes.unplanned → WereCounted n entry.cuts exit.cuts
+  pub worn : (k n : ℕ) → p.worn k n → IsWornOut (making_of t.configuration) (record { entry = entry; exit = exit; operations = operations }) k n
   pub promise : Kept → (made left : List Step) (pieces : List (List Entry)) (end : End)
       → HasOrder (run_of t.configuration t.entries entry exit operations (Played made pieces left) end) t.entries
       → ((id : ℕ) → RefusalsExplain t.configuration (Played made pieces left) t.entries id)

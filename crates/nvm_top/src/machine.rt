@@ -4,7 +4,7 @@ ghost use Rattle.block_config.specs.Config.{Configuration};
 ghost use Rattle.fls_model.specs.Told.{Told};
 ghost use Rattle.memif.specs.Told.{PartTold};
 ghost use Rattle.run_promise.specs.Run.{cap};
-ghost use Rattle.nvm_top.specs.Machine.{IsStarted, one_part, StartsWell, StopsAtStart, Vouches};
+ghost use Rattle.nvm_top.specs.Machine.{IsKeptFrom, IsStarted, one_part, StartsWell, StopsAtStart, Vouches};
 
 use crate::stop::Stop;
 use block_config::Config;
@@ -32,7 +32,7 @@ pub trait Machine<F: Flash>: PlayedStack {
         ensures made_for { OnOk result (made_for ≡ config) }
         ensures entry { OnOk result (entry ≡ F.told flash) }
         ensures started { IfOk result (λ m. IsStarted config cuts before (Self.told m)) }
-        ensures kept { IfOk result (λ m. StartsWell config (F.told flash) → Self.kept m (one_part before)) }
+        ensures kept { IfOk result (λ m. StartsWell config (F.told flash) → IsKeptFrom (Self.kept m (one_part before)) (Self.payer m) (Self.told m)) }
         ensures stopped { IfErr result (λ e. StopsAtStart config (F.told flash) (F.told e.1) e.0) };
 
     /// The history so far.
@@ -44,5 +44,5 @@ pub trait Machine<F: Flash>: PlayedStack {
         requires made { (cuts : ℕ) × may_start made_for entry cuts }
         requires configuration { (Self.told self).configuration ≡ made_for }
         requires most { (Self.told self).cap ≡ cap }
-        ensures { Vouches (Self.kept self (one_part before)) before (Self.told self) entry (F.told result) };
+        ensures { Vouches (Self.kept self (one_part before)) (Self.payer self) before (Self.told self) entry (F.told result) };
 }

@@ -10,7 +10,7 @@ ghost use Rattle.run_promise.specs.Call.{Ends};
 ghost use Rattle.stack_steps.specs.Made.{cuts_in, cuts_of};
 ghost use Rattle.command_words.specs.Words.{command_of, is_play};
 ghost use Rattle.nvm_top.specs.Ends.{PlaysBy, StopsBy, IsBadWords};
-ghost use Rattle.nvm_top.specs.Machine.{IsStarted, StartsWell, one_part};
+ghost use Rattle.nvm_top.specs.Machine.{IsKeptFrom, IsStarted, StartsWell, one_part};
 ghost use Rattle.nvm_top.specs.Output.{Writes, Prints};
 ghost use Rattle.nvm_top.specs.Play.{IsBeforeAttach, IsOfWrongSize, IsStepsEnd, IsRunEnd, RunsBy, PrintsBy, WritesSize};
 ghost use Rattle.nvm_top.specs.Promised.{HasRun, RunsAs, KeepsPromise, SoakEnds, played_call};
@@ -157,7 +157,7 @@ fn play_on<K: Sink, F: Flash, M: Machine<F>>(
 ) -> (Status, F)
     requires made { (cuts : ℕ) × M.may_start M.made_for M.entry cuts }
     requires started { IsStarted M.made_for (cuts_of steps.now) M.before (M.told machine) }
-    requires kept { StartsWell M.made_for M.entry → M.kept machine (one_part M.before) }
+    requires kept { StartsWell M.made_for M.entry → IsKeptFrom (M.kept machine (one_part M.before)) (M.payer machine) (M.told machine) }
     requires blocks { blocks ≡ length M.made_for.blocks }
     requires played { ArePlayed M.made_for steps.now }
     ensures end { IsRunEnd M.entry.faults (F.told result.1).faults result.0 }

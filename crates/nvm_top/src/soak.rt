@@ -9,7 +9,7 @@ ghost use Rattle.soak_script.specs.Soak.{soak};
 ghost use Rattle.stack_steps.specs.Made.{cuts_of};
 ghost use Rattle.command_words.specs.Words.{command_of};
 ghost use Rattle.nvm_top.specs.Ends.{HasPlayable, IsBadWords};
-ghost use Rattle.nvm_top.specs.Machine.{IsStarted, StartsWell, one_part};
+ghost use Rattle.nvm_top.specs.Machine.{IsKeptFrom, IsStarted, StartsWell, one_part};
 ghost use Rattle.nvm_top.specs.Output.{Writes};
 ghost use Rattle.nvm_top.specs.Play.{IsBeforeAttach, IsOfWrongSize, IsStepsEnd, IsRunEnd, WritesSize};
 ghost use Rattle.nvm_top.specs.Promised.{HasRun, RunsAs, RunsOrWants, SoakEnds, SoakKeepsPromise, played_call};
@@ -203,7 +203,7 @@ fn soak_on<K: Sink, F: Flash, M: Machine<F>>(
 ) -> (Status, F)
     requires made { (cuts : ℕ) × M.may_start M.made_for M.entry cuts }
     requires started { IsStarted M.made_for (cuts_of steps.now) M.before (M.told machine) }
-    requires kept { StartsWell M.made_for M.entry → M.kept machine (one_part M.before) }
+    requires kept { StartsWell M.made_for M.entry → IsKeptFrom (M.kept machine (one_part M.before)) (M.payer machine) (M.told machine) }
     requires blocks { blocks ≡ length M.made_for.blocks }
     requires played { ArePlayed M.made_for steps.now }
     ensures end { IsRunEnd M.entry.faults (F.told result.1).faults result.0 }

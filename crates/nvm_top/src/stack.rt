@@ -12,8 +12,9 @@ ghost use Rattle.fls_model.specs.Told.{Told};
 ghost use Rattle.nv_base.specs.Geometry.{IsLegal, size_of};
 ghost use Rattle.played_stacks.specs.Kept.{IsKept};
 ghost use Rattle.played_stacks.specs.Told.{told_by};
+ghost use Rattle.played_stacks.specs.Paying.{payer_by};
 ghost use Rattle.run_promise.specs.Run.{cap};
-ghost use Rattle.nvm_top.specs.Machine.{IsStarted, StartsWell, StopsAtStart, Vouches, one_part};
+ghost use Rattle.nvm_top.specs.Machine.{IsKeptFrom, IsStarted, StartsWell, StopsAtStart, Vouches, one_part};
 ghost use Rattle.fee_core.specs.Origin.{no_flash};
 ghost use Rattle.nvm_top.specs.Stack.{no_configuration, stop_of_make};
 
@@ -88,7 +89,7 @@ pub fn start_driven<F: Flash, O: Origin>(
 ) -> Result<Driven<F, O>, (Stop, F)>
     requires { IsOrigin config (F.told flash) cuts O.making O.entry }
     ensures started { IfOk result (λ m. IsStarted config cuts (part_at O.entry) (told_by told_of m)) }
-    ensures kept { IfOk result (λ m. StartsWell config (F.told flash) → IsKept m.ready (one_part (part_at O.entry)) m.desk m.hand (told_of m.device) (told_clock m.device)) }
+    ensures kept { IfOk result (λ m. StartsWell config (F.told flash) → IsKeptFrom (IsKept m.ready (one_part (part_at O.entry)) m.desk m.hand (told_of m.device) (told_clock m.device)) (payer_by told_of told_clock m) (told_by told_of m)) }
     ensures stopped { IfErr result (λ e. StopsAtStart config (F.told flash) (F.told e.1) e.0) }
 {
     soundness_computes();
@@ -105,7 +106,7 @@ pub fn start_driven<F: Flash, O: Origin>(
 /// Gives the flash of a stack back.
 pub fn end_driven<F: Flash, O: Origin>(machine: Driven<F, O>) -> F
     ensures { (c : Configuration) (inner : Told) (cuts : ℕ) → IsOrigin c inner cuts O.making O.entry → machine.desk.config ≡ c → machine.desk.cap ≡ cap
-        → Vouches (IsKept machine.ready (one_part (part_at O.entry)) machine.desk machine.hand (told_of machine.device) (told_clock machine.device)) (part_at O.entry) (told_by told_of machine) inner (F.told result) }
+        → Vouches (IsKept machine.ready (one_part (part_at O.entry)) machine.desk machine.hand (told_of machine.device) (told_clock machine.device)) (payer_by told_of told_clock machine) (part_at O.entry) (told_by told_of machine) inner (F.told result) }
 {
     let stack = machine.into_stack();
     halves_make_the_promise(stack.device());

@@ -11,3 +11,4 @@ pub mod Halves
 pub mod Behind
 pub mod MostTurns
 pub mod Serving
+pub mod Paying

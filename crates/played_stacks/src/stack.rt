@@ -64,10 +64,13 @@ impl<D: MemDevice> PlainStack<D> {
 impl<D: MemDevice> PlayedStack for PlainStack<D> {
     ghost use Rattle.played_stacks.specs.Told.{told_by};
     ghost use Rattle.played_stacks.specs.Kept.{IsKept};
+    ghost use Rattle.played_stacks.specs.Paying.{payer_by};
 
     ghost told = { λ s. told_by D.told s };
 
     ghost kept = { λ s before. IsKept s.ready before s.desk s.hand (D.told s.device) (D.clock s.device) };
+
+    ghost payer = { λ s. payer_by D.told D.clock s };
 
     fn ask(&mut self, alloc: Global, caller: u8, request: Request) -> Result<Reply, AskFault> {
         histories_grow();

@@ -10,7 +10,7 @@ use Rattle.block_machine.specs.Words.{Entry, Ask, Pick, Wrote, Post, Off, Found,
 use Rattle.block_machine.specs.State.{State}
 use Rattle.block_machine.specs.StartUp.{at_first}
 use Rattle.block_machine.specs.Steps.{step}
-use Rattle.block_promise.specs.Payment.{Worn, IsExcused, ArePaid, IsPaid, price_for, every_block}
+use Rattle.block_promise.specs.Payment.{Worn, ArePaid, IsPaid, price_for, every_block}
 use Rattle.block_promise.specs.OverDevice.{HasStarted, HasOffAt, is_of}
 use Rattle.device_bridge.specs.Image.{held_in, IsSoundFlash}
 use Rattle.device_bridge.specs.FlashRun.{TellsBytes, StartsSound, IsCutImage, bytes_after, AreSeen}
@@ -18,18 +18,10 @@ use Rattle.device_bridge.specs.Bridge.{IsWornOut}
 use Rattle.run_promise.specs.Run.{Run, cap, has_cutter}
 use Rattle.run_promise.specs.Promise.{CutsCount, Keeps, StartUpsFind, making_of}
 use Rattle.run_promise.proofs.Founds.{last_soon}
+use Rattle.run_promise.proofs.Paid.{excused_too}
 use Rattle.run_promise.specs.Halves.{BlockHalf, DeviceHalf, HalvesMakeIt, beyond_end}
 
 -- PAYMENT
-excused_too : (c : Configuration) (worn other : Worn) (s : State) (e : Entry) → ((k n : ℕ) → worn k n → other k n) → IsExcused c worn s e → IsExcused c other s e
-excused_too c worn other s (Post block r given refused ops) more (j, hand, some, was) =
-    (j, hand, some, record { index = was.index; failed = was.failed; moment = was.moment; by_then = was.by_then; is = more was.moment _ was.is })
-excused_too c worn other s (Ask caller r reply) more none = none
-excused_too c worn other s (Pick block kind t ops) more none = none
-excused_too c worn other s (Wrote i mark ops) more none = none
-excused_too c worn other s (Off ops) more none = none
-excused_too c worn other s (Found marks ops) more none = none
-
 -- a price among these blocks is a price among all where all are among these
 module _ (of : ℕ → Bool) (all : (block : ℕ) → of block ≡ true) where
   price_too : (c : Configuration) (s : State) (e : Entry) → price_for of c s e ≡ price_for every_block c s e

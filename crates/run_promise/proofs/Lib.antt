@@ -1,4 +1,5 @@
 mod Founds
+pub mod Paid
 mod Composition
 mod Spells
 mod WrongOrders

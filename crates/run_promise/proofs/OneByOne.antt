@@ -114,6 +114,10 @@ picked = after_from small asked (picks_one ∷ [])
 picked_block : (j : Job) → picked.hand ≡ Some j → job_block j ≡ 2
 picked_block j hand = sym (ap job_block (some_same _ j hand))
 
+-- no fault is due, and none was counted
+free : {E : Type 0} → WereCounted 0 0 0 ⊎ E
+free = inl (inl (omega arith))
+
 pub six_kept : HasTurns (always 8) six_turns six_turns.course
 six_kept = record {
   first = at_ops 0;
@@ -142,7 +146,9 @@ six_kept = record {
     tell = refl;
     behind = refl;
   };
+  begins = refl;
   counted = inl (omega arith);
+  ends = tt;
   serves = (
     record { begins = λ no_ask no_found. absurd (cc no_ask); posts = λ is. absurd (cc is) },
     (
@@ -159,6 +165,7 @@ six_kept = record {
       ),
     ),
   );
+  paid = λ told sound. (free, (free, (free, (free, (free, (free, (free, tt)))))));
 }
 
 -- NINE TURNS

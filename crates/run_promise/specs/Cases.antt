@@ -214,12 +214,16 @@ lazy = plays (asks_one ∷ (Turn 9, picks_one ∷ []) ∷ []) at_rest
 abbrev pub leaps : Run
 leaps = plays (asks_one ∷ (Turn 2, picks_one ∷ Wrote (record { block = 2; index = 0 }) (Content one) 4 ∷ []) ∷ []) at_rest
 
+-- a flash that counted so many faults
+abbrev pub faulty : ℕ → FlashRun
+faulty n = record at_rest { exit = record at_rest.exit { faults = n } }
+
 -- after so many faults, before any operation
 abbrev pub at_faults : ℕ → Moment
 at_faults n = record { faults = n; ops = 0; left = 0 }
 
--- The write that is tried twice is posted as failed, with so many faults behind its Post as many were before its Pick, or more. Those
--- before it were other jobs'.
+-- The write that is tried twice is posted as failed, with so many faults behind its Post as many were before its Pick, or
+-- more. Those before it were other jobs'.
 abbrev pub posted_after : ℕ → List Move
 posted_after n =
     record { entry = Some picks_one; behind = at_faults 2 }

@@ -11,7 +11,10 @@ use Rattle.block_machine.specs.Prices.{price_in_faults, sum_from}
 use Rattle.block_promise.specs.Payment.{Worn, IsExcused}
 use Rattle.script_walks.specs.Walk.{is_due, begins_with_pick_or_post}
 use Rattle.run_promise.specs.Completeness.{is_calm_entry, ends_job}
-use Rattle.run_promise.specs.Run.{Run, Course, Played, Ran}
+use Rattle.run_promise.specs.Promise.{making_of}
+use Rattle.device_bridge.specs.FlashRun.{FlashRun, TellsBytes, StartsSound}
+use Rattle.device_bridge.specs.Bridge.{IsWornOut}
+use Rattle.run_promise.specs.Run.{Run, Course, Played, Ran, End, FlashFault}
 
 -- MOMENTS AND MOVES
 -- what the device told at a moment: its faults and its operations so far; and the turns that were left, where no fault comes
@@ -111,8 +114,8 @@ abbrev pub ends : ℕ → Option Entry → Bool
 ends id (Some e) = ends_job id e
 ends id None = false
 
--- A job of this block that is in hand is posted, or interrupted, by the last of so many turns, unless before it a restart or the end
--- of the run comes, a fault is counted, the power goes off, or a copy is refused or stale. A request is no turn.
+-- A job of this block that is in hand is posted, or interrupted, by the last of so many turns, unless before it a restart or
+-- the end of the run comes, a fault is counted, the power goes off, or a copy is refused or stale. A request is no turn.
 abbrev pub IsPostedWithin : ℕ → ℕ → ℕ → List Move → Type 0
 IsPostedWithin id turns faults [] = Unit {0}
 IsPostedWithin id turns faults (m ∷ ms) =
@@ -157,15 +160,32 @@ abbrev pub all_moves : List (List Move) → List Move
 all_moves [] = []
 all_moves (ms ∷ mss) = ms ++ all_moves mss
 
+-- THE ENDS OF A RUN
+-- the first start-up tells the operations of the first moment
+abbrev pub BeginsAt : Moment → List Entry → Type 0
+BeginsAt first [] = Unit {0}
+BeginsAt first (e ∷ es) = ops_of e ≡ Some first.ops
+
+-- a start-up that failed counted a fault behind the last moment: one more than the moves tell
+abbrev pub EndsBy : Moment → FlashRun → End → Type 0
+EndsBy last f FlashFault = WereCounted (last.faults + 1) f.entry.faults f.exit.faults
+EndsBy last f end = Unit {0}
+
 -- A RUN
--- Each step of `play` that was made has its moves, from a moment behind the first start-up on; and the flash counted the faults that
--- they tell. Each job is posted within its most turns, counted from its Pick.
+-- Each step of `play` that was made has its moves, from a moment behind the first start-up on; and the flash counted the
+-- faults that they tell, and one more where a start-up failed behind them. Each job is posted within its most turns, counted
+-- from its Pick; and over a flash that tells its bytes, from a sound image on, each Post is paid since the last Pick before
+-- it, or the flash was worn out.
 pub record KeepsTurns (most : State → Job → ℕ) (r : Run) (made : List Step) (pieces : List (List Entry)) : Type 0 where
   pub first : Moment
   pub last : Moment
   pub moves : HasMoves made pieces first last
+  pub begins : BeginsAt first r.history
   pub counted : WereCounted last.faults r.flash.entry.faults r.flash.exit.faults
+  pub ends : EndsBy last r.flash r.end
   pub serves : EachMove r.configuration (ServesTurn r.configuration most) (after r.configuration (take 1 r.history)) (all_moves moves.moves)
+  pub paid : TellsBytes r.flash → StartsSound (making_of r.configuration) r.flash
+      → ArePaidSince r.configuration (IsWornOut (making_of r.configuration) r.flash) first.faults first (after r.configuration (take 1 r.history)) (all_moves moves.moves)
 
 abbrev pub HasTurns : (State → Job → ℕ) → Run → Course → Type 0
 HasTurns most r (Played made pieces left) = KeepsTurns most r made pieces

@@ -9,8 +9,9 @@ ghost use Rattle.run_promise.specs.Run.{cap, HasOrder, RefusalsExplain, offs_of_
 ghost use Rattle.run_promise.specs.Promise.{Promise, StartUpsFind, CutsCount, CutsKeep, ExitKeeps, FailuresArePaid, MayBeKept};
 ghost use Rattle.run_promise.specs.Call.{IsRunOf, text_of};
 ghost use Rattle.run_promise.specs.Completeness.{Completeness};
-ghost use Rattle.run_promise.specs.Turns.{HasTurns};
-ghost use Rattle.run_promise.specs.Cases.{six_turns, lazy, leaps, PaysFailed, BreaksBy, small, quiet, wiped, empty_at_11, made_up_mark, off_without_a_cut, stale_in_play, invented_store, second_found, other_dataset, worn_but_roomy, worn_and_full, kept_write, lost_write, two_callers, written_at, always, turned, not_drained, ends_for_nothing, demo_run, demo_call};
+ghost use Rattle.run_promise.specs.Run.{FlashFault};
+ghost use Rattle.run_promise.specs.Turns.{BeginsAt, EndsBy, HasTurns};
+ghost use Rattle.run_promise.specs.Cases.{six_turns, lazy, leaps, at_faults, faulty, PaysFailed, BreaksBy, small, quiet, wiped, empty_at_11, made_up_mark, off_without_a_cut, stale_in_play, invented_store, second_found, other_dataset, worn_but_roomy, worn_and_full, kept_write, lost_write, two_callers, written_at, always, turned, not_drained, ends_for_nothing, demo_run, demo_call};
 
 use fee_image::{blank_images, images_compute, soundness_computes, torn_erases_keep_soundness};
 
@@ -87,12 +88,16 @@ pub fn runs_that_are_served()
     ensures not_ended { Completeness (always 100) ends_for_nothing ends_for_nothing.course → ⊥ }
 {}
 
-/// A write that its sixth turn posts has its turns. Nine turns that pick a job and make no more of it aren't turns of a job that takes
-/// eight at most, and two turns don't make four operations. Two faults of a job's own pay for its failure, and two before its Pick don't.
+/// A write that its sixth turn posts has its turns. Nine turns that pick a job and make no more of it aren't turns of a job
+/// that takes eight at most, and two turns don't make four operations. Two faults of a job's own pay for its failure, and
+/// two before its Pick don't. Where two were counted before it a third pays for a start-up that fails, and the two don't.
 pub fn turns_one_by_one()
     ensures six { HasTurns (always 8) six_turns six_turns.course }
     ensures lazy { HasTurns (always 8) lazy lazy.course → ⊥ }
     ensures leaps { HasTurns (always 8) leaps leaps.course → ⊥ }
     ensures own { PaysFailed 4 }
     ensures on_credit { PaysFailed 2 → ⊥ }
+    ensures own_end { EndsBy (at_faults 2) (faulty 3) FlashFault }
+    ensures end_on_credit { EndsBy (at_faults 2) (faulty 2) FlashFault → ⊥ }
+    ensures begins_late { BeginsAt (record { faults = 0; ops = 4; left = 0 }) six_turns.history → ⊥ }
 {}

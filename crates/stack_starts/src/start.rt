@@ -1,5 +1,6 @@
 // A start-up.
 ghost use Rattle.std.specs.Prelude.{◌≡◌, ◌≤◌, ◌+◌, length, IfErr, OnOk, OnErr};
+ghost use Rattle.memif.specs.Trials.{Lasts};
 ghost use Rattle.found_marks.specs.Found.{FailsToFind};
 ghost use Rattle.stack_starts.specs.Start.{IsListed, StartKeeps};
 
@@ -21,6 +22,7 @@ pub fn start_up<D: MemDevice>(
     ensures desk { OnErr result (desk.new ≡ desk.old) }
     ensures failed { OnErr result (FailsToFind (D.told device.old) (D.told device.new)) }
     ensures room { IfErr result (λ again. again ≡ room) }
+    ensures lasts { Lasts (D.told device.old) (D.clock device.old) (D.told device.new) (D.clock device.new) }
     ensures keeps { StartKeeps result desk.old desk.new (D.told device.old) (D.clock device.old) (D.told device.new) (D.clock device.new) }
 {
     match room.find(device) {

@@ -14,6 +14,7 @@ use Rattle.script_walks.specs.Walk.{is_at_rest, joined}
 use Rattle.run_promise.specs.Completeness.{turns_of, is_drain, is_restart, entries_within, ends_job, EachPiece, PostsInHand, DrainsAll, IsServed}
 use Rattle.stack_steps.specs.Told.{StackTold, state_of, IsWithin}
 use Rattle.stack_steps.specs.Made.{IsMade, ServesJobs}
+use Rattle.stack_steps.specs.Paying.{Payer}
 use Rattle.stack_steps.specs.Walking.{IsInHand, IsAwaited, AwaitsInHand, AreServing}
 use Rattle.stack_steps.proofs.Grown.{state_more}
 use Rattle.stack_steps.proofs.InHand.{stays_in_hand, none_at_rest}
@@ -77,8 +78,8 @@ each_by c P Q from s (y ∷ ys) [] each = tt
 each_by c P Q from s (y ∷ ys) (q ∷ qs) (one, each) = (from s y q ys qs one, each_by c P Q from (after_from c s q) ys qs each)
 
 -- the steps go on serving with a step more
-pub serving_more : HistoriesGoOn → (first : Entry) (made : List Step) (pieces : List (List Entry)) (x : Step) (old mid new : StackTold) → length pieces ≡ length made → mid.configuration ≡ old.configuration → mid.most ≡ old.most
-    → mid.entries ≡ first ∷ joined pieces → (step : IsMade made x mid new) → AreServing first made pieces old mid → ServesJobs x.kind step.piece mid new
+pub serving_more : {q r : Payer} → HistoriesGoOn → (first : Entry) (made : List Step) (pieces : List (List Entry)) (x : Step) (old mid new : StackTold) → length pieces ≡ length made → mid.configuration ≡ old.configuration → mid.most ≡ old.most
+    → mid.entries ≡ first ∷ joined pieces → (step : IsMade q r made x mid new) → AreServing first made pieces old mid → ServesJobs x.kind step.piece mid new
     → AreServing first (made ++ x ∷ []) (pieces ++ step.piece ∷ []) old new
 serving_more go first made pieces x old mid new many same most at step was serves = record {
   posts = each_more go c (AwaitsInHand old mid) (AwaitsInHand old new) x piece (state_of mid)

@@ -5,6 +5,7 @@ pub mod Turned
 pub mod Causes
 pub mod Walking
 pub mod Grown
+pub mod Paying
 pub mod Moves
 pub mod Chain
 pub mod InHand

@@ -1,6 +1,6 @@
 -- Each kind of step is made.
 use Rattle.std.proofs.Common.{◌≡◌, ◌<◌, ◌≤◌, ◌+◌, ◌^◌, ℕ, zero, suc, Bool, true, false, IsTrue, List, [], ◌∷◌, ◌++◌, length, get_or, refl, sym, ap, ◌∙◌, subst, arith, Option, append-nil, length-set}
-use Rattle.std.specs.Prelude.{slice_set, Result, Ok, Err, OnOk, IfErr}
+use Rattle.std.specs.Prelude.{slice_set, Result, Ok, Err, OnOk, OnErr, IfErr}
 use Rattle.std.proofs.Math.Nat.{min-eq_left}
 use Rattle.block_machine.specs.Words.{Instance, Mark, Request, Reply, Entry, Ask, Found, Configuration}
 use Rattle.block_machine.specs.State.{State}
@@ -23,6 +23,8 @@ use Rattle.stack_steps.specs.Made.{IsMade, IsAsked, IsExplained}
 use Rattle.run_promise.specs.Turns.{Move, AreMovesOf}
 use Rattle.stack_steps.proofs.Moves.{move_to, ask_chain, start_chain}
 use Rattle.stack_steps.specs.Chain.{shown_of}
+use Rattle.stack_steps.specs.Paying.{Payer, PaysNothing}
+use Rattle.stack_steps.proofs.Paying.{nothing_pays, ask_pays, found_pays}
 use Rattle.stack_steps.proofs.Explained.{by_entries, by_restart, by_nothing}
 use Rattle.stack_steps.proofs.Served.{same_serves, ask_serves, restart_serves, at_rest_where_calm}
 use Rattle.stack_steps.specs.Table.{HasLastStores}
@@ -41,9 +43,9 @@ kept_more others steps before x t none kept = record {
 }
 
 -- a step that adds nothing, and changes the causes at most
-pub nothing_made : OthersKeepNewest → StepsKeepStored → (before : List Step) (line caller : ℕ) (kind : StepKind) (old new : StackTold) → is_store kind ≡ false → turns_of kind ≡ 0 → is_drain kind ≡ false → AreMovesOf kind (moment_of old) [] → IsPieceBy old.configuration before (state_of old) caller kind []
-    → new ≡ record old { causes = new.causes } → IsExplained kind [] old new → IsKept before old → IsMade before (record { line = line; caller = caller; kind = kind }) old new
-nothing_made others steps before line caller kind old new none turns no_drain rests is same explained kept =
+pub nothing_made : OthersKeepNewest → StepsKeepStored → (p q : Payer) (before : List Step) (line caller : ℕ) (kind : StepKind) (old new : StackTold) → is_store kind ≡ false → turns_of kind ≡ 0 → is_drain kind ≡ false → AreMovesOf kind (moment_of old) [] → IsPieceBy old.configuration before (state_of old) caller kind []
+    → new ≡ record old { causes = new.causes } → IsExplained kind [] old new → PaysNothing p q new → IsKept before old → IsMade p q before (record { line = line; caller = caller; kind = kind }) old new
+nothing_made others steps p q before line caller kind old new none turns no_drain rests is same explained pays kept =
     let x : Step = record { line = line; caller = caller; kind = kind } in
     record {
       piece = [];
@@ -60,6 +62,7 @@ nothing_made others steps before line caller kind old new none turns no_drain re
       tell = refl;
       behind = sym (ap moment_of same);
       chain = ap shown_of same;
+      pays = nothing_pays p q old new pays;
       kept = subst (λ (t : StackTold). IsKept (before ++ x ∷ []) t) (sym same) (moved (kept_more others steps before x old none kept));
     }
   where
@@ -82,9 +85,9 @@ found_takes c before true marks ops = tt
 found_takes c before false marks ops = tt
 
 -- a request
-pub ask_made : HistoriesStep → OthersKeepNewest → StepsKeepStored → AsksKeepStored → (before : List Step) (line caller : ℕ) (r : Request) (table : List ℕ) (old new : StackTold) → CanBePlayed old.configuration (AskStep r)
-    → IsAsked caller r table old new → HasLastStores old.configuration before table → IsKept before old → IsMade before (record { line = line; caller = caller; kind = AskStep r }) old new
-ask_made one others steps asks before line caller r table old new can asked has kept =
+pub ask_made : HistoriesStep → OthersKeepNewest → StepsKeepStored → AsksKeepStored → (p q : Payer) (before : List Step) (line caller : ℕ) (r : Request) (table : List ℕ) (old new : StackTold) → CanBePlayed old.configuration (AskStep r)
+    → IsAsked caller r table old new → PaysNothing p q new → HasLastStores old.configuration before table → IsKept before old → IsMade p q before (record { line = line; caller = caller; kind = AskStep r }) old new
+ask_made one others steps asks p q before line caller r table old new can asked pays has kept =
     let x : Step = record { line = line; caller = caller; kind = AskStep r } in
     let (reply, adds) = asked before has in
     let e : Entry = Ask caller (request_after old.configuration before caller r) reply in
@@ -102,6 +105,7 @@ ask_made one others steps asks before line caller r table old new can asked has 
       tell = refl;
       behind = sym (ap moment_of adds.adds);
       chain = ask_chain caller (request_after old.configuration before caller r) reply old new adds;
+      pays = ask_pays p q caller (request_after old.configuration before caller r) reply old new (ap (λ t. t.faults) adds.adds) pays;
       is = ((refl, refl), (ask_takes old.configuration before (copies_by old.configuration (next_of old.configuration (state_of old))) e caller (request_after old.configuration before caller r) reply, tt));
       kept = subst (λ (t : StackTold). IsKept (before ++ x ∷ []) t) (sym adds.adds) (record {
         ready = kept.ready;
@@ -113,9 +117,9 @@ ask_made one others steps asks before line caller r table old new can asked has 
     }
 
 -- a start-up
-pub restart_made : HistoriesStep → OthersKeepNewest → StepsKeepStored → StartsKeepStored → (before : List Step) (line caller : ℕ) (old new : StackTold)
-    → StartsAgain old new → IsKept before old → IsMade before (record { line = line; caller = caller; kind = Restart }) old new
-restart_made one others steps starts before line caller old new starts_again kept =
+pub restart_made : HistoriesStep → OthersKeepNewest → StepsKeepStored → StartsKeepStored → (p q : Payer) (before : List Step) (line caller : ℕ) (old new : StackTold)
+    → StartsAgain old new → PaysNothing p q new → IsKept before old → IsMade p q before (record { line = line; caller = caller; kind = Restart }) old new
+restart_made one others steps starts p q before line caller old new starts_again pays kept =
     let x : Step = record { line = line; caller = caller; kind = Restart } in
     let marks = starts_again.marks in
     let ops = starts_again.ops in
@@ -136,6 +140,7 @@ restart_made one others steps starts before line caller old new starts_again kep
       tell = refl;
       behind = refl;
       chain = start_chain marks ops old new (ap (λ t. t.configuration) same) (ap (λ t. t.most) same) (ap (λ t. t.entries) same);
+      pays = found_pays p q marks ops old new pays;
       is = (tt, (found_takes old.configuration before (copies_by old.configuration (next_of old.configuration (state_of old))) marks ops, tt));
       kept = subst (λ (t : StackTold). IsKept (before ++ x ∷ []) t) (sym same) (record {
         ready = refl;
@@ -147,9 +152,9 @@ restart_made one others steps starts before line caller old new starts_again kep
     }
 
 -- turns, with the piece that they added
-turned_made : OthersKeepNewest → StepsKeepStored → (before : List Step) (line caller : ℕ) (kind : StepKind) (old new : StackTold) (es : List Entry) (ms : List Move) → AreMovesOf kind (moment_of old) ms → AreMade es ms old new → is_store kind ≡ false → ((plan : Option ℕ) (ops : ℕ) → plan_after kind plan ops ≡ plan)
-    → HasTurned (turns_of kind) before old new es → (StaysCalm old new → is_drain kind ≡ true → IsTrue (is_at_rest (state_of new))) → IsPieceBy old.configuration before (state_of old) caller kind es → IsKept before new → IsMade before (record { line = line; caller = caller; kind = kind }) old new
-turned_made others steps before line caller kind old new es ms own moved none plans turned drains is kept =
+turned_made : OthersKeepNewest → StepsKeepStored → (p q : Payer) (before : List Step) (line caller : ℕ) (kind : StepKind) (old new : StackTold) (es : List Entry) (ms : List Move) → AreMovesOf kind (moment_of old) ms → AreMade p q es ms old new → is_store kind ≡ false → ((plan : Option ℕ) (ops : ℕ) → plan_after kind plan ops ≡ plan)
+    → HasTurned (turns_of kind) before old new es → (StaysCalm old new → is_drain kind ≡ true → IsTrue (is_at_rest (state_of new))) → IsPieceBy old.configuration before (state_of old) caller kind es → IsKept before new → IsMade p q before (record { line = line; caller = caller; kind = kind }) old new
+turned_made others steps p q before line caller kind old new es ms own moved none plans turned drains is kept =
     let x : Step = record { line = line; caller = caller; kind = kind } in
     record {
       piece = es;
@@ -165,18 +170,19 @@ turned_made others steps before line caller kind old new es ms own moved none pl
       tell = moved.tell;
       behind = moved.behind;
       chain = moved.chain;
+      pays = moved.pays;
       is = (is, turned.keeps.stores);
       kept = kept_more others steps before x new none kept;
     }
 
-pub turns_made : OthersKeepNewest → StepsKeepStored → (before : List Step) (line caller count : ℕ) (old new : StackTold) → 1 ≤ count → MakesTurns count before old new → IsKept before new
-    → IsMade before (record { line = line; caller = caller; kind = Turn count }) old new
-turns_made others steps before line caller zero old new some made kept = absurd (let none : 1 ≤ 0 = some in omega (arith, none))
-turns_made others steps before line caller (suc n) old new some (es, turned, is, (ms, many, moved)) kept = turned_made others steps before line caller (Turn (suc n)) old new es ms (many, moved.turns) moved refl (λ plan ops. refl) turned (λ calm no_. absurd (cc no_)) is kept
+pub turns_made : OthersKeepNewest → StepsKeepStored → (p q : Payer) (before : List Step) (line caller count : ℕ) (old new : StackTold) → 1 ≤ count → MakesTurns p q count before old new → IsKept before new
+    → IsMade p q before (record { line = line; caller = caller; kind = Turn count }) old new
+turns_made others steps p q before line caller zero old new some made kept = absurd (let none : 1 ≤ 0 = some in omega (arith, none))
+turns_made others steps p q before line caller (suc n) old new some (es, turned, is, (ms, many, moved)) kept = turned_made others steps p q before line caller (Turn (suc n)) old new es ms (many, moved.turns) moved refl (λ plan ops. refl) turned (λ calm no_. absurd (cc no_)) is kept
 
-pub drain_made : HistoriesGoOn → OthersKeepNewest → StepsKeepStored → (before : List Step) (line caller : ℕ) (old new : StackTold) → Drains before old new → IsKept before new → IsMade before (record { line = line; caller = caller; kind = Drain }) old new
-drain_made go others steps before line caller old new (es, turned, is, (ms, moved)) kept =
-    turned_made others steps before line caller Drain old new es ms moved.turns moved refl (λ plan ops. refl) turned (λ calm drain. at_rest_where_calm go old new es turned.grows calm is.ends) is kept
+pub drain_made : HistoriesGoOn → OthersKeepNewest → StepsKeepStored → (p q : Payer) (before : List Step) (line caller : ℕ) (old new : StackTold) → Drains p q before old new → IsKept before new → IsMade p q before (record { line = line; caller = caller; kind = Drain }) old new
+drain_made go others steps p q before line caller old new (es, turned, is, (ms, moved)) kept =
+    turned_made others steps p q before line caller Drain old new es ms moved.turns moved refl (λ plan ops. refl) turned (λ calm drain. at_rest_where_calm go old new es turned.grows calm is.ends) is kept
 
 -- a store
 pub next_store : (c : Configuration) (before : List Step) (block n : ℕ) → StoresAreFew → length before < 2 ^ 32 → n ≡ length (stores_of block before) → next_number n ≡ length (stores_of block before) + 1
@@ -185,13 +191,13 @@ next_store c before block n few small is =
     let less : n + 1 ≤ 2 ^ 60 = omega (arith, fewer, small, is) in
     min-eq_left less ∙ ap (λ m. m + 1) is
 
-pub store_made : StoresAreNewest → StoresAreFew → StepsKeepStored → (before : List Step) (line caller block number : ℕ) (content : List ℕ) (old new : StackTold) → is_synchronized (desc_of old.configuration block).ram ≡ true
-    → block < length old.configuration.blocks + 1 → length before < 2 ^ 32 → Stores block content number old new → IsKept before old → IsMade before (record { line = line; caller = caller; kind = Store block content }) old new
-store_made newest few steps before line caller block number content old new sync within small stored kept =
+pub store_made : StoresAreNewest → StoresAreFew → StepsKeepStored → (p q : Payer) (before : List Step) (line caller block number : ℕ) (content : List ℕ) (old new : StackTold) → is_synchronized (desc_of old.configuration block).ram ≡ true
+    → block < length old.configuration.blocks + 1 → length before < 2 ^ 32 → Stores block content number old new → PaysNothing p q new → IsKept before old → IsMade p q before (record { line = line; caller = caller; kind = Store block content }) old new
+store_made newest few steps p q before line caller block number content old new sync within small stored pays kept =
     let x : Step = record { line = line; caller = caller; kind = Store block content } in
     let inside : block < length old.stores = let places = kept.places in omega (arith, places, within) in
     let is : number ≡ length (stores_of block before) + 1 = stored.numbered ∙ next_store old.configuration before block (get_or old.stores block (0, [])).0 few small (kept.stores block sync).number in
-    subst (λ (t : StackTold). IsMade before x old t) (sym stored.stored) (record {
+    subst (λ (t : StackTold). IsMade p q before x old t) (sym stored.stored) (record {
       piece = [];
       configuration = refl;
       cap = refl;
@@ -205,6 +211,7 @@ store_made newest few steps before line caller block number content old new sync
       tell = refl;
       behind = refl;
       chain = refl;
+      pays = nothing_pays p q old new pays;
       is = (refl, tt);
       kept = record {
         ready = kept.ready;
@@ -219,6 +226,10 @@ store_made newest few steps before line caller block number content old new sync
 pub on_ok : {X E : Type 0} {P Q : Type 0} (r : Result X E) → OnOk r P → (P → Q) → OnOk r Q
 on_ok (Ok x) has from = from has
 on_ok (Err e) has from = tt
+
+pub on_err : {X E : Type 0} {P : Type 0} (r : Result X E) → P → OnErr r P
+on_err (Ok x) has = tt
+on_err (Err e) has = has
 
 pub if_err : {X E : Type 0} {P Q : E → Type 0} (r : Result X E) → IfErr r P → ((e : E) → P e → Q e) → IfErr r Q
 if_err (Ok x) has from = tt

@@ -2,7 +2,7 @@
 use Rattle.std.specs.Prelude.{IfSome, not, ◌||◌}
 use Rattle.script_walks.specs.Walk.{is_due, begins_with_pick_or_post}
 use Rattle.std.specs.List.{list_any}
-use Rattle.std.proofs.Common.{◌≡◌, ℕ, List, [], ◌∷◌, ◌++◌, IsTrue, map, Option, Some, None, refl, sym, ap, ◌∙◌, subst, append_assoc}
+use Rattle.std.proofs.Common.{◌≡◌, ℕ, List, [], ◌∷◌, ◌++◌, IsTrue, map, Option, Some, None, refl, sym, ap, ◌∙◌, subst, append_assoc, append-nil}
 use Rattle.std.proofs.lemmas.List.{map-append}
 use Rattle.nv_base.specs.Entry.{ops_of}
 use Rattle.block_machine.specs.Words.{Instance, Mark, Request, Reply, Entry, Ask, Pick, Wrote, Post, Off, Found, Configuration}
@@ -10,7 +10,12 @@ use Rattle.block_machine.specs.State.{State}
 use Rattle.script_walks.specs.Words.{Step}
 use Rattle.played_walks.specs.Turn.{IsTurn}
 use Rattle.run_promise.specs.Turns.{Moment, Move, entry_list, entries_of, moment_behind, moment_after, AreTurnsMade, AreMovesOf, AreMoves, HasMoves, is_asked, is_picked, all_moves}
-use Rattle.stack_steps.specs.Told.{StackTold, state_of, moment_of}
+use Rattle.block_machine.specs.Steps.{after_from}
+use Rattle.machine_laws.specs.Laws.{HistoriesGoOn}
+use Rattle.stack_steps.specs.Told.{StackTold, state_of, moment_of, IsGrown}
+use Rattle.stack_steps.specs.Paying.{Payer, PaysTurn, PaysBy}
+use Rattle.stack_steps.proofs.Grown.{state_grown}
+use Rattle.stack_steps.proofs.Paying.{none_pays, by_more}
 use Rattle.stack_steps.specs.Calls.{AllTell, AddsAsk, is_pick}
 use Rattle.stack_steps.specs.Chain.{Shown, shown_of, ServesIn, IsMoved, AreMoved}
 use Rattle.stack_steps.proofs.Chain.{moved_more, all_more}
@@ -31,16 +36,28 @@ entries_more [] ys = refl
 entries_more (x ∷ xs) ys = ap (λ (es : List Entry). entry_list x.entry ++ es) (entries_more xs ys) ∙ sym (append_assoc (entry_list x.entry) (entries_of xs) (entries_of ys))
 
 -- no turn
-pub none_moved : (t : StackTold) → AreMade [] [] t t
-none_moved t = record { turns = tt; tell = refl; behind = refl; chain = refl }
+pub none_moved : (p : Payer) (t : StackTold) → AreMade p p [] [] t t
+none_moved p t = record { turns = tt; tell = refl; behind = refl; chain = refl; pays = none_pays p t }
 
-pub made_more : (old mid new : StackTold) (es more : List Entry) (xs ys : List Move) → AreMade es xs old mid → AreMade more ys mid new → AreMade (es ++ more) (xs ++ ys) old new
-made_more old mid new es more xs ys one two = record {
+pub made_more : HistoriesGoOn → (p q r : Payer) (old mid new : StackTold) (es more : List Entry) (xs ys : List Move) → IsGrown es old mid → AreMade p q es xs old mid → AreMade q r more ys mid new → AreMade p r (es ++ more) (xs ++ ys) old new
+made_more go p q r old mid new es more xs ys grows one two = record {
   turns = turns_more (moment_of old) xs ys one.turns (subst (λ (m : Moment). AreTurnsMade m ys) (sym one.behind) two.turns);
   tell = ap (λ (a : List Entry). a ++ more) one.tell ∙ ap (λ (a : List Entry). entries_of xs ++ a) two.tell ∙ sym (entries_more xs ys);
   behind = behind_more (moment_of old) xs ys ∙ ap (λ (m : Moment). moment_behind m ys) one.behind ∙ two.behind;
   chain = moved_more xs ys (shown_of old) (shown_of mid) (shown_of new) one.chain two.chain;
+  pays = by_more go p q r old mid xs ys (ap (λ (t : StackTold). t.configuration) grows) one.behind
+      (state_grown go old mid es grows ∙ ap (after_from old.configuration (state_of old)) one.tell) one.pays two.pays;
 }
+
+pub all_behind : (m : Moment) (mss : List (List Move)) → moment_behind m (all_moves mss) ≡ moment_after m mss
+all_behind m [] = refl
+all_behind m (ms ∷ mss) = behind_more m ms (all_moves mss) ∙ all_behind (moment_behind m ms) mss
+
+-- the entries behind moves
+pub moved_entries : (ms : List Move) (v w : Shown) → AreMoved ms v w → w.entries ≡ v.entries ++ entries_of ms
+moved_entries [] v w same = ap (λ (x : Shown). x.entries) same ∙ sym (append-nil v.entries)
+moved_entries (m ∷ ms) v w (u, first, rest) =
+    moved_entries ms u w rest ∙ ap (λ (es : List Entry). es ++ entries_of ms) first.entries ∙ append_assoc v.entries (entry_list m.entry) (entries_of ms)
 
 -- one turn
 abbrev pub first_of : List Entry → Option Entry
@@ -97,12 +114,21 @@ turn_chain old new turn =
       serves = λ no_ask no_found calm on. subst (λ (es : List Entry). ServesIn es (shown_of old) (shown_of new)) first (let serves = turn.serves calm on in record { nears = serves.nears; within = serves.within });
     }
 
-pub turn_moved : (old new : StackTold) (turn : MakesTurn old new) → AreMade turn.entries (move_to turn.entries new ∷ []) old new
-turn_moved old new turn = record {
+turn_pays : (p q : Payer) (old new : StackTold) (turn : MakesTurn old new) → PaysTurn p q old new → PaysBy p q old (move_to turn.entries new ∷ [])
+turn_pays p q old new turn pays =
+    let first = all_first old.configuration (state_of old) old.stores turn.entries turn.turn in record {
+      worn = pays.worn;
+      pays = λ since owes.
+          let (paid, now) = pays.pays since (move_to turn.entries new) owes refl (ap (λ t. t.entries) turn.grows ∙ ap (λ (es : List Entry). old.entries ++ es) first) in ((paid, tt), now);
+    }
+
+pub turn_moved : (p q : Payer) (old new : StackTold) (turn : MakesTurn old new) → PaysTurn p q old new → AreMade p q turn.entries (move_to turn.entries new ∷ []) old new
+turn_moved p q old new turn pays = record {
   turns = (record { faults = turn.counted; ops = turn.operations.later; one = turn.operations.one; told = first_tells new.ops turn.entries turn.operations.told }, tt);
   tell = is_one old.configuration (state_of old) old.stores turn.entries new turn.turn;
   behind = refl;
   chain = (shown_of new, turn_chain old new turn, refl);
+  pays = turn_pays p q old new turn pays;
 }
 
 -- a request

@@ -21,6 +21,8 @@ use Rattle.stack_steps.specs.Kept.{IsKept, HasTurned, AreMade, MakesTurn, MakesT
 use Rattle.stack_steps.proofs.Explained.{explained_more, none_explained}
 use Rattle.stack_steps.proofs.Grown.{state_more, state_grown, grown_more}
 use Rattle.stack_steps.proofs.Moves.{made_more, move_to, turn_moved}
+use Rattle.stack_steps.specs.Paying.{Payer, PaysTurn, PaysBy}
+use Rattle.stack_steps.proofs.Paying.{by_more}
 use Rattle.run_promise.specs.Turns.{Move}
 use Rattle.stack_steps.proofs.Serving.{calm_until, calm_from, serves_more, none_serves, any_serve, turn_serves}
 
@@ -88,21 +90,39 @@ later_turn go old mid es more grows turn =
 one_longer : (n : ℕ) (ms : List Move) (m : Move) → length ms ≡ n → length (ms ++ m ∷ []) ≡ suc n
 one_longer n ms m is = let all = length-append ms (m ∷ []) in omega (arith, all, is)
 
-pub one_turn_more : HistoriesGoOn → TurnsKeepStored → KeepingGoesOn → TurnsGrow → (n : ℕ) (before : List Step) (old mid new : StackTold) → MakesTurns n before old mid → IsKept before mid → MakesTurn mid new
-    → MakesTurns (n + 1) before old new × IsKept before new
-one_turn_more go turns on grow zero before old mid new made kept turn =
+pub one_turn_more : HistoriesGoOn → TurnsKeepStored → KeepingGoesOn → TurnsGrow → (p q r : Payer) (n : ℕ) (before : List Step) (old mid new : StackTold) → MakesTurns p q n before old mid → IsKept before mid → MakesTurn mid new → PaysTurn q r mid new
+    → MakesTurns p r (n + 1) before old new × IsKept before new
+one_turn_more go turns on grow p q r zero before old mid new (made, paid) kept turn pays =
     let (turned, after) = turn_kept go turns before mid new turn kept in
     let one = first_turns mid.configuration (state_of mid) mid.stores turn.entries turn.turn turned.keeps.played in
-    (subst (λ (t : StackTold). MakesTurns 1 before t new) made (turn.entries, turned, one, (move_to turn.entries new ∷ [], refl, turn_moved mid new turn)), after)
-one_turn_more go turns on grow (suc n) before old mid new (es, was, are, (ms, many, moved)) kept turn =
+    let here = turn_moved q r mid new turn pays in (
+      subst (λ (t : StackTold). MakesTurns p r 1 before t new) made (
+        turn.entries,
+        turned,
+        one,
+        (
+          move_to turn.entries new ∷ [],
+          refl,
+          record {
+            turns = here.turns;
+            tell = here.tell;
+            behind = here.behind;
+            chain = here.chain;
+            pays = by_more go p q r mid mid [] (move_to turn.entries new ∷ []) refl refl refl (subst (λ (t : StackTold). PaysBy p q t []) (sym made) paid) here.pays;
+          },
+        ),
+      ),
+      after,
+    )
+one_turn_more go turns on grow p q r (suc n) before old mid new (es, was, are, (ms, many, moved)) kept turn pays =
     let (turned, after) = turn_kept go turns before mid new turn kept in
     let more = grow old.configuration (state_of old) old.stores (suc n) es turn.entries are (omega arith) (later_turn go old mid es turn.entries was.grows turn.turn) turned.keeps.played in
     let count : suc n + 1 ≡ suc (suc n) = omega arith in (
-      subst (λ (m : ℕ). MakesTurns m before old new) (sym count) (
+      subst (λ (m : ℕ). MakesTurns p r m before old new) (sym count) (
         es ++ turn.entries,
         subst (λ (m : ℕ). HasTurned m before old new (es ++ turn.entries)) count (turned_more go on (suc n) 1 before old mid new es turn.entries was turned),
         subst (λ (m : ℕ). AreTurns (state_of old) m (es ++ turn.entries)) count more,
-        (ms ++ move_to turn.entries new ∷ [], one_longer (suc n) ms (move_to turn.entries new) many, made_more old mid new es turn.entries ms (move_to turn.entries new ∷ []) moved (turn_moved mid new turn)),
+        (ms ++ move_to turn.entries new ∷ [], one_longer (suc n) ms (move_to turn.entries new) many, made_more go p q r old mid new es turn.entries ms (move_to turn.entries new ∷ []) was.grows moved (turn_moved q r mid new turn pays)),
       ),
       after,
     )
@@ -110,8 +130,8 @@ one_turn_more go turns on grow (suc n) before old mid new (es, was, are, (ms, ma
 -- A DRAIN
 
 -- it ends
-pub drained : HistoriesGoOn → (before : List Step) (old new : StackTold) (es : List Entry) (ms : List Move) → HasTurned 0 before old new es → AreMade es ms old new → IsTrue (is_at_rest (state_of new) || (state_of new).off) → Drains before old new
-drained go before old new es ms turned moved ends =
+pub drained : HistoriesGoOn → (p q : Payer) (before : List Step) (old new : StackTold) (es : List Entry) (ms : List Move) → HasTurned 0 before old new es → AreMade p q es ms old new → IsTrue (is_at_rest (state_of new) || (state_of new).off) → Drains p q before old new
+drained go p q before old new es ms turned moved ends =
     (es, turned, record { played = turned.keeps.played; ends = subst (λ (s : State). IsTrue (is_at_rest s || s.off)) (state_grown go old new es turned.grows) ends }, (ms, moved))
 
 none_in : (hand : Option Job) → is_some hand ≡ false → hand ≡ None

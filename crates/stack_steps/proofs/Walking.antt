@@ -10,7 +10,7 @@ use Rattle.block_machine.specs.Words.{Instance, Mark, Entry, Found, Configuratio
 use Rattle.block_machine.specs.State.{State}
 use Rattle.block_machine.specs.StartUp.{at_first}
 use Rattle.block_machine.specs.Prices.{sum_from, block_price, prices_in_refusals}
-use Rattle.block_machine.specs.Steps.{after}
+use Rattle.block_machine.specs.Steps.{after, after_from}
 use Rattle.machine_laws.specs.Laws.{HistoriesGoOn}
 use Rattle.script_walks.specs.Words.{Step}
 use Rattle.script_walks.specs.Walk.{IsPiece, IsWalkOf, WalksGrow, joined}
@@ -27,13 +27,17 @@ use Rattle.stack_steps.specs.Kept.{IsKept}
 use Rattle.stack_steps.specs.Made.{cuts_in, cuts_of, PaysOffs, IsExplained, HasNoRoom, IsMade, IsLeft, IsFresh, HasWalked, MakesAt, LeavesAt, WereLeft, WasBroken}
 use Rattle.stack_steps.specs.Walking.{plan_behind, refusals_in, IsWalking, AreUnderWay}
 use Rattle.stack_steps.specs.Table.{HasLastStores}
-use Rattle.run_promise.specs.Turns.{all_moves}
+use Rattle.run_promise.specs.Turns.{Move, entries_of, all_moves}
+use Rattle.run_promise.proofs.Paid.{since_too}
+use Rattle.stack_steps.specs.Paying.{Payer, PaysBy, since_behind}
+use Rattle.stack_steps.proofs.Paying.{none_pays, by_more}
 use Rattle.stack_steps.specs.Chain.{shown_of}
-use Rattle.stack_steps.proofs.Chain.{each_posted}
-use Rattle.stack_steps.proofs.Moves.{has_more, chain_more}
+use Rattle.stack_steps.proofs.Chain.{each_posted, all_more}
+use Rattle.stack_steps.proofs.Moves.{has_more, chain_more, moved_entries, all_behind}
+use Rattle.stack_steps.proofs.Grown.{state_more}
 use Rattle.stack_steps.proofs.Table.{first_table}
 use Rattle.stack_steps.proofs.Explained.{counted_more, none_counted}
-use Rattle.stack_steps.proofs.Serving.{rose_later, calm_until, calm_from}
+use Rattle.stack_steps.proofs.Serving.{calm_until, calm_from}
 use Rattle.stack_steps.proofs.Awaited.{none_within, serving_more, is_served}
 use Rattle.stack_steps.proofs.Causes.{plan_more, unpaid_more, ops_in_all, joined_more, all_of, prices_more, refusals_more}
 
@@ -72,9 +76,9 @@ is_played c steps n x is all = subst (λ (y : Step). IsPlayed c y) (get_or_from_
 -- THE WALK
 
 -- one more step
-pub walks_on : WalksGrow → HistoriesGoOn → (made : List Step) (x : Step) (old mid new : StackTold) → mid.configuration ≡ old.configuration → mid.most ≡ old.most → old.faults ≤ mid.faults → IsWalking made old mid
-    → IsMade made x mid new → cuts_in x.kind ≤ mid.causes.takes → IsWalking (made ++ x ∷ []) old new
-walks_on grow go made x old mid new same most counted walking step planned = record {
+pub walks_on : WalksGrow → HistoriesGoOn → (p q r : Payer) (made : List Step) (x : Step) (old mid new : StackTold) → mid.configuration ≡ old.configuration → mid.most ≡ old.most → old.faults ≤ mid.faults → IsWalking p q made old mid
+    → IsMade q r made x mid new → cuts_in x.kind ≤ mid.causes.takes → IsWalking p r (made ++ x ∷ []) old new
+walks_on grow go p q r made x old mid new same most counted walking step planned = record {
   marks = walking.marks;
   ops = walking.ops;
   pieces = walking.pieces ++ piece ∷ [];
@@ -103,6 +107,8 @@ walks_on grow go made x old mid new same most counted walking step planned = rec
       let b = explained.takes in omega (arith, cuts, a, b);
   moves = has_more made x walking.pieces piece step.moves (moment_of old) (moment_of mid) (moment_of new) walking.moves step.moved step.tell step.behind;
   chain = chain_more walking.moves.moves step.moves (shown_of old) (shown_of mid) (shown_of new) walking.chain step.chain;
+  pays = subst (λ (ms : List Move). PaysBy p r old ms) (sym (all_more walking.moves.moves step.moves))
+      (by_more go p q r old mid (all_moves walking.moves.moves) step.moves same (all_behind (moment_of old) walking.moves.moves ∙ walking.moves.behind) walked_state walking.pays step.pays);
   serves = λ calm.
       serving_more go first made walking.pieces x old mid new walking.as_many same most walking.at step
       (walking.serves (calm_until old mid new piece adds step.counted calm)) (step.serves (calm_from old mid new counted calm));
@@ -113,6 +119,13 @@ walks_on grow go made x old mid new same most counted walking step planned = rec
 
     adds : new.entries ≡ mid.entries ++ piece
     adds = step.entries
+
+    -- the state behind the moves so far
+    walked_state : state_of mid ≡ after_from old.configuration (state_of old) (entries_of (all_moves walking.moves.moves))
+    walked_state =
+        ap (λ (c : Configuration). after c mid.entries) same
+        ∙ ap (after old.configuration) (moved_entries (all_moves walking.moves.moves) (shown_of old) (shown_of mid) walking.chain)
+        ∙ state_more go old.configuration old.entries (entries_of (all_moves walking.moves.moves))
 
     is : IsPiece mid.configuration made (state_of mid) x piece
     is = step.is
@@ -141,8 +154,8 @@ walks_on grow go made x old mid new same most counted walking step planned = rec
     paid : PaysOffs x.kind (plan_behind None 0 made walking.pieces) (ops_behind 0 (joined walking.pieces)) piece mid new
     paid = explained.offs (plan_behind None 0 made walking.pieces) (ops_behind 0 (joined walking.pieces)) planned few walking.plan_stays
 
-pub has_walked : HistoriesGoOn → (made : List Step) (old mid new : StackTold) → new.entries ≡ mid.entries → mid.faults ≤ new.faults → WereCounted 0 mid.causes.unplanned new.causes.unplanned → IsWalking made old mid → HasWalked made old new
-has_walked go made old mid new same counted cuts walking = record {
+pub has_walked : HistoriesGoOn → (p q r : Payer) (made : List Step) (old mid new : StackTold) → new.entries ≡ mid.entries → mid.faults ≤ new.faults → WereCounted 0 mid.causes.unplanned new.causes.unplanned → PaysBy q r mid [] → IsWalking p q made old mid → HasWalked p r made old new
+has_walked go p q r made old mid new same counted cuts pays walking = record {
   more = walking.more;
   grows = same ∙ walking.grows;
   pieces = walking.pieces;
@@ -158,6 +171,15 @@ has_walked go made old mid new same counted cuts walking = record {
   serves = each_posted go (all_moves walking.moves.moves) (shown_of old) (shown_of mid) walking.chain;
   moves = walking.moves;
   counted = counted;
+  pays = record {
+    worn = λ k n is. pays.worn k n (walking.pays.worn k n is);
+    pays = λ since owes.
+        let (paid, then_owes) = walking.pays.pays since owes in
+        let moves = all_moves walking.moves.moves in (
+          since_too old.configuration q.worn r.worn pays.worn since (moment_of old) (state_of old) moves paid,
+          (pays.pays (since_behind since (moment_of old) moves) then_owes).1,
+        );
+  };
 }
   where
     nothing_more : (n : ℕ) → n + 0 ≡ n
@@ -168,8 +190,8 @@ none_taken c id zero marks ops = omega arith
 none_taken c id (suc n) marks ops = omega arith
 
 -- a fresh stack has walked no step
-pub fresh_walking : (t : StackTold) → IsFresh t → IsWalking [] t t
-fresh_walking t fresh = record {
+pub fresh_walking : (p : Payer) (t : StackTold) → IsFresh t → IsWalking p p [] t t
+fresh_walking p t fresh = record {
   marks = fresh.marks;
   ops = fresh.ops;
   pieces = [];
@@ -185,6 +207,7 @@ fresh_walking t fresh = record {
   takes = omega arith;
   moves = record { moves = []; are = tt; tell = refl; behind = refl };
   chain = refl;
+  pays = none_pays p t;
   serves = λ calm. record { posts = tt; drains = tt; within = none_within t fresh.marks fresh.ops fresh.entries };
 }
 
@@ -201,39 +224,40 @@ fresh_kept first starts t fresh = record {
 
 -- WHAT IS LEFT
 
-were_left : (fault : StepFault) (x : Step) (xs : List Step) (old mid new : StackTold) → mid.configuration ≡ old.configuration → mid.cap ≡ old.cap → old.faults ≤ mid.faults → IsLeft fault x mid new → WereLeft fault (x ∷ xs) old new
-were_left Flash x xs old mid new configuration cap counted left = (left.why.0, rose_later old.faults mid.faults new.faults counted left.why.1)
-were_left Memory x xs old mid new configuration cap counted left = tt
-were_left HistoryFull x xs old mid new configuration cap counted left =
+were_left : (fault : StepFault) (x : Step) (xs : List Step) (old mid new : StackTold) → mid.configuration ≡ old.configuration → mid.cap ≡ old.cap → IsLeft fault x mid new → WereLeft fault (x ∷ xs) (moment_of mid) old new
+were_left Flash x xs old mid new configuration cap left = left.why
+were_left Memory x xs old mid new configuration cap left = tt
+were_left HistoryFull x xs old mid new configuration cap left =
     subst (λ (h : List Entry). HasNoRoom old.configuration old.cap (after old.configuration h) x.kind) (sym left.entries)
     (subst (λ (n : ℕ). HasNoRoom old.configuration n (after old.configuration mid.entries) x.kind) cap
     (subst (λ (c : Configuration). HasNoRoom c mid.cap (after c mid.entries) x.kind) configuration left.why))
 
-pub was_broken : HistoriesGoOn → (fault : StepFault) (steps : List Step) (n : ℕ) (x : Step) (old mid new : StackTold) → slice_get steps n ≡ Some x → mid.configuration ≡ old.configuration → mid.cap ≡ old.cap → old.faults ≤ mid.faults
-    → IsWalking (take n steps) old mid → IsLeft fault x mid new → WasBroken fault steps old new
-was_broken go fault steps n x old mid new is configuration cap counted walking left = record {
+pub was_broken : HistoriesGoOn → (p q r : Payer) (fault : StepFault) (steps : List Step) (n : ℕ) (x : Step) (old mid new : StackTold) → slice_get steps n ≡ Some x → mid.configuration ≡ old.configuration → mid.cap ≡ old.cap
+    → IsWalking p q (take n steps) old mid → IsLeft fault x mid new → PaysBy q r mid [] → WasBroken p r fault steps old new
+unfolding has_walked
+was_broken go p q r fault steps n x old mid new is configuration cap walking left pays = record {
   made = take n steps;
   left = drop n steps;
   order = in_two n steps;
-  walked = has_walked go (take n steps) old mid new left.entries left.counted left.cuts walking;
-  why = subst (λ (xs : List Step). WereLeft fault xs old new) (sym (rest_begins n steps x is)) (were_left fault x (drop (suc n) steps) old mid new configuration cap counted left);
+  walked = has_walked go p q r (take n steps) old mid new left.entries left.counted left.cuts pays walking;
+  why = subst (λ (xs : List Step). WereLeft fault xs (moment_of mid) old new) (sym (rest_begins n steps x is)) (were_left fault x (drop (suc n) steps) old mid new configuration cap left);
 }
 
 -- nothing was made for want of memory
-pub none_made : HistoriesGoOn → (steps : List Step) (t : StackTold) → IsFresh t → WasBroken Memory steps t t
-none_made go steps t fresh = record { made = []; left = steps; order = refl; walked = has_walked go [] t t t refl (omega arith) (none_counted t.causes.unplanned) (fresh_walking t fresh); why = tt }
+pub none_made : HistoriesGoOn → (p : Payer) (steps : List Step) (t : StackTold) → IsFresh t → WasBroken p p Memory steps t t
+none_made go p steps t fresh = record { made = []; left = steps; order = refl; walked = has_walked go p p p [] t t t refl (omega arith) (none_counted t.causes.unplanned) (none_pays p t) (fresh_walking p t fresh); why = tt }
 
 -- UNDER WAY
 
-pub begin : FirstAreNewest → StartsKeepStored → (steps : List Step) (blocks : ℕ) (table : List ℕ) (t : StackTold) → IsFresh t → blocks ≡ length t.configuration.blocks → table ≡ replicate (16 * (blocks + 1)) 0 → AreUnderWay steps 0 table t t
-begin first starts steps blocks table t fresh count is = record {
+pub begin : FirstAreNewest → StartsKeepStored → (p : Payer) (steps : List Step) (blocks : ℕ) (table : List ℕ) (t : StackTold) → IsFresh t → blocks ≡ length t.configuration.blocks → table ≡ replicate (16 * (blocks + 1)) 0 → AreUnderWay p p steps 0 table t t
+begin first starts p steps blocks table t fresh count is = record {
   configuration = refl;
   cap = refl;
   most = refl;
   counted = omega arith;
   kept = fresh_kept first starts t fresh;
   table_kept = subst (λ (xs : List ℕ). HasLastStores t.configuration [] xs) (sym (is ∙ ap (λ n. replicate (16 * (n + 1)) 0) count)) (first_table t.configuration);
-  walking = fresh_walking t fresh;
+  walking = fresh_walking p t fresh;
 }
 
 -- the plans that the next step may need are taken yet
@@ -242,8 +266,8 @@ takes_enough steps i x old mid at all are =
     let more = ap cuts_of (take_one_more i steps x at) ∙ sum_by_push (λ (y : Step). cuts_in y.kind) (take i steps) x in
     let within = sum_by-take-le (λ (y : Step). cuts_in y.kind) steps (i + 1) in omega (arith, more, within, all, are)
 
-pub go_on : WalksGrow → HistoriesGoOn → (steps : List Step) (i : ℕ) (table table' : List ℕ) (old mid new : StackTold) → i < 2 ^ 32 → cuts_of steps ≤ old.causes.takes → AreUnderWay steps i table old mid → MakesAt steps i table table' mid new → AreUnderWay steps (i + 1) table' old new
-go_on grow go steps i table table' old mid new few planned way makes =
+pub go_on : WalksGrow → HistoriesGoOn → (p q r : Payer) (steps : List Step) (i : ℕ) (table table' : List ℕ) (old mid new : StackTold) → i < 2 ^ 32 → cuts_of steps ≤ old.causes.takes → AreUnderWay p q steps i table old mid → MakesAt q r steps i table table' mid new → AreUnderWay p r steps (i + 1) table' old new
+go_on grow go p q r steps i table table' old mid new few planned way makes =
     let fewer = few_taken i steps in
     let (made, has) = makes.made (take i steps) (omega (arith, fewer, few)) way.kept way.table_kept in
     let more = take_one_more i steps makes.step makes.at in
@@ -254,14 +278,14 @@ go_on grow go steps i table table' old mid new few planned way makes =
       counted = let a = way.counted in let b = made.counted in omega (arith, a, b);
       kept = subst (λ (xs : List Step). IsKept xs new) (sym more) made.kept;
       table_kept = subst (λ (xs : List Step). HasLastStores new.configuration xs table') (sym more) (subst (λ (c : Configuration). HasLastStores c (take i steps ++ makes.step ∷ []) table') (sym made.configuration) has);
-      walking = subst (λ (xs : List Step). IsWalking xs old new) (sym more)
-          (walks_on grow go (take i steps) makes.step old mid new way.configuration way.most way.counted way.walking made (takes_enough steps i makes.step old mid makes.at planned way.walking.takes));
+      walking = subst (λ (xs : List Step). IsWalking p r xs old new) (sym more)
+          (walks_on grow go p q r (take i steps) makes.step old mid new way.configuration way.most way.counted way.walking made (takes_enough steps i makes.step old mid makes.at planned way.walking.takes));
     }
 
 -- all of them
-pub all_made : HistoriesGoOn → (steps : List Step) (i : ℕ) (table : List ℕ) (old now : StackTold) → length steps ≤ i → AreUnderWay steps i table old now → HasWalked steps old now
-all_made go steps i table old now all way =
-    subst (λ (xs : List Step). HasWalked xs old now) (all_of i steps all) (has_walked go (take i steps) old now now refl (omega arith) (none_counted now.causes.unplanned) way.walking)
+pub all_made : HistoriesGoOn → (p q : Payer) (steps : List Step) (i : ℕ) (table : List ℕ) (old now : StackTold) → length steps ≤ i → AreUnderWay p q steps i table old now → HasWalked p q steps old now
+all_made go p q steps i table old now all way =
+    subst (λ (xs : List Step). HasWalked p q xs old now) (all_of i steps all) (has_walked go p q q (take i steps) old now now refl (omega arith) (none_counted now.causes.unplanned) (none_pays q now) way.walking)
 
-pub some_made : HistoriesGoOn → (fault : StepFault) (steps : List Step) (i : ℕ) (table : List ℕ) (old mid new : StackTold) → AreUnderWay steps i table old mid → LeavesAt fault steps i mid new → WasBroken fault steps old new
-some_made go fault steps i table old mid new way leaves = was_broken go fault steps i leaves.step old mid new leaves.at way.configuration way.cap way.counted way.walking leaves.left
+pub some_made : HistoriesGoOn → (p q r : Payer) (fault : StepFault) (steps : List Step) (i : ℕ) (table : List ℕ) (old mid new : StackTold) → AreUnderWay p q steps i table old mid → LeavesAt fault steps i mid new → PaysBy q r mid [] → WasBroken p r fault steps old new
+some_made go p q r fault steps i table old mid new way leaves pays = was_broken go p q r fault steps i leaves.step old mid new leaves.at way.configuration way.cap way.walking leaves.left pays

@@ -93,7 +93,8 @@ abbrev pub is_pick : Entry → Bool
 is_pick (Pick block kind t ops) = true
 is_pick e = false
 
--- A turn adds one entry at most, and makes one changing operation at most. It serves the job in hand, where it counted no fault and the power is on behind it.
+-- A turn adds one entry at most, and makes one changing operation at most. It serves the job in hand, where it counted no
+-- fault and the power is on behind it.
 pub record Turns (answer : Turned) (old new : StackTold) : Type 0 where
   pub entries : List Entry
   pub grows : IsGrown entries old new

@@ -1,5 +1,5 @@
 -- What a stack keeps from step to step.
-use Rattle.std.specs.Prelude.{◌≡◌, ◌+◌, ◌≤◌, ℕ, zero, suc, true, false, IsTrue, List, length}
+use Rattle.std.specs.Prelude.{◌≡◌, ◌+◌, ◌≤◌, ℕ, zero, suc, true, false, IsTrue, List, [], length}
 use Rattle.std.specs.List.{list_all, list_any}
 use Rattle.nv_base.specs.Count.{Rose}
 use Rattle.block_machine.specs.Words.{Entry}
@@ -13,6 +13,7 @@ use Rattle.run_promise.specs.Turns.{Move, entries_of, moment_behind, AreTurnsMad
 use Rattle.stack_steps.specs.Told.{StackTold, state_of, moment_of, IsWithin, IsGrown}
 use Rattle.stack_steps.specs.Calls.{AreExplained, MakesOne, Serves, is_pick}
 use Rattle.stack_steps.specs.Chain.{shown_of, AreMoved}
+use Rattle.stack_steps.specs.Paying.{Payer, PaysBy}
 
 -- after these steps its stores are theirs, and its jobs took none but these
 pub record IsKept (before : List Step) (t : StackTold) : Type 0 where
@@ -34,23 +35,24 @@ pub record HasTurned (turns : ℕ) (before : List Step) (old new : StackTold) (e
   pub keeps : KeepsStored old.configuration before (state_of old) es
   pub serves : StaysCalm old new → Serves turns es old new
 
--- these moves are turns from one to the other, which added these entries
-pub record AreMade (es : List Entry) (moves : List Move) (old new : StackTold) : Type 0 where
+-- these moves are turns from one to the other, which added these entries, and pay
+pub record AreMade (p q : Payer) (es : List Entry) (moves : List Move) (old new : StackTold) : Type 0 where
   pub turns : AreTurnsMade (moment_of old) moves
   pub tell : es ≡ entries_of moves
   pub behind : moment_behind (moment_of old) moves ≡ moment_of new
   pub chain : AreMoved moves (shown_of old) (shown_of new)
+  pub pays : PaysBy p q old moves
 
 -- so many turns
-abbrev pub MakesTurns : ℕ → List Step → StackTold → StackTold → Type 0
-MakesTurns zero before old new = new ≡ old
-MakesTurns (suc n) before old new = (es : List Entry) × HasTurned (suc n) before old new es × AreTurns (state_of old) (suc n) es
-    × ((moves : List Move) × (length moves ≡ suc n) × AreMade es moves old new)
+abbrev pub MakesTurns : Payer → Payer → ℕ → List Step → StackTold → StackTold → Type 0
+MakesTurns p q zero before old new = (new ≡ old) × PaysBy p q old []
+MakesTurns p q (suc n) before old new = (es : List Entry) × HasTurned (suc n) before old new es × AreTurns (state_of old) (suc n) es
+    × ((moves : List Move) × (length moves ≡ suc n) × AreMade p q es moves old new)
 
 -- turns, however many, until nothing is pending, or the power is off
-abbrev pub Drains : List Step → StackTold → StackTold → Type 0
-Drains before old new = (es : List Entry) × HasTurned 0 before old new es × IsDrain old.configuration (state_of old) es
-    × ((moves : List Move) × AreMade es moves old new)
+abbrev pub Drains : Payer → Payer → List Step → StackTold → StackTold → Type 0
+Drains p q before old new = (es : List Entry) × HasTurned 0 before old new es × IsDrain old.configuration (state_of old) es
+    × ((moves : List Move) × AreMade p q es moves old new)
 
 -- one turn, whatever it answered
 pub record MakesTurn (old new : StackTold) : Type 0 where

@@ -5,3 +5,4 @@ pub mod Table
 pub mod Kept
 pub mod Made
 pub mod Walking
+pub mod Paying

@@ -19,6 +19,7 @@ use Rattle.stack_steps.specs.Told.{StackTold, state_of, moment_of, IsWithin, IsN
 use Rattle.stack_steps.specs.Calls.{Nears, AddsAsk}
 use Rattle.stack_steps.specs.Kept.{IsKept, StaysCalm}
 use Rattle.stack_steps.specs.Chain.{shown_of, AreMoved}
+use Rattle.stack_steps.specs.Paying.{Payer, PaysBy}
 use Rattle.stack_steps.specs.Table.{HasLastStores}
 
 -- THE CAUSES OF A STEP
@@ -54,7 +55,7 @@ pub record ServesJobs (kind : StepKind) (piece : List Entry) (old new : StackTol
   pub drains : is_drain kind ≡ true → IsTrue (is_at_rest (state_of new))
 
 -- the step is made: it added its piece
-pub record IsMade (before : List Step) (x : Step) (old new : StackTold) : Type 0 where
+pub record IsMade (p q : Payer) (before : List Step) (x : Step) (old new : StackTold) : Type 0 where
   pub piece : List Entry
   pub configuration : new.configuration ≡ old.configuration
   pub cap : new.cap ≡ old.cap
@@ -70,6 +71,7 @@ pub record IsMade (before : List Step) (x : Step) (old new : StackTold) : Type 0
   pub tell : piece ≡ entries_of moves
   pub behind : moment_behind (moment_of old) moves ≡ moment_of new
   pub chain : AreMoved moves (shown_of old) (shown_of new)
+  pub pays : PaysBy p q old moves
   pub kept : IsKept (before ++ x ∷ []) new
 
 -- a request was entered as the step asks it
@@ -79,10 +81,10 @@ IsAsked caller r table old new =
     → (reply : Reply) × AddsAsk (Ask caller (request_after old.configuration before caller r) reply) old new
 
 -- Whatever steps came before, so few that each has a line: this one is made, and the table goes on.
-abbrev pub Makes : Step → List ℕ → List ℕ → StackTold → StackTold → Type 0
-Makes x table table' old new =
+abbrev pub Makes : Payer → Payer → Step → List ℕ → List ℕ → StackTold → StackTold → Type 0
+Makes p q x table table' old new =
     (before : List Step) → length before < 2 ^ 32 → IsKept before old → HasLastStores old.configuration before table
-    → IsMade before x old new × HasLastStores old.configuration (before ++ x ∷ []) table'
+    → IsMade p q before x old new × HasLastStores old.configuration (before ++ x ∷ []) table'
 
 -- the next entry has no room
 abbrev pub HasNoRoom : Configuration → ℕ → State → StepKind → Type 0
@@ -116,9 +118,9 @@ pub record IsFresh (t : StackTold) : Type 0 where
   pub none_refused : (id : ℕ) → t.causes.refusable id ≡ 0
   pub none_planned : t.causes.plan ≡ None
 
--- The history went on, and is a walk of these steps. They explain the copies that its Posts tell as refused, and each Off comes where they
--- planned a cut, or a cut was counted. Where nothing failed they serve its jobs.
-pub record HasWalked (made : List Step) (old new : StackTold) : Type 0 where
+-- The history went on, and is a walk of these steps. They explain the copies that its Posts tell as refused, and each Off
+-- comes where they planned a cut, or a cut was counted. Where nothing failed they serve its jobs.
+pub record HasWalked (p q : Payer) (made : List Step) (old new : StackTold) : Type 0 where
   pub more : List Entry
   pub grows : new.entries ≡ old.entries ++ more
   pub pieces : List (List Entry)
@@ -132,29 +134,31 @@ pub record HasWalked (made : List Step) (old new : StackTold) : Type 0 where
   -- none of which goes by where something is due, and each job that they pick is posted within its own
   pub serves : EachMove old.configuration (ServesTurn old.configuration old.most) (state_of old) (all_moves moves.moves)
   pub counted : last.faults ≤ new.faults
+  -- and each Post is paid since the last Pick before it
+  pub pays : PaysBy p q old (all_moves moves.moves)
 
 -- the step at a place is made, or left
-pub record MakesAt (steps : List Step) (i : ℕ) (table table' : List ℕ) (old new : StackTold) : Type 0 where
+pub record MakesAt (p q : Payer) (steps : List Step) (i : ℕ) (table table' : List ℕ) (old new : StackTold) : Type 0 where
   pub step : Step
   pub at : slice_get steps i ≡ Some step
-  pub made : Makes step table table' old new
+  pub made : Makes p q step table table' old new
 
 pub record LeavesAt (fault : StepFault) (steps : List Step) (i : ℕ) (old new : StackTold) : Type 0 where
   pub step : Step
   pub at : slice_get steps i ≡ Some step
   pub left : IsLeft fault step old new
 
--- why these steps were left, in the state after the whole history
-abbrev pub WereLeft : StepFault → List Step → StackTold → StackTold → Type 0
-WereLeft Flash (x ∷ xs) old new = (x.kind ≡ Restart) × Rose old.faults new.faults
-WereLeft HistoryFull (x ∷ xs) old new = HasNoRoom old.configuration old.cap (after old.configuration new.entries) x.kind
-WereLeft Memory xs old new = Unit {0}
-WereLeft fault xs old new = ⊥
+-- why these steps were left behind this moment, in the state after the whole history: a start-up failed by a fault of its own
+abbrev pub WereLeft : StepFault → List Step → Moment → StackTold → StackTold → Type 0
+WereLeft Flash (x ∷ xs) last old new = (x.kind ≡ Restart) × Rose last.faults new.faults
+WereLeft HistoryFull (x ∷ xs) last old new = HasNoRoom old.configuration old.cap (after old.configuration new.entries) x.kind
+WereLeft Memory xs last old new = Unit {0}
+WereLeft fault xs last old new = ⊥
 
 -- the first of these steps were made, and the others left, with the reason
-pub record WasBroken (fault : StepFault) (steps : List Step) (old new : StackTold) : Type 0 where
+pub record WasBroken (p q : Payer) (fault : StepFault) (steps : List Step) (old new : StackTold) : Type 0 where
   pub made : List Step
   pub left : List Step
   pub order : steps ≡ made ++ left
-  pub walked : HasWalked made old new
-  pub why : WereLeft fault left old new
+  pub walked : HasWalked p q made old new
+  pub why : WereLeft fault left walked.last old new

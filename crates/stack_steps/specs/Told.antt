@@ -53,8 +53,8 @@ moment_of t = record { faults = t.faults; ops = t.ops; left = t.left }
 abbrev pub IsWithin : StackTold → Type 0
 IsWithin t = (j : Job) → (state_of t).hand ≡ Some j → (0 < t.left) × (t.left ≤ t.most (state_of t) j)
 
--- these entries more, while faults and operations may be counted, and the work, the turns that are left, what the device is at and the
--- causes change
+-- these entries more, while faults and operations may be counted, and the work, the turns that are left, what the device is
+-- at and the causes change
 abbrev pub IsGrown : List Entry → StackTold → StackTold → Type 0
 IsGrown es old new = new ≡ record old { entries = old.entries ++ es; faults = new.faults; ops = new.ops; work = new.work; left = new.left; busy = new.busy; causes = new.causes }
 

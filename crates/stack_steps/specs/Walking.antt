@@ -17,6 +17,7 @@ use Rattle.stack_steps.specs.Chain.{shown_of, AreMoved}
 use Rattle.stack_steps.specs.Told.{StackTold, state_of, moment_of, IsWithin, IsNoEarlier}
 use Rattle.stack_steps.specs.Kept.{IsKept, StaysCalm}
 use Rattle.stack_steps.specs.Made.{cuts_of}
+use Rattle.stack_steps.specs.Paying.{Payer, PaysBy}
 use Rattle.stack_steps.specs.Table.{HasLastStores}
 
 -- the plan of a cut that stands behind steps and their pieces
@@ -59,7 +60,7 @@ pub record AreServing (first : Entry) (made : List Step) (pieces : List (List En
 
 -- ALL STEPS
 -- a history that began with a start-up, with a piece for each step
-pub record IsWalking (made : List Step) (old now : StackTold) : Type 0 where
+pub record IsWalking (p q : Payer) (made : List Step) (old now : StackTold) : Type 0 where
   pub marks : List (Instance × Mark)
   pub ops : ℕ
   pub pieces : List (List Entry)
@@ -78,15 +79,16 @@ pub record IsWalking (made : List Step) (old now : StackTold) : Type 0 where
   -- their turns, one by one
   pub moves : HasMoves made pieces (moment_of old) (moment_of now)
   pub chain : AreMoved (all_moves moves.moves) (shown_of old) (shown_of now)
+  pub pays : PaysBy p q old (all_moves moves.moves)
   -- where nothing failed, they serve the jobs
   pub serves : StaysCalm old now → AreServing (Found marks ops) made pieces old now
 
 -- the first i steps are made
-pub record AreUnderWay (steps : List Step) (i : ℕ) (table : List ℕ) (old now : StackTold) : Type 0 where
+pub record AreUnderWay (p q : Payer) (steps : List Step) (i : ℕ) (table : List ℕ) (old now : StackTold) : Type 0 where
   pub configuration : now.configuration ≡ old.configuration
   pub cap : now.cap ≡ old.cap
   pub most : now.most ≡ old.most
   pub counted : old.faults ≤ now.faults
   pub kept : IsKept (take i steps) now
   pub table_kept : HasLastStores now.configuration (take i steps) table
-  pub walking : IsWalking (take i steps) old now
+  pub walking : IsWalking p q (take i steps) old now

@@ -1,5 +1,5 @@
 // The steps of a script.
-ghost use Rattle.std.specs.Prelude.{◌≡◌, ◌<◌, ◌≤◌, ◌^◌, ℕ, List, true, length, OnOk, IfOk, IfErr};
+ghost use Rattle.std.specs.Prelude.{◌≡◌, ◌<◌, ◌≤◌, ◌^◌, ℕ, List, [], true, length, OnOk, OnErr, IfOk, IfErr};
 ghost use Rattle.memif.specs.Told.{Part, PartTold};
 ghost use Rattle.block_machine.specs.Words.{Configuration};
 ghost use Rattle.block_machine.specs.Legal.{HasStore};
@@ -8,6 +8,7 @@ ghost use Rattle.script_walks.specs.Walk.{request_after};
 ghost use Rattle.played_steps.specs.Played.{IsPlayed, ArePlayed, CanBePlayed};
 ghost use Rattle.stack_steps.specs.Calls.{StartsAgain};
 ghost use Rattle.stack_steps.specs.Made.{Makes, MakesAt, LeavesAt, IsAsked, IsLeft, IsFresh, HasWalked, WasBroken, cuts_of};
+ghost use Rattle.stack_steps.specs.Paying.{PaysBy, PaysNothing};
 ghost use Rattle.stack_steps.specs.Table.{HasLastStores, HoldsSynchronized};
 
 use crate::turns::{drain, make_turns};
@@ -51,8 +52,8 @@ pub fn make_steps<S: PlayedStack>(
     requires fresh { IsFresh (S.told stack.old) }
     requires played { ArePlayed (S.told stack.old).configuration steps.now }
     requires planned { cuts_of steps.now ≤ (S.told stack.old).causes.takes }
-    ensures all { OnOk result (HasWalked steps.now (S.told stack.old) (S.told stack.new)) }
-    ensures some { IfErr result (λ fault. WasBroken fault steps.now (S.told stack.old) (S.told stack.new)) }
+    ensures all { OnOk result (HasWalked (S.payer stack.old) (S.payer stack.new) steps.now (S.told stack.old) (S.told stack.new)) }
+    ensures some { IfErr result (λ fault. WasBroken (S.payer stack.old) (S.payer stack.new) fault steps.now (S.told stack.old) (S.told stack.new)) }
     ensures configuration { (S.told stack.new).configuration ≡ (S.told stack.old).configuration }
     ensures most { (S.told stack.new).cap ≡ (S.told stack.old).cap }
     ensures counted { (S.told stack.old).faults ≤ (S.told stack.new).faults }
@@ -85,8 +86,9 @@ fn make_next<S: PlayedStack>(
     requires ready { (S.told stack.old).ready ≡ true }
     requires played { ArePlayed (S.told stack.old).configuration steps.now }
     requires synchronized { HoldsSynchronized (S.told stack.old).configuration stores.old }
-    ensures made { OnOk result (MakesAt steps.now i stores.old stores.new (S.told stack.old) (S.told stack.new)) }
+    ensures made { OnOk result (MakesAt (S.payer stack.old) (S.payer stack.new) steps.now i stores.old stores.new (S.told stack.old) (S.told stack.new)) }
     ensures left { IfErr result (λ fault. LeavesAt fault steps.now i (S.told stack.old) (S.told stack.new)) }
+    ensures owes { OnErr result (PaysBy (S.payer stack.old) (S.payer stack.new) (S.told stack.old) []) }
     ensures keeps { (before : Part → PartTold) → S.kept stack.old before → S.kept stack.new before }
 {
     match steps.get(i) {
@@ -107,8 +109,9 @@ pub fn make_step<S: PlayedStack>(
     requires synchronized { HoldsSynchronized (S.told stack.old).configuration stores.old }
     ensures synchronized { HoldsSynchronized (S.told stack.old).configuration stores.new }
     ensures ready { OnOk result ((S.told stack.new).ready ≡ true) }
-    ensures made { OnOk result (Makes step.now stores.old stores.new (S.told stack.old) (S.told stack.new)) }
+    ensures made { OnOk result (Makes (S.payer stack.old) (S.payer stack.new) step.now stores.old stores.new (S.told stack.old) (S.told stack.new)) }
     ensures left { IfErr result (λ fault. IsLeft fault step.now (S.told stack.old) (S.told stack.new)) }
+    ensures owes { OnErr result (PaysBy (S.payer stack.old) (S.payer stack.new) (S.told stack.old) []) }
     ensures keeps { (before : Part → PartTold) → S.kept stack.old before → S.kept stack.new before }
 {
     turns_keep_what_is_stored();
@@ -180,7 +183,8 @@ fn ask<S: PlayedStack>(
     requires played { CanBePlayed (S.told stack.old).configuration (AskStep request.now) }
     requires synchronized { HoldsSynchronized (S.told stack.old).configuration stores.now }
     ensures ready { OnOk result ((S.told stack.new).ready ≡ true) }
-    ensures asked { OnOk result (IsAsked caller request.now stores.now (S.told stack.old) (S.told stack.new)) }
+    ensures asked { OnOk result (IsAsked caller request.now stores.now (S.told stack.old) (S.told stack.new) × PaysNothing (S.payer stack.old) (S.payer stack.new) (S.told stack.new)) }
+    ensures owes { OnErr result (PaysBy (S.payer stack.old) (S.payer stack.new) (S.told stack.old) []) }
     ensures left { IfErr result (λ fault. (line : ℕ) → IsLeft fault (record { line = line; caller = caller; kind = AskStep request.now }) (S.told stack.old) (S.told stack.new)) }
     ensures keeps { (before : Part → PartTold) → S.kept stack.old before → S.kept stack.new before }
 {
@@ -194,7 +198,8 @@ fn ask<S: PlayedStack>(
 
 fn restart<S: PlayedStack>(alloc: Global, stack: &mut S) -> Result<(), StepFault>
     ensures ready { OnOk result ((S.told stack.new).ready ≡ true) }
-    ensures made { OnOk result (StartsAgain (S.told stack.old) (S.told stack.new)) }
+    ensures made { OnOk result (StartsAgain (S.told stack.old) (S.told stack.new) × PaysNothing (S.payer stack.old) (S.payer stack.new) (S.told stack.new)) }
+    ensures owes { OnErr result (PaysBy (S.payer stack.old) (S.payer stack.new) (S.told stack.old) []) }
     ensures left { IfErr result (λ fault. (line caller : ℕ) → IsLeft fault (record { line = line; caller = caller; kind = Restart }) (S.told stack.old) (S.told stack.new)) }
     ensures keeps { (before : Part → PartTold) → S.kept stack.old before → S.kept stack.new before }
 {

@@ -7,6 +7,7 @@ ghost use Rattle.nv_base.specs.Count.{Rose};
 ghost use Rattle.stack_steps.specs.Told.{state_of};
 ghost use Rattle.stack_steps.specs.Calls.{is_last};
 ghost use Rattle.stack_steps.specs.Kept.{IsKept, MakesTurns, Drains, MakesTurn};
+ghost use Rattle.stack_steps.specs.Paying.{PaysTurn};
 
 use crate::PlayedStack;
 use machine_laws::histories_grow;
@@ -17,7 +18,7 @@ use stack_turns::Turned;
 pub fn make_turns<S: PlayedStack>(stack: &mut S, count: u32)
     requires { (S.told stack.old).ready ≡ true }
     ensures ready { (S.told stack.new).ready ≡ true }
-    ensures turns { (before : List Step) → IsKept before (S.told stack.old) → MakesTurns count before (S.told stack.old) (S.told stack.new) × IsKept before (S.told stack.new) }
+    ensures turns { (before : List Step) → IsKept before (S.told stack.old) → MakesTurns (S.payer stack.old) (S.payer stack.new) count before (S.told stack.old) (S.told stack.new) × IsKept before (S.told stack.new) }
     ensures keeps { (before : Part → PartTold) → S.kept stack.old before → S.kept stack.new before }
 {
     turns_keep_what_is_stored();
@@ -32,7 +33,7 @@ pub fn make_turns<S: PlayedStack>(stack: &mut S, count: u32)
 pub fn drain<S: PlayedStack>(stack: &mut S)
     requires { (S.told stack.old).ready ≡ true }
     ensures ready { (S.told stack.new).ready ≡ true }
-    ensures drains { (before : List Step) → IsKept before (S.told stack.old) → Drains before (S.told stack.old) (S.told stack.new) × IsKept before (S.told stack.new) }
+    ensures drains { (before : List Step) → IsKept before (S.told stack.old) → Drains (S.payer stack.old) (S.payer stack.new) before (S.told stack.old) (S.told stack.new) × IsKept before (S.told stack.new) }
     ensures at_rest { ¬ Rose (S.told stack.old).faults (S.told stack.new).faults → (state_of (S.told stack.new)).off ≡ false → (S.told stack.new).busy ≡ false }
     ensures keeps { (before : Part → PartTold) → S.kept stack.old before → S.kept stack.new before }
 {
@@ -45,6 +46,7 @@ pub fn drain<S: PlayedStack>(stack: &mut S)
 fn ends_drain<S: PlayedStack>(stack: &mut S) -> bool
     requires { (S.told stack.old).ready ≡ true }
     ensures turn { MakesTurn (S.told stack.old) (S.told stack.new) }
+    ensures pays { PaysTurn (S.payer stack.old) (S.payer stack.new) (S.told stack.old) (S.told stack.new) }
     ensures ends { result ≡ true → IsTrue (is_at_rest (state_of (S.told stack.new)) || (state_of (S.told stack.new)).off) }
     ensures at_rest { result ≡ true → ¬ Rose (S.told stack.old).faults (S.told stack.new).faults → (state_of (S.told stack.new)).off ≡ false → (S.told stack.new).busy ≡ false }
     ensures goes_on { result ≡ false → (S.told stack.new).work < (S.told stack.old).work }

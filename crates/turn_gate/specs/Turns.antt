@@ -1,5 +1,5 @@
--- The rule of the table, and what each kind of step tells.
--- Word 0 is the ticket that is served, word 1 the next ticket, and word w + 2 the last entry that gave the word w a status, times 256, plus that status.
+-- The rule of the table, and what each kind of step tells. Word 0 is the ticket that is served, word 1 the next ticket, and
+-- word w + 2 the last entry that gave the word w a status, times 256, plus that status.
 use Rattle.std.specs.Prelude.{◌≡◌, ◌≢◌, ℕ, ◌+◌, ◌-◌, ◌/◌, ◌%◌, ◌^◌, ◌<◌, ◌≤◌, List, [], ◌∷◌, length, Bool, true, false, Option, Some, slice_index, nat_lt, cond}
 use mathlib.Core.Option as maybe
 use lib.ListN.{get_elem?}

@@ -6,7 +6,7 @@ use Rattle.stack_steps.proofs.Turned.{turn_kept, turned_more, none_turned, any_t
 use Rattle.stack_steps.proofs.turns.drain.Goals as goal
 
 pub loop-init : goal.loop-init
-loop-init g c = record { ready = c.requires; counted = omega arith; kept = λ before kept. ([], none_turned before (g.S.PlayedStack.told c.args.stack.now) kept, ([], none_moved (g.S.PlayedStack.told c.args.stack.now)), kept); keeps = λ before kept. kept }
+loop-init g c = record { ready = c.requires; counted = omega arith; kept = λ before kept. ([], none_turned before (g.S.PlayedStack.told c.args.stack.now) kept, ([], none_moved (g.S.PlayedStack.payer c.args.stack.now) (g.S.PlayedStack.told c.args.stack.now)), kept); keeps = λ before kept. kept }
 
 pub loop-preserved : goal.loop-preserved
 loop-preserved g c =
@@ -22,8 +22,8 @@ loop-preserved g c =
                 (any_turned 1 before (g.S.PlayedStack.told c.loop.stack) (g.S.PlayedStack.told c.ends_drain.new.stack) c.ends_drain.ensures.turn.entries one),
             (
               ms ++ move_to c.ends_drain.ensures.turn.entries (g.S.PlayedStack.told c.ends_drain.new.stack) ∷ [],
-              made_more (g.S.PlayedStack.told c.args.stack.now) (g.S.PlayedStack.told c.loop.stack) (g.S.PlayedStack.told c.ends_drain.new.stack) es c.ends_drain.ensures.turn.entries ms (move_to c.ends_drain.ensures.turn.entries (g.S.PlayedStack.told c.ends_drain.new.stack) ∷ []) moved
-                  (turn_moved (g.S.PlayedStack.told c.loop.stack) (g.S.PlayedStack.told c.ends_drain.new.stack) c.ends_drain.ensures.turn),
+              made_more c.histories_grow.ensures.goes_on (g.S.PlayedStack.payer c.args.stack.now) (g.S.PlayedStack.payer c.loop.stack) (g.S.PlayedStack.payer c.ends_drain.new.stack) (g.S.PlayedStack.told c.args.stack.now) (g.S.PlayedStack.told c.loop.stack) (g.S.PlayedStack.told c.ends_drain.new.stack) es c.ends_drain.ensures.turn.entries ms (move_to c.ends_drain.ensures.turn.entries (g.S.PlayedStack.told c.ends_drain.new.stack) ∷ []) turned.grows moved
+                  (turn_moved (g.S.PlayedStack.payer c.loop.stack) (g.S.PlayedStack.payer c.ends_drain.new.stack) (g.S.PlayedStack.told c.loop.stack) (g.S.PlayedStack.told c.ends_drain.new.stack) c.ends_drain.ensures.turn c.ends_drain.ensures.pays),
             ),
             then_kept,
           );
@@ -45,8 +45,8 @@ returns-clause-drains g c before kept =
     let (one, then_kept) = turn_kept c.histories_grow.ensures.goes_on c.turns_keep_what_is_stored.ensures.turn before (g.S.PlayedStack.told c.loop.stack) (g.S.PlayedStack.told c.ends_drain.new.stack) c.ends_drain.ensures.turn now in
     let all = turned_more c.histories_grow.ensures.goes_on c.turns_keep_what_is_stored.ensures.goes_on 0 0 before (g.S.PlayedStack.told c.args.stack.now) (g.S.PlayedStack.told c.loop.stack) (g.S.PlayedStack.told c.ends_drain.new.stack) es c.ends_drain.ensures.turn.entries turned
     (any_turned 1 before (g.S.PlayedStack.told c.loop.stack) (g.S.PlayedStack.told c.ends_drain.new.stack) c.ends_drain.ensures.turn.entries one) in (
-      drained c.histories_grow.ensures.goes_on before (g.S.PlayedStack.told c.args.stack.now) (g.S.PlayedStack.told c.ends_drain.new.stack) (es ++ c.ends_drain.ensures.turn.entries) (ms ++ move_to c.ends_drain.ensures.turn.entries (g.S.PlayedStack.told c.ends_drain.new.stack) ∷ []) all
-          (made_more (g.S.PlayedStack.told c.args.stack.now) (g.S.PlayedStack.told c.loop.stack) (g.S.PlayedStack.told c.ends_drain.new.stack) es c.ends_drain.ensures.turn.entries ms (move_to c.ends_drain.ensures.turn.entries (g.S.PlayedStack.told c.ends_drain.new.stack) ∷ []) moved
-          (turn_moved (g.S.PlayedStack.told c.loop.stack) (g.S.PlayedStack.told c.ends_drain.new.stack) c.ends_drain.ensures.turn)) (c.ends_drain.ensures.ends c.loop-test.false),
+      drained c.histories_grow.ensures.goes_on (g.S.PlayedStack.payer c.args.stack.now) (g.S.PlayedStack.payer c.ends_drain.new.stack) before (g.S.PlayedStack.told c.args.stack.now) (g.S.PlayedStack.told c.ends_drain.new.stack) (es ++ c.ends_drain.ensures.turn.entries) (ms ++ move_to c.ends_drain.ensures.turn.entries (g.S.PlayedStack.told c.ends_drain.new.stack) ∷ []) all
+          (made_more c.histories_grow.ensures.goes_on (g.S.PlayedStack.payer c.args.stack.now) (g.S.PlayedStack.payer c.loop.stack) (g.S.PlayedStack.payer c.ends_drain.new.stack) (g.S.PlayedStack.told c.args.stack.now) (g.S.PlayedStack.told c.loop.stack) (g.S.PlayedStack.told c.ends_drain.new.stack) es c.ends_drain.ensures.turn.entries ms (move_to c.ends_drain.ensures.turn.entries (g.S.PlayedStack.told c.ends_drain.new.stack) ∷ []) turned.grows moved
+          (turn_moved (g.S.PlayedStack.payer c.loop.stack) (g.S.PlayedStack.payer c.ends_drain.new.stack) (g.S.PlayedStack.told c.loop.stack) (g.S.PlayedStack.told c.ends_drain.new.stack) c.ends_drain.ensures.turn c.ends_drain.ensures.pays)) (c.ends_drain.ensures.ends c.loop-test.false),
       then_kept,
     )

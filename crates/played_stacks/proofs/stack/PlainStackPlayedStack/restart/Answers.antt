@@ -17,7 +17,11 @@ use Rattle.stack_turns.specs.declared.turned.FoundAnswer.{FoundAnswer}
 use Rattle.stack_turns.specs.declared.turned.FoundAnswer.TheVariants as found
 use Rattle.nvm_core.specs.Stack.{StackState}
 use Rattle.nvm_core.specs.StartUps.{KeepsDown, Restarts, StartsKeep}
+use Rattle.stack_steps.specs.Paying.{PaysNothing}
+use Rattle.played_stacks.specs.Told.{told_by}
 use Rattle.played_stacks.specs.Kept.{IsKept}
+use Rattle.played_stacks.specs.Paying.{payer_by}
+use Rattle.played_stacks.proofs.Paying.{nothing_paid, restart_owes}
 use Rattle.played_stacks.proofs.stack.PlainStackPlayedStack.restart.Goals as goal
 
 -- a device whose slots are paired with the machine's tells them
@@ -74,3 +78,14 @@ returns-clause-keeps g c before kept =
     restart_keeps told clock before s c.restart.new.self (c.restart.ensures.down before)
     (subst (λ (t : StackState g.row.D.Denot (List PlainBlock)). IsKept t.ready before t.desk t.hand (told t.device) (clock t.device)) (sym c.self.view_is) kept)
     c.restart.result c.restart.ensures.restarts c.restart.ensures.keeps
+
+pub returns-clause-pays : goal.returns-clause-pays
+returns-clause-pays g c =
+    let s = c.self.inside.stack in
+    let new = c.restart.new.self in
+    let told = g.D.MemDevice.told in
+    let clock = g.D.MemDevice.clock in
+    subst (λ (t : StackState g.row.D.Denot (List PlainBlock)). PaysNothing (payer_by told clock t) (payer_by told clock new) (told_by told new)) c.self.view_is
+    (nothing_paid told clock s new
+    (λ before kept. restart_keeps told clock before s new (c.restart.ensures.down before) kept c.restart.result c.restart.ensures.restarts c.restart.ensures.keeps)
+    c.restart.ensures.lasts (restart_owes told clock s new c.restart.result c.restart.ensures.restarts))

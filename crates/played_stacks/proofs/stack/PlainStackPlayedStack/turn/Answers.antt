@@ -6,6 +6,9 @@ use Rattle.ram_blocks.specs.Told.{most_of}
 use Rattle.ram_blocks.specs.Plain.{told_of}
 use Rattle.nvm_core.specs.Stack.{StackState}
 use Rattle.stack_steps.specs.Calls.{Turns}
+use Rattle.stack_steps.specs.Paying.{PaysTurn}
+use Rattle.played_stacks.specs.Paying.{payer_by}
+use Rattle.played_stacks.proofs.Paying.{keeps_by, turn_paid, turned_ready}
 use Rattle.played_stacks.specs.Told.{told_by}
 use Rattle.played_stacks.proofs.Few.{few_copied}
 use Rattle.played_stacks.proofs.Halves.{IsBehind, ended}
@@ -37,3 +40,15 @@ returns-clause-turns g c =
           (behind (more.2.ready ∙ more.1.ready)
           (subst (λ (bs : List PlainBlock). (id : ℕ) → most_of (map told_of bs) id < last_count) (sym more.2.copies) (few_copied c.self.inside.asked old.copies more.0.copies more.1.refuses c.self.invariant)))
     ])
+
+pub returns-clause-pays : goal.returns-clause-pays
+returns-clause-pays g c =
+    let s = c.self.inside.stack in
+    let new = c.turn-turned.new.self in
+    let told = g.D.MemDevice.told in
+    let clock = g.D.MemDevice.clock in
+    let ready = ap (λ (t : StackState g.row.D.Denot (List PlainBlock)). t.ready) c.self.view_is ∙ c.requires in
+    subst (λ (t : StackState g.row.D.Denot (List PlainBlock)). PaysTurn (payer_by told clock t) (payer_by told clock new) (told_by told t) (told_by told new)) c.self.view_is
+    (turn_paid told clock s new
+    (keeps_by s.ready new.ready s.desk new.desk s.hand new.hand (told s.device) (told new.device) (clock s.device) (clock new.device) ready (turned_ready told clock s new c.turn-turned.result c.turn-turned.ensures.turns) c.turn-turned.ensures.keeps)
+    c.turn-turned.ensures.lasts ready c.turn-turned.ensures.pays)

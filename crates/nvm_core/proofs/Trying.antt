@@ -1,0 +1,176 @@
+-- The failed tries of the job in hand, since a count of faults.
+use Rattle.std.specs.Prelude.{min}
+use Rattle.std.proofs.Common.{◌≡◌, ◌≢◌, ◌<◌, ◌≤◌, ◌+◌, ◌⊎◌, ℕ, Bool, true, false, List, [], Option, Some, None, refl, sym, ap, ◌∙◌, subst, inl, inr, arith}
+use Rattle.std.proofs.lemmas.Bool.Decides.{leb_tells}
+use Rattle.nv_base.specs.Count.{last_count, Rose, WereCounted}
+use Rattle.nv_base.specs.declared.mark.Mark.{Mark}
+use Rattle.nv_base.specs.declared.job.Outcome.TheVariants.{First as NoOutcome}
+use Rattle.memif.specs.declared.answer.JobResult.{JobResult}
+use Rattle.memif.specs.declared.answer.JobResult.TheVariants.{JobOk, JobFailed, JobPending, JobCanceled, BlockInconsistent, BlockInvalid}
+use Rattle.memif.specs.Told as device
+use Rattle.memif.specs.Told.{DeviceTold, Part, First, Second, Stand, Open, Ended, IfElse, part_at, is_open, length_of, faults_of}
+use Rattle.memif.specs.Clock.{Clock}
+use Rattle.memif.specs.Calls.{Works, EndsAs, Gives, MayFail}
+use Rattle.block_machine.specs.Words.{JobKind, ReadJob, WriteJob, RestoreJob, EraseJob, InvalidateJob, ReadAllJob, WriteAllJob, Outcome, WroteMark, ReadContent, FoundErased, FoundInvalid, Failed, Configuration}
+use Rattle.block_machine.specs.State.{State, Job}
+use Rattle.block_machine.specs.Blocks.{kind_of, mark_by}
+use Rattle.block_promise.specs.Payment.{Worn, every_block}
+use Rattle.block_promise.specs.OverDevice.{TellsAtMost}
+use Rattle.job_programs.specs.Program as program
+use Rattle.job_programs.specs.Program.{Program, is_failed, tried, after_by, next_in}
+use Rattle.job_programs.specs.Failures.{TriesAreCounted, failed_tries}
+use Rattle.turn_laws.specs.Outcomes.{outcome_by}
+use Rattle.turn_laws.specs.Tries.{Counted, IsWornOut, AreTriesPaid, tries_of_done}
+use Rattle.turn_laws.proofs.PaidTries.{no_tries, tries_stay, tries_go_on}
+use Rattle.job_hands.specs.Hand.{HandState, ended}
+use Rattle.hand_laws.specs.Hands.{IsAt, IsInHand, job_for}
+use Rattle.nvm_core.specs.Paying.{counted_of, TriesSince, OwesSince}
+
+none_told : (n : ℕ) → TellsAtMost n []
+none_told n e ops has is = let few = has.1 in absurd (omega (arith, few))
+
+-- BESIDE NO POST
+abbrev pub counted_since : ℕ → Counted
+counted_since n = record { ops = 0; faults = n }
+
+with_none : (n a b : ℕ) → WereCounted n a b → WereCounted (0 + n) a b
+with_none n a b (inl more) = inl (omega (arith, more))
+with_none n a b (inr full) = inr full
+
+without : (f n a b : ℕ) → WereCounted (f + n) a b → WereCounted n a b
+without f n a b (inl more) = inl (omega (arith, more))
+without f n a b (inr full) = inr full
+
+-- so many faults pay for the tries of an empty history
+abbrev OverNone : Configuration → Worn → ℕ → Counted → Program → Type 0
+OverNone c worn since now p = AreTriesPaid every_block c worn (counted_since since) now [] p
+
+over_none : (c : Configuration) (worn : Worn) (since : ℕ) (now : Counted) (p : Program) → TriesSince worn since now p → OverNone c worn since now p
+over_none c worn since now p (inl all) = inl (0, with_none (failed_tries p) since now.faults all, tt)
+over_none c worn since now p (inr (inl (done, next))) = inr (inl ((0, with_none (tries_of_done p) since now.faults done, tt), next))
+over_none c worn since now p (inr (inr out)) = inr (inr out)
+
+since_of : (c : Configuration) (worn : Worn) (since : ℕ) (now : Counted) (p : Program) → OverNone c worn since now p → TriesSince worn since now p
+since_of c worn since now p (inl (f, all, paid)) = inl (without f (failed_tries p) since now.faults all)
+since_of c worn since now p (inr (inl ((f, done, paid), next))) = inr (inl (without f (tries_of_done p) since now.faults done, next))
+since_of c worn since now p (inr (inr out)) = inr (inr out)
+
+-- a program that begins has none
+pub none_since : (worn : Worn) (since : ℕ) (now : Counted) (p : Program) → since ≤ now.faults → p.done ≡ [] → p.failures ≡ 0 → TriesSince worn since now p
+none_since worn since now p less done failures = let none = no_tries p done failures in inl (inl (omega (arith, none, less)))
+
+-- A FAULT OF A PART
+-- is one of the device
+rose_in : (l x y u v : ℕ) → y ≤ v → (x < u) ⊎ ((l ≤ x) × (x ≤ u)) → (min (x + y) l < min (u + v) l) ⊎ ((l ≤ min (x + y) l) × (min (x + y) l ≤ min (u + v) l))
+rose_in l x y u v more (inl rose) = elim (leb_tells l (x + y)) [
+  | inl full ↦ let end = full.1 in inr (omega (arith, end), omega (arith, rose, more))
+  | inr less ↦ let few = less.1 in inl (omega (arith, few, rose, more))
+]
+rose_in l x y u v more (inr (full, up)) = inr (omega (arith, full), omega (arith, full, up, more))
+
+turned_sum : (l a b u v : ℕ) → (min (b + a) l < min (v + u) l) ⊎ ((l ≤ min (b + a) l) × (min (b + a) l ≤ min (v + u) l)) → (min (a + b) l < min (u + v) l) ⊎ ((l ≤ min (a + b) l) × (min (a + b) l ≤ min (u + v) l))
+turned_sum l a b u v (inl rose) = inl (omega (arith, rose))
+turned_sum l a b u v (inr (full, up)) = inr (omega (arith, full), omega (arith, up))
+
+rose_by : (p : Part) (old new : DeviceTold) (clock_new : Clock) → Works p old new clock_new → Rose (part_at p old).faults (part_at p new).faults → Rose (faults_of old) (faults_of new)
+rose_by First old new clock_new works rose =
+    let other = ap (λ (d : DeviceTold). d.second.faults) works.only in
+    rose_in last_count old.first.faults old.second.faults new.first.faults new.second.faults (omega (arith, other)) rose
+rose_by Second old new clock_new works rose =
+    let other = ap (λ (d : DeviceTold). d.first.faults) works.only in
+    turned_sum last_count old.first.faults old.second.faults new.first.faults new.second.faults
+    (rose_in last_count old.second.faults old.first.faults new.second.faults new.first.faults (omega (arith, other)) rose)
+
+-- A FAILED TRY
+-- is a failed job
+failed_read : (r : JobResult) (n : Option ℕ) (given : List ℕ) → Gives r n given → is_failed (outcome_by None r) ≡ true → r ≡ JobFailed
+failed_read JobOk n given gives failed = cc
+failed_read JobFailed n given gives failed = refl
+failed_read BlockInconsistent n given gives failed = cc
+failed_read BlockInvalid n given gives failed = cc
+failed_read r None given gives failed = absurd gives
+failed_read r (Some n) given gives failed = absurd gives
+
+failed_job : (mark : Option Mark) (number : ℕ) (r : JobResult) (given : List ℕ) (old new : DeviceTold) → EndsAs mark number r given old new → is_failed (outcome_by mark r) ≡ true → r ≡ JobFailed
+failed_job None number r given old new ends failed = failed_read r (length_of old.fixed.numbers number) given ends.1 failed
+failed_job (Some mark) number JobOk given old new ends failed = cc
+failed_job (Some mark) number JobFailed given old new ends failed = refl
+failed_job (Some mark) number r given old new ends failed = absurd ends.0
+
+some_outcome : (mark : Option Mark) (r : JobResult) → outcome_by mark r ≢ NoOutcome
+some_outcome None JobOk is = cc
+some_outcome None BlockInvalid is = cc
+some_outcome None BlockInconsistent is = cc
+some_outcome (Some mark) JobOk is = cc
+some_outcome None JobFailed is = cc
+some_outcome None JobPending is = cc
+some_outcome None JobCanceled is = cc
+some_outcome (Some mark) r is = cc
+
+-- which the program counts
+after_is : (p : Program) (o : Outcome) (index : ℕ) → next_in p ≡ Some index → o ≢ NoOutcome → program.after p o ≡ tried p o
+after_is p o index at other = ap (λ (n : Option ℕ). after_by p n o) at ∙ by o other
+  where
+    by : (o : Outcome) → o ≢ NoOutcome → after_by p (Some index) o ≡ tried p o
+    by NoOutcome other = absurd (other refl)
+    by WroteMark other = refl
+    by ReadContent other = refl
+    by FoundErased other = refl
+    by FoundInvalid other = refl
+    by Failed other = refl
+
+no_mark : (kind : JobKind) (content : Option (List ℕ × ℕ)) → kind ≡ ReadJob → mark_by kind content ≡ None
+no_mark ReadJob content is = refl
+no_mark WriteJob content is = cc
+no_mark RestoreJob content is = cc
+no_mark EraseJob content is = cc
+no_mark InvalidateJob content is = cc
+no_mark ReadAllJob content is = cc
+no_mark WriteAllJob content is = cc
+
+same_open : (a b : device.Job) → Open a ≡ Open b → a ≡ b
+same_open a b is = cc is
+
+at_by : (c : Configuration) (j : Job) (p : Program) (t : Bool) (d : DeviceTold) → IfElse t (IsAt c j p d.stand) (is_open d.stand ≡ false) → t ≡ true → IsAt c j p d.stand
+at_by c j p true d at on = at
+at_by c j p false d closed on = cc
+
+-- A CALL OF THE DEVICE
+module _ (c : Configuration) (since : ℕ) (old : DeviceTold) (clock : Clock) (new : DeviceTold) (clock_new : Clock) (ops : old.ops ≤ new.ops) (grows : faults_of old ≤ faults_of new)
+    (worn : (k n : ℕ) → k ≤ old.ops → clock.worn k n → clock_new.worn k n) where
+  pub since_stays : (hand : Option HandState) → OwesSince since hand old clock → OwesSince since hand new clock_new
+  since_stays None (less, owes) = (omega (arith, less, grows), tt)
+  since_stays (Some h) (less, owes) = (
+    omega (arith, less, grows),
+    since_of c clock_new.worn since (counted_of new) h.program
+        (tries_stay every_block c clock.worn clock_new.worn (counted_since since) (counted_of old) (counted_of new) [] ops grows worn (none_told old.ops) h.program
+        (over_none c clock.worn since (counted_of old) h.program owes)),
+  )
+
+  -- the operation of the job in hand ends
+  module _ (counted : TriesAreCounted) (s : State) (h : HandState) (is : IsInHand c s h old) (on : h.started ≡ true) (p : Part) (works : Works p old new clock_new) (job : device.Job) (r : JobResult) (given : List ℕ)
+      (was : old.stand ≡ Open job) (ends : EndsAs job.mark job.number r given old new) (fails : r ≡ JobFailed → MayFail p job old new clock_new) where
+    at : IsAt c is.job h.program old.stand
+    at = at_by c is.job h.program h.started old is.at on
+
+    asked : job ≡ job_for c is.job h.program at.index
+    asked = same_open job (job_for c is.job h.program at.index) (sym was ∙ at.stands)
+
+    writes : job.mark ≢ None → h.program.kind ≢ ReadJob
+    writes some reads =
+        let kind : h.program.kind ≡ kind_of is.job = ap (λ (q : Program). q.kind) is.working.is in
+        some (ap (λ (j : device.Job). j.mark) asked ∙ no_mark (kind_of is.job) is.job.content (sym kind ∙ reads))
+
+    cause : is_failed (outcome_by job.mark r) ≡ true → Rose (faults_of old) (faults_of new) ⊎ IsWornOut clock_new.worn new.ops h.program at.index
+    cause failed = elim (fails (failed_job job.mark job.number r given old new ends failed)) [
+      | inl rose ↦ inl (rose_by p old new clock_new works rose)
+      | inr out ↦ inr (writes out.0, (new.ops, omega arith, subst (λ (n : ℕ). clock_new.worn new.ops n) (ap (λ (j : device.Job). j.number) asked) out.1))
+    ]
+
+    pub since_goes_on : OwesSince since (Some h) old clock → OwesSince since (Some (ended (outcome_by job.mark r) h)) new clock_new
+    since_goes_on (less, owes) = (
+      omega (arith, less, grows),
+      since_of c clock_new.worn since (counted_of new) (program.after h.program (outcome_by job.mark r))
+          (tries_go_on every_block c clock.worn clock_new.worn (counted_since since) (counted_of old) (counted_of new) [] ops grows worn (none_told old.ops) counted h.program (outcome_by job.mark r) at.index at.next
+          (after_is h.program (outcome_by job.mark r) at.index at.next (some_outcome job.mark r)) is.working.tries cause (over_none c clock.worn since (counted_of old) h.program owes)),
+    )

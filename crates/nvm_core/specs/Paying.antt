@@ -1,0 +1,52 @@
+-- What the job in hand owes since its Pick, and what a turn pays.
+use Rattle.std.specs.Prelude.{◌≡◌, ◌⊎◌, ◌≤◌, ◌++◌, ◌∷◌, [], ℕ, Option, IfSome}
+use Rattle.std.specs.List.{Contains}
+use Rattle.nv_base.specs.Count.{WereCounted}
+use Rattle.memif.specs.Told.{DeviceTold, Part, PartTold, faults_of}
+use Rattle.memif.specs.Clock.{Clock}
+use Rattle.block_machine.specs.Words.{JobKind, Taken, Entry, Pick}
+use Rattle.block_machine.specs.Prices.{price_in_faults}
+use Rattle.block_promise.specs.Payment.{Worn, IsExcused}
+use Rattle.turn_laws.specs.Tries.{Counted, IsWornOut, IsWornNext, tries_of_done}
+use Rattle.job_programs.specs.Program.{Program, next_in}
+use Rattle.job_programs.specs.Laws.{failed_of}
+use Rattle.job_programs.specs.Failures.{failed_tries}
+use Rattle.job_hands.specs.Hand.{HandState}
+use Rattle.nv_desk.specs.Desk.{DeskState, state_of}
+use Rattle.stack_turns.specs.Keeps.{StackKeeps}
+use Rattle.nvm_core.specs.Stack.{StackState}
+
+-- the operations and the faults of a device
+abbrev pub counted_of : DeviceTold → Counted
+counted_of d = record { ops = d.ops; faults = faults_of d }
+
+-- Each failed try of a program was counted since so many faults; or the device is worn out for the instance that is next,
+-- and those of the others were; or it is for one that failed at every try.
+abbrev pub TriesSince : Worn → ℕ → Counted → Program → Type 0
+TriesSince worn since now p =
+    WereCounted (failed_tries p) since now.faults
+    ⊎ (WereCounted (tries_of_done p) since now.faults × IsWornNext worn now.ops p (next_in p))
+    ⊎ ((index : ℕ) × Contains (failed_of p.indices p.done) index × IsWornOut worn now.ops p index)
+
+-- so it is of the job in hand, if one is
+abbrev pub OwesSince : ℕ → Option HandState → DeviceTold → Clock → Type 0
+OwesSince since hand d clock = (since ≤ faults_of d) × IfSome hand (λ h. TriesSince clock.worn since (counted_of d) h.program)
+
+-- A TURN
+-- where a device was worn out, by the operations that were made so far
+abbrev pub worn_so_far : DeviceTold → Clock → Worn
+worn_so_far d clock = λ k n. (k ≤ d.ops) × clock.worn k n
+
+-- What the job in hand owes was counted since, and behind a Pick since the count before it. An entry that was added is paid
+-- by the faults that were counted since, or the device was worn out.
+pub record PaysSince (since : ℕ) (old new : DeskState) (hand : Option HandState) (d d_new : DeviceTold) (clock_new : Clock) : Type 0 where
+  pub owes : OwesSince since hand d_new clock_new
+  pub anew : (block ops : ℕ) (kind : JobKind) (t : Taken) → new.entries ≡ old.entries ++ Pick block kind t ops ∷ [] → OwesSince (faults_of d) hand d_new clock_new
+  pub pays : (e : Entry) → new.entries ≡ old.entries ++ e ∷ []
+      → WereCounted (price_in_faults old.config (state_of old) e) since (faults_of d_new) ⊎ IsExcused old.config (worn_so_far d_new clock_new) (state_of old) e
+
+-- So a turn pays, since whatever count what the job in hand owes was counted, where all is kept.
+abbrev pub TurnPays : {D C : Type 0} → (told : D → DeviceTold) → (clock : D → Clock) → StackState D C → StackState D C → Type 0
+TurnPays told clock old new =
+    (before : Part → PartTold) (since : ℕ) → StackKeeps before old.desk old.hand (told old.device) (clock old.device) → OwesSince since old.hand (told old.device) (clock old.device)
+    → PaysSince since old.desk new.desk new.hand (told old.device) (told new.device) (clock new.device)

@@ -1,0 +1,44 @@
+-- What calls and moves pay.
+use Rattle.std.specs.Prelude.{◌≡◌, ◌≤◌, ◌++◌, ◌∷◌, [], ℕ, List, if◌then◌else◌}
+use Rattle.block_machine.specs.Words.{Configuration}
+use Rattle.block_machine.specs.State.{State}
+use Rattle.block_promise.specs.Payment.{Worn}
+use Rattle.run_promise.specs.Turns.{Moment, Move, entry_list, is_picked, IsPaidSince, ArePaidSince}
+use Rattle.stack_steps.specs.Told.{StackTold, state_of, moment_of}
+
+-- What is known at a moment of payment: all is kept, and the failed tries of the job in hand were counted since so many
+-- faults; and where the device was worn out, once so many operations were made.
+pub record Payer : Type 1 where
+  pub owes : ℕ → Type 0
+  pub worn : Worn
+
+-- where it was worn out it stays so
+abbrev pub StaysWorn : Payer → Payer → Type 0
+StaysWorn p q = (k n : ℕ) → p.worn k n → q.worn k n
+
+-- CALLS
+-- a turn, as a move, pays by the faults since whatever count; behind a Pick those count that come from this turn on
+pub record PaysTurn (p q : Payer) (old new : StackTold) : Type 0 where
+  pub worn : StaysWorn p q
+  pub pays : (since : ℕ) (m : Move) → p.owes since → m.behind ≡ moment_of new → new.entries ≡ old.entries ++ entry_list m.entry
+      → IsPaidSince old.configuration q.worn since (state_of old) m × q.owes (if is_picked m.entry then old.faults else since)
+
+-- any other call has nothing to pay
+pub record PaysNothing (p q : Payer) (new : StackTold) : Type 0 where
+  pub worn : StaysWorn p q
+  pub owes : (since : ℕ) → p.owes since → q.owes since × (since ≤ new.faults)
+
+-- MOVES
+-- the count since which the tries behind moves were counted: that before the turn of the last Pick
+abbrev pub since_behind : ℕ → Moment → List Move → ℕ
+since_behind since before [] = since
+since_behind since before (m ∷ ms) = since_behind (if is_picked m.entry then before.faults else since) m.behind ms
+
+-- they pay, each since the last Pick before it
+pub record Pays (c : Configuration) (p q : Payer) (before : Moment) (s : State) (ms : List Move) : Type 0 where
+  pub worn : StaysWorn p q
+  pub pays : (since : ℕ) → p.owes since → ArePaidSince c q.worn since before s ms × q.owes (since_behind since before ms)
+
+-- those of a stack from here on
+abbrev pub PaysBy : Payer → Payer → StackTold → List Move → Type 0
+PaysBy p q old ms = Pays old.configuration p q (moment_of old) (state_of old) ms
