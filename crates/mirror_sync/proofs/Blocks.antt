@@ -47,10 +47,10 @@ one_more c n m ps qs es fs ss ts p e s next made pairs ends sides is = record {
   sides = longer ss ts s n sides made.sides ∙ sym next;
   each = λ id below. dite (ℕ_discrete id n)
       (λ same. subst (λ (k : ℕ). IsMade k (block_of c k) (pair_at qs k) (end_at fs k) (side_at ts k)) (sym same)
-        (made_as n (block_of c n) p (pair_at qs n) e (end_at fs n) s (side_at ts n) (at_end ps qs p n pairs made.pairs) (at_end es fs e n ends made.ends) (at_end ss ts s n sides made.sides) is))
+      (made_as n (block_of c n) p (pair_at qs n) e (end_at fs n) s (side_at ts n) (at_end ps qs p n pairs made.pairs) (at_end es fs e n ends made.ends) (at_end ss ts s n sides made.sides) is))
       (λ other. let less : id < n = omega (arith, below, next, other) in
-        made_as id (block_of c id) (pair_at ps id) (pair_at qs id) (end_at es id) (end_at fs id) (side_at ss id) (side_at ts id)
-        (before_last ps qs p n id pairs made.pairs less) (before_last es fs e n id ends made.ends less) (before_last ss ts s n id sides made.sides less) (made.each id less));
+      made_as id (block_of c id) (pair_at ps id) (pair_at qs id) (end_at es id) (end_at fs id) (side_at ss id) (side_at ts id)
+      (before_last ps qs p n id pairs made.pairs less) (before_last es fs e n id ends made.ends less) (before_last ss ts s n id sides made.sides less) (made.each id less));
 }
 
 -- none before the first
@@ -88,7 +88,7 @@ all_made c n ps es ss all made id = by (nat_cases id n)
     by (inl below) = made.each id below
     by (inr out) = subst (λ (d : Option BlockDesc). IsMade id d (pair_at ps id) (end_at es id) (side_at ss id)) (sym (no_block c id (omega (arith, out, all))))
         (made_as id None None (pair_at ps id) None (end_at es id) None (side_at ss id)
-          (beyond ps id (omega (arith, out, made.pairs))) (beyond es id (omega (arith, out, made.ends))) (beyond ss id (omega (arith, out, made.sides))) tt)
+        (beyond ps id (omega (arith, out, made.pairs))) (beyond es id (omega (arith, out, made.ends))) (beyond ss id (omega (arith, out, made.sides))) tt)
 
 -- WHAT IS SO OF THEM
 end_by : (id : ℕ) (d : Option BlockDesc) (p : Option PairValue) (e : Option EndValue) (s : Option SideValue) → IsMade id d p e s → HasEnd p e

@@ -1,15 +1,16 @@
 // A shared stack over a device in memory and mirrors: two callers with a side each, and the driver.
-ghost use Rattle.std.specs.Prelude.{◌≡◌, ◌≤◌, true, IfOk};
+ghost use Rattle.std.specs.Prelude.{◌≡◌, ◌≤◌, ◌+◌, ◌^◌, map, true, IfOk};
 ghost use Rattle.block_config.specs.Lengths.{lengths_of};
 ghost use Rattle.turn_gate.specs.Pass.{knows};
-ghost use Rattle.mirror_sync.specs.Blocks.{IsSideIn};
+ghost use Rattle.nv_front.specs.Front.{AreSynchronized};
+ghost use Rattle.mirror_sync.specs.Blocks.{AreEndsOf, IsSideIn, told_by};
 ghost use Rattle.nvm_shared.specs.Locked.{desk_with};
 ghost use Rattle.nvm_shared.specs.Passes.{IsUserOf};
 ghost use Rattle.nvm_shared.specs.Driving.{Drives};
 
 use block_config::{Config, read};
 use memif::{MemDevice, PlainStore};
-use mirror_sync::{Mirrors, MirrorSync, Side};
+use mirror_sync::{Ends, MirrorSync, Mirrors, Side};
 use nv_base::{Reply, Request};
 use nvm_shared::{Driver, Shared, StackPass, make};
 use ram_blocks::SyncCalls;
@@ -53,13 +54,7 @@ fn rest<W: Wait, D: MemDevice, C: SyncCalls + Drop>(
 }
 
 // Whether a caller stores a content and asks for its write, and its block is PENDING then.
-fn writes<W: Wait>(
-    rt: &W,
-    alloc: Global,
-    shared: &Shared,
-    pass: &mut StackPass,
-    block: u16,
-) -> bool
+fn writes<W: Wait>(rt: &W, alloc: Global, shared: &Shared, pass: &mut StackPass, block: u16) -> bool
     requires own { IsUserOf shared.now pass.old }
     requires block { block ≤ 512 }
     ensures own { IsUserOf shared.now pass.new }
@@ -70,7 +65,10 @@ fn writes<W: Wait>(
         content: None,
         store: 0,
     };
-    let accepted = matches!(shared.ask(rt, alloc, pass, 1, request), Ok((Reply::Accepted, _)));
+    let accepted = matches!(
+        shared.ask(rt, alloc, pass, 1, request),
+        Ok((Reply::Accepted, _))
+    );
     accepted && shared.poll(pass, block).status == PENDING
 }
 
@@ -98,43 +96,121 @@ fn reads<W: Wait>(rt: &W, alloc: Global, shared: &Shared, pass: &mut StackPass, 
     ensures parts { (knows pass.new).parts ≡ (knows pass.old).parts }
 {
     let request = Request::Read { block, ram: true };
-    matches!(shared.ask(rt, alloc, pass, 2, request), Ok((Reply::Accepted, _)))
+    matches!(
+        shared.ask(rt, alloc, pass, 2, request),
+        Ok((Reply::Accepted, _))
+    )
 }
 
-// Whether two callers are served by one driver, with one history at the end.
-fn are_served<W: Wait>(rt: &W, alloc: Global) -> bool {
-    let Ok(config) = read(alloc, BLOCKS.as_bytes()) else {
+// Two callers write a block each, and one reads the other's; the driver makes the turns.
+fn are_served<W: Wait, D: MemDevice, C: SyncCalls + Drop>(
+    rt: &W,
+    alloc: Global,
+    shared: &Shared,
+    pass: &mut StackPass,
+    one: &mut StackPass,
+    two: &mut StackPass,
+    driver: &mut Driver<D, C>,
+) -> bool
+    requires own { IsUserOf shared.now pass.old × IsUserOf shared.now one.old × IsUserOf shared.now two.old }
+    requires mark { (knows pass.old).mark ≡ true }
+    requires drives { Drives D.told D.clock C.told shared.now.terms.tells (desk_with shared.now.terms (knows pass.old).seen) driver.old }
+    ensures own { IsUserOf shared.now pass.new × IsUserOf shared.now one.new × IsUserOf shared.now two.new }
+    ensures parts { ((knows pass.new).parts ≡ (knows pass.old).parts) × ((knows one.new).parts ≡ (knows one.old).parts) × ((knows two.new).parts ≡ (knows two.old).parts) }
+{
+    let asked = writes(rt, alloc, shared, one, 2);
+    let asked_two = writes(rt, alloc, shared, two, 3);
+    let rested = rest(rt, shared, pass, driver);
+    let written = is_written(shared, one, 2);
+    let written_two = is_written(shared, two, 3);
+    let read = reads(rt, alloc, shared, two, 2);
+    let rested_again = rest(rt, shared, pass, driver);
+    asked && asked_two && rested && written && written_two && read && rested_again
+}
+
+// How many entries there are at the end, when all passes are joined.
+fn entries_at_end(shared: Shared, mut pass: StackPass, one: StackPass, two: StackPass) -> u32
+    requires own { IsUserOf shared pass × IsUserOf shared one × IsUserOf shared two }
+    requires parts { (knows pass).parts + (knows one).parts + (knows two).parts ≡ 2 ^ 64 }
+{
+    shared.join(&mut pass, one);
+    shared.join(&mut pass, two);
+    shared.close(pass).desk.history().len()
+}
+
+// Whether a shared stack serves two callers, with one history at the end: a start-up, three requests, two writes of three entries
+// and a read of two.
+fn serves<W: Wait, D: MemDevice + Drop, C: SyncCalls + Drop>(
+    rt: &W,
+    alloc: Global,
+    shared: Shared,
+    mut pass: StackPass,
+    mut driver: Driver<D, C>,
+) -> bool
+    requires own { IsUserOf shared pass }
+    requires knows { ((knows pass).mark ≡ true) × ((knows pass).parts ≡ 2 ^ 64) }
+    requires drives { Drives D.told D.clock C.told shared.terms.tells (desk_with shared.terms (knows pass).seen) driver }
+{
+    let mut one = shared.split(&mut pass);
+    let mut two = shared.split(&mut pass);
+    let served = are_served(
+        rt,
+        alloc,
+        &shared,
+        &mut pass,
+        &mut one,
+        &mut two,
+        &mut driver,
+    );
+    let (_device, _copies, hand) = driver.into_parts();
+    entries_at_end(shared, pass, one, two) == 12 && served && hand.is_none()
+}
+
+// Whether what two callers stored is written, and what was read comes back.
+fn is_shared<W: Wait>(
+    rt: &W,
+    alloc: Global,
+    mirrors: &Mirrors,
+    ends: Ends,
+    config: Config,
+    first: &mut Side,
+    second: &mut Side,
+) -> bool
+    requires ends { AreEndsOf mirrors.now ends }
+    requires synchronized { AreSynchronized config (map told_by ends) }
+    requires own { IsSideIn mirrors.now first.old × IsSideIn mirrors.now second.old }
+{
+    let Ok(device) = make_device(alloc, &config) else {
         return false;
     };
-    let Ok(device) = make_device(alloc, &config) else {
+    let stored = store(mirrors, first, b"abcd");
+    let stored_two = store(mirrors, second, b"wxyz");
+    let copies = MirrorSync::of(mirrors, ends);
+    let Ok((shared, pass, driver)) = make(alloc, config, device, copies, 100, false) else {
+        return false;
+    };
+    let served = serves(rt, alloc, shared, pass, driver);
+    let came = matches!(first.newest(mirrors), Some((1, content)) if content == b"abcd".as_slice());
+    stored && stored_two && served && came
+}
+
+fn is_made_and_shared<W: Wait>(rt: &W, alloc: Global) -> bool {
+    let Ok(config) = read(alloc, BLOCKS.as_bytes()) else {
         return false;
     };
     let Ok((mirrors, ends, mut sides)) = mirror_sync::make(alloc, &config) else {
         return false;
     };
-    let (Some(mut first), Some(mut second)) = (sides.take(2), sides.take(3)) else {
+    let Some(mut first) = sides.take(2) else {
         return false;
     };
-    let copies = MirrorSync::of(&mirrors, ends);
-    let Ok((shared, mut pass, mut driver)) = make(alloc, config, device, copies, 100, false) else {
+    let Some(mut second) = sides.take(3) else {
         return false;
     };
-    let mut one = shared.split(&mut pass);
-    let mut two = shared.split(&mut pass);
-    let stored = store(&mirrors, &mut first, b"abcd") && store(&mirrors, &mut second, b"wxyz");
-    let asked = writes(rt, alloc, &shared, &mut one, 2) && writes(rt, alloc, &shared, &mut two, 3);
-    let rested = rest(rt, &shared, &mut pass, &mut driver);
-    let written = is_written(&shared, &mut one, 2) && is_written(&shared, &mut two, 3);
-    let read = reads(rt, alloc, &shared, &mut two, 2) && rest(rt, &shared, &mut pass, &mut driver);
-    let came = matches!(first.newest(&mirrors), Some((1, content)) if content == b"abcd".as_slice());
-    shared.join(&mut pass, one);
-    shared.join(&mut pass, two);
-    let (_device, _copies, hand) = driver.into_parts();
-    let front = shared.close(pass);
-    stored && asked && rested && written && read && came && hand.is_none() && front.desk.history().len() == 12
+    is_shared(rt, alloc, &mirrors, ends, config, &mut first, &mut second)
 }
 
 #[test]
 fn two_callers_and_a_driver_make_one_history(rt: HostRuntime) {
-    assert!(rt; are_served(&rt, rt.alloc()));
+    assert!(rt; is_made_and_shared(&rt, rt.alloc()));
 }

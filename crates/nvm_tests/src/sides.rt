@@ -3,7 +3,7 @@ ghost use Rattle.std.specs.Prelude.{◌≡◌};
 ghost use Rattle.mirror_sync.specs.Blocks.{AreSidesOf, IsSideIn};
 
 use block_config::read;
-use mirror_sync::{Mirrors, MirrorSync, Side, Sides, close, make};
+use mirror_sync::{MirrorSync, Mirrors, Side, Sides, close, make};
 use ram_blocks::{Copied, SyncCalls};
 use std::alloc::Global;
 use std::thread;
@@ -91,17 +91,16 @@ fn is_handed(mirrors: &Mirrors, side: &mut Side, sync: &mut MirrorSync) -> bool
     let handed = sync.bytes(2) == Some(8)
         && matches!(sync.copy_in(2, b"a letter"), Copied::Got { number: 1 })
         && sync.refusals(2) == 0;
-    let taken = matches!(side.newest(mirrors), Some((1, content)) if content == b"a letter".as_slice());
-    handed && taken && matches!(side.refresh(mirrors), None) && side.content() == b"a letter".as_slice()
+    let taken =
+        matches!(side.newest(mirrors), Some((1, content)) if content == b"a letter".as_slice());
+    handed
+        && taken
+        && matches!(side.refresh(mirrors), None)
+        && side.content() == b"a letter".as_slice()
 }
 
 // Whether each copy was a store, in order, up to the last one.
-fn are_copied<R: Threads>(
-    rt: &R,
-    mirrors: &Mirrors,
-    side: &mut Side,
-    sync: &mut MirrorSync,
-) -> bool
+fn are_copied<R: Threads>(rt: &R, mirrors: &Mirrors, side: &mut Side, sync: &mut MirrorSync) -> bool
     requires own { IsSideIn mirrors.now side.old }
     ensures own { IsSideIn mirrors.now side.new }
 {
