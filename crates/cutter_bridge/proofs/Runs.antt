@@ -120,6 +120,7 @@ devices_bridge m cutter inner cuts c d before only hands first b =
       };
       ops = b.ops;
       faults = λ n more. counted_within n inner.faults c.flash.inner.faults c.flash.faults only.faults (b.faults n more);
+      failed = b.failed;
       cuts = λ n more. subst (λ (x : ℕ). WereCounted n x c.flash.inner.cuts) first (subst (WereCounted n before.planning.unplanned) (sym last) more);
       worn = λ k n w. worn_within m inner cuts c d.operations k n only (b.worn k n w);
     }

@@ -61,13 +61,13 @@ next_merged g (e ∷ es) cs last =
 -- THE OPERATIONS
 seen_all : (kept : ℕ → Type 0) (k : ℕ) (last : List ℕ) (xs : List Change) → AreSeen kept k last xs xs
 seen_all kept k last [] = refl
-seen_all kept k last (x ∷ xs) = inl (same_place x.op, refl, seen_all kept (k + 1) last xs)
+seen_all kept k last (x ∷ xs) = inl (same_place x.op, refl, inl refl, seen_all kept (k + 1) last xs)
 
 seen_front : (kept : ℕ → Type 0) (last : List ℕ) (n k : ℕ) (cs rest : List Change) → OffsKept kept k (take n cs ++ rest)
     → ((j : ℕ) → OffsKept kept j rest → AreSeen kept j last rest (drop n cs)) → AreSeen kept k last (take n cs ++ rest) cs
 seen_front kept last zero k cs rest offs more = more k offs
 seen_front kept last (suc n) k [] rest offs more = more k offs
-seen_front kept last (suc n) k (x ∷ cs) rest offs more = inl (same_place x.op, refl, seen_front kept last n (k + 1) cs rest offs.1 more)
+seen_front kept last (suc n) k (x ∷ cs) rest offs more = inl (same_place x.op, refl, inl refl, seen_front kept last n (k + 1) cs rest offs.1 more)
 
 stays_back : (kept : ℕ → Type 0) (k : ℕ) (last : List ℕ) (x : Change) (xs seen : List Change) → StaysBack kept k last x xs → AreSeen kept (k + 1) last xs seen → AreSeen kept k last (x ∷ xs) seen
 stays_back kept k last x xs [] back more = (back, more)
@@ -80,7 +80,7 @@ seen_event : (kept : ℕ → Type 0) (g : Geometry) (last : List ℕ) (e : Harme
     → AreSeen kept k last (change_of g e (before_all ds last) ∷ merged g es (without_part r ds) last) ds
 seen_event kept g last e es true [] k part off offs more = absurd part
 seen_event kept g last e es true (y ∷ ys) k part off offs more =
-    inl (subst (HasSamePlace (op_of g e.call)) (sym part.1) (place_of_part part.0 (op_of g e.call)), refl, more (k + 1) offs.1)
+    inl (subst (HasSamePlace (op_of g e.call)) (sym part.1) (place_of_part part.0 (op_of g e.call)), refl, inr (offs.0 (off_is e.answer off), off_is e.answer off), more (k + 1) offs.1)
 seen_event kept g last e es false ds k part off offs more =
     stays_back kept k last (change_of g e (before_all ds last)) (merged g es ds last) ds (offs.0 (off_is e.answer off), next_merged g es ds last) (more (k + 1) offs.1)
 

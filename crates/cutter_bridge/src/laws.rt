@@ -2,8 +2,9 @@
 ghost use Rattle.cutter_bridge.specs.Laws.{DevicesBridge};
 ghost use Rattle.cutter_bridge.specs.Unmade.{TellsWithin, CountsStayWithin, RefusedWithin};
 
-/// What a device over a cutter tells is so of the flash within it: its operations are the flash's own, over the same bytes,
-/// but for those that a planned cut kept from it, and the faults and the cuts without a plan that it counted the flash counted.
+/// What a device over a cutter tells is so of the flash within it: its operations are the flash's own, over the same bytes and
+/// with the same answers, but for those that a planned cut kept from it, whole or in part, and the faults and the cuts without
+/// a plan that it counted the flash counted.
 pub fn cuts_bridge()
     ensures { DevicesBridge }
 {}

@@ -11,7 +11,7 @@ use Rattle.fls_model.specs.declared.flash.FlashAnswer.TheVariants.{Failed}
 use Rattle.fls_model.specs.Told.{Change, bytes_now}
 use Rattle.device_bridge.specs.Making.{Making}
 use Rattle.device_bridge.specs.Image.{IsSoundFlash, held_in, IsOfLastGeneration, HasNoRoomFor}
-use Rattle.device_bridge.specs.FlashRun.{FlashRun, TellsBytes, TellsOperations, StartsSound, IsCutImage, bytes_after, AreOperations}
+use Rattle.device_bridge.specs.FlashRun.{FlashRun, TellsBytes, TellsOperations, StartsSound, IsCutImage, HasFailed, bytes_after, AreOperations}
 
 abbrev pub is_program : Op → Bool
 is_program (Program address page) = true
@@ -55,6 +55,8 @@ pub record Bridges (m : Making) (cutter : Bool) (f : FlashRun) (before : PartTol
   pub ops : now.ops ≡ min (length f.operations) last_count
   -- what it counted the flash counted too
   pub faults : (n : ℕ) → WereCounted n before.faults now.first.faults → WereCounted n f.entry.faults f.exit.faults
+  -- and of each operation that failed it says so
+  pub failed : (k : ℕ) → k < last_count → HasFailed f k → clock.failed k
   pub cuts : (n : ℕ) → WereCounted n before.planning.unplanned now.first.planning.unplanned → WereCounted n f.entry.cuts f.exit.cuts
   -- and where it says that it is worn out, the flash is
   pub worn : (k n : ℕ) → clock.worn k n → IsWornOut m f k n

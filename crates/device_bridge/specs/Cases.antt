@@ -1,5 +1,6 @@
 -- Two operations of a flash of two pages of 2 bytes.
 use Rattle.std.specs.Prelude.{◌≡◌, ℕ, List, [], ◌∷◌}
+use Rattle.fls_model.specs.declared.flash.FlashAnswer.{FlashAnswer}
 use Rattle.fls_model.specs.declared.flash.FlashAnswer.TheVariants.{Done, Off}
 use Rattle.fls_model.specs.Op.{Program, Erase}
 use Rattle.fls_model.specs.Told.{Change}
@@ -14,9 +15,13 @@ other = 0 ∷ 255 ∷ 255 ∷ 255 ∷ []
 abbrev pub seen_there : List Change
 seen_there = record { op = Erase 0 4; before = blank; answer = Done } ∷ []
 
--- a program of the first page behind it
+-- a program of the first page behind it, which was answered so
+abbrev pub answered : FlashAnswer → Change
+answered answer = record { op = Program 0 (0 ∷ 0 ∷ []); before = blank; answer = answer }
+
+-- or in which the power went off
 abbrev pub program : Change
-program = record { op = Program 0 (0 ∷ 0 ∷ []); before = blank; answer = Off }
+program = answered Off
 
 abbrev pub erase : Change → List Change
 erase x = record { op = Erase 0 4; before = blank; answer = Done } ∷ x ∷ []

@@ -2,6 +2,8 @@
 use Rattle.std.specs.Prelude.{◌≡◌, ◌⊎◌, ◌+◌, ℕ, List, [], ◌∷◌, length, slice_get, Option, Some, IfSome}
 use Rattle.std.specs.Option.{option_map_or}
 use Rattle.nv_base.specs.declared.geometry.Geometry.{Geometry}
+use Rattle.fls_model.specs.declared.flash.FlashAnswer.{FlashAnswer}
+use Rattle.fls_model.specs.declared.flash.FlashAnswer.TheVariants.{Failed, Off}
 use Rattle.fls_model.specs.Op.{Op, Program, Erase, MayLeave}
 use Rattle.fls_model.specs.Step.{Leaves}
 use Rattle.fls_model.specs.Told.{Told, Change, IfBothTold, bytes_now, changes_in}
@@ -22,6 +24,10 @@ bytes_after f n = option_map_or (λ x. Some x.before) (slice_get f.operations n)
 -- an image that a power cut before or within operation k may leave, numbered from 0
 abbrev pub IsCutImage : FlashRun → ℕ → List ℕ → Type 0
 IsCutImage f k image = (x : Change) × (slice_get f.operations k ≡ Some x) × MayLeave x.op x.before image
+
+-- operation k failed
+abbrev pub HasFailed : FlashRun → ℕ → Type 0
+HasFailed f k = (x : Change) × (slice_get f.operations k ≡ Some x) × (x.answer ≡ Failed)
 
 -- PREMISES
 pub record TellsBytes (f : FlashRun) : Type 0 where
@@ -59,16 +65,20 @@ next_bytes (x ∷ xs) last = x.before
 abbrev pub StaysBack : (ℕ → Type 0) → ℕ → List ℕ → Change → List Change → Type 0
 StaysBack kept k last x xs = kept k × (next_bytes xs last ≡ x.before)
 
--- The operations from number k on are those that the flash saw, at the same places and over the same bytes, but for those
--- that a planned cut kept from it.
+-- the same answer, or Off, where a planned cut let the power go off in it
+abbrev pub HasSameAnswer : Type 0 → FlashAnswer → FlashAnswer → Type 0
+HasSameAnswer cut told seen = (told ≡ seen) ⊎ (cut × (told ≡ Off))
+
+-- The operations from number k on are those that the flash saw, at the same places, over the same bytes and with the same
+-- answers, but for those that a planned cut kept from it, whole or in part.
 abbrev pub AreSeen : (ℕ → Type 0) → ℕ → List ℕ → List Change → List Change → Type 0
 AreSeen kept k last [] seen = seen ≡ []
 AreSeen kept k last (x ∷ xs) [] = StaysBack kept k last x xs × AreSeen kept (k + 1) last xs []
 AreSeen kept k last (x ∷ xs) (y ∷ ys) =
-    (HasSamePlace x.op y.op × (x.before ≡ y.before) × AreSeen kept (k + 1) last xs ys)
+    (HasSamePlace x.op y.op × (x.before ≡ y.before) × HasSameAnswer (kept k) x.answer y.answer × AreSeen kept (k + 1) last xs ys)
     ⊎ (StaysBack kept k last x xs × AreSeen kept (k + 1) last xs (y ∷ ys))
 
--- The operations are the run's own. `kept` says which were kept from the flash.
+-- The operations are the run's own. `kept` says which were kept from the flash, or cut in it.
 pub record AreOperations (g : Geometry) (f : FlashRun) (kept : ℕ → Type 0) : Type 0 where
   pub told_alike : IfBothTold f.entry.bytes f.exit.bytes (λ first last. Unit {0})
   pub chain : (t : TellsBytes f) → IsChain (attached g t.first) f.operations t.last

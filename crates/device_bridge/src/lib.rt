@@ -7,4 +7,4 @@
 
 mod cases;
 
-pub use cases::{operations_of_another_flash, operations_of_the_flash};
+pub use cases::{answers_of_another_flash, operations_of_another_flash, operations_of_the_flash};

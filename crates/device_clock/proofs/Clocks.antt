@@ -1,10 +1,10 @@
 -- What the clock of a device tells, over each turn.
-use Rattle.std.specs.Prelude.{slice_get, unwrap_or, IsTrue, IfSome, option_map, min}
+use Rattle.std.specs.Prelude.{slice_get, unwrap_or, IsTrue, IfSome, option_map, min, ◌↔◌}
 use Rattle.std.specs.Option.{option_map_or}
 use Rattle.std.proofs.Common.{◌≡◌, ◌⊎◌, inl, inr, ℕ, zero, suc, ◌<◌, ◌≤◌, ◌+◌, List, [], ◌∷◌, ◌++◌, length, Option, Some, None, refl, sym, ap, ◌∙◌, subst, arith, length-append, take}
 use Rattle.std.proofs.lemmas.List.{take-append-le, take_all}
 use Rattle.std.proofs.lemmas.Bool.{cases_lt, false≢true}
-use Rattle.nv_base.specs.Count.{last_count}
+use Rattle.nv_base.specs.Count.{last_count, Rose}
 use Rattle.memif.specs.Told.{Held, Slot, slot_at}
 use Rattle.memif.specs.Marks.{IsPossible}
 use Rattle.memif.specs.Clock.{When, After, CutIn, GoesOff, ArePossible}
@@ -14,10 +14,10 @@ use Rattle.fls_model.specs.Step.{IsChanged}
 use Rattle.fls_model.specs.Told.{ToldBytes, Change, IfBothTold, bytes_now}
 use Rattle.device_bridge.specs.Making.{Making}
 use Rattle.device_bridge.specs.Bridge.{has_failed, wanted_pages}
-use Rattle.device_bridge.specs.FlashRun.{TellsBytes, bytes_after}
+use Rattle.device_bridge.specs.FlashRun.{TellsBytes, HasFailed, bytes_after}
 use Rattle.device_bridge.specs.Image.{held_in, HasNoRoomFor}
 use Rattle.device_clock.specs.Device.{Device, run_of, is_told_sound, tells, slots_in, slots_told, told_of}
-use Rattle.device_clock.specs.Clock.{IsMapOf, FindsAfter, FindsInCut, IsWornFor, may_find_of, off_in_of, MakesNone, ClocksStay, ClocksPass, WornNow, change_of, Makes, turn_of, ImageIsPossible, CutsArePossible, ToldAlike, ClocksTick, ClocksFindNow}
+use Rattle.device_clock.specs.Clock.{IsMapOf, FindsAfter, FindsInCut, IsWornFor, may_find_of, off_in_of, MakesNone, ClocksStay, ClocksPass, WornNow, change_of, Makes, turn_of, ImageIsPossible, CutsArePossible, ToldAlike, CountsFailure, ClocksTick, ClocksFindNow}
 
 -- LISTS
 get_front : {X : Type 0} (xs : List X) (c : X) (k : ℕ) → k < length xs → slice_get (xs ++ c ∷ []) k ≡ slice_get xs k
@@ -127,6 +127,9 @@ module _ (d t : Device) (none : MakesNone d t) where
   off_back k (inl big) = inl big
   off_back k (inr (x, at, off)) = inr (x, ap (λ (l : List Change). slice_get l k) (sym none.operations) ∙ at, off)
 
+  failed_back : (k : ℕ) → HasFailed (run_of t) k → HasFailed (run_of d) k
+  failed_back k (x, at, failed) = (x, ap (λ (l : List Change). slice_get l k) (sym none.operations) ∙ at, failed)
+
   tells_back : TellsBytes (run_of d) → TellsBytes (run_of t)
   tells_back b = record { first = b.first; entry = ap bytes_now none.entry ∙ b.entry; last = b.last; exit = none.bytes ∙ b.exit }
 
@@ -154,6 +157,7 @@ clocks_stay d t none same =
     record {
       may_find = λ w m. (find_back d t none w m, find_back t d again w m);
       off_in = λ k. (off_back d t none k, off_back t d again k);
+      failed = λ k. (failed_back d t none k, failed_back t d again k);
       worn = λ k n. (worn_back d t none same k n, worn_back t d again (sym same) k n);
       of_second = λ k. (λ is. is, λ is. is);
     }
@@ -178,9 +182,10 @@ worn_kept d t k n none (inr new) w = let no : Some w.since ≡ None = sym w.is �
 
 pub clocks_pass : ClocksPass
 clocks_pass answer d t none worn = record {
-  past = record { after = λ k m le f. find_back d t none (After k) m f; cut = λ k m lt f. find_back d t none (CutIn k) m f; worn = λ k n le w. worn_kept d t k n none worn w; of_second = λ k lt. (λ is. is, λ is. is) };
+  past = record { after = λ k m le f. find_back d t none (After k) m f; cut = λ k m lt f. find_back d t none (CutIn k) m f; failed = λ k lt. (failed_back d t none k, failed_back t d (back_again d t none) k); worn = λ k n le w. worn_kept d t k n none worn w; of_second = λ k lt. (λ is. is, λ is. is) };
   cut = λ k m le lt f. no_cut d t k none le lt;
   off = λ k f. inl (off_before d k (off_back d t none k f));
+  failed = λ k le lt. no_cut d t k none le lt;
   part = λ k le lt. no_cut d t k none le lt;
 }
 
@@ -258,6 +263,11 @@ module _ (op : Op) (answer : FlashAnswer) (d t : Device) (alike : ToldAlike d) (
     finds = map_of d t f.image m makes.making f.finds;
   }
 
+  failed_past : (k : ℕ) → k < min count last_count → HasFailed (run_of t) k ↔ HasFailed (run_of d) k
+  failed_past k lt =
+      let same = early k (omega arith) in
+      (λ f. (f.0, sym same ∙ f.1, f.2), λ f. (f.0, same ∙ f.1, f.2))
+
   -- where it is told at the end, it was before
   pub told_before : (x y : Option ToldBytes) (bytes : List ℕ) → IfBothTold x y (IsChanged op answer) → option_map now_of y ≡ Some bytes → IsTold (option_map now_of x)
   told_before (Some x) (Some y) bytes both is = record { bytes = x.now; is = refl }
@@ -308,10 +318,17 @@ module _ (op : Op) (answer : FlashAnswer) (d t : Device) (alike : ToldAlike d) (
       let leaves : MayLeave op b.bytes f.image = subst (λ (x : List ℕ). MayLeave op x f.image) (before_is b.bytes b.is) (subst (λ (c : Change). MayLeave c.op c.before f.image) (sym same) f.leaves.2) in
       possible_in d b.bytes f.image m told b.is (if_some (bytes_now d.flash) (λ bytes. (image : List ℕ) → MayLeave op bytes image → ImageIsPossible d bytes image) b.bytes b.is (possible told) f.image leaves) (map_of d t f.image m makes.making f.finds)
 
+  failed_now : CountsFailure answer d t → (k : ℕ) → min count last_count ≤ k → k < min (length t.operations) last_count → HasFailed (run_of t) k → Rose d.faults t.faults
+  failed_now counts k le lt f =
+      let here : k ≡ count = omega (arith, one_more) in
+      let same : change ≡ f.0 = some_is change f.0 (sym last ∙ ap (λ (n : ℕ). slice_get t.operations n) (sym here) ∙ f.1) in
+      counts (ap (λ (c : Change). c.answer) same ∙ f.2)
+
 pub clocks_tick : ClocksTick
-clocks_tick op answer d t alike makes possible = record {
-  past = record { after = λ k m le f. find_past op answer d t alike makes k m le f; cut = λ k m lt f. cut_past op answer d t alike makes k m lt f; worn = λ k n le w. worn_past op answer d t alike makes k n le w; of_second = λ k lt. (λ is. is, λ is. is) };
+clocks_tick op answer d t alike makes counts possible = record {
+  past = record { after = λ k m le f. find_past op answer d t alike makes k m le f; cut = λ k m lt f. cut_past op answer d t alike makes k m lt f; failed = λ k lt. failed_past op answer d t alike makes k lt; worn = λ k n le w. worn_past op answer d t alike makes k n le w; of_second = λ k lt. (λ is. is, λ is. is) };
   cut = λ k m le lt f. cut_now op answer d t alike makes possible k m le lt f;
   off = λ k is. off_told op answer d t alike makes k (off_past op answer d t alike makes k is);
+  failed = λ k le lt f. failed_now op answer d t alike makes counts k le lt f;
   part = λ k le lt. (λ no. absurd no, λ is. cc is);
 }

@@ -34,7 +34,7 @@ same_place (Erase address n) = (refl, refl)
 
 seen_all : (kept : ℕ → Type 0) (k : ℕ) (end : List ℕ) (xs : List Change) → AreSeen kept k end xs xs
 seen_all kept k end [] = refl
-seen_all kept k end (x ∷ xs) = inl (same_place x.op, refl, seen_all kept (k + 1) end xs)
+seen_all kept k end (x ∷ xs) = inl (same_place x.op, refl, inl refl, seen_all kept (k + 1) end xs)
 
 if_changes : (o : Option (List Change)) (operations changes : List Change) → IfSome o (λ (c : List Change). c ≡ operations) → o ≡ Some changes → changes ≡ operations
 if_changes (Some c) operations changes same is = (let e : c ≡ changes = cc is in sym e ∙ same)
@@ -91,5 +91,6 @@ runs_bridge computes cutter d has =
       ops = refl;
       faults = λ n more. counted n d.faults d.entry.faults d.flash.faults has.faults more;
       cuts = has.cuts;
+      failed = λ k small failed. failed;
       worn = λ k n w. worn_out d k n has w;
     }

@@ -1,7 +1,7 @@
 -- What a device over banks tells by the operations of its flash.
 use Rattle.std.specs.Prelude.{◌≡◌, ◌⊎◌, ◌<◌, ◌≤◌, ◌++◌, ◌∷◌, [], ℕ, IsTrue, List, length, take, slice_get}
 use Rattle.std.specs.Prelude.{unwrap_or, Some, None, IfSome}
-use Rattle.nv_base.specs.Count.{last_count}
+use Rattle.nv_base.specs.Count.{last_count, Rose}
 use Rattle.memif.specs.declared.answer.DeviceTurn.{DeviceTurn}
 use Rattle.memif.specs.declared.answer.DeviceTurn.TheVariants as turn
 use Rattle.memif.specs.Told.{Held, First, slot_at}
@@ -13,7 +13,7 @@ use Rattle.fls_model.specs.Op.{Op, MayLeave}
 use Rattle.fls_model.specs.Step.{IsAsked}
 use Rattle.fls_model.specs.Told.{Told, Change, IfBothTold, bytes_now}
 use Rattle.device_bridge.specs.Bridge.{has_failed, wanted_pages}
-use Rattle.device_bridge.specs.FlashRun.{TellsBytes, IsCutImage, bytes_after}
+use Rattle.device_bridge.specs.FlashRun.{TellsBytes, IsCutImage, HasFailed, bytes_after}
 use Rattle.device_bridge.specs.Image.{HasNoRoomFor, held_in}
 use Rattle.device_clock.specs.Device.{Device, run_of, tells, slots_in, ops_in, told_of}
 
@@ -56,7 +56,7 @@ pub record IsWornFor (d : Device) (k n : ℕ) : Type 0 where
       → IfSome (bytes_after (run_of d) k) (HasNoRoomFor (wanted_pages d.making n) d.making) ⊎ IsTrue (has_failed (take k d.operations))
 
 abbrev pub clock_of : Device → Clock
-clock_of d = record { may_find = may_find_of d; off_in = off_in_of d; worn = IsWornFor d; of_second = λ k. ⊥ }
+clock_of d = record { may_find = may_find_of d; off_in = off_in_of d; failed = HasFailed (run_of d); worn = IsWornFor d; of_second = λ k. ⊥ }
 
 -- WITHOUT AN OPERATION
 pub record MakesNone (d t : Device) : Type 0 where
@@ -113,9 +113,13 @@ CutsArePossible op d =
 abbrev pub ToldAlike : Device → Type 0
 ToldAlike d = IfBothTold d.entry.bytes d.flash.bytes (λ first last. Unit {0})
 
+-- an operation that failed is counted at once
+abbrev pub CountsFailure : FlashAnswer → Device → Device → Type 0
+CountsFailure answer d t = answer ≡ Failed → Rose d.faults t.faults
+
 abbrev pub ClocksTick : Type 0
 ClocksTick =
-    (op : Op) (answer : FlashAnswer) (d t : Device) → ToldAlike d → Makes op answer d t → CutsArePossible op d
+    (op : Op) (answer : FlashAnswer) (d t : Device) → ToldAlike d → Makes op answer d t → CountsFailure answer d t → CutsArePossible op d
     → Ticks First (turn_of answer) (told_of d) (clock_of d) (told_of t) (clock_of t)
 
 abbrev pub ClocksFindNow : Type 0

@@ -17,6 +17,7 @@ pub same_told : (d t : Device) → SameClock (clock_of d) (clock_of t) → SameC
 same_told d t same = record {
   may_find = same.may_find;
   off_in = λ k. ((λ x. (x.0, (same.off_in k).0 x.1)), (λ x. (x.0, (same.off_in k).1 x.1)));
+  failed = same.failed;
   worn = same.worn;
   of_second = same.of_second;
 }
@@ -73,12 +74,13 @@ works_told p old new t works = record {
 ticks_told : (p : Part) (answer : DeviceTurn) (old new : DeviceTold) (d t : Device) → Ticks p answer old (clock_of d) new (clock_of t)
     → Ticks p answer old (told_clock d) new (told_clock t)
 ticks_told p answer old new d t ticks = record {
-  past = record { after = ticks.past.after; cut = ticks.past.cut; worn = ticks.past.worn; of_second = ticks.past.of_second };
+  past = record { after = ticks.past.after; cut = ticks.past.cut; failed = ticks.past.failed; worn = ticks.past.worn; of_second = ticks.past.of_second };
   cut = ticks.cut;
   off = λ k off. elim (ticks.off k off.1) [
     | inl was ↦ inl ((off.0, was.0), was.1)
     | inr goes ↦ inr goes
   ];
+  failed = ticks.failed;
   part = ticks.part;
 }
 

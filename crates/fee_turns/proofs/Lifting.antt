@@ -20,6 +20,7 @@ past_by : (ops : ℕ) (a b c : Clock) → SameClock a b → Past ops b c → Pas
 past_by ops a b c same past = record {
   after = λ k m few finds. (same.may_find (After k) m).0 (past.after k m few finds);
   cut = λ k m few finds. (same.may_find (CutIn k) m).0 (past.cut k m few finds);
+  failed = λ k few. ((λ is. (same.failed k).0 ((past.failed k few).0 is)), (λ is. (past.failed k few).1 ((same.failed k).1 is)));
   worn = λ k n few is. past.worn k n few ((same.worn k n).1 is);
   of_second = λ k few. ((λ is. (same.of_second k).0 ((past.of_second k few).0 is)), (λ is. (past.of_second k few).1 ((same.of_second k).1 is)));
 }
@@ -37,11 +38,16 @@ module _ (old new : DeviceTold) (switching : Bool) (left : ℕ) (clock clock_mid
   abbrev mid : DeviceTold
   mid = record old { switching = switching; left = left }
 
+  rose_by : (p : Part) → Rose (part_at p mid).faults (part_at p new).faults → Rose (part_at p old).faults (part_at p new).faults
+  rose_by First rose = rose
+  rose_by Second rose = rose
+
   ticks_by : (p : Part) (answer : DeviceTurn) → Ticks p answer mid clock_mid new clock_new → Ticks p answer old clock new clock_new
   ticks_by p answer t = record {
     past = past_by old.ops clock clock_mid clock_new same t.past;
     cut = t.cut;
     off = λ k is. off_by answer old.ops new.ops k clock clock_mid same (t.off k is);
+    failed = λ k le lt is. rose_by p (t.failed k le lt is);
     part = t.part;
   }
 

@@ -72,6 +72,11 @@ few_faults Done n few = few
 few_faults Failed n few = omega arith
 few_faults Off n few = few
 
+pub failure_counted : (answer : FlashAnswer) (n : ℕ) → n ≤ last_count → answer ≡ Failed → Rose n (counts_fault answer n)
+failure_counted Done n few failed = cc
+failure_counted Failed n few failed = rose_next n few
+failure_counted Off n few failed = cc
+
 -- BYTES
 both_left : (x y : Option ToldBytes) (op : Op) (answer : FlashAnswer) (old new : List ℕ) → option_map (λ (b : ToldBytes). b.now) x ≡ Some old → option_map (λ (b : ToldBytes). b.now) y ≡ Some new
     → IfBothTold x y (IsChanged op answer) → MayLeave op old new × Leaves op answer old new
@@ -120,7 +125,7 @@ module _ (laws : Laws) (m : Making) (entry : Told) (s : Parts) (listed : List (D
       part_works on' = laws.work op answer d e counts on'
 
       pub ticks : Ticks First (turn_of answer) (told_of d) (clock_of d) (told_of e) (clock_of e)
-      ticks = laws.tick op answer d e on.sound.device.run.alike makes are.0
+      ticks = laws.tick op answer d e on.sound.device.run.alike makes (failure_counted answer s.faults on.sound.device.faults) are.0
 
       pub run : KeepsWorn op d e → HasRun e
       run worn = laws.more op answer d e on.sound.device.run makes refl (run_counts entry f.flash cuts) are.1 worn

@@ -20,7 +20,7 @@ use Rattle.fee_turns.specs.Rests.{IdleTurns, OffTurns}
 use Rattle.fee_turns.proofs.Order.{first_of}
 
 same_clock : (c : Clock) → SameClock c c
-same_clock c = record { may_find = λ w m. ((λ h. h), (λ h. h)); off_in = λ k. ((λ h. h), (λ h. h)); worn = λ k n. ((λ h. h), (λ h. h)); of_second = λ k. ((λ h. h), (λ h. h)) }
+same_clock c = record { may_find = λ w m. ((λ h. h), (λ h. h)); off_in = λ k. ((λ h. h), (λ h. h)); failed = λ k. ((λ h. h), (λ h. h)); worn = λ k n. ((λ h. h), (λ h. h)); of_second = λ k. ((λ h. h), (λ h. h)) }
 
 -- with no job, whether a switch is open
 shut_by : (c : Option Course) (s : BanksState) (body : List ℕ) → c ≡ None → is_switching (phase_shown c s body) ≡ false

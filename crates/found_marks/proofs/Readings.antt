@@ -15,7 +15,7 @@ use Rattle.memif.specs.Told.{DeviceTold, PartTold, Fixed, Slot, Part, First, Sec
 use Rattle.memif.specs.Marks.{Keeps, KeepsAll, IfTold}
 use Rattle.memif.specs.Clock.{Clock, SameClock}
 use Rattle.memif.specs.Trials.{Lasts}
-use Rattle.memif.proofs.Turning.{lasts_more, still_lasts, turn_lasts}
+use Rattle.memif.proofs.Turning.{lasts_more, still_lasts, same_lasts, turn_lasts}
 use Rattle.memif.specs.Calls.{PartTurns, Accepts, Opens, StartsUp, Turns, Works, JobTurns, EndsAs, Reads, ReadsAt, Gives, is_read, refusal_of}
 use Rattle.block_machine.specs.Words.{Entry}
 use Rattle.turn_laws.specs.Turn.{Stays, StaysBy, StaysDown, TurnsKeep, settled_by, read_wish}
@@ -70,7 +70,7 @@ module _ (number size : ℕ) (old : DeviceTold) (clock : Clock) (new : DeviceTol
         up = λ begun is. up_more begun old new fixed (ap (λ (d : DeviceTold). d.ops) opens.only) (ap (λ (d : DeviceTold). d.started) opens.only) (part_same old.first new.first first) (part_same old.second new.second second) opens.marks is;
         stays = stays;
         down = down;
-        lasts = still_lasts old clock new clock_new (ap (λ (d : DeviceTold). d.ops) opens.only) same;
+        lasts = same_lasts old clock new clock_new (ap (λ (d : DeviceTold). d.ops) opens.only) (ap (λ (d : DeviceTold). d.first.faults) opens.only) (ap (λ (d : DeviceTold). d.second.faults) opens.only) same;
       }
 
   pub begins : (answer : Result (Unit {0}) DeviceRefusal) → IsReady old → length_of old.fixed.numbers number ≡ Some size
@@ -249,7 +249,7 @@ ends number size old clock new clock_new outcome so off is = subst (λ (r : JobR
 -- START-UPS
 pub starts_last : (answer : Result (Unit {0}) StartFault) (old : DeviceTold) (clock : Clock) (new : DeviceTold) (clock_new : Clock)
     → StartsUp answer old clock new clock_new → Lasts old clock new clock_new
-starts_last answer old clock new clock_new up = still_lasts old clock new clock_new (ap (λ (d : DeviceTold). d.ops) up.only) up.clock_stays.same
+starts_last answer old clock new clock_new up = still_lasts old clock new clock_new (ap (λ (d : DeviceTold). d.ops) up.only) up.first.faults.faults up.second.faults.faults up.clock_stays.same
 
 pub restarts : (answer : Result (Unit {0}) StartFault) (old : DeviceTold) (clock : Clock) (new : DeviceTold) (clock_new : Clock)
     → StartsUp answer old clock new clock_new → IsRestarted old new

@@ -92,6 +92,7 @@ ticks old new = record {
   past = past_same old.ops no_clock no_clock (same_clock no_clock);
   cut = λ k m le lt h. absurd h;
   off = λ k h. absurd h;
+  failed = λ k le lt h. absurd h;
   part = λ k le lt. (λ h. absurd h, λ is. absurd (not_second is));
 }
 

@@ -21,7 +21,7 @@ use Rattle.memif.specs.Marks.{IsPossible, Keeps, Doubts, SettlesAs, IfTold, Doub
 use Rattle.memif.specs.Clock.{Clock, SameClock, ArePossible}
 use Rattle.memif.specs.Calls.{Wish, refusal_of, Opens, Accepts, IsCanceled, Cancels, Turns, IsCut, JobTurns, EndsAs, Writes, Gives, is_read}
 use Rattle.memif.specs.Run.{Made, Known, wish_of, doubted, settled_by, at_one, settles, comes_to, after_call, known_after, known_by, known_of, known_slots, AreKnown, open_job, Ties, CutsAreAllowed, Makes, IsMade, AreMade, IsUrgentKnown, IsCallMade, AllBy}
-use Rattle.memif.proofs.Turning.{none_in, still_lasts, still_leaves, turn_lasts, works_fixed, is_off_at_off}
+use Rattle.memif.proofs.Turning.{none_in, same_lasts, same_told, still_leaves, turn_lasts, works_fixed, is_off_at_off}
 
 -- ONE NUMBER
 keeps_more : (a b c : Slot) → Keeps a b → Keeps b c → Keeps a c
@@ -89,7 +89,7 @@ module _ (c : DeviceCall) (old : DeviceTold) (clock : Clock) (new : DeviceTold) 
     fixed = ap (λ (d : DeviceTold). d.fixed) same;
     ties = λ k ties. stays new new.stand k refl (subst (λ (d : DeviceTold). Ties d k) (sym same) ties);
     urgent = λ before known. subst (λ (d : DeviceTold). IsUrgentKnown before d.stand) (sym same) known;
-    lasts = still_lasts old clock new clock_new (ap (λ (d : DeviceTold). d.ops) same) clocks;
+    lasts = same_told old clock new clock_new same clocks;
     cut = still_leaves old new clock_new (ap (λ (d : DeviceTold). d.ops) same);
   }
 
@@ -114,7 +114,7 @@ module _ (c : DeviceCall) (old : DeviceTold) (clock : Clock) (new : DeviceTold) 
         fixed = fixed;
         ties = λ k ties. rw is (record { slots = known_at old new (at_one w.job.number (doubted w.job.mark) k.slots) fixed (doubts_known w.job w.job.mark k.slots opens.marks ties.slots); job = ap open_job stand });
         urgent = λ before known. rw (is, stand) refl;
-        lasts = still_lasts old clock new clock_new (ops_stay w opens) accepts.1.same;
+        lasts = same_lasts old clock new clock_new (ops_stay w opens) (ap (λ (d : DeviceTold). d.first.faults) opens.only) (ap (λ (d : DeviceTold). d.second.faults) opens.only) accepts.1.same;
         cut = still_leaves old new clock_new (ops_stay w opens);
       }
   start_made w (Err refusal) is accepts = nothing_made accepts.0.1 accepts.1.same (rw is (refused (refusal_of old w.job.number w.length) refusal accepts.0.0, accepts.0.1))
@@ -145,7 +145,7 @@ cancel_made old clock new clock_new cancels = elim (cases_Bool (is_open old.stan
           fixed = fixed;
           ties = λ k ties. rw stand (record { slots = known_at old new k.slots fixed (keeps_known old.fixed.numbers k.slots old.slots new.slots is.marks ties.slots); job = refl });
           urgent = λ before known. none_urgent before new.stand closed;
-          lasts = still_lasts old clock new clock_new parts cancels.1.same;
+          lasts = same_lasts old clock new clock_new parts (ap (λ (d : DeviceTold). d.first.faults) is.only) (ap (λ (d : DeviceTold). d.second.faults) is.only) cancels.1.same;
           cut = still_leaves old new clock_new parts;
         }
       where

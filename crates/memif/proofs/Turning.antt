@@ -1,14 +1,15 @@
 -- What is found behind a start-up, and what the turns of any device keep.
-use Rattle.std.proofs.Common.{◌≡◌, inl, inr, ◌<◌, ◌≤◌, ℕ, Bool, true, false, refl, List, [], Option, Some, None, sym, ap, subst, arith, ◌+◌, if◌then◌else◌, ◌∙◌}
+use Rattle.std.proofs.Common.{◌≡◌, ◌⊎◌, inl, inr, ◌<◌, ◌≤◌, ℕ, Bool, true, false, refl, List, [], Option, Some, None, sym, ap, subst, arith, ◌+◌, if◌then◌else◌, ◌∙◌}
 use Rattle.std.specs.List.{Contains}
 use Rattle.memif.specs.declared.answer.DeviceTurn.TheVariants.{Idle, Worked, Off}
 use Rattle.memif.specs.declared.answer.DeviceTurn.{DeviceTurn}
 use Rattle.memif.specs.Told.{DeviceTold, PartTold, Slot, Held, Part, First, Second, part_at, with_part, slot_at, Stand, Open, Ended, is_open, is_off, figures_at}
 use Rattle.memif.specs.Marks.{IfTold}
-use Rattle.memif.specs.Clock.{Clock, SameClock, Past, After, CutIn, ArePossible}
+use Rattle.memif.specs.Clock.{Clock, SameClock, Past, After, CutIn, ArePossible, Ticks}
 use Rattle.memif.specs.Calls.{Works, IsCut, Turns, InOrder, JobTurns}
 use Rattle.memif.specs.Trials.{AreSettled, Lasts, IsFaultless}
 use Rattle.std.specs.Prelude.{◌||◌}
+use Rattle.std.proofs.lemmas.Bool.{cases_lt}
 use Rattle.std.proofs.Math.Nat.{eq-or-lt_of_le}
 use Rattle.nv_base.specs.Count.{Rose}
 
@@ -25,6 +26,31 @@ settled_at d (Some s) None m clear possible = absurd clear
 settled_at d None (Some t) m clear possible = absurd clear
 settled_at d None None m clear possible = tt
 
+-- A COUNT THAT ROSE
+rose_before : (a b c : ℕ) → Rose a b → b ≤ c → Rose a c
+rose_before a b c (inl lt) le = inl (omega (arith, lt, le))
+rose_before a b c (inr end) le = inr (end.0, omega (arith, end.1, le))
+
+rose_since : (a b c : ℕ) → a ≤ b → Rose b c → Rose a c
+rose_since a b c le (inl lt) = inl (omega arith)
+rose_since a b c le (inr end) =
+    let up : a ≤ c = omega (arith, le, end.1) in
+    elim (eq-or-lt_of_le up) [ inl same ↦ inr (omega (arith, end.0, end.1, le, same), up) | inr lt ↦ inl lt ]
+
+-- WHAT CALLS ONE AFTER ANOTHER KEEP
+failed_more : (a : DeviceTold) (ca : Clock) (b : DeviceTold) (cb : Clock) (c : DeviceTold) (ct : Clock) → Lasts a ca b cb → Lasts b cb c ct
+    → (k : ℕ) → a.ops ≤ k → k < c.ops → ct.failed k → Rose a.first.faults c.first.faults ⊎ Rose a.second.faults c.second.faults
+failed_more a ca b cb c ct one two k le lt failed = elim (cases_lt k b.ops) [
+  | inl early ↦ elim (one.failed k le early ((two.past.failed k early).0 failed)) [
+    | inl rose ↦ inl (rose_before a.first.faults b.first.faults c.first.faults rose two.faults.0)
+    | inr rose ↦ inr (rose_before a.second.faults b.second.faults c.second.faults rose two.faults.1)
+  ]
+  | inr late ↦ elim (two.failed k late lt failed) [
+    | inl rose ↦ inl (rose_since a.first.faults b.first.faults c.first.faults one.faults.0 rose)
+    | inr rose ↦ inr (rose_since a.second.faults b.second.faults c.second.faults one.faults.1 rose)
+  ]
+]
+
 pub lasts_more : (a : DeviceTold) (ca : Clock) (b : DeviceTold) (cb : Clock) (c : DeviceTold) (ct : Clock) → Lasts a ca b cb → Lasts b cb c ct → Lasts a ca c ct
 lasts_more a ca b cb c ct one two = record {
   ops = omega (arith, one.ops, two.ops);
@@ -36,13 +62,20 @@ lasts_more a ca b cb c ct one two = record {
         let first = one.past.of_second k lt in
         let second = two.past.of_second k (omega (arith, lt, one.ops)) in
         (λ is. first.0 (second.0 is), λ is. second.1 (first.1 is));
+    failed = λ k lt.
+        let first = one.past.failed k lt in
+        let second = two.past.failed k (omega (arith, lt, one.ops)) in
+        (λ is. first.0 (second.0 is), λ is. second.1 (first.1 is));
   };
+  faults = (omega (arith, one.faults.0, two.faults.0), omega (arith, one.faults.1, two.faults.1));
+  failed = failed_more a ca b cb c ct one two;
 }
 
 pub same_clock : (c : Clock) → SameClock c c
 same_clock c = record {
   may_find = λ w m. (λ h. h, λ h. h);
   off_in = λ k. (λ h. h, λ h. h);
+  failed = λ k. (λ h. h, λ h. h);
   worn = λ k n. (λ h. h, λ h. h);
   of_second = λ k. (λ h. h, λ h. h);
 }
@@ -51,13 +84,29 @@ pub past_same : (ops : ℕ) (old new : Clock) → SameClock old new → Past ops
 past_same ops old new same = record {
   after = λ k m le finds. (same.may_find (After k) m).0 finds;
   cut = λ k m lt finds. (same.may_find (CutIn k) m).0 finds;
+  failed = λ k lt. same.failed k;
   worn = λ k n le is. (same.worn k n).1 is;
   of_second = λ k lt. same.of_second k;
 }
 
--- no operation was made, and the clock is as it was
-pub still_lasts : (old : DeviceTold) (clock : Clock) (new : DeviceTold) (clock_new : Clock) → new.ops ≡ old.ops → SameClock clock clock_new → Lasts old clock new clock_new
-still_lasts old clock new clock_new still same = record { ops = omega (arith, still); past = past_same old.ops clock clock_new same }
+-- no operation was made, no count fell, and the clock is as it was
+pub still_lasts : (old : DeviceTold) (clock : Clock) (new : DeviceTold) (clock_new : Clock) → new.ops ≡ old.ops → old.first.faults ≤ new.first.faults → old.second.faults ≤ new.second.faults
+    → SameClock clock clock_new → Lasts old clock new clock_new
+still_lasts old clock new clock_new still first second same = record {
+  ops = omega (arith, still);
+  past = past_same old.ops clock clock_new same;
+  faults = (first, second);
+  failed = λ k le lt failed. absurd (omega (arith, still, le, lt));
+}
+
+-- the counts are as they were
+pub same_lasts : (old : DeviceTold) (clock : Clock) (new : DeviceTold) (clock_new : Clock) → new.ops ≡ old.ops → new.first.faults ≡ old.first.faults → new.second.faults ≡ old.second.faults
+    → SameClock clock clock_new → Lasts old clock new clock_new
+same_lasts old clock new clock_new still first second same = still_lasts old clock new clock_new still (omega (arith, first)) (omega (arith, second)) same
+
+pub same_told : (old : DeviceTold) (clock : Clock) (new : DeviceTold) (clock_new : Clock) → new ≡ old → SameClock clock clock_new → Lasts old clock new clock_new
+same_told old clock new clock_new is same =
+    same_lasts old clock new clock_new (ap (λ (d : DeviceTold). d.ops) is) (ap (λ (d : DeviceTold). d.first.faults) is) (ap (λ (d : DeviceTold). d.second.faults) is) same
 
 -- on both parts, by a turn that works on one or is cut there
 on_parts : (p : Part) (old new : DeviceTold) (P : PartTold → PartTold → Type 0) → ((t : PartTold) → P t t) → P (part_at p old) (part_at p new) → ((q : Part) → part_at q new ≡ part_at q (with_part p (part_at p new) old)) → (q : Part) → P (part_at q old) (part_at q new)
@@ -72,6 +121,31 @@ works_rest First old new clock works Second = ap (λ (d : DeviceTold). d.second)
 works_rest Second old new clock works First = ap (λ (d : DeviceTold). d.first) works.only
 works_rest Second old new clock works Second = ap (λ (d : DeviceTold). d.second) works.only
 
+cut_rest : (p : Part) (old new : DeviceTold) → IsCut p old new → (q : Part) → part_at q new ≡ part_at q (with_part p (part_at p new) old)
+cut_rest First old new cut First = ap (λ (d : DeviceTold). d.first) cut.only
+cut_rest First old new cut Second = ap (λ (d : DeviceTold). d.second) cut.only
+cut_rest Second old new cut First = ap (λ (d : DeviceTold). d.first) cut.only
+cut_rest Second old new cut Second = ap (λ (d : DeviceTold). d.second) cut.only
+
+-- no part's faults fall
+faults_grow : (p : Part) (old new : DeviceTold) → (part_at p old).faults ≤ (part_at p new).faults → ((q : Part) → part_at q new ≡ part_at q (with_part p (part_at p new) old))
+    → (q : Part) → (part_at q old).faults ≤ (part_at q new).faults
+faults_grow p old new grow rest = on_parts p old new (λ a b. a.faults ≤ b.faults) (λ t. omega arith) grow rest
+
+-- a turn that ticks lasts
+ticked : (p : Part) (answer : DeviceTurn) (old : DeviceTold) (clock : Clock) (new : DeviceTold) (clock_new : Clock) → Ticks p answer old clock new clock_new → old.ops ≤ new.ops
+    → (part_at p old).faults ≤ (part_at p new).faults → ((q : Part) → part_at q new ≡ part_at q (with_part p (part_at p new) old)) → Lasts old clock new clock_new
+ticked p answer old clock new clock_new ticks later grow rest = record {
+  ops = later;
+  past = ticks.past;
+  faults = (faults_grow p old new grow rest First, faults_grow p old new grow rest Second);
+  failed = λ k le lt failed. by p (ticks.failed k le lt failed);
+}
+  where
+    by : (q : Part) → Rose (part_at q old).faults (part_at q new).faults → Rose old.first.faults new.first.faults ⊎ Rose old.second.faults new.second.faults
+    by First rose = inl rose
+    by Second rose = inr rose
+
 -- what a cut may leave was possible before the turn
 abbrev pub Leaves : DeviceTold → DeviceTold → Clock → Type 0
 Leaves old new clock = (o : ℕ) (m : ℕ → Held) → old.ops ≤ o → o < new.ops → clock.may_find (CutIn o) m → ArePossible old old.slots m
@@ -82,13 +156,18 @@ still_leaves old new clock still o m le lt finds = absurd (omega (arith, still, 
 pub turn_lasts : (answer : DeviceTurn) (old : DeviceTold) (clock : Clock) (new : DeviceTold) (clock_new : Clock) → Turns answer old clock new clock_new → Lasts old clock new clock_new × Leaves old new clock_new
 turn_lasts Idle old clock new clock_new turns =
     let same : new.ops ≡ old.ops = ap (λ (d : DeviceTold). d.ops) turns.0.1 in
-    (still_lasts old clock new clock_new same turns.0.2, still_leaves old new clock_new same)
-turn_lasts Worked old clock new clock_new turns = (record { ops = turns.0.1.1.part.later; past = turns.0.1.2.past }, turns.0.1.2.cut)
+    (same_told old clock new clock_new turns.0.1 turns.0.2, still_leaves old new clock_new same)
+turn_lasts Worked old clock new clock_new turns =
+    let p = turns.0.1.0 in
+    let works = turns.0.1.1 in
+    (ticked p Worked old clock new clock_new turns.0.1.2 works.part.later works.part.faults.faults (works_rest p old new clock_new works), turns.0.1.2.cut)
 turn_lasts Off old clock new clock_new turns = elim turns.0.1.1 [
   | inl still ↦
       let same : new.ops ≡ old.ops = ap (λ (d : DeviceTold). d.ops) still.2 in
-      (still_lasts old clock new clock_new same still.3, still_leaves old new clock_new same)
-  | inr cut ↦ (record { ops = cut.0.part.later; past = cut.1.past }, cut.1.cut)
+      (same_told old clock new clock_new still.2 still.3, still_leaves old new clock_new same)
+  | inr cut ↦
+      let p = turns.0.1.0 in
+      (ticked p Off old clock new clock_new cut.1 cut.0.part.later cut.0.part.faults.faults (cut_rest p old new cut.0), cut.1.cut)
 ]
 
 pub lasts_on : (answer : DeviceTurn) (a : DeviceTold) (ca : Clock) (b : DeviceTold) (cb : Clock) (c : DeviceTold) (ct : Clock) → Lasts a ca b cb → Turns answer b cb c ct → Lasts a ca c ct
@@ -152,16 +231,6 @@ pub record IsErasing (number turns : ℕ) (begun now : DeviceTold) : Type 0 wher
   pub going : is_open now.stand ≡ true → turns + now.left ≤ begun.fixed.own + (figures_at begun.fixed number).erase
   pub ended : is_open now.stand ≡ false → IsFaultless begun now → turns ≤ begun.fixed.own + (figures_at begun.fixed number).erase
 
--- no part's faults fall
-faults_grow : (p : Part) (old new : DeviceTold) (clock : Clock) → Works p old new clock → (q : Part) → (part_at q old).faults ≤ (part_at q new).faults
-faults_grow p old new clock works = on_parts p old new (λ a b. a.faults ≤ b.faults) (λ t. omega arith) works.part.faults.faults (works_rest p old new clock works)
-
-rose_since : (a b c : ℕ) → a ≤ b → Rose b c → Rose a c
-rose_since a b c le (inl lt) = inl (omega arith)
-rose_since a b c le (inr end) =
-    let up : a ≤ c = omega (arith, le, end.1) in
-    elim (eq-or-lt_of_le up) [ inl same ↦ inr (omega (arith, end.0, end.1, le, same), up) | inr lt ↦ inl lt ]
-
 -- a fault of this turn is one since the begin
 faulty : (p : Part) (begun old new : DeviceTold) → begun.first.faults ≤ old.first.faults → begun.second.faults ≤ old.second.faults → IsFaultless begun new → Rose (part_at p old).faults (part_at p new).faults → ⊥
 faulty First begun old new first second calm rose = calm.first (rose_since begun.first.faults old.first.faults new.first.faults first rose)
@@ -174,8 +243,8 @@ less_at p (Ended result given) b old new clock up on turns = cc
 
 pub goes_on : (number turns after : ℕ) (begun old new : DeviceTold) (clock : Clock) (p : Part) → IsErasing number turns begun old → is_open old.stand ≡ true → Works p old new clock → after ≤ turns + 1 → IsErasing number after begun new
 goes_on number turns after begun old new clock p so up works more = record {
-  first = omega (arith, so.first, faults_grow p old new clock works First);
-  second = omega (arith, so.second, faults_grow p old new clock works Second);
+  first = omega (arith, so.first, faults_grow p old new works.part.faults.faults (works_rest p old new clock works) First);
+  second = omega (arith, so.second, faults_grow p old new works.part.faults.faults (works_rest p old new clock works) Second);
   going = λ on. omega (arith, more, so.going up, less_at p old.stand new.stand old new clock up on works.job);
   ended = λ off calm. elim works.nearer [
     | inl less ↦ omega (arith, more, so.going up, less)

@@ -3,9 +3,9 @@
 use Rattle.std.specs.Prelude.{◌≡◌, ◌⊎◌, ◌↔◌, ◌<◌, ◌≤◌, ℕ, List, Option, Some, None}
 use Rattle.memif.specs.declared.answer.DeviceTurn.{DeviceTurn}
 use Rattle.memif.specs.declared.answer.DeviceTurn.TheVariants.{Off}
-use Rattle.memif.specs.Told.{DeviceTold, Slot, Held, Part, Second, slot_at}
+use Rattle.memif.specs.Told.{DeviceTold, Slot, Held, Part, Second, part_at, slot_at}
 use Rattle.memif.specs.Marks.{IsPossible}
-use Rattle.nv_base.specs.Count.{last_count}
+use Rattle.nv_base.specs.Count.{last_count, Rose}
 
 -- a moment: once so many operations were made, or a power cut before or within an operation, numbered from 0
 pub data When : Type 0 where
@@ -18,27 +18,31 @@ pub record Clock : Type 1 where
   pub may_find : When → (ℕ → Held) → Type 0
   -- the power went off in this operation
   pub off_in : ℕ → Type 0
+  -- this operation failed
+  pub failed : ℕ → Type 0
   -- once so many operations were made, it is worn out for this number
   pub worn : ℕ → ℕ → Type 0
   -- this operation was one of the second part
   pub of_second : ℕ → Type 0
 
--- nothing is told: no map, no cut, never worn, and no second part
+-- nothing is told: no map, no cut, no failure, never worn, and no second part
 abbrev pub untold : Clock
-untold = record { may_find = λ w m. ⊥; off_in = λ k. ⊥; worn = λ k n. ⊥; of_second = λ k. ⊥ }
+untold = record { may_find = λ w m. ⊥; off_in = λ k. ⊥; failed = λ k. ⊥; worn = λ k n. ⊥; of_second = λ k. ⊥ }
 
 -- WHAT STAYS
 pub record SameClock (old new : Clock) : Type 0 where
   pub may_find : (w : When) (m : ℕ → Held) → new.may_find w m ↔ old.may_find w m
   pub off_in : (k : ℕ) → new.off_in k ↔ old.off_in k
+  pub failed : (k : ℕ) → new.failed k ↔ old.failed k
   pub worn : (k n : ℕ) → new.worn k n ↔ old.worn k n
   pub of_second : (k : ℕ) → new.of_second k ↔ old.of_second k
 
--- behind so many operations: what was told of them gets no map more, where it was worn it stays so, and the parts that they
--- were of stay
+-- behind so many operations: what was told of them gets no map more, where it was worn it stays so, and which of them failed
+-- and the parts that they were of stay
 pub record Past (ops : ℕ) (old new : Clock) : Type 0 where
   pub after : (k : ℕ) (m : ℕ → Held) → k ≤ ops → new.may_find (After k) m → old.may_find (After k) m
   pub cut : (k : ℕ) (m : ℕ → Held) → k < ops → new.may_find (CutIn k) m → old.may_find (CutIn k) m
+  pub failed : (k : ℕ) → k < ops → new.failed k ↔ old.failed k
   pub worn : (k n : ℕ) → k ≤ ops → old.worn k n → new.worn k n
   pub of_second : (k : ℕ) → k < ops → new.of_second k ↔ old.of_second k
 
@@ -64,5 +68,7 @@ pub record Ticks (p : Part) (answer : DeviceTurn) (old : DeviceTold) (clock : Cl
   pub cut : (k : ℕ) (m : ℕ → Held) → old.ops ≤ k → k < new.ops → clock_new.may_find (CutIn k) m → ArePossible old old.slots m
   -- the power went off in an operation that was made before, or that this turn made; past the end of the count it isn't known
   pub off : (k : ℕ) → clock_new.off_in k → (clock.off_in k × ((k < old.ops) ⊎ (last_count ≤ k))) ⊎ GoesOff answer old.ops new.ops k
-  -- and that one is of its part
+  -- an operation of this turn that failed was counted in it
+  pub failed : (k : ℕ) → old.ops ≤ k → k < new.ops → clock_new.failed k → Rose (part_at p old).faults (part_at p new).faults
+  -- and it is one of its part
   pub part : (k : ℕ) → old.ops ≤ k → k < new.ops → clock_new.of_second k ↔ (p ≡ Second)

@@ -1,5 +1,5 @@
 -- What work from above comes to.
-use Rattle.std.specs.Prelude.{◌≡◌, ◌≤◌, ℕ, List, Option, Some, None, true, false}
+use Rattle.std.specs.Prelude.{◌≡◌, ◌⊎◌, ◌<◌, ◌≤◌, ℕ, List, Option, Some, None, true, false}
 use Rattle.nv_base.specs.Count.{Rose}
 use Rattle.memif.specs.declared.trials.Rest.{Rest}
 use Rattle.memif.specs.declared.trials.Rest.TheVariants.{Idle, Off, Fault}
@@ -24,7 +24,10 @@ AreSettled d None m = Unit {0}
 abbrev pub FindsSettled : DeviceTold → Clock → Type 0
 FindsSettled d c = (m : ℕ → Held) → c.may_find (After d.ops) m → AreSettled d d.slots m
 
--- no count of operations falls, and what was told of those before gets no map more
+-- no count falls, what was told of the operations before gets no map more, and an operation since that failed was counted by
+-- a part
 pub record Lasts (old : DeviceTold) (clock : Clock) (new : DeviceTold) (clock_new : Clock) : Type 0 where
   pub ops : old.ops ≤ new.ops
   pub past : Past old.ops clock clock_new
+  pub faults : (old.first.faults ≤ new.first.faults) × (old.second.faults ≤ new.second.faults)
+  pub failed : (k : ℕ) → old.ops ≤ k → k < new.ops → clock_new.failed k → Rose old.first.faults new.first.faults ⊎ Rose old.second.faults new.second.faults

@@ -47,6 +47,10 @@ at_work job slot = record (at_rest slot) { stand = Open job; left = 1 }
 abbrev pub after_failure : DeviceTold
 after_failure = record (at_rest doubtful) { stand = Ended JobFailed [] }
 
+-- a write that ended well, in one operation
+abbrev pub after_success : DeviceTold
+after_success = record (at_rest (clear new_content)) { ops = 1 }
+
 -- a fault is counted
 abbrev pub faulty : DeviceTold → DeviceTold
 faulty d = record d { first = record no_part { faults = 1; flash_faults = 1 } }
@@ -70,6 +74,10 @@ finds_old (CutIn k) m = ⊥
 
 abbrev pub old_stands : Clock
 old_stands = record untold { may_find = finds_old }
+
+-- a clock on which the first operation failed
+abbrev pub fails_first : Clock
+fails_first = record untold { failed = λ k. k ≡ 0 }
 
 -- a run of a write of two operations
 abbrev pub behind : ℕ → DeviceTold

@@ -33,7 +33,7 @@ fn is_pending<D: MemDevice>(device: &D) -> bool
 }
 
 /// Makes turns until nothing is open, the power is off, or a fault comes while no job is open.
-#[tactic(auto, using(crate::proofs::Turning::lasts_on, crate::proofs::Turning::falls_open, crate::proofs::Turning::falls_closed))]
+#[tactic(auto, using(crate::proofs::Turning::falls_open, crate::proofs::Turning::falls_closed))]
 pub fn make_turns<D: MemDevice>(device: &mut D) -> Rest
     ensures rests { Rests result (D.told device.new) }
     ensures lasts { Lasts (D.told device.old) (D.clock device.old) (D.told device.new) (D.clock device.new) }

@@ -11,7 +11,7 @@ use Rattle.memif.specs.Told.{DeviceTold, Part, First, Second, PartTold, Stand, O
 use Rattle.memif.specs.Clock.{Clock, SameClock}
 use Rattle.memif.specs.Calls.{Turns, IsCut, Works, JobTurns}
 use Rattle.memif.specs.Trials.{Lasts}
-use Rattle.memif.proofs.Turning.{turn_lasts, still_lasts}
+use Rattle.memif.proofs.Turning.{turn_lasts, same_lasts}
 use Rattle.block_machine.specs.Words.{ReqResult, JobKind, Mark, Entry, Ask, Pick, Wrote, Post, Off, Found, Taken, Configuration}
 use Rattle.block_machine.specs.State.{State, Job}
 use Rattle.block_machine.specs.Blocks.{job_block}
@@ -435,7 +435,8 @@ device_adds since now old between new worn less same (Some x) adds free =
 
 -- LASTING
 pub half_lasts : (d d_new : DeviceTold) (clock clock_new : Clock) → LeavesDevice d d_new → SameClock clock clock_new → Lasts d clock d_new clock_new
-half_lasts d d_new clock clock_new leaves same = still_lasts d clock d_new clock_new (ap (λ (x : DeviceTold). x.ops) leaves) same
+half_lasts d d_new clock clock_new leaves same =
+    same_lasts d clock d_new clock_new (ap (λ (x : DeviceTold). x.ops) leaves) (ap (λ (x : DeviceTold). x.first.faults) leaves) (ap (λ (x : DeviceTold). x.second.faults) leaves) same
 
 pub device_lasts : (answer : Turned) (old : DeviceTold) (clock : Clock) (new : DeviceTold) (clock_new : Clock) → TurnsDevice answer old clock new clock_new → Lasts old clock new clock_new
 device_lasts turned.Idle old clock new clock_new turns = (turn_lasts turn.Idle old clock new clock_new turns).0

@@ -21,7 +21,7 @@ use Rattle.fls_devices.specs.Cutter.{cutting, told_cutting}
 use Rattle.fee_image.specs.Laws.{SoundImagesCompute}
 use Rattle.device_bridge.specs.Making.{Making, banks_of}
 use Rattle.device_bridge.specs.Bridge.{Bridges}
-use Rattle.device_bridge.specs.FlashRun.{AreSeen}
+use Rattle.device_bridge.specs.FlashRun.{AreSeen, HasFailed}
 use Rattle.device_bridge.specs.Image.{attached}
 use Rattle.device_clock.specs.Device.{Device, told_of, is_told_sound, tells, slots_told}
 use Rattle.device_clock.specs.Clock.{clock_of, off_in_of}
@@ -247,7 +247,8 @@ over_of false before desk hand d keeps = up_over desk.config desk.cap desk.entri
 seen_more : (kept other : ℕ → Type 0) (k : ℕ) (last : List ℕ) (xs ys : List Change) → ((n : ℕ) → kept n → other n) → AreSeen kept k last xs ys → AreSeen other k last xs ys
 seen_more kept other k last [] ys more seen = seen
 seen_more kept other k last (x ∷ xs) [] more ((is, same), rest) = ((more k is, same), seen_more kept other (k + 1) last xs [] more rest)
-seen_more kept other k last (x ∷ xs) (y ∷ ys) more (inl (place, same, rest)) = inl (place, same, seen_more kept other (k + 1) last xs ys more rest)
+seen_more kept other k last (x ∷ xs) (y ∷ ys) more (inl (place, same, answer, rest)) =
+    inl (place, same, elim answer [ inl told ↦ inl told | inr cut ↦ inr (more k cut.0, cut.1) ], seen_more kept other (k + 1) last xs ys more rest)
 seen_more kept other k last (x ∷ xs) (y ∷ ys) more (inr ((is, same), rest)) = inr ((more k is, same), seen_more kept other (k + 1) last xs (y ∷ ys) more rest)
 
 -- what the device told of its operations, by the clock that it tells
@@ -266,6 +267,7 @@ told_bridge m inner exit operations before d b = record {
   ops = b.ops;
   faults = b.faults;
   cuts = b.cuts;
+  failed = b.failed;
   worn = b.worn;
 }
   where
@@ -290,6 +292,10 @@ pub vouched : (c : Configuration) (inner : Told) (cuts : ℕ) (making : Making) 
     → Vouches (IsKept s.ready (one_part (part_at entry)) s.desk s.hand (told_of s.device) (told_clock s.device)) (payer_by told_of told_clock s) (part_at entry) (told_by told_of s) inner exit
 vouched c inner cuts making entry exit s e same halves origin config most back = record {
   operations = back.operations;
+  ops = own.ops;
+  failed = λ k few is.
+      let all = own.ops in
+      (few, own.failed k (omega (arith, few, all)) (subst (λ (x : Configuration). HasFailed (record { entry = inner; exit = exit; operations = back.operations }) k) config is));
   faults = λ rose. counted_rose inner.faults exit.faults (own.faults 1 (once (told_of s.device).first.faults (told_by told_of s).faults refl rose)) back.more;
   counted = λ n counted. own.faults n (in_first (part_at entry).faults (told_of s.device).first.faults (told_by told_of s).faults n refl counted);
   cuts = λ n counted. own.cuts n (subst (λ (k : ℕ). WereCounted n (part_at entry).planning.unplanned k) one_part_cuts counted);

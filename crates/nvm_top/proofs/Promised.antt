@@ -9,7 +9,7 @@ use Rattle.block_config.specs.Config.{Configuration}
 use Rattle.memif.specs.Told.{PartTold}
 use Rattle.fls_model.specs.Told.{Told, Change}
 use Rattle.device_bridge.specs.Image.{IsSoundFlash}
-use Rattle.device_bridge.specs.FlashRun.{FlashRun, TellsBytes, StartsSound}
+use Rattle.device_bridge.specs.FlashRun.{FlashRun, TellsBytes, StartsSound, HasFailed}
 use Rattle.nvm_script.specs.Printed.{history_text}
 use Rattle.nvm_script.specs.declared.step.StepKind.TheVariants as kind
 use Rattle.script_walks.specs.Words.{Step, StepKind}
@@ -29,8 +29,9 @@ use Rattle.nvm_top.specs.Ends.{HasPlayable}
 use Rattle.flash_stacks.specs.Made.{LeavesAlone}
 use Rattle.nvm_top.specs.Play.{IsStepsEnd}
 use Rattle.nvm_top.specs.Reading.{IsEarly}
-use Rattle.run_promise.specs.Turns.{Moment, BeginsAt, EndsBy, ArePaidSince, HasTurns, EachMove, ServesTurn, all_moves}
+use Rattle.run_promise.specs.Turns.{Moment, moment_behind, BeginsAt, EndsBy, ArePaidSince, HasTurns, EachMove, ServesTurn, all_moves}
 use Rattle.run_promise.proofs.Paid.{since_too}
+use Rattle.run_promise.proofs.Counted.{all_behind, counted_by}
 use Rattle.device_bridge.specs.Bridge.{IsWornOut}
 use Rattle.stack_steps.specs.Paying.{Payer}
 use Rattle.stack_steps.specs.Told.{StackTold, moment_of}
@@ -80,7 +81,7 @@ early_promise c steps entry exit stop end stops ends = record {
 }
 
 -- it failed by a fault of its own
-one_fault : (f : FlashRun) (end : End) → EndsAtStart f end → EndsBy (record { faults = 0; ops = 0; left = 0 }) f end
+one_fault : (f : FlashRun) (end : End) → EndsAtStart f end → EndsBy (record { faults = 0; ops = 0 }) f end
 one_fault f FlashFault (inl rose) = inl (omega (arith, rose))
 one_fault f FlashFault (inr (full, more)) = inr (omega (arith, full, more))
 one_fault f Memory ends = tt
@@ -90,10 +91,12 @@ one_fault f HistoryFull ends = tt
 -- no step was made
 early_turns : (c : Configuration) (steps : List Step) (entry exit : Told) (end : End) → entry.faults ≤ exit.faults → EndsAtStart (record { entry = entry; exit = exit; operations = [] }) end → HasTurns (job_turns c) (run_of c [] entry exit [] (Played [] [] steps) end) (Played [] [] steps)
 early_turns c steps entry exit end more ends = record {
-  first = record { faults = 0; ops = 0; left = 0 };
-  last = record { faults = 0; ops = 0; left = 0 };
+  first = record { faults = 0; ops = 0 };
+  last = record { faults = 0; ops = 0 };
   moves = record { moves = []; are = tt; tell = refl; behind = refl };
   begins = tt;
+  operations = refl;
+  failed = tt;
   counted = inl (omega (arith, more));
   ends = one_fault (record { entry = entry; exit = exit; operations = [] }) end ends;
   serves = tt;
@@ -292,6 +295,8 @@ has_run Kept p q c cuts all made left end before old t entry exit Tells started 
       last = walked.last;
       moves = walked.moves;
       begins = begins;
+      operations = walked.operations ∙ v.ops;
+      failed = counted_by q.failed (HasFailed (record { entry = entry; exit = exit; operations = v.operations })) t.ops v.failed (moment_of old) (all_moves walked.moves.moves) (omega (arith, moves_end)) walked.pays.counts;
       counted = v.counted walked.last.faults (let none = started.none in let all = walked.counted in inl (omega (arith, none, all)));
       ends = own;
       serves = serves;
@@ -307,6 +312,9 @@ has_run Kept p q c cuts all made left end before old t entry exit Tells started 
     -- its first entry is the start-up
     first : take 1 t.entries ≡ old.entries
     first = ap (take 1) (walked.grows ∙ ap (λ (h : List Entry). h ++ walked.more) started.fresh.entries) ∙ sym started.fresh.entries
+
+    moves_end : (moment_behind (moment_of old) (all_moves walked.moves.moves)).ops ≡ t.ops
+    moves_end = ap (λ (m : Moment). m.ops) (all_behind (moment_of old) walked.moves.moves ∙ walked.moves.behind) ∙ walked.operations
 
     begins : BeginsAt (moment_of old) t.entries
     begins =

@@ -1,6 +1,6 @@
 -- The machine that a command runs: a stack over a flash.
-use Rattle.std.specs.Prelude.{◌≡◌, ◌≤◌, ℕ, List, [], Some}
-use Rattle.nv_base.specs.Count.{Rose, WereCounted}
+use Rattle.std.specs.Prelude.{◌≡◌, ◌<◌, ◌≤◌, ℕ, List, [], length, min, Some}
+use Rattle.nv_base.specs.Count.{last_count, Rose, WereCounted}
 use Rattle.nv_base.specs.Geometry.{size_of}
 use Rattle.block_config.specs.Config.{Configuration}
 use Rattle.memif.specs.Told.{Part, First, Second, PartTold, no_part}
@@ -11,6 +11,7 @@ use Rattle.block_machine.specs.Words.{Entry}
 use Rattle.run_promise.specs.Run.{Run, Course, Played, End, cap, HasOrder, LeavesFlash, RefusalsExplain, offs_of_flash}
 use Rattle.run_promise.specs.Promise.{Promise, making_of}
 use Rattle.device_bridge.specs.Bridge.{IsWornOut}
+use Rattle.device_bridge.specs.FlashRun.{HasFailed}
 use Rattle.stack_steps.specs.Told.{StackTold}
 use Rattle.stack_steps.specs.Paying.{Payer}
 use Rattle.stack_steps.specs.Made.{IsFresh}
@@ -59,11 +60,13 @@ pub record StartsWell (c : Configuration) (entry : Told) : Type 0 where
 abbrev pub IsKeptFrom : Type 0 → Payer → StackTold → Type 0
 IsKeptFrom Kept p t = Kept × p.owes t.faults
 
--- The flash is given back: the faults and the cuts that the stack was told are its own, and where it says that it is worn
--- out the flash is; and where this was kept, a run that followed a script keeps the promise, where its steps explain its
--- refused copies and its power cuts.
+-- The flash is given back: the operations, the faults and the cuts that the stack was told are its own, what failed of them
+-- the stack was told of, and where it says that it is worn out the flash is; and where this was kept, a run that followed a
+-- script keeps the promise, where its steps explain its refused copies and its power cuts.
 pub record Vouches (Kept : Type 0) (p : Payer) (before : PartTold) (t : StackTold) (entry exit : Told) : Type 0 where
   pub operations : List Change
+  pub ops : t.ops ≡ min (length operations) last_count
+  pub failed : (k : ℕ) → k < t.ops → HasFailed (record { entry = entry; exit = exit; operations = operations }) k → p.failed k
   pub faults : Rose before.faults t.faults → Rose entry.faults exit.faults
   pub counted : (n : ℕ) → WereCounted n before.faults t.faults → WereCounted n entry.faults exit.faults
   pub cuts : (n : ℕ) → WereCounted n before.planning.unplanned t.causes.unplanned → WereCounted n entry.cuts exit.cuts

@@ -31,9 +31,9 @@ played_call input x entry exit written written' =
 
 -- What a run keeps over any flash: it follows its script, which explains its refused copies and its power cuts; and where
 -- nothing fails each job in hand is posted within its turns, and a drain leaves nothing pending. Its steps have their turns,
--- one by one, and each job is posted within its own, counted from its Pick; by their moments a start-up that failed at the
--- end had a fault of its own. Over a flash that tells its bytes, from a sound image on, each Post is paid by them since its
--- Pick, and the run keeps the promise.
+-- one by one, which make all operations of the flash and each count what failed in it, and each job is posted within its own,
+-- counted from its Pick; by their moments a start-up that failed at the end had a fault of its own. Over a flash that tells
+-- its bytes, from a sound image on, each Post is paid by them since its Pick, and the run keeps the promise.
 pub record KeepsRun (r : Run) : Type 0 where
   pub order : HasOrder r r.history
   pub refusals : (id : ℕ) → RefusalsExplain r.configuration r.course r.history id

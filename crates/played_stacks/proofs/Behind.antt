@@ -26,7 +26,8 @@ use Rattle.nvm_core.specs.Stack.{StackState, PowersOff}
 use Rattle.nvm_core.specs.Turns.{IsFirstHalf, IsSecondHalf}
 use Rattle.run_promise.specs.Run.{unpaid_off}
 use Rattle.script_walks.specs.Walk.{is_due, is_at_rest}
-use Rattle.stack_steps.specs.Calls.{Turns, IsAnswer, Lowers, is_pick}
+use Rattle.stack_steps.specs.Calls.{Turns, IsAnswer, Lowers}
+use Rattle.run_promise.specs.Turns.{is_picked}
 use Rattle.block_machine.specs.Prices.{block_price}
 use Rattle.played_walks.specs.Turn.{IsOfTurn}
 use Rattle.played_stacks.specs.Told.{told_by, refusable_in, untold_of, plan_in, unplanned_in}
@@ -131,7 +132,7 @@ module _ {D : Type 0} (device : D → DeviceTold) (clock : D → Clock) (steps :
     adds e is = subst (λ (x : DeskState). new.desk ≡ record x { entries = x.entries ++ e ∷ [] }) same_desk is
 
     -- a Wrote, or an Off
-    adds_one : (e : Entry) → ops_told e ≡ Some (ops_of (device new.device)) → (IsTrue (list_any is_pick (e ∷ [])) → ⊥) → new.desk ≡ record between.desk { entries = between.desk.entries ++ e ∷ [] }
+    adds_one : (e : Entry) → ops_told e ≡ Some (ops_of (device new.device)) → (IsTrue (list_any (λ e. is_picked (Some e)) (e ∷ [])) → ⊥) → new.desk ≡ record between.desk { entries = between.desk.entries ++ e ∷ [] }
         → ((id : ℕ) → (block_price id (state_of old.desk) e ≡ 0) × (untold_of id (step old.desk.config (state_of old.desk) e).hand ≡ untold_of id (state_of old.desk).hand))
         → IsOfTurn old.desk.config (state_of old.desk) (map store_of old.copies) e
         → WereCounted (sum_by (unpaid_off (plan_in (device old.device))) (e ∷ [])) (unplanned_in (device old.device)) (unplanned_in (device new.device))

@@ -1,12 +1,13 @@
 -- What the calls of a stack pay.
 use Rattle.std.specs.Prelude.{IfSome, min}
-use Rattle.std.proofs.Common.{◌≡◌, ◌≤◌, ◌+◌, ◌⊎◌, ℕ, Bool, true, if◌then◌else◌, List, [], ◌∷◌, ◌++◌, Option, Some, None, refl, sym, ap, ◌∙◌, subst, inl, inr, arith}
-use Rattle.nv_base.specs.Count.{last_count, WereCounted}
+use Rattle.std.proofs.lemmas.Bool.Decides.{leb_tells}
+use Rattle.std.proofs.Common.{◌≡◌, ◌<◌, ◌≤◌, ◌+◌, ◌⊎◌, ℕ, Bool, true, if◌then◌else◌, List, [], ◌∷◌, ◌++◌, Option, Some, None, refl, sym, ap, ◌∙◌, subst, inl, inr, arith}
+use Rattle.nv_base.specs.Count.{last_count, Rose, WereCounted}
 use Rattle.memif.specs.Told.{DeviceTold, Part, PartTold, faults_of}
 use Rattle.memif.specs.Clock.{Clock}
 use Rattle.memif.specs.Calls.{Arms}
 use Rattle.memif.specs.Trials.{Lasts}
-use Rattle.memif.proofs.Turning.{same_clock, still_lasts}
+use Rattle.memif.proofs.Turning.{same_clock, same_told, same_lasts as clock_lasts}
 use Rattle.block_machine.specs.Words.{Entry, Ask, Pick, Wrote, Post, Off, Found}
 use Rattle.block_machine.specs.Prices.{price_in_faults, sum_from}
 use Rattle.block_promise.specs.Payment.{IsExcused}
@@ -25,7 +26,7 @@ use Rattle.nvm_core.specs.Turns as core
 use Rattle.nvm_core.specs.Paying.{OwesSince, PaysSince, TurnPays, worn_so_far}
 use Rattle.nvm_core.proofs.Trying.{since_stays}
 use Rattle.run_promise.specs.Turns.{entry_list, is_picked}
-use Rattle.stack_steps.specs.Paying.{StaysWorn, PaysTurn, PaysNothing}
+use Rattle.stack_steps.specs.Paying.{StaysWorn, FailsNoMore, PaysTurn, PaysNothing}
 use Rattle.played_stacks.specs.Told.{told_by}
 use Rattle.played_stacks.specs.Kept.{IsKept}
 use Rattle.played_stacks.specs.Paying.{payer_by}
@@ -47,6 +48,19 @@ nothing_due a b less = inl (omega (arith, less))
 more_in : (l x y u v : ℕ) → x ≤ u → y ≤ v → min (x + y) l ≤ min (u + v) l
 more_in l x y u v first second = omega (arith, first, second)
 
+-- a sum of two counts rose with one of them
+rose_in : (x y u v : ℕ) → x ≤ u → y ≤ v → Rose x u ⊎ Rose y v → Rose (min (x + y) last_count) (min (u + v) last_count)
+rose_in x y u v first second rose = elim (leb_tells last_count (x + y)) [
+  | inl full ↦ let all = full.1 in inr (omega (arith, all), omega (arith, first, second))
+  | inr few ↦ inl (let less = few.1 in by less rose)
+]
+  where
+    by : x + y < last_count → Rose x u ⊎ Rose y v → min (x + y) last_count < min (u + v) last_count
+    by less (inl (inl more)) = omega (arith, less, more, second)
+    by less (inl (inr end)) = let all = end.0 in absurd (omega (arith, less, all))
+    by less (inr (inl more)) = omega (arith, less, more, first)
+    by less (inr (inr end)) = let all = end.0 in absurd (omega (arith, less, all))
+
 module _ {D : Type 0} (device : D → DeviceTold) (clock : D → Clock) (old new : StackState D (List PlainBlock)) where
   abbrev Keeps : Type 0
   Keeps = (before : Part → PartTold) → IsKept old.ready before old.desk old.hand (device old.device) (clock old.device) → IsKept new.ready before new.desk new.hand (device new.device) (clock new.device)
@@ -58,8 +72,11 @@ module _ {D : Type 0} (device : D → DeviceTold) (clock : D → Clock) (old new
     stays_worn : StaysWorn (payer_by device clock old) (payer_by device clock new)
     stays_worn k n (few, is) = (let later = lasts.ops in omega (arith, few, later), lasts.past.worn k n few is)
 
-    pub nothing_paid : Owes → PaysNothing (payer_by device clock old) (payer_by device clock new) (told_by device new)
-    nothing_paid owes = record { worn = stays_worn; owes = λ since was. (((was.0.0, keeps was.0.0 was.0.1), owes since was.1), (owes since was.1).0) }
+    fails_no_more : FailsNoMore (device old.device).ops (payer_by device clock old) (payer_by device clock new)
+    fails_no_more k before (few, is) = (before, (lasts.past.failed k before).0 is)
+
+    pub nothing_paid : (device new.device).ops ≡ (device old.device).ops → Owes → PaysNothing (payer_by device clock old) (payer_by device clock new) (told_by device new)
+    nothing_paid none owes = record { worn = stays_worn; failed = λ k is. (let few = is.0 in fails_no_more k (omega (arith, few, none)) is); owes = λ since was. (((was.0.0, keeps was.0.0 was.0.1), owes since was.1), (owes since was.1).0) }
 
     -- A TURN
     module _ (since : ℕ) (before : Part → PartTold) (kept : IsKept new.ready before new.desk new.hand (device new.device) (clock new.device))
@@ -93,6 +110,9 @@ module _ {D : Type 0} (device : D → DeviceTold) (clock : D → Clock) (old new
     pub turn_paid : old.ready ≡ true → TurnPays device clock old new → PaysTurn (payer_by device clock old) (payer_by device clock new) (told_by device old) (told_by device new)
     turn_paid ready pays = record {
       worn = stays_worn;
+      failed = fails_no_more;
+      counts = λ k le lt (few, is).
+          rose_in (device old.device).first.faults (device old.device).second.faults (device new.device).first.faults (device new.device).second.faults lasts.faults.0 lasts.faults.1 (lasts.failed k le lt is);
       pays = λ since m was behind entries.
           let before = was.0.0 in
           let kept = subst (λ (b : Bool). IsKept b before old.desk old.hand (device old.device) (clock old.device)) ready was.0.1 in
@@ -106,7 +126,7 @@ module _ {D : Type 0} (device : D → DeviceTold) (clock : D → Clock) (old new
   -- OTHER CALLS
   same_lasts : new.device ≡ old.device → Lasts (device old.device) (clock old.device) (device new.device) (clock new.device)
   same_lasts same =
-      subst (λ (x : D). Lasts (device old.device) (clock old.device) (device x) (clock x)) (sym same) (still_lasts (device old.device) (clock old.device) (device old.device) (clock old.device) refl (same_clock (clock old.device)))
+      subst (λ (x : D). Lasts (device old.device) (clock old.device) (device x) (clock x)) (sym same) (same_told (device old.device) (clock old.device) (device old.device) (clock old.device) refl (same_clock (clock old.device)))
 
   same_owes : new.device ≡ old.device → new.hand ≡ old.hand → Owes
   same_owes same hand since owes =
@@ -114,7 +134,7 @@ module _ {D : Type 0} (device : D → DeviceTold) (clock : D → Clock) (old new
 
   -- the device and the job in hand stay
   pub same_paid : Keeps → new.device ≡ old.device → new.hand ≡ old.hand → PaysNothing (payer_by device clock old) (payer_by device clock new) (told_by device new)
-  same_paid keeps same hand = nothing_paid keeps (same_lasts same) (same_owes same hand)
+  same_paid keeps same hand = nothing_paid keeps (same_lasts same) (ap (λ (x : D). (device x).ops) same) (same_owes same hand)
 
   -- so do all but the copies
   pub copies_paid : (xs : List PlainBlock) → new ≡ record old { copies = xs } → PaysNothing (payer_by device clock old) (payer_by device clock new) (told_by device new)
@@ -128,8 +148,8 @@ module _ {D : Type 0} (device : D → DeviceTold) (clock : D → Clock) (old new
   arm_paid keeps nth keep hand arms =
       let ops : (device new.device).ops ≡ (device old.device).ops = ap (λ (d : DeviceTold). d.ops) arms.0 in
       let faults : faults_of (device new.device) ≡ faults_of (device old.device) = ap faults_of arms.0 in
-      let lasts = still_lasts (device old.device) (clock old.device) (device new.device) (clock new.device) ops arms.1.same in
-      nothing_paid keeps lasts (λ since owes.
+      let lasts = clock_lasts (device old.device) (clock old.device) (device new.device) (clock new.device) ops (ap (λ (d : DeviceTold). d.first.faults) arms.0) (ap (λ (d : DeviceTold). d.second.faults) arms.0) arms.1.same in
+      nothing_paid keeps lasts ops (λ since owes.
       subst (λ (h : Option HandState). OwesSince since h (device new.device) (clock new.device)) (sym hand)
       (since_stays old.desk.config since (device old.device) (clock old.device) (device new.device) (clock new.device) lasts.ops (omega (arith, faults)) lasts.past.worn old.hand owes))
 
@@ -144,6 +164,12 @@ module _ {D : Type 0} (device : D → DeviceTold) (clock : D → Clock) (old new
 
   unchanged : new ≡ old → Owes
   unchanged is = same_owes (ap (λ (s : StackState D (List PlainBlock)). s.device) is) (ap (λ (s : StackState D (List PlainBlock)). s.hand) is)
+
+  pub restart_ops : (answer : FoundAnswer) → Restarts device answer old new → (device new.device).ops ≡ (device old.device).ops
+  restart_ops found.Ready restarts = restarts.finds.up.restarted.ops
+  restart_ops found.Failed restarts = restarts.fails.restarted.ops
+  restart_ops found.NoRoom restarts = ap (λ (s : StackState D (List PlainBlock)). (device s.device).ops) restarts.0
+  restart_ops found.Memory restarts = ap (λ (s : StackState D (List PlainBlock)). (device s.device).ops) restarts
 
   pub restart_owes : (answer : FoundAnswer) → Restarts device answer old new → Owes
   restart_owes found.Ready restarts = none_owed (ap (λ (s : StackState D (List PlainBlock)). s.hand) restarts.only) (restarted_more restarts.finds.up.restarted)

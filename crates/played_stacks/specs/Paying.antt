@@ -1,5 +1,5 @@
 -- What is known of payment, of a stack whose application stores in memory.
-use Rattle.std.specs.Prelude.{List}
+use Rattle.std.specs.Prelude.{◌<◌, List}
 use Rattle.memif.specs.Told.{DeviceTold, Part, PartTold}
 use Rattle.memif.specs.Clock.{Clock}
 use Rattle.ram_blocks.specs.declared.plain_block.PlainBlock.{PlainBlock}
@@ -9,9 +9,10 @@ use Rattle.stack_steps.specs.Paying.{Payer}
 use Rattle.played_stacks.specs.Kept.{IsKept}
 
 -- All is kept, by what was told before the first start-up, and the failed tries of the job in hand were counted since; the
--- device was worn out where its clock tells it, by the operations so far.
+-- device was worn out, and operations failed, where its clock tells it, of the operations so far.
 abbrev pub payer_by : {D : Type 0} → (device : D → DeviceTold) → (clock : D → Clock) → StackState D (List PlainBlock) → Payer
 payer_by device clock s = record {
   owes = λ since. ((before : Part → PartTold) × IsKept s.ready before s.desk s.hand (device s.device) (clock s.device)) × OwesSince since s.hand (device s.device) (clock s.device);
   worn = worn_so_far (device s.device) (clock s.device);
+  failed = λ k. (k < (device s.device).ops) × (clock s.device).failed k;
 }

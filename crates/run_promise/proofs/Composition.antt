@@ -48,7 +48,8 @@ pays of all c worn other before after first last h more counts paid = record { f
 seen_too : (kept other : ℕ → Type 0) (k : ℕ) (last : List ℕ) (xs ys : List Change) → ((n : ℕ) → kept n → other n) → AreSeen kept k last xs ys → AreSeen other k last xs ys
 seen_too kept other k last [] ys more seen = seen
 seen_too kept other k last (x ∷ xs) [] more ((is, same), rest) = ((more k is, same), seen_too kept other (k + 1) last xs [] more rest)
-seen_too kept other k last (x ∷ xs) (y ∷ ys) more (inl (place, same, rest)) = inl (place, same, seen_too kept other (k + 1) last xs ys more rest)
+seen_too kept other k last (x ∷ xs) (y ∷ ys) more (inl (place, same, answer, rest)) =
+    inl (place, same, elim answer [ inl told ↦ inl told | inr cut ↦ inr (more k cut.0, cut.1) ], seen_too kept other (k + 1) last xs ys more rest)
 seen_too kept other k last (x ∷ xs) (y ∷ ys) more (inr ((is, same), rest)) = inr ((more k is, same), seen_too kept other (k + 1) last xs (y ∷ ys) more rest)
 
 -- an operation of the flash is one that the device asked for

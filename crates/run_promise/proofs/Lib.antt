@@ -1,5 +1,6 @@
 mod Founds
 pub mod Paid
+pub mod Counted
 mod Composition
 mod Spells
 mod WrongOrders
@@ -9,3 +10,4 @@ mod KeptRuns
 mod LostWrite
 mod WrongCalls
 mod OneByOne
+mod Failing

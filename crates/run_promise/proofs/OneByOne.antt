@@ -1,6 +1,6 @@
 -- Turns, one by one.
 use Rattle.std.specs.Prelude.{map, IfSome}
-use Rattle.std.proofs.Common.{◌≡◌, ◌⊎◌, ◌≤◌, ◌<◌, ◌+◌, ◌-◌, ℕ, IsTrue, List, [], ◌∷◌, ◌++◌, length, Option, Some, None, refl, sym, ap, ◌∙◌, subst, inl, inr, arith, append-nil}
+use Rattle.std.proofs.Common.{◌≡◌, ◌⊎◌, ◌≤◌, ◌<◌, ◌+◌, ◌-◌, ℕ, zero, suc, IsTrue, List, [], ◌∷◌, ◌++◌, length, Option, Some, None, refl, sym, ap, ◌∙◌, subst, inl, inr, arith, append-nil}
 use Rattle.nv_base.specs.Count.{WereCounted}
 use Rattle.nv_base.specs.Entry.{ops_of}
 use Rattle.script_walks.specs.Words.{Step, AskStep, Turn}
@@ -9,12 +9,13 @@ use Rattle.block_machine.specs.Words.{Fine, Content, Write, Accepted, Entry, Ask
 use Rattle.block_machine.specs.State.{State, Job}
 use Rattle.block_machine.specs.Blocks.{job_block}
 use Rattle.block_machine.specs.Steps.{after, after_from}
-use Rattle.run_promise.specs.Turns.{Moment, Move, entry_list, entries_of, moment_behind, moment_after, IsTurnMade, AreTurnsMade, AreMoves, IsPostedWithin, EachMove, ServesTurn, HasTurns, is_asked, is_found, is_picked, all_moves}
+use Rattle.run_promise.specs.Turns.{Moment, Move, entry_list, entries_of, moment_behind, moment_after, IsTurnMade, AreTurnsMade, AreMoves, IsPostedWithin, EachMove, ServesTurn, CountsOwn, HasTurns, is_asked, is_found, is_picked, all_moves}
+use Rattle.device_bridge.specs.FlashRun.{HasFailed}
 use Rattle.run_promise.specs.Cases.{small, one, picks_one, always, six_turns, lazy, leaps}
 
 -- LISTS
 
-two_lists : {X : Type 0} (a b x y : X) → a ∷ b ∷ [] ≡ x ∷ y ∷ [] → (a ≡ x) × (b ≡ y)
+pub two_lists : {X : Type 0} (a b x y : X) → a ∷ b ∷ [] ≡ x ∷ y ∷ [] → (a ≡ x) × (b ≡ y)
 two_lists a b x y is = (cc is, cc is)
 
 one_list : {X : Type 0} (a x : X) (xs ys : List X) → a ∷ xs ≡ x ∷ ys → (a ≡ x) × (xs ≡ ys)
@@ -63,17 +64,17 @@ no_count n (inr full) = omega (arith, full)
 
 -- SIX TURNS
 
-abbrev at_ops : ℕ → Moment
-at_ops n = record { faults = 0; ops = n; left = 0 }
+abbrev pub at_ops : ℕ → Moment
+at_ops n = record { faults = 0; ops = n }
 
-turn_to : (n m : ℕ) (o : Option Entry) → n ≤ m → m ≤ n + 1 → IfSome o (λ e. ops_of e ≡ Some m) → IsTurnMade (at_ops n) (record { entry = o; behind = at_ops m })
+pub turn_to : (n m : ℕ) (o : Option Entry) → n ≤ m → m ≤ n + 1 → IfSome o (λ e. ops_of e ≡ Some m) → IsTurnMade (at_ops n) (record { entry = o; behind = at_ops m })
 turn_to n m o more one told = record { faults = omega arith; ops = more; one = one; told = told }
 
 -- a turn that adds nothing
 passes : (id n : ℕ) (ops : ℕ) (ms : List Move) → 1 < n → IsPostedWithin id (n - 1) 0 ms → IsPostedWithin id n 0 (record { entry = None; behind = at_ops ops } ∷ ms)
 passes id n ops ms some later = inr (inr (inr (inr (inr (some, later)))))
 
-abbrev asked_one : Entry
+abbrev pub asked_one : Entry
 asked_one = Ask 0 (Write 2 (Some one) 0) Accepted
 
 abbrev wrote_one : Entry
@@ -105,7 +106,7 @@ in_time =
     passes 2 8 1 (no_entry 2 ∷ no_entry 3 ∷ wrote_move ∷ posted_move ∷ []) (omega arith)
     (passes 2 7 2 (no_entry 3 ∷ wrote_move ∷ posted_move ∷ []) (omega arith) (passes 2 6 3 (wrote_move ∷ posted_move ∷ []) (omega arith) wrote_there))
 
-abbrev asked : State
+abbrev pub asked : State
 asked = after small (Found [] 0 ∷ asked_one ∷ [])
 
 abbrev picked : State
@@ -117,6 +118,16 @@ picked_block j hand = sym (ap job_block (some_same _ j hand))
 -- no fault is due, and none was counted
 free : {E : Type 0} → WereCounted 0 0 0 ⊎ E
 free = inl (inl (omega arith))
+
+all_done : (k : ℕ) → HasFailed six_turns.flash k → ⊥
+all_done zero (x, at, is) = cc (at, is)
+all_done (suc zero) (x, at, is) = cc (at, is)
+all_done (suc (suc zero)) (x, at, is) = cc (at, is)
+all_done (suc (suc (suc zero))) (x, at, is) = cc (at, is)
+all_done (suc (suc (suc (suc k)))) (x, at, is) = cc at
+
+none_fails : (n m : ℕ) {o : Option Entry} → n ≤ m → CountsOwn (HasFailed six_turns.flash) (at_ops n) (record { entry = o; behind = at_ops m })
+none_fails n m more = record { later = more; own = λ k le lt failed. absurd (all_done k failed) }
 
 pub six_kept : HasTurns (always 8) six_turns six_turns.course
 six_kept = record {
@@ -147,6 +158,8 @@ six_kept = record {
     behind = refl;
   };
   begins = refl;
+  operations = refl;
+  failed = (none_fails 0 0 (omega arith), (none_fails 0 0 (omega arith), (none_fails 0 1 (omega arith), (none_fails 1 2 (omega arith), (none_fails 2 3 (omega arith), (none_fails 3 4 (omega arith), (none_fails 4 4 (omega arith), tt)))))));
   counted = inl (omega arith);
   ends = tt;
   serves = (
@@ -170,7 +183,7 @@ six_kept = record {
 
 -- NINE TURNS
 
-abbrev asks_step : Step
+abbrev pub asks_step : Step
 asks_step = record { line = 0; caller = 0; kind = AskStep (Write 2 (Some one) 0) }
 
 -- a turn goes by no job that is due

@@ -3,7 +3,8 @@ use Rattle.std.specs.Prelude.{ℕ, ◌+◌, ◌-◌, ◌*◌, true, false, List,
 use Rattle.nv_base.specs.Plan.{no_planning}
 use Rattle.block_config.specs.DemoConfig.{demo_config}
 use Rattle.block_config.specs.Block.{plain_block, manager_block}
-use Rattle.fls_model.specs.declared.flash.FlashAnswer.TheVariants.{Done, Off as FlashOff}
+use Rattle.fls_model.specs.declared.flash.FlashAnswer.{FlashAnswer}
+use Rattle.fls_model.specs.declared.flash.FlashAnswer.TheVariants.{Done, Failed, Off as FlashOff}
 use Rattle.fls_model.specs.Op.{Program, Erase}
 use Rattle.fls_model.specs.Told.{Told, Change}
 use Rattle.fee_format.specs.Pages.{gate_page}
@@ -13,10 +14,10 @@ use Rattle.nvm_script.specs.declared.script.Mode.TheVariants as mode
 use Rattle.script_walks.specs.Words.{StepKind, AskStep, Store, Turn, Drain, Restart, Cut}
 use Rattle.block_machine.specs.Words.{Fine, NotOk, Content, Write, SetLock, Status, Accepted, StatusIs, WriteJob, TookContent, TookStale, Entry, Ask, Pick, Wrote, Post, Off, Found, BlockDesc, Dataset, Sync, Configuration}
 use Rattle.block_machine.specs.State.{State, Job}
-use Rattle.device_bridge.specs.FlashRun.{FlashRun}
+use Rattle.device_bridge.specs.FlashRun.{FlashRun, HasFailed}
 use Rattle.run_promise.specs.Call.{Call}
 use Rattle.run_promise.specs.Promise.{Promise}
-use Rattle.run_promise.specs.Turns.{Moment, Move, ArePaidSince}
+use Rattle.run_promise.specs.Turns.{Moment, Move, CountFailed, ArePaidSince}
 use Rattle.block_machine.specs.Steps.{after}
 use Rattle.run_promise.specs.Run.{Run, Played, Ran, Whole, FlashFault, HistoryFull, Memory}
 
@@ -202,9 +203,20 @@ ends_for_nothing = record quiet { end = FlashFault }
 abbrev pub at_rest : FlashRun
 at_rest = unchanged [] blank
 
+-- one whose operations were answered so
+abbrev pub answering : List FlashAnswer → FlashRun
+answering answers = record at_rest { operations = map (λ a. record { op = Erase 0 160; before = blank; answer = a }) answers }
+
+abbrev pub four_done : List FlashAnswer
+four_done = Done ∷ Done ∷ Done ∷ Done ∷ []
+
 -- a write is posted with the sixth of six turns, and its record is four operations
 abbrev pub six_turns : Run
-six_turns = plays (asks_one ∷ (Turn 6, picks_one ∷ written_at 4) ∷ []) at_rest
+six_turns = plays (asks_one ∷ (Turn 6, picks_one ∷ written_at 4) ∷ []) (answering four_done)
+
+-- the flash made an operation, and no step did
+abbrev pub untold : Run
+untold = plays [] (answering (Done ∷ []))
 
 -- nine turns pick the job, and make no more of it
 abbrev pub lazy : Run
@@ -220,7 +232,35 @@ faulty n = record at_rest { exit = record at_rest.exit { faults = n } }
 
 -- after so many faults, before any operation
 abbrev pub at_faults : ℕ → Moment
-at_faults n = record { faults = n; ops = 0; left = 0 }
+at_faults n = record { faults = n; ops = 0 }
+
+-- its first operation failed, and one fault was counted
+abbrev pub failed_once : List FlashAnswer → FlashRun
+failed_once others = record (answering (Failed ∷ others)) { exit = record at_rest.exit { faults = 1 } }
+
+-- a Pick, and then the operation that failed: with so many faults behind it, and behind the Post
+abbrev pub failed_at : ℕ → ℕ → List Move
+failed_at own later =
+    record { entry = Some picks_one; behind = at_faults 0 }
+    ∷ record { entry = None; behind = record { faults = own; ops = 1 } }
+    ∷ record { entry = Some (Post 2 NotOk None 0 1); behind = record { faults = later; ops = 1 } } ∷ []
+
+abbrev pub CountsFailed : ℕ → ℕ → Type 0
+CountsFailed own later = CountFailed (HasFailed (failed_once [])) (at_faults 0) (failed_at own later)
+
+-- a write whose first operation failed, and whose record a retry made
+abbrev pub mended : Run
+mended = plays (asks_one ∷ (Turn 7, picks_one ∷ written_at 5) ∷ []) (failed_once four_done)
+
+-- a further write is posted as failed, with no fault of its own
+abbrev pub posts_on_credit : Run
+posts_on_credit =
+    plays (asks_one ∷ (Turn 7, picks_one ∷ written_at 5) ∷ asks_one ∷ (Turn 2, Pick 2 WriteJob (TookContent one 0) 5 ∷ Post 2 NotOk None 0 5 ∷ []) ∷ [])
+    (failed_once four_done)
+
+-- a start-up fails with no fault of its own, once an operation failed
+abbrev pub starts_on_credit : Run
+starts_on_credit = record (plays (asks_one ∷ (Turn 2, picks_one ∷ []) ∷ []) (failed_once [])) { end = FlashFault }
 
 -- The write that is tried twice is posted as failed, with so many faults behind its Post as many were before its Pick, or
 -- more. Those before it were other jobs'.

@@ -1,6 +1,6 @@
 -- The turns that a run of `play` made, one by one.
-use Rattle.std.specs.Prelude.{◌≡◌, ◌⊎◌, ◌<◌, ◌≤◌, ◌+◌, ◌-◌, ℕ, not, ◌||◌, if◌then◌else◌, Bool, true, false, IsTrue, List, [], ◌∷◌, ◌++◌, length, map, take, Option, Some, None, IfSome}
-use Rattle.nv_base.specs.Count.{Rose, WereCounted}
+use Rattle.std.specs.Prelude.{◌≡◌, ◌⊎◌, ◌<◌, ◌≤◌, ◌+◌, ◌-◌, ℕ, not, ◌||◌, if◌then◌else◌, Bool, true, false, IsTrue, List, [], ◌∷◌, ◌++◌, length, map, take, min, Option, Some, None, IfSome}
+use Rattle.nv_base.specs.Count.{last_count, Rose, WereCounted}
 use Rattle.nv_base.specs.Entry.{ops_of}
 use Rattle.script_walks.specs.Words.{Step, StepKind, AskStep, Turn, Drain, Restart}
 use Rattle.block_machine.specs.Words.{Entry, Ask, Pick, Found, Configuration}
@@ -12,16 +12,15 @@ use Rattle.block_promise.specs.Payment.{Worn, IsExcused}
 use Rattle.script_walks.specs.Walk.{is_due, begins_with_pick_or_post}
 use Rattle.run_promise.specs.Completeness.{is_calm_entry, ends_job}
 use Rattle.run_promise.specs.Promise.{making_of}
-use Rattle.device_bridge.specs.FlashRun.{FlashRun, TellsBytes, StartsSound}
+use Rattle.device_bridge.specs.FlashRun.{FlashRun, TellsBytes, StartsSound, HasFailed}
 use Rattle.device_bridge.specs.Bridge.{IsWornOut}
 use Rattle.run_promise.specs.Run.{Run, Course, Played, Ran, End, FlashFault}
 
 -- MOMENTS AND MOVES
--- what the device told at a moment: its faults and its operations so far; and the turns that were left, where no fault comes
+-- what the device told at a moment: its faults and its operations so far
 pub record Moment : Type 0 where
   pub faults : ℕ
   pub ops : ℕ
-  pub left : ℕ
 
 -- what a step did at once, a turn, a request or a start-up: the entry that it added, if it added one, and the moment behind it
 pub record Move : Type 0 where
@@ -155,6 +154,16 @@ ArePaidSince c worn since before s (m ∷ ms) =
     IsPaidSince c worn since s m
     × ArePaidSince c worn (if is_picked m.entry then before.faults else since) m.behind (after_from c s (entry_list m.entry)) ms
 
+-- COUNTED IN ITS MOVE
+-- a move takes no operation back, and counts a fault where one of its own failed
+pub record CountsOwn (failed : ℕ → Type 0) (before : Moment) (m : Move) : Type 0 where
+  pub later : before.ops ≤ m.behind.ops
+  pub own : (k : ℕ) → before.ops ≤ k → k < m.behind.ops → failed k → Rose before.faults m.behind.faults
+
+abbrev pub CountFailed : (ℕ → Type 0) → Moment → List Move → Type 0
+CountFailed failed before [] = Unit {0}
+CountFailed failed before (m ∷ ms) = CountsOwn failed before m × CountFailed failed m.behind ms
+
 -- the moves of all steps, one after another
 abbrev pub all_moves : List (List Move) → List Move
 all_moves [] = []
@@ -172,15 +181,17 @@ EndsBy last f FlashFault = WereCounted (last.faults + 1) f.entry.faults f.exit.f
 EndsBy last f end = Unit {0}
 
 -- A RUN
--- Each step of `play` that was made has its moves, from a moment behind the first start-up on; and the flash counted the
--- faults that they tell, and one more where a start-up failed behind them. Each job is posted within its most turns, counted
--- from its Pick; and over a flash that tells its bytes, from a sound image on, each Post is paid since the last Pick before
--- it, or the flash was worn out.
+-- Each step of `play` that was made has its moves, from a moment behind the first start-up on. They make all operations of
+-- the flash, and each that failed is counted in its own move; the flash counted the faults that they tell, and one more where
+-- a start-up failed behind them. Each job is posted within its most turns, counted from its Pick; and over a flash that tells
+-- its bytes, from a sound image on, each Post is paid since the last Pick before it, or the flash was worn out.
 pub record KeepsTurns (most : State → Job → ℕ) (r : Run) (made : List Step) (pieces : List (List Entry)) : Type 0 where
   pub first : Moment
   pub last : Moment
   pub moves : HasMoves made pieces first last
   pub begins : BeginsAt first r.history
+  pub operations : last.ops ≡ min (length r.flash.operations) last_count
+  pub failed : CountFailed (HasFailed r.flash) first (all_moves moves.moves)
   pub counted : WereCounted last.faults r.flash.entry.faults r.flash.exit.faults
   pub ends : EndsBy last r.flash r.end
   pub serves : EachMove r.configuration (ServesTurn r.configuration most) (after r.configuration (take 1 r.history)) (all_moves moves.moves)

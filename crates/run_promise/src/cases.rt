@@ -11,7 +11,7 @@ ghost use Rattle.run_promise.specs.Call.{IsRunOf, text_of};
 ghost use Rattle.run_promise.specs.Completeness.{Completeness};
 ghost use Rattle.run_promise.specs.Run.{FlashFault};
 ghost use Rattle.run_promise.specs.Turns.{BeginsAt, EndsBy, HasTurns};
-ghost use Rattle.run_promise.specs.Cases.{six_turns, lazy, leaps, at_faults, faulty, PaysFailed, BreaksBy, small, quiet, wiped, empty_at_11, made_up_mark, off_without_a_cut, stale_in_play, invented_store, second_found, other_dataset, worn_but_roomy, worn_and_full, kept_write, lost_write, two_callers, written_at, always, turned, not_drained, ends_for_nothing, demo_run, demo_call};
+ghost use Rattle.run_promise.specs.Cases.{six_turns, lazy, leaps, at_faults, faulty, PaysFailed, CountsFailed, mended, posts_on_credit, starts_on_credit, untold, BreaksBy, small, quiet, wiped, empty_at_11, made_up_mark, off_without_a_cut, stale_in_play, invented_store, second_found, other_dataset, worn_but_roomy, worn_and_full, kept_write, lost_write, two_callers, written_at, always, turned, not_drained, ends_for_nothing, demo_run, demo_call};
 
 use fee_image::{blank_images, images_compute, soundness_computes, torn_erases_keep_soundness};
 
@@ -99,5 +99,19 @@ pub fn turns_one_by_one()
     ensures on_credit { PaysFailed 2 → ⊥ }
     ensures own_end { EndsBy (at_faults 2) (faulty 3) FlashFault }
     ensures end_on_credit { EndsBy (at_faults 2) (faulty 2) FlashFault → ⊥ }
-    ensures begins_late { BeginsAt (record { faults = 0; ops = 4; left = 0 }) six_turns.history → ⊥ }
+    ensures begins_late { BeginsAt (record { faults = 0; ops = 4 }) six_turns.history → ⊥ }
 {}
+
+/// An operation that failed is counted in its own move and in no later one, and a write that a retry mends has its turns.
+/// Its fault pays neither for a further write that is posted as failed, nor for a start-up that fails behind it; and no
+/// operation of the flash is left out of the moves.
+pub fn failures_are_counted_in_their_moves()
+    ensures own { CountsFailed 1 1 }
+    ensures told_late { CountsFailed 0 1 → ⊥ }
+    ensures mended { HasTurns (always 8) mended mended.course }
+    ensures posts_on_credit { HasTurns (always 8) posts_on_credit posts_on_credit.course → ⊥ }
+    ensures starts_on_credit { HasTurns (always 8) starts_on_credit starts_on_credit.course → ⊥ }
+    ensures untold { HasTurns (always 8) untold untold.course → ⊥ }
+{
+    soundness_computes();
+}

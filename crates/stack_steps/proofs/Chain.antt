@@ -86,7 +86,7 @@ state_moved go m v u one =
 -- behind this a job in hand is posted within its turns
 abbrev Posts : List Move → Shown → Type 0
 Posts ms v =
-    (id n : ℕ) (j : Job) → (state_in v).hand ≡ Some j → job_block j ≡ id → v.moment.left ≤ n → IsWithinTurns v → (state_in v).off ≡ false
+    (id n : ℕ) (j : Job) → (state_in v).hand ≡ Some j → job_block j ≡ id → v.left ≤ n → IsWithinTurns v → (state_in v).off ≡ false
     → IsPostedWithin id n v.moment.faults ms
 
 module _ (go : HistoriesGoOn) where
@@ -117,12 +117,12 @@ module _ (go : HistoriesGoOn) where
 
       waiting : Posts ms u → IsTrue (is_asked m.entry) → IsPostedWithin id n v.moment.faults ms
       waiting again asked =
-          let (same, keeps) = one.waits asked in
+          let (same, left_same, keeps) = one.waits asked in
           let (still, power) = asked_stays v.configuration (state_in v) m.entry asked in
           subst (λ (x : Moment). IsPostedWithin id n x.faults ms) same
-          (again id n j (ap (λ (s : State). s.hand) state ∙ still ∙ hand) block (subst (λ (x : Moment). x.left ≤ n) (sym same) left) (keeps within) (ap (λ (s : State). s.off) state ∙ power ∙ on))
+          (again id n j (ap (λ (s : State). s.hand) state ∙ still ∙ hand) block (omega (arith, left, left_same)) (keeps within) (ap (λ (s : State). s.off) state ∙ power ∙ on))
 
-      held : Posts ms u → (state_in u).off ≡ false → IsWithinTurns u → u.moment.left + 1 ≤ v.moment.left → ((k : Job) × ((after_from v.configuration (state_in v) es).hand ≡ Some k) × (job_block k ≡ job_block j))
+      held : Posts ms u → (state_in u).off ≡ false → IsWithinTurns u → u.left + 1 ≤ v.left → ((k : Job) × ((after_from v.configuration (state_in v) es).hand ≡ Some k) × (job_block k ≡ job_block j))
           → (1 < n) × IsPostedWithin id (n - 1) m.behind.faults ms
       held again on_still keeps fewer (k, now, same) =
           let here : (state_in u).hand ≡ Some k = ap (λ (s : State). s.hand) state ∙ now in

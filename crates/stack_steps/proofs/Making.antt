@@ -140,7 +140,7 @@ restart_made one others steps starts p q before line caller old new starts_again
       tell = refl;
       behind = refl;
       chain = start_chain marks ops old new (ap (λ t. t.configuration) same) (ap (λ t. t.most) same) (ap (λ t. t.entries) same);
-      pays = found_pays p q marks ops old new pays;
+      pays = found_pays p q marks ops old new starts_again.operations pays;
       is = (tt, (found_takes old.configuration before (copies_by old.configuration (next_of old.configuration (state_of old))) marks ops, tt));
       kept = subst (λ (t : StackTold). IsKept (before ++ x ∷ []) t) (sym same) (record {
         ready = refl;

@@ -14,9 +14,10 @@ use Rattle.block_machine.specs.Steps.{after_from}
 use Rattle.machine_laws.specs.Laws.{HistoriesGoOn}
 use Rattle.stack_steps.specs.Told.{StackTold, state_of, moment_of, IsGrown}
 use Rattle.stack_steps.specs.Paying.{Payer, PaysTurn, PaysBy}
+use Rattle.run_promise.proofs.Counted.{behind_more}
 use Rattle.stack_steps.proofs.Grown.{state_grown}
 use Rattle.stack_steps.proofs.Paying.{none_pays, by_more}
-use Rattle.stack_steps.specs.Calls.{AllTell, AddsAsk, is_pick}
+use Rattle.stack_steps.specs.Calls.{AllTell, AddsAsk}
 use Rattle.stack_steps.specs.Chain.{Shown, shown_of, ServesIn, IsMoved, AreMoved}
 use Rattle.stack_steps.proofs.Chain.{moved_more, all_more}
 use Rattle.stack_steps.specs.Kept.{MakesTurn, AreMade}
@@ -26,10 +27,6 @@ use Rattle.stack_steps.specs.Kept.{MakesTurn, AreMade}
 pub turns_more : (m : Moment) (xs ys : List Move) → AreTurnsMade m xs → AreTurnsMade (moment_behind m xs) ys → AreTurnsMade m (xs ++ ys)
 turns_more m [] ys one two = two
 turns_more m (x ∷ xs) ys one two = (one.0, turns_more x.behind xs ys one.1 two)
-
-pub behind_more : (m : Moment) (xs ys : List Move) → moment_behind m (xs ++ ys) ≡ moment_behind (moment_behind m xs) ys
-behind_more m [] ys = refl
-behind_more m (x ∷ xs) ys = behind_more x.behind xs ys
 
 pub entries_more : (xs ys : List Move) → entries_of (xs ++ ys) ≡ entries_of xs ++ entries_of ys
 entries_more [] ys = refl
@@ -48,10 +45,6 @@ made_more go p q r old mid new es more xs ys grows one two = record {
   pays = by_more go p q r old mid xs ys (ap (λ (t : StackTold). t.configuration) grows) one.behind
       (state_grown go old mid es grows ∙ ap (after_from old.configuration (state_of old)) one.tell) one.pays two.pays;
 }
-
-pub all_behind : (m : Moment) (mss : List (List Move)) → moment_behind m (all_moves mss) ≡ moment_after m mss
-all_behind m [] = refl
-all_behind m (ms ∷ mss) = behind_more m ms (all_moves mss) ∙ all_behind (moment_behind m ms) mss
 
 -- the entries behind moves
 pub moved_entries : (ms : List Move) (v w : Shown) → AreMoved ms v w → w.entries ≡ v.entries ++ entries_of ms
@@ -92,7 +85,7 @@ no_ask c s stores (Off ops ∷ es) turn is = cc is
 no_ask c s stores (Found marks ops ∷ es) turn is = cc is
 no_ask c s stores (Ask caller r reply ∷ f ∷ es) turn is = turn.entry
 
-some_pick : (es : List Entry) → IsTrue (is_picked (first_of es)) → IsTrue (list_any is_pick es)
+some_pick : (es : List Entry) → IsTrue (is_picked (first_of es)) → IsTrue (list_any (λ e. is_picked (Some e)) es)
 some_pick [] is = absurd (cc is)
 some_pick (Ask caller r reply ∷ es) is = absurd (cc is)
 some_pick (Pick block kind t ops ∷ es) is = refl
@@ -118,6 +111,8 @@ turn_pays : (p q : Payer) (old new : StackTold) (turn : MakesTurn old new) → P
 turn_pays p q old new turn pays =
     let first = all_first old.configuration (state_of old) old.stores turn.entries turn.turn in record {
       worn = pays.worn;
+      failed = pays.failed;
+      counts = (record { later = turn.operations.later; own = pays.counts }, tt);
       pays = λ since owes.
           let (paid, now) = pays.pays since (move_to turn.entries new) owes refl (ap (λ t. t.entries) turn.grows ∙ ap (λ (es : List Entry). old.entries ++ es) first) in ((paid, tt), now);
     }
@@ -140,7 +135,7 @@ ask_chain caller r reply old new adds = (
     most = ap (λ t. t.most) adds.adds;
     entries = ap (λ t. t.entries) adds.adds;
     behind = sym (ap moment_of adds.adds);
-    waits = λ asked. (ap moment_of adds.adds, adds.within);
+    waits = λ asked. (ap moment_of adds.adds, ap (λ t. t.left) adds.adds, adds.within);
     picks = λ picked. absurd (cc picked);
     begins = λ no_ask no_found. absurd (cc no_ask);
     serves = λ no_ask no_found calm on. absurd (cc no_ask);

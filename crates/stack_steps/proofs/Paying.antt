@@ -7,15 +7,16 @@ use Rattle.block_promise.specs.Payment.{Worn}
 use Rattle.machine_laws.specs.Laws.{HistoriesGoOn}
 use Rattle.run_promise.specs.Turns.{Moment, Move, entry_list, entries_of, moment_behind, is_picked, ArePaidSince}
 use Rattle.run_promise.proofs.Paid.{since_too}
+use Rattle.run_promise.proofs.Counted.{behind_later, counted_by, counted_more}
 use Rattle.stack_steps.specs.Told.{StackTold, state_of, moment_of}
 use Rattle.stack_steps.specs.Paying.{Payer, PaysNothing, since_behind, Pays, PaysBy}
 
 -- NONE
 pub none_pays : (p : Payer) (t : StackTold) → PaysBy p p t []
-none_pays p t = record { worn = λ k n is. is; pays = λ since owes. (tt, owes) }
+none_pays p t = record { worn = λ k n is. is; failed = λ k few is. is; counts = tt; pays = λ since owes. (tt, owes) }
 
 pub nothing_pays : (p q : Payer) (old new : StackTold) → PaysNothing p q new → PaysBy p q old []
-nothing_pays p q old new nothing = record { worn = nothing.worn; pays = λ since owes. (tt, (nothing.owes since owes).0) }
+nothing_pays p q old new nothing = record { worn = nothing.worn; failed = λ k few. nothing.failed k; counts = tt; pays = λ since owes. (tt, (nothing.owes since owes).0) }
 
 -- ONE THAT HAS NOTHING TO PAY
 nothing_due : (since now : ℕ) → since ≤ now → since + 0 ≤ now
@@ -25,14 +26,18 @@ pub ask_pays : (p q : Payer) (caller : ℕ) (r : Request) (reply : Reply) (old n
     → PaysBy p q old (record { entry = Some (Ask caller r reply); behind = moment_of old } ∷ [])
 ask_pays p q caller r reply old new same nothing = record {
   worn = nothing.worn;
+  failed = λ k few. nothing.failed k;
+  counts = (record { later = omega arith; own = λ k le lt failed. absurd (omega (arith, le, lt)) }, tt);
   pays = λ since owes.
       let (now, less) = nothing.owes since owes in ((inl (inl (nothing_due since old.faults (omega (arith, less, same)))), tt), now);
 }
 
-pub found_pays : (p q : Payer) (marks : List (Instance × Mark)) (ops : ℕ) (old new : StackTold) → PaysNothing p q new
+pub found_pays : (p q : Payer) (marks : List (Instance × Mark)) (ops : ℕ) (old new : StackTold) → new.ops ≡ old.ops → PaysNothing p q new
     → PaysBy p q old (record { entry = Some (Found marks ops); behind = moment_of new } ∷ [])
-found_pays p q marks ops old new nothing = record {
+found_pays p q marks ops old new none nothing = record {
   worn = nothing.worn;
+  failed = λ k few. nothing.failed k;
+  counts = (record { later = omega (arith, none); own = λ k le lt failed. absurd (omega (arith, none, le, lt)) }, tt);
   pays = λ since owes.
       let (now, less) = nothing.owes since owes in ((inl (inl (nothing_due since new.faults less)), tt), now);
 }
@@ -56,6 +61,8 @@ pays_more : HistoriesGoOn → (c : Configuration) (p q r : Payer) (before : Mome
     → Pays c p r before s (xs ++ ys)
 pays_more go c p q r before s xs ys one two = record {
   worn = λ k n is. two.worn k n (one.worn k n is);
+  failed = λ k few is. one.failed k few (two.failed k (let later = behind_later q.failed before xs one.counts in omega (arith, few, later)) is);
+  counts = counted_more r.failed before xs ys (counted_by q.failed r.failed (moment_behind before xs).ops two.failed before xs (omega arith) one.counts) two.counts;
   pays = λ since owes.
       let (paid, then_owes) = one.pays since owes in
       let (more, now) = two.pays (since_behind since before xs) then_owes in (

@@ -27,13 +27,14 @@ use Rattle.stack_steps.specs.Kept.{IsKept}
 use Rattle.stack_steps.specs.Made.{cuts_in, cuts_of, PaysOffs, IsExplained, HasNoRoom, IsMade, IsLeft, IsFresh, HasWalked, MakesAt, LeavesAt, WereLeft, WasBroken}
 use Rattle.stack_steps.specs.Walking.{plan_behind, refusals_in, IsWalking, AreUnderWay}
 use Rattle.stack_steps.specs.Table.{HasLastStores}
-use Rattle.run_promise.specs.Turns.{Move, entries_of, all_moves}
+use Rattle.run_promise.specs.Turns.{Moment, Move, entries_of, moment_behind, all_moves}
 use Rattle.run_promise.proofs.Paid.{since_too}
+use Rattle.run_promise.proofs.Counted.{all_behind, behind_later, counted_by}
 use Rattle.stack_steps.specs.Paying.{Payer, PaysBy, since_behind}
 use Rattle.stack_steps.proofs.Paying.{none_pays, by_more}
 use Rattle.stack_steps.specs.Chain.{shown_of}
 use Rattle.stack_steps.proofs.Chain.{each_posted, all_more}
-use Rattle.stack_steps.proofs.Moves.{has_more, chain_more, moved_entries, all_behind}
+use Rattle.stack_steps.proofs.Moves.{has_more, chain_more, moved_entries}
 use Rattle.stack_steps.proofs.Grown.{state_more}
 use Rattle.stack_steps.proofs.Table.{first_table}
 use Rattle.stack_steps.proofs.Explained.{counted_more, none_counted}
@@ -154,8 +155,8 @@ walks_on grow go p q r made x old mid new same most counted walking step planned
     paid : PaysOffs x.kind (plan_behind None 0 made walking.pieces) (ops_behind 0 (joined walking.pieces)) piece mid new
     paid = explained.offs (plan_behind None 0 made walking.pieces) (ops_behind 0 (joined walking.pieces)) planned few walking.plan_stays
 
-pub has_walked : HistoriesGoOn → (p q r : Payer) (made : List Step) (old mid new : StackTold) → new.entries ≡ mid.entries → mid.faults ≤ new.faults → WereCounted 0 mid.causes.unplanned new.causes.unplanned → PaysBy q r mid [] → IsWalking p q made old mid → HasWalked p r made old new
-has_walked go p q r made old mid new same counted cuts pays walking = record {
+pub has_walked : HistoriesGoOn → (p q r : Payer) (made : List Step) (old mid new : StackTold) → new.entries ≡ mid.entries → mid.faults ≤ new.faults → new.ops ≡ mid.ops → WereCounted 0 mid.causes.unplanned new.causes.unplanned → PaysBy q r mid [] → IsWalking p q made old mid → HasWalked p r made old new
+has_walked go p q r made old mid new same counted operations cuts pays walking = record {
   more = walking.more;
   grows = same ∙ walking.grows;
   pieces = walking.pieces;
@@ -170,8 +171,11 @@ has_walked go p q r made old mid new same counted cuts pays walking = record {
   last = moment_of mid;
   serves = each_posted go (all_moves walking.moves.moves) (shown_of old) (shown_of mid) walking.chain;
   moves = walking.moves;
+  operations = sym operations;
   counted = counted;
   pays = record {
+    failed = λ k few is. walking.pays.failed k few (pays.failed k (let later = behind_later q.failed (moment_of old) (all_moves walking.moves.moves) walking.pays.counts in omega (arith, few, later, ends)) is);
+    counts = counted_by q.failed r.failed mid.ops pays.failed (moment_of old) (all_moves walking.moves.moves) (omega (arith, ends)) walking.pays.counts;
     worn = λ k n is. pays.worn k n (walking.pays.worn k n is);
     pays = λ since owes.
         let (paid, then_owes) = walking.pays.pays since owes in
@@ -184,6 +188,9 @@ has_walked go p q r made old mid new same counted cuts pays walking = record {
   where
     nothing_more : (n : ℕ) → n + 0 ≡ n
     nothing_more n = omega arith
+
+    ends : (moment_behind (moment_of old) (all_moves walking.moves.moves)).ops ≡ mid.ops
+    ends = ap (λ (m : Moment). m.ops) (all_behind (moment_of old) walking.moves.moves ∙ walking.moves.behind)
 
 none_taken : (c : Configuration) (id n : ℕ) (marks : List (Instance × Mark)) (ops : ℕ) → prices_in_refusals c id (Found marks ops ∷ joined (take n [])) ≤ refusals_in id (take n [])
 none_taken c id zero marks ops = omega arith
@@ -239,13 +246,13 @@ was_broken go p q r fault steps n x old mid new is configuration cap walking lef
   made = take n steps;
   left = drop n steps;
   order = in_two n steps;
-  walked = has_walked go p q r (take n steps) old mid new left.entries left.counted left.cuts pays walking;
+  walked = has_walked go p q r (take n steps) old mid new left.entries left.counted left.operations left.cuts pays walking;
   why = subst (λ (xs : List Step). WereLeft fault xs (moment_of mid) old new) (sym (rest_begins n steps x is)) (were_left fault x (drop (suc n) steps) old mid new configuration cap left);
 }
 
 -- nothing was made for want of memory
 pub none_made : HistoriesGoOn → (p : Payer) (steps : List Step) (t : StackTold) → IsFresh t → WasBroken p p Memory steps t t
-none_made go p steps t fresh = record { made = []; left = steps; order = refl; walked = has_walked go p p p [] t t t refl (omega arith) (none_counted t.causes.unplanned) (none_pays p t) (fresh_walking p t fresh); why = tt }
+none_made go p steps t fresh = record { made = []; left = steps; order = refl; walked = has_walked go p p p [] t t t refl (omega arith) refl (none_counted t.causes.unplanned) (none_pays p t) (fresh_walking p t fresh); why = tt }
 
 -- UNDER WAY
 
@@ -285,7 +292,7 @@ go_on grow go p q r steps i table table' old mid new few planned way makes =
 -- all of them
 pub all_made : HistoriesGoOn → (p q : Payer) (steps : List Step) (i : ℕ) (table : List ℕ) (old now : StackTold) → length steps ≤ i → AreUnderWay p q steps i table old now → HasWalked p q steps old now
 all_made go p q steps i table old now all way =
-    subst (λ (xs : List Step). HasWalked p q xs old now) (all_of i steps all) (has_walked go p q q (take i steps) old now now refl (omega arith) (none_counted now.causes.unplanned) (none_pays q now) way.walking)
+    subst (λ (xs : List Step). HasWalked p q xs old now) (all_of i steps all) (has_walked go p q q (take i steps) old now now refl (omega arith) refl (none_counted now.causes.unplanned) (none_pays q now) way.walking)
 
 pub some_made : HistoriesGoOn → (p q r : Payer) (fault : StepFault) (steps : List Step) (i : ℕ) (table : List ℕ) (old mid new : StackTold) → AreUnderWay p q steps i table old mid → LeavesAt fault steps i mid new → PaysBy q r mid [] → WasBroken p r fault steps old new
 some_made go p q r fault steps i table old mid new way leaves pays = was_broken go p q r fault steps i leaves.step old mid new leaves.at way.configuration way.cap way.walking leaves.left pays

@@ -9,7 +9,7 @@ use Rattle.stack_turns.specs.declared.turned.Turned.{Turned}
 use Rattle.stack_turns.specs.declared.turned.Turned.TheVariants as turned
 use Rattle.stack_turns.specs.declared.turned.FoundAnswer.{FoundAnswer}
 use Rattle.stack_turns.specs.declared.turned.FoundAnswer.TheVariants as found
-use Rattle.block_machine.specs.Words.{Instance, Mark, Request, Reply, Entry, Ask, Pick, Found}
+use Rattle.block_machine.specs.Words.{Instance, Mark, Request, Reply, Entry, Ask, Found}
 use Rattle.block_machine.specs.State.{Job}
 use Rattle.block_machine.specs.Blocks.{job_block}
 use Rattle.block_machine.specs.Steps.{after_from}
@@ -21,6 +21,7 @@ use Rattle.script_walks.specs.Walk.{is_at_rest}
 use Rattle.played_walks.specs.Turn.{IsTurn}
 use Rattle.run_promise.specs.Run.{unpaid_off, refusals_of}
 use Rattle.run_promise.specs.Completeness.{ends_job}
+use Rattle.run_promise.specs.Turns.{is_picked}
 use Rattle.stack_steps.specs.Told.{StackTold, state_of, IsWithin, IsGrown, IsNoEarlier}
 
 -- CAUSES
@@ -89,10 +90,6 @@ pub record MakesOne (es : List Entry) (old new : StackTold) : Type 0 where
   pub one : new.ops ≤ old.ops + 1
   pub told : AllTell new.ops es
 
-abbrev pub is_pick : Entry → Bool
-is_pick (Pick block kind t ops) = true
-is_pick e = false
-
 -- A turn adds one entry at most, and makes one changing operation at most. It serves the job in hand, where it counted no
 -- fault and the power is on behind it.
 pub record Turns (answer : Turned) (old new : StackTold) : Type 0 where
@@ -105,7 +102,7 @@ pub record Turns (answer : Turned) (old new : StackTold) : Type 0 where
   pub answers : IsAnswer answer entries old new
   pub lowers : Lowers answer old new
   -- behind a Pick its job has its turns, and the power was on
-  pub picks : IsTrue (list_any is_pick entries) → IsWithin new × ((state_of old).off ≡ false)
+  pub picks : IsTrue (list_any (λ e. is_picked (Some e)) entries) → IsWithin new × ((state_of old).off ≡ false)
   pub serves : ¬ Rose old.faults new.faults → (state_of new).off ≡ false → Serves 1 entries old new
 
 -- START-UPS
@@ -119,9 +116,10 @@ pub record StartsAgain (old new : StackTold) : Type 0 where
   pub operations : new.ops ≡ old.ops
   pub explained : AreExplained None (Found marks ops ∷ []) old new
 
--- one that fails adds no entry, and the stack isn't ready
+-- one that fails adds no entry and makes no changing operation, and the stack isn't ready
 pub record FailsToStart (old new : StackTold) : Type 0 where
   pub only : new ≡ record old { ready = false; faults = new.faults; ops = new.ops; work = new.work; left = new.left; busy = new.busy; causes = new.causes }
+  pub operations : new.ops ≡ old.ops
   pub fault : Rose old.faults new.faults
   pub explained : AreExplained old.causes.plan [] old new
 

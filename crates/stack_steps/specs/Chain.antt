@@ -17,30 +17,32 @@ pub record Shown : Type 0 where
   pub most : State → Job → ℕ
   pub entries : List Entry
   pub moment : Moment
+  -- the turns that were left, where no fault comes
+  pub left : ℕ
 
 abbrev pub shown_of : StackTold → Shown
-shown_of t = record { configuration = t.configuration; most = t.most; entries = t.entries; moment = moment_of t }
+shown_of t = record { configuration = t.configuration; most = t.most; entries = t.entries; moment = moment_of t; left = t.left }
 
 abbrev pub state_in : Shown → State
 state_in v = after v.configuration v.entries
 
 -- a job in hand has a turn left, and no more than its most
 abbrev pub IsWithinTurns : Shown → Type 0
-IsWithinTurns v = (j : Job) → (state_in v).hand ≡ Some j → (0 < v.moment.left) × (v.moment.left ≤ v.most (state_in v) j)
+IsWithinTurns v = (j : Job) → (state_in v).hand ≡ Some j → (0 < v.left) × (v.left ≤ v.most (state_in v) j)
 
 -- a turn ends the job in hand, or leaves it a turn less
 pub record ServesIn (es : List Entry) (v w : Shown) : Type 0 where
-  pub nears : (j : Job) → (state_in v).hand ≡ Some j → IsTrue (list_any (ends_job (job_block j)) es) ⊎ (IsTrue (is_some (state_in w).hand) × (w.moment.left + 1 ≤ v.moment.left))
+  pub nears : (j : Job) → (state_in v).hand ≡ Some j → IsTrue (list_any (ends_job (job_block j)) es) ⊎ (IsTrue (is_some (state_in w).hand) × (w.left + 1 ≤ v.left))
   pub within : IsWithinTurns v → IsWithinTurns w
 
--- One move: a request changes no moment, a Pick leaves its job its turns, no turn goes by where something is due, and any
+-- One move: a request changes no moment and leaves the turns, a Pick leaves its job its turns, no turn goes by where something is due, and any
 -- turn serves the job in hand where nothing fails.
 pub record IsMoved (m : Move) (v w : Shown) : Type 0 where
   pub configuration : w.configuration ≡ v.configuration
   pub most : w.most ≡ v.most
   pub entries : w.entries ≡ v.entries ++ entry_list m.entry
   pub behind : m.behind ≡ w.moment
-  pub waits : IsTrue (is_asked m.entry) → (w.moment ≡ v.moment) × (IsWithinTurns v → IsWithinTurns w)
+  pub waits : IsTrue (is_asked m.entry) → (w.moment ≡ v.moment) × (w.left ≡ v.left) × (IsWithinTurns v → IsWithinTurns w)
   pub picks : IsTrue (is_picked m.entry) → IsWithinTurns w × ((state_in v).off ≡ false)
   pub begins : is_asked m.entry ≡ false → is_found m.entry ≡ false → IsTrue (not (is_due (state_in v)) || begins_with_pick_or_post (entry_list m.entry))
   pub serves : is_asked m.entry ≡ false → is_found m.entry ≡ false → ¬ Rose v.moment.faults w.moment.faults → (state_in w).off ≡ false

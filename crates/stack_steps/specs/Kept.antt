@@ -1,5 +1,5 @@
 -- What a stack keeps from step to step.
-use Rattle.std.specs.Prelude.{◌≡◌, ◌+◌, ◌≤◌, ℕ, zero, suc, true, false, IsTrue, List, [], length}
+use Rattle.std.specs.Prelude.{◌≡◌, ◌+◌, ◌≤◌, ℕ, zero, suc, true, false, IsTrue, List, [], length, Some}
 use Rattle.std.specs.List.{list_all, list_any}
 use Rattle.nv_base.specs.Count.{Rose}
 use Rattle.block_machine.specs.Words.{Entry}
@@ -9,9 +9,9 @@ use Rattle.played_walks.specs.Stores.{AreNewest, JobsTookStored}
 use Rattle.played_walks.specs.Turn.{IsTurn}
 use Rattle.played_walks.specs.Laws.{KeepsStored}
 use Rattle.run_promise.specs.Completeness.{is_calm_entry}
-use Rattle.run_promise.specs.Turns.{Move, entries_of, moment_behind, AreTurnsMade}
+use Rattle.run_promise.specs.Turns.{Move, entries_of, moment_behind, AreTurnsMade, is_picked}
 use Rattle.stack_steps.specs.Told.{StackTold, state_of, moment_of, IsWithin, IsGrown}
-use Rattle.stack_steps.specs.Calls.{AreExplained, MakesOne, Serves, is_pick}
+use Rattle.stack_steps.specs.Calls.{AreExplained, MakesOne, Serves}
 use Rattle.stack_steps.specs.Chain.{shown_of, AreMoved}
 use Rattle.stack_steps.specs.Paying.{Payer, PaysBy}
 
@@ -62,5 +62,5 @@ pub record MakesTurn (old new : StackTold) : Type 0 where
   pub operations : MakesOne entries old new
   pub turn : IsTurn old.configuration (state_of old) old.stores entries
   pub explained : AreExplained old.causes.plan entries old new
-  pub picks : IsTrue (list_any is_pick entries) → IsWithin new × ((state_of old).off ≡ false)
+  pub picks : IsTrue (list_any (λ e. is_picked (Some e)) entries) → IsWithin new × ((state_of old).off ≡ false)
   pub serves : ¬ Rose old.faults new.faults → (state_of new).off ≡ false → Serves 1 entries old new

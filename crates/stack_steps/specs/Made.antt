@@ -103,6 +103,7 @@ pub record IsLeft (fault : StepFault) (x : Step) (old new : StackTold) : Type 0 
   pub cap : new.cap ≡ old.cap
   pub entries : new.entries ≡ old.entries
   pub counted : old.faults ≤ new.faults
+  pub operations : new.ops ≡ old.ops
   pub cuts : WereCounted 0 old.causes.unplanned new.causes.unplanned
   pub why : Stops fault x.kind old new
 
@@ -133,8 +134,10 @@ pub record HasWalked (p q : Payer) (made : List Step) (old new : StackTold) : Ty
   pub moves : HasMoves made pieces (moment_of old) last
   -- none of which goes by where something is due, and each job that they pick is posted within its own
   pub serves : EachMove old.configuration (ServesTurn old.configuration old.most) (state_of old) (all_moves moves.moves)
+  -- and which make all operations
+  pub operations : last.ops ≡ new.ops
   pub counted : last.faults ≤ new.faults
-  -- and each Post is paid since the last Pick before it
+  -- and each Post is paid since the last Pick before it, and each operation that failed is counted in its own
   pub pays : PaysBy p q old (all_moves moves.moves)
 
 -- the step at a place is made, or left

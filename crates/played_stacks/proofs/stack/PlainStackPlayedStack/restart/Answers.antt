@@ -21,7 +21,7 @@ use Rattle.stack_steps.specs.Paying.{PaysNothing}
 use Rattle.played_stacks.specs.Told.{told_by}
 use Rattle.played_stacks.specs.Kept.{IsKept}
 use Rattle.played_stacks.specs.Paying.{payer_by}
-use Rattle.played_stacks.proofs.Paying.{nothing_paid, restart_owes}
+use Rattle.played_stacks.proofs.Paying.{nothing_paid, restart_ops, restart_owes}
 use Rattle.played_stacks.proofs.stack.PlainStackPlayedStack.restart.Goals as goal
 
 -- a device whose slots are paired with the machine's tells them
@@ -88,4 +88,4 @@ returns-clause-pays g c =
     subst (λ (t : StackState g.row.D.Denot (List PlainBlock)). PaysNothing (payer_by told clock t) (payer_by told clock new) (told_by told new)) c.self.view_is
     (nothing_paid told clock s new
     (λ before kept. restart_keeps told clock before s new (c.restart.ensures.down before) kept c.restart.result c.restart.ensures.restarts c.restart.ensures.keeps)
-    c.restart.ensures.lasts (restart_owes told clock s new c.restart.result c.restart.ensures.restarts))
+    c.restart.ensures.lasts (restart_ops told clock s new c.restart.result c.restart.ensures.restarts) (restart_owes told clock s new c.restart.result c.restart.ensures.restarts))
