@@ -29,6 +29,7 @@ pub fn copy_out<C: SyncCalls>(
     ensures sizes { sizes_of (C.told copies.new) ≡ sizes_of (C.told copies.old) }
     ensures refuses { OnlyRefuses (C.told copies.old) (C.told copies.new) }
     ensures stores_stay { (b n : ℕ) (x : List ℕ) → C.is_store copies.old b n x → C.is_store copies.new b n x }
+    ensures stays_over { (first : C) → C.over first copies.old → C.over first copies.new }
 {
     let mut last = None;
     for i in 0..tries {
@@ -56,6 +57,7 @@ pub fn copy_in<C: SyncCalls>(copies: &mut C, block: u16, tries: u16, from: &[u8]
     ensures sizes { sizes_of (C.told copies.new) ≡ sizes_of (C.told copies.old) }
     ensures refuses { OnlyRefuses (C.told copies.old) (C.told copies.new) }
     ensures stores_stay { (b n : ℕ) (x : List ℕ) → C.is_store copies.old b n x → C.is_store copies.new b n x }
+    ensures stays_over { (first : C) → C.over first copies.old → C.over first copies.new }
 {
     for i in 0..tries {
         if let Copied::Got { .. } = copies.copy_in(block, from) {

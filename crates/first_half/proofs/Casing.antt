@@ -1,2 +1,1 @@
 -- The case of a turn.
-use Rattle.first_half.specs.declared.cases.Case.TheVariants as case

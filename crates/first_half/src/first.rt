@@ -55,6 +55,7 @@ pub fn first_half<D: MemDevice, C: SyncCalls>(
     ensures refuses { OnlyRefuses (C.told copies.old) (C.told copies.new) }
     ensures synchronized { AreSynchronized front.old.desk.config (C.told copies.new) }
     ensures stores_stay { (b n : ℕ) (x : List ℕ) → C.is_store copies.old b n x → C.is_store copies.new b n x }
+    ensures stays_over { (first : C) → C.over first copies.old → C.over first copies.new }
     ensures keeps { StaysKept front.old.desk hand.old (D.told device.old) (D.clock device.old) front.new.desk hand.new (D.told device.new) (D.clock device.new) }
     ensures lowers { HalfLowers result (stack_work front.old.desk hand.old (D.told device.old)) (stack_work front.new.desk hand.new (D.told device.new)) }
     ensures left { HalfLeft result (program_in_hand hand.old) (D.told device.old) (program_in_hand hand.new) (D.told device.new) }

@@ -59,6 +59,7 @@ pub(crate) fn interrupt<D: MemDevice, C: SyncCalls>(
     ensures device { LeavesDevice (D.told device.old) (D.told device.new) }
     ensures clock { SameClock (D.clock device.old) (D.clock device.new) }
     ensures stores_stay { (b n : ℕ) (x : List ℕ) → C.is_store copies.old b n x → C.is_store copies.new b n x }
+    ensures stays_over { (first : C) → C.over first copies.old → C.over first copies.new }
     ensures keeps { StaysKept front.old.desk hand.old (D.told device.old) (D.clock device.old) front.new.desk hand.new (D.told device.new) (D.clock device.new) }
     ensures lowers { stack_work front.new.desk hand.new (D.told device.new) < stack_work front.old.desk hand.old (D.told device.old) }
     ensures left { IsWithinMost (program_in_hand hand.new) (D.told device.new) }
@@ -88,6 +89,7 @@ pub(crate) fn pick<D: MemDevice, C: SyncCalls>(
     ensures refuses { OnlyRefuses (C.told copies.old) (C.told copies.new) }
     ensures synchronized { AreSynchronized front.old.desk.config (C.told copies.new) }
     ensures stores_stay { (b n : ℕ) (x : List ℕ) → C.is_store copies.old b n x → C.is_store copies.new b n x }
+    ensures stays_over { (first : C) → C.over first copies.old → C.over first copies.new }
     ensures keeps { (held : Option HandState) → StaysKept front.old.desk held (D.told device.now) (D.clock device.now) front.new.desk hand.new (D.told device.now) (D.clock device.now) }
     ensures lowers { (held : Option HandState) (old : DeviceTold) → stack_work front.new.desk hand.new (D.told device.now) < stack_work front.old.desk held old }
     ensures left { IsWithinMost (program_in_hand hand.new) (D.told device.now) }

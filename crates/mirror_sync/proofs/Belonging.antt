@@ -1,5 +1,5 @@
 -- The ends of a block's mirrors.
-use Rattle.std.proofs.Common.{◌≡◌, ℕ, Option, Some, None, subst}
+use Rattle.std.proofs.Common.{◌≡◌, ℕ, Option, Some, subst}
 use Rattle.mirror_sync.specs.Ends.{PairValue, EndValue, IsEndOf}
 use Rattle.mirror_sync.specs.Blocks.{Pairs, EndList, HasEnd, AreEndsOf, end_at, pair_at}
 

@@ -1,6 +1,6 @@
 -- Mirrors that are made, block by block.
 use Rattle.std.specs.Prelude.{is_some, slice_get, unwrap_or, IfSome, replicate}
-use Rattle.std.proofs.Common.{◌≡◌, ◌⊎◌, inl, inr, ℕ, zero, suc, ◌+◌, ◌<◌, ◌≤◌, Bool, true, false, List, [], ◌∷◌, ◌++◌, length, map, get_or, option_map, Option, Some, None, refl, sym, ap, ◌∙◌, subst, arith, length-append, add-one}
+use Rattle.std.proofs.Common.{◌≡◌, ◌⊎◌, inl, inr, ℕ, zero, suc, ◌+◌, ◌<◌, ◌≤◌, true, false, List, [], ◌∷◌, ◌++◌, length, map, get_or, option_map, Option, Some, None, refl, sym, ap, ◌∙◌, subst, arith, length-append}
 use Rattle.std.proofs.lemmas.List.{get_or_append_left, length-replicate}
 use Rattle.std.proofs.Math.Seq.{get_or-append_seam}
 use Rattle.std.proofs.Math.ListN.{get_or-map}
@@ -13,7 +13,7 @@ use Rattle.block_config.specs.Block.{plain_block, manager_block}
 use Rattle.block_config.specs.Config.{Configuration, block_of}
 use Rattle.block_config.specs.Rules.{IsLegalBlock, AreDefaults}
 use Rattle.block_machine.specs.Blocks.{desc_of, is_synchronized}
-use Rattle.ram_blocks.specs.Told.{Synchronized, IsSynchronized, Told}
+use Rattle.ram_blocks.specs.Told.{Synchronized, IsSynchronized}
 use Rattle.mirror_sync.specs.Ends.{PairValue, EndValue}
 use Rattle.mirror_sync.specs.Blocks.{SideValue, Pairs, EndList, SideList, pair_at, end_at, side_at, HasEnd, IsSideBy, IsSideIn, AreEndsOf, AreSidesOf, AreIn, IsMade, AreMade, first_of, told_by}
 

@@ -1,5 +1,5 @@
 -- Copies of blocks by their mirrors.
-use Rattle.std.proofs.Common.{◌≡◌, ℕ, zero, suc, ◌+◌, ◌≤◌, ◌^◌, min, List, [], ◌∷◌, ◌++◌, length, map, get_or, slice_set, Option, Some, None, option_map, IfSome, refl, sym, ap, ◌∙◌, subst, arith, length-append}
+use Rattle.std.proofs.Common.{◌≡◌, ℕ, zero, suc, ◌+◌, ◌≤◌, List, [], ◌∷◌, ◌++◌, length, map, get_or, slice_set, Option, Some, None, option_map, IfSome, refl, sym, ap, ◌∙◌, subst, arith, length-append}
 use Rattle.ram_blocks.specs.Told.{Synchronized, IsSynchronized, refusals_by, refusals_of, told_at, handed_by}
 use Rattle.ram_blocks.specs.Copies.{changed, handed_over, next_number}
 use Rattle.ram_mirrors.specs.Stores.{Contents, store_number}

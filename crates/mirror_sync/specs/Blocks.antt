@@ -1,6 +1,6 @@
 -- The mirrors of all synchronized blocks, the driver's ends of them, and the application's sides, by id: nothing of a block that
 -- isn't synchronized.
-use Rattle.std.specs.Prelude.{◌≡◌, ◌++◌, ◌∷◌, ◌≤◌, ℕ, Bool, true, false, List, [], length, get_or, map, option_map, is_some, unwrap_or, replicate, Option, Some, None, IfSome, IfNone}
+use Rattle.std.specs.Prelude.{◌≡◌, ◌++◌, ◌∷◌, ◌≤◌, ℕ, true, false, List, [], length, get_or, option_map, is_some, unwrap_or, replicate, Option, Some, None, IfSome, IfNone}
 use Rattle.block_config.specs.declared.block.BlockDesc.{BlockDesc}
 use Rattle.block_config.specs.Config.{Configuration, block_of}
 use Rattle.block_machine.specs.Blocks.{is_synchronized}

@@ -1,9 +1,9 @@
 //! The application's copies of its synchronized blocks over mirrors: two for each block, one each way, so that neither the
 //! application nor the driver of the stack waits for the other.
 //!
-//! It promises that each content that the driver copies out is a whole store of the application, the newest one that this very
-//! look showed, that a content that was read reaches the application whole, and that all calls but `make` take no memory. Who
-//! has the sides, and when the driver copies, is left to the crates above.
+//! It promises that each content that the driver copies out is the newest store that this very look showed, with its number; that
+//! copies stay over the same mirrors, so that at `close` each pair that either end took is a whole store of the other; and that all
+//! calls but `make` take no memory. Who has the sides, and when the driver copies, is left to the crates above.
 #![tactic(auto)]
 
 mod closing;

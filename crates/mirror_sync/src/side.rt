@@ -1,5 +1,5 @@
 // The application's side of a synchronized block.
-ghost use Rattle.std.specs.Prelude.{⊤, ◌≡◌, length, MatchOption, IfSome, IsNone, IsSome};
+ghost use Rattle.std.specs.Prelude.{⊤, ◌≡◌, length, MatchOption, IfSome, IsNone, IsSome, option_map};
 ghost use Rattle.std.specs.Borrow.{sem, follows_so};
 ghost use mathlib.Core.Option.{none};
 ghost use Rattle.ram_mirrors.specs.Stores.{store_number};
@@ -70,7 +70,7 @@ impl Side {
     /// `refresh`, with the content that it took.
     pub fn newest(&mut self, mirrors: &Mirrors) -> Option<(u64, &[u8])>
         requires own { IsSideIn mirrors.now self.old }
-        ensures* ends { sem 𝓛 (follows_so the_row the_row self.entry.ghost_name none (λ _ _. ⊤) (λ u. IsSideIn mirrors.now u × MatchOption result (NothingNewer self.old.down u.down) (λ p. TakesNewest self.old.down p.0 u.down × (p.1.now ≡ u.down.content)))) }
+        ensures* ends { sem 𝓛 (follows_so the_row the_row self.entry.ghost_name none (λ _ _. ⊤) (λ u. IsSideIn mirrors.now u × IsNextRead (option_map (λ p. p.0) result) self.old u × IfSome result (λ p. p.1.now ≡ u.down.content))) }
     {
         let found = self.refresh(mirrors);
         self.taken(found)

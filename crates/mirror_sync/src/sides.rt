@@ -1,5 +1,5 @@
 // The sides of all synchronized blocks.
-ghost use Rattle.std.specs.Prelude.{◌≡◌, ◌<◌, get_or, length, slice_set, Some, None, is_some, true, IfSome};
+ghost use Rattle.std.specs.Prelude.{◌≡◌, ◌↔◌, ◌<◌, get_or, length, slice_set, Some, None, is_some, IfSome, IsTrue};
 ghost use Rattle.mirror_sync.specs.Blocks.{AreIn, AreSidesOf, IsSideIn, Pairs, side_at};
 
 use crate::mirrors::Mirrors;
@@ -30,13 +30,10 @@ impl Sides {
 
     /// Whether each block with mirrors has its side in it.
     pub fn are_in(&self, mirrors: &Mirrors) -> bool
-        ensures { result ≡ true → AreIn mirrors.now self.now }
+        ensures { IsTrue result ↔ AreIn mirrors.now self.now }
     {
-        if self.sides.len() != mirrors.pairs.len() {
-            return false;
-        }
-        for place in 0..self.sides.len() {
-            if self.sides[place].is_some() != mirrors.pairs[place].is_some() {
+        for place in 0..self.sides.len().max(mirrors.pairs.len()) {
+            if stands(&self.sides, place) != stands(&mirrors.pairs, place) {
                 return false;
             }
         }
@@ -63,6 +60,13 @@ impl Sides {
         let place = usize::from(side.block);
         self.sides[place] = Some(side);
     }
+}
+
+// Whether something stands at a place.
+fn stands<T>(list: &Vec<Option<T>>, place: usize) -> bool
+    ensures { result ≡ is_some (get_or list.now.items place None) }
+{
+    matches!(list.get(place), Some(Some(_)))
 }
 
 // Takes out what stands at a place.

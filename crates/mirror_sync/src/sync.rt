@@ -62,6 +62,8 @@ impl<'a> SyncCalls for MirrorSync<'a> {
 
     ghost looked = { λ old new. HasLooked old.ends new.ends };
 
+    ghost over = { λ first now. now.mirrors ≡ first.mirrors };
+
     fn copy_out(&mut self, block: u16, into: &mut [u8]) -> Copied {
         let mirrors = self.mirrors;
         match &mut self.ends[usize::from(block)] {

@@ -64,6 +64,7 @@ impl Front {
         ensures refuses { OnlyRefuses (C.told copies.old) (C.told copies.new) }
         ensures synchronized { AreSynchronized self.old.desk.config (C.told copies.new) }
         ensures stores_stay { (b n : ℕ) (x : List ℕ) → C.is_store copies.old b n x → C.is_store copies.new b n x }
+        ensures stays_over { (first : C) → C.over first copies.old → C.over first copies.new }
     {
         pick(&mut self.desk, &mut self.staging, ops, copies)
     }
@@ -93,6 +94,7 @@ impl Front {
         ensures refuses { OnlyRefuses (C.told copies.old) (C.told copies.new) }
         ensures synchronized { AreSynchronized self.old.desk.config (C.told copies.new) }
         ensures stores_stay { (b n : ℕ) (x : List ℕ) → C.is_store copies.old b n x → C.is_store copies.new b n x }
+        ensures stays_over { (first : C) → C.over first copies.old → C.over first copies.new }
     {
         let number = self.desk.history().len();
         let ended = post(
@@ -124,6 +126,7 @@ impl Front {
         ensures refuses { OnlyRefuses (C.told copies.old) (C.told copies.new) }
         ensures synchronized { AreSynchronized self.old.desk.config (C.told copies.new) }
         ensures stores_stay { (b n : ℕ) (x : List ℕ) → C.is_store copies.old b n x → C.is_store copies.new b n x }
+        ensures stays_over { (first : C) → C.over first copies.old → C.over first copies.new }
     {
         post_skipped(&mut self.desk, &mut self.staging, ops, copies)
     }

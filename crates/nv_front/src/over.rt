@@ -48,6 +48,7 @@ pub fn hand_over<C: SyncCalls>(
     ensures sizes { sizes_of (C.told copies.new) ≡ sizes_of (C.told copies.old) }
     ensures refuses { OnlyRefuses (C.told copies.old) (C.told copies.new) }
     ensures stores_stay { (b n : ℕ) (x : List ℕ) → C.is_store copies.old b n x → C.is_store copies.new b n x }
+    ensures stays_over { (first : C) → C.over first copies.old → C.over first copies.new }
 {
     if ram && is_synchronized(config, block) && end.gives {
         return copied_in(config, staging, block, end.answer, copies);
@@ -76,6 +77,7 @@ fn copied_in<C: SyncCalls>(
     ensures sizes { sizes_of (C.told copies.new) ≡ sizes_of (C.told copies.old) }
     ensures refuses { OnlyRefuses (C.told copies.old) (C.told copies.new) }
     ensures stores_stay { (b n : ℕ) (x : List ℕ) → C.is_store copies.old b n x → C.is_store copies.new b n x }
+    ensures stays_over { (first : C) → C.over first copies.old → C.over first copies.new }
 {
     let count = tries(config, block);
     if copy_in(copies, block, u16::from(count), staging.bytes()) {

@@ -56,6 +56,7 @@ pub fn post<C: SyncCalls>(
     ensures sizes { sizes_of (C.told copies.new) ≡ sizes_of (C.told copies.old) }
     ensures refuses { OnlyRefuses (C.told copies.old) (C.told copies.new) }
     ensures stores_stay { (b n : ℕ) (x : List ℕ) → C.is_store copies.old b n x → C.is_store copies.new b n x }
+    ensures stays_over { (first : C) → C.over first copies.old → C.over first copies.new }
 {
     failures_are_explained();
     ends_are_the_machines();

@@ -95,6 +95,7 @@ impl Staging {
         ensures sizes { sizes_of (C.told copies.new) ≡ sizes_of (C.told copies.old) }
         ensures refuses { OnlyRefuses (C.told copies.old) (C.told copies.new) }
         ensures stores_stay { (b n : ℕ) (x : List ℕ) → C.is_store copies.old b n x → C.is_store copies.new b n x }
+        ensures stays_over { (first : C) → C.over first copies.old → C.over first copies.new }
     {
         self.used = count;
         copy_to(&mut self.buffer, copies, block, count, asked, tries)
@@ -128,6 +129,7 @@ fn copy_to<C: SyncCalls>(
     ensures sizes { sizes_of (C.told copies.new) ≡ sizes_of (C.told copies.old) }
     ensures refuses { OnlyRefuses (C.told copies.old) (C.told copies.new) }
     ensures stores_stay { (b n : ℕ) (x : List ℕ) → C.is_store copies.old b n x → C.is_store copies.new b n x }
+    ensures stays_over { (first : C) → C.over first copies.old → C.over first copies.new }
 {
     let (front, _) = buffer.split_at_mut(count);
     copy_out(copies, block, asked, tries, front)

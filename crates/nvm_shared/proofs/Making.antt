@@ -1,11 +1,12 @@
 -- A shared stack behind its first start-up.
-use Rattle.std.specs.Prelude.{Result, Ok, Err, IfOk}
+use Rattle.std.specs.Prelude.{Result, Ok, Err, IfErr, IfOk}
 use Rattle.std.proofs.Common.{◌≡◌, inr, ℕ, Bool, true, List, Option, None, sym, ap, ◌∙◌, subst}
 use Rattle.memif.specs.Told.{DeviceTold, Part, PartTold, ops_of}
 use Rattle.memif.specs.Clock.{Clock}
-use Rattle.block_machine.specs.Words.{Entry, Configuration}
+use Rattle.block_machine.specs.Words.{Entry, Instance, Mark, Configuration}
 use Rattle.block_machine.specs.Legal.{IsLegal}
 use Rattle.ram_blocks.specs.Told.{Told}
+use Rattle.found_marks.specs.Found.{Finds}
 use Rattle.nv_desk.specs.Desk.{DeskState}
 use Rattle.job_hands.specs.Hand.{HandState}
 use Rattle.stack_turns.specs.declared.turned.FoundAnswer.TheVariants as found
@@ -18,11 +19,23 @@ use Rattle.nvm_shared.specs.declared.terms.Terms.{Terms}
 use Rattle.nvm_shared.specs.Locked.{desk_with}
 use Rattle.nvm_shared.specs.Passes.{PassValue, SharedState}
 use Rattle.nvm_shared.specs.Driving.{DriverState, Drives, stack_of}
-use Rattle.nvm_shared.specs.Opening.{IsFirst, IsMade, IsShared, TellsAtFirst, first_desk, first_stack, terms_at}
+use Rattle.nvm_shared.specs.declared.opening.ShareFault.{ShareFault}
+use Rattle.nvm_shared.specs.declared.opening.ShareFault.TheVariants as why
+use Rattle.nvm_shared.specs.Opening.{IsFirst, IsMade, IsShared, TellsAtFirst, WhyNot, first_desk, first_stack, terms_at}
 
 pub if_ok : {A E : Type 0} (P Q : A → Type 0) → ((x : A) → P x → Q x) → (o : Result A E) → IfOk o P → IfOk o Q
 if_ok P Q by (Ok x) p = by x p
 if_ok P Q by (Err e) p = tt
+
+pub if_err : {A E : Type 0} (P Q : E → Type 0) → ((x : E) → P x → Q x) → (o : Result A E) → IfErr o P → IfErr o Q
+if_err P Q by (Ok x) p = tt
+if_err P Q by (Err e) p = by e p
+
+-- no memory was left behind the start-up
+pub started : {D : Type 0} (told : D → DeviceTold) (old new device : D) (marks : List (Instance × Mark)) (cap : ℕ) (reason : ShareFault) → Finds marks (told old) (told new)
+    → (reason ≡ why.Memory) × (device ≡ new) → WhyNot (told old) cap reason (told device)
+started {D = D} told old new device marks cap reason finds is =
+    subst (λ (f : ShareFault). WhyNot (told old) cap f (told device)) (sym is.0) (inr (marks, subst (λ (x : D). Finds marks (told old) (told x)) (sym is.1) finds))
 
 module _ {D C : Type 0} (told : D → DeviceTold) (clock : D → Clock) (copies : C → List Told) (c : Configuration) (cap : ℕ) (device : D) (own : C) (new : StackState D C)
     (up : StartsUp told (first_stack c cap device own) new) where

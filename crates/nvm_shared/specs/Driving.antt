@@ -14,6 +14,7 @@ use Rattle.stack_turns.specs.Ties.{IsTied}
 use Rattle.stack_turns.specs.Turns.{AddsBy, hand_by}
 use Rattle.stack_turns.specs.Keeps.{StackKeeps, StaysKept}
 use Rattle.stack_turns.specs.declared.turned.Act.{Act}
+use Rattle.stack_turns.specs.declared.turned.Act.TheVariants.{Ended, Device}
 use Rattle.stack_turns.specs.declared.turned.Turned.{Turned}
 use Rattle.stack_turns.specs.declared.turned.Turned.TheVariants as turned
 use Rattle.stack_bounds.specs.Due.{IsDue, IsDueInHand, IsNearer, PostsDue}
@@ -89,6 +90,15 @@ pub record EndsTurn {D C : Type 0} (told : D → DeviceTold) (clock : D → Cloc
   pub nearer : (number turns : ℕ) → IfSome before.hand (λ h. h.started ≡ true) → nothing_open (told before.device) ≡ false
       → ¬ Rose (told before.device).first.faults (told new.device).first.faults → (state_of desk_new).off ≡ false
       → IsDueInHand number turns (now_of told (stack_of desk before)) → IsNearer number turns (now_of told (stack_of desk_new new))
+
+-- A turn is its first half alone, or behind one that adds nothing the device's turn, whose cuts leave only marks that the state
+-- then allows, with the second half; requests of others come before each half.
+abbrev pub TurnsBehind : {D C : Type 0} → (told : D → DeviceTold) → (clock : D → Clock) → (copies : C → List Told) → (is_store : C → ℕ → ℕ → List ℕ → Type 0) → (looked : C → C → ℕ → ℕ → Type 0)
+    → Turned → (desk desk_new : DeskState) → (old new : DriverState D C) → Type 0
+TurnsBehind {D} {C} told clock copies is_store looked answer desk desk_new old new =
+    BeginsTurn told copies is_store looked (Ended answer) desk desk_new old new
+    ⊎ ((desk_between : DeskState) × (between : DriverState D C) × BeginsTurn told copies is_store looked Device desk desk_between old between
+    × CutsInATurnKeep (told between.device) (clock between.device) (told new.device) (clock new.device) × EndsTurn told clock answer desk_between desk_new between new)
 
 -- In a whole turn in which no fault of the first part is counted and the power stays on, what is due is posted behind requests of
 -- others, or comes a turn nearer.

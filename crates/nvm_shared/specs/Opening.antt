@@ -1,12 +1,12 @@
 -- A shared stack at its beginning and at its end.
-use Rattle.std.specs.Prelude.{◌≡◌, ◌<◌, ℕ, Bool, true, false, List, [], ◌∷◌, None, IsSome}
+use Rattle.std.specs.Prelude.{◌≡◌, ◌⊎◌, ◌<◌, ℕ, Bool, true, false, List, [], ◌∷◌, None, IsSome}
 use Rattle.memif.specs.Told.{DeviceTold, Part, PartTold}
 use Rattle.memif.specs.Clock.{Clock}
 use Rattle.block_machine.specs.Words.{Entry, Instance, Mark, Found, Configuration}
 use Rattle.ram_blocks.specs.Told.{Told}
 use Rattle.nv_desk.specs.Desk.{DeskState, state_of}
 use Rattle.nv_front.specs.Front.{AreSynchronized}
-use Rattle.found_marks.specs.Found.{FailsToFind}
+use Rattle.found_marks.specs.Found.{FailsToFind, Finds}
 use Rattle.stack_turns.specs.Ties.{IsTied}
 use Rattle.stack_turns.specs.declared.turned.FoundAnswer.TheVariants as found
 use Rattle.stack_bounds.specs.Laws.{NextIsPending}
@@ -60,8 +60,9 @@ pub record IsMade {D C : Type 0} (told : D → DeviceTold) (clock : D → Clock)
   pub drives : Drives told clock copies tells (desk_with shared.terms (knows p).seen) r
   pub keeps : StartsKeep found.Ready s.desk (told s.device) (clock s.device) (desk_with shared.terms (knows p).seen) (told r.device) (clock r.device)
 
--- why there is none
+-- Why there is none, and what the device is then: a fault of it was counted in the start-up; the start-up's entry and an Off behind
+-- it don't fit; or there was no memory, and the device is as it was or is started.
 abbrev pub WhyNot : DeviceTold → ℕ → ShareFault → DeviceTold → Type 0
 WhyNot old cap why.Fault new = FailsToFind old new
 WhyNot old cap why.NoRoom new = (cap < 2) × (new ≡ old)
-WhyNot old cap why.Memory new = Unit {0}
+WhyNot old cap why.Memory new = (new ≡ old) ⊎ ((marks : List (Instance × Mark)) × Finds marks old new)

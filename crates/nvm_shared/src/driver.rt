@@ -1,7 +1,9 @@
 // The driver of a shared stack.
-ghost use Rattle.std.specs.Prelude.{◌≡◌, ◌++◌, ◌∷◌, ◌⊎◌, [], ℕ, List, length, true, false, Some, IfSome};
-ghost use Rattle.memif.specs.Told.{DeviceTold};
+ghost use Rattle.std.specs.Prelude.{◌≡◌, ◌≤◌, ◌++◌, ◌∷◌, ◌⊎◌, [], ℕ, List, length, true, false, Some, IfSome};
+ghost use Rattle.memif.specs.Told.{DeviceTold, faults_of};
+ghost use Rattle.memif.specs.Clock.{SameClock};
 ghost use Rattle.memif.specs.Calls.{Turns};
+ghost use Rattle.memif.specs.Trials.{Lasts};
 ghost use Rattle.block_machine.specs.Words.{Entry as MachineEntry};
 ghost use Rattle.nv_desk.specs.Desk.{state_of};
 ghost use Rattle.turn_gate.specs.Pass.{knows};
@@ -16,7 +18,7 @@ ghost use Rattle.shared_laws.specs.Behind.{AreAsks, with_more};
 ghost use Rattle.nvm_shared.specs.Locked.{desk_with};
 ghost use Rattle.nvm_shared.specs.Passes.{IsUserOf, LearnsHalf, LearnsTurn};
 ghost use Rattle.nvm_shared.specs.Stale.{StaleIsShown};
-ghost use Rattle.nvm_shared.specs.Driving.{DriverState, Drives, BeginsTurn, IsTurned, EndsTurn, MayEnd, ServesDue, stack_of};
+ghost use Rattle.nvm_shared.specs.Driving.{DriverState, Drives, BeginsTurn, IsTurned, EndsTurn, MayEnd, ServesDue, TurnsBehind, stack_of};
 
 use crate::shared::{Shared, StackPass};
 use job_hands::Hand;
@@ -75,6 +77,8 @@ impl<D: MemDevice, C: SyncCalls + Drop> Driver<D, C> {
         ensures left { HalfLeft result (program_in_hand self.old.hand) (D.told self.old.device) (program_in_hand self.new.hand) (D.told self.new.device) }
         ensures stale { result ≡ Act.Ended Turned.Picked → StaleIsShown C.looked (knows pass.new).seen self.old.copies self.new.copies }
         ensures off { result ≡ Act.Ended Turned.Off → (state_of (desk_with shared.now.terms (knows pass.new).seen)).off ≡ true }
+        ensures clock { SameClock (D.clock self.old.device) (D.clock self.new.device) }
+        ensures stays_over { (first : C) → C.over first self.old.copies → C.over first self.new.copies }
         ensures learns { LearnsHalf (knows pass.old) (knows pass.new) }
     {
         asks_stand_behind(&self.device);
@@ -113,6 +117,7 @@ impl<D: MemDevice, C: SyncCalls + Drop> Driver<D, C> {
         ensures own { IsUserOf shared.now pass.new }
         ensures ends { (before : DriverState D C) → MayEnd D.told D.clock C.told shared.now.terms.tells turned (desk_with shared.now.terms (knows pass.old).seen) before self.old
             → EndsTurn D.told D.clock result (desk_with shared.now.terms (knows pass.old).seen) (desk_with shared.now.terms (knows pass.new).seen) before self.new }
+        ensures device { self.new.device ≡ self.old.device }
         ensures drives { Drives D.told D.clock C.told shared.now.terms.tells (desk_with shared.now.terms (knows pass.new).seen) self.new }
         ensures learns { LearnsHalf (knows pass.old) (knows pass.new) }
     {
@@ -142,9 +147,14 @@ impl<D: MemDevice, C: SyncCalls + Drop> Driver<D, C> {
         ensures parts { (knows pass.new).parts ≡ (knows pass.old).parts }
         ensures drives { Drives D.told D.clock C.told shared.now.terms.tells (desk_with shared.now.terms (knows pass.new).seen) self.new }
         ensures keeps { StaysKept (desk_with shared.now.terms (knows pass.old).seen) self.old.hand (D.told self.old.device) (D.clock self.old.device) (desk_with shared.now.terms (knows pass.new).seen) self.new.hand (D.told self.new.device) (D.clock self.new.device) }
+        ensures turns { TurnsBehind D.told D.clock C.told C.is_store C.looked result (desk_with shared.now.terms (knows pass.old).seen) (desk_with shared.now.terms (knows pass.new).seen) self.old self.new }
+        ensures counted { faults_of (D.told self.old.device) ≤ faults_of (D.told self.new.device) }
+        ensures lasts { Lasts (D.told self.old.device) (D.clock self.old.device) (D.told self.new.device) (D.clock self.new.device) }
         ensures lowers { Lowers D.told result (stack_of (desk_with shared.now.terms (knows pass.old).seen) self.old) (stack_of (desk_with shared.now.terms (knows pass.new).seen) self.new) }
         ensures due { ServesDue D.told (desk_with shared.now.terms (knows pass.old).seen) (desk_with shared.now.terms (knows pass.new).seen) self.old self.new }
         ensures left { TakesTurns D.told result (stack_of (desk_with shared.now.terms (knows pass.old).seen) self.old) (stack_of (desk_with shared.now.terms (knows pass.new).seen) self.new) }
+        ensures stores_stay { (b n : ℕ) (x : List ℕ) → C.is_store self.old.copies b n x → C.is_store self.new.copies b n x }
+        ensures stays_over { (first : C) → C.over first self.old.copies → C.over first self.new.copies }
         ensures learns { LearnsTurn (knows pass.old) (knows pass.new) }
     {
         match self.begin(rt, shared, pass) {

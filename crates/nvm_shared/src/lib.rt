@@ -11,10 +11,12 @@ mod driver;
 mod locked;
 mod opening;
 mod shared;
+mod telling;
 mod terms;
 
 pub use driver::Driver;
-pub use locked::{Locked, LockedOf, Tells};
+pub use locked::{Locked, LockedOf};
 pub use opening::{NotShared, ShareFault, make};
 pub use shared::{Shared, SharedOf, StackPass, TellsGate, TellsTerms};
+pub use telling::{Telling, Tells};
 pub use terms::Terms;

@@ -3,6 +3,7 @@ ghost use Rattle.std.specs.Prelude.{◌≡◌, ◌++◌, ◌∷◌, ◌≤◌, �
 ghost use Rattle.nv_base.specs.declared.entry.Entry.TheVariants as Entry;
 ghost use Rattle.nv_desk.specs.declared.ask.AskFault.TheVariants as AskFault;
 ghost use Rattle.memif.specs.Told.{DeviceTold};
+ghost use Rattle.memif.specs.Clock.{SameClock};
 ghost use Rattle.block_machine.specs.Words.{Entry as MachineEntry};
 ghost use Rattle.block_machine.specs.StartUp.{at_first};
 ghost use Rattle.block_machine.specs.Reply.{fits, reply_of};
@@ -27,6 +28,7 @@ ghost use Rattle.nvm_core.specs.Turns.{IsFirstHalf};
 ghost use Rattle.nvm_shared.specs.Locked.{terms_of};
 ghost use Rattle.nvm_shared.specs.Driving.{stack_with};
 
+use crate::telling::{Telling, Tells};
 use crate::terms::Terms;
 use first_half::first_half;
 use job_hands::Hand;
@@ -41,19 +43,7 @@ use shared_laws::{asks_leave_power, histories_are_written, told_by};
 use stack_turns::{Act, Turned};
 use std::alloc::Global;
 use std::marker::Model;
-use std::snapshot::Snapshot;
 use turn_gate::Kept;
-
-/// Whether a device tells what it holds, as contracts see it.
-pub trait Tells {
-    ghost use Rattle.std.specs.Prelude.{Bool};
-
-    ghost tells: { Self → Bool };
-}
-
-impl Tells for Snapshot<bool> {
-    ghost tells = { λ s. s.value };
-}
 
 /// The desk, with the memory of its copies. Contracts see the desk, and whether the device tells what it holds.
 #[derive(Drop)]
@@ -72,8 +62,8 @@ impl<P: Tells + Drop> Model for LockedOf<P> {
     ghost invariant = { λ l. IsLocked l.front.desk l.front.staging (P.tells l.tells) };
 }
 
-/// It is an alias, since threads take a struct whose parameters stand bare.
-pub type Locked = LockedOf<Snapshot<bool>>;
+/// The desk under the lock. It is an alias, since threads take a struct whose parameters stand bare.
+pub type Locked = LockedOf<Telling>;
 
 impl Kept for Locked {
     ghost use Rattle.shared_laws.specs.StatusWords.{gives, is_ask};
@@ -98,7 +88,8 @@ impl Kept for Locked {
 
 impl Locked {
     // The desk behind a start-up, with the memory of its copies.
-    pub(crate) fn of(front: Front, tells: bool) -> Locked
+    pub(crate) fn of(front: Front) -> Locked
+        ghost tells: { Bool }
         requires stages { StagesAll front.desk.config front.staging }
         requires started { IsTrue (state_of front.desk).started }
         requires written { AreWritten tells front.desk.config front.desk.cap at_first front.desk.entries }
@@ -106,7 +97,7 @@ impl Locked {
     {
         LockedOf {
             front,
-            tells: Snapshot::of(&tells),
+            tells: Telling::picked(),
         }
     }
 
@@ -178,6 +169,8 @@ impl Locked {
         ensures off { result ≡ Act.Ended Turned.Off → (state_of self.new.desk).off ≡ true }
         ensures first { result ≡ Act.Device → ¬ IsInterruption self.old.desk }
         ensures left { HalfLeft result (program_in_hand hand.old) (D.told device.old) (program_in_hand hand.new) (D.told device.new) }
+        ensures stays_over { (first : C) → C.over first copies.old → C.over first copies.new }
+        ensures clock { SameClock (D.clock device.old) (D.clock device.new) }
         ensures keeps { StaysKept self.old.desk hand.old (D.told device.old) (D.clock device.old) self.new.desk hand.new (D.told device.new) (D.clock device.new) }
     {
         histories_are_written();

@@ -1,5 +1,5 @@
 // A new shared stack.
-ghost use Rattle.std.specs.Prelude.{◌≡◌, ◌∷◌, ◌<◌, [], true, IfOk, IfErr, IsTrue, None};
+ghost use Rattle.std.specs.Prelude.{◌≡◌, ◌∷◌, ◌<◌, [], Bool, true, Err, IfOk, IfErr, IsTrue, None};
 ghost use Rattle.block_config.specs.Lengths.{lengths_of};
 ghost use Rattle.block_machine.specs.Words.{Entry as MachineEntry};
 ghost use Rattle.block_machine.specs.Legal.{IsLegal};
@@ -23,6 +23,9 @@ use stack_turns::FoundAnswer;
 use std::alloc::Global;
 use std::snapshot::Snapshot;
 
+// A start-up, and an Off behind it.
+const START_UP_ENTRIES: u32 = 2;
+
 /// Why a stack isn't shared.
 #[derive(Drop)]
 pub enum ShareFault {
@@ -30,7 +33,8 @@ pub enum ShareFault {
     Fault,
     /// The start-up's entry, and an Off behind it, don't fit under the cap.
     NoRoom,
-    /// No memory was left.
+    /// No memory was left: the device is as it was; or it is started, where the lock, which takes the desk behind the start-up,
+    /// found none.
     Memory,
 }
 
@@ -41,22 +45,29 @@ pub struct NotShared<D> {
     pub device: D,
 }
 
-/// Starts the device up, and shares the stack over it: what all threads use, the marked pass, and the driver. `tells` is
-/// known in proofs alone: it may be true only where the device tells what it holds.
+/// Starts the device up, and shares the stack over it: what all threads use, the marked pass, and the driver. `tells` is picked in
+/// proofs: it may be true only where the device tells what it holds.
 pub fn make<D: MemDevice, C: SyncCalls + Drop>(
     alloc: Global,
     config: Config,
     device: D,
     copies: C,
     cap: u32,
-    tells: bool,
 ) -> Result<(Shared, StackPass, Driver<D, C>), NotShared<D>>
+    ghost tells: { Bool }
     requires numbers { (D.told device).fixed.numbers ≡ lengths_of config }
     requires synchronized { AreSynchronized config (C.told copies) }
     requires tells { tells ≡ true → TellsAtFirst config cap (D.told device) (D.clock device) }
     ensures made { IfOk result (λ r. IsMade D.told D.clock C.told (first_stack config cap device copies) tells r.0 r.1 r.2) }
     ensures why { IfErr result (λ f. WhyNot (D.told device) cap f.fault (D.told f.device)) }
+    ensures no_room { cap < 2 → result ≡ Err (record { fault = ShareFault.NoRoom; device = device }) }
 {
+    if cap < START_UP_ENTRIES {
+        return Err(NotShared {
+            fault: ShareFault::NoRoom,
+            device,
+        });
+    }
     let mut stack = match Stack::make(alloc, config, device, copies, cap) {
         Ok(stack) => stack,
         Err(failed) => {
@@ -67,19 +78,12 @@ pub fn make<D: MemDevice, C: SyncCalls + Drop>(
         }
     };
     match stack.start() {
-        FoundAnswer::Ready => share(alloc, stack, tells),
+        FoundAnswer::Ready => share(alloc, stack),
         FoundAnswer::Failed => Err(NotShared {
             fault: ShareFault::Fault,
             device: stack.into_device(),
         }),
-        FoundAnswer::NoRoom => Err(NotShared {
-            fault: ShareFault::NoRoom,
-            device: stack.into_device(),
-        }),
-        FoundAnswer::Memory => Err(NotShared {
-            fault: ShareFault::Memory,
-            device: stack.into_device(),
-        }),
+        FoundAnswer::NoRoom | FoundAnswer::Memory => unreachable!(),
     }
 }
 
@@ -87,17 +91,17 @@ pub fn make<D: MemDevice, C: SyncCalls + Drop>(
 fn share<D: MemDevice, C: SyncCalls + Drop>(
     alloc: Global,
     stack: Stack<D, C>,
-    tells: bool,
 ) -> Result<(Shared, StackPass, Driver<D, C>), NotShared<D>>
+    ghost tells: { Bool }
     requires ready { stack.ready ≡ true }
     requires first { IsFirst stack.desk.entries }
     requires legal { tells ≡ true → IsLegal stack.desk.config stack.desk.cap stack.desk.entries }
     ensures shared { IfOk result (λ r. IsShared D.told C.told stack tells r.0 r.1 r.2) }
-    ensures fault { IfErr result (λ f. f.fault ≡ ShareFault.Memory) }
+    ensures fault { IfErr result (λ f. (f.fault ≡ ShareFault.Memory) × (f.device ≡ stack.device)) }
 {
     histories_are_written();
     let (front, device, copies, hand) = stack.into_parts();
-    let value = Locked::of(front, tells);
+    let value = Locked::of(front);
     let _len = value.len();
     let first = Snapshot::of(&value);
     match turn_gate::make(alloc, value, WORD_COUNT) {

@@ -52,7 +52,7 @@ impl TellsTerms for Snapshot<Locked> {
     ghost terms = { λ s. terms_of s.value };
 }
 
-/// The lock with the stack's desk, for all threads. Contracts see the lock, and what never changes of the desk.
+/// The lock with the stack's desk, by its parts. Contracts see the lock, and what never changes of the desk.
 #[derive(Drop)]
 pub struct SharedOf<G: TellsGate + Drop, T: TellsTerms + Drop> {
     pub(crate) gate: G,
@@ -71,7 +71,8 @@ impl<G: TellsGate + Drop, T: TellsTerms + Drop> Model for SharedOf<G, T> {
     ghost invariant = { λ s. (G.gate s.gate).words ≡ word_count };
 }
 
-/// It is an alias, since threads share a struct whose parameters stand bare.
+/// What all threads share: the lock round the stack's desk, with the words that tell statuses. It is an alias, since threads share
+/// a struct whose parameters stand bare.
 pub type Shared = SharedOf<Gate<Locked>, Snapshot<Locked>>;
 
 impl Shared {

@@ -1,16 +1,16 @@
 // A shared stack over a device in memory and mirrors: two callers with a side each, and the driver.
-ghost use Rattle.std.specs.Prelude.{◌≡◌, ◌≤◌, ◌+◌, ◌^◌, map, true, IfOk};
+ghost use Rattle.std.specs.Prelude.{◌≡◌, ◌≢◌, ◌≤◌, ◌<◌, ◌+◌, ◌^◌, length, map, true, None, IfOk, IfSome};
 ghost use Rattle.block_config.specs.Lengths.{lengths_of};
 ghost use Rattle.turn_gate.specs.Pass.{knows};
 ghost use Rattle.nv_front.specs.Front.{AreSynchronized};
-ghost use Rattle.mirror_sync.specs.Blocks.{AreEndsOf, IsSideIn, told_by};
+ghost use Rattle.mirror_sync.specs.Blocks.{AreEndsOf, AreSidesOf, IsSideIn, side_at, told_by};
 ghost use Rattle.nvm_shared.specs.Locked.{desk_with};
 ghost use Rattle.nvm_shared.specs.Passes.{IsUserOf};
 ghost use Rattle.nvm_shared.specs.Driving.{Drives};
 
 use block_config::{Config, read};
 use memif::{MemDevice, PlainStore};
-use mirror_sync::{Ends, MirrorSync, Mirrors, Side};
+use mirror_sync::{Ends, MirrorSync, Mirrors, Side, Sides, close};
 use nv_base::{Reply, Request};
 use nvm_shared::{Driver, Shared, StackPass, make};
 use ram_blocks::SyncCalls;
@@ -44,6 +44,7 @@ fn rest<W: Wait, D: MemDevice, C: SyncCalls + Drop>(
     ensures mark { (knows pass.new).mark ≡ true }
     ensures parts { (knows pass.new).parts ≡ (knows pass.old).parts }
     ensures drives { Drives D.told D.clock C.told shared.now.terms.tells (desk_with shared.now.terms (knows pass.new).seen) driver.new }
+    ensures over { (first : C) → C.over first driver.old.copies → C.over first driver.new.copies }
 {
     for _ in 0..100 {
         if matches!(driver.turn(rt, shared, pass), Turned::Idle) {
@@ -85,6 +86,7 @@ fn is_written(shared: &Shared, pass: &mut StackPass, block: u16) -> bool
 fn store(mirrors: &Mirrors, side: &mut Side, content: &[u8]) -> bool
     requires own { IsSideIn mirrors.now side.old }
     ensures own { IsSideIn mirrors.now side.new }
+    ensures block { side.new.block ≡ side.old.block }
 {
     side.bytes() == content.len() && side.store(mirrors, content) == 1
 }
@@ -117,6 +119,7 @@ fn are_served<W: Wait, D: MemDevice, C: SyncCalls + Drop>(
     requires drives { Drives D.told D.clock C.told shared.now.terms.tells (desk_with shared.now.terms (knows pass.old).seen) driver.old }
     ensures own { IsUserOf shared.now pass.new × IsUserOf shared.now one.new × IsUserOf shared.now two.new }
     ensures parts { ((knows pass.new).parts ≡ (knows pass.old).parts) × ((knows one.new).parts ≡ (knows one.old).parts) × ((knows two.new).parts ≡ (knows two.old).parts) }
+    ensures over { (first : C) → C.over first driver.old.copies → C.over first driver.new.copies }
 {
     let asked = writes(rt, alloc, shared, one, 2);
     let asked_two = writes(rt, alloc, shared, two, 3);
@@ -139,17 +142,18 @@ fn entries_at_end(shared: Shared, mut pass: StackPass, one: StackPass, two: Stac
 }
 
 // Whether a shared stack serves two callers, with one history at the end: a start-up, three requests, two writes of three entries
-// and a read of two.
+// and a read of two. The copies come back, over what they were lent.
 fn serves<W: Wait, D: MemDevice + Drop, C: SyncCalls + Drop>(
     rt: &W,
     alloc: Global,
     shared: Shared,
     mut pass: StackPass,
     mut driver: Driver<D, C>,
-) -> bool
+) -> (bool, C)
     requires own { IsUserOf shared pass }
     requires knows { ((knows pass).mark ≡ true) × ((knows pass).parts ≡ 2 ^ 64) }
     requires drives { Drives D.told D.clock C.told shared.terms.tells (desk_with shared.terms (knows pass).seen) driver }
+    ensures over { (first : C) → C.over first driver.copies → C.over first result.1 }
 {
     let mut one = shared.split(&mut pass);
     let mut two = shared.split(&mut pass);
@@ -162,11 +166,13 @@ fn serves<W: Wait, D: MemDevice + Drop, C: SyncCalls + Drop>(
         &mut two,
         &mut driver,
     );
-    let (_device, _copies, hand) = driver.into_parts();
-    entries_at_end(shared, pass, one, two) == 12 && served && hand.is_none()
+    let (_device, copies, hand) = driver.into_parts();
+    let served = entries_at_end(shared, pass, one, two) == 12 && served && hand.is_none();
+    (served, copies)
 }
 
-// Whether what two callers stored is written, and what was read comes back.
+// Whether what two callers stored is written, and what was read comes back; with the driver's ends, which are those of the mirrors
+// still.
 fn is_shared<W: Wait>(
     rt: &W,
     alloc: Global,
@@ -175,23 +181,44 @@ fn is_shared<W: Wait>(
     config: Config,
     first: &mut Side,
     second: &mut Side,
-) -> bool
+) -> Option<(bool, Ends)>
     requires ends { AreEndsOf mirrors.now ends }
     requires synchronized { AreSynchronized config (map told_by ends) }
     requires own { IsSideIn mirrors.now first.old × IsSideIn mirrors.now second.old }
+    ensures own { IsSideIn mirrors.now first.new × IsSideIn mirrors.now second.new }
+    ensures blocks { (first.new.block ≡ first.old.block) × (second.new.block ≡ second.old.block) }
+    ensures ends { IfSome result (λ r. AreEndsOf mirrors.now r.1) }
 {
-    let Ok(device) = make_device(alloc, &config) else {
-        return false;
-    };
+    let device = make_device(alloc, &config).ok()?;
     let stored = store(mirrors, first, b"abcd");
     let stored_two = store(mirrors, second, b"wxyz");
     let copies = MirrorSync::of(mirrors, ends);
-    let Ok((shared, pass, driver)) = make(alloc, config, device, copies, 100, false) else {
+    match make(alloc, config, device, copies, 100) {
+        Ok((shared, pass, driver)) => {
+            let (served, copies) = serves(rt, alloc, shared, pass, driver);
+            let came =
+                matches!(first.newest(mirrors), Some((1, content)) if content == b"abcd".as_slice());
+            Some((stored && stored_two && served && came, copies.into_ends()))
+        }
+        Err(_) => None,
+    }
+}
+
+// Puts two sides back, and ends all mirrors. Answers whether all sides were in.
+fn are_closed(mirrors: Mirrors, ends: Ends, mut sides: Sides, first: Side, second: Side) -> bool
+    requires ends { AreEndsOf mirrors ends }
+    requires sides { AreSidesOf mirrors sides }
+    requires own { IsSideIn mirrors first × IsSideIn mirrors second }
+    requires places { (first.block < length sides) × (second.block < length sides) × (first.block ≢ second.block) }
+    requires out { (side_at sides first.block ≡ None) × (side_at sides second.block ≡ None) }
+{
+    sides.put(first);
+    sides.put(second);
+    if !sides.are_in(&mirrors) {
         return false;
-    };
-    let served = serves(rt, alloc, shared, pass, driver);
-    let came = matches!(first.newest(mirrors), Some((1, content)) if content == b"abcd".as_slice());
-    stored && stored_two && served && came
+    }
+    close(mirrors, ends, sides);
+    true
 }
 
 fn is_made_and_shared<W: Wait>(rt: &W, alloc: Global) -> bool {
@@ -207,7 +234,10 @@ fn is_made_and_shared<W: Wait>(rt: &W, alloc: Global) -> bool {
     let Some(mut second) = sides.take(3) else {
         return false;
     };
-    is_shared(rt, alloc, &mirrors, ends, config, &mut first, &mut second)
+    match is_shared(rt, alloc, &mirrors, ends, config, &mut first, &mut second) {
+        Some((served, ends)) => served && are_closed(mirrors, ends, sides, first, second),
+        None => false,
+    }
 }
 
 #[test]

@@ -100,6 +100,8 @@ impl SyncCalls for PlainSync {
 
     ghost looked = { λ old new b n. Unit {0} };
 
+    ghost over = { λ first now. Unit {0} };
+
     fn copy_out(&mut self, block: u16, into: &mut [u8]) -> Copied {
         self.blocks[usize::from(block)].copy_out(into)
     }

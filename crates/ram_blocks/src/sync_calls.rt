@@ -23,6 +23,9 @@ pub trait SyncCalls {
     /// and gives what that look showed: so a store that is too old isn't one that lay there from an earlier look.
     ghost looked: { Self → Self → ℕ → ℕ → Type 0 };
 
+    /// That the second value is over what the first one is over, as the same mirrors: so who lent that knows it again.
+    ghost over: { Self → Self → Type 0 };
+
     /// Copies the whole of a store of the application, and answers its number.
     fn copy_out(&mut self, block: u16, into: &mut [u8]) -> Copied
         requires { IsSynchronized (told self.old) block (length into.old) }
@@ -30,6 +33,7 @@ pub trait SyncCalls {
         ensures store { IsGot result (λ n. is_store self.new block n into.new) }
         ensures looks { IsGot result (λ n. looked self.old self.new block n) }
         ensures stores_stay { (b n : ℕ) (x : List ℕ) → is_store self.old b n x → is_store self.new b n x }
+        ensures stays_over { (first : Self) → over first self.old → over first self.new }
         ensures looked_later { (since : Self) (b n : ℕ) → looked since self.old b n → looked since self.new b n }
         ensures looked_earlier { (until : Self) (b n : ℕ) → looked self.new until b n → looked self.old until b n };
 
@@ -38,6 +42,7 @@ pub trait SyncCalls {
         requires { IsSynchronized (told self.old) block (length from.now) }
         ensures copied { CopiesIn result block from.now (told self.old) (told self.new) }
         ensures stores_stay { (b n : ℕ) (x : List ℕ) → is_store self.old b n x → is_store self.new b n x }
+        ensures stays_over { (first : Self) → over first self.old → over first self.new }
         ensures looked_later { (since : Self) (b n : ℕ) → looked since self.old b n → looked since self.new b n }
         ensures looked_earlier { (until : Self) (b n : ℕ) → looked self.new until b n → looked self.old until b n };
 

@@ -1,6 +1,6 @@
 -- A turn of the device, without what its clock tells.
 use Rattle.std.specs.Prelude.{◌||◌}
-use Rattle.std.proofs.Common.{◌≡◌, ◌≤◌, ℕ, Bool, true, false, List, Option, Some, None, refl, sym, ap, subst, inl, inr, arith}
+use Rattle.std.proofs.Common.{◌≡◌, ℕ, Bool, true, false, List, Option, Some, None, refl, sym, ap, subst, inl, inr, arith}
 use Rattle.nv_base.specs.declared.mark.Mark.{Mark}
 use Rattle.memif.specs.Told.{DeviceTold, Part, First, Second, part_at, Stand, Open, Ended, is_off, length_of}
 use Rattle.memif.specs.Clock.{Clock}

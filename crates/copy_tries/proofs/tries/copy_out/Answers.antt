@@ -3,7 +3,7 @@ use Rattle.copy_tries.proofs.tries.copy_out.Goals as goal
 use Rattle.copy_tries.proofs.tries.copy_out.Goals.{in-Got+else-asked-number, in-Refused}
 
 pub loop-i-init : goal.loop-i-init
-loop-i-init g c = record { tried = begins_out _ _ _ _ _ c.requires; stores = λ b n x h. h; looks = λ until b n h. h }
+loop-i-init g c = record { tried = begins_out _ _ _ _ _ c.requires; stores = λ b n x h. h; over = λ first h. h; looks = λ until b n h. h }
 
 pub returns-then-asked-number-clause-sizes : goal.returns-then-asked-number-clause-sizes
 returns-then-asked-number-clause-sizes g c = rw c.in-Got.ensures.copied (counts_sizes _ _ _ c.loop-i.invariant.tried.trying.counts)
@@ -15,6 +15,7 @@ loop-i-preserved g c =
         tried = stale_out _ _ _ _ _ _ _ _ _ _ _ _ c.loop-i.invariant.tried w.in-Got.ensures.copied w.if-asked-number.false
             (w.in-Got.ensures.store, c.loop-i.invariant.looks c.copy_out.new.self c.args.block w.in-Got.number w.in-Got.ensures.looks);
         stores = λ b n x h. c.copy_out.ensures.stores_stay b n x (c.loop-i.invariant.stores b n x h);
+        over = λ first h. c.copy_out.ensures.stays_over first (c.loop-i.invariant.over first h);
         looks = λ until b n h. c.loop-i.invariant.looks until b n (c.copy_out.ensures.looked_earlier until b n h);
       })
       | in-Refused w ↦ rw (w.last-is, c.copy_out.auto.into) (record {
@@ -22,6 +23,7 @@ loop-i-preserved g c =
             (λ n x h. (c.copy_out.ensures.stores_stay c.args.block n x h.0, c.copy_out.ensures.looked_later c.args.copies.now c.args.block n h.1))
             c.loop-i.invariant.tried w.in-Refused.ensures.copied;
         stores = λ b n x h. c.copy_out.ensures.stores_stay b n x (c.loop-i.invariant.stores b n x h);
+        over = λ first h. c.copy_out.ensures.stays_over first (c.loop-i.invariant.over first h);
         looks = λ until b n h. c.loop-i.invariant.looks until b n (c.copy_out.ensures.looked_earlier until b n h);
       })
     ]

@@ -1,6 +1,6 @@
-use Rattle.std.proofs.Common.{◌≡◌, ◌+◌, ℕ, length, option_map, Option, refl, subst, arith}
+use Rattle.std.proofs.Common.{◌+◌, option_map, Option, refl, subst, arith}
 use Rattle.block_config.specs.declared.block.BlockDesc.{BlockDesc}
-use Rattle.mirror_sync.specs.Blocks.{AreMade, IsMade}
+use Rattle.mirror_sync.specs.Blocks.{IsMade}
 use Rattle.mirror_sync.proofs.Blocks.{all_made, one_more, synchronized_made}
 use Rattle.mirror_sync.proofs.making.make.Goals as goal
 

@@ -1,4 +1,4 @@
-use Rattle.std.proofs.Common.{◌≡◌, ℕ, List, sym, ap, ◌∙◌, subst}
+use Rattle.std.proofs.Common.{sym, ◌∙◌, subst}
 use Rattle.ram_mirrors.specs.Ends.{IsTakerOf}
 use Rattle.mirror_sync.specs.Ends.{EndValue, PairValue, CopiesEndOut, IsShown}
 use Rattle.mirror_sync.proofs.Copying.{Looks, looks_by, copies_first, copies_last, shown_on}

@@ -1,7 +1,7 @@
-use Rattle.std.proofs.Common.{◌≡◌, Option, Some, None, get_or, List, ℕ, length, map, slice_set, subst, sym, ap, ◌∙◌}
+use Rattle.std.proofs.Common.{◌≡◌, Some, ℕ, length, map, subst, sym, ap, ◌∙◌}
 use Rattle.ram_blocks.specs.Told.{told_at, handed_by}
 use Rattle.ram_blocks.specs.Copies.{changed, handed_over, next_number}
-use Rattle.mirror_sync.specs.Blocks.{IsStore, HasLooked, EndList, SyncValue, end_at, told_by}
+use Rattle.mirror_sync.specs.Blocks.{IsStore, HasLooked, SyncValue, end_at, told_by}
 use Rattle.mirror_sync.proofs.Belonging.{owns}
 use Rattle.mirror_sync.proofs.Copies.{end_there, in_stores_stay, stores_stay, told_in, in_goes_on, looked_later, looked_earlier}
 use Rattle.mirror_sync.proofs.sync.MirrorSyncSyncCalls.copy_in.Goals as goal

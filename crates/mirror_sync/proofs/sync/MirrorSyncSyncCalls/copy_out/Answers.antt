@@ -1,5 +1,5 @@
-use Rattle.std.proofs.Common.{◌≡◌, ℕ, Option, Some, None, get_or, List, length, map, slice_set, subst, sym, ap, ◌∙◌}
-use Rattle.mirror_sync.specs.Blocks.{IsStore, HasLooked, EndList, SyncValue, end_at, told_by}
+use Rattle.std.proofs.Common.{◌≡◌, ℕ, Some, length, map, slice_set, subst, sym, ap, ◌∙◌}
+use Rattle.mirror_sync.specs.Blocks.{IsStore, HasLooked, SyncValue, end_at, told_by}
 use Rattle.mirror_sync.proofs.Belonging.{owns}
 use Rattle.mirror_sync.proofs.Copies.{end_there, store_now, stores_stay, told_same, out_goes_on, out_shows, looked_now, looked_later, looked_earlier}
 use Rattle.mirror_sync.proofs.sync.MirrorSyncSyncCalls.copy_out.Goals as goal

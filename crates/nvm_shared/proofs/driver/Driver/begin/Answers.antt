@@ -1,4 +1,5 @@
 use Rattle.std.proofs.Common.{◌≡◌, sym, subst, ◌∙◌, true}
+use Rattle.memif.specs.Clock.{SameClock}
 use Rattle.turn_gate.specs.Pass.{knows}
 use Rattle.nv_front.specs.Front.{AreSynchronized}
 use Rattle.nv_desk.specs.Desk.{DeskState, state_of}
@@ -140,6 +141,8 @@ returns g c =
           (subst (λ (y : DeskState). StaysKept (desk_with t v.seen) inside.hand d clock y new.hand (told new.device) clock_new) desk
           (λ before kept. half.keeps before (b.stands.kept before kept)));
       left = subst (λ (s : DriverState g.row.D.Denot g.row.C.Denot). HalfLeft c.first_half-act.result (program_in_hand s.hand) (told s.device) (program_in_hand new.hand) (told new.device)) c.self.view_is half.left;
+      clock = subst (λ (s : DriverState g.row.D.Denot g.row.C.Denot). SameClock (clocks s.device) clock_new) c.self.view_is half.clock;
+      stays_over = λ first h. half.stays_over first (subst (λ (s : DriverState g.row.D.Denot g.row.C.Denot). g.C.SyncCalls.over first s.copies) (sym c.self.view_is) h);
       off = λ now. subst (λ (y : DeskState). (state_of y).off ≡ true) desk (half.off now);
       learns = l.learns;
     }

@@ -260,3 +260,6 @@ returns-clause-ends g c = λ s may'.
           (subst (λ (y : DeskState). IsDueInHand number left (record { desk = y; hand = s.hand; device = old })) (sym b.desk) (c.asks_keep_due.ensures.in_hand (desk_with t v.seen) s.hand old b.asks number left b.replied due))
           c.second_half-answer.result turns asked);
     }
+
+pub returns-clause-device : goal.returns-clause-device
+returns-clause-device g c = ap (λ (s : DriverState g.row.D.Denot g.row.C.Denot). s.device) c.self.view_is

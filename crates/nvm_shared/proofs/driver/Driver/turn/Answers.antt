@@ -1,6 +1,8 @@
-use Rattle.std.proofs.Common.{◌≡◌, ℕ, inr, refl, sym, ap, subst, ◌∙◌, arith}
+use Rattle.std.proofs.Common.{◌≡◌, ℕ, inl, inr, refl, sym, ap, subst, ◌∙◌, arith}
 use Rattle.nv_base.specs.Count.{Rose}
 use Rattle.memif.specs.Told.{DeviceTold}
+use Rattle.memif.proofs.Turning.{lasts_more}
+use Rattle.turn_laws.specs.Cuts.{CutsInATurnKeep}
 use Rattle.turn_gate.specs.Pass.{knows}
 use Rattle.nv_desk.specs.Desk.{DeskState, state_of}
 use Rattle.nvm_shared.specs.Locked.{desk_with}
@@ -10,6 +12,8 @@ use Rattle.shared_laws.specs.Behind.{with_more}
 use Rattle.nvm_core.proofs.Leaving.{ended_takes, turn_takes}
 use Rattle.nvm_core.proofs.Lowering.{device_lowers, ended_lowers, leaves_counts}
 use Rattle.nvm_core.proofs.Turned.{never_worked}
+use Rattle.nvm_core.proofs.Paying.{device_lasts, half_lasts}
+use Rattle.nvm_core.proofs.Working.{device_counts}
 use Rattle.nvm_shared.specs.Driving.{stack_of}
 use Rattle.nvm_shared.proofs.Learning.{both_learn, half_learns, takes_with}
 use Rattle.nvm_shared.proofs.Serving.{ended_serves, less_before, lowers_ended, none_before, off_before}
@@ -106,3 +110,73 @@ returns-in-Device-clause-due g c = λ number turns calm due.
     (record { drives = c.in-Device.ensures.drives; on = ap (λ (x : DeskState). (state_of x).off) half.half.0.0 ∙ half.half.2; turned = c.device_turn-turned.ensures.turns }) in
     let same : (told between.device).first.faults ≡ (told c.args.self.now.device).first.faults = ap (λ (x : DeviceTold). x.first.faults) half.device in
     inr (ends.nearer number turns (half.started refl) half.half.1 (subst (λ (n : ℕ). ¬ Rose n (told c.finish-answer.new.self.device).first.faults) (sym same) calm.faultless) calm.on (begins.served number turns due))
+
+pub returns-in-Ended-clause-turns : goal.returns-in-Ended-clause-turns
+returns-in-Ended-clause-turns g c = inl c.in-Ended.ensures.begins
+
+pub returns-in-Device-clause-turns : goal.returns-in-Device-clause-turns
+returns-in-Device-clause-turns g c =
+    let half = c.in-Device.ensures.begins.half.half in
+    let ends = c.finish-answer.ensures.ends c.begin.new.self
+    (record { drives = c.in-Device.ensures.drives; on = ap (λ (x : DeskState). (state_of x).off) half.0.0 ∙ half.2; turned = c.device_turn-turned.ensures.turns }) in
+    inr (
+      desk_with c.args.shared.now.terms (knows c.begin.new.pass).seen,
+      c.begin.new.self,
+      c.in-Device.ensures.begins,
+      subst (λ (d : g.row.D.Denot). CutsInATurnKeep (g.D.MemDevice.told c.begin.new.self.device) (g.D.MemDevice.clock c.begin.new.self.device) (g.D.MemDevice.told d) (g.D.MemDevice.clock d)) (sym c.finish-answer.ensures.device) c.device_turn-turned.ensures.turns.cuts,
+      ends,
+    )
+
+pub returns-in-Ended-clause-counted : goal.returns-in-Ended-clause-counted
+returns-in-Ended-clause-counted g c =
+    let same = leaves_counts (g.D.MemDevice.told c.args.self.now.device) (g.D.MemDevice.told c.begin.new.self.device) c.in-Ended.ensures.begins.half.device in
+    omega (arith, same)
+
+pub returns-in-Device-clause-counted : goal.returns-in-Device-clause-counted
+returns-in-Device-clause-counted g c =
+    let told = g.D.MemDevice.told in
+    let half = c.in-Device.ensures.begins.half.half in
+    let ends = c.finish-answer.ensures.ends c.begin.new.self
+    (record { drives = c.in-Device.ensures.drives; on = ap (λ (x : DeskState). (state_of x).off) half.0.0 ∙ half.2; turned = c.device_turn-turned.ensures.turns }) in
+    let same = leaves_counts (told c.args.self.now.device) (told c.begin.new.self.device) c.in-Device.ensures.begins.half.device in
+    let more = device_counts c.finish-answer.result (told c.begin.new.self.device) _ (told c.finish-answer.new.self.device) _ ends.turns in
+    omega (arith, same, more)
+
+pub returns-in-Ended-clause-lasts : goal.returns-in-Ended-clause-lasts
+returns-in-Ended-clause-lasts g c =
+    let told = g.D.MemDevice.told in
+    let clocks = g.D.MemDevice.clock in
+    let old = c.args.self.now.device in
+    let new = c.begin.new.self.device in
+    half_lasts (told old) (told new) (clocks old) (clocks new) c.in-Ended.ensures.begins.half.device c.in-Ended.ensures.clock
+
+pub returns-in-Device-clause-lasts : goal.returns-in-Device-clause-lasts
+returns-in-Device-clause-lasts g c =
+    let told = g.D.MemDevice.told in
+    let clocks = g.D.MemDevice.clock in
+    let old = c.args.self.now.device in
+    let between = c.begin.new.self.device in
+    let new = c.finish-answer.new.self.device in
+    let half = c.in-Device.ensures.begins.half.half in
+    let ends = c.finish-answer.ensures.ends c.begin.new.self
+    (record { drives = c.in-Device.ensures.drives; on = ap (λ (x : DeskState). (state_of x).off) half.0.0 ∙ half.2; turned = c.device_turn-turned.ensures.turns }) in
+    lasts_more (told old) (clocks old) (told between) (clocks between) (told new) (clocks new)
+    (half_lasts (told old) (told between) (clocks old) (clocks between) c.in-Device.ensures.begins.half.device c.in-Device.ensures.clock)
+    (device_lasts c.finish-answer.result (told between) (clocks between) (told new) (clocks new) ends.turns)
+
+pub returns-in-Ended-clause-stores_stay : goal.returns-in-Ended-clause-stores_stay
+returns-in-Ended-clause-stores_stay g c = c.in-Ended.ensures.begins.half.stores_stay
+
+pub returns-in-Device-clause-stores_stay : goal.returns-in-Device-clause-stores_stay
+returns-in-Device-clause-stores_stay g c = λ b n x is.
+    let half = c.in-Device.ensures.begins.half.half in
+    let ends = c.finish-answer.ensures.ends c.begin.new.self
+    (record { drives = c.in-Device.ensures.drives; on = ap (λ (x : DeskState). (state_of x).off) half.0.0 ∙ half.2; turned = c.device_turn-turned.ensures.turns }) in
+    subst (λ (s : g.row.C.Denot). g.C.SyncCalls.is_store s b n x) (sym ends.copies) (c.in-Device.ensures.begins.half.stores_stay b n x is)
+
+pub returns-in-Device-clause-stays_over : goal.returns-in-Device-clause-stays_over
+returns-in-Device-clause-stays_over g c = λ first over.
+    let half = c.in-Device.ensures.begins.half.half in
+    let ends = c.finish-answer.ensures.ends c.begin.new.self
+    (record { drives = c.in-Device.ensures.drives; on = ap (λ (x : DeskState). (state_of x).off) half.0.0 ∙ half.2; turned = c.device_turn-turned.ensures.turns }) in
+    subst (λ (s : g.row.C.Denot). g.C.SyncCalls.over first s) (sym ends.copies) (c.in-Device.ensures.stays_over first over)
