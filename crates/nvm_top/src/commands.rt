@@ -25,7 +25,7 @@ use std::sync::Wait;
 use std::thread::Threads;
 
 /// Runs the command that the words name over the input, the output and the flash, and gives the flash back. It serves `play`,
-/// `soak`, `check` and `dump`; `run` is `Unbuilt` so far, and no input is read then.
+/// `soak`, `check` and `dump`; of `run` the answer is `Unbuilt`, and no input is read.
 pub fn command<R: Threads + Wait + Sync, S: Source, K: Sink, F: Flash>(
     _rt: &R,
     alloc: Global,
