@@ -14,3 +14,5 @@ pub mod Order
 pub mod ResultTable
 pub mod Accepted
 pub mod Cases
+pub use Rattle.nv_base.specs as nv_base
+pub use Rattle.block_config.specs as block_config

@@ -12,10 +12,12 @@ mod table_cases;
 mod worked_cases;
 mod wrong_cases;
 
+pub use block_config;
 pub use near_cases::{
     misplaced_posts_are_refuted, near_histories_are_legal, other_blocks_stay, other_instances_stay,
     wrong_picks_are_refuted, wrong_times_are_refuted, wrong_writes_are_refuted,
 };
+pub use nv_base;
 pub use reply_cases::{
     each_block_has_its_replies, each_state_has_its_replies, each_time_has_its_replies,
 };

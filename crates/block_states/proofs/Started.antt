@@ -3,8 +3,8 @@ use Rattle.std.proofs.Common.{◌≡◌, ◌<◌, ℕ, zero, suc, ◌+◌, ◌==
 use Rattle.std.specs.List.{enumerate_from, list_any}
 use Rattle.std.specs.Option.{option_map_or}
 use Rattle.std.proofs.lemmas.List.{length-replicate}
-use Rattle.block_config.specs.Block.{plain_block}
-use Rattle.block_config.specs.Config.{block_of}
+use Rattle.block_machine.specs.block_config.Block.{plain_block}
+use Rattle.block_machine.specs.block_config.Config.{block_of}
 use Rattle.block_machine.specs.Words.{Instance, Mark, BlockDesc, Configuration}
 use Rattle.block_machine.specs.Blocks.{no_block, keeps_ram, desc_of, is_permanent}
 use Rattle.block_machine.specs.StartUp.{started_block}

@@ -5,7 +5,7 @@ ghost use Rattle.block_machine.specs.Sweeps.{is_done};
 ghost use Rattle.block_machine.specs.Steps.{flagged};
 ghost use Rattle.block_states.specs.States.{no_facts, with_flags};
 
-use nv_base::{JobKind, ReqResult};
+use block_machine::nv_base::{JobKind, ReqResult};
 use ram_blocks::RamFlags;
 
 /// The status of a block, its data index, and whether it is locked and protected (NvM_GetErrorStatus, NvM_GetDataIndex,

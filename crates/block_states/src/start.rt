@@ -2,13 +2,13 @@
 ghost use Rattle.std.specs.Prelude.{◌≡◌, ◌==◌, ◌<◌, ◌+◌, ℕ, false, length, get_or, slice_get, option_copied};
 ghost use Rattle.std.specs.List.{list_any};
 ghost use Rattle.std.specs.Option.{option_map_or};
-ghost use Rattle.block_config.specs.Config.{block_of};
+ghost use Rattle.block_machine.specs.block_config.Config.{block_of};
 ghost use Rattle.block_states.specs.States.{no_facts, started_by};
 
 use crate::BlockFacts;
 use crate::facts::no_facts;
-use block_config::{BlockDesc, Config};
-use nv_base::Marks;
+use block_machine::block_config::{BlockDesc, Config};
+use block_machine::nv_base::Marks;
 
 // Each block as a start-up leaves it.
 pub fn start_all(facts: &mut Vec<BlockFacts>, config: &Config, marks: &Marks)

@@ -7,8 +7,8 @@ ghost use Rattle.block_states.specs.States.{rooms_of, state_at, changed_at, star
 use crate::BlockFacts;
 use crate::facts::{facts_at, flagged, is_done, no_facts, put_at};
 use crate::start::start_all;
-use block_config::{Config, RamKind};
-use nv_base::{JobKind, Marks, ReqResult};
+use block_machine::block_config::{Config, RamKind};
+use block_machine::nv_base::{JobKind, Marks, ReqResult};
 use ram_blocks::{RamBlocks, RamFlags};
 use std::alloc::{AllocError, Global};
 use std::marker::Model;

@@ -12,13 +12,13 @@ use Rattle.fee_format.specs.declared.rec_head.RecHead.{RecHead}
 use Rattle.fee_log.specs.Log.{work_in}
 use Rattle.fee_log.specs.Step.{IsPageOf, due_bytes, op_of, after_step}
 use Rattle.fee_switch.specs.Banks.{BanksState}
-use Rattle.device_bridge.specs.Making.{Making}
-use Rattle.device_clock.specs.Clock.{change_of}
-use Rattle.fee_state.specs.declared.job.FeeJob.{FeeJob}
-use Rattle.fee_state.specs.Inside.{Parts, IsAtWork, body_of}
-use Rattle.fee_state.specs.Record.{IsInWork, head_of}
-use Rattle.fee_turns.specs.Turn.{IsOn, Drives}
-use Rattle.fee_turns.specs.Appends.{IsAppending, work_body, after_page}
+use Rattle.promise_device.specs.Making.{Making}
+use Rattle.fee_told.specs.Clock.{change_of}
+use Rattle.fee_laws.specs.declared.job.FeeJob.{FeeJob}
+use Rattle.fee_laws.specs.Inside.{Parts, IsAtWork, body_of}
+use Rattle.fee_laws.specs.Record.{IsInWork, head_of}
+use Rattle.fee_laws.specs.Turn.{IsOn, Drives}
+use Rattle.fee_laws.specs.Appends.{IsAppending, work_body, after_page}
 
 -- THE RECORD IN WORK
 work_of : (b : BanksState) (job : Option FeeJob) (j : FeeJob) (o : Option RecHead) → job ≡ Some j → IfSome o (IsInWork b job) → IsSome o → o ≡ Some (head_of b.log j)

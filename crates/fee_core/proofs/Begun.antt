@@ -11,17 +11,17 @@ use Rattle.fee_format.specs.declared.rec_head.RecHead.{RecHead}
 use Rattle.fee_log.specs.declared.tail.Tail.{Tail}
 use Rattle.fee_log.specs.declared.tail.Tail.TheVariants.{Open, Writes, Owes, Closed}
 use Rattle.fee_log.specs.Log.{IsFor, work_in, free_in, tail_begun}
-use Rattle.switch_course.specs.declared.course.Course.{Course}
-use Rattle.switch_course.specs.declared.course.Course.TheVariants.{Erase, Copy, Head, Gate}
+use Rattle.fee_course.specs.declared.course.Course.{Course}
+use Rattle.fee_course.specs.declared.course.Course.TheVariants.{Erase, Copy, Head, Gate}
 use Rattle.fee_switch.specs.Banks.{BanksState, TakesRecord}
-use Rattle.switch_room.specs.Space.{free_pages, has_room}
-use Rattle.device_bridge.specs.Making.{Making}
-use Rattle.fee_state.specs.declared.job.FeeJob.{FeeJob}
-use Rattle.fee_state.specs.Inside.{Parts, IsActiveOf}
-use Rattle.fee_state.specs.Record.{IsJobOf, kind_of, head_of}
-use Rattle.fee_state.specs.Work.{begins_next, fits_in, is_waiting, pages_of_op, takes_append}
-use Rattle.fee_turns.specs.Turn.{IsOn}
-use Rattle.fee_turns.specs.Begins.{MayBegin}
+use Rattle.fee_switch_laws.specs.Space.{free_pages, has_room}
+use Rattle.promise_device.specs.Making.{Making}
+use Rattle.fee_laws.specs.declared.job.FeeJob.{FeeJob}
+use Rattle.fee_laws.specs.Inside.{Parts, IsActiveOf}
+use Rattle.fee_laws.specs.Record.{IsJobOf, kind_of, head_of}
+use Rattle.fee_laws.specs.Work.{begins_next, fits_in, is_waiting, pages_of_op, takes_append}
+use Rattle.fee_laws.specs.Turn.{IsOn}
+use Rattle.fee_laws.specs.Begins.{MayBegin}
 use Rattle.fee_core.specs.Beginning.{begins_beside, begins_now}
 use Rattle.fee_core.proofs.Standing.{job_is, for_job, next_counted, pages_for}
 

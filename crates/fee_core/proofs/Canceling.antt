@@ -10,13 +10,13 @@ use Rattle.fls_model.specs.Told.{Told}
 use Rattle.fee_log.specs.Log.{IsLogState, work_in}
 use Rattle.fee_log.specs.Step.{given_up}
 use Rattle.fee_switch.specs.Banks.{BanksState, IsBanksState}
-use Rattle.device_bridge.specs.Making.{Making}
-use Rattle.fee_state.specs.declared.job.FeeJob.{FeeJob}
-use Rattle.fee_state.specs.Inside.{Parts, stand_of, IsSound}
-use Rattle.fee_starts.specs.Laws.{JobsCancel}
-use Rattle.fee_starts.specs.Parts.{canceled, without_work}
-use Rattle.fee_room.specs.Follows.{Follows}
-use Rattle.fee_room.specs.Laws.{GivenUpFollows}
+use Rattle.promise_device.specs.Making.{Making}
+use Rattle.fee_laws.specs.declared.job.FeeJob.{FeeJob}
+use Rattle.fee_laws.specs.Inside.{Parts, stand_of, IsSound}
+use Rattle.fee_laws.specs.CallLaws.{JobsCancel}
+use Rattle.fee_laws.specs.Parts.{canceled, without_work}
+use Rattle.fee_laws.specs.Follows.{Follows}
+use Rattle.fee_laws.specs.FollowLaws.{GivenUpFollows}
 use Rattle.fee_core.proofs.Started.{told_at, clock_at}
 
 open_at : (o : Option FeeJob) → is_some o ≡ true → (j : FeeJob) × (o ≡ Some j)

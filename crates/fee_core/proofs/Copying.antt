@@ -9,21 +9,21 @@ use Rattle.fls_model.specs.declared.flash.FlashAnswer.{FlashAnswer}
 use Rattle.fls_model.specs.declared.flash.FlashAnswer.TheVariants.{Done, Failed, Off}
 use Rattle.fls_model.specs.Told.{Told}
 use Rattle.fls_jobs.specs.State.{FlsState}
-use Rattle.log_image.specs.declared.place.Place.{Place}
-use Rattle.log_image.specs.declared.place.Place.TheVariants as place
-use Rattle.switch_course.specs.declared.copies.Source.{Source}
-use Rattle.switch_course.specs.declared.course.Course.{Course}
-use Rattle.switch_course.specs.declared.course.Course.TheVariants.{Erase, Copy, Head, Gate}
+use Rattle.fee_image.specs.declared.place.Place.{Place}
+use Rattle.fee_image.specs.declared.place.Place.TheVariants as place
+use Rattle.fee_course.specs.declared.copies.Source.{Source}
+use Rattle.fee_course.specs.declared.course.Course.{Course}
+use Rattle.fee_course.specs.declared.course.Course.TheVariants.{Erase, Copy, Head, Gate}
 use Rattle.fee_switch.specs.declared.phase.BankStep.{BankStep}
 use Rattle.fee_switch.specs.Banks.{BanksState, IsBanksState, reads_next, reads_source, reads_place, after_answer}
 use Rattle.fee_switch.specs.Copy.{BeginsAt, IsBankStep}
-use Rattle.switch_room.specs.Laws.{StepsMayBeMade}
-use Rattle.device_bridge.specs.Making.{Making}
-use Rattle.fee_state.specs.Inside.{Parts}
-use Rattle.fee_turns.specs.Turn.{Turned}
-use Rattle.fee_turns.specs.Switches.{failed_with, CopiesAreRead, CopiesAreNotRead}
-use Rattle.fee_room.specs.Follows.{Follows}
-use Rattle.fee_room.specs.Laws.{CopiesFollow}
+use Rattle.fee_switch_laws.specs.RoomLaws.{StepsMayBeMade}
+use Rattle.promise_device.specs.Making.{Making}
+use Rattle.fee_laws.specs.Inside.{Parts}
+use Rattle.fee_laws.specs.Turn.{Turned}
+use Rattle.fee_laws.specs.Switches.{failed_with, CopiesAreRead, CopiesAreNotRead}
+use Rattle.fee_laws.specs.Follows.{Follows}
+use Rattle.fee_laws.specs.FollowLaws.{CopiesFollow}
 use Rattle.fee_core.proofs.Stepping.{IsCalled, stepping}
 
 -- a step that reads is the first one of a copy

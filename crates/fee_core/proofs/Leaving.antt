@@ -4,20 +4,20 @@ use Rattle.std.proofs.Common.{◌≡◌, ◌+◌, ℕ, true, List, [], ◌∷◌
 use Rattle.nv_base.specs.declared.instance.DeviceNumber.{DeviceNumber}
 use Rattle.fee_format.specs.declared.rec_head.RecHead.{RecHead}
 use Rattle.fee_image.specs.RecordList.{pages_of_head}
-use Rattle.log_image.specs.declared.place.Place.{Place}
-use Rattle.log_image.specs.Places.{erased_places}
+use Rattle.fee_image.specs.declared.place.Place.{Place}
+use Rattle.fee_image.specs.Places.{erased_places}
 use Rattle.fee_log.specs.declared.tail.Tail.{Tail}
 use Rattle.fee_log.specs.declared.tail.Tail.TheVariants.{Open, Writes, Owes, Closed}
 use Rattle.fee_log.specs.Index.{clear_flags}
 use Rattle.fee_log.specs.Log.{LogState, work_in, left_in}
-use Rattle.bank_start.specs.declared.active.ActiveBank.{ActiveBank}
-use Rattle.switch_course.specs.Copies.{copies_left, as_appended}
+use Rattle.fee_switch.specs.declared.active.ActiveBank.{ActiveBank}
+use Rattle.fee_course.specs.Copies.{copies_left, as_appended}
 use Rattle.fee_switch.specs.Banks.{BanksState, index_of}
-use Rattle.device_figures.specs.Figures.{turns_owed}
-use Rattle.fee_state.specs.declared.job.FeeJob.{FeeJob}
-use Rattle.fee_state.specs.Inside.{IsActiveOf}
-use Rattle.fee_state.specs.Record.{head_of}
-use Rattle.fee_state.specs.Work.{pages_left, is_owed}
+use Rattle.fee_told.specs.Figures.{turns_owed}
+use Rattle.fee_laws.specs.declared.job.FeeJob.{FeeJob}
+use Rattle.fee_laws.specs.Inside.{IsActiveOf}
+use Rattle.fee_laws.specs.Record.{head_of}
+use Rattle.fee_laws.specs.Work.{pages_left, is_owed}
 
 -- of a record in work
 pub record_left : (p wanted : ℕ) (t : Tail) (log : LogState) (j : FeeJob) → is_some (work_in t) ≡ true → IfSome (work_in t) (λ h. h ≡ head_of log j) → wanted ≡ pages_of_head p (head_of log j)

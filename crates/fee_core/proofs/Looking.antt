@@ -12,14 +12,14 @@ use Rattle.std.specs.Prelude.{take, length}
 use Rattle.memif.specs.declared.answer.DeviceRefusal.{DeviceRefusal}
 use Rattle.memif.specs.declared.answer.JobResult.{JobResult}
 use Rattle.memif.specs.Told.{is_open, length_of, at_number, no_figures, most_of}
-use Rattle.device_figures.specs.Figures.{figures_for}
-use Rattle.fee_state.specs.Work.{pages_of_op}
+use Rattle.fee_told.specs.Figures.{figures_for}
+use Rattle.fee_laws.specs.Work.{pages_of_op}
 use Rattle.memif.specs.Calls.{refusal_of, length_refusal}
 use Rattle.fls_model.specs.Told.{Told}
-use Rattle.device_bridge.specs.Making.{Making}
-use Rattle.device_clock.specs.Device.{told_of}
-use Rattle.fee_state.specs.declared.job.FeeJob.{FeeJob}
-use Rattle.fee_state.specs.Inside.{Parts, device_of, stand_of, mark_of}
+use Rattle.promise_device.specs.Making.{Making}
+use Rattle.fee_told.specs.Device.{told_of}
+use Rattle.fee_laws.specs.declared.job.FeeJob.{FeeJob}
+use Rattle.fee_laws.specs.Inside.{Parts, device_of, stand_of, mark_of}
 
 later_at : (x : DeviceNumber × ℕ) (xs : List (DeviceNumber × ℕ)) (n i : ℕ) (d : DeviceNumber × ℕ) (o : Option ℕ) → ((k : ℕ) → o ≡ Some k → length_of xs n ≡ Some (get_or xs k d).1)
     → option_map (λ place. place + 1) o ≡ Some i → length_of xs n ≡ Some (get_or (x ∷ xs) i d).1

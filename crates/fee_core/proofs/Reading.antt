@@ -14,14 +14,14 @@ use Rattle.fls_model.specs.Read.{IsRead}
 use Rattle.fls_model.specs.Told.{Told}
 use Rattle.fls_jobs.specs.State.{FlsState}
 use Rattle.fls_jobs.specs.CallOf.{closed_as}
-use Rattle.log_image.specs.declared.place.Place.{Place}
-use Rattle.log_image.specs.declared.place.Place.TheVariants.{Content}
-use Rattle.log_image.specs.Places.{IsWithin}
+use Rattle.fee_image.specs.declared.place.Place.{Place}
+use Rattle.fee_image.specs.declared.place.Place.TheVariants.{Content}
+use Rattle.fee_image.specs.Places.{IsWithin}
 use Rattle.fee_log.specs.Log.{LogState}
-use Rattle.fee_state.specs.declared.job.FeeJob.{FeeJob}
-use Rattle.fee_state.specs.Inside.{Parts}
-use Rattle.fee_state.specs.Record.{IsJobOf, IsLengthOf}
-use Rattle.fee_turns.specs.Reads.{IsAsked, place_now}
+use Rattle.fee_laws.specs.declared.job.FeeJob.{FeeJob}
+use Rattle.fee_laws.specs.Inside.{Parts}
+use Rattle.fee_laws.specs.Record.{IsJobOf, IsLengthOf}
+use Rattle.fee_laws.specs.Reads.{IsAsked, place_now}
 use Rattle.fee_core.proofs.Standing.{is_listed}
 
 -- THE CONTENT

@@ -11,19 +11,19 @@ use Rattle.memif.specs.Calls.{kind_of}
 use Rattle.fls_model.specs.Told.{Told}
 use Rattle.fee_image.specs.Bank.{Bank}
 use Rattle.fee_image.specs.Image.{bank_in}
-use Rattle.log_image.specs.declared.place.Place.{Place}
-use Rattle.log_image.specs.declared.place.Place.TheVariants.{Content, Invalid, Erased, Unwritten}
-use Rattle.log_image.specs.Places.{held_at}
-use Rattle.bank_image.specs.Doubts.{shown_of}
-use Rattle.bank_start.specs.declared.active.ActiveBank.{ActiveBank}
+use Rattle.fee_image.specs.declared.place.Place.{Place}
+use Rattle.fee_image.specs.declared.place.Place.TheVariants.{Content, Invalid, Erased, Unwritten}
+use Rattle.fee_image.specs.Places.{held_at}
+use Rattle.fee_image.specs.Doubts.{shown_of}
+use Rattle.fee_switch.specs.declared.active.ActiveBank.{ActiveBank}
 use Rattle.fee_log.specs.Index.{at_index, or_else, place_in}
-use Rattle.device_bridge.specs.Making.{Making, banks_of}
-use Rattle.device_image.specs.Slots.{slots_with, slots_held, slots_found, held_all, settled_in, job_leaves}
-use Rattle.device_clock.specs.Device.{tells, slots_told}
+use Rattle.promise_device.specs.Making.{Making, banks_of}
+use Rattle.fee_told.specs.Slots.{slots_with, slots_held, slots_found, held_all, settled_in, job_leaves}
+use Rattle.fee_told.specs.Device.{tells, slots_told}
 use Rattle.fls_model.specs.Told.{bytes_now}
-use Rattle.switch_promise.specs.Shown.{old_shown}
+use Rattle.fee_switch_laws.specs.Shown.{old_shown}
 use Rattle.fee_log.specs.Log.{work_in}
-use Rattle.fee_state.specs.Inside.{Parts, device_of, memory_of, body_of}
+use Rattle.fee_laws.specs.Inside.{Parts, device_of, memory_of, body_of}
 
 -- of a place
 abbrev pub kind_at : Place → PlainMark

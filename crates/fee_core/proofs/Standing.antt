@@ -11,22 +11,22 @@ use Rattle.memif.specs.Told.{length_of}
 use Rattle.memif.specs.declared.answer.DeviceTurn.{DeviceTurn}
 use Rattle.fls_model.specs.Told.{Told, Change}
 use Rattle.fee_format.specs.declared.rec_head.RecHead.{RecHead}
-use Rattle.log_image.specs.declared.place.Place.{Place}
-use Rattle.log_image.specs.declared.place.Place.TheVariants.{Unwritten}
-use Rattle.log_image.specs.Places.{count_at}
+use Rattle.fee_image.specs.declared.place.Place.{Place}
+use Rattle.fee_image.specs.declared.place.Place.TheVariants.{Unwritten}
+use Rattle.fee_image.specs.Places.{count_at}
 use Rattle.fee_log.specs.Index.{at_index, or_else, AreCounted}
 use Rattle.fee_log.specs.Log.{LogState, IsLogState, IsFor, work_in}
-use Rattle.switch_course.specs.declared.course.Course.{Course}
+use Rattle.fee_course.specs.declared.course.Course.{Course}
 use Rattle.fee_switch.specs.Banks.{BanksState, IsBanksState}
-use Rattle.device_bridge.specs.Making.{Making}
-use Rattle.fee_state.specs.declared.job.FeeJob.{FeeJob}
-use Rattle.fee_state.specs.Inside.{Parts, IsSound}
-use Rattle.fee_state.specs.Record.{IsInWork, IsJobOf, IsLengthOf, kind_of, head_of}
-use Rattle.fee_state.specs.Work.{pages_of_op}
-use Rattle.fee_turns.specs.Turn.{IsOn, Turned}
-use Rattle.fee_starts.specs.Parts.{opened}
-use Rattle.fee_room.specs.Follows.{Follows}
-use Rattle.fee_room.specs.Laws.{IsSameBeside}
+use Rattle.promise_device.specs.Making.{Making}
+use Rattle.fee_laws.specs.declared.job.FeeJob.{FeeJob}
+use Rattle.fee_laws.specs.Inside.{Parts, IsSound}
+use Rattle.fee_laws.specs.Record.{IsInWork, IsJobOf, IsLengthOf, kind_of, head_of}
+use Rattle.fee_laws.specs.Work.{pages_of_op}
+use Rattle.fee_laws.specs.Turn.{IsOn, Turned}
+use Rattle.fee_laws.specs.Parts.{opened}
+use Rattle.fee_laws.specs.Follows.{Follows}
+use Rattle.fee_laws.specs.FollowLaws.{IsSameBeside}
 use Rattle.fee_core.specs.Whole.{Whole, TurnedTo}
 use Rattle.fee_core.proofs.Looking.{few_at}
 

@@ -16,17 +16,17 @@ use Rattle.fee_image.specs.RecordList.{IsClosed, end_of}
 use Rattle.fls_jobs.specs.State.{FlsState}
 use Rattle.fee_log.specs.Index.{clear_flags}
 use Rattle.fee_log.specs.Log.{LogState, erased_state, work_in, is_closed}
-use Rattle.bank_start.specs.declared.active.ActiveBank.{ActiveBank}
+use Rattle.fee_switch.specs.declared.active.ActiveBank.{ActiveBank}
 use Rattle.fee_switch.specs.Banks.{BanksState, IsBanksState, IsSameFlash, FindsActive, LoadsActive}
-use Rattle.device_bridge.specs.Making.{Making}
-use Rattle.device_clock.specs.Device.{told_of}
-use Rattle.device_clock.specs.Clock.{clock_of}
-use Rattle.fee_state.specs.Inside.{Parts, device_of, IsSound, IsActiveOf}
+use Rattle.promise_device.specs.Making.{Making}
+use Rattle.fee_told.specs.Device.{told_of}
+use Rattle.fee_told.specs.Clock.{clock_of}
+use Rattle.fee_laws.specs.Inside.{Parts, device_of, IsSound, IsActiveOf}
 use Rattle.fee_switch.specs.Start.{IsLoadedAs}
-use Rattle.switch_promise.specs.Shown.{layout_in}
-use Rattle.fee_room.specs.Follows.{Follows}
-use Rattle.fee_room.specs.Laws.{ClosesActive, StartsFollow}
-use Rattle.fee_starts.specs.Laws.{StartsAreReady, StartsFail, AreOf, AreReady}
+use Rattle.fee_switch_laws.specs.Shown.{layout_in}
+use Rattle.fee_laws.specs.Follows.{Follows}
+use Rattle.fee_laws.specs.FollowLaws.{ClosesActive, StartsFollow}
+use Rattle.fee_laws.specs.CallLaws.{StartsAreReady, StartsFail, AreOf, AreReady}
 
 -- what is told of parts
 abbrev pub told_at : Making → Told → Parts → DeviceTold

@@ -15,25 +15,25 @@ use Rattle.fls_model.specs.Step.{IsStep}
 use Rattle.fls_model.specs.Told.{Told, Change}
 use Rattle.fls_jobs.specs.State.{FlsState, IsDriverState}
 use Rattle.fee_format.specs.declared.rec_head.RecHead.{RecHead}
-use Rattle.log_image.specs.declared.place.Place.{Place}
-use Rattle.log_image.specs.declared.place.Place.TheVariants as place
+use Rattle.fee_image.specs.declared.place.Place.{Place}
+use Rattle.fee_image.specs.declared.place.Place.TheVariants as place
 use Rattle.fee_log.specs.Log.{IsLogState, work_in, begun}
 use Rattle.fee_log.specs.Step.{op_of}
-use Rattle.switch_course.specs.declared.course.Course.{Course}
-use Rattle.switch_course.specs.declared.course.Course.TheVariants.{Erase, Copy, Head, Gate}
+use Rattle.fee_course.specs.declared.course.Course.{Course}
+use Rattle.fee_course.specs.declared.course.Course.TheVariants.{Erase, Copy, Head, Gate}
 use Rattle.fee_switch.specs.declared.phase.BankStep.{BankStep}
 use Rattle.fee_switch.specs.declared.phase.BankStep.TheVariants as step
 use Rattle.fee_switch.specs.Banks.{BanksState, is_worn_out, reads_next, step_of, after_answer}
 use Rattle.fee_switch.specs.Copy.{CanGoOn, BeginsAt, head_at, MakesNext, IsBankStep}
-use Rattle.switch_room.specs.Laws.{StepsMayBeMade}
-use Rattle.device_bridge.specs.Making.{Making}
-use Rattle.device_clock.specs.Clock.{change_of}
-use Rattle.device_clock.specs.Runs.{counts_fault}
-use Rattle.fee_state.specs.Inside.{Parts, HasSwitch}
-use Rattle.fee_turns.specs.Turn.{IsOn, IsCounted, Turned, operated}
-use Rattle.fee_turns.specs.Switches.{IsBehind, IsStepping, step_op, failed_with, SwitchesGoOn, SwitchesFail, SwitchesAreCut, MarksGoOn, MarksFail, MarksAreCut}
-use Rattle.fee_room.specs.Follows.{Follows}
-use Rattle.fee_room.specs.Laws.{StepsFollow}
+use Rattle.fee_switch_laws.specs.RoomLaws.{StepsMayBeMade}
+use Rattle.promise_device.specs.Making.{Making}
+use Rattle.fee_told.specs.Clock.{change_of}
+use Rattle.fee_told.specs.Runs.{counts_fault}
+use Rattle.fee_laws.specs.Inside.{Parts, HasSwitch}
+use Rattle.fee_laws.specs.Turn.{IsOn, IsCounted, Turned, operated}
+use Rattle.fee_laws.specs.Switches.{IsBehind, IsStepping, step_op, failed_with, SwitchesGoOn, SwitchesFail, SwitchesAreCut, MarksGoOn, MarksFail, MarksAreCut}
+use Rattle.fee_laws.specs.Follows.{Follows}
+use Rattle.fee_laws.specs.FollowLaws.{StepsFollow}
 use Rattle.fee_core.specs.Asked.{switch_op_of}
 use Rattle.fee_core.specs.Operations.{answer_to}
 use Rattle.fee_core.proofs.Appending.{asked_on}

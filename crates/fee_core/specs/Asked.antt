@@ -7,9 +7,9 @@ use Rattle.fls_jobs.specs.State.{FlsState}
 use Rattle.fee_format.specs.declared.rec_head.RecHead.{RecHead}
 use Rattle.fee_log.specs.Log.{work_in}
 use Rattle.fee_log.specs.Step.{op_of}
-use Rattle.switch_course.specs.declared.course.Course.{Course}
+use Rattle.fee_course.specs.declared.course.Course.{Course}
 use Rattle.fee_switch.specs.Banks.{BanksState}
-use Rattle.fee_turns.specs.Switches.{nothing, step_op}
+use Rattle.fee_laws.specs.Switches.{nothing, step_op}
 
 -- of an open switch; without one none
 abbrev pub switch_op_of : BanksState → Option Course → Op

@@ -1,9 +1,9 @@
 -- What the turn of a job that waits begins with.
 use Rattle.std.specs.Prelude.{ℕ, Bool, Option, Some, None}
-use Rattle.switch_course.specs.declared.course.Course.{Course}
+use Rattle.fee_course.specs.declared.course.Course.{Course}
 use Rattle.fee_switch.specs.Banks.{BanksState}
-use Rattle.fee_state.specs.declared.job.FeeJob.{FeeJob}
-use Rattle.fee_state.specs.Work.{begins_next, fits_in}
+use Rattle.fee_laws.specs.declared.job.FeeJob.{FeeJob}
+use Rattle.fee_laws.specs.Work.{begins_next, fits_in}
 
 -- its record begins: with no switch open where it has room, and else where it is an urgent one that may
 abbrev pub begins_beside : Option Course → ℕ → BanksState → FeeJob → Bool

@@ -2,7 +2,7 @@
 use Rattle.std.specs.Prelude.{false, [], None}
 use Rattle.nv_base.specs.Plan.{no_planning}
 use Rattle.fls_model.specs.Told.{Told}
-use Rattle.device_bridge.specs.Making.{Making}
+use Rattle.promise_device.specs.Making.{Making}
 
 abbrev pub no_making : Making
 no_making = record { geometry = record { page = 0; sector = 0; sectors = 0 }; banks = 0; numbers = []; reserve = 0 }

@@ -2,9 +2,9 @@
 use Rattle.std.specs.Prelude.{◌<◌}
 use Rattle.nv_base.specs.Count.{last_count}
 use Rattle.memif.specs.Clock.{Clock}
-use Rattle.device_bridge.specs.FlashRun.{HasFailed}
-use Rattle.device_clock.specs.Device.{Device, run_of}
-use Rattle.device_clock.specs.Clock.{may_find_of, off_in_of, IsWornFor}
+use Rattle.promise_device.specs.FlashRun.{HasFailed}
+use Rattle.fee_told.specs.Device.{Device, run_of}
+use Rattle.fee_told.specs.Clock.{may_find_of, off_in_of, IsWornFor}
 
 -- That of the operations of its flash. An operation past the end of the count tells no moment: of none there it says that the
 -- power went off in it.

@@ -9,11 +9,11 @@ use Rattle.memif.specs.declared.answer.JobResult.TheVariants.{JobOk}
 use Rattle.fls_model.specs.Told.{Told}
 use Rattle.fls_jobs.specs.State.{FlsState}
 use Rattle.fee_switch.specs.Banks.{BanksState}
-use Rattle.device_bridge.specs.Making.{Making}
-use Rattle.device_clock.specs.Device.{told_of}
-use Rattle.device_clock.specs.Clock.{clock_of}
-use Rattle.fee_state.specs.Inside.{Parts, device_of, IsSound}
-use Rattle.fee_room.specs.Follows.{Follows}
+use Rattle.promise_device.specs.Making.{Making}
+use Rattle.fee_told.specs.Device.{told_of}
+use Rattle.fee_told.specs.Clock.{clock_of}
+use Rattle.fee_laws.specs.Inside.{Parts, device_of, IsSound}
+use Rattle.fee_laws.specs.Follows.{Follows}
 
 -- its parts, and beside them what it keeps of its making and of what is told of these
 pub record Whole : Type 0 where

@@ -2,17 +2,15 @@
 ghost use Rattle.std.specs.Prelude.{◌≡◌, ◌≢◌, true, false, None, Some, IsSome};
 ghost use Rattle.nv_base.specs.declared.job.DeviceOp.TheVariants.{Read};
 ghost use Rattle.fee_log.specs.Log.{work_in};
-ghost use Rattle.fee_state.specs.Record.{kind_of};
+ghost use Rattle.fee_laws.specs.Record.{kind_of};
 ghost use Rattle.fee_core.specs.Beginning.{begins_now};
 ghost use Rattle.fee_core.specs.Whole.{Sound, TurnedTo};
 
 use crate::Origin;
 use crate::operations::program_record;
 use crate::parts::FeeParts;
+use fee_laws::{FeeJob, calls_follow, records_turn, turns_begin, turns_follow};
 use fee_log::LogStep;
-use fee_room::{calls_follow, turns_follow};
-use fee_state::FeeJob;
-use fee_turns::{records_turn, turns_begin};
 use fls_model::Flash;
 use memif::{DeviceTurn, JobResult};
 use nv_base::DeviceOp;

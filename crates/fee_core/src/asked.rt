@@ -5,8 +5,8 @@ use crate::content::Content;
 use fee_switch::Banks;
 use fls_jobs::Fls;
 use fls_model::{Flash, FlashAnswer};
+use nv_base::Trace;
 use std::marker::Model;
-use value_traces::Trace;
 
 /// The next operation of what the driver, the banks and the content of the open job were before it, with its answer. It
 /// takes the memory of an answer.

@@ -3,15 +3,14 @@ ghost use Rattle.std.specs.Prelude.{◌≡◌, false, true, is_some, IsSome};
 ghost use Rattle.memif.specs.Told.{is_urgent};
 ghost use Rattle.memif.specs.Calls.{Cancels};
 ghost use Rattle.fee_log.specs.Log.{work_in};
-ghost use Rattle.fee_state.specs.Inside.{IsActiveOf};
-ghost use Rattle.fee_starts.specs.Parts.{without_work};
+ghost use Rattle.fee_laws.specs.Inside.{IsActiveOf};
+ghost use Rattle.fee_laws.specs.Parts.{without_work};
 ghost use Rattle.fee_core.specs.Whole.{Sound, told_in, clock_in};
 
 use crate::Origin;
 use crate::parts::FeeParts;
 use crate::room::is_appending;
-use fee_room::calls_follow;
-use fee_starts::jobs_cancel;
+use fee_laws::{calls_follow, jobs_cancel};
 use fee_switch::Banks;
 use fls_model::Flash;
 use memif::JobResult;

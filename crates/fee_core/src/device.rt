@@ -5,7 +5,7 @@ use memif::{DeviceRefusal, DeviceTurn, JobResult, MemDevice, MemStatus, PlainMar
 use nv_base::{DeviceNumber, DeviceOp};
 
 impl<F: Flash, O: Origin> MemDevice for Fee<F, O> {
-    ghost use Rattle.device_clock.specs.Device.{told_of};
+    ghost use Rattle.fee_told.specs.Device.{told_of};
     ghost use Rattle.fee_core.specs.Tells.{told_clock};
 
     ghost told = { told_of };

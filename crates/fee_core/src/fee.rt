@@ -7,17 +7,15 @@ ghost use Rattle.fee_core.specs.Whole.{unstarted};
 use crate::Origin;
 use crate::content::Content;
 use crate::parts::FeeParts;
-use device_clock::runs_bridge;
-use fee_room::starts_follow;
-use fee_starts::devices_are_made;
+use fee_laws::{devices_are_made, starts_follow};
 use fee_switch::Banks;
+use fee_told::runs_bridge;
 use fls_jobs::Fls;
 use fls_model::{AttachFault, Flash};
 use memif::JobResult;
-use nv_base::{Geometry, Lengths, lengths_of};
+use nv_base::{Geometry, Lengths, Trace, lengths_of};
 use std::alloc::{AllocError, Global};
 use std::marker::{Model, PhantomData};
-use value_traces::Trace;
 
 /// A memory device over the banks of a flash: one job at a time, in turns of at most one flash call. It takes memory at
 /// `make` alone. Contracts see what it knows as one record.
@@ -27,8 +25,8 @@ pub struct Fee<F: Flash, O: Origin> {
 }
 
 impl<F: Flash, O: Origin> Model for Fee<F, O> {
-    ghost use Rattle.device_clock.specs.Device.{Device};
-    ghost use Rattle.fee_state.specs.Inside.{device_of};
+    ghost use Rattle.fee_told.specs.Device.{Device};
+    ghost use Rattle.fee_laws.specs.Inside.{device_of};
     ghost use Rattle.fee_core.specs.Whole.{Sound};
 
     ghost Value = { Device };
@@ -90,13 +88,13 @@ impl<F: Flash, O: Origin> Fee<F, O> {
     ghost use Rattle.nv_base.specs.Geometry.{IsLegal, HasBanks, sectors_of_bank};
     ghost use Rattle.fls_model.specs.Told.{changes_in};
     ghost use Rattle.fls_model.specs.Attach.{IsAttach};
-    ghost use Rattle.device_bridge.specs.Bridge.{Bridges};
-    ghost use Rattle.switch_room.specs.Space.{HasSpace};
-    ghost use Rattle.fee_starts.specs.Made.{IsMadeOf, part_at};
+    ghost use Rattle.promise_device.specs.Bridge.{Bridges};
+    ghost use Rattle.fee_switch_laws.specs.Space.{HasSpace};
+    ghost use Rattle.fee_laws.specs.Made.{IsMadeOf, part_at};
     ghost use Rattle.memif.specs.Told.{First, figures_at};
-    ghost use Rattle.device_figures.specs.Figures.{fixed_for};
-    ghost use Rattle.device_clock.specs.Device.{told_of};
-    ghost use Rattle.device_clock.specs.Clock.{clock_of};
+    ghost use Rattle.fee_told.specs.Figures.{fixed_for};
+    ghost use Rattle.fee_told.specs.Device.{told_of};
+    ghost use Rattle.fee_told.specs.Clock.{clock_of};
 
     /// Attaches the flash and takes all memory that the device ever needs; a refusal hands the flash back. The device is of
     /// what was picked, and isn't started. `banks` is how many share the sectors, `reserve` the pages that are kept for urgent

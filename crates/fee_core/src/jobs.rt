@@ -4,17 +4,15 @@ ghost use Rattle.nv_base.specs.declared.job.DeviceOp.TheVariants.{Read, Write, I
 ghost use Rattle.nv_base.specs.declared.mark.Mark.TheVariants as mark;
 ghost use Rattle.memif.specs.Told.{length_of};
 ghost use Rattle.memif.specs.Calls.{Accepts, ClockStays, Opens, refusal_of};
-ghost use Rattle.fee_state.specs.Inside.{mark_of};
-ghost use Rattle.fee_state.specs.Record.{IsJobOf};
-ghost use Rattle.fee_starts.specs.Laws.{IsPromised};
+ghost use Rattle.fee_laws.specs.Inside.{mark_of};
+ghost use Rattle.fee_laws.specs.Record.{IsJobOf};
+ghost use Rattle.fee_laws.specs.CallLaws.{IsPromised};
 ghost use Rattle.fee_core.specs.Whole.{Sound, told_in, clock_in};
 
 use crate::Origin;
 use crate::parts::FeeParts;
 use crate::room::{pages_of_op, ready};
-use fee_room::calls_follow;
-use fee_starts::jobs_open;
-use fee_state::FeeJob;
+use fee_laws::{FeeJob, calls_follow, jobs_open};
 use fls_model::Flash;
 use memif::DeviceRefusal;
 use nv_base::{DeviceNumber, DeviceOp};

@@ -23,4 +23,13 @@ mod switches;
 mod turns;
 
 pub use fee::Fee;
+pub use fee_course;
+pub use fee_image;
+pub use fee_laws;
+pub use fee_switch_laws;
+pub use fee_told;
+pub use fls_model;
+pub use memif;
+pub use nv_base;
 pub use origin::Origin;
+pub use promise_device;

@@ -8,7 +8,7 @@ ghost use Rattle.fee_log.specs.Log.{work_in};
 ghost use Rattle.fee_log.specs.Step.{IsPageOf, IsStepAt, due_bytes, op_of, answer_of, after_step};
 ghost use Rattle.fee_switch.specs.Banks.{is_worn_out, reads_next};
 ghost use Rattle.fee_switch.specs.Copy.{CanGoOn, IsBankStep};
-ghost use Rattle.device_clock.specs.Clock.{change_of};
+ghost use Rattle.fee_told.specs.Clock.{change_of};
 ghost use Rattle.fee_core.specs.Asked.{switch_op_of};
 ghost use Rattle.fee_core.specs.Operations.{answer_to};
 
@@ -18,7 +18,7 @@ use fee_log::LogStep;
 use fee_switch::{BankStep, Banks};
 use fls_jobs::Fls;
 use fls_model::{Flash, FlashAnswer};
-use value_traces::Trace;
+use nv_base::Trace;
 
 // The flash's answer to a step of a log.
 fn answer_of(step: LogStep) -> FlashAnswer

@@ -2,14 +2,13 @@
 use crate::Origin;
 use crate::asked::Asked;
 use crate::content::Content;
-use fee_state::FeeJob;
+use fee_laws::FeeJob;
 use fee_switch::Banks;
 use fls_jobs::Fls;
 use fls_model::Flash;
 use memif::JobResult;
-use nv_base::Lengths;
+use nv_base::{Lengths, Trace};
 use std::marker::{Model, PhantomData};
-use value_traces::Trace;
 
 /// The driver, the banks, the open job with its content, and the counts of a device. Contracts see all of it; what holds of
 /// it is asked and promised by each call.

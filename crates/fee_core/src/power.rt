@@ -5,8 +5,7 @@ ghost use Rattle.fee_core.specs.Whole.{Sound, told_in, clock_in};
 
 use crate::Origin;
 use crate::parts::FeeParts;
-use fee_room::starts_follow;
-use fee_starts::{devices_are_made, devices_start};
+use fee_laws::{devices_are_made, devices_start, starts_follow};
 use fee_switch::BankStart;
 use fls_model::Flash;
 use memif::{JobResult, StartFault};

@@ -5,11 +5,9 @@ ghost use Rattle.fee_core.specs.Whole.{Sound, TurnedTo};
 
 use crate::Origin;
 use crate::parts::FeeParts;
-use fee_room::calls_follow;
-use fee_state::FeeJob;
-use fee_turns::reads_turn;
+use fee_image::Place;
+use fee_laws::{FeeJob, calls_follow, reads_turn};
 use fls_model::{Flash, FlashAnswer};
-use log_image::Place;
 use memif::{DeviceTurn, JobResult};
 
 impl<F: Flash, O: Origin> FeeParts<F, O> {

@@ -3,20 +3,20 @@ ghost use Rattle.std.specs.Prelude.{◌≡◌, ◌≤◌, ◌<◌, ◌+◌, ◌^
 ghost use Rattle.fee_image.specs.RecordList.{pages_of_head};
 ghost use Rattle.fee_log.specs.Index.{clear_flags};
 ghost use Rattle.fee_log.specs.Log.{work_in};
-ghost use Rattle.device_figures.specs.Figures.{ready_of, turns_owed};
-ghost use Rattle.switch_course.specs.declared.course.Course.TheVariants.{Erase};
+ghost use Rattle.fee_told.specs.Figures.{ready_of, turns_owed};
+ghost use Rattle.fee_course.specs.declared.course.Course.TheVariants.{Erase};
 ghost use Rattle.fee_switch.specs.Banks.{begun_again, left_of};
-ghost use Rattle.switch_room.specs.Space.{free_pages};
-ghost use Rattle.fee_state.specs.Inside.{IsActiveOf};
-ghost use Rattle.fee_state.specs.Record.{head_of};
-ghost use Rattle.fee_state.specs.Work.{pages_of_op, fits_in, begins_next, turns_beside, switch_turns, is_waiting, takes_append, seal_turns, pages_left, is_owed};
+ghost use Rattle.fee_switch_laws.specs.Space.{free_pages};
+ghost use Rattle.fee_laws.specs.Inside.{IsActiveOf};
+ghost use Rattle.fee_laws.specs.Record.{head_of};
+ghost use Rattle.fee_laws.specs.Work.{pages_of_op, fits_in, begins_next, turns_beside, switch_turns, is_waiting, takes_append, seal_turns, pages_left, is_owed};
 ghost use Rattle.fee_core.specs.Beginning.{begins_now};
 
+use fee_course::Course;
 use fee_format::pages_of;
-use fee_state::FeeJob;
+use fee_laws::FeeJob;
 use fee_switch::{Banks, Phase};
 use nv_base::DeviceOp;
-use switch_course::Course;
 
 /// The pages of an operation's record, none of a read.
 pub(crate) fn pages_of_op(page: u32, op: DeviceOp, length: u16) -> u32

@@ -7,13 +7,13 @@ ghost use Rattle.fee_core.specs.Whole.{Sound, told_in, clock_in};
 use crate::Origin;
 use crate::parts::FeeParts;
 use crate::room::{pages_of_op, record_turns, switch_turns};
-use device_figures::left_is_bounded;
+use fee_course::most_turns;
+use fee_image::Place;
 use fee_switch::Phase;
+use fee_told::left_is_bounded;
 use fls_model::Flash;
-use log_image::Place;
 use memif::{JobResult, MemStatus, PlainMark};
 use nv_base::{DeviceNumber, DeviceOp};
-use switch_course::most_turns;
 
 impl<F: Flash, O: Origin> FeeParts<F, O> {
     /// What the device is at.

@@ -4,20 +4,21 @@ ghost use Rattle.nv_base.specs.Count.{next_count};
 ghost use Rattle.nv_base.specs.declared.job.DeviceOp.TheVariants.{Read};
 ghost use Rattle.fee_log.specs.Log.{work_in};
 ghost use Rattle.fee_switch.specs.Banks.{is_worn_out, reads_next};
-ghost use Rattle.fee_state.specs.Work.{fits_in};
-ghost use Rattle.fee_turns.specs.Switches.{IsBehind, failed_with};
+ghost use Rattle.fee_laws.specs.Work.{fits_in};
+ghost use Rattle.fee_laws.specs.Switches.{IsBehind, failed_with};
 ghost use Rattle.fee_core.specs.Whole.{Sound, TurnedTo};
 
 use crate::Origin;
 use crate::operations::change_target;
 use crate::parts::FeeParts;
-use fee_room::{calls_follow, room_is_known, turns_follow};
-use fee_state::FeeJob;
+use fee_laws::{
+    FeeJob, calls_follow, contents_begin, marks_begin, room_is_known, switches_turn, turns_begin,
+    turns_follow, wears_out,
+};
 use fee_switch::{BankBegin, BankStep};
-use fee_turns::{contents_begin, marks_begin, switches_turn, turns_begin, wears_out};
+use fee_switch_laws::steps_keep_room;
 use fls_model::Flash;
 use memif::{DeviceTurn, JobResult};
-use switch_room::steps_keep_room;
 
 impl<F: Flash, O: Origin> FeeParts<F, O> {
     // The flash call of a switch failed: that is counted, and a job that waits ends.

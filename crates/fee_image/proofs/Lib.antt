@@ -10,3 +10,16 @@ pub mod Sectors
 pub mod Soundness
 pub mod Stored
 pub mod Walks
+pub mod Logs
+pub mod Marks
+pub mod Placed
+pub mod Steps
+pub mod Copies
+pub mod Doubts
+pub mod Erases
+pub mod Frames
+pub mod Gates
+pub mod Pages
+pub mod Seals
+pub mod Shows
+pub mod Starts

@@ -6,3 +6,14 @@ pub mod Image
 pub mod Laws
 pub mod RecordList
 pub mod Sound
+pub mod LogCases
+pub mod LogLaws
+pub mod Log
+pub mod May
+pub mod Places
+pub mod Step
+pub mod Banks
+pub mod SwitchCases
+pub mod Copies
+pub mod Doubts
+pub mod BankLaws

@@ -8,9 +8,9 @@ use Rattle.nv_base.specs.Laws.{NumbersAreAbove}
 use Rattle.nv_base.specs.Lengths.{AreLengths}
 use Rattle.fee_format.specs.declared.rec_head.RecHead.{RecHead}
 use Rattle.fee_image.specs.Found.{fits}
-use Rattle.log_image.specs.declared.place.Place.{Place}
-use Rattle.log_image.specs.declared.place.Place.TheVariants.{Unwritten}
-use Rattle.log_image.specs.Places.{place_at, noted, erased_places}
+use Rattle.fee_image.specs.declared.place.Place.{Place}
+use Rattle.fee_image.specs.declared.place.Place.TheVariants.{Unwritten}
+use Rattle.fee_image.specs.Places.{place_at, noted, erased_places}
 use Rattle.fee_log.specs.Index.{with_flag, clear_flags}
 
 -- nothing is found of any number, and no flag is set

@@ -9,9 +9,9 @@ use Rattle.fee_image.specs.Bank.{Bank}
 use Rattle.fee_image.specs.Found.{fits, last_from, last_record}
 use Rattle.fee_image.specs.Laws.{LogsCompute}
 use Rattle.fee_image.specs.RecordList.{Rec, Walks, pages_of_head, records_of, end_of}
-use Rattle.log_image.specs.declared.place.Place.{Place}
-use Rattle.log_image.specs.declared.place.Place.TheVariants.{Content, Invalid, Erased, Unwritten}
-use Rattle.log_image.specs.Places.{count_at, place_at, place_shown, noted, erased_places, places_of}
+use Rattle.fee_image.specs.declared.place.Place.{Place}
+use Rattle.fee_image.specs.declared.place.Place.TheVariants.{Content, Invalid, Erased, Unwritten}
+use Rattle.fee_image.specs.Places.{count_at, place_at, place_shown, noted, erased_places, places_of}
 use Rattle.fee_log.specs.Index.{AreCounted, at_index, or_else, place_in}
 use Rattle.fee_log.specs.Laws.{PlacesAreCounted, NextIsCounted}
 

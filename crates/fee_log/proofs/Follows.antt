@@ -4,9 +4,9 @@ use Rattle.std.proofs.Common.{◌≡◌, ℕ, ◌+◌, zero, suc, Bool, true, fa
 use Rattle.fls_model.specs.declared.flash.FlashAnswer.{FlashAnswer}
 use Rattle.fls_model.specs.declared.flash.FlashAnswer.TheVariants.{Done, Failed, Off}
 use Rattle.fee_format.specs.declared.rec_head.RecHead.{RecHead}
-use Rattle.log_image.specs.Log.{Log, Writes as LogWrites, Closed as LogClosed}
-use Rattle.log_image.specs.Places.{noted}
-use Rattle.log_image.specs.Step.{IsDue, page_due, is_last, log_behind, log_given_up}
+use Rattle.fee_image.specs.Log.{Log, Writes as LogWrites, Closed as LogClosed}
+use Rattle.fee_image.specs.Places.{noted}
+use Rattle.fee_image.specs.Step.{IsDue, page_due, is_last, log_behind, log_given_up}
 use Rattle.fee_log.specs.declared.tail.Tail.{Tail}
 use Rattle.fee_log.specs.declared.tail.Tail.TheVariants.{Open, Writes, Owes, Closed}
 use Rattle.fee_log.specs.Laws.{StepsFollow, GivenUpFollows, BeginsOpen, BeginsOwing, WorkIsDue}

@@ -8,10 +8,10 @@ use Rattle.fee_format.specs.Formats.{new_format}
 use Rattle.fee_format.specs.RecHead.{IsLegalRecHead}
 use Rattle.fee_image.specs.Image.{layout_of, bank_in}
 use Rattle.fee_view.specs.View.{View, bank_of as viewed_bank}
-use Rattle.log_image.specs.Laws.{loaded_log, LoadedLogsHold, ErasedLogsHold, LogsStay, RecordsBegin, GivenUpHolds as LogsGivenUp}
-use Rattle.log_image.specs.Log.{Log, HoldsLog}
-use Rattle.log_image.specs.May.{May, MayCommit, exactly}
-use Rattle.log_image.specs.Step.{IsRecord}
+use Rattle.fee_image.specs.LogLaws.{loaded_log, LoadedLogsHold, ErasedLogsHold, LogsStay, RecordsBegin, GivenUpHolds as LogsGivenUp}
+use Rattle.fee_image.specs.Log.{Log, HoldsLog}
+use Rattle.fee_image.specs.May.{May, MayCommit, exactly}
+use Rattle.fee_image.specs.Step.{IsRecord}
 use Rattle.fee_log.specs.declared.tail.Tail.{Tail}
 use Rattle.fee_log.specs.declared.tail.Tail.TheVariants.{Open, Writes, Owes, Closed}
 use Rattle.fee_log.specs.Laws.{HoldsState, MayFollow, LoadsAreLoaded, GivenUpFollows, LoadsHold, ErasedHolds, BeginsHold, GivenUpHolds, FlagsHold}

@@ -4,9 +4,9 @@ use Rattle.fee_image.specs.Bank.{moved}
 use Rattle.fee_image.specs.Laws.{RecordsStay}
 use Rattle.fee_image.specs.RecordList.{Rec, records_of, end_of, end_after, pages_of_head}
 use Rattle.fee_view.specs.View.{View, bank_of as viewed_bank}
-use Rattle.log_image.specs.Laws.{loaded_log, IsLoadedTail}
-use Rattle.log_image.specs.Log.{Log}
-use Rattle.log_image.specs.Places.{places_of}
+use Rattle.fee_image.specs.LogLaws.{loaded_log, IsLoadedTail}
+use Rattle.fee_image.specs.Log.{Log}
+use Rattle.fee_image.specs.Places.{places_of}
 use Rattle.fee_log.specs.declared.tail.Tail.{Tail}
 use Rattle.fee_log.specs.declared.tail.Tail.TheVariants.{Open, Writes, Owes, Closed}
 use Rattle.fee_log.specs.Laws.{LoadsAreLoaded, LoadedLogsMove}

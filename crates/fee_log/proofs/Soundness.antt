@@ -12,10 +12,10 @@ use Rattle.fee_format.specs.Formats.{new_format}
 use Rattle.fee_format.specs.RecHead.{IsLegalRecHead}
 use Rattle.fee_image.specs.RecordList.{pages_of_head, records_of, end_of}
 use Rattle.fee_view.specs.View.{View, IsView, bank_of as viewed_bank}
-use Rattle.log_image.specs.Laws.{LoadedLogsHold}
-use Rattle.log_image.specs.Log.{Closed as LogClosed}
-use Rattle.log_image.specs.May.{exactly}
-use Rattle.log_image.specs.Places.{noted, places_of}
+use Rattle.fee_image.specs.LogLaws.{LoadedLogsHold}
+use Rattle.fee_image.specs.Log.{Closed as LogClosed}
+use Rattle.fee_image.specs.May.{exactly}
+use Rattle.fee_image.specs.Places.{noted, places_of}
 use Rattle.fee_log.specs.declared.tail.Tail.{Tail}
 use Rattle.fee_log.specs.declared.tail.Tail.TheVariants.{Open, Writes, Owes, Closed}
 use Rattle.fee_log.specs.Index.{clear_flags, AreWithin}

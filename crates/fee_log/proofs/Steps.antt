@@ -11,11 +11,11 @@ use Rattle.fee_image.specs.Append.{Touches}
 use Rattle.fee_image.specs.Bank.{page_of}
 use Rattle.fee_image.specs.Laws.{ProgramsTouchTheirBank, ProgramsStand}
 use Rattle.fee_image.specs.RecordList.{pages_of_head}
-use Rattle.log_image.specs.Laws.{FailedStepsHold, DoneStepsHold, NextIsFresh, RecordsBegin}
-use Rattle.log_image.specs.Log.{Log, Writes as LogWrites, Closed as LogClosed, HoldsLog, IsOwing}
-use Rattle.log_image.specs.May.{May}
-use Rattle.log_image.specs.Places.{noted}
-use Rattle.log_image.specs.Step.{IsDue, IsRecord, page_due, log_behind, log_done, log_failed, is_last}
+use Rattle.fee_image.specs.LogLaws.{FailedStepsHold, DoneStepsHold, NextIsFresh, RecordsBegin}
+use Rattle.fee_image.specs.Log.{Log, Writes as LogWrites, Closed as LogClosed, HoldsLog, IsOwing}
+use Rattle.fee_image.specs.May.{May}
+use Rattle.fee_image.specs.Places.{noted}
+use Rattle.fee_image.specs.Step.{IsDue, IsRecord, page_due, log_behind, log_done, log_failed, is_last}
 use Rattle.fee_log.specs.declared.tail.Tail.{Tail}
 use Rattle.fee_log.specs.declared.tail.Tail.TheVariants.{Open, Writes, Owes, Closed}
 use Rattle.fee_log.specs.Laws.{HoldsState, MayFollow, IsDueOn, StepsFollow, WorkIsDue, CutsHold, AnswersHold, PagesStand, may_after}

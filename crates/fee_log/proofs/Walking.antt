@@ -5,7 +5,7 @@ use Rattle.nv_base.specs.declared.instance.DeviceNumber.{DeviceNumber}
 use Rattle.fee_image.specs.Append.{LastIsNew}
 use Rattle.fee_image.specs.Found.{fits, last_record}
 use Rattle.fee_image.specs.RecordList.{Rec}
-use Rattle.log_image.specs.Places.{place_at, place_shown, noted, places_of}
+use Rattle.fee_image.specs.Places.{place_at, place_shown, noted, places_of}
 
 shown_pick : (b : Bool) (r : Rec) (o : Option Rec)
     → place_shown (if b then Some r else o) ≡ (if b then place_at r.at r.head else place_shown o)

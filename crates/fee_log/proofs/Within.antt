@@ -7,10 +7,10 @@ use Rattle.nv_base.specs.Pages.{record_pages_of}
 use Rattle.fee_format.specs.declared.rec_head.RecHead.{RecHead}
 use Rattle.fee_image.specs.Bank.{Bank}
 use Rattle.fee_image.specs.Found.{fits}
-use Rattle.log_image.specs.declared.place.Place.{Place}
-use Rattle.log_image.specs.declared.place.Place.TheVariants.{Content, Invalid, Erased, Unwritten}
-use Rattle.log_image.specs.May.{May}
-use Rattle.log_image.specs.Places.{place_at, noted, erased_places, IsWithin, ArePlaced}
+use Rattle.fee_image.specs.declared.place.Place.{Place}
+use Rattle.fee_image.specs.declared.place.Place.TheVariants.{Content, Invalid, Erased, Unwritten}
+use Rattle.fee_image.specs.May.{May}
+use Rattle.fee_image.specs.Places.{place_at, noted, erased_places, IsWithin, ArePlaced}
 use Rattle.fee_log.specs.Index.{AreWithin, or_else}
 
 pub within_length : (p end : ℕ) (ns : List (DeviceNumber × ℕ)) (places : List Place) → AreWithin p end ns places

@@ -2,9 +2,9 @@
 use Rattle.std.specs.Prelude.{◌==◌, ◌<◌, ◌^◌, ℕ, Bool, false, if◌then◌else◌, List, [], ◌∷◌, map, Option, Some, None, slice_get}
 use Rattle.nv_base.specs.declared.instance.DeviceNumber.{DeviceNumber}
 use Rattle.nv_base.specs.Lengths.{place_of}
-use Rattle.log_image.specs.declared.place.Place.{Place}
-use Rattle.log_image.specs.declared.place.Place.TheVariants.{Unwritten}
-use Rattle.log_image.specs.Places.{IsWithin, count_at}
+use Rattle.fee_image.specs.declared.place.Place.{Place}
+use Rattle.fee_image.specs.declared.place.Place.TheVariants.{Unwritten}
+use Rattle.fee_image.specs.Places.{IsWithin, count_at}
 
 -- what stands at an index, or this where there is none
 abbrev pub at_index : {A : Type 0} → List A → Option ℕ → Option A

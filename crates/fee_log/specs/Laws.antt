@@ -12,12 +12,12 @@ use Rattle.nv_base.specs.Held.{never_written}
 use Rattle.fee_image.specs.Bank.{Bank, page_of, moved}
 use Rattle.fee_image.specs.RecordList.{IsTailBlank}
 use Rattle.fee_view.specs.View.{View, IsView, bank_of as viewed_bank}
-use Rattle.log_image.specs.declared.place.Place.{Place}
-use Rattle.log_image.specs.Places.{count_at}
-use Rattle.log_image.specs.Laws.{loaded_log, IsLoadedTail}
-use Rattle.log_image.specs.Log.{Tail as LogTail, HoldsLog}
-use Rattle.log_image.specs.May.{May, IsAmong, MayCommit, exactly}
-use Rattle.log_image.specs.Step.{IsDue, page_due, log_begun, log_failed, log_given_up, may_done}
+use Rattle.fee_image.specs.declared.place.Place.{Place}
+use Rattle.fee_image.specs.Places.{count_at}
+use Rattle.fee_image.specs.LogLaws.{loaded_log, IsLoadedTail}
+use Rattle.fee_image.specs.Log.{Tail as LogTail, HoldsLog}
+use Rattle.fee_image.specs.May.{May, IsAmong, MayCommit, exactly}
+use Rattle.fee_image.specs.Step.{IsDue, page_due, log_begun, log_failed, log_given_up, may_done}
 use Rattle.fee_log.specs.declared.tail.Tail.{Tail}
 use Rattle.fee_log.specs.declared.tail.Tail.TheVariants.{Open, Owes}
 use Rattle.fee_log.specs.Index.{with_flag}

@@ -12,9 +12,9 @@ use Rattle.nv_base.specs.Held.{more_writes}
 use Rattle.fee_image.specs.Image.{layout_of, bank_in}
 use Rattle.fee_image.specs.RecordList.{records_of, end_of, IsClosed, IsTailBlank, pages_of_head}
 use Rattle.fee_view.specs.View.{View, bank_of as viewed_bank}
-use Rattle.log_image.specs.declared.place.Place.{Place}
-use Rattle.log_image.specs.Log.{Tail as LogTail, Open as LogOpen, Writes as LogWrites, Owes as LogOwes, Closed as LogClosed, Log}
-use Rattle.log_image.specs.Places.{count_at, erased_places, places_of}
+use Rattle.fee_image.specs.declared.place.Place.{Place}
+use Rattle.fee_image.specs.Log.{Tail as LogTail, Open as LogOpen, Writes as LogWrites, Owes as LogOwes, Closed as LogClosed, Log}
+use Rattle.fee_image.specs.Places.{count_at, erased_places, places_of}
 use Rattle.fee_log.specs.declared.tail.Tail.{Tail}
 use Rattle.fee_log.specs.declared.tail.Tail.TheVariants.{Open, Writes, Owes, Closed}
 use Rattle.fee_log.specs.Index.{place_in, with_flag, clear_flags, AreCounted, AreWithin}

@@ -6,8 +6,8 @@ use Rattle.fls_model.specs.declared.flash.FlashAnswer.{FlashAnswer}
 use Rattle.fls_model.specs.declared.flash.FlashAnswer.TheVariants.{Done, Failed as FlashFailed, Off as FlashOff}
 use Rattle.fls_model.specs.Op.{Op}
 use Rattle.fls_model.specs.Step.{programs}
-use Rattle.log_image.specs.Log.{Log}
-use Rattle.log_image.specs.Step.{log_begun, page_due, bytes_due, is_last, log_done, log_failed, log_given_up}
+use Rattle.fee_image.specs.Log.{Log}
+use Rattle.fee_image.specs.Step.{log_begun, page_due, bytes_due, is_last, log_done, log_failed, log_given_up}
 use Rattle.fee_log.specs.declared.log_step.LogStep.{LogStep}
 use Rattle.fee_log.specs.declared.log_step.LogStep.TheVariants.{More, Committed, Failed, Off}
 use Rattle.fee_log.specs.declared.tail.Tail.{Tail}

@@ -1,10 +1,10 @@
 // The places and flags by number.
 ghost use Rattle.std.specs.Prelude.{◌≡◌, false, length, IfOk};
 ghost use Rattle.fee_image.specs.Found.{fits};
-ghost use Rattle.log_image.specs.Places.{place_at, count_at, noted, erased_places};
+ghost use Rattle.fee_image.specs.Places.{place_at, count_at, noted, erased_places};
 ghost use Rattle.fee_log.specs.Index.{place_in, flag_in, with_flag, clear_flags};
 
-use log_image::Place;
+use fee_image::Place;
 use nv_base::{DeviceNumber, Lengths, numbers_ascend};
 use std::alloc::{AllocError, Global};
 

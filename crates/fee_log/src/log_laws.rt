@@ -2,8 +2,9 @@
 ghost use Rattle.fee_log.specs.Laws.{PlacesAreCounted, NextIsCounted, StepsFollow, GivenUpFollows, BeginsOpen, BeginsOwing, WorkIsDue, LoadsAreLoaded, LoadedLogsMove};
 ghost use Rattle.fee_log.specs.Laws.{LoadsHold, ErasedHolds, BeginsHold, GivenUpHolds, FlagsHold, CutsHold, AnswersHold, PagesStand};
 
-use fee_image::{programs_keep_soundness, records_stay};
-use log_image::{logs_begin, logs_stay, memory_alone, steps_hold};
+use fee_image::{
+    logs_begin, logs_stay, memory_alone, programs_keep_soundness, records_stay, steps_hold,
+};
 use nv_base::numbers_ascend;
 
 /// After each call the log is the one that the laws of a log speak of, whatever content the record in work has; a page is

@@ -3,12 +3,11 @@ ghost use Rattle.std.specs.Prelude.{◌≡◌, length, if◌then◌else◌};
 ghost use Rattle.fee_image.specs.RecordList.{records_of};
 ghost use Rattle.fee_view.specs.View.{bank_of};
 ghost use Rattle.fee_view.specs.Record.{rec_shown};
-ghost use Rattle.log_image.specs.Places.{noted, places_of};
+ghost use Rattle.fee_image.specs.Places.{noted, places_of};
 
 use crate::index::{forget, note};
-use fee_image::appends_leave_one_more;
+use fee_image::{Place, appends_leave_one_more};
 use fee_view::{BankView, Record};
-use log_image::Place;
 use nv_base::{DeviceNumber, Lengths};
 
 fn take_record(numbers: &Lengths, places: &mut [Place], item: Record<'_>)

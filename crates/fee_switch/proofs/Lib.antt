@@ -1,3 +1,5 @@
 pub mod Picks
 pub mod Starts
 pub mod Targets
+pub mod Heads
+pub mod Sectors

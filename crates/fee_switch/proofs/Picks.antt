@@ -2,9 +2,9 @@
 use Rattle.std.proofs.Common.{◌≡◌, ◌<◌, ℕ, Bool, List, length, Option, Some, sym, ap, ◌∙◌, subst}
 use Rattle.std.specs.Prelude.{slice_index_or}
 use Rattle.nv_base.specs.declared.instance.DeviceNumber.{DeviceNumber}
-use Rattle.log_image.specs.declared.place.Place.{Place}
-use Rattle.switch_course.specs.declared.copies.Source.{Source}
-use Rattle.switch_course.specs.Copies.{next_copy}
+use Rattle.fee_image.specs.declared.place.Place.{Place}
+use Rattle.fee_course.specs.declared.copies.Source.{Source}
+use Rattle.fee_course.specs.Copies.{next_copy}
 use Rattle.fee_switch.specs.Banks.{BanksState}
 use Rattle.fee_switch.specs.Copy.{CanBegin, IsNext, CanCopy}
 

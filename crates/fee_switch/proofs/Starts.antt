@@ -16,9 +16,9 @@ use Rattle.fee_log.specs.declared.tail.Tail.{Tail}
 use Rattle.fee_log.specs.declared.tail.Tail.TheVariants as tail
 use Rattle.fee_log.specs.Log.{LogState, erased_state, IsLoaded, IsTailSeen, tail_with, is_closed}
 use Rattle.fee_log.specs.Laws.{LoadsAreLoaded, LoadedLogsMove}
-use Rattle.bank_start.specs.declared.active.ActiveBank.{ActiveBank}
-use Rattle.bank_start.specs.Active.{active_shown}
-use Rattle.bank_start.specs.Laws.{HeadsAreRead, PagesAreRead}
+use Rattle.fee_switch.specs.declared.active.ActiveBank.{ActiveBank}
+use Rattle.fee_switch.specs.Active.{active_shown}
+use Rattle.fee_switch.specs.StartLaws.{HeadsAreRead, PagesAreRead}
 use Rattle.fee_switch.specs.Start.{IsLoadedAs, AreTaken}
 
 pub taken_none : HeadsAreRead → (o : Option ToldBytes) (l : Layout) (k : ℕ) (own : List ℕ) (first : Option ActiveBank) (log : LogState)

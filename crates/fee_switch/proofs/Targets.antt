@@ -16,9 +16,9 @@ use Rattle.fee_image.specs.Bank.{place_of_page}
 use Rattle.fee_image.specs.Image.{Layout, IsLegalLayout, layout_of, bank_in, image_page}
 use Rattle.fee_image.specs.Laws.{LayoutsAreLegal, ProgramsStand}
 use Rattle.fee_image.specs.Sound.{IsSoundImage}
-use Rattle.log_image.specs.Log.{Log}
-use Rattle.bank_image.specs.Banks.{Erasing, Copying, Sealing, Banks, Holds, HoldsPhase, ImageShows, IsCopying, next_head}
-use Rattle.bank_image.specs.Laws.{program_of, BanksShow, ErasesFail, ErasesDone, CopiesFail, HeadsDone, GatesFail, GatesDone, GatesStand}
+use Rattle.fee_image.specs.Log.{Log}
+use Rattle.fee_image.specs.Banks.{Erasing, Copying, Sealing, Banks, Holds, HoldsPhase, ImageShows, IsCopying, next_head}
+use Rattle.fee_image.specs.BankLaws.{program_of, BanksShow, ErasesFail, ErasesDone, CopiesFail, HeadsDone, GatesFail, GatesDone, GatesStand}
 use Rattle.fee_switch.specs.declared.target.Stage.{Stage}
 use Rattle.fee_switch.specs.declared.target.Stage.TheVariants.{Erase, Head, Gate}
 use Rattle.fee_switch.specs.declared.target.Target.{Target}

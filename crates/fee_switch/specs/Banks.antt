@@ -12,16 +12,16 @@ use Rattle.fee_format.specs.Formats.{new_format}
 use Rattle.fee_format.specs.declared.rec_head.RecHead.{RecHead}
 use Rattle.fee_log.specs.Index.{with_flag, clear_flags}
 use Rattle.fee_log.specs.Log.{LogState, erased_state, work_in, begun}
-use Rattle.bank_start.specs.declared.active.ActiveBank.{ActiveBank}
-use Rattle.log_image.specs.declared.place.Place.{Place}
-use Rattle.log_image.specs.declared.place.Place.TheVariants.{Content}
-use Rattle.switch_course.specs.declared.copies.Source.{Source}
-use Rattle.switch_course.specs.declared.course.Course.{Course}
-use Rattle.switch_course.specs.declared.course.Course.TheVariants.{Erase, Copy, Head, Gate}
-use Rattle.switch_course.specs.Copies.{next_copy}
-use Rattle.switch_course.specs.Course.{IsShort, after_done, after_failed, flag_due, appended_to, turns_left}
+use Rattle.fee_switch.specs.declared.active.ActiveBank.{ActiveBank}
+use Rattle.fee_image.specs.declared.place.Place.{Place}
+use Rattle.fee_image.specs.declared.place.Place.TheVariants.{Content}
+use Rattle.fee_course.specs.declared.copies.Source.{Source}
+use Rattle.fee_course.specs.declared.course.Course.{Course}
+use Rattle.fee_course.specs.declared.course.Course.TheVariants.{Erase, Copy, Head, Gate}
+use Rattle.fee_course.specs.Copies.{next_copy}
+use Rattle.fee_course.specs.Course.{IsShort, after_done, after_failed, flag_due, appended_to, turns_left}
 use Rattle.fee_image.specs.Image.{layout_of, active_of}
-use Rattle.bank_start.specs.Active.{active_shown}
+use Rattle.fee_switch.specs.Active.{active_shown}
 use Rattle.fee_switch.specs.Start.{IsLoadedAs}
 use Rattle.fee_switch.specs.declared.phase.BankStart.{BankStart}
 use Rattle.fee_switch.specs.declared.phase.BankStart.TheVariants.{Ready, Failed}

@@ -10,15 +10,15 @@ use Rattle.fls_model.specs.Told.{Told}
 use Rattle.fls_model.specs.Read.{IsRead}
 use Rattle.fls_model.specs.Step.{IsStep}
 use Rattle.fee_format.specs.declared.rec_head.RecHead.{RecHead}
-use Rattle.log_image.specs.declared.place.Place.{Place}
-use Rattle.log_image.specs.declared.place.Place.TheVariants.{Content, Invalid, Erased, Unwritten}
-use Rattle.log_image.specs.Places.{IsWithin}
+use Rattle.fee_image.specs.declared.place.Place.{Place}
+use Rattle.fee_image.specs.declared.place.Place.TheVariants.{Content, Invalid, Erased, Unwritten}
+use Rattle.fee_image.specs.Places.{IsWithin}
 use Rattle.fee_log.specs.Log.{LogState, IsFor, work_in, free_in, begun}
 use Rattle.fee_log.specs.Step.{op_of, after_step}
-use Rattle.switch_course.specs.declared.copies.Source.{Source}
-use Rattle.switch_course.specs.declared.course.Course.{Course}
-use Rattle.switch_course.specs.declared.course.Course.TheVariants.{Erase, Copy, Head, Gate}
-use Rattle.switch_course.specs.Copies.{next_copy}
+use Rattle.fee_course.specs.declared.copies.Source.{Source}
+use Rattle.fee_course.specs.declared.course.Course.{Course}
+use Rattle.fee_course.specs.declared.course.Course.TheVariants.{Erase, Copy, Head, Gate}
+use Rattle.fee_course.specs.Copies.{next_copy}
 use Rattle.fee_switch.specs.declared.phase.BankStep.{BankStep}
 use Rattle.fee_switch.specs.declared.target.Stage.TheVariants as stage
 use Rattle.fee_switch.specs.Target.{op_at}

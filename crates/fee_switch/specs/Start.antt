@@ -4,11 +4,11 @@ use Rattle.fls_model.specs.Told.{Told}
 use Rattle.fee_format.specs.declared.bank_head.BankHead.{BankHead}
 use Rattle.fee_image.specs.Image.{Layout, bank_in, active_below}
 use Rattle.fee_image.specs.RecordList.{IsClosed, end_of}
-use Rattle.log_image.specs.Laws.{loaded_log, IsLoadedTail}
+use Rattle.fee_image.specs.LogLaws.{loaded_log, IsLoadedTail}
 use Rattle.fee_log.specs.Index.{clear_flags}
 use Rattle.fee_log.specs.Log.{LogState, log_of, tail_with, work_in, is_closed}
-use Rattle.bank_start.specs.declared.active.ActiveBank.{ActiveBank}
-use Rattle.bank_start.specs.Active.{active_shown}
+use Rattle.fee_switch.specs.declared.active.ActiveBank.{ActiveBank}
+use Rattle.fee_switch.specs.Active.{active_shown}
 
 -- a log of the same numbers, of a bank of the same flash
 pub record IsSameShape (old new : LogState) : Type 0 where

@@ -12,10 +12,10 @@ use Rattle.fee_format.specs.BankHead.{bank_head_page}
 use Rattle.fee_format.specs.Pages.{gate_page}
 use Rattle.fee_image.specs.Image.{layout_of}
 use Rattle.fee_image.specs.Sound.{IsSoundImage}
-use Rattle.log_image.specs.Log.{Log}
-use Rattle.log_image.specs.May.{IsWider}
-use Rattle.bank_image.specs.Banks.{OldBank, Phase, Idle, Erasing, Copying, Sealing, Banks, Holds, ImageShows, next_head}
-use Rattle.bank_image.specs.Laws.{erase_of}
+use Rattle.fee_image.specs.Log.{Log}
+use Rattle.fee_image.specs.May.{IsWider}
+use Rattle.fee_image.specs.Banks.{OldBank, Phase, Idle, Erasing, Copying, Sealing, Banks, Holds, ImageShows, next_head}
+use Rattle.fee_image.specs.BankLaws.{erase_of}
 use Rattle.fee_switch.specs.declared.target.Stage.{Stage}
 use Rattle.fee_switch.specs.declared.target.Stage.TheVariants.{Erase, Head, Gate}
 use Rattle.fee_switch.specs.declared.target.Target.{Target}

@@ -3,7 +3,7 @@ ghost use Rattle.std.specs.Prelude.{◌≡◌, ◌<◌, ◌≤◌, true, false, 
 ghost use Rattle.nv_base.specs.Geometry.{IsLegal, HasBanks, sectors_of_bank};
 ghost use Rattle.fls_jobs.specs.Start.{IsIdle};
 ghost use Rattle.fee_image.specs.Image.{layout_of, active_of};
-ghost use Rattle.bank_start.specs.Active.{active_shown};
+ghost use Rattle.fee_switch.specs.Active.{active_shown};
 ghost use Rattle.fee_switch.specs.Start.{IsLoadedAs, IsSameShape, IsLogAt};
 ghost use Rattle.fee_switch.specs.Banks.{IsBanksState, IsMade, IsSameFlash, IsStartOf, phase_of};
 ghost use Rattle.std.specs.Prelude.{IsSome, Some, length};
@@ -15,7 +15,7 @@ ghost use Rattle.fls_jobs.specs.CallOf.{closed_as};
 ghost use Rattle.fee_log.specs.Index.{clear_flags};
 ghost use Rattle.fee_log.specs.Log.{IsLogState, IsFor, work_in, free_in, begun, erased_state};
 ghost use Rattle.fee_log.specs.Step.{IsPageOf, IsStepAt, due_bytes, op_of, answer_of, after_step, given_up};
-ghost use Rattle.switch_course.specs.Course.{IsShort, flag_due};
+ghost use Rattle.fee_course.specs.Course.{IsShort, flag_due};
 ghost use Rattle.fee_switch.specs.Target.{IsWorking, op_at};
 ghost use Rattle.fee_switch.specs.Copy.{CanBegin, BeginsAt, CanCopy, BeginsNext, CanGoOn, MakesNext, IsBankStep};
 ghost use Rattle.fee_switch.specs.Banks.{TakesRecord, left_of, is_worn_out, target_after, target_at, flagged_by, reads_place, reads_next, ended, advanced, fallen_back, after_answer, step_of, begun_again, append_begun, FindsActive, LoadsActive};
@@ -24,17 +24,16 @@ use crate::copy::{begin_mark, copy_page, head_at, read_content};
 use crate::due::{reads_place, set_flag_due, target_of};
 use crate::phase::phase_of;
 use crate::start::take_banks;
-use crate::{BankBegin, BankStart, BankStep, Phase, Stage, Target};
-use bank_start::ActiveBank;
+use crate::{ActiveBank, BankBegin, BankStart, BankStep, Phase, Stage, Target};
+use fee_course::{Course, Source, next_copy};
 use fee_format::{BankHead, NEW_FORMAT, RecHead};
+use fee_image::Place;
 use fee_log::{Log, LogStep};
 use fls_jobs::Fls;
 use fls_model::{Flash, FlashAnswer};
-use log_image::Place;
 use nv_base::{DeviceNumber, Geometry, Lengths};
 use std::alloc::{AllocError, Global};
 use std::marker::Model;
-use switch_course::{Course, Source, next_copy};
 
 /// The banks of a flash, of which one at most is active, with the logs of that one and of the target of a switch. How many they
 /// are says who makes them.

@@ -12,10 +12,10 @@ ghost use Rattle.fee_log.specs.Step.{op_of, after_step, answer_of};
 ghost use Rattle.fee_switch.specs.Copy.{begun_where, head_at};
 
 use fee_format::RecHead;
+use fee_image::Place;
 use fee_log::{Log, LogStep};
 use fls_jobs::Fls;
 use fls_model::{Flash, FlashAnswer};
-use log_image::Place;
 use nv_base::DeviceNumber;
 
 /// The record that copies what stands at a place of a number, as often written.

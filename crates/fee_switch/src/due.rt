@@ -1,13 +1,13 @@
 // What the next step of a switch is about.
 ghost use Rattle.std.specs.Prelude.{◌≡◌, ◌<◌, ◌≤◌, IfSome};
-ghost use Rattle.switch_course.specs.Course.{flag_due};
+ghost use Rattle.fee_course.specs.Course.{flag_due};
 ghost use Rattle.fee_switch.specs.Start.{IsSameShape};
 ghost use Rattle.fee_switch.specs.Banks.{flagged_by, reads_place, target_after};
 
-use bank_start::ActiveBank;
+use crate::ActiveBank;
+use fee_course::Course;
+use fee_image::Place;
 use fee_log::Log;
-use log_image::Place;
-use switch_course::Course;
 
 /// The target of the next switch: the bank behind the active one, or the first.
 pub(crate) fn target_of(active: Option<ActiveBank>, banks: u32) -> u32

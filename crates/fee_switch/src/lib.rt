@@ -1,19 +1,27 @@
-//! The banks of a flash over its driver, and the switch from the active one to the next: one operation a step.
+//! The banks of a flash over its driver: the start-up that reads them, and the switch from the active one to the next,
+//! one operation a step.
 //!
-//! It promises that a start-up finds the active bank and loads its log, which operation each step makes and what its answer
-//! leaves, and that appends go to the active log beside the switch. What the bytes of the flash hold of all that are laws
-//! of its own for the target and of the crates beside it; jobs and their room are left to the crates above.
+//! It promises that a start-up finds the active bank, whatever the bytes are, and loads its log, which operation each
+//! step makes and what its answer leaves, and that appends go to the active log beside the switch. What the bytes of
+//! the flash hold of it is left to `fee_switch_laws`, but for the steps of the target; jobs and their room are left to
+//! the crates above.
 #![tactic(auto)]
 
+mod active;
 mod banks;
 mod copy;
 mod due;
 mod phase;
+mod reading;
 mod start;
+mod start_laws;
 mod target;
 mod target_laws;
 
+pub use active::{ActiveBank, comes_first};
 pub use banks::Banks;
 pub use phase::{BankBegin, BankStart, BankStep, Phase};
+pub use reading::read_bank;
+pub use start_laws::banks_stand_alone;
 pub use target::{Stage, Target};
 pub use target_laws::targets_hold;

@@ -2,7 +2,7 @@
 ghost use Rattle.std.specs.Prelude.{◌≡◌};
 ghost use Rattle.fee_switch.specs.Banks.{phase_of};
 
-use switch_course::Course;
+use fee_course::Course;
 
 /// No switch is open; or one erases its target, copies, or programs its head and gate; or its gate failed and is programmed
 /// again.

@@ -7,10 +7,10 @@ ghost use Rattle.fee_image.specs.Image.{layout_of, bank_in};
 ghost use Rattle.fee_image.specs.Laws.{bank_bytes};
 ghost use Rattle.fee_image.specs.RecordList.{StandsAs, StandsNot};
 ghost use Rattle.fee_view.specs.View.{own_bank};
-ghost use Rattle.bank_start.specs.Reading.{IsAnswered};
+ghost use Rattle.fee_switch.specs.Reading.{IsAnswered};
 ghost use Rattle.fee_switch.specs.Start.{AreTaken, TakesNext, IsLogAt, IsSameShape};
 
-use bank_start::{ActiveBank, banks_stand_alone, comes_first, read_bank};
+use crate::{ActiveBank, banks_stand_alone, comes_first, read_bank};
 use fee_image::records_stay;
 use fee_log::{Log, loads_agree};
 use fee_view::BankView;

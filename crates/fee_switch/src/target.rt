@@ -8,7 +8,7 @@ ghost use Rattle.fls_jobs.specs.CallOf.{closed_as};
 ghost use Rattle.fls_jobs.specs.Start.{IsIdle};
 ghost use Rattle.fee_format.specs.BankHead.{bank_head_page};
 ghost use Rattle.fee_format.specs.Pages.{gate_page};
-ghost use Rattle.bank_image.specs.Laws.{erase_of};
+ghost use Rattle.fee_image.specs.BankLaws.{erase_of};
 ghost use Rattle.fee_switch.specs.Target.{IsTarget, op_of, stage_after};
 
 use fee_format::{BankHead, NEW_FORMAT, write_bank_head, write_gate};

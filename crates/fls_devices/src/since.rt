@@ -4,8 +4,8 @@ ghost use Rattle.fls_model.specs.Told.{changes_in};
 ghost use Rattle.fls_devices.specs.Journal.{listed};
 
 use fls_model::Flash;
+use nv_base::Trace;
 use std::marker::Model;
-use value_traces::Trace;
 
 // Those that it told once, and how many more. Contracts alone read it, so that it has no end.
 #[derive(Drop)]

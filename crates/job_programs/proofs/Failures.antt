@@ -5,7 +5,7 @@ use Rattle.std.proofs.Common.{◌≡◌, ◌≢◌, ℕ, zero, suc, ◌+◌, ◌
 use Rattle.std.proofs.lemmas.Bool.{eq-eqb, ltb-true, ltb-false}
 use Rattle.std.proofs.lemmas.List.Elements.{Contains-append_left, Contains-append_right}
 use Rattle.std.proofs.Math.Nat.{mul-le-mul_right}
-use Rattle.nv_base.specs.declared.job.Outcome.TheVariants.{First}
+use Rattle.block_machine.specs.nv_base.declared.job.Outcome.TheVariants.{First}
 use Rattle.block_machine.specs.Words.{JobKind, ReadJob, WriteJob, EraseJob, InvalidateJob, Outcome}
 use Rattle.block_machine.specs.State.{Job}
 use Rattle.block_machine.specs.Blocks.{is_in}

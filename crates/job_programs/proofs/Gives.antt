@@ -1,7 +1,7 @@
 -- What a program gives.
 use Rattle.std.proofs.Common.{◌≡◌, ◌≢◌, ℕ, ◌+◌, ◌-◌, ◌||◌, Bool, true, false, if◌then◌else◌, List, [], ◌∷◌, ◌++◌, length, replicate, slice_get, refl, sym, subst, Option, Some, None}
 use Rattle.std.specs.List.{list_any}
-use Rattle.nv_base.specs.declared.job.Outcome.TheVariants.{First}
+use Rattle.block_machine.specs.nv_base.declared.job.Outcome.TheVariants.{First}
 use Rattle.std.proofs.lemmas.Bool.{ne_eqb, eq-eqb}
 use Rattle.block_machine.specs.Words.{Mark, Content, Invalid, Erased, JobKind, ReadJob, Outcome, ReadContent, FoundErased, FoundInvalid, Failed, FromDevice}
 use Rattle.block_machine.specs.ResultTable.{table}

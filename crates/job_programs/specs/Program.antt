@@ -1,12 +1,12 @@
 -- A job at work.
 use Rattle.std.specs.Prelude.{ℕ, ◌+◌, ◌-◌, ◌&&◌, nat_lt, Bool, true, false, List, [], ◌∷◌, ◌++◌, length, replicate, slice_get, if◌then◌else◌, Option, Some, None}
 use Rattle.std.specs.List.{list_any}
-use Rattle.nv_base.specs.declared.job.DeviceOp.{DeviceOp}
-use Rattle.nv_base.specs.declared.job.DeviceOp.TheVariants as op
-use Rattle.nv_base.specs.declared.job.Outcome.TheVariants.{First}
-use Rattle.nv_base.specs.declared.job.JobStep.{JobStep}
-use Rattle.nv_base.specs.declared.job.JobStep.TheVariants.{Device, Ended}
-use Rattle.block_config.specs.declared.block.BlockDesc.{BlockDesc}
+use Rattle.block_machine.specs.nv_base.declared.job.DeviceOp.{DeviceOp}
+use Rattle.block_machine.specs.nv_base.declared.job.DeviceOp.TheVariants as op
+use Rattle.block_machine.specs.nv_base.declared.job.Outcome.TheVariants.{First}
+use Rattle.block_machine.specs.nv_base.declared.job.JobStep.{JobStep}
+use Rattle.block_machine.specs.nv_base.declared.job.JobStep.TheVariants.{Device, Ended}
+use Rattle.block_machine.specs.block_config.declared.block.BlockDesc.{BlockDesc}
 use Rattle.block_machine.specs.Words.{ReqResult, JobKind, ReadJob, WriteJob, EraseJob, InvalidateJob, Outcome, ReadContent, FoundInvalid, Failed, GivenFrom}
 use Rattle.block_machine.specs.Blocks.{indices_by}
 use Rattle.block_machine.specs.ResultTable.{table}

@@ -2,8 +2,8 @@
 ghost use Rattle.std.specs.Prelude.{◌≡◌, ◌<◌, true};
 ghost use Rattle.job_programs.specs.Program.{works, operation, retries_of, settles, is_again};
 
-use block_config::BlockDesc;
-use nv_base::{DeviceOp, JobKind, Outcome};
+use block_machine::block_config::BlockDesc;
+use block_machine::nv_base::{DeviceOp, JobKind, Outcome};
 
 /// Whether a job works on the device, as a read, a write, an erase and an invalidation do.
 pub fn works(job: JobKind) -> bool

@@ -1,10 +1,10 @@
 // The table of results.
 ghost use Rattle.std.specs.Prelude.{◌≡◌, [], ◌∷◌};
-ghost use Rattle.nv_base.specs.declared.job.GivenFrom.TheVariants as from;
+ghost use Rattle.block_machine.specs.nv_base.declared.job.GivenFrom.TheVariants as from;
 ghost use Rattle.block_machine.specs.ResultTable.{defaults_or, read_one, read_copies, write_result, table};
 ghost use Rattle.job_programs.specs.Program.{ended_by, settles};
 
-use nv_base::{GivenFrom, JobKind, JobStep, Outcome, ReqResult};
+use block_machine::nv_base::{GivenFrom, JobKind, JobStep, Outcome, ReqResult};
 
 fn ended(code: ReqResult, source: GivenFrom) -> JobStep
     ensures { result ≡ ended_by (code, source) }

@@ -2,8 +2,8 @@
 use Rattle.std.proofs.Common.{◌≡◌, ℕ, zero, suc, ◌+◌, ◌-◌, ◌≤◌, ◌<◌, Bool, true, false, if◌then◌else◌, List, [], ◌∷◌, map, filter, drop, length, slice_get, refl, sym, ap, ◌∙◌, subst, arith}
 use Rattle.std.specs.List.{enumerate_from}
 use Rattle.std.proofs.lemmas.List.{length-drop}
-use Rattle.block_config.specs.declared.block.BlockDesc.{BlockDesc}
-use Rattle.block_config.specs.Config.{Configuration, block_of}
+use Rattle.block_machine.specs.block_config.declared.block.BlockDesc.{BlockDesc}
+use Rattle.block_machine.specs.block_config.Config.{Configuration, block_of}
 use Rattle.multi_jobs.specs.Members.{is_member, is_member_at, ids_from}
 
 abbrev numbered : Bool → ℕ → List BlockDesc → List ℕ

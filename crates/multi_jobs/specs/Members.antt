@@ -1,8 +1,8 @@
 -- The members of a sweep.
 use Rattle.std.specs.Prelude.{ℕ, ◌+◌, Bool, false, List, map, filter, drop, if◌then◌else◌, Option, Some, None}
 use Rattle.std.specs.List.{enumerate_from}
-use Rattle.block_config.specs.declared.block.BlockDesc.{BlockDesc}
-use Rattle.block_config.specs.Config.{Configuration}
+use Rattle.block_machine.specs.block_config.declared.block.BlockDesc.{BlockDesc}
+use Rattle.block_machine.specs.block_config.Config.{Configuration}
 
 -- a block is a member of a WriteAll, or of a ReadAll
 abbrev pub is_member : Bool → BlockDesc → Bool

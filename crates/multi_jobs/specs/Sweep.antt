@@ -1,6 +1,6 @@
 -- A sweep, and what comes next in it.
 use Rattle.std.specs.Prelude.{ℕ, ◌-◌, ◌==◌, ◌||◌, Bool, true, false, List, [], ◌∷◌, ◌++◌, slice_get, if◌then◌else◌, Option, Some, None}
-use Rattle.nv_base.specs.declared.request.JobKind.TheVariants as kind
+use Rattle.block_machine.specs.nv_base.declared.request.JobKind.TheVariants as kind
 use Rattle.block_machine.specs.Words.{ReqResult, Fine, NotOk, Canceled, JobKind, Configuration}
 use Rattle.block_machine.specs.Blocks.{desc_of}
 use Rattle.block_machine.specs.Sweeps.{spoils, may_be_written, may_be_read}

@@ -1,9 +1,9 @@
 // The members of a sweep.
 ghost use Rattle.std.specs.Prelude.{◌≡◌, ◌-◌, ◌≤◌, [], ◌∷◌, MatchOption};
-ghost use Rattle.block_config.specs.Config.{block_of};
+ghost use Rattle.block_machine.specs.block_config.Config.{block_of};
 ghost use Rattle.multi_jobs.specs.Members.{is_member, is_member_at, ids_from};
 
-use block_config::{BlockDesc, Config};
+use block_machine::block_config::{BlockDesc, Config};
 
 fn is_member(desc: &BlockDesc, writes: bool) -> bool
     ensures { result ≡ is_member writes desc.now }

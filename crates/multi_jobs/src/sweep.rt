@@ -5,8 +5,8 @@ ghost use Rattle.block_machine.specs.Sweeps.{spoils};
 ghost use Rattle.multi_jobs.specs.Sweep.{sweep_of, next_member, noted, moved, step_of, step_on, result_of, is_picked_by, place_behind};
 
 use crate::members::member_behind;
-use block_config::Config;
-use nv_base::{JobKind, ReqResult};
+use block_machine::block_config::Config;
+use block_machine::nv_base::{JobKind, ReqResult};
 use std::marker::Model;
 
 /// What decides whether a member is picked: whether its block is locked or protected, whether its RAM is valid and

@@ -1,6 +1,8 @@
-//! The words of the memory stack: blocks and their instances, marks, requests, results, the history and the shape of a
-//! flash. It promises lists that keep their order and bounds, and sums of a shape that are exact. What a history may
-//! hold, and what a flash does, is said elsewhere.
+//! The words of the memory stack: instances, marks, requests, results, the history, the shape of a flash, and traces.
+//!
+//! It promises lists that keep their order and bounds, sums of a shape that are exact, and memory that is taken before
+//! it is needed; a trace, which only contracts read, takes none. What a history may hold, and what a flash does, is
+//! left to the crates above.
 #![tactic(auto)]
 
 mod alike;
@@ -21,6 +23,7 @@ mod pages;
 mod plan;
 mod request;
 mod result;
+mod trace;
 
 pub use alike::all_are;
 pub use bytes::{Bytes, bytes_of};
@@ -41,3 +44,4 @@ pub use plan::Plan;
 pub use request::{JobKind, Refusal, Reply, Request, refusal_number};
 pub use result::{ReqResult, result_code};
 pub use std::alloc::AllocFailed;
+pub use trace::Trace;

@@ -7,15 +7,15 @@ use Rattle.block_machine.specs.Sweeps.{is_picked, sweep_result}
 use Rattle.block_machine.specs.Next.{Next, BeginSweep, PickMember, PostMember, EndSweep, next_in, next_by, next_of, next_member, next_in_sweep}
 use Rattle.block_machine.specs.Steps.{changed_by, step, posted, posted_next, with_status}
 use Rattle.block_machine.specs.Legal.{IsAllowed, IsDriving, MayPost, MayPostNext}
-use Rattle.machine_laws.specs.Laws.{NoneWaits}
-use Rattle.machine_laws.specs.Consistent.{IsConsistent}
+use Rattle.block_laws.specs.Laws.{NoneWaits}
+use Rattle.block_laws.specs.Consistent.{IsConsistent}
 use Rattle.std.proofs.lemmas.List.{length-set}
-use Rattle.kept_state.specs.declared.sweep.PendingSweep.{PendingSweep}
-use Rattle.kept_state.specs.declared.kept.Kept.{Kept}
+use Rattle.nv_desk_state.specs.declared.sweep.PendingSweep.{PendingSweep}
+use Rattle.nv_desk_state.specs.declared.kept.Kept.{Kept}
 use Rattle.nv_desk.specs.AllBlocks.{sweep_kind}
 use Rattle.nv_desk.specs.Driver.{DriverLaws}
-use Rattle.kept_state.specs.Kept.{Agrees}
-use Rattle.kept_state.specs.Pending.{AreSweeps}
+use Rattle.nv_desk_state.specs.Kept.{Agrees}
+use Rattle.nv_desk_state.specs.Pending.{AreSweeps}
 use Rattle.nv_desk.specs.Sound.{IsSound}
 use Rattle.nv_desk.proofs.Sound.{sound_same}
 

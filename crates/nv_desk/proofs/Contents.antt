@@ -3,9 +3,9 @@ use Rattle.std.specs.Prelude.{slice_get, unwrap_or, All}
 use Rattle.std.specs.List.{enumerate_from}
 use Rattle.std.proofs.Common.{◌≡◌, ◌≤◌, ◌<◌, ℕ, zero, suc, ◌+◌, ◌||◌, Bool, true, false, List, [], ◌∷◌, drop, length, map, filter, get_or, refl, sym, ap, ◌∙◌, subst, inl, inr, arith, Option, Some, None, IfSome, IsTrue}
 use Rattle.std.proofs.lemmas.Bool.{cases_Bool}
-use Rattle.block_config.specs.Block.{plain_block}
-use Rattle.block_config.specs.Config.{block_of}
-use Rattle.block_config.specs.Rules.{AreBlocks, IsLegalBlock, IsLegalConfig, MayBeMember}
+use Rattle.block_machine.specs.block_config.Block.{plain_block}
+use Rattle.block_machine.specs.block_config.Config.{block_of}
+use Rattle.block_machine.specs.block_config.Rules.{AreBlocks, IsLegalBlock, IsLegalConfig, MayBeMember}
 use Rattle.block_machine.specs.Words.{BlockDesc, Configuration, JobKind, WriteJob, Pick, RamKind, NoRamBlock, Permanent, Sync, Taken, TookContent, TookNothing}
 use Rattle.block_machine.specs.State.{State, BlockState, Job, Sweep}
 use Rattle.block_machine.specs.Blocks.{asked_block, block_at, desc_of, is_synchronized, job_block, keeps_ram, kind_of}
@@ -15,18 +15,18 @@ use Rattle.block_machine.specs.Next.{PickJob, PickMember, next_in, next_by, next
 use Rattle.block_machine.specs.Steps.{content_after}
 use Rattle.block_machine.specs.Legal.{IsAllowed, MayPick, TakesBy, TakesForWrite}
 use Rattle.block_states.specs.States.{RoomsHaveLengths, state_at}
-use Rattle.machine_laws.specs.Consistent.{Each}
+use Rattle.block_laws.specs.Consistent.{Each}
 use Rattle.multi_jobs.specs.Members.{ids_from, is_member}
 use Rattle.multi_jobs.specs.Sweep.{members_at}
 use Rattle.multi_jobs.specs.declared.sweep.Place.{Place}
 use Rattle.multi_jobs.specs.declared.sweep.Place.TheVariants.{First, Behind, Over}
-use Rattle.pending_jobs.specs.declared.took.Took.{Took}
-use Rattle.pending_jobs.specs.declared.took.Took.TheVariants as took
-use Rattle.pending_jobs.specs.Took.{taken_with}
-use Rattle.kept_state.specs.declared.kept.Kept.{Kept}
-use Rattle.kept_state.specs.declared.sweep.PendingSweep.{PendingSweep}
-use Rattle.kept_state.specs.Kept.{Agrees}
-use Rattle.kept_state.specs.Pending.{AreSweeps, IsAtMember}
+use Rattle.job_pending.specs.declared.took.Took.{Took}
+use Rattle.job_pending.specs.declared.took.Took.TheVariants as took
+use Rattle.job_pending.specs.Took.{taken_with}
+use Rattle.nv_desk_state.specs.declared.kept.Kept.{Kept}
+use Rattle.nv_desk_state.specs.declared.sweep.PendingSweep.{PendingSweep}
+use Rattle.nv_desk_state.specs.Kept.{Agrees}
+use Rattle.nv_desk_state.specs.Pending.{AreSweeps, IsAtMember}
 use Rattle.nv_desk.specs.Sound.{HasRam, IsPendingJob, IsSound}
 use Rattle.nv_desk.specs.Picks.{copied_in}
 use Rattle.nv_desk.proofs.Asks.{has_ram}

@@ -2,10 +2,10 @@
 use Rattle.std.specs.Option.{option_map_or}
 use Rattle.std.proofs.lemmas.List.Sums.{sum_by-cons}
 use Rattle.std.proofs.Common.{◌≢◌, option_map, ◌&&◌, Bool, false, sym, ◌∙◌, get_or, ◌≡◌, ◌≤◌, ◌<◌, ℕ, ◌+◌, ◌-◌, true, List, [], ◌∷◌, ◌++◌, length, refl, ap, arith, subst, Option, Some, None, IfSome, IsSome, option_to_list}
-use Rattle.nv_base.specs.History.{Listed}
-use Rattle.block_config.specs.Block.{record_count}
-use Rattle.block_config.specs.declared.block.BlockKind.{BlockKind}
-use Rattle.block_config.specs.declared.block.BlockKind.TheVariants.{Native, Redundant, Dataset}
+use Rattle.block_machine.specs.nv_base.History.{Listed}
+use Rattle.block_machine.specs.block_config.Block.{record_count}
+use Rattle.block_machine.specs.block_config.declared.block.BlockKind.{BlockKind}
+use Rattle.block_machine.specs.block_config.declared.block.BlockKind.TheVariants.{Native, Redundant, Dataset}
 use Rattle.block_machine.specs.Words.{ReqResult, Wrote, Post, Configuration, Entry, Instance, Mark, JobKind, ReadJob, RestoreJob}
 use Rattle.block_machine.specs.State.{State, Job, Sweep}
 use Rattle.block_machine.specs.Blocks.{desc_of, job_block, keeps_ram, names_ram, records_by, records_of}
@@ -13,18 +13,18 @@ use Rattle.block_machine.specs.Sweeps.{sweep_entries, after_member}
 use Rattle.block_machine.specs.Reply.{reserved_entries}
 use Rattle.block_machine.specs.Steps.{after, changed_by, step, wrote, posted}
 use Rattle.block_machine.specs.Legal.{IsAllowed, MayWrite, IsWrote}
-use Rattle.machine_laws.specs.Laws.{uses_reserved}
-use Rattle.machine_laws.specs.Consistent.{Each, IsConsistent, IsJobInHand}
+use Rattle.block_laws.specs.Laws.{uses_reserved}
+use Rattle.block_laws.specs.Consistent.{Each, IsConsistent, IsJobInHand}
 use Rattle.block_states.specs.States.{rooms_of, RoomsHaveLengths}
 use Rattle.nv_desk.specs.declared.desk.Desk.TheInside.{Inside}
-use Rattle.kept_state.specs.declared.kept.Kept.{Kept}
+use Rattle.nv_desk_state.specs.declared.kept.Kept.{Kept}
 use Rattle.nv_desk.specs.Rooms.{Roomy}
-use Rattle.kept_state.specs.Kept.{Agrees}
+use Rattle.nv_desk_state.specs.Kept.{Agrees}
 use Rattle.nv_desk.specs.Sound.{IsPendingJob, IsSound}
 use Rattle.nv_desk.specs.Desk.{IsKept}
 use Rattle.nv_desk.specs.Driver.{DriverLaws, block_now}
 use Rattle.nv_desk.proofs.Entries.{entry_kept}
-use Rattle.pending_jobs.specs.Pending.{Pending, Agree, IsHeld, IsOther, StandsApart}
+use Rattle.job_pending.specs.Pending.{Pending, Agree, IsHeld, IsOther, StandsApart}
 use Rattle.nv_desk.proofs.Sound.{each_map}
 
 -- there is room for the entry, and for two contents with it

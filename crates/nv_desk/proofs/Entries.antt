@@ -1,15 +1,15 @@
 -- One entry more.
 use Rattle.std.proofs.Common.{◌≡◌, ◌≤◌, ℕ, ◌+◌, ◌-◌, ◌*◌, [], ◌∷◌, ◌++◌, length, length-append, ap, ◌∙◌, arith}
-use Rattle.nv_base.specs.History.{Listed}
+use Rattle.block_machine.specs.nv_base.History.{Listed}
 use Rattle.block_machine.specs.Words.{Configuration, Entry}
 use Rattle.block_machine.specs.State.{State}
 use Rattle.block_machine.specs.Reply.{reserved_entries}
 use Rattle.block_machine.specs.Steps.{after, step, changed_by}
-use Rattle.machine_laws.specs.Laws.{HistoriesStep}
+use Rattle.block_laws.specs.Laws.{HistoriesStep}
 use Rattle.nv_desk.specs.declared.desk.Desk.TheInside.{Inside}
-use Rattle.kept_state.specs.declared.kept.Kept.{Kept}
+use Rattle.nv_desk_state.specs.declared.kept.Kept.{Kept}
 use Rattle.nv_desk.specs.Rooms.{Roomy}
-use Rattle.kept_state.specs.Kept.{Agrees}
+use Rattle.nv_desk_state.specs.Kept.{Agrees}
 use Rattle.nv_desk.specs.Sound.{IsSound}
 use Rattle.nv_desk.specs.Desk.{IsKept}
 

@@ -6,15 +6,15 @@ use Rattle.block_machine.specs.State.{State, Job, Sweep, jobs_of}
 use Rattle.block_machine.specs.Blocks.{asked_block, asked_content, job_block, job_kind, names_ram, is_pending, rank_of, status_of}
 use Rattle.block_machine.specs.Reply.{reserved_entries, needed}
 use Rattle.block_machine.specs.Steps.{step, accepted, accepted_by, job_at, with_status}
-use Rattle.machine_laws.specs.Consistent.{Each, IsConsistent, IsWaitingJob, IsJobInHand, IsPendingSweep}
-use Rattle.pending_jobs.specs.declared.unpicked.Unpicked.{Unpicked}
-use Rattle.pending_jobs.specs.Unpicked.{unpicked_in}
-use Rattle.pending_jobs.specs.Pending.{IsNew, reserved_by}
+use Rattle.block_laws.specs.Consistent.{Each, IsConsistent, IsWaitingJob, IsJobInHand, IsPendingSweep}
+use Rattle.job_pending.specs.declared.unpicked.Unpicked.{Unpicked}
+use Rattle.job_pending.specs.Unpicked.{unpicked_in}
+use Rattle.job_pending.specs.Pending.{IsNew, reserved_by}
 use Rattle.nv_desk.specs.Asks.{IsJobAccepted}
-use Rattle.kept_state.specs.Kept.{Agrees}
+use Rattle.nv_desk_state.specs.Kept.{Agrees}
 use Rattle.nv_desk.specs.Sound.{IsPendingJob, IsSound}
 use Rattle.nv_desk.proofs.Sound.{sound_job}
-use Rattle.kept_state.specs.declared.kept.Kept.{Kept}
+use Rattle.nv_desk_state.specs.declared.kept.Kept.{Kept}
 use Rattle.nv_desk.proofs.Asks.{known_of, room_of}
 
 each_at : {X : Type 0} (P : X → Type 0) (xs : List X) (x : X) (k : ℕ) → k < length xs → get_or xs k x ≡ x → Each P xs → P x

@@ -4,7 +4,7 @@ use Rattle.std.specs.List.{enumerate_from}
 use Rattle.std.proofs.lemmas.List.{length-replicate}
 use Rattle.std.proofs.lemmas.Bool.{cases_lt}
 use Rattle.std.proofs.lemmas.Option.{slice_get_past}
-use Rattle.block_config.specs.Block.{plain_block}
+use Rattle.block_machine.specs.block_config.Block.{plain_block}
 use Rattle.block_machine.specs.Words.{Configuration, BlockDesc}
 use Rattle.block_machine.specs.Blocks.{desc_of, is_permanent}
 use Rattle.ram_blocks.specs.Kept.{ram_of}

@@ -8,14 +8,14 @@ use Rattle.block_machine.specs.Sweeps.{is_picked, member_job, member_kind}
 use Rattle.block_machine.specs.Next.{Next, BeginSweep, PickMember, PostMember, next_in, next_by, next_of, next_member, next_in_sweep}
 use Rattle.block_machine.specs.Steps.{changed_by, step, posted, posted_next, content_after, in_hand, with_member, ended}
 use Rattle.block_machine.specs.Legal.{IsAllowed}
-use Rattle.machine_laws.specs.Laws.{NoneWaits}
-use Rattle.machine_laws.specs.Consistent.{IsConsistent}
+use Rattle.block_laws.specs.Laws.{NoneWaits}
+use Rattle.block_laws.specs.Consistent.{IsConsistent}
 use Rattle.block_states.specs.States.{rooms_of, RoomsHaveLengths}
-use Rattle.pending_jobs.specs.declared.took.Took.{Took}
-use Rattle.pending_jobs.specs.Took.{taken_with}
-use Rattle.kept_state.specs.declared.kept.Kept.{Kept}
-use Rattle.kept_state.specs.Kept.{Agrees}
-use Rattle.kept_state.specs.Pending.{IsAtMember}
+use Rattle.job_pending.specs.declared.took.Took.{Took}
+use Rattle.job_pending.specs.Took.{taken_with}
+use Rattle.nv_desk_state.specs.declared.kept.Kept.{Kept}
+use Rattle.nv_desk_state.specs.Kept.{Agrees}
+use Rattle.nv_desk_state.specs.Pending.{IsAtMember}
 use Rattle.nv_desk.specs.Driver.{DriverLaws}
 use Rattle.nv_desk.specs.Sound.{HasRam, IsSound}
 use Rattle.nv_desk.proofs.Drivers.{in_room}

@@ -8,13 +8,13 @@ use Rattle.block_machine.specs.Next.{PickJob, next_in, next_of}
 use Rattle.block_machine.specs.Reply.{reserved_entries}
 use Rattle.block_machine.specs.Steps.{after, step, changed_by, in_hand, content_after}
 use Rattle.block_machine.specs.Legal.{IsAllowed, MayInterrupt}
-use Rattle.machine_laws.specs.Laws.{NextIsWaiting}
-use Rattle.machine_laws.specs.Consistent.{Each, IsWaitingJob, IsJobInHand}
-use Rattle.pending_jobs.specs.declared.took.Took.{Took}
-use Rattle.pending_jobs.specs.Took.{taken_with}
-use Rattle.pending_jobs.specs.Pending.{Pending, Agree}
-use Rattle.kept_state.specs.declared.kept.Kept.{Kept}
-use Rattle.kept_state.specs.Kept.{Agrees}
+use Rattle.block_laws.specs.Laws.{NextIsWaiting}
+use Rattle.block_laws.specs.Consistent.{Each, IsWaitingJob, IsJobInHand}
+use Rattle.job_pending.specs.declared.took.Took.{Took}
+use Rattle.job_pending.specs.Took.{taken_with}
+use Rattle.job_pending.specs.Pending.{Pending, Agree}
+use Rattle.nv_desk_state.specs.declared.kept.Kept.{Kept}
+use Rattle.nv_desk_state.specs.Kept.{Agrees}
 use Rattle.nv_desk.specs.Sound.{IsPendingJob, IsSound}
 use Rattle.nv_desk.specs.Driver.{DriverLaws}
 use Rattle.nv_desk.specs.Desk.{DeskState, state_of}

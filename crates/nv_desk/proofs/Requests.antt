@@ -6,11 +6,11 @@ use Rattle.block_machine.specs.State.{State, Sweep, jobs_of}
 use Rattle.block_machine.specs.Sweeps.{sweep_entries, sweep_at}
 use Rattle.block_machine.specs.Reply.{reserved_entries, needed}
 use Rattle.block_machine.specs.Steps.{step, asked, accepted, with_sweep}
-use Rattle.machine_laws.specs.Consistent.{IsConsistent}
+use Rattle.block_laws.specs.Consistent.{IsConsistent}
 use Rattle.nv_desk.specs.Asks.{IsSweepAccepted}
 use Rattle.nv_desk.specs.Desk.{sweep_request}
-use Rattle.kept_state.specs.declared.kept.Kept.{Kept}
-use Rattle.kept_state.specs.Kept.{Agrees, IsChange}
+use Rattle.nv_desk_state.specs.declared.kept.Kept.{Kept}
+use Rattle.nv_desk_state.specs.Kept.{Agrees, IsChange}
 use Rattle.nv_desk.specs.Sound.{IsSound}
 use Rattle.nv_desk.proofs.Sound.{sound_pending, sound_same}
 use Rattle.nv_desk.proofs.Jobs.{no_sweep}

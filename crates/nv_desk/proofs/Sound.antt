@@ -5,8 +5,8 @@ use Rattle.block_machine.specs.Words.{Pending, Configuration, WriteJob, Request,
 use Rattle.block_machine.specs.State.{State, BlockState, Job, jobs_of}
 use Rattle.block_machine.specs.Blocks.{no_block, desc_of, block_at, job_block, kind_of, status_of, is_pending}
 use Rattle.block_machine.specs.Steps.{accepted, with_status}
-use Rattle.machine_laws.specs.Consistent.{Each, IsConsistent}
-use Rattle.kept_state.specs.Kept.{IsChange}
+use Rattle.block_laws.specs.Consistent.{Each, IsConsistent}
+use Rattle.nv_desk_state.specs.Kept.{IsChange}
 use Rattle.nv_desk.specs.Sound.{HasRam, IsPendingJob, IsSound}
 
 -- LISTS

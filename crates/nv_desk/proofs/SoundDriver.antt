@@ -8,7 +8,7 @@ use Rattle.block_machine.specs.Blocks.{no_block, desc_of, block_at, job_block, i
 use Rattle.block_machine.specs.Sweeps.{after_member}
 use Rattle.block_machine.specs.StartUp.{started_block}
 use Rattle.block_machine.specs.Steps.{step, wrote, posted, in_hand, content_after, interrupted, without_job, ended}
-use Rattle.machine_laws.specs.Consistent.{Each, IsConsistent, IsWaitingJob, IsJobInHand, IsPendingSweep}
+use Rattle.block_laws.specs.Consistent.{Each, IsConsistent, IsWaitingJob, IsJobInHand, IsPendingSweep}
 use Rattle.nv_desk.specs.Sound.{IsPendingJob, IsSound}
 use Rattle.nv_desk.proofs.Sound.{each_map, sound_same}
 

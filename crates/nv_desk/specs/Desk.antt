@@ -6,7 +6,7 @@ use Rattle.block_machine.specs.Blocks.{desc_of}
 use Rattle.block_machine.specs.Sweeps.{sweep_entries, sweep_at}
 use Rattle.block_machine.specs.Reply.{reserved_entries}
 use Rattle.block_machine.specs.Steps.{after}
-use Rattle.kept_state.specs.Kept.{Agrees}
+use Rattle.nv_desk_state.specs.Kept.{Agrees}
 use Rattle.nv_desk.specs.Sound.{IsSound}
 use Rattle.nv_desk.specs.declared.desk.Desk.TheInside.{Inside}
 

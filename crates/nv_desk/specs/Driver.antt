@@ -5,7 +5,7 @@ use Rattle.block_machine.specs.Words.{Mark, Erased, Entry}
 use Rattle.block_machine.specs.State.{State}
 use Rattle.block_machine.specs.Blocks.{desc_of, job_block, mark_of}
 use Rattle.block_machine.specs.Legal.{IsAllowed}
-use Rattle.machine_laws.specs.Laws.{HistoriesStep, EntriesAreCounted, DriverEntriesAreReserved, AllowedStepsStayConsistent}
+use Rattle.block_laws.specs.Laws.{HistoriesStep, EntriesAreCounted, DriverEntriesAreReserved, AllowedStepsStayConsistent}
 use Rattle.nv_desk.specs.Desk.{DeskState, state_of}
 
 -- an entry may come behind those of the desk

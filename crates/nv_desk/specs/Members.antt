@@ -6,8 +6,8 @@ use Rattle.block_machine.specs.Blocks.{desc_of}
 use Rattle.block_machine.specs.Sweeps.{member_kind}
 use Rattle.block_machine.specs.Next.{PickMember, PostMember, next_of}
 use Rattle.block_machine.specs.Legal.{IsAllowed}
-use Rattle.pending_jobs.specs.declared.took.Took.{Took}
-use Rattle.pending_jobs.specs.Took.{taken_with}
+use Rattle.job_pending.specs.declared.took.Took.{Took}
+use Rattle.job_pending.specs.Took.{taken_with}
 use Rattle.nv_desk.specs.Desk.{DeskState, state_of}
 
 -- it is what the machine turns to next, and it may be picked with this

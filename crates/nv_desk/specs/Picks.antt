@@ -5,9 +5,9 @@ use Rattle.block_machine.specs.State.{Job}
 use Rattle.block_machine.specs.Blocks.{job_block, kind_of}
 use Rattle.block_machine.specs.Next.{next_in}
 use Rattle.block_machine.specs.Legal.{IsAllowed, MayInterrupt}
-use Rattle.pending_jobs.specs.declared.took.Took.{Took}
-use Rattle.pending_jobs.specs.declared.took.Took.TheVariants as took
-use Rattle.pending_jobs.specs.Took.{taken_with}
+use Rattle.job_pending.specs.declared.took.Took.{Took}
+use Rattle.job_pending.specs.declared.took.Took.TheVariants as took
+use Rattle.job_pending.specs.Took.{taken_with}
 use Rattle.nv_desk.specs.Desk.{DeskState, state_of}
 use Rattle.nv_desk.specs.declared.pick.Take.{Take}
 use Rattle.nv_desk.specs.declared.pick.Take.TheVariants as take

@@ -3,7 +3,7 @@ use Rattle.std.specs.Prelude.{◌≡◌, ℕ, ◌+◌, ◌||◌, true, IsTrue, I
 use Rattle.block_machine.specs.Words.{Configuration, WriteJob}
 use Rattle.block_machine.specs.State.{State, Job, jobs_of}
 use Rattle.block_machine.specs.Blocks.{desc_of, job_block, kind_of, keeps_ram, is_synchronized, status_of, is_pending}
-use Rattle.machine_laws.specs.Consistent.{Each, IsConsistent}
+use Rattle.block_laws.specs.Consistent.{Each, IsConsistent}
 
 -- the manager keeps the RAM of a block, or the application does
 abbrev pub HasRam : Configuration → ℕ → Type 0

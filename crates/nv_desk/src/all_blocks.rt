@@ -4,18 +4,18 @@ ghost use Rattle.block_machine.specs.Words.{Configuration};
 ghost use Rattle.block_machine.specs.State.{Sweep as MachineSweep};
 ghost use Rattle.block_machine.specs.Sweeps.{sweep_result};
 ghost use Rattle.block_machine.specs.Next.{next_of, BeginSweep, EndSweep};
-ghost use Rattle.nv_base.specs.declared.entry.Taken.TheVariants as Taken;
+ghost use Rattle.block_machine.specs.nv_base.declared.entry.Taken.TheVariants as Taken;
 ghost use Rattle.multi_jobs.specs.Laws.{IsNext};
 ghost use Rattle.nv_desk.specs.AllBlocks.{MayBegin, MayFinish, sweep_kind};
 ghost use Rattle.nv_desk.specs.Desk.{state_of};
-ghost use Rattle.kept_state.specs.Pending.{AreSweeps};
+ghost use Rattle.nv_desk_state.specs.Pending.{AreSweeps};
 
 use crate::Desk;
 use crate::driver::driver_laws;
-use kept_state::PendingSweep;
-use machine_laws::the_next_job_goes_first;
+use block_laws::the_next_job_goes_first;
+use block_machine::nv_base::{Entry, JobKind, ReqResult, Taken};
 use multi_jobs::SweepStep;
-use nv_base::{Entry, JobKind, ReqResult, Taken};
+use nv_desk_state::PendingSweep;
 
 impl Desk {
     /// The request on all blocks is picked, and its sweep begins. It takes no memory.

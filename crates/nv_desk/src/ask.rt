@@ -6,14 +6,14 @@ ghost use Rattle.block_machine.specs.Steps.{asked};
 ghost use Rattle.block_machine.specs.Legal.{IsAllowed, IsLegal, HasStore};
 ghost use Rattle.block_states.specs.States.{rooms_of};
 ghost use Rattle.nv_desk.specs.Desk.{state_of, sweep_request};
-ghost use Rattle.kept_state.specs.Kept.{IsChange};
+ghost use Rattle.nv_desk_state.specs.Kept.{IsChange};
 
 use crate::Desk;
 use crate::memory::take_memory;
+use block_laws::{histories_grow, legal_states_are_consistent};
+use block_machine::nv_base::{Bytes, Entry, Reply, Request};
 use block_states::rooms_have_lengths;
-use machine_laws::{histories_grow, legal_states_are_consistent};
-use nv_base::{Bytes, Entry, Reply, Request};
-use pending_jobs::Job;
+use job_pending::Job;
 use std::alloc::{AllocError, Global};
 
 /// Why a request gets no reply.

@@ -4,10 +4,10 @@ ghost use Rattle.std.specs.Prelude.{◌≡◌, [], IfOk};
 use crate::longest::longest_content;
 use crate::memory::take_memory;
 use crate::rooms::Rooms;
-use block_config::Config;
-use kept_state::{Kept, sweep_share};
-use machine_laws::legal_states_are_consistent;
-use nv_base::History;
+use block_laws::legal_states_are_consistent;
+use block_machine::block_config::Config;
+use block_machine::nv_base::History;
+use nv_desk_state::{Kept, sweep_share};
 use std::alloc::{AllocError, Global};
 use std::marker::Model;
 

@@ -3,16 +3,16 @@ ghost use Rattle.std.specs.Prelude.{◌≡◌, ◌≤◌, ◌<◌, ◌+◌, ◌+
 ghost use Rattle.std.specs.Option.{option_and_then, option_map_or};
 ghost use Rattle.block_machine.specs.Blocks.{job_block, mark_of};
 ghost use Rattle.block_machine.specs.Legal.{IsDriving};
-ghost use Rattle.nv_base.specs.declared.mark.Mark.TheVariants as Mark;
+ghost use Rattle.block_machine.specs.nv_base.declared.mark.Mark.TheVariants as Mark;
 ghost use Rattle.nv_desk.specs.Desk.{state_of};
 ghost use Rattle.nv_desk.specs.Driver.{DriverLaws, MayAdd, MayEnd, block_now, mark_now};
 
 use crate::Desk;
 use crate::rooms::Rooms;
+use block_laws::{entries_fit, histories_grow, legal_states_are_consistent};
+use block_machine::nv_base::{Bytes, Entry, Instance, JobKind, Mark, ReqResult};
 use block_states::rooms_have_lengths;
-use machine_laws::{entries_fit, histories_grow, legal_states_are_consistent};
-use nv_base::{Bytes, Entry, Instance, JobKind, Mark, ReqResult};
-use pending_jobs::PendingJobs;
+use job_pending::PendingJobs;
 
 impl Desk {
     /// The power is off. It takes no memory.

@@ -5,7 +5,7 @@ ghost use Rattle.nv_desk.specs.Desk.{state_of};
 ghost use Rattle.nv_desk.specs.Sound.{IsPendingJob};
 
 use crate::Desk;
-use block_config::BlockDesc;
+use block_machine::block_config::BlockDesc;
 
 impl Desk {
     /// The description of the block of the job in hand, which is a configured one that is PENDING.

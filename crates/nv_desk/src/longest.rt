@@ -2,8 +2,8 @@
 ghost use Rattle.std.specs.Prelude.{◌≤◌, ℕ};
 ghost use Rattle.block_machine.specs.Blocks.{desc_of};
 
-use block_config::Config;
-use kept_state::length;
+use block_machine::block_config::Config;
+use nv_desk_state::length;
 
 /// Bytes of the longest content.
 pub fn longest_content(config: &Config) -> usize

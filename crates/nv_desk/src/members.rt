@@ -5,8 +5,8 @@ ghost use Rattle.block_machine.specs.State.{Sweep as MachineSweep};
 ghost use Rattle.block_machine.specs.Sweeps.{member_kind};
 ghost use Rattle.block_machine.specs.Next.{next_of, PickMember, PostMember};
 ghost use Rattle.multi_jobs.specs.Laws.{IsNext};
-ghost use Rattle.pending_jobs.specs.Took.{taken_with};
-ghost use Rattle.kept_state.specs.Pending.{AreSweeps};
+ghost use Rattle.job_pending.specs.Took.{taken_with};
+ghost use Rattle.nv_desk_state.specs.Pending.{AreSweeps};
 ghost use Rattle.nv_desk.specs.Desk.{state_of};
 ghost use Rattle.nv_desk.specs.Members.{MayPickMember, MayPostMember};
 ghost use Rattle.nv_desk.specs.Picks.{took_of};
@@ -14,11 +14,11 @@ ghost use Rattle.nv_desk.specs.Picks.{took_of};
 use crate::Desk;
 use crate::driver::{content_of, driver_laws};
 use crate::pick::{Take, copy_of, took_by};
+use block_laws::the_next_job_goes_first;
+use block_machine::nv_base::{Entry, JobKind, ReqResult};
 use block_states::rooms_have_lengths;
-use kept_state::PendingSweep;
-use machine_laws::the_next_job_goes_first;
 use multi_jobs::SweepStep;
-use nv_base::{Entry, JobKind, ReqResult};
+use nv_desk_state::PendingSweep;
 
 impl Desk {
     /// The next member comes in hand with what it takes of a content that is lent. It takes no memory.

@@ -2,7 +2,7 @@
 ghost use Rattle.std.specs.Prelude.{◌≡◌, ◌≤◌, ◌<◌, ◌^◌, ◌+◌, ◌*◌, OnOk};
 
 use crate::rooms::Rooms;
-use nv_base::History;
+use block_machine::nv_base::History;
 use std::alloc::{AllocError, Global};
 
 /// Takes the memory of one entry now, of so many that are reserved, and of two contents with each of those. What was taken

@@ -1,10 +1,10 @@
 // What the desk turns to next.
 ghost use Rattle.block_machine.specs.Next.{next_of};
-ghost use Rattle.kept_state.specs.Next.{IsNextEntry};
+ghost use Rattle.nv_desk_state.specs.Next.{IsNextEntry};
 ghost use Rattle.nv_desk.specs.Desk.{state_of};
 
 use crate::Desk;
-use kept_state::NextEntry;
+use nv_desk_state::NextEntry;
 
 impl Desk {
     /// What the manager turns to next. Nothing changes.

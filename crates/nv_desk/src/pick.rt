@@ -3,17 +3,17 @@ ghost use Rattle.std.specs.Prelude.{◌≡◌, ◌≤◌, ◌<◌, ◌+◌, ◌+
 ghost use Rattle.block_machine.specs.State.{Job as MachineJob};
 ghost use Rattle.block_machine.specs.Blocks.{job_block, kind_of};
 ghost use Rattle.block_machine.specs.Next.{next_in};
-ghost use Rattle.pending_jobs.specs.Took.{taken_with};
+ghost use Rattle.job_pending.specs.Took.{taken_with};
 ghost use Rattle.nv_desk.specs.Desk.{state_of};
 ghost use Rattle.nv_desk.specs.Picks.{MayPickNext, copied_in, took_of};
 
 use crate::Desk;
 use crate::driver::driver_laws;
 use crate::rooms::Rooms;
+use block_laws::the_next_job_goes_first;
+use block_machine::nv_base::{Entry, Taken};
 use block_states::rooms_have_lengths;
-use machine_laws::the_next_job_goes_first;
-use nv_base::{Entry, Taken};
-use pending_jobs::{Job, Staged, Took};
+use job_pending::{Job, Staged, Took};
 
 /// What a job takes of a content that is lent to the desk: nothing, as it isn't a write; the content that the job has
 /// already; a copy of the one that is lent, of the store with this number, or of none (0); or no content, as each of `count`

@@ -7,13 +7,13 @@ ghost use Rattle.nv_desk.specs.Desk.{state_of};
 
 use crate::Desk;
 use crate::tested::tested;
-use kept_state::{
+use block_laws::histories_grow;
+use block_machine::nv_base::{Refusal, Reply, ReqResult, Request};
+use job_pending::asked_block;
+use nv_desk_state::{
     datasets, has_no_defaults, has_no_ram, is_dataset, is_once, is_permanent, length, priority,
     records, stored,
 };
-use machine_laws::histories_grow;
-use nv_base::{Refusal, Reply, ReqResult, Request};
-use pending_jobs::asked_block;
 
 impl Desk {
     fn is_unknown(&self, request: &Request) -> bool

@@ -1,7 +1,7 @@
 // Memory for the bytes of later entries.
 ghost use Rattle.std.specs.Prelude.{◌≡◌, ◌≤◌, ◌<◌, ◌-◌, ◌+◌, length, IfOk, OnOk};
 
-use nv_base::{Bytes, BytesRoom};
+use block_machine::nv_base::{Bytes, BytesRoom};
 use std::alloc::{AllocError, Global};
 use std::marker::Model;
 

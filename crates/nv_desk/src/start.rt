@@ -4,8 +4,8 @@ ghost use Rattle.nv_desk.specs.Desk.{state_of};
 
 use crate::Desk;
 use crate::memory::take_memory;
-use machine_laws::histories_grow;
-use nv_base::{Entry, Marks};
+use block_laws::histories_grow;
+use block_machine::nv_base::{Entry, Marks};
 use std::alloc::{AllocError, Global};
 
 impl Desk {

@@ -2,7 +2,7 @@
 ghost use Rattle.std.specs.Prelude.{◌≡◌};
 ghost use Rattle.block_machine.specs.Reply.{tested};
 
-use nv_base::{Refusal, Request};
+use block_machine::nv_base::{Refusal, Request};
 
 static READ: [Refusal; 6] = [
     Refusal::UnknownBlock,

@@ -11,10 +11,10 @@ ghost use Rattle.nv_desk.specs.Sound.{IsPendingJob};
 
 use crate::Desk;
 use crate::all_blocks::result_of;
-use block_config::Config;
-use machine_laws::the_next_job_goes_first;
-use nv_base::ReqResult;
-use pending_jobs::Job;
+use block_laws::the_next_job_goes_first;
+use block_machine::block_config::Config;
+use block_machine::nv_base::ReqResult;
+use job_pending::Job;
 
 impl Desk {
     /// The configuration.

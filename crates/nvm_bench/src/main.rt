@@ -2,11 +2,11 @@
 //! else is the commands'.
 #![tactic(auto)]
 
-use command_words::image_path;
 use fls_devices::FileFlash;
 use fls_model::mem_flash;
 use nv_streams::{StdSink, StdSource};
 use nvm_top::{Status, command};
+use nvm_words::image_path;
 use std::alloc::AllocError;
 use std::process::ExitCode;
 use std::{env, io};

@@ -1,12 +1,12 @@
 -- What a Post costs, where faults pay for a history with it as they paid for the history and for so many more.
 use Rattle.std.proofs.Common.{◌≡◌, ◌<◌, ◌≤◌, ◌+◌, ◌-◌, ◌⊎◌, ℕ, zero, suc, Bool, List, [], ◌∷◌, ◌++◌, sym, subst, inl, inr, arith}
 use Rattle.std.proofs.lemmas.Bool.Decides.{leb_tells}
-use Rattle.nv_base.specs.Count.{last_count}
-use Rattle.block_machine.specs.Words.{Entry, Ask, Pick, Wrote, Post, Off, Found, Configuration}
-use Rattle.block_machine.specs.State.{State}
-use Rattle.block_machine.specs.StartUp.{at_first}
-use Rattle.block_machine.specs.Steps.{step, after_from}
-use Rattle.block_promise.specs.Payment.{Worn, IsExcused, price_for, ArePaid, IsPaid}
+use Rattle.nvm_laws.specs.nv_base.Count.{last_count}
+use Rattle.nvm_laws.specs.block_machine.Words.{Entry, Ask, Pick, Wrote, Post, Off, Found, Configuration}
+use Rattle.nvm_laws.specs.block_machine.State.{State}
+use Rattle.nvm_laws.specs.block_machine.StartUp.{at_first}
+use Rattle.nvm_laws.specs.block_machine.Steps.{step, after_from}
+use Rattle.nvm_laws.specs.promise_blocks.Payment.{Worn, IsExcused, price_for, ArePaid, IsPaid}
 
 -- AN ENTRY MORE
 -- what is paid with it was paid before, and the rest is its own

@@ -4,44 +4,44 @@ use Rattle.std.specs.List.{Contains}
 use Rattle.std.specs.Option.{option_map_or}
 use Rattle.std.proofs.Common.{◌≡◌, ◌<◌, ◌≤◌, ◌+◌, ◌⊎◌, ℕ, zero, suc, Bool, true, false, if◌then◌else◌, List, [], ◌∷◌, ◌++◌, length, Option, Some, None, refl, sym, ap, ◌∙◌, subst, inl, inr, arith, length-append}
 use Rattle.std.proofs.lemmas.Bool.Decides.{leb_tells}
-use Rattle.nv_base.specs.Count.{last_count, WereCounted}
-use Rattle.memif.specs.declared.answer.DeviceTurn.TheVariants as turn
-use Rattle.memif.specs.declared.answer.JobResult.TheVariants.{JobOk}
-use Rattle.memif.specs.Told.{DeviceTold, Part, First, Second, PartTold, Stand, Open, Ended as At, part_at, part_of_block, is_part, faults_of, ops_of}
-use Rattle.memif.specs.Clock.{Clock, SameClock}
-use Rattle.memif.specs.Calls.{Turns, IsCut, Works, JobTurns}
-use Rattle.memif.specs.Trials.{Lasts}
-use Rattle.memif.proofs.Turning.{turn_lasts, same_lasts}
-use Rattle.block_machine.specs.Words.{ReqResult, JobKind, Mark, Entry, Ask, Pick, Wrote, Post, Off, Found, Taken, Configuration}
-use Rattle.block_machine.specs.State.{State, Job}
-use Rattle.block_machine.specs.Blocks.{job_block}
-use Rattle.block_machine.specs.StartUp.{at_first}
-use Rattle.block_machine.specs.Prices.{price_in_faults, faults_of as faults_in}
-use Rattle.block_machine.specs.Results.{own_of, took_none}
-use Rattle.block_machine.specs.Next.{Next, Nothing, PickJob, BeginSweep, PickMember, PostMember, EndSweep, next_of}
-use Rattle.block_promise.specs.Payment.{Worn, IsExcused, price_for, ArePaid, IsPaid}
-use Rattle.block_promise.specs.OverDevice.{is_of}
-use Rattle.turn_laws.specs.Turn.{settled_by, wrote_by}
-use Rattle.turn_laws.specs.Tries.{AreTriesPaid, IsWornOut, IsWornNext, counted_at, counted_from, tries_of_done}
-use Rattle.job_programs.specs.Program.{Program, next_in}
-use Rattle.job_programs.specs.Laws.{failed_of}
-use Rattle.job_programs.specs.Failures.{TriesAreCounted, failed_tries}
-use Rattle.ram_blocks.specs.Told.{Told}
-use Rattle.nv_desk.specs.Desk.{DeskState, state_of}
-use Rattle.nv_front.specs.Posts.{IsPostedNext}
-use Rattle.nv_front.specs.declared.post.Posted.{Posted}
-use Rattle.job_hands.specs.Hand.{HandState}
-use Rattle.hand_laws.specs.Hands.{IsInHand, IsPaired}
-use Rattle.hand_laws.specs.Begins.{hand_by as begun_by, hand_for}
-use Rattle.stack_turns.specs.Keeps.{StackKeeps, StaysKept}
-use Rattle.stack_turns.specs.Halves.{IsHalf, AddsPost}
-use Rattle.stack_turns.specs.Turns.{hand_by, AddsBy}
-use Rattle.stack_turns.specs.declared.turned.Turned.{Turned}
-use Rattle.stack_turns.specs.declared.turned.Turned.TheVariants as turned
-use Rattle.stack_turns.specs.declared.turned.Act.TheVariants.{Ended}
-use Rattle.stack_bounds.specs.AtDevice.{AtDevice, GoesOn}
-use Rattle.first_half.specs.Starts.{LeavesDevice}
-use Rattle.second_half.specs.Second.{TurnsDevice, asked_by}
+use Rattle.nvm_laws.specs.nv_base.Count.{last_count, WereCounted}
+use Rattle.nvm_laws.specs.memif.declared.answer.DeviceTurn.TheVariants as turn
+use Rattle.nvm_laws.specs.memif.declared.answer.JobResult.TheVariants.{JobOk}
+use Rattle.nvm_laws.specs.memif.Told.{DeviceTold, Part, First, Second, PartTold, Stand, Open, Ended as At, part_at, part_of_block, is_part, faults_of, ops_of}
+use Rattle.nvm_laws.specs.memif.Clock.{Clock, SameClock}
+use Rattle.nvm_laws.specs.memif.Calls.{Turns, IsCut, Works, JobTurns}
+use Rattle.nvm_laws.specs.memif.Trials.{Lasts}
+use Rattle.nvm_laws.proofs.memif.Turning.{turn_lasts, same_lasts}
+use Rattle.nvm_laws.specs.block_machine.Words.{ReqResult, JobKind, Mark, Entry, Ask, Pick, Wrote, Post, Off, Found, Taken, Configuration}
+use Rattle.nvm_laws.specs.block_machine.State.{State, Job}
+use Rattle.nvm_laws.specs.block_machine.Blocks.{job_block}
+use Rattle.nvm_laws.specs.block_machine.StartUp.{at_first}
+use Rattle.nvm_laws.specs.block_machine.Prices.{price_in_faults, faults_of as faults_in}
+use Rattle.nvm_laws.specs.block_machine.Results.{own_of, took_none}
+use Rattle.nvm_laws.specs.block_machine.Next.{Next, Nothing, PickJob, BeginSweep, PickMember, PostMember, EndSweep, next_of}
+use Rattle.nvm_laws.specs.promise_blocks.Payment.{Worn, IsExcused, price_for, ArePaid, IsPaid}
+use Rattle.nvm_laws.specs.promise_blocks.OverDevice.{is_of}
+use Rattle.nvm_laws.specs.nvm_device_laws.Turn.{settled_by, wrote_by}
+use Rattle.nvm_laws.specs.nvm_device_laws.Tries.{AreTriesPaid, IsWornOut, IsWornNext, counted_at, counted_from, tries_of_done}
+use Rattle.nvm_laws.specs.job_programs.Program.{Program, next_in}
+use Rattle.nvm_laws.specs.job_programs.Laws.{failed_of}
+use Rattle.nvm_laws.specs.job_programs.Failures.{TriesAreCounted, failed_tries}
+use Rattle.nvm_laws.specs.ram_blocks.Told.{Told}
+use Rattle.nvm_laws.specs.nv_desk.Desk.{DeskState, state_of}
+use Rattle.nvm_laws.specs.nv_desk_copies.Posts.{IsPostedNext}
+use Rattle.nvm_laws.specs.nv_desk_copies.declared.post.Posted.{Posted}
+use Rattle.nvm_laws.specs.job_progress.Hand.{HandState}
+use Rattle.nvm_laws.specs.job_progress.JobInHand.{IsInHand, IsPaired}
+use Rattle.nvm_laws.specs.job_progress.Begins.{hand_by as begun_by, hand_for}
+use Rattle.nvm_laws.specs.Keeps.{StackKeeps, StaysKept}
+use Rattle.nvm_laws.specs.Halves.{IsHalf, AddsPost}
+use Rattle.nvm_laws.specs.Turns.{hand_by, AddsBy}
+use Rattle.nvm_laws.specs.declared.turned.Turned.{Turned}
+use Rattle.nvm_laws.specs.declared.turned.Turned.TheVariants as turned
+use Rattle.nvm_laws.specs.declared.turned.Act.TheVariants.{Ended}
+use Rattle.nvm_laws.specs.AtDevice.{AtDevice, GoesOn}
+use Rattle.nvm_core.specs.OperationStart.{LeavesDevice}
+use Rattle.nvm_core.specs.BehindDevice.{TurnsDevice, asked_by}
 use Rattle.nvm_core.specs.Paying.{counted_of, TriesSince, OwesSince, PaysSince, worn_so_far}
 use Rattle.nvm_core.proofs.Owing.{costs}
 use Rattle.nvm_core.proofs.Trying.{none_since, since_stays, since_goes_on}

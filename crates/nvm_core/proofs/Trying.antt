@@ -2,28 +2,28 @@
 use Rattle.std.specs.Prelude.{min}
 use Rattle.std.proofs.Common.{◌≡◌, ◌≢◌, ◌<◌, ◌≤◌, ◌+◌, ◌⊎◌, ℕ, Bool, true, false, List, [], Option, Some, None, refl, sym, ap, ◌∙◌, subst, inl, inr, arith}
 use Rattle.std.proofs.lemmas.Bool.Decides.{leb_tells}
-use Rattle.nv_base.specs.Count.{last_count, Rose, WereCounted}
-use Rattle.nv_base.specs.declared.mark.Mark.{Mark}
-use Rattle.nv_base.specs.declared.job.Outcome.TheVariants.{First as NoOutcome}
-use Rattle.memif.specs.declared.answer.JobResult.{JobResult}
-use Rattle.memif.specs.declared.answer.JobResult.TheVariants.{JobOk, JobFailed, JobPending, JobCanceled, BlockInconsistent, BlockInvalid}
-use Rattle.memif.specs.Told as device
-use Rattle.memif.specs.Told.{DeviceTold, Part, First, Second, Stand, Open, Ended, IfElse, part_at, is_open, length_of, faults_of}
-use Rattle.memif.specs.Clock.{Clock}
-use Rattle.memif.specs.Calls.{Works, EndsAs, Gives, MayFail}
-use Rattle.block_machine.specs.Words.{JobKind, ReadJob, WriteJob, RestoreJob, EraseJob, InvalidateJob, ReadAllJob, WriteAllJob, Outcome, WroteMark, ReadContent, FoundErased, FoundInvalid, Failed, Configuration}
-use Rattle.block_machine.specs.State.{State, Job}
-use Rattle.block_machine.specs.Blocks.{kind_of, mark_by}
-use Rattle.block_promise.specs.Payment.{Worn, every_block}
-use Rattle.block_promise.specs.OverDevice.{TellsAtMost}
-use Rattle.job_programs.specs.Program as program
-use Rattle.job_programs.specs.Program.{Program, is_failed, tried, after_by, next_in}
-use Rattle.job_programs.specs.Failures.{TriesAreCounted, failed_tries}
-use Rattle.turn_laws.specs.Outcomes.{outcome_by}
-use Rattle.turn_laws.specs.Tries.{Counted, IsWornOut, AreTriesPaid, tries_of_done}
-use Rattle.turn_laws.proofs.PaidTries.{no_tries, tries_stay, tries_go_on}
-use Rattle.job_hands.specs.Hand.{HandState, ended}
-use Rattle.hand_laws.specs.Hands.{IsAt, IsInHand, job_for}
+use Rattle.nvm_laws.specs.nv_base.Count.{last_count, Rose, WereCounted}
+use Rattle.nvm_laws.specs.nv_base.declared.mark.Mark.{Mark}
+use Rattle.nvm_laws.specs.nv_base.declared.job.Outcome.TheVariants.{First as NoOutcome}
+use Rattle.nvm_laws.specs.memif.declared.answer.JobResult.{JobResult}
+use Rattle.nvm_laws.specs.memif.declared.answer.JobResult.TheVariants.{JobOk, JobFailed, JobPending, JobCanceled, BlockInconsistent, BlockInvalid}
+use Rattle.nvm_laws.specs.memif.Told as device
+use Rattle.nvm_laws.specs.memif.Told.{DeviceTold, Part, First, Second, Stand, Open, Ended, IfElse, part_at, is_open, length_of, faults_of}
+use Rattle.nvm_laws.specs.memif.Clock.{Clock}
+use Rattle.nvm_laws.specs.memif.Calls.{Works, EndsAs, Gives, MayFail}
+use Rattle.nvm_laws.specs.block_machine.Words.{JobKind, ReadJob, WriteJob, RestoreJob, EraseJob, InvalidateJob, ReadAllJob, WriteAllJob, Outcome, WroteMark, ReadContent, FoundErased, FoundInvalid, Failed, Configuration}
+use Rattle.nvm_laws.specs.block_machine.State.{State, Job}
+use Rattle.nvm_laws.specs.block_machine.Blocks.{kind_of, mark_by}
+use Rattle.nvm_laws.specs.promise_blocks.Payment.{Worn, every_block}
+use Rattle.nvm_laws.specs.promise_blocks.OverDevice.{TellsAtMost}
+use Rattle.nvm_laws.specs.job_programs.Program as program
+use Rattle.nvm_laws.specs.job_programs.Program.{Program, is_failed, tried, after_by, next_in}
+use Rattle.nvm_laws.specs.job_programs.Failures.{TriesAreCounted, failed_tries}
+use Rattle.nvm_laws.specs.nvm_device_laws.Outcomes.{outcome_by}
+use Rattle.nvm_laws.specs.nvm_device_laws.Tries.{Counted, IsWornOut, AreTriesPaid, tries_of_done}
+use Rattle.nvm_laws.proofs.nvm_device_laws.PaidTries.{no_tries, tries_stay, tries_go_on}
+use Rattle.nvm_laws.specs.job_progress.Hand.{HandState, ended}
+use Rattle.nvm_laws.specs.job_progress.JobInHand.{IsAt, IsInHand, job_for}
 use Rattle.nvm_core.specs.Paying.{counted_of, TriesSince, OwesSince}
 
 none_told : (n : ℕ) → TellsAtMost n []

@@ -1,19 +1,19 @@
 -- What the job in hand owes since its Pick, and what a turn pays.
 use Rattle.std.specs.Prelude.{◌≡◌, ◌⊎◌, ◌≤◌, ◌++◌, ◌∷◌, [], ℕ, Option, IfSome}
 use Rattle.std.specs.List.{Contains}
-use Rattle.nv_base.specs.Count.{WereCounted}
-use Rattle.memif.specs.Told.{DeviceTold, Part, PartTold, faults_of}
-use Rattle.memif.specs.Clock.{Clock}
-use Rattle.block_machine.specs.Words.{JobKind, Taken, Entry, Pick}
-use Rattle.block_machine.specs.Prices.{price_in_faults}
-use Rattle.block_promise.specs.Payment.{Worn, IsExcused}
-use Rattle.turn_laws.specs.Tries.{Counted, IsWornOut, IsWornNext, tries_of_done}
-use Rattle.job_programs.specs.Program.{Program, next_in}
-use Rattle.job_programs.specs.Laws.{failed_of}
-use Rattle.job_programs.specs.Failures.{failed_tries}
-use Rattle.job_hands.specs.Hand.{HandState}
-use Rattle.nv_desk.specs.Desk.{DeskState, state_of}
-use Rattle.stack_turns.specs.Keeps.{StackKeeps}
+use Rattle.nvm_laws.specs.nv_base.Count.{WereCounted}
+use Rattle.nvm_laws.specs.memif.Told.{DeviceTold, Part, PartTold, faults_of}
+use Rattle.nvm_laws.specs.memif.Clock.{Clock}
+use Rattle.nvm_laws.specs.block_machine.Words.{JobKind, Taken, Entry, Pick}
+use Rattle.nvm_laws.specs.block_machine.Prices.{price_in_faults}
+use Rattle.nvm_laws.specs.promise_blocks.Payment.{Worn, IsExcused}
+use Rattle.nvm_laws.specs.nvm_device_laws.Tries.{Counted, IsWornOut, IsWornNext, tries_of_done}
+use Rattle.nvm_laws.specs.job_programs.Program.{Program, next_in}
+use Rattle.nvm_laws.specs.job_programs.Laws.{failed_of}
+use Rattle.nvm_laws.specs.job_programs.Failures.{failed_tries}
+use Rattle.nvm_laws.specs.job_progress.Hand.{HandState}
+use Rattle.nvm_laws.specs.nv_desk.Desk.{DeskState, state_of}
+use Rattle.nvm_laws.specs.Keeps.{StackKeeps}
 use Rattle.nvm_core.specs.Stack.{StackState}
 
 -- the operations and the faults of a device

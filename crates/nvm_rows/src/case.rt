@@ -1,7 +1,7 @@
 // A worked case, as its lines give it.
 use crate::faults::Faults;
 use anyhow::{Context, bail};
-use soak_script::Draws;
+use script_soak::Draws;
 use std::alloc::{AllocError, Global};
 
 /// One call of the program: its name, its words, its input, the flash at the start, and what fails. Then what else is shown:

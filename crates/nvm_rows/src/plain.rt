@@ -3,7 +3,7 @@ use crate::call::Called;
 use crate::case::Case;
 use crate::lines::without_operations;
 use anyhow::bail;
-use memory_runs::play_in_memory;
+use rows_memory::play_in_memory;
 use std::alloc::{AllocError, AllocGlobal, Global};
 
 /// Plays the script of a case over a device in memory, without its power cuts, and with these numbers of turns in its `turn`

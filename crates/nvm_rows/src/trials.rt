@@ -6,7 +6,7 @@ use crate::lines::{entries_in, words_from};
 use crate::ranges::Ranges;
 use anyhow::bail;
 use nvm_script::first_line;
-use printed_histories::{Tally, Wrong, judge};
+use rows_histories::{Tally, Wrong, judge};
 use std::alloc::{AllocError, AllocGlobal, Global};
 use std::sync::Wait;
 use std::thread::Threads;

@@ -13,3 +13,4 @@ pub mod SpellingLaws
 pub mod StepLaws
 pub mod TextLaws
 pub mod WordLaws
+pub mod PlayedScripts

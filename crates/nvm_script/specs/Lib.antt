@@ -16,3 +16,5 @@ pub mod Text
 pub mod Values
 pub mod Word
 pub mod Words
+pub mod Played
+pub mod PlayedLaws

@@ -1,8 +1,9 @@
 //! What people write and read: the steps of a script, the line of each entry of a history, and a history's summary.
 //!
-//! It promises that a line is exactly the text of its entry and tells the entry, that a summary counts every entry, and
-//! that a script gives exactly the steps that it spells, or names its first wrong line. Which entries a history may hold,
-//! and what becomes of a step, is left to the crates that take them.
+//! It promises that a line is exactly the text of its entry, which follows from it, that a summary counts every entry,
+//! and that a script gives exactly the steps that it spells, each of which one player can make in `play`, or names its
+//! first wrong line. Which entries a history may hold, and what becomes of a step, is left to the crates that take
+//! them.
 #![tactic(auto)]
 
 mod caller;
@@ -10,6 +11,7 @@ mod counts;
 mod cut;
 mod lines;
 mod owners;
+mod played_laws;
 mod printed;
 mod readings;
 mod rules;
@@ -24,6 +26,7 @@ mod word;
 mod words;
 
 pub use lines::{end_text, entry_text};
+pub use played_laws::{other_steps_are_not_played, scripts_are_played};
 pub use printed::one_entry;
 pub use readings::one_reading;
 pub use script::{Mode, ScriptFault, first_line, read_script};

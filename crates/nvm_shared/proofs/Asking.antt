@@ -3,8 +3,8 @@ use Rattle.std.proofs.Common.{◌≡◌, ℕ, List, [], ◌∷◌, ◌++◌, len
 use Rattle.turn_gate.specs.declared.pass.View.{View}
 use Rattle.turn_gate.specs.Entries.{StartsWith, AllAgree}
 use Rattle.turn_gate.specs.Pass.{IsKin, grown, went_out}
-use Rattle.block_machine.specs.Words.{Entry}
-use Rattle.shared_laws.specs.StatusWords.{gives}
+use Rattle.nvm_core.specs.block_machine.Words.{Entry}
+use Rattle.nvm_shared.specs.StatusWords.{gives}
 use Rattle.nvm_shared.specs.declared.terms.Terms.{Terms}
 use Rattle.nvm_shared.specs.Passes.{Asked}
 

@@ -4,14 +4,14 @@ use lib.ListN.{get_elem?}
 use Rattle.atomic_table.proofs.Lists.{at_longer, at_snoc}
 use Rattle.turn_gate.specs.declared.pass.View.{View}
 use Rattle.turn_gate.specs.Entries.{StartsWith}
-use Rattle.memif.specs.Told.{DeviceTold}
-use Rattle.block_machine.specs.Words.{Entry}
-use Rattle.nv_desk.specs.Desk.{DeskState}
-use Rattle.stack_turns.specs.declared.turned.Turned.{Turned}
-use Rattle.stack_turns.specs.declared.turned.Turned.TheVariants as turned
+use Rattle.nvm_core.specs.memif.Told.{DeviceTold}
+use Rattle.nvm_core.specs.block_machine.Words.{Entry}
+use Rattle.nvm_core.specs.nv_desk.Desk.{DeskState}
+use Rattle.nvm_core.specs.nvm_laws.declared.turned.Turned.{Turned}
+use Rattle.nvm_core.specs.nvm_laws.declared.turned.Turned.TheVariants as turned
 use Rattle.nvm_core.specs.Stack.{StackState}
 use Rattle.nvm_core.specs.Work.{TakesTurns}
-use Rattle.shared_laws.specs.StatusWords.{is_ask}
+use Rattle.nvm_shared.specs.StatusWords.{is_ask}
 use Rattle.nvm_shared.specs.declared.terms.Terms.{Terms}
 use Rattle.nvm_shared.specs.Passes.{HaveNoAsks, IsEntry, LearnsHalf, LearnsTurn}
 use Rattle.nvm_shared.specs.Driving.{DriverState, stack_of}

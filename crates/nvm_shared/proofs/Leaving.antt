@@ -3,8 +3,8 @@ use Rattle.std.proofs.Common.{◌≡◌, ◌⊎◌, inl, inr, ℕ, ◌<◌, List
 use Rattle.turn_gate.specs.declared.pass.View.{View}
 use Rattle.turn_gate.specs.Entries.{OnlyGives, GivesNone}
 use Rattle.turn_gate.specs.Pass.{AddsOne}
-use Rattle.block_machine.specs.Words.{Entry}
-use Rattle.shared_laws.specs.StatusWords.{gives, is_ask, told_by, word_count, EntriesChangeOneWord}
+use Rattle.nvm_core.specs.block_machine.Words.{Entry}
+use Rattle.nvm_shared.specs.StatusWords.{gives, is_ask, told_by, word_count, EntriesChangeOneWord}
 use Rattle.nvm_shared.specs.declared.terms.Terms.{Terms}
 use Rattle.nvm_shared.specs.Locked.{LockedState}
 use Rattle.nvm_shared.specs.Passes.{IsExtended}

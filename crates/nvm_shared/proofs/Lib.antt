@@ -6,3 +6,11 @@ mod Making
 mod Learning
 mod Serving
 mod Stale
+mod WritingLegal
+mod Standing
+mod Opened
+mod WordsTold
+mod EntryStatuses
+mod Words
+mod Numbering
+mod Power

@@ -1,16 +1,16 @@
 -- A shared stack behind its first start-up.
 use Rattle.std.specs.Prelude.{Result, Ok, Err, IfErr, IfOk}
 use Rattle.std.proofs.Common.{◌≡◌, inr, ℕ, Bool, true, List, Option, None, sym, ap, ◌∙◌, subst}
-use Rattle.memif.specs.Told.{DeviceTold, Part, PartTold, ops_of}
-use Rattle.memif.specs.Clock.{Clock}
-use Rattle.block_machine.specs.Words.{Entry, Instance, Mark, Configuration}
-use Rattle.block_machine.specs.Legal.{IsLegal}
-use Rattle.ram_blocks.specs.Told.{Told}
-use Rattle.found_marks.specs.Found.{Finds}
-use Rattle.nv_desk.specs.Desk.{DeskState}
-use Rattle.job_hands.specs.Hand.{HandState}
-use Rattle.stack_turns.specs.declared.turned.FoundAnswer.TheVariants as found
-use Rattle.stack_turns.specs.Keeps.{StackKeeps}
+use Rattle.nvm_core.specs.memif.Told.{DeviceTold, Part, PartTold, ops_of}
+use Rattle.nvm_core.specs.memif.Clock.{Clock}
+use Rattle.nvm_core.specs.block_machine.Words.{Entry, Instance, Mark, Configuration}
+use Rattle.nvm_core.specs.block_machine.Legal.{IsLegal}
+use Rattle.nvm_core.specs.ram_blocks.Told.{Told}
+use Rattle.nvm_core.specs.nvm_found.Found.{Finds}
+use Rattle.nvm_core.specs.nv_desk.Desk.{DeskState}
+use Rattle.nvm_core.specs.job_progress.Hand.{HandState}
+use Rattle.nvm_core.specs.nvm_laws.declared.turned.FoundAnswer.TheVariants as found
+use Rattle.nvm_core.specs.nvm_laws.Keeps.{StackKeeps}
 use Rattle.nvm_core.specs.Stack.{StackState}
 use Rattle.nvm_core.specs.StartUps.{StartsKeep, StartsUp}
 use Rattle.turn_gate.specs.declared.pass.View.{View}

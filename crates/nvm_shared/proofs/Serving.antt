@@ -1,30 +1,30 @@
 -- What is due, behind requests of others; and the work of a drain.
 use Rattle.std.specs.Prelude.{IfSome}
 use Rattle.std.proofs.Common.{◌≡◌, ◌⊎◌, inl, inr, ℕ, ◌<◌, ◌≤◌, true, List, Option, Some, None, refl, sym, ap, ◌∙◌, subst, arith, length-append}
-use Rattle.nv_base.specs.Count.{Rose}
-use Rattle.memif.specs.Told.{DeviceTold, faults_of}
-use Rattle.block_machine.specs.Words.{Configuration, Entry, Taken}
-use Rattle.block_machine.specs.State.{State, Job}
-use Rattle.block_machine.specs.Blocks.{is_pending, job_block, status_of}
-use Rattle.nv_desk.specs.Sound.{IsPendingJob}
-use Rattle.ram_blocks.specs.Told.{Told}
-use Rattle.nv_desk.specs.Desk.{DeskState, state_of}
-use Rattle.job_hands.specs.Hand.{HandState}
-use Rattle.hand_laws.specs.Hands.{IsPaired}
-use Rattle.stack_turns.specs.Halves.{IsHalf}
-use Rattle.stack_turns.specs.declared.turned.Turned.{Turned}
-use Rattle.stack_turns.specs.declared.turned.Turned.TheVariants as turned
-use Rattle.stack_turns.specs.declared.turned.Act.{Act}
-use Rattle.stack_turns.specs.declared.turned.Act.TheVariants.{Ended}
-use Rattle.stack_work.specs.Work.{stack_work}
-use Rattle.stack_bounds.specs.Due.{StackNow, IsDue, IsNearer, PostsDue}
-use Rattle.stack_bounds.specs.Laws.{AreReplied, IsServed, NextIsPending, RequestsKeepDue}
-use Rattle.stack_bounds.specs.Calls.{IsCalmTurn}
-use Rattle.stack_bounds.specs.AtDevice.{GoesOn}
+use Rattle.nvm_core.specs.nv_base.Count.{Rose}
+use Rattle.nvm_core.specs.memif.Told.{DeviceTold, faults_of}
+use Rattle.nvm_core.specs.block_machine.Words.{Configuration, Entry, Taken}
+use Rattle.nvm_core.specs.block_machine.State.{State, Job}
+use Rattle.nvm_core.specs.block_machine.Blocks.{is_pending, job_block, status_of}
+use Rattle.nvm_core.specs.nv_desk.Sound.{IsPendingJob}
+use Rattle.nvm_core.specs.ram_blocks.Told.{Told}
+use Rattle.nvm_core.specs.nv_desk.Desk.{DeskState, state_of}
+use Rattle.nvm_core.specs.job_progress.Hand.{HandState}
+use Rattle.nvm_core.specs.job_progress.JobInHand.{IsPaired}
+use Rattle.nvm_core.specs.nvm_laws.Halves.{IsHalf}
+use Rattle.nvm_core.specs.nvm_laws.declared.turned.Turned.{Turned}
+use Rattle.nvm_core.specs.nvm_laws.declared.turned.Turned.TheVariants as turned
+use Rattle.nvm_core.specs.nvm_laws.declared.turned.Act.{Act}
+use Rattle.nvm_core.specs.nvm_laws.declared.turned.Act.TheVariants.{Ended}
+use Rattle.nvm_core.specs.nvm_laws.Work.{stack_work}
+use Rattle.nvm_core.specs.nvm_laws.Due.{StackNow, IsDue, IsNearer, PostsDue}
+use Rattle.nvm_core.specs.nvm_laws.DueLaws.{AreReplied, IsServed, NextIsPending, RequestsKeepDue}
+use Rattle.nvm_core.specs.nvm_laws.DueCalls.{IsCalmTurn}
+use Rattle.nvm_core.specs.nvm_laws.AtDevice.{GoesOn}
 use Rattle.nvm_core.specs.Stack.{StackState}
 use Rattle.nvm_core.specs.Work.{Lowers, work_of}
 use Rattle.nvm_core.proofs.Serving.{served_by}
-use Rattle.shared_laws.specs.Behind.{AreAsks, with_more}
+use Rattle.nvm_shared.specs.Behind.{AreAsks, with_more}
 use Rattle.nvm_shared.specs.Driving.{DriverState, stack_of}
 
 abbrev at_once : DeskState → Option HandState → DeviceTold → StackNow

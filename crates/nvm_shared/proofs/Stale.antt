@@ -1,18 +1,18 @@
 -- A Pick that found a store too old was shown that store.
 use Rattle.std.proofs.Common.{◌≡◌, ℕ, Bool, true, false, List, [], ◌∷◌, ◌++◌, length, length-append, Option, Some, None, sym, ap, ◌∙◌, subst, arith}
-use Rattle.memif.specs.Told.{DeviceTold}
-use Rattle.block_machine.specs.Words.{JobKind, ReadJob, WriteJob, RestoreJob, EraseJob, InvalidateJob, ReadAllJob, WriteAllJob, Taken, TookNothing, TookStale, BlockDesc, Configuration, Entry, Pick}
-use Rattle.block_machine.specs.State.{State, BlockState, Job}
-use Rattle.block_machine.specs.Blocks.{desc_of, block_at, is_synchronized, job_block, kind_of, asked_store}
-use Rattle.block_machine.specs.Sweeps.{member_job}
-use Rattle.block_machine.specs.Next.{Next, Nothing, PickJob, BeginSweep, PickMember, PostMember, EndSweep, next_of}
-use Rattle.block_machine.specs.Legal.{TakesBy, TakesForWrite, MayPick}
-use Rattle.ram_blocks.specs.Told.{Told}
-use Rattle.nv_desk.specs.Desk.{DeskState, state_of}
-use Rattle.nv_front.specs.Takes.{source_by, source_next, IsCopied}
-use Rattle.stack_turns.specs.declared.turned.Turned.TheVariants as turned
-use Rattle.stack_turns.specs.declared.turned.Act.TheVariants.{Ended}
-use Rattle.shared_laws.specs.Behind.{with_more}
+use Rattle.nvm_core.specs.memif.Told.{DeviceTold}
+use Rattle.nvm_core.specs.block_machine.Words.{JobKind, ReadJob, WriteJob, RestoreJob, EraseJob, InvalidateJob, ReadAllJob, WriteAllJob, Taken, TookNothing, TookStale, BlockDesc, Configuration, Entry, Pick}
+use Rattle.nvm_core.specs.block_machine.State.{State, BlockState, Job}
+use Rattle.nvm_core.specs.block_machine.Blocks.{desc_of, block_at, is_synchronized, job_block, kind_of, asked_store}
+use Rattle.nvm_core.specs.block_machine.Sweeps.{member_job}
+use Rattle.nvm_core.specs.block_machine.Next.{Next, Nothing, PickJob, BeginSweep, PickMember, PostMember, EndSweep, next_of}
+use Rattle.nvm_core.specs.block_machine.Legal.{TakesBy, TakesForWrite, MayPick}
+use Rattle.nvm_core.specs.ram_blocks.Told.{Told}
+use Rattle.nvm_core.specs.nv_desk.Desk.{DeskState, state_of}
+use Rattle.nvm_core.specs.nv_desk_copies.Takes.{source_by, source_next, IsCopied}
+use Rattle.nvm_core.specs.nvm_laws.declared.turned.Turned.TheVariants as turned
+use Rattle.nvm_core.specs.nvm_laws.declared.turned.Act.TheVariants.{Ended}
+use Rattle.nvm_shared.specs.Behind.{with_more}
 use Rattle.nvm_shared.specs.Driving.{BeginsTurn, DriverState}
 use Rattle.nvm_shared.specs.Stale.{StaleIsShown}
 

@@ -1,27 +1,27 @@
 -- The halves of a turn, behind requests of others.
 use Rattle.std.proofs.Common.{◌≡◌, inl, inr, ℕ, Bool, true, false, List, [], ◌∷◌, ◌++◌, length, Option, Some, sym, ap, ◌∙◌, subst}
-use Rattle.memif.specs.Told.{DeviceTold, Part, PartTold}
-use Rattle.memif.specs.Clock.{Clock}
-use Rattle.memif.specs.Calls.{Turns}
-use Rattle.memif.specs.declared.answer.DeviceTurn.{DeviceTurn}
-use Rattle.memif.specs.declared.answer.DeviceTurn.TheVariants as turn
-use Rattle.second_half.specs.Second.{TurnsDevice, answer_by}
-use Rattle.block_machine.specs.Words.{Entry, Ask, Configuration}
-use Rattle.block_machine.specs.Steps.{step}
-use Rattle.stack_bounds.specs.Laws.{AreReplied}
-use Rattle.block_machine.specs.State.{State}
-use Rattle.block_machine.specs.StartUp.{at_first}
-use Rattle.nv_desk.specs.Desk.{DeskState, state_of}
-use Rattle.job_hands.specs.Hand.{HandState}
-use Rattle.hand_laws.specs.Hands.{HandFits}
-use Rattle.stack_turns.specs.Ties.{IsTied}
-use Rattle.stack_turns.specs.Keeps.{StackKeeps}
+use Rattle.nvm_core.specs.memif.Told.{DeviceTold, Part, PartTold}
+use Rattle.nvm_core.specs.memif.Clock.{Clock}
+use Rattle.nvm_core.specs.memif.Calls.{Turns}
+use Rattle.nvm_core.specs.memif.declared.answer.DeviceTurn.{DeviceTurn}
+use Rattle.nvm_core.specs.memif.declared.answer.DeviceTurn.TheVariants as turn
+use Rattle.nvm_core.specs.BehindDevice.{TurnsDevice, answer_by}
+use Rattle.nvm_core.specs.block_machine.Words.{Entry, Ask, Configuration}
+use Rattle.nvm_core.specs.block_machine.Steps.{step}
+use Rattle.nvm_core.specs.nvm_laws.DueLaws.{AreReplied}
+use Rattle.nvm_core.specs.block_machine.State.{State}
+use Rattle.nvm_core.specs.block_machine.StartUp.{at_first}
+use Rattle.nvm_core.specs.nv_desk.Desk.{DeskState, state_of}
+use Rattle.nvm_core.specs.job_progress.Hand.{HandState}
+use Rattle.nvm_core.specs.job_progress.JobInHand.{HandFits}
+use Rattle.nvm_core.specs.nvm_laws.Ties.{IsTied}
+use Rattle.nvm_core.specs.nvm_laws.Keeps.{StackKeeps}
 use Rattle.atomic_table.proofs.Lists.{at_last, at_longer}
 use Rattle.turn_gate.specs.Entries.{Note, StartsWith, AllAgree, OpenFrom}
 use Rattle.turn_gate.specs.Pass.{IsKin, grown, went_out}
-use Rattle.shared_laws.specs.StatusWords.{gives, is_ask}
-use Rattle.shared_laws.specs.Written.{AreWritten, RestsAreWritten}
-use Rattle.shared_laws.specs.Behind.{AreAsks, AsksStandBehind, HandIsPending, OpenAreAsks, StandsBehind, with_more}
+use Rattle.nvm_shared.specs.StatusWords.{gives, is_ask}
+use Rattle.nvm_shared.specs.Written.{AreWritten, RestsAreWritten}
+use Rattle.nvm_shared.specs.Behind.{AreAsks, AsksStandBehind, HandIsPending, OpenAreAsks, StandsBehind, with_more}
 use Rattle.nvm_shared.specs.declared.terms.Terms.{Terms}
 use Rattle.nvm_shared.specs.Locked.{LockedState, desk_with, terms_of}
 use Rattle.nvm_shared.specs.Passes.{IsExtended, LearnsHalf, IsEntry}

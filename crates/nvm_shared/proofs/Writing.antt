@@ -1,29 +1,29 @@
 -- What a half of a turn writes.
 use Rattle.std.specs.Prelude.{IsTrue}
 use Rattle.std.proofs.Common.{◌≡◌, ◌⊎◌, inl, inr, ℕ, Bool, true, false, List, Option, Some, None, refl, sym, ap, ◌∙◌, subst}
-use Rattle.memif.specs.Told.{DeviceTold, Stand, Open, Ended as Closed}
-use Rattle.memif.specs.declared.answer.DeviceTurn.{DeviceTurn}
-use Rattle.memif.specs.declared.answer.DeviceTurn.TheVariants as turn
-use Rattle.memif.specs.declared.answer.JobResult.TheVariants.{JobOk}
-use Rattle.block_machine.specs.Words.{Mark}
-use Rattle.block_machine.specs.State.{State}
-use Rattle.turn_laws.specs.Turn.{settled_by, wrote_by}
-use Rattle.block_machine.specs.Words.{Entry, Ask, Pick, Wrote, Post, Off, Found, Taken, Configuration}
-use Rattle.block_machine.specs.StartUp.{at_first}
-use Rattle.block_machine.specs.Next.{Next, Nothing, PickJob, BeginSweep, PickMember, PostMember, EndSweep, next_of}
-use Rattle.block_machine.specs.Legal.{IsAllowed}
-use Rattle.ram_blocks.specs.Told.{Told}
-use Rattle.nv_desk.specs.Desk.{DeskState, state_of}
-use Rattle.nv_front.specs.Front.{StagingState, StagesAll}
-use Rattle.nv_front.specs.Posts.{IsPostedNext}
-use Rattle.nv_front.specs.declared.post.Posted.{Posted}
-use Rattle.stack_turns.specs.Halves.{IsHalf, Adds}
-use Rattle.stack_turns.specs.Turns.{AddsBy, entry_by}
-use Rattle.stack_turns.specs.declared.turned.Turned.TheVariants as turned
-use Rattle.stack_turns.specs.declared.turned.Act.{Act}
-use Rattle.stack_turns.specs.declared.turned.Act.TheVariants.{Ended, Device}
-use Rattle.shared_laws.specs.Written.{IsWritten, AreWritten, HistoriesAreWrittenOn}
-use Rattle.shared_laws.specs.StatusWords.{is_ask, is_found}
+use Rattle.nvm_core.specs.memif.Told.{DeviceTold, Stand, Open, Ended as Closed}
+use Rattle.nvm_core.specs.memif.declared.answer.DeviceTurn.{DeviceTurn}
+use Rattle.nvm_core.specs.memif.declared.answer.DeviceTurn.TheVariants as turn
+use Rattle.nvm_core.specs.memif.declared.answer.JobResult.TheVariants.{JobOk}
+use Rattle.nvm_core.specs.block_machine.Words.{Mark}
+use Rattle.nvm_core.specs.block_machine.State.{State}
+use Rattle.nvm_core.specs.nvm_device_laws.Turn.{settled_by, wrote_by}
+use Rattle.nvm_core.specs.block_machine.Words.{Entry, Ask, Pick, Wrote, Post, Off, Found, Taken, Configuration}
+use Rattle.nvm_core.specs.block_machine.StartUp.{at_first}
+use Rattle.nvm_core.specs.block_machine.Next.{Next, Nothing, PickJob, BeginSweep, PickMember, PostMember, EndSweep, next_of}
+use Rattle.nvm_core.specs.block_machine.Legal.{IsAllowed}
+use Rattle.nvm_core.specs.ram_blocks.Told.{Told}
+use Rattle.nvm_core.specs.nv_desk.Desk.{DeskState, state_of}
+use Rattle.nvm_core.specs.nv_desk_copies.Front.{StagingState, StagesAll}
+use Rattle.nvm_core.specs.nv_desk_copies.Posts.{IsPostedNext}
+use Rattle.nvm_core.specs.nv_desk_copies.declared.post.Posted.{Posted}
+use Rattle.nvm_core.specs.nvm_laws.Halves.{IsHalf, Adds}
+use Rattle.nvm_core.specs.nvm_laws.Turns.{AddsBy, entry_by}
+use Rattle.nvm_core.specs.nvm_laws.declared.turned.Turned.TheVariants as turned
+use Rattle.nvm_core.specs.nvm_laws.declared.turned.Act.{Act}
+use Rattle.nvm_core.specs.nvm_laws.declared.turned.Act.TheVariants.{Ended, Device}
+use Rattle.nvm_shared.specs.Written.{IsWritten, AreWritten, HistoriesAreWrittenOn}
+use Rattle.nvm_shared.specs.StatusWords.{is_ask, is_found}
 use Rattle.nvm_shared.specs.declared.terms.Terms.{Terms}
 use Rattle.nvm_shared.specs.Locked.{IsLocked, terms_of}
 

@@ -1,33 +1,33 @@
 -- The driver between its turns, and in them.
 use Rattle.std.specs.Prelude.{◌≡◌, ◌⊎◌, ℕ, Bool, true, false, List, Option, IfSome}
-use Rattle.nv_base.specs.Count.{Rose}
-use Rattle.memif.specs.Told.{DeviceTold, Part, PartTold, nothing_open, ops_of}
-use Rattle.memif.specs.Clock.{Clock}
-use Rattle.memif.specs.Calls.{Turns}
-use Rattle.memif.specs.declared.answer.DeviceTurn.{DeviceTurn}
-use Rattle.block_machine.specs.Words.{Entry}
-use Rattle.ram_blocks.specs.Told.{Told}
-use Rattle.nv_desk.specs.Desk.{DeskState, state_of}
-use Rattle.nv_front.specs.Front.{AreSynchronized}
-use Rattle.job_hands.specs.Hand.{HandState}
-use Rattle.stack_turns.specs.Ties.{IsTied}
-use Rattle.stack_turns.specs.Turns.{AddsBy, hand_by}
-use Rattle.stack_turns.specs.Keeps.{StackKeeps, StaysKept}
-use Rattle.stack_turns.specs.declared.turned.Act.{Act}
-use Rattle.stack_turns.specs.declared.turned.Act.TheVariants.{Ended, Device}
-use Rattle.stack_turns.specs.declared.turned.Turned.{Turned}
-use Rattle.stack_turns.specs.declared.turned.Turned.TheVariants as turned
-use Rattle.stack_bounds.specs.Due.{IsDue, IsDueInHand, IsNearer, PostsDue}
-use Rattle.stack_bounds.specs.Laws.{IsServed, NextIsPending}
-use Rattle.stack_bounds.specs.Calls.{IsCalmTurn}
-use Rattle.turn_laws.specs.Cuts.{CutsInATurnKeep}
-use Rattle.stack_laws.specs.Calls.{DeviceTurnsKeep}
-use Rattle.second_half.specs.Second.{TurnsDevice, asked_by}
+use Rattle.nvm_core.specs.nv_base.Count.{Rose}
+use Rattle.nvm_core.specs.memif.Told.{DeviceTold, Part, PartTold, nothing_open, ops_of}
+use Rattle.nvm_core.specs.memif.Clock.{Clock}
+use Rattle.nvm_core.specs.memif.Calls.{Turns}
+use Rattle.nvm_core.specs.memif.declared.answer.DeviceTurn.{DeviceTurn}
+use Rattle.nvm_core.specs.block_machine.Words.{Entry}
+use Rattle.nvm_core.specs.ram_blocks.Told.{Told}
+use Rattle.nvm_core.specs.nv_desk.Desk.{DeskState, state_of}
+use Rattle.nvm_core.specs.nv_desk_copies.Front.{AreSynchronized}
+use Rattle.nvm_core.specs.job_progress.Hand.{HandState}
+use Rattle.nvm_core.specs.nvm_laws.Ties.{IsTied}
+use Rattle.nvm_core.specs.nvm_laws.Turns.{AddsBy, hand_by}
+use Rattle.nvm_core.specs.nvm_laws.Keeps.{StackKeeps, StaysKept}
+use Rattle.nvm_core.specs.nvm_laws.declared.turned.Act.{Act}
+use Rattle.nvm_core.specs.nvm_laws.declared.turned.Act.TheVariants.{Ended, Device}
+use Rattle.nvm_core.specs.nvm_laws.declared.turned.Turned.{Turned}
+use Rattle.nvm_core.specs.nvm_laws.declared.turned.Turned.TheVariants as turned
+use Rattle.nvm_core.specs.nvm_laws.Due.{IsDue, IsDueInHand, IsNearer, PostsDue}
+use Rattle.nvm_core.specs.nvm_laws.DueLaws.{IsServed, NextIsPending}
+use Rattle.nvm_core.specs.nvm_laws.DueCalls.{IsCalmTurn}
+use Rattle.nvm_core.specs.nvm_device_laws.Cuts.{CutsInATurnKeep}
+use Rattle.nvm_core.specs.nvm_laws.Calls.{DeviceTurnsKeep}
+use Rattle.nvm_core.specs.BehindDevice.{TurnsDevice, asked_by}
 use Rattle.nvm_core.specs.Stack.{StackState}
 use Rattle.nvm_core.specs.Turns.{IsFirstHalf}
 use Rattle.nvm_core.specs.Due.{now_of}
 use Rattle.nvm_core.specs.Work.{LowersWork}
-use Rattle.shared_laws.specs.Behind.{AreAsks, AsksStandBehind, HandIsPending, with_more}
+use Rattle.nvm_shared.specs.Behind.{AreAsks, AsksStandBehind, HandIsPending, with_more}
 
 -- the device, the application's copies, and the job in hand
 pub record DriverState (D C : Type 0) : Type 0 where

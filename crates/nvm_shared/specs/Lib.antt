@@ -3,3 +3,8 @@ pub mod Passes
 pub mod Driving
 pub mod Opening
 pub mod Stale
+pub mod Numbers
+pub mod StatusWords
+pub mod Statuses
+pub mod Written
+pub mod Behind

@@ -1,10 +1,10 @@
 -- The value under the lock.
 use Rattle.std.specs.Prelude.{IsTrue, Bool, List}
-use Rattle.block_machine.specs.Words.{Entry}
-use Rattle.block_machine.specs.StartUp.{at_first}
-use Rattle.nv_desk.specs.Desk.{DeskState, state_of}
-use Rattle.nv_front.specs.Front.{StagingState, StagesAll}
-use Rattle.shared_laws.specs.Written.{AreWritten}
+use Rattle.nvm_core.specs.block_machine.Words.{Entry}
+use Rattle.nvm_core.specs.block_machine.StartUp.{at_first}
+use Rattle.nvm_core.specs.nv_desk.Desk.{DeskState, state_of}
+use Rattle.nvm_core.specs.nv_desk_copies.Front.{StagingState, StagesAll}
+use Rattle.nvm_shared.specs.Written.{AreWritten}
 use Rattle.nvm_shared.specs.declared.terms.Terms.{Terms}
 
 -- the desk, and whether the device tells what it holds

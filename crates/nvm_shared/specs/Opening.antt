@@ -1,19 +1,19 @@
 -- A shared stack at its beginning and at its end.
 use Rattle.std.specs.Prelude.{◌≡◌, ◌⊎◌, ◌<◌, ℕ, Bool, true, false, List, [], ◌∷◌, None, IsSome}
-use Rattle.memif.specs.Told.{DeviceTold, Part, PartTold}
-use Rattle.memif.specs.Clock.{Clock}
-use Rattle.block_machine.specs.Words.{Entry, Instance, Mark, Found, Configuration}
-use Rattle.ram_blocks.specs.Told.{Told}
-use Rattle.nv_desk.specs.Desk.{DeskState, state_of}
-use Rattle.nv_front.specs.Front.{AreSynchronized}
-use Rattle.found_marks.specs.Found.{FailsToFind, Finds}
-use Rattle.stack_turns.specs.Ties.{IsTied}
-use Rattle.stack_turns.specs.declared.turned.FoundAnswer.TheVariants as found
-use Rattle.stack_bounds.specs.Laws.{NextIsPending}
+use Rattle.nvm_core.specs.memif.Told.{DeviceTold, Part, PartTold}
+use Rattle.nvm_core.specs.memif.Clock.{Clock}
+use Rattle.nvm_core.specs.block_machine.Words.{Entry, Instance, Mark, Found, Configuration}
+use Rattle.nvm_core.specs.ram_blocks.Told.{Told}
+use Rattle.nvm_core.specs.nv_desk.Desk.{DeskState, state_of}
+use Rattle.nvm_core.specs.nv_desk_copies.Front.{AreSynchronized}
+use Rattle.nvm_core.specs.nvm_found.Found.{FailsToFind, Finds}
+use Rattle.nvm_core.specs.nvm_laws.Ties.{IsTied}
+use Rattle.nvm_core.specs.nvm_laws.declared.turned.FoundAnswer.TheVariants as found
+use Rattle.nvm_core.specs.nvm_laws.DueLaws.{NextIsPending}
 use Rattle.nvm_core.specs.Stack.{StackState}
 use Rattle.nvm_core.specs.StartUps.{KeepsDown, StartsKeep, StartsUp}
 use Rattle.turn_gate.specs.Pass.{beginner, knows}
-use Rattle.shared_laws.specs.Behind.{HandIsPending}
+use Rattle.nvm_shared.specs.Behind.{HandIsPending}
 use Rattle.nvm_shared.specs.declared.terms.Terms.{Terms}
 use Rattle.nvm_shared.specs.declared.opening.ShareFault.{ShareFault}
 use Rattle.nvm_shared.specs.declared.opening.ShareFault.TheVariants as why

@@ -7,8 +7,8 @@ use Rattle.turn_gate.specs.declared.pass.View.{View}
 use Rattle.turn_gate.specs.declared.pass.Place.{Place}
 use Rattle.turn_gate.specs.Entries.{StartsWith, AllAgree}
 use Rattle.turn_gate.specs.Pass.{Has, GateValue, IsPassOf, IsOutside, knows}
-use Rattle.block_machine.specs.Words.{Entry}
-use Rattle.shared_laws.specs.StatusWords.{gives, is_ask, is_found}
+use Rattle.nvm_core.specs.block_machine.Words.{Entry}
+use Rattle.nvm_shared.specs.StatusWords.{gives, is_ask, is_found}
 use Rattle.nvm_shared.specs.declared.terms.Terms.{Terms}
 use Rattle.nvm_shared.specs.Locked.{LockedState}
 

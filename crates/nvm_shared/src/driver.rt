@@ -1,38 +1,37 @@
 // The driver of a shared stack.
 ghost use Rattle.std.specs.Prelude.{◌≡◌, ◌≤◌, ◌++◌, ◌∷◌, ◌⊎◌, [], ℕ, List, length, true, false, Some, IfSome};
-ghost use Rattle.memif.specs.Told.{DeviceTold, faults_of};
-ghost use Rattle.memif.specs.Clock.{SameClock};
-ghost use Rattle.memif.specs.Calls.{Turns};
-ghost use Rattle.memif.specs.Trials.{Lasts};
-ghost use Rattle.block_machine.specs.Words.{Entry as MachineEntry};
-ghost use Rattle.nv_desk.specs.Desk.{state_of};
+ghost use Rattle.nvm_core.specs.memif.Told.{DeviceTold, faults_of};
+ghost use Rattle.nvm_core.specs.memif.Clock.{SameClock};
+ghost use Rattle.nvm_core.specs.memif.Calls.{Turns};
+ghost use Rattle.nvm_core.specs.memif.Trials.{Lasts};
+ghost use Rattle.nvm_core.specs.block_machine.Words.{Entry as MachineEntry};
+ghost use Rattle.nvm_core.specs.nv_desk.Desk.{state_of};
 ghost use Rattle.turn_gate.specs.Pass.{knows};
-ghost use Rattle.stack_turns.specs.declared.turned.Act.TheVariants.{Device};
-ghost use Rattle.stack_turns.specs.Keeps.{StaysKept};
-ghost use Rattle.stack_laws.specs.Calls.{DeviceTurnsKeep};
-ghost use Rattle.stack_work.specs.Work.{program_in_hand};
-ghost use Rattle.first_half.specs.Lowers.{HalfLeft};
+ghost use Rattle.nvm_core.specs.nvm_laws.declared.turned.Act.TheVariants.{Device};
+ghost use Rattle.nvm_core.specs.nvm_laws.Keeps.{StaysKept};
+ghost use Rattle.nvm_core.specs.nvm_laws.Calls.{DeviceTurnsKeep};
+ghost use Rattle.nvm_core.specs.nvm_laws.Work.{program_in_hand};
+ghost use Rattle.nvm_core.specs.Lowers.{HalfLeft};
 ghost use Rattle.nvm_core.specs.Turns.{IsFirstHalf};
 ghost use Rattle.nvm_core.specs.Work.{Lowers, TakesTurns};
-ghost use Rattle.shared_laws.specs.Behind.{AreAsks, with_more};
+ghost use Rattle.nvm_shared.specs.Behind.{AreAsks, with_more};
 ghost use Rattle.nvm_shared.specs.Locked.{desk_with};
 ghost use Rattle.nvm_shared.specs.Passes.{IsUserOf, LearnsHalf, LearnsTurn};
 ghost use Rattle.nvm_shared.specs.Stale.{StaleIsShown};
 ghost use Rattle.nvm_shared.specs.Driving.{DriverState, Drives, BeginsTurn, IsTurned, EndsTurn, MayEnd, ServesDue, TurnsBehind, stack_of};
 
 use crate::shared::{Shared, StackPass};
-use job_hands::Hand;
-use machine_laws::histories_grow;
-use memif::{DeviceTurn, MemDevice};
-use ram_blocks::SyncCalls;
-use shared_laws::{asks_stand_behind, histories_are_written, open_are_asks};
-use stack_bounds::{asks_keep_due, halves_bring_nearer};
-use stack_laws::turn;
-use stack_turns::{Act, Turned};
-use stack_work::{hands_are_small, stack_works};
+use crate::{asks_stand_behind, histories_are_written, open_are_asks};
+use nvm_core::block_laws::histories_grow;
+use nvm_core::job_progress::Hand;
+use nvm_core::memif::{DeviceTurn, MemDevice};
+use nvm_core::nvm_figures::turns_keep_figures;
+use nvm_core::nvm_laws::{
+    Act, Turned, asks_keep_due, halves_bring_nearer, hands_are_small, stack_works, turn,
+};
+use nvm_core::ram_blocks::SyncCalls;
 use std::marker::Model;
 use std::sync::Wait;
-use turn_figures::turns_keep_figures;
 
 /// The device with the job in hand, and the application's copies of its synchronized blocks. Contracts see these three.
 #[derive(Drop)]

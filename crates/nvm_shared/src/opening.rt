@@ -1,12 +1,12 @@
 // A new shared stack.
 ghost use Rattle.std.specs.Prelude.{◌≡◌, ◌∷◌, ◌<◌, [], Bool, true, Err, IfOk, IfErr, IsTrue, None};
-ghost use Rattle.block_config.specs.Lengths.{lengths_of};
-ghost use Rattle.block_machine.specs.Words.{Entry as MachineEntry};
-ghost use Rattle.block_machine.specs.Legal.{IsLegal};
-ghost use Rattle.nv_front.specs.Front.{AreSynchronized};
-ghost use Rattle.nv_desk.specs.Desk.{DeskState};
-ghost use Rattle.stack_turns.specs.declared.turned.FoundAnswer.TheVariants as found;
-ghost use Rattle.stack_turns.specs.Keeps.{StackKeeps};
+ghost use Rattle.nvm_core.specs.block_config.Lengths.{lengths_of};
+ghost use Rattle.nvm_core.specs.block_machine.Words.{Entry as MachineEntry};
+ghost use Rattle.nvm_core.specs.block_machine.Legal.{IsLegal};
+ghost use Rattle.nvm_core.specs.nv_desk_copies.Front.{AreSynchronized};
+ghost use Rattle.nvm_core.specs.nv_desk.Desk.{DeskState};
+ghost use Rattle.nvm_core.specs.nvm_laws.declared.turned.FoundAnswer.TheVariants as found;
+ghost use Rattle.nvm_core.specs.nvm_laws.Keeps.{StackKeeps};
 ghost use Rattle.nvm_core.specs.Stack.{StackState};
 ghost use Rattle.nvm_core.specs.StartUps.{StartsUp};
 ghost use Rattle.nvm_shared.specs.Opening.{IsFirst, IsMade, IsShared, TellsAtFirst, WhyNot, first_stack};
@@ -14,12 +14,12 @@ ghost use Rattle.nvm_shared.specs.Opening.{IsFirst, IsMade, IsShared, TellsAtFir
 use crate::driver::Driver;
 use crate::locked::{Locked, LockedOf};
 use crate::shared::{Shared, SharedOf, StackPass};
-use block_config::Config;
-use memif::MemDevice;
+use crate::{WORD_COUNT, histories_are_written};
 use nvm_core::Stack;
-use ram_blocks::SyncCalls;
-use shared_laws::{WORD_COUNT, histories_are_written};
-use stack_turns::FoundAnswer;
+use nvm_core::block_config::Config;
+use nvm_core::memif::MemDevice;
+use nvm_core::nvm_laws::FoundAnswer;
+use nvm_core::ram_blocks::SyncCalls;
 use std::alloc::Global;
 use std::snapshot::Snapshot;
 

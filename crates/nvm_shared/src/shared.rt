@@ -1,24 +1,24 @@
 // What threads share.
 ghost use Rattle.std.specs.Prelude.{◌≡◌, ◌≤◌, ◌<◌, ◌^◌, ◌++◌, ◌∷◌, ◌⊎◌, [], ℕ, length, true, false, Some, IfOk, OnErr, IsErrOf, IsTrue};
-ghost use Rattle.nv_base.specs.declared.entry.Entry.TheVariants as Entry;
-ghost use Rattle.nv_desk.specs.declared.ask.AskFault.TheVariants as AskFault;
-ghost use Rattle.block_machine.specs.Words.{Entry as MachineEntry};
-ghost use Rattle.block_machine.specs.StartUp.{at_first};
-ghost use Rattle.block_machine.specs.Reply.{fits};
-ghost use Rattle.block_machine.specs.Legal.{HasStore};
-ghost use Rattle.nv_desk.specs.Desk.{state_of};
+ghost use Rattle.nvm_core.specs.nv_base.declared.entry.Entry.TheVariants as Entry;
+ghost use Rattle.nvm_core.specs.nv_desk.declared.ask.AskFault.TheVariants as AskFault;
+ghost use Rattle.nvm_core.specs.block_machine.Words.{Entry as MachineEntry};
+ghost use Rattle.nvm_core.specs.block_machine.StartUp.{at_first};
+ghost use Rattle.nvm_core.specs.block_machine.Reply.{fits};
+ghost use Rattle.nvm_core.specs.block_machine.Legal.{HasStore};
+ghost use Rattle.nvm_core.specs.nv_desk.Desk.{state_of};
 ghost use Rattle.turn_gate.specs.Entries.{StartsWith, AllAgree, AllHeard, NotBelow};
 ghost use Rattle.turn_gate.specs.Pass.{IsPassOf, IsInside, IsOutside, OwnsAll, both, knows, left_part, noted, right_part, went_out, grown};
-ghost use Rattle.shared_laws.specs.StatusWords.{gives, off_word};
-ghost use Rattle.shared_laws.specs.Written.{AreWritten};
+ghost use Rattle.nvm_shared.specs.StatusWords.{gives, off_word};
+ghost use Rattle.nvm_shared.specs.Written.{AreWritten};
 ghost use Rattle.nvm_shared.specs.Locked.{terms_of, desk_with};
 ghost use Rattle.nvm_shared.specs.Passes.{Asked, IsUserOf, IsExtended};
 
 use crate::locked::Locked;
-use nv_base::{Reply, Request};
-use nv_desk::AskFault;
-use nv_front::Front;
-use shared_laws::{OFF_WORD, entries_change_one_word};
+use crate::{OFF_WORD, entries_change_one_word};
+use nvm_core::nv_base::{Reply, Request};
+use nvm_core::nv_desk::AskFault;
+use nvm_core::nv_desk_copies::Front;
 use std::alloc::Global;
 use std::marker::Model;
 use std::snapshot::Snapshot;
@@ -61,7 +61,7 @@ pub struct SharedOf<G: TellsGate + Drop, T: TellsTerms + Drop> {
 
 impl<G: TellsGate + Drop, T: TellsTerms + Drop> Model for SharedOf<G, T> {
     ghost use Rattle.std.specs.Prelude.{◌≡◌};
-    ghost use Rattle.shared_laws.specs.StatusWords.{word_count};
+    ghost use Rattle.nvm_shared.specs.StatusWords.{word_count};
     ghost use Rattle.nvm_shared.specs.Passes.{SharedState};
 
     ghost Value = { SharedState };

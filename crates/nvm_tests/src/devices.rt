@@ -1,7 +1,7 @@
 // A flash in a file.
 use fls_devices::FileFlash;
 use fls_model::{AttachFault, Flash};
-use nv_base::Geometry;
+use nvm_laws::nv_base::Geometry;
 use std::alloc::Global;
 use std::fs;
 

@@ -1,11 +1,13 @@
 // Jobs that are finished over a device in memory.
-use block_config::{BlockDesc, BlockKind, Config, demo};
-use memif::{PlainStore, start_up};
-use nv_base::{DeviceNumber, GivenFrom, JobKind, JobStep, ReqResult, lengths_of};
+use nvm_laws::block_config::{BlockDesc, BlockKind, Config, demo};
+use nvm_laws::memif::{PlainStore, start_up};
+use nvm_laws::nv_base::{DeviceNumber, GivenFrom, JobKind, JobStep, ReqResult, lengths_of};
+use nvm_laws::nvm_figures::{
+    AtWork, Brought, Finish, JobEnd, finish_job, programs_are_small, turns_left,
+};
 use plain_blocks::PlainProgram;
 use redundant_blocks::RedundantProgram;
 use std::alloc::{AllocError, Global};
-use turn_figures::{AtWork, Brought, Finish, JobEnd, finish_job, programs_are_small, turns_left};
 
 // The numbers of both copies of block 1, and of block 2.
 fn make_device(alloc: Global) -> Result<PlainStore, AllocError> {

@@ -1,6 +1,6 @@
 // The floor: two devices in memory behind one interface, a run of calls, and work over any device.
-use memif::*;
-use nv_base::{DeviceNumber, bytes_of, lengths_of};
+use nvm_laws::memif::*;
+use nvm_laws::nv_base::{DeviceNumber, bytes_of, lengths_of};
 use std::alloc::{AllocError, Global};
 
 const FOUR: DeviceNumber = DeviceNumber(128);

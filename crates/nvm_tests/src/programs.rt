@@ -1,7 +1,7 @@
 // A sweep: each call once.
-use block_config::{Config, demo};
 use multi_jobs::{MemberFacts, Sweep, SweepStep};
-use nv_base::JobKind;
+use nvm_laws::block_config::{Config, demo};
+use nvm_laws::nv_base::JobKind;
 use std::alloc::Global;
 
 const FACTS: MemberFacts = MemberFacts {

@@ -1,6 +1,6 @@
 // RAM blocks and copies: each call once.
-use block_config::{Config, read};
-use ram_blocks::{Copied, PlainSync, RamBlocks, RamFlags, SyncCalls};
+use nvm_laws::block_config::{Config, read};
+use nvm_laws::ram_blocks::{Copied, PlainSync, RamBlocks, RamFlags, SyncCalls};
 use std::alloc::Global;
 
 const BLOCKS: &str =

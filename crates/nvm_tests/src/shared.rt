@@ -1,20 +1,20 @@
 // A shared stack over a device in memory and mirrors: two callers with a side each, and the driver.
 ghost use Rattle.std.specs.Prelude.{◌≡◌, ◌≢◌, ◌≤◌, ◌<◌, ◌+◌, ◌^◌, length, map, true, None, IfOk, IfSome};
-ghost use Rattle.block_config.specs.Lengths.{lengths_of};
+ghost use Rattle.nvm_laws.specs.block_config.Lengths.{lengths_of};
 ghost use Rattle.turn_gate.specs.Pass.{knows};
-ghost use Rattle.nv_front.specs.Front.{AreSynchronized};
-ghost use Rattle.mirror_sync.specs.Blocks.{AreEndsOf, AreSidesOf, IsSideIn, side_at, told_by};
+ghost use Rattle.nvm_laws.specs.nv_desk_copies.Front.{AreSynchronized};
+ghost use Rattle.ram_mirrors_sync.specs.Blocks.{AreEndsOf, AreSidesOf, IsSideIn, side_at, told_by};
 ghost use Rattle.nvm_shared.specs.Locked.{desk_with};
 ghost use Rattle.nvm_shared.specs.Passes.{IsUserOf};
 ghost use Rattle.nvm_shared.specs.Driving.{Drives};
 
-use block_config::{Config, read};
-use memif::{MemDevice, PlainStore};
-use mirror_sync::{Ends, MirrorSync, Mirrors, Side, Sides, close};
-use nv_base::{Reply, Request};
+use nvm_laws::Turned;
+use nvm_laws::block_config::{Config, read};
+use nvm_laws::memif::{MemDevice, PlainStore};
+use nvm_laws::nv_base::{Reply, Request};
+use nvm_laws::ram_blocks::SyncCalls;
 use nvm_shared::{Driver, Shared, StackPass, make};
-use ram_blocks::SyncCalls;
-use stack_turns::Turned;
+use ram_mirrors_sync::{Ends, MirrorSync, Mirrors, Side, Sides, close};
 use std::alloc::{AllocError, Global};
 use std::sync::Wait;
 
@@ -225,7 +225,7 @@ fn is_made_and_shared<W: Wait>(rt: &W, alloc: Global) -> bool {
     let Ok(config) = read(alloc, BLOCKS.as_bytes()) else {
         return false;
     };
-    let Ok((mirrors, ends, mut sides)) = mirror_sync::make(alloc, &config) else {
+    let Ok((mirrors, ends, mut sides)) = ram_mirrors_sync::make(alloc, &config) else {
         return false;
     };
     let Some(mut first) = sides.take(2) else {

@@ -1,10 +1,10 @@
 // A synchronized block over mirrors, the application in one thread and the driver's copies in another.
 ghost use Rattle.std.specs.Prelude.{◌≡◌};
-ghost use Rattle.mirror_sync.specs.Blocks.{AreSidesOf, IsSideIn};
+ghost use Rattle.ram_mirrors_sync.specs.Blocks.{AreSidesOf, IsSideIn};
 
-use block_config::read;
-use mirror_sync::{MirrorSync, Mirrors, Side, Sides, close, make};
-use ram_blocks::{Copied, SyncCalls};
+use nvm_laws::block_config::read;
+use nvm_laws::ram_blocks::{Copied, SyncCalls};
+use ram_mirrors_sync::{MirrorSync, Mirrors, Side, Sides, close, make};
 use std::alloc::Global;
 use std::thread;
 use std::thread::{Threads, join_mut};

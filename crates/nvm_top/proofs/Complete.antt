@@ -1,19 +1,19 @@
 -- Where nothing fails a run serves its jobs.
 use Rattle.std.proofs.Common.{◌≡◌, ℕ, List, [], ◌∷◌, sym, subst}
-use Rattle.nv_base.specs.Count.{Rose}
-use Rattle.block_config.specs.Config.{Configuration}
-use Rattle.memif.specs.Told.{PartTold}
-use Rattle.fls_model.specs.Told.{Told, Change}
+use Rattle.nvm_flash.specs.nv_base.Count.{Rose}
+use Rattle.nvm_flash.specs.block_config.Config.{Configuration}
+use Rattle.nvm_flash.specs.memif.Told.{PartTold}
+use Rattle.nvm_flash.specs.fls_model.Told.{Told, Change}
 use Rattle.script_walks.specs.Words.{Step}
-use Rattle.block_machine.specs.Words.{Entry}
-use Rattle.block_machine.specs.State.{State, Job}
-use Rattle.block_machine.specs.Steps.{after}
-use Rattle.run_promise.specs.Run.{Run, Course, Played, Ran, End, FlashFault, HasOrder, Follows, LeavesFor, RunsBy, EndsAtStart}
-use Rattle.run_promise.specs.Completeness.{Completeness, IsServed}
-use Rattle.stack_steps.specs.Told.{StackTold}
-use Rattle.stack_steps.specs.Made.{HasWalked}
-use Rattle.stack_steps.specs.Paying.{Payer}
-use Rattle.flash_stacks.specs.Turns.{job_turns}
+use Rattle.nvm_flash.specs.block_machine.Words.{Entry}
+use Rattle.nvm_flash.specs.block_machine.State.{State, Job}
+use Rattle.nvm_flash.specs.block_machine.Steps.{after}
+use Rattle.nvm_flash.specs.promise_run.Run.{Run, Course, Played, Ran, End, FlashFault, HasOrder, Follows, LeavesFor, RunsBy, EndsAtStart}
+use Rattle.nvm_flash.specs.promise_run.Completeness.{Completeness, IsServed}
+use Rattle.script_player.specs.Told.{StackTold}
+use Rattle.script_player.specs.Made.{HasWalked}
+use Rattle.script_player.specs.Paying.{Payer}
+use Rattle.nvm_flash.specs.Turns.{job_turns}
 use Rattle.nvm_top.specs.Machine.{IsStarted, run_of}
 use Rattle.nvm_top.proofs.PlayLemmas.{Rose-after}
 

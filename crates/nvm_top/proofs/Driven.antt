@@ -4,56 +4,56 @@ use Rattle.std.proofs.Common.{◌≡◌, ◌≢◌, ◌<◌, ◌≤◌, ◌+◌,
 use Rattle.std.proofs.lemmas.Bool.{cases_Bool}
 use Rattle.std.proofs.lemmas.Bool.Decides.{leb_tells}
 use Rattle.std.proofs.Math.Nat.{eq-or-lt_of_le}
-use Rattle.nv_base.specs.Count.{last_count, Rose, WereCounted}
-use Rattle.nv_base.specs.Geometry.{size_of}
-use Rattle.nv_base.specs.Marks.{instance_of}
-use Rattle.nv_base.specs.declared.geometry.Geometry.{Geometry}
-use Rattle.block_config.specs.Config.{Configuration}
-use Rattle.block_config.specs.Rules.{IsLegalConfig}
-use Rattle.block_machine.specs.Words.{Entry, Found}
-use Rattle.block_machine.specs.State.{State, Job}
-use Rattle.block_machine.specs.Steps.{after}
-use Rattle.memif.specs.Told.{Part, PartTold, DeviceTold, Fixed, First, Second, ops_of, faults_of, figures_at, part_at as at_part}
-use Rattle.memif.specs.Calls.{InOrder}
-use Rattle.memif.specs.Clock.{Clock}
-use Rattle.fls_model.specs.Told.{Told, ToldBytes, Change, IfBothTold, bytes_now}
-use Rattle.fls_devices.specs.Cutter.{cutting, told_cutting}
-use Rattle.fee_image.specs.Laws.{SoundImagesCompute}
-use Rattle.device_bridge.specs.Making.{Making, banks_of}
-use Rattle.device_bridge.specs.Bridge.{Bridges}
-use Rattle.device_bridge.specs.FlashRun.{AreSeen, HasFailed}
-use Rattle.device_bridge.specs.Image.{attached}
-use Rattle.device_clock.specs.Device.{Device, told_of, is_told_sound, tells, slots_told}
-use Rattle.device_clock.specs.Clock.{clock_of, off_in_of}
-use Rattle.fee_core.specs.Tells.{told_clock}
-use Rattle.fee_starts.specs.Made.{IsMadeOf, part_at}
-use Rattle.ram_blocks.specs.declared.plain_block.PlainBlock.{PlainBlock}
-use Rattle.ram_blocks.specs.Told.{most_of, refusals_of}
-use Rattle.ram_blocks.specs.Plain.{told_of as sync_told, store_of, plain_of, plain_blocks_of, fresh_block, no_plain}
-use Rattle.block_config.specs.declared.block.BlockDesc.{BlockDesc}
-use Rattle.block_machine.specs.Blocks.{is_synchronized}
-use Rattle.nv_desk.specs.Desk.{DeskState, state_of}
-use Rattle.job_hands.specs.Hand.{HandState}
-use Rattle.block_promise.specs.OverDevice.{KeepsOver}
-use Rattle.turn_laws.specs.Turn.{Keeps, BeginsKept, down}
-use Rattle.nvm_core.specs.Stack.{StackState}
-use Rattle.nvm_core.specs.StartUps.{StartsUp, StartsKeep}
-use Rattle.stack_turns.specs.Keeps.{StackKeeps}
-use Rattle.stack_turns.specs.declared.turned.FoundAnswer.TheVariants as found
-use Rattle.run_promise.specs.Run.{Played, cap, offs_of_flash}
-use Rattle.run_promise.specs.Promise.{making_of}
-use Rattle.run_promise.specs.Halves.{HalvesMakeIt, beyond_end}
-use Rattle.played_stacks.specs.Told.{told_by, plan_of, untold_of}
-use Rattle.played_stacks.specs.Kept.{IsKept}
-use Rattle.flash_stacks.specs.declared.device.MakeFault.{MakeFault}
-use Rattle.flash_stacks.specs.declared.device.MakeFault.TheVariants as fault
-use Rattle.hand_laws.specs.Hands.{program_for}
-use Rattle.turn_figures.specs.Left.{most_turns}
-use Rattle.flash_stacks.specs.Turns.{fixed_by}
-use Rattle.flash_stacks.specs.Made.{IsOrigin, IsMadeStack, AreOfFirst, ComesBack, IsBack}
-use Rattle.device_bridge.specs.Bridge.{IsWornOut}
-use Rattle.nvm_core.specs.Paying.{counted_of, TriesSince}
-use Rattle.played_stacks.specs.Paying.{payer_by}
+use Rattle.nvm_flash.specs.nv_base.Count.{last_count, Rose, WereCounted}
+use Rattle.nvm_flash.specs.nv_base.Geometry.{size_of}
+use Rattle.nvm_flash.specs.nv_base.Marks.{instance_of}
+use Rattle.nvm_flash.specs.nv_base.declared.geometry.Geometry.{Geometry}
+use Rattle.nvm_flash.specs.block_config.Config.{Configuration}
+use Rattle.nvm_flash.specs.block_config.Rules.{IsLegalConfig}
+use Rattle.nvm_flash.specs.block_machine.Words.{Entry, Found}
+use Rattle.nvm_flash.specs.block_machine.State.{State, Job}
+use Rattle.nvm_flash.specs.block_machine.Steps.{after}
+use Rattle.nvm_flash.specs.memif.Told.{Part, PartTold, DeviceTold, Fixed, First, Second, ops_of, faults_of, figures_at, part_at as at_part}
+use Rattle.nvm_flash.specs.memif.Calls.{InOrder}
+use Rattle.nvm_flash.specs.memif.Clock.{Clock}
+use Rattle.nvm_flash.specs.fls_model.Told.{Told, ToldBytes, Change, IfBothTold, bytes_now}
+use Rattle.nvm_flash.specs.fls_devices.Cutter.{cutting, told_cutting}
+use Rattle.nvm_flash.specs.fee_image.Laws.{SoundImagesCompute}
+use Rattle.nvm_flash.specs.promise_device.Making.{Making, banks_of}
+use Rattle.nvm_flash.specs.promise_device.Bridge.{Bridges}
+use Rattle.nvm_flash.specs.promise_device.FlashRun.{AreSeen, HasFailed}
+use Rattle.nvm_flash.specs.promise_device.Image.{attached}
+use Rattle.nvm_flash.specs.fee_told.Device.{Device, told_of, is_told_sound, tells, slots_told}
+use Rattle.nvm_flash.specs.fee_told.Clock.{clock_of, off_in_of}
+use Rattle.nvm_flash.specs.fee_core.Tells.{told_clock}
+use Rattle.nvm_flash.specs.fee_laws.Made.{IsMadeOf, part_at}
+use Rattle.nvm_flash.specs.ram_blocks.declared.plain_block.PlainBlock.{PlainBlock}
+use Rattle.nvm_flash.specs.ram_blocks.Told.{most_of, refusals_of}
+use Rattle.nvm_flash.specs.ram_blocks.Plain.{told_of as sync_told, store_of, plain_of, plain_blocks_of, fresh_block, no_plain}
+use Rattle.nvm_flash.specs.block_config.declared.block.BlockDesc.{BlockDesc}
+use Rattle.nvm_flash.specs.block_machine.Blocks.{is_synchronized}
+use Rattle.nvm_flash.specs.nv_desk.Desk.{DeskState, state_of}
+use Rattle.nvm_flash.specs.job_progress.Hand.{HandState}
+use Rattle.nvm_flash.specs.promise_blocks.OverDevice.{KeepsOver}
+use Rattle.nvm_flash.specs.nvm_device_laws.Turn.{Keeps, BeginsKept, down}
+use Rattle.nvm_flash.specs.nvm_core.Stack.{StackState}
+use Rattle.nvm_flash.specs.nvm_core.StartUps.{StartsUp, StartsKeep}
+use Rattle.nvm_flash.specs.nvm_laws.Keeps.{StackKeeps}
+use Rattle.nvm_flash.specs.nvm_laws.declared.turned.FoundAnswer.TheVariants as found
+use Rattle.nvm_flash.specs.promise_run.Run.{Played, cap, offs_of_flash}
+use Rattle.nvm_flash.specs.promise_run.Promise.{making_of}
+use Rattle.nvm_flash.specs.promise_run.Halves.{HalvesMakeIt, beyond_end}
+use Rattle.script_player.specs.PlainTold.{told_by, plan_of, untold_of}
+use Rattle.script_player.specs.PlainKept.{IsKept}
+use Rattle.nvm_flash.specs.declared.device.MakeFault.{MakeFault}
+use Rattle.nvm_flash.specs.declared.device.MakeFault.TheVariants as fault
+use Rattle.nvm_flash.specs.job_progress.JobInHand.{program_for}
+use Rattle.nvm_flash.specs.nvm_figures.Left.{most_turns}
+use Rattle.nvm_flash.specs.Turns.{fixed_by}
+use Rattle.nvm_flash.specs.Made.{IsOrigin, IsMadeStack, AreOfFirst, ComesBack, IsBack}
+use Rattle.nvm_flash.specs.promise_device.Bridge.{IsWornOut}
+use Rattle.nvm_flash.specs.nvm_core.Paying.{counted_of, TriesSince}
+use Rattle.script_player.specs.PlainPaying.{payer_by}
 use Rattle.nvm_top.specs.Machine.{IsKeptFrom, IsStarted, StartsWell, StopsAtStart, Vouches}
 use Rattle.nvm_top.specs.Machine.{run_of, one_part}
 use Rattle.nvm_top.specs.Play.{IsWrongSize}

@@ -1,10 +1,10 @@
 -- What `dump` writes and answers, from what its parts do.
 use Rattle.std.proofs.Common.{◌≡◌, ℕ, List, Option, IfSome, refl, sym, ap, subst}
-use Rattle.nv_base.specs.Count.{Rose}
-use Rattle.nv_base.specs.declared.geometry.Geometry.{Geometry}
-use Rattle.nv_base.specs.Geometry.{size_of}
-use Rattle.block_config.specs.Config.{Configuration}
-use Rattle.fls_model.specs.Told.{Told, ToldBytes}
+use Rattle.nvm_flash.specs.nv_base.Count.{Rose}
+use Rattle.nvm_flash.specs.nv_base.declared.geometry.Geometry.{Geometry}
+use Rattle.nvm_flash.specs.nv_base.Geometry.{size_of}
+use Rattle.nvm_flash.specs.block_config.Config.{Configuration}
+use Rattle.nvm_flash.specs.fls_model.Told.{Told, ToldBytes}
 use Rattle.nvm_top.specs.declared.status.Status.{Status}
 use Rattle.nvm_top.specs.declared.status.Status.TheVariants as status
 use Rattle.nvm_top.specs.declared.stop.Stop.{Stop}

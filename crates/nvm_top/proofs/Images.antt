@@ -1,10 +1,10 @@
 -- What reading a flash gives and leaves.
 use Rattle.std.proofs.Common.{◌≡◌, ◌∙◌, ◌+◌, ℕ, List, [], ◌∷◌, ◌++◌, take, drop, Option, Some, None, IfSome, refl, sym, ap, subst}
 use Rattle.std.proofs.Math.Seq.{take-add}
-use Rattle.nv_base.specs.declared.geometry.Geometry.{Geometry}
-use Rattle.nv_base.specs.Geometry.{size_of}
-use Rattle.fls_model.specs.Attach.{IsAttached, IsFilled, enlarged}
-use Rattle.fls_model.specs.Told.{Told, ToldBytes, IfBothTold, powered}
+use Rattle.nvm_flash.specs.nv_base.declared.geometry.Geometry.{Geometry}
+use Rattle.nvm_flash.specs.nv_base.Geometry.{size_of}
+use Rattle.nvm_flash.specs.fls_model.Attach.{IsAttached, IsFilled, enlarged}
+use Rattle.nvm_flash.specs.fls_model.Told.{Told, ToldBytes, IfBothTold, powered}
 use Rattle.nvm_top.specs.declared.stop.Stop.{Stop}
 use Rattle.nvm_top.specs.declared.stop.Stop.TheVariants.{FlashFault, Memory}
 use Rattle.nvm_top.specs.Dump.{KeepsFlash}

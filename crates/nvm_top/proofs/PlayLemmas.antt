@@ -1,6 +1,6 @@
 -- How a call ends, from how its parts end.
 use Rattle.std.proofs.Common.{◌≡◌, ◌≤◌, inl, inr, ℕ, sym, subst, arith}
-use Rattle.nv_base.specs.Count.{Rose}
+use Rattle.nvm_flash.specs.nv_base.Count.{Rose}
 use Rattle.nvm_top.specs.declared.status.Status.{Status}
 use Rattle.nvm_top.specs.declared.status.Status.TheVariants as status
 use Rattle.nvm_top.specs.declared.stop.Stop.{Stop}

@@ -1,9 +1,9 @@
 -- The last lines of `play`.
 use Rattle.std.proofs.Common.{◌≡◌, ℕ, List, [], Option, Some, None, IfSome, Result, Ok, Err, inl, inr, refl, sym, subst, arith}
-use Rattle.nv_base.specs.declared.entry.Entry.{Entry}
-use Rattle.nv_base.specs.Geometry.{size_of}
-use Rattle.block_config.specs.Config.{Configuration}
-use Rattle.fls_model.specs.Told.{Told, ToldBytes}
+use Rattle.nvm_flash.specs.nv_base.declared.entry.Entry.{Entry}
+use Rattle.nvm_flash.specs.nv_base.Geometry.{size_of}
+use Rattle.nvm_flash.specs.block_config.Config.{Configuration}
+use Rattle.nvm_flash.specs.fls_model.Told.{Told, ToldBytes}
 use Rattle.nvm_script.specs.declared.step.Step.{Step}
 use Rattle.nvm_top.specs.Output.{Writes, Prints}
 use Rattle.nvm_top.specs.declared.status.Status.{Status}
@@ -14,8 +14,8 @@ use Rattle.nvm_top.specs.Stop.{status_of, line_of, IsStop}
 use Rattle.nvm_top.specs.Ends.{StopsBy, IsBadWords, HasStepsOf, HasPlayable}
 use Rattle.nvm_top.specs.Reading.{IsPlayStop}
 use Rattle.nvm_top.specs.Play.{IsRunEnd, HasRunCause, IsRunLine, IsAttachStop, IsStepsEnd, IsBeforeAttach, IsOfWrongSize, WritesSize, RunsBy, PrintsBy}
-use Rattle.stack_steps.specs.declared.steps.StepFault.{StepFault}
-use Rattle.stack_steps.specs.declared.steps.StepFault.TheVariants as fault
+use Rattle.script_player.specs.declared.steps.StepFault.{StepFault}
+use Rattle.script_player.specs.declared.steps.StepFault.TheVariants as fault
 use Rattle.nvm_top.specs.Runs.{run_of}
 use Rattle.nvm_top.proofs.Printing.{Prints-alone, Prints-as}
 use Rattle.nvm_top.proofs.RunLines.{by_stop}

@@ -8,7 +8,7 @@ use Rattle.std.proofs.lemmas.Option.{slice_get_within, get_or_from_slice_get}
 use Rattle.std.specs.List.{flat_map, slice_range}
 use Rattle.std.specs.Io.KnownBytes.{Appends}
 use Rattle.nv_streams.specs.Sink.{AppendsPrefix}
-use Rattle.nv_base.specs.declared.entry.Entry.{Entry}
+use Rattle.nvm_flash.specs.nv_base.declared.entry.Entry.{Entry}
 use Rattle.nvm_script.specs.Lines.{entry_line}
 use Rattle.nvm_script.specs.Printed.{history_text}
 use Rattle.nvm_top.specs.Output.{Writes, Prints}

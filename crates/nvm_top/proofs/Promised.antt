@@ -4,41 +4,41 @@ use Rattle.std.specs.List.{Contains}
 use Rattle.std.proofs.Common.{◌≡◌, ◌≤◌, ◌+◌, ◌⊎◌, ℕ, zero, suc, List, [], ◌∷◌, ◌++◌, Option, Some, None, Result, Ok, Err, refl, sym, ap, ◌∙◌, subst, inl, inr, arith, append-nil}
 use Rattle.std.specs.Io.KnownBytes.{Appends}
 use Rattle.nv_streams.specs.Sink.{AppendsPrefix}
-use Rattle.nv_base.specs.Count.{Rose, WereCounted}
-use Rattle.block_config.specs.Config.{Configuration}
-use Rattle.memif.specs.Told.{PartTold}
-use Rattle.fls_model.specs.Told.{Told, Change}
-use Rattle.device_bridge.specs.Image.{IsSoundFlash}
-use Rattle.device_bridge.specs.FlashRun.{FlashRun, TellsBytes, StartsSound, HasFailed}
+use Rattle.nvm_flash.specs.nv_base.Count.{Rose, WereCounted}
+use Rattle.nvm_flash.specs.block_config.Config.{Configuration}
+use Rattle.nvm_flash.specs.memif.Told.{PartTold}
+use Rattle.nvm_flash.specs.fls_model.Told.{Told, Change}
+use Rattle.nvm_flash.specs.promise_device.Image.{IsSoundFlash}
+use Rattle.nvm_flash.specs.promise_device.FlashRun.{FlashRun, TellsBytes, StartsSound, HasFailed}
 use Rattle.nvm_script.specs.Printed.{history_text}
 use Rattle.nvm_script.specs.declared.step.StepKind.TheVariants as kind
 use Rattle.script_walks.specs.Words.{Step, StepKind}
 use Rattle.script_walks.specs.Walk.{IsWalkOf, joined}
-use Rattle.block_machine.specs.Words.{Entry, Found}
-use Rattle.block_machine.specs.State.{State, Job}
-use Rattle.block_machine.specs.Steps.{after}
-use Rattle.block_machine.specs.Prices.{prices_in_refusals}
-use Rattle.run_promise.specs.Run.{Run, Course, Played, End, Whole, cap, HasOrder, LeavesFor, EndsAtStart, HasNoRoom, RefusalsExplain, refusals_of, unpaid_offs}
-use Rattle.run_promise.specs.Run.{FlashFault, HistoryFull, Memory}
-use Rattle.run_promise.specs.Promise.{Promise, making_of}
-use Rattle.run_promise.specs.Call.{Ends, last_line, IsCourseOf, IsInputOf}
+use Rattle.nvm_flash.specs.block_machine.Words.{Entry, Found}
+use Rattle.nvm_flash.specs.block_machine.State.{State, Job}
+use Rattle.nvm_flash.specs.block_machine.Steps.{after}
+use Rattle.nvm_flash.specs.block_machine.Prices.{prices_in_refusals}
+use Rattle.nvm_flash.specs.promise_run.Run.{Run, Course, Played, End, Whole, cap, HasOrder, LeavesFor, EndsAtStart, HasNoRoom, RefusalsExplain, refusals_of, unpaid_offs}
+use Rattle.nvm_flash.specs.promise_run.Run.{FlashFault, HistoryFull, Memory}
+use Rattle.nvm_flash.specs.promise_run.Promise.{Promise, making_of}
+use Rattle.nvm_flash.specs.promise_run.Call.{Ends, last_line, IsCourseOf, IsInputOf}
 use Rattle.nvm_script.specs.Script.{IsScript, later_lines}
 use Rattle.nvm_script.specs.declared.script.Mode.TheVariants as mode
-use Rattle.flash_stacks.specs.Turns.{job_turns}
+use Rattle.nvm_flash.specs.Turns.{job_turns}
 use Rattle.nvm_top.specs.Ends.{HasPlayable}
-use Rattle.flash_stacks.specs.Made.{LeavesAlone}
+use Rattle.nvm_flash.specs.Made.{LeavesAlone}
 use Rattle.nvm_top.specs.Play.{IsStepsEnd}
 use Rattle.nvm_top.specs.Reading.{IsEarly}
-use Rattle.run_promise.specs.Turns.{Moment, moment_behind, BeginsAt, EndsBy, ArePaidSince, HasTurns, EachMove, ServesTurn, all_moves}
-use Rattle.run_promise.proofs.Paid.{since_too}
-use Rattle.run_promise.proofs.Counted.{all_behind, counted_by}
-use Rattle.device_bridge.specs.Bridge.{IsWornOut}
-use Rattle.stack_steps.specs.Paying.{Payer}
-use Rattle.stack_steps.specs.Told.{StackTold, moment_of}
-use Rattle.stack_steps.specs.Made as steps
-use Rattle.stack_steps.specs.Made.{HasWalked, WereLeft, WasBroken}
-use Rattle.stack_steps.specs.declared.steps.StepFault.{StepFault}
-use Rattle.stack_steps.specs.declared.steps.StepFault.TheVariants as fault
+use Rattle.nvm_flash.specs.promise_run.Turns.{Moment, moment_behind, BeginsAt, EndsBy, ArePaidSince, HasTurns, EachMove, ServesTurn, all_moves}
+use Rattle.nvm_flash.proofs.promise_run.Paid.{since_too}
+use Rattle.nvm_flash.proofs.promise_run.Counted.{all_behind, counted_by}
+use Rattle.nvm_flash.specs.promise_device.Bridge.{IsWornOut}
+use Rattle.script_player.specs.Paying.{Payer}
+use Rattle.script_player.specs.Told.{StackTold, moment_of}
+use Rattle.script_player.specs.Made as steps
+use Rattle.script_player.specs.Made.{HasWalked, WereLeft, WasBroken}
+use Rattle.script_player.specs.declared.steps.StepFault.{StepFault}
+use Rattle.script_player.specs.declared.steps.StepFault.TheVariants as fault
 use Rattle.nvm_top.specs.declared.status.Status.{Status}
 use Rattle.nvm_top.specs.declared.status.Status.TheVariants as status
 use Rattle.nvm_top.specs.declared.stop.Stop.{Stop}

@@ -5,28 +5,28 @@ use Rattle.std.specs.Str.Parse.{digits_value}
 use Rattle.std.proofs.Common.{◌≡◌, ◌≤◌, ◌+◌, ◌&&◌, ℕ, zero, suc, Bool, true, false, List, [], ◌∷◌, map, Option, Some, None, if◌then◌else◌, refl, ap, subst, inl, inr, arith}
 use Rattle.std.proofs.lemmas.Bool.{leb-true}
 use Rattle.std.proofs.lemmas.List.Sums.{sum_by-append, sum_by-cons}
-use Rattle.nv_base.specs.Decimal.{is_numeral, decimal_number_of}
-use Rattle.block_config.specs.Config.{Configuration}
-use Rattle.fls_model.specs.Told.{Told}
-use Rattle.command_words.specs.Words.{are_words, command_named, soak_of, command_with, command_in, command_of}
-use Rattle.command_words.specs.Fields.{Places, places_of}
-use Rattle.command_words.specs.declared.words.CommandKind.{CommandKind}
-use Rattle.command_words.specs.declared.words.CommandKind.TheVariants.{Play, Run, Dump, Check, Soak}
+use Rattle.nvm_flash.specs.nv_base.Decimal.{is_numeral, decimal_number_of}
+use Rattle.nvm_flash.specs.block_config.Config.{Configuration}
+use Rattle.nvm_flash.specs.fls_model.Told.{Told}
+use Rattle.nvm_words.specs.Words.{are_words, command_named, soak_of, command_with, command_in, command_of}
+use Rattle.nvm_words.specs.Fields.{Places, places_of}
+use Rattle.nvm_words.specs.declared.words.CommandKind.{CommandKind}
+use Rattle.nvm_words.specs.declared.words.CommandKind.TheVariants.{Play, Run, Dump, Check, Soak}
 use Rattle.nvm_script.specs.declared.step.Step.{Step}
 use Rattle.nvm_script.specs.declared.step.StepKind.{StepKind}
 use Rattle.nvm_script.specs.declared.step.StepKind.TheVariants.{Ask, Turn, Drain, Restart}
-use Rattle.nv_base.specs.declared.request.Request.TheVariants.{Read}
-use Rattle.soak_script.specs.Draws.{draw}
-use Rattle.soak_script.specs.Rounds.{step_by, step_of_round, write_of}
-use Rattle.soak_script.specs.Soak.{step_at, rounds, ending, soak}
-use Rattle.stack_steps.specs.Made.{cuts_in, cuts_of}
+use Rattle.nvm_flash.specs.nv_base.declared.request.Request.TheVariants.{Read}
+use Rattle.script_soak.specs.Draws.{draw}
+use Rattle.script_soak.specs.Rounds.{step_by, step_of_round, write_of}
+use Rattle.script_soak.specs.Soak.{step_at, rounds, ending, soak}
+use Rattle.script_player.specs.Made.{cuts_in, cuts_of}
 use Rattle.nvm_top.specs.declared.status.Status.{Status}
 use Rattle.nvm_top.specs.declared.status.Status.TheVariants as status
 use Rattle.nvm_top.specs.declared.stop.Stop.{Stop}
 use Rattle.nvm_top.specs.declared.stop.Stop.TheVariants as stop
 use Rattle.nvm_top.specs.Ends.{HasPlayable}
 use Rattle.nvm_top.specs.Output.{Writes, IsReport}
-use Rattle.flash_stacks.specs.Made.{LeavesAlone}
+use Rattle.nvm_flash.specs.Made.{LeavesAlone}
 use Rattle.nvm_top.specs.Play.{IsStepsEnd}
 use Rattle.nvm_top.specs.Promised.{played_call, HasRun, RunsAs, RunsOrWants, SoakEnds, SoakKeepsPromise}
 use Rattle.nvm_top.specs.Reading.{IsEarly}

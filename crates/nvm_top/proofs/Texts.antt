@@ -6,7 +6,7 @@ use Rattle.std.proofs.lemmas.List.{take-append-drop}
 use Rattle.std.proofs.lemmas.List.Concat.{flat_map-append}
 use Rattle.std.specs.Io.KnownBytes.{Appends}
 use Rattle.nv_streams.specs.Sink.{AppendsPrefix}
-use Rattle.nv_base.specs.declared.entry.Entry.{Entry}
+use Rattle.nvm_flash.specs.nv_base.declared.entry.Entry.{Entry}
 use Rattle.nvm_script.specs.Lines.{entry_line, end_line}
 use Rattle.nvm_script.specs.Printed.{history_text}
 use Rattle.nvm_top.specs.Output.{Writes, BreaksOff, IsEndOf, fault_status}

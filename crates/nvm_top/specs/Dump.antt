@@ -1,13 +1,13 @@
 -- `dump`: what it writes, and what it leaves of the flash.
 use Rattle.std.specs.Prelude.{◌≡◌, ℕ, List, Option, IfSome}
-use Rattle.nv_base.specs.declared.geometry.Geometry.{Geometry}
-use Rattle.nv_base.specs.Geometry.{size_of}
-use Rattle.block_config.specs.Banks.{bank_count}
-use Rattle.block_config.specs.Config.{Configuration}
-use Rattle.fls_model.specs.Attach.{HasSize, enlarged}
-use Rattle.fls_model.specs.Told.{Told, ToldBytes, IfBothTold}
-use Rattle.fee_image.specs.Image.{layout_of}
-use Rattle.image_text.specs.Dump.{dump_text}
+use Rattle.nvm_flash.specs.nv_base.declared.geometry.Geometry.{Geometry}
+use Rattle.nvm_flash.specs.nv_base.Geometry.{size_of}
+use Rattle.nvm_flash.specs.block_config.Banks.{bank_count}
+use Rattle.nvm_flash.specs.block_config.Config.{Configuration}
+use Rattle.nvm_flash.specs.fls_model.Attach.{HasSize, enlarged}
+use Rattle.nvm_flash.specs.fls_model.Told.{Told, ToldBytes, IfBothTold}
+use Rattle.nvm_flash.specs.fee_image.Image.{layout_of}
+use Rattle.fee_dump.specs.Dump.{dump_text}
 use Rattle.nvm_top.specs.declared.status.Status.{Status}
 use Rattle.nvm_top.specs.declared.status.Status.TheVariants as status
 use Rattle.nvm_top.specs.declared.stop.Stop.TheVariants as stop

@@ -1,13 +1,13 @@
 -- How a command ends, as its input decides. No two cases of a command hold of one input, but those of the faults and
 -- of the want of memory, which may come in place of any other.
 use Rattle.std.specs.Prelude.{◌≡◌, ◌≤◌, ℕ, List, [], length, Option, IfSome, Ok, Err}
-use Rattle.block_config.specs.Config.{Configuration}
-use Rattle.block_config.specs.Reading.{meaning_of}
-use Rattle.block_config.specs.declared.fault.ConfigFault.TheVariants.{Broken}
+use Rattle.nvm_flash.specs.block_config.Config.{Configuration}
+use Rattle.nvm_flash.specs.block_config.Reading.{meaning_of}
+use Rattle.nvm_flash.specs.block_config.declared.fault.ConfigFault.TheVariants.{Broken}
 use Rattle.nvm_script.specs.Script.{IsScript, IsFirstWrong, first_line, later_lines}
 use Rattle.nvm_script.specs.declared.step.Step.{Step}
 use Rattle.nvm_script.specs.declared.script.Mode.TheVariants.{Play}
-use Rattle.fls_model.specs.Told.{ToldBytes}
+use Rattle.nvm_flash.specs.fls_model.Told.{ToldBytes}
 use Rattle.nvm_top.specs.Input.{IsLonger, input_limit}
 use Rattle.nvm_top.specs.declared.status.Status.{Status}
 use Rattle.nvm_top.specs.declared.status.Status.TheVariants as status

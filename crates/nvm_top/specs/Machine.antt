@@ -1,21 +1,21 @@
 -- The machine that a command runs: a stack over a flash.
 use Rattle.std.specs.Prelude.{◌≡◌, ◌<◌, ◌≤◌, ℕ, List, [], length, min, Some}
-use Rattle.nv_base.specs.Count.{last_count, Rose, WereCounted}
-use Rattle.nv_base.specs.Geometry.{size_of}
-use Rattle.block_config.specs.Config.{Configuration}
-use Rattle.memif.specs.Told.{Part, First, Second, PartTold, no_part}
-use Rattle.fls_model.specs.Told.{Told, Change, bytes_now}
-use Rattle.device_bridge.specs.Image.{IsSoundFlash}
+use Rattle.nvm_flash.specs.nv_base.Count.{last_count, Rose, WereCounted}
+use Rattle.nvm_flash.specs.nv_base.Geometry.{size_of}
+use Rattle.nvm_flash.specs.block_config.Config.{Configuration}
+use Rattle.nvm_flash.specs.memif.Told.{Part, First, Second, PartTold, no_part}
+use Rattle.nvm_flash.specs.fls_model.Told.{Told, Change, bytes_now}
+use Rattle.nvm_flash.specs.promise_device.Image.{IsSoundFlash}
 use Rattle.script_walks.specs.Words.{Step}
-use Rattle.block_machine.specs.Words.{Entry}
-use Rattle.run_promise.specs.Run.{Run, Course, Played, End, cap, HasOrder, LeavesFlash, RefusalsExplain, offs_of_flash}
-use Rattle.run_promise.specs.Promise.{Promise, making_of}
-use Rattle.device_bridge.specs.Bridge.{IsWornOut}
-use Rattle.device_bridge.specs.FlashRun.{HasFailed}
-use Rattle.stack_steps.specs.Told.{StackTold}
-use Rattle.stack_steps.specs.Paying.{Payer}
-use Rattle.stack_steps.specs.Made.{IsFresh}
-use Rattle.flash_stacks.specs.Turns.{job_turns}
+use Rattle.nvm_flash.specs.block_machine.Words.{Entry}
+use Rattle.nvm_flash.specs.promise_run.Run.{Run, Course, Played, End, cap, HasOrder, LeavesFlash, RefusalsExplain, offs_of_flash}
+use Rattle.nvm_flash.specs.promise_run.Promise.{Promise, making_of}
+use Rattle.nvm_flash.specs.promise_device.Bridge.{IsWornOut}
+use Rattle.nvm_flash.specs.promise_device.FlashRun.{HasFailed}
+use Rattle.script_player.specs.Told.{StackTold}
+use Rattle.script_player.specs.Paying.{Payer}
+use Rattle.script_player.specs.Made.{IsFresh}
+use Rattle.nvm_flash.specs.Turns.{job_turns}
 use Rattle.nvm_top.specs.declared.stop.Stop.{Stop}
 use Rattle.nvm_top.specs.Play.{IsAttachStop, IsStepsEnd}
 use Rattle.nvm_top.specs.Stop.{status_of}

@@ -1,10 +1,10 @@
 -- The measures of a configuration.
 use Rattle.std.specs.Prelude.{◌≡◌, ℕ, List, ◌++◌, length, codes}
 use Rattle.std.specs.Fmt.{decimal}
-use Rattle.block_config.specs.Banks.{bank_pages_of}
-use Rattle.block_config.specs.Config.{Configuration}
-use Rattle.block_config.specs.Rules.{need_pages_of}
-use Rattle.block_config.specs.Sizes.{measures_of}
+use Rattle.nvm_flash.specs.block_config.Banks.{bank_pages_of}
+use Rattle.nvm_flash.specs.block_config.Config.{Configuration}
+use Rattle.nvm_flash.specs.block_config.Rules.{need_pages_of}
+use Rattle.nvm_flash.specs.block_config.Sizes.{measures_of}
 use Rattle.nvm_top.specs.declared.status.Status.{Status}
 use Rattle.nvm_top.specs.declared.status.Status.TheVariants as status
 

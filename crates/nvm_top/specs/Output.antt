@@ -2,7 +2,7 @@
 use Rattle.std.specs.Prelude.{◌≡◌, ◌⊎◌, ℕ, List, ◌++◌, length, take, Option}
 use Rattle.std.specs.Io.KnownBytes.{Appends}
 use Rattle.nv_streams.specs.Sink.{AppendsPrefix}
-use Rattle.nv_base.specs.declared.entry.Entry.{Entry}
+use Rattle.nvm_flash.specs.nv_base.declared.entry.Entry.{Entry}
 use Rattle.nvm_script.specs.Lines.{end_line}
 use Rattle.nvm_script.specs.Printed.{history_text}
 use Rattle.nvm_top.specs.declared.status.Status.{Status}

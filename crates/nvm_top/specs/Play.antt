@@ -1,17 +1,17 @@
 -- How a run of `play` ends or stops, each fault with its cause.
 use Rattle.std.specs.Prelude.{◌≡◌, ◌≢◌, ◌⊎◌, ℕ, List, [], length, Option, IfSome, Result, Ok, Err}
 use Rattle.std.specs.Io.KnownBytes.{Appends}
-use Rattle.nv_base.specs.Count.{Rose}
-use Rattle.fls_model.specs.Told.{Told, ToldBytes}
-use Rattle.nv_base.specs.declared.entry.Entry.{Entry}
+use Rattle.nvm_flash.specs.nv_base.Count.{Rose}
+use Rattle.nvm_flash.specs.fls_model.Told.{Told, ToldBytes}
+use Rattle.nvm_flash.specs.nv_base.declared.entry.Entry.{Entry}
 use Rattle.nvm_script.specs.Lines.{end_line}
-use Rattle.flash_stacks.specs.Made.{LeavesAlone}
+use Rattle.nvm_flash.specs.Made.{LeavesAlone}
 use Rattle.nvm_top.specs.declared.status.Status.{Status}
 use Rattle.nvm_top.specs.declared.status.Status.TheVariants as status
 use Rattle.nvm_top.specs.declared.stop.Stop.{Stop}
 use Rattle.nvm_top.specs.declared.stop.Stop.TheVariants as stop
-use Rattle.block_config.specs.Config.{Configuration}
-use Rattle.nv_base.specs.Geometry.{size_of}
+use Rattle.nvm_flash.specs.block_config.Config.{Configuration}
+use Rattle.nvm_flash.specs.nv_base.Geometry.{size_of}
 use Rattle.nvm_top.specs.Ends.{TellsSize, StopsBy, HasStepsOf}
 use Rattle.nvm_top.specs.Stop.{status_of, line_of, IsStop}
 use Rattle.nvm_top.specs.Output.{IsEndOf}

@@ -2,24 +2,24 @@
 use Rattle.std.specs.Prelude.{◌≡◌, ◌⊎◌, ◌++◌, ℕ, List, [], Option, IfSome}
 use Rattle.std.specs.Io.KnownBytes.{Appends}
 use Rattle.nv_streams.specs.Sink.{AppendsPrefix}
-use Rattle.block_config.specs.Config.{Configuration}
-use Rattle.fls_model.specs.Told.{Told}
+use Rattle.nvm_flash.specs.block_config.Config.{Configuration}
+use Rattle.nvm_flash.specs.fls_model.Told.{Told}
 use Rattle.nvm_script.specs.declared.script.Mode.TheVariants as mode
 use Rattle.nvm_script.specs.Summary.{summary}
 use Rattle.script_walks.specs.Words.{Step}
-use Rattle.block_machine.specs.Words.{Entry}
-use Rattle.run_promise.specs.Run.{Run, End, Whole, Memory, HasOrder, RefusalsExplain, offs_of_flash}
-use Rattle.nv_base.specs.Count.{WereCounted}
-use Rattle.device_bridge.specs.FlashRun.{TellsBytes, StartsSound}
-use Rattle.run_promise.specs.Promise.{Promise, making_of}
-use Rattle.run_promise.specs.Completeness.{Completeness}
-use Rattle.run_promise.specs.Turns.{HasTurns}
-use Rattle.run_promise.specs.Call.{Call, IsCourseOf, IsRunOf, status_of_end, last_line}
+use Rattle.nvm_flash.specs.block_machine.Words.{Entry}
+use Rattle.nvm_flash.specs.promise_run.Run.{Run, End, Whole, Memory, HasOrder, RefusalsExplain, offs_of_flash}
+use Rattle.nvm_flash.specs.nv_base.Count.{WereCounted}
+use Rattle.nvm_flash.specs.promise_device.FlashRun.{TellsBytes, StartsSound}
+use Rattle.nvm_flash.specs.promise_run.Promise.{Promise, making_of}
+use Rattle.nvm_flash.specs.promise_run.Completeness.{Completeness}
+use Rattle.nvm_flash.specs.promise_run.Turns.{HasTurns}
+use Rattle.nvm_flash.specs.promise_run.Call.{Call, IsCourseOf, IsRunOf, status_of_end, last_line}
 use Rattle.nvm_top.specs.declared.status.Status.{Status}
 use Rattle.nvm_top.specs.declared.status.Status.TheVariants as status
 use Rattle.nvm_top.specs.Ends.{HasPlayable}
-use Rattle.flash_stacks.specs.Made.{LeavesAlone}
-use Rattle.flash_stacks.specs.Turns.{job_turns}
+use Rattle.nvm_flash.specs.Made.{LeavesAlone}
+use Rattle.nvm_flash.specs.Turns.{job_turns}
 use Rattle.nvm_top.specs.Status.{code_of_status}
 
 -- a call of `play`

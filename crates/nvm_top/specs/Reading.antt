@@ -1,10 +1,10 @@
 -- Why the reading of a call stops.
 use Rattle.std.specs.Prelude.{◌≡◌, ℕ, List, [], Option, IfSome, Err}
-use Rattle.nv_base.specs.Count.{Rose}
-use Rattle.block_config.specs.Config.{Configuration}
-use Rattle.block_config.specs.Reading.{meaning_of}
-use Rattle.block_config.specs.declared.fault.ConfigFault.TheVariants.{Broken}
-use Rattle.fls_model.specs.Told.{Told}
+use Rattle.nvm_flash.specs.nv_base.Count.{Rose}
+use Rattle.nvm_flash.specs.block_config.Config.{Configuration}
+use Rattle.nvm_flash.specs.block_config.Reading.{meaning_of}
+use Rattle.nvm_flash.specs.block_config.declared.fault.ConfigFault.TheVariants.{Broken}
+use Rattle.nvm_flash.specs.fls_model.Told.{Told}
 use Rattle.nvm_script.specs.Script.{IsFirstWrong}
 use Rattle.nvm_script.specs.declared.script.Mode.TheVariants.{Play}
 use Rattle.nvm_top.specs.Ends.{HasWrongLine, BreaksRule}

@@ -1,11 +1,11 @@
 -- How a run of steps ends, and its summary.
 use Rattle.std.specs.Prelude.{◌≡◌, ℕ, List, length, Result, Ok, Err}
-use Rattle.nv_base.specs.declared.entry.Entry.{Entry}
+use Rattle.nvm_flash.specs.nv_base.declared.entry.Entry.{Entry}
 use Rattle.nvm_script.specs.Lines.{end_line}
 use Rattle.nvm_script.specs.Summary.{summary}
-use Rattle.run_promise.specs.Run.{End, FlashFault, HistoryFull, Memory}
-use Rattle.stack_steps.specs.declared.steps.StepFault.{StepFault}
-use Rattle.stack_steps.specs.declared.steps.StepFault.TheVariants as fault
+use Rattle.nvm_flash.specs.promise_run.Run.{End, FlashFault, HistoryFull, Memory}
+use Rattle.script_player.specs.declared.steps.StepFault.{StepFault}
+use Rattle.script_player.specs.declared.steps.StepFault.TheVariants as fault
 use Rattle.nvm_top.specs.declared.status.Status.{Status}
 use Rattle.nvm_top.specs.declared.status.Status.TheVariants as status
 use Rattle.nvm_top.specs.declared.stop.Stop.{Stop}

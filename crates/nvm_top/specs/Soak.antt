@@ -1,10 +1,10 @@
 -- How `soak` ends.
 use Rattle.std.specs.Prelude.{◌≡◌, ◌⊎◌, ℕ, Bool, true, false, List, [], ◌∷◌, Option, Some, IfSome}
-use Rattle.block_config.specs.Config.{Configuration}
-use Rattle.command_words.specs.declared.words.CommandKind.{CommandKind}
-use Rattle.command_words.specs.declared.words.CommandKind.TheVariants.{Soak}
+use Rattle.nvm_flash.specs.block_config.Config.{Configuration}
+use Rattle.nvm_words.specs.declared.words.CommandKind.{CommandKind}
+use Rattle.nvm_words.specs.declared.words.CommandKind.TheVariants.{Soak}
 use Rattle.nvm_script.specs.declared.step.Step.{Step}
-use Rattle.soak_script.specs.Soak.{soak}
+use Rattle.script_soak.specs.Soak.{soak}
 use Rattle.nvm_top.specs.Ends.{HasPlayable, HasWrongLine, BreaksRule, NamesRule}
 use Rattle.nvm_top.specs.Input.{IsLonger, input_limit}
 use Rattle.nvm_top.specs.Reading.{IsPlayStop}

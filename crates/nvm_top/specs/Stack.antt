@@ -1,8 +1,8 @@
 -- Why a stack isn't made.
 use Rattle.std.specs.Prelude.{ℕ, []}
-use Rattle.block_config.specs.Config.{Configuration}
-use Rattle.flash_stacks.specs.declared.device.MakeFault.{MakeFault}
-use Rattle.flash_stacks.specs.declared.device.MakeFault.TheVariants as fault
+use Rattle.nvm_flash.specs.block_config.Config.{Configuration}
+use Rattle.nvm_flash.specs.declared.device.MakeFault.{MakeFault}
+use Rattle.nvm_flash.specs.declared.device.MakeFault.TheVariants as fault
 use Rattle.nvm_top.specs.declared.stop.Stop.{Stop}
 use Rattle.nvm_top.specs.declared.stop.Stop.TheVariants as stop
 

@@ -1,14 +1,14 @@
 // Why a flash isn't attached.
 ghost use Rattle.std.specs.Prelude.{Err};
-ghost use Rattle.nv_base.specs.Geometry.{IsLegal, size_of};
-ghost use Rattle.fls_model.specs.Told.{Told};
-ghost use Rattle.fls_model.specs.Attach.{IsAttach};
+ghost use Rattle.nvm_flash.specs.nv_base.Geometry.{IsLegal, size_of};
+ghost use Rattle.nvm_flash.specs.fls_model.Told.{Told};
+ghost use Rattle.nvm_flash.specs.fls_model.Attach.{IsAttach};
 ghost use Rattle.nvm_top.specs.Play.{IsPlayEnd, IsAttachStop};
 ghost use Rattle.nvm_top.specs.Stop.{status_of};
 
 use crate::stop::Stop;
-use fls_model::AttachFault;
-use nv_base::Geometry;
+use nvm_flash::fls_model::AttachFault;
+use nvm_flash::nv_base::Geometry;
 
 /// The stop of an attach that failed.
 pub fn attach_stop(fault: AttachFault, geometry: Geometry) -> Stop

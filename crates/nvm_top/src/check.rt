@@ -1,21 +1,21 @@
 // The command `check`: whether the first line of the input is a configuration.
 ghost use Rattle.std.specs.Prelude.{◌≡◌, map, string_bytes, true, false};
 ghost use Rattle.std.specs.Io.KnownBytes.{IsAtEnd};
-ghost use Rattle.nv_base.specs.Count.{Rose};
+ghost use Rattle.nvm_flash.specs.nv_base.Count.{Rose};
 ghost use Rattle.nvm_top.specs.Ends.{ChecksBy, IsBadWords};
 ghost use Rattle.nvm_top.specs.Measures.{IsMeasured};
 ghost use Rattle.nvm_top.specs.Output.{Writes};
-ghost use Rattle.command_words.specs.Words.{command_of, is_check};
+ghost use Rattle.nvm_words.specs.Words.{command_of, is_check};
 
 use crate::Status;
 use crate::configuration::read_configuration;
 use crate::measures::measures_line;
 use crate::output::{put_line, report};
 use crate::stop::Stop;
-use block_config::Config;
-use command_words::{CommandKind, command_of};
-use fls_model::Flash;
 use nv_streams::{Sink, Source};
+use nvm_flash::block_config::Config;
+use nvm_flash::fls_model::Flash;
+use nvm_words::{CommandKind, command_of};
 use std::alloc::{AllocError, Global};
 
 /// Tells whether the first line of the input is a configuration: how many blocks and instances it has, how many pages

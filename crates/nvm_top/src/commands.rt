@@ -1,14 +1,14 @@
 // The one call of the program.
 ghost use Rattle.std.specs.Prelude.{◌≡◌, None, map, string_bytes, true};
 ghost use Rattle.std.specs.Io.KnownBytes.{IsAtEnd};
-ghost use Rattle.nv_base.specs.Count.{Rose};
+ghost use Rattle.nvm_flash.specs.nv_base.Count.{Rose};
 ghost use Rattle.nvm_top.specs.Dump.{DumpsBy, KeepsFlash};
 ghost use Rattle.nvm_top.specs.Ends.{ChecksBy, PlaysBy, StopsBy, IsBadWords};
 ghost use Rattle.nvm_top.specs.Output.{Writes, Prints};
 ghost use Rattle.nvm_top.specs.Play.{IsBeforeAttach, IsOfWrongSize, PrintsBy};
 ghost use Rattle.nvm_top.specs.Promised.{KeepsPromise, SoakKeepsPromise, played_call};
 ghost use Rattle.nvm_top.specs.Soak.{is_soak, steps_named, SoaksBy, SoakStopsBy};
-ghost use Rattle.command_words.specs.Words.{command_of, is_check, is_dump, is_play};
+ghost use Rattle.nvm_words.specs.Words.{command_of, is_check, is_dump, is_play};
 
 use crate::Status;
 use crate::check::check;
@@ -17,9 +17,9 @@ use crate::output::report;
 use crate::play::play;
 use crate::soak::soak;
 use crate::stop::Stop;
-use command_words::{CommandKind, command_of};
-use fls_model::Flash;
 use nv_streams::{Sink, Source};
+use nvm_flash::fls_model::Flash;
+use nvm_words::{CommandKind, command_of};
 use std::alloc::{AllocError, Global};
 use std::sync::Wait;
 use std::thread::Threads;

@@ -1,9 +1,9 @@
 // The command `dump`: what an image holds, line by line.
 ghost use Rattle.std.specs.Prelude.{◌≡◌, length, map, string_bytes, true, false};
 ghost use Rattle.std.specs.Io.KnownBytes.{IsAtEnd};
-ghost use Rattle.nv_base.specs.Count.{Rose};
-ghost use Rattle.nv_base.specs.Geometry.{IsLegal, size_of};
-ghost use Rattle.command_words.specs.Words.{command_of, is_dump};
+ghost use Rattle.nvm_flash.specs.nv_base.Count.{Rose};
+ghost use Rattle.nvm_flash.specs.nv_base.Geometry.{IsLegal, size_of};
+ghost use Rattle.nvm_words.specs.Words.{command_of, is_dump};
 ghost use Rattle.nvm_top.specs.Dump.{DumpsBy, DumpsFlash, IsDump, KeepsFlash};
 ghost use Rattle.nvm_top.specs.Ends.{IsBadWords};
 ghost use Rattle.nvm_top.specs.Output.{IsReport, Writes};
@@ -14,12 +14,12 @@ use crate::configuration::read_configuration;
 use crate::image::read_image;
 use crate::output::{put_lines, report};
 use crate::stop::Stop;
-use block_config::BANKS;
-use command_words::{CommandKind, command_of};
-use fls_model::Flash;
-use image_text::dump_text;
-use nv_base::Geometry;
+use fee_dump::dump_text;
 use nv_streams::{Sink, Source};
+use nvm_flash::block_config::BANKS;
+use nvm_flash::fls_model::Flash;
+use nvm_flash::nv_base::Geometry;
+use nvm_words::{CommandKind, command_of};
 use std::alloc::{AllocError, Global};
 
 /// Writes what the flash holds: of each bank its head, its records and its tail, and which bank is active. The flash is

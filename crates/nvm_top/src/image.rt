@@ -1,9 +1,9 @@
 // Reading the bytes of a flash.
 ghost use Rattle.std.specs.Prelude.{◌≡◌, ◌+◌, ◌++◌, IfErr, IfOk, IfSome, OnOk, false, length, vec_len};
-ghost use Rattle.nv_base.specs.Count.{Rose};
-ghost use Rattle.nv_base.specs.Geometry.{IsLegal, size_of};
-ghost use Rattle.fls_model.specs.Bytes.{piece};
-ghost use Rattle.fls_model.specs.Told.{HasRange};
+ghost use Rattle.nvm_flash.specs.nv_base.Count.{Rose};
+ghost use Rattle.nvm_flash.specs.nv_base.Geometry.{IsLegal, size_of};
+ghost use Rattle.nvm_flash.specs.fls_model.Bytes.{piece};
+ghost use Rattle.nvm_flash.specs.fls_model.Told.{HasRange};
 ghost use Rattle.nvm_top.specs.Dump.{IsImageOf, KeepsFlash};
 ghost use Rattle.nvm_top.specs.Play.{IsAttachStop, IsPlayEnd};
 ghost use Rattle.nvm_top.specs.Reading.{IsSectorStop};
@@ -11,8 +11,8 @@ ghost use Rattle.nvm_top.specs.Stop.{status_of};
 
 use crate::attach::attach_stop;
 use crate::stop::Stop;
-use fls_model::{Flash, FlashAnswer};
-use nv_base::Geometry;
+use nvm_flash::fls_model::{Flash, FlashAnswer};
+use nvm_flash::nv_base::Geometry;
 use std::alloc::Global;
 
 // Adds the bytes of one sector.

@@ -1,16 +1,16 @@
 // The machine that a command runs.
 ghost use Rattle.std.specs.Prelude.{◌≡◌, ℕ, IfOk, IfErr, OnOk};
-ghost use Rattle.block_config.specs.Config.{Configuration};
-ghost use Rattle.fls_model.specs.Told.{Told};
-ghost use Rattle.memif.specs.Told.{PartTold};
-ghost use Rattle.run_promise.specs.Run.{cap};
+ghost use Rattle.nvm_flash.specs.block_config.Config.{Configuration};
+ghost use Rattle.nvm_flash.specs.fls_model.Told.{Told};
+ghost use Rattle.nvm_flash.specs.memif.Told.{PartTold};
+ghost use Rattle.nvm_flash.specs.promise_run.Run.{cap};
 ghost use Rattle.nvm_top.specs.Machine.{IsKeptFrom, IsStarted, one_part, StartsWell, StopsAtStart, Vouches};
 
 use crate::stop::Stop;
-use block_config::Config;
-use fls_model::Flash;
-use nv_base::History;
-use stack_steps::PlayedStack;
+use nvm_flash::block_config::Config;
+use nvm_flash::fls_model::Flash;
+use nvm_flash::nv_base::History;
+use script_player::PlayedStack;
 use std::alloc::Global;
 
 /// A stack over a flash, which it gives back.

@@ -2,7 +2,7 @@
 ghost use Rattle.std.specs.Prelude.{◌≡◌, IfOk, string_bytes};
 ghost use Rattle.nvm_top.specs.Measures.{numbers_line as numbers_text, measures_line as measures_text};
 
-use block_config::Config;
+use nvm_flash::block_config::Config;
 use std::alloc::{AllocError, Global};
 
 fn numbers_line(

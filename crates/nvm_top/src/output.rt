@@ -1,7 +1,7 @@
 // Writing the lines of the output.
 ghost use Rattle.std.specs.Prelude.{◌≡◌, ◌<◌, ◌≤◌, IfErr, OnOk, length};
 ghost use Rattle.std.specs.Io.KnownBytes.{Appends};
-ghost use Rattle.nv_base.specs.Count.{Rose};
+ghost use Rattle.nvm_flash.specs.nv_base.Count.{Rose};
 ghost use Rattle.nv_streams.specs.Sink.{AppendsPrefix};
 ghost use Rattle.nvm_script.specs.Printed.{history_text};
 ghost use Rattle.nvm_top.specs.Output.{fault_status, IsReport, Writes, BreaksOff, IsEndOf};
@@ -9,8 +9,8 @@ ghost use Rattle.nvm_top.specs.Stop.{status_of, IsStop};
 
 use crate::Status;
 use crate::stop::Stop;
-use nv_base::History;
 use nv_streams::{Sink, SinkAnswer};
+use nvm_flash::nv_base::History;
 use nvm_script::{end_text, entry_text};
 use std::alloc::{AllocError, Global};
 

@@ -1,19 +1,18 @@
 // What `play` reads: a configuration, and the steps of a script for it.
 ghost use Rattle.std.specs.Prelude.{◌≡◌, ◌≤◌, ◌<◌, [], Ok, Err, IfOk, IfErr, IfSome, OnOk, length, codes};
 ghost use Rattle.std.specs.Io.KnownBytes.{IsAtEnd};
-ghost use Rattle.nv_base.specs.Count.{Rose};
+ghost use Rattle.nvm_flash.specs.nv_base.Count.{Rose};
 ghost use Rattle.nvm_script.specs.Script.{IsScript, later_lines};
-ghost use Rattle.played_steps.specs.Played.{ArePlayed};
+ghost use Rattle.nvm_script.specs.Played.{ArePlayed};
 ghost use Rattle.nvm_top.specs.Ends.{HasPlayable};
 ghost use Rattle.nvm_top.specs.Reading.{IsEarly, IsLineStop, IsPlayableStop, IsPlayStop};
 
 use crate::configuration::read_config;
 use crate::input::{LIMIT, read_input};
 use crate::stop::Stop;
-use block_config::Config;
 use nv_streams::Source;
-use nvm_script::{Mode, ScriptFault, StepList, read_script};
-use played_steps::scripts_are_played;
+use nvm_flash::block_config::Config;
+use nvm_script::{Mode, ScriptFault, StepList, read_script, scripts_are_played};
 use std::alloc::Global;
 
 /// A configuration with the steps of a script for it.

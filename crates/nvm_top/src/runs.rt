@@ -1,6 +1,6 @@
 // How a run is written.
 ghost use Rattle.std.specs.Prelude.{◌≡◌};
-ghost use Rattle.nv_base.specs.Count.{Rose};
+ghost use Rattle.nvm_flash.specs.nv_base.Count.{Rose};
 ghost use Rattle.nvm_top.specs.Output.{Writes, Prints};
 ghost use Rattle.nvm_top.specs.Play.{IsRunLine};
 ghost use Rattle.nvm_script.specs.Printed.{history_text};
@@ -10,10 +10,10 @@ ghost use Rattle.nvm_top.specs.Runs.{run_of, status_of_run, line_of_run, IsSumma
 use crate::Status;
 use crate::output::{put_lines, report, write_end, write_history};
 use crate::stop::Stop;
-use nv_base::History;
 use nv_streams::Sink;
+use nvm_flash::nv_base::History;
 use nvm_script::summary_text;
-use stack_steps::StepFault;
+use script_player::StepFault;
 use std::alloc::Global;
 
 /// How a run ended, by why its steps stopped.

@@ -1,38 +1,38 @@
 // The stack that a command runs: over the banks of a flash whose power may be cut, with the application's copies in memory.
 ghost use Rattle.std.specs.Prelude.{◌≡◌, ℕ, IfErr, IfOk, IsSome, None};
-ghost use Rattle.block_config.specs.Config.{Configuration};
-ghost use Rattle.device_clock.specs.Device.{told_of};
-ghost use Rattle.fee_core.specs.Tells.{told_clock};
-ghost use Rattle.fee_starts.specs.Made.{part_at};
-ghost use Rattle.block_config.specs.Rules.{IsLegalConfig};
-ghost use Rattle.flash_stacks.specs.Made.{ComesBack, IsMadeStack, IsOrigin};
-ghost use Rattle.nvm_core.specs.StartUps.{StartsUp};
-ghost use Rattle.stack_turns.specs.Keeps.{StackKeeps};
-ghost use Rattle.fls_model.specs.Told.{Told};
-ghost use Rattle.nv_base.specs.Geometry.{IsLegal, size_of};
-ghost use Rattle.played_stacks.specs.Kept.{IsKept};
-ghost use Rattle.played_stacks.specs.Told.{told_by};
-ghost use Rattle.played_stacks.specs.Paying.{payer_by};
-ghost use Rattle.run_promise.specs.Run.{cap};
+ghost use Rattle.nvm_flash.specs.block_config.Config.{Configuration};
+ghost use Rattle.nvm_flash.specs.fee_told.Device.{told_of};
+ghost use Rattle.nvm_flash.specs.fee_core.Tells.{told_clock};
+ghost use Rattle.nvm_flash.specs.fee_laws.Made.{part_at};
+ghost use Rattle.nvm_flash.specs.block_config.Rules.{IsLegalConfig};
+ghost use Rattle.nvm_flash.specs.Made.{ComesBack, IsMadeStack, IsOrigin};
+ghost use Rattle.nvm_flash.specs.nvm_core.StartUps.{StartsUp};
+ghost use Rattle.nvm_flash.specs.nvm_laws.Keeps.{StackKeeps};
+ghost use Rattle.nvm_flash.specs.fls_model.Told.{Told};
+ghost use Rattle.nvm_flash.specs.nv_base.Geometry.{IsLegal, size_of};
+ghost use Rattle.script_player.specs.PlainKept.{IsKept};
+ghost use Rattle.script_player.specs.PlainTold.{told_by};
+ghost use Rattle.script_player.specs.PlainPaying.{payer_by};
+ghost use Rattle.nvm_flash.specs.promise_run.Run.{cap};
 ghost use Rattle.nvm_top.specs.Machine.{IsKeptFrom, IsStarted, StartsWell, StopsAtStart, Vouches, one_part};
-ghost use Rattle.fee_core.specs.Origin.{no_flash};
+ghost use Rattle.nvm_flash.specs.fee_core.Origin.{no_flash};
 ghost use Rattle.nvm_top.specs.Stack.{no_configuration, stop_of_make};
 
 use crate::machine::Machine;
 use crate::stop::Stop;
-use block_config::Config;
-use fee_core::{Fee, Origin};
-use fee_image::soundness_computes;
-use flash_stacks::{FlashStack, MakeFault, give_back, make_stack, start_stack};
-use fls_devices::Cutter;
-use fls_model::Flash;
-use memif::MemDevice;
-use nv_base::{Geometry, History};
-use played_stacks::PlainStack;
-use run_promise::halves_make_the_promise;
+use nvm_flash::block_config::Config;
+use nvm_flash::fee_core::{Fee, Origin};
+use nvm_flash::fee_image::soundness_computes;
+use nvm_flash::fls_devices::Cutter;
+use nvm_flash::fls_model::Flash;
+use nvm_flash::memif::MemDevice;
+use nvm_flash::nv_base::{Geometry, History};
+use nvm_flash::nvm_device_laws::begins_kept;
+use nvm_flash::promise_run::halves_make_the_promise;
+use nvm_flash::{FlashStack, MakeFault, give_back, make_stack, start_stack};
+use script_player::PlainStack;
 use std::alloc::Global;
 use std::marker::Brand;
-use turn_laws::begins_kept;
 
 /// The stack over a flash.
 pub type Driven<F, O> = PlainStack<Fee<Cutter<F>, O>>;
@@ -51,8 +51,8 @@ impl Setting for Brand {
 }
 
 impl<F: Flash, O: Origin + Setting> Machine<F> for Driven<F, O> {
-    ghost use Rattle.fee_starts.specs.Made.{part_at};
-    ghost use Rattle.flash_stacks.specs.Made.{IsOrigin};
+    ghost use Rattle.nvm_flash.specs.fee_laws.Made.{part_at};
+    ghost use Rattle.nvm_flash.specs.Made.{IsOrigin};
 
     ghost made_for = { O.configuration };
 

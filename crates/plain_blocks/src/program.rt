@@ -1,13 +1,13 @@
 // A job on one instance.
 ghost use Rattle.std.specs.Prelude.{◌≡◌, ◌≢◌, ◌≤◌, length, is_some};
-ghost use Rattle.block_config.specs.declared.block.BlockKind.TheVariants as kind;
+ghost use Rattle.block_machine.specs.block_config.declared.block.BlockKind.TheVariants as kind;
 ghost use Rattle.job_programs.specs.Program.{program_of, after, step_of};
 ghost use Rattle.plain_blocks.specs.declared.program.PlainProgram.TheInside.{Inside};
 ghost use Rattle.plain_blocks.specs.Inside.{shown};
 
-use block_config::{BlockDesc, BlockKind};
+use block_machine::block_config::{BlockDesc, BlockKind};
+use block_machine::nv_base::{Instance, JobKind, JobStep, Outcome};
 use job_programs::{end_of_none, end_of_one, is_again, operation, retries, works};
-use nv_base::{Instance, JobKind, JobStep, Outcome};
 use std::marker::Model;
 
 /// Where a job stands: it needs no operation; it is at one, after so many failed tries; or that one is done.

@@ -1,3 +1,4 @@
 pub mod Cleared
 pub mod Made
 pub mod PlainCopies
+pub mod Trying

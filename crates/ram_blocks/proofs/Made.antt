@@ -3,8 +3,8 @@ use Rattle.std.proofs.Common.{◌≡◌, inr, ◌<◌, ℕ, zero, suc, ◌+◌, 
 use Rattle.std.specs.List.{All, enumerate_from}
 use Rattle.std.proofs.lemmas.List.{length-replicate}
 use Rattle.std.proofs.lemmas.List.Elements.{All-cons, All-map}
-use Rattle.block_config.specs.declared.block.BlockDesc.{BlockDesc}
-use Rattle.block_config.specs.Config.{Configuration, block_of}
+use Rattle.block_machine.specs.block_config.declared.block.BlockDesc.{BlockDesc}
+use Rattle.block_machine.specs.block_config.Config.{Configuration, block_of}
 use Rattle.block_machine.specs.Blocks.{is_synchronized}
 use Rattle.ram_blocks.specs.declared.kept.RamBlock.{RamBlock}
 use Rattle.ram_blocks.specs.declared.plain_block.PlainBlock.{PlainBlock}

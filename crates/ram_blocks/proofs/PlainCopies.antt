@@ -3,7 +3,7 @@ use Rattle.std.proofs.Common.{◌≡◌, ◌<◌, ℕ, zero, suc, ◌==◌, Bool
 use Rattle.std.proofs.lemmas.List.{map-set, set-get_or}
 use Rattle.std.proofs.Math.ListN.{get_or-map}
 use Rattle.std.proofs.Math.Seq.{map-set_same}
-use Rattle.nv_base.specs.Count.{next_count, Rose}
+use Rattle.block_machine.specs.nv_base.Count.{next_count, Rose}
 use Rattle.ram_blocks.specs.declared.sync_calls.Copied.{Copied}
 use Rattle.ram_blocks.specs.declared.sync_calls.Copied.TheVariants.{Got, Refused}
 use Rattle.ram_blocks.specs.declared.plain_block.PlainBlock.{PlainBlock}

@@ -1,6 +1,6 @@
 -- What a copy of a block does.
 use Rattle.std.specs.Prelude.{◌≡◌, ℕ, ◌+◌, ◌^◌, min, List, option_map, slice_set}
-use Rattle.nv_base.specs.Count.{Rose}
+use Rattle.block_machine.specs.nv_base.Count.{Rose}
 use Rattle.ram_blocks.specs.declared.sync_calls.Copied.{Copied}
 use Rattle.ram_blocks.specs.declared.sync_calls.Copied.TheVariants.{Got, Refused}
 use Rattle.ram_blocks.specs.Told.{Told, Synchronized, told_at, handed_by, refusals_of}

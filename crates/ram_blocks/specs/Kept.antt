@@ -1,8 +1,8 @@
 -- The RAM that the manager keeps.
 use Rattle.std.specs.Prelude.{ℕ, ◌==◌, ◌||◌, false, List, ◌∷◌, map, replicate, if◌then◌else◌, Option, Some, None}
 use Rattle.std.specs.List.{enumerate_from}
-use Rattle.block_config.specs.declared.block.BlockDesc.{BlockDesc}
-use Rattle.block_config.specs.Config.{Configuration}
+use Rattle.block_machine.specs.block_config.declared.block.BlockDesc.{BlockDesc}
+use Rattle.block_machine.specs.block_config.Config.{Configuration}
 use Rattle.block_machine.specs.Blocks.{is_permanent}
 use Rattle.ram_blocks.specs.declared.kept.RamBlock.{RamBlock}
 

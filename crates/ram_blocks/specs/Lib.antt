@@ -3,3 +3,4 @@ pub mod Kept
 pub mod Plain
 pub mod Ram
 pub mod Told
+pub mod Tries

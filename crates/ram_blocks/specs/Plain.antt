@@ -1,8 +1,8 @@
 -- Synchronized blocks in memory.
 use Rattle.std.specs.Prelude.{◌≡◌, ◌⊎◌, ◌<◌, ◌≤◌, ℕ, ◌+◌, ◌-◌, ◌==◌, min, List, [], ◌∷◌, map, length, replicate, unwrap_or, if◌then◌else◌, Option, Some, None}
-use Rattle.nv_base.specs.Count.{Rose, next_count, last_count}
-use Rattle.block_config.specs.declared.block.BlockDesc.{BlockDesc}
-use Rattle.block_config.specs.Config.{Configuration}
+use Rattle.block_machine.specs.nv_base.Count.{Rose, next_count, last_count}
+use Rattle.block_machine.specs.block_config.declared.block.BlockDesc.{BlockDesc}
+use Rattle.block_machine.specs.block_config.Config.{Configuration}
 use Rattle.block_machine.specs.Blocks.{is_synchronized}
 use Rattle.ram_blocks.specs.declared.sync_calls.Copied.{Copied}
 use Rattle.ram_blocks.specs.declared.sync_calls.Copied.TheVariants.{Got, Refused}

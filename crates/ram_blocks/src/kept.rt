@@ -2,7 +2,7 @@
 ghost use Rattle.std.specs.Prelude.{◌≡◌, length, map, get_or, slice_set, IfOk, option_copied};
 ghost use Rattle.ram_blocks.specs.Kept.{zeros, no_ram, ram_by, kept_of};
 
-use block_config::{BlockDesc, Config, RamKind};
+use block_machine::block_config::{BlockDesc, Config, RamKind};
 use std::alloc::{AllocError, Global};
 use std::marker::Model;
 

@@ -1,11 +1,11 @@
 // A synchronized block in memory.
 ghost use Rattle.std.specs.Prelude.{◌≡◌, ◌<◌, length, true, false, IfOk};
-ghost use Rattle.nv_base.specs.Count.{Rose};
+ghost use Rattle.block_machine.specs.nv_base.Count.{Rose};
 ghost use Rattle.ram_blocks.specs.Copies.{next_number};
 ghost use Rattle.ram_blocks.specs.Plain.{IsCopiedOut, IsCopiedIn, refused, refusing, stored, fresh_block};
 
 use crate::Copied;
-use nv_base::Bytes;
+use block_machine::nv_base::Bytes;
 use std::alloc::{AllocError, Global};
 
 /// Numbers of stores and of contents stand still here.

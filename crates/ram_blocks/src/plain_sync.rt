@@ -6,8 +6,8 @@ ghost use Rattle.ram_blocks.specs.Plain.{told_of, store_of, no_plain, stored, re
 
 use crate::plain_block::PlainBlock;
 use crate::{Copied, SyncCalls};
-use block_config::{BlockDesc, Config, RamKind};
-use nv_base::{Bytes, bytes_of};
+use block_machine::block_config::{BlockDesc, Config, RamKind};
+use block_machine::nv_base::{Bytes, bytes_of};
 use std::alloc::{AllocError, Global};
 use std::marker::Model;
 

@@ -1,14 +1,14 @@
 // A job on two copies.
 ghost use Rattle.std.specs.Prelude.{◌≡◌, ◌==◌, if◌then◌else◌, [], ◌∷◌, length, is_some};
-ghost use Rattle.block_config.specs.declared.block.BlockKind.TheVariants as kind;
+ghost use Rattle.block_machine.specs.block_config.declared.block.BlockKind.TheVariants as kind;
 ghost use Rattle.job_programs.specs.Program.{program_of, after, step_of, operation};
-ghost use Rattle.nv_base.specs.declared.job.JobStep.TheVariants.{Device};
+ghost use Rattle.block_machine.specs.nv_base.declared.job.JobStep.TheVariants.{Device};
 ghost use Rattle.redundant_blocks.specs.declared.program.RedundantProgram.TheInside.{Inside};
 ghost use Rattle.redundant_blocks.specs.Inside.{shown};
 
-use block_config::BlockDesc;
+use block_machine::block_config::BlockDesc;
+use block_machine::nv_base::{Instance, JobKind, JobStep, Outcome};
 use job_programs::{end_of_none, end_of_two, is_again, operation, retries, settles, works};
-use nv_base::{Instance, JobKind, JobStep, Outcome};
 use std::marker::Model;
 
 /// Where a job stands: it needs no operation; it is at copy 0, after so many failed tries; copy 0 is done, and it is at

@@ -2,7 +2,7 @@
 use Rattle.std.specs.Prelude.{slice_get, take}
 use Rattle.std.proofs.Common.{◌≡◌, ◌==◌, ℕ, zero, suc, false, IsTrue, [], length, refl, arith}
 use Rattle.std.proofs.lemmas.Bool.{ne_eqb, false≢true}
-use Rattle.block_config.specs.DemoConfig.{demo_config}
+use Rattle.block_machine.specs.block_config.DemoConfig.{demo_config}
 use Rattle.script_walks.specs.Callers.{program_of, requests_of, asks_of, is_over, WaitedFor, KeepsAwait, IsInOrder, IsRun, IsWholeRun}
 use Rattle.script_walks.specs.Cases.{callers_script, two_callers, impatient_caller}
 

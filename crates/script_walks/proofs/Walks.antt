@@ -5,7 +5,7 @@ use Rattle.nvm_script.specs.declared.step.Step.{Step}
 use Rattle.block_machine.specs.Words.{Entry, Ask, Pick, Wrote, Post, Off, Found, Configuration}
 use Rattle.block_machine.specs.State.{State}
 use Rattle.block_machine.specs.Steps.{after, after_from}
-use Rattle.machine_laws.specs.Laws.{HistoriesGoOn}
+use Rattle.block_laws.specs.Laws.{HistoriesGoOn}
 use Rattle.script_walks.specs.Walk.{IsPiece, IsWalkBy, joined, WalksGrow}
 
 walk_push : HistoriesGoOn → (c : Configuration) (before : List Step) (s : State) (xs : List Step) (ps : List (List Entry)) (x : Step) (p : List Entry)

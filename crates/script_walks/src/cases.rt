@@ -1,11 +1,11 @@
 // Worked cases: histories that are legal, and walks of their scripts.
 ghost use Rattle.std.specs.Prelude.{[], ◌∷◌, None, Some, false, replicate, true, ◌++◌, flat_map};
-ghost use Rattle.block_config.specs.DemoConfig.{demo_config};
+ghost use Rattle.block_machine.specs.block_config.DemoConfig.{demo_config};
 ghost use Rattle.nvm_script.specs.declared.step.StepKind.TheVariants.{Turn, Restart, Cut, Refuse};
 ghost use Rattle.block_machine.specs.Words.{CancelWriteAll, Ask, BlockPending, Canceled, Content, Erase, EraseJob, Erased, Fine, Found, IntegrityFailed, Invalid, Invalidate, InvalidateJob, Invalidated, NothingToCancel, Off, Pick, PutRam, QueueFull, ReadAll, ReadJob, Restore, RestoreJob, Restored, SetIndex, SetRam, Status, StatusIs, TookContent, Write, WriteAll, WriteAllJob, WriteJob, Wrote};
 ghost use Rattle.block_machine.specs.Cases.{write_then_read, queue_config, faults_use_up_the_tries, redundant_read_from_copy_1, redundant_config, dataset_and_rom, dataset_config, cancel_config, all_copies_refused, sync_config, readall_writeall, copy_in_refused, copy_in_config, at, bytes_1, bytes_2, config_of, four, give, ok, one_write, pick, pick_write, post, put_all, read, refused, small, write, wrote, cut_and_found};
 ghost use Rattle.script_walks.specs.Cases.{IsWalkIn, asks, cut_script, refuse_script, IsWorked, does, drain};
-ghost use Rattle.block_config.specs.Block.{plain_block};
+ghost use Rattle.block_machine.specs.block_config.Block.{plain_block};
 
 /// Writes and reads on blank and on written flash.
 pub fn simple_cases_are_walks()

@@ -3,7 +3,7 @@ ghost use Rattle.script_walks.specs.Walk.{WalksGrow, StoresGrow};
 ghost use Rattle.script_walks.specs.Callers.{RunsGrow};
 ghost use Rattle.script_walks.specs.Texts.{TextsTellLegalHistories};
 
-use machine_laws::histories_grow;
+use block_laws::histories_grow;
 use nvm_script::one_entry;
 
 /// A walk with the piece of one more step behind it is a walk.

@@ -1,11 +1,14 @@
 //! Scripts and histories: which histories a script may have, step by step in `play`, and beside each other in `run`.
-//! It promises that the worked cases are walks of their scripts and that wrong ones aren't, that a walk grows by a step's
-//! piece, and that the text of a legal history tells the history. What a history means is left to `block_machine`.
+//!
+//! It promises that the worked cases are walks of their scripts and that wrong ones aren't, that a walk grows by a
+//! step's piece, and that a legal history follows from its text. Who makes the steps, and what a history means, is left
+//! to `script_player` and `block_machine`.
 #![tactic(auto)]
 
 mod cases;
 mod laws;
 mod run_cases;
+mod store_laws;
 mod wrong_cases;
 
 pub use cases::{
@@ -14,6 +17,7 @@ pub use cases::{
 };
 pub use laws::{runs_grow, texts_tell_histories, walks_grow};
 pub use run_cases::{runs_keep_the_callers_order, walks_take_stores, wrong_walks_are_refuted};
+pub use store_laws::{stores_are_newest, turns_keep_what_is_stored};
 pub use wrong_cases::{
     near_walks_are_walks, other_pieces_are_refuted, unfinished_runs_are_refuted,
 };

@@ -1,6 +1,6 @@
 // Histories that are walks or runs, and histories that are none.
 ghost use Rattle.std.specs.Prelude.{[], ◌∷◌, None};
-ghost use Rattle.block_config.specs.DemoConfig.{demo_config};
+ghost use Rattle.block_machine.specs.block_config.DemoConfig.{demo_config};
 ghost use Rattle.nvm_script.specs.declared.step.StepKind.TheVariants.{Ask as AskStep, Store, Turn};
 ghost use Rattle.block_machine.specs.Words.{Write, WriteJob, Accepted, TookContent, TookStale, Ask, Pick, Found};
 ghost use Rattle.block_machine.specs.Legal.{IsLegal};

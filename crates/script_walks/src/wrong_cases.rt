@@ -1,6 +1,6 @@
 // Runs and walks with one thing wrong.
 ghost use Rattle.std.specs.Prelude.{[], ◌∷◌, None};
-ghost use Rattle.block_config.specs.DemoConfig.{demo_config};
+ghost use Rattle.block_machine.specs.block_config.DemoConfig.{demo_config};
 ghost use Rattle.nvm_script.specs.declared.step.StepKind.TheVariants.{Store, Turn, Restart};
 ghost use Rattle.block_machine.specs.Words.{Fine, Write, Status, Accepted, StatusIs, WriteJob, TookContent, Ask, Pick, Off, Found};
 ghost use Rattle.block_machine.specs.Cases.{ok, read, write, pick_write, wrote, bytes_1, four, sync_config, sync_plain};

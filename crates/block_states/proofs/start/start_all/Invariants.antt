@@ -1,5 +1,5 @@
 use Rattle.std.proofs.Common.{◌≡◌, ◌<◌, ℕ, length, get_or}
-use Rattle.block_config.specs.Config.{block_of}
+use Rattle.block_machine.specs.block_config.Config.{block_of}
 use Rattle.block_states.specs.States.{no_facts, started_by}
 use Rattle.block_states.proofs.start.start_all.Given as goal
 

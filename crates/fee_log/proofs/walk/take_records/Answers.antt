@@ -2,7 +2,7 @@ use Rattle.std.proofs.Common.{◌≡◌, ◌∷◌, [], ◌++◌, List, sym, ref
 use Rattle.fee_image.specs.RecordList.{Rec, records_of}
 use Rattle.fee_view.specs.View.{bank_of}
 use Rattle.fee_view.specs.Record.{rec_shown, records_in}
-use Rattle.log_image.specs.Places.{places_of}
+use Rattle.fee_image.specs.Places.{places_of}
 use Rattle.fee_log.proofs.Walking.{places_push}
 use Rattle.fee_log.proofs.walk.take_records.Goals as goal
 

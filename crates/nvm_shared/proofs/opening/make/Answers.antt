@@ -1,6 +1,6 @@
 use Rattle.std.proofs.Common.{◌≡◌, true, ap, subst}
-use Rattle.block_machine.specs.Legal.{IsLegal}
-use Rattle.stack_turns.specs.declared.turned.FoundAnswer.TheVariants as found
+use Rattle.nvm_core.specs.block_machine.Legal.{IsLegal}
+use Rattle.nvm_core.specs.nvm_laws.declared.turned.FoundAnswer.TheVariants as found
 use Rattle.nvm_core.specs.Stack.{StackState}
 use Rattle.nvm_core.specs.StartUps.{StartsKeep, StartsUp}
 use Rattle.nvm_shared.specs.declared.opening.ShareFault.TheVariants as why

@@ -1,5 +1,5 @@
 use Rattle.std.proofs.Common.{◌≡◌, ap, subst, ◌∙◌}
-use Rattle.mirror_sync.specs.Blocks.{AreEndsOf, Pairs, SyncValue}
+use Rattle.ram_mirrors_sync.specs.Blocks.{AreEndsOf, Pairs, SyncValue}
 use Rattle.nvm_tests.proofs.shared.is_shared.Goals as goal
 
 -- a field of two values that are one, whose type this crate doesn't name

@@ -1,5 +1,5 @@
 use Rattle.std.proofs.Common.{◌≡◌}
-use Rattle.mirror_sync.specs.Blocks.{IsSideIn}
+use Rattle.ram_mirrors_sync.specs.Blocks.{IsSideIn}
 use Rattle.nvm_tests.proofs.sides.store_all.Given as goal
 
 abbrev pub invariant-loop-i : goal.invariant-loop-i

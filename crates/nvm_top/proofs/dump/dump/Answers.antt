@@ -1,5 +1,5 @@
 use Rattle.std.proofs.Common.{subst}
-use Rattle.nv_base.specs.declared.geometry.Geometry.{Geometry}
+use Rattle.nvm_flash.specs.nv_base.declared.geometry.Geometry.{Geometry}
 use Rattle.nvm_top.specs.Dump.{DumpsFlash}
 use Rattle.nvm_top.specs.Output.{Writes}
 use Rattle.nvm_top.proofs.Dumps.{configured-text}

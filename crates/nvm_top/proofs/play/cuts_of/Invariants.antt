@@ -1,5 +1,5 @@
 use Rattle.std.proofs.Common.{◌≡◌, ◌≤◌, take}
-use Rattle.stack_steps.specs.Made.{cuts_of}
+use Rattle.script_player.specs.Made.{cuts_of}
 use Rattle.nvm_top.proofs.play.cuts_of.Given as goal
 
 abbrev pub invariant-loop-i : goal.invariant-loop-i

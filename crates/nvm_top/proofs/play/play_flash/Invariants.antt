@@ -1,6 +1,6 @@
-use Rattle.stack_steps.specs.Made.{cuts_of}
-use Rattle.fls_devices.specs.Cutter.{cutting, told_cutting}
-use Rattle.run_promise.specs.Promise.{making_of}
+use Rattle.script_player.specs.Made.{cuts_of}
+use Rattle.nvm_flash.specs.fls_devices.Cutter.{cutting, told_cutting}
+use Rattle.nvm_flash.specs.promise_run.Promise.{making_of}
 use Rattle.nvm_top.proofs.play.play_flash.Given as goal
 
 abbrev pub ghosts-play_driven-O-Origin : goal.ghosts-play_driven-O-Origin

@@ -1,4 +1,4 @@
-use Rattle.soak_script.specs.Soak.{soak}
+use Rattle.script_soak.specs.Soak.{soak}
 use Rattle.nvm_top.proofs.PlayLemmas.{early-flash, early-size}
 use Rattle.nvm_top.proofs.PlayLines.{size-print, never-early}
 use Rattle.nvm_top.proofs.Soaks.{soak_keeps, early_soak_keeps, soak_line}

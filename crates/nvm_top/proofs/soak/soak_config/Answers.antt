@@ -1,6 +1,6 @@
 use Rattle.std.proofs.Common.{◌≡◌, List, sym, subst}
 use Rattle.nvm_script.specs.declared.step.Step.{Step}
-use Rattle.stack_steps.specs.Made.{cuts_of}
+use Rattle.script_player.specs.Made.{cuts_of}
 use Rattle.nvm_top.specs.Promised.{HasRun, RunsAs, SoakEnds, played_call}
 use Rattle.nvm_top.proofs.Soaks.{soak_is_uncut, or_wants}
 use Rattle.nvm_top.proofs.soak.soak_config.Goals as goal

@@ -1,5 +1,5 @@
-use Rattle.fls_devices.specs.Cutter.{cutting, told_cutting}
-use Rattle.run_promise.specs.Promise.{making_of}
+use Rattle.nvm_flash.specs.fls_devices.Cutter.{cutting, told_cutting}
+use Rattle.nvm_flash.specs.promise_run.Promise.{making_of}
 use Rattle.nvm_top.proofs.soak.sum_flash.Given as goal
 
 abbrev pub ghosts-sum_driven-O-Origin : goal.ghosts-sum_driven-O-Origin

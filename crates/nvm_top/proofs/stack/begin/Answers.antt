@@ -1,8 +1,8 @@
 use Rattle.std.proofs.Common.{subst}
-use Rattle.device_clock.specs.Device.{Device, told_of}
-use Rattle.fee_core.specs.Tells.{told_clock}
-use Rattle.memif.specs.Calls.{InOrder}
-use Rattle.turn_laws.specs.Turn.{BeginsKept}
+use Rattle.nvm_flash.specs.fee_told.Device.{Device, told_of}
+use Rattle.nvm_flash.specs.fee_core.Tells.{told_clock}
+use Rattle.nvm_flash.specs.memif.Calls.{InOrder}
+use Rattle.nvm_flash.specs.nvm_device_laws.Turn.{BeginsKept}
 use Rattle.nvm_top.proofs.Driven.{if_ok, begins_up}
 use Rattle.nvm_top.proofs.stack.begin.Goals as goal
 

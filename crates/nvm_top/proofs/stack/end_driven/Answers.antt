@@ -1,7 +1,7 @@
 use Rattle.std.proofs.Common.{sym, ap, ◌∙◌, subst}
-use Rattle.device_clock.specs.Device.{Device}
-use Rattle.fee_core.specs.Tells.{told_clock}
-use Rattle.run_promise.specs.Halves.{HalvesMakeIt}
+use Rattle.nvm_flash.specs.fee_told.Device.{Device}
+use Rattle.nvm_flash.specs.fee_core.Tells.{told_clock}
+use Rattle.nvm_flash.specs.promise_run.Halves.{HalvesMakeIt}
 use Rattle.nvm_top.proofs.Driven.{vouched}
 use Rattle.nvm_top.proofs.stack.end_driven.Goals as goal
 

@@ -1,11 +1,11 @@
 use Rattle.std.proofs.Common.{List, sym, ap, subst}
-use Rattle.block_config.specs.Config.{Configuration}
-use Rattle.device_clock.specs.Device.{Device, told_of}
-use Rattle.fee_starts.specs.Made.{part_at}
-use Rattle.flash_stacks.specs.Made.{IsOrigin}
-use Rattle.played_stacks.specs.Told.{told_by}
-use Rattle.ram_blocks.specs.declared.plain_block.PlainBlock.{PlainBlock}
-use Rattle.nvm_core.specs.Stack.{StackState}
+use Rattle.nvm_flash.specs.block_config.Config.{Configuration}
+use Rattle.nvm_flash.specs.fee_told.Device.{Device, told_of}
+use Rattle.nvm_flash.specs.fee_laws.Made.{part_at}
+use Rattle.nvm_flash.specs.Made.{IsOrigin}
+use Rattle.script_player.specs.PlainTold.{told_by}
+use Rattle.nvm_flash.specs.ram_blocks.declared.plain_block.PlainBlock.{PlainBlock}
+use Rattle.nvm_flash.specs.nvm_core.Stack.{StackState}
 use Rattle.nvm_top.specs.Machine.{IsStarted, one_part}
 use Rattle.nvm_top.proofs.Driven.{started, kept_up, tells_slots, stops_by}
 use Rattle.nvm_top.proofs.stack.start_driven.Goals as goal

@@ -1,9 +1,9 @@
 use Rattle.std.proofs.Common.{Some, None, false, subst}
 use Rattle.nv_base.specs.declared.mark.Mark.TheVariants as mark
 use Rattle.memif.specs.Calls.{Accepts}
-use Rattle.device_clock.specs.Device.{Device, told_of}
-use Rattle.device_clock.specs.Clock.{clock_of}
-use Rattle.fee_state.specs.Inside.{device_of}
+use Rattle.fee_told.specs.Device.{Device, told_of}
+use Rattle.fee_told.specs.Clock.{clock_of}
+use Rattle.fee_laws.specs.Inside.{device_of}
 use Rattle.fee_core.proofs.Telling.{stays_told}
 use Rattle.fee_core.proofs.device.FeeMemDevice.start_erase.Goals as goal
 

@@ -1,8 +1,8 @@
 use Rattle.std.proofs.Common.{subst}
 use Rattle.memif.specs.Calls.{Turns}
-use Rattle.device_clock.specs.Device.{Device, told_of}
-use Rattle.device_clock.specs.Clock.{clock_of}
-use Rattle.fee_state.specs.Inside.{device_of}
+use Rattle.fee_told.specs.Device.{Device, told_of}
+use Rattle.fee_told.specs.Clock.{clock_of}
+use Rattle.fee_laws.specs.Inside.{device_of}
 use Rattle.fee_core.proofs.Telling.{turns_told}
 use Rattle.fee_core.proofs.device.FeeMemDevice.turn.Goals as goal
 

@@ -2,13 +2,13 @@ use Rattle.std.specs.Prelude.{IfSome}
 use Rattle.std.proofs.Common.{◌≡◌, ◌≤◌, ℕ, [], ap, ◌∙◌, sym, subst}
 use Rattle.nv_base.specs.Geometry.{sectors_of_bank}
 use Rattle.memif.specs.Told.{First, figures_at}
-use Rattle.switch_course.specs.Course.{most_turns}
+use Rattle.fee_course.specs.Course.{most_turns}
 use Rattle.fls_model.specs.Told.{Told, changes_in}
-use Rattle.device_bridge.specs.Bridge.{Bridges}
-use Rattle.device_clock.specs.Device.{Device, told_of}
-use Rattle.device_clock.specs.Clock.{clock_of}
-use Rattle.fee_state.specs.Inside.{device_of}
-use Rattle.fee_starts.specs.Made.{part_at}
+use Rattle.promise_device.specs.Bridge.{Bridges}
+use Rattle.fee_told.specs.Device.{Device, told_of}
+use Rattle.fee_told.specs.Clock.{clock_of}
+use Rattle.fee_laws.specs.Inside.{device_of}
+use Rattle.fee_laws.specs.Made.{part_at}
 use Rattle.fee_core.specs.Whole.{Whole}
 use Rattle.fee_core.proofs.Telling.{all_first}
 use Rattle.fee_core.proofs.fee.Fee.into_flash.Goals as goal

@@ -3,10 +3,10 @@ use Rattle.memif.specs.declared.answer.JobResult.TheVariants.{JobOk}
 use Rattle.fls_model.specs.Attach.{IsAttached}
 use Rattle.fls_jobs.specs.Start.{IsIdle}
 use Rattle.fls_jobs.specs.State.{FlsState}
-use Rattle.device_bridge.specs.Making.{Making}
-use Rattle.fee_state.specs.Inside.{Parts, fixed_in}
+use Rattle.promise_device.specs.Making.{Making}
+use Rattle.fee_laws.specs.Inside.{Parts, fixed_in}
 use Rattle.nv_base.specs.Geometry.{sectors_of_bank}
-use Rattle.switch_course.specs.Course.{most_turns}
+use Rattle.fee_course.specs.Course.{most_turns}
 use Rattle.fee_core.specs.Whole.{Sound}
 use Rattle.fee_core.proofs.Telling.{all_first}
 use Rattle.fee_core.proofs.fee.Fee.make.Goals as goal

@@ -2,8 +2,8 @@ use Rattle.std.specs.Prelude.{ℕ}
 use Rattle.std.proofs.Common.{refl, sym, subst}
 use Rattle.memif.specs.Calls.{Arms}
 use Rattle.fls_jobs.specs.State.{FlsState}
-use Rattle.fee_state.specs.Inside.{Parts}
-use Rattle.fee_starts.specs.Parts.{with_plan}
+use Rattle.fee_laws.specs.Inside.{Parts}
+use Rattle.fee_laws.specs.Parts.{with_plan}
 use Rattle.fee_core.specs.Whole.{Whole, Sound, told_in, clock_in}
 use Rattle.fee_core.proofs.Started.{told_at, clock_at}
 use Rattle.fee_core.proofs.parts.FeeParts.arm.Goals as goal

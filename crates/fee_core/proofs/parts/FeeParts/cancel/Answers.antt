@@ -2,8 +2,8 @@ use Rattle.std.specs.Prelude.{not}
 use Rattle.std.proofs.Common.{◌≡◌, ◌∙◌, false, sym, ap, subst}
 use Rattle.memif.specs.Told.{is_urgent}
 use Rattle.memif.specs.Calls.{Cancels}
-use Rattle.fee_state.specs.Inside.{Parts}
-use Rattle.fee_starts.specs.Parts.{canceled}
+use Rattle.fee_laws.specs.Inside.{Parts}
+use Rattle.fee_laws.specs.Parts.{canceled}
 use Rattle.fee_core.specs.Whole.{Whole, Sound, told_in, clock_in}
 use Rattle.fee_core.proofs.Canceling.{ends, given_follows}
 use Rattle.fee_core.proofs.Started.{told_at, clock_at}

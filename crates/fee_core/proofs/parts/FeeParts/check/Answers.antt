@@ -5,7 +5,7 @@ use Rattle.nv_base.specs.declared.instance.DeviceNumber.{DeviceNumber}
 use Rattle.memif.specs.declared.answer.DeviceRefusal.TheVariants.{BadNumber, BadLength}
 use Rattle.memif.specs.Told.{length_of}
 use Rattle.memif.specs.Calls.{refusal_of}
-use Rattle.fee_state.specs.Inside.{Parts}
+use Rattle.fee_laws.specs.Inside.{Parts}
 use Rattle.fee_core.specs.Whole.{Whole, Sound, told_in}
 use Rattle.fee_core.proofs.Looking.{length_at, length_none, few_at, refusal_at}
 use Rattle.fee_core.proofs.parts.FeeParts.check.Goals as goal

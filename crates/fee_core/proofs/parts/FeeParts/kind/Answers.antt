@@ -3,11 +3,11 @@ use Rattle.std.proofs.Common.{◌≡◌, true, Option, None, sym, ap, ◌∙◌,
 use Rattle.memif.specs.declared.answer.PlainMark.TheVariants as plain
 use Rattle.memif.specs.Told.{slot_at}
 use Rattle.memif.specs.Calls.{kind_of}
-use Rattle.bank_start.specs.declared.active.ActiveBank.{ActiveBank}
+use Rattle.fee_switch.specs.declared.active.ActiveBank.{ActiveBank}
 use Rattle.fee_log.specs.Index.{place_in}
 use Rattle.fee_log.specs.Log.{LogState}
-use Rattle.device_clock.specs.Device.{slots_told}
-use Rattle.fee_state.specs.Inside.{Parts, device_of}
+use Rattle.fee_told.specs.Device.{slots_told}
+use Rattle.fee_laws.specs.Inside.{Parts, device_of}
 use Rattle.fee_core.specs.Whole.{Whole, Sound}
 use Rattle.fee_core.proofs.Settled.{kind_at, kind_erased, place_now, kind_is, kinds_told, place_is}
 use Rattle.fee_core.proofs.parts.FeeParts.kind.Goals as goal

@@ -2,9 +2,9 @@ use Rattle.std.proofs.Common.{◌≡◌, ◌+◌, ℕ, false, [], sym, ap, ◌�
 use Rattle.nv_base.specs.Geometry.{IsLegal, sectors_of_bank}
 use Rattle.memif.specs.declared.answer.JobResult.TheVariants.{JobOk}
 use Rattle.memif.specs.Told.{Figures, Ended, most_of}
-use Rattle.switch_course.specs.Course.{most_turns}
-use Rattle.device_figures.specs.Figures.{Work}
-use Rattle.fee_state.specs.Work.{pages_of_op}
+use Rattle.fee_course.specs.Course.{most_turns}
+use Rattle.fee_told.specs.Figures.{Work}
+use Rattle.fee_laws.specs.Work.{pages_of_op}
 use Rattle.fee_core.specs.Whole.{Sound}
 use Rattle.fee_core.proofs.Looking.{figure_at, most_is, one_is}
 use Rattle.fee_core.proofs.parts.FeeParts.most.Goals as goal

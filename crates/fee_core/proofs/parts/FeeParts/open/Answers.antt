@@ -1,9 +1,9 @@
 use Rattle.std.proofs.Common.{ap, ◌∙◌, sym, subst, Option}
 use Rattle.nv_base.specs.declared.mark.Mark.{Mark}
 use Rattle.memif.specs.Calls.{Opens, ClockStays}
-use Rattle.fee_state.specs.Inside.{Parts, mark_of}
-use Rattle.fee_starts.specs.Laws.{MayOpen, IsPromised}
-use Rattle.fee_starts.specs.Parts.{opened}
+use Rattle.fee_laws.specs.Inside.{Parts, mark_of}
+use Rattle.fee_laws.specs.CallLaws.{MayOpen, IsPromised}
+use Rattle.fee_laws.specs.Parts.{opened}
 use Rattle.fee_core.specs.Whole.{Whole, Sound, told_in, clock_in}
 use Rattle.fee_core.proofs.Looking.{mark_at}
 use Rattle.fee_core.proofs.Standing.{same_beside}

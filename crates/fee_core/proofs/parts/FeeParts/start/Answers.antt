@@ -1,6 +1,6 @@
 use Rattle.std.proofs.Common.{◌≡◌, true, false, Ok, Err, refl, sym, subst}
 use Rattle.nv_base.specs.Count.{next_count}
-use Rattle.fee_state.specs.Inside.{Parts}
+use Rattle.fee_laws.specs.Inside.{Parts}
 use Rattle.memif.specs.declared.answer.StartFault.TheVariants.{Fault}
 use Rattle.memif.specs.Calls.{StartsUp}
 use Rattle.fee_core.specs.Whole.{Whole, Sound, told_in, clock_in}

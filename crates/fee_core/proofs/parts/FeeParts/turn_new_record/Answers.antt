@@ -4,10 +4,10 @@ use Rattle.nv_base.specs.Pages.{record_pages_of}
 use Rattle.fee_format.specs.declared.rec_head.RecHead.{RecHead}
 use Rattle.fee_log.specs.Log.{IsFor, free_in, head_next, work_in}
 use Rattle.fee_switch.specs.Banks.{BanksState, TakesRecord, append_begun}
-use Rattle.fee_state.specs.Inside.{Parts, IsSound}
-use Rattle.fee_state.specs.Record.{head_of}
-use Rattle.fee_turns.specs.Begins.{Begun}
-use Rattle.fee_room.specs.Follows.{Follows}
+use Rattle.fee_laws.specs.Inside.{Parts, IsSound}
+use Rattle.fee_laws.specs.Record.{head_of}
+use Rattle.fee_laws.specs.Begins.{Begun}
+use Rattle.fee_laws.specs.Follows.{Follows}
 use Rattle.fee_core.specs.Beginning.{begins_now}
 use Rattle.fee_core.specs.Whole.{Whole, Sound, TurnedTo}
 use Rattle.fee_core.proofs.Begun.{may_begin, has_room_for, begun_work}

@@ -1,14 +1,14 @@
 use Rattle.std.specs.Prelude.{is_some, IfSome}
 use Rattle.std.proofs.Common.{◌≡◌, inr, ℕ, Bool, false, Option, refl, sym, ap, ◌∙◌, subst}
 use Rattle.fee_log.specs.Log.{work_in}
-use Rattle.switch_course.specs.declared.course.Course.TheVariants.{Erase}
+use Rattle.fee_course.specs.declared.course.Course.TheVariants.{Erase}
 use Rattle.fee_switch.specs.Banks.{BanksState, begun_again, is_worn_out}
-use Rattle.fee_state.specs.declared.job.FeeJob.{FeeJob}
-use Rattle.fee_state.specs.Inside.{Parts, IsSound}
-use Rattle.fee_state.specs.Work.{fits_in}
-use Rattle.fee_turns.specs.Begins.{Begun, MaySwitch}
-use Rattle.fee_turns.specs.Switches.{IsBehind}
-use Rattle.fee_room.specs.Follows.{Follows}
+use Rattle.fee_laws.specs.declared.job.FeeJob.{FeeJob}
+use Rattle.fee_laws.specs.Inside.{Parts, IsSound}
+use Rattle.fee_laws.specs.Work.{fits_in}
+use Rattle.fee_laws.specs.Begins.{Begun, MaySwitch}
+use Rattle.fee_laws.specs.Switches.{IsBehind}
+use Rattle.fee_laws.specs.Follows.{Follows}
 use Rattle.fee_core.specs.Whole.{Whole, Sound, TurnedTo}
 use Rattle.fee_core.proofs.Begun.{configured, waits_behind}
 use Rattle.fee_core.proofs.Standing.{is_on}

@@ -9,12 +9,12 @@ use Rattle.fls_model.specs.Read.{IsRead}
 use Rattle.fls_jobs.specs.CallOf.{closed_as}
 use Rattle.fee_log.specs.Index.{place_in}
 use Rattle.fee_log.specs.Log.{LogState}
-use Rattle.fee_turns.specs.Turn.{ended_as}
-use Rattle.fee_turns.specs.Reads.{IsReading, IsErasedAt}
+use Rattle.fee_laws.specs.Turn.{ended_as}
+use Rattle.fee_laws.specs.Reads.{IsReading, IsErasedAt}
 use Rattle.fee_core.proofs.Reading.{read_some, read_within, read_failed, asked_for}
 use Rattle.fee_core.proofs.Standing.{power, is_on, turned_to, job_is, job_few}
 use Rattle.memif.specs.declared.answer.DeviceTurn.TheVariants as turn
-use Rattle.fee_state.specs.Inside.{Parts}
+use Rattle.fee_laws.specs.Inside.{Parts}
 use Rattle.fee_core.specs.Whole.{Whole, Sound, TurnedTo}
 use Rattle.fee_core.proofs.parts.FeeParts.turn_read.Goals as goal
 

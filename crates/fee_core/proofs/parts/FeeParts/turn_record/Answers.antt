@@ -6,12 +6,12 @@ use Rattle.memif.specs.declared.answer.JobResult.TheVariants.{JobOk, JobFailed}
 use Rattle.fls_model.specs.declared.flash.FlashAnswer.TheVariants.{Done, Failed, Off}
 use Rattle.fee_log.specs.Log.{work_in}
 use Rattle.fee_log.specs.Step.{commits}
-use Rattle.fee_turns.specs.Appends.{after_page}
-use Rattle.fee_turns.specs.Turn.{ended_as}
+use Rattle.fee_laws.specs.Appends.{after_page}
+use Rattle.fee_laws.specs.Turn.{ended_as}
 use Rattle.fee_core.proofs.Appending.{appending, paged}
 use Rattle.fee_core.proofs.Standing.{is_on, turned_to, job_few}
 use Rattle.memif.specs.declared.answer.DeviceTurn.TheVariants as turn
-use Rattle.fee_state.specs.Inside.{Parts}
+use Rattle.fee_laws.specs.Inside.{Parts}
 use Rattle.fee_core.specs.Whole.{Whole, Sound, TurnedTo}
 use Rattle.fee_core.proofs.parts.FeeParts.turn_record.Goals as goal
 

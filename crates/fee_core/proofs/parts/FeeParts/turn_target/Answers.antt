@@ -3,12 +3,12 @@ use Rattle.std.proofs.Common.{◌≡◌, true, false, Option, refl, sym, ap, ◌
 use Rattle.nv_base.specs.Count.{next_count}
 use Rattle.fls_model.specs.declared.flash.FlashAnswer.TheVariants.{Done, Failed, Off}
 use Rattle.fee_log.specs.Log.{work_in}
-use Rattle.switch_course.specs.declared.course.Course.{Course}
+use Rattle.fee_course.specs.declared.course.Course.{Course}
 use Rattle.fee_switch.specs.Banks.{reads_next}
 use Rattle.fee_switch.specs.Copy.{IsBankStep}
-use Rattle.fee_turns.specs.Switches.{IsBehind, failed_with}
+use Rattle.fee_laws.specs.Switches.{IsBehind, failed_with}
 use Rattle.memif.specs.declared.answer.DeviceTurn.TheVariants as turn
-use Rattle.fee_state.specs.Inside.{Parts}
+use Rattle.fee_laws.specs.Inside.{Parts}
 use Rattle.fee_core.specs.Whole.{Whole, Sound, TurnedTo}
 use Rattle.fee_core.proofs.Standing.{is_on, turned_to, some_at}
 use Rattle.fee_core.proofs.Stepping.{IsCalled, not_worn, may_step, done_more, done_ended, failed_is, off_is, goes_on, fails, is_cut, follows_on}

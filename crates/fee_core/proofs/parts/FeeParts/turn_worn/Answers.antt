@@ -4,10 +4,10 @@ use Rattle.memif.specs.declared.answer.DeviceTurn.TheVariants as turn
 use Rattle.memif.specs.declared.answer.JobResult.TheVariants.{JobFailed}
 use Rattle.fee_log.specs.Log.{work_in}
 use Rattle.fee_switch.specs.Banks.{is_worn_out}
-use Rattle.fee_state.specs.Inside.{Parts}
-use Rattle.fee_state.specs.Work.{fits_in}
-use Rattle.fee_turns.specs.Turn.{ended_as}
-use Rattle.fee_turns.specs.Worn.{IsWornNow, worn_with}
+use Rattle.fee_laws.specs.Inside.{Parts}
+use Rattle.fee_laws.specs.Work.{fits_in}
+use Rattle.fee_laws.specs.Turn.{ended_as}
+use Rattle.fee_laws.specs.Worn.{IsWornNow, worn_with}
 use Rattle.fee_core.specs.Whole.{Whole, Sound, TurnedTo}
 use Rattle.fee_core.proofs.Standing.{is_on, turned_to}
 use Rattle.fee_core.proofs.parts.FeeParts.turn_worn.Goals as goal

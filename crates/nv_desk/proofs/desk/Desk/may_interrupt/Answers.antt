@@ -4,7 +4,7 @@ use Rattle.block_machine.specs.State.{Job}
 use Rattle.block_machine.specs.Legal.{MayInterrupt}
 use Rattle.block_machine.specs.Steps.{after}
 use Rattle.block_machine.specs.Next.{next_in}
-use Rattle.pending_jobs.specs.Pending.{Agree}
+use Rattle.job_pending.specs.Pending.{Agree}
 use Rattle.nv_desk.specs.Desk.{DeskState, state_of}
 use Rattle.nv_desk.proofs.Picks.{interruption}
 use Rattle.nv_desk.proofs.desk.Desk.may_interrupt.Goals as goal

@@ -3,7 +3,7 @@ use Rattle.block_machine.specs.Words.{Pick}
 use Rattle.block_machine.specs.Blocks.{desc_of, job_block, kind_of}
 use Rattle.block_machine.specs.Steps.{after}
 use Rattle.block_machine.specs.Next.{next_in}
-use Rattle.pending_jobs.specs.Took.{taken_with}
+use Rattle.job_pending.specs.Took.{taken_with}
 use Rattle.nv_desk.specs.Desk.{DeskState, state_of}
 use Rattle.nv_desk.specs.Picks.{took_of}
 use Rattle.nv_desk.proofs.Contents.{ram_is_whole, job_takes, copied_fits}

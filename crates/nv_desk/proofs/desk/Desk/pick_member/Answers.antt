@@ -4,7 +4,7 @@ use Rattle.block_machine.specs.Blocks.{desc_of}
 use Rattle.block_machine.specs.Sweeps.{member_kind}
 use Rattle.block_machine.specs.Next.{PickMember, next_of}
 use Rattle.block_machine.specs.Steps.{after}
-use Rattle.pending_jobs.specs.Took.{taken_with}
+use Rattle.job_pending.specs.Took.{taken_with}
 use Rattle.nv_desk.specs.Desk.{DeskState, state_of}
 use Rattle.nv_desk.specs.Picks.{took_of}
 use Rattle.nv_desk.proofs.AllBlocks.{kept_sweep}

@@ -1,17 +1,17 @@
 use Rattle.std.proofs.Common.{◌≡◌, sym, subst, ◌∙◌, true}
-use Rattle.memif.specs.Clock.{SameClock}
+use Rattle.nvm_core.specs.memif.Clock.{SameClock}
 use Rattle.turn_gate.specs.Pass.{knows}
-use Rattle.nv_front.specs.Front.{AreSynchronized}
-use Rattle.nv_desk.specs.Desk.{DeskState, state_of}
-use Rattle.stack_turns.specs.Ties.{IsTied}
-use Rattle.stack_turns.specs.Keeps.{StackKeeps, StaysKept}
-use Rattle.stack_turns.specs.declared.turned.Act.{Act}
-use Rattle.stack_bounds.specs.Laws.{NextIsPending}
-use Rattle.shared_laws.specs.Behind.{HandIsPending}
-use Rattle.stack_work.specs.Work.{program_in_hand}
-use Rattle.first_half.specs.Lowers.{HalfLeft}
+use Rattle.nvm_core.specs.nv_desk_copies.Front.{AreSynchronized}
+use Rattle.nvm_core.specs.nv_desk.Desk.{DeskState, state_of}
+use Rattle.nvm_core.specs.nvm_laws.Ties.{IsTied}
+use Rattle.nvm_core.specs.nvm_laws.Keeps.{StackKeeps, StaysKept}
+use Rattle.nvm_core.specs.nvm_laws.declared.turned.Act.{Act}
+use Rattle.nvm_core.specs.nvm_laws.DueLaws.{NextIsPending}
+use Rattle.nvm_shared.specs.Behind.{HandIsPending}
+use Rattle.nvm_core.specs.nvm_laws.Work.{program_in_hand}
+use Rattle.nvm_core.specs.Lowers.{HalfLeft}
 use Rattle.nvm_core.specs.Turns.{IsFirstHalf}
-use Rattle.nvm_core.proofs.Turned.{half_adds}
+use Rattle.nvm_core.proofs.TurnsMade.{half_adds}
 use Rattle.nvm_shared.specs.declared.terms.Terms.{Terms}
 use Rattle.nvm_shared.specs.Locked.{desk_with}
 use Rattle.nvm_shared.specs.Driving.{BeginsTurn, DriverState, Drives, stack_with}

@@ -1,22 +1,22 @@
 use Rattle.std.proofs.Common.{◌≡◌, refl, sym, ap, subst, ◌∙◌, false, Option}
-use Rattle.memif.specs.Told.{ops_of}
+use Rattle.nvm_core.specs.memif.Told.{ops_of}
 use Rattle.turn_gate.specs.Pass.{knows}
-use Rattle.block_machine.specs.Words.{Entry}
-use Rattle.nv_front.specs.Front.{AreSynchronized}
-use Rattle.nv_desk.specs.Desk.{DeskState, state_of}
-use Rattle.job_hands.specs.Hand.{HandState}
-use Rattle.stack_turns.specs.Ties.{IsTied}
-use Rattle.stack_turns.specs.Turns.{AddsBy, hand_by}
-use Rattle.stack_turns.specs.Keeps.{StaysKept}
-use Rattle.stack_turns.specs.declared.turned.Turned.{Turned}
-use Rattle.stack_bounds.specs.Due.{IsDueInHand, IsNearer}
-use Rattle.stack_bounds.specs.Laws.{NextIsPending}
-use Rattle.second_half.specs.Second.{IsBehindTurn, TurnsDevice, asked_by}
-use Rattle.second_half.proofs.Turned.{asked_is, has_turned}
+use Rattle.nvm_core.specs.block_machine.Words.{Entry}
+use Rattle.nvm_core.specs.nv_desk_copies.Front.{AreSynchronized}
+use Rattle.nvm_core.specs.nv_desk.Desk.{DeskState, state_of}
+use Rattle.nvm_core.specs.job_progress.Hand.{HandState}
+use Rattle.nvm_core.specs.nvm_laws.Ties.{IsTied}
+use Rattle.nvm_core.specs.nvm_laws.Turns.{AddsBy, hand_by}
+use Rattle.nvm_core.specs.nvm_laws.Keeps.{StaysKept}
+use Rattle.nvm_core.specs.nvm_laws.declared.turned.Turned.{Turned}
+use Rattle.nvm_core.specs.nvm_laws.Due.{IsDueInHand, IsNearer}
+use Rattle.nvm_core.specs.nvm_laws.DueLaws.{NextIsPending}
+use Rattle.nvm_core.specs.BehindDevice.{IsBehindTurn, TurnsDevice, asked_by}
+use Rattle.nvm_core.proofs.TurnedBehind.{asked_is, has_turned}
 use Rattle.nvm_core.specs.Due.{now_of}
 use Rattle.nvm_core.proofs.Serving.{nearer_by}
 use Rattle.nvm_core.proofs.Working.{work_lowers}
-use Rattle.shared_laws.specs.Behind.{HandIsPending}
+use Rattle.nvm_shared.specs.Behind.{HandIsPending}
 use Rattle.nvm_shared.specs.Locked.{desk_with}
 use Rattle.nvm_shared.specs.Driving.{DriverState, MayEnd, stack_of}
 use Rattle.nvm_shared.proofs.Turning.{Behind, Enters, behind, desk_behind, extended, left, turns_device}

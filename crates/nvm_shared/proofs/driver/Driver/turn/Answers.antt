@@ -1,23 +1,23 @@
 use Rattle.std.proofs.Common.{◌≡◌, ℕ, inl, inr, refl, sym, ap, subst, ◌∙◌, arith}
-use Rattle.nv_base.specs.Count.{Rose}
-use Rattle.memif.specs.Told.{DeviceTold}
-use Rattle.memif.proofs.Turning.{lasts_more}
-use Rattle.turn_laws.specs.Cuts.{CutsInATurnKeep}
+use Rattle.nvm_core.specs.nv_base.Count.{Rose}
+use Rattle.nvm_core.specs.memif.Told.{DeviceTold}
+use Rattle.nvm_core.proofs.memif.Turning.{lasts_more}
+use Rattle.nvm_core.specs.nvm_device_laws.Cuts.{CutsInATurnKeep}
 use Rattle.turn_gate.specs.Pass.{knows}
-use Rattle.nv_desk.specs.Desk.{DeskState, state_of}
+use Rattle.nvm_core.specs.nv_desk.Desk.{DeskState, state_of}
 use Rattle.nvm_shared.specs.Locked.{desk_with}
 use Rattle.nvm_shared.specs.Driving.{DriverState}
-use Rattle.turn_figures.specs.Laws.{TurnsLower}
-use Rattle.shared_laws.specs.Behind.{with_more}
+use Rattle.nvm_core.specs.nvm_figures.Laws.{TurnsLower}
+use Rattle.nvm_shared.specs.Behind.{with_more}
 use Rattle.nvm_core.proofs.Leaving.{ended_takes, turn_takes}
 use Rattle.nvm_core.proofs.Lowering.{device_lowers, ended_lowers, leaves_counts}
-use Rattle.nvm_core.proofs.Turned.{never_worked}
+use Rattle.nvm_core.proofs.TurnsMade.{never_worked}
 use Rattle.nvm_core.proofs.Paying.{device_lasts, half_lasts}
 use Rattle.nvm_core.proofs.Working.{device_counts}
 use Rattle.nvm_shared.specs.Driving.{stack_of}
 use Rattle.nvm_shared.proofs.Learning.{both_learn, half_learns, takes_with}
 use Rattle.nvm_shared.proofs.Serving.{ended_serves, less_before, lowers_ended, none_before, off_before}
-use Rattle.stack_turns.specs.declared.turned.Turned.TheVariants as turned
+use Rattle.nvm_core.specs.nvm_laws.declared.turned.Turned.TheVariants as turned
 use Rattle.nvm_shared.proofs.driver.Driver.turn.Goals as goal
 
 pub finish-answer-requires-clause-turned : goal.finish-answer-requires-clause-turned

@@ -1,6 +1,6 @@
 use Rattle.std.proofs.Common.{refl, sym, ap, subst, ◌∙◌}
-use Rattle.nv_desk.specs.Desk.{state_of}
-use Rattle.hand_laws.specs.Hands.{HandFits}
+use Rattle.nvm_core.specs.nv_desk.Desk.{state_of}
+use Rattle.nvm_core.specs.job_progress.JobInHand.{HandFits}
 use Rattle.nvm_core.specs.Turns.{IsFirstHalf}
 use Rattle.nvm_shared.specs.Locked.{LockedState}
 use Rattle.nvm_shared.specs.Driving.{stack_with}

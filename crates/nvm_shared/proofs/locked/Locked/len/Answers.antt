@@ -1,7 +1,7 @@
 use Rattle.std.proofs.Common.{subst}
-use Rattle.nv_desk.specs.Desk.{state_of}
-use Rattle.block_machine.specs.Next.{next_in}
-use Rattle.stack_bounds.specs.Laws.{NextIsPending}
+use Rattle.nvm_core.specs.nv_desk.Desk.{state_of}
+use Rattle.nvm_core.specs.block_machine.Next.{next_in}
+use Rattle.nvm_core.specs.nvm_laws.DueLaws.{NextIsPending}
 use Rattle.nvm_shared.specs.Locked.{LockedState}
 use Rattle.nvm_shared.proofs.Serving.{next_pending}
 use Rattle.nvm_shared.proofs.locked.Locked.len.Goals as goal

@@ -1,6 +1,6 @@
 use Rattle.std.proofs.Common.{refl, sym, ap, subst, ◌∙◌}
-use Rattle.memif.specs.Told.{ops_of}
-use Rattle.second_half.specs.Second.{IsBehindTurn}
+use Rattle.nvm_core.specs.memif.Told.{ops_of}
+use Rattle.nvm_core.specs.BehindDevice.{IsBehindTurn}
 use Rattle.nvm_shared.specs.Locked.{LockedState, terms_of}
 use Rattle.nvm_shared.proofs.Writing.{adds_writes, entry_driven, locked_on, writes_terms}
 use Rattle.nvm_shared.proofs.locked.Locked.second_half.Goals as goal

@@ -1,7 +1,7 @@
 use Rattle.std.proofs.Common.{List, ap, sym, subst}
 use Rattle.turn_gate.specs.Entries.{StartsWith}
 use Rattle.turn_gate.specs.Pass.{knows}
-use Rattle.block_machine.specs.Words.{Entry, Ask}
+use Rattle.nvm_core.specs.block_machine.Words.{Entry, Ask}
 use Rattle.nvm_shared.specs.Passes.{Asked}
 use Rattle.nvm_shared.proofs.Asking.{asked_by, starts_on}
 use Rattle.nvm_shared.proofs.shared.Shared.ask.Goals as goal

@@ -1,9 +1,9 @@
 use Rattle.std.proofs.Common.{List, sym, ap, subst}
-use Rattle.block_machine.specs.Words.{Entry}
-use Rattle.nv_desk.specs.Desk.{DeskState}
+use Rattle.nvm_core.specs.block_machine.Words.{Entry}
+use Rattle.nvm_core.specs.nv_desk.Desk.{DeskState}
 use Rattle.turn_gate.specs.Entries.{AllAgree, AllHeard}
 use Rattle.turn_gate.specs.Pass.{OwnsAll, knows}
-use Rattle.shared_laws.specs.StatusWords.{gives}
+use Rattle.nvm_shared.specs.StatusWords.{gives}
 use Rattle.nvm_shared.proofs.shared.Shared.close.Goals as goal
 
 pub returns-clause-all : goal.returns-clause-all

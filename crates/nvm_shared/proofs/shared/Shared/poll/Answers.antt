@@ -1,7 +1,7 @@
 use Rattle.std.proofs.Common.{ℕ, subst}
 use Rattle.turn_gate.specs.Entries.{NotBelow}
 use Rattle.turn_gate.specs.Pass.{knows}
-use Rattle.shared_laws.specs.StatusWords.{gives}
+use Rattle.nvm_shared.specs.StatusWords.{gives}
 use Rattle.nvm_shared.proofs.shared.Shared.poll.Goals as goal
 
 pub returns-clause-fresh : goal.returns-clause-fresh

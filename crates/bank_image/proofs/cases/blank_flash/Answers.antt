@@ -1,8 +1,0 @@
-use Rattle.std.proofs.Common.{refl, arith}
-use Rattle.fee_image.specs.Cases.{small, pages}
-use Rattle.log_image.specs.Cases.{numbers}
-use Rattle.bank_image.specs.Laws.{found_alone}
-use Rattle.bank_image.proofs.cases.blank_flash.Goals as goal
-
-pub returns : goal.returns
-returns c = c.banks_load.ensures.none small numbers (pages 24 255) 0 (found_alone small (pages 24 255)) (omega arith) (c.blank_images.ensures.sound small 384) refl (omega arith)

@@ -1,3 +1,0 @@
-pub mod Active
-pub mod Laws
-pub mod Reading

@@ -1,5 +1,0 @@
-pub mod Clocks
-pub mod Making
-pub mod Parts
-pub mod Runs
-pub mod Tells

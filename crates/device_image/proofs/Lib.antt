@@ -1,4 +1,0 @@
-pub mod Held
-pub mod Places
-pub mod Slots
-pub mod Steps

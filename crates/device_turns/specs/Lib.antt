@@ -1,5 +1,0 @@
-pub mod Appends
-pub mod Jobs
-pub mod Kept
-pub mod Switches
-pub mod Whole

@@ -1,0 +1,43 @@
+-- Steps along the numbers.
+use Rattle.std.proofs.Common.{◌≡◌, ◌<◌, ◌+◌, ℕ, suc, Bool, true, List, length, drop, get_or, Option, Some, None, option_map, refl, drop-cons, cond, arith}
+use Rattle.std.specs.Prelude.{max}
+use Rattle.std.proofs.lemmas.List.{length-set}
+use Rattle.nv_base.specs.Pages.{record_pages_of}
+use Rattle.nv_base.specs.declared.instance.DeviceNumber.{DeviceNumber}
+use Rattle.fee_image.specs.declared.place.Place.{Place}
+use Rattle.fee_image.specs.declared.place.Place.TheVariants.{Content}
+use Rattle.fee_course.specs.declared.copies.Source.{Source}
+use Rattle.fee_course.specs.Copies.{turns_of, is_left, later, next_copy, copies_left, copies_most, greatest, as_copied, as_appended}
+
+pub left_step : (p : ℕ) (ns : List (DeviceNumber × ℕ)) (ps : List Place) (cs : List Bool) (i : ℕ) (n : DeviceNumber × ℕ) (x : Place) (c : Bool)
+    → i < length ns → i < length ps → i < length cs
+    → copies_left p (drop i ns) (drop i ps) (drop i cs)
+    ≡ turns_of p (get_or ns i n).1 (get_or ps i x) (get_or cs i c) + copies_left p (drop (suc i) ns) (drop (suc i) ps) (drop (suc i) cs)
+left_step p ns ps cs i n x c a b d = rw (drop-cons ns i n, drop-cons ps i x, drop-cons cs i c) refl
+
+pub next_step : (ns : List (DeviceNumber × ℕ)) (ps : List Place) (cs : List Bool) (i : ℕ) (n : DeviceNumber × ℕ) (x : Place) (c : Bool)
+    → i < length ns → i < length ps → i < length cs
+    → next_copy (drop i ns) (drop i ps) (drop i cs)
+    ≡ cond (is_left (get_or ps i x) (get_or cs i c)) (Some (record { index = 0; length = (get_or ns i n).1; place = get_or ps i x }))
+    (option_map (later 1) (next_copy (drop (suc i) ns) (drop (suc i) ps) (drop (suc i) cs)))
+next_step ns ps cs i n x c a b d = rw (drop-cons ns i n, drop-cons ps i x, drop-cons cs i c) refl
+
+pub later_twice : (i : ℕ) (s : Option Source) → option_map (later i) (option_map (later 1) s) ≡ option_map (later (i + 1)) s
+later_twice i None = refl
+later_twice i (Some s) = let e : s.index + 1 + i ≡ s.index + (i + 1) = omega arith in rw e refl
+
+pub most_step : (p : ℕ) (ns : List (DeviceNumber × ℕ)) (i : ℕ) (n : DeviceNumber × ℕ) → i < length ns
+    → copies_most p (drop i ns) ≡ record_pages_of (get_or ns i n).1 p + 1 + copies_most p (drop (suc i) ns)
+most_step p ns i n lt = rw (drop-cons ns i n) refl
+
+pub greatest_step : (p : ℕ) (ns : List (DeviceNumber × ℕ)) (i : ℕ) (n : DeviceNumber × ℕ) → i < length ns
+    → greatest p (drop i ns) ≡ max (record_pages_of (get_or ns i n).1 p) (greatest p (drop (suc i) ns))
+greatest_step p ns i n lt = rw (drop-cons ns i n) refl
+
+pub appended_length : (a : Option ℕ) (ps : List Place) → length (as_appended a ps) ≡ length ps
+appended_length None ps = refl
+appended_length (Some i) ps = length-set ps i (Content 0 0)
+
+pub copied_length : (a : Option ℕ) (cs : List Bool) → length (as_copied a cs) ≡ length cs
+copied_length None cs = refl
+copied_length (Some i) cs = length-set cs i true

@@ -1,0 +1,80 @@
+-- A plan of a power cut.
+use Rattle.std.specs.Prelude.{nat_le, ◌-◌, ◌&&◌, if◌then◌else◌}
+use Rattle.std.proofs.Common.{◌≡◌, ◌⊎◌, inl, inr, ◌≤◌, ◌+◌, ℕ, Bool, true, false, List, Some, refl, subst, arith}
+use Rattle.nv_base.specs.Count.{WereCounted, last_count}
+use Rattle.nv_base.specs.Plan.{Planning, planned}
+use Rattle.memif.specs.Calls.{ClockStays}
+use Rattle.fls_model.specs.Told.{Told, armed}
+use Rattle.promise_device.specs.Making.{Making}
+use Rattle.fee_told.specs.Device.{Device, told_of}
+use Rattle.fee_told.specs.Clock.{ClocksStay, MakesNone, clock_of}
+use Rattle.fee_told.specs.Runs.{RunsStay, CountsCuts}
+use Rattle.nv_base.specs.declared.instance.DeviceNumber.{DeviceNumber}
+use Rattle.fee_laws.specs.Inside.{Parts, device_of, IsDevice, IsSound, ShowsCopies}
+use Rattle.fee_laws.proofs.Making.{shown_as}
+use Rattle.fee_laws.specs.Parts.{with_plan}
+use Rattle.fee_laws.proofs.CallOrder.{finds_on}
+
+same_cuts : (b : Bool) (p q : Planning) → q.unplanned ≡ p.unplanned → (if b then q else p).unplanned ≡ p.unplanned
+same_cuts true p q e = e
+same_cuts false p q e = refl
+
+cuts_stay : (nth keep : ℕ) (p : Planning) → (planned nth keep p).unplanned ≡ p.unplanned
+cuts_stay nth keep p = same_cuts (nat_le 1 p.takes && nat_le 1 nth) p (record p { plan = Some (record { left = nth; keep = keep }); takes = p.takes - 1 }) refl
+
+module _ (stay : ClocksStay) (runs : RunsStay) (m : Making) (entry : Told) (s : Parts) (nth keep : ℕ) where
+  abbrev d : Device
+  d = device_of m entry s
+
+  abbrev t : Device
+  t = device_of m entry (with_plan nth keep s)
+
+  none : MakesNone d t
+  none = record { making = refl; entry = refl; operations = refl; bytes = refl }
+
+  counted : CountsCuts entry d.flash → CountsCuts entry t.flash
+  counted cuts n were = cuts n (subst (λ (u : ℕ). WereCounted n entry.planning.unplanned u) (cuts_stay nth keep s.fls.flash.planning) were)
+
+  pub arm_keeps : IsDevice d → IsDevice t
+  arm_keeps is = record {
+    run = runs d t is.run (record { none = none; bytes = refl; counts = (refl, refl); flash_faults = omega arith; faults = is.run.faults; cuts = counted is.run.cuts; worn = λ since e. inl e });
+    held = λ started. (let h = is.held started in record { behind = h.behind; copied = h.copied; banks = record { started = h.banks.started; alike = h.banks.alike; legal = h.banks.legal; some = h.banks.some; held = h.banks.held }; places = h.places; stand = h.stand; on = h.on; idle = h.idle });
+    order = record { bounded = is.order.bounded; fits = is.order.fits; ready = is.order.ready; wait = is.order.wait; second = is.order.second; now = finds_on (told_of d) (told_of t) (clock_of d) (clock_of t) (stay d t none refl) refl refl refl is.order.now };
+    faults = is.faults;
+  }
+
+  pub arm_stays : IsDevice d → ClockStays (clock_of d) (told_of t) (clock_of t)
+  arm_stays is = record { same = stay d t none refl; order = (arm_keeps is).order }
+
+  counts : (s.fls.flash.planning.unplanned + entry.cuts ≤ entry.planning.unplanned + s.fls.flash.cuts) ⊎ (last_count ≤ s.fls.flash.cuts) → ((armed nth keep s.fls.flash).planning.unplanned + entry.cuts ≤ entry.planning.unplanned + s.fls.flash.cuts) ⊎ (last_count ≤ s.fls.flash.cuts)
+  counts (inl few) = let same = cuts_stay nth keep s.fls.flash.planning in inl (omega arith)
+  counts (inr big) = inr big
+
+  pub plan_keeps : (listed : List (DeviceNumber × ℕ)) (kept count : ℕ) (is_off : Bool) → IsSound m entry s listed kept count is_off → IsSound m entry (with_plan nth keep s) listed kept count is_off
+  plan_keeps listed kept count is_off is =
+      let was = is.made_for in
+      record {
+        made_for = record {
+          geometry = was.geometry;
+          idle = record { job = was.idle.job; attached = was.idle.attached };
+          banks_geometry = was.banks_geometry;
+          shared = was.shared;
+          numbers = was.numbers;
+          space = was.space;
+          bytes = was.bytes;
+          room = was.room;
+          given = was.given;
+          ended = was.ended;
+        };
+        device = arm_keeps is.device;
+        rests = λ started. record { job = (is.rests started).job; course = (is.rests started).course };
+        works = λ started. (let w = is.works started in record { active = w.active; job = w.job; work = w.work; ready = w.ready; switch = w.switch });
+        room = is.room;
+        copies = λ on told. shown_as s.fls.flash.bytes s.banks.course (λ b c. ShowsCopies m s c b.now) (λ b c. ShowsCopies m (with_plan nth keep s) c b.now) (λ b c shows. record { held = shows.held; copy = shows.copy }) (is.copies on told);
+        cuts = record { before = is.cuts.before; since = counts is.cuts.since };
+        worn = λ since e. record { passed = (is.worn since e).passed; shut = (is.worn since e).shut };
+        numbers = is.numbers;
+        reserve = is.reserve;
+        ops = is.ops;
+        off = is.off;
+      }

@@ -1,0 +1,125 @@
+-- A device behind a changing operation.
+use Rattle.std.specs.Prelude.{IfSome, IsTrue, min, length}
+use Rattle.std.proofs.Common.{◌≡◌, ◌≢◌, inl, ◌≤◌, ◌++◌, ◌∷◌, ℕ, Bool, false, List, [], Option, Some, None, refl, ap, ◌∙◌, subst, arith}
+use Rattle.std.proofs.Math.ListN.{length-append}
+use Rattle.nv_base.specs.Count.{next_count, last_count}
+use Rattle.nv_base.specs.Geometry.{sectors_of_bank}
+use Rattle.nv_base.specs.declared.geometry.Geometry.{Geometry}
+use Rattle.nv_base.specs.declared.instance.DeviceNumber.{DeviceNumber}
+use Rattle.memif.specs.declared.answer.JobResult.{JobResult}
+use Rattle.memif.specs.declared.answer.JobResult.TheVariants.{JobPending}
+use Rattle.memif.specs.Calls.{InOrder}
+use Rattle.fls_model.specs.declared.flash.FlashAnswer.{FlashAnswer}
+use Rattle.fls_model.specs.Attach.{AreBytesOf}
+use Rattle.fls_model.specs.Op.{Op}
+use Rattle.fls_model.specs.Step.{IsAsked}
+use Rattle.fls_model.specs.Told.{Told, Change, bytes_now}
+use Rattle.fee_image.specs.Laws.{LayoutsAreLegal}
+use Rattle.fee_image.specs.May.{May}
+use Rattle.promise_device.specs.Making.{Making, banks_of}
+use Rattle.fee_told.specs.SlotLaws.{IsHeld}
+use Rattle.fee_told.specs.Device.{tells}
+use Rattle.fls_jobs.specs.Start.{IsIdle}
+use Rattle.fls_jobs.specs.State.{FlsState}
+use Rattle.fee_switch.specs.Banks.{BanksState, IsSameFlash}
+use Rattle.fee_switch_laws.specs.KeepsRoom.{KeepsRoom}
+use Rattle.fee_told.specs.Device.{Device, told_of}
+use Rattle.fee_told.specs.Clock.{clock_of, change_of}
+use Rattle.fee_told.specs.Runs.{HasRun, counts_fault}
+use Rattle.fee_told.specs.FigureLaws.{IsWork}
+use Rattle.fee_laws.specs.declared.job.FeeJob.{FeeJob}
+use Rattle.fee_laws.specs.Inside.{Parts, stand_of, memory_of, device_of, IsMadeFor, IsAtWork, HoldsBehind, TellsCopies, IsSound}
+use Rattle.fee_laws.specs.Work.{work_of}
+use Rattle.fee_laws.specs.Turn.{IsOn, Drives}
+use Rattle.fee_laws.proofs.TurnLaws.{Laws}
+use Rattle.fee_laws.proofs.Before.{shape, lengths, legal, some_told, each_told}
+use Rattle.fee_laws.proofs.Order.{behind_finds, in_order}
+use Rattle.fee_laws.proofs.Places.{same_places}
+use Rattle.fee_laws.proofs.Operation.{cuts, next_length, few_faults}
+
+later : (n : ℕ) (xs : List Change) (x : Change) → n ≤ min (length xs) last_count → n ≤ min (length (xs ++ x ∷ [])) last_count
+later n xs x few = let h = length-append xs (x ∷ []) in omega (arith, h)
+
+module _ (laws : Laws) (m : Making) (entry : Told) (s : Parts) (listed : List (DeviceNumber × ℕ)) (kept count : ℕ) (on : IsOn m entry s listed kept count) (op : Op) (answer : FlashAnswer) (f : FlsState) (drives : Drives s.fls f) (asked : IsAsked op s.fls.flash answer f.flash) (b : BanksState) (job : Option FeeJob) (last : JobResult) (given : ℕ) where
+  abbrev pub t : Parts
+  t = record s { fls = f; banks = b; job = job; last = last; given = given; faults = counts_fault answer s.faults; operations = s.operations ++ change_of op s.fls.flash answer ∷ [] }
+
+  abbrev pub e : Device
+  e = device_of m entry t
+
+  geometry : f.geometry ≡ m.geometry
+  geometry = ap (λ (x : FlsState). x.geometry) drives.only ∙ on.sound.made_for.geometry
+
+  idle : IsIdle f
+  idle = record { job = ap (λ (x : FlsState). x.job) drives.only ∙ on.sound.made_for.idle.job; attached = ap (λ (x : FlsState). x.attached) drives.only ∙ on.sound.made_for.idle.attached }
+
+  pub bytes : IfSome f.flash.bytes (λ x. AreBytesOf m.geometry x.now)
+  bytes = subst (λ (g : Geometry). IfSome f.flash.bytes (λ x. AreBytesOf g x.now)) geometry (drives.state.attached idle.attached).bytes
+
+  -- the banks are those of the same flash and numbers, and the job came to an end
+  pub record Ends : Type 0 where
+    pub same : IsSameFlash s.banks b
+    pub ended : last ≢ JobPending
+    pub given_few : given ≤ 4096
+
+  made_for : Ends → IsMadeFor m t
+  made_for is = record {
+    geometry = geometry;
+    idle = idle;
+    banks_geometry = is.same.geometry ∙ on.sound.made_for.banks_geometry;
+    shared = is.same.banks ∙ on.sound.made_for.shared;
+    numbers = is.same.numbers ∙ on.sound.made_for.numbers;
+    space = on.sound.made_for.space;
+    bytes = bytes;
+    room = on.sound.made_for.room;
+    given = is.given_few;
+    ended = is.ended;
+  }
+
+  -- the bytes hold its banks
+  pub held_behind : LayoutsAreLegal → HasRun e → (more : May) → ((new : List ℕ) → bytes_now f.flash ≡ Some new → IsTrue (tells e) → IsHeld (banks_of m) m.numbers new (memory_of t) more) → HoldsBehind e
+  held_behind legals run more held = record {
+    behind = memory_of t;
+    copied = more;
+    banks = record {
+      started = on.started;
+      alike = run.alike;
+      legal = legal m entry s listed kept count on legals;
+      some = some_told m.geometry f.flash.bytes (shape m entry s listed kept count on) bytes;
+      held = λ told. each_told f.flash.bytes (λ (x : List ℕ). IsHeld (banks_of m) m.numbers x (memory_of t) more) (λ new at. held new at told);
+    };
+    places = same_places (memory_of t).old;
+    stand = refl;
+    on = λ power. refl;
+    idle = inl refl;
+  }
+
+  -- what is known of it
+  pub record Facts : Type 0 where
+    pub ends : Ends
+    pub run : HasRun e
+    pub behind : HoldsBehind e
+    pub work : IsWork m.geometry.page (sectors_of_bank m.geometry m.banks) m.numbers m.reserve (stand_of s.content job last given) (work_of m.reserve b job)
+    pub at_work : IsAtWork m t
+    pub shut : (since : ℕ) → s.worn ≡ Some since → b.course ≡ None
+    pub room : f.flash.off ≡ false → KeepsRoom m.reserve b
+    pub copies : TellsCopies m entry t
+
+  pub order : Facts → InOrder (told_of e) (clock_of e)
+  order is = in_order laws m entry t (shape m entry s listed kept count on) (lengths m entry s listed kept count on) is.work (behind_finds laws.finds laws.places e on.started is.behind)
+
+  pub sound : Facts → (is_off : Bool) → is_off ≡ f.flash.off → IsSound m entry t listed kept (next_count count) is_off
+  sound is is_off off = record {
+    made_for = made_for is.ends;
+    device = record { run = is.run; held = λ started. is.behind; order = order is; faults = few_faults answer s.faults on.sound.device.faults };
+    rests = λ stopped. (let h = on.started in absurd (cc (h, stopped)));
+    works = λ started. is.at_work;
+    room = λ started power. is.room power;
+    copies = is.copies;
+    cuts = cuts laws m entry s listed kept count on op answer f drives asked;
+    worn = λ since is'. record { passed = later since s.operations (change_of op s.fls.flash answer) (on.sound.worn since is').passed; shut = is.shut since is' };
+    numbers = on.sound.numbers;
+    reserve = on.sound.reserve;
+    ops = next_length s.operations (change_of op s.fls.flash answer) count on.sound.ops;
+    off = λ started. off;
+  }

@@ -1,0 +1,205 @@
+-- What a record that begins changes of an open switch.
+use Rattle.std.specs.Prelude.{◌||◌, not, is_some, set, slice_get, IsTrue}
+use Rattle.std.proofs.Common.{◌≡◌, ◌≤◌, ◌==◌, ℕ, zero, suc, Bool, true, false, if◌then◌else◌, List, [], ◌∷◌, length, Option, Some, None, refl, ap, subst, arith}
+use Rattle.std.proofs.lemmas.Bool.{cond_both, eqb-true, eq-eqb, ne_eqb}
+use Rattle.nv_base.specs.Laws.{NumbersAreInBounds}
+use Rattle.nv_base.specs.Lengths.{AreLengths}
+use Rattle.nv_base.specs.declared.instance.DeviceNumber.{DeviceNumber}
+use Rattle.memif.specs.Told.{Held, length_of}
+use Rattle.fee_format.specs.declared.rec_head.RecHead.{RecHead}
+use Rattle.fee_image.specs.declared.place.Place.{Place}
+use Rattle.fee_image.specs.Places.{is_written}
+use Rattle.fee_image.specs.Banks.{Old, NoBank, OldBank}
+use Rattle.fee_image.specs.Copies.{Flag, Each, Copies, is_done, cleared}
+use Rattle.fee_image.specs.Image.{Layout, bank_in}
+use Rattle.fee_log.specs.Index.{with_flag, AreWithin}
+use Rattle.fee_log.specs.Log.{LogState}
+use Rattle.fee_course.specs.declared.course.Course.{Course}
+use Rattle.fee_course.specs.declared.course.Course.TheVariants as course
+use Rattle.fee_course.specs.Course.{appended_to}
+use Rattle.fee_switch.specs.Banks.{BanksState, TakesRecord, appended_at}
+use Rattle.fee_switch_laws.specs.Flags.{IsOpenFor}
+use Rattle.fee_switch_laws.specs.Shown.{phase_shown}
+use Rattle.fee_told.specs.Slots.{settled_in, held_all}
+use Rattle.fee_told.specs.SlotLaws.{SamePlaces}
+use Rattle.fee_laws.specs.Copied.{flags_of, IsCopyIn, IsCopying}
+use Rattle.fee_laws.specs.Work.{takes_append}
+
+-- THE COURSE
+-- it changes no phase
+pub appended_phase : (o : Option ℕ) (c : Option Course) (s : BanksState) (log : LogState) (next : Option Course) (content : List ℕ) → phase_shown (appended_at o c) (record s { log = log; course = next }) content ≡ phase_shown c s content
+appended_phase None None s log next content = refl
+appended_phase None (Some (course.Erase n)) s log next content = refl
+appended_phase None (Some (course.Copy w)) s log next content = refl
+appended_phase None (Some course.Head) s log next content = refl
+appended_phase None (Some (course.Gate failed)) s log next content = refl
+appended_phase (Some i) None s log next content = refl
+appended_phase (Some i) (Some (course.Erase n)) s log next content = refl
+appended_phase (Some i) (Some (course.Copy None)) s log next content = refl
+appended_phase (Some i) (Some (course.Copy (Some w))) s log next content =
+    cond_both (w.index == i) (course.Copy (Some (record w { sets = false }))) (course.Copy (Some w))
+    (λ (c : Course). phase_shown (Some c) (record s { log = log; course = next }) content ≡ phase_shown (Some (course.Copy (Some w))) s content) (λ e. refl) (λ e. refl)
+appended_phase (Some i) (Some course.Head) s log next content = refl
+appended_phase (Some i) (Some (course.Gate failed)) s log next content = refl
+
+-- twice is once
+pub appended_again : (o : Option ℕ) (c : Option Course) → appended_at o (appended_at o c) ≡ appended_at o c
+appended_again None None = refl
+appended_again None (Some c) = refl
+appended_again (Some i) None = refl
+appended_again (Some i) (Some (course.Erase n)) = refl
+appended_again (Some i) (Some (course.Copy None)) = refl
+appended_again (Some i) (Some (course.Copy (Some w))) = by_test (w.index == i) refl
+  where
+    by_test : (b : Bool) → (w.index == i) ≡ b → appended_at (Some i) (Some (if b then course.Copy (Some (record w { sets = false })) else course.Copy (Some w))) ≡ Some (if b then course.Copy (Some (record w { sets = false })) else course.Copy (Some w))
+    by_test true e = ap (λ (b : Bool). Some (if b then course.Copy (Some (record w { sets = false })) else course.Copy (Some (record w { sets = false })))) e
+    by_test false e = ap (λ (b : Bool). Some (if b then course.Copy (Some (record w { sets = false })) else course.Copy (Some w))) e
+appended_again (Some i) (Some course.Head) = refl
+appended_again (Some i) (Some (course.Gate failed)) = refl
+
+pub appended_takes : (kind : ℕ) (o : Option ℕ) (c : Option Course) → TakesRecord kind c → TakesRecord kind (appended_at o c)
+appended_takes kind None None taken = taken
+appended_takes kind None (Some c) taken = taken
+appended_takes kind (Some i) None taken = taken
+appended_takes kind (Some i) (Some (course.Erase n)) taken = taken
+appended_takes kind (Some i) (Some (course.Copy None)) taken = taken
+appended_takes kind (Some i) (Some (course.Copy (Some w))) taken =
+    cond_both (w.index == i) (course.Copy (Some (record w { sets = false }))) (course.Copy (Some w)) (λ (c : Course). TakesRecord kind (Some c)) (λ e. taken) (λ e. taken)
+appended_takes kind (Some i) (Some course.Head) taken = taken
+appended_takes kind (Some i) (Some (course.Gate failed)) taken = taken
+
+-- one is open exactly where one was
+pub appended_some : (o : Option ℕ) (c : Option Course) → is_some (appended_at o c) ≡ is_some c
+appended_some None None = refl
+appended_some None (Some c) = refl
+appended_some (Some i) None = refl
+appended_some (Some i) (Some c) = refl
+
+pub appended_none : (o : Option ℕ) (c : Option Course) → appended_at o c ≡ None → c ≡ None
+appended_none o None none = refl
+appended_none o (Some c) none = (let some = appended_some o (Some c) in let shut = ap (λ (x : Option Course). is_some x) none in cc (some, shut))
+
+pub takes_now : (kind : ℕ) (c : Option Course) → TakesRecord kind c → takes_append c ≡ true
+takes_now kind None taken = refl
+takes_now kind (Some (course.Erase n)) taken = refl
+takes_now kind (Some (course.Copy w)) taken = refl
+takes_now kind (Some course.Head) taken = absurd taken
+takes_now kind (Some (course.Gate failed)) taken = absurd taken
+
+-- beside a switch a content alone begins
+pub content_beside : (kind : ℕ) (c : Course) → TakesRecord kind (Some c) → kind ≡ 1
+content_beside kind (course.Erase n) taken = taken
+content_beside kind (course.Copy w) taken = taken
+content_beside kind course.Head taken = absurd taken
+content_beside kind (course.Gate failed) taken = absurd taken
+
+-- THE FLAGS
+clear_one : (b c : Bool) → (if b then false else (if b then false else c)) ≡ (if b then false else c)
+clear_one true c = refl
+clear_one false c = refl
+
+pub clear_again : (ns : List (DeviceNumber × ℕ)) (flags : List Bool) (number : ℕ) → with_flag ns (with_flag ns flags number false) number false ≡ with_flag ns flags number false
+clear_again [] flags number = refl
+clear_again (x ∷ xs) [] number = refl
+clear_again (x ∷ xs) (c ∷ cs) number = λ i. clear_one (x.0.0 == number) c i ∷ clear_again xs cs number i
+
+one_cleared : (x : DeviceNumber × ℕ) (w c b : Bool) (y : Held)
+    → record { number = x.0.0; length = x.1; copied = if b then false else c; written = w; settled = y } ≡ (let f : Flag = record { number = x.0.0; length = x.1; copied = c; written = w; settled = y } in if b then record f { copied = false } else f)
+one_cleared x w c true y = refl
+one_cleared x w c false y = refl
+
+pub flags_cleared : (ns : List (DeviceNumber × ℕ)) (ps : List Place) (flags : List Bool) (held : List Held) (number : ℕ) → flags_of ns ps (with_flag ns flags number false) held ≡ cleared number (flags_of ns ps flags held)
+flags_cleared [] ps flags held number = refl
+flags_cleared (x ∷ xs) [] [] held number = refl
+flags_cleared (x ∷ xs) [] (c ∷ cs) held number = refl
+flags_cleared (x ∷ xs) (p ∷ ps) [] held number = refl
+flags_cleared (x ∷ xs) (p ∷ ps) (c ∷ cs) [] number = refl
+flags_cleared (x ∷ xs) (p ∷ ps) (c ∷ cs) (y ∷ ys) number = λ i. one_cleared x (is_written p) c (x.0.0 == number) y i ∷ flags_cleared xs ps cs ys number i
+
+-- the flag of a number is the one at its place
+flags_above : (number low : ℕ) (ns : List (DeviceNumber × ℕ)) (cs : List Bool) → AreLengths low ns → number ≤ low → with_flag ns cs number false ≡ cs
+flags_above number low [] cs all le = refl
+flags_above number low (n ∷ ns) [] all le = refl
+flags_above number low (n ∷ ns) (c ∷ cs) all le =
+    let lt = all.0 in
+    rw (ne_eqb n.0.0 number (λ e. omega arith)) (ap (λ (l : List Bool). c ∷ l) (flags_above number n.0.0 ns cs all.4 (omega arith)))
+
+pub flag_at : NumbersAreInBounds → (low : ℕ) (ns : List (DeviceNumber × ℕ)) (cs : List Bool) (i : ℕ) (n : DeviceNumber × ℕ) → AreLengths low ns → slice_get ns i ≡ Some n
+    → with_flag ns cs n.0.0 false ≡ set cs i false
+flag_at bounds low [] cs i n all is = cc
+flag_at bounds low (m ∷ ns) [] i n all is = refl
+flag_at bounds low (m ∷ ns) (c ∷ cs) zero n all is =
+    let same : m ≡ n = cc in
+    subst (λ (x : DeviceNumber × ℕ). with_flag (m ∷ ns) (c ∷ cs) x.0.0 false ≡ false ∷ cs) same
+    (rw (eq-eqb m.0.0 m.0.0 refl) (ap (λ (l : List Bool). false ∷ l) (flags_above m.0.0 m.0.0 ns cs all.4 (omega arith))))
+flag_at bounds low (m ∷ ns) (c ∷ cs) (suc i) n all is =
+    let lt = (bounds m.0.0 ns i n all.4 is).0 in
+    rw (ne_eqb m.0.0 n.0.0 (λ e. omega arith)) (ap (λ (l : List Bool). c ∷ l) (flag_at bounds m.0.0 ns cs i n all.4 is))
+
+-- where a configured number stands
+pub named : (ns : List (DeviceNumber × ℕ)) (n size : ℕ) → length_of ns n ≡ Some size → (i : ℕ) × (slice_get ns i ≡ Some (record { 0 = n }, size))
+named [] n size is = cc is
+named (x ∷ xs) n size is = by_test (λ e. named xs n size e) (x.0.0 == n) refl is
+  where
+    by_test : (length_of xs n ≡ Some size → (i : ℕ) × (slice_get xs i ≡ Some (record { 0 = n }, size))) → (b : Bool) → (x.0.0 == n) ≡ b → (if b then Some x.1 else length_of xs n) ≡ Some size
+        → (i : ℕ) × (slice_get (x ∷ xs) i ≡ Some (record { 0 = n }, size))
+    by_test rest true e is' = (let same : x.0.0 ≡ n = eqb-true x.0.0 n e in let long : x.1 ≡ size = cc is' in (zero, λ i. Some (record { 0 = same i }, long i)))
+    by_test rest false e is' = (let at = rest is' in (suc at.0, at.1))
+
+pub places_many : (p end : ℕ) (ns : List (DeviceNumber × ℕ)) (ps : List Place) → AreWithin p end ns ps → length ps ≡ length ns
+places_many p end [] [] within = refl
+places_many p end [] (q ∷ ps) within = absurd within
+places_many p end (n ∷ ns) [] within = absurd within
+places_many p end (n ∷ ns) (q ∷ ps) within = ap suc (places_many p end ns ps within.1)
+
+-- THE COPY IN WORK
+pub or_left : (a b : Bool) → a || b ≡ false → a ≡ false
+or_left true b e = cc e
+or_left false b e = refl
+
+or_right : (a b : Bool) → a || b ≡ false → b ≡ false
+or_right true b e = cc e
+or_right false b e = e
+
+clears_open : (number n : ℕ) (fs : List Flag) → IsOpenFor number fs → IsOpenFor number (cleared n fs)
+clears_open number n [] open' = tt
+clears_open number n (f ∷ fs) open' = (
+  cond_both (f.number == n) (record f { copied = false }) f (λ (g : Flag). IsTrue (g.number == number) → is_done g ≡ false) (λ e same. or_right f.copied (not f.written) (open'.0 same)) (λ e. open'.0),
+  clears_open number n fs open'.1,
+)
+
+clears_copies : (h : RecHead) (body : List ℕ) (n : ℕ) (fs : List Flag) → Each (Copies h body) fs → Each (Copies h body) (cleared n fs)
+clears_copies h body n [] copies = tt
+clears_copies h body n (f ∷ fs) copies = (cond_both (f.number == n) (record f { copied = false }) f (Copies h body) (λ e. copies.0) (λ e. copies.0), clears_copies h body n fs copies.1)
+
+clears_in : (sets : Bool) (work : Option RecHead) (buffer : List ℕ) (n : ℕ) (fs : List Flag) → IsCopyIn sets work buffer fs → IsCopyIn sets work buffer (cleared n fs)
+clears_in sets None buffer n fs copy = tt
+clears_in true (Some h) buffer n fs copy = (clears_copies h _ n fs copy.0, clears_open h.number n fs copy.1)
+clears_in false (Some h) buffer n fs copy = (clears_open h.number n fs copy.0, clears_open h.number n fs copy.1)
+
+sets_none : (sets : Bool) (work : Option RecHead) (buffer : List ℕ) (fs : List Flag) → IsCopyIn sets work buffer fs → IsCopyIn false work buffer fs
+sets_none sets None buffer fs copy = tt
+sets_none sets (Some h) buffer fs copy = (copy.1, copy.1)
+
+pub clears_copying : (n : ℕ) (c : Course) (work : Option RecHead) (buffer : List ℕ) (fs : List Flag) → IsCopying c work buffer fs → IsCopying c work buffer (cleared n fs)
+clears_copying n (course.Erase d) work buffer fs copy = tt
+clears_copying n (course.Copy None) work buffer fs copy = tt
+clears_copying n (course.Copy (Some w)) work buffer fs copy = clears_in w.sets work buffer n fs copy
+clears_copying n course.Head work buffer fs copy = tt
+clears_copying n (course.Gate failed) work buffer fs copy = tt
+
+pub appended_copying : (i n : ℕ) (c : Course) (work : Option RecHead) (buffer : List ℕ) (fs : List Flag) → IsCopying c work buffer fs → IsCopying (appended_to i c) work buffer (cleared n fs)
+appended_copying i n (course.Erase d) work buffer fs copy = tt
+appended_copying i n (course.Copy None) work buffer fs copy = tt
+appended_copying i n (course.Copy (Some w)) work buffer fs copy =
+    cond_both (w.index == i) (course.Copy (Some (record w { sets = false }))) (course.Copy (Some w)) (λ (c : Course). IsCopying c work buffer (cleared n fs))
+    (λ e. clears_in false work buffer n fs (sets_none w.sets work buffer fs copy)) (λ e. clears_in w.sets work buffer n fs copy)
+appended_copying i n course.Head work buffer fs copy = tt
+appended_copying i n (course.Gate failed) work buffer fs copy = tt
+
+-- THE SETTLED MARKS
+pub same_settled : (l : Layout) (ns : List (DeviceNumber × ℕ)) (bytes : List ℕ) (o next : Old) → SamePlaces o next → settled_in l ns bytes next ≡ settled_in l ns bytes o
+same_settled l ns bytes NoBank NoBank same = refl
+same_settled l ns bytes NoBank (OldBank k h log) same = absurd same
+same_settled l ns bytes (OldBank k h log) NoBank same = absurd same
+same_settled l ns bytes (OldBank k h log) (OldBank j i next) same = λ x. held_all (bank_in l (same.1 x).format (same.0 x)) bytes ns (same.2 x)

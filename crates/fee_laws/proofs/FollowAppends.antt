@@ -1,0 +1,111 @@
+-- The next page of a record in work in the active log.
+use Rattle.std.specs.Prelude.{IfSome, IsSome}
+use Rattle.std.proofs.Common.{◌≡◌, inl, inr, ◌<◌, ◌≤◌, ◌++◌, ◌∷◌, ℕ, List, [], Option, Some, None, refl, sym, ◌∙◌, subst, arith}
+use Rattle.std.proofs.lemmas.Bool.{cases_eq}
+use Rattle.nv_base.specs.Geometry.{pages_of_bank, address_of_page}
+use Rattle.nv_base.specs.declared.geometry.Geometry.{Geometry}
+use Rattle.fls_model.specs.declared.flash.FlashAnswer.{FlashAnswer}
+use Rattle.fls_model.specs.declared.flash.FlashAnswer.TheVariants.{Done, Failed, Off}
+use Rattle.fls_model.specs.Op.{Op, MayLeave}
+use Rattle.fls_model.specs.Step.{Leaves, programs}
+use Rattle.fls_model.specs.Told.{Change}
+use Rattle.fee_format.specs.declared.rec_head.RecHead.{RecHead}
+use Rattle.fee_image.specs.Image.{Layout, layout_of, image_page}
+use Rattle.fee_image.specs.BankLaws.{program_of}
+use Rattle.fee_log.specs.declared.tail.Tail.{Tail}
+use Rattle.fee_log.specs.declared.tail.Tail.TheVariants.{Open, Writes, Owes, Closed}
+use Rattle.fee_log.specs.Laws.{HoldsState, may_after}
+use Rattle.fee_log.specs.Log.{LogState, IsLogState, IsTail, pages_in, work_in}
+use Rattle.fee_log.specs.Step.{IsPageOf, due_page, due_bytes, op_of, after_step}
+use Rattle.fee_switch.specs.declared.active.ActiveBank.{ActiveBank}
+use Rattle.fee_switch.specs.Banks.{BanksState, IsBanksState, IsLogOf}
+use Rattle.fee_laws.specs.Inside.{body_of}
+use Rattle.fee_laws.specs.Follows.{anything, IsClosedFor, FollowsLog, FollowsBytes}
+use Rattle.fee_laws.proofs.FollowLaws.{Laws}
+use Rattle.fee_laws.proofs.FollowPages.{SameOthers, others_stay, page_stays}
+use Rattle.fee_laws.proofs.FollowStates.{any_content, any_marks}
+use Rattle.fee_laws.proofs.FollowSteps.{work_after, done_open}
+use Rattle.fee_laws.proofs.FollowBanks.{failed_last, SameFronts, legal, fronts_of, banks_stay, with_log}
+
+-- the page that is due lies behind the gate of its bank
+pub due_inside : (log : LogState) (t : Tail) → 2 ≤ log.end → IsTail log.geometry.page (pages_in log) log.end t → IsSome (work_in t)
+    → (2 ≤ due_page (record log { tail = t })) × (due_page (record log { tail = t }) < pages_in log)
+due_inside log Open low is work = cc
+due_inside log (Writes h done) low is work = let less = is.1 in let within = is.2 in (omega arith, omega arith)
+due_inside log (Owes owed None) low is work = cc
+due_inside log (Owes owed (Some h)) low is work = let within = is.0 in (omega arith, omega arith)
+due_inside log Closed low is work = cc
+
+-- so it leaves all other banks, and the head and the gate
+module _ (laws : Laws) (g : Geometry) (banks : ℕ) (k : LogState) (of : IsLogOf g banks k) (state : IsLogState k) (work : IsSome (work_in k.tail)) (body old new : List ℕ) (page : IsPageOf g.page (due_bytes k body)) (leaves : MayLeave (op_of k body) old new) where
+  abbrev l : Layout
+  l = layout_of g banks
+
+  op_is : op_of k body ≡ program_of l k.bank (due_page k) (due_bytes k body)
+  op_is = λ i. programs (address_of_page (of.shape i) (of.shared i) k.bank (due_page k)) (due_bytes k body)
+
+  inside : (2 ≤ due_page k) × (due_page k < l.pages)
+  inside = let due = due_inside k k.tail state.end_low state.tail work in (due.0, subst (λ (n : ℕ). due_page k < n) (λ i. pages_of_bank (of.shape i) (of.shared i)) due.1)
+
+  programmed : MayLeave (program_of l k.bank (due_page k) (due_bytes k body)) old new
+  programmed = subst (λ (o : Op). MayLeave o old new) op_is leaves
+
+  pub others : SameOthers l old new k.bank
+  others = others_stay laws.touch l old new (due_bytes k body) k.bank (due_page k) page.size inside.1 programmed
+
+  pub front : (q : ℕ) → q < 2 → q < l.pages → image_page l new k.bank q ≡ image_page l old k.bank q
+  front q less within = page_stays laws.touch l old new (due_bytes k body) k.bank (due_page k) page.size inside.1 programmed q within (λ same. (let low = inside.0 in omega (arith, low, same, less)))
+
+-- a log behind a step, with the content of what is in work then
+pub state_after : Laws → (s : LogState) (content old new : List ℕ) (answer : FlashAnswer) → let body = body_of (work_in s.tail) content in
+    IsLogState s → HoldsState s body old anything → IsSome (work_in s.tail) → IsPageOf s.geometry.page (due_bytes s body) → (answer ≡ Off → ⊥) → MayLeave (op_of s body) old new → Leaves (op_of s body) answer old new
+    → HoldsState (after_step s answer) (body_of (work_in (after_step s answer).tail) content) new anything
+state_after laws s content old new answer state holds work page on leaves left =
+    let body = body_of (work_in s.tail) content in
+    let then = after_step s answer in
+    let h = any_marks laws.widen then body new (may_after s body answer anything) (laws.answers s body old new anything answer (record { state = state; holds = holds; work = work; page = page }) on leaves left) in
+    elim (work_after s s.tail answer) [
+      | inl none ↦ any_content then body (body_of (work_in then.tail) content) new anything none h
+      | inr same ↦ subst (λ (o : Option RecHead). HoldsState then (body_of o content) new anything) (sym same) h
+    ]
+
+-- why it is closed
+closed_after : (s : LogState) (xs : List Change) (x : Change) (new : List ℕ) (answer : FlashAnswer) → IsSome (work_in s.tail) → (answer ≡ Off → ⊥) → x.answer ≡ answer → IsClosedFor (after_step s answer) (xs ++ x ∷ []) new
+closed_after s xs x new Done work on is = λ shut. (let wide = done_open s s.tail work in cc (shut, wide))
+closed_after s xs x new Failed work on is = λ shut. inr (failed_last xs x is)
+closed_after s xs x new Off work on is = absurd (on refl)
+
+module _ (laws : Laws) (s : BanksState) (is : IsBanksState s) (state : IsLogState s.log) (content old new : List ℕ) (xs : List Change) (x : Change) (a : ActiveBank) (active : s.active ≡ Some a) (work : IsSome (work_in s.log.tail)) (follows : FollowsBytes s content xs old) where
+  abbrev body : List ℕ
+  body = body_of (work_in s.log.tail) content
+
+  log : FollowsLog s.log body xs old
+  log = subst (λ (o : Option ActiveBank). IfSome o (λ y. FollowsLog s.log body xs old)) active follows.log
+
+  other : s.target ≡ s.log.bank → ⊥
+  other same = (let b = subst (λ (o : Option ActiveBank). IfSome o (λ y. (y.bank ≡ s.target → ⊥) × (s.log.bank ≡ y.bank))) active is.active in b.0 (sym b.1 ∙ sym same))
+
+  module _ (page : IsPageOf s.geometry.page (due_bytes s.log body)) (leaves : MayLeave (op_of s.log body) old new) where
+    fronts : (j : ℕ) → SameFronts laws s is old new j
+    fronts j =
+        let two = (legal laws s is old new).pages in
+        elim (cases_eq j s.log.bank) [
+          | inl same ↦ subst (SameFronts laws s is old new) (sym same) (
+            front laws s.geometry s.banks s.log is.log state work body old new page leaves 0 (omega arith) (omega (arith, two)),
+            front laws s.geometry s.banks s.log is.log state work body old new page leaves 1 (omega arith) (omega (arith, two)),
+          )
+          | inr differs ↦ fronts_of laws s is old new j (others laws s.geometry s.banks s.log is.log state work body old new page leaves j differs)
+        ]
+
+    pub goes_on : (answer : FlashAnswer) → (answer ≡ Off → ⊥) → Leaves (op_of s.log body) answer old new → x.answer ≡ answer → FollowsBytes (record s { log = after_step s.log answer }) content (xs ++ x ∷ []) new
+    goes_on answer on left same =
+        let page' = subst (λ (g : Geometry). IsPageOf g.page (due_bytes s.log body)) (sym is.log.shape) page in
+        let then = after_step s.log answer in
+        let apart = others laws s.geometry s.banks s.log is.log state work body old new page leaves s.target other in
+        record {
+          log = subst (λ (o : Option ActiveBank). IfSome o (λ y. FollowsLog then (body_of (work_in then.tail) content) (xs ++ x ∷ []) new)) (sym active) (record {
+            holds = state_after laws s.log content old new answer state log.holds work page' on leaves left;
+            closed = closed_after s.log xs x new answer work on same;
+          });
+          banks = with_log s then s.course s.course new (banks_stay laws s is old new s.course leaves.0.size fronts apart follows.banks);
+        }

@@ -1,0 +1,107 @@
+-- A record or a switch begins, and a record is given up: in memory alone.
+use Rattle.std.specs.Prelude.{IfSome}
+use Rattle.std.proofs.Common.{◌≡◌, ◌<◌, ◌≤◌, ℕ, Bool, List, length, Option, Some, None, refl, sym, subst, arith}
+use Rattle.nv_base.specs.Lengths.{place_of}
+use Rattle.nv_base.specs.Pages.{record_pages_of}
+use Rattle.fls_model.specs.Told.{Change}
+use Rattle.fee_format.specs.declared.bank_head.BankHead.{BankHead}
+use Rattle.fee_format.specs.declared.rec_head.RecHead.{RecHead}
+use Rattle.fee_image.specs.Image.{Layout, active_of, BankStands}
+use Rattle.fee_image.specs.Laws.{ActiveComputes, NoActiveComputes}
+use Rattle.fee_log.specs.Index.{clear_flags}
+use Rattle.fee_log.specs.Laws.{HoldsState, BeginsHold, GivenUpHolds}
+use Rattle.fee_log.specs.Log.{LogState, IsLogState, IsFor, work_in, free_in, begun}
+use Rattle.fee_log.specs.Step.{given_up}
+use Rattle.fee_switch.specs.declared.active.ActiveBank.{ActiveBank}
+use Rattle.fee_switch.specs.Active.{active_shown}
+use Rattle.fee_course.specs.declared.course.Course.{Course}
+use Rattle.fee_course.specs.declared.course.Course.TheVariants.{Erase}
+use Rattle.fee_switch.specs.Banks.{BanksState, append_begun, begun_again}
+use Rattle.fee_switch_laws.specs.Shown.{layout_in}
+use Rattle.fee_laws.specs.Inside.{body_of}
+use Rattle.fee_laws.specs.Follows.{anything, ComesBehind, StandsFirst, FollowsBanks, FollowsLog, FollowsBytes}
+use Rattle.fee_laws.proofs.FollowStates.{any_flags}
+use Rattle.fee_laws.proofs.FollowSteps.{begun_open, begun_work, given_closed}
+use Rattle.fee_laws.proofs.FollowBanks.{with_log, appended}
+
+-- THE ACTIVE BANK
+-- each of one
+pub each : {A : Type 0} (o : Option A) (P Q : A → Type 0) → ((a : A) → o ≡ Some a → P a → Q a) → IfSome o P → IfSome o Q
+each None P Q goes is = tt
+each (Some a) P Q goes is = goes a refl is
+
+-- A RECORD BEGINS
+-- where one is active the log has room
+pub record MayBeginIn (s : BanksState) (head : RecHead) (content : List ℕ) : Type 0 where
+  pub idle : work_in s.log.tail ≡ None
+  pub configured : IsFor s.log.numbers head
+  pub room : IfSome s.active (λ a. record_pages_of head.length s.log.geometry.page ≤ free_in s.log)
+  pub size : length (body_of (Some head) content) ≡ head.length
+
+pub log_begins : BeginsHold → (s : LogState) (head : RecHead) (content bytes : List ℕ) (xs : List Change) → IsLogState s → work_in s.tail ≡ None → IsFor s.numbers head → record_pages_of head.length s.geometry.page ≤ free_in s
+    → length (body_of (Some head) content) ≡ head.length → FollowsLog s (body_of (work_in s.tail) content) xs bytes → FollowsLog (begun s head) (body_of (work_in (begun s head).tail) content) xs bytes
+log_begins begins s head content bytes xs state idle configured room size follows = record {
+  holds = subst (λ (o : Option RecHead). HoldsState (begun s head) (body_of o content) bytes anything) (sym (begun_work s.tail head))
+      (begins s head (body_of (work_in s.tail) content) (body_of (Some head) content) bytes anything state follows.holds idle configured room size (λ number length fit. tt));
+  closed = λ shut. (let wide = begun_open s.tail head in cc (shut, wide));
+}
+
+pub record_begins : BeginsHold → (s : BanksState) (head : RecHead) (content bytes : List ℕ) (xs : List Change) → IsLogState s.log → MayBeginIn s head content → FollowsBytes s content xs bytes → FollowsBytes (append_begun s head) content xs bytes
+record_begins begins s head content bytes xs state may follows =
+    let then = append_begun s head in
+    record {
+      log = by_active s.active may.room follows.log;
+      banks = with_log s then.log then.course then.course bytes (appended s (place_of s.log.numbers head.number) s.course bytes follows.banks);
+    }
+  where
+    by_active : (o : Option ActiveBank) → IfSome o (λ a. record_pages_of head.length s.log.geometry.page ≤ free_in s.log)
+        → IfSome o (λ a. FollowsLog s.log (body_of (work_in s.log.tail) content) xs bytes) → IfSome o (λ a. FollowsLog (begun s.log head) (body_of (work_in (begun s.log head).tail) content) xs bytes)
+    by_active None room follows' = tt
+    by_active (Some a) room follows' = log_begins begins s.log head content bytes xs state may.idle may.configured room may.size follows'
+
+-- A RECORD IS GIVEN UP
+log_given : GivenUpHolds → (s : LogState) (content bytes : List ℕ) (xs : List Change) → IsLogState s → FollowsLog s (body_of (work_in s.tail) content) xs bytes → FollowsLog (given_up s) (body_of (work_in (given_up s).tail) content) xs bytes
+log_given given s content bytes xs state follows = record {
+  holds = given s (body_of (work_in s.tail) content) (body_of (work_in (given_up s).tail) content) bytes anything state follows.holds;
+  closed = λ shut. follows.closed (given_closed s s.tail shut);
+}
+
+pub record_given : GivenUpHolds → (s : BanksState) (content bytes : List ℕ) (xs : List Change) → IsLogState s.log → FollowsBytes s content xs bytes → FollowsBytes (record s { log = given_up s.log }) content xs bytes
+record_given given s content bytes xs state follows = record {
+  log = each s.active (λ a. FollowsLog s.log (body_of (work_in s.log.tail) content) xs bytes) (λ a. FollowsLog (given_up s.log) (body_of (work_in (given_up s.log).tail) content) xs bytes) (λ a at. log_given given s.log content bytes xs state) follows.log;
+  banks = with_log s (given_up s.log) s.course s.course bytes follows.banks;
+}
+
+-- FLAGS
+-- they are none of what a log's bank holds
+pub log_flagged : (s : LogState) (flags : List Bool) (body bytes : List ℕ) (xs : List Change) → FollowsLog s body xs bytes → FollowsLog (record s { flags = flags }) body xs bytes
+log_flagged s flags body bytes xs follows = record { holds = any_flags s flags body bytes anything follows.holds; closed = follows.closed }
+
+pub active_flagged : (s : BanksState) (flags : List Bool) (body bytes : List ℕ) (xs : List Change) → IfSome s.active (λ a. FollowsLog s.log body xs bytes) → IfSome s.active (λ a. FollowsLog (record s.log { flags = flags }) body xs bytes)
+active_flagged s flags body bytes xs follows = each s.active (λ a. FollowsLog s.log body xs bytes) (λ a. FollowsLog (record s.log { flags = flags }) body xs bytes) (λ a at. log_flagged s.log flags body bytes xs) follows
+
+-- A SWITCH BEGINS
+-- the active bank that is shown stands first
+module _ (active : ActiveComputes) (none : NoActiveComputes) (s : BanksState) (bytes : List ℕ) where
+  abbrev l : Layout
+  l = layout_in s
+
+  stands_shown : (o : Option ActiveBank) → active_shown o ≡ active_of l bytes → IfSome o (λ a. BankStands l bytes a.bank a.head)
+  stands_shown None shown = tt
+  stands_shown (Some a) shown = ((active l bytes a.bank a.head).1 (sym shown)).stands
+
+  behind_shown : (o : Option ActiveBank) → active_shown o ≡ active_of l bytes → (j : ℕ) (other : BankHead) → j < s.banks → BankStands l bytes j other → ComesBehind o j other
+  behind_shown None shown j other inside stands = (none l bytes).1 (sym shown) j other inside stands
+  behind_shown (Some a) shown j other inside stands = λ differs. ((active l bytes a.bank a.head).1 (sym shown)).first j other inside differs stands
+
+  first_shown : active_shown s.active ≡ active_of l bytes → StandsFirst s bytes
+  first_shown shown = record { stands = stands_shown s.active shown; behind = λ j other inside differs stands. behind_shown s.active shown j other inside stands }
+
+  -- whatever the target's log is
+  pub switch_begins : (content : List ℕ) (xs : List Change) → s.course ≡ None → FollowsBytes s content xs bytes → FollowsBytes (begun_again s (Erase 0)) content xs bytes
+  switch_begins content xs shut follows =
+      let first = first_shown (subst (λ (c : Option Course). FollowsBanks s c bytes) shut follows.banks) in
+      record {
+        log = active_flagged s (clear_flags s.log.numbers) (body_of (work_in s.log.tail) content) bytes xs follows.log;
+        banks = (record { stands = first.stands; behind = first.behind }, λ q below inside. absurd (omega arith));
+      }

@@ -1,0 +1,111 @@
+-- The gate of a switch's target.
+use Rattle.std.specs.Prelude.{IfSome}
+use Rattle.std.proofs.Common.{◌≡◌, inl, inr, ◌<◌, ◌≤◌, ◌+◌, ◌*◌, ◌^◌, ◌++◌, ◌∷◌, ℕ, Bool, true, false, List, [], length, Option, Some, None, refl, sym, ap, ◌∙◌, subst, arith}
+use Rattle.std.proofs.lemmas.Bool.{cases_lt, cases_eq, eqb-false}
+use Rattle.std.proofs.lemmas.Option.{same_Some}
+use Rattle.std.proofs.lemmas.List.{length-replicate}
+use Rattle.fls_model.specs.Op.{MayLeave, after_op}
+use Rattle.fls_model.specs.Told.{Change}
+use Rattle.fee_format.specs.declared.bank_head.BankHead.{BankHead}
+use Rattle.fee_format.specs.Formats.{new_format}
+use Rattle.fee_format.specs.BankHead.{bank_head_page}
+use Rattle.fee_format.specs.Pages.{gate_page}
+use Rattle.fee_image.specs.Image.{Layout, bank_in, image_page, BankStands, ComesFirst, IsActive}
+use Rattle.fee_image.specs.Laws.{GatesStand, HeadsCompute, ActiveComputes}
+use Rattle.fee_log.specs.declared.tail.Tail.TheVariants.{Open}
+use Rattle.fee_log.specs.Log.{work_in, is_closed}
+use Rattle.fee_switch.specs.declared.active.ActiveBank.{ActiveBank}
+use Rattle.fee_course.specs.declared.course.Course.TheVariants.{Gate}
+use Rattle.fee_switch.specs.declared.target.Stage.TheVariants as stage
+use Rattle.fee_switch.specs.Target.{op_at}
+use Rattle.fee_switch.specs.Banks.{BanksState, IsBanksState, target_at, next_generation, is_worn_out, fallen_back, ended}
+use Rattle.fee_switch_laws.specs.Shown.{layout_in}
+use Rattle.fee_laws.specs.Inside.{body_of}
+use Rattle.fee_laws.specs.Follows.{anything, ComesBehind, StandsFirst, target_head, FollowsCopies, FollowsTarget, FollowsBytes}
+use Rattle.fee_laws.proofs.FollowLaws.{Laws}
+use Rattle.fee_laws.proofs.FollowPages.{SameOthers, others_stay, page_stays}
+use Rattle.fee_laws.proofs.FollowStates.{any_content}
+use Rattle.fee_laws.proofs.FollowBytes.{page_inside}
+use Rattle.fee_laws.proofs.FollowBanks.{legal, copies_stay}
+use Rattle.fee_laws.proofs.FollowTargets.{was, first, builds}
+
+-- the greatest generation but the last has a next one
+next_fits : (o : Option ActiveBank) (l : Layout) (bytes : List ℕ) → IfSome o (λ a. BankStands l bytes a.bank a.head) → is_worn_out o ≡ false → next_generation o < 2 ^ 32
+next_fits None l bytes stands worn = omega arith
+next_fits (Some a) l bytes stands worn =
+    let few = stands.head.legal.generation in
+    let not_last : a.head.generation ≡ 4294967295 → ⊥ = eqb-false a.head.generation 4294967295 worn in
+    elim (cases_lt a.head.generation 4294967295) [ inl less ↦ omega arith | inr more ↦ absurd (not_last (omega (arith, few))) ]
+
+-- every other bank is behind it
+newer : HeadsCompute → (l : Layout) (bytes : List ℕ) (t j : ℕ) (o : Option ActiveBank) (other : BankHead) → IfSome o (λ a. BankStands l bytes a.bank a.head) → ComesBehind o j other → BankStands l bytes j other → ComesFirst t (record { format = 1; generation = next_generation o }) j other
+newer heads l bytes t j None other first behind stands = absurd behind
+newer heads l bytes t j (Some a) other first behind stands = elim (cases_eq j a.bank) [
+  | inl same ↦
+      let at = subst (λ (n : ℕ). BankStands l bytes n other) same stands in
+      let is : a.head ≡ other = same_Some a.head other (sym ((heads l bytes a.bank a.head).0 first) ∙ (heads l bytes a.bank other).0 at) in
+      inl (subst (λ (h : BankHead). h.generation < a.head.generation + 1) is (omega arith))
+  | inr differs ↦ elim (behind differs) [ inl less ↦ inl (omega arith) | inr tie ↦ inl (omega (arith, tie.0)) ]
+]
+
+module _ (laws : Laws) (stand : GatesStand) (heads : HeadsCompute) (active : ActiveComputes) (s : BanksState) (is : IsBanksState s) (content old new : List ℕ) (xs : List Change) (x : Change) (failed : Bool) (course : s.course ≡ Some (Gate failed)) (leaves : MayLeave (op_at (target_at s stage.Gate) stage.Gate) old new) (follows : FollowsBytes s content xs old) where
+  abbrev l : Layout
+  l = layout_in s
+
+  abbrev page : List ℕ
+  page = gate_page s.geometry.page
+
+  two : 2 ≤ l.pages
+  two = (legal laws s is old new).pages
+
+  size : length page ≡ s.geometry.page
+  size = length-replicate {A = ℕ} s.geometry.page 0
+
+  apart : SameOthers l old new s.target
+  apart = others_stay laws.touch l old new page s.target 1 size (omega (arith, two)) leaves
+
+  same : (q : ℕ) → q < l.pages → (q ≡ 1 → ⊥) → image_page l new s.target q ≡ image_page l old s.target q
+  same = page_stays laws.touch l old new page s.target 1 size (omega (arith, two)) leaves
+
+  was' : FollowsTarget s (Gate failed) old
+  was' = (was laws s is content old new xs (x ∷ []) (Gate failed) course leaves.0.size apart follows).1
+
+  head_on : image_page l new s.target 0 ≡ bank_head_page s.geometry.page (target_head s)
+  head_on = same 0 (omega (arith, two)) (λ e. (let z : ◌≡◌ {A = ℕ} 0 1 = e in cc z)) ∙ was'.0
+
+  copies_on : FollowsCopies s new
+  copies_on = copies_stay laws s is old new leaves.0.size (λ q low inside. same q inside (λ e. omega (arith, low, e))) was'.1
+
+  pub gate_fails : FollowsBytes (fallen_back s (Gate failed)) content (xs ++ x ∷ []) new
+  gate_fails = builds laws s is content old new xs (x ∷ []) (Gate failed) course leaves.0.size apart follows s.log.flags (Gate true) s.copies s.buffer (head_on, copies_on)
+
+  module _ (wide : l.pages * l.page * s.banks ≤ length old) (worn : is_worn_out s.active ≡ false) (tail : s.copies.tail ≡ Open) (done : new ≡ after_op (op_at (target_at s stage.Gate) stage.Gate) old) where
+    gate_on : image_page l new s.target 1 ≡ page
+    gate_on =
+        let stood = stand (bank_in l new_format s.target) old 1 (page_inside l old s.target 1 wide is.target (omega (arith, two))) in
+        subst (λ (bytes : List ℕ). image_page l bytes s.target 1 ≡ page) (sym done) stood.0
+
+    first_on : StandsFirst s new
+    first_on = first laws s is content old new xs (x ∷ []) (Gate failed) course leaves.0.size apart follows
+
+    stands : BankStands l new s.target (target_head s)
+    stands = record { head = record { legal = record { format = inr refl; generation = next_fits s.active l new first_on.stands worn }; page_is = head_on }; gate = gate_on }
+
+    is_active : IsActive l new s.target (target_head s)
+    is_active = record {
+      bank = is.target;
+      stands = stands;
+      first = λ j other inside differs there. newer heads l new s.target j s.active other first_on.stands (first_on.behind j other inside differs there) there;
+    }
+
+    pub gate_stands : FollowsBytes (ended s) content (xs ++ x ∷ []) new
+    gate_stands =
+        let idle = ap work_in tail in
+        let wide' = ap is_closed tail in
+        record {
+          log = record {
+            holds = any_content s.copies (body_of (work_in s.copies.tail) s.buffer) (body_of (work_in s.copies.tail) content) new anything idle copies_on;
+            closed = λ shut. cc;
+          };
+          banks = sym ((active l new s.target (target_head s)).0 is_active);
+        }

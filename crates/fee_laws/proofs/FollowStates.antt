@@ -1,0 +1,87 @@
+-- Logs whose banks' pages stay, and logs of which nothing but the content of a record in work changes.
+use Rattle.std.proofs.Common.{◌≡◌, inl, inr, ◌<◌, ◌≤◌, ℕ, ◌+◌, ◌*◌, Bool, List, [], ◌∷◌, length, Some, None, refl, sym, ap, ◌∙◌, subst, arith}
+use Rattle.fee_image.specs.Bank.{Bank, page_of}
+use Rattle.fee_image.specs.Laws.{RecordsStay}
+use Rattle.fee_image.specs.RecordList.{Rec, IsClosed, end_after, end_of, records_of, pages_of_head}
+use Rattle.fee_image.specs.LogLaws.{LogsStay, LogsWiden}
+use Rattle.fee_image.specs.Log.{HoldsLog, Tail as LogTail}
+use Rattle.fee_image.specs.May.{May, IsWider}
+use Rattle.fee_log.specs.declared.tail.Tail.{Tail}
+use Rattle.fee_log.specs.declared.tail.Tail.TheVariants.{Open, Writes, Owes, Closed}
+use Rattle.fee_log.specs.Laws.{HoldsState, MayFollow}
+use Rattle.fee_log.specs.Log.{LogState, bank_of, pages_in, log_of, tail_with, work_in}
+use Rattle.fee_laws.specs.Follows.{anything}
+
+-- THE PAGES
+-- those of a log's bank behind its head and gate are as they were
+abbrev pub SameBody : LogState → List ℕ → List ℕ → Type 0
+SameBody s old new = (q : ℕ) → 2 ≤ q → q < pages_in s → page_of (bank_of s) new q ≡ page_of (bank_of s) old q
+
+pub state_moves : LogsStay → (s : LogState) (body old new : List ℕ) (may : May) → 16 ≤ s.geometry.page → length new ≡ length old → SameBody s old new → HoldsState s body old may → HoldsState s body new may
+state_moves stay s body old new may low long same holds = record {
+  size = omega (arith, long, holds.size);
+  holds = stay (bank_of s) s.numbers old new (s.bank * pages_in s) may (log_of s body) low same holds.holds;
+  follows = holds.follows;
+}
+
+low_end : (p q : ℕ) (rs : List Rec) → q ≤ end_after p q rs
+low_end p q [] = omega arith
+low_end p q (r ∷ rs) = let h = low_end p (q + pages_of_head p r.head) rs in omega (arith, h)
+
+module _ (stay : RecordsStay) (s : LogState) (old new : List ℕ) (same : SameBody s old new) where
+  abbrev b : Bank
+  b = bank_of s
+
+  end_same : end_of b new ≡ end_of b old
+  end_same = ap (end_after b.page 2) (stay b old new (s.bank * pages_in s) same)
+
+  pub closed_moves : IsClosed b old (end_of b old) → IsClosed b new (end_of b new)
+  closed_moves (inl other) = inl other
+  closed_moves (inr closed) = inr (λ blank. closed (λ q above inside.
+      (let low = low_end b.page 2 (records_of b old) in
+      let e = end_same in
+      sym (same q (omega (arith, low, above)) inside) ∙ blank q (omega (arith, e, above)) inside)))
+
+-- THE CONTENT
+-- with no record in work there is none
+idle_with : (t : Tail) (body after : List ℕ) → work_in t ≡ None → tail_with t body ≡ tail_with t after
+idle_with Open body after idle = refl
+idle_with (Writes head done) body after idle = cc idle
+idle_with (Owes head next) body after idle = refl
+idle_with Closed body after idle = refl
+
+idle_follows : (may : May) (t : Tail) (body : List ℕ) → work_in t ≡ None → MayFollow may t body
+idle_follows may Open body idle = tt
+idle_follows may (Writes head done) body idle = tt
+idle_follows may (Owes head None) body idle = tt
+idle_follows may (Owes head (Some next)) body idle = cc idle
+idle_follows may Closed body idle = tt
+
+pub any_content : (s : LogState) (body after bytes : List ℕ) (may : May) → work_in s.tail ≡ None → HoldsState s body bytes may → HoldsState s after bytes may
+any_content s body after bytes may idle holds = record {
+  size = holds.size;
+  holds = subst (λ (t : LogTail). HoldsLog (bank_of s) s.numbers bytes may (record { end = s.end; tail = t; places = s.places })) (idle_with s.tail body after idle) holds.holds;
+  follows = idle_follows may s.tail after idle;
+}
+
+-- THE MARKS
+all_wider : (may : May) → IsWider may anything
+all_wider may number length m among = tt
+
+any_follows : (may : May) (t : Tail) (body : List ℕ) → MayFollow may t body → MayFollow anything t body
+any_follows may Open body follows = tt
+any_follows may (Writes head done) body follows = tt
+any_follows may (Owes head None) body follows = tt
+any_follows may (Owes head (Some next)) body follows = (follows.0, λ number length fit. tt)
+any_follows may Closed body follows = tt
+
+pub any_marks : LogsWiden → (s : LogState) (body bytes : List ℕ) (may : May) → HoldsState s body bytes may → HoldsState s body bytes anything
+any_marks widen s body bytes may holds = record {
+  size = holds.size;
+  holds = widen (bank_of s) s.numbers bytes may anything (log_of s body) (all_wider may) holds.holds;
+  follows = any_follows may s.tail body holds.follows;
+}
+
+-- THE FLAGS
+pub any_flags : (s : LogState) (flags : List Bool) (body bytes : List ℕ) (may : May) → HoldsState s body bytes may → HoldsState (record s { flags = flags }) body bytes may
+any_flags s flags body bytes may holds = record { size = holds.size; holds = holds.holds; follows = holds.follows }

@@ -1,0 +1,138 @@
+-- By how much the start of a job raises the turns that are left.
+use Rattle.std.specs.Prelude.{◌&&◌, not, nat_le, is_some}
+use Rattle.std.proofs.Common.{◌≡◌, ◌≤◌, ◌<◌, ◌+◌, ℕ, Bool, true, false, if◌then◌else◌, List, Option, Some, None, refl, ap, arith}
+use Rattle.nv_base.specs.Geometry.{sectors_of_bank}
+use Rattle.nv_base.specs.Pages.{record_pages_of}
+use Rattle.nv_base.specs.declared.job.DeviceOp.{DeviceOp}
+use Rattle.nv_base.specs.declared.job.DeviceOp.TheVariants.{Read, Write, Invalidate, Erase}
+use Rattle.nv_base.specs.declared.mark.Mark.{Mark}
+use Rattle.memif.specs.Told.{Job, Open, figures_at, most_of, op_of}
+use Rattle.fee_log.specs.declared.tail.Tail.{Tail}
+use Rattle.fee_log.specs.declared.tail.Tail.TheVariants as tail
+use Rattle.fee_log.specs.Index.{clear_flags}
+use Rattle.fee_log.specs.Log.{work_in}
+use Rattle.fee_course.specs.declared.course.Course.{Course}
+use Rattle.fee_course.specs.declared.course.Course.TheVariants as course
+use Rattle.fee_course.specs.Course.{most_turns}
+use Rattle.fee_course.specs.Laws.{TurnsAreFew}
+use Rattle.fee_switch.specs.Banks.{BanksState, begun_again, left_of as switch_left, left_with, index_of}
+use Rattle.fee_told.specs.Figures.{Work, fixed_for, left_of, turns_of, FitsMark}
+use Rattle.fee_told.specs.FigureLaws.{StartsRaise}
+use Rattle.fee_laws.specs.declared.job.FeeJob.{FeeJob}
+use Rattle.fee_laws.specs.Inside.{HasSwitch, mark_of}
+use Rattle.fee_laws.specs.Record.{IsJobOf, IsLengthOf}
+use Rattle.fee_laws.specs.Work.{work_of, pages_of_op, pages_left, switch_turns, begins_next, needs_switch, turns_beside, is_waiting, fits_in}
+use Rattle.fee_laws.proofs.Bounds.{copy_among}
+
+-- PAGES
+pub left_wanted : (p wanted : ℕ) (t : Tail) → work_in t ≡ None → pages_left p wanted t ≡ wanted
+left_wanted p wanted tail.Open idle = refl
+left_wanted p wanted (tail.Writes head done) idle = cc idle
+left_wanted p wanted (tail.Owes head next) idle = refl
+left_wanted p wanted tail.Closed idle = refl
+
+pub fits_mark : (p : ℕ) (op : DeviceOp) (length of : ℕ) (bytes : List ℕ) (w : Work) → IsLengthOf op length of → w.pages ≡ pages_of_op p op length → FitsMark p of (mark_of op bytes) w
+fits_mark p Read length of bytes w fits is = tt
+fits_mark p Write length of bytes w fits is = let same = ap (λ (k : ℕ). record_pages_of k p) fits in omega arith
+fits_mark p Invalidate length of bytes w fits is = omega arith
+fits_mark p Erase length of bytes w fits is = omega arith
+
+pub turns_same : (mark : Option Mark) (w : Work) (x : ℕ) → turns_of mark (record w { switch = x }) ≡ turns_of mark w
+turns_same None w x = refl
+turns_same (Some mark) w x = refl
+
+not_read : (op : DeviceOp) (bytes : List ℕ) → mark_of op bytes ≡ None → op ≡ Read
+not_read Read bytes e = refl
+not_read Write bytes e = cc
+not_read Invalidate bytes e = cc
+not_read Erase bytes e = cc
+
+-- TESTS
+second_of : (a b c d : Bool) → a && b && c && d ≡ true → b ≡ true
+second_of true true c d e = refl
+second_of true false c d e = cc
+second_of false b c d e = cc
+
+pub none_of : (a b c d : Bool) → b ≡ false → a && b && c && d ≡ false
+none_of true b c d e = rw e refl
+none_of false b c d e = refl
+
+pub writes_pages : (p : ℕ) (op : DeviceOp) (length of : ℕ) → op ≡ Write → IsLengthOf op length of → pages_of_op p op length ≡ record_pages_of of p
+writes_pages p Read length of is fits = cc
+writes_pages p Write length of is fits = ap (λ (k : ℕ). record_pages_of k p) fits
+writes_pages p Invalidate length of is fits = cc
+writes_pages p Erase length of is fits = cc
+
+module _ (turns_few : TurnsAreFew) (reserve : ℕ) (b : BanksState) (j : FeeJob) (of : IsJobOf b.log.numbers j) (idle : work_in b.log.tail ≡ None) (going : HasSwitch b b.course) (some : 0 < sectors_of_bank b.geometry b.banks) where
+  abbrev p : ℕ
+  p = b.geometry.page
+
+  abbrev sectors : ℕ
+  sectors = sectors_of_bank b.geometry b.banks
+
+  abbrev pub own : ℕ
+  own = most_turns p sectors b.log.numbers
+
+  -- what is added to the turns of the switch
+  pub record Adds (base now : ℕ) : Type 0 where
+    pub more : ℕ
+    pub is : now ≡ base + more
+    pub most_own : more ≤ own
+    pub read : j.op ≡ Read → more ≡ 0
+
+  beside_by : (x : Bool) → begins_next b j ≡ x → Adds 0 (if x then pages_of_op p j.op j.length + 1 else 0)
+  beside_by true e =
+      let urgent = second_of _ j.urgent (is_waiting b j) _ e in
+      let write = of.urgent urgent in
+      let pages = writes_pages p j.op j.length of.length write of.fits in
+      let among = copy_among p b.log.numbers j.number.0 of.length of.configured in
+      record { more = pages_of_op p j.op j.length + 1; is = omega arith; most_own = omega (arith, pages, among); read = λ read. cc (read, write) }
+  beside_by false e = record { more = 0; is = omega arith; most_own = omega arith; read = λ read. refl }
+
+  abbrev whole : ℕ
+  whole = switch_left (begun_again b (course.Erase 0))
+
+  whole_few : whole ≤ own
+  whole_few = turns_few p sectors b.log.numbers b.log.places (clear_flags b.log.numbers) (index_of b.log.numbers (work_in b.log.tail)) (course.Erase 0) (record { short = some; fitting = tt; few = tt })
+
+  no_need : (op : DeviceOp) (length : ℕ) (x y : Bool) → op ≡ Read → (nat_le 1 (pages_of_op p op length) && x) && y ≡ false
+  no_need Read length x y e = refl
+  no_need Write length x y e = cc
+  no_need Invalidate length x y e = cc
+  no_need Erase length x y e = cc
+
+  needs_by : (x : Bool) → needs_switch reserve b (Some j) ≡ x → Adds 0 (if x then whole else 0)
+  needs_by true e = record { more = whole; is = omega arith; most_own = whole_few; read = λ read. (let none = no_need j.op j.length (not (is_some (work_in b.log.tail))) (not (fits_in reserve b j)) read in cc (none, e)) }
+  needs_by false e = record { more = 0; is = omega arith; most_own = omega arith; read = λ read. refl }
+
+  adds_to : (base now : ℕ) → Adds 0 now → Adds base (base + now)
+  adds_to base now a = record { more = a.more; is = (let is = a.is in omega arith); most_own = a.most_own; read = a.read }
+
+  pub adds : (o : Option Course) → Adds (switch_turns reserve b None o) (switch_turns reserve b (Some j) o)
+  adds (Some c) =
+      let a = adds_to (switch_left b) (turns_beside b (Some j)) (beside_by (begins_next b j) refl) in
+      record { more = a.more; is = (let is = a.is in omega arith); most_own = a.most_own; read = a.read }
+  adds None = needs_by (needs_switch reserve b (Some j)) refl
+
+  -- of a switch that is open
+  pub base_few : (o : Option Course) → HasSwitch b o → b.course ≡ o → switch_turns reserve b None o ≤ own
+  base_few (Some c) has e = (let left = turns_few p sectors b.log.numbers b.log.places b.log.flags (index_of b.log.numbers (work_in b.log.tail)) c has.1 in let same : switch_left b ≡ left_with b (Some c) = ap (λ (o : Option Course). left_with b o) e in omega arith)
+  base_few None has e = omega arith
+
+  -- THE RAISE
+  pub raises : StartsRaise → (bytes : List ℕ) → let jb : Job = record { number = j.number.0; mark = mark_of j.op bytes; urgent = j.urgent } in
+      let fixed = fixed_for p sectors b.log.numbers reserve in
+      (switch_turns reserve b None b.course ≤ left_of (Open jb) (work_of reserve b (Some j)))
+      × (left_of (Open jb) (work_of reserve b (Some j)) ≤ switch_turns reserve b None b.course + most_of (figures_at fixed jb.number) (op_of jb.mark))
+  raises law bytes =
+      let jb : Job = record { number = j.number.0; mark = mark_of j.op bytes; urgent = j.urgent } in
+      let w = work_of reserve b (Some j) in
+      let a = adds b.course in
+      let next : Work = record w { switch = a.more } in
+      let none : Work = record { pages = 0; owed = false; switch = 0 } in
+      let wanted = left_wanted p (pages_of_op p j.op j.length) b.log.tail idle in
+      let fit = fits_mark p j.op j.length of.length bytes next of.fits wanted in
+      let h = law p sectors reserve b.log.numbers jb none next (record { job = (of.length, of.configured, fit); few = a.most_own }) (omega arith) (λ e. (let zero = a.read (not_read j.op bytes e) in omega arith)) in
+      let same = turns_same (mark_of j.op bytes) w a.more in
+      let is = a.is in
+      (omega arith, (let high = h.1 in omega arith))

@@ -1,0 +1,374 @@
+-- A start-up.
+use Rattle.std.specs.Prelude.{IfSome, IsTrue, option_map, ◌&&◌}
+use Rattle.std.proofs.Common.{◌≡◌, ◌⊎◌, inl, inr, ◌≤◌, ◌<◌, ◌+◌, ◌*◌, ℕ, Bool, true, false, if◌then◌else◌, List, [], ◌∷◌, length, Option, Some, None, Ok, Err, refl, sym, ap, ◌∙◌, subst, arith}
+use Rattle.std.proofs.lemmas.Bool.{cases_lt}
+use Rattle.nv_base.specs.Count.{Rose, next_count, last_count, WereCounted}
+use Rattle.nv_base.specs.Geometry.{IsLegal, HasBanks, BanksFill, size_of}
+use Rattle.nv_base.specs.Lengths.{AreLengths}
+use Rattle.nv_base.specs.Plan.{dropped}
+use Rattle.nv_base.specs.declared.geometry.Geometry.{Geometry}
+use Rattle.nv_base.specs.declared.instance.DeviceNumber.{DeviceNumber}
+use Rattle.memif.specs.declared.answer.JobResult.TheVariants.{JobOk}
+use Rattle.memif.specs.declared.answer.StartFault.TheVariants.{Fault}
+use Rattle.memif.specs.Told.{Slot, Ended, no_part, slot_at}
+use Rattle.memif.specs.Marks.{IsPossible, ComesFrom, EachNumber}
+use Rattle.memif.specs.Clock.{FindsNow}
+use Rattle.memif.specs.Calls.{StartsUp, PowersUp, ClockStays}
+use Rattle.fls_model.specs.Attach.{AreBytesOf}
+use Rattle.fls_model.specs.Told.{Told, ToldBytes, bytes_now}
+use Rattle.fls_jobs.specs.declared.answer.FlsResult.{FlsResult}
+use Rattle.fee_image.specs.Image.{Layout, layout_of, bank_in, active_of}
+use Rattle.fee_image.specs.Laws.{LayoutsAreLegal}
+use Rattle.fee_image.specs.Sound.{IsSoundImage}
+use Rattle.fee_image.specs.LogLaws.{loaded_log}
+use Rattle.fee_image.specs.Log.{Log}
+use Rattle.fee_image.specs.May.{May}
+use Rattle.fee_image.specs.Banks.{Old, NoBank, OldBank, Phase, Idle}
+use Rattle.fee_switch.specs.declared.active.ActiveBank.{ActiveBank}
+use Rattle.fee_switch.specs.Active.{active_shown}
+use Rattle.fee_log.specs.Log.{work_in, tail_with, log_of}
+use Rattle.fee_course.specs.declared.course.Course.{Course}
+use Rattle.fee_switch.specs.Start.{IsLoadedAs}
+use Rattle.fee_switch.specs.Banks.{BanksState, FindsActive, LoadsActive}
+use Rattle.fee_switch_laws.specs.Shown.{old_shown, phase_shown}
+use Rattle.promise_device.specs.Making.{Making, banks_of}
+use Rattle.promise_device.specs.Image.{IsSoundFlash}
+use Rattle.fee_told.specs.Slots.{Memory, slots_held, slots_found, held_of, banks_with, may_told}
+use Rattle.fee_told.specs.SlotLaws.{ImagesFind, PlacesTell, SamePlaces, IsStarted, UnstartedFind, UnstartedIsFound, IsHeld}
+use Rattle.fee_told.specs.Device.{Device, tells, told_of, part_of, slots_in, is_switching}
+use Rattle.fee_told.specs.Clock.{ClocksStay, MakesNone, clock_of}
+use Rattle.fee_told.specs.Parts.{PartsPower}
+use Rattle.fee_told.specs.Runs.{HasRun, RunsStay}
+use Rattle.fee_told.specs.Tells.{TellsStart, IsSame, was}
+use Rattle.fee_told.specs.Jobs.{BanksStart, NoBankStarts, MayStart, AreStarted}
+use Rattle.fee_told.specs.Whole.{HoldsBanks, HeldFindsNow, UnstartedFindsNow}
+use Rattle.fee_told.specs.Figures.{left_of}
+use Rattle.fee_format.specs.declared.rec_head.RecHead.{RecHead}
+use Rattle.fee_log.specs.Index.{clear_flags}
+use Rattle.fee_switch_laws.specs.Space.{HasSpace}
+use Rattle.fee_switch_laws.specs.KeepsRoom.{IsRoomy}
+use Rattle.fee_laws.specs.Inside.{Parts, memory_of, body_of, device_of, IsMadeFor, IsDevice, IsSound, HoldsBehind, HasSwitch, IsAtWork, ShowsCopies}
+use Rattle.fee_laws.specs.Record.{IsInWork}
+use Rattle.fee_laws.specs.Parts.{started_with}
+use Rattle.fee_laws.specs.Work.{work_of}
+use Rattle.fee_laws.specs.CallLaws.{AreOf, AreReady}
+use Rattle.fee_laws.proofs.Making.{some_told, none_shows}
+use Rattle.fee_laws.proofs.CallOrder.{at_rest, nothing_left}
+
+-- the laws that a start-up stands on
+pub record Laws : Type 0 where
+  pub stay : ClocksStay
+  pub runs : RunsStay
+  pub power : PartsPower
+  pub tell : TellsStart
+  pub start : BanksStart
+  pub blank : NoBankStarts
+  pub held : HeldFindsNow
+  pub found : UnstartedFindsNow
+  pub images : ImagesFind
+  pub same : PlacesTell
+  pub unstarted : UnstartedFind
+  pub is_found : UnstartedIsFound
+  pub legal : LayoutsAreLegal
+  pub fill : BanksFill
+
+-- COUNTS
+rose_next : (n : ℕ) → n ≤ last_count → Rose n (next_count n)
+rose_next n few = elim (cases_lt n last_count) [ inl less ↦ inl (omega arith) | inr big ↦ inr (big, omega arith) ]
+
+abbrev pub Counted : ℕ → ℕ → ℕ → ℕ → Type 0
+Counted a b own own' = (own' ≡ own) ⊎ ((own' ≡ next_count own) × Rose a b)
+
+were_counted : (entry a b own own' : ℕ) → a ≤ b → Counted a b own own' → WereCounted own entry a → WereCounted own' entry b
+were_counted entry a b own own' more (inl same) (inl fits) = inl (omega arith)
+were_counted entry a b own own' more (inl same) (inr big) = inr (omega arith)
+were_counted entry a b own own' more (inr (is, inl less)) (inl fits) = inl (omega arith)
+were_counted entry a b own own' more (inr (is, inl less)) (inr big) = inr (omega arith)
+were_counted entry a b own own' more (inr (is, inr (big, le))) fits = inr (omega arith)
+
+few_counted : (a b own own' : ℕ) → own ≤ last_count → Counted a b own own' → own' ≤ last_count
+few_counted a b own own' few (inl same) = omega arith
+few_counted a b own own' few (inr (is, rose)) = omega arith
+
+-- BYTES
+sound_in : (m : Making) (bytes : List ℕ) → 0 < length bytes → IsSoundFlash m bytes → IsSoundImage (banks_of m) bytes
+sound_in m [] some sound = absurd (omega arith)
+sound_in m (x ∷ xs) some sound = sound
+
+pub told_bytes : (o : Option ToldBytes) (P : List ℕ → Type 0) (bytes : List ℕ) → option_map (λ (b : ToldBytes). b.now) o ≡ Some bytes → IfSome (option_map (λ (b : ToldBytes). b.now) o) P → P bytes
+told_bytes None P bytes is holds = cc is
+told_bytes (Some b) P bytes is holds = subst P (cc is) holds
+
+pub told_now : (o : Option ToldBytes) (P : List ℕ → Type 0) (bytes : List ℕ) → option_map (λ (b : ToldBytes). b.now) o ≡ Some bytes → IfSome o (λ b. P b.now) → P bytes
+told_now None P bytes is holds = cc is
+told_now (Some b) P bytes is holds = subst P (cc is) holds
+
+at_most : (a b c : ℕ) → a ≡ c → b ≡ c → a ≤ b
+at_most a b c x y = omega (arith, x, y)
+
+pub same_bytes : (o : Option (List ℕ)) (x y : List ℕ) → o ≡ Some x → o ≡ Some y → x ≡ y
+same_bytes o x y a b = cc (a, b)
+
+pub each_told : (o : Option ToldBytes) (P : List ℕ → Type 0) → ((bytes : List ℕ) → option_map (λ (b : ToldBytes). b.now) o ≡ Some bytes → P bytes) → IfSome (option_map (λ (b : ToldBytes). b.now) o) P
+each_told None P holds = tt
+each_told (Some b) P holds = holds b.now refl
+
+pub same_places : (old : Old) → SamePlaces old old
+same_places NoBank = tt
+same_places (OldBank k h log) = (refl, refl, refl)
+
+-- no job is open, nothing more may be copied
+none_copied : May
+none_copied number length = None
+
+module _ (laws : Laws) (m : Making) (entry : Told) (s : Parts) (made : IsMadeFor m s) (is : IsDevice (device_of m entry s)) (lengths : AreLengths 0 m.numbers) (b : BanksState) (are : AreOf m b) (result : FlsResult) (flash_faults : ℕ) (ready : Bool) (faults : ℕ) (more : s.fls.flash.faults ≤ flash_faults) (counted : Counted s.fls.flash.faults flash_faults s.faults faults) where
+  abbrev d : Device
+  d = device_of m entry s
+
+  abbrev u : Parts
+  u = started_with s b result flash_faults ready faults
+
+  abbrev t : Device
+  t = device_of m entry u
+
+  abbrev l : Layout
+  l = banks_of m
+
+  legal : IsLegal m.geometry
+  legal = subst IsLegal are.geometry are.state.legal
+
+  shared : HasBanks m.geometry m.banks
+  shared = subst (λ (g : Geometry). HasBanks g m.banks) are.geometry (subst (HasBanks b.geometry) are.shared are.state.shared)
+
+  none : MakesNone d t
+  none = record { making = refl; entry = refl; operations = refl; bytes = refl }
+
+  run : HasRun t
+  run = laws.runs d t is.run (record {
+    none = none;
+    bytes = refl;
+    counts = (refl, refl);
+    flash_faults = more;
+    faults = were_counted entry.faults s.fls.flash.faults flash_faults s.faults faults more counted is.run.faults;
+    cuts = is.run.cuts;
+    worn = λ since e. inl e;
+  })
+
+  part : PowersUp (part_of d) (part_of t)
+  part = laws.power d t (record { off = refl; planning = refl; operations = refl; more = more; faults = counted; small = is.faults })
+
+  second : PowersUp no_part no_part
+  second = record { only = refl; faults = record { faults = omega arith; flash = omega arith; tied = inl (omega arith) }; off = λ e. e }
+
+  some : IfSome (bytes_now s.fls.flash) (λ bytes. 0 < length bytes)
+  some = some_told m.geometry s.fls.flash.bytes legal made.bytes
+
+  -- WHAT WAS POSSIBLE
+  abbrev AllPossible : List ℕ → Bool → Type 0
+  AllPossible bytes started = (n : ℕ) → IsPossible (slot_at m.numbers (if started then slots_held l m.numbers bytes d.memory else slots_found l m.numbers bytes) n) (held_of l m.numbers bytes n)
+
+  possible_by : (started : Bool) → s.started ≡ started → (bytes : List ℕ) → bytes_now s.fls.flash ≡ Some bytes → IsTrue (tells d) → AllPossible bytes started
+  possible_by true e bytes at told =
+      let h = is.held e in
+      let held : IsHeld l m.numbers bytes h.behind h.copied = told_bytes s.fls.flash.bytes (λ (x : List ℕ). IsHeld l m.numbers x h.behind h.copied) bytes at (h.banks.held told) in
+      let found = laws.images l m.numbers (slots_held l m.numbers bytes h.behind) bytes (banks_with h.behind (may_told l m.numbers bytes h.behind) h.copied) h.banks.legal held.banks (λ number size x among. among) in
+      subst (λ (slots : List Slot). (n : ℕ) → IsPossible (slot_at m.numbers slots n) (held_of l m.numbers bytes n)) (sym (laws.same l m.numbers bytes h.behind d.memory h.places (sym h.stand))) found
+  possible_by false e bytes at told = laws.is_found l m.numbers bytes
+
+  possible : (bytes : List ℕ) → bytes_now s.fls.flash ≡ Some bytes → IsTrue (tells d) → (n : ℕ) → IsPossible (was d bytes n) (held_of l m.numbers bytes n)
+  possible bytes at told = possible_by s.started refl bytes at told
+
+  -- WHAT IT STARTS WITH
+  may : (bytes : List ℕ) → bytes_now s.fls.flash ≡ Some bytes → IsTrue (tells d) → MayStart l m.numbers bytes (slots_in d bytes) b.target (Ended JobOk [])
+  may bytes at told = record {
+    lengths = lengths;
+    legal = laws.legal m.geometry m.banks legal shared;
+    size = at_most (l.pages * l.page * l.banks) (length bytes) (size_of m.geometry) (laws.fill m.geometry m.banks legal shared).0 (told_now s.fls.flash.bytes (AreBytesOf m.geometry) bytes at made.bytes).size;
+    sound = sound_in m bytes (told_bytes s.fls.flash.bytes (λ (x : List ℕ). 0 < length x) bytes at some) (told_bytes s.fls.flash.bytes (IsSoundFlash m) bytes at (is.run.sound told));
+    target_in = omega (arith, are.state.target, are.shared);
+    possible = possible bytes at told;
+    shut = refl;
+  }
+
+  lay : layout_of b.geometry b.banks ≡ l
+  lay = λ i. layout_of (are.geometry i) (are.shared i)
+
+  abbrev body : List ℕ
+  body = body_of (work_in b.log.tail) s.content
+
+  abbrev memory_with : Option ActiveBank → Phase → Memory
+  memory_with active phase = record { old = old_shown active b.log body; target = b.target; phase = phase; stand = Ended JobOk [] }
+
+  start_by : (bytes : List ℕ) → MayStart l m.numbers bytes (slots_in d bytes) b.target (Ended JobOk []) → (active : Option ActiveBank) → active_shown active ≡ active_of l bytes
+      → IfSome active (λ a. IsLoadedAs l bytes a.bank a.head b.log) → IfSome active (λ a. (a.bank ≡ b.target → ⊥) × (b.log.bank ≡ a.bank))
+      → AreStarted l m.numbers bytes (slots_in d bytes) (memory_with active Idle) none_copied
+  start_by bytes can None first loaded other = laws.blank l m.numbers bytes (slots_in d bytes) b.target none_copied (Ended JobOk []) can (sym first)
+  start_by bytes can (Some a) first loaded other =
+      let tail = tail_with b.log.tail body in
+      let h = laws.start l m.numbers bytes (slots_in d bytes) a.bank b.target a.head tail none_copied (Ended JobOk []) can (sym first) (λ e. other.0 (sym e)) (loaded.tail body) in
+      let is_log = subst (λ (ns : List (DeviceNumber × ℕ)). log_of b.log body ≡ loaded_log (bank_in l a.head.format a.bank) ns bytes tail) are.numbers (loaded.loaded body) in
+      subst (λ (log : Log). AreStarted l m.numbers bytes (slots_in d bytes) (record { old = OldBank a.bank a.head log; target = b.target; phase = Idle; stand = Ended JobOk [] }) none_copied) (sym is_log) h
+
+  idle : phase_shown b.course b (body_of (work_in b.copies.tail) b.buffer) ≡ Idle
+  idle = ap (λ (c : Option Course). phase_shown c b (body_of (work_in b.copies.tail) b.buffer)) are.closed
+
+  -- the banks that were loaded
+  starts : IfSome s.fls.flash.bytes (λ x. FindsActive x.now b) → IfSome s.fls.flash.bytes (λ x. LoadsActive x.now b)
+      → (bytes : List ℕ) → bytes_now s.fls.flash ≡ Some bytes → IsTrue (tells d) → AreStarted l m.numbers bytes (slots_in d bytes) (memory_of u) none_copied
+  starts finds loads bytes at told =
+      let first = subst (λ (x : Layout). active_shown b.active ≡ active_of x bytes) lay (told_now s.fls.flash.bytes (λ (x : List ℕ). FindsActive x b) bytes at finds) in
+      let loaded = subst (λ (x : Layout). IfSome b.active (λ a. IsLoadedAs x bytes a.bank a.head b.log)) lay (told_now s.fls.flash.bytes (λ (x : List ℕ). LoadsActive x b) bytes at loads) in
+      subst (λ (phase : Phase). AreStarted l m.numbers bytes (slots_in d bytes) (memory_with b.active phase) none_copied) (sym idle)
+      (start_by bytes (may bytes at told) b.active first loaded are.state.active)
+
+  -- AT WORK
+  no_work : (h : Option RecHead) → h ≡ None → IfSome h (IsInWork b None)
+  no_work None idle = tt
+  no_work (Some h) idle = cc idle
+
+  no_switch : (c : Option Course) → c ≡ None → b.log.flags ≡ clear_flags b.log.numbers → HasSwitch b c
+  no_switch None closed clear = clear
+  no_switch (Some c) closed clear = cc closed
+
+  at_work : (x : BanksState) → b.course ≡ None → AreReady b → IsAtWork m u
+  at_work x closed rdy = record { active = rdy.active; job = tt; work = no_work (work_in b.log.tail) rdy.idle; ready = tt; switch = no_switch b.course closed rdy.clear }
+
+  -- WHAT IS TOLD
+  same : IsSame d t
+  same = record { making = refl; entry = refl; old = is.run.alike; new = run.alike }
+
+  off_now : ready && is_switching (memory_of u).phase ≡ false
+  off_now = ap (λ (phase : Phase). ready && is_switching phase) idle ∙ by_test ready
+    where
+      by_test : (x : Bool) → x && false ≡ false
+      by_test true = refl
+      by_test false = refl
+
+  left_now : left_of (Ended JobOk []) (work_of m.reserve b None) ≡ 0
+  left_now = nothing_left m.reserve b b.course are.closed
+
+  only : told_of t ≡ record (told_of t) { switching = false; left = 0 }
+  only = λ i. record (told_of t) { switching = off_now i; left = left_now i }
+
+  pub starts_up_as : FindsNow (told_of t) (clock_of t) → ClockStays (clock_of d) (told_of t) (clock_of t)
+  starts_up_as now = record { same = laws.stay d t none refl; order = at_rest m entry u are.closed now }
+
+  unplanned : (s.fls.flash.planning.unplanned + entry.cuts ≤ entry.planning.unplanned + s.fls.flash.cuts) ⊎ (last_count ≤ s.fls.flash.cuts) → ((dropped s.fls.flash.planning).unplanned + entry.cuts ≤ entry.planning.unplanned + s.fls.flash.cuts) ⊎ (last_count ≤ s.fls.flash.cuts)
+  unplanned since = since
+
+  space : HasSpace b.log.numbers b.geometry b.banks m.reserve
+  space = subst (λ (ns : List (DeviceNumber × ℕ)). HasSpace ns b.geometry b.banks m.reserve) (sym are.numbers) (subst (λ (g : Geometry). HasSpace m.numbers g b.banks m.reserve) (sym are.geometry) (subst (λ (n : ℕ). HasSpace m.numbers m.geometry n m.reserve) (sym are.shared) made.space))
+
+  shut_room : (c : Option Course) → c ≡ None → IfSome c (IsRoomy m.reserve b)
+  shut_room None closed = tt
+  shut_room (Some c) closed = cc closed
+
+  pub sound_as : (t.started ≡ true → HoldsBehind t) → (ready ≡ true → AreReady b) → FindsNow (told_of t) (clock_of t) → (listed : List (DeviceNumber × ℕ)) (kept count : ℕ) (is_off : Bool) → IsSound m entry s listed kept count is_off → IsSound m entry u listed kept count false
+  sound_as held rdy now listed kept count is_off sound = record {
+    made_for = record {
+      geometry = made.geometry;
+      idle = record { job = made.idle.job; attached = made.idle.attached };
+      banks_geometry = are.geometry;
+      shared = are.shared;
+      numbers = are.numbers;
+      space = made.space;
+      bytes = made.bytes;
+      room = made.room;
+      given = omega arith;
+      ended = λ e. cc e;
+    };
+    device = record { run = run; held = held; order = at_rest m entry u are.closed now; faults = few_counted s.fls.flash.faults flash_faults s.faults faults is.faults counted };
+    rests = λ unstarted. record { job = refl; course = are.closed };
+    works = λ started. at_work b are.closed (rdy started);
+    room = λ started on. record { space = space; switch = shut_room b.course are.closed };
+    copies = λ on told. none_shows s.fls.flash.bytes b.course (λ x c. ShowsCopies m u c x.now) are.closed;
+    cuts = record { before = sound.cuts.before; since = unplanned sound.cuts.since };
+    worn = λ since e. record { passed = (sound.worn since e).passed; shut = are.closed };
+    numbers = sound.numbers;
+    reserve = sound.reserve;
+    ops = sound.ops;
+    off = λ started. refl;
+  }
+
+module _ (laws : Laws) (m : Making) (entry : Told) (s : Parts) (made : IsMadeFor m s) (is : IsDevice (device_of m entry s)) (lengths : AreLengths 0 m.numbers) (b : BanksState) (are : AreOf m b) (result : FlsResult) where
+  -- THE BANKS ARE READY
+  abbrev ready_parts : Parts
+  ready_parts = started_with s b result s.fls.flash.faults true s.faults
+
+  abbrev ready_device : Device
+  ready_device = device_of m entry ready_parts
+
+  module _ (rdy : AreReady b) (finds : IfSome s.fls.flash.bytes (λ x. FindsActive x.now b)) (loads : IfSome s.fls.flash.bytes (λ x. LoadsActive x.now b)) where
+    ready_more : s.fls.flash.faults ≤ s.fls.flash.faults
+    ready_more = omega arith
+
+    banks_start : (bytes : List ℕ) → bytes_now s.fls.flash ≡ Some bytes → IsTrue (tells (device_of m entry s)) → AreStarted (banks_of m) m.numbers bytes (slots_in (device_of m entry s) bytes) (memory_of ready_parts) none_copied
+    banks_start = starts laws m entry s made is lengths b are result s.fls.flash.faults true s.faults ready_more (inl refl) finds loads
+
+    ready_holds : HoldsBanks ready_device none_copied
+    ready_holds = record {
+      started = refl;
+      alike = is.run.alike;
+      legal = laws.legal m.geometry m.banks (legal laws m entry s made is lengths b are result s.fls.flash.faults true s.faults ready_more (inl refl)) (shared laws m entry s made is lengths b are result s.fls.flash.faults true s.faults ready_more (inl refl));
+      some = some laws m entry s made is lengths b are result s.fls.flash.faults true s.faults ready_more (inl refl);
+      held = λ told. each_told s.fls.flash.bytes (λ (x : List ℕ). IsHeld (banks_of m) m.numbers x (memory_of ready_parts) none_copied) (λ bytes at. (banks_start bytes at told).held);
+    }
+
+    ready_behind : HoldsBehind ready_device
+    ready_behind = record { behind = memory_of ready_parts; copied = none_copied; banks = ready_holds; places = same_places (memory_of ready_parts).old; stand = refl; on = λ on. refl; idle = inl refl }
+
+    ready_now : FindsNow (told_of ready_device) (clock_of ready_device)
+    ready_now = laws.held ready_device none_copied ready_holds
+
+    ready_each : EachNumber (λ n x y. ComesFrom x y) (told_of (device_of m entry s)) (told_of ready_device) × EachNumber (λ n x y. y.doubts ≡ []) (told_of (device_of m entry s)) (told_of ready_device)
+    ready_each = laws.tell (device_of m entry s) ready_device (same laws m entry s made is lengths b are result s.fls.flash.faults true s.faults ready_more (inl refl)) (λ old new told n.
+        subst (λ (x : List ℕ). IsStarted (was (device_of m entry s) old n) (was ready_device x n)) (same_bytes (bytes_now s.fls.flash) old new told.1 told.2) ((banks_start old told.1 told.0).starts n))
+
+    pub ready_starts : StartsUp (Ok tt) (told_of (device_of m entry s)) (clock_of (device_of m entry s)) (told_of ready_device) (clock_of ready_device)
+    ready_starts = record {
+      only = only laws m entry s made is lengths b are result s.fls.flash.faults true s.faults ready_more (inl refl);
+      comes_to = (refl, refl, refl, ready_each.1);
+      marks = ready_each.0;
+      first = part laws m entry s made is lengths b are result s.fls.flash.faults true s.faults ready_more (inl refl);
+      second = second laws m entry s made is lengths b are result s.fls.flash.faults true s.faults ready_more (inl refl);
+      clock_stays = starts_up_as laws m entry s made is lengths b are result s.fls.flash.faults true s.faults ready_more (inl refl) ready_now;
+    }
+
+    pub ready_sound : (listed : List (DeviceNumber × ℕ)) (kept count : ℕ) (is_off : Bool) → IsSound m entry s listed kept count is_off → IsSound m entry ready_parts listed kept count false
+    ready_sound = sound_as laws m entry s made is lengths b are result s.fls.flash.faults true s.faults ready_more (inl refl) (λ started. ready_behind) (λ e. rdy) ready_now
+
+  -- A READ FAILED
+  module _ (flash_faults : ℕ) (rose : Rose s.fls.flash.faults flash_faults) where
+    abbrev failed_parts : Parts
+    failed_parts = started_with s b result flash_faults false (next_count s.faults)
+
+    abbrev failed_device : Device
+    failed_device = device_of m entry failed_parts
+
+    failed_more : (a c : ℕ) → Rose a c → a ≤ c
+    failed_more a c (inl less) = omega arith
+    failed_more a c (inr (big, le)) = le
+
+    risen : s.fls.flash.faults ≤ flash_faults
+    risen = failed_more s.fls.flash.faults flash_faults rose
+
+    failed_now : FindsNow (told_of failed_device) (clock_of failed_device)
+    failed_now = laws.found failed_device refl (some laws m entry s made is lengths b are result flash_faults false (next_count s.faults) risen (inr (refl, rose)))
+
+    failed_each : EachNumber (λ n x y. ComesFrom x y) (told_of (device_of m entry s)) (told_of failed_device) × EachNumber (λ n x y. y.doubts ≡ []) (told_of (device_of m entry s)) (told_of failed_device)
+    failed_each = laws.tell (device_of m entry s) failed_device (same laws m entry s made is lengths b are result flash_faults false (next_count s.faults) risen (inr (refl, rose))) (λ old new told n.
+        subst (λ (x : List ℕ). IsStarted (was (device_of m entry s) old n) (was failed_device x n)) (same_bytes (bytes_now s.fls.flash) old new told.1 told.2)
+        (laws.unstarted (banks_of m) m.numbers old (slots_in (device_of m entry s) old) (possible laws m entry s made is lengths b are result flash_faults false (next_count s.faults) risen (inr (refl, rose)) old told.1 told.0) n))
+
+    pub failed_starts : StartsUp (Err Fault) (told_of (device_of m entry s)) (clock_of (device_of m entry s)) (told_of failed_device) (clock_of failed_device)
+    failed_starts = record {
+      only = only laws m entry s made is lengths b are result flash_faults false (next_count s.faults) risen (inr (refl, rose));
+      comes_to = (refl, inl (rose_next s.faults is.faults));
+      marks = failed_each.0;
+      first = part laws m entry s made is lengths b are result flash_faults false (next_count s.faults) risen (inr (refl, rose));
+      second = second laws m entry s made is lengths b are result flash_faults false (next_count s.faults) risen (inr (refl, rose));
+      clock_stays = starts_up_as laws m entry s made is lengths b are result flash_faults false (next_count s.faults) risen (inr (refl, rose)) failed_now;
+    }
+
+    pub failed_sound : (listed : List (DeviceNumber × ℕ)) (kept count : ℕ) (is_off : Bool) → IsSound m entry s listed kept count is_off → IsSound m entry failed_parts listed kept count false
+    failed_sound = sound_as laws m entry s made is lengths b are result flash_faults false (next_count s.faults) risen (inr (refl, rose)) (λ started. cc started) (λ e. cc e) failed_now

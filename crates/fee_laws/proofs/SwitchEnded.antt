@@ -1,0 +1,468 @@
+-- The turn in which a switch ends.
+use Rattle.std.specs.Prelude.{IfSome, IsTrue, ◌&&◌, not, nat_le, take, if◌then◌else◌}
+use Rattle.std.proofs.Common.{◌≡◌, ◌≢◌, inl, inr, ◌≤◌, ◌<◌, ◌+◌, ℕ, suc, Bool, true, false, List, [], Option, Some, None, refl, sym, ap, ◌∙◌, subst, arith}
+use Rattle.std.proofs.lemmas.Bool.{cases_lt, le-leb}
+use Rattle.nv_base.specs.Count.{next_count}
+use Rattle.nv_base.specs.Geometry.{sectors_of_bank}
+use Rattle.nv_base.specs.declared.instance.DeviceNumber.{DeviceNumber}
+use Rattle.memif.specs.declared.answer.DeviceTurn.TheVariants as turn
+use Rattle.memif.specs.declared.answer.JobResult.TheVariants.{JobFailed}
+use Rattle.memif.specs.Told.{First, Job, Stand, Open, Ended, is_open}
+use Rattle.memif.specs.Marks.{KeepsAll}
+use Rattle.memif.specs.Calls.{Works, IsOf, JobTurns, Nearer, TurnsReady, is_read, urgent_first}
+use Rattle.fls_model.specs.declared.flash.FlashAnswer.TheVariants.{Done}
+use Rattle.fls_model.specs.Op.{Op}
+use Rattle.fls_model.specs.Step.{IsStep}
+use Rattle.fls_model.specs.Told.{Told}
+use Rattle.fls_jobs.specs.State.{FlsState}
+use Rattle.fee_format.specs.Formats.{new_format}
+use Rattle.fee_log.specs.declared.tail.Tail.{Tail}
+use Rattle.fee_log.specs.Log.{work_in}
+use Rattle.fee_course.specs.declared.course.Course.{Course}
+use Rattle.fee_course.specs.declared.course.Course.TheVariants as course
+use Rattle.fee_switch.specs.Banks.{BanksState, left_of}
+use Rattle.fee_format.specs.declared.rec_head.RecHead.{RecHead}
+use Rattle.nv_base.specs.declared.job.DeviceOp.TheVariants.{Read}
+use Rattle.fee_switch_laws.specs.KeepsRoom.{KeepsRoom}
+use Rattle.fee_switch_laws.specs.Space.{free_pages}
+use Rattle.fee_switch_laws.specs.Shown.{phase_shown}
+use Rattle.promise_device.specs.Making.{Making, banks_of}
+use Rattle.fee_told.specs.Slots.{Memory}
+use Rattle.fee_told.specs.Device.{Device, told_of, is_switching}
+use Rattle.fee_told.specs.Clock.{clock_of}
+use Rattle.fee_told.specs.Figures.{Work, turns_owed, wait_of}
+use Rattle.fee_told.specs.FigureLaws.{IsWork}
+use Rattle.fee_laws.specs.declared.job.FeeJob.{FeeJob}
+use Rattle.fee_laws.specs.Inside.{Parts, body_of, device_of, mark_of, stand_of, fixed_in, IsAtWork}
+use Rattle.fee_laws.specs.Record.{IsInWork, IsReady, IsJobOf}
+use Rattle.fee_laws.specs.Work.{work_of, waits_of, pages_free, begins_next, seal_turns, switch_turns, turns_before, is_owed}
+use Rattle.fee_laws.specs.Turn.{Turned, operated}
+use Rattle.fee_laws.specs.Switches.{IsStepping, IsBehind}
+use Rattle.fee_laws.proofs.TurnLaws.{Laws}
+use Rattle.fee_laws.proofs.SwitchLaws.{SwitchLaws}
+use Rattle.fee_laws.proofs.Before.{power}
+use Rattle.fee_laws.proofs.Order.{first_of, urgent_is}
+use Rattle.fee_laws.proofs.Operation.{part_works, ticks}
+use Rattle.fee_laws.proofs.Behind.{Facts, order, sound}
+use Rattle.fee_laws.proofs.SwitchFigures.{NoneBegins, switch_none, no_mark, has_mark}
+use Rattle.std.specs.Prelude.{Contains, length}
+use Rattle.std.proofs.Common.{◌==◌, ◌∷◌}
+use Rattle.std.proofs.lemmas.Bool.{cond_both, eqb-true, eqb-false}
+use Rattle.nv_base.specs.declared.job.DeviceOp.{DeviceOp}
+use Rattle.nv_base.specs.declared.job.DeviceOp.TheVariants.{Write, Invalidate, Erase}
+use Rattle.nv_base.specs.Pages.{record_pages_of}
+use Rattle.memif.specs.Told.{length_of}
+use Rattle.fls_model.specs.Told.{bytes_now}
+use Rattle.fee_image.specs.Log.{Log, Open as LogOpen}
+use Rattle.fee_image.specs.May.{May}
+use Rattle.fee_image.specs.Banks.{OldBank, Idle, next_head}
+use Rattle.fee_image.specs.Copies.{copied_of}
+use Rattle.fee_log.specs.declared.tail.Tail.TheVariants.{Open, Writes, Owes, Closed}
+use Rattle.fee_log.specs.Log.{IsFor, log_of, tail_with}
+use Rattle.fee_course.specs.declared.course.Course.TheVariants.{Gate}
+use Rattle.fee_image.specs.Image.{Layout}
+use Rattle.fls_model.specs.Step.{IsAsked}
+use Rattle.fee_told.specs.Whole.{CutsKeep}
+use Rattle.std.proofs.lemmas.Bool.{leb-true, le-leb}
+use Rattle.std.proofs.Common.{◌-◌}
+use Rattle.std.specs.Prelude.{is_some}
+use Rattle.nv_base.specs.declared.geometry.Geometry.{Geometry}
+use Rattle.fee_told.specs.Figures.{left_of as left_in}
+use Rattle.fee_laws.specs.Work.{pages_of_job, pages_left}
+use Rattle.fee_laws.proofs.SwitchFigures.{job_part}
+use Rattle.fee_laws.proofs.SwitchOn.{before_by, not_sealed}
+use Rattle.fee_laws.proofs.Before.{each_now}
+use Rattle.fee_switch.specs.Banks.{left_with, begun_again, ended, stood, target_after, after_answer}
+use Rattle.fee_switch_laws.specs.KeepsRoom.{IsTargetLog}
+use Rattle.fee_switch_laws.specs.RoomLaws.{IsBehindSwitch, RecordsHaveRoom}
+use Rattle.fee_switch_laws.specs.Space.{most_pages, has_room}
+use Rattle.fee_told.specs.SlotLaws.{IsHeld}
+use Rattle.fee_told.specs.Device.{tells}
+use Rattle.fee_told.specs.Runs.{HasRun}
+use Rattle.fee_told.specs.Kept.{IsKept}
+use Rattle.fee_laws.specs.Inside.{memory_of, flags_in, HoldsBehind}
+use Rattle.fee_laws.specs.Record.{IsLengthOf, kind_of}
+use Rattle.fee_laws.proofs.Heads.{head_with}
+use Rattle.fee_laws.specs.Work.{pages_of_op, fits_in, is_waiting, needs_switch, claimed}
+use Rattle.fee_laws.specs.Switches.{step_op}
+use Rattle.fee_laws.proofs.Operation.{run, left, before_told, started}
+use Rattle.fee_laws.proofs.Behind.{held_behind}
+use Rattle.fee_laws.proofs.Switching.{asked, not_worn, keeps, shows, may_in}
+use Rattle.fee_laws.proofs.SwitchOn.{if_else, nothing_by, switching_by, each_job, both_jobs}
+use Rattle.fee_laws.proofs.SwitchShown.{roomy, standing}
+use Rattle.fee_laws.proofs.SwitchHead.{next_is}
+use Rattle.fee_laws.proofs.SwitchGate.{op, log, phase, step, page_leaves, cutting, stood as gate_stood}
+
+-- THE NEXT TARGET
+pub target_other : (target banks : ℕ) → target < banks → 2 ≤ banks → let next = if target + 1 == banks then 0 else target + 1 in (next < banks) × (next ≡ target → ⊥)
+target_other target banks less two =
+    cond_both (target + 1 == banks) 0 (target + 1) (λ (n : ℕ). (n < banks) × (n ≡ target → ⊥))
+    (λ e. (omega arith, λ same. (let last : target + 1 ≡ banks = eqb-true (target + 1) banks e in omega (arith, last, same))))
+    (λ e. ((let other : target + 1 ≡ banks → ⊥ = eqb-false (target + 1) banks e in less_by (target + 1) banks (omega arith) other), λ same. omega (arith, same)))
+  where
+    less_by : (a b : ℕ) → a ≤ b → (a ≡ b → ⊥) → a < b
+    less_by a b le other = elim (cases_lt a b) [ inl less' ↦ less' | inr more ↦ absurd (other (omega arith)) ]
+
+-- A RECORD HAS ROOM
+is_listed : (ns : List (DeviceNumber × ℕ)) (n size : ℕ) → length_of ns n ≡ Some size → Contains ns (record { 0 = n }, size)
+is_listed [] n size is = cc is
+is_listed (x ∷ xs) n size is =
+    cond_both (x.0.0 == n) (Some x.1) (length_of xs n) (λ (o : Option ℕ). o ≡ Some size → Contains (x ∷ xs) (record { 0 = n }, size))
+    (λ e is'. (0, omega arith, (let at : x.0.0 ≡ n = eqb-true x.0.0 n e in let same : x.1 ≡ size = cc is' in (λ i. (record { 0 = at i }, same i)))))
+    (λ e is'. (let later = is_listed xs n size is' in (suc later.0, (let less = later.1 in omega (arith, less)), later.2))) is
+
+for_job : (numbers : List (DeviceNumber × ℕ)) (op : DeviceOp) (j : FeeJob) → j.op ≡ op → op ≢ Read → IsJobOf numbers j → IsFor numbers (head_with j.op j.number.0 j.length 0)
+for_job numbers Read j e writes is = absurd (writes refl)
+for_job numbers Write j e writes is =
+    let fits = subst (λ (o : DeviceOp). IsLengthOf o j.length is.length) e is.fits in
+    record { length = is.length; configured = is_listed numbers j.number.0 is.length is.configured; kind = inl (ap kind_of e, fits); count = omega arith }
+for_job numbers Invalidate j e writes is =
+    let fits = subst (λ (o : DeviceOp). IsLengthOf o j.length is.length) e is.fits in
+    record { length = is.length; configured = is_listed numbers j.number.0 is.length is.configured; kind = inr (inl (ap kind_of e), fits); count = omega arith }
+for_job numbers Erase j e writes is =
+    let fits = subst (λ (o : DeviceOp). IsLengthOf o j.length is.length) e is.fits in
+    record { length = is.length; configured = is_listed numbers j.number.0 is.length is.configured; kind = inr (inr (ap kind_of e), fits); count = omega arith }
+
+pages_for : (p : ℕ) (op : DeviceOp) (length of : ℕ) → op ≢ Read → IsLengthOf op length of → pages_of_op p op length ≡ record_pages_of length p
+pages_for p Read length of writes fits = absurd (writes refl)
+pages_for p Write length of writes fits = refl
+pages_for p Invalidate length of writes fits = ap (λ (n : ℕ). record_pages_of n p) (sym fits)
+pages_for p Erase length of writes fits = ap (λ (n : ℕ). record_pages_of n p) (sym fits)
+
+pub job_fits : RecordsHaveRoom → (reserve : ℕ) (b : BanksState) (j : FeeJob) → 16 ≤ b.geometry.page → j.op ≢ Read → IsJobOf b.log.numbers j → most_pages b.geometry.page b.log.numbers reserve ≤ free_pages b → fits_in reserve b j ≡ true
+job_fits records reserve b j low writes is room =
+    ap (λ (n : ℕ). has_room j.urgent n reserve (free_pages b)) (pages_for b.geometry.page j.op j.length is.length writes is.fits)
+    ∙ records b.geometry.page reserve (free_pages b) b.log.numbers (head_with j.op j.number.0 j.length 0) j.urgent low (for_job b.log.numbers j.op j refl writes is) room
+
+-- so none needs another switch
+pub no_need : (reserve : ℕ) (b : BanksState) (j : FeeJob) → fits_in reserve b j ≡ true → needs_switch reserve b (Some j) ≡ false
+no_need reserve b j fits = ap (λ (x : Bool). is_waiting b j && not x) fits ∙ and_false (is_waiting b j)
+  where
+    and_false : (a : Bool) → a && false ≡ false
+    and_false true = refl
+    and_false false = refl
+
+module _ (laws : Laws) (own : SwitchLaws) (m : Making) (entry : Told) (s : Parts) (listed : List (DeviceNumber × ℕ)) (kept count : ℕ) (doubtful : Bool) (made : BanksState) (f : FlsState) (is : IsStepping m entry s listed kept count (Gate doubtful) made Done f) where
+  abbrev c : Course
+  c = Gate doubtful
+
+  abbrev mem : Memory
+  mem = memory_of s
+
+  abbrev l : Layout
+  l = banks_of m
+
+  abbrev o : Op
+  o = op laws own m entry s listed kept count doubtful made f
+
+  stepped : IsStep o s.fls.flash Done f.flash
+  stepped = step laws own m entry s listed kept count doubtful made f Done is
+
+  asks : IsAsked o s.fls.flash Done f.flash
+  asks = asked laws m entry s listed kept count c made Done f is o stepped
+
+  keep : CutsKeep o (device_of m entry s)
+  keep = keeps laws m entry s listed kept count c made Done f is o stepped mem (cutting laws own m entry s listed kept count doubtful made f Done is)
+
+  abbrev pub b : BanksState
+  b = ended s.banks
+
+  pub b_is : b ≡ after_answer made c Done
+  b_is = λ i. after_answer (sym is.makes.1 i) c Done
+
+  abbrev d : Device
+  d = device_of m entry s
+
+  abbrev pub t : Parts
+  t = operated o Done f b s
+
+  abbrev e : Device
+  e = device_of m entry t
+
+  run_then : HasRun e
+  run_then = run laws m entry s listed kept count is.on o Done f is.drives asks keep b s.job s.last s.given (λ since worn. absurd (not_worn laws m entry s listed kept count c made Done f is o stepped since worn))
+
+  -- THE BANKS
+  target : IsTargetLog s.banks c
+  target = (roomy laws m entry s listed kept count c made Done f is).target
+
+  abbrev was : Log
+  was = log laws own m entry s listed kept count doubtful made f
+
+  open' : was.tail ≡ LogOpen
+  open' = ap (λ (x : Tail). tail_with x (body_of (work_in s.banks.copies.tail) s.banks.buffer)) target.work
+
+  abbrev next : ℕ
+  next = target_after s.banks.banks (stood s.banks)
+
+  next_ok : (next < l.banks) × (next ≡ s.banks.target → ⊥)
+  next_ok =
+      let ok = target_other s.banks.target s.banks.banks is.on.banks.target is.on.banks.shared.low in
+      (subst (λ (n : ℕ). next < n) is.on.sound.made_for.shared ok.0, ok.1)
+
+  abbrev then' : Memory
+  then' = record { old = OldBank s.banks.target (next_head mem.old) was; target = next; phase = Idle; stand = mem.stand }
+
+  log_path : log_of s.banks.copies (body_of (work_in s.banks.copies.tail) s.content) ≡ was
+  log_path =
+      let k = s.banks.copies in
+      (λ i. record { end = k.end; tail = tail_with (target.work i) (body_of (work_in k.tail) s.content); places = k.places })
+      ∙ (λ i. record { end = k.end; tail = tail_with (sym target.work i) (body_of (work_in k.tail) s.banks.buffer); places = k.places })
+
+  memory_is : then' ≡ memory_of t
+  memory_is = λ i. record {
+    old = OldBank s.banks.target (record { format = new_format; generation = sym (next_is s.banks.active s.banks.log (body_of (work_in s.banks.log.tail) s.content)) i }) (sym log_path i);
+    target = next;
+    phase = Idle;
+    stand = mem.stand;
+  }
+
+  kept_at : (old new : List ℕ) → bytes_now s.fls.flash ≡ Some old → bytes_now f.flash ≡ Some new → IsTrue (tells d) → IsKept l m.numbers old new mem (memory_of t) (copied_of (flags_in m s old))
+  kept_at old new at_old at_new told =
+      let both = left laws m entry s listed kept count is.on o Done f is.drives asks old new at_old at_new in
+      let cop = copied_of (flags_in m s old) in
+      let sh = shows laws m entry s listed kept count c made Done f is o stepped old at_old told in
+      subst (λ (x : Memory). IsKept l m.numbers old new mem x cop) memory_is
+      (own.gate l m.numbers old new mem cop was next (standing laws m entry s listed kept count c made Done f is old cop sh.held) (phase laws own m entry s listed kept count doubtful made f Done is) open'
+      (page_leaves laws own m entry s listed kept count doubtful made f Done is old new both.0) (gate_stood laws own m entry s listed kept count doubtful made f Done is old new sh both.0 both.1) next_ok.0 next_ok.1)
+
+  abbrev more : May
+  more = may_in m s (bytes_now s.fls.flash)
+
+  more_is : (old : List ℕ) → bytes_now s.fls.flash ≡ Some old → more ≡ copied_of (flags_in m s old)
+  more_is old at = ap (may_in m s) at
+
+  behind_then : HoldsBehind e
+  behind_then = held_behind laws m entry s listed kept count is.on o Done f is.drives asks b s.job s.last s.given laws.legal run_then more
+      (λ new at told.
+      (let before = before_told s.fls.flash.bytes f.flash.bytes o Done new asks.bytes at in
+      subst (λ (x : May). IsHeld l m.numbers new (memory_of t) x) (sym (more_is before.0 before.1)) (kept_at before.0 new before.1 at told).held))
+
+  keeping : KeepsAll (told_of d) (told_of e)
+  keeping = laws.kept d e more (started laws m entry s listed kept count is.on o Done f is.drives asks keep b s.job s.last s.given run_then)
+      (λ old new told. subst (λ (x : May). IsKept l m.numbers old new mem (memory_of t) x) (sym (more_is old told.1)) (kept_at old new told.1 told.2 told.0))
+
+  -- THE ROOM
+  was_room : KeepsRoom m.reserve s.banks
+  was_room = is.on.sound.room is.on.started (power m entry s listed kept count is.on)
+
+  room_then : KeepsRoom m.reserve b
+  room_then = subst (KeepsRoom m.reserve) (sym b_is) (own.room m.reserve s.banks made c s.fls.flash f.flash Done is.on.banks is.on.log is.idle is.course was_room is.makes (λ off. cc off))
+
+  behind_switch : IsBehindSwitch m.reserve b
+  behind_switch = own.behind m.reserve s.banks doubtful is.on.banks was_room is.course
+
+  was_at_work : IsAtWork m s
+  was_at_work = is.on.sound.works is.on.started
+
+  writes : IfSome s.job (λ j. j.op ≢ Read)
+  writes = each_job (IsBehind s.banks) (λ j. j.op ≢ Read) s.job (λ j x. x.0) is.behind
+
+  numbers : b.log.numbers ≡ m.numbers
+  numbers = is.on.banks.numbers ∙ is.on.sound.made_for.numbers
+
+  low : 16 ≤ b.geometry.page
+  low = is.on.banks.legal.page_low
+
+  fits_by : (j : FeeJob) → IsJobOf m.numbers j → j.op ≢ Read → fits_in m.reserve b j ≡ true
+  fits_by j is' w' = job_fits own.records m.reserve b j low w' (subst (λ (ns : List (DeviceNumber × ℕ)). IsJobOf ns j) (sym numbers) is') behind_switch.room
+
+  fits_urgent : (j : FeeJob) → IsJobOf m.numbers j → j.op ≢ Read → fits_in 0 b j ≡ true
+  fits_urgent j is' w' =
+      job_fits own.records 0 b j low w' (subst (λ (ns : List (DeviceNumber × ℕ)). IsJobOf ns j) (sym numbers) is')
+      (let much = behind_switch.room in omega (arith, much))
+
+  no_switch : (o' : Option FeeJob) → IfSome o' (IsJobOf m.numbers) → IfSome o' (λ j. j.op ≢ Read) → switch_turns m.reserve b o' None ≡ 0
+  no_switch None is' w' = refl
+  no_switch (Some j) is' w' = ap (λ (x : Bool). if x then left_of (begun_again b (course.Erase 0)) else 0) (no_need m.reserve b j (fits_by j is' w'))
+
+  -- READY
+  room_beside : (j : FeeJob) → IsJobOf m.numbers j → j.op ≢ Read → pages_of_op b.geometry.page j.op j.length + m.reserve ≤ free_pages b
+  room_beside j is' w' =
+      let is'' = subst (λ (ns : List (DeviceNumber × ℕ)). IsJobOf ns j) (sym numbers) is' in
+      let has = own.records b.geometry.page m.reserve (free_pages b) b.log.numbers (head_with j.op j.number.0 j.length 0) false low (for_job b.log.numbers j.op j refl w' is'') behind_switch.room in
+      let same = pages_for b.geometry.page j.op j.length is'.length w' is'.fits in
+      let le = leb-true (record_pages_of j.length b.geometry.page + m.reserve) (free_pages b) has in
+      omega (arith, same, le)
+
+  few_claimed : (j : FeeJob) → claimed b (Some j) ≤ pages_of_op b.geometry.page j.op j.length
+  few_claimed j = cond_both (begins_next b j) (pages_of_op b.geometry.page j.op j.length) 0 (λ (n : ℕ). n ≤ pages_of_op b.geometry.page j.op j.length) (λ e. omega arith) (λ e. omega arith)
+
+  much_free : (o' : Option FeeJob) → IfSome o' (IsJobOf m.numbers) → IfSome o' (λ j. j.op ≢ Read) → m.reserve ≤ pages_free b o'
+  much_free None is' w' =
+      let much = behind_switch.room in
+      let goal : m.reserve ≤ free_pages b - 0 = omega (arith, much) in goal
+  much_free (Some j) is' w' =
+      let beside = room_beside j is' w' in
+      let few = few_claimed j in
+      let goal : m.reserve ≤ free_pages b - claimed b (Some j) = omega (arith, beside, few) in goal
+
+  ready_on : (told_of d).ready ≤ (told_of e).ready
+  ready_on = own.ready m.reserve (pages_free s.banks s.job) (pages_free b s.job) (nat_le 1 (seal_turns s.banks.course)) (nat_le 1 0) (inr (inr (much_free s.job was_at_work.job writes)))
+
+  some_pages : (p : ℕ) (o' : DeviceOp) (length : ℕ) → o' ≡ Write → 1 ≤ pages_of_op p o' length
+  some_pages p Read length same = cc same
+  some_pages p Write length same = omega arith
+  some_pages p Invalidate length same = cc same
+  some_pages p Erase length same = cc same
+
+  idle_then : work_in b.log.tail ≡ None
+  idle_then = ap work_in behind_switch.tail
+
+  waits_then : (j : FeeJob) → j.op ≡ Write → is_waiting b j ≡ true
+  waits_then j write =
+      ap (λ (x : Bool). x && not (is_some (work_in b.log.tail))) (le-leb 1 (pages_of_op b.geometry.page j.op j.length) (some_pages b.geometry.page j.op j.length write))
+      ∙ ap (λ (y : Option RecHead). not (is_some y)) idle_then
+
+  begins_by : (u x y : Bool) → u ≡ true → x ≡ true → y ≡ true → true && u && x && y ≡ true
+  begins_by true true true a b' c' = refl
+  begins_by true true false a b' c' = c'
+  begins_by true false y a b' c' = cc b'
+  begins_by false x y a b' c' = cc a
+
+  ready_by : (j : FeeJob) → IsJobOf m.numbers j → j.op ≢ Read → IsReady b j
+  ready_by j is' w' promised none =
+      let urgent = is'.promised promised in
+      inl (begins_by j.urgent (is_waiting b j) (fits_in 0 b j) urgent (waits_then j (is'.urgent urgent)) (fits_urgent j is' w'))
+
+  -- THE FIGURES
+  abbrev at : Option FeeJob → Stand
+  at o' = stand_of s.content o' s.last s.given
+
+  abbrev w : Option FeeJob → Work
+  w o' = work_of m.reserve s.banks o'
+
+  abbrev v : Option FeeJob → Work
+  v o' = work_of m.reserve b o'
+
+  idle_pages : (p wanted : ℕ) (x : Tail) → work_in x ≡ None → pages_left p wanted x ≡ wanted
+  idle_pages p wanted Open none = refl
+  idle_pages p wanted (Writes h done) none = cc none
+  idle_pages p wanted (Owes h after) none = refl
+  idle_pages p wanted Closed none = refl
+
+  pages_was : (o' : Option FeeJob) → (w o').pages ≡ pages_of_job s.banks.geometry.page o'
+  pages_was o' = idle_pages s.banks.geometry.page (pages_of_job s.banks.geometry.page o') s.banks.log.tail is.idle
+
+  pages_then : (o' : Option FeeJob) → (v o').pages ≡ pages_of_job s.banks.geometry.page o'
+  pages_then o' = idle_pages s.banks.geometry.page (pages_of_job s.banks.geometry.page o') b.log.tail idle_then
+
+  owed_then : (o' : Option FeeJob) → (v o').owed ≡ false
+  owed_then o' = ap is_owed behind_switch.tail
+
+  none_before : NoneBegins s.banks s.job
+  none_before = each_job (IsBehind s.banks) (λ j. begins_next s.banks j ≡ false) s.job (λ j x. x.1) is.behind
+
+  switch_was : (w s.job).switch ≡ 1
+  switch_was = ap (switch_turns m.reserve s.banks s.job) is.course ∙ switch_none m.reserve s.banks s.job c none_before ∙ ap (left_with s.banks) is.course
+
+  falls_by : (o' : Option FeeJob) → IfSome o' (λ j. j.op ≢ Read) → (v o').switch ≡ 0 → (w o').switch ≡ 1 → left_in (at o') (v o') < left_in (at o') (w o')
+  falls_by None w' none one = omega (arith, none, one)
+  falls_by (Some j) w' none one =
+      let a = pages_was (Some j) in
+      let b' = pages_then (Some j) in
+      let owed = ap turns_owed (owed_then (Some j)) in
+      laws.lower (record { number = j.number.0; mark = mark_of j.op (take j.length s.content); urgent = j.urgent }) (w (Some j)) (v (Some j)) (λ none'. w' (no_mark j.op (take j.length s.content) none'))
+      (omega (arith, none, one), omega (arith, a, b', owed), inl (omega (arith, none, one)))
+
+  falls : (told_of e).left < (told_of d).left
+  falls = falls_by s.job writes (no_switch s.job was_at_work.job writes) switch_was
+
+  geo : b.geometry ≡ m.geometry
+  geo = is.on.sound.made_for.banks_geometry
+
+  work_then : IsWork m.geometry.page (sectors_of_bank m.geometry m.banks) m.numbers m.reserve (at s.job) (v s.job)
+  work_then =
+      let none = no_switch s.job was_at_work.job writes in
+      let pages = pages_then s.job in
+      record {
+        job = job_part m.geometry.page m.numbers s.content s.job s.last s.given (v s.job) was_at_work.job (subst (λ (g : Geometry). (v s.job).pages ≤ pages_of_job g.page s.job) geo (omega (arith, pages)));
+        few = omega (arith, none);
+      }
+
+  at_work_then : IsAtWork m t
+  at_work_then = record {
+    active = behind_switch.format;
+    job = was_at_work.job;
+    work = subst (λ (x : Option RecHead). IfSome x (IsInWork b s.job)) (sym idle_then) tt;
+    ready = both_jobs (IsJobOf m.numbers) (λ j. j.op ≢ Read) (IsReady b) s.job ready_by was_at_work.job writes;
+    switch = behind_switch.clear;
+  }
+
+  facts : Facts laws m entry s listed kept count is.on o Done f is.drives asks b s.job s.last s.given
+  facts = record {
+    ends = record { same = record { geometry = refl; banks = refl; numbers = is.on.banks.numbers }; ended = is.on.sound.made_for.ended; given_few = is.on.sound.made_for.given };
+    run = run_then;
+    behind = behind_then;
+    work = work_then;
+    at_work = at_work_then;
+    shut = λ since worn. refl;
+    room = λ on. room_then;
+    copies = λ on told. each_now f.flash.bytes (λ (x : List ℕ). Unit {0}) (λ new is'. tt);
+  }
+
+  -- THE TURN
+  near_by : (j : FeeJob) → IsReady s.banks j → begins_next s.banks j ≡ false → j.urgent ≡ true → (x : ℕ) → wait_of (waits_of s.banks (Some j)) ≡ Some x → (y : ℕ) × (wait_of (waits_of b (Some j)) ≡ Some y) × (y < x)
+  near_by j was' none urgent x wait = by_promise j.promised refl
+    where
+      by_promise : (p : Bool) → j.promised ≡ p → (y : ℕ) × (wait_of (waits_of b (Some j)) ≡ Some y) × (y < x)
+      by_promise true e' =
+          let one : (waits_of s.banks (Some j)).before ≡ 1 = ap (λ (o' : Option Course). turns_before s.banks.log.tail (seal_turns o')) is.course ∙ before_by s.banks.log.tail 1 (omega arith) in
+          let two : (waits_of b (Some j)).before ≡ 0 = ap (λ (x' : Tail). turns_before x' 0) behind_switch.tail ∙ ap (λ (y : Bool). if y then 0 else 0) (not_sealed 0 (λ some. omega arith)) in
+          let a = pages_was (Some j) in
+          let b' = pages_then (Some j) in
+          laws.nears (waits_of s.banks (Some j)) (waits_of b (Some j)) x urgent urgent refl (omega (arith, one, two, a, b')) wait
+      by_promise false e' = (let z : wait_of (waits_of s.banks (Some j)) ≡ None = (λ i. if urgent i then (if e' i then Some ((waits_of s.banks (Some j)).before + (waits_of s.banks (Some j)).pages) else None) else Some (waits_of s.banks (Some j)).before) in absurd (let y = sym z ∙ wait in cc y))
+
+  urgent_by : (o' : Option FeeJob) → IfSome o' (IsReady s.banks) → IfSome o' (λ j. begins_next s.banks j ≡ false) → urgent_first (fixed_in m) (at o') ≡ true
+      → (x : ℕ) → wait_of (waits_of s.banks o') ≡ Some x → ((y : ℕ) × (wait_of (waits_of b o') ≡ Some y) × (y < x)) × ((given : List ℕ) → at o' ≢ Ended JobFailed given)
+  urgent_by None was' none urgent x wait = cc urgent
+  urgent_by (Some j) was' none urgent x wait =
+      let j' : Job = record { number = j.number.0; mark = mark_of j.op (take j.length s.content); urgent = j.urgent } in
+      (near_by j was' none (sym (urgent_is m j') ∙ urgent) x wait, λ given same. cc same)
+
+  readies : TurnsReady (told_of d) (told_of e)
+  readies calm = if_else (urgent_first (fixed_in m) (at s.job)) (Nearer (told_of d) (told_of e)) ((told_of d).ready ≤ (told_of e).ready)
+      (λ urgent x wait. (let near = urgent_by s.job was_at_work.ready none_before urgent x wait in (ready_on, near.0, near.1)))
+      (λ calm'. ready_on)
+
+  of_by : (o' : Option FeeJob) → IsOf First (fixed_in m) (at o')
+  of_by None = tt
+  of_by (Some j) = (tt, sym (first_of m j.number.0))
+
+  turns_by : (o' : Option FeeJob) → KeepsAll (told_of d) (told_of e) → (told_of e).left < (told_of d).left → JobTurns First (at o') (at o') (told_of d) (told_of e) (clock_of e)
+  turns_by None keeps' less = (refl, keeps')
+  turns_by (Some j) keeps' less = (refl, keeps', less)
+
+  no_read : (o' : Option FeeJob) → IfSome o' (λ j. j.op ≢ Read) → is_read (at o') ≡ false
+  no_read None w' = refl
+  no_read (Some j) w' = has_mark j.op (take j.length s.content) w'
+
+  works : Works First (told_of d) (told_of e) (clock_of e)
+  works = record {
+    only = refl;
+    up = is.on.started;
+    of = of_by s.job;
+    part = part_works laws m entry s listed kept count is.on o Done f is.drives asks keep b s.job s.last s.given (λ off. cc off);
+    job = turns_by s.job keeping falls;
+    read = λ read. (let none = no_read s.job writes in absurd (let z : true ≡ false = sym read ∙ none in cc z));
+    nearer = inl falls;
+    ready = readies;
+  }
+
+  switching : (told_of d).switching ≡ true
+  switching =
+      let body = body_of (work_in s.banks.copies.tail) s.banks.buffer in
+      (λ i. is.on.started i && is_switching (phase_shown (is.course i) s.banks body)) ∙ switching_by c s.banks body
+
+  ended_now : Turned m entry turn.Worked s t listed kept (next_count count) false
+  ended_now = record {
+    turns = (
+      (nothing_by (is_open (at s.job)) (told_of d).switching switching, (First, works, ticks laws m entry s listed kept count is.on o Done f is.drives asks keep b s.job s.last s.given)),
+      order laws m entry s listed kept count is.on o Done f is.drives asks b s.job s.last s.given facts,
+    );
+    sound = sound laws m entry s listed kept count is.on o Done f is.drives asks b s.job s.last s.given facts false (sym asks.cause.2);
+  }
+
+  pub gate_done : Turned m entry turn.Worked s (operated (step_op s.banks c) Done f (after_answer made c Done) s) listed kept (next_count count) false
+  gate_done = subst (λ (x : BanksState). Turned m entry turn.Worked s (operated (step_op s.banks c) Done f x s) listed kept (next_count count) false) b_is ended_now

@@ -1,0 +1,75 @@
+-- What the banks in memory keep of the bytes of their flash, whatever these were when the device was made.
+use Rattle.std.specs.Prelude.{◌≡◌, ◌⊎◌, ◌<◌, ◌*◌, ℕ, true, false, IsTrue, List, Option, Some, None, IfSome}
+use Rattle.nv_base.specs.Geometry.{pages_of_sector}
+use Rattle.fls_model.specs.Told.{Change}
+use Rattle.fee_format.specs.Formats.{new_format}
+use Rattle.fee_format.specs.declared.bank_head.BankHead.{BankHead}
+use Rattle.fee_format.specs.BankHead.{bank_head_page}
+use Rattle.fee_image.specs.Image.{image_page, BankStands, ComesFirst, active_of}
+use Rattle.fee_image.specs.RecordList.{IsClosed, end_of}
+use Rattle.fee_image.specs.May.{May}
+use Rattle.fee_image.specs.Banks.{AreBlank}
+use Rattle.fee_log.specs.Laws.{HoldsState}
+use Rattle.fee_log.specs.Log.{LogState, bank_of, work_in, is_closed}
+use Rattle.fee_switch.specs.declared.active.ActiveBank.{ActiveBank}
+use Rattle.fee_switch.specs.Active.{active_shown}
+use Rattle.fee_course.specs.declared.course.Course.{Course}
+use Rattle.fee_course.specs.declared.course.Course.TheVariants.{Erase, Copy, Head, Gate}
+use Rattle.fee_switch.specs.Banks.{BanksState, next_generation}
+use Rattle.fee_switch_laws.specs.Shown.{layout_in}
+use Rattle.promise_device.specs.Bridge.{has_failed}
+use Rattle.fee_laws.specs.Inside.{Parts, body_of}
+
+-- any mark may be found
+abbrev pub anything : May
+anything number length = None
+
+-- THE ACTIVE LOG
+-- where it is closed in memory, its bank is closed in the bytes, or an operation failed before
+abbrev pub IsClosedFor : LogState → List Change → List ℕ → Type 0
+IsClosedFor log operations bytes = is_closed log.tail ≡ true → (let b = bank_of log in IsClosed b bytes (end_of b bytes)) ⊎ IsTrue (has_failed operations)
+
+-- its bank holds it, whatever marks that shows
+pub record FollowsLog (log : LogState) (body : List ℕ) (operations : List Change) (bytes : List ℕ) : Type 0 where
+  pub holds : HoldsState log body bytes anything
+  pub closed : IsClosedFor log operations bytes
+
+-- THE BANKS
+-- a bank that stands beside the active one comes behind it; where none is active none stands
+abbrev pub ComesBehind : Option ActiveBank → ℕ → BankHead → Type 0
+ComesBehind None j other = ⊥
+ComesBehind (Some a) j other = (j ≡ a.bank → ⊥) → ComesFirst a.bank a.head j other
+
+-- the active bank stands, and every other one but the target is behind it
+pub record StandsFirst (s : BanksState) (bytes : List ℕ) : Type 0 where
+  pub stands : IfSome s.active (λ a. BankStands (layout_in s) bytes a.bank a.head)
+  pub behind : (j : ℕ) (other : BankHead) → j < s.banks → (j ≡ s.target → ⊥) → BankStands (layout_in s) bytes j other → ComesBehind s.active j other
+
+abbrev pub target_head : BanksState → BankHead
+target_head s = record { format = new_format; generation = next_generation s.active }
+
+-- the target's bank holds its log
+abbrev pub FollowsCopies : BanksState → List ℕ → Type 0
+FollowsCopies s bytes = HoldsState s.copies (body_of (work_in s.copies.tail) s.buffer) bytes anything
+
+-- the target, as far as the switch has come: so many of its pages are blank; copies behind a blank head and gate; its head
+abbrev pub FollowsTarget : BanksState → Course → List ℕ → Type 0
+FollowsTarget s (Erase done) bytes = AreBlank (layout_in s) bytes s.target (done * pages_of_sector s.geometry)
+FollowsTarget s (Copy work) bytes = AreBlank (layout_in s) bytes s.target 2 × FollowsCopies s bytes
+FollowsTarget s Head bytes = AreBlank (layout_in s) bytes s.target 2 × FollowsCopies s bytes
+FollowsTarget s (Gate failed) bytes = (image_page (layout_in s) bytes s.target 0 ≡ bank_head_page s.geometry.page (target_head s)) × FollowsCopies s bytes
+
+-- with no switch open the active bank is the one that the bytes show
+abbrev pub FollowsBanks : BanksState → Option Course → List ℕ → Type 0
+FollowsBanks s None bytes = active_shown s.active ≡ active_of (layout_in s) bytes
+FollowsBanks s (Some c) bytes = StandsFirst s bytes × FollowsTarget s c bytes
+
+-- this is the content of the record in work
+pub record FollowsBytes (s : BanksState) (content : List ℕ) (operations : List Change) (bytes : List ℕ) : Type 0 where
+  pub log : IfSome s.active (λ a. FollowsLog s.log (body_of (work_in s.log.tail) content) operations bytes)
+  pub banks : FollowsBanks s s.course bytes
+
+-- THE DEVICE
+-- while it is started and its power is on, its banks follow the bytes of its flash, where these are told
+abbrev pub Follows : Parts → Type 0
+Follows s = s.started ≡ true → s.fls.flash.off ≡ false → IfSome s.fls.flash.bytes (λ b. FollowsBytes s.banks s.content s.operations b.now)

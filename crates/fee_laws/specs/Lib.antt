@@ -1,0 +1,16 @@
+pub mod Copied
+pub mod Inside
+pub mod Record
+pub mod Work
+pub mod Made
+pub mod Parts
+pub mod CallLaws
+pub mod Appends
+pub mod Begins
+pub mod Reads
+pub mod Rests
+pub mod Turn
+pub mod Switches
+pub mod Worn
+pub mod Follows
+pub mod FollowLaws

@@ -1,4 +1,0 @@
-pub mod Copied
-pub mod Inside
-pub mod Record
-pub mod Work

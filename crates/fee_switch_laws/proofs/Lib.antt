@@ -1,0 +1,16 @@
+pub mod Appends
+pub mod Begins
+pub mod Copies
+pub mod Flags
+pub mod Gates
+pub mod Settles
+pub mod Started
+pub mod Targets
+pub mod Turns
+pub mod FlagChoices
+pub mod FlagTurns
+mod RoomAppends
+mod RoomNext
+mod RoomPages
+mod RoomReady
+mod RoomSteps

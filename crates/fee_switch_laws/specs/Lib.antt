@@ -1,0 +1,13 @@
+pub mod Appends
+pub mod Begins
+pub mod Copies
+pub mod Flagged
+pub mod BankBytes
+pub mod Shown
+pub mod Targets
+pub mod Turns
+pub mod Flags
+pub mod FlagLaws
+pub mod KeepsRoom
+pub mod RoomLaws
+pub mod Space

@@ -1,0 +1,15 @@
+pub mod Held
+pub mod Places
+pub mod Slots
+pub mod Steps
+pub mod Clocks
+pub mod Making
+pub mod Parts
+pub mod Runs
+pub mod Tells
+pub mod Figures
+pub mod Appends
+pub mod Jobs
+pub mod Kept
+pub mod Switches
+pub mod Whole

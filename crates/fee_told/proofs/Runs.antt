@@ -1,0 +1,96 @@
+-- What ties a device to its flash, over its calls.
+use Rattle.std.specs.Prelude.{IsTrue, IfSome, take, drop, ◌||◌}
+use Rattle.std.specs.List.{list_all, list_any}
+use Rattle.std.proofs.Common.{◌≡◌, inl, inr, ℕ, zero, suc, ◌≤◌, ◌+◌, Bool, true, false, List, [], ◌∷◌, Option, Some, None, refl, sym, ◌∙◌, subst, arith}
+use Rattle.std.proofs.lemmas.Bool.{and_parts, false≢true, or_cases}
+use Rattle.nv_base.specs.Count.{WereCounted}
+use Rattle.fls_model.specs.Op.{Op, Program, Erase}
+use Rattle.fls_model.specs.Told.{Change, bytes_now, changes_in}
+use Rattle.fee_image.specs.Laws.{SoundImagesCompute}
+use Rattle.promise_device.specs.Bridge.{is_program, is_failed, IsWornOut}
+use Rattle.promise_device.specs.FlashRun.{TellsBytes, StartsSound, HasSamePlace, AreSeen, bytes_after}
+use Rattle.promise_device.specs.Making.{banks_of}
+use Rattle.promise_device.specs.Image.{attached, IsSoundFlash}
+use Rattle.fee_told.specs.Device.{Device, run_of, is_told_sound, tells}
+use Rattle.fee_told.specs.Clock.{IsWornFor}
+use Rattle.fee_told.specs.Runs.{HasRun, RunsBridge}
+use Rattle.fee_told.proofs.Clocks.{some_if, if_some}
+
+-- THE BRIDGE
+sound_told : SoundImagesCompute → (d : Device) → TellsBytes (run_of d) → StartsSound d.making (run_of d) → IsTrue (tells d)
+sound_told computes d t sound =
+    let m = d.making in
+    let is : IsSoundFlash m t.first = if_some (bytes_now d.entry) (IsSoundFlash m) t.first t.entry sound in
+    subst (λ (o : Option (List ℕ)). IsTrue (is_told_sound m o)) (sym t.entry) ((computes (banks_of m) (attached m.geometry t.first)).1 is)
+
+pub told_sound : SoundImagesCompute → (d : Device) (first : List ℕ) → bytes_now d.entry ≡ Some first → IsTrue (tells d) → IsSoundFlash d.making first
+told_sound computes d first is told =
+    let m = d.making in
+    (computes (banks_of m) (attached m.geometry first)).0 (subst (λ (o : Option (List ℕ)). IsTrue (is_told_sound m o)) is told)
+
+same_place : (op : Op) → HasSamePlace op op
+same_place (Program address page) = (refl, refl)
+same_place (Erase address n) = (refl, refl)
+
+seen_all : (kept : ℕ → Type 0) (k : ℕ) (end : List ℕ) (xs : List Change) → AreSeen kept k end xs xs
+seen_all kept k end [] = refl
+seen_all kept k end (x ∷ xs) = inl (same_place x.op, refl, inl refl, seen_all kept (k + 1) end xs)
+
+if_changes : (o : Option (List Change)) (operations changes : List Change) → IfSome o (λ (c : List Change). c ≡ operations) → o ≡ Some changes → changes ≡ operations
+if_changes (Some c) operations changes same is = (let e : c ≡ changes = cc is in sym e ∙ same)
+if_changes None operations changes same is = cc
+
+counted : (n own entry exit : ℕ) → WereCounted own entry exit → WereCounted n 0 own → WereCounted n entry exit
+counted n own entry exit (inr big) more = inr big
+counted n own entry exit (inl fits) (inl le) = inl (omega arith)
+counted n own entry exit (inl fits) (inr big) = inr (omega arith)
+
+all_drop : (P : Change → Bool) (n k : ℕ) (xs : List Change) → n ≤ k → IsTrue (list_all P (drop n xs)) → IsTrue (list_all P (drop k xs))
+all_drop P n zero [] le all = refl
+all_drop P n (suc k) [] le all = refl
+all_drop P zero zero (x ∷ xs) le all = all
+all_drop P zero (suc k) (x ∷ xs) le all = all_drop P zero k xs (omega arith) (let rest : IsTrue (list_all P (drop 0 xs)) = (and_parts (P x) (list_all P xs) all).1 in rest)
+all_drop P (suc n) zero (x ∷ xs) le all = absurd (omega arith)
+all_drop P (suc n) (suc k) (x ∷ xs) le all = all_drop P n k xs (omega arith) all
+
+pub any_last : (a b : Bool) → b ≡ true → (a || b) ≡ true
+any_last true b is = refl
+any_last false b is = is
+
+any_front : (P : Change → Bool) (k : ℕ) (xs : List Change) → IsTrue (list_any P (take k xs)) → IsTrue (list_any P xs)
+any_front P zero xs has = absurd (false≢true has)
+any_front P (suc k) [] has = absurd (false≢true has)
+any_front P (suc k) (x ∷ xs) has = elim (or_cases (P x) (list_any P (take k xs)) has) [
+  | inl here ↦ rw here refl
+  | inr rest ↦ any_last (P x) (list_any P xs) (any_front P k xs rest)
+]
+
+worn_out : (d : Device) (k n : ℕ) → HasRun d → IsWornFor d k n → IsWornOut d.making (run_of d) k n
+worn_out d k n has w =
+    let since = has.worn w.since w.is in
+    record {
+      last = since.last;
+      no_erase = λ small. all_drop (λ (x : Change). is_program x.op) w.since k d.operations w.from (since.no_erase (omega (arith, w.from)));
+      full = λ told small. elim (w.full told small) [ inl room ↦ inl room | inr failed ↦ inr (has.failed (any_front (λ (x : Change). is_failed x.answer) k d.operations failed), failed) ];
+    }
+
+pub runs_bridge : SoundImagesCompute → RunsBridge
+runs_bridge computes cutter d has =
+    let g = d.making.geometry in
+    record {
+      after = λ t sound k made small. some_if (bytes_after (run_of d) k) _ (λ image is.
+          record { told = sound_told computes d t sound; made = made; small = small; image = image; is = is; finds = λ n. refl });
+      cut = λ t sound k image small leaves. record { told = sound_told computes d t.bytes sound; small = small; image = image; leaves = leaves; finds = λ n. refl };
+      sound = λ t sound. has.sound (sound_told computes d t sound);
+      sound_cut = λ t sound k image small leaves. has.sound_cut (sound_told computes d t.bytes sound) k image leaves;
+      operations = record {
+        told_alike = has.alike;
+        chain = has.chain;
+        seen = λ t. subst (AreSeen _ 0 t.bytes.last d.operations) (sym (if_changes (changes_in d.flash.bytes) d.operations t.changes has.changes t.told)) (seen_all _ 0 t.bytes.last d.operations);
+      };
+      ops = refl;
+      faults = λ n more. counted n d.faults d.entry.faults d.flash.faults has.faults more;
+      cuts = has.cuts;
+      failed = λ k small failed. failed;
+      worn = λ k n w. worn_out d k n has w;
+    }

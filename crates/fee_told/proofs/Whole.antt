@@ -1,0 +1,94 @@
+-- What a turn makes of a device as a whole.
+use Rattle.std.specs.Prelude.{IfSome, if◌then◌else◌}
+use Rattle.std.proofs.Common.{◌≡◌, ℕ, ◌<◌, Bool, true, false, List, length, Option, Some, None, sym, ap, ◌∙◌, subst, arith}
+use Rattle.nv_base.specs.declared.mark.Mark.{Mark}
+use Rattle.memif.specs.Told.{Slot, Job, slot_at}
+use Rattle.memif.specs.Marks.{IsPossible, Keeps, DoubtsAt}
+use Rattle.fls_model.specs.Op.{Op, Program, Erase, MayLeave}
+use Rattle.fls_model.specs.Told.{bytes_now}
+use Rattle.fee_image.specs.May.{held_written}
+use Rattle.promise_device.specs.Making.{banks_of}
+use Rattle.promise_device.specs.Image.{held_in, IsSoundFlash}
+use Rattle.fee_told.specs.Slots.{banks_with, slots_held, slots_found, may_told, held_of}
+use Rattle.fee_told.specs.SlotLaws.{UnstartedIsFound, ImagesFind, Opened}
+use Rattle.fee_told.specs.Device.{Device, layout_in, slots_in, told_of}
+use Rattle.fee_told.specs.Clock.{ClocksFindNow, ImageIsPossible}
+use Rattle.fee_told.specs.Tells.{TellsKeep, TellsSettle, TellsDoubt, ImagesAttach, was, AreTold, OneSettles}
+use Rattle.fee_told.specs.Kept.{KeptIsFound}
+use Rattle.fee_told.specs.Whole.{HeldFindsNow, UnstartedFindsNow, CutsAreTold, AreStarted, KeptIsTold, CommitsAreTold, OpensAreTold}
+
+-- BYTES
+both_some : (o : Option (List ℕ)) (P Q R : List ℕ → Type 0) → IfSome o P → IfSome o Q → ((bytes : List ℕ) → P bytes → Q bytes → R bytes) → IfSome o R
+both_some None P Q R p q both = tt
+both_some (Some bytes) P Q R p q both = both bytes p q
+
+-- a started device tells the slots that it holds
+slots_are : (d : Device) (bytes : List ℕ) → d.started ≡ true → slots_in d bytes ≡ slots_held (layout_in d) d.making.numbers bytes d.memory
+slots_are d bytes started = ap (λ (b : Bool). if b then slots_held (layout_in d) d.making.numbers bytes d.memory else slots_found (layout_in d) d.making.numbers bytes) started
+
+same_size : (op : Op) (bytes image : List ℕ) → MayLeave op bytes image → length image ≡ length bytes
+same_size (Program address page) bytes image leaves = leaves.0.size
+same_size (Erase address n) bytes image leaves = leaves.0.size
+
+-- what is found in an image, by the slots that it tells
+possible_in : ImagesAttach → (d : Device) (bytes image : List ℕ) → d.started ≡ true → 0 < length image
+    → ((n : ℕ) → IsPossible (slot_at d.making.numbers (slots_held (layout_in d) d.making.numbers bytes d.memory) n) (held_of (layout_in d) d.making.numbers image n))
+    → ImageIsPossible d bytes image
+possible_in attach d bytes image started some possible n =
+    subst (λ (s : List Slot). IsPossible (slot_at d.making.numbers s n) (held_in d.making image n)) (sym (slots_are d bytes started))
+    (subst (IsPossible (slot_at d.making.numbers (slots_held (layout_in d) d.making.numbers bytes d.memory) n)) (sym ((attach d.making image some).0 n)) (possible n))
+
+-- NOW
+pub held_finds_now : ImagesFind → ImagesAttach → ClocksFindNow → HeldFindsNow
+held_finds_now find attach now d copied holds = now d (λ told.
+    both_some (bytes_now d.flash) _ _ (λ bytes. ImageIsPossible d bytes bytes) holds.some (holds.held told) (λ bytes some held.
+    possible_in attach d bytes bytes holds.started some
+    (find (layout_in d) d.making.numbers (slots_held (layout_in d) d.making.numbers bytes d.memory) bytes (banks_with d.memory (may_told (layout_in d) d.making.numbers bytes d.memory) copied) holds.legal held.banks (λ number size x is. is))))
+
+found_are : (d : Device) (bytes : List ℕ) → d.started ≡ false → slots_in d bytes ≡ slots_found (layout_in d) d.making.numbers bytes
+found_are d bytes started = ap (λ (b : Bool). if b then slots_held (layout_in d) d.making.numbers bytes d.memory else slots_found (layout_in d) d.making.numbers bytes) started
+
+pub unstarted_finds_now : UnstartedIsFound → ImagesAttach → ClocksFindNow → UnstartedFindsNow
+unstarted_finds_now found attach now d started some = now d (λ told.
+    both_some (bytes_now d.flash) _ _ (λ bytes. ImageIsPossible d bytes bytes) some some (λ bytes more same n.
+    subst (λ (s : List Slot). IsPossible (slot_at d.making.numbers s n) (held_in d.making bytes n)) (sym (found_are d bytes started))
+    (subst (IsPossible (slot_at d.making.numbers (slots_found (layout_in d) d.making.numbers bytes) n)) (sym ((attach d.making bytes more).0 n)) (found (layout_in d) d.making.numbers bytes n))))
+
+-- CUTS
+pub cuts_are_told : KeptIsFound → ImagesAttach → CutsAreTold
+cuts_are_told found attach op d copied holds keep = (
+  λ told. both_some (bytes_now d.flash) _ _ (λ bytes. (image : List ℕ) → MayLeave op bytes image → ImageIsPossible d bytes image) holds.some (keep told) (λ bytes some kept image leaves.
+      let k = kept image leaves in
+      let more : 0 < length image = omega (arith, same_size op bytes image leaves) in
+      possible_in attach d bytes image holds.started more (found (layout_in d) d.making.numbers bytes image d.memory k.behind k.copied holds.legal k.kept)),
+  λ told. both_some (bytes_now d.flash) _ _ (λ bytes. (image : List ℕ) → MayLeave op bytes image → IsSoundFlash d.making image) holds.some (keep told) (λ bytes some kept image leaves.
+      let k = kept image leaves in
+      let more : 0 < length image = omega (arith, same_size op bytes image leaves) in
+      (attach d.making image more).1 k.kept.held.banks.sound),
+)
+
+-- BEFORE AND AFTER
+module _ (d t : Device) (are : AreStarted d t) (old new : List ℕ) where
+  was_is : (n : ℕ) → was d old n ≡ slot_at d.making.numbers (slots_held (layout_in d) d.making.numbers old d.memory) n
+  was_is n = ap (λ (s : List Slot). slot_at d.making.numbers s n) (slots_are d old are.old)
+
+  now_is : (n : ℕ) → was t new n ≡ slot_at d.making.numbers (slots_held (layout_in d) d.making.numbers new t.memory) n
+  now_is n = ap (λ (s : List Slot). slot_at t.making.numbers s n) (slots_are t new are.new) ∙ (λ i. slot_at (are.same.making i).numbers (slots_held (banks_of (are.same.making i)) (are.same.making i).numbers new t.memory) n)
+
+  pub by_slots : (P : Slot → Slot → Type 0) (n : ℕ) → P (slot_at d.making.numbers (slots_held (layout_in d) d.making.numbers old d.memory) n) (slot_at d.making.numbers (slots_held (layout_in d) d.making.numbers new t.memory) n) → P (was d old n) (was t new n)
+  by_slots P n holds = subst (λ (s : Slot). P s (was t new n)) (sym (was_is n)) (subst (P (slot_at d.making.numbers (slots_held (layout_in d) d.making.numbers old d.memory) n)) (sym (now_is n)) holds)
+
+pub kept_is_told : TellsKeep → KeptIsTold
+kept_is_told tell d t copied are kept = tell d t are.same (λ old new told n. by_slots d t are old new Keeps n ((kept old new told).keeps n))
+
+pub commits_are_told : TellsSettle → CommitsAreTold
+commits_are_told tell d t copied r body are committed =
+    tell d t r.number (held_written r body).mark are.same
+    (λ old new told n. by_slots d t are old new (OneSettles r.number (held_written r body).mark n) n ((committed old new told).settles n))
+
+opens_as : TellsKeep → TellsDoubt → (d t : Device) (j : Job) (o : Option Mark) → AreStarted d t → ((old new : List ℕ) → AreTold d t old new → (n : ℕ) → Opened j n (was d old n) (was t new n) o) → DoubtsAt j.number o (told_of d) (told_of t)
+opens_as keep doubt d t j None are opened = keep d t are.same opened
+opens_as keep doubt d t j (Some mark) are opened = doubt d t j.number mark are.same opened
+
+pub opens_are_told : TellsKeep → TellsDoubt → OpensAreTold
+opens_are_told keep doubt d t j are opened = opens_as keep doubt d t j j.mark are opened

@@ -1,0 +1,14 @@
+pub mod SlotLaws
+pub mod Slots
+pub mod Clock
+pub mod Device
+pub mod Parts
+pub mod Runs
+pub mod Tells
+pub mod Figures
+pub mod FigureLaws
+pub mod Appends
+pub mod Jobs
+pub mod Kept
+pub mod Switches
+pub mod Whole

@@ -1,4 +1,0 @@
-pub mod Cases
-pub mod Starts
-pub mod Reads
-pub mod Lowers

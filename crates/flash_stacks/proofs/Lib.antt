@@ -1,3 +1,0 @@
-pub mod Returning
-pub mod Space
-pub mod Synchronized

@@ -1,5 +1,0 @@
-pub mod Hands
-pub mod Begins
-pub mod Goes
-pub mod Asks
-pub mod Fits

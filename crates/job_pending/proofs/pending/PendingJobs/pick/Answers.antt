@@ -1,0 +1,22 @@
+use Rattle.std.proofs.Common.{◌≡◌, ◌<◌, ◌∙◌, ap, refl, length, Option, is_some, if◌then◌else◌}
+use Rattle.block_machine.specs.State.{Job}
+use Rattle.block_machine.specs.Blocks.{job_block}
+use Rattle.block_machine.specs.Steps.{picked_job}
+use Rattle.job_pending.specs.Took.{taken_with}
+use Rattle.job_pending.proofs.Agreement.{apart_again, picked}
+use Rattle.job_pending.proofs.pending.PendingJobs.pick.Goals as goal
+
+pub returns-in_default-clause-agrees : goal.returns-in_default-clause-agrees
+returns-in_default-clause-agrees c waiting held j agrees next =
+    let t = c.take_out.ensures.agrees c.args.config.now waiting held j agrees next in
+    absurd (c.in_default.not-Some j t.job)
+
+pub returns-clause-agrees : goal.returns-clause-agrees
+returns-clause-agrees c waiting held j agrees next =
+    let t = c.take_out.ensures.agrees c.args.config.now waiting held j agrees next in
+    let b = c.put_back-handed_on.ensures.agrees _ held t.agrees in
+    let n : c.put_back-handed_on.result ≡ (if is_some held then 2 else 0) = c.put_back-handed_on.ensures.more ∙ ap (λ (o : Option Job). if is_some o then 2 else 0) (c.take_out.ensures.hand ∙ agrees.hand) in
+    let same : c.in-Some.job ≡ j = cc (c.in-Some.is, t.job) in
+    let place : job_block j < length c.put_back-handed_on.new.self.slots = rw (c.put_back-handed_on.ensures.places, c.take_out.ensures.places) t.place in
+    rw (c.hold.ensures, c.pick.ensures, n, same)
+    (picked c.args.config.now _ _ j (picked_job (taken_with j.content c.args.took) (if is_some held then 2 else 0) j) b (apart_again held j _ t.other t.apart) place refl refl refl)

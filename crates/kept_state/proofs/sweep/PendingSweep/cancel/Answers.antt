@@ -1,5 +1,0 @@
-use Rattle.kept_state.proofs.Members.{canceled_noted}
-use Rattle.kept_state.proofs.sweep.PendingSweep.cancel.Goals as goal
-
-pub returns-clause-noted : goal.returns-clause-noted
-returns-clause-noted c c' sw id h = rw c.cancel.ensures (canceled_noted c' c.args.self.now sw id h)

@@ -1,4 +1,0 @@
-pub mod Logs
-pub mod Marks
-pub mod Placed
-pub mod Steps

@@ -1,5 +1,0 @@
-use Rattle.memory_runs.proofs.Copies.{are_synchronized}
-use Rattle.memory_runs.proofs.stack.make_stack.Goals as goal
-
-pub make-requires-2-clause-synchronized : goal.make-requires-2-clause-synchronized
-make-requires-2-clause-synchronized c = are_synchronized c.args.config c.in_ok-copies.copies c.geometry.ensures.legal c.in_ok-copies.ensures

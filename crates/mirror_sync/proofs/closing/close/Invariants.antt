@@ -1,5 +1,0 @@
-use Rattle.mirror_sync.proofs.Ending.{AreClosedTo}
-use Rattle.mirror_sync.proofs.closing.close.Given as goal
-
-abbrev pub invariant-loop-place : goal.invariant-loop-place
-invariant-loop-place l = AreClosedTo l.place l.initial.pairs.items l.pairs.items l.initial.ends.items l.ends.items l.initial.sides.items l.sides.items

@@ -1,0 +1,200 @@
+-- What a Pick takes, by the machine.
+use Rattle.std.proofs.Common.{◌≡◌, ℕ, Bool, true, false, List, [], ◌∷◌, ◌++◌, if◌then◌else◌, refl, sym, ap, subst, Option, Some, None}
+use Rattle.block_machine.specs.Words.{JobKind, ReadJob, WriteJob, RestoreJob, EraseJob, InvalidateJob, ReadAllJob, WriteAllJob, BlockDesc, Configuration, Pick, TookNothing}
+use Rattle.block_machine.specs.State.{State, BlockState, Job, Sweep}
+use Rattle.block_machine.specs.Blocks.{desc_of, block_at, is_synchronized, asked_block, job_block, kind_of, asked_store}
+use Rattle.block_machine.specs.Sweeps.{is_picked, member_kind, member_request, member_job}
+use Rattle.block_machine.specs.Next.{Next, PickJob, BeginSweep, PickMember, PostMember, next_in, next_by, next_of, next_member}
+use Rattle.block_machine.specs.Legal.{IsDriving, HandIsFree, TakesForWrite, TakesBy, MayPick, IsAllowed}
+use Rattle.job_pending.specs.Took.{taken_with}
+use Rattle.nv_desk.specs.declared.pick.Take.{Take}
+use Rattle.nv_desk.specs.declared.pick.Take.TheVariants as take
+use Rattle.nv_desk.specs.Desk.{DeskState, state_of}
+use Rattle.nv_desk.specs.Picks.{took_of}
+use Rattle.nv_desk.specs.Members.{MayPickMember}
+use Rattle.nv_desk.specs.AllBlocks.{sweep_kind}
+use Rattle.ram_blocks.specs.Told.{Told}
+use Rattle.nv_desk_copies.specs.Takes.{source_by, source_of, source_next, IsTakenFrom, IsCopied, IsCopySource}
+use Rattle.nv_desk_copies.specs.Picks.{IsPicked}
+
+-- only a write of synchronized RAM copies
+pub copy_source : (kind : JobKind) (content : Option (List ℕ × ℕ)) (synchronized : Bool) (asked : ℕ)
+    → IsCopySource (source_by kind content synchronized asked) → synchronized ≡ true
+copy_source WriteJob None true asked h = refl
+copy_source WriteJob None false asked h = absurd h
+copy_source WriteJob (Some x) synchronized asked h = absurd h
+copy_source ReadJob content synchronized asked h = absurd h
+copy_source RestoreJob content synchronized asked h = absurd h
+copy_source EraseJob content synchronized asked h = absurd h
+copy_source InvalidateJob content synchronized asked h = absurd h
+copy_source ReadAllJob content synchronized asked h = absurd h
+copy_source WriteAllJob content synchronized asked h = absurd h
+
+for_write : (d : BlockDesc) (b : BlockState) (j : Job) (content : Option (List ℕ × ℕ)) (synchronized : Bool) (t : Take) (lent : List ℕ)
+    → IsTakenFrom d b (source_by WriteJob content synchronized (asked_store j.request)) t lent
+    → TakesForWrite d b j content synchronized (taken_with content (took_of t lent))
+for_write d b j (Some x) synchronized t lent h = rw h refl
+for_write d b j None false t lent h = rw (h.0, h.1) refl
+for_write d b j None true take.Nothing lent h = h
+for_write d b j None true take.Own lent h = h
+for_write d b j None true (take.Copied store) lent h = h
+for_write d b j None true (take.Refused count) lent h = h
+for_write d b j None true (take.Stale wanted got count) lent h = h
+
+takes_by : (d : BlockDesc) (b : BlockState) (j : Job) (kind : JobKind) (t : Take) (lent : List ℕ)
+    → IsTakenFrom d b (source_by kind j.content (is_synchronized d.ram) (asked_store j.request)) t lent
+    → TakesBy d b j kind (taken_with j.content (took_of t lent))
+takes_by d b j WriteJob t lent h = for_write d b j j.content (is_synchronized d.ram) t lent h
+takes_by d b j ReadJob t lent h = rw h refl
+takes_by d b j RestoreJob t lent h = rw h refl
+takes_by d b j EraseJob t lent h = rw h refl
+takes_by d b j InvalidateJob t lent h = rw h refl
+takes_by d b j ReadAllJob t lent h = rw h refl
+takes_by d b j WriteAllJob t lent h = rw h refl
+
+-- A JOB
+
+next_is : (c : Configuration) (s : State) (j : Job) → next_in c s.waiting ≡ Some j → next_of c s ≡ PickJob j
+next_is c s j next = ap (λ (o : Option Job). next_by c s o s.hand s.sweep) next
+
+-- A MEMBER
+
+block_is : (writes : Bool) (id : ℕ) → asked_block (member_request writes id) ≡ id
+block_is true id = refl
+block_is false id = refl
+
+kind_by : (writes : Bool) (c : Configuration) (sw : Sweep) (id : ℕ) → sw.writes ≡ writes → member_kind sw.writes ≡ kind_of (member_job c sw id)
+kind_by true c sw id is = rw is refl
+kind_by false c sw id is = rw is refl
+
+hand_by : (c : Configuration) (s : State) (sw : Sweep) (id : ℕ) (o h : Option Job) (w : Option Sweep) → next_by c s o h w ≡ PickMember sw id → h ≡ None
+hand_by c s sw id (Some j) h w e = cc
+hand_by c s sw id None (Some j) w e = cc
+hand_by c s sw id None None w e = refl
+
+free_at : (c : Configuration) (o : Option Job) (j : Job) → o ≡ None → HandIsFree c o j
+free_at c None j e = tt
+free_at c (Some h) j e = cc
+
+pub member_allowed : (c : Configuration) (cap : ℕ) (s : State) (sw : Sweep) (id : ℕ) (t : Take) (lent : List ℕ) (ops : ℕ) → IsDriving s ops
+    → next_of c s ≡ PickMember sw id → IsTakenFrom (desc_of c id) (block_at s id) (source_of c (member_job c sw id)) t lent
+    → IsAllowed c cap s (Pick id (member_kind sw.writes) (taken_with None (took_of t lent)) ops)
+member_allowed c cap s sw id t lent ops driving is taken =
+    let j = member_job c sw id in
+    let block : job_block j ≡ id = block_is sw.writes id in (
+      driving,
+      subst (λ (n : Next). MayPick c s id (member_kind sw.writes) (taken_with None (took_of t lent)) n) (sym is)
+          (record {
+            free = free_at c s.hand j (hand_by c s sw id (next_in c s.waiting) s.hand s.sweep is);
+            same_block = sym block;
+            same_kind = kind_by sw.writes c sw id refl;
+            takes = takes_by (desc_of c (job_block j)) (block_at s (job_block j)) j (kind_of j) t lent
+                (subst (λ (n : ℕ). IsTakenFrom (desc_of c n) (block_at s n) (source_of c j) t lent) (sym block) taken);
+          }),
+    )
+
+pub may_pick_member : (d : DeskState) (sw : Sweep) (id : ℕ) (t : Take) (lent : List ℕ) (ops : ℕ) → IsDriving (state_of d) ops
+    → next_of d.config (state_of d) ≡ PickMember sw id
+    → IsTakenFrom (desc_of d.config id) (block_at (state_of d) id) (source_of d.config (member_job d.config sw id)) t lent
+    → MayPickMember d (took_of t lent) ops
+may_pick_member d sw id t lent ops driving is taken = record {
+  sweep = sw;
+  id = id;
+  is = is;
+  allowed = member_allowed d.config d.cap (state_of d) sw id t lent ops driving is taken;
+}
+
+-- a member copies where its block is synchronized
+pub member_copies : (c : Configuration) (sw : Sweep) (id : ℕ) → IsCopySource (source_of c (member_job c sw id)) → is_synchronized (desc_of c id).ram ≡ true
+member_copies c sw id h =
+    let j = member_job c sw id in
+    subst (λ (n : ℕ). is_synchronized (desc_of c n).ram ≡ true) (block_is sw.writes id)
+    (copy_source (kind_of j) None (is_synchronized (desc_of c (job_block j)).ram) (asked_store j.request) h)
+
+-- WHAT COMES NEXT
+
+chosen : (x sw : Sweep) (k id : ℕ) (b t : Bool) → (if b then PickMember x k else PostMember x k) ≡ (if t then PickMember sw id else PostMember sw id) → x ≡ sw
+chosen x sw k id true true e = cc
+chosen x sw k id false false e = cc
+chosen x sw k id true false e = cc
+chosen x sw k id false true e = cc
+
+listed : (c : Configuration) (s : State) (x sw : Sweep) (ids : List ℕ) (id : ℕ) (t : Bool)
+    → next_member c s x ids ≡ (if t then PickMember sw id else PostMember sw id) → x ≡ sw
+listed c s x sw [] id true e = cc
+listed c s x sw [] id false e = cc
+listed c s x sw (k ∷ ids) id t e = chosen x sw k id (is_picked (desc_of c k) (block_at s k) x k) t e
+
+in_sweep : (c : Configuration) (s : State) (x sw : Sweep) (id : ℕ) (ids : List ℕ) (t on : Bool)
+    → (if on then next_member c s x ids else BeginSweep x) ≡ (if t then PickMember sw id else PostMember sw id) → x ≡ sw
+in_sweep c s x sw id ids true false e = cc
+in_sweep c s x sw id ids false false e = cc
+in_sweep c s x sw id ids t true e = listed c s x sw ids id t e
+
+sweep_by : (c : Configuration) (s : State) (sw : Sweep) (id : ℕ) (t : Bool) (o h : Option Job) (w : Option Sweep)
+    → next_by c s o h w ≡ (if t then PickMember sw id else PostMember sw id) → (h ≡ None) × (w ≡ Some sw)
+sweep_by c s sw id true (Some j) h w e = cc
+sweep_by c s sw id false (Some j) h w e = cc
+sweep_by c s sw id true None (Some j) w e = cc
+sweep_by c s sw id false None (Some j) w e = cc
+sweep_by c s sw id true None None None e = cc
+sweep_by c s sw id false None None None e = cc
+sweep_by c s sw id t None None (Some x) e = (refl, ap Some (in_sweep c s x sw id (if x.canceled then [] else x.left) t x.under_way e))
+
+-- the sweep of a member that is picked, or posted without a Pick
+pub picks_of : (c : Configuration) (s : State) (sw : Sweep) (id : ℕ) → next_of c s ≡ PickMember sw id → s.sweep ≡ Some sw
+picks_of c s sw id e = (sweep_by c s sw id true (next_in c s.waiting) s.hand s.sweep e).1
+
+pub posts_of : (c : Configuration) (s : State) (sw : Sweep) (id : ℕ) → next_of c s ≡ PostMember sw id → (s.hand ≡ None) × (s.sweep ≡ Some sw)
+posts_of c s sw id e = sweep_by c s sw id false (next_in c s.waiting) s.hand s.sweep e
+
+no_member : (x : Sweep) (j : Job) (k : ℕ) (b : Bool) → (if b then PickMember x k else PostMember x k) ≡ PickJob j → ⊥
+no_member x j k true e = cc
+no_member x j k false e = cc
+
+none_listed : (c : Configuration) (s : State) (j : Job) (x : Sweep) (ids : List ℕ) → next_member c s x ids ≡ PickJob j → ⊥
+none_listed c s j x [] e = cc
+none_listed c s j x (k ∷ ids) e = no_member x j k (is_picked (desc_of c k) (block_at s k) x k) e
+
+no_job : (c : Configuration) (s : State) (j : Job) (x : Sweep) (ids : List ℕ) (on : Bool) → (if on then next_member c s x ids else BeginSweep x) ≡ PickJob j → ⊥
+no_job c s j x ids true e = none_listed c s j x ids e
+no_job c s j x ids false e = cc
+
+job_by : (c : Configuration) (s : State) (j : Job) (o h : Option Job) (w : Option Sweep) → next_by c s o h w ≡ PickJob j → o ≡ Some j
+job_by c s j (Some x) h w e = cc
+job_by c s j None (Some x) w e = cc
+job_by c s j None None None e = cc
+job_by c s j None None (Some x) e = absurd (no_job c s j x (if x.canceled then [] else x.left) x.under_way e)
+
+pub waits : (c : Configuration) (s : State) (j : Job) → next_of c s ≡ PickJob j → next_in c s.waiting ≡ Some j
+waits c s j e = job_by c s j (next_in c s.waiting) s.hand s.sweep e
+
+-- THE PICK
+
+pub job_picked : (IsStore : ℕ → ℕ → List ℕ → Type 0) (before after : List Told) (c : Configuration) (n : Next) (j : Job) (block ops : ℕ) (old new : DeskState)
+    → n ≡ PickJob j → block ≡ job_block j
+    → IsPicked (λ t. IsCopied (IsStore (job_block j)) (job_block j) before after (source_of c j) t) (job_block j) ops old new
+    → IsPicked (λ t. IsCopied (IsStore block) block before after (source_next c n) t) block ops old new
+job_picked IsStore before after c n j block ops old new is at h = rw (is, at) h
+
+pub member_picked : (IsStore : ℕ → ℕ → List ℕ → Type 0) (before after : List Told) (c : Configuration) (n : Next) (sw : Sweep) (block ops : ℕ) (old new : DeskState)
+    → n ≡ PickMember sw block
+    → IsPicked (λ t. IsCopied (IsStore block) block before after (source_of c (member_job c sw block)) t) block ops old new
+    → IsPicked (λ t. IsCopied (IsStore block) block before after (source_next c n) t) block ops old new
+member_picked IsStore before after c n sw block ops old new is h = rw is h
+
+pub sweep_picked : (IsStore : ℕ → ℕ → List ℕ → Type 0) (told : List Told) (sw : Sweep) (ops : ℕ) (old new : DeskState) → IsDriving (state_of old) ops
+    → next_of old.config (state_of old) ≡ BeginSweep sw
+    → new ≡ record old { entries = old.entries ++ Pick 0 (sweep_kind sw.writes) TookNothing ops ∷ [] }
+    → IsPicked (λ t. IsCopied (IsStore 0) 0 told told (source_next old.config (next_of old.config (state_of old))) t) 0 ops old new
+sweep_picked IsStore told sw ops old new driving is adds = record {
+  kind = sweep_kind sw.writes;
+  taken = TookNothing;
+  adds = adds;
+  allowed = (
+    driving,
+    subst (λ (n : Next). MayPick old.config (state_of old) 0 (sweep_kind sw.writes) TookNothing n) (sym is)
+        (record { all_blocks = refl; same_kind = refl; takes_nothing = refl }),
+  );
+  copied = subst (λ (n : Next). IsCopied (IsStore 0) 0 told told (source_next old.config n) TookNothing) (sym is) refl;
+}

@@ -1,0 +1,5 @@
+use Rattle.nv_desk_copies.proofs.Sizes.{still_synchronized}
+use Rattle.nv_desk_copies.proofs.front.Front.pick.Goals as goal
+
+pub returns-clause-synchronized : goal.returns-clause-synchronized
+returns-clause-synchronized g c = still_synchronized c.args.self.now.desk.config _ _ c.pick.ensures.sizes c.requires.synchronized

@@ -1,0 +1,42 @@
+-- What the front keeps beside the desk.
+use Rattle.std.specs.Prelude.{◌≡◌, ◌⊎◌, ◌≤◌, ℕ, List, Bool, true, slice_get, if◌then◌else◌, Option, Some, None}
+use Rattle.std.specs.Option.{option_and_then}
+use Rattle.block_machine.specs.Words.{Configuration, Entry, Post}
+use Rattle.block_machine.specs.Blocks.{desc_of, is_synchronized}
+use Rattle.ram_blocks.specs.Told.{Told, IsSynchronized}
+use Rattle.ram_blocks.specs.Tries.{OnlyCounts}
+
+-- memory for one content: its bytes at most, and the content that stands there
+pub record StagingState : Type 0 where
+  pub room : ℕ
+  pub bytes : List ℕ
+
+-- what stands there, where it is given
+abbrev pub given_if : (gives : Bool) → List ℕ → Option (List ℕ)
+given_if gives bytes = if gives then Some bytes else None
+
+-- it is enough for each block
+abbrev pub StagesAll : Configuration → StagingState → Type 0
+StagesAll c s = (id : ℕ) → (desc_of c id).length ≤ s.room
+
+-- the synchronized blocks of a configuration are the application's, with their lengths
+abbrev pub AreSynchronized : Configuration → List Told → Type 0
+AreSynchronized c told = (id : ℕ) → is_synchronized (desc_of c id).ram ≡ true → IsSynchronized told id (desc_of c id).length
+
+-- nothing is told otherwise, but that copies of this block were refused
+abbrev pub OnlyRefusals : (block : ℕ) → (old new : List Told) → Type 0
+OnlyRefusals block old new = (new ≡ old) ⊎ OnlyCounts block old new
+
+-- READS THAT WERE NOT TAKEN
+
+-- by block, the number of the Post that gave what was read
+abbrev pub Numbers : Type 0
+Numbers = List (Option ℕ)
+
+-- what the Post with this number gave
+abbrev pub given_in : Entry → Option (List ℕ)
+given_in (Post block r given refused ops) = given
+given_in e = None
+
+abbrev pub given_at : List Entry → ℕ → Option (List ℕ)
+given_at entries n = option_and_then given_in (slice_get entries n)

@@ -1,0 +1,159 @@
+// The front.
+ghost use Rattle.std.specs.Prelude.{◌≡◌, ℕ, List, [], length, get_or, slice_set, IfOk, Some, None, option_copied};
+ghost use Rattle.block_machine.specs.State.{Job as MachineJob};
+ghost use Rattle.block_machine.specs.Blocks.{job_block, names_ram};
+ghost use Rattle.block_machine.specs.Next.{next_of};
+ghost use Rattle.ram_blocks.specs.Told.{sizes_of};
+ghost use Rattle.ram_blocks.specs.Tries.{OthersStay, OnlyRefuses};
+ghost use Rattle.nv_desk.specs.Desk.{state_of};
+ghost use Rattle.nv_desk_copies.specs.Front.{StagesAll, AreSynchronized, OnlyRefusals, given_at};
+ghost use Rattle.nv_desk_copies.specs.Takes.{source_next, IsCopied};
+ghost use Rattle.nv_desk_copies.specs.Picks.{MayPickNow, AnswersNext, block_in};
+ghost use Rattle.nv_desk_copies.specs.Posts.{MayPostNow, MayPostSkipped, IsEndOf, IsPosted, IsPostedNext, answer_of, noted};
+
+use crate::pick::pick;
+use crate::post::post;
+use crate::skipped::post_skipped;
+use crate::{PickAnswer, Posted, Staging, Unread};
+use block_machine::block_config::Config;
+use block_machine::nv_base::{Entry, GivenFrom, ReqResult};
+use nv_desk::{Desk, longest_content};
+use ram_blocks::SyncCalls;
+use std::alloc::{AllocError, Global};
+
+/// The desk, with the memory for one content that a Pick takes or a Post gives, and the reads that were not taken.
+#[derive(Drop)]
+pub struct Front {
+    pub desk: Desk,
+    pub staging: Staging,
+    pub unread: Unread,
+}
+
+impl Front {
+    /// The front of a configuration before the first start-up, with a history of at most `cap` entries.
+    pub fn make(alloc: Global, config: Config, cap: u32) -> Result<Front, AllocError>
+        ensures config { IfOk result (λ f. f.desk.config ≡ config) }
+        ensures cap { IfOk result (λ f. f.desk.cap ≡ cap) }
+        ensures entries { IfOk result (λ f. f.desk.entries ≡ []) }
+        ensures prepared { IfOk result (λ f. f.desk.prepared ≡ 0) }
+        ensures staging { IfOk result (λ f. StagesAll config f.staging) }
+        ensures unread { IfOk result (λ f. (block : ℕ) → get_or f.unread block None ≡ None) }
+    {
+        let staging = Staging::make(alloc, longest_content(&config))?;
+        let unread = Unread::make(alloc, usize::from(config.blocks()) + 1)?;
+        let desk = Desk::make(alloc, config, cap)?;
+        Ok(Front {
+            desk,
+            staging,
+            unread,
+        })
+    }
+
+    /// Picks what comes next: a job, a member of a request on all blocks, or that request itself. For a write of
+    /// synchronized RAM it copies a store that isn't older than the one that was asked for, in as many tries as are
+    /// configured. It takes no memory.
+    pub fn pick<C: SyncCalls>(&mut self, ops: u64, copies: &mut C) -> PickAnswer
+        requires may { MayPickNow self.old.desk ops }
+        requires staging { StagesAll self.old.desk.config self.old.staging }
+        requires synchronized { AreSynchronized self.old.desk.config (C.told copies.old) }
+        ensures next { AnswersNext result (λ block t. IsCopied (λ n x. C.is_store copies.new block n x × C.looked copies.old copies.new block n) block (C.told copies.old) (C.told copies.new) (source_next self.old.desk.config (next_of self.old.desk.config (state_of self.old.desk))) t) ops self.old.desk self.new.desk }
+        ensures room { self.new.staging.room ≡ self.old.staging.room }
+        ensures unread { self.new.unread ≡ self.old.unread }
+        ensures counts { OnlyRefusals (block_in result) (C.told copies.old) (C.told copies.new) }
+        ensures sizes { sizes_of (C.told copies.new) ≡ sizes_of (C.told copies.old) }
+        ensures refuses { OnlyRefuses (C.told copies.old) (C.told copies.new) }
+        ensures synchronized { AreSynchronized self.old.desk.config (C.told copies.new) }
+        ensures stores_stay { (b n : ℕ) (x : List ℕ) → C.is_store copies.old b n x → C.is_store copies.new b n x }
+        ensures stays_over { (first : C) → C.over first copies.old → C.over first copies.new }
+    {
+        pick(&mut self.desk, &mut self.staging, ops, copies)
+    }
+
+    /// Posts the job in hand, whose program ended with this result and source. `content` is what the device's last read
+    /// gave, and counts only where that is the source. Where the last Pick got no content to write, the job is posted with 1
+    /// whatever its program ended with. What is given to synchronized RAM is handed over, in as many tries as are
+    /// configured. It takes no memory.
+    pub fn post<C: SyncCalls>(
+        &mut self,
+        answer: ReqResult,
+        source: GivenFrom,
+        content: &[u8],
+        ops: u64,
+        copies: &mut C,
+    ) -> Posted
+        requires may { MayPostNow self.old.desk source content.now }
+        requires staging { StagesAll self.old.desk.config self.old.staging }
+        requires synchronized { AreSynchronized self.old.desk.config (C.told copies.old) }
+        ensures posted { (j : MachineJob) → (state_of self.old.desk).hand ≡ Some j
+            → IsPosted (IsEndOf self.old.desk j answer source content.now ops) (job_block j) (names_ram j.request) (answer_of self.old.desk.config (state_of self.old.desk) j answer source content.now) ops self.old.desk self.new.desk (C.told copies.old) (C.told copies.new) result }
+        ensures unread { (j : MachineJob) → (state_of self.old.desk).hand ≡ Some j
+            → self.new.unread ≡ noted j (answer_of self.old.desk.config (state_of self.old.desk) j answer source content.now).1 (length self.old.desk.entries) self.old.unread }
+        ensures room { self.new.staging.room ≡ self.old.staging.room }
+        ensures others { OthersStay result.block (C.told copies.old) (C.told copies.new) }
+        ensures sizes { sizes_of (C.told copies.new) ≡ sizes_of (C.told copies.old) }
+        ensures refuses { OnlyRefuses (C.told copies.old) (C.told copies.new) }
+        ensures synchronized { AreSynchronized self.old.desk.config (C.told copies.new) }
+        ensures stores_stay { (b n : ℕ) (x : List ℕ) → C.is_store copies.old b n x → C.is_store copies.new b n x }
+        ensures stays_over { (first : C) → C.over first copies.old → C.over first copies.new }
+    {
+        let number = self.desk.history().len();
+        let ended = post(
+            &mut self.desk,
+            &mut self.staging,
+            answer,
+            source,
+            content,
+            ops,
+            copies,
+        );
+        if ended.reads {
+            self.unread.note(ended.posted.block, number);
+        }
+        ended.posted
+    }
+
+    /// The Post that comes next without a Pick: of a member of a request on all blocks, or of id 0. Defaults that a member
+    /// gives to synchronized RAM are handed over as by `post`. It takes no memory.
+    pub fn post_skipped<C: SyncCalls>(&mut self, ops: u64, copies: &mut C) -> Posted
+        requires may { MayPostSkipped self.old.desk ops }
+        requires staging { StagesAll self.old.desk.config self.old.staging }
+        requires synchronized { AreSynchronized self.old.desk.config (C.told copies.old) }
+        ensures posted { IsPostedNext (next_of self.old.desk.config (state_of self.old.desk)) ops self.old.desk self.new.desk (C.told copies.old) (C.told copies.new) result }
+        ensures room { self.new.staging.room ≡ self.old.staging.room }
+        ensures unread { self.new.unread ≡ self.old.unread }
+        ensures others { OthersStay result.block (C.told copies.old) (C.told copies.new) }
+        ensures sizes { sizes_of (C.told copies.new) ≡ sizes_of (C.told copies.old) }
+        ensures refuses { OnlyRefuses (C.told copies.old) (C.told copies.new) }
+        ensures synchronized { AreSynchronized self.old.desk.config (C.told copies.new) }
+        ensures stores_stay { (b n : ℕ) (x : List ℕ) → C.is_store copies.old b n x → C.is_store copies.new b n x }
+        ensures stays_over { (first : C) → C.over first copies.old → C.over first copies.new }
+    {
+        post_skipped(&mut self.desk, &mut self.staging, ops, copies)
+    }
+
+    /// Takes what the last read of a block to the caller's own buffer gave: the number of the Post that gave it, once. None
+    /// exactly where no read gave something since it was taken last.
+    pub fn take_read(&mut self, block: u16) -> Option<u32>
+        ensures number { result ≡ get_or self.old.unread block None }
+        ensures taken { self.new.unread ≡ slice_set self.old.unread block None }
+        ensures desk { self.new.desk ≡ self.old.desk }
+        ensures staging { self.new.staging ≡ self.old.staging }
+    {
+        self.unread.take(block)
+    }
+
+    /// What the Post with a number gave, if it gave something.
+    pub fn given(&self, number: u32) -> Option<&[u8]>
+        ensures { option_copied result ≡ given_at self.now.desk.entries number }
+    {
+        match self.desk.history().entry(number) {
+            Some(
+                Entry::Post {
+                    given: Some(bytes),
+                    ..
+                },
+            ) => Some(bytes.as_slice()),
+            _ => None,
+        }
+    }
+}

@@ -1,0 +1,94 @@
+// What a Post gives to synchronized RAM.
+ghost use Rattle.std.specs.Prelude.{◌≡◌, ◌+◌, ℕ, List, length, true, IfSome};
+ghost use Rattle.block_machine.specs.Blocks.{desc_of, is_synchronized};
+ghost use Rattle.ram_blocks.specs.Told.{sizes_of};
+ghost use Rattle.ram_blocks.specs.Tries.{OthersStay, OnlyRefuses};
+ghost use Rattle.nv_desk_copies.specs.Front.{AreSynchronized};
+ghost use Rattle.nv_desk_copies.specs.Posts.{answer_in, goes_over, IsHandedOver};
+
+use crate::Staging;
+use crate::source::{is_synchronized, tries};
+use block_machine::block_config::Config;
+use block_machine::nv_base::ReqResult;
+use ram_blocks::{SyncCalls, copy_in};
+
+/// What a job ends with: its result, and whether it gives the content that is staged.
+#[derive(Clone, Copy)]
+pub struct End {
+    pub answer: ReqResult,
+    pub gives: bool,
+}
+
+/// What a job is posted with: its result, whether it gives the content that is staged, and how many copies of that were
+/// refused.
+#[derive(Clone, Copy)]
+pub struct Ending {
+    pub answer: ReqResult,
+    pub gives: bool,
+    pub refused: u8,
+}
+
+/// Hands what a job gives over to the application, where it goes to synchronized RAM.
+pub fn hand_over<C: SyncCalls>(
+    config: &Config,
+    staging: &Staging,
+    block: u16,
+    ram: bool,
+    end: End,
+    copies: &mut C,
+) -> Ending
+    requires whole { IfSome (answer_in end.answer end.gives staging.now.bytes).1 (λ x. length x ≡ (desc_of config.now block).length) }
+    requires synchronized { AreSynchronized config.now (C.told copies.old) }
+    ensures over { IsHandedOver (goes_over (desc_of config.now block) ram (answer_in end.answer end.gives staging.now.bytes).1)
+        (answer_in end.answer end.gives staging.now.bytes) (answer_in result.answer result.gives staging.now.bytes)
+        result.refused ((desc_of config.now block).repeats + 1) block (C.told copies.old) (C.told copies.new) }
+    ensures whole { IfSome (answer_in result.answer result.gives staging.now.bytes).1 (λ x. length x ≡ (desc_of config.now block).length) }
+    ensures others { OthersStay block (C.told copies.old) (C.told copies.new) }
+    ensures sizes { sizes_of (C.told copies.new) ≡ sizes_of (C.told copies.old) }
+    ensures refuses { OnlyRefuses (C.told copies.old) (C.told copies.new) }
+    ensures stores_stay { (b n : ℕ) (x : List ℕ) → C.is_store copies.old b n x → C.is_store copies.new b n x }
+    ensures stays_over { (first : C) → C.over first copies.old → C.over first copies.new }
+{
+    if ram && is_synchronized(config, block) && end.gives {
+        return copied_in(config, staging, block, end.answer, copies);
+    }
+    Ending {
+        answer: end.answer,
+        gives: end.gives,
+        refused: 0,
+    }
+}
+
+// The same where it goes there.
+fn copied_in<C: SyncCalls>(
+    config: &Config,
+    staging: &Staging,
+    block: u16,
+    answer: ReqResult,
+    copies: &mut C,
+) -> Ending
+    requires whole { length staging.now.bytes ≡ (desc_of config.now block).length }
+    requires kind { is_synchronized (desc_of config.now block).ram ≡ true }
+    requires synchronized { AreSynchronized config.now (C.told copies.old) }
+    ensures over { IsHandedOver true (answer_in answer true staging.now.bytes) (answer_in result.answer result.gives staging.now.bytes)
+        result.refused ((desc_of config.now block).repeats + 1) block (C.told copies.old) (C.told copies.new) }
+    ensures others { OthersStay block (C.told copies.old) (C.told copies.new) }
+    ensures sizes { sizes_of (C.told copies.new) ≡ sizes_of (C.told copies.old) }
+    ensures refuses { OnlyRefuses (C.told copies.old) (C.told copies.new) }
+    ensures stores_stay { (b n : ℕ) (x : List ℕ) → C.is_store copies.old b n x → C.is_store copies.new b n x }
+    ensures stays_over { (first : C) → C.over first copies.old → C.over first copies.new }
+{
+    let count = tries(config, block);
+    if copy_in(copies, block, u16::from(count), staging.bytes()) {
+        return Ending {
+            answer,
+            gives: true,
+            refused: 0,
+        };
+    }
+    Ending {
+        answer: ReqResult::NotOk,
+        gives: false,
+        refused: count,
+    }
+}

@@ -1,0 +1,178 @@
+// Posts of the job in hand.
+ghost use Rattle.std.specs.Prelude.{◌≡◌, ℕ, List, Option, Some, length, IfSome};
+ghost use Rattle.block_machine.specs.State.{Job as MachineJob};
+ghost use Rattle.block_machine.specs.Blocks.{desc_of, job_block, kind_of, names_ram};
+ghost use Rattle.block_machine.specs.Results.{took_none, checks_id, checked_id};
+ghost use Rattle.block_machine.specs.nv_base.declared.job.GivenFrom.TheVariants as GivenFrom;
+ghost use Rattle.job_pending.specs.Took.{taken_last};
+ghost use Rattle.ram_blocks.specs.Told.{sizes_of};
+ghost use Rattle.ram_blocks.specs.Tries.{OthersStay, OnlyRefuses};
+ghost use Rattle.nv_desk.specs.Desk.{state_of};
+ghost use Rattle.nv_desk_copies.specs.Front.{StagesAll, AreSynchronized};
+ghost use Rattle.nv_desk_copies.specs.Posts.{EndsAreTheMachines, MayPostNow, IsEndOf, IsPosted, answer_in, answer_of, is_read, reads_own};
+
+use crate::Staging;
+use crate::given::{defaults_of, stage_given};
+use crate::over::{End, hand_over};
+use block_laws::failures_are_explained;
+use block_machine::block_config::Config;
+use block_machine::nv_base::{GivenFrom, JobKind, ReqResult};
+use job_pending::{Job, LastPick, names_ram};
+use nv_desk::Desk;
+use ram_blocks::SyncCalls;
+
+/// The Post that was added: of this block, with this result.
+#[derive(Clone, Copy)]
+pub struct Posted {
+    pub block: u16,
+    pub result: ReqResult,
+}
+
+/// The Post of a job in hand, and whether the job is a read to the caller's own buffer that gave a content.
+#[derive(Clone, Copy)]
+pub struct Done {
+    pub posted: Posted,
+    pub reads: bool,
+}
+
+/// Posts the job in hand, whose program ended with this result and source.
+pub fn post<C: SyncCalls>(
+    desk: &mut Desk,
+    staging: &mut Staging,
+    answer: ReqResult,
+    source: GivenFrom,
+    content: &[u8],
+    ops: u64,
+    copies: &mut C,
+) -> Done
+    requires may { MayPostNow desk.old source content.now }
+    requires staging { StagesAll desk.old.config staging.old }
+    requires synchronized { AreSynchronized desk.old.config (C.told copies.old) }
+    ensures posted { (j : MachineJob) → (state_of desk.old).hand ≡ Some j
+        → IsPosted (IsEndOf desk.old j answer source content.now ops) (job_block j) (names_ram j.request) (answer_of desk.old.config (state_of desk.old) j answer source content.now) ops desk.old desk.new (C.told copies.old) (C.told copies.new) result.posted }
+    ensures reads { (j : MachineJob) → (state_of desk.old).hand ≡ Some j → result.reads ≡ reads_own j (answer_of desk.old.config (state_of desk.old) j answer source content.now).1 }
+    ensures room { staging.new.room ≡ staging.old.room }
+    ensures others { OthersStay result.posted.block (C.told copies.old) (C.told copies.new) }
+    ensures sizes { sizes_of (C.told copies.new) ≡ sizes_of (C.told copies.old) }
+    ensures refuses { OnlyRefuses (C.told copies.old) (C.told copies.new) }
+    ensures stores_stay { (b n : ℕ) (x : List ℕ) → C.is_store copies.old b n x → C.is_store copies.new b n x }
+    ensures stays_over { (first : C) → C.over first copies.old → C.over first copies.new }
+{
+    failures_are_explained();
+    ends_are_the_machines();
+    let Some(job) = desk.hand() else {
+        return not_posted(answer);
+    };
+    let block = job.block();
+    let ram = names_ram(job.request());
+    let read = is_read(job.kind());
+    let end = ended(desk, staging, job, answer, source, content);
+    let reads = !ram && (read && end.gives);
+    let ending = hand_over(desk.config(), staging, block, ram, end, copies);
+    desk.post(
+        ending.answer,
+        staging.given(ending.gives),
+        ending.refused,
+        ops,
+    );
+    Done {
+        posted: Posted {
+            block,
+            result: ending.answer,
+        },
+        reads,
+    }
+}
+
+// No job is in hand.
+fn not_posted(answer: ReqResult) -> Done {
+    Done {
+        posted: Posted {
+            block: 0,
+            result: answer,
+        },
+        reads: false,
+    }
+}
+
+fn is_read(kind: JobKind) -> bool
+    ensures { result ≡ is_read kind }
+{
+    matches!(kind, JobKind::Read)
+}
+
+// What the job in hand ends with; what it gives is staged.
+fn ended(
+    desk: &Desk,
+    staging: &mut Staging,
+    job: &Job,
+    answer: ReqResult,
+    source: GivenFrom,
+    content: &[u8],
+) -> End
+    requires whole { source ≡ GivenFrom.Device → length content.now ≡ (desc_of desk.now.config (job_block job.now)).length }
+    requires staging { StagesAll desk.now.config staging.old }
+    ensures answer { answer_in result.answer result.gives staging.new.bytes ≡ answer_of desk.now.config (state_of desk.now) job.now answer source content.now }
+    ensures whole { IfSome (answer_in result.answer result.gives staging.new.bytes).1 (λ x. length x ≡ (desc_of desk.now.config (job_block job.now)).length) }
+    ensures room { staging.new.room ≡ staging.old.room }
+{
+    let block = job.block();
+    if took_none(job.last_pick()) {
+        return End {
+            answer: ReqResult::NotOk,
+            gives: false,
+        };
+    }
+    let gives = stage_given(
+        desk.config(),
+        staging,
+        block,
+        desk.index(block),
+        source,
+        content,
+    );
+    if checks_id(job) {
+        return checked(desk.config(), staging, answer, gives);
+    }
+    End { answer, gives }
+}
+
+// Whether a Pick got no content to write.
+fn took_none(last: LastPick) -> bool
+    ensures { (content : Option (List ℕ × ℕ)) → result ≡ took_none (taken_last content last) }
+{
+    matches!(last, LastPick::Refused { .. } | LastPick::Stale { .. })
+}
+
+// Whether block 1 is read in a request on all blocks.
+fn checks_id(job: &Job) -> bool
+    ensures { result ≡ checks_id job.now (kind_of job.now) }
+{
+    match job.kind() {
+        JobKind::Read => job.is_member() && job.block() == 1,
+        _ => false,
+    }
+}
+
+// What block 1 ends with: as it was read where it gives the configuration id, else it is restored to that.
+fn checked(config: &Config, staging: &mut Staging, answer: ReqResult, gives: bool) -> End
+    requires staging { StagesAll config.now staging.old }
+    ensures answer { answer_in result.answer result.gives staging.new.bytes ≡ checked_id (desc_of config.now 1).defaults (answer_in answer gives staging.old.bytes) }
+    ensures whole { IfSome (answer_in result.answer result.gives staging.new.bytes).1 (λ x. length x ≡ (desc_of config.now 1).length) }
+    ensures room { staging.new.room ≡ staging.old.room }
+{
+    let same = staging.is_given(gives, defaults_of(config, 1));
+    if same {
+        return End { answer, gives };
+    }
+    let gives = stage_given(config, staging, 1, 0, GivenFrom::Defaults, &[]);
+    End {
+        answer: ReqResult::Restored,
+        gives,
+    }
+}
+
+/// What a job ends with is the machine's, where its program ended so.
+pub fn ends_are_the_machines()
+    ensures { EndsAreTheMachines }
+{}

@@ -1,0 +1,121 @@
+// Posts without a Pick.
+ghost use Rattle.std.specs.Prelude.{◌≡◌, ℕ, List, Some, None, true, false, length, IfSome};
+ghost use Rattle.block_machine.specs.State.{Sweep as MachineSweep};
+ghost use Rattle.block_machine.specs.Blocks.{desc_of};
+ghost use Rattle.block_machine.specs.Results.{own_of, unpicked_result};
+ghost use Rattle.block_machine.specs.Sweeps.{sweep_result};
+ghost use Rattle.block_machine.specs.Next.{next_of, PostMember, EndSweep};
+ghost use Rattle.ram_blocks.specs.Told.{Told};
+ghost use Rattle.ram_blocks.specs.Told.{sizes_of};
+ghost use Rattle.ram_blocks.specs.Tries.{OthersStay, OnlyRefuses};
+ghost use Rattle.nv_desk.specs.Desk.{state_of};
+ghost use Rattle.nv_desk.specs.AllBlocks.{MayFinish};
+ghost use Rattle.nv_desk_copies.specs.Front.{StagesAll, AreSynchronized};
+ghost use Rattle.nv_desk_copies.specs.Posts.{MayPostSkipped, IsAtPost, IsPosted, IsPostedNext, answer_in};
+
+use crate::Staging;
+use crate::given::stage_given;
+use crate::over::{End, hand_over};
+use crate::post::Posted;
+use block_machine::nv_base::{GivenFrom, ReqResult};
+use nv_desk::Desk;
+use nv_desk_state::NextEntry;
+use ram_blocks::SyncCalls;
+
+/// The Post that comes without a Pick: of a member of a request on all blocks, or of id 0.
+pub fn post_skipped<C: SyncCalls>(
+    desk: &mut Desk,
+    staging: &mut Staging,
+    ops: u64,
+    copies: &mut C,
+) -> Posted
+    requires may { MayPostSkipped desk.old ops }
+    requires staging { StagesAll desk.old.config staging.old }
+    requires synchronized { AreSynchronized desk.old.config (C.told copies.old) }
+    ensures posted { IsPostedNext (next_of desk.old.config (state_of desk.old)) ops desk.old desk.new (C.told copies.old) (C.told copies.new) result }
+    ensures room { staging.new.room ≡ staging.old.room }
+    ensures others { OthersStay result.block (C.told copies.old) (C.told copies.new) }
+    ensures sizes { sizes_of (C.told copies.new) ≡ sizes_of (C.told copies.old) }
+    ensures refuses { OnlyRefuses (C.told copies.old) (C.told copies.new) }
+    ensures stores_stay { (b n : ℕ) (x : List ℕ) → C.is_store copies.old b n x → C.is_store copies.new b n x }
+    ensures stays_over { (first : C) → C.over first copies.old → C.over first copies.new }
+{
+    match desk.next() {
+        NextEntry::PostMember { block } => post_member(desk, staging, block, ops, copies),
+        NextEntry::EndSweep => post_sweep(desk, ops),
+        _ => Posted {
+            block: 0,
+            result: ReqResult::Fine,
+        },
+    }
+}
+
+// That of id 0.
+fn post_sweep(desk: &mut Desk, ops: u64) -> Posted
+    requires { MayFinish desk.old ops }
+    ensures posted { (sw : MachineSweep) (told : List Told) → next_of desk.old.config (state_of desk.old) ≡ EndSweep sw
+        → IsPosted (Unit {0}) 0 false (sweep_result sw, None) ops desk.old desk.new told told result }
+{
+    let answer = desk.sweep_result();
+    desk.post_sweep(ops);
+    Posted {
+        block: 0,
+        result: answer,
+    }
+}
+
+// That of a member.
+fn post_member<C: SyncCalls>(
+    desk: &mut Desk,
+    staging: &mut Staging,
+    block: u16,
+    ops: u64,
+    copies: &mut C,
+) -> Posted
+    requires may { IsAtPost desk.old block ops }
+    requires staging { StagesAll desk.old.config staging.old }
+    requires synchronized { AreSynchronized desk.old.config (C.told copies.old) }
+    ensures posted { (sw : MachineSweep) → next_of desk.old.config (state_of desk.old) ≡ PostMember sw block
+        → IsPosted (Unit {0}) block true (unpicked_result (own_of desk.old.config (state_of desk.old) block) sw.writes) ops desk.old desk.new (C.told copies.old) (C.told copies.new) result }
+    ensures block { result.block ≡ block }
+    ensures room { staging.new.room ≡ staging.old.room }
+    ensures others { OthersStay block (C.told copies.old) (C.told copies.new) }
+    ensures sizes { sizes_of (C.told copies.new) ≡ sizes_of (C.told copies.old) }
+    ensures refuses { OnlyRefuses (C.told copies.old) (C.told copies.new) }
+    ensures stores_stay { (b n : ℕ) (x : List ℕ) → C.is_store copies.old b n x → C.is_store copies.new b n x }
+    ensures stays_over { (first : C) → C.over first copies.old → C.over first copies.new }
+{
+    let end = unpicked(desk, staging, block);
+    let end = hand_over(desk.config(), staging, block, true, end, copies);
+    desk.post_member(end.answer, staging.given(end.gives), end.refused, ops);
+    Posted {
+        block,
+        result: end.answer,
+    }
+}
+
+// What a member ends with that isn't picked: a WriteAll skips it, a ReadAll gives its defaults where it has some.
+fn unpicked(desk: &Desk, staging: &mut Staging, block: u16) -> End
+    requires staging { StagesAll desk.now.config staging.old }
+    ensures answer { (sw : MachineSweep) → (state_of desk.now).sweep ≡ Some sw → answer_in result.answer result.gives staging.new.bytes ≡ unpicked_result (own_of desk.now.config (state_of desk.now) block) sw.writes }
+    ensures whole { IfSome (answer_in result.answer result.gives staging.new.bytes).1 (λ x. length x ≡ (desc_of desk.now.config block).length) }
+    ensures room { staging.new.room ≡ staging.old.room }
+{
+    if desk.sweep_writes() {
+        return End {
+            answer: ReqResult::BlockSkipped,
+            gives: false,
+        };
+    }
+    if stage_given(desk.config(), staging, block, 0, GivenFrom::Defaults, &[]) {
+        End {
+            answer: ReqResult::Restored,
+            gives: true,
+        }
+    } else {
+        End {
+            answer: ReqResult::IntegrityFailed,
+            gives: false,
+        }
+    }
+}

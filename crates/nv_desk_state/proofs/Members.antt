@@ -1,0 +1,105 @@
+-- A request on all blocks through its steps.
+use Rattle.std.proofs.Common.{◌≡◌, ◌<◌, ◌≤◌, ℕ, Bool, true, false, List, [], ◌∷◌, drop, length, refl, ◌∙◌, sym, ap, subst, unwrap_or, arith, Option, Some, None}
+use Rattle.block_machine.specs.Words.{ReqResult, Pending as PendingResult, ReadJob, Taken, Configuration}
+use Rattle.block_machine.specs.State.{State, Job, Sweep}
+use Rattle.block_machine.specs.Blocks.{asked_block, job_kind, desc_of, keeps_ram}
+use Rattle.block_machine.specs.Sweeps.{after_member, is_done, member_job, member_kind, member_request}
+use Rattle.block_machine.specs.Next.{BeginSweep, PostMember, next_by}
+use Rattle.block_machine.specs.Steps.{ended, in_hand, picked_job, posted_next, with_member}
+use Rattle.block_states.specs.States.{KeptBlocks, changed_at}
+use Rattle.job_pending.specs.Pending.{Pending, Agree as AreJobs}
+use Rattle.multi_jobs.specs.Sweep.{SweepState, left_of, next_member, moved}
+use Rattle.multi_jobs.specs.Laws.{MembersAreNoted, MembersAreConfigured}
+use Rattle.nv_desk_state.specs.declared.sweep.PendingSweep.{PendingSweep}
+use Rattle.nv_desk_state.specs.declared.kept.Kept.{Kept}
+use Rattle.nv_desk_state.specs.Pending.{IsSweep, IsNoted, AreSweeps, IsAtMember, IsTaken}
+use Rattle.nv_desk_state.specs.Kept.{Agrees}
+
+pub canceled_noted : (c : Configuration) (p : PendingSweep) (sw : Sweep) (id : ℕ) → IsNoted c p sw id
+    → IsNoted c (record p { members = record p.members { canceled = true } }) (record sw { canceled = true }) id
+canceled_noted c p sw id h = λ r. let a = h r in record {
+  under_way = a.under_way;
+  writes = a.writes;
+  canceled = refl;
+  same = a.same;
+  spoiled = a.spoiled;
+  left = a.left;
+}
+
+member_next : (c : Configuration) (s : SweepState) (id : ℕ) (rest : List ℕ) → s.canceled ≡ false → left_of c s ≡ id ∷ rest → next_member c s ≡ Some id
+member_next c s id rest on left = rw (on, left) refl
+
+pub taken_noted : MembersAreNoted → (c : Configuration) (p : PendingSweep) (sw : Sweep) (id : ℕ) (rest : List ℕ) (n : ℕ) → IsSweep c p sw
+    → sw.canceled ≡ false → sw.left ≡ id ∷ rest
+    → IsNoted c (record p { members = moved c p.members; entries = n }) (record sw { left = drop 1 sw.left }) id
+taken_noted law c p sw id rest n h on left = λ r.
+    law c p.members (record sw { under_way = true }) id r (is_done r) h.members
+    (member_next c p.members id rest (h.members.canceled ∙ on) (h.members.left ∙ left)) (λ e. refl)
+
+-- A MEMBER IS PICKED OR POSTED
+
+pub member_block : (writes : Bool) (id : ℕ) → asked_block (member_request writes id) ≡ id
+member_block true id = refl
+member_block false id = refl
+
+pub kind_is : (writes : Bool) (id : ℕ) → unwrap_or (job_kind (member_request writes id)) ReadJob ≡ member_kind writes
+kind_is true id = refl
+kind_is false id = refl
+
+pub sweep_at_member : (c : Configuration) (p : Option PendingSweep) (s : State) (sw : Sweep) (id : ℕ) → IsAtMember s sw id
+    → AreSweeps c p s.sweep → AreSweeps c p (Some sw)
+sweep_at_member c p s sw id x h = subst (AreSweeps c p) x.sweep h
+
+pub member_picked : (c : Configuration) (k : Kept) (s : State) (sw : Sweep) (id : ℕ) (t : Taken) (p : Option PendingSweep) (jobs : Pending)
+    (blocks : KeptBlocks) (o : Option Job) → Agrees c k s → IsAtMember s sw id → IsTaken c p sw id o
+    → blocks ≡ changed_at id (λ b. record b { status = PendingResult }) k.blocks
+    → AreJobs c jobs [] (Some (picked_job t 0 (member_job c sw id))) → length jobs.slots ≡ length k.jobs.slots
+    → Agrees c (record k { blocks = blocks; jobs = jobs; sweep = p }) (in_hand c (with_member s sw id) (member_job c sw id) t)
+member_picked c k s sw id t p jobs blocks o h x taken is agree places = rw (x.waiting, x.hand) (record {
+  started = h.started;
+  off = h.off;
+  blocks = rw (is, h.blocks) refl;
+  jobs = agree;
+  sweep = taken.sweep;
+  member = taken.noted (picked_job t 0 (member_job c sw id)) (member_block sw.writes id);
+  alone = λ on. refl;
+  rooms = rw is h.rooms;
+  places = places ∙ h.places;
+})
+
+pub member_posted : (c : Configuration) (k : Kept) (s : State) (sw : Sweep) (id : ℕ) (r : ReqResult) (given : Option (List ℕ))
+    (p : Option PendingSweep) (blocks : KeptBlocks) → Agrees c k s → IsAtMember s sw id
+    → AreSweeps c p (Some (after_member id r (record sw { left = drop 1 sw.left })))
+    → blocks ≡ changed_at id (ended (desc_of c id) (keeps_ram c id) (member_kind sw.writes) true r given) k.blocks
+    → Agrees c (record k { blocks = blocks; sweep = p }) (posted_next c s r given (PostMember sw id))
+member_posted c k s sw id r given p blocks h x noted is = record {
+  started = h.started;
+  off = h.off;
+  blocks = rw (is, h.blocks) refl;
+  jobs = h.jobs;
+  sweep = noted;
+  member = rw x.hand tt;
+  alone = λ on. x.waiting;
+  rooms = rw is h.rooms;
+  places = h.places;
+}
+
+-- the member has a place for its job
+known_by : MembersAreConfigured → (c : Configuration) (o : Option PendingSweep) (sw : Sweep) (id : ℕ) (rest : List ℕ) → 0 < length c.blocks
+    → AreSweeps c o (Some sw) → sw.left ≡ id ∷ rest → id ≤ length c.blocks
+known_by law c None sw id rest some h left = absurd h
+known_by law c (Some p) sw id rest some h left = law c p.members id rest some (h.members.left ∙ left)
+
+pub member_known : MembersAreConfigured → (c : Configuration) (k : Kept) (s : State) (sw : Sweep) (id : ℕ) → 0 < length c.blocks → Agrees c k s
+    → IsAtMember s sw id → id < length k.jobs.slots
+member_known law c k s sw id some h x = omega (arith, h.places, known_by law c k.sweep sw id x.rest some (sweep_at_member c k.sweep s sw id x h.sweep) x.left)
+
+-- one that is kept and wasn't picked begins next
+pub sweep_begins : (c : Configuration) (s : State) (o : Option PendingSweep) (w : Option Sweep) (p : PendingSweep) → o ≡ Some p → p.under_way ≡ false
+    → AreSweeps c o w → (sw : Sweep) × (next_by c s None None w ≡ BeginSweep sw)
+sweep_begins c s None w p is off h = cc
+sweep_begins c s (Some x) None p is off h = absurd h
+sweep_begins c s (Some x) (Some sw) p is off h =
+    let same : x ≡ p = cc in
+    let before : sw.under_way ≡ false = sym h.under_way ∙ ap (λ (y : PendingSweep). y.under_way) same ∙ off in
+    (sw, rw before refl)

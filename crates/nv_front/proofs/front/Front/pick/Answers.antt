@@ -1,5 +1,0 @@
-use Rattle.nv_front.proofs.Sizes.{still_synchronized}
-use Rattle.nv_front.proofs.front.Front.pick.Goals as goal
-
-pub returns-clause-synchronized : goal.returns-clause-synchronized
-returns-clause-synchronized g c = still_synchronized c.args.self.now.desk.config _ _ c.pick.ensures.sizes c.requires.synchronized

@@ -1,0 +1,93 @@
+-- A stack behind a turn.
+use Rattle.std.specs.Prelude.{IfSome}
+use Rattle.std.proofs.Common.{◌≡◌, ℕ, Bool, true, List, Option, Some, None, refl, ap, subst, sym, inl, inr}
+use Rattle.nvm_laws.specs.nv_base.declared.instance.DeviceNumber.{DeviceNumber}
+use Rattle.nvm_laws.specs.memif.Told.{DeviceTold}
+use Rattle.nvm_laws.specs.block_machine.Words.{Entry, Taken, Configuration}
+use Rattle.nvm_laws.specs.block_machine.Results.{Answer}
+use Rattle.nvm_laws.specs.block_machine.Next.{Next, Nothing, PickJob, BeginSweep, PickMember, PostMember, EndSweep, next_of}
+use Rattle.nvm_laws.specs.ram_blocks.Told.{Told}
+use Rattle.nvm_laws.specs.nv_desk.Desk.{DeskState, state_of}
+use Rattle.nvm_laws.specs.nv_desk_copies.Front.{StagingState, StagesAll, AreSynchronized}
+use Rattle.nvm_laws.specs.nv_desk_copies.Posts.{IsPosted, IsPostedNext}
+use Rattle.nvm_laws.specs.nv_desk_copies.declared.post.Posted.{Posted}
+use Rattle.nvm_laws.specs.job_progress.Hand.{HandState}
+use Rattle.nvm_laws.specs.Ties.{IsTied}
+use Rattle.nvm_laws.specs.Halves.{IsHalf}
+use Rattle.nvm_laws.specs.Turns.{AddsBy}
+use Rattle.nvm_laws.specs.declared.turned.Turned.{Turned}
+use Rattle.nvm_laws.specs.declared.turned.Turned.TheVariants as turned
+use Rattle.nvm_laws.specs.declared.turned.Act.{Act}
+use Rattle.nvm_laws.specs.declared.turned.Act.TheVariants.{Ended, Device}
+use Rattle.nvm_core.specs.Stack.{IsStack, IsRoom, PowersOff}
+
+-- the configuration stays
+next_config : (n : Next) (ops : ℕ) (old new : DeskState) (before after : List Told) (posted : Posted) → IsPostedNext n ops old new before after posted → new.config ≡ old.config
+next_config (PostMember sw id) ops old new before after posted is = ap (λ (x : DeskState). x.config) is.adds
+next_config (EndSweep sw) ops old new before after posted is = ap (λ (x : DeskState). x.config) is.adds
+next_config Nothing ops old new before after posted is = absurd is
+next_config (PickJob j) ops old new before after posted is = absurd is
+next_config (BeginSweep sw) ops old new before after posted is = absurd is
+next_config (PickMember sw id) ops old new before after posted is = absurd is
+
+pub half_config : (act : Act) (Holds : ℕ → Taken → Type 0) (Fits : Type 0) (old new : DeskState) (before after : List Told) (d : DeviceTold)
+    → IsHalf act Holds Fits old new before after d → new.config ≡ old.config
+half_config (Ended turned.Off) Holds Fits old new before after d is = ap (λ (x : DeskState). x.config) is.0.0
+half_config (Ended turned.Picked) Holds Fits old new before after d is = ap (λ (x : DeskState). x.config) is.1.adds
+half_config (Ended turned.Posted) Holds Fits old new before after d is = elim is.1 [
+  | inl held ↦ ap (λ (x : DeskState). x.config) held.is.adds
+  | inr next ↦ next_config (next_of old.config (state_of old)) _ old new before after is.0 next.1
+]
+half_config (Ended turned.Idle) Holds Fits old new before after d is = ap (λ (x : DeskState). x.config) is.0.0
+half_config (Ended turned.Worked) Holds Fits old new before after d is = absurd is
+half_config Device Holds Fits old new before after d is = ap (λ (x : DeskState). x.config) is.0.0
+
+-- it doesn't work at the device
+pub never_worked : (answer : Turned) (Holds : ℕ → Taken → Type 0) (Fits : Type 0) (old new : DeskState) (before after : List Told) (d : DeviceTold)
+    → answer ≡ turned.Worked → IsHalf (Ended answer) Holds Fits old new before after d → ⊥
+never_worked answer Holds Fits old new before after d is half = subst (λ (x : Turned). IsHalf (Ended x) Holds Fits old new before after d) is half
+
+pub adds_config : (e : Option Entry) (old new : DeskState) → AddsBy e old new → new.config ≡ old.config
+adds_config None old new same = ap (λ (x : DeskState). x.config) same
+adds_config (Some e) old new adds = ap (λ (x : DeskState). x.config) adds.0
+
+-- what was added, whatever holds of what was taken
+posted_by : (Fits : Type 0) (block : ℕ) (ram : Bool) (ended : Answer) (ops : ℕ) (old new : DeskState) (before after : List Told) (posted : Posted)
+    → IsPosted Fits block ram ended ops old new before after posted → IsPosted ⊥ block ram ended ops old new before after posted
+posted_by Fits block ram ended ops old new before after posted is = record {
+  given = is.given;
+  refused = is.refused;
+  block_is = is.block_is;
+  adds = is.adds;
+  over = is.over;
+  allowed = λ never. absurd never;
+}
+
+pub half_adds : (act : Act) (Holds : ℕ → Taken → Type 0) (Fits : Type 0) (old new : DeskState) (before after : List Told) (d : DeviceTold)
+    → IsHalf act Holds Fits old new before after d → IsHalf act (λ block t. Unit {0}) ⊥ old new before after d
+half_adds (Ended turned.Off) Holds Fits old new before after d is = is
+half_adds (Ended turned.Picked) Holds Fits old new before after d is = (is.0, record { kind = is.1.kind; taken = is.1.taken; adds = is.1.adds; allowed = is.1.allowed; copied = tt })
+half_adds (Ended turned.Posted) Holds Fits old new before after d is = (
+  is.0,
+  elim is.1 [
+    | inl held ↦ inl (record { job = held.job; hand = held.hand; ended = held.ended; is = posted_by Fits _ _ _ _ old new before after is.0 held.is })
+    | inr next ↦ inr next
+  ],
+)
+half_adds (Ended turned.Idle) Holds Fits old new before after d is = is
+half_adds (Ended turned.Worked) Holds Fits old new before after d is = is
+half_adds Device Holds Fits old new before after d is = is
+
+-- the parts that were tied again
+pub turned_stack : (old new : DeskState) (staging staging_new : StagingState) (hand hand_new : Option HandState) (d d_new : DeviceTold) (copies copies_new : List Told)
+    (room : Option (List (DeviceNumber × ℕ))) → IsStack old staging hand d copies room true → new.config ≡ old.config → staging_new.room ≡ staging.room
+    → AreSynchronized old.config copies_new → IsTied new hand_new d_new → PowersOff new d_new → IsStack new staging_new hand_new d_new copies_new room true
+turned_stack old new staging staging_new hand hand_new d d_new copies copies_new room is config stages synchronized tied power = record {
+  stages = λ id. subst (λ (c : Configuration). StagesAll c staging_new) (sym config) (λ n. rw stages (is.stages n)) id;
+  synchronized = subst (λ (c : Configuration). AreSynchronized c copies_new) (sym config) synchronized;
+  numbers = tied.numbers;
+  has_room = subst (λ (x : Option (List (DeviceNumber × ℕ))). IfSome x (IsRoom new)) (sym (is.used refl)) tt;
+  tied = λ ready. tied;
+  power = λ ready. power;
+  used = is.used;
+}

@@ -1,0 +1,94 @@
+// The first half of a turn: all but the device's turn.
+ghost use Rattle.std.specs.Prelude.{◌≡◌, ℕ, List, IfSome, true};
+ghost use Rattle.nvm_laws.specs.memif.Clock.{SameClock};
+ghost use Rattle.nvm_laws.specs.block_machine.Next.{next_of};
+ghost use Rattle.nvm_laws.specs.ram_blocks.Told.{sizes_of};
+ghost use Rattle.nvm_laws.specs.ram_blocks.Tries.{OnlyRefuses};
+ghost use Rattle.nvm_laws.specs.nv_desk.Desk.{state_of};
+ghost use Rattle.nvm_laws.specs.nv_desk.Picks.{IsInterruption};
+ghost use Rattle.nvm_laws.specs.nv_desk_copies.Front.{StagesAll, AreSynchronized};
+ghost use Rattle.nvm_laws.specs.nv_desk_copies.Takes.{source_next, IsCopied};
+ghost use Rattle.nvm_laws.specs.job_progress.JobInHand.{HandFits};
+ghost use Rattle.nvm_laws.specs.Work.{program_in_hand, stack_work};
+ghost use Rattle.nvm_laws.specs.AtDevice.{AtDevice};
+ghost use Rattle.nvm_laws.specs.Ties.{IsTied};
+ghost use Rattle.nvm_laws.specs.Keeps.{StaysKept};
+ghost use Rattle.nvm_laws.specs.Halves.{IsHalf};
+ghost use Rattle.nvm_core.specs.Lowers.{HalfLeft, HalfLowers};
+ghost use Rattle.nvm_core.specs.Reads.{NotesReads};
+ghost use Rattle.nvm_core.specs.OperationStart.{LeavesDevice};
+
+use crate::choice::{Case, case_of};
+use crate::pick::{interrupt, pick};
+use crate::post::{post, skip};
+use crate::work::{go_on, is_at_work};
+use nvm_laws::job_progress::Hand;
+use nvm_laws::memif::MemDevice;
+use nvm_laws::nv_desk_copies::Front;
+use nvm_laws::ram_blocks::SyncCalls;
+use nvm_laws::{Act, Turned};
+
+/// Does the first of these: where the power is off, nothing; the Post of a finished job; the Pick of an immediate job over
+/// a standard one; the start of the next operation of the job in hand; the Pick, or the Post without a Pick, that comes
+/// next. It makes no turn of the device, adds at most one entry, and takes no memory.
+#[tactic(auto, using(nvm_laws::proofs::memif::Turning::same_clock))]
+pub fn first_half<D: MemDevice, C: SyncCalls>(
+    front: &mut Front,
+    hand: &mut Option<Hand>,
+    device: &mut D,
+    copies: &mut C,
+) -> Act
+    requires tied { IsTied front.old.desk hand.old (D.told device.old) }
+    requires staging { StagesAll front.old.desk.config front.old.staging }
+    requires synchronized { AreSynchronized front.old.desk.config (C.told copies.old) }
+    ensures half { IsHalf result (λ block t. IsCopied (λ n x. C.is_store copies.new block n x × C.looked copies.old copies.new block n) block (C.told copies.old) (C.told copies.new) (source_next front.old.desk.config (next_of front.old.desk.config (state_of front.old.desk))) t)
+        (HandFits front.old.desk.config (state_of front.old.desk) hand.old (D.told device.old)) front.old.desk front.new.desk (C.told copies.old) (C.told copies.new) (D.told device.new) }
+    ensures tied { IsTied front.new.desk hand.new (D.told device.new) }
+    ensures started { result ≡ Act.Device → IfSome hand.new (λ h. h.started ≡ true) }
+    ensures first { result ≡ Act.Device → ¬ IsInterruption front.old.desk }
+    ensures off { result ≡ Act.Ended Turned.Off → (state_of front.old.desk).off ≡ true }
+    ensures device { LeavesDevice (D.told device.old) (D.told device.new) }
+    ensures clock { SameClock (D.clock device.old) (D.clock device.new) }
+    ensures unread { NotesReads front.old.desk front.new.desk front.old.unread front.new.unread }
+    ensures room { front.new.staging.room ≡ front.old.staging.room }
+    ensures sizes { sizes_of (C.told copies.new) ≡ sizes_of (C.told copies.old) }
+    ensures refuses { OnlyRefuses (C.told copies.old) (C.told copies.new) }
+    ensures synchronized { AreSynchronized front.old.desk.config (C.told copies.new) }
+    ensures stores_stay { (b n : ℕ) (x : List ℕ) → C.is_store copies.old b n x → C.is_store copies.new b n x }
+    ensures stays_over { (first : C) → C.over first copies.old → C.over first copies.new }
+    ensures keeps { StaysKept front.old.desk hand.old (D.told device.old) (D.clock device.old) front.new.desk hand.new (D.told device.new) (D.clock device.new) }
+    ensures lowers { HalfLowers result (stack_work front.old.desk hand.old (D.told device.old)) (stack_work front.new.desk hand.new (D.told device.new)) }
+    ensures left { HalfLeft result (program_in_hand hand.old) (D.told device.old) (program_in_hand hand.new) (D.told device.new) }
+    ensures at_device { AtDevice result hand.old (D.told device.old) front.new.desk hand.new (D.told device.new) }
+{
+    match case_of(&front.desk, hand) {
+        Case::Off => Act::Ended(Turned::Off),
+        Case::Post => {
+            post(front, hand, device, copies);
+            Act::Ended(Turned::Posted)
+        }
+        Case::Interrupt => {
+            interrupt(front, hand, device, copies);
+            Act::Ended(Turned::Picked)
+        }
+        Case::Work => {
+            go_on(&front.desk, hand, device);
+            Act::Device
+        }
+        Case::Pick => {
+            pick(front, hand, device, copies);
+            Act::Ended(Turned::Picked)
+        }
+        Case::Skip => {
+            skip(front, hand, device, copies);
+            Act::Ended(Turned::Posted)
+        }
+        Case::Rest => {
+            if is_at_work(device) {
+                Act::Device
+            } else {
+                Act::Ended(Turned::Idle)
+            }
+        }
+    }
+}

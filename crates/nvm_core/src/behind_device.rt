@@ -1,0 +1,79 @@
+// The second half of a turn.
+ghost use Rattle.std.specs.Prelude.{◌≡◌, false};
+ghost use Rattle.nvm_laws.specs.memif.Told.{DeviceTold, ops_of};
+ghost use Rattle.nvm_laws.specs.memif.declared.answer.DeviceTurn.TheVariants as turn;
+ghost use Rattle.nvm_laws.specs.nvm_device_laws.Turn.{settled_by};
+ghost use Rattle.nvm_laws.specs.Ties.{IsTied};
+ghost use Rattle.nvm_laws.specs.Turns.{AddsBy, entry_by, hand_by};
+ghost use Rattle.nvm_core.specs.BehindDevice.{IsBehindTurn, answer_by};
+
+use crate::operation_end::end_operation;
+use nvm_laws::Turned;
+use nvm_laws::block_laws::histories_grow;
+use nvm_laws::job_progress::{Hand, hands_go_on, hands_stay};
+use nvm_laws::memif::{DeviceTurn, MemDevice};
+use nvm_laws::nv_desk::Desk;
+
+/// Takes the answer of the device's turn: adds a Wrote where the job in hand wrote its mark, or an Off where the power went
+/// off. It doesn't change the device, and takes no memory.
+pub fn second_half<D: MemDevice>(
+    desk: &mut Desk,
+    hand: &mut Option<Hand>,
+    device: &D,
+    turned: DeviceTurn,
+) -> Turned
+    requires { (old : DeviceTold) × IsBehindTurn turned desk.old hand.old old (D.told device.now) }
+    ensures answer { result ≡ answer_by turned }
+    ensures adds { (old : DeviceTold) → IsBehindTurn turned desk.old hand.old old (D.told device.now)
+        → AddsBy (entry_by turned old.stand (D.told device.now).stand (ops_of (D.told device.now))) desk.old desk.new }
+    ensures hand { (old : DeviceTold) → IsBehindTurn turned desk.old hand.old old (D.told device.now)
+        → hand.new ≡ hand_by old.stand (D.told device.now).stand hand.old }
+    ensures tied { IsTied desk.new hand.new (D.told device.now) }
+{
+    hands_go_on();
+    hands_stay();
+    histories_grow();
+    let _blocks = desk.config().blocks();
+    take(desk, hand, device, turned)
+}
+
+// Adds the entry that the device's turn asks for.
+fn take<D: MemDevice>(
+    desk: &mut Desk,
+    hand: &mut Option<Hand>,
+    device: &D,
+    turned: DeviceTurn,
+) -> Turned
+    requires { (old : DeviceTold) × IsBehindTurn turned desk.old hand.old old (D.told device.now) }
+    ensures answer { result ≡ answer_by turned }
+    ensures adds { (old : DeviceTold) → IsBehindTurn turned desk.old hand.old old (D.told device.now)
+        → AddsBy (entry_by turned old.stand (D.told device.now).stand (ops_of (D.told device.now))) desk.old desk.new }
+    ensures hand { (old : DeviceTold) → IsBehindTurn turned desk.old hand.old old (D.told device.now)
+        → hand.new ≡ hand_by old.stand (D.told device.now).stand hand.old }
+{
+    match turned {
+        DeviceTurn::Off => {
+            desk.off(device.ops());
+            Turned::Off
+        }
+        DeviceTurn::Idle => Turned::Idle,
+        DeviceTurn::Worked => {
+            go_on(desk, hand, device);
+            Turned::Worked
+        }
+    }
+}
+
+// The job in hand goes on, if there is one.
+fn go_on<D: MemDevice>(desk: &mut Desk, hand: &mut Option<Hand>, device: &D)
+    requires { (old : DeviceTold) × IsBehindTurn turn.Worked desk.old hand.old old (D.told device.now) }
+    ensures adds { (old : DeviceTold) → IsBehindTurn turn.Worked desk.old hand.old old (D.told device.now)
+        → AddsBy (settled_by old.stand (D.told device.now).stand (ops_of (D.told device.now))) desk.old desk.new }
+    ensures hand { (old : DeviceTold) → IsBehindTurn turn.Worked desk.old hand.old old (D.told device.now)
+        → hand.new ≡ hand_by old.stand (D.told device.now).stand hand.old }
+{
+    let Some(hand) = hand else {
+        return;
+    };
+    end_operation(desk, hand, device);
+}

@@ -1,0 +1,59 @@
+// What a turn has to do first.
+ghost use Rattle.nvm_laws.specs.block_machine.Next.{next_of};
+ghost use Rattle.nvm_laws.specs.nv_desk.Desk.{state_of};
+ghost use Rattle.nvm_core.specs.Choice.{IsCase, IsNextCase};
+
+use nv_desk_state::NextEntry;
+use nvm_laws::job_progress::Hand;
+use nvm_laws::nv_desk::Desk;
+
+/// The cases of a turn, in their order.
+#[derive(Clone, Copy)]
+pub(crate) enum Case {
+    /// The power is off.
+    Off,
+    /// The job in hand is finished.
+    Post,
+    /// An immediate job waits, and the one in hand is a standard one.
+    Interrupt,
+    /// The job in hand goes on.
+    Work,
+    /// No job is in hand, and a Pick comes next.
+    Pick,
+    /// No job is in hand, and a Post without a Pick comes next.
+    Skip,
+    /// No job is in hand, and nothing comes next.
+    Rest,
+}
+
+/// The first that holds.
+pub(crate) fn case_of(desk: &Desk, hand: &Option<Hand>) -> Case
+    ensures { IsCase result desk.now hand.now }
+{
+    if desk.is_off() {
+        return Case::Off;
+    }
+    let Some(hand) = hand else {
+        return next_case(desk);
+    };
+    if hand.is_finished() {
+        Case::Post
+    } else if desk.may_interrupt() {
+        Case::Interrupt
+    } else {
+        Case::Work
+    }
+}
+
+// The case where no job is in hand.
+fn next_case(desk: &Desk) -> Case
+    ensures { IsNextCase result (next_of desk.now.config (state_of desk.now)) }
+{
+    match desk.next() {
+        NextEntry::PickJob { .. } | NextEntry::BeginSweep | NextEntry::PickMember { .. } => {
+            Case::Pick
+        }
+        NextEntry::PostMember { .. } | NextEntry::EndSweep => Case::Skip,
+        NextEntry::Nothing => Case::Rest,
+    }
+}

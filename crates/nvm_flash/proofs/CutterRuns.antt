@@ -1,0 +1,126 @@
+-- The run of a cutter, and that of the flash within it.
+use Rattle.std.specs.Prelude.{IsTrue, IfSome, option_map, slice_get}
+use Rattle.std.specs.Option.{option_map_or}
+use Rattle.std.proofs.Common.{◌≡◌, inl, inr, ℕ, ◌+◌, true, List, Option, Some, None, refl, sym, ap, ◌∙◌, subst, arith}
+use Rattle.fee_core.specs.nv_base.Count.{Rose, WereCounted}
+use Rattle.fee_core.specs.nv_base.declared.geometry.Geometry.{Geometry}
+use Rattle.fee_core.specs.memif.Clock.{After}
+use Rattle.fee_core.specs.fls_model.Told.{Told, ToldBytes, Change, IfBothTold, bytes_now, changes_in}
+use Rattle.fls_devices.specs.Cutter.{Cutting, cutting, planning_of, told_cutting, OnlyCuts}
+use Rattle.fls_devices.specs.Journal.{Journaled, HaveParts, merged, bytes_over, empty_journal}
+use Rattle.fee_core.specs.promise_device.Making.{Making}
+use Rattle.fee_core.specs.promise_device.Bridge.{IsWornOut, wanted_pages}
+use Rattle.fee_core.specs.promise_device.FlashRun.{TellsBytes, TellsOperations, StartsSound, AreSeen, bytes_after}
+use Rattle.fee_core.specs.promise_device.Image.{IsSoundFlash, IsOfLastGeneration, HasNoRoomFor, held_in}
+use Rattle.fee_core.specs.fee_told.Device.{Device}
+use Rattle.fee_core.specs.fee_told.Clock.{clock_of}
+use Rattle.nvm_flash.specs.CutterLaws.{run_over, run_within, HandsBack, DevicesBridge}
+use Rattle.nvm_flash.proofs.CutterSeen.{OffsKept, offs_kept, seen_merged}
+
+-- WHAT IS TOLD OF THE BYTES
+same_bytes : (j : Journaled) (g : Geometry) (b : Option ToldBytes) → option_map (λ (x : ToldBytes). x.now) (bytes_over j g b) ≡ option_map (λ (x : ToldBytes). x.now) b
+same_bytes j g None = refl
+same_bytes j g (Some b) = refl
+
+pub same_entry : (inner : Told) (cuts : ℕ) → bytes_now (told_cutting (cutting inner cuts)) ≡ bytes_now inner
+same_entry inner cuts = same_bytes (empty_journal cuts) inner.geometry inner.bytes
+
+pub same_exit : (c : Cutting) → bytes_now (told_cutting c) ≡ bytes_now c.flash.inner
+same_exit c = same_bytes c.flash.journal c.flash.inner.geometry c.flash.inner.bytes
+
+same_after : (inner : Told) (cuts : ℕ) (c : Cutting) (operations : List Change) (k : ℕ) → bytes_after (run_over inner cuts c operations) k ≡ bytes_after (run_within inner c operations) k
+same_after inner cuts c operations k = ap (λ (o : Option (List ℕ)). option_map_or (λ (x : Change). Some x.before) (slice_get operations k) o) (same_exit c)
+
+alike : (j i : Journaled) (g h : Geometry) (a b : Option ToldBytes) → IfBothTold (bytes_over j g a) (bytes_over i h b) (λ first last. Unit {0}) → IfBothTold a b (λ first last. Unit {0})
+alike j i g h None None both = tt
+alike j i g h None (Some b) both = both
+alike j i g h (Some a) None both = both
+alike j i g h (Some a) (Some b) both = tt
+
+as_same : (P : List ℕ → Type 0) (o q : Option (List ℕ)) → o ≡ q → IfSome o P → IfSome q P
+as_same P o q same has = subst (λ (x : Option (List ℕ)). IfSome x P) same has
+
+abbrev tells_over : (inner : Told) (cuts : ℕ) (c : Cutting) (operations : List Change) → TellsBytes (run_within inner c operations) → TellsBytes (run_over inner cuts c operations)
+tells_over inner cuts c operations t = record { first = t.first; entry = same_entry inner cuts ∙ t.entry; last = t.last; exit = same_exit c ∙ t.exit }
+
+sound_over : (m : Making) (inner : Told) (cuts : ℕ) (c : Cutting) (operations : List Change) → StartsSound m (run_within inner c operations) → StartsSound m (run_over inner cuts c operations)
+sound_over m inner cuts c operations sound = subst (λ (o : Option (List ℕ)). IfSome o (IsSoundFlash m)) (sym (same_entry inner cuts)) sound
+
+-- WHAT IS TOLD OF THE CHANGES
+all_told : (j : Journaled) (g : Geometry) (b : Option ToldBytes) (last : List ℕ) (changes : List Change)
+    → option_map (λ (x : ToldBytes). x.now) b ≡ Some last → changes_in b ≡ Some changes → changes_in (bytes_over j g b) ≡ Some (merged g j.events changes last)
+all_told j g None last changes is told = cc
+all_told j g (Some b) last changes is told =
+    let now : b.now ≡ last = cc is in
+    rw told (ap (λ (bytes : List ℕ). Some (merged g j.events changes bytes)) now)
+
+operations_over : (inner : Told) (cuts : ℕ) (c : Cutting) (operations : List Change) → TellsOperations (run_within inner c operations) → TellsOperations (run_over inner cuts c operations)
+operations_over inner cuts c operations t = record {
+  bytes = tells_over inner cuts c operations t.bytes;
+  changes = merged c.flash.inner.geometry c.flash.journal.events t.changes t.bytes.last;
+  told = all_told c.flash.journal c.flash.inner.geometry c.flash.inner.bytes t.bytes.last t.changes t.bytes.exit t.told;
+}
+
+if_told : {A : Type 0} (o : Option A) (P : A → Type 0) (x : A) → o ≡ Some x → IfSome o P → P x
+if_told (Some y) P x is has = (let e : y ≡ x = cc is in subst P e has)
+if_told None P x is has = cc
+
+-- the operations are the flash's own, but for those that were kept from it
+abbrev was_kept : Device → ℕ → Type 0
+was_kept d k = IsTrue true × (clock_of d).off_in k
+
+seen_within : (inner : Told) (c : Cutting) (d : Device) → OnlyCuts c → HandsBack d c → (t : TellsOperations (run_within inner c d.operations)) → AreSeen (was_kept d) 0 t.bytes.last d.operations t.changes
+seen_within inner c d only hands t =
+    let g = c.flash.inner.geometry in
+    let all : List Change = merged g c.flash.journal.events t.changes t.bytes.last in
+    let told : changes_in (told_cutting c).bytes ≡ Some all = all_told c.flash.journal g c.flash.inner.bytes t.bytes.last t.changes t.bytes.exit t.told in
+    let same : all ≡ d.operations = if_told (changes_in (told_cutting c).bytes) (λ (changes : List Change). changes ≡ d.operations) all told hands.changes in
+    let parts : HaveParts g c.flash.journal.events t.changes = if_told (changes_in c.flash.inner.bytes) (HaveParts g c.flash.journal.events) t.changes t.told only.flash.parts in
+    let offs : OffsKept (was_kept d) 0 d.operations = offs_kept (was_kept d) 0 d.operations (λ i x at off. (refl, inr (x, subst (λ (n : ℕ). slice_get d.operations n ≡ Some x) (omega arith) at, off))) in
+    subst (λ (xs : List Change). AreSeen (was_kept d) 0 t.bytes.last xs t.changes) same
+    (seen_merged (was_kept d) g t.bytes.last c.flash.journal.events t.changes 0 parts only.events (subst (OffsKept (was_kept d) 0) (sym same) offs))
+
+-- COUNTS
+counted_within : (n a b own : ℕ) → own ≡ 0 → WereCounted n (a + 0) (b + own) → WereCounted n a b
+counted_within n a b own none (inl fits) = inl (omega arith)
+counted_within n a b own none (inr big) = inr (omega arith)
+
+rose_within : (a b own : ℕ) → own ≡ 0 → Rose (a + 0) (b + own) → Rose a b
+rose_within a b own none (inl more) = inl (omega arith)
+rose_within a b own none (inr big) = inr (omega (arith, big.0), omega (arith, big.1))
+
+worn_within : (m : Making) (inner : Told) (cuts : ℕ) (c : Cutting) (operations : List Change) (k n : ℕ) → OnlyCuts c
+    → IsWornOut m (run_over inner cuts c operations) k n → IsWornOut m (run_within inner c operations) k n
+worn_within m inner cuts c operations k n only w = record {
+  last = as_same (IsOfLastGeneration m) _ _ (same_exit c) w.last;
+  no_erase = w.no_erase;
+  full = λ t small. elim (w.full (tells_over inner cuts c operations t) small) [
+    | inl room ↦ inl (as_same (HasNoRoomFor (wanted_pages m n) m) _ _ (same_after inner cuts c operations k) room)
+    | inr failed ↦ inr (rose_within inner.faults c.flash.inner.faults c.flash.faults only.faults failed.0, failed.1)
+  ];
+}
+
+-- THE BRIDGE
+pub devices_bridge : DevicesBridge
+devices_bridge m cutter inner cuts c d before only hands first b =
+    let up = tells_over inner cuts c d.operations in
+    let all = operations_over inner cuts c d.operations in
+    let sound = sound_over m inner cuts c d.operations in
+    let last : (planning_of c).unplanned ≡ d.flash.planning.unplanned = ap (λ (t : Told). t.planning.unplanned) hands.told in
+    record {
+      after = λ t s k made small.
+          as_same (λ image. (clock_of d).may_find (After k) (held_in m image)) _ _ (same_after inner cuts c d.operations k) (b.after (up t) (sound s) k made small);
+      cut = λ t s k image small leaves. b.cut (all t) (sound s) k image small leaves;
+      sound = λ t s. as_same (IsSoundFlash m) _ _ (same_exit c) (b.sound (up t) (sound s));
+      sound_cut = λ t s k image small leaves. b.sound_cut (all t) (sound s) k image small leaves;
+      operations = record {
+        told_alike = alike (empty_journal cuts) c.flash.journal inner.geometry c.flash.inner.geometry inner.bytes c.flash.inner.bytes b.operations.told_alike;
+        chain = λ t. b.operations.chain (up t);
+        seen = seen_within inner c d only hands;
+      };
+      ops = b.ops;
+      faults = λ n more. counted_within n inner.faults c.flash.inner.faults c.flash.faults only.faults (b.faults n more);
+      failed = b.failed;
+      cuts = λ n more. subst (λ (x : ℕ). WereCounted n x c.flash.inner.cuts) first (subst (WereCounted n before.planning.unplanned) (sym last) more);
+      worn = λ k n w. worn_within m inner cuts c d.operations k n only (b.worn k n w);
+    }

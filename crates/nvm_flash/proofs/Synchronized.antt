@@ -1,0 +1,59 @@
+-- The synchronized blocks of a configuration are the application's.
+use Rattle.std.specs.Prelude.{option_map, unwrap_or, slice_get}
+use Rattle.std.proofs.Common.{◌≡◌, ◌≤◌, ◌==◌, ℕ, zero, suc, Bool, true, false, List, [], ◌∷◌, map, length, replicate, get_or, Option, Some, None, if◌then◌else◌, refl, sym, ap, ◌∙◌, subst, inl, inr, arith}
+use Rattle.std.proofs.lemmas.Bool.{cases_Bool, eqb-true}
+use Rattle.std.proofs.lemmas.List.{length-replicate}
+use Rattle.nvm_core.specs.block_config.declared.block.BlockDesc.{BlockDesc}
+use Rattle.nvm_core.specs.block_config.Block.{plain_block}
+use Rattle.nvm_core.specs.block_config.Config.{Configuration}
+use Rattle.nvm_core.specs.block_config.declared.block.BlockKind.{BlockKind}
+use Rattle.nvm_core.specs.block_config.declared.block.BlockKind.TheVariants.{Native, Redundant, Dataset}
+use Rattle.nvm_core.specs.block_config.Rules.{IsLegalConfig, IsLegalBlock, AreBlocks, AreDefaults}
+use Rattle.std.proofs.lemmas.Option.{get_or_from_slice_get, slice_get_within}
+use Rattle.nvm_core.specs.block_machine.Blocks.{is_synchronized}
+use Rattle.nvm_core.specs.ram_blocks.Plain.{told_of, plain_of, plain_blocks_of, fresh_block, no_plain}
+use Rattle.nvm_core.specs.ram_blocks.declared.plain_block.PlainBlock.{PlainBlock}
+use Rattle.nvm_core.specs.nv_desk_copies.Front.{AreSynchronized}
+
+content_of : (kind : BlockKind) (n : ℕ) (defaults : Option (List ℕ)) → AreDefaults kind n defaults → length (unwrap_or defaults (replicate n 0)) ≡ n
+content_of kind n None are = length-replicate n 0
+content_of Native n (Some bytes) are = are
+content_of Redundant n (Some bytes) are = are
+content_of Dataset n (Some bytes) are = absurd are
+
+-- what is told of a content that isn't empty
+told_bytes : (content : List ℕ) (n : ℕ) → length content ≡ n → 1 ≤ n → option_map (λ s. s.bytes) (told_of (fresh_block content)) ≡ Some n
+told_bytes content n is some = elim (cases_Bool (length content == 0)) [
+  | inl empty ↦ absurd (let none = eqb-true (length content) 0 empty in omega (arith, is, some, none))
+  | inr full ↦ rw full (ap Some is)
+]
+
+told_synchronized : (b : BlockDesc) → 1 ≤ b.length → AreDefaults b.kind b.length b.defaults → is_synchronized b.ram ≡ true → option_map (λ s. s.bytes) (told_of (plain_of b)) ≡ Some b.length
+told_synchronized b some defaults sync =
+    ap (λ (p : Bool). option_map (λ s. s.bytes) (told_of (if p then fresh_block (unwrap_or b.defaults (replicate b.length 0)) else no_plain))) sync
+    ∙ told_bytes (unwrap_or b.defaults (replicate b.length 0)) b.length (content_of b.kind b.length b.defaults defaults) some
+
+-- of the block at a place
+at_place : (bs : List BlockDesc) (i : ℕ) → ((b : BlockDesc) → slice_get bs i ≡ Some b → is_synchronized b.ram ≡ true → option_map (λ s. s.bytes) (told_of (plain_of b)) ≡ Some b.length)
+    → is_synchronized (unwrap_or (slice_get bs i) (plain_block 0)).ram ≡ true → option_map (λ s. s.bytes) (get_or (map told_of (map plain_of bs)) i None) ≡ Some (unwrap_or (slice_get bs i) (plain_block 0)).length
+at_place [] i each sync = cc sync
+at_place (b ∷ bs) zero each sync = each b refl sync
+at_place (b ∷ bs) (suc i) each sync = at_place bs i each sync
+
+some_same : (a b : BlockDesc) → Some a ≡ Some b → a ≡ b
+some_same a b is = cc
+
+each_block : (id : ℕ) (bs : List BlockDesc) → AreBlocks id bs → (i : ℕ) (b : BlockDesc) → slice_get bs i ≡ Some b → is_synchronized b.ram ≡ true → option_map (λ s. s.bytes) (told_of (plain_of b)) ≡ Some b.length
+each_block id [] are i b at sync = absurd are
+each_block id (m ∷ bs) are zero b at sync =
+    let no_ : false ≡ true = ap (λ (x : BlockDesc). is_synchronized x.ram) (sym are.0) ∙ ap (λ (x : BlockDesc). is_synchronized x.ram) (some_same m b at) ∙ sync in absurd (cc no_)
+each_block id (m ∷ bs) are (suc i) b at sync =
+    let legal : IsLegalBlock b = subst IsLegalBlock (get_or_from_slice_get bs i b b at) (are.1 i b (slice_get_within bs i b at)) in
+    told_synchronized b legal.content.low legal.defaults sync
+
+pub are_synchronized : (c : Configuration) → IsLegalConfig c → AreSynchronized c (map told_of (plain_blocks_of c))
+are_synchronized c legal zero sync = cc sync
+are_synchronized c legal (suc i) sync = at_place c.blocks i (each_block c.id c.blocks legal.blocks_legal i) sync
+
+pub are_the_applications : (c : Configuration) (copies : List PlainBlock) → IsLegalConfig c → copies ≡ plain_blocks_of c → AreSynchronized c (map told_of copies)
+are_the_applications c copies legal is = subst (λ (xs : List PlainBlock). AreSynchronized c (map told_of xs)) (sym is) (are_synchronized c legal)

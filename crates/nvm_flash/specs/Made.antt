@@ -1,0 +1,86 @@
+-- A stack over a flash, from its making on.
+use Rattle.std.specs.Prelude.{◌≡◌, ◌≢◌, ◌≤◌, ℕ, false, true, List, [], length, IfSome, None}
+use Rattle.fee_core.specs.nv_base.Count.{Rose}
+use Rattle.fee_core.specs.nv_base.Geometry.{size_of}
+use Rattle.nvm_core.specs.block_config.Config.{Configuration}
+use Rattle.fee_core.specs.memif.Told.{PartTold, DeviceTold, First, figures_at}
+use Rattle.fee_core.specs.memif.Clock.{Clock}
+use Rattle.fee_core.specs.fls_model.Told.{Told, Change, bytes_now}
+use Rattle.fee_core.specs.fls_model.declared.flash.AttachFault.{AttachFault}
+use Rattle.fee_core.specs.fls_model.declared.flash.AttachFault.TheVariants as attach
+use Rattle.fls_devices.specs.Cutter.{cutting, told_cutting}
+use Rattle.fee_core.specs.promise_device.Making.{Making}
+use Rattle.fee_core.specs.promise_device.Bridge.{Bridges}
+use Rattle.fee_core.specs.fee_told.Device.{Device, told_of}
+use Rattle.fee_core.specs.fee_laws.Made.{IsMadeOf}
+use Rattle.nvm_core.specs.ram_blocks.declared.plain_block.PlainBlock.{PlainBlock}
+use Rattle.nvm_core.specs.ram_blocks.Plain.{plain_blocks_of}
+use Rattle.promise_run.specs.Run.{cap, LeavesFlash}
+use Rattle.promise_run.specs.Promise.{making_of}
+use Rattle.nvm_core.specs.Stack.{StackState}
+use Rattle.nvm_flash.specs.Turns.{fixed_by}
+use Rattle.nvm_flash.specs.declared.device.MakeFault.{MakeFault}
+use Rattle.nvm_flash.specs.declared.device.MakeFault.TheVariants.{WrongSize, Flash, Memory}
+
+-- what a device is made of: this configuration, over a flash that tells this, with so many power cuts that can be planned
+pub record IsOrigin (c : Configuration) (inner : Told) (cuts : ℕ) (making : Making) (entry : Told) : Type 0 where
+  pub made_for : making ≡ making_of c
+  pub over : entry ≡ told_cutting (cutting inner cuts)
+
+-- WITHOUT A START-UP
+-- no changing operation, no fault and no cut was counted, and the bytes are as they were
+pub record LeavesAlone (s t : Told) : Type 0 where
+  pub bytes : bytes_now t ≡ bytes_now s
+  pub ops : t.ops ≡ s.ops
+  pub faults : t.faults ≡ s.faults
+  pub cuts : t.cuts ≡ s.cuts
+
+-- why it isn't made or started: the flash has another size than the configuration's, and is left alone; a fault of the flash;
+-- or want of memory
+abbrev pub IsCause : Configuration → MakeFault → Told → Told → Type 0
+IsCause c (WrongSize found) s t = IfSome s.bytes (λ b. (length b.now ≡ found) × (found ≢ 0) × (found ≢ size_of c.geometry)) × LeavesAlone s t
+IsCause c Flash s t = Rose s.faults t.faults
+IsCause c Memory s t = Unit {0}
+
+-- the flash comes back as it was, or attached
+pub record ComesBack (c : Configuration) (fault : MakeFault) (s t : Told) : Type 0 where
+  pub cause : IsCause c fault s t
+  pub flash : LeavesFlash c.geometry (record { entry = s; exit = t; operations = [] })
+  pub faults : s.faults ≤ t.faults
+  pub cuts : s.cuts ≤ t.cuts
+
+-- THE DEVICE IS TAKEN APART
+-- What its part told of the flash is so. Where it asked for no operation, the flash counted none.
+pub record IsBack (c : Configuration) (inner exit : Told) (before : PartTold) (now : DeviceTold) (clock : Clock) : Type 0 where
+  pub operations : List Change
+  pub bridges : Bridges (making_of c) true (record { entry = inner; exit = exit; operations = operations }) before now clock
+  -- all numbers are of its one part
+  pub parts : (n : ℕ) → (figures_at now.fixed n).part ≡ First
+  pub faults : exit.faults ≡ now.first.flash_faults
+  pub more : inner.faults ≤ exit.faults
+  pub none : now.ops ≡ 0 → now.first.planning.unplanned ≡ inner.cuts → (operations ≡ []) × (exit.ops ≡ inner.ops) × (exit.cuts ≡ inner.cuts)
+
+-- THE STACK
+-- all numbers are of its one part
+abbrev pub AreOfFirst : Device → Type 0
+AreOfFirst d = (n : ℕ) → (figures_at (told_of d).fixed n).part ≡ First
+
+-- it is made, and has made no start-up
+pub record IsMadeStack (c : Configuration) (making : Making) (entry : Told) (s : StackState Device (List PlainBlock)) : Type 0 where
+  pub device : IsMadeOf making entry s.device
+  pub parts : AreOfFirst s.device
+  pub fixed : (told_of s.device).fixed ≡ fixed_by c
+  pub only : s ≡ record {
+    desk = record { config = c; cap = cap; entries = []; prepared = 0 };
+    hand = None;
+    device = s.device;
+    copies = plain_blocks_of c;
+    ready = false;
+    has_room = true;
+  }
+
+-- why the flash isn't attached
+abbrev pub fault_of : AttachFault → MakeFault
+fault_of attach.Failed = Flash
+fault_of (attach.WrongSize found) = WrongSize found
+fault_of attach.Memory = Memory

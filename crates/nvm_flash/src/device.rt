@@ -1,0 +1,70 @@
+// The device.
+ghost use Rattle.std.specs.Prelude.{◌≡◌, IfErr, IfOk};
+ghost use Rattle.nvm_core.specs.block_config.Rules.{IsLegalConfig};
+ghost use Rattle.fee_core.specs.fee_told.Device.{told_of};
+ghost use Rattle.fee_core.specs.fee_laws.Made.{IsMadeOf};
+ghost use Rattle.nvm_flash.specs.Made.{AreOfFirst, ComesBack, IsOrigin, fault_of};
+ghost use Rattle.nvm_flash.specs.Turns.{fixed_by};
+
+use crate::flash_stays;
+use fee_core::fls_model::{AttachFault, Flash};
+use fee_core::{Fee, Origin};
+use fls_devices::Cutter;
+use nvm_core::block_config::{BANKS, Config};
+use std::alloc::Global;
+
+/// Why a stack isn't made or started: its flash has a wrong size in bytes, or failed by a counted fault, or want of memory.
+#[derive(Clone, Copy)]
+pub enum MakeFault {
+    WrongSize { found: u64 },
+    Flash,
+    Memory,
+}
+
+/// The device of a configuration over a flash, of which so many power cuts can be planned.
+pub fn make_device<F: Flash, O: Origin>(
+    alloc: Global,
+    config: &Config,
+    flash: F,
+    cuts: u32,
+) -> Result<Fee<Cutter<F>, O>, (MakeFault, F)>
+    requires { IsOrigin config.now (F.told flash) cuts O.making O.entry }
+    ensures made { IfOk result (λ d. IsMadeOf O.making O.entry d) }
+    ensures parts { IfOk result AreOfFirst }
+    ensures fixed { IfOk result (λ d. (told_of d).fixed ≡ fixed_by config.now) }
+    ensures legal { IsLegalConfig config.now }
+    ensures stopped { IfErr result (λ e. ComesBack config.now e.0 (F.told flash) (F.told e.1)) }
+{
+    flash_stays();
+    let geometry = config.geometry();
+    let Ok(numbers) = config.lengths(alloc) else {
+        return Err((MakeFault::Memory, flash));
+    };
+    numbers.len();
+    match Cutter::make(alloc, flash, cuts) {
+        Ok(cutter) => {
+            match Fee::make(
+                alloc,
+                cutter,
+                geometry,
+                BANKS,
+                &numbers,
+                config.reserve_pages(),
+            ) {
+                Ok(device) => Ok(device),
+                Err((fault, cutter)) => Err((fault_of(fault), cutter.into_inner())),
+            }
+        }
+        Err(failed) => Err((MakeFault::Memory, failed.value)),
+    }
+}
+
+fn fault_of(fault: AttachFault) -> MakeFault
+    ensures { result ≡ fault_of fault }
+{
+    match fault {
+        AttachFault::Failed => MakeFault::Flash,
+        AttachFault::WrongSize { found } => MakeFault::WrongSize { found },
+        AttachFault::Memory => MakeFault::Memory,
+    }
+}

@@ -1,0 +1,65 @@
+// The stack.
+ghost use Rattle.std.specs.Prelude.{ℕ, IfErr, IfOk};
+ghost use Rattle.fee_core.specs.fee_told.Device.{told_of};
+ghost use Rattle.fee_core.specs.Tells.{told_clock};
+ghost use Rattle.fee_core.specs.fls_model.Told.{Told};
+ghost use Rattle.nvm_core.specs.StartUps.{StartsKeep, StartsUp};
+ghost use Rattle.nvm_flash.specs.Made.{ComesBack, IsMadeStack, IsOrigin};
+
+use crate::back::give_back;
+use crate::device::{MakeFault, make_device};
+use fee_core::fls_model::Flash;
+use fee_core::{Fee, Origin};
+use fls_devices::Cutter;
+use nvm_core::Stack;
+use nvm_core::block_config::Config;
+use nvm_core::nvm_laws::FoundAnswer;
+use nvm_core::ram_blocks::PlainSync;
+use std::alloc::Global;
+
+/// A stack over a flash whose power may be cut.
+pub type FlashStack<F, O> = Stack<Fee<Cutter<F>, O>, PlainSync>;
+
+/// The most entries of a history.
+const CAP: u32 = 100_000;
+
+/// The stack of a configuration over a flash, before its first start-up.
+pub fn make_stack<F: Flash, O: Origin>(
+    alloc: Global,
+    config: Config,
+    flash: F,
+    cuts: u32,
+) -> Result<FlashStack<F, O>, (MakeFault, F)>
+    requires { IsOrigin config (F.told flash) cuts O.making O.entry }
+    ensures made { IfOk result (λ s. IsMadeStack config O.making O.entry s) }
+    ensures stopped { IfErr result (λ e. ComesBack config e.0 (F.told flash) (F.told e.1)) }
+{
+    let Ok(copies) = PlainSync::make(alloc, &config) else {
+        return Err((MakeFault::Memory, flash));
+    };
+    match make_device(alloc, &config, flash, cuts) {
+        Ok(device) => match Stack::make(alloc, config, device, copies, CAP) {
+            Ok(stack) => Ok(stack),
+            Err(failed) => Err((MakeFault::Memory, give_back(failed.value))),
+        },
+        Err(stopped) => Err(stopped),
+    }
+}
+
+/// The first start-up of a stack. Where it fails, by a fault, the flash comes back.
+pub fn start_stack<F: Flash, O: Origin>(
+    stack: FlashStack<F, O>,
+) -> Result<FlashStack<F, O>, (MakeFault, F)>
+    requires { IsMadeStack stack.desk.config O.making O.entry stack }
+    ensures started { IfOk result (λ s. StartsUp told_of stack s) }
+    ensures keeps { IfOk result (λ s. StartsKeep FoundAnswer.Ready stack.desk (told_of stack.device) (told_clock stack.device) s.desk (told_of s.device) (told_clock s.device)) }
+    ensures stopped { IfErr result (λ e. (inner : Told) (cuts : ℕ) → IsOrigin stack.desk.config inner cuts O.making O.entry → ComesBack stack.desk.config e.0 inner (F.told e.1)) }
+{
+    let mut stack = stack;
+    match stack.start() {
+        FoundAnswer::Ready => Ok(stack),
+        FoundAnswer::Failed | FoundAnswer::NoRoom | FoundAnswer::Memory => {
+            Err((MakeFault::Flash, give_back(stack.into_device())))
+        }
+    }
+}

@@ -1,0 +1,15 @@
+use Rattle.std.proofs.Common.{◌≡◌, ◌≤◌, ◌+◌, ◌++◌, ℕ, length, map}
+use Rattle.std.specs.Vec.Iter.{into_iter_items, into_iter_len}
+use Rattle.block_machine.specs.nv_base.Lengths.{AreLengths}
+use Rattle.block_machine.specs.nv_base.Marks.{next_or}
+use Rattle.nvm_found.specs.Places.{number_at, AreWhole, marks_at}
+use Rattle.nvm_found.proofs.found_room.listed.Given as goal
+
+abbrev pub invariant-loop-place : goal.invariant-loop-place
+invariant-loop-place l = record {
+  marks : l.marks.marks ++ marks_at (into_iter_items l.place-iterator) ≡ marks_at l.fn.places.items;
+  ascend : (low : ℕ) × (next_or 0 l.marks.marks ≤ low + 1) × AreLengths low (map number_at (into_iter_items l.place-iterator));
+  whole : AreWhole (into_iter_items l.place-iterator);
+  room : length (into_iter_items l.place-iterator) ≤ l.marks.room;
+  left : into_iter_len l.place-iterator ≡ length (into_iter_items l.place-iterator);
+}

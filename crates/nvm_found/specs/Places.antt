@@ -1,0 +1,95 @@
+-- What was found of a number, and what a read comes to.
+use Rattle.std.specs.Prelude.{◌≡◌, ◌⊎◌, ℕ, zero, suc, true, false, length, List, [], ◌∷◌, IfSome, Some}
+use Rattle.block_machine.specs.nv_base.Count.{Rose}
+use Rattle.block_machine.specs.nv_base.Marks.{instance_of, listed}
+use Rattle.block_machine.specs.nv_base.declared.instance.Instance.{Instance}
+use Rattle.block_machine.specs.nv_base.declared.instance.DeviceNumber.{DeviceNumber}
+use Rattle.block_machine.specs.nv_base.declared.mark.Mark.{Mark}
+use Rattle.block_machine.specs.nv_base.declared.mark.Mark.TheVariants as mark
+use Rattle.memif.specs.declared.answer.PlainMark.{PlainMark}
+use Rattle.memif.specs.declared.answer.PlainMark.TheVariants.{Content, Invalid, Erased}
+use Rattle.memif.specs.declared.answer.JobResult.{JobResult}
+use Rattle.memif.specs.declared.answer.JobResult.TheVariants.{JobFailed}
+use Rattle.memif.specs.Told.{DeviceTold, Slot, is_open, slot_at}
+use Rattle.memif.specs.Marks.{KeepsAll}
+use Rattle.memif.specs.Clock.{Clock}
+use Rattle.memif.specs.Calls.{ReadsAt, Gives}
+use Rattle.memif.specs.Trials.{Lasts}
+use Rattle.nvm_device_laws.specs.Turn.{Stays, StaysDown}
+use Rattle.nvm_found.specs.declared.place.Place.{Place}
+use Rattle.nvm_found.specs.Found.{IsUp}
+
+-- PLACES
+-- the number of a place with its length
+abbrev pub number_at : Place → DeviceNumber × ℕ
+number_at p = (p.number, p.length)
+
+-- there is memory for a content of that length
+abbrev pub IsWhole : Place → Type 0
+IsWhole p = length p.content ≡ p.length
+
+abbrev pub AreWhole : List Place → Type 0
+AreWhole [] = Unit {0}
+AreWhole (p ∷ ps) = IsWhole p × AreWhole ps
+
+-- the mark that was found
+abbrev pub mark_by : PlainMark → List ℕ → Mark
+mark_by Content bytes = mark.Content bytes
+mark_by Invalid bytes = mark.Invalid
+mark_by Erased bytes = mark.Erased
+
+abbrev pub mark_at : Place → Mark
+mark_at p = mark_by p.kind p.content
+
+-- it is what the device holds for certain
+abbrev pub IsHeldIn : List (DeviceNumber × ℕ) → List Slot → Place → Type 0
+IsHeldIn numbers slots p = mark_at p ≡ (slot_at numbers slots p.number.0).settled.mark
+
+-- so is that of each of the first so many
+abbrev pub FirstHeldIn : List (DeviceNumber × ℕ) → List Slot → ℕ → List Place → Type 0
+FirstHeldIn numbers slots zero ps = Unit {0}
+FirstHeldIn numbers slots (suc i) [] = Unit {0}
+FirstHeldIn numbers slots (suc i) (p ∷ ps) = IsHeldIn numbers slots p × FirstHeldIn numbers slots i ps
+
+-- the same, where the device tells what it holds
+abbrev pub IsHeld : DeviceTold → Place → Type 0
+IsHeld d p = IfSome d.slots (λ slots. IsHeldIn d.fixed.numbers slots p)
+
+abbrev pub FirstHeld : DeviceTold → ℕ → List Place → Type 0
+FirstHeld d i ps = IfSome d.slots (λ slots. FirstHeldIn d.fixed.numbers slots i ps)
+
+-- the mark of a place before others, and the marks of places, as a list
+abbrev pub listed_at : Place → List (Instance × Mark) → List (Instance × Mark)
+listed_at p marks = listed (instance_of p.number) (mark_at p) marks
+
+abbrev pub marks_at : List Place → List (Instance × Mark)
+marks_at [] = []
+marks_at (p ∷ ps) = listed_at p (marks_at ps)
+
+-- READS
+-- a start-up answered Ok, and no job is open
+pub record IsReady (d : DeviceTold) : Type 0 where
+  pub started : d.started ≡ true
+  pub first_on : d.first.off ≡ false
+  pub second_on : d.second.off ≡ false
+  pub at_rest : is_open d.stand ≡ false
+
+-- what reads leave of a device that was started up
+pub record ReadsOn (old : DeviceTold) (clock : Clock) (new : DeviceTold) (clock_new : Clock) : Type 0 where
+  pub fixed : new.fixed ≡ old.fixed
+  pub marks : KeepsAll old new
+  pub ops : new.ops ≡ old.ops
+  pub up : (begun : DeviceTold) → IsUp begun old → IsUp begun new
+  pub stays : Stays old clock new clock_new
+  pub down : StaysDown old clock new clock_new
+  pub lasts : Lasts old clock new clock_new
+
+-- a fault was counted since the device was as it was once
+abbrev pub HasFault : DeviceTold → DeviceTold → Type 0
+HasFault begun new = Rose begun.first.faults new.first.faults ⊎ Rose begun.second.faults new.second.faults
+
+-- what a read of a number came to
+pub record ReadComesTo (number size : ℕ) (old : DeviceTold) (outcome : JobResult) (given : List ℕ) (new : DeviceTold) : Type 0 where
+  pub held : ReadsAt number old.slots outcome given old
+  pub gives : Gives outcome (Some size) given
+  pub fault : outcome ≡ JobFailed → (begun : DeviceTold) → IsUp begun old → HasFault begun new

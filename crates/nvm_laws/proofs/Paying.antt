@@ -1,0 +1,100 @@
+-- Posts that are paid for.
+use Rattle.std.specs.Prelude.{unwrap_or}
+use Rattle.std.specs.Option.{option_map_or}
+use Rattle.std.specs.List.{Contains}
+use Rattle.std.proofs.Common.{◌≡◌, ℕ, zero, suc, ◌+◌, ◌*◌, ◌-◌, ◌⊎◌, Bool, true, false, if◌then◌else◌, List, [], ◌∷◌, ◌++◌, length, map, Option, Some, None, refl, sym, ap, ◌∙◌, inl, inr, arith}
+use Rattle.std.proofs.lemmas.List.Elements.{Contains-append_left}
+use Rattle.block_machine.specs.Words.{Entry, Ask, Pick, Wrote, Off, Found, Post, ReqResult, NotOk, JobKind, ReadJob, WriteJob, RestoreJob, EraseJob, InvalidateJob, ReadAllJob, WriteAllJob, Configuration}
+use Rattle.block_machine.specs.State.{State, Job}
+use Rattle.block_machine.specs.Blocks.{job_block, kind_of}
+use Rattle.block_machine.specs.StartUp.{at_first}
+use Rattle.block_machine.specs.Steps.{step, after, after_from}
+use Rattle.block_machine.specs.Results.{Answer, Own, own_of, own_indices, result_of, open_sets, sets_of, failed_set, took_none, unwritten}
+use Rattle.block_machine.specs.Prices.{device_tries, faults_of, price_in_faults}
+use Rattle.block_laws.specs.Laws.{FailedSetsAreLeast}
+use Rattle.promise_blocks.specs.Payment.{Worn, ArePaid, IsPaid, price_for}
+use Rattle.ram_blocks.specs.Told.{Told}
+use Rattle.nv_desk_copies.specs.Posts.{IsHandedOver}
+
+-- AN ENTRY WITHOUT A PRICE
+no_price : (of : ℕ → Bool) (c : Configuration) (worn : Worn) (n : ℕ) (s : State) (es : List Entry) (e : Entry)
+    → price_for of c (after_from c s es) e ≡ 0 → ArePaid of c worn n s es → ArePaid of c worn n s (es ++ e ∷ [])
+no_price of c worn n s [] e free paid = inl (omega (arith, free), tt)
+no_price of c worn n s (x ∷ es) e free (inl (cheap, rest)) = inl (cheap, no_price of c worn (n - price_for of c s x) (step c s x) es e free rest)
+no_price of c worn n s (x ∷ es) e free (inr (excused, rest)) = inr (excused, no_price of c worn n (step c s x) es e free rest)
+
+-- what has no price has none for some blocks
+price_by : (b : Bool) (price : ℕ) → price ≡ 0 → (if b then price else 0) ≡ 0
+price_by true price none = none
+price_by false price none = refl
+
+none_for : (of : ℕ → Bool) (c : Configuration) (s : State) (e : Entry) → price_in_faults c s e ≡ 0 → price_for of c s e ≡ 0
+none_for of c s (Post block r given refused ops) none = price_by (of block) (price_in_faults c s (Post block r given refused ops)) none
+none_for of c s (Ask caller r reply) none = refl
+none_for of c s (Pick block kind t ops) none = refl
+none_for of c s (Wrote i mark ops) none = refl
+none_for of c s (Off ops) none = refl
+none_for of c s (Found marks ops) none = refl
+
+pub pays_free : (of : ℕ → Bool) (c : Configuration) (worn : Worn) (before now : ℕ) (h : List Entry) (e : Entry)
+    → price_in_faults c (after c h) e ≡ 0 → IsPaid of c worn before now h → IsPaid of c worn before now (h ++ e ∷ [])
+pays_free of c worn before now h e free paid =
+    record { faults = paid.faults; counted = paid.counted; pay = no_price of c worn paid.faults at_first h e (none_for of c (after c h) e free) paid.pay }
+
+-- PRICES
+-- with no job in hand
+pub free_alone : (c : Configuration) (s : State) (block : ℕ) (r : ReqResult) (given : Option (List ℕ)) (refused ops : ℕ) → s.hand ≡ None
+    → price_in_faults c s (Post block r given refused ops) ≡ 0
+free_alone c s block r given zero ops none = ap (λ (o : Option Job). option_map_or (λ j. faults_of (own_of c s (job_block j)) (r, given) j) o 0) none
+free_alone c s block r given (suc n) ops none = refl
+
+-- where each copy in was refused
+pub free_refused : (c : Configuration) (s : State) (block : ℕ) (r : ReqResult) (given : Option (List ℕ)) (refused n ops : ℕ) → refused ≡ n + 1
+    → price_in_faults c s (Post block r given refused ops) ≡ 0
+free_refused c s block r given zero n ops is = absurd (omega (arith, is))
+free_refused c s block r given (suc m) n ops is = refl
+
+-- of a result for which nothing need have failed
+pub free_unfailed : FailedSetsAreLeast → (c : Configuration) (s : State) (j : Job) (r : ReqResult) (given : Option (List ℕ)) (ops : ℕ) → s.hand ≡ Some j
+    → Contains (open_sets (own_of c s (job_block j)) j (kind_of j)) [] → (r, given) ≡ result_of (own_of c s (job_block j)) j []
+    → price_in_faults c s (Post (job_block j) r given 0 ops) ≡ 0
+free_unfailed least c s j r given ops hand at answer =
+    ap (λ (o : Option Job). option_map_or (λ k. faults_of (own_of c s (job_block k)) (r, given) k) o 0) hand
+    ∙ (ap (λ (a : Answer). faults_of (own_of c s (job_block j)) a j) answer ∙ nothing)
+  where
+    few : length (unwrap_or (failed_set (own_of c s (job_block j)) j (result_of (own_of c s (job_block j)) j [])) []) ≡ 0
+    few = let most = (least c s j [] at).1 in omega (arith, most)
+
+    nothing : faults_of (own_of c s (job_block j)) (result_of (own_of c s (job_block j)) j []) j ≡ 0
+    nothing = ap (λ (n : ℕ). device_tries (own_of c s (job_block j)).desc (kind_of j) * n) few ∙ omega arith
+
+-- OPEN SETS
+none_in : (xs : List ℕ) → Contains (sets_of xs) []
+none_in [] = (0, omega arith, refl)
+none_in (x ∷ xs) = Contains-append_left (sets_of xs) (map (λ (ys : List ℕ). x ∷ ys) (sets_of xs)) [] (none_in xs)
+
+-- where a job got no content none need have failed
+pub open_none : (o : Own) (j : Job) (kind : JobKind) → took_none j.taken ≡ true → Contains (open_sets o j kind) []
+open_none o j ReadJob none = none_in (own_indices o)
+open_none o j RestoreJob none = (0, omega arith, refl)
+open_none o j WriteJob none = (0, omega arith, ap (λ (t : Bool). if t then [] else unwritten o j) none)
+open_none o j EraseJob none = (0, omega arith, ap (λ (t : Bool). if t then [] else unwritten o j) none)
+open_none o j InvalidateJob none = (0, omega arith, ap (λ (t : Bool). if t then [] else unwritten o j) none)
+open_none o j ReadAllJob none = (0, omega arith, ap (λ (t : Bool). if t then [] else unwritten o j) none)
+open_none o j WriteAllJob none = (0, omega arith, ap (λ (t : Bool). if t then [] else unwritten o j) none)
+
+-- and its result is 1, whatever failed
+pub none_result : (o : Own) (j : Job) (failed : List ℕ) → took_none j.taken ≡ true → result_of o j failed ≡ (NotOk, None)
+none_result o j failed none = rw none refl
+
+-- the only set of a restore
+pub only_none : (failed : List ℕ) → Contains ([] ∷ []) failed → failed ≡ []
+only_none failed (zero, within, is) = sym is
+only_none failed (suc k, within, is) = absurd (omega (arith, within))
+
+-- WHAT WAS HANDED OVER
+pub over_by : (goes : Bool) (ended posted : Answer) (refused n block : ℕ) (old new : List Told) → IsHandedOver goes ended posted refused (n + 1) block old new
+    → ((posted ≡ ended) × (refused ≡ 0)) ⊎ (refused ≡ n + 1)
+over_by false ended posted refused n block old new over = inl (over.0, over.1)
+over_by true ended posted refused n block old new (inl same) = inl (same.0, same.1)
+over_by true ended posted refused n block old new (inr each) = inr each.1

@@ -1,0 +1,83 @@
+-- A Pick, with the hand of the job that it takes.
+use Rattle.std.specs.Prelude.{option_map, IfSome}
+use Rattle.std.proofs.Common.{◌≡◌, ℕ, Bool, true, false, List, [], ◌∷◌, ◌++◌, Option, Some, None, refl, sym, subst}
+use Rattle.block_machine.specs.nv_base.declared.job.JobStep.TheVariants as step
+use Rattle.memif.specs.Told.{DeviceTold, Stand, ops_of, Part, part_at, PartTold}
+use Rattle.memif.specs.Clock.{Clock}
+use Rattle.block_machine.specs.Words.{Entry, Pick, JobKind, ReadJob, WriteJob, RestoreJob, EraseJob, InvalidateJob, ReadAllJob, WriteAllJob, ReqResult, FromDevice, Configuration}
+use Rattle.block_machine.specs.State.{State, Job}
+use Rattle.block_machine.specs.Results.{took_none}
+use Rattle.block_machine.specs.Steps.{after}
+use Rattle.promise_blocks.specs.OverDevice.{HasStarted}
+use Rattle.promise_blocks.specs.OverDevice.{is_of}
+use Rattle.promise_blocks.specs.Payment.{IsPaid}
+use Rattle.nvm_device_laws.specs.Turn.{Keeps, EntriesKeep}
+use Rattle.nvm_device_laws.specs.Tries.{TriesArePaid, TriesBegin}
+use Rattle.job_programs.specs.Program.{step_of}
+use Rattle.nv_desk.specs.Desk.{DeskState}
+use Rattle.job_progress.specs.JobInHand.{FitsMarks, HandFits, program_for}
+use Rattle.job_progress.specs.Begins.{hand_by, hand_for}
+use Rattle.nvm_laws.specs.Turns.{hand_in}
+use Rattle.nvm_laws.specs.Keeps.{StackKeeps}
+use Rattle.nvm_laws.specs.Entries.{PicksKeep}
+
+pub started_push : (h : List Entry) (e : Entry) → HasStarted (h ++ e ∷ [])
+started_push [] e = tt
+started_push (x ∷ es) e = tt
+
+-- THE HAND OF A JOB ON WHICH NOTHING WAS DONE
+-- it gives nothing that the device read
+none_read : (block : ℕ) (kind : JobKind) (defaults : Bool) (indices : List ℕ) (retries : ℕ) (r : ReqResult)
+    → step_of (record { block = block; kind = kind; defaults = defaults; indices = indices; retries = retries; done = []; failures = 0 }) ≡ step.Ended r FromDevice → ⊥
+none_read block kind defaults (x ∷ xs) retries r is = cc
+none_read block ReadJob defaults [] retries r is = cc
+none_read block WriteJob defaults [] retries r is = cc
+none_read block RestoreJob defaults [] retries r is = cc
+none_read block EraseJob defaults [] retries r is = cc
+none_read block InvalidateJob defaults [] retries r is = cc
+none_read block ReadAllJob defaults [] retries r is = cc
+none_read block WriteAllJob defaults [] retries r is = cc
+
+fresh_fits : (c : Configuration) (s : State) (j k : Job) (stand : Stand) (t : Bool) → FitsMarks c s k (hand_by t c s j) stand
+fresh_fits c s j k stand true = record { fit = tt; last = λ r bytes is stands. cc }
+fresh_fits c s j k stand false = record {
+  fit = tt;
+  last = λ r bytes is stands. absurd (none_read (program_for c s j).block (program_for c s j).kind (program_for c s j).defaults (program_for c s j).indices (program_for c s j).retries r is);
+}
+
+fits_by : (c : Configuration) (s : State) (d : DeviceTold) (o : Option Job) → HandFits c s (option_map (hand_for c s) o) d
+fits_by c s d None = tt
+fits_by c s d (Some j) = λ k held. fresh_fits c s j k d.stand (took_none j.taken)
+
+done_is : (c : Configuration) (s : State) (j : Job) (t : Bool) → (hand_by t c s j).program.done ≡ []
+done_is c s j true = refl
+done_is c s j false = refl
+
+failures_are : (c : Configuration) (s : State) (j : Job) (t : Bool) → (hand_by t c s j).program.failures ≡ 0
+failures_are c s j true = refl
+failures_are c s j false = refl
+
+paid_by : (d : DeviceTold) (clock : Clock) → TriesBegin d clock → (c : Configuration) (s : State) (h : List Entry) (before : Part → PartTold)
+    → ((p : Part) → IsPaid (is_of p d.fixed) c clock.worn (before p).faults (part_at p d).faults h) → (o : Option Job)
+    → IfSome (option_map (hand_for c s) o) (λ x. TriesArePaid c clock.worn before d h x.program)
+paid_by d clock begins c s h before paid None = tt
+paid_by d clock begins c s h before paid (Some j) = begins c h before (hand_for c s j).program (done_is c s j (took_none j.taken)) (failures_are c s j (took_none j.taken)) paid
+
+-- THE PICK
+pub picks_keep : (d : DeviceTold) (clock : Clock) → EntriesKeep d clock → TriesBegin d clock → PicksKeep d clock
+picks_keep d clock keep begins old new hand block kind taken adds allowed before kept =
+    subst (λ (x : DeskState). StackKeeps before x (hand_in x) d clock) (sym adds) (record {
+      started = started_push old.entries e;
+      keeps = keeps_now;
+      fits = fits_by old.config behind d behind.hand;
+      paid = paid_by d clock begins old.config behind (old.entries ++ e ∷ []) before keeps_now.over.paid behind.hand;
+    })
+  where
+    e : Entry
+    e = Pick block kind taken (ops_of d)
+
+    behind : State
+    behind = after old.config (old.entries ++ e ∷ [])
+
+    keeps_now : Keeps old.config old.cap (old.entries ++ e ∷ []) before d clock
+    keeps_now = keep old.config old.cap old.entries before e kept.started kept.keeps refl allowed refl tt

@@ -1,0 +1,156 @@
+-- The start of an operation that the job in hand names, and the calls that drop or leave the job in hand.
+use Rattle.std.specs.Prelude.{slice_get, nat_le, ◌==◌, ◌||◌, if◌then◌else◌}
+use Rattle.std.specs.List.{Contains}
+use Rattle.std.proofs.Common.{◌≡◌, ◌≢◌, ℕ, zero, suc, ◌+◌, ◌*◌, Bool, true, false, List, [], ◌∷◌, length, Option, Some, None, refl, sym, ap, ◌∙◌, subst, arith}
+use Rattle.std.proofs.lemmas.Bool.{eq-eqb}
+use Rattle.block_machine.specs.nv_base.Marks.{instance_of}
+use Rattle.block_machine.specs.nv_base.declared.instance.DeviceNumber.{DeviceNumber}
+use Rattle.block_machine.specs.nv_base.declared.instance.Instance.{Instance}
+use Rattle.block_machine.specs.nv_base.declared.job.DeviceOp.{DeviceOp}
+use Rattle.block_machine.specs.nv_base.declared.job.JobStep.TheVariants as step
+use Rattle.memif.specs.Told as device
+use Rattle.memif.specs.Told.{DeviceTold, Slot, Stand, Open, is_open, Part, PartTold}
+use Rattle.memif.specs.Clock.{Clock}
+use Rattle.memif.specs.Calls.{Wish}
+use Rattle.block_machine.specs.block_config.Lengths.{lengths_of}
+use Rattle.block_machine.specs.Words.{Mark, JobKind, ReadJob, Outcome, BlockKind, Native, Redundant, Dataset, Configuration}
+use Rattle.block_machine.specs.State.{State, InstanceState, Job}
+use Rattle.block_machine.specs.Blocks.{desc_of, instance_at, indices_by, indices_of, is_in, job_block, kind_of, mark_by, mark_of}
+use Rattle.block_machine.specs.History.{MayStandIn}
+use Rattle.block_laws.specs.Laws.{MarksInHandStand, MarksInHandAreDoubts}
+use Rattle.job_programs.specs.Program.{Program, is_failed}
+use Rattle.job_programs.specs.Failures.{served_of}
+use Rattle.nvm_device_laws.specs.Pairing.{Allows, HasDoubt, Pairs, IsStaged}
+use Rattle.nvm_device_laws.specs.Turn.{Stays, StartsStay}
+use Rattle.nvm_device_laws.specs.Tries.{TriesStay}
+use Rattle.promise_blocks.specs.Counts.{count_due}
+use Rattle.nv_desk.specs.Desk.{DeskState, state_of}
+use Rattle.job_progress.specs.Hand.{HandState, with_start}
+use Rattle.job_progress.specs.JobInHand.{HandFits, IsInHand, job_for, program_for}
+use Rattle.job_progress.specs.Goes.{Names}
+use Rattle.nvm_laws.specs.Keeps.{StackKeeps}
+use Rattle.nvm_laws.specs.Calls.{StartsKeep, CancelsKeep}
+use Rattle.nvm_laws.proofs.Operations.{own, same_job}
+
+-- THE MARK OF THE JOB
+-- the machine has each instance that the device has
+instance_in : (c : Configuration) (s : State) (due : ℕ → ℕ) (numbers : List (DeviceNumber × ℕ)) (o : Option (List Slot)) → Pairs Allows c s due numbers o
+    → (x : DeviceNumber × ℕ) → Contains (lengths_of c) x → (y : InstanceState) × (instance_at s (instance_of x.0) ≡ Some y)
+instance_in c s due numbers None pairs x has = absurd pairs
+instance_in c s due numbers (Some slots) pairs x has = let (y, at, allows) = pairs x has in (y, at)
+
+pub is_in_at : (xs : List ℕ) (n x : ℕ) → slice_get xs n ≡ Some x → is_in xs x ≡ true
+is_in_at [] n x has = cc
+is_in_at (y ∷ ys) zero x has = let same : y ≡ x = cc in rw (eq-eqb y x same) refl
+is_in_at (y ∷ ys) (suc n) x has = rw (is_in_at ys n x has) (or_true (y == x))
+  where
+    or_true : (b : Bool) → (b || true) ≡ true
+    or_true true = refl
+    or_true false = refl
+
+-- it is none of those that the program served before
+unserved_if : (t : Bool) (at index : ℕ) (os : List Outcome) → slice_get (if t then [] else at ∷ []) (length os) ≡ Some index
+    → is_in (served_of (if t then [] else at ∷ []) os) index ≡ false
+unserved_if true at index os has = cc
+unserved_if false at index [] has = refl
+unserved_if false at index (o ∷ os) has = cc
+
+unserved : (kind : BlockKind) (nv at index : ℕ) (os : List Outcome) → slice_get (indices_by kind nv at) (length os) ≡ Some index
+    → is_in (served_of (indices_by kind nv at) os) index ≡ false
+unserved Native nv at index [] has = refl
+unserved Native nv at index (o ∷ os) has = cc
+unserved Redundant nv at index [] has = refl
+unserved Redundant nv at index (o ∷ []) has = let same : 1 ≡ index = cc in subst (λ (k : ℕ). is_in (served_of (0 ∷ 1 ∷ []) (o ∷ [])) k ≡ false) same (by (is_failed o))
+  where
+    by : (b : Bool) → is_in (if b then [] else 0 ∷ []) 1 ≡ false
+    by true = refl
+    by false = refl
+unserved Redundant nv at index (o ∷ p ∷ os) has = cc
+unserved Dataset nv at index os has = unserved_if (nat_le nv at) at index os has
+
+-- a job with a mark doesn't read
+no_read : (kind : JobKind) (content : Option (List ℕ × ℕ)) (m : Mark) → mark_by kind content ≡ Some m → kind ≢ ReadJob
+no_read ReadJob content m has = λ is. cc
+no_read kind content m has = λ is. cc
+
+some_doubt : (xs : List Mark) (m : Mark) → Contains xs m → xs ≢ []
+some_doubt [] m has = absurd (omega (arith, has.1))
+some_doubt (x ∷ xs) m has = λ is. cc
+
+module _ (stands : MarksInHandStand) (owes : MarksInHandAreDoubts) (before : Part → PartTold) (desk : DeskState) (h : HandState) (op : DeviceOp) (i : Instance)
+    (names : Names desk.config (state_of desk) h op i) (d : DeviceTold) (clock : Clock) (is : IsInHand desk.config (state_of desk) h d)
+    (kept : StackKeeps before desk (Some h) d clock) where
+  job_is : is.job ≡ names.job
+  job_is = same_job is.job names.job (state_of desk).hand is.hand names.hand
+
+  left : (m : Mark) → mark_of names.job ≡ Some m → is_in names.job.written names.index ≡ false
+  left m marks =
+      let writes : kind_of is.job ≢ ReadJob = subst (λ (j : Job). kind_of j ≢ ReadJob) (sym job_is) (no_read (kind_of names.job) names.job.content m marks) in
+      let o = own desk.config (state_of desk) h d is names.job names.hand names.index names.next in
+      let indices : h.program.indices ≡ indices_of desk.config (state_of desk) (job_block names.job) =
+      ap (λ (q : Program). q.indices) is.working.is ∙ (ap (λ (j : Job). (program_for desk.config (state_of desk) j).indices) job_is ∙ rw o.0 refl) in
+      ap (λ (ws : List ℕ). is_in ws names.index) (ap (λ (j : Job). j.written) (sym job_is) ∙ is.working.written writes)
+      ∙ (ap (λ (xs : List ℕ). is_in (served_of xs h.program.done) names.index) indices
+      ∙ unserved (desc_of desk.config (job_block names.job)).kind (desc_of desk.config (job_block names.job)).nv _ names.index h.program.done o.1)
+
+  staged_at : (m : Mark) → mark_of names.job ≡ Some m → (x : DeviceNumber × ℕ) → Contains (lengths_of desk.config) x
+      → x.0.0 ≡ h.program.block * 64 + names.index
+      → MayStandIn (instance_at (state_of desk) (instance_of x.0)) m × HasDoubt (instance_at (state_of desk) (instance_of x.0))
+  staged_at m marks x has number =
+      let (y, at) = instance_in desk.config (state_of desk) (count_due desk.entries kept.keeps.base) d.fixed.numbers d.slots (kept.keeps.marks kept.started) x has in
+      let small = names.small in
+      let block : (instance_of x.0).block ≡ h.program.block = omega (arith, number, small) in
+      let index : (instance_of x.0).index ≡ names.index = omega (arith, number, small) in
+      let in_it : is_in (indices_of desk.config (state_of desk) (job_block names.job)) (instance_of x.0).index ≡ true =
+      ap (is_in (indices_of desk.config (state_of desk) (job_block names.job))) index
+      ∙ is_in_at (indices_of desk.config (state_of desk) (job_block names.job)) (length h.program.done) names.index
+      (own desk.config (state_of desk) h d is names.job names.hand names.index names.next).1 in
+      let doubt : Contains y.cell.doubts m =
+      owes desk.config desk.cap desk.entries names.job m (instance_of x.0) y kept.keeps.over.legal names.hand marks (block ∙ names.same_block) in_it
+      (ap (is_in names.job.written) index ∙ left m marks) at in (
+        subst (λ (o : Option InstanceState). MayStandIn o m) (sym at)
+            (stands desk.config desk.cap desk.entries names.job m (instance_of x.0) y kept.keeps.over.legal names.hand marks (block ∙ names.same_block) in_it at),
+        subst HasDoubt (sym at) (some_doubt y.cell.doubts m doubt),
+      )
+
+  staged_by : (mark : Option Mark) → mark_of names.job ≡ mark → IsStaged desk.config (state_of desk) (h.program.block * 64 + names.index) mark
+  staged_by None marks = tt
+  staged_by (Some m) marks = λ x has number. staged_at m marks x has number
+
+  pub staged : IsStaged desk.config (state_of desk) (job_for desk.config names.job h.program names.index).number (job_for desk.config names.job h.program names.index).mark
+  staged = staged_by (mark_of names.job) refl
+
+-- a hand that isn't finished has read nothing last
+pub fits_on : (c : Configuration) (s : State) (h : HandState) (old new : DeviceTold) (op : DeviceOp) (i : Instance) → h.step ≡ step.Device op i
+    → HandFits c s (Some h) old → HandFits c s (Some (with_start h)) new
+fits_on c s h old new op i at fits j held = record { fit = (fits j held).fit; last = λ r bytes ends stands. cc }
+
+-- THE START
+pub starts_keep : MarksInHandStand → MarksInHandAreDoubts → (w : Wish) (old : DeviceTold) (clock : Clock) (new : DeviceTold) (clock_new : Clock)
+    → StartsStay w old clock new clock_new → TriesStay old clock new clock_new → StartsKeep w old clock new clock_new
+starts_keep stands owes w old clock new clock_new stays tries desk h op i names at is asked before kept = record {
+  started = kept.started;
+  keeps = stays desk.config desk.cap desk.entries before kept.started
+      (subst (λ (j : device.Job). IsStaged desk.config (state_of desk) j.number j.mark) (sym asked) (staged stands owes before desk h op i names old clock is kept)) kept.keeps;
+  fits = fits_on desk.config (state_of desk) h old new op i at kept.fits;
+  paid = tries desk.config desk.cap desk.entries before h.program kept.keeps kept.paid;
+}
+
+-- a read has no mark
+pub reads_keep : (w : Wish) (old : DeviceTold) (clock : Clock) (new : DeviceTold) (clock_new : Clock)
+    → Stays old clock new clock_new → TriesStay old clock new clock_new → StartsKeep w old clock new clock_new
+reads_keep w old clock new clock_new stays tries desk h op i names at is asked before kept = record {
+  started = kept.started;
+  keeps = stays desk.config desk.cap desk.entries before kept.started kept.keeps;
+  fits = fits_on desk.config (state_of desk) h old new op i at kept.fits;
+  paid = tries desk.config desk.cap desk.entries before h.program kept.keeps kept.paid;
+}
+
+-- A CANCEL
+pub cancels_keep : (old : DeviceTold) (clock : Clock) (new : DeviceTold) (clock_new : Clock) → Stays old clock new clock_new → CancelsKeep old clock new clock_new
+cancels_keep old clock new clock_new stays desk hand before kept = record {
+  started = kept.started;
+  keeps = stays desk.config desk.cap desk.entries before kept.started kept.keeps;
+  fits = tt;
+  paid = tt;
+}

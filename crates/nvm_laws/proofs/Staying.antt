@@ -1,0 +1,48 @@
+-- Another device in its place, whose job stands as this one's did.
+use Rattle.std.specs.Prelude.{IfSome, ◌==◌}
+use Rattle.std.proofs.Common.{◌≡◌, ℕ, Bool, true, false, if◌then◌else◌, List, Option, Some, None, refl, sym, ap, ◌∙◌, subst}
+use Rattle.memif.specs.Told.{DeviceTold, Stand, armed, plans, Part, PartTold}
+use Rattle.memif.specs.Clock.{Clock}
+use Rattle.memif.specs.Calls.{Arms}
+use Rattle.block_machine.specs.Words.{Entry, Configuration}
+use Rattle.block_machine.specs.State.{State}
+use Rattle.nvm_device_laws.specs.Turn.{Keeps, Stays}
+use Rattle.nvm_device_laws.specs.Tries.{TriesArePaid, TriesStay}
+use Rattle.nv_desk.specs.Desk.{DeskState, state_of}
+use Rattle.job_progress.specs.Hand.{HandState}
+use Rattle.job_progress.specs.JobInHand.{FitsMarks, HandFits}
+use Rattle.nvm_laws.specs.Keeps.{StaysKept}
+use Rattle.nvm_laws.specs.Calls.{ArmsKeep}
+
+pub fits_stay : (c : Configuration) (s : State) (hand : Option HandState) (old new : DeviceTold) → new.stand ≡ old.stand → HandFits c s hand old → HandFits c s hand new
+fits_stay c s None old new same fits = tt
+fits_stay c s (Some h) old new same fits = λ j held. subst (λ (x : Stand). FitsMarks c s j h x) (sym same) (fits j held)
+
+pub paid_stays : (old : DeviceTold) (clock : Clock) (new : DeviceTold) (clock_new : Clock) → TriesStay old clock new clock_new
+    → (c : Configuration) (cap : ℕ) (h : List Entry) (before : Part → PartTold) → Keeps c cap h before old clock → (hand : Option HandState)
+    → IfSome hand (λ x. TriesArePaid c clock.worn before old h x.program) → IfSome hand (λ x. TriesArePaid c clock_new.worn before new h x.program)
+paid_stays old clock new clock_new tries c cap h before keeps None paid = tt
+paid_stays old clock new clock_new tries c cap h before keeps (Some x) paid = tries c cap h before x.program keeps paid
+
+pub stays_kept : (old : DeviceTold) (clock : Clock) (new : DeviceTold) (clock_new : Clock) → new.stand ≡ old.stand
+    → Stays old clock new clock_new → TriesStay old clock new clock_new → (desk : DeskState) (hand : Option HandState) → StaysKept desk hand old clock desk hand new clock_new
+stays_kept old clock new clock_new same stays tries desk hand before kept = record {
+  started = kept.started;
+  keeps = stays desk.config desk.cap desk.entries before kept.started kept.keeps;
+  fits = fits_stay desk.config (state_of desk) hand old new same kept.fits;
+  paid = paid_stays old clock new clock_new tries desk.config desk.cap desk.entries before kept.keeps hand kept.paid;
+}
+
+-- a planned cut changes no job
+armed_stand : (which nth keep : ℕ) (d : DeviceTold) → (armed which nth keep d).stand ≡ d.stand
+armed_stand which nth keep d = by (which == 0) (which == 1)
+  where
+    by : (t u : Bool) → (if t then record d { first = plans nth keep d.first } else (if u then record d { second = plans nth keep d.second } else d)).stand ≡ d.stand
+    by true u = refl
+    by false true = refl
+    by false false = refl
+
+pub arms_keep : (which nth keep : ℕ) (old : DeviceTold) (clock : Clock) (new : DeviceTold) (clock_new : Clock) → Arms which nth keep old clock new clock_new
+    → Stays old clock new clock_new → TriesStay old clock new clock_new → ArmsKeep old clock new clock_new
+arms_keep which nth keep old clock new clock_new arms stays tries =
+    stays_kept old clock new clock_new (ap (λ (d : DeviceTold). d.stand) arms.0 ∙ armed_stand which nth keep old) stays tries

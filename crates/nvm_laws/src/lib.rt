@@ -1,0 +1,37 @@
+//! Laws of the stack: what a turn, a request and a start-up keep beside the job in hand, how a drain goes down, and by
+//! when an immediate write is posted.
+//!
+//! They hold over any memory device: that the history keeps the block side's half of the promise of a run, that a
+//! device refuses no operation that a job in hand names, and that an immediate write whose pages are ready is posted
+//! within these pages and four turns. Who makes the turns, and which entries they add, is left to `nvm_core`.
+#![tactic(auto)]
+
+mod calls;
+mod cases;
+mod due_laws;
+mod entries;
+mod numbered;
+mod turned;
+mod work_laws;
+
+pub use block_laws;
+pub use block_machine;
+pub use block_machine::{block_config, nv_base};
+pub use calls::{
+    arm, cancel, refusals_dont_come, start_erase, start_invalidate, start_read, start_write, turn,
+};
+pub use cases::due_cases;
+pub use due_laws::{asks_keep_due, calls_post_in_time, halves_bring_nearer};
+pub use entries::{asks_keep, picks_keep, posts_keep, stacks_come_up};
+pub use job_programs;
+pub use job_progress;
+pub use memif;
+pub use numbered::hands_are_numbered;
+pub use nv_desk;
+pub use nv_desk_copies;
+pub use nvm_device_laws;
+pub use nvm_figures;
+pub use promise_blocks;
+pub use ram_blocks;
+pub use turned::{Act, FoundAnswer, Turned};
+pub use work_laws::{hands_are_small, stack_works};

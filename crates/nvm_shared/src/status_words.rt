@@ -1,0 +1,59 @@
+// The word that an entry changes.
+ghost use Rattle.std.specs.Prelude.{◌≡◌};
+ghost use Rattle.nvm_core.specs.nv_base.Result.{code_of};
+ghost use Rattle.nvm_shared.specs.StatusWords.{EntriesChangeOneWord, told_by, told_at, pending_block};
+
+use nvm_core::nv_base::{Entry, Reply, ReqResult, Request, result_code};
+
+/// The word of the power, behind those of the blocks. An Off gives it status 1.
+pub const OFF_WORD: u32 = 513;
+
+/// How many words there are.
+pub const WORD_COUNT: u32 = 514;
+
+/// The word that an entry changes, and its status, if it changes one.
+pub fn told_by(entry: &Entry) -> Option<(u32, u8)>
+    ensures { result ≡ told_by entry.now }
+{
+    match entry {
+        Entry::Ask {
+            request,
+            reply: Reply::Accepted,
+            ..
+        } => told_at(ReqResult::Pending, pending_block(request)?),
+        Entry::Pick { block, .. } => told_at(ReqResult::Pending, *block),
+        Entry::Post { block, result, .. } => told_at(*result, *block),
+        Entry::Off { .. } => Some((OFF_WORD, 1)),
+        _ => None,
+    }
+}
+
+fn told_at(status: ReqResult, block: u16) -> Option<(u32, u8)>
+    ensures { result ≡ told_at (code_of status) block }
+{
+    let word = u32::from(block);
+    if word < OFF_WORD {
+        Some((word, result_code(status)))
+    } else {
+        None
+    }
+}
+
+fn pending_block(request: &Request) -> Option<u16>
+    ensures { result ≡ pending_block request.now }
+{
+    match request {
+        Request::Read { block, .. }
+        | Request::Write { block, .. }
+        | Request::Restore { block, .. }
+        | Request::Erase { block }
+        | Request::Invalidate { block } => Some(*block),
+        Request::ReadAll | Request::WriteAll => Some(0),
+        _ => None,
+    }
+}
+
+/// An entry that is no start-up changes the word that is told, and no other.
+pub fn entries_change_one_word()
+    ensures { EntriesChangeOneWord }
+{}

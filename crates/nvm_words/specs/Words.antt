@@ -1,0 +1,72 @@
+-- What the words of a call mean.
+use Rattle.std.specs.Prelude.{ℕ, ◌==◌, ◌&&◌, Bool, true, false, not, if◌then◌else◌, List, [], ◌∷◌, codes, Option, Some, None}
+use Rattle.std.specs.List.{list_all}
+use Rattle.std.specs.Str.{bytes_eq}
+use Rattle.nv_base.specs.Decimal.{decimal_number_of}
+use Rattle.nvm_words.specs.Fields.{Places, places_of}
+use Rattle.nvm_words.specs.declared.words.CommandKind.{CommandKind}
+use Rattle.nvm_words.specs.declared.words.CommandKind.TheVariants.{Play, Run, Dump, Check, Soak}
+
+-- a word isn't empty and doesn't begin with `-` (45)
+abbrev pub is_word : List ℕ → Bool
+is_word [] = false
+is_word (b ∷ bs) = not (b == 45)
+
+abbrev pub are_words : List (List ℕ) → Bool
+are_words words = list_all is_word words
+
+-- THE COMMANDS
+-- those of one word
+abbrev pub command_named : List ℕ → Option CommandKind
+command_named word = if bytes_eq word (codes "play") then Some Play else (if bytes_eq word (codes "run") then Some Run else (if bytes_eq word (codes "dump") then Some Dump else (if bytes_eq word (codes "check") then Some Check else None)))
+
+-- `soak`, a seed and a count of rounds
+abbrev pub soak_of : Option ℕ → Option ℕ → Option CommandKind
+soak_of None count = None
+soak_of (Some seed) None = None
+soak_of (Some seed) (Some count) = Some (Soak seed count)
+
+abbrev pub soak_named : List ℕ → List ℕ → List ℕ → Option CommandKind
+soak_named word seed count = if bytes_eq word (codes "soak") then soak_of (decimal_number_of 0 4294967295 seed) (decimal_number_of 0 10000 count) else None
+
+abbrev pub command_with : List ℕ → Option (List ℕ) → Option (List ℕ) → Option CommandKind
+command_with word None None = command_named word
+command_with word (Some seed) (Some count) = soak_named word seed count
+command_with word _ _ = None
+
+-- A CALL
+abbrev pub command_in : Option Places → Option CommandKind
+command_in None = None
+command_in (Some p) = command_with p.command p.seed p.count
+
+-- an image, and the words of a command behind it; None where the words are of no command
+abbrev pub command_of : List (List ℕ) → Option CommandKind
+command_of words = if are_words words then command_in (places_of words) else None
+
+abbrev pub is_play : Option CommandKind → Bool
+is_play (Some Play) = true
+is_play _ = false
+
+abbrev pub is_check : Option CommandKind → Bool
+is_check (Some Check) = true
+is_check _ = false
+
+abbrev pub is_dump : Option CommandKind → Bool
+is_dump (Some Dump) = true
+is_dump _ = false
+
+-- THE IMAGE
+-- `mem` stands for a flash in memory, any other word for the path of an image file
+abbrev pub is_memory : List ℕ → Bool
+is_memory image = bytes_eq image (codes "mem")
+
+-- a command works on the flash; `check` leaves it alone
+abbrev pub works_on_flash : Option CommandKind → Bool
+works_on_flash None = false
+works_on_flash (Some Check) = false
+works_on_flash (Some command) = true
+
+-- the path of the image file that the command works on, if it works on one
+abbrev pub image_path : List (List ℕ) → Option (List ℕ)
+image_path [] = None
+image_path (image ∷ rest) = if works_on_flash (command_of (image ∷ rest)) && not (is_memory image) then Some image else None

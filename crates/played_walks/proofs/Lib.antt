@@ -1,4 +1,0 @@
-pub mod First
-pub mod Newest
-pub mod Jobs
-pub mod Turns

@@ -1,9 +1,0 @@
--- Marks with one more behind them.
-use Rattle.std.proofs.Common.{◌≡◌, ◌+◌, ℕ, List, [], ◌∷◌, ◌++◌, refl}
-use Rattle.nv_base.specs.declared.instance.Instance.{Instance}
-use Rattle.nv_base.specs.declared.mark.Mark.{Mark}
-use Rattle.nv_base.specs.Marks.{number_of, next_or}
-
-pub next_behind : (low : ℕ) (marks : List (Instance × Mark)) (i : Instance) (mark : Mark) → next_or low (marks ++ (i, mark) ∷ []) ≡ number_of i + 1
-next_behind low [] i mark = refl
-next_behind low (x ∷ xs) i mark = next_behind (number_of x.0 + 1) xs i mark

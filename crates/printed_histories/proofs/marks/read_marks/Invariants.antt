@@ -1,7 +1,0 @@
-use Rattle.std.proofs.Common.{◌≤◌}
-use Rattle.nv_base.specs.Marks.{next_or}
-use Rattle.printed_histories.proofs.marks.read_marks.Given as goal
-
--- the marks so far stand below the least number
-abbrev pub invariant-loop : goal.invariant-loop
-invariant-loop l = next_or 0 l.marks ≤ l.least

@@ -1,0 +1,38 @@
+-- A failed write and what pays for it, and a write and the counts that it may leave.
+use Rattle.std.specs.Prelude.{◌≡◌, ◌≤◌, ◌++◌, ℕ, List, [], ◌∷◌, replicate, Some, None}
+use Rattle.block_machine.specs.block_config.DemoConfig.{demo_config}
+use Rattle.block_machine.specs.Words.{NotOk, Fine, Content, Instance, Write, Accepted, WriteJob, TookContent, Entry, Ask, Pick, Wrote, Post, Found}
+use Rattle.block_machine.specs.Blocks.{instance_at}
+use Rattle.block_machine.specs.Steps.{after}
+use Rattle.promise_blocks.specs.Counts.{MayCountIn, count_due}
+use Rattle.promise_blocks.specs.Payment.{Worn}
+
+-- a write of block 3 of the demo, which tries each operation twice, is posted 1 when the device was asked for 7 operations
+abbrev pub failed_write : List Entry
+failed_write = Found [] 0 ∷ Ask 0 (Write 3 (Some (replicate 20 1)) 0) Accepted ∷ Pick 3 WriteJob (TookContent (replicate 20 1) 0) 0 ∷ Post 3 NotOk None 0 7 ∷ []
+
+-- it is worn out for no number; for that of the block, 192, from 7 operations on; or from 8 on
+abbrev pub never_worn : Worn
+never_worn operations number = ⊥
+
+abbrev pub worn_from : ℕ → Worn
+worn_from n operations number = (number ≡ 192) × (n ≤ operations)
+
+-- COUNTS
+-- block 2 of the demo, whose number is 128
+abbrev pub block_2 : Instance
+block_2 = record { block = 2; index = 0 }
+
+-- it is written once, and then a second write is picked
+abbrev pub picked : ℕ → List Entry
+picked ops = Ask 0 (Write 2 (Some (replicate 4 1)) 0) Accepted ∷ Pick 2 WriteJob (TookContent (replicate 4 1) 0) ops ∷ []
+
+abbrev pub written_once : List Entry
+written_once = Found [] 0 ∷ picked 0 ++ Wrote block_2 (Content (replicate 4 1)) 10 ∷ Post 2 Fine None 0 10 ∷ []
+
+abbrev pub picked_again : List Entry
+picked_again = written_once ++ picked 10
+
+-- behind these entries its count may be this one, where the start-up found that one
+abbrev pub MayHave : List Entry → ℕ → ℕ → Type 0
+MayHave h found count = MayCountIn (instance_at (after demo_config h) block_2) (count_due h (λ n. found) 128) count

@@ -1,0 +1,124 @@
+-- Runs that break the promise by what they say caused a failure or a cut.
+use Rattle.std.specs.Prelude.{Contains, unwrap_or}
+use Rattle.std.proofs.Common.{◌≡◌, ◌⊎◌, ◌+◌, ℕ, zero, suc, ◌<◌, ◌≤◌, IsTrue, List, [], take, replicate, Option, Some, None, refl, sym, ap, subst, inl, inr, arith}
+use Rattle.block_machine.specs.nv_base.Count.{WereCounted}
+use Rattle.block_machine.specs.nv_base.Marks.{number_of}
+use Rattle.block_machine.specs.Words.{NotOk}
+use Rattle.block_machine.specs.State.{Job}
+use Rattle.block_machine.specs.Results.{own_of, failed_set}
+use Rattle.block_machine.specs.Steps.{after}
+use Rattle.block_machine.specs.StartUp.{at_first}
+use Rattle.promise_blocks.specs.Payment.{ArePaid, every_block}
+use Rattle.fee_format.specs.declared.bank_head.BankHead.{BankHead}
+use Rattle.fee_image.specs.RecordList.{IsTailBlank, IsClosed, end_of}
+use Rattle.fee_image.specs.Image.{bank_in}
+use Rattle.promise_device.specs.Making.{banks_of}
+use Rattle.promise_device.specs.Image.{HasNoRoomFor}
+use Rattle.promise_device.specs.Bridge.{has_failed, IsWornOut}
+use Rattle.promise_run.specs.Run.{offs_of_flash}
+use Rattle.promise_run.specs.Promise.{FailuresArePaid, making_of}
+use Rattle.promise_run.proofs.WrongMarks.{only_zero}
+use Rattle.promise_run.specs.Cases.{small, tried_twice, image_of, taken, off_without_a_cut, worn_but_roomy, worn_and_full}
+
+few_counted : (n m : ℕ) → m ≤ 1 → WereCounted n 0 m → n ≤ m
+few_counted n m few (inl is) = omega (arith, is)
+few_counted n m few (inr full) = omega (arith, full, few)
+
+pub no_off_without_a_cut : WereCounted (offs_of_flash off_without_a_cut.course off_without_a_cut.history) 0 0 → ⊥
+no_off_without_a_cut counted = let few : 1 ≤ 0 = few_counted 1 0 (omega arith) counted in omega (arith, few)
+
+-- THE WORN BANK
+abbrev roomy : List ℕ
+roomy = image_of 4294967295 (replicate 128 255)
+
+all_blank : IsTailBlank (bank_in (banks_of (making_of small)) 2 0) roomy 2
+all_blank zero low high = absurd (omega (arith, low))
+all_blank (suc zero) low high = absurd (omega (arith, low))
+all_blank (suc (suc zero)) low high = refl
+all_blank (suc (suc (suc zero))) low high = refl
+all_blank (suc (suc (suc (suc zero)))) low high = refl
+all_blank (suc (suc (suc (suc (suc zero))))) low high = refl
+all_blank (suc (suc (suc (suc (suc (suc zero)))))) low high = refl
+all_blank (suc (suc (suc (suc (suc (suc (suc zero))))))) low high = refl
+all_blank (suc (suc (suc (suc (suc (suc (suc (suc zero)))))))) low high = refl
+all_blank (suc (suc (suc (suc (suc (suc (suc (suc (suc zero))))))))) low high = refl
+all_blank (suc (suc (suc (suc (suc (suc (suc (suc (suc (suc q)))))))))) low high = absurd (omega (arith, high))
+
+abbrev head : BankHead
+head = record { format = 2; generation = 4294967295 }
+
+abbrev Full : ℕ × BankHead → Type 0
+Full x = IsClosed (bank_in (banks_of (making_of small)) x.1.format x.0) roomy (end_of (bank_in (banks_of (making_of small)) x.1.format x.0) roomy)
+    ⊎ (10 < end_of (bank_in (banks_of (making_of small)) x.1.format x.0) roomy + 4)
+
+not_full : Full (0, head) → ⊥
+not_full (inl (inl other)) = other refl
+not_full (inl (inr closed)) = closed all_blank
+not_full (inr few) = let f : 10 < 6 = few in omega arith
+
+same_pair : (x y : ℕ × BankHead) → Some x ≡ Some y → x ≡ y
+same_pair x y is = cc
+
+has_room : HasNoRoomFor 4 (making_of small) roomy → ⊥
+has_room (k, h, active, why) =
+    let same : (0, head) ≡ (k, h) = same_pair (0, head) (k, h) active in
+    not_full (subst Full (sym same) why)
+
+-- the job's one instance is 0
+instance_is : (j : Job) (index : ℕ) → (after tried_twice taken).hand ≡ Some j → Contains (unwrap_or (failed_set (own_of tried_twice (after tried_twice taken) 2) j (NotOk, None)) []) index → index ≡ 0
+instance_is j index hand has =
+    let is : unwrap_or (after tried_twice taken).hand j ≡ j = ap (λ (o : Option Job). unwrap_or o j) hand in
+    only_zero index (subst (λ (x : Job). Contains (unwrap_or (failed_set (own_of tried_twice (after tried_twice taken) 2) x (NotOk, None)) []) index) (sym is) has)
+
+none_failed : (moment : ℕ) → IsTrue (has_failed (take moment [])) → ⊥
+none_failed zero failed = cc failed
+none_failed (suc n) failed = cc failed
+
+not_worn : (moment index : ℕ) → moment ≤ 0 → index ≡ 0 → IsWornOut (making_of tried_twice) worn_but_roomy.flash moment (number_of (record { block = 2; index = index })) → ⊥
+not_worn moment index soon is worn =
+    let there : IsWornOut (making_of tried_twice) worn_but_roomy.flash moment 128 =
+    subst (λ (i : ℕ). IsWornOut (making_of tried_twice) worn_but_roomy.flash moment (number_of (record { block = 2; index = i }))) is worn in
+    elim (there.full (record { first = _; entry = refl; last = _; exit = refl }) (omega (arith, soon))) [
+      | inl full ↦ has_room full
+      | inr (rose, failed) ↦ none_failed moment failed
+    ]
+
+unpaid : (n : ℕ) → n ≤ 1 → ArePaid every_block tried_twice (IsWornOut (making_of tried_twice) worn_but_roomy.flash) n at_first worn_but_roomy.history → ⊥
+unpaid n is (inr (none, rest)) = none
+unpaid n is (inl (p0, inr (none, rest))) = none
+unpaid n is (inl (p0, inl (p1, inr (none, rest)))) = none
+unpaid n is (inl (p0, inl (p1, inl (p2, inl (p3, rest))))) = omega (arith, p3, is)
+unpaid n is (inl (p0, inl (p1, inl (p2, inr ((j, hand, some, was), rest))))) = not_worn was.moment was.index was.by_then (instance_is j was.index hand was.failed) was.is
+
+pub no_worn_but_roomy : FailuresArePaid worn_but_roomy → ⊥
+no_worn_but_roomy paid = unpaid paid.faults (few_counted paid.faults 1 (omega arith) paid.counted) paid.pay
+
+pub full_is_worn : FailuresArePaid worn_and_full
+full_is_worn = record {
+  faults = 0;
+  counted = inl (omega arith);
+  pay = inl (
+    omega arith,
+    inl (
+      omega arith,
+      inl (
+        omega arith,
+        inr (
+          (
+            _,
+            refl,
+            refl,
+            record {
+              index = 0;
+              failed = (0, omega arith, refl);
+              moment = 0;
+              by_then = omega arith;
+              is = record { last = (0, _, refl, refl); no_erase = λ few. refl; full = λ told few. inl (0, _, refl, inr (omega arith)) };
+            },
+          ),
+          tt,
+        ),
+      ),
+    ),
+  );
+}

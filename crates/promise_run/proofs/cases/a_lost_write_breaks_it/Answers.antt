@@ -1,0 +1,33 @@
+use Rattle.promise_run.proofs.LostWrite as law
+use Rattle.promise_run.proofs.WrongMarks.{lost_count_breaks, lost_write_breaks}
+use Rattle.promise_run.proofs.cases.a_lost_write_breaks_it.Goals as goal
+
+pub returns-clause-breaks : goal.returns-clause-breaks
+returns-clause-breaks c = lost_write_breaks c.soundness_computes.ensures
+
+pub returns-clause-counts : goal.returns-clause-counts
+returns-clause-counts c = lost_count_breaks c.soundness_computes.ensures
+
+pub returns-clause-order : goal.returns-clause-order
+returns-clause-order c = law.keeps_order
+
+pub returns-clause-found : goal.returns-clause-found
+returns-clause-found c = law.start_ups_find
+
+pub returns-clause-at_exit : goal.returns-clause-at_exit
+returns-clause-at_exit c = λ started few. law.exit_keeps c.soundness_computes.ensures
+
+pub returns-clause-block_machine : goal.returns-clause-block_machine
+returns-clause-block_machine c = law.is_legal
+
+pub returns-clause-faults : goal.returns-clause-faults
+returns-clause-faults c = law.is_paid
+
+pub returns-clause-refusals : goal.returns-clause-refusals
+returns-clause-refusals c = law.no_refusals
+
+pub returns-clause-operations : goal.returns-clause-operations
+returns-clause-operations c = law.are_operations
+
+pub returns-clause-counted : goal.returns-clause-counted
+returns-clause-counted c = law.tells_few

@@ -1,0 +1,284 @@
+-- Runs on a small flash, of 10 pages a bank, that keep the promise and that break it, and a call of the demo.
+use Rattle.std.specs.Prelude.{ℕ, ◌+◌, ◌-◌, ◌*◌, true, false, List, [], ◌∷◌, ◌++◌, map, flat_map, take, drop, replicate, codes, Option, Some, None}
+use Rattle.block_machine.specs.nv_base.Plan.{no_planning}
+use Rattle.block_machine.specs.block_config.DemoConfig.{demo_config}
+use Rattle.block_machine.specs.block_config.Block.{plain_block, manager_block}
+use Rattle.fls_model.specs.declared.flash.FlashAnswer.{FlashAnswer}
+use Rattle.fls_model.specs.declared.flash.FlashAnswer.TheVariants.{Done, Failed, Off as FlashOff}
+use Rattle.fls_model.specs.Op.{Program, Erase}
+use Rattle.fls_model.specs.Told.{Told, Change}
+use Rattle.fee_format.specs.Pages.{gate_page}
+use Rattle.fee_format.specs.BankHead.{bank_head_page}
+use Rattle.fee_format.specs.RecHead.{rec_head_page}
+use Rattle.nvm_script.specs.declared.script.Mode.TheVariants as mode
+use Rattle.script_walks.specs.Words.{StepKind, AskStep, Store, Turn, Drain, Restart, Cut}
+use Rattle.block_machine.specs.Words.{Fine, NotOk, Content, Write, SetLock, Status, Accepted, StatusIs, WriteJob, TookContent, TookStale, Entry, Ask, Pick, Wrote, Post, Off, Found, BlockDesc, Dataset, Sync, Configuration}
+use Rattle.block_machine.specs.State.{State, Job}
+use Rattle.promise_device.specs.FlashRun.{FlashRun, HasFailed}
+use Rattle.promise_run.specs.Call.{Call}
+use Rattle.promise_run.specs.Promise.{Promise}
+use Rattle.promise_run.specs.Turns.{Moment, Move, CountFailed, ArePaidSince}
+use Rattle.block_machine.specs.Steps.{after}
+use Rattle.promise_run.specs.Run.{Run, Played, Ran, Whole, FlashFault, HistoryFull, Memory}
+
+-- IMAGES
+-- block 2 is as described
+abbrev pub with_block_2 : BlockDesc → Configuration
+with_block_2 d = record { id = 1; geometry = record { page = 16; sector = 160; sectors = 2 }; standard = 8; immediate = 4; blocks = manager_block 1 ∷ d ∷ [] }
+
+abbrev pub small : Configuration
+small = with_block_2 (plain_block 4)
+
+abbrev pub blank : List ℕ
+blank = replicate 320 255
+
+-- bank 0 stands with this generation and with eight pages behind its gate, and bank 1 is blank
+abbrev pub image_of : ℕ → List ℕ → List ℕ
+image_of generation pages = bank_head_page 16 (record { format = 2; generation = generation }) ++ gate_page 16 ++ pages ++ replicate 160 255
+
+-- the committed record of a content with this number
+abbrev pub record_of : ℕ → List ℕ → List ℕ
+record_of number content = rec_head_page 2 16 (record { number = number; kind = 1; length = 4; count = 1 }) ++ gate_page 16 ++ content ++ replicate 12 255 ++ gate_page 16
+
+abbrev pub one : List ℕ
+one = 0x11 ∷ 0x22 ∷ 0x33 ∷ 0x44 ∷ []
+
+abbrev pub two : List ℕ
+two = 0x55 ∷ 0x66 ∷ 0x77 ∷ 0x88 ∷ []
+
+-- RUNS
+-- the promise says this of a run, and it doesn't hold
+abbrev pub BreaksBy : Run → Type 0 → Type 0
+BreaksBy r P = (Promise r → P) × (P → ⊥)
+
+-- a flash of the small shape with these bytes, and the changes since it was attached
+abbrev pub tells : List ℕ → Option (List Change) → Told
+tells now all =
+    record { geometry = small.geometry; bytes = Some (record { now = now; changes = all }); ops = 0; faults = 0; cuts = 0; off = false; planning = no_planning }
+
+-- no operation reaches the flash
+abbrev pub unchanged : List ℕ → List ℕ → FlashRun
+unchanged before after = record { entry = tells before None; exit = tells after (Some []); operations = [] }
+
+-- a run of `play` on this flash: a start-up that finds nothing, and steps of caller 0, each with its piece
+abbrev pub plays : List (StepKind × List Entry) → FlashRun → Run
+plays steps flash = record {
+  configuration = small;
+  course = Played (map (λ x. record { line = 0; caller = 0; kind = x.0 }) steps) (map (λ x. x.1) steps) [];
+  end = Whole;
+  history = Found [] 0 ∷ flat_map (λ x. x.1) steps;
+  flash = flash;
+}
+
+-- a start-up on a flash of no bytes, and no step
+abbrev pub quiet : Run
+quiet = plays [] (unchanged [] blank)
+
+-- the image is wiped, and memory is wanting before a start-up
+abbrev pub wiped : Run
+wiped = record quiet { end = Memory; history = []; flash = unchanged (image_of 1 (record_of 128 one ++ replicate 64 255)) blank }
+
+-- the history is full before a start-up
+abbrev pub empty_at_11 : Run
+empty_at_11 = record quiet { end = HistoryFull; history = [] }
+
+-- a start-up finds what was never written
+abbrev pub made_up_mark : Run
+made_up_mark = record quiet { history = Found ((record { block = 2; index = 0 }, Content one) ∷ []) 0 ∷ [] }
+
+-- the power goes off, though nothing cut it
+abbrev pub off_without_a_cut : Run
+off_without_a_cut = plays ((Drain, Off 0 ∷ []) ∷ []) (unchanged [] blank)
+
+-- the application stores `one` and asks for a write of synchronized RAM; the Pick takes what it says
+abbrev pub copied : Entry → Run
+copied pick =
+    record (plays ((Store 2 one, []) ∷ (AskStep (Write 2 None 0), Ask 0 (Write 2 None 1) Accepted ∷ []) ∷ (Turn 1, pick ∷ []) ∷ []) (unchanged [] blank))
+    { configuration = with_block_2 (record (plain_block 4) { ram = Sync }) }
+
+-- a copy is older than the store before it
+abbrev pub stale_in_play : Run
+stale_in_play = copied (Pick 2 WriteJob (TookStale 1 0 1) 0)
+
+-- a content is taken that nobody stored
+abbrev pub invented_store : Run
+invented_store = copied (Pick 2 WriteJob (TookContent two 1) 0)
+
+-- WRITES
+-- `one` is asked to be written to block 2, which is accepted; a Pick takes it
+abbrev pub asks_one : StepKind × List Entry
+asks_one = (AskStep (Write 2 (Some one) 0), Ask 0 (Write 2 (Some one) 0) Accepted ∷ [])
+
+abbrev pub picks_one : Entry
+picks_one = Pick 2 WriteJob (TookContent one 0) 0
+
+abbrev pub taken : List Entry
+taken = Found [] 0 ∷ Ask 0 (Write 2 (Some one) 0) Accepted ∷ picks_one ∷ []
+
+-- with these operations of the flash it is written and posted
+abbrev pub written_at : ℕ → List Entry
+written_at ops = Wrote (record { block = 2; index = 0 }) (Content one) ops ∷ Post 2 Fine None 0 ops ∷ []
+
+-- block 2 is a dataset of two, the job writes dataset 0, and the flash holds it as dataset 1
+abbrev pub other_dataset : Run
+other_dataset =
+    record (plays (asks_one ∷ (Turn 1, picks_one ∷ []) ∷ []) (unchanged [] (image_of 1 (record_of 129 one ++ replicate 64 255))))
+    { configuration = with_block_2 (record (plain_block 4) { kind = Dataset; nv = 2 }) }
+
+-- a write that is tried twice fails on this image, with one fault and none of an operation
+abbrev pub tried_twice : Configuration
+tried_twice = with_block_2 (record (plain_block 4) { writes = 1 })
+
+abbrev pub failed_on : List ℕ → Run
+failed_on image =
+    let flash = unchanged image image in
+    record (plays (asks_one ∷ (Drain, picks_one ∷ Post 2 NotOk None 0 0 ∷ []) ∷ []) (record flash { exit = record flash.exit { faults = 1 } }))
+    { configuration = tried_twice }
+
+-- the active bank has the last generation, and room for the record
+abbrev pub worn_but_roomy : Run
+worn_but_roomy = failed_on (image_of 4294967295 (replicate 128 255))
+
+-- it has the last generation, and records of other numbers in all of its pages
+abbrev pub worn_and_full : Run
+worn_and_full = failed_on (image_of 4294967295 (record_of 77 one ++ record_of 77 one))
+
+-- on a flash of no bytes a write begins with the erase of bank 0, which a planned cut keeps from the flash; then a restart
+abbrev pub kept_write : Run
+kept_write =
+    plays ((Cut 1 0, []) ∷ asks_one ∷ (Drain, picks_one ∷ Off 1 ∷ []) ∷ (Restart, Found [] 1 ∷ []) ∷ [])
+    (record { entry = tells [] None; exit = tells blank (Some []); operations = record { op = Erase 0 160; before = blank; answer = FlashOff } ∷ [] })
+
+-- the first pages of the record in a bank that stands, and the program of the next one
+abbrev pub begun : ℕ → List ℕ
+begun pages = image_of 1 (take (16 * pages) (record_of 128 one) ++ replicate (128 - 16 * pages) 255)
+
+abbrev pub programs : ℕ → Change
+programs pages =
+    record { op = Program (32 + 16 * pages) (take 16 (drop (16 * pages) (record_of 128 one))); before = begun pages; answer = Done }
+
+-- `one` is written and acknowledged with the fourth operation; the fifth programs the head of its bank again, so that a cut
+-- within it may lose what was acknowledged
+abbrev pub operations : List Change
+operations =
+    programs 0 ∷ programs 1 ∷ programs 2 ∷ programs 3
+    ∷ record { op = Program 0 (bank_head_page 16 (record { format = 2; generation = 1 })); before = begun 4; answer = Done } ∷ []
+
+abbrev pub lost_write : Run
+lost_write =
+    plays (asks_one ∷ (Drain, picks_one ∷ written_at 4) ∷ [])
+    (record { entry = tells (begun 0) None; exit = tells (begun 4) (Some operations); operations = operations })
+
+-- TWO CALLERS
+-- one locks block 2 and the other asks for its status
+abbrev pub two_callers : Run
+two_callers = record quiet {
+  course = Ran (record { line = 0; caller = 1; kind = AskStep (SetLock 2 true) } ∷ record { line = 0; caller = 2; kind = AskStep (Status 2) } ∷ []);
+  history = Found [] 0 ∷ Ask 2 (Status 2) (StatusIs Fine) ∷ Ask 1 (SetLock 2 true) Accepted ∷ [];
+}
+
+-- in `run` a second start-up comes
+abbrev pub second_found : Run
+second_found = record quiet { course = Ran []; history = Found [] 0 ∷ Found [] 0 ∷ [] }
+
+-- TURNS
+-- each job takes so many turns at most
+abbrev pub always : ℕ → State → Job → ℕ
+always most s j = most
+
+-- a write of block 2 is in hand after one turn, and eight turns later this has come
+abbrev pub turned : List Entry → Run
+turned es = plays (asks_one ∷ (Turn 1, picks_one ∷ []) ∷ (Turn 8, es) ∷ []) (unchanged [] blank)
+
+-- a drain leaves a job in hand
+abbrev pub not_drained : Run
+not_drained = plays (asks_one ∷ (Drain, picks_one ∷ []) ∷ []) (unchanged [] blank)
+
+-- it ends at a flash fault, and none was counted
+abbrev pub ends_for_nothing : Run
+ends_for_nothing = record quiet { end = FlashFault }
+
+-- TURN BY TURN
+-- a flash whose faults and operations stay, which isn't asked what it tells
+abbrev pub at_rest : FlashRun
+at_rest = unchanged [] blank
+
+-- one whose operations were answered so
+abbrev pub answering : List FlashAnswer → FlashRun
+answering answers = record at_rest { operations = map (λ a. record { op = Erase 0 160; before = blank; answer = a }) answers }
+
+abbrev pub four_done : List FlashAnswer
+four_done = Done ∷ Done ∷ Done ∷ Done ∷ []
+
+-- a write is posted with the sixth of six turns, and its record is four operations
+abbrev pub six_turns : Run
+six_turns = plays (asks_one ∷ (Turn 6, picks_one ∷ written_at 4) ∷ []) (answering four_done)
+
+-- the flash made an operation, and no step did
+abbrev pub untold : Run
+untold = plays [] (answering (Done ∷ []))
+
+-- nine turns pick the job, and make no more of it
+abbrev pub lazy : Run
+lazy = plays (asks_one ∷ (Turn 9, picks_one ∷ []) ∷ []) at_rest
+
+-- two turns make four operations
+abbrev pub leaps : Run
+leaps = plays (asks_one ∷ (Turn 2, picks_one ∷ Wrote (record { block = 2; index = 0 }) (Content one) 4 ∷ []) ∷ []) at_rest
+
+-- a flash that counted so many faults
+abbrev pub faulty : ℕ → FlashRun
+faulty n = record at_rest { exit = record at_rest.exit { faults = n } }
+
+-- after so many faults, before any operation
+abbrev pub at_faults : ℕ → Moment
+at_faults n = record { faults = n; ops = 0 }
+
+-- its first operation failed, and one fault was counted
+abbrev pub failed_once : List FlashAnswer → FlashRun
+failed_once others = record (answering (Failed ∷ others)) { exit = record at_rest.exit { faults = 1 } }
+
+-- a Pick, and then the operation that failed: with so many faults behind it, and behind the Post
+abbrev pub failed_at : ℕ → ℕ → List Move
+failed_at own later =
+    record { entry = Some picks_one; behind = at_faults 0 }
+    ∷ record { entry = None; behind = record { faults = own; ops = 1 } }
+    ∷ record { entry = Some (Post 2 NotOk None 0 1); behind = record { faults = later; ops = 1 } } ∷ []
+
+abbrev pub CountsFailed : ℕ → ℕ → Type 0
+CountsFailed own later = CountFailed (HasFailed (failed_once [])) (at_faults 0) (failed_at own later)
+
+-- a write whose first operation failed, and whose record a retry made
+abbrev pub mended : Run
+mended = plays (asks_one ∷ (Turn 7, picks_one ∷ written_at 5) ∷ []) (failed_once four_done)
+
+-- a further write is posted as failed, with no fault of its own
+abbrev pub posts_on_credit : Run
+posts_on_credit =
+    plays (asks_one ∷ (Turn 7, picks_one ∷ written_at 5) ∷ asks_one ∷ (Turn 2, Pick 2 WriteJob (TookContent one 0) 5 ∷ Post 2 NotOk None 0 5 ∷ []) ∷ [])
+    (failed_once four_done)
+
+-- a start-up fails with no fault of its own, once an operation failed
+abbrev pub starts_on_credit : Run
+starts_on_credit = record (plays (asks_one ∷ (Turn 2, picks_one ∷ []) ∷ []) (failed_once [])) { end = FlashFault }
+
+-- The write that is tried twice is posted as failed, with so many faults behind its Post as many were before its Pick, or
+-- more. Those before it were other jobs'.
+abbrev pub posted_after : ℕ → List Move
+posted_after n =
+    record { entry = Some picks_one; behind = at_faults 2 }
+    ∷ record { entry = None; behind = at_faults n }
+    ∷ record { entry = Some (Post 2 NotOk None 0 0); behind = at_faults n } ∷ []
+
+abbrev pub PaysFailed : ℕ → Type 0
+PaysFailed n = ArePaidSince tried_twice (λ operations number. ⊥) 0 (at_faults 2) (after tried_twice (Found [] 0 ∷ Ask 0 (Write 2 (Some one) 0) Accepted ∷ [])) (posted_after n)
+
+-- A CALL
+-- `play` of the demo configuration without a step, with this status and this output
+abbrev pub demo_run : Run
+demo_run = record quiet { configuration = demo_config }
+
+abbrev pub demo_call : ℕ → List ℕ → Call
+demo_call status text =
+    let f = demo_run.flash in
+    record { mode = mode.Play; input = Some (codes "@demo"); status = status; entry = f.entry; exit = f.exit; written = Some []; written_after = Some text }

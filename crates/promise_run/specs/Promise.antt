@@ -1,0 +1,87 @@
+-- What the stack promises of each run. Its fields, read one after another, are one sentence, and behind it the bookkeeping.
+use Rattle.std.specs.Prelude.{◌≡◌, ◌⊎◌, ◌<◌, ◌≤◌, ℕ, IsTrue, List, length, Contains, Some, IfSome}
+use Rattle.block_machine.specs.nv_base.Count.{last_count, next_count, WereCounted}
+use Rattle.block_machine.specs.block_config.Banks.{bank_count}
+use Rattle.block_machine.specs.block_config.Lengths.{lengths_of}
+use Rattle.block_machine.specs.block_config.Sizes.{measures_of}
+use Rattle.block_machine.specs.Words.{Instance, Mark, Entry, Found, Configuration}
+use Rattle.block_machine.specs.Legal.{IsLegal}
+use Rattle.block_machine.specs.History.{up_to}
+use Rattle.promise_blocks.specs.Marks.{KeepsMarks, Lists}
+use Rattle.promise_blocks.specs.Counts.{KeepsCounts, counts_in, last_found}
+use Rattle.promise_blocks.specs.Payment.{IsPaid, every_block}
+use Rattle.promise_blocks.specs.OverDevice.{HasStarted, BeginsBefore, TellsAtMost, HasOffAt}
+use Rattle.fls_model.specs.Told.{bytes_now}
+use Rattle.promise_device.specs.Image.{IsSoundFlash, found_in, held_in}
+use Rattle.promise_device.specs.FlashRun.{TellsBytes, TellsOperations, StartsSound, IsCutImage, bytes_after, AreOperations}
+use Rattle.promise_device.specs.Making.{Making}
+use Rattle.promise_device.specs.Bridge.{IsWornOut}
+use Rattle.promise_run.specs.Run.{Run, cap, HasOrder, offs_of_flash, has_cutter, RefusalsExplain}
+
+-- the device is made for this configuration, over the banks that a configuration has
+abbrev pub making_of : Configuration → Making
+making_of c = record { geometry = c.geometry; banks = bank_count; numbers = lengths_of c; reserve = (measures_of c.geometry.page c.blocks).urgent }
+
+-- what a start-up finds in an image
+abbrev pub found_by : Configuration → List ℕ → ℕ → Mark
+found_by c image = found_in (making_of c) image
+
+-- an image keeps to a history: what is found in it of each instance does, and it is sound
+pub record Keeps (c : Configuration) (h : List Entry) (image : List ℕ) : Type 0 where
+  pub marks : KeepsMarks c h (found_by c image)
+  pub sound : IsSoundFlash (making_of c) image
+
+-- each start-up lists what it found in the bytes of its moment
+abbrev pub StartUpsFind : Run → Type 0
+StartUpsFind r =
+    (marks : List (Instance × Mark)) (ops : ℕ) → Contains r.history (Found marks ops) → ops < last_count
+    → IfSome (bytes_after r.flash ops) (λ image. Lists r.configuration marks (found_by r.configuration image))
+
+-- each image that a power cut may leave keeps to the history up to then
+abbrev pub CutsKeep : Run → Type 0
+CutsKeep r = (k : ℕ) (image : List ℕ) → k < last_count → IsCutImage r.flash k image → Keeps r.configuration (up_to k r.history) image
+
+-- the bytes at the exit keep to the whole history
+abbrev pub ExitKeeps : Run → Type 0
+ExitKeeps r = HasStarted r.history → length r.flash.operations < last_count → IfSome (bytes_now r.flash.exit) (Keeps r.configuration r.history)
+
+-- how often each instance was written, by what an image has of it
+abbrev pub counts_by : Configuration → List ℕ → ℕ → ℕ
+counts_by c image = counts_in (held_in (making_of c) image)
+
+-- each image that a power cut may leave has the counts that the last start-up by then found, with the writes since
+abbrev pub CutsCount : Run → Type 0
+CutsCount r =
+    (k ops : ℕ) (image : List ℕ) → k < last_count → IsCutImage r.flash k image → last_found (up_to k r.history) ≡ Some ops
+    → IfSome (bytes_after r.flash ops)
+    (λ first. KeepsCounts r.configuration (up_to k r.history) (counts_by r.configuration first) (counts_by r.configuration image))
+
+-- A planned cut kept this operation from the flash: the power went off in it. Past the end of the count no Off tells which.
+abbrev pub MayBeKept : Run → ℕ → Type 0
+MayBeKept r k = IsTrue (has_cutter r.course) × ((last_count ≤ k) ⊎ HasOffAt r.history (next_count k))
+
+-- the flash's faults pay for each failure, but where the flash is worn out
+abbrev pub FailuresArePaid : Run → Type 0
+FailuresArePaid r = IsPaid every_block r.configuration (IsWornOut (making_of r.configuration) r.flash) r.flash.entry.faults r.flash.exit.faults r.history
+
+pub record Promise (r : Run) : Type 0 where
+  -- For every order of callers' requests and main-function turns,
+  pub order : HasOrder r r.history
+  -- and a power cut before or within any flash operation, start-up finds in each stored instance one whole accepted mark,
+  -- not older than the last acknowledged by then;
+  pub power_cut : TellsOperations r.flash → StartsSound (making_of r.configuration) r.flash → CutsKeep r
+  -- with the count of its writes;
+  pub counts : TellsOperations r.flash → StartsSound (making_of r.configuration) r.flash → CutsCount r
+  pub found : TellsBytes r.flash → StartsSound (making_of r.configuration) r.flash → StartUpsFind r
+  pub at_exit : TellsBytes r.flash → StartsSound (making_of r.configuration) r.flash → ExitKeeps r
+  -- every reply, choice and result is the block machine's over the one history;
+  pub block_machine : IsLegal r.configuration cap r.history
+  -- a failure result comes only from counted faults, refused copies or what the flash holds written.
+  pub faults : FailuresArePaid r
+  pub refusals : (id : ℕ) → RefusalsExplain r.configuration r.course r.history id
+  -- An Off is planned, or the flash counted a cut.
+  pub off : WereCounted (offs_of_flash r.course r.history) r.flash.entry.cuts r.flash.exit.cuts
+  -- The operations are those of the flash, but for one at each Off that a planned cut kept from it; the entries count them.
+  pub operations : HasStarted r.history → AreOperations r.configuration.geometry r.flash (MayBeKept r)
+  pub begins : BeginsBefore r.history
+  pub counted : TellsAtMost (length r.flash.operations) r.history

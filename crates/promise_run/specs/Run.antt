@@ -1,0 +1,150 @@
+-- One run of the program, from the attach of its flash on, and how it follows its script.
+use Rattle.std.specs.Prelude.{◌≡◌, ◌⊎◌, ◌<◌, ◌≤◌, ◌+◌, ℕ, not, Bool, true, false, IsTrue, List, [], ◌∷◌, ◌++◌, length, take, nat_le, ◌||◌, ◌==◌, if◌then◌else◌, sum_by, count_by, Option, Some, None}
+use Rattle.block_machine.specs.nv_base.Count.{last_count, Rose}
+use Rattle.block_machine.specs.nv_base.declared.geometry.Geometry.{Geometry}
+use Rattle.block_machine.specs.nv_base.Entry.{ops_behind}
+use Rattle.fls_model.specs.Told.{IfBothTold, bytes_now}
+use Rattle.script_walks.specs.Words.{Step, StepKind, AskStep, Cut, Refuse, Restart}
+use Rattle.block_machine.specs.Words.{Entry, Off, Configuration}
+use Rattle.block_machine.specs.State.{State}
+use Rattle.block_machine.specs.Reply.{fits}
+use Rattle.block_machine.specs.Prices.{prices_in_refusals}
+use Rattle.block_machine.specs.Steps.{after}
+use Rattle.script_walks.specs.Walk.{IsWalkOf, joined}
+use Rattle.script_walks.specs.Callers.{IsRun, IsWholeRun, asks_of, requests_of, program_of}
+use Rattle.promise_device.specs.Image.{attached}
+use Rattle.promise_device.specs.FlashRun.{FlashRun}
+
+-- the most entries of a history
+abbrev pub cap : ℕ
+cap = 100000
+
+-- How a script was followed.
+pub data Course : Type 0 where
+  -- `play`: the steps that were made, with the entries that each added, and those that were left
+  Played : (made : List Step) → (pieces : List (List Entry)) → (left : List Step) → Course
+  -- `run`: the steps of all callers, side by side
+  Ran : (steps : List Step) → Course
+
+-- How it ended: at the end of the script, at a start-up that failed, at a history that is full, or for want of memory.
+pub data End : Type 0 where
+  Whole : End
+  FlashFault : End
+  HistoryFull : End
+  Memory : End
+
+pub record Run : Type 0 where
+  pub configuration : Configuration
+  pub course : Course
+  pub end : End
+  pub history : List Entry
+  pub flash : FlashRun
+
+-- WITHOUT A START-UP
+-- a run ends so only where start-up failed or memory was wanting
+abbrev pub EndsAtStart : FlashRun → End → Type 0
+EndsAtStart f FlashFault = Rose f.entry.faults f.exit.faults
+EndsAtStart f Memory = Unit {0}
+EndsAtStart f end = ⊥
+
+-- no changing operation was made, and the bytes are as they were, or a blank flash has its size
+pub record LeavesFlash (g : Geometry) (f : FlashRun) : Type 0 where
+  pub none : f.operations ≡ []
+  pub ops : f.exit.ops ≡ f.entry.ops
+  pub bytes : IfBothTold (bytes_now f.entry) (bytes_now f.exit) (λ old new. (new ≡ old) ⊎ (new ≡ attached g old))
+
+-- `PLAY`
+-- the next step has no room in the history
+abbrev pub HasNoRoom : Configuration → State → StepKind → Type 0
+HasNoRoom c s (AskStep r) = IsTrue (not (fits c cap s 1))
+HasNoRoom c s Restart = cap < s.count + 2
+HasNoRoom c s kind = ⊥
+
+-- why these steps were left
+abbrev pub LeavesFor : Run → State → End → List Step → Type 0
+LeavesFor r s Whole left = left ≡ []
+LeavesFor r s FlashFault (x ∷ left) = (x.kind ≡ Restart) × Rose r.flash.entry.faults r.flash.exit.faults
+LeavesFor r s HistoryFull (x ∷ left) = HasNoRoom r.configuration s x.kind
+LeavesFor r s Memory left = Unit {0}
+LeavesFor r s end left = ⊥
+
+-- `RUN`
+-- at some prefix of the history the next request of a caller had no room
+pub record AskHadNoRoom (c : Configuration) (steps : List Step) (h : List Entry) : Type 0 where
+  pub entries : ℕ
+  pub caller : ℕ
+  pub more : length (asks_of caller (take entries h)) < length (requests_of c (program_of caller steps))
+  pub full : IsTrue (not (fits c cap (after c (take entries h)) 1))
+
+-- at its end all requests were made and served; else some of each caller's, from its first on
+abbrev pub RunsBy : Configuration → List Step → End → List Entry → Type 0
+RunsBy c steps Whole h = IsWholeRun c steps h
+RunsBy c steps HistoryFull h = IsRun c steps h × AskHadNoRoom c steps h
+RunsBy c steps Memory h = IsRun c steps h
+RunsBy c steps FlashFault h = ⊥
+
+-- THE ORDER
+abbrev pub Follows : Run → Course → List Entry → Type 0
+Follows r (Played made pieces left) h = IsWalkOf r.configuration made pieces h × LeavesFor r (after r.configuration h) r.end left
+Follows r (Ran steps) h = RunsBy r.configuration steps r.end h
+
+-- without a start-up no step was made
+abbrev pub MadeNothing : Course → Type 0
+MadeNothing (Played made pieces left) = (made ≡ []) × (pieces ≡ [])
+MadeNothing (Ran steps) = Unit {0}
+
+-- The history is a walk of the steps that were made, or a run of the callers' programs, and the end says why no more were.
+-- Without a start-up it is empty, and the flash is as it was.
+abbrev pub HasOrder : Run → List Entry → Type 0
+HasOrder r [] = EndsAtStart r.flash r.end × MadeNothing r.course × LeavesFlash r.configuration.geometry r.flash
+HasOrder r (e ∷ es) = Follows r r.course (e ∷ es)
+
+-- POWER CUTS
+-- the operations at which the cut comes that is planned, if one is
+abbrev pub plan_after : StepKind → Option ℕ → ℕ → Option ℕ
+plan_after (Cut nth keep) plan ops = Some (ops + nth)
+plan_after Restart plan ops = None
+plan_after kind plan ops = plan
+
+-- the cut was planned, and not for later
+abbrev pub is_paid : Option ℕ → ℕ → Bool
+is_paid (Some due) ops = nat_le due ops || nat_le last_count ops
+is_paid None ops = false
+
+abbrev pub is_off : Entry → Bool
+is_off (Off ops) = true
+is_off e = false
+
+abbrev pub unpaid_off : Option ℕ → Entry → ℕ
+unpaid_off plan (Off ops) = if is_paid plan ops then 0 else 1
+unpaid_off plan e = 0
+
+-- the Offs of these steps' pieces that no step planned
+abbrev pub unpaid_offs : Option ℕ → ℕ → List Step → List (List Entry) → ℕ
+unpaid_offs plan ops (x ∷ xs) (p ∷ ps) =
+    let planned = plan_after x.kind plan ops in
+    sum_by (unpaid_off planned) p + unpaid_offs planned (ops_behind ops p) xs ps
+unpaid_offs plan ops xs ps = 0
+
+-- the Offs of a run that the flash itself must have counted
+abbrev pub offs_of_flash : Course → List Entry → ℕ
+offs_of_flash (Played made pieces left) h = unpaid_offs None 0 made pieces
+offs_of_flash (Ran steps) h = count_by is_off h
+
+-- in `play` a planned cut keeps its operation from the flash
+abbrev pub has_cutter : Course → Bool
+has_cutter (Played made pieces left) = true
+has_cutter (Ran steps) = false
+
+-- REFUSED COPIES
+-- the copies of a block that this step lets be refused
+abbrev pub refusals_of : ℕ → StepKind → ℕ
+refusals_of id (Refuse block count) = if block == id then count else 0
+refusals_of id kind = 0
+
+-- Up to each step, the Posts of a block tell of no more refused copies than its `refuse` steps asked for. In `run` no copy
+-- is refused.
+abbrev pub RefusalsExplain : Configuration → Course → List Entry → ℕ → Type 0
+RefusalsExplain c (Played made pieces left) h id =
+    (n : ℕ) → prices_in_refusals c id (take 1 h ++ joined (take n pieces)) ≤ sum_by (λ x. refusals_of id x.kind) (take n made)
+RefusalsExplain c (Ran steps) h id = prices_in_refusals c id h ≡ 0

@@ -1,0 +1,203 @@
+-- The turns that a run of `play` made, one by one.
+use Rattle.std.specs.Prelude.{◌≡◌, ◌⊎◌, ◌<◌, ◌≤◌, ◌+◌, ◌-◌, ℕ, not, ◌||◌, if◌then◌else◌, Bool, true, false, IsTrue, List, [], ◌∷◌, ◌++◌, length, map, take, min, Option, Some, None, IfSome}
+use Rattle.block_machine.specs.nv_base.Count.{last_count, Rose, WereCounted}
+use Rattle.block_machine.specs.nv_base.Entry.{ops_of}
+use Rattle.script_walks.specs.Words.{Step, StepKind, AskStep, Turn, Drain, Restart}
+use Rattle.block_machine.specs.Words.{Entry, Ask, Pick, Found, Configuration}
+use Rattle.block_machine.specs.State.{State, Job}
+use Rattle.block_machine.specs.Blocks.{job_block}
+use Rattle.block_machine.specs.Steps.{after, after_from}
+use Rattle.block_machine.specs.Prices.{price_in_faults, sum_from}
+use Rattle.promise_blocks.specs.Payment.{Worn, IsExcused}
+use Rattle.script_walks.specs.Walk.{is_due, begins_with_pick_or_post}
+use Rattle.promise_run.specs.Completeness.{is_calm_entry, ends_job}
+use Rattle.promise_run.specs.Promise.{making_of}
+use Rattle.promise_device.specs.FlashRun.{FlashRun, TellsBytes, StartsSound, HasFailed}
+use Rattle.promise_device.specs.Bridge.{IsWornOut}
+use Rattle.promise_run.specs.Run.{Run, Course, Played, Ran, End, FlashFault}
+
+-- MOMENTS AND MOVES
+-- what the device told at a moment: its faults and its operations so far
+pub record Moment : Type 0 where
+  pub faults : ℕ
+  pub ops : ℕ
+
+-- what a step did at once, a turn, a request or a start-up: the entry that it added, if it added one, and the moment behind it
+pub record Move : Type 0 where
+  pub entry : Option Entry
+  pub behind : Moment
+
+abbrev pub entry_list : Option Entry → List Entry
+entry_list None = []
+entry_list (Some e) = e ∷ []
+
+-- the entries of moves, one after another
+abbrev pub entries_of : List Move → List Entry
+entries_of [] = []
+entries_of (m ∷ ms) = entry_list m.entry ++ entries_of ms
+
+-- the moment behind moves
+abbrev pub moment_behind : Moment → List Move → Moment
+moment_behind before [] = before
+moment_behind before (m ∷ ms) = moment_behind m.behind ms
+
+-- TURNS
+-- a turn makes at most one changing operation, and takes no fault back; its entry tells the operations behind it
+pub record IsTurnMade (before : Moment) (m : Move) : Type 0 where
+  pub faults : before.faults ≤ m.behind.faults
+  pub ops : before.ops ≤ m.behind.ops
+  pub one : m.behind.ops ≤ before.ops + 1
+  pub told : IfSome m.entry (λ e. ops_of e ≡ Some m.behind.ops)
+
+abbrev pub AreTurnsMade : Moment → List Move → Type 0
+AreTurnsMade before [] = Unit {0}
+AreTurnsMade before (m ∷ ms) = IsTurnMade before m × AreTurnsMade m.behind ms
+
+-- a request changes nothing that is told of the device
+abbrev pub IsAskMade : Moment → List Move → Type 0
+IsAskMade before (m ∷ []) = m.behind ≡ before
+IsAskMade before ms = ⊥
+
+-- a start-up makes no changing operation, and takes no fault back
+abbrev pub IsStartMade : Moment → List Move → Type 0
+IsStartMade before (m ∷ []) = (before.faults ≤ m.behind.faults) × (m.behind.ops ≡ before.ops)
+IsStartMade before ms = ⊥
+
+-- STEPS
+-- the moves of a step: `turn N` makes N turns, `drain` as many as it needs, and the steps that aren't named make none
+abbrev pub AreMovesOf : StepKind → Moment → List Move → Type 0
+AreMovesOf (Turn count) before moves = (length moves ≡ count) × AreTurnsMade before moves
+AreMovesOf Drain before moves = AreTurnsMade before moves
+AreMovesOf (AskStep r) before moves = IsAskMade before moves
+AreMovesOf Restart before moves = IsStartMade before moves
+AreMovesOf kind before moves = moves ≡ []
+
+-- those of steps in order
+abbrev pub AreMoves : Moment → List Step → List (List Move) → Type 0
+AreMoves before [] [] = Unit {0}
+AreMoves before (x ∷ xs) (ms ∷ mss) = AreMovesOf x.kind before ms × AreMoves (moment_behind before ms) xs mss
+AreMoves before steps moves = ⊥
+
+-- the moment behind all of them
+abbrev pub moment_after : Moment → List (List Move) → Moment
+moment_after before [] = before
+moment_after before (ms ∷ mss) = moment_after (moment_behind before ms) mss
+
+-- the steps that were made have moves, whose entries are their pieces
+pub record HasMoves (made : List Step) (pieces : List (List Entry)) (first last : Moment) : Type 0 where
+  pub moves : List (List Move)
+  pub are : AreMoves first made moves
+  pub tell : pieces ≡ map entries_of moves
+  pub behind : moment_after first moves ≡ last
+
+-- WITHIN ITS TURNS
+abbrev pub is_asked : Option Entry → Bool
+is_asked (Some (Ask caller r reply)) = true
+is_asked e = false
+
+abbrev pub is_found : Option Entry → Bool
+is_found (Some (Found marks ops)) = true
+is_found e = false
+
+abbrev pub is_picked : Option Entry → Bool
+is_picked (Some (Pick block kind t ops)) = true
+is_picked e = false
+
+-- the power goes off, or a copy is refused or stale
+abbrev pub fails : Option Entry → Bool
+fails (Some e) = not (is_calm_entry e)
+fails None = false
+
+-- a job of this block is posted, or another Pick interrupts it
+abbrev pub ends : ℕ → Option Entry → Bool
+ends id (Some e) = ends_job id e
+ends id None = false
+
+-- A job of this block that is in hand is posted, or interrupted, by the last of so many turns, unless before it a restart or
+-- the end of the run comes, a fault is counted, the power goes off, or a copy is refused or stale. A request is no turn.
+abbrev pub IsPostedWithin : ℕ → ℕ → ℕ → List Move → Type 0
+IsPostedWithin id turns faults [] = Unit {0}
+IsPostedWithin id turns faults (m ∷ ms) =
+    IsTrue (is_found m.entry)
+    ⊎ ((IsTrue (is_asked m.entry) × IsPostedWithin id turns faults ms)
+    ⊎ (Rose faults m.behind.faults
+    ⊎ (IsTrue (fails m.entry)
+    ⊎ (IsTrue (ends id m.entry)
+    ⊎ ((1 < turns) × IsPostedWithin id (turns - 1) m.behind.faults ms)))))
+
+-- what each move keeps: a fact on the state before it, the move, and those behind it
+abbrev pub EachMove : Configuration → (State → Move → List Move → Type 0) → State → List Move → Type 0
+EachMove c P s [] = Unit {0}
+EachMove c P s (m ∷ ms) = P s m ms × EachMove c P (after_from c s (entry_list m.entry)) ms
+
+-- a job is posted within the most turns that it takes, counted from its Pick
+abbrev pub PostsPicked : Configuration → (State → Job → ℕ) → State → Move → List Move → Type 0
+PostsPicked c most s m ms =
+    IsTrue (is_picked m.entry) → (j : Job) → (after_from c s (entry_list m.entry)).hand ≡ Some j
+    → IsPostedWithin (job_block j) (most (after_from c s (entry_list m.entry)) j) m.behind.faults ms
+
+-- a turn doesn't go by where something is due, and a job that it picks is posted within its turns
+pub record ServesTurn (c : Configuration) (most : State → Job → ℕ) (s : State) (m : Move) (ms : List Move) : Type 0 where
+  pub begins : is_asked m.entry ≡ false → is_found m.entry ≡ false → IsTrue (not (is_due s) || begins_with_pick_or_post (entry_list m.entry))
+  pub posts : PostsPicked c most s m ms
+
+-- PAID SINCE THE PICK
+-- A Post is paid by the faults since so many were counted, or the device was worn out.
+abbrev pub IsPaidSince : Configuration → Worn → ℕ → State → Move → Type 0
+IsPaidSince c worn since s m =
+    WereCounted (sum_from c (price_in_faults c) s (entry_list m.entry)) since m.behind.faults ⊎ IfSome m.entry (IsExcused c worn s)
+
+-- Each Post is paid by the faults that were counted since the last Pick before it: those before the Pick's turn are told.
+abbrev pub ArePaidSince : Configuration → Worn → ℕ → Moment → State → List Move → Type 0
+ArePaidSince c worn since before s [] = Unit {0}
+ArePaidSince c worn since before s (m ∷ ms) =
+    IsPaidSince c worn since s m
+    × ArePaidSince c worn (if is_picked m.entry then before.faults else since) m.behind (after_from c s (entry_list m.entry)) ms
+
+-- COUNTED IN ITS MOVE
+-- a move takes no operation back, and counts a fault where one of its own failed
+pub record CountsOwn (failed : ℕ → Type 0) (before : Moment) (m : Move) : Type 0 where
+  pub later : before.ops ≤ m.behind.ops
+  pub own : (k : ℕ) → before.ops ≤ k → k < m.behind.ops → failed k → Rose before.faults m.behind.faults
+
+abbrev pub CountFailed : (ℕ → Type 0) → Moment → List Move → Type 0
+CountFailed failed before [] = Unit {0}
+CountFailed failed before (m ∷ ms) = CountsOwn failed before m × CountFailed failed m.behind ms
+
+-- the moves of all steps, one after another
+abbrev pub all_moves : List (List Move) → List Move
+all_moves [] = []
+all_moves (ms ∷ mss) = ms ++ all_moves mss
+
+-- THE ENDS OF A RUN
+-- the first start-up tells the operations of the first moment
+abbrev pub BeginsAt : Moment → List Entry → Type 0
+BeginsAt first [] = Unit {0}
+BeginsAt first (e ∷ es) = ops_of e ≡ Some first.ops
+
+-- a start-up that failed counted a fault behind the last moment: one more than the moves tell
+abbrev pub EndsBy : Moment → FlashRun → End → Type 0
+EndsBy last f FlashFault = WereCounted (last.faults + 1) f.entry.faults f.exit.faults
+EndsBy last f end = Unit {0}
+
+-- A RUN
+-- Each step of `play` that was made has its moves, from a moment behind the first start-up on. They make all operations of
+-- the flash, and each that failed is counted in its own move; the flash counted the faults that they tell, and one more where
+-- a start-up failed behind them. Each job is posted within its most turns, counted from its Pick; and over a flash that tells
+-- its bytes, from a sound image on, each Post is paid since the last Pick before it, or the flash was worn out.
+pub record KeepsTurns (most : State → Job → ℕ) (r : Run) (made : List Step) (pieces : List (List Entry)) : Type 0 where
+  pub first : Moment
+  pub last : Moment
+  pub moves : HasMoves made pieces first last
+  pub begins : BeginsAt first r.history
+  pub operations : last.ops ≡ min (length r.flash.operations) last_count
+  pub failed : CountFailed (HasFailed r.flash) first (all_moves moves.moves)
+  pub counted : WereCounted last.faults r.flash.entry.faults r.flash.exit.faults
+  pub ends : EndsBy last r.flash r.end
+  pub serves : EachMove r.configuration (ServesTurn r.configuration most) (after r.configuration (take 1 r.history)) (all_moves moves.moves)
+  pub paid : TellsBytes r.flash → StartsSound (making_of r.configuration) r.flash
+      → ArePaidSince r.configuration (IsWornOut (making_of r.configuration) r.flash) first.faults first (after r.configuration (take 1 r.history)) (all_moves moves.moves)
+
+abbrev pub HasTurns : (State → Job → ℕ) → Run → Course → Type 0
+HasTurns most r (Played made pieces left) = KeepsTurns most r made pieces
+HasTurns most r (Ran steps) = Unit {0}

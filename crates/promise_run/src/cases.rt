@@ -1,0 +1,117 @@
+// Runs that keep the promise, and runs that break it.
+ghost use Rattle.std.specs.Prelude.{ℕ, []};
+ghost use Rattle.block_machine.specs.nv_base.Count.{WereCounted};
+ghost use Rattle.nvm_script.specs.Printed.{history_text};
+ghost use Rattle.block_machine.specs.Legal.{IsLegal};
+ghost use Rattle.promise_blocks.specs.OverDevice.{BeginsBefore, TellsAtMost};
+ghost use Rattle.promise_device.specs.FlashRun.{AreOperations};
+ghost use Rattle.promise_run.specs.Run.{cap, HasOrder, RefusalsExplain, offs_of_flash};
+ghost use Rattle.promise_run.specs.Promise.{Promise, StartUpsFind, CutsCount, CutsKeep, ExitKeeps, FailuresArePaid, MayBeKept};
+ghost use Rattle.promise_run.specs.Call.{IsRunOf, text_of};
+ghost use Rattle.promise_run.specs.Completeness.{Completeness};
+ghost use Rattle.promise_run.specs.Run.{FlashFault};
+ghost use Rattle.promise_run.specs.Turns.{BeginsAt, EndsBy, HasTurns};
+ghost use Rattle.promise_run.specs.Cases.{six_turns, lazy, leaps, at_faults, faulty, PaysFailed, CountsFailed, mended, posts_on_credit, starts_on_credit, untold, BreaksBy, small, quiet, wiped, empty_at_11, made_up_mark, off_without_a_cut, stale_in_play, invented_store, second_found, other_dataset, worn_but_roomy, worn_and_full, kept_write, lost_write, two_callers, written_at, always, turned, not_drained, ends_for_nothing, demo_run, demo_call};
+
+use fee_image::{blank_images, images_compute, soundness_computes, torn_erases_keep_soundness};
+
+/// A start-up alone keeps it, and so do a write that a cut breaks off with a restart behind it, and the requests of two
+/// callers.
+pub fn runs_that_keep_it()
+    ensures quiet { Promise quiet }
+    ensures kept_write { Promise kept_write }
+    ensures two_callers { Promise two_callers }
+{
+    blank_images();
+    images_compute();
+    torn_erases_keep_soundness();
+}
+
+/// A run that wipes the flash or ends with a full history before a start-up breaks it by its order, and so does one that
+/// takes an old copy or one that nobody stored, or that starts twice beside its callers.
+pub fn wrong_orders_break_it()
+    ensures wiped { BreaksBy wiped (HasOrder wiped wiped.history) }
+    ensures empty_at_11 { BreaksBy empty_at_11 (HasOrder empty_at_11 empty_at_11.history) }
+    ensures stale_in_play { BreaksBy stale_in_play (HasOrder stale_in_play stale_in_play.history) }
+    ensures invented_store { BreaksBy invented_store (HasOrder invented_store invented_store.history) }
+    ensures second_found { BreaksBy second_found (HasOrder second_found second_found.history) }
+{}
+
+/// A start-up that lists what was never written breaks it by what start-ups find, and an image that holds a mark in another
+/// dataset than the one that was written by what the exit keeps.
+pub fn wrong_marks_break_it()
+    ensures made_up_mark { BreaksBy made_up_mark (StartUpsFind made_up_mark) }
+    ensures other_dataset { BreaksBy other_dataset (ExitKeeps other_dataset) }
+{
+    blank_images();
+}
+
+/// A power cut that nothing brought breaks it by its cuts, and a failure with a fault too few, over a bank of the last
+/// generation that has room, by its faults. Over one that has none the failure is paid.
+pub fn wrong_causes_break_it()
+    ensures off_without_a_cut { BreaksBy off_without_a_cut (WereCounted 1 0 0) }
+    ensures worn_but_roomy { BreaksBy worn_but_roomy (FailuresArePaid worn_but_roomy) }
+    ensures worn_and_full { FailuresArePaid worn_and_full }
+{}
+
+/// A run that may lose an acknowledged write at a cut breaks it, by its power cut and its counts alone: all other fields hold.
+pub fn a_lost_write_breaks_it()
+    ensures breaks { BreaksBy lost_write (CutsKeep lost_write) }
+    ensures counts { BreaksBy lost_write (CutsCount lost_write) }
+    ensures order { HasOrder lost_write lost_write.history }
+    ensures found { StartUpsFind lost_write }
+    ensures at_exit { ExitKeeps lost_write }
+    ensures block_machine { IsLegal small cap lost_write.history }
+    ensures faults { FailuresArePaid lost_write }
+    ensures refusals { (id : ℕ) → RefusalsExplain small lost_write.course lost_write.history id }
+    ensures off { WereCounted (offs_of_flash lost_write.course lost_write.history) 0 0 }
+    ensures operations { AreOperations small.geometry lost_write.flash (MayBeKept lost_write) }
+    ensures begins { BeginsBefore lost_write.history }
+    ensures counted { TellsAtMost 5 lost_write.history }
+{
+    soundness_computes();
+}
+
+/// A call is told by its run where configuration, steps, status and output are the run's.
+pub fn runs_of_calls()
+    ensures own { IsRunOf (demo_call 0 (text_of demo_run)) demo_run }
+    ensures other_status { IsRunOf (demo_call 7 (text_of demo_run)) demo_run → ⊥ }
+    ensures no_last_line { IsRunOf (demo_call 0 (history_text demo_run.history)) demo_run → ⊥ }
+    ensures other_configuration { IsRunOf (demo_call 0 (text_of quiet)) quiet → ⊥ }
+{}
+
+/// Where nothing fails a job is posted within its turns, a drain leaves none, and no run ends at a flash fault.
+pub fn runs_that_are_served()
+    ensures served { Completeness (always 8) (turned (written_at 4)) (turned (written_at 4)).course }
+    ensures not_posted { Completeness (always 8) (turned []) (turned []).course → ⊥ }
+    ensures not_drained { Completeness (always 100) not_drained not_drained.course → ⊥ }
+    ensures not_ended { Completeness (always 100) ends_for_nothing ends_for_nothing.course → ⊥ }
+{}
+
+/// A write that its sixth turn posts has its turns. Nine turns that pick a job and make no more of it aren't turns of a job
+/// that takes eight at most, and two turns don't make four operations. Two faults of a job's own pay for its failure, and
+/// two before its Pick don't. Where two were counted before it a third pays for a start-up that fails, and the two don't.
+pub fn turns_one_by_one()
+    ensures six { HasTurns (always 8) six_turns six_turns.course }
+    ensures lazy { HasTurns (always 8) lazy lazy.course → ⊥ }
+    ensures leaps { HasTurns (always 8) leaps leaps.course → ⊥ }
+    ensures own { PaysFailed 4 }
+    ensures on_credit { PaysFailed 2 → ⊥ }
+    ensures own_end { EndsBy (at_faults 2) (faulty 3) FlashFault }
+    ensures end_on_credit { EndsBy (at_faults 2) (faulty 2) FlashFault → ⊥ }
+    ensures begins_late { BeginsAt (record { faults = 0; ops = 4 }) six_turns.history → ⊥ }
+{}
+
+/// An operation that failed is counted in its own move and in no later one, and a write that a retry mends has its turns.
+/// Its fault pays neither for a further write that is posted as failed, nor for a start-up that fails behind it; and no
+/// operation of the flash is left out of the moves.
+pub fn failures_are_counted_in_their_moves()
+    ensures own { CountsFailed 1 1 }
+    ensures told_late { CountsFailed 0 1 → ⊥ }
+    ensures mended { HasTurns (always 8) mended mended.course }
+    ensures posts_on_credit { HasTurns (always 8) posts_on_credit posts_on_credit.course → ⊥ }
+    ensures starts_on_credit { HasTurns (always 8) starts_on_credit starts_on_credit.course → ⊥ }
+    ensures untold { HasTurns (always 8) untold untold.course → ⊥ }
+{
+    soundness_computes();
+}

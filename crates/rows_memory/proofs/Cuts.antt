@@ -1,0 +1,14 @@
+-- The power cuts that steps plan.
+use Rattle.std.specs.Prelude.{slice_get}
+use Rattle.std.proofs.Common.{◌≡◌, ◌+◌, ℕ, List, take, Some, ap, ◌∙◌}
+use Rattle.std.proofs.lemmas.List.{take_more}
+use Rattle.std.proofs.lemmas.List.Sums.{sum_by_push}
+use Rattle.std.proofs.lemmas.Option.{slice_get_within, get_or_from_slice_get}
+use Rattle.nvm_script.specs.declared.step.Step.{Step}
+use Rattle.script_player.specs.Made.{cuts_in, cuts_of}
+
+pub one_more : (steps : List Step) (i : ℕ) (x : Step) → slice_get steps i ≡ Some x → cuts_of (take (i + 1) steps) ≡ cuts_of (take i steps) + cuts_in x.kind
+one_more steps i x at =
+    ap cuts_of (take_more steps i x (slice_get_within steps i x at))
+    ∙ sum_by_push (λ (y : Step). cuts_in y.kind) (take i steps) _
+    ∙ ap (λ (y : Step). cuts_of (take i steps) + cuts_in y.kind) (get_or_from_slice_get steps i x x at)

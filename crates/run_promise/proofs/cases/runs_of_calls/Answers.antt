@@ -1,5 +1,0 @@
-use Rattle.run_promise.proofs.WrongCalls.{no_last_line}
-use Rattle.run_promise.proofs.cases.runs_of_calls.Goals as goal
-
-pub returns-clause-no_last_line : goal.returns-clause-no_last_line
-returns-clause-no_last_line c = no_last_line

@@ -1,5 +1,0 @@
-use Rattle.run_promise.proofs.WrongCalls.{not_posted}
-use Rattle.run_promise.proofs.cases.runs_that_are_served.Goals as goal
-
-pub returns-clause-not_posted : goal.returns-clause-not_posted
-returns-clause-not_posted c = not_posted

@@ -1,8 +1,0 @@
-// The life of a unit.
-ghost use Rattle.run_promise.specs.Life.{UnitsHoldMarks};
-
-/// Over the runs of a unit, each from the image that the one before it left, whether at its end or at a power cut: each
-/// instance holds the mark that was acknowledged last in whichever run, or one that was taken since.
-pub fn units_hold_marks()
-    ensures { UnitsHoldMarks }
-{}

@@ -1,0 +1,133 @@
+-- The job in hand and the power, entry by entry.
+use Rattle.std.specs.Prelude.{length}
+use Rattle.std.specs.List.{list_all, list_any}
+use Rattle.std.specs.Option.{is_some, option_to_list}
+use Rattle.std.proofs.Common.{◌≡◌, ◌-◌, ◌==◌, ◌&&◌, ◌⊎◌, ℕ, Bool, true, false, IsTrue, List, [], ◌∷◌, ◌++◌, Option, Some, None, refl, sym, ap, ◌∙◌, subst, inl, inr, arith}
+use Rattle.std.proofs.lemmas.Bool.{and_parts, or_parts, eqb-true}
+use Rattle.nvm_core.specs.block_machine.Words.{ReqResult, Instance, Mark, Request, SetIndex, SetProtection, SetLock, SetRam, PutRam, ReadAll, WriteAll, CancelWriteAll, Reply, Accepted, Refused, StatusIs, IndexIs, JobKind, Taken, Entry, Ask, Pick, Wrote, Post, Off, Found, Configuration}
+use Rattle.nvm_core.specs.block_machine.State.{State, Job}
+use Rattle.nvm_core.specs.block_machine.StartUp.{at_first}
+use Rattle.nvm_core.specs.block_machine.Blocks.{job_kind, job_block}
+use Rattle.nvm_core.specs.block_machine.Next.{Next, PickJob, BeginSweep, PickMember, PostMember, EndSweep, next_of}
+use Rattle.nvm_core.specs.block_machine.Steps.{step, after, after_from, changed, accepted_by, asked, picked, wrote, posted, posted_next}
+use Rattle.script_walks.specs.Walk.{is_at_rest}
+use Rattle.promise_run.specs.Completeness.{is_calm_entry, ends_job}
+
+-- REQUESTS
+
+-- the job in hand and the power stay
+abbrev pub Leaves : State → State → Type 0
+Leaves s t = (t.hand ≡ s.hand) × (t.off ≡ s.off)
+
+changed_leaves : (c : Configuration) (s : State) (r : Request) → Leaves s (changed c s r)
+changed_leaves c s (SetIndex block index) = (refl, refl)
+changed_leaves c s (SetProtection block on) = (refl, refl)
+changed_leaves c s (SetLock block on) = (refl, refl)
+changed_leaves c s (SetRam block on) = (refl, refl)
+changed_leaves c s (PutRam block content) = (refl, refl)
+changed_leaves c s ReadAll = (refl, refl)
+changed_leaves c s WriteAll = (refl, refl)
+changed_leaves c s CancelWriteAll = (refl, refl)
+changed_leaves c s r = (refl, refl)
+
+accepted_leaves : (c : Configuration) (s : State) (r : Request) (kind : Option JobKind) → Leaves s (accepted_by c s r kind)
+accepted_leaves c s r (Some kind) = (refl, refl)
+accepted_leaves c s r None = changed_leaves c s r
+
+pub asked_leaves : (c : Configuration) (s : State) (r : Request) (reply : Reply) → Leaves s (asked c s r reply)
+asked_leaves c s r Accepted = accepted_leaves c s r (job_kind r)
+asked_leaves c s r (Refused x) = (refl, refl)
+asked_leaves c s r (StatusIs x) = (refl, refl)
+asked_leaves c s r (IndexIs x) = (refl, refl)
+
+pub ask_hand : (c : Configuration) (s : State) (caller : ℕ) (r : Request) (reply : Reply) → (step c s (Ask caller r reply)).hand ≡ s.hand
+ask_hand c s caller r reply = (asked_leaves c s r reply).0
+
+-- THE POWER
+
+pub picked_on : (c : Configuration) (s : State) (t : Taken) (next : Next) → s.off ≡ false → (picked c s t next).off ≡ false
+picked_on c s t (PickJob j) on = on
+picked_on c s t (BeginSweep sw) on = on
+picked_on c s t (PickMember sw id) on = on
+picked_on c s t next on = on
+
+wrote_on : (s : State) (i : Instance) (mark : Mark) (hand : Option Job) → s.off ≡ false → (wrote s i mark hand).off ≡ false
+wrote_on s i mark None on = on
+wrote_on s i mark (Some j) on = on
+
+-- a Post without a job in hand leaves the power and the hand
+next_leaves : (c : Configuration) (s : State) (r : ReqResult) (given : Option (List ℕ)) (next : Next) → Leaves s (posted_next c s r given next)
+next_leaves c s r given (PostMember sw id) = (refl, refl)
+next_leaves c s r given (EndSweep sw) = (refl, refl)
+next_leaves c s r given next = (refl, refl)
+
+posted_on : (c : Configuration) (s : State) (r : ReqResult) (given : Option (List ℕ)) (hand : Option Job) → s.off ≡ false → (posted c s r given hand).off ≡ false
+posted_on c s r given (Some j) on = on
+posted_on c s r given None on = (next_leaves c s r given (next_of c s)).1 ∙ on
+
+step_on : (c : Configuration) (s : State) (e : Entry) → s.off ≡ false → is_calm_entry e ≡ true → (step c s e).off ≡ false
+step_on c s (Ask caller r reply) on calm = (asked_leaves c s r reply).1 ∙ on
+step_on c s (Pick block kind t ops) on calm = picked_on c s t (next_of c s) on
+step_on c s (Wrote i mark ops) on calm = wrote_on s i mark s.hand on
+step_on c s (Post block r given refused ops) on calm = posted_on c s r given s.hand on
+step_on c s (Off ops) on calm = absurd (cc calm)
+step_on c s (Found marks ops) on calm = refl
+
+pub stays_on : (c : Configuration) (s : State) (es : List Entry) → s.off ≡ false → IsTrue (list_all is_calm_entry es) → (after_from c s es).off ≡ false
+stays_on c s [] on calm = on
+stays_on c s (e ∷ es) on calm = let two = and_parts (is_calm_entry e) (list_all is_calm_entry es) calm in stays_on c (step c s e) es (step_on c s e on two.0) two.1
+
+-- behind calm entries it is on
+pub power_on : (c : Configuration) (h : List Entry) → IsTrue (list_all is_calm_entry h) → (after c h).off ≡ false
+power_on c h calm = stays_on c at_first h refl calm
+
+-- THE JOB IN HAND
+
+-- an entry that doesn't end it leaves none in hand, or this one
+hand_behind : (c : Configuration) (s : State) (e : Entry) (j : Job) → s.hand ≡ Some j → ends_job (job_block j) e ≡ false
+    → ((step c s e).hand ≡ None) ⊎ ((k : Job) × ((step c s e).hand ≡ Some k) × (job_block k ≡ job_block j))
+hand_behind c s (Ask caller r reply) j hand goes = inr (j, ask_hand c s caller r reply ∙ hand, refl)
+hand_behind c s (Pick block kind t ops) j hand goes = absurd (cc goes)
+hand_behind c s (Wrote i mark ops) j hand goes = inr (record j { reserved = j.reserved - 1; written = j.written ++ i.index ∷ [] }, ap (λ (o : Option Job). (wrote s i mark o).hand) hand, refl)
+hand_behind c s (Post block r given refused ops) j hand goes = inl (ap (λ (o : Option Job). (posted c s r given o).hand) hand)
+hand_behind c s (Off ops) j hand goes = inr (j, hand, refl)
+hand_behind c s (Found marks ops) j hand goes = inl refl
+
+-- none comes in hand without a Pick
+none_behind : (c : Configuration) (s : State) (e : Entry) (id : ℕ) → s.hand ≡ None → ends_job id e ≡ false → (step c s e).hand ≡ None
+none_behind c s (Ask caller r reply) id none goes = ask_hand c s caller r reply ∙ none
+none_behind c s (Pick block kind t ops) id none goes = absurd (cc goes)
+none_behind c s (Wrote i mark ops) id none goes = ap (λ (o : Option Job). (wrote s i mark o).hand) none ∙ none
+none_behind c s (Post block r given refused ops) id none goes = ap (λ (o : Option Job). (posted c s r given o).hand) none ∙ (next_leaves c s r given (next_of c s)).0 ∙ none
+none_behind c s (Off ops) id none goes = none
+none_behind c s (Found marks ops) id none goes = refl
+
+none_later : (c : Configuration) (s : State) (es : List Entry) (id : ℕ) → s.hand ≡ None → list_any (ends_job id) es ≡ false → (after_from c s es).hand ≡ None
+none_later c s [] id none goes = none
+none_later c s (e ∷ es) id none goes =
+    let two = or_parts (ends_job id e) (list_any (ends_job id) es) goes in none_later c (step c s e) es id (none_behind c s e id none two.0) two.1
+
+-- Where no entry ends the job in hand, and one is in hand behind them, it is of the same block.
+pub stays_in_hand : (c : Configuration) (s : State) (es : List Entry) (j : Job) → s.hand ≡ Some j → list_any (ends_job (job_block j)) es ≡ false → IsTrue (is_some (after_from c s es).hand)
+    → (k : Job) × ((after_from c s es).hand ≡ Some k) × (job_block k ≡ job_block j)
+stays_in_hand c s [] j hand goes some = (j, hand, refl)
+stays_in_hand c s (e ∷ es) j hand goes some =
+    let two = or_parts (ends_job (job_block j) e) (list_any (ends_job (job_block j)) es) goes in
+    elim (hand_behind c s e j hand two.0) [
+      | inl none ↦
+          let gone : is_some (after_from c (step c s e) es).hand ≡ false = ap is_some (none_later c (step c s e) es (job_block j) none two.1) in absurd (cc (gone, some))
+      | inr (k, now, same) ↦
+          let (last, then_, block) = stays_in_hand c (step c s e) es k now (subst (λ (id : ℕ). list_any (ends_job id) es ≡ false) (sym same) two.1) some in
+          (last, then_, block ∙ same)
+    ]
+
+-- AT REST
+
+rest_by : (hand : Option Job) (waiting : List Job) (rest : Bool) → ((length (option_to_list hand ++ waiting) == 0) && rest) ≡ true → IsTrue (is_some hand) → ⊥
+rest_by None waiting rest at some = cc some
+rest_by (Some j) waiting rest at some =
+    let none = eqb-true (length (j ∷ waiting)) 0 (and_parts (length (j ∷ waiting) == 0) rest at).0 in omega (arith, none)
+
+-- no job is in hand
+pub none_at_rest : (s : State) → IsTrue (is_at_rest s) → IsTrue (is_some s.hand) → ⊥
+none_at_rest s rest some = rest_by s.hand s.waiting _ rest some

@@ -1,0 +1,94 @@
+-- An application in memory behind its own steps and behind copies.
+use Rattle.std.specs.Prelude.{◌==◌, slice_set, map, if◌then◌else◌, option_map, option_and_then, unwrap_or}
+use Rattle.std.proofs.Common.{◌≡◌, ℕ, zero, suc, Bool, true, false, List, [], ◌∷◌, length, get_or, Option, Some, None, refl, sym, ap, ◌∙◌, subst}
+use Rattle.std.proofs.Math.Seq.{map-set_same}
+use Rattle.std.proofs.lemmas.List.{map-set}
+use Rattle.nvm_core.specs.block_config.Config.{block_of}
+use Rattle.nvm_core.specs.block_machine.Words.{BlockDesc, RamKind, Configuration}
+use Rattle.nvm_core.specs.block_config.declared.block.RamKind.TheVariants as kind
+use Rattle.nvm_core.specs.block_config.Block.{plain_block}
+use Rattle.nvm_core.specs.block_machine.Blocks.{desc_of, is_synchronized}
+use Rattle.nvm_core.specs.nv_desk_copies.Front.{AreSynchronized}
+use Rattle.nvm_script.specs.Rules.{length_where_sync, sync_length_of}
+use Rattle.nvm_core.specs.ram_blocks.declared.plain_block.PlainBlock.{PlainBlock}
+use Rattle.nvm_core.specs.ram_blocks.Told.{Told, Synchronized, IsSynchronized, told_at}
+use Rattle.nvm_core.specs.ram_blocks.Plain.{told_of, store_of, stored, refusing, no_plain}
+
+-- a block among others, by what is seen of it
+pub store_here : (bs : List PlainBlock) (k : ℕ) → get_or (map store_of bs) k (0, []) ≡ store_of (get_or bs k no_plain)
+store_here [] k = refl
+store_here (x ∷ xs) zero = refl
+store_here (x ∷ xs) (suc k) = store_here xs k
+
+pub told_here : (bs : List PlainBlock) (k : ℕ) → told_at (map told_of bs) k ≡ told_of (get_or bs k no_plain)
+told_here [] k = refl
+told_here (x ∷ xs) zero = refl
+told_here (x ∷ xs) (suc k) = told_here xs k
+
+-- A STORE
+
+size_found : (b : PlainBlock) (n : ℕ) → option_map (λ (s : Synchronized). s.bytes) (told_of b) ≡ Some n → length b.content ≡ n
+size_found b n is = by (length b.content == 0) refl
+  where
+    by : (t : Bool) → (length b.content == 0) ≡ t → length b.content ≡ n
+    by true zero_bytes = absurd (none (subst (λ (x : Option Synchronized). option_map (λ (s : Synchronized). s.bytes) x ≡ Some n) (told zero_bytes) is))
+      where
+        told : (length b.content == 0) ≡ true → told_of b ≡ None
+        told t = rw t refl
+
+        none : {m : ℕ} → None ≡ Some m → ⊥
+        none e = cc
+    by false some = given (subst (λ (x : Option Synchronized). option_map (λ (s : Synchronized). s.bytes) x ≡ Some n) (told some) is)
+      where
+        told : (length b.content == 0) ≡ false → told_of b ≡ Some (record { bytes = length b.content; refusals = b.refusals; most = b.asked; handed = b.handed; last = b.last })
+        told t = rw t refl
+
+        given : Some (length b.content) ≡ Some n → length b.content ≡ n
+        given e = cc
+
+-- it changes nothing of what is told of the block
+pub stored_told : (bs : List PlainBlock) (k : ℕ) (content : List ℕ) → IsSynchronized (map told_of bs) k (length content)
+    → map told_of (slice_set bs k (stored content (get_or bs k no_plain))) ≡ map told_of bs
+stored_told bs k content is =
+    let b = get_or bs k no_plain in
+    let size : length b.content ≡ length content = size_found b (length content) (sym (ap (option_map (λ (s : Synchronized). s.bytes)) (told_here bs k)) ∙ is) in
+    map-set_same told_of bs k (stored content b) no_plain
+    (ap (λ (n : ℕ). if n == 0 then None else Some (record { bytes = n; refusals = b.refusals; most = b.asked; handed = b.handed; last = b.last })) (sym size))
+
+pub stored_stores : (bs : List PlainBlock) (k n : ℕ) (content : List ℕ) → n ≡ (stored content (get_or bs k no_plain)).number
+    → map store_of (slice_set bs k (stored content (get_or bs k no_plain))) ≡ slice_set (map store_of bs) k (n, content)
+stored_stores bs k n content is =
+    map-set store_of bs k (stored content (get_or bs k no_plain)) ∙ ap (λ (m : ℕ). slice_set (map store_of bs) k (m, content)) (sym is)
+
+-- COPIES THAT ARE TO BE REFUSED
+
+pub refusing_stores : (bs : List PlainBlock) (k count : ℕ) → map store_of (slice_set bs k (refusing count (get_or bs k no_plain))) ≡ map store_of bs
+refusing_stores bs k count = map-set_same store_of bs k (refusing count (get_or bs k no_plain)) no_plain refl
+
+-- a store of a player has its block's length
+sync_in : (d : BlockDesc) (n : ℕ) → length_where_sync d.ram d.length ≡ Some n → (is_synchronized d.ram ≡ true) × (d.length ≡ n)
+sync_in d n is = by d.ram is
+  where
+    by : (ram : RamKind) → length_where_sync ram d.length ≡ Some n → (is_synchronized ram ≡ true) × (d.length ≡ n)
+    by kind.Sync it = (refl, cc)
+    by kind.None it = absurd (none it)
+      where
+        none : None ≡ Some n → ⊥
+        none e = cc
+    by kind.Permanent it = absurd (none it)
+      where
+        none : None ≡ Some n → ⊥
+        none e = cc
+
+pub may_store : (c : Configuration) (told : List Told) (id n : ℕ) → AreSynchronized c told → sync_length_of c id ≡ Some n → IsSynchronized told id n
+may_store c told id n are is = by (block_of c id) refl
+  where
+    by : (o : Option BlockDesc) → block_of c id ≡ o → IsSynchronized told id n
+    by None none = absurd (found (sym (ap (option_and_then (λ (b : BlockDesc). length_where_sync b.ram b.length)) none) ∙ is))
+      where
+        found : None ≡ Some n → ⊥
+        found e = cc
+    by (Some d) some =
+        let desc : desc_of c id ≡ d = ap (λ (o : Option BlockDesc). unwrap_or o (plain_block 0)) some in
+        let (on, size) = sync_in d n (sym (ap (option_and_then (λ (b : BlockDesc). length_where_sync b.ram b.length)) some) ∙ is) in
+        subst (λ (m : ℕ). IsSynchronized told id m) (ap (λ (x : BlockDesc). x.length) desc ∙ size) (are id (ap (λ (x : BlockDesc). is_synchronized x.ram) desc ∙ on))

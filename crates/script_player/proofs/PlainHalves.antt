@@ -1,0 +1,219 @@
+-- A turn that is its first half alone.
+use Rattle.std.specs.Prelude.{IsTrue, map, not}
+use Rattle.std.proofs.Common.{◌≡◌, ◌<◌, ◌≤◌, ℕ, Bool, true, false, List, [], ◌∷◌, ◌++◌, get_or, Option, None, refl, sym, ap, ◌∙◌, subst, inl, inr, arith}
+use Rattle.nvm_core.specs.nv_base.Count.{last_count, WereCounted}
+use Rattle.nvm_core.specs.memif.Told.{DeviceTold, faults_of, ops_of}
+use Rattle.nvm_core.specs.block_machine.Words.{ReqResult, Entry, Pick, Post}
+use Rattle.nvm_core.specs.block_machine.State.{State, Job}
+use Rattle.nvm_core.specs.block_machine.Blocks.{job_block, names_ram}
+use Rattle.nvm_core.specs.block_machine.Results.{Answer}
+use Rattle.nvm_core.specs.block_machine.Next.{Next, Nothing, PickJob, BeginSweep, PickMember, PostMember, EndSweep, next_of}
+use Rattle.nvm_core.specs.block_laws.Laws.{HistoriesStep, NoneWaits}
+use Rattle.nvm_core.specs.ram_blocks.declared.plain_block.PlainBlock.{PlainBlock}
+use Rattle.nvm_core.specs.ram_blocks.Told.{Told, refusals_of, most_of}
+use Rattle.nvm_core.specs.ram_blocks.Plain.{told_of, store_of}
+use Rattle.nvm_core.specs.ram_blocks.Tries.{OnlyRefuses}
+use Rattle.nvm_core.specs.nv_desk.Desk.{DeskState, state_of}
+use Rattle.nvm_core.specs.nv_desk_copies.Takes.{source_next}
+use Rattle.nvm_core.specs.nv_desk_copies.Posts.{IsHandedOver, IsPosted, IsPostedNext}
+use Rattle.nvm_core.specs.nv_desk_copies.declared.post.Posted.{Posted}
+use Rattle.nvm_core.specs.job_progress.Hand.{HandState}
+use Rattle.nvm_core.specs.job_progress.JobInHand.{IsPaired}
+use Rattle.nvm_core.specs.nvm_laws.Halves.{AddsPost}
+use Rattle.nvm_core.specs.nvm_laws.Ties.{IsTied}
+use Rattle.nvm_core.specs.nvm_laws.declared.turned.Turned.{Turned}
+use Rattle.nvm_core.specs.nvm_laws.declared.turned.Turned.TheVariants as turned
+use Rattle.nvm_core.specs.nvm_laws.declared.turned.Act.TheVariants.{Ended}
+use Rattle.nvm_core.specs.Stack.{StackState, PowersOff}
+use Rattle.nvm_core.specs.Turns.{IsFirstHalf}
+use Rattle.nvm_core.specs.Work as work
+use Rattle.script_walks.specs.Walk.{is_due}
+use Rattle.script_walks.specs.Turn.{TakesNewest, copies_next}
+use Rattle.script_player.specs.Calls.{Turns, IsAnswer, Lowers}
+use Rattle.script_player.specs.PlainTold.{told_by, untold_of, IfCopied, AreWithin}
+use Rattle.script_player.proofs.PlainDevices.{goes_same, unplanned_same}
+use Rattle.script_player.proofs.PlainPicks.{newest, stored_so, counted, due_off, due_rest, at_rest}
+use Rattle.script_player.proofs.PlainRefused.{IsOn, fewer, pick_keeps, post_keeps}
+use Rattle.script_player.proofs.PlainMostTurns.{within_of}
+use Rattle.script_player.proofs.PlainServing.{IsServing, off_serves, rest_serves, pick_serves, post_serves}
+use Rattle.script_player.proofs.PlainTurning.{same_stores, grown, none_more, one_more, explained, makes_one, none_off, one_price, begins_by, begins_late}
+
+-- what is told of the application, and the newest store of a block
+abbrev pub are_told : List PlainBlock → List Told
+are_told copies = map told_of copies
+
+abbrev pub is_now : List PlainBlock → ℕ → ℕ → List ℕ → Type 0
+is_now copies b n x = get_or (map store_of copies) b (0, []) ≡ (n, x)
+
+-- in memory no look is told apart
+abbrev pub is_looked : List PlainBlock → List PlainBlock → ℕ → ℕ → Type 0
+is_looked old new b n = Unit {0}
+
+-- A POST
+
+-- the Post of the job in hand, or one without a job, with the refused copies that it tells of
+record Posting (ops : ℕ) (old new : DeskState) (before after : List Told) : Type 0 where
+  block : ℕ
+  result : ReqResult
+  given : Option (List ℕ)
+  refused : ℕ
+  adds : new ≡ record old { entries = old.entries ++ Post block result given refused ops ∷ [] }
+  on : IsOn block (state_of old).hand
+  told : WereCounted refused (refusals_of before block) (refusals_of after block)
+
+over_counted : (goes : Bool) (ended posted : Answer) (refused tries block : ℕ) (before after : List Told) → refusals_of before block ≤ refusals_of after block
+    → IsHandedOver goes ended posted refused tries block before after → WereCounted refused (refusals_of before block) (refusals_of after block)
+over_counted false ended posted refused tries block before after less over = inl (let none = over.1 in omega (arith, less, none))
+over_counted true ended posted refused tries block before after less over = elim over [
+  | inl took ↦ inl (let none = took.1 in omega (arith, less, none))
+  | inr all ↦ subst (λ (n : ℕ). WereCounted n (refusals_of before block) (refusals_of after block)) (sym all.1) all.2
+]
+
+posting_of : (Premise : Type 0) (block : ℕ) (ram : Bool) (ended : Answer) (ops : ℕ) (old new : DeskState) (before after : List Told) (posted : Posted) → OnlyRefuses before after
+    → IsOn block (state_of old).hand → IsPosted Premise block ram ended ops old new before after posted → Posting ops old new before after
+posting_of Premise block ram ended ops old new before after posted only on is = record {
+  block = block;
+  result = posted.result;
+  given = is.given;
+  refused = is.refused;
+  adds = is.adds;
+  on = on;
+  told = over_counted _ ended (posted.result, is.given) is.refused _ block before after (only block).1 is.over;
+}
+
+posting_next : (n : Next) (ops : ℕ) (old new : DeskState) (before after : List Told) (posted : Posted) → OnlyRefuses before after → (state_of old).hand ≡ None
+    → IsPostedNext n ops old new before after posted → Posting ops old new before after
+posting_next (PostMember sw id) ops old new before after posted only none is =
+    posting_of (Unit {0}) id true _ ops old new before after posted only (subst (λ (h : Option Job). IsOn id h) (sym none) tt) is
+posting_next (EndSweep sw) ops old new before after posted only none is =
+    posting_of (Unit {0}) 0 false _ ops old new before after posted only (subst (λ (h : Option Job). IsOn 0 h) (sym none) tt) is
+posting_next (PickJob j) ops old new before after posted only none is = absurd is
+posting_next (BeginSweep sw) ops old new before after posted only none is = absurd is
+posting_next (PickMember sw id) ops old new before after posted only none is = absurd is
+posting_next Nothing ops old new before after posted only none is = absurd is
+
+posting : (Fits : Type 0) (ops : ℕ) (old new : DeskState) (before after : List Told) → OnlyRefuses before after → AddsPost Fits ops old new before after → Posting ops old new before after
+posting Fits ops old new before after only adds = elim adds.1 [
+  | inl held ↦ posting_of Fits (job_block held.job) (names_ram held.job.request) held.ended ops old new before after adds.0 only
+      (subst (λ (h : Option Job). IsOn (job_block held.job) h) (sym held.hand) refl) held.is
+  | inr next ↦ posting_next (next_of old.config (state_of old)) ops old new before after adds.0 only next.0 next.1
+]
+
+-- THE TURN
+
+-- what is known of a stack behind a turn
+is_on : (off : Bool) → IsTrue (not off) → off ≡ false
+is_on true on = absurd (cc on)
+is_on false on = refl
+
+pub record IsBehind {D : Type 0} (device : D → DeviceTold) (answer : Turned) (old new : StackState D (List PlainBlock)) : Type 0 where
+  pub power : PowersOff new.desk (device new.device)
+  pub counted : faults_of (device old.device) ≤ faults_of (device new.device)
+  pub lowers : work.Lowers device answer old new
+  pub takes : work.TakesTurns device answer old new
+  pub tied : IsTied old.desk old.hand (device old.device)
+  pub tied_behind : IsTied new.desk new.hand (device new.device)
+  pub small : (id : ℕ) → most_of (map told_of new.copies) id < last_count
+  pub within : (h : List Entry) (e : Entry) → new.desk.entries ≡ h ++ e ∷ [] → IfCopied e (AreWithin new.copies)
+
+module _ {D : Type 0} (device : D → DeviceTold) (steps : HistoriesStep) (waits : NoneWaits) (old new : StackState D (List PlainBlock)) where
+  -- nothing is added
+  quiet : (answer : Turned) → IsFirstHalf device are_told is_now is_looked (Ended answer) old new → IsBehind device answer old new → new.desk ≡ old.desk → is_due (state_of old.desk) ≡ false
+      → IsAnswer answer [] (told_by device old) (told_by device new) → Lowers answer (told_by device old) (told_by device new) → IsServing device old new []
+      → Turns answer (told_by device old) (told_by device new)
+  quiet answer half behind same due answers lowers serves =
+      let made = ap (λ (d : DeviceTold). d.ops) half.device in
+      let one = ap (λ (d : DeviceTold). d.first) half.device in
+      let two = ap (λ (d : DeviceTold). d.second) half.device in record {
+        entries = [];
+        grows = grown device old new [] (none_more old.desk new.desk same) (same_stores old.copies new.copies half.sizes half.stores_stay) half.ready (ap (λ (d : DeviceTold). d.fixed) half.device);
+        counted = behind.counted;
+        operations = makes_one device old new [] (goes_same (device old.device) (device new.device) made one two) tt;
+        turn = record { entry = tt; begins = begins_late (state_of old.desk) [] due };
+        explained = explained device old new [] (goes_same (device old.device) (device new.device) made one two)
+            (λ id. let less = fewer (map told_of old.copies) (map told_of new.copies) half.refuses id (state_of old.desk).hand (state_of new.desk).hand
+            (let hand = ap (λ (x : DeskState). untold_of id (state_of x).hand) same in omega (arith, hand)) in omega (arith, less))
+            (none_off _ _ (let as_many = unplanned_same (device old.device) (device new.device) one two in omega (arith, as_many)));
+        answers = answers;
+        lowers = lowers;
+        picks = λ picked. absurd (cc picked);
+        serves = serves;
+      }
+
+  picks : IsFirstHalf device are_told is_now is_looked (Ended turned.Picked) old new → IsBehind device turned.Picked old new → Turns turned.Picked (told_by device old) (told_by device new)
+  picks half behind =
+      let c = old.desk.config in
+      let s = state_of old.desk in
+      let block = half.half.0 in
+      let picked = half.half.1 in
+      let ops = ops_of (device new.device) in
+      let made = ap (λ (d : DeviceTold). d.ops) half.device in
+      let one = ap (λ (d : DeviceTold). d.first) half.device in
+      let two = ap (λ (d : DeviceTold). d.second) half.device in
+      let stores = same_stores old.copies new.copies half.sizes half.stores_stay in
+      let may = picked.allowed.1 in
+      let within = behind.within old.desk.entries (Pick block picked.kind picked.taken ops) (ap (λ (x : DeskState). x.entries) picked.adds) in
+      let refused = counted (λ n x. is_now new.copies block n x × is_looked old.copies new.copies block n) block (map told_of old.copies) (map told_of new.copies) (half.refuses block).1 c s picked.kind picked.taken (next_of c s) picked.copied may in record {
+        entries = Pick block picked.kind picked.taken ops ∷ [];
+        grows = grown device old new (Pick block picked.kind picked.taken ops ∷ []) picked.adds stores half.ready (ap (λ (d : DeviceTold). d.fixed) half.device);
+        counted = behind.counted;
+        operations = makes_one device old new (Pick block picked.kind picked.taken ops ∷ []) (goes_same (device old.device) (device new.device) made one two) (refl, tt);
+        turn = record {
+          entry = record {
+            may = may;
+            newest = subst (λ (xs : List (ℕ × List ℕ)). TakesNewest xs (copies_next c (next_of c s)) block picked.taken) stores
+                (newest (map store_of new.copies) c s block picked.kind (map told_of old.copies) (map told_of new.copies) picked.taken (next_of c s) (stored_so _ _ block (map told_of old.copies) (map told_of new.copies) (source_next c (next_of c s)) picked.taken (λ n x h. h.0) picked.copied) may);
+          };
+          begins = begins_by (is_due s);
+        };
+        explained = explained device old new (Pick block picked.kind picked.taken ops ∷ []) (goes_same (device old.device) (device new.device) made one two)
+            (λ id. one_price c s id (Pick block picked.kind picked.taken ops) (map told_of old.copies) (map told_of new.copies) s.hand _ (state_of new.desk).hand
+            (ap (λ (x : State). x.hand) (one_more steps old.desk new.desk (Pick block picked.kind picked.taken ops) picked.adds))
+            (let less = pick_keeps (map told_of old.copies) (map told_of new.copies) half.refuses c s id block ops picked.kind picked.taken may within (behind.small block) refused in omega (arith, less)))
+            (none_off _ _ (let as_many = unplanned_same (device old.device) (device new.device) one two in omega (arith, as_many)));
+        answers = tt;
+        lowers = behind.lowers;
+        picks = λ is. (within_of new.desk.config (state_of new.desk) new.hand (device new.device) behind.tied_behind.paired behind.takes, is_on (state_of old.desk).off picked.allowed.0.on);
+        serves = pick_serves device old new block ops picked.kind picked.taken behind.tied_behind.paired behind.takes;
+      }
+
+  posts : IsFirstHalf device are_told is_now is_looked (Ended turned.Posted) old new → IsBehind device turned.Posted old new → Turns turned.Posted (told_by device old) (told_by device new)
+  posts half behind =
+      let c = old.desk.config in
+      let s = state_of old.desk in
+      let ops = ops_of (device new.device) in
+      let post = posting _ ops old.desk new.desk (map told_of old.copies) (map told_of new.copies) half.refuses half.half in
+      let made = ap (λ (d : DeviceTold). d.ops) half.device in
+      let one = ap (λ (d : DeviceTold). d.first) half.device in
+      let two = ap (λ (d : DeviceTold). d.second) half.device in
+      let stores = same_stores old.copies new.copies half.sizes half.stores_stay in
+      let within = behind.within old.desk.entries (Post post.block post.result post.given post.refused ops) (ap (λ (x : DeskState). x.entries) post.adds) in record {
+        entries = Post post.block post.result post.given post.refused ops ∷ [];
+        grows = grown device old new (Post post.block post.result post.given post.refused ops ∷ []) post.adds stores half.ready (ap (λ (d : DeviceTold). d.fixed) half.device);
+        counted = behind.counted;
+        operations = makes_one device old new (Post post.block post.result post.given post.refused ops ∷ []) (goes_same (device old.device) (device new.device) made one two) (refl, tt);
+        turn = record { entry = tt; begins = begins_by (is_due s) };
+        explained = explained device old new (Post post.block post.result post.given post.refused ops ∷ []) (goes_same (device old.device) (device new.device) made one two)
+            (λ id. one_price c s id (Post post.block post.result post.given post.refused ops) (map told_of old.copies) (map told_of new.copies) s.hand _ (state_of new.desk).hand
+            (ap (λ (x : State). x.hand) (one_more steps old.desk new.desk (Post post.block post.result post.given post.refused ops) post.adds))
+            (post_keeps (map told_of old.copies) (map told_of new.copies) half.refuses c s id post.block post.refused ops post.result post.given post.on within (behind.small post.block) post.told))
+            (none_off _ _ (let as_many = unplanned_same (device old.device) (device new.device) one two in omega (arith, as_many)));
+        answers = tt;
+        lowers = behind.lowers;
+        picks = λ picked. absurd (cc picked);
+        serves = post_serves device old new post.block post.refused ops post.result post.given post.on
+            (subst (λ (h : Option HandState). IsPaired new.desk.config (state_of new.desk) h (device new.device)) half.at_device.1 behind.tied_behind.paired).0;
+      }
+
+  pub ended : (answer : Turned) → IsFirstHalf device are_told is_now is_looked (Ended answer) old new → IsBehind device answer old new → Turns answer (told_by device old) (told_by device new)
+  ended turned.Picked half behind = picks half behind
+  ended turned.Posted half behind = posts half behind
+  ended turned.Off half behind =
+      let same = half.half.0.0 in
+      let off = sym (ap (λ (x : DeskState). (state_of x).off) same) ∙ behind.power half.half.1 in
+      quiet turned.Off half behind same (due_off (state_of old.desk) off) off tt (off_serves device old new [] (behind.power half.half.1))
+  ended turned.Idle half behind =
+      let rest = at_rest waits old.desk.config (state_of old.desk) half.half.1.hand half.half.1.next in
+      quiet turned.Idle half behind half.half.0.0 (due_rest (state_of old.desk) rest) (refl, rest, ap not half.half.1.device) tt
+      (rest_serves device old new [] half.half.1.hand (ap (λ (x : DeskState). (state_of x).hand) half.half.0.0 ∙ half.half.1.hand))
+  ended turned.Worked half behind = absurd half.half

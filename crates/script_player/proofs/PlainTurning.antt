@@ -1,0 +1,87 @@
+-- A turn: what it adds, and how that is explained.
+use Rattle.std.specs.Prelude.{◌||◌, not, IsTrue, map, sum_by}
+use Rattle.std.proofs.Common.{◌≡◌, ◌≤◌, ◌+◌, ℕ, suc, Bool, true, false, List, [], ◌∷◌, ◌++◌, length, get_or, Option, refl, sym, ap, ◌∙◌, subst, inl, arith, append-nil}
+use Rattle.std.proofs.lemmas.List.{ext_get_or, length-map}
+use Rattle.nvm_core.specs.nv_base.Count.{WereCounted}
+use Rattle.nvm_core.specs.memif.Told.{DeviceTold, Fixed}
+use Rattle.nvm_core.specs.block_machine.Words.{Entry, Configuration}
+use Rattle.nvm_core.specs.block_machine.State.{State, Job}
+use Rattle.nvm_core.specs.block_machine.Prices.{sum_from, block_price}
+use Rattle.nvm_core.specs.block_machine.Steps.{step, after}
+use Rattle.nvm_core.specs.block_laws.Laws.{HistoriesStep}
+use Rattle.nvm_core.specs.ram_blocks.declared.plain_block.PlainBlock.{PlainBlock}
+use Rattle.nvm_core.specs.ram_blocks.Told.{Told, sizes_of}
+use Rattle.nvm_core.specs.ram_blocks.Plain.{told_of, store_of}
+use Rattle.nvm_core.specs.nv_desk.Desk.{DeskState, state_of}
+use Rattle.promise_run.specs.Run.{unpaid_off}
+use Rattle.nvm_core.specs.Stack.{StackState}
+use Rattle.script_player.specs.Told.{IsGrown}
+use Rattle.script_player.specs.Calls.{AreExplained, AllTell, MakesOne}
+use Rattle.script_walks.specs.Walk.{is_due, begins_with_pick_or_post}
+use Rattle.script_player.specs.PlainTold.{told_by, most_in, refusable_in, plan_in, unplanned_in, ops_in}
+use Rattle.script_player.proofs.PlainDevices.{Goes}
+
+-- THE STORES
+
+pub same_stores : (bs cs : List PlainBlock) → sizes_of (map told_of cs) ≡ sizes_of (map told_of bs)
+    → ((b n : ℕ) (x : List ℕ) → get_or (map store_of bs) b (0, []) ≡ (n, x) → get_or (map store_of cs) b (0, []) ≡ (n, x)) → map store_of cs ≡ map store_of bs
+same_stores bs cs sizes stay = ext_get_or (0, []) (map store_of cs) (map store_of bs) as_many (λ i less. stay i (get_or (map store_of bs) i (0, [])).0 (get_or (map store_of bs) i (0, [])).1 refl)
+  where
+    count : (ds : List PlainBlock) → length (sizes_of (map told_of ds)) ≡ length ds
+    count [] = refl
+    count (d ∷ ds) = ap suc (count ds)
+
+    as_many : length (map store_of cs) ≡ length (map store_of bs)
+    as_many = length-map cs store_of ∙ sym (count cs) ∙ ap length sizes ∙ count bs ∙ sym (length-map bs store_of)
+
+-- WHAT IS ADDED
+
+pub grown : {D : Type 0} (device : D → DeviceTold) (old new : StackState D (List PlainBlock)) (es : List Entry)
+    → new.desk ≡ record old.desk { entries = old.desk.entries ++ es } → map store_of new.copies ≡ map store_of old.copies → new.ready ≡ old.ready
+    → (device new.device).fixed ≡ (device old.device).fixed → IsGrown es (told_by device old) (told_by device new)
+grown device old new es desk stores ready fixed =
+    ap (λ (x : DeskState). record (told_by device new) { configuration = x.config; cap = x.cap; entries = x.entries; most = most_in (device new.device).fixed x.config }) desk
+    ∙ ap (λ (xs : List (ℕ × List ℕ)). record (told_by device new) { configuration = old.desk.config; cap = old.desk.cap; entries = old.desk.entries ++ es; stores = xs; most = most_in (device new.device).fixed old.desk.config }) stores
+    ∙ ap (λ (r : Bool). record (told_by device new) { configuration = old.desk.config; cap = old.desk.cap; entries = old.desk.entries ++ es; stores = map store_of old.copies; ready = r; most = most_in (device new.device).fixed old.desk.config }) ready
+    ∙ ap (λ (f : Fixed). record (told_by device new) { configuration = old.desk.config; cap = old.desk.cap; entries = old.desk.entries ++ es; stores = map store_of old.copies; ready = old.ready; most = most_in f old.desk.config }) fixed
+
+-- nothing
+pub none_more : (old new : DeskState) → new ≡ old → new ≡ record old { entries = old.entries ++ [] }
+none_more old new same = same ∙ ap (λ (h : List Entry). record old { entries = h }) (sym (append-nil old.entries))
+
+-- the state behind one entry
+pub one_more : HistoriesStep → (old new : DeskState) (e : Entry) → new ≡ record old { entries = old.entries ++ e ∷ [] } → state_of new ≡ step old.config (state_of old) e
+one_more steps old new e adds = ap state_of adds ∙ steps old.config old.entries e
+
+-- HOW IT IS EXPLAINED
+
+pub explained : {D : Type 0} (device : D → DeviceTold) (old new : StackState D (List PlainBlock)) (es : List Entry) → Goes (device old.device) (device new.device)
+    → ((id : ℕ) → sum_from old.desk.config (block_price id) (state_of old.desk) es + refusable_in (map told_of new.copies) (state_of new.desk).hand id
+    ≤ refusable_in (map told_of old.copies) (state_of old.desk).hand id)
+    → WereCounted (sum_by (unpaid_off (plan_in (device old.device))) es) (unplanned_in (device old.device)) (unplanned_in (device new.device))
+    → AreExplained (plan_in (device old.device)) es (told_by device old) (told_by device new)
+explained device old new es goes refusals off = record { refusals = refusals; off = off; plan_stays = goes.plan; takes = goes.takes }
+
+-- its operations
+pub makes_one : {D : Type 0} (device : D → DeviceTold) (old new : StackState D (List PlainBlock)) (es : List Entry) → Goes (device old.device) (device new.device) → AllTell (ops_in (device new.device)) es
+    → MakesOne es (told_by device old) (told_by device new)
+makes_one device old new es goes tell = record { later = goes.later; one = goes.one; told = tell }
+
+-- no Off among it
+pub none_off : (u v : ℕ) → u ≤ v → WereCounted 0 u v
+none_off u v less = inl (omega (arith, less))
+
+-- one entry of this price
+pub one_price : (c : Configuration) (s : State) (id : ℕ) (e : Entry) (old new : List Told) (before after behind : Option Job) → behind ≡ after
+    → block_price id s e + refusable_in new after id ≤ refusable_in old before id
+    → sum_from c (block_price id) s (e ∷ []) + refusable_in new behind id ≤ refusable_in old before id
+one_price c s id e old new before after behind same less = subst (λ (h : Option Job). sum_from c (block_price id) s (e ∷ []) + refusable_in new h id ≤ refusable_in old before id) (sym same) (omega (arith, less))
+
+-- WHERE IT BEGINS
+
+pub begins_by : (t : Bool) → IsTrue (not t || true)
+begins_by true = refl
+begins_by false = refl
+
+pub begins_late : (s : State) (es : List Entry) → is_due s ≡ false → IsTrue (not (is_due s) || begins_with_pick_or_post es)
+begins_late s es none = rw none refl

@@ -1,0 +1,187 @@
+-- Turn after turn.
+use Rattle.std.specs.List.{list_all}
+use Rattle.std.specs.Option.{is_some}
+use Rattle.std.proofs.Common.{◌≡◌, ◌<◌, ◌+◌, ◌||◌, ℕ, zero, suc, Bool, true, false, IsTrue, List, [], ◌∷◌, ◌++◌, length, Option, Some, None, refl, sym, ap, ◌∙◌, subst, inl, inr, arith, append-nil, length-append}
+use Rattle.std.proofs.lemmas.Bool.{cases_Bool}
+use Rattle.nvm_core.specs.nv_base.Count.{Rose}
+use Rattle.nvm_core.specs.nvm_laws.declared.turned.Turned.{Turned}
+use Rattle.nvm_core.specs.nvm_laws.declared.turned.Turned.TheVariants as turned
+use Rattle.nvm_core.specs.block_machine.Words.{Entry, Configuration}
+use Rattle.nvm_core.specs.block_machine.State.{State, Job}
+use Rattle.nvm_core.specs.block_machine.Steps.{after, after_from}
+use Rattle.nvm_core.specs.block_laws.Laws.{HistoriesGoOn}
+use Rattle.script_walks.specs.Words.{Step}
+use Rattle.script_walks.specs.Walk.{is_played, is_at_rest, AreTurns}
+use Rattle.script_walks.specs.Turn.{IsTurn}
+use Rattle.script_walks.specs.Stores.{JobsTookStored}
+use Rattle.script_walks.specs.StoreLaws.{KeepsStored, TurnsKeepStored, KeepingGoesOn, TurnsGrow}
+use Rattle.script_player.specs.Told.{StackTold, state_of, IsGrown}
+use Rattle.script_player.specs.Calls.{Turns, is_last}
+use Rattle.script_player.specs.Kept.{IsKept, HasTurned, AreMade, MakesTurn, MakesTurns, Drains}
+use Rattle.script_player.proofs.Explained.{explained_more, none_explained}
+use Rattle.script_player.proofs.Grown.{state_more, state_grown, grown_more}
+use Rattle.script_player.proofs.Moves.{made_more, move_to, turn_moved}
+use Rattle.script_player.specs.Paying.{Payer, PaysTurn, PaysBy}
+use Rattle.script_player.proofs.Paying.{by_more}
+use Rattle.promise_run.specs.Turns.{Move}
+use Rattle.script_player.proofs.Serving.{calm_until, calm_from, serves_more, none_serves, any_serve, turn_serves}
+
+-- what a turn adds keeps what is kept
+pub turn_kept : HistoriesGoOn → TurnsKeepStored → (before : List Step) (old new : StackTold) (turn : MakesTurn old new) → IsKept before old → HasTurned 1 before old new turn.entries × IsKept before new
+turn_kept go turns before old new turn kept =
+    let keeps = turns old.configuration before (state_of old) old.stores turn.entries kept.stores kept.jobs turn.turn in (
+      record { grows = turn.grows; counted = turn.counted; explained = turn.explained; keeps = keeps; serves = turn_serves old new turn },
+      subst (λ (t : StackTold). IsKept before t) (sym turn.grows) (record {
+        ready = kept.ready;
+        places = kept.places;
+        stores = kept.stores;
+        jobs = subst (λ (s : State). JobsTookStored old.configuration before s) (sym (state_more go old.configuration old.entries turn.entries)) keeps.jobs;
+      }),
+    )
+
+pub turned_more : HistoriesGoOn → KeepingGoesOn → (n m : ℕ) (before : List Step) (old mid new : StackTold) (es more : List Entry) → HasTurned n before old mid es → HasTurned m before mid new more → HasTurned (n + m) before old new (es ++ more)
+turned_more go on n m before old mid new es more one two = record {
+  grows = grown_more old mid new es more one.grows two.grows;
+  counted = let a = one.counted in let b = two.counted in omega (arith, a, b);
+  explained = explained_more go old.causes.plan old mid new es more one.grows one.explained two.explained;
+  keeps = on old.configuration before (state_of old) es more one.keeps (later one.grows two.keeps);
+  serves = λ calm.
+      serves_more go n m old mid new es more one.grows
+      (one.serves (calm_until old mid new more (ap (λ (t : StackTold). t.entries) two.grows) two.counted calm)) (two.serves (calm_from old mid new one.counted calm));
+}
+  where
+    later : IsGrown es old mid → KeepsStored mid.configuration before (state_of mid) more → KeepsStored old.configuration before (after_from old.configuration (state_of old) es) more
+    later is keeps =
+        subst (λ (s : State). KeepsStored old.configuration before s more) (state_more go old.configuration old.entries es)
+        (subst (λ (t : StackTold). KeepsStored t.configuration before (state_of t) more) is keeps)
+
+pub none_turned : (before : List Step) (t : StackTold) → IsKept before t → HasTurned 0 before t t []
+none_turned before t kept = record {
+  grows = ap (λ (h : List Entry). record t { entries = h }) (sym (append-nil t.entries));
+  counted = omega arith;
+  explained = none_explained t;
+  keeps = record { played = refl; stores = tt; jobs = kept.jobs };
+  serves = λ calm. none_serves t;
+}
+
+-- whatever number of turns it was
+pub any_turned : (n : ℕ) (before : List Step) (old new : StackTold) (es : List Entry) → HasTurned n before old new es → HasTurned 0 before old new es
+any_turned n before old new es turned = record {
+  grows = turned.grows;
+  counted = turned.counted;
+  explained = turned.explained;
+  keeps = turned.keeps;
+  serves = λ calm. any_serve n es old new (turned.serves calm);
+}
+
+-- SO MANY TURNS
+
+first_turns : (c : Configuration) (s : State) (stores : List (ℕ × List ℕ)) (es : List Entry) → IsTurn c s stores es → IsTrue (list_all is_played es) → AreTurns s 1 es
+first_turns c s stores [] turn played = record { played = played; few = omega arith; begins = turn.begins }
+first_turns c s stores (e ∷ []) turn played = record { played = played; few = omega arith; begins = turn.begins }
+first_turns c s stores (e ∷ f ∷ es) turn played = absurd turn.entry
+
+-- a turn behind these entries
+later_turn : HistoriesGoOn → (old mid : StackTold) (es more : List Entry) → IsGrown es old mid → IsTurn mid.configuration (state_of mid) mid.stores more → IsTurn old.configuration (after_from old.configuration (state_of old) es) old.stores more
+later_turn go old mid es more grows turn =
+    subst (λ (s : State). IsTurn old.configuration s old.stores more) (state_more go old.configuration old.entries es)
+    (subst (λ (t : StackTold). IsTurn t.configuration (state_of t) t.stores more) grows turn)
+
+one_longer : (n : ℕ) (ms : List Move) (m : Move) → length ms ≡ n → length (ms ++ m ∷ []) ≡ suc n
+one_longer n ms m is = let all = length-append ms (m ∷ []) in omega (arith, all, is)
+
+pub one_turn_more : HistoriesGoOn → TurnsKeepStored → KeepingGoesOn → TurnsGrow → (p q r : Payer) (n : ℕ) (before : List Step) (old mid new : StackTold) → MakesTurns p q n before old mid → IsKept before mid → MakesTurn mid new → PaysTurn q r mid new
+    → MakesTurns p r (n + 1) before old new × IsKept before new
+one_turn_more go turns on grow p q r zero before old mid new (made, paid) kept turn pays =
+    let (turned, after) = turn_kept go turns before mid new turn kept in
+    let one = first_turns mid.configuration (state_of mid) mid.stores turn.entries turn.turn turned.keeps.played in
+    let here = turn_moved q r mid new turn pays in (
+      subst (λ (t : StackTold). MakesTurns p r 1 before t new) made (
+        turn.entries,
+        turned,
+        one,
+        (
+          move_to turn.entries new ∷ [],
+          refl,
+          record {
+            turns = here.turns;
+            tell = here.tell;
+            behind = here.behind;
+            chain = here.chain;
+            pays = by_more go p q r mid mid [] (move_to turn.entries new ∷ []) refl refl refl (subst (λ (t : StackTold). PaysBy p q t []) (sym made) paid) here.pays;
+          },
+        ),
+      ),
+      after,
+    )
+one_turn_more go turns on grow p q r (suc n) before old mid new (es, was, are, (ms, many, moved)) kept turn pays =
+    let (turned, after) = turn_kept go turns before mid new turn kept in
+    let more = grow old.configuration (state_of old) old.stores (suc n) es turn.entries are (omega arith) (later_turn go old mid es turn.entries was.grows turn.turn) turned.keeps.played in
+    let count : suc n + 1 ≡ suc (suc n) = omega arith in (
+      subst (λ (m : ℕ). MakesTurns p r m before old new) (sym count) (
+        es ++ turn.entries,
+        subst (λ (m : ℕ). HasTurned m before old new (es ++ turn.entries)) count (turned_more go on (suc n) 1 before old mid new es turn.entries was turned),
+        subst (λ (m : ℕ). AreTurns (state_of old) m (es ++ turn.entries)) count more,
+        (ms ++ move_to turn.entries new ∷ [], one_longer (suc n) ms (move_to turn.entries new) many, made_more go p q r old mid new es turn.entries ms (move_to turn.entries new ∷ []) was.grows moved (turn_moved q r mid new turn pays)),
+      ),
+      after,
+    )
+
+-- A DRAIN
+
+-- it ends
+pub drained : HistoriesGoOn → (p q : Payer) (before : List Step) (old new : StackTold) (es : List Entry) (ms : List Move) → HasTurned 0 before old new es → AreMade p q es ms old new → IsTrue (is_at_rest (state_of new) || (state_of new).off) → Drains p q before old new
+drained go p q before old new es ms turned moved ends =
+    (es, turned, record { played = turned.keeps.played; ends = subst (λ (s : State). IsTrue (is_at_rest s || s.off)) (state_grown go old new es turned.grows) ends }, (ms, moved))
+
+none_in : (hand : Option Job) → is_some hand ≡ false → hand ≡ None
+none_in None none = refl
+none_in (Some j) none = cc
+
+pub made_turn : (a : Turned) (old new : StackTold) → Turns a old new → MakesTurn old new
+made_turn a old new turn = record { entries = turn.entries; grows = turn.grows; counted = turn.counted; operations = turn.operations; picks = turn.picks; turn = turn.turn; explained = turn.explained; serves = turn.serves }
+
+at_rest_then : (s : State) → is_at_rest s ≡ true → IsTrue (is_at_rest s || s.off)
+at_rest_then s rest = rw rest refl
+
+off_then : (s : State) → s.off ≡ true → IsTrue (is_at_rest s || s.off)
+off_then s off = elim (cases_Bool (is_at_rest s)) [ inl on ↦ rw on refl | inr none ↦ rw (none, off) refl ]
+
+-- the state behind a turn that added nothing
+same_state : HistoriesGoOn → (old new : StackTold) (es : List Entry) → IsGrown es old new → es ≡ [] → state_of new ≡ state_of old
+same_state go old new es grows none = state_grown go old new es grows ∙ ap (after_from old.configuration (state_of old)) none
+
+pub last_ends : HistoriesGoOn → (a : Turned) (in_hand risen : Bool) (old new : StackTold) → Turns a old new → in_hand ≡ is_some (state_of old).hand → is_last a in_hand risen ≡ true → IsTrue (is_at_rest (state_of new) || (state_of new).off)
+last_ends go turned.Idle in_hand risen old new turn hand last =
+    at_rest_then (state_of new) (subst (λ (s : State). is_at_rest s ≡ true) (sym (same_state go old new turn.entries turn.grows turn.answers.0)) turn.answers.1)
+last_ends go turned.Off in_hand risen old new turn hand last = off_then (state_of new) (ap (λ s. s.off) (state_grown go old new turn.entries turn.grows) ∙ turn.answers)
+last_ends go turned.Worked true risen old new turn hand last = absurd (cc last)
+last_ends go turned.Worked false risen old new turn hand last =
+    let (none, rest) = turn.answers (none_in (state_of old).hand (sym hand)) in
+    at_rest_then (state_of new) (subst (λ (s : State). is_at_rest s ≡ true) (sym (same_state go old new turn.entries turn.grows none)) rest)
+last_ends go turned.Picked in_hand risen old new turn hand last = absurd (cc last)
+last_ends go turned.Posted in_hand risen old new turn hand last = absurd (cc last)
+
+some_hand : (hand : Option Job) → hand ≡ None → true ≡ is_some hand → ⊥
+some_hand None is same = cc
+some_hand (Some j) is same = cc
+
+-- behind it nothing is open at the device, where no fault was counted and the power is on
+pub last_closes : HistoriesGoOn → (a : Turned) (in_hand risen : Bool) (old new : StackTold) → Turns a old new → (risen ≡ true → Rose old.faults new.faults) → is_last a in_hand risen ≡ true → ¬ Rose old.faults new.faults
+    → (state_of new).off ≡ false → new.busy ≡ false
+last_closes go turned.Idle in_hand risen old new turn count last none on = turn.answers.2
+last_closes go turned.Off in_hand risen old new turn count last none on =
+    let off : (state_of new).off ≡ true = ap (λ s. s.off) (state_grown go old new turn.entries turn.grows) ∙ turn.answers in absurd (cc (off, on))
+last_closes go turned.Worked true risen old new turn count last none on = absurd (cc last)
+last_closes go turned.Worked false risen old new turn count last none on = absurd (none (count last))
+last_closes go turned.Picked in_hand risen old new turn count last none on = absurd (cc last)
+last_closes go turned.Posted in_hand risen old new turn count last none on = absurd (cc last)
+
+pub others_lower : (a : Turned) (in_hand risen : Bool) (old new : StackTold) → Turns a old new → in_hand ≡ is_some (state_of old).hand → (risen ≡ false → Rose old.faults new.faults → ⊥) → is_last a in_hand risen ≡ false → new.work < old.work
+others_lower turned.Idle in_hand risen old new turn hand count last = absurd (cc last)
+others_lower turned.Off in_hand risen old new turn hand count last = absurd (cc last)
+others_lower turned.Picked in_hand risen old new turn hand count last = turn.lowers
+others_lower turned.Posted in_hand risen old new turn hand count last = turn.lowers
+others_lower turned.Worked true risen old new turn hand count last = elim turn.lowers [ inl less ↦ less | inr rose ↦ absurd (some_hand (state_of old).hand rose.0 hand) ]
+others_lower turned.Worked false true old new turn hand count last = absurd (cc last)
+others_lower turned.Worked false false old new turn hand count last = elim turn.lowers [ inl less ↦ less | inr rose ↦ absurd (count refl rose.1) ]

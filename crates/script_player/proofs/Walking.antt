@@ -1,0 +1,298 @@
+-- Step after step.
+use Rattle.std.specs.Prelude.{slice_get, take, drop}
+use Rattle.std.proofs.Common.{◌≡◌, ◌<◌, ◌≤◌, ◌+◌, ◌*◌, ◌^◌, ℕ, zero, suc, List, [], ◌∷◌, ◌++◌, Option, Some, None, length, map, replicate, refl, sym, ap, ◌∙◌, subst, arith, add-one, length-append, append_assoc, append-nil}
+use Rattle.std.proofs.lemmas.List.{length-map}
+use Rattle.std.proofs.lemmas.List.Sums.{sum_by_push, sum_by-take-le}
+use Rattle.std.proofs.lemmas.Option.{get_or_from_slice_get, slice_get_within}
+use Rattle.nvm_core.specs.nv_base.Count.{WereCounted}
+use Rattle.nvm_core.specs.nv_base.Entry.{ops_behind}
+use Rattle.nvm_core.specs.block_machine.Words.{Instance, Mark, Entry, Found, Configuration}
+use Rattle.nvm_core.specs.block_machine.State.{State}
+use Rattle.nvm_core.specs.block_machine.StartUp.{at_first}
+use Rattle.nvm_core.specs.block_machine.Prices.{sum_from, block_price, prices_in_refusals}
+use Rattle.nvm_core.specs.block_machine.Steps.{after, after_from}
+use Rattle.nvm_core.specs.block_laws.Laws.{HistoriesGoOn}
+use Rattle.script_walks.specs.Words.{Step}
+use Rattle.script_walks.specs.Walk.{IsPiece, IsWalkOf, WalksGrow, joined}
+use Rattle.nvm_script.specs.Played.{IsPlayed, ArePlayed}
+use Rattle.script_walks.specs.Stores.{AreNewest, JobsTookStored}
+use Rattle.script_walks.specs.StoreLaws.{FirstAreNewest, StartsKeepStored}
+use Rattle.nvm_core.specs.ram_blocks.Plain.{store_of, plain_blocks_of}
+use Rattle.promise_run.specs.Run.{Played, unpaid_offs, refusals_of, RefusalsExplain}
+use Rattle.promise_run.specs.Completeness.{IsServed}
+use Rattle.script_player.specs.declared.steps.StepFault.{StepFault}
+use Rattle.script_player.specs.declared.steps.StepFault.TheVariants.{Flash, HistoryFull, Memory}
+use Rattle.script_player.specs.Told.{StackTold, state_of, moment_of, IsNoEarlier}
+use Rattle.script_player.specs.Kept.{IsKept}
+use Rattle.script_player.specs.Made.{cuts_in, cuts_of, PaysOffs, IsExplained, HasNoRoom, IsMade, IsLeft, IsFresh, HasWalked, MakesAt, LeavesAt, WereLeft, WasBroken}
+use Rattle.script_player.specs.Walking.{plan_behind, refusals_in, IsWalking, AreUnderWay}
+use Rattle.script_player.specs.Table.{HasLastStores}
+use Rattle.promise_run.specs.Turns.{Moment, Move, entries_of, moment_behind, all_moves}
+use Rattle.promise_run.proofs.Paid.{since_too}
+use Rattle.promise_run.proofs.Counted.{all_behind, behind_later, counted_by}
+use Rattle.script_player.specs.Paying.{Payer, PaysBy, since_behind}
+use Rattle.script_player.proofs.Paying.{none_pays, by_more}
+use Rattle.script_player.specs.Chain.{shown_of}
+use Rattle.script_player.proofs.Chain.{each_posted, all_more}
+use Rattle.script_player.proofs.Moves.{has_more, chain_more, moved_entries}
+use Rattle.script_player.proofs.Grown.{state_more}
+use Rattle.script_player.proofs.Table.{first_table}
+use Rattle.script_player.proofs.Explained.{counted_more, none_counted}
+use Rattle.script_player.proofs.Serving.{calm_until, calm_from}
+use Rattle.script_player.proofs.Awaited.{none_within, serving_more, is_served}
+use Rattle.script_player.proofs.Causes.{plan_more, unpaid_more, ops_in_all, joined_more, all_of, prices_more, refusals_more}
+
+-- LISTS
+
+some_same : {X : Type 0} (x y : X) → Some x ≡ Some y → x ≡ y
+some_same x y is = cc
+
+take_suc : {X : Type 0} (n : ℕ) (xs : List X) (x : X) → slice_get xs n ≡ Some x → take (suc n) xs ≡ take n xs ++ x ∷ []
+take_suc n [] x is = cc
+take_suc zero (y ∷ ys) x is = ap (λ z. z ∷ []) (some_same y x is)
+take_suc (suc n) (y ∷ ys) x is = ap (λ zs. y ∷ zs) (take_suc n ys x is)
+
+pub take_one_more : {X : Type 0} (n : ℕ) (xs : List X) (x : X) → slice_get xs n ≡ Some x → take (n + 1) xs ≡ take n xs ++ x ∷ []
+take_one_more n xs x is = ap (λ m. take m xs) (add-one n) ∙ take_suc n xs x is
+
+pub few_taken : {X : Type 0} (n : ℕ) (xs : List X) → length (take n xs) ≤ n
+few_taken zero xs = omega arith
+few_taken (suc n) [] = omega arith
+few_taken (suc n) (x ∷ xs) = let fewer = few_taken n xs in omega (arith, fewer)
+
+pub in_two : {X : Type 0} (n : ℕ) (xs : List X) → xs ≡ take n xs ++ drop n xs
+in_two zero xs = refl
+in_two (suc n) [] = refl
+in_two (suc n) (x ∷ xs) = ap (λ ys. x ∷ ys) (in_two n xs)
+
+rest_begins : {X : Type 0} (n : ℕ) (xs : List X) (x : X) → slice_get xs n ≡ Some x → drop n xs ≡ x ∷ drop (suc n) xs
+rest_begins n [] x is = cc
+rest_begins zero (y ∷ ys) x is = ap (λ z. z ∷ ys) (some_same y x is)
+rest_begins (suc n) (y ∷ ys) x is = rest_begins n ys x is
+
+-- a step of the script can be played
+pub is_played : (c : Configuration) (steps : List Step) (n : ℕ) (x : Step) → slice_get steps n ≡ Some x → ArePlayed c steps → IsPlayed c x
+is_played c steps n x is all = subst (λ (y : Step). IsPlayed c y) (get_or_from_slice_get steps n x x is) (all n x (slice_get_within steps n x is))
+
+-- THE WALK
+
+-- one more step
+pub walks_on : WalksGrow → HistoriesGoOn → (p q r : Payer) (made : List Step) (x : Step) (old mid new : StackTold) → mid.configuration ≡ old.configuration → mid.most ≡ old.most → old.faults ≤ mid.faults → IsWalking p q made old mid
+    → IsMade q r made x mid new → cuts_in x.kind ≤ mid.causes.takes → IsWalking p r (made ++ x ∷ []) old new
+walks_on grow go p q r made x old mid new same most counted walking step planned = record {
+  marks = walking.marks;
+  ops = walking.ops;
+  pieces = walking.pieces ++ piece ∷ [];
+  more = walking.more ++ piece;
+  grows = adds ∙ ap (λ (es : List Entry). es ++ piece) walking.grows ∙ append_assoc old.entries walking.more piece;
+  at = adds ∙ ap (λ (es : List Entry). es ++ piece) walking.at ∙ ap (λ (es : List Entry). first ∷ es) (sym (joined_more walking.pieces piece));
+  walk = subst (λ (es : List Entry). IsWalkOf old.configuration (made ++ x ∷ []) (walking.pieces ++ piece ∷ []) (first ∷ es)) (sym (joined_more walking.pieces piece))
+      (grow old.configuration made walking.pieces first (joined walking.pieces) x piece walking.walk
+      (subst (λ (s : State). IsPiece old.configuration made s x piece) state (subst (λ (c : Configuration). IsPiece c made (after c mid.entries) x piece) same is)));
+  as_many =
+      let a = length-append walking.pieces (piece ∷ []) in
+      let b = length-append made (x ∷ []) in
+      let n = walking.as_many in omega (arith, a, b, n);
+  refusals = λ id. refusals_more old.configuration id first made walking.pieces x piece walking.as_many (walking.refusals id) (told id);
+  refusable = λ id.
+      let price = ap (λ (es : List Entry). prices_in_refusals old.configuration id (first ∷ es)) (joined_more walking.pieces piece) ∙ prices_more old.configuration id (first ∷ joined walking.pieces) piece in
+      let asked = sum_by_push (λ (y : Step). refusals_of id y.kind) made x in
+      let now = own id in
+      let were = walking.refusable id in omega (arith, price, asked, now, were);
+  off = subst (λ (n : ℕ). WereCounted n old.causes.unplanned new.causes.unplanned) (sym (unpaid_more None 0 made walking.pieces x piece walking.as_many))
+      (counted_more (unpaid_offs None 0 made walking.pieces) _ old.causes.unplanned mid.causes.unplanned new.causes.unplanned walking.off paid.off);
+  plan_stays = subst (λ (p : Option ℕ). IsNoEarlier p new.causes.plan) (sym (plan_more None 0 made walking.pieces x piece walking.as_many)) paid.plan_stays;
+  takes =
+      let cuts = sum_by_push (λ (y : Step). cuts_in y.kind) made x in
+      let a = walking.takes in
+      let b = explained.takes in omega (arith, cuts, a, b);
+  moves = has_more made x walking.pieces piece step.moves (moment_of old) (moment_of mid) (moment_of new) walking.moves step.moved step.tell step.behind;
+  chain = chain_more walking.moves.moves step.moves (shown_of old) (shown_of mid) (shown_of new) walking.chain step.chain;
+  pays = subst (λ (ms : List Move). PaysBy p r old ms) (sym (all_more walking.moves.moves step.moves))
+      (by_more go p q r old mid (all_moves walking.moves.moves) step.moves same (all_behind (moment_of old) walking.moves.moves ∙ walking.moves.behind) walked_state walking.pays step.pays);
+  serves = λ calm.
+      serving_more go first made walking.pieces x old mid new walking.as_many same most walking.at step
+      (walking.serves (calm_until old mid new piece adds step.counted calm)) (step.serves (calm_from old mid new counted calm));
+}
+  where
+    piece : List Entry
+    piece = step.piece
+
+    adds : new.entries ≡ mid.entries ++ piece
+    adds = step.entries
+
+    -- the state behind the moves so far
+    walked_state : state_of mid ≡ after_from old.configuration (state_of old) (entries_of (all_moves walking.moves.moves))
+    walked_state =
+        ap (λ (c : Configuration). after c mid.entries) same
+        ∙ ap (after old.configuration) (moved_entries (all_moves walking.moves.moves) (shown_of old) (shown_of mid) walking.chain)
+        ∙ state_more go old.configuration old.entries (entries_of (all_moves walking.moves.moves))
+
+    is : IsPiece mid.configuration made (state_of mid) x piece
+    is = step.is
+
+    explained : IsExplained x.kind piece mid new
+    explained = step.explained
+
+    first : Entry
+    first = Found walking.marks walking.ops
+
+    state : after old.configuration mid.entries ≡ after old.configuration (first ∷ joined walking.pieces)
+    state = ap (after old.configuration) walking.at
+
+    -- the prices of the piece
+    own : (id : ℕ) → sum_from old.configuration (block_price id) (after old.configuration (first ∷ joined walking.pieces)) piece + new.causes.refusable id ≤ mid.causes.refusable id + refusals_of id x.kind
+    own id =
+        subst (λ (s : State). sum_from old.configuration (block_price id) s piece + new.causes.refusable id ≤ mid.causes.refusable id + refusals_of id x.kind) state
+        (subst (λ (c : Configuration). sum_from c (block_price id) (after c mid.entries) piece + new.causes.refusable id ≤ mid.causes.refusable id + refusals_of id x.kind) same (explained.refusals id))
+
+    told : (id : ℕ) → prices_in_refusals old.configuration id (first ∷ joined walking.pieces) + sum_from old.configuration (block_price id) (after old.configuration (first ∷ joined walking.pieces)) piece ≤ refusals_in id made + refusals_of id x.kind
+    told id = let now = own id in let were = walking.refusable id in omega (arith, now, were)
+
+    few : ops_behind 0 (joined walking.pieces) ≤ ops_behind 0 mid.entries
+    few = subst (λ (es : List Entry). ops_behind 0 (joined walking.pieces) ≤ ops_behind 0 es) (sym walking.at) (ops_in_all walking.marks walking.ops (joined walking.pieces))
+
+    paid : PaysOffs x.kind (plan_behind None 0 made walking.pieces) (ops_behind 0 (joined walking.pieces)) piece mid new
+    paid = explained.offs (plan_behind None 0 made walking.pieces) (ops_behind 0 (joined walking.pieces)) planned few walking.plan_stays
+
+pub has_walked : HistoriesGoOn → (p q r : Payer) (made : List Step) (old mid new : StackTold) → new.entries ≡ mid.entries → mid.faults ≤ new.faults → new.ops ≡ mid.ops → WereCounted 0 mid.causes.unplanned new.causes.unplanned → PaysBy q r mid [] → IsWalking p q made old mid → HasWalked p r made old new
+has_walked go p q r made old mid new same counted operations cuts pays walking = record {
+  more = walking.more;
+  grows = same ∙ walking.grows;
+  pieces = walking.pieces;
+  walk = subst (λ (es : List Entry). IsWalkOf old.configuration made walking.pieces es) (sym (same ∙ walking.at)) walking.walk;
+  refusals = λ id. subst (λ (es : List Entry). RefusalsExplain old.configuration (Played made walking.pieces []) es id) (sym (same ∙ walking.at)) (walking.refusals id);
+  off = subst (λ (n : ℕ). WereCounted n old.causes.unplanned new.causes.unplanned) (nothing_more (unpaid_offs None 0 made walking.pieces))
+      (counted_more (unpaid_offs None 0 made walking.pieces) 0 old.causes.unplanned mid.causes.unplanned new.causes.unplanned walking.off cuts);
+  complete = λ calm.
+      subst (λ (h : List Entry). IsServed old.configuration old.most made walking.pieces h) (sym (same ∙ walking.at))
+      (is_served (Found walking.marks walking.ops) made walking.pieces old mid
+      (walking.serves (calm_until old mid new [] (same ∙ sym (append-nil mid.entries)) counted calm)));
+  last = moment_of mid;
+  serves = each_posted go (all_moves walking.moves.moves) (shown_of old) (shown_of mid) walking.chain;
+  moves = walking.moves;
+  operations = sym operations;
+  counted = counted;
+  pays = record {
+    failed = λ k few is. walking.pays.failed k few (pays.failed k (let later = behind_later q.failed (moment_of old) (all_moves walking.moves.moves) walking.pays.counts in omega (arith, few, later, ends)) is);
+    counts = counted_by q.failed r.failed mid.ops pays.failed (moment_of old) (all_moves walking.moves.moves) (omega (arith, ends)) walking.pays.counts;
+    worn = λ k n is. pays.worn k n (walking.pays.worn k n is);
+    pays = λ since owes.
+        let (paid, then_owes) = walking.pays.pays since owes in
+        let moves = all_moves walking.moves.moves in (
+          since_too old.configuration q.worn r.worn pays.worn since (moment_of old) (state_of old) moves paid,
+          (pays.pays (since_behind since (moment_of old) moves) then_owes).1,
+        );
+  };
+}
+  where
+    nothing_more : (n : ℕ) → n + 0 ≡ n
+    nothing_more n = omega arith
+
+    ends : (moment_behind (moment_of old) (all_moves walking.moves.moves)).ops ≡ mid.ops
+    ends = ap (λ (m : Moment). m.ops) (all_behind (moment_of old) walking.moves.moves ∙ walking.moves.behind)
+
+none_taken : (c : Configuration) (id n : ℕ) (marks : List (Instance × Mark)) (ops : ℕ) → prices_in_refusals c id (Found marks ops ∷ joined (take n [])) ≤ refusals_in id (take n [])
+none_taken c id zero marks ops = omega arith
+none_taken c id (suc n) marks ops = omega arith
+
+-- a fresh stack has walked no step
+pub fresh_walking : (p : Payer) (t : StackTold) → IsFresh t → IsWalking p p [] t t
+fresh_walking p t fresh = record {
+  marks = fresh.marks;
+  ops = fresh.ops;
+  pieces = [];
+  more = [];
+  grows = sym (append-nil t.entries);
+  at = fresh.entries;
+  walk = (refl, tt);
+  as_many = refl;
+  refusals = λ id n. none_taken t.configuration id n fresh.marks fresh.ops;
+  refusable = λ id. let none = fresh.none_refused id in omega (arith, none);
+  off = none_counted t.causes.unplanned;
+  plan_stays = subst (λ (p : Option ℕ). IsNoEarlier None p) (sym fresh.none_planned) tt;
+  takes = omega arith;
+  moves = record { moves = []; are = tt; tell = refl; behind = refl };
+  chain = refl;
+  pays = none_pays p t;
+  serves = λ calm. record { posts = tt; drains = tt; within = none_within t fresh.marks fresh.ops fresh.entries };
+}
+
+length_mapped : (c : Configuration) → length (map store_of (plain_blocks_of c)) ≡ length c.blocks + 1
+length_mapped c = simp length-map (sym (add-one (length c.blocks)))
+
+pub fresh_kept : FirstAreNewest → StartsKeepStored → (t : StackTold) → IsFresh t → IsKept [] t
+fresh_kept first starts t fresh = record {
+  ready = fresh.ready;
+  places = ap length fresh.stores ∙ length_mapped t.configuration;
+  stores = subst (λ (s : List (ℕ × List ℕ)). AreNewest t.configuration [] s) (sym fresh.stores) (first t.configuration);
+  jobs = subst (λ (h : List Entry). JobsTookStored t.configuration [] (after t.configuration h)) (sym fresh.entries) (starts t.configuration [] at_first fresh.marks fresh.ops);
+}
+
+-- WHAT IS LEFT
+
+were_left : (fault : StepFault) (x : Step) (xs : List Step) (old mid new : StackTold) → mid.configuration ≡ old.configuration → mid.cap ≡ old.cap → IsLeft fault x mid new → WereLeft fault (x ∷ xs) (moment_of mid) old new
+were_left Flash x xs old mid new configuration cap left = left.why
+were_left Memory x xs old mid new configuration cap left = tt
+were_left HistoryFull x xs old mid new configuration cap left =
+    subst (λ (h : List Entry). HasNoRoom old.configuration old.cap (after old.configuration h) x.kind) (sym left.entries)
+    (subst (λ (n : ℕ). HasNoRoom old.configuration n (after old.configuration mid.entries) x.kind) cap
+    (subst (λ (c : Configuration). HasNoRoom c mid.cap (after c mid.entries) x.kind) configuration left.why))
+
+pub was_broken : HistoriesGoOn → (p q r : Payer) (fault : StepFault) (steps : List Step) (n : ℕ) (x : Step) (old mid new : StackTold) → slice_get steps n ≡ Some x → mid.configuration ≡ old.configuration → mid.cap ≡ old.cap
+    → IsWalking p q (take n steps) old mid → IsLeft fault x mid new → PaysBy q r mid [] → WasBroken p r fault steps old new
+unfolding has_walked
+was_broken go p q r fault steps n x old mid new is configuration cap walking left pays = record {
+  made = take n steps;
+  left = drop n steps;
+  order = in_two n steps;
+  walked = has_walked go p q r (take n steps) old mid new left.entries left.counted left.operations left.cuts pays walking;
+  why = subst (λ (xs : List Step). WereLeft fault xs (moment_of mid) old new) (sym (rest_begins n steps x is)) (were_left fault x (drop (suc n) steps) old mid new configuration cap left);
+}
+
+-- nothing was made for want of memory
+pub none_made : HistoriesGoOn → (p : Payer) (steps : List Step) (t : StackTold) → IsFresh t → WasBroken p p Memory steps t t
+none_made go p steps t fresh = record { made = []; left = steps; order = refl; walked = has_walked go p p p [] t t t refl (omega arith) refl (none_counted t.causes.unplanned) (none_pays p t) (fresh_walking p t fresh); why = tt }
+
+-- UNDER WAY
+
+pub begin : FirstAreNewest → StartsKeepStored → (p : Payer) (steps : List Step) (blocks : ℕ) (table : List ℕ) (t : StackTold) → IsFresh t → blocks ≡ length t.configuration.blocks → table ≡ replicate (16 * (blocks + 1)) 0 → AreUnderWay p p steps 0 table t t
+begin first starts p steps blocks table t fresh count is = record {
+  configuration = refl;
+  cap = refl;
+  most = refl;
+  counted = omega arith;
+  kept = fresh_kept first starts t fresh;
+  table_kept = subst (λ (xs : List ℕ). HasLastStores t.configuration [] xs) (sym (is ∙ ap (λ n. replicate (16 * (n + 1)) 0) count)) (first_table t.configuration);
+  walking = fresh_walking p t fresh;
+}
+
+-- the plans that the next step may need are taken yet
+takes_enough : (steps : List Step) (i : ℕ) (x : Step) (old mid : StackTold) → slice_get steps i ≡ Some x → cuts_of steps ≤ old.causes.takes → old.causes.takes ≤ mid.causes.takes + cuts_of (take i steps) → cuts_in x.kind ≤ mid.causes.takes
+takes_enough steps i x old mid at all are =
+    let more = ap cuts_of (take_one_more i steps x at) ∙ sum_by_push (λ (y : Step). cuts_in y.kind) (take i steps) x in
+    let within = sum_by-take-le (λ (y : Step). cuts_in y.kind) steps (i + 1) in omega (arith, more, within, all, are)
+
+pub go_on : WalksGrow → HistoriesGoOn → (p q r : Payer) (steps : List Step) (i : ℕ) (table table' : List ℕ) (old mid new : StackTold) → i < 2 ^ 32 → cuts_of steps ≤ old.causes.takes → AreUnderWay p q steps i table old mid → MakesAt q r steps i table table' mid new → AreUnderWay p r steps (i + 1) table' old new
+go_on grow go p q r steps i table table' old mid new few planned way makes =
+    let fewer = few_taken i steps in
+    let (made, has) = makes.made (take i steps) (omega (arith, fewer, few)) way.kept way.table_kept in
+    let more = take_one_more i steps makes.step makes.at in
+    record {
+      configuration = made.configuration ∙ way.configuration;
+      cap = made.cap ∙ way.cap;
+      most = made.most ∙ way.most;
+      counted = let a = way.counted in let b = made.counted in omega (arith, a, b);
+      kept = subst (λ (xs : List Step). IsKept xs new) (sym more) made.kept;
+      table_kept = subst (λ (xs : List Step). HasLastStores new.configuration xs table') (sym more) (subst (λ (c : Configuration). HasLastStores c (take i steps ++ makes.step ∷ []) table') (sym made.configuration) has);
+      walking = subst (λ (xs : List Step). IsWalking p r xs old new) (sym more)
+          (walks_on grow go p q r (take i steps) makes.step old mid new way.configuration way.most way.counted way.walking made (takes_enough steps i makes.step old mid makes.at planned way.walking.takes));
+    }
+
+-- all of them
+pub all_made : HistoriesGoOn → (p q : Payer) (steps : List Step) (i : ℕ) (table : List ℕ) (old now : StackTold) → length steps ≤ i → AreUnderWay p q steps i table old now → HasWalked p q steps old now
+all_made go p q steps i table old now all way =
+    subst (λ (xs : List Step). HasWalked p q xs old now) (all_of i steps all) (has_walked go p q q (take i steps) old now now refl (omega arith) refl (none_counted now.causes.unplanned) (none_pays q now) way.walking)
+
+pub some_made : HistoriesGoOn → (p q r : Payer) (fault : StepFault) (steps : List Step) (i : ℕ) (table : List ℕ) (old mid new : StackTold) → AreUnderWay p q steps i table old mid → LeavesAt fault steps i mid new → PaysBy q r mid [] → WasBroken p r fault steps old new
+some_made go p q r fault steps i table old mid new way leaves pays = was_broken go p q r fault steps i leaves.step old mid new leaves.at way.configuration way.cap way.walking leaves.left pays

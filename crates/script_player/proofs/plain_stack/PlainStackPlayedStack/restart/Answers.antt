@@ -1,0 +1,91 @@
+use Rattle.std.specs.Prelude.{IsSome}
+use Rattle.std.proofs.Common.{◌≡◌, ℕ, Bool, true, false, List, Option, Some, None, refl, sym, ap, subst, inl}
+use Rattle.nvm_core.specs.nv_base.declared.instance.DeviceNumber.{DeviceNumber}
+use Rattle.nvm_core.specs.memif.Told.{DeviceTold, Slot, Part, PartTold}
+use Rattle.nvm_core.specs.memif.Clock.{Clock}
+use Rattle.nvm_core.specs.block_machine.Words.{Configuration}
+use Rattle.nvm_core.specs.block_machine.State.{State}
+use Rattle.nvm_core.specs.block_machine.Steps.{after}
+use Rattle.nvm_core.specs.promise_blocks.Counts.{count_due}
+use Rattle.nvm_core.specs.promise_blocks.OverDevice.{HasStarted}
+use Rattle.nvm_core.specs.nvm_device_laws.Pairing.{Allows, Pairs}
+use Rattle.nvm_core.specs.job_progress.Hand.{HandState}
+use Rattle.nvm_core.specs.nv_desk.Desk.{DeskState}
+use Rattle.nvm_core.specs.ram_blocks.declared.plain_block.PlainBlock.{PlainBlock}
+use Rattle.nvm_core.specs.nvm_laws.Keeps.{StackKeeps}
+use Rattle.nvm_core.specs.nvm_laws.declared.turned.FoundAnswer.{FoundAnswer}
+use Rattle.nvm_core.specs.nvm_laws.declared.turned.FoundAnswer.TheVariants as found
+use Rattle.nvm_core.specs.Stack.{StackState}
+use Rattle.nvm_core.specs.StartUps.{KeepsDown, Restarts, StartsKeep}
+use Rattle.script_player.specs.Paying.{PaysNothing}
+use Rattle.script_player.specs.PlainTold.{told_by}
+use Rattle.script_player.specs.PlainKept.{IsKept}
+use Rattle.script_player.specs.PlainPaying.{payer_by}
+use Rattle.script_player.proofs.PlainPaying.{nothing_paid, restart_ops, restart_owes}
+use Rattle.script_player.proofs.plain_stack.PlainStackPlayedStack.restart.Goals as goal
+
+-- a device whose slots are paired with the machine's tells them
+told_slots : (c : Configuration) (s : State) (due : ℕ → ℕ) (numbers : List (DeviceNumber × ℕ)) (o : Option (List Slot)) → Pairs Allows c s due numbers o → IsSome o
+told_slots c s due numbers (Some slots) pairs = refl
+told_slots c s due numbers None pairs = absurd pairs
+
+-- whatever the last start-up came to, a further one has what it needs
+module _ (before : Part → PartTold) (desk : DeskState) (hand : Option HandState) (d : DeviceTold) (clock : Clock)
+    (comes : (x : DeskState) (h : Option HandState) → StackKeeps before x h d clock → KeepsDown before x d clock) where
+  is_down : (ready : Bool) → IsKept ready before desk hand d clock → KeepsDown before desk d clock
+  is_down true kept = comes desk hand kept
+  is_down false kept = kept.keeps
+
+  is_started : (ready : Bool) → IsKept ready before desk hand d clock → HasStarted desk.entries
+  is_started true kept = kept.started
+  is_started false kept = kept.started
+
+module _ {D : Type 0} (told : D → DeviceTold) (clock : D → Clock) (before : Part → PartTold) (old new : StackState D (List PlainBlock))
+    (comes : (x : DeskState) (h : Option HandState) → StackKeeps before x h (told old.device) (clock old.device) → KeepsDown before x (told old.device) (clock old.device))
+    (kept : IsKept old.ready before old.desk old.hand (told old.device) (clock old.device)) where
+  downs : KeepsDown before old.desk (told old.device) (clock old.device)
+  downs = is_down before old.desk old.hand (told old.device) (clock old.device) comes old.ready kept
+
+  begun : HasStarted old.desk.entries
+  begun = is_started before old.desk old.hand (told old.device) (clock old.device) comes old.ready kept
+
+  slots : IsSome (told old.device).slots
+  slots = told_slots old.desk.config (after old.desk.config old.desk.entries) (count_due old.desk.entries downs.base) (told old.device).fixed.numbers (told old.device).slots (downs.marks begun)
+
+  same : new ≡ old → IsKept new.ready before new.desk new.hand (told new.device) (clock new.device)
+  same is = subst (λ (s : StackState D (List PlainBlock)). IsKept s.ready before s.desk s.hand (told s.device) (clock s.device)) (sym is) kept
+
+  restart_keeps : (answer : FoundAnswer) → Restarts told answer old new → StartsKeep answer old.desk (told old.device) (clock old.device) new.desk (told new.device) (clock new.device)
+      → IsKept new.ready before new.desk new.hand (told new.device) (clock new.device)
+  restart_keeps found.Ready restarts keeps =
+      subst (λ (b : Bool). IsKept b before new.desk new.hand (told new.device) (clock new.device)) (sym (ap (λ (s : StackState D (List PlainBlock)). s.ready) restarts.only))
+      (subst (λ (h : Option HandState). StackKeeps before new.desk h (told new.device) (clock new.device)) (sym (ap (λ (s : StackState D (List PlainBlock)). s.hand) restarts.only))
+      (keeps before slots (inl begun) downs))
+  restart_keeps found.Failed restarts keeps =
+      subst (λ (b : Bool). IsKept b before new.desk new.hand (told new.device) (clock new.device)) (sym (ap (λ (s : StackState D (List PlainBlock)). s.ready) restarts.only))
+      (record {
+        started = subst HasStarted (sym (ap (λ (s : StackState D (List PlainBlock)). s.desk.entries) restarts.only)) begun;
+        keeps = keeps before downs;
+      })
+  restart_keeps found.NoRoom restarts keeps = same restarts.0
+  restart_keeps found.Memory restarts keeps = same restarts
+
+pub returns-clause-keeps : goal.returns-clause-keeps
+returns-clause-keeps g c before kept =
+    let told = g.D.MemDevice.told in
+    let clock = g.D.MemDevice.clock in
+    let s = c.self.inside.stack in
+    restart_keeps told clock before s c.restart.new.self (c.restart.ensures.down before)
+    (subst (λ (t : StackState g.row.D.Denot (List PlainBlock)). IsKept t.ready before t.desk t.hand (told t.device) (clock t.device)) (sym c.self.view_is) kept)
+    c.restart.result c.restart.ensures.restarts c.restart.ensures.keeps
+
+pub returns-clause-pays : goal.returns-clause-pays
+returns-clause-pays g c =
+    let s = c.self.inside.stack in
+    let new = c.restart.new.self in
+    let told = g.D.MemDevice.told in
+    let clock = g.D.MemDevice.clock in
+    subst (λ (t : StackState g.row.D.Denot (List PlainBlock)). PaysNothing (payer_by told clock t) (payer_by told clock new) (told_by told new)) c.self.view_is
+    (nothing_paid told clock s new
+    (λ before kept. restart_keeps told clock before s new (c.restart.ensures.down before) kept c.restart.result c.restart.ensures.restarts c.restart.ensures.keeps)
+    c.restart.ensures.lasts (restart_ops told clock s new c.restart.result c.restart.ensures.restarts) (restart_owes told clock s new c.restart.result c.restart.ensures.restarts))

@@ -1,0 +1,25 @@
+use Rattle.std.proofs.Common.{◌≤◌, ℕ, sym, ◌∙◌, subst}
+use Rattle.nvm_core.specs.nv_base.Count.{Rose}
+use Rattle.script_player.proofs.Turned.{made_turn, last_ends, last_closes, others_lower}
+use Rattle.script_player.proofs.turns.ends_drain.Goals as goal
+
+pub returns-clause-turn : goal.returns-clause-turn
+returns-clause-turn g c = made_turn c.turn-turned.result (g.S.PlayedStack.told c.args.stack.now) (g.S.PlayedStack.told c.turn-turned.new.self) c.turn-turned.ensures.turns
+
+pub returns-clause-ends : goal.returns-clause-ends
+returns-clause-ends g c last =
+    last_ends c.histories_grow.ensures.goes_on c.turn-turned.result c.in_hand-in_hand.result c.has_risen.result (g.S.PlayedStack.told c.args.stack.now) (g.S.PlayedStack.told c.turn-turned.new.self) c.turn-turned.ensures.turns
+    c.in_hand-in_hand.ensures (sym c.is_last.ensures ∙ last)
+
+pub returns-clause-goes_on : goal.returns-clause-goes_on
+returns-clause-goes_on g c last =
+    others_lower c.turn-turned.result c.in_hand-in_hand.result c.has_risen.result (g.S.PlayedStack.told c.args.stack.now) (g.S.PlayedStack.told c.turn-turned.new.self) c.turn-turned.ensures.turns c.in_hand-in_hand.ensures
+    (λ none rose. c.has_risen.ensures.not none (subst (λ (n : ℕ). Rose n c.faults.result) (sym c.faults-faults.ensures) (subst (λ (n : ℕ). Rose (g.S.PlayedStack.told c.args.stack.now).faults n) (sym c.faults.ensures) rose)))
+    (sym c.is_last.ensures ∙ last)
+
+pub returns-clause-at_rest : goal.returns-clause-at_rest
+returns-clause-at_rest g c last =
+    last_closes c.histories_grow.ensures.goes_on c.turn-turned.result c.in_hand-in_hand.result c.has_risen.result (g.S.PlayedStack.told c.args.stack.now) (g.S.PlayedStack.told c.turn-turned.new.self) c.turn-turned.ensures.turns
+    (λ risen. subst (λ (n : ℕ). Rose n (g.S.PlayedStack.told c.turn-turned.new.self).faults) c.faults-faults.ensures (subst (λ (n : ℕ). Rose c.faults-faults.result n) c.faults.ensures
+    (c.has_risen.ensures.rose risen (subst (λ (n : ℕ). n ≤ c.faults.result) (sym c.faults-faults.ensures) (subst (λ (n : ℕ). (g.S.PlayedStack.told c.args.stack.now).faults ≤ n) (sym c.faults.ensures) c.turn-turned.ensures.turns.counted)))))
+    (sym c.is_last.ensures ∙ last)

@@ -1,0 +1,159 @@
+-- What each call of a stack does.
+use Rattle.std.specs.Prelude.{◌≡◌, ◌⊎◌, ◌<◌, ◌≤◌, ◌+◌, ℕ, not, ◌&&◌, Bool, true, false, IsTrue, List, [], ◌∷◌, ◌++◌, get_or, slice_set, sum_by, is_some, Option, Some, None, Result, Ok, Err}
+use Rattle.std.specs.List.{list_any}
+use Rattle.nvm_core.specs.nv_base.Count.{Rose, WereCounted}
+use Rattle.nvm_core.specs.nv_base.Entry.{ops_of, ops_behind}
+use Rattle.nvm_core.specs.nv_desk.declared.ask.AskFault.{AskFault}
+use Rattle.nvm_core.specs.nv_desk.declared.ask.AskFault.TheVariants as fault
+use Rattle.nvm_core.specs.nvm_laws.declared.turned.Turned.{Turned}
+use Rattle.nvm_core.specs.nvm_laws.declared.turned.Turned.TheVariants as turned
+use Rattle.nvm_core.specs.nvm_laws.declared.turned.FoundAnswer.{FoundAnswer}
+use Rattle.nvm_core.specs.nvm_laws.declared.turned.FoundAnswer.TheVariants as found
+use Rattle.nvm_core.specs.block_machine.Words.{Instance, Mark, Request, Reply, Entry, Ask, Found}
+use Rattle.nvm_core.specs.block_machine.State.{Job}
+use Rattle.nvm_core.specs.block_machine.Blocks.{job_block}
+use Rattle.nvm_core.specs.block_machine.Steps.{after_from}
+use Rattle.nvm_core.specs.block_machine.Reply.{fits}
+use Rattle.nvm_core.specs.block_machine.Prices.{sum_from, block_price}
+use Rattle.nvm_core.specs.ram_blocks.Copies.{next_number}
+use Rattle.script_walks.specs.Words.{Refuse}
+use Rattle.script_walks.specs.Walk.{is_at_rest}
+use Rattle.script_walks.specs.Turn.{IsTurn}
+use Rattle.promise_run.specs.Run.{unpaid_off, refusals_of}
+use Rattle.promise_run.specs.Completeness.{ends_job}
+use Rattle.promise_run.specs.Turns.{is_picked}
+use Rattle.script_player.specs.Told.{StackTold, state_of, IsWithin, IsGrown, IsNoEarlier}
+
+-- CAUSES
+
+-- Entries are explained: their Posts tell of no more refused copies than could be told of, and each Off comes where its cut
+-- was planned, or a cut was counted.
+pub record AreExplained (plan : Option ℕ) (es : List Entry) (old new : StackTold) : Type 0 where
+  pub refusals : (id : ℕ) → sum_from old.configuration (block_price id) (state_of old) es + new.causes.refusable id ≤ old.causes.refusable id
+  pub off : WereCounted (sum_by (unpaid_off plan) es) old.causes.unplanned new.causes.unplanned
+  pub plan_stays : IsNoEarlier plan new.causes.plan
+  pub takes : old.causes.takes ≤ new.causes.takes
+
+-- THE JOB IN HAND
+
+-- of a job in hand: an entry ends it, or it stays in hand and so many turns fewer are left
+abbrev pub Nears : ℕ → List Entry → StackTold → StackTold → Type 0
+Nears turns es old new =
+    (j : Job) → (state_of old).hand ≡ Some j
+    → IsTrue (list_any (ends_job (job_block j)) es) ⊎ (IsTrue (is_some (state_of new).hand) × (new.left + turns ≤ old.left))
+
+-- so many turns serve it
+pub record Serves (turns : ℕ) (es : List Entry) (old new : StackTold) : Type 0 where
+  pub nears : Nears turns es old new
+  pub within : IsWithin old → IsWithin new
+
+-- REQUESTS
+
+-- one entry; a job in hand stays in hand, with the turns that were left of it
+pub record AddsAsk (e : Entry) (old new : StackTold) : Type 0 where
+  pub adds : new ≡ record old { entries = old.entries ++ e ∷ []; work = new.work; causes = new.causes }
+  pub explained : AreExplained old.causes.plan (e ∷ []) old new
+  pub within : IsWithin old → IsWithin new
+
+-- a request is one entry, or nothing changed: it has no room, or memory was wanting
+abbrev pub Asks : ℕ → Request → Result Reply AskFault → StackTold → StackTold → Type 0
+Asks caller r (Ok reply) old new = AddsAsk (Ask caller r reply) old new
+Asks caller r (Err fault.NoRoom) old new = (new ≡ old) × IsTrue (not (fits old.configuration old.cap (state_of old) 1))
+Asks caller r (Err fault.Memory) old new = new ≡ old
+
+-- TURNS
+
+-- when each answer comes, by the entries that the turn added
+abbrev pub IsAnswer : Turned → List Entry → StackTold → StackTold → Type 0
+IsAnswer turned.Idle es old new = (es ≡ []) × IsTrue (is_at_rest (state_of old)) × (new.busy ≡ false)
+IsAnswer turned.Off es old new = (after_from old.configuration (state_of old) es).off ≡ true
+IsAnswer turned.Worked es old new = (state_of old).hand ≡ None → (es ≡ []) × IsTrue (is_at_rest (state_of old))
+IsAnswer turned.Picked es old new = Unit {0}
+IsAnswer turned.Posted es old new = Unit {0}
+
+-- the work falls with each turn, but where nothing was in hand and a fault was counted
+abbrev pub Lowers : Turned → StackTold → StackTold → Type 0
+Lowers turned.Idle old new = Unit {0}
+Lowers turned.Off old new = Unit {0}
+Lowers turned.Worked old new = (new.work < old.work) ⊎ (((state_of old).hand ≡ None) × Rose old.faults new.faults)
+Lowers turned.Picked old new = new.work < old.work
+Lowers turned.Posted old new = new.work < old.work
+
+-- these entries tell so many operations
+abbrev pub AllTell : ℕ → List Entry → Type 0
+AllTell ops [] = Unit {0}
+AllTell ops (e ∷ es) = (ops_of e ≡ Some ops) × AllTell ops es
+
+-- one changing operation at most was made, and the entries tell the operations behind it
+pub record MakesOne (es : List Entry) (old new : StackTold) : Type 0 where
+  pub later : old.ops ≤ new.ops
+  pub one : new.ops ≤ old.ops + 1
+  pub told : AllTell new.ops es
+
+-- A turn adds one entry at most, and makes one changing operation at most. It serves the job in hand, where it counted no
+-- fault and the power is on behind it.
+pub record Turns (answer : Turned) (old new : StackTold) : Type 0 where
+  pub entries : List Entry
+  pub grows : IsGrown entries old new
+  pub counted : old.faults ≤ new.faults
+  pub operations : MakesOne entries old new
+  pub turn : IsTurn old.configuration (state_of old) old.stores entries
+  pub explained : AreExplained old.causes.plan entries old new
+  pub answers : IsAnswer answer entries old new
+  pub lowers : Lowers answer old new
+  -- behind a Pick its job has its turns, and the power was on
+  pub picks : IsTrue (list_any (λ e. is_picked (Some e)) entries) → IsWithin new × ((state_of old).off ≡ false)
+  pub serves : ¬ Rose old.faults new.faults → (state_of new).off ≡ false → Serves 1 entries old new
+
+-- START-UPS
+
+-- a start-up that stands is one entry, and makes no changing operation; no cut is planned behind it
+pub record StartsAgain (old new : StackTold) : Type 0 where
+  pub marks : List (Instance × Mark)
+  pub ops : ℕ
+  pub grows : IsGrown (Found marks ops ∷ []) (record old { ready = true }) new
+  pub counted : old.faults ≤ new.faults
+  pub operations : new.ops ≡ old.ops
+  pub explained : AreExplained None (Found marks ops ∷ []) old new
+
+-- one that fails adds no entry and makes no changing operation, and the stack isn't ready
+pub record FailsToStart (old new : StackTold) : Type 0 where
+  pub only : new ≡ record old { ready = false; faults = new.faults; ops = new.ops; work = new.work; left = new.left; busy = new.busy; causes = new.causes }
+  pub operations : new.ops ≡ old.ops
+  pub fault : Rose old.faults new.faults
+  pub explained : AreExplained old.causes.plan [] old new
+
+abbrev pub Restarts : FoundAnswer → StackTold → StackTold → Type 0
+Restarts found.Ready old new = StartsAgain old new
+Restarts found.Failed old new = FailsToStart old new
+Restarts found.NoRoom old new = (new ≡ old) × (old.cap < (state_of old).count + 2)
+Restarts found.Memory old new = new ≡ old
+
+-- THE PLAYER'S OWN STEPS
+
+-- A power cut is planned, where a plan is taken: it comes no earlier than at the nth operation behind those that the entries
+-- tell.
+pub record Arms (nth : ℕ) (old new : StackTold) : Type 0 where
+  pub only : new ≡ record old { causes = record old.causes { takes = new.causes.takes; plan = new.causes.plan } }
+  pub takes : old.causes.takes ≤ new.causes.takes + 1
+  pub planned : 1 ≤ old.causes.takes → IsNoEarlier (Some (ops_behind 0 old.entries + nth)) new.causes.plan
+
+-- the application stored a content of a block
+pub record Stores (block : ℕ) (content : List ℕ) (number : ℕ) (old new : StackTold) : Type 0 where
+  pub numbered : number ≡ next_number (get_or old.stores block (0, [])).0
+  pub stored : new ≡ record old { stores = slice_set old.stores block (number, content) }
+
+-- so many copies of a block are refused yet
+pub record Refuses (block count : ℕ) (old new : StackTold) : Type 0 where
+  pub only : new ≡ record old { causes = record old.causes { refusable = new.causes.refusable } }
+  pub more : (id : ℕ) → new.causes.refusable id ≤ old.causes.refusable id + refusals_of id (Refuse block count)
+
+-- THE END OF A DRAIN
+
+-- a turn is the last one, by its answer, whether a job was in hand, and whether a fault was counted
+abbrev pub is_last : Turned → Bool → Bool → Bool
+is_last turned.Idle in_hand risen = true
+is_last turned.Off in_hand risen = true
+is_last turned.Worked in_hand risen = not in_hand && risen
+is_last turned.Picked in_hand risen = false
+is_last turned.Posted in_hand risen = false

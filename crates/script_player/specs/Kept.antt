@@ -1,0 +1,66 @@
+-- What a stack keeps from step to step.
+use Rattle.std.specs.Prelude.{◌≡◌, ◌+◌, ◌≤◌, ℕ, zero, suc, true, false, IsTrue, List, [], length, Some}
+use Rattle.std.specs.List.{list_all, list_any}
+use Rattle.nvm_core.specs.nv_base.Count.{Rose}
+use Rattle.nvm_core.specs.block_machine.Words.{Entry}
+use Rattle.script_walks.specs.Words.{Step}
+use Rattle.script_walks.specs.Walk.{AreTurns, IsDrain}
+use Rattle.script_walks.specs.Stores.{AreNewest, JobsTookStored}
+use Rattle.script_walks.specs.Turn.{IsTurn}
+use Rattle.script_walks.specs.StoreLaws.{KeepsStored}
+use Rattle.promise_run.specs.Completeness.{is_calm_entry}
+use Rattle.promise_run.specs.Turns.{Move, entries_of, moment_behind, AreTurnsMade, is_picked}
+use Rattle.script_player.specs.Told.{StackTold, state_of, moment_of, IsWithin, IsGrown}
+use Rattle.script_player.specs.Calls.{AreExplained, MakesOne, Serves}
+use Rattle.script_player.specs.Chain.{shown_of, AreMoved}
+use Rattle.script_player.specs.Paying.{Payer, PaysBy}
+
+-- after these steps its stores are theirs, and its jobs took none but these
+pub record IsKept (before : List Step) (t : StackTold) : Type 0 where
+  pub ready : t.ready ≡ true
+  pub places : length t.stores ≡ length t.configuration.blocks + 1
+  pub stores : AreNewest t.configuration before t.stores
+  pub jobs : JobsTookStored t.configuration before (state_of t)
+
+-- from one to the other no fault was counted, the power stayed on, and no copy was refused or stale
+pub record StaysCalm (old new : StackTold) : Type 0 where
+  pub no_fault : ¬ Rose old.faults new.faults
+  pub entries : IsTrue (list_all is_calm_entry new.entries)
+
+-- So many turns added these entries, which are explained, and it is kept. They serve the job in hand, where nothing failed.
+pub record HasTurned (turns : ℕ) (before : List Step) (old new : StackTold) (es : List Entry) : Type 0 where
+  pub grows : IsGrown es old new
+  pub counted : old.faults ≤ new.faults
+  pub explained : AreExplained old.causes.plan es old new
+  pub keeps : KeepsStored old.configuration before (state_of old) es
+  pub serves : StaysCalm old new → Serves turns es old new
+
+-- these moves are turns from one to the other, which added these entries, and pay
+pub record AreMade (p q : Payer) (es : List Entry) (moves : List Move) (old new : StackTold) : Type 0 where
+  pub turns : AreTurnsMade (moment_of old) moves
+  pub tell : es ≡ entries_of moves
+  pub behind : moment_behind (moment_of old) moves ≡ moment_of new
+  pub chain : AreMoved moves (shown_of old) (shown_of new)
+  pub pays : PaysBy p q old moves
+
+-- so many turns
+abbrev pub MakesTurns : Payer → Payer → ℕ → List Step → StackTold → StackTold → Type 0
+MakesTurns p q zero before old new = (new ≡ old) × PaysBy p q old []
+MakesTurns p q (suc n) before old new = (es : List Entry) × HasTurned (suc n) before old new es × AreTurns (state_of old) (suc n) es
+    × ((moves : List Move) × (length moves ≡ suc n) × AreMade p q es moves old new)
+
+-- turns, however many, until nothing is pending, or the power is off
+abbrev pub Drains : Payer → Payer → List Step → StackTold → StackTold → Type 0
+Drains p q before old new = (es : List Entry) × HasTurned 0 before old new es × IsDrain old.configuration (state_of old) es
+    × ((moves : List Move) × AreMade p q es moves old new)
+
+-- one turn, whatever it answered
+pub record MakesTurn (old new : StackTold) : Type 0 where
+  pub entries : List Entry
+  pub grows : IsGrown entries old new
+  pub counted : old.faults ≤ new.faults
+  pub operations : MakesOne entries old new
+  pub turn : IsTurn old.configuration (state_of old) old.stores entries
+  pub explained : AreExplained old.causes.plan entries old new
+  pub picks : IsTrue (list_any (λ e. is_picked (Some e)) entries) → IsWithin new × ((state_of old).off ≡ false)
+  pub serves : ¬ Rose old.faults new.faults → (state_of new).off ≡ false → Serves 1 entries old new

@@ -1,0 +1,11 @@
+pub mod Told
+pub mod Calls
+pub mod Chain
+pub mod Table
+pub mod Kept
+pub mod Made
+pub mod Walking
+pub mod Paying
+pub mod PlainTold
+pub mod PlainKept
+pub mod PlainPaying

@@ -1,0 +1,167 @@
+-- The steps that were made.
+use Rattle.std.specs.Prelude.{◌≡◌, ◌≤◌, ◌<◌, ◌+◌, ◌^◌, ℕ, not, true, false, IsTrue, List, [], ◌∷◌, ◌++◌, length, map, sum_by, slice_get, Option, Some, None}
+use Rattle.nvm_core.specs.nv_base.Count.{Rose, WereCounted}
+use Rattle.nvm_core.specs.nv_base.Entry.{ops_behind}
+use Rattle.nvm_core.specs.block_machine.Words.{Instance, Mark, Request, Reply, Entry, Ask, Found, Configuration}
+use Rattle.nvm_core.specs.block_machine.State.{State}
+use Rattle.nvm_core.specs.block_machine.Reply.{fits}
+use Rattle.nvm_core.specs.block_machine.Prices.{sum_from, block_price}
+use Rattle.nvm_core.specs.block_machine.Steps.{after}
+use Rattle.nvm_core.specs.ram_blocks.Plain.{store_of, plain_blocks_of}
+use Rattle.script_walks.specs.Words.{Step, StepKind, AskStep, Cut, Restart}
+use Rattle.script_walks.specs.Walk.{request_after, is_at_rest, IsPiece, IsWalkOf}
+use Rattle.promise_run.specs.Run.{Played, plan_after, unpaid_off, offs_of_flash, refusals_of, RefusalsExplain}
+use Rattle.promise_run.specs.Completeness.{turns_of, is_drain, is_restart, IsServed}
+use Rattle.promise_run.specs.Turns.{Moment, Move, entries_of, moment_behind, AreMovesOf, HasMoves, EachMove, ServesTurn, all_moves}
+use Rattle.script_player.specs.declared.steps.StepFault.{StepFault}
+use Rattle.script_player.specs.declared.steps.StepFault.TheVariants.{Flash, HistoryFull, Memory}
+use Rattle.script_player.specs.Told.{StackTold, state_of, moment_of, IsWithin, IsNoEarlier}
+use Rattle.script_player.specs.Calls.{Nears, AddsAsk}
+use Rattle.script_player.specs.Kept.{IsKept, StaysCalm}
+use Rattle.script_player.specs.Chain.{shown_of, AreMoved}
+use Rattle.script_player.specs.Paying.{Payer, PaysBy}
+use Rattle.script_player.specs.Table.{HasLastStores}
+
+-- THE CAUSES OF A STEP
+
+-- the power cuts that it plans
+abbrev pub cuts_in : StepKind → ℕ
+cuts_in (Cut nth keep) = 1
+cuts_in kind = 0
+
+abbrev pub cuts_of : List Step → ℕ
+cuts_of steps = sum_by (λ x. cuts_in x.kind) steps
+
+-- Offs are those that were planned, or were counted, where these steps' plan stood before: so it is behind this step
+pub record PaysOffs (kind : StepKind) (plan : Option ℕ) (ops : ℕ) (piece : List Entry) (old new : StackTold) : Type 0 where
+  pub off : WereCounted (sum_by (unpaid_off (plan_after kind plan ops)) piece) old.causes.unplanned new.causes.unplanned
+  pub plan_stays : IsNoEarlier (plan_after kind plan ops) new.causes.plan
+
+-- What a step adds is explained: its Posts tell of no more refused copies than could be told of, with those that the step
+-- asked for, and its Offs are paid.
+pub record IsExplained (kind : StepKind) (piece : List Entry) (old new : StackTold) : Type 0 where
+  pub refusals : (id : ℕ) → sum_from old.configuration (block_price id) (state_of old) piece + new.causes.refusable id ≤ old.causes.refusable id + refusals_of id kind
+  pub takes : old.causes.takes ≤ new.causes.takes + cuts_in kind
+  pub offs : (plan : Option ℕ) (ops : ℕ) → cuts_in kind ≤ old.causes.takes → ops ≤ ops_behind 0 old.entries → IsNoEarlier plan old.causes.plan
+      → PaysOffs kind plan ops piece old new
+
+-- A STEP
+
+-- The step serves the jobs: one in hand is ended, or has as many turns fewer left as the step made, but a restart drops it.
+-- Behind a drain nothing is pending.
+pub record ServesJobs (kind : StepKind) (piece : List Entry) (old new : StackTold) : Type 0 where
+  pub nears : is_restart kind ≡ false → Nears (turns_of kind) piece old new
+  pub within : IsWithin old → IsWithin new
+  pub drains : is_drain kind ≡ true → IsTrue (is_at_rest (state_of new))
+
+-- the step is made: it added its piece
+pub record IsMade (p q : Payer) (before : List Step) (x : Step) (old new : StackTold) : Type 0 where
+  pub piece : List Entry
+  pub configuration : new.configuration ≡ old.configuration
+  pub cap : new.cap ≡ old.cap
+  pub most : new.most ≡ old.most
+  pub entries : new.entries ≡ old.entries ++ piece
+  pub counted : old.faults ≤ new.faults
+  pub is : IsPiece old.configuration before (state_of old) x piece
+  pub explained : IsExplained x.kind piece old new
+  pub serves : StaysCalm old new → ServesJobs x.kind piece old new
+  -- its moves, whose entries are the piece
+  pub moves : List Move
+  pub moved : AreMovesOf x.kind (moment_of old) moves
+  pub tell : piece ≡ entries_of moves
+  pub behind : moment_behind (moment_of old) moves ≡ moment_of new
+  pub chain : AreMoved moves (shown_of old) (shown_of new)
+  pub pays : PaysBy p q old moves
+  pub kept : IsKept (before ++ x ∷ []) new
+
+-- a request was entered as the step asks it
+abbrev pub IsAsked : ℕ → Request → List ℕ → StackTold → StackTold → Type 0
+IsAsked caller r table old new =
+    (before : List Step) → HasLastStores old.configuration before table
+    → (reply : Reply) × AddsAsk (Ask caller (request_after old.configuration before caller r) reply) old new
+
+-- Whatever steps came before, so few that each has a line: this one is made, and the table goes on.
+abbrev pub Makes : Payer → Payer → Step → List ℕ → List ℕ → StackTold → StackTold → Type 0
+Makes p q x table table' old new =
+    (before : List Step) → length before < 2 ^ 32 → IsKept before old → HasLastStores old.configuration before table
+    → IsMade p q before x old new × HasLastStores old.configuration (before ++ x ∷ []) table'
+
+-- the next entry has no room
+abbrev pub HasNoRoom : Configuration → ℕ → State → StepKind → Type 0
+HasNoRoom c cap s (AskStep r) = IsTrue (not (fits c cap s 1))
+HasNoRoom c cap s Restart = cap < s.count + 2
+HasNoRoom c cap s kind = ⊥
+
+-- why the step isn't made; it added nothing
+abbrev pub Stops : StepFault → StepKind → StackTold → StackTold → Type 0
+Stops Flash kind old new = (kind ≡ Restart) × Rose old.faults new.faults
+Stops HistoryFull kind old new = HasNoRoom old.configuration old.cap (state_of old) kind
+Stops Memory kind old new = Unit {0}
+
+pub record IsLeft (fault : StepFault) (x : Step) (old new : StackTold) : Type 0 where
+  pub configuration : new.configuration ≡ old.configuration
+  pub cap : new.cap ≡ old.cap
+  pub entries : new.entries ≡ old.entries
+  pub counted : old.faults ≤ new.faults
+  pub operations : new.ops ≡ old.ops
+  pub cuts : WereCounted 0 old.causes.unplanned new.causes.unplanned
+  pub why : Stops fault x.kind old new
+
+-- ALL STEPS
+
+-- a stack behind its first start-up, whose application stored nothing yet and is to refuse no copy
+pub record IsFresh (t : StackTold) : Type 0 where
+  pub ready : t.ready ≡ true
+  pub marks : List (Instance × Mark)
+  pub ops : ℕ
+  pub entries : t.entries ≡ Found marks ops ∷ []
+  pub stores : t.stores ≡ map store_of (plain_blocks_of t.configuration)
+  pub none_refused : (id : ℕ) → t.causes.refusable id ≡ 0
+  pub none_planned : t.causes.plan ≡ None
+
+-- The history went on, and is a walk of these steps. They explain the copies that its Posts tell as refused, and each Off
+-- comes where they planned a cut, or a cut was counted. Where nothing failed they serve its jobs.
+pub record HasWalked (p q : Payer) (made : List Step) (old new : StackTold) : Type 0 where
+  pub more : List Entry
+  pub grows : new.entries ≡ old.entries ++ more
+  pub pieces : List (List Entry)
+  pub walk : IsWalkOf old.configuration made pieces new.entries
+  pub refusals : (id : ℕ) → RefusalsExplain old.configuration (Played made pieces []) new.entries id
+  pub off : WereCounted (offs_of_flash (Played made pieces []) new.entries) old.causes.unplanned new.causes.unplanned
+  pub complete : StaysCalm old new → IsServed old.configuration old.most made pieces new.entries
+  -- its turns, one by one, from the first moment on
+  pub last : Moment
+  pub moves : HasMoves made pieces (moment_of old) last
+  -- none of which goes by where something is due, and each job that they pick is posted within its own
+  pub serves : EachMove old.configuration (ServesTurn old.configuration old.most) (state_of old) (all_moves moves.moves)
+  -- and which make all operations
+  pub operations : last.ops ≡ new.ops
+  pub counted : last.faults ≤ new.faults
+  -- and each Post is paid since the last Pick before it, and each operation that failed is counted in its own
+  pub pays : PaysBy p q old (all_moves moves.moves)
+
+-- the step at a place is made, or left
+pub record MakesAt (p q : Payer) (steps : List Step) (i : ℕ) (table table' : List ℕ) (old new : StackTold) : Type 0 where
+  pub step : Step
+  pub at : slice_get steps i ≡ Some step
+  pub made : Makes p q step table table' old new
+
+pub record LeavesAt (fault : StepFault) (steps : List Step) (i : ℕ) (old new : StackTold) : Type 0 where
+  pub step : Step
+  pub at : slice_get steps i ≡ Some step
+  pub left : IsLeft fault step old new
+
+-- why these steps were left behind this moment, in the state after the whole history: a start-up failed by a fault of its own
+abbrev pub WereLeft : StepFault → List Step → Moment → StackTold → StackTold → Type 0
+WereLeft Flash (x ∷ xs) last old new = (x.kind ≡ Restart) × Rose last.faults new.faults
+WereLeft HistoryFull (x ∷ xs) last old new = HasNoRoom old.configuration old.cap (after old.configuration new.entries) x.kind
+WereLeft Memory xs last old new = Unit {0}
+WereLeft fault xs last old new = ⊥
+
+-- the first of these steps were made, and the others left, with the reason
+pub record WasBroken (p q : Payer) (fault : StepFault) (steps : List Step) (old new : StackTold) : Type 0 where
+  pub made : List Step
+  pub left : List Step
+  pub order : steps ≡ made ++ left
+  pub walked : HasWalked p q made old new
+  pub why : WereLeft fault left walked.last old new

@@ -1,0 +1,19 @@
+//! The steps of a script on a stack, over any memory device, and the stack with an application in memory that they are
+//! made on.
+//!
+//! It promises that the history stays a walk of the steps that were made, that they explain its refused copies and its
+//! power cuts and serve its jobs where nothing fails, that what each call keeps is kept, and that each step that is
+//! left has its cause. Which device it is, and what becomes of the history, is left to the crates above.
+#![tactic(auto)]
+
+mod last_stores;
+mod plain_stack;
+mod played_stack;
+mod steps;
+mod turns;
+
+pub use last_stores::LastStores;
+pub use plain_stack::PlainStack;
+pub use played_stack::PlayedStack;
+pub use steps::{StepFault, make_step, make_steps};
+pub use turns::{drain, make_turns};

@@ -1,0 +1,141 @@
+// The stack, as its player sees it.
+ghost use Rattle.std.specs.Prelude.{◌≡◌, ◌++◌, ◌∷◌, [], List};
+ghost use Rattle.nvm_core.specs.block_machine.Words.{Configuration, Entry};
+ghost use Rattle.nvm_core.specs.ram_blocks.Plain.{plain_blocks_of};
+ghost use Rattle.script_player.specs.PlainTold.{AreWithin, IfCopied};
+
+use crate::PlayedStack;
+use nvm_core::Stack;
+use nvm_core::block_laws::{histories_grow, the_next_job_goes_first};
+use nvm_core::memif::MemDevice;
+use nvm_core::nv_base::{Entry, Reply, Request};
+use nvm_core::nv_desk::AskFault;
+use nvm_core::nvm_laws::{FoundAnswer, Turned};
+use nvm_core::ram_blocks::PlainSync;
+use std::alloc::Global;
+use std::marker::Model;
+
+/// A stack whose application stores in memory, with the count of the refusals of copies that it was asked for. Contracts see
+/// the stack.
+#[derive(Drop)]
+pub struct PlainStack<D: MemDevice> {
+    stack: Stack<D, PlainSync>,
+    asked: u64,
+}
+
+impl<D: MemDevice> Model for PlainStack<D> {
+    ghost use Rattle.std.specs.Prelude.{List};
+    ghost use Rattle.nvm_core.specs.ram_blocks.declared.plain_block.PlainBlock.{PlainBlock};
+    ghost use Rattle.nvm_core.specs.Stack.{StackState};
+    ghost use Rattle.script_player.specs.PlainTold.{AreFew};
+
+    ghost Value = { StackState D (List PlainBlock) };
+
+    ghost view = { λ s. s.stack };
+
+    ghost invariant = { λ s. AreFew s.asked s.stack.copies };
+}
+
+impl<D: MemDevice> PlainStack<D> {
+    /// A stack before the first store and the first refusal.
+    pub fn over(stack: Stack<D, PlainSync>) -> PlainStack<D>
+        requires { (c : Configuration) × (stack.copies ≡ plain_blocks_of c) }
+        ensures { result ≡ stack }
+    {
+        PlainStack { stack, asked: 0 }
+    }
+
+    /// The stack.
+    pub fn stack(&self) -> &Stack<D, PlainSync>
+        ensures { result.now ≡ self.now }
+    {
+        &self.stack
+    }
+
+    /// Gives the stack back.
+    pub fn into_stack(self) -> Stack<D, PlainSync>
+        ensures { result ≡ self }
+    {
+        let PlainStack { stack, .. } = self;
+        stack
+    }
+}
+
+impl<D: MemDevice> PlayedStack for PlainStack<D> {
+    ghost use Rattle.script_player.specs.PlainTold.{told_by};
+    ghost use Rattle.script_player.specs.PlainKept.{IsKept};
+    ghost use Rattle.script_player.specs.PlainPaying.{payer_by};
+
+    ghost told = { λ s. told_by D.told s };
+
+    ghost kept = { λ s before. IsKept s.ready before s.desk s.hand (D.told s.device) (D.clock s.device) };
+
+    ghost payer = { λ s. payer_by D.told D.clock s };
+
+    fn ask(&mut self, alloc: Global, caller: u8, request: Request) -> Result<Reply, AskFault> {
+        histories_grow();
+        let _device = self.stack.device();
+        let reply = self.stack.ask(alloc, caller, request)?;
+        let _behind = self.stack.device();
+        Ok(reply)
+    }
+
+    fn turn(&mut self) -> Turned {
+        histories_grow();
+        the_next_job_goes_first();
+        let _device = self.stack.device();
+        let turned = self.stack.turn();
+        let _behind = self.stack.device();
+        see_refusals(&self.stack);
+        turned
+    }
+
+    fn restart(&mut self, alloc: Global) -> FoundAnswer {
+        histories_grow();
+        self.stack.restart(alloc)
+    }
+
+    fn arm(&mut self, nth: u32, keep: u32) {
+        let _device = self.stack.device();
+        self.stack.arm(0, nth, keep);
+    }
+
+    fn store(&mut self, block: u16, content: &[u8]) -> u64 {
+        let _device = self.stack.device();
+        self.stack.store(block, content)
+    }
+
+    // No more are counted than can be.
+    fn refuse(&mut self, block: u16, count: u32) {
+        let asked = self.asked.saturating_add(u64::from(count));
+        if asked < u64::MAX {
+            self.stack.refuse(block, count);
+            self.asked = asked;
+        }
+    }
+
+    fn in_hand(&self) -> bool {
+        self.stack.in_hand()
+    }
+
+    fn faults(&self) -> u64 {
+        self.stack.faults()
+    }
+}
+
+// No more copies of the last entry's block were refused than were to be.
+fn see_refusals<D: MemDevice>(stack: &Stack<D, PlainSync>)
+    ensures { (h : List Entry) (e : Entry) → stack.now.desk.entries ≡ h ++ e ∷ [] → IfCopied e (AreWithin stack.now.copies) }
+{
+    let history = stack.history();
+    let count = history.len();
+    if count == 0 {
+        return;
+    }
+    match history.entry(count - 1) {
+        Some(Entry::Pick { block, .. } | Entry::Post { block, .. }) => {
+            stack.refusals(*block);
+        }
+        _ => {}
+    }
+}

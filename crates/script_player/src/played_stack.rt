@@ -1,0 +1,76 @@
+// A stack, as its player sees it.
+ghost use Rattle.std.specs.Prelude.{◌≡◌, ◌≤◌, true, Some, length, is_some};
+ghost use Rattle.nvm_core.specs.block_machine.Legal.{HasStore};
+ghost use Rattle.nvm_core.specs.memif.Told.{Part, PartTold};
+ghost use Rattle.nvm_script.specs.Rules.{sync_length_of};
+ghost use Rattle.script_player.specs.Told.{StackTold, state_of};
+ghost use Rattle.script_player.specs.Calls.{Asks, Turns, Restarts, Arms, Stores, Refuses};
+ghost use Rattle.script_player.specs.Paying.{Payer, PaysTurn, PaysNothing};
+
+use nvm_core::nv_base::{Reply, Request};
+use nvm_core::nv_desk::AskFault;
+use nvm_core::nvm_laws::{FoundAnswer, Turned};
+use std::alloc::Global;
+
+/// What a player may do with a stack whose application stores in memory. The calls are the stack's own.
+pub trait PlayedStack {
+    /// What is told of it.
+    ghost told: { Self → StackTold };
+
+    /// What each call keeps, with the parts of its device as these were told before the first start-up.
+    ghost kept: { Self → (Part → PartTold) → Type 0 };
+
+    /// What is known of payment.
+    ghost payer: { Self → Payer };
+
+    /// Takes a request of a caller.
+    fn ask(&mut self, alloc: Global, caller: u8, request: Request) -> Result<Reply, AskFault>
+        requires ready { (told self.old).ready ≡ true }
+        requires caller { caller ≤ 15 }
+        requires store { HasStore (told self.old).configuration request }
+        ensures asks { Asks caller request result (told self.old) (told self.new) }
+        ensures pays { PaysNothing (payer self.old) (payer self.new) (told self.new) }
+        ensures keeps { (before : Part → PartTold) → kept self.old before → kept self.new before };
+
+    /// One turn of the main function.
+    fn turn(&mut self) -> Turned
+        requires { (told self.old).ready ≡ true }
+        ensures turns { Turns result (told self.old) (told self.new) }
+        ensures pays { PaysTurn (payer self.old) (payer self.new) (told self.old) (told self.new) }
+        ensures keeps { (before : Part → PartTold) → kept self.old before → kept self.new before };
+
+    /// A further start-up.
+    fn restart(&mut self, alloc: Global) -> FoundAnswer
+        ensures restarts { Restarts result (told self.old) (told self.new) }
+        ensures pays { PaysNothing (payer self.old) (payer self.new) (told self.new) }
+        ensures keeps { (before : Part → PartTold) → kept self.old before → kept self.new before };
+
+    /// Plans a power cut of the device's flash at its nth changing operation from now, with so many bytes of it done.
+    fn arm(&mut self, nth: u32, keep: u32)
+        requires { (told self.old).ready ≡ true }
+        ensures arms { Arms nth (told self.old) (told self.new) }
+        ensures pays { PaysNothing (payer self.old) (payer self.new) (told self.new) }
+        ensures keeps { (before : Part → PartTold) → kept self.old before → kept self.new before };
+
+    /// The application stores a content of a synchronized block. Answers the store's number.
+    fn store(&mut self, block: u16, content: &[u8]) -> u64
+        requires { sync_length_of (told self.old).configuration block ≡ Some (length content.now) }
+        ensures stores { Stores block content.now result (told self.old) (told self.new) }
+        ensures pays { PaysNothing (payer self.old) (payer self.new) (told self.new) }
+        ensures keeps { (before : Part → PartTold) → kept self.old before → kept self.new before };
+
+    /// So many next copies of a synchronized block are refused.
+    fn refuse(&mut self, block: u16, count: u32)
+        ensures refuses { Refuses block count (told self.old) (told self.new) }
+        ensures pays { PaysNothing (payer self.old) (payer self.new) (told self.new) }
+        ensures keeps { (before : Part → PartTold) → kept self.old before → kept self.new before };
+
+    /// Whether a job is in hand.
+    fn in_hand(&self) -> bool
+        requires { (told self.now).ready ≡ true }
+        ensures { result ≡ is_some (state_of (told self.now)).hand };
+
+    /// The device's faults so far.
+    fn faults(&self) -> u64
+        ensures { result ≡ (told self.now).faults };
+}

@@ -1,0 +1,211 @@
+// The steps of a script.
+ghost use Rattle.std.specs.Prelude.{◌≡◌, ◌<◌, ◌≤◌, ◌^◌, ℕ, List, [], true, length, OnOk, OnErr, IfOk, IfErr};
+ghost use Rattle.nvm_core.specs.memif.Told.{Part, PartTold};
+ghost use Rattle.nvm_core.specs.block_machine.Words.{Configuration};
+ghost use Rattle.nvm_core.specs.block_machine.Legal.{HasStore};
+ghost use Rattle.script_walks.specs.Words.{Step as Made, AskStep, Restart};
+ghost use Rattle.script_walks.specs.Walk.{request_after};
+ghost use Rattle.nvm_script.specs.Played.{IsPlayed, ArePlayed, CanBePlayed};
+ghost use Rattle.script_player.specs.Calls.{StartsAgain};
+ghost use Rattle.script_player.specs.Made.{Makes, MakesAt, LeavesAt, IsAsked, IsLeft, IsFresh, HasWalked, WasBroken, cuts_of};
+ghost use Rattle.script_player.specs.Paying.{PaysBy, PaysNothing};
+ghost use Rattle.script_player.specs.Table.{HasLastStores, HoldsSynchronized};
+
+use crate::turns::{drain, make_turns};
+use crate::{LastStores, PlayedStack};
+use nvm_core::block_laws::histories_grow;
+use nvm_core::nv_base::Request;
+use nvm_core::nv_desk::AskFault;
+use nvm_core::nvm_laws::FoundAnswer;
+use nvm_script::{Step, StepKind, StepList};
+use script_walks::{stores_are_newest, turns_keep_what_is_stored, walks_grow};
+use std::alloc::{AllocError, Global};
+
+/// Why a step isn't made: a fault at a start-up, a history that is full, or want of memory.
+#[derive(Clone, Copy)]
+pub enum StepFault {
+    Flash,
+    HistoryFull,
+    Memory,
+}
+
+impl From<AllocError> for StepFault {
+    ghost use Rattle.std.specs.Prelude.{◌≡◌};
+    ghost use Rattle.script_player.specs.declared.steps.StepFault.TheVariants.{Memory};
+
+    ghost from_gives = { λ _ fault. fault ≡ Memory };
+
+    fn from(_error: AllocError) -> StepFault {
+        StepFault::Memory
+    }
+}
+
+/// Makes steps in order on a stack behind its first start-up, whose configuration has so many blocks.
+pub fn make_steps<S: PlayedStack>(
+    alloc: Global,
+    steps: &StepList,
+    blocks: u16,
+    stack: &mut S,
+) -> Result<(), StepFault>
+    requires blocks { blocks ≡ length (S.told stack.old).configuration.blocks }
+    requires fresh { IsFresh (S.told stack.old) }
+    requires played { ArePlayed (S.told stack.old).configuration steps.now }
+    requires planned { cuts_of steps.now ≤ (S.told stack.old).causes.takes }
+    ensures all { OnOk result (HasWalked (S.payer stack.old) (S.payer stack.new) steps.now (S.told stack.old) (S.told stack.new)) }
+    ensures some { IfErr result (λ fault. WasBroken (S.payer stack.old) (S.payer stack.new) fault steps.now (S.told stack.old) (S.told stack.new)) }
+    ensures configuration { (S.told stack.new).configuration ≡ (S.told stack.old).configuration }
+    ensures most { (S.told stack.new).cap ≡ (S.told stack.old).cap }
+    ensures counted { (S.told stack.old).faults ≤ (S.told stack.new).faults }
+    ensures keeps { (before : Part → PartTold) → S.kept stack.old before → S.kept stack.new before }
+{
+    turns_keep_what_is_stored();
+    stores_are_newest();
+    walks_grow();
+    histories_grow();
+    let Ok(mut stores) = LastStores::make(alloc, blocks) else {
+        return Err(StepFault::Memory);
+    };
+    for i in 0..steps.len() {
+        if let Err(fault) = make_next(alloc, steps, i, &mut stores, stack) {
+            return Err(fault);
+        }
+    }
+    Ok(())
+}
+
+// Makes the step at a place.
+fn make_next<S: PlayedStack>(
+    alloc: Global,
+    steps: &StepList,
+    i: u32,
+    stores: &mut LastStores,
+    stack: &mut S,
+) -> Result<(), StepFault>
+    requires within { i < length steps.now }
+    requires ready { (S.told stack.old).ready ≡ true }
+    requires played { ArePlayed (S.told stack.old).configuration steps.now }
+    requires synchronized { HoldsSynchronized (S.told stack.old).configuration stores.old }
+    ensures made { OnOk result (MakesAt (S.payer stack.old) (S.payer stack.new) steps.now i stores.old stores.new (S.told stack.old) (S.told stack.new)) }
+    ensures left { IfErr result (λ fault. LeavesAt fault steps.now i (S.told stack.old) (S.told stack.new)) }
+    ensures owes { OnErr result (PaysBy (S.payer stack.old) (S.payer stack.new) (S.told stack.old) []) }
+    ensures keeps { (before : Part → PartTold) → S.kept stack.old before → S.kept stack.new before }
+{
+    match steps.get(i) {
+        Some(step) => make_step(alloc, step, stores, stack),
+        None => Ok(()),
+    }
+}
+
+/// Makes one step.
+pub fn make_step<S: PlayedStack>(
+    alloc: Global,
+    step: &Step,
+    stores: &mut LastStores,
+    stack: &mut S,
+) -> Result<(), StepFault>
+    requires ready { (S.told stack.old).ready ≡ true }
+    requires played { IsPlayed (S.told stack.old).configuration step.now }
+    requires synchronized { HoldsSynchronized (S.told stack.old).configuration stores.old }
+    ensures synchronized { HoldsSynchronized (S.told stack.old).configuration stores.new }
+    ensures ready { OnOk result ((S.told stack.new).ready ≡ true) }
+    ensures made { OnOk result (Makes (S.payer stack.old) (S.payer stack.new) step.now stores.old stores.new (S.told stack.old) (S.told stack.new)) }
+    ensures left { IfErr result (λ fault. IsLeft fault step.now (S.told stack.old) (S.told stack.new)) }
+    ensures owes { OnErr result (PaysBy (S.payer stack.old) (S.payer stack.new) (S.told stack.old) []) }
+    ensures keeps { (before : Part → PartTold) → S.kept stack.old before → S.kept stack.new before }
+{
+    turns_keep_what_is_stored();
+    stores_are_newest();
+    histories_grow();
+    match &step.kind {
+        StepKind::Ask(request) => ask(alloc, step.caller, request, stores, stack),
+        StepKind::Store { block, content } => {
+            let number = stack.store(*block, content.as_slice());
+            stores.note(step.caller, *block, number);
+            Ok(())
+        }
+        StepKind::Turn { count } => {
+            make_turns(stack, *count);
+            Ok(())
+        }
+        StepKind::Drain => {
+            drain(stack);
+            Ok(())
+        }
+        StepKind::Restart => restart(alloc, stack),
+        StepKind::Cut { nth, keep } => {
+            stack.arm(*nth, *keep);
+            Ok(())
+        }
+        StepKind::Refuse { block, count } => {
+            stack.refuse(*block, *count);
+            Ok(())
+        }
+        StepKind::Await { .. } => Ok(()),
+    }
+}
+
+// The request as it is asked: a write of RAM has the number of its caller's last store.
+fn request_with(request: Request, caller: u8, stores: &LastStores) -> Request
+    requires { caller ≤ 15 }
+    ensures after { (c : Configuration) (before : List Made) → HasLastStores c before stores.now → CanBePlayed c (AskStep request) → result ≡ request_after c before caller request }
+    ensures store { (c : Configuration) → HoldsSynchronized c stores.now → CanBePlayed c (AskStep request) → HasStore c result }
+{
+    match request {
+        Request::Write {
+            block,
+            content: None,
+            ..
+        } => Request::Write {
+            block,
+            content: None,
+            store: stores.get(caller, block),
+        },
+        request => request,
+    }
+}
+
+fn copied(request: &Request) -> Result<Request, AllocError>
+    ensures { IfOk result (λ r. r ≡ request.now) }
+{
+    request.clone()
+}
+
+fn ask<S: PlayedStack>(
+    alloc: Global,
+    caller: u8,
+    request: &Request,
+    stores: &LastStores,
+    stack: &mut S,
+) -> Result<(), StepFault>
+    requires ready { (S.told stack.old).ready ≡ true }
+    requires caller { caller ≤ 15 }
+    requires played { CanBePlayed (S.told stack.old).configuration (AskStep request.now) }
+    requires synchronized { HoldsSynchronized (S.told stack.old).configuration stores.now }
+    ensures ready { OnOk result ((S.told stack.new).ready ≡ true) }
+    ensures asked { OnOk result (IsAsked caller request.now stores.now (S.told stack.old) (S.told stack.new) × PaysNothing (S.payer stack.old) (S.payer stack.new) (S.told stack.new)) }
+    ensures owes { OnErr result (PaysBy (S.payer stack.old) (S.payer stack.new) (S.told stack.old) []) }
+    ensures left { IfErr result (λ fault. (line : ℕ) → IsLeft fault (record { line = line; caller = caller; kind = AskStep request.now }) (S.told stack.old) (S.told stack.new)) }
+    ensures keeps { (before : Part → PartTold) → S.kept stack.old before → S.kept stack.new before }
+{
+    let request = request_with(copied(request)?, caller, stores);
+    match stack.ask(alloc, caller, request) {
+        Ok(_reply) => Ok(()),
+        Err(AskFault::NoRoom) => Err(StepFault::HistoryFull),
+        Err(AskFault::Memory) => Err(StepFault::Memory),
+    }
+}
+
+fn restart<S: PlayedStack>(alloc: Global, stack: &mut S) -> Result<(), StepFault>
+    ensures ready { OnOk result ((S.told stack.new).ready ≡ true) }
+    ensures made { OnOk result (StartsAgain (S.told stack.old) (S.told stack.new) × PaysNothing (S.payer stack.old) (S.payer stack.new) (S.told stack.new)) }
+    ensures owes { OnErr result (PaysBy (S.payer stack.old) (S.payer stack.new) (S.told stack.old) []) }
+    ensures left { IfErr result (λ fault. (line caller : ℕ) → IsLeft fault (record { line = line; caller = caller; kind = Restart }) (S.told stack.old) (S.told stack.new)) }
+    ensures keeps { (before : Part → PartTold) → S.kept stack.old before → S.kept stack.new before }
+{
+    match stack.restart(alloc) {
+        FoundAnswer::Ready => Ok(()),
+        FoundAnswer::Failed => Err(StepFault::Flash),
+        FoundAnswer::NoRoom => Err(StepFault::HistoryFull),
+        FoundAnswer::Memory => Err(StepFault::Memory),
+    }
+}

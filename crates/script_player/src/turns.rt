@@ -1,0 +1,78 @@
+// Turns of a stack.
+ghost use Rattle.std.specs.Prelude.{◌≡◌, ◌<◌, ◌≤◌, ◌||◌, ℕ, List, IsTrue, true, false};
+ghost use Rattle.script_walks.specs.Words.{Step};
+ghost use Rattle.script_walks.specs.Walk.{is_at_rest};
+ghost use Rattle.nvm_core.specs.memif.Told.{Part, PartTold};
+ghost use Rattle.nvm_core.specs.nv_base.Count.{Rose};
+ghost use Rattle.script_player.specs.Told.{state_of};
+ghost use Rattle.script_player.specs.Calls.{is_last};
+ghost use Rattle.script_player.specs.Kept.{IsKept, MakesTurns, Drains, MakesTurn};
+ghost use Rattle.script_player.specs.Paying.{PaysTurn};
+
+use crate::PlayedStack;
+use nvm_core::block_laws::histories_grow;
+use nvm_core::nvm_laws::Turned;
+use script_walks::turns_keep_what_is_stored;
+
+/// Makes so many turns.
+pub fn make_turns<S: PlayedStack>(stack: &mut S, count: u32)
+    requires { (S.told stack.old).ready ≡ true }
+    ensures ready { (S.told stack.new).ready ≡ true }
+    ensures turns { (before : List Step) → IsKept before (S.told stack.old) → MakesTurns (S.payer stack.old) (S.payer stack.new) count before (S.told stack.old) (S.told stack.new) × IsKept before (S.told stack.new) }
+    ensures keeps { (before : Part → PartTold) → S.kept stack.old before → S.kept stack.new before }
+{
+    turns_keep_what_is_stored();
+    histories_grow();
+    for _turn in 0..count {
+        stack.turn();
+    }
+}
+
+/// Makes turns until nothing is left to do or the power is off, or until one without a job in hand in which a fault was
+/// counted. Without a fault and with the power on nothing is open at the device behind it.
+pub fn drain<S: PlayedStack>(stack: &mut S)
+    requires { (S.told stack.old).ready ≡ true }
+    ensures ready { (S.told stack.new).ready ≡ true }
+    ensures drains { (before : List Step) → IsKept before (S.told stack.old) → Drains (S.payer stack.old) (S.payer stack.new) before (S.told stack.old) (S.told stack.new) × IsKept before (S.told stack.new) }
+    ensures at_rest { ¬ Rose (S.told stack.old).faults (S.told stack.new).faults → (state_of (S.told stack.new)).off ≡ false → (S.told stack.new).busy ≡ false }
+    ensures keeps { (before : Part → PartTold) → S.kept stack.old before → S.kept stack.new before }
+{
+    turns_keep_what_is_stored();
+    histories_grow();
+    while !ends_drain(stack) {}
+}
+
+// Makes a turn, and tells whether a drain ends with it.
+fn ends_drain<S: PlayedStack>(stack: &mut S) -> bool
+    requires { (S.told stack.old).ready ≡ true }
+    ensures turn { MakesTurn (S.told stack.old) (S.told stack.new) }
+    ensures pays { PaysTurn (S.payer stack.old) (S.payer stack.new) (S.told stack.old) (S.told stack.new) }
+    ensures ends { result ≡ true → IsTrue (is_at_rest (state_of (S.told stack.new)) || (state_of (S.told stack.new)).off) }
+    ensures at_rest { result ≡ true → ¬ Rose (S.told stack.old).faults (S.told stack.new).faults → (state_of (S.told stack.new)).off ≡ false → (S.told stack.new).busy ≡ false }
+    ensures goes_on { result ≡ false → (S.told stack.new).work < (S.told stack.old).work }
+    ensures keeps { (before : Part → PartTold) → S.kept stack.old before → S.kept stack.new before }
+{
+    histories_grow();
+    let in_hand = stack.in_hand();
+    let faults = stack.faults();
+    let turned = stack.turn();
+    is_last(turned, in_hand, has_risen(faults, stack.faults()))
+}
+
+fn is_last(turned: Turned, in_hand: bool, risen: bool) -> bool
+    ensures { result ≡ is_last turned in_hand risen }
+{
+    match turned {
+        Turned::Idle | Turned::Off => true,
+        Turned::Worked => !in_hand && risen,
+        Turned::Picked | Turned::Posted => false,
+    }
+}
+
+// Whether a count rose, or stands at its end.
+fn has_risen(before: u64, after: u64) -> bool
+    ensures rose { result ≡ true → before ≤ after → Rose before after }
+    ensures not { result ≡ false → Rose before after → ⊥ }
+{
+    before < after || before == u64::MAX
+}

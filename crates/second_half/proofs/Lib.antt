@@ -1,4 +1,0 @@
-pub mod BlockLengths
-pub mod Turned
-pub mod Ending
-pub mod Tying

@@ -1,9 +1,0 @@
--- What drawn steps have in common.
-use Rattle.std.specs.Prelude.{ℕ}
-use Rattle.block_config.specs.Config.{Configuration}
-use Rattle.played_steps.specs.Played.{ArePlayed}
-use Rattle.soak_script.specs.Soak.{soak}
-
--- each of them can be played
-abbrev pub SoakIsPlayed : Type 0
-SoakIsPlayed = (c : Configuration) (seed count : ℕ) → ArePlayed c (soak c seed count)

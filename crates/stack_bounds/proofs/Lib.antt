@@ -1,7 +1,0 @@
-pub mod Order
-pub mod Blocks
-pub mod Asking
-pub mod Interrupting
-pub mod Turning
-pub mod Halves
-pub mod Calling

@@ -1,5 +1,0 @@
-pub mod Due
-pub mod AtDevice
-pub mod Laws
-pub mod Calls
-pub mod Cases

@@ -1,4 +1,0 @@
-pub mod Entries
-pub mod Calls
-pub mod StartUps
-pub mod Numbered

@@ -1,4 +1,0 @@
-pub mod Ties
-pub mod Halves
-pub mod Turns
-pub mod Keeps

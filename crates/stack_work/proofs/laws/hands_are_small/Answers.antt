@@ -1,5 +1,0 @@
-use Rattle.stack_work.proofs.Working.{hands_small}
-use Rattle.stack_work.proofs.laws.hands_are_small.Goals as goal
-
-pub returns : goal.returns
-returns c = hands_small c.programs_are_small.ensures.begin

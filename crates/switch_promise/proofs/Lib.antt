@@ -1,9 +1,0 @@
-pub mod Appends
-pub mod Begins
-pub mod Copies
-pub mod Flags
-pub mod Gates
-pub mod Settles
-pub mod Started
-pub mod Targets
-pub mod Turns

@@ -1,5 +1,0 @@
-mod Appends
-mod Next
-mod Pages
-mod Ready
-mod Steps

@@ -1,3 +1,0 @@
-pub mod KeepsRoom
-pub mod Laws
-pub mod Space
