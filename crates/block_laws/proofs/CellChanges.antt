@@ -15,7 +15,7 @@ use Rattle.block_machine.specs.Next.{Next, Nothing, PickJob, BeginSweep, PickMem
 use Rattle.block_machine.specs.StartUp.{found_instance}
 use Rattle.block_machine.specs.Steps.{step, with_doubt, settled_in, with_member, picked_job, picked, wrote}
 use Rattle.block_machine.specs.Legal.{MayPick, MayWrite, IsAllowed}
-use Rattle.block_laws.specs.Laws.{is_found, cell_by, CellsChange, FoundCells}
+use Rattle.block_laws.specs.Laws.{is_found, cell_by, CellsChange, FoundCells, FoundIsSettled}
 use Rattle.block_laws.proofs.HistoryLaws.{asks_are_local}
 use Rattle.block_laws.proofs.ConsistentSteps.{idle}
 use Rattle.block_laws.proofs.MarkCells.{at_instance, same_is, same_from}
@@ -137,3 +137,6 @@ found_at marks (m ∷ ns) n k has = elim (cases_Bool (same_instance (instance_of
 
 pub found_cells : FoundCells
 found_cells c s marks ops n has = found_at marks (lengths_of c) n 0 has
+
+pub found_is_settled : FoundIsSettled
+found_is_settled c cap s marks ops found = (found.lists, refl)

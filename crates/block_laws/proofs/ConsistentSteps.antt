@@ -179,16 +179,16 @@ post_by c s block r given refused m None is may h = post_next c s block r given 
 
 -- THE STEP
 
-pub steps_stay_consistent : AllowedStepsStayConsistent
-steps_stay_consistent c cap s (Ask caller r reply) h allowed = ask_consistent c cap s caller r reply s.ops allowed h
-steps_stay_consistent c cap s (Pick block kind t ops) h allowed = pick_next c s block kind t ops (next_of c s) refl allowed.1 h
-steps_stay_consistent c cap s (Wrote i mark ops) h allowed = wrote_job c s i mark ops s.hand refl allowed.1 h
-steps_stay_consistent c cap s (Post block r given refused ops) h allowed = post_by c s block r given refused ops s.hand refl allowed.1 h
-steps_stay_consistent c cap s (Off ops) h allowed = record { blocks = h.blocks; waiting = waits_longer c s.count s.waiting h.waiting; apart = h.apart; hand = hand_kept c s (step c s (Off ops)) s.hand (omega arith) refl h.hand; sweep = sweep_kept s (step c s (Off ops)) s.sweep (omega arith) refl h.sweep }
-steps_stay_consistent c cap s (Found marks ops) h allowed = record { blocks = λ on. omega arith; waiting = tt; apart = tt; hand = tt; sweep = tt }
+pub allowed_steps_stay_consistent : AllowedStepsStayConsistent
+allowed_steps_stay_consistent c cap s (Ask caller r reply) h allowed = ask_consistent c cap s caller r reply s.ops allowed h
+allowed_steps_stay_consistent c cap s (Pick block kind t ops) h allowed = pick_next c s block kind t ops (next_of c s) refl allowed.1 h
+allowed_steps_stay_consistent c cap s (Wrote i mark ops) h allowed = wrote_job c s i mark ops s.hand refl allowed.1 h
+allowed_steps_stay_consistent c cap s (Post block r given refused ops) h allowed = post_by c s block r given refused ops s.hand refl allowed.1 h
+allowed_steps_stay_consistent c cap s (Off ops) h allowed = record { blocks = h.blocks; waiting = waits_longer c s.count s.waiting h.waiting; apart = h.apart; hand = hand_kept c s (step c s (Off ops)) s.hand (omega arith) refl h.hand; sweep = sweep_kept s (step c s (Off ops)) s.sweep (omega arith) refl h.sweep }
+allowed_steps_stay_consistent c cap s (Found marks ops) h allowed = record { blocks = λ on. omega arith; waiting = tt; apart = tt; hand = tt; sweep = tt }
 
 pub at_first_consistent : (c : Configuration) → IsConsistent c at_first
 at_first_consistent c = record { blocks = λ on. cc; waiting = tt; apart = tt; hand = tt; sweep = tt }
 
-pub legal_states : LegalStatesAreConsistent
-legal_states c cap h legal = kept_along c cap (IsConsistent c) (λ s e allowed was. steps_stay_consistent c cap s e was allowed) at_first h legal (at_first_consistent c)
+pub legal_states_are_consistent : LegalStatesAreConsistent
+legal_states_are_consistent c cap h legal = kept_along c cap (IsConsistent c) (λ s e allowed was. allowed_steps_stay_consistent c cap s e was allowed) at_first h legal (at_first_consistent c)

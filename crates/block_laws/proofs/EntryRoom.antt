@@ -19,7 +19,7 @@ use Rattle.block_laws.proofs.JobLists.{each_parts, apart_parts, without_split, s
 use Rattle.block_laws.proofs.NextLaws.{accepted_pass, next_is_waiting, fitting_has_room}
 use Rattle.block_laws.proofs.HistoryLaws.{entries_are_counted}
 use Rattle.block_laws.proofs.NextFacts.{job_in, next_job_by}
-use Rattle.block_laws.proofs.ConsistentSteps.{idle, left_of, steps_stay_consistent, at_first_consistent}
+use Rattle.block_laws.proofs.ConsistentSteps.{idle, left_of, allowed_steps_stay_consistent, at_first_consistent}
 
 abbrev reserved : Job → ℕ
 reserved j = j.reserved
@@ -182,13 +182,13 @@ off_less true false n m is stays = omega arith
 off_less true true n m is stays = cc
 off_less false off n m is stays = cc
 
-pub driver_entries : DriverEntriesAreReserved
-driver_entries c cap s (Pick block kind t ops) h allowed uses = pick_next c s block kind t ops (next_of c s) refl allowed.1 h
-driver_entries c cap s (Wrote i mark ops) h allowed uses = wrote_less c s i mark ops s.hand refl allowed.1 h
-driver_entries c cap s (Post block r given refused ops) h allowed uses = post_less c s block r given refused ops s.hand refl allowed.1 h
-driver_entries c cap s (Off ops) h allowed uses = off_less s.started s.off (sum_by reserved (jobs_of s)) (sweep_part c s.sweep) allowed.started allowed.on
-driver_entries c cap s (Ask caller r reply) h allowed uses = cc
-driver_entries c cap s (Found marks ops) h allowed uses = cc
+pub driver_entries_are_reserved : DriverEntriesAreReserved
+driver_entries_are_reserved c cap s (Pick block kind t ops) h allowed uses = pick_next c s block kind t ops (next_of c s) refl allowed.1 h
+driver_entries_are_reserved c cap s (Wrote i mark ops) h allowed uses = wrote_less c s i mark ops s.hand refl allowed.1 h
+driver_entries_are_reserved c cap s (Post block r given refused ops) h allowed uses = post_less c s block r given refused ops s.hand refl allowed.1 h
+driver_entries_are_reserved c cap s (Off ops) h allowed uses = off_less s.started s.off (sum_by reserved (jobs_of s)) (sweep_part c s.sweep) allowed.started allowed.on
+driver_entries_are_reserved c cap s (Ask caller r reply) h allowed uses = cc
+driver_entries_are_reserved c cap s (Found marks ops) h allowed uses = cc
 
 -- ASKS
 
@@ -276,14 +276,14 @@ used_fits n old new cap less fits = omega arith
 step_fits : (c : Configuration) (cap : ℕ) (s : State) (e : Entry) → IsConsistent c s → s.count + reserved_entries c s ≤ cap → IsAllowed c cap s e → s.count + 1 + reserved_entries c (step c s e) ≤ cap
 step_fits c cap s (Ask caller r reply) h room allowed = ask_fits c cap s caller r reply allowed h
 step_fits c cap s (Found marks ops) h room allowed = let l = allowed.room in omega (arith, l)
-step_fits c cap s (Pick block kind t ops) h room allowed = used_fits s.count _ _ cap (driver_entries c cap s (Pick block kind t ops) h allowed refl) room
-step_fits c cap s (Wrote i mark ops) h room allowed = used_fits s.count _ _ cap (driver_entries c cap s (Wrote i mark ops) h allowed refl) room
-step_fits c cap s (Post block r given refused ops) h room allowed = used_fits s.count _ _ cap (driver_entries c cap s (Post block r given refused ops) h allowed refl) room
-step_fits c cap s (Off ops) h room allowed = used_fits s.count _ _ cap (driver_entries c cap s (Off ops) h allowed refl) room
+step_fits c cap s (Pick block kind t ops) h room allowed = used_fits s.count _ _ cap (driver_entries_are_reserved c cap s (Pick block kind t ops) h allowed refl) room
+step_fits c cap s (Wrote i mark ops) h room allowed = used_fits s.count _ _ cap (driver_entries_are_reserved c cap s (Wrote i mark ops) h allowed refl) room
+step_fits c cap s (Post block r given refused ops) h room allowed = used_fits s.count _ _ cap (driver_entries_are_reserved c cap s (Post block r given refused ops) h allowed refl) room
+step_fits c cap s (Off ops) h room allowed = used_fits s.count _ _ cap (driver_entries_are_reserved c cap s (Off ops) h allowed refl) room
 
 all_fit : (c : Configuration) (cap : ℕ) (s : State) (es : List Entry) → IsConsistent c s → s.count + reserved_entries c s ≤ cap → IsLegalFrom c cap s es → (after_from c s es).count + reserved_entries c (after_from c s es) ≤ cap
 all_fit c cap s [] h room legal = room
-all_fit c cap s (e ∷ es) h room legal = all_fit c cap (step c s e) es (steps_stay_consistent c cap s e h legal.0) (step_fits c cap s e h room legal.0) legal.1
+all_fit c cap s (e ∷ es) h room legal = all_fit c cap (step c s e) es (allowed_steps_stay_consistent c cap s e h legal.0) (step_fits c cap s e h room legal.0) legal.1
 
 pub entries_fit : EntriesFit
 entries_fit c cap h legal =

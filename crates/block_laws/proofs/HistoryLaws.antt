@@ -86,13 +86,13 @@ any_early : (k : ℕ) (h : List Entry) (e : Entry) → is_driver_until k e ≡ t
 any_early k [] e early = rw early refl
 any_early k (x ∷ h) e early = rw (any_early k h e early) (or_true (is_driver_until k x))
 
-pub late_entries : LateEntriesAreCutOff
-late_entries k [] e late = rw late refl
-late_entries k (x ∷ h) e late = rw (any_late k h e late, late_entries k h e late) refl
+pub late_entries_are_cut_off : LateEntriesAreCutOff
+late_entries_are_cut_off k [] e late = rw late refl
+late_entries_are_cut_off k (x ∷ h) e late = rw (any_late k h e late, late_entries_are_cut_off k h e late) refl
 
-pub early_entries : EarlyEntriesAreKept
-early_entries k [] e early = rw early refl
-early_entries k (x ∷ h) e early = rw (any_early k h e early, or_true (is_driver_until k x), early_entries k h e early) refl
+pub early_entries_are_kept : EarlyEntriesAreKept
+early_entries_are_kept k [] e early = rw early refl
+early_entries_are_kept k (x ∷ h) e early = rw (any_early k h e early, or_true (is_driver_until k x), early_entries_are_kept k h e early) refl
 
 beginning_by : (k : ℕ) (x : Entry) (h : List Entry) (b : Bool) → list_any (is_driver_until k) (x ∷ h) ≡ b → ((more : List Entry) × (h ≡ up_to k h ++ more)) → (more : List Entry) × (x ∷ h ≡ up_to k (x ∷ h) ++ more)
 beginning_by k x h true is rest = rw is (rest.0, ap (λ es. x ∷ es) rest.1)

@@ -27,8 +27,8 @@ one_of P (y ∷ xs) x each (suc k, within, is) = one_of P xs x each.1 (k, omega 
 pub jobs_are_pending : JobsArePending
 jobs_are_pending c cap h j legal has there = (one_of (IsJob h (after c h).blocks) (jobs_of (after c h)) j (follows c cap h legal).jobs.each has).pending there
 
-pub jobs_have_blocks : JobsHaveTheirBlocks
-jobs_have_blocks c cap h before j more legal is = (blocks_parts before j more (subst AreOnOtherBlocks is (follows c cap h legal).jobs.apart)).0
+pub jobs_have_their_blocks : JobsHaveTheirBlocks
+jobs_have_their_blocks c cap h before j more legal is = (blocks_parts before j more (subst AreOnOtherBlocks is (follows c cap h legal).jobs.apart)).0
 
 pub places_are_configured : PlacesAreConfigured
 places_are_configured c cap h legal on = let f = follows c cap h legal in (f.size on, f.instances on)

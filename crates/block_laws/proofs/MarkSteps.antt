@@ -19,7 +19,7 @@ use Rattle.block_laws.specs.Consistent.{Each, AreApart, IsConsistent}
 use Rattle.block_laws.proofs.JobLists.{each_more, apart_parts, without_split}
 use Rattle.block_laws.proofs.NextLaws.{next_is_waiting}
 use Rattle.block_laws.proofs.NextFacts.{job_in, next_job_by}
-use Rattle.block_laws.proofs.ConsistentSteps.{idle, member_block, steps_stay_consistent}
+use Rattle.block_laws.proofs.ConsistentSteps.{idle, member_block, allowed_steps_stay_consistent}
 use Rattle.block_laws.proofs.PendingJobs.{sweep_request, IsAsked, HasAsk, PendingAt, IsJob, AreJobs, Looks, ask_after, jobs_look, jobs_push, jobs_pick, jobs_post, looks_set, looks_free, pending_set, free_block, free_index, no_job_there}
 use Rattle.block_laws.proofs.MarkCells.{indices_in, FitsJob, Writes, doubts_fit, writes_fit, doubts_stay, settled_stay, found_stay}
 
@@ -266,13 +266,13 @@ started_size : (c : Configuration) (marks : List (Instance × Mark)) (ops : ℕ)
 started_size c marks ops s = let e = length-map (enumerate_from 1 c.blocks) (λ x. started_block c marks x.0 x.1) in let l = enumerated 1 c.blocks in omega (arith, e, l)
 
 pub steps_follow : (c : Configuration) (cap : ℕ) (h : List Entry) (s : State) (e : Entry) → slice_get h s.count ≡ Some e → IsAllowed c cap s e → Follows c h s → Follows c h (step c s e)
-steps_follow c cap h s (Ask caller r reply) at allowed f = ask_follows c cap h s caller r reply s.ops at allowed (steps_stay_consistent c cap s (Ask caller r reply) f.sound allowed) f
-steps_follow c cap h s (Pick block kind t ops) at allowed f = pick_follows c h s block kind t ops (next_of c s) refl allowed.1 (steps_stay_consistent c cap s (Pick block kind t ops) f.sound allowed) f
-steps_follow c cap h s (Wrote i mark ops) at allowed f = wrote_follows c h s i mark ops s.hand refl allowed.1 (steps_stay_consistent c cap s (Wrote i mark ops) f.sound allowed) f
-steps_follow c cap h s (Post block r given refused ops) at allowed f = post_follows c h s block r given refused ops s.hand refl allowed.1 (steps_stay_consistent c cap s (Post block r given refused ops) f.sound allowed) f
-steps_follow c cap h s (Off ops) at allowed f = counted c h s s.sweep true (s.count + 1) ops f.sweep (steps_stay_consistent c cap s (Off ops) f.sound allowed) f
+steps_follow c cap h s (Ask caller r reply) at allowed f = ask_follows c cap h s caller r reply s.ops at allowed (allowed_steps_stay_consistent c cap s (Ask caller r reply) f.sound allowed) f
+steps_follow c cap h s (Pick block kind t ops) at allowed f = pick_follows c h s block kind t ops (next_of c s) refl allowed.1 (allowed_steps_stay_consistent c cap s (Pick block kind t ops) f.sound allowed) f
+steps_follow c cap h s (Wrote i mark ops) at allowed f = wrote_follows c h s i mark ops s.hand refl allowed.1 (allowed_steps_stay_consistent c cap s (Wrote i mark ops) f.sound allowed) f
+steps_follow c cap h s (Post block r given refused ops) at allowed f = post_follows c h s block r given refused ops s.hand refl allowed.1 (allowed_steps_stay_consistent c cap s (Post block r given refused ops) f.sound allowed) f
+steps_follow c cap h s (Off ops) at allowed f = counted c h s s.sweep true (s.count + 1) ops f.sweep (allowed_steps_stay_consistent c cap s (Off ops) f.sound allowed) f
 steps_follow c cap h s (Found marks ops) at allowed f = record {
-  sound = steps_stay_consistent c cap s (Found marks ops) f.sound allowed;
+  sound = allowed_steps_stay_consistent c cap s (Found marks ops) f.sound allowed;
   size = λ on. started_size c marks ops s;
   jobs = record { each = tt; apart = tt };
   sweep = tt;

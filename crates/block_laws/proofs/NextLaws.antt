@@ -144,5 +144,5 @@ pub pick_takes_in_hand : PickTakesInHand
 pick_takes_in_hand c s j sw id block ops kind t =
     (λ next. ap (λ (n : Next). (picked c s t n).hand) next, λ next. ap (λ (n : Next). (picked c s t n).hand) next)
 
-pub entries_of_the_job : EntriesOfTheJobInHand
-entries_of_the_job c s j i mark block refused ops r given is = (rw is refl, rw is refl)
+pub entries_of_the_job_in_hand : EntriesOfTheJobInHand
+entries_of_the_job_in_hand c s j i mark block refused ops r given is = (rw is refl, rw is refl)

@@ -16,7 +16,7 @@ use Rattle.block_laws.proofs.Along.{kept_along}
 use Rattle.block_laws.proofs.JobLists.{apart_parts, without_split}
 use Rattle.block_laws.proofs.NextLaws.{next_is_waiting}
 use Rattle.block_laws.proofs.NextFacts.{job_in, next_job_by}
-use Rattle.block_laws.proofs.ConsistentSteps.{IsIdle, idle, member_block, steps_stay_consistent, at_first_consistent}
+use Rattle.block_laws.proofs.ConsistentSteps.{IsIdle, idle, member_block, allowed_steps_stay_consistent, at_first_consistent}
 use Rattle.block_laws.proofs.PostedResults.{posts_end}
 
 -- one of these jobs is on this block
@@ -209,5 +209,5 @@ step_owed c cap s (Found marks ops) allowed h owed = found_owed c s marks ops
 
 pub pending_have_jobs : PendingHaveJobs
 pending_have_jobs c cap h id legal on =
-    let right = kept_along c cap (IsRight c) (λ s e allowed was. record { sound = steps_stay_consistent c cap s e was.sound allowed; owed = step_owed c cap s e allowed was.sound was.owed }) at_first h legal (record { sound = at_first_consistent c; owed = λ k on. cc }) in
+    let right = kept_along c cap (IsRight c) (λ s e allowed was. record { sound = allowed_steps_stay_consistent c cap s e was.sound allowed; owed = step_owed c cap s e allowed was.sound was.owed }) at_first h legal (record { sound = at_first_consistent c; owed = λ k on. cc }) in
     elim (right.owed id on) [ inl sweep ↦ inl sweep | inr has ↦ inr (contains id (jobs_of (after c h)) has) ]

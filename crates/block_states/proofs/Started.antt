@@ -6,13 +6,13 @@ use Rattle.std.proofs.lemmas.List.{length-replicate}
 use Rattle.block_machine.specs.block_config.Block.{plain_block}
 use Rattle.block_machine.specs.block_config.Config.{block_of}
 use Rattle.block_machine.specs.Words.{Instance, Mark, BlockDesc, Configuration}
-use Rattle.block_machine.specs.Blocks.{no_block, keeps_ram, desc_of, is_permanent}
+use Rattle.block_machine.specs.Blocks.{no_block, desc_of, is_permanent}
 use Rattle.block_machine.specs.StartUp.{started_block}
 use Rattle.ram_blocks.specs.declared.kept.RamBlock.{RamBlock}
 use Rattle.ram_blocks.specs.Kept.{zeros, ram_of, no_ram, kept_of}
 use Rattle.block_states.specs.declared.facts.BlockFacts.{BlockFacts}
 use Rattle.block_states.specs.Shown.{state_of, states_of, rooms_in}
-use Rattle.block_states.specs.States.{KeptBlocks, rooms_of, started_blocks, no_facts, started_facts, started_by}
+use Rattle.block_states.specs.States.{KeptBlocks, rooms_of, started_blocks, no_facts, started_facts, started_by, RoomsHaveLengths}
 
 -- the RAM of enumerated blocks
 abbrev rams_from : ℕ → List BlockDesc → List RamBlock
@@ -61,9 +61,9 @@ room_from [] k i = same_either (((k + i) == 1) || is_permanent (plain_block 0).r
 room_from (d ∷ ds) k zero = let e : k + 0 ≡ k = omega arith in rw e (zeros_by ((k == 1) || is_permanent d.ram) d.length)
 room_from (d ∷ ds) k (suc i) = let e : k + suc i ≡ k + 1 + i = omega arith in rw e (room_from ds (k + 1) i)
 
-pub room_of : (c : Configuration) (id : ℕ) → keeps_ram c id ≡ true → get_or (rooms_of c) id 0 ≡ (desc_of c id).length
-room_of c zero keeps = refl
-room_of c (suc i) keeps = let e : 1 + i ≡ suc i = omega arith in let h = room_from c.blocks 1 i in rw keeps at (rw e at h)
+pub rooms_have_lengths : RoomsHaveLengths
+rooms_have_lengths c zero keeps = refl
+rooms_have_lengths c (suc i) keeps = let e : 1 + i ≡ suc i = omega arith in let h = room_from c.blocks 1 i in rw keeps at (rw e at h)
 
 -- STATES
 

@@ -5,10 +5,8 @@
 #![tactic(auto)]
 
 mod facts;
-mod laws;
 mod start;
 mod states;
 
 pub use facts::BlockFacts;
-pub use laws::rooms_have_lengths;
 pub use states::BlockStates;

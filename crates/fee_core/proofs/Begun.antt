@@ -19,11 +19,12 @@ use Rattle.promise_device.specs.Making.{Making}
 use Rattle.fee_laws.specs.declared.job.FeeJob.{FeeJob}
 use Rattle.fee_laws.specs.Inside.{Parts, IsActiveOf}
 use Rattle.fee_laws.specs.Record.{IsJobOf, kind_of, head_of}
-use Rattle.fee_laws.specs.Work.{begins_next, fits_in, is_waiting, pages_of_op, takes_append}
+use Rattle.fee_laws.specs.Work.{fits_in, is_waiting, pages_of_op, takes_append}
 use Rattle.fee_laws.specs.Turn.{IsOn}
 use Rattle.fee_laws.specs.Begins.{MayBegin}
+use Rattle.fee_laws.proofs.SwitchEnded.{pages_for}
 use Rattle.fee_core.specs.Beginning.{begins_beside, begins_now}
-use Rattle.fee_core.proofs.Standing.{job_is, for_job, next_counted, pages_for}
+use Rattle.fee_core.proofs.Standing.{job_is, for_job, next_counted}
 
 -- TESTS
 pub all_four : (a b c d : Bool) → a && b && c && d ≡ true → (a ≡ true) × (b ≡ true) × (c ≡ true) × (d ≡ true)
@@ -107,6 +108,3 @@ not_next false u w pages reserve free full = refl
 not_next true false w pages reserve free full = refl
 not_next true true false pages reserve free full = refl
 not_next true true true pages reserve free full = full
-
-pub waits_behind : (reserve : ℕ) (b : BanksState) (j : FeeJob) → fits_in reserve b j ≡ false → begins_next b j ≡ false
-waits_behind reserve b j full = not_next (takes_append b.course) j.urgent (is_waiting b j) (pages_of_op b.geometry.page j.op j.length) reserve (free_pages b) full

@@ -17,13 +17,13 @@ use Rattle.fee_course.specs.declared.course.Course.TheVariants.{Erase, Copy, Hea
 use Rattle.fee_switch.specs.declared.phase.BankStep.{BankStep}
 use Rattle.fee_switch.specs.Banks.{BanksState, IsBanksState, reads_next, reads_source, reads_place, after_answer}
 use Rattle.fee_switch.specs.Copy.{BeginsAt, IsBankStep}
-use Rattle.fee_switch_laws.specs.RoomLaws.{StepsMayBeMade}
 use Rattle.promise_device.specs.Making.{Making}
 use Rattle.fee_laws.specs.Inside.{Parts}
 use Rattle.fee_laws.specs.Turn.{Turned}
-use Rattle.fee_laws.specs.Switches.{failed_with, CopiesAreRead, CopiesAreNotRead}
+use Rattle.fee_laws.specs.Switches.{failed_with}
 use Rattle.fee_laws.specs.Follows.{Follows}
-use Rattle.fee_laws.specs.FollowLaws.{CopiesFollow}
+use Rattle.fee_laws.proofs.FollowTurned.{copies_follow}
+use Rattle.fee_laws.proofs.SwitchContent.{copies_are_not_read, copies_are_read}
 use Rattle.fee_core.proofs.Stepping.{IsCalled, stepping}
 
 -- a step that reads is the first one of a copy
@@ -48,7 +48,7 @@ shape_same (place.Invalid count) b n size s answer t s' is = (ap (λ (x : BanksS
 shape_same (place.Erased count) b n size s answer t s' is = (ap (λ (x : BanksState). x.geometry) is.1, ap (λ (x : BanksState). x.banks) is.1)
 shape_same place.Unwritten b n size s answer t s' is = (ap (λ (x : BanksState). x.geometry) is.1, ap (λ (x : BanksState). x.banks) is.1)
 
-module _ (m : Making) (entry : Told) (s : Parts) (listed : List (DeviceNumber × ℕ)) (kept count : ℕ) (ready : StepsMayBeMade) (f : FlsState) (is : IsCalled m entry s listed kept count (Copy None) f) (result : BankStep) (b : BanksState) (made : IsBankStep s.banks (Copy None) s.fls.flash result b f.flash) (reads : reads_next s.banks.log s.banks.course ≡ true) where
+module _ (m : Making) (entry : Told) (s : Parts) (listed : List (DeviceNumber × ℕ)) (kept count : ℕ) (f : FlsState) (is : IsCalled m entry s listed kept count (Copy None) f) (result : BankStep) (b : BanksState) (made : IsBankStep s.banks (Copy None) s.fls.flash result b f.flash) (reads : reads_next s.banks.log s.banks.course ≡ true) where
   reads' : reads_next s.banks.log (Some (Copy None)) ≡ true
   reads' = subst (λ (o : Option Course). reads_next s.banks.log o ≡ true) is.course reads
 
@@ -78,17 +78,17 @@ module _ (m : Making) (entry : Told) (s : Parts) (listed : List (DeviceNumber ×
       let behind : length made.made.buffer ≡ size_of_bank made.made.geometry made.made.banks = (subst IsBanksState (sym (after Done done)) state).buffer in
       behind ∙ (λ i. size_of_bank (shape.0 i) (shape.1 i)) ∙ sym is.on.banks.buffer
 
-  pub copied : CopiesAreRead → IsBanksState b → made.answer ≡ Done → Turned m entry turn.Worked s (record s { fls = f; banks = b }) listed kept count false
-  copied law state done =
+  pub copied : IsBanksState b → made.answer ≡ Done → Turned m entry turn.Worked s (record s { fls = f; banks = b }) listed kept count false
+  copied state done =
       subst (λ (x : BanksState). Turned m entry turn.Worked s (record s { fls = f; banks = x }) listed kept count false) (after Done done)
-      (law m entry s listed kept count made.made f (stepping m entry s listed kept count ready (Copy None) f is result b made Done done) reads' (room done state))
+      (copies_are_read m entry s listed kept count made.made f (stepping m entry s listed kept count (Copy None) f is result b made Done done) reads' (room done state))
 
-  pub not_copied : CopiesAreNotRead → made.answer ≡ Failed → Turned m entry turn.Worked s (failed_with s.job (record s { fls = f; banks = b; faults = next_count s.faults })) listed kept count false
-  not_copied law failed =
+  pub not_copied : made.answer ≡ Failed → Turned m entry turn.Worked s (failed_with s.job (record s { fls = f; banks = b; faults = next_count s.faults })) listed kept count false
+  not_copied failed =
       subst (λ (x : BanksState). Turned m entry turn.Worked s (failed_with s.job (record s { fls = f; banks = x; faults = next_count s.faults })) listed kept count false) (after Failed failed)
-      (law m entry s listed kept count made.made f (stepping m entry s listed kept count ready (Copy None) f is result b made Failed failed) reads')
+      (copies_are_not_read m entry s listed kept count made.made f (stepping m entry s listed kept count (Copy None) f is result b made Failed failed) reads')
 
-  pub copy_follows : CopiesFollow → IsBanksState b → (a : FlashAnswer) → made.answer ≡ a → Follows s → Follows (record s { fls = f; banks = b })
-  copy_follows law state a same was =
+  pub copy_follows : IsBanksState b → (a : FlashAnswer) → made.answer ≡ a → Follows s → Follows (record s { fls = f; banks = b })
+  copy_follows state a same was =
       subst (λ (x : BanksState). Follows (record s { fls = f; banks = x })) (after a same)
-      (law m entry s listed kept count made.made a f (stepping m entry s listed kept count ready (Copy None) f is result b made a same) reads' (λ e. room (same ∙ e) state) was)
+      (copies_follow m entry s listed kept count made.made a f (stepping m entry s listed kept count (Copy None) f is result b made a same) reads' (λ e. room (same ∙ e) state) was)

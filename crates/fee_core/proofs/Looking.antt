@@ -3,7 +3,7 @@ use Rattle.std.specs.Prelude.{map, is_some, option_map}
 use Rattle.std.specs.List.{All}
 use Rattle.std.proofs.Common.{◌≡◌, ◌≢◌, ◌≤◌, ◌+◌, ◌==◌, ℕ, suc, Bool, true, false, if◌then◌else◌, List, [], ◌∷◌, get_or, Option, Some, None, refl, sym, ap, ◌∙◌, subst, arith, add-one}
 use Rattle.std.proofs.lemmas.Bool.Decides.{nat_tests}
-use Rattle.nv_base.specs.Lengths.{AreLengths, place_of}
+use Rattle.nv_base.specs.Lengths.{place_of}
 use Rattle.nv_base.specs.declared.instance.DeviceNumber.{DeviceNumber}
 use Rattle.nv_base.specs.declared.job.DeviceOp.{DeviceOp}
 use Rattle.nv_base.specs.declared.job.DeviceOp.TheVariants.{Read, Write, Invalidate, Erase}
@@ -44,10 +44,6 @@ length_none (x ∷ xs) n none = grind (arith, nat_tests, none 0 x (omega arith),
 few_by : (low : ℕ) (x : DeviceNumber × ℕ) (xs : List (DeviceNumber × ℕ)) (n size : ℕ) → x.1 ≤ 4096 → (length_of xs n ≡ Some size → size ≤ 4096) → (b : Bool) → (if b then Some x.1 else length_of xs n) ≡ Some size → size ≤ 4096
 few_by low x xs n size few rest true is = (let e : x.1 ≡ size = cc is in omega arith)
 few_by low x xs n size few rest false is = rest is
-
-pub few_at : (low : ℕ) (ns : List (DeviceNumber × ℕ)) (n size : ℕ) → AreLengths low ns → length_of ns n ≡ Some size → size ≤ 4096
-few_at low [] n size are is = cc is
-few_at low (x ∷ xs) n size are is = few_by low x xs n size are.3 (λ e. few_at x.0.0 xs n size are.4 e) (x.0.0 == n) is
 
 -- REFUSALS
 shut_by : (content : List ℕ) (o : Option FeeJob) (last : JobResult) (given : ℕ) → is_some o ≡ false → is_open (stand_of content o last given) ≡ false

@@ -22,7 +22,7 @@ use Rattle.fee_laws.specs.declared.job.FeeJob.{FeeJob}
 use Rattle.fee_laws.specs.Inside.{Parts}
 use Rattle.fee_laws.specs.Record.{IsJobOf, IsLengthOf}
 use Rattle.fee_laws.specs.Reads.{IsAsked, place_now}
-use Rattle.fee_core.proofs.Standing.{is_listed}
+use Rattle.fee_laws.proofs.SwitchEnded.{is_listed}
 
 -- THE CONTENT
 size_is : (numbers : List (DeviceNumber × ℕ)) (j : FeeJob) (is : IsJobOf numbers j) → j.op ≡ Read → j.length ≡ is.length

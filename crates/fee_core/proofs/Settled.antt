@@ -3,7 +3,6 @@ use Rattle.std.specs.Prelude.{map, slice_get, option_map, is_some, IfSome}
 use Rattle.std.proofs.Common.{◌≡◌, ◌⊎◌, inl, inr, ◌==◌, ◌+◌, ℕ, Bool, true, false, if◌then◌else◌, List, [], ◌∷◌, Option, Some, None, refl, sym, ap, ◌∙◌, subst, add-one}
 use Rattle.nv_base.specs.Lengths.{place_of}
 use Rattle.nv_base.specs.declared.instance.DeviceNumber.{DeviceNumber}
-use Rattle.nv_base.specs.declared.mark.Mark.{Mark}
 use Rattle.memif.specs.declared.answer.PlainMark.{PlainMark}
 use Rattle.memif.specs.declared.answer.PlainMark.TheVariants as plain
 use Rattle.memif.specs.Told.{Held, never_written, Slot, at_number, slot_at}
@@ -18,12 +17,13 @@ use Rattle.fee_image.specs.Doubts.{shown_of}
 use Rattle.fee_switch.specs.declared.active.ActiveBank.{ActiveBank}
 use Rattle.fee_log.specs.Index.{at_index, or_else, place_in}
 use Rattle.promise_device.specs.Making.{Making, banks_of}
-use Rattle.fee_told.specs.Slots.{slots_with, slots_held, slots_found, held_all, settled_in, job_leaves}
+use Rattle.fee_told.specs.Slots.{slots_held, slots_found, held_all, settled_in, job_leaves}
 use Rattle.fee_told.specs.Device.{tells, slots_told}
 use Rattle.fls_model.specs.Told.{bytes_now}
 use Rattle.fee_switch_laws.specs.Shown.{old_shown}
 use Rattle.fee_log.specs.Log.{work_in}
 use Rattle.fee_laws.specs.Inside.{Parts, device_of, memory_of, body_of}
+use Rattle.fee_laws.proofs.Marks.{none_at, settled_of}
 
 -- of a place
 abbrev pub kind_at : Place → PlainMark
@@ -47,16 +47,7 @@ settled_by : (a b : Slot) (x y : Held) (t : Bool) → a.settled ≡ x → b.sett
 settled_by a b x y true p q = p
 settled_by a b x y false p q = q
 
-pub settled_at : (shown : ℕ → ℕ → Held) (more : ℕ → List Mark) (ns : List (DeviceNumber × ℕ)) (ms : List Held) (n : ℕ) → (slot_at ns (slots_with shown more ns ms) n).settled ≡ at_number never_written ns ms n
-settled_at shown more [] ms n = refl
-settled_at shown more (x ∷ xs) [] n = refl
-settled_at shown more (x ∷ xs) (m ∷ ms) n = settled_by _ _ m (at_number never_written xs ms n) (x.0.0 == n) refl (settled_at shown more xs ms n)
-
 -- THE PLACE
-no_places : (o : Option ℕ) → or_else Unwritten (at_index [] o) ≡ Unwritten
-no_places None = refl
-no_places (Some i) = refl
-
 later_place : (place : Place) (places : List Place) (o : Option ℕ) → or_else Unwritten (at_index (place ∷ places) (option_map (λ k. k + 1) o)) ≡ or_else Unwritten (at_index places o)
 later_place place places None = refl
 later_place place places (Some k) = ap (λ (j : ℕ). or_else Unwritten (slice_get (place ∷ places) j)) (add-one k)
@@ -68,7 +59,7 @@ place_by b bytes size place places o y false rest = ap kind_at (later_place plac
 
 pub kind_shown : (b : Bank) (bytes : List ℕ) (ns : List (DeviceNumber × ℕ)) (places : List Place) (n : ℕ) → kind_at (place_in ns places n) ≡ kind_of (at_number never_written ns (held_all b bytes ns places) n).mark
 kind_shown b bytes [] places n = refl
-kind_shown b bytes (x ∷ xs) [] n = ap kind_at (no_places (place_of (x ∷ xs) n))
+kind_shown b bytes (x ∷ xs) [] n = ap kind_at (none_at (place_of (x ∷ xs) n))
 kind_shown b bytes (x ∷ xs) (place ∷ places) n = place_by b bytes x.1 place places (place_of xs n) (at_number never_written xs (held_all b bytes xs places) n) (x.0.0 == n) (kind_shown b bytes xs places n)
 
 erased_by : (m : Held) (t : Bool) → m ≡ never_written → (if t then never_written else m) ≡ never_written
@@ -96,7 +87,7 @@ module _ (m : Making) (entry : Told) (s : Parts) (numbers : s.banks.log.numbers 
   kind_in bytes =
       let old = (memory_of s).old in
       kind_by s.banks.active bytes (body_of (work_in s.banks.log.tail) s.content)
-      ∙ ap (λ (h : Held). kind_of h.mark) (sym (settled_at (shown_of (banks_of m) bytes old) (job_leaves (memory_of s).stand) m.numbers (settled_in (banks_of m) m.numbers bytes old) n))
+      ∙ ap (λ (h : Held). kind_of h.mark) (sym (settled_of (shown_of (banks_of m) bytes old) (job_leaves (memory_of s).stand) m.numbers (settled_in (banks_of m) m.numbers bytes old) n))
 
   -- while it is started
   kind_told : (told started : Bool) (o : Option (List ℕ)) → started ≡ true

@@ -1,34 +1,31 @@
 -- What a turn that does something begins with, and the open job of a started device.
-use Rattle.std.specs.Prelude.{Contains, is_some, IfSome, slice_get}
+use Rattle.std.specs.Prelude.{is_some, IfSome, slice_get}
 use Rattle.std.proofs.Common.{◌≡◌, ◌≢◌, inl, inr, ◌≤◌, ◌<◌, ◌^◌, ◌==◌, ◌++◌, ℕ, zero, suc, Bool, true, false, List, [], ◌∷◌, Option, Some, None, refl, sym, ap, ◌∙◌, subst, arith}
-use Rattle.std.proofs.lemmas.Bool.{cond_both, eqb-true}
-use Rattle.nv_base.specs.Pages.{record_pages_of}
 use Rattle.nv_base.specs.declared.instance.DeviceNumber.{DeviceNumber}
 use Rattle.nv_base.specs.Lengths.{place_of}
 use Rattle.nv_base.specs.declared.job.DeviceOp.{DeviceOp}
 use Rattle.nv_base.specs.declared.job.DeviceOp.TheVariants.{Read, Write, Invalidate, Erase}
-use Rattle.memif.specs.Told.{length_of}
 use Rattle.memif.specs.declared.answer.DeviceTurn.{DeviceTurn}
 use Rattle.fls_model.specs.Told.{Told, Change}
-use Rattle.fee_format.specs.declared.rec_head.RecHead.{RecHead}
 use Rattle.fee_image.specs.declared.place.Place.{Place}
 use Rattle.fee_image.specs.declared.place.Place.TheVariants.{Unwritten}
 use Rattle.fee_image.specs.Places.{count_at}
 use Rattle.fee_log.specs.Index.{at_index, or_else, AreCounted}
 use Rattle.fee_log.specs.Log.{LogState, IsLogState, IsFor, work_in}
 use Rattle.fee_course.specs.declared.course.Course.{Course}
-use Rattle.fee_switch.specs.Banks.{BanksState, IsBanksState}
+use Rattle.fee_switch.specs.Banks.{IsBanksState}
 use Rattle.promise_device.specs.Making.{Making}
+use Rattle.fee_told.proofs.Figures.{length_few as few_at}
 use Rattle.fee_laws.specs.declared.job.FeeJob.{FeeJob}
 use Rattle.fee_laws.specs.Inside.{Parts, IsSound}
-use Rattle.fee_laws.specs.Record.{IsInWork, IsJobOf, IsLengthOf, kind_of, head_of}
-use Rattle.fee_laws.specs.Work.{pages_of_op}
+use Rattle.fee_laws.specs.Record.{IsJobOf, IsLengthOf, kind_of, head_of}
 use Rattle.fee_laws.specs.Turn.{IsOn, Turned}
 use Rattle.fee_laws.specs.Parts.{opened}
 use Rattle.fee_laws.specs.Follows.{Follows}
 use Rattle.fee_laws.specs.FollowLaws.{IsSameBeside}
+use Rattle.fee_laws.proofs.CallsBehind.{no_work}
+use Rattle.fee_laws.proofs.SwitchEnded.{is_listed}
 use Rattle.fee_core.specs.Whole.{Whole, TurnedTo}
-use Rattle.fee_core.proofs.Looking.{few_at}
 
 -- WHERE IT STANDS
 module _ (m : Making) (entry : Told) (s : Parts) (listed : List (DeviceNumber × ℕ)) (kept count : ℕ) (is_off : Bool) (sound : IsSound m entry s listed kept count is_off) (started : s.started ≡ true) (on : is_off ≡ false) where
@@ -47,10 +44,6 @@ none_more : (xs : List Change) → xs ≡ xs ++ []
 none_more [] = refl
 none_more (x ∷ xs) = ap (λ (ys : List Change). x ∷ ys) (none_more xs)
 
-idle_by : (b : BanksState) (job : Option FeeJob) (o : Option RecHead) → job ≡ None → IfSome o (IsInWork b job) → o ≡ None
-idle_by b job None shut work = refl
-idle_by b job (Some h) shut work = (let some = work.is_open in cc (shut, some))
-
 module _ (m : Making) (entry : Told) (s : Parts) (listed : List (DeviceNumber × ℕ)) (kept count : ℕ) (is_off : Bool) (sound : IsSound m entry s listed kept count is_off) where
   pub job_started : (j : FeeJob) → s.job ≡ Some j → s.started ≡ true
   job_started j job = started_by s.started (λ e. (let none = (sound.rests e).job in cc (none, job)))
@@ -60,7 +53,7 @@ module _ (m : Making) (entry : Told) (s : Parts) (listed : List (DeviceNumber ×
 
   -- without a job no record is in work
   pub idle_shut : s.started ≡ true → s.job ≡ None → work_in s.banks.log.tail ≡ None
-  idle_shut started shut = idle_by s.banks s.job (work_in s.banks.log.tail) shut (sound.works started).work
+  idle_shut started shut = no_work s.banks s.job (work_in s.banks.log.tail) shut (sound.works started).work
 
   -- so that a content may change as a job opens
   pub same_beside : s.started ≡ true → s.job ≡ None → (j : FeeJob) (content : List ℕ) → IsSameBeside s (opened j content s)
@@ -104,14 +97,6 @@ job_few m entry s listed kept count is_off sound started j job =
     let of = job_is m entry s listed kept count is_off sound started j job in
     length_few j.op j.length of.length of.fits (few_at 0 m.numbers j.number.0 of.length sound.made_for.space.lengths of.configured)
 
--- its number stands in the list, with its length
-pub is_listed : (ns : List (DeviceNumber × ℕ)) (n size : ℕ) → length_of ns n ≡ Some size → Contains ns (record { 0 = n }, size)
-is_listed [] n size is = cc is
-is_listed (x ∷ xs) n size is =
-    cond_both (x.0.0 == n) (Some x.1) (length_of xs n) (λ (o : Option ℕ). o ≡ Some size → Contains (x ∷ xs) (record { 0 = n }, size))
-    (λ e is'. (0, omega arith, (let at : x.0.0 ≡ n = eqb-true x.0.0 n e in let same : x.1 ≡ size = cc is' in (λ i. (record { 0 = at i }, same i)))))
-    (λ e is'. (let later = is_listed xs n size is' in (suc later.0, (let less = later.1 in omega (arith, less)), later.2))) is
-
 -- the count of its record fits
 counted_at : (ps : List Place) (i : ℕ) → AreCounted ps → count_at (or_else Unwritten (slice_get ps i)) < 2 ^ 32
 counted_at [] i are = omega arith
@@ -137,9 +122,3 @@ for_job numbers Invalidate j count e writes is counted =
 for_job numbers Erase j count e writes is counted =
     let fits = subst (λ (o : DeviceOp). IsLengthOf o j.length is.length) e is.fits in
     record { length = is.length; configured = is_listed numbers j.number.0 is.length is.configured; kind = inr (inr (ap kind_of e), fits); count = counted }
-
-pub pages_for : (p : ℕ) (op : DeviceOp) (length of : ℕ) → op ≢ Read → IsLengthOf op length of → pages_of_op p op length ≡ record_pages_of length p
-pages_for p Read length of writes fits = absurd (writes refl)
-pages_for p Write length of writes fits = refl
-pages_for p Invalidate length of writes fits = ap (λ (n : ℕ). record_pages_of n p) (sym fits)
-pages_for p Erase length of writes fits = ap (λ (n : ℕ). record_pages_of n p) (sym fits)

@@ -25,8 +25,10 @@ use Rattle.fee_laws.specs.Inside.{Parts, device_of, IsSound, IsActiveOf}
 use Rattle.fee_switch.specs.Start.{IsLoadedAs}
 use Rattle.fee_switch_laws.specs.Shown.{layout_in}
 use Rattle.fee_laws.specs.Follows.{Follows}
-use Rattle.fee_laws.specs.FollowLaws.{ClosesActive, StartsFollow}
-use Rattle.fee_laws.specs.CallLaws.{StartsAreReady, StartsFail, AreOf, AreReady}
+use Rattle.fee_laws.specs.FollowLaws.{ClosesActive}
+use Rattle.fee_laws.specs.CallLaws.{AreOf, AreReady}
+use Rattle.fee_laws.proofs.FollowCalled.{starts_follow}
+use Rattle.fee_laws.proofs.Starting.{starts_are_ready, starts_fail}
 
 -- what is told of parts
 abbrev pub told_at : Making → Told → Parts → DeviceTold
@@ -96,24 +98,24 @@ module _ (m : Making) (entry : Told) (s : Parts) (listed : List (DeviceNumber ×
   Fails t = IsSound m entry t listed kept count false
       × StartsUp (Err Fault) (told_of (device_of m entry s)) (clock_of (device_of m entry s)) (told_of (device_of m entry t)) (clock_of (device_of m entry t))
 
-  pub ready_ends : StartsAreReady → IsLoaded s.banks b → f.flash ≡ p.flash → IfSome p.flash.bytes (λ x. FindsActive x.now b) → IfSome p.flash.bytes (λ x. LoadsActive x.now b) → Starts (resting s f b true s.faults)
-  ready_ends law loaded flash finds loads =
+  pub ready_ends : IsLoaded s.banks b → f.flash ≡ p.flash → IfSome p.flash.bytes (λ x. FindsActive x.now b) → IfSome p.flash.bytes (λ x. LoadsActive x.now b) → Starts (resting s f b true s.faults)
+  ready_ends loaded flash finds loads =
       let finds' = subst (λ (x : FlsState). IfSome x.flash.bytes (λ y. FindsActive y.now b)) is finds in
       let loads' = subst (λ (x : FlsState). IfSome x.flash.bytes (λ y. LoadsActive y.now b)) is loads in
       subst (λ (x : FlsState). Starts (resting s x b true s.faults)) (sym (ready_driver s.fls p f is same flash))
-      (law m entry s listed kept count is_off b f.result sound are (record { ready = are_ready s.banks b of loaded; finds = finds'; loads = loads' }))
+      (starts_are_ready m entry s listed kept count is_off b f.result sound are (record { ready = are_ready s.banks b of loaded; finds = finds'; loads = loads' }))
 
   -- they are as the bytes show them
-  pub ready_follows : StartsFollow → f.flash ≡ p.flash → IfSome p.flash.bytes (λ x. FindsActive x.now b) → IfSome p.flash.bytes (λ x. LoadsActive x.now b) → Follows (resting s f b true s.faults)
-  ready_follows law flash finds loads =
+  pub ready_follows : f.flash ≡ p.flash → IfSome p.flash.bytes (λ x. FindsActive x.now b) → IfSome p.flash.bytes (λ x. LoadsActive x.now b) → Follows (resting s f b true s.faults)
+  ready_follows flash finds loads =
       let here : f.flash.bytes ≡ s.fls.flash.bytes = ap (λ (x : Told). x.bytes) flash ∙ ap (λ (x : FlsState). x.flash.bytes) is in
       let bytes = subst (λ (o : Option ToldBytes). IfSome o (λ x. AreBytesOf b.geometry x.now)) (sym here) (subst (λ (g : Geometry). IfSome s.fls.flash.bytes (λ x. AreBytesOf g x.now)) (sym are.geometry) sound.made_for.bytes) in
       let finds' = subst (λ (x : Told). IfSome x.bytes (λ y. FindsActive y.now b)) (sym flash) finds in
       let loads' = subst (λ (x : Told). IfSome x.bytes (λ y. LoadsActive y.now b)) (sym flash) loads in
-      law (resting s f b true s.faults) (record { state = state; shut = closed; bytes = bytes; finds = finds'; loads = loads'; closes = closes_in f.flash.bytes b loads' })
+      starts_follow (resting s f b true s.faults) (record { state = state; shut = closed; bytes = bytes; finds = finds'; loads = loads'; closes = closes_in f.flash.bytes b loads' })
 
-  pub failed_ends : StartsFail → f.flash ≡ record p.flash { faults = f.flash.faults } → Rose p.flash.faults f.flash.faults → Fails (resting s f b false (next_count s.faults))
-  failed_ends law flash rose =
+  pub failed_ends : f.flash ≡ record p.flash { faults = f.flash.faults } → Rose p.flash.faults f.flash.faults → Fails (resting s f b false (next_count s.faults))
+  failed_ends flash rose =
       let rose' = subst (λ (x : FlsState). Rose x.flash.faults f.flash.faults) is rose in
       subst (λ (x : FlsState). Fails (resting s x b false (next_count s.faults))) (sym (failed_driver s.fls p f is same flash))
-      (law m entry s listed kept count is_off b f.result f.flash.faults sound are rose')
+      (starts_fail m entry s listed kept count is_off b f.result f.flash.faults sound are rose')

@@ -25,15 +25,17 @@ use Rattle.fee_switch.specs.declared.phase.BankStep.{BankStep}
 use Rattle.fee_switch.specs.declared.phase.BankStep.TheVariants as step
 use Rattle.fee_switch.specs.Banks.{BanksState, is_worn_out, reads_next, step_of, after_answer}
 use Rattle.fee_switch.specs.Copy.{CanGoOn, BeginsAt, head_at, MakesNext, IsBankStep}
-use Rattle.fee_switch_laws.specs.RoomLaws.{StepsMayBeMade}
+use Rattle.fee_switch_laws.proofs.RoomReady.{steps_may_be_made}
 use Rattle.promise_device.specs.Making.{Making}
 use Rattle.fee_told.specs.Clock.{change_of}
 use Rattle.fee_told.specs.Runs.{counts_fault}
 use Rattle.fee_laws.specs.Inside.{Parts, HasSwitch}
 use Rattle.fee_laws.specs.Turn.{IsOn, IsCounted, Turned, operated}
-use Rattle.fee_laws.specs.Switches.{IsBehind, IsStepping, step_op, failed_with, SwitchesGoOn, SwitchesFail, SwitchesAreCut, MarksGoOn, MarksFail, MarksAreCut}
+use Rattle.fee_laws.specs.Switches.{IsBehind, IsStepping, step_op, failed_with}
 use Rattle.fee_laws.specs.Follows.{Follows}
-use Rattle.fee_laws.specs.FollowLaws.{StepsFollow}
+use Rattle.fee_laws.proofs.FollowTurned.{steps_follow}
+use Rattle.fee_laws.proofs.SwitchMark.{marks_are_cut, marks_fail, marks_go_on}
+use Rattle.fee_laws.proofs.SwitchTurns.{switches_are_cut, switches_fail, switches_go_on}
 use Rattle.fee_core.specs.Asked.{switch_op_of}
 use Rattle.fee_core.specs.Operations.{answer_to}
 use Rattle.fee_core.proofs.Appending.{asked_on}
@@ -47,8 +49,8 @@ module _ (m : Making) (entry : Told) (s : Parts) (listed : List (DeviceNumber ×
   pub not_worn : is_some s.banks.course ≡ true → is_worn_out s.banks.active ≡ false
   not_worn some = worn_by s.banks s.banks.course some (on.sound.works on.started).switch
 
-  pub may_step : StepsMayBeMade → IfSome s.banks.course (CanGoOn s.banks)
-  may_step law = law m.reserve s.banks on.banks on.log (on.sound.room on.started (sym (on.sound.off on.started)))
+  pub may_step : IfSome s.banks.course (CanGoOn s.banks)
+  may_step = steps_may_be_made m.reserve s.banks on.banks on.log (on.sound.room on.started (sym (on.sound.off on.started)))
 
 -- ITS ANSWER
 -- by what it came to
@@ -132,9 +134,9 @@ pub record IsCalled (m : Making) (entry : Told) (s : Parts) (listed : List (Devi
   pub driver : IsDriverState f
   pub only : f ≡ record s.fls { flash = f.flash; result = f.result }
 
-module _ (m : Making) (entry : Told) (s : Parts) (listed : List (DeviceNumber × ℕ)) (kept count : ℕ) (ready : StepsMayBeMade) (c : Course) (f : FlsState) (is : IsCalled m entry s listed kept count c f) (result : BankStep) (b : BanksState) (made : IsBankStep s.banks c s.fls.flash result b f.flash) where
+module _ (m : Making) (entry : Told) (s : Parts) (listed : List (DeviceNumber × ℕ)) (kept count : ℕ) (c : Course) (f : FlsState) (is : IsCalled m entry s listed kept count c f) (result : BankStep) (b : BanksState) (made : IsBankStep s.banks c s.fls.flash result b f.flash) where
   can : CanGoOn s.banks c
-  can = subst (λ (o : Option Course). IfSome o (CanGoOn s.banks)) is.course (may_step m entry s listed kept count is.on ready)
+  can = subst (λ (o : Option Course). IfSome o (CanGoOn s.banks)) is.course (may_step m entry s listed kept count is.on)
 
   -- with this answer
   pub stepping : (a : FlashAnswer) → made.answer ≡ a → IsStepping m entry s listed kept count c made.made a f
@@ -165,34 +167,34 @@ module _ (m : Making) (entry : Told) (s : Parts) (listed : List (DeviceNumber ×
       λ i. record s { fls = f; banks = after a same i; operations = listed' i; faults = counts_fault a s.faults }
 
 -- AN OPERATION
-go_by : SwitchesGoOn → MarksGoOn → (m : Making) (entry : Told) (s : Parts) (listed : List (DeviceNumber × ℕ)) (kept count : ℕ) (c : Course) (made : BanksState) (f : FlsState)
+go_by : (m : Making) (entry : Told) (s : Parts) (listed : List (DeviceNumber × ℕ)) (kept count : ℕ) (c : Course) (made : BanksState) (f : FlsState)
     → IsStepping m entry s listed kept count c made Done f → reads_next s.banks.log (Some c) ≡ false
     → Turned m entry turn.Worked s (operated (step_op s.banks c) Done f (after_answer made c Done) s) listed kept (next_count count) false
-go_by more mark m entry s listed kept count (Erase n) made f is reads = more m entry s listed kept count (Erase n) made f is tt
-go_by more mark m entry s listed kept count (Copy None) made f is reads = mark m entry s listed kept count made f is reads
-go_by more mark m entry s listed kept count (Copy (Some w)) made f is reads = more m entry s listed kept count (Copy (Some w)) made f is tt
-go_by more mark m entry s listed kept count Head made f is reads = more m entry s listed kept count Head made f is tt
-go_by more mark m entry s listed kept count (Gate failed) made f is reads = more m entry s listed kept count (Gate failed) made f is tt
+go_by m entry s listed kept count (Erase n) made f is reads = switches_go_on m entry s listed kept count (Erase n) made f is tt
+go_by m entry s listed kept count (Copy None) made f is reads = marks_go_on m entry s listed kept count made f is reads
+go_by m entry s listed kept count (Copy (Some w)) made f is reads = switches_go_on m entry s listed kept count (Copy (Some w)) made f is tt
+go_by m entry s listed kept count Head made f is reads = switches_go_on m entry s listed kept count Head made f is tt
+go_by m entry s listed kept count (Gate failed) made f is reads = switches_go_on m entry s listed kept count (Gate failed) made f is tt
 
-fail_by : SwitchesFail → MarksFail → (m : Making) (entry : Told) (s : Parts) (listed : List (DeviceNumber × ℕ)) (kept count : ℕ) (c : Course) (made : BanksState) (f : FlsState)
+fail_by : (m : Making) (entry : Told) (s : Parts) (listed : List (DeviceNumber × ℕ)) (kept count : ℕ) (c : Course) (made : BanksState) (f : FlsState)
     → IsStepping m entry s listed kept count c made Failed f → reads_next s.banks.log (Some c) ≡ false
     → Turned m entry turn.Worked s (failed_with s.job (operated (step_op s.banks c) Failed f (after_answer made c Failed) s)) listed kept (next_count count) false
-fail_by more mark m entry s listed kept count (Erase n) made f is reads = more m entry s listed kept count (Erase n) made f is tt
-fail_by more mark m entry s listed kept count (Copy None) made f is reads = mark m entry s listed kept count made f is reads
-fail_by more mark m entry s listed kept count (Copy (Some w)) made f is reads = more m entry s listed kept count (Copy (Some w)) made f is tt
-fail_by more mark m entry s listed kept count Head made f is reads = more m entry s listed kept count Head made f is tt
-fail_by more mark m entry s listed kept count (Gate failed) made f is reads = more m entry s listed kept count (Gate failed) made f is tt
+fail_by m entry s listed kept count (Erase n) made f is reads = switches_fail m entry s listed kept count (Erase n) made f is tt
+fail_by m entry s listed kept count (Copy None) made f is reads = marks_fail m entry s listed kept count made f is reads
+fail_by m entry s listed kept count (Copy (Some w)) made f is reads = switches_fail m entry s listed kept count (Copy (Some w)) made f is tt
+fail_by m entry s listed kept count Head made f is reads = switches_fail m entry s listed kept count Head made f is tt
+fail_by m entry s listed kept count (Gate failed) made f is reads = switches_fail m entry s listed kept count (Gate failed) made f is tt
 
-cut_by : SwitchesAreCut → MarksAreCut → (m : Making) (entry : Told) (s : Parts) (listed : List (DeviceNumber × ℕ)) (kept count : ℕ) (c : Course) (made : BanksState) (f : FlsState)
+cut_by : (m : Making) (entry : Told) (s : Parts) (listed : List (DeviceNumber × ℕ)) (kept count : ℕ) (c : Course) (made : BanksState) (f : FlsState)
     → IsStepping m entry s listed kept count c made Off f → reads_next s.banks.log (Some c) ≡ false
     → Turned m entry turn.Off s (operated (step_op s.banks c) Off f (after_answer made c Off) s) listed kept (next_count count) true
-cut_by more mark m entry s listed kept count (Erase n) made f is reads = more m entry s listed kept count (Erase n) made f is tt
-cut_by more mark m entry s listed kept count (Copy None) made f is reads = mark m entry s listed kept count made f is reads
-cut_by more mark m entry s listed kept count (Copy (Some w)) made f is reads = more m entry s listed kept count (Copy (Some w)) made f is tt
-cut_by more mark m entry s listed kept count Head made f is reads = more m entry s listed kept count Head made f is tt
-cut_by more mark m entry s listed kept count (Gate failed) made f is reads = more m entry s listed kept count (Gate failed) made f is tt
+cut_by m entry s listed kept count (Erase n) made f is reads = switches_are_cut m entry s listed kept count (Erase n) made f is tt
+cut_by m entry s listed kept count (Copy None) made f is reads = marks_are_cut m entry s listed kept count made f is reads
+cut_by m entry s listed kept count (Copy (Some w)) made f is reads = switches_are_cut m entry s listed kept count (Copy (Some w)) made f is tt
+cut_by m entry s listed kept count Head made f is reads = switches_are_cut m entry s listed kept count Head made f is tt
+cut_by m entry s listed kept count (Gate failed) made f is reads = switches_are_cut m entry s listed kept count (Gate failed) made f is tt
 
-module _ (m : Making) (entry : Told) (s : Parts) (listed : List (DeviceNumber × ℕ)) (kept count : ℕ) (ready : StepsMayBeMade) (c : Course) (f : FlsState) (is : IsCalled m entry s listed kept count c f) (result : BankStep) (b : BanksState) (made : IsBankStep s.banks c s.fls.flash result b f.flash)
+module _ (m : Making) (entry : Told) (s : Parts) (listed : List (DeviceNumber × ℕ)) (kept count : ℕ) (c : Course) (f : FlsState) (is : IsCalled m entry s listed kept count c f) (result : BankStep) (b : BanksState) (made : IsBankStep s.banks c s.fls.flash result b f.flash)
     (reads : reads_next s.banks.log s.banks.course ≡ false) (operations : List Change) (list : operations ≡ s.operations ++ change_of (switch_op_of s.banks s.banks.course) s.fls.flash (answer_to result) ∷ []) where
   abbrev next : FlashAnswer → Parts
   next a = record s { fls = f; banks = b; operations = operations; faults = counts_fault a s.faults }
@@ -201,23 +203,23 @@ module _ (m : Making) (entry : Told) (s : Parts) (listed : List (DeviceNumber ×
   reads' = subst (λ (o : Option Course). reads_next s.banks.log o ≡ false) is.course reads
 
   same : (a : FlashAnswer) → made.answer ≡ a → operated (step_op s.banks c) a f (after_answer made.made c a) s ≡ next a
-  same a e = sym (stepped m entry s listed kept count ready c f is result b made a e operations list)
+  same a e = sym (stepped m entry s listed kept count c f is result b made a e operations list)
 
   steps : (a : FlashAnswer) → made.answer ≡ a → IsStepping m entry s listed kept count c made.made a f
-  steps a e = stepping m entry s listed kept count ready c f is result b made a e
+  steps a e = stepping m entry s listed kept count c f is result b made a e
 
-  pub goes_on : SwitchesGoOn → MarksGoOn → made.answer ≡ Done → Turned m entry turn.Worked s (next Done) listed kept (next_count count) false
-  goes_on more mark e =
-      subst (λ (x : Parts). Turned m entry turn.Worked s x listed kept (next_count count) false) (same Done e) (go_by more mark m entry s listed kept count c made.made f (steps Done e) reads')
+  pub goes_on : made.answer ≡ Done → Turned m entry turn.Worked s (next Done) listed kept (next_count count) false
+  goes_on e =
+      subst (λ (x : Parts). Turned m entry turn.Worked s x listed kept (next_count count) false) (same Done e) (go_by m entry s listed kept count c made.made f (steps Done e) reads')
 
-  pub fails : SwitchesFail → MarksFail → made.answer ≡ Failed → Turned m entry turn.Worked s (failed_with s.job (next Failed)) listed kept (next_count count) false
-  fails more mark e =
-      subst (λ (x : Parts). Turned m entry turn.Worked s (failed_with s.job x) listed kept (next_count count) false) (same Failed e) (fail_by more mark m entry s listed kept count c made.made f (steps Failed e) reads')
+  pub fails : made.answer ≡ Failed → Turned m entry turn.Worked s (failed_with s.job (next Failed)) listed kept (next_count count) false
+  fails e =
+      subst (λ (x : Parts). Turned m entry turn.Worked s (failed_with s.job x) listed kept (next_count count) false) (same Failed e) (fail_by m entry s listed kept count c made.made f (steps Failed e) reads')
 
-  pub is_cut : SwitchesAreCut → MarksAreCut → made.answer ≡ Off → Turned m entry turn.Off s (next Off) listed kept (next_count count) true
-  is_cut more mark e =
-      subst (λ (x : Parts). Turned m entry turn.Off s x listed kept (next_count count) true) (same Off e) (cut_by more mark m entry s listed kept count c made.made f (steps Off e) reads')
+  pub is_cut : made.answer ≡ Off → Turned m entry turn.Off s (next Off) listed kept (next_count count) true
+  is_cut e =
+      subst (λ (x : Parts). Turned m entry turn.Off s x listed kept (next_count count) true) (same Off e) (cut_by m entry s listed kept count c made.made f (steps Off e) reads')
 
   -- and its banks follow the bytes
-  pub follows_on : StepsFollow → (a : FlashAnswer) → made.answer ≡ a → Follows s → Follows (next a)
-  follows_on law a e was = subst Follows (same a e) (law m entry s listed kept count c made.made a f (steps a e) reads' was)
+  pub follows_on : (a : FlashAnswer) → made.answer ≡ a → Follows s → Follows (next a)
+  follows_on a e was = subst Follows (same a e) (steps_follow m entry s listed kept count c made.made a f (steps a e) reads' was)

@@ -9,7 +9,7 @@ ghost use Rattle.fee_core.specs.Whole.{Sound, TurnedTo};
 use crate::Origin;
 use crate::operations::program_record;
 use crate::parts::FeeParts;
-use fee_laws::{FeeJob, calls_follow, records_turn, turns_begin, turns_follow};
+use fee_laws::FeeJob;
 use fee_log::LogStep;
 use fls_model::Flash;
 use memif::{DeviceTurn, JobResult};
@@ -37,8 +37,6 @@ impl<F: Flash, O: Origin> FeeParts<F, O> {
         requires work { IsSome (work_in self.old.parts.banks.log.tail) }
         ensures { TurnedTo O.making O.entry result self.old self.new }
     {
-        records_turn();
-        turns_follow();
         let _active = self.banks.active();
         let step = program_record(
             &mut self.fls,
@@ -82,8 +80,6 @@ impl<F: Flash, O: Origin> FeeParts<F, O> {
         requires begins { begins_now self.old.reserve self.old.parts.banks job ≡ true }
         ensures { TurnedTo O.making O.entry result self.old self.new }
     {
-        turns_begin();
-        calls_follow();
         let _active = self.banks.active();
         let kind = kind_of(job.op);
         let Some(log) = self.banks.log() else {

@@ -10,7 +10,6 @@ ghost use Rattle.fee_core.specs.Whole.{Sound, told_in, clock_in};
 use crate::Origin;
 use crate::parts::FeeParts;
 use crate::room::is_appending;
-use fee_laws::{calls_follow, jobs_cancel};
 use fee_switch::Banks;
 use fls_model::Flash;
 use memif::JobResult;
@@ -34,8 +33,6 @@ impl<F: Flash, O: Origin> FeeParts<F, O> {
         ensures sound { Sound O.making O.entry self.new }
         ensures cancels { Cancels (told_in O.making O.entry self.old) (clock_in O.making O.entry self.old) (told_in O.making O.entry self.new) (clock_in O.making O.entry self.new) }
     {
-        jobs_cancel();
-        calls_follow();
         if self.job.is_none() {
             return;
         }

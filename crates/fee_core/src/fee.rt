@@ -7,9 +7,7 @@ ghost use Rattle.fee_core.specs.Whole.{unstarted};
 use crate::Origin;
 use crate::content::Content;
 use crate::parts::FeeParts;
-use fee_laws::{devices_are_made, starts_follow};
 use fee_switch::Banks;
-use fee_told::runs_bridge;
 use fls_jobs::Fls;
 use fls_model::{AttachFault, Flash};
 use memif::JobResult;
@@ -117,8 +115,6 @@ impl<F: Flash, O: Origin> Fee<F, O> {
         ensures fixed { IfOk result (λ f. (told_of f).fixed ≡ fixed_for geometry.page (sectors_of_bank geometry banks) numbers.now reserve) }
         ensures refused { IfErr result (λ e. IsAttach geometry (F.told flash) (Err e.0) (F.told e.1)) }
     {
-        devices_are_made();
-        starts_follow();
         let Ok((banks, numbers, content)) = room_for(alloc, geometry, banks, numbers) else {
             return Err((AttachFault::Memory, flash));
         };
@@ -141,7 +137,6 @@ impl<F: Flash, O: Origin> Fee<F, O> {
         ensures changes { IfSome (changes_in (F.told result).bytes) (λ changes. changes ≡ self.operations) }
         ensures bridge { (cutter : Bool) → Bridges O.making cutter (record { entry = O.entry; exit = F.told result; operations = self.operations }) (part_at O.entry) (told_of self) (clock_of self) }
     {
-        runs_bridge();
         let Fee { parts } = self;
         let FeeParts { fls, .. } = parts;
         fls.status();

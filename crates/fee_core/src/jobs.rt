@@ -12,7 +12,7 @@ ghost use Rattle.fee_core.specs.Whole.{Sound, told_in, clock_in};
 use crate::Origin;
 use crate::parts::FeeParts;
 use crate::room::{pages_of_op, ready};
-use fee_laws::{FeeJob, calls_follow, jobs_open};
+use fee_laws::FeeJob;
 use fls_model::Flash;
 use memif::DeviceRefusal;
 use nv_base::{DeviceNumber, DeviceOp};
@@ -69,8 +69,6 @@ impl<F: Flash, O: Origin> FeeParts<F, O> {
         ensures opens { Opens (record { number = job.number.0; mark = mark_of job.op content.now; urgent = job.urgent }) (told_in O.making O.entry self.old) (told_in O.making O.entry self.new) }
         ensures stays { ClockStays (clock_in O.making O.entry self.old) (told_in O.making O.entry self.new) (clock_in O.making O.entry self.new) }
     {
-        jobs_open();
-        calls_follow();
         let _active = self.banks.active();
         self.content.put(content);
         self.job = Some(job);

@@ -5,7 +5,6 @@ ghost use Rattle.fee_core.specs.Whole.{Sound, told_in, clock_in};
 
 use crate::Origin;
 use crate::parts::FeeParts;
-use fee_laws::{devices_are_made, devices_start, starts_follow};
 use fee_switch::BankStart;
 use fls_model::Flash;
 use memif::{JobResult, StartFault};
@@ -18,8 +17,6 @@ impl<F: Flash, O: Origin> FeeParts<F, O> {
         ensures sound { Sound O.making O.entry self.new }
         ensures start { StartsUp result (told_in O.making O.entry self.old) (clock_in O.making O.entry self.old) (told_in O.making O.entry self.new) (clock_in O.making O.entry self.new) }
     {
-        devices_start();
-        starts_follow();
         self.fls.power_on();
         let answer = self.banks.start(&mut self.fls);
         let _active = self.banks.active();
@@ -47,7 +44,6 @@ impl<F: Flash, O: Origin> FeeParts<F, O> {
         ensures sound { Sound O.making O.entry self.new }
         ensures arms { Arms which nth keep (told_in O.making O.entry self.old) (clock_in O.making O.entry self.old) (told_in O.making O.entry self.new) (clock_in O.making O.entry self.new) }
     {
-        devices_are_made();
         let _started = self.started;
         if which == 0 {
             self.fls.arm(nth, keep);

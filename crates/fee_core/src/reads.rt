@@ -6,7 +6,7 @@ ghost use Rattle.fee_core.specs.Whole.{Sound, TurnedTo};
 use crate::Origin;
 use crate::parts::FeeParts;
 use fee_image::Place;
-use fee_laws::{FeeJob, calls_follow, reads_turn};
+use fee_laws::FeeJob;
 use fls_model::{Flash, FlashAnswer};
 use memif::{DeviceTurn, JobResult};
 
@@ -20,8 +20,6 @@ impl<F: Flash, O: Origin> FeeParts<F, O> {
         requires op { job.op ≡ Read }
         ensures { TurnedTo O.making O.entry result self.old self.new }
     {
-        reads_turn();
-        calls_follow();
         let _active = self.banks.active();
         self.job = None;
         self.given = 0;

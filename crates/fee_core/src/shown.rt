@@ -10,7 +10,6 @@ use crate::room::{pages_of_op, record_turns, switch_turns};
 use fee_course::most_turns;
 use fee_image::Place;
 use fee_switch::Phase;
-use fee_told::left_is_bounded;
 use fls_model::Flash;
 use memif::{JobResult, MemStatus, PlainMark};
 use nv_base::{DeviceNumber, DeviceOp};
@@ -117,7 +116,6 @@ impl<F: Flash, O: Origin> FeeParts<F, O> {
         requires configured { IsConfigured (told_in O.making O.entry self.now) number.0 }
         ensures { result ≡ most_of (figures_at (told_in O.making O.entry self.now).fixed number.0) op }
     {
-        left_is_bounded();
         let length = self.length_of(number);
         let geometry = self.banks.geometry();
         match op {

@@ -11,12 +11,8 @@ ghost use Rattle.fee_core.specs.Whole.{Sound, TurnedTo};
 use crate::Origin;
 use crate::operations::change_target;
 use crate::parts::FeeParts;
-use fee_laws::{
-    FeeJob, calls_follow, contents_begin, marks_begin, room_is_known, switches_turn, turns_begin,
-    turns_follow, wears_out,
-};
+use fee_laws::FeeJob;
 use fee_switch::{BankBegin, BankStep};
-use fee_switch_laws::steps_keep_room;
 use fls_model::Flash;
 use memif::{DeviceTurn, JobResult};
 
@@ -43,10 +39,6 @@ impl<F: Flash, O: Origin> FeeParts<F, O> {
         requires reads { reads_next self.old.parts.banks.log self.old.parts.banks.course ≡ true }
         ensures { TurnedTo O.making O.entry result self.old self.new }
     {
-        contents_begin();
-        turns_follow();
-        calls_follow();
-        steps_keep_room();
         let _active = self.banks.active();
         let step = self.banks.step(&mut self.fls);
         self.fls.status();
@@ -71,11 +63,6 @@ impl<F: Flash, O: Origin> FeeParts<F, O> {
         requires reads { reads_next self.old.parts.banks.log self.old.parts.banks.course ≡ false }
         ensures { TurnedTo O.making O.entry result self.old self.new }
     {
-        switches_turn();
-        marks_begin();
-        turns_follow();
-        calls_follow();
-        steps_keep_room();
         let _active = self.banks.active();
         let step = change_target(
             &mut self.fls,
@@ -129,8 +116,6 @@ impl<F: Flash, O: Origin> FeeParts<F, O> {
         requires worn { IsSome self.old.parts.worn ⊎ (is_worn_out self.old.parts.banks.active ≡ true) }
         ensures { TurnedTo O.making O.entry result self.old self.new }
     {
-        wears_out();
-        room_is_known();
         let _active = self.banks.active();
         self.worn = Some(self.worn.unwrap_or(self.ops));
         self.job = None;
@@ -153,8 +138,6 @@ impl<F: Flash, O: Origin> FeeParts<F, O> {
         requires fresh { self.old.parts.worn ≡ None }
         ensures { TurnedTo O.making O.entry result self.old self.new }
     {
-        turns_begin();
-        calls_follow();
         let _active = self.banks.active();
         match self.banks.begin() {
             BankBegin::Begun => self.turn_switch(),

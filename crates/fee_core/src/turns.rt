@@ -7,7 +7,7 @@ ghost use Rattle.fee_core.specs.Whole.{Sound, TurnedTo};
 use crate::Origin;
 use crate::parts::FeeParts;
 use crate::room::{begins_now, is_appending};
-use fee_laws::{FeeJob, rests_turn};
+use fee_laws::FeeJob;
 use fee_switch::Phase;
 use fls_model::Flash;
 use memif::DeviceTurn;
@@ -19,7 +19,6 @@ impl<F: Flash, O: Origin> FeeParts<F, O> {
         requires { Sound O.making O.entry self.old }
         ensures { TurnedTo O.making O.entry result self.old self.new }
     {
-        rests_turn();
         let Some(job) = self.job else {
             return self.turn_alone();
         };
@@ -35,7 +34,6 @@ impl<F: Flash, O: Origin> FeeParts<F, O> {
         requires shut { self.old.parts.job ≡ None }
         ensures { TurnedTo O.making O.entry result self.old self.new }
     {
-        rests_turn();
         if self.banks.phase() == Phase::None {
             return DeviceTurn::Idle;
         }

@@ -75,7 +75,7 @@ abbrev pub most_turns : ℕ → ℕ → List (DeviceNumber × ℕ) → ℕ
 most_turns p sectors ns = sectors + copies_most p ns + greatest p ns + 2
 
 -- UNDER WAY
--- the sectors and pages that are done are no more than there are
+-- fewer sectors are erased than there are, and of a copy in work a page is left
 abbrev pub IsShort : ℕ → Course → Type 0
 IsShort sectors (Erase done) = done < sectors
 IsShort sectors (Copy (Some w)) = 0 < w.pages

@@ -14,7 +14,7 @@ abbrev pub IsBeforeGate : Course → Type 0
 IsBeforeGate (Gate failed) = ⊥
 IsBeforeGate _ = Unit {0}
 
--- each operation that is done leaves fewer turns
+-- each operation before the gate that is done leaves fewer turns
 abbrev pub TurnsFall : Type 0
 TurnsFall =
     (p sectors : ℕ) (ns : List (DeviceNumber × ℕ)) (places : List Place) (copied : List Bool) (c : Course)
@@ -22,7 +22,7 @@ TurnsFall =
     → let done = as_copied (flag_due c) copied in
     turns_left p sectors ns places done None (after_done p sectors ns places done c) < turns_left p sectors ns places copied None c
 
--- and what comes behind it is under way, as what comes after a failure is
+-- what comes behind an operation that is done is under way
 abbrev pub StaysUnderWay : Type 0
 StaysUnderWay =
     (p sectors : ℕ) (ns : List (DeviceNumber × ℕ)) (places : List Place) (copied : List Bool) (c : Course)

@@ -3,7 +3,7 @@ ghost use Rattle.std.specs.Prelude.{◌≡◌, ◌<◌, ◌≤◌, ◌*◌, ◌^
 ghost use Rattle.fee_course.specs.Copies.{turns_of, is_left, next_copy, copies_left, as_copied, as_appended, copies_most, greatest};
 
 use fee_image::Place;
-use nv_base::{Lengths, numbers_ascend, record_pages};
+use nv_base::{Lengths, record_pages};
 
 /// A number by its place in the list of all, from 0, with the length of its contents and where its record stands.
 #[derive(Clone, Copy)]
@@ -96,7 +96,6 @@ pub fn copies_left(
     ensures most { result ≤ 260 * length numbers.now }
     ensures few { length numbers.now < 2 ^ 32 }
 {
-    numbers_ascend();
     let count = numbers.len();
     let list = numbers.as_slice();
     let mut turns = 0;
@@ -117,7 +116,6 @@ pub fn copies_most(page: u32, numbers: &Lengths) -> (u64, u32)
     ensures most { result.0 ≤ 260 * length numbers.now }
     ensures few { length numbers.now < 2 ^ 32 }
 {
-    numbers_ascend();
     let count = numbers.len();
     let list = numbers.as_slice();
     let mut turns = 0;

@@ -104,7 +104,7 @@ impl Course {
         }
     }
 
-    /// What comes after a failure: the first erase, or the gate again.
+    /// What comes behind the next operation where it failed: an erase or the gate again, and behind any other the first erase.
     pub fn failed(self) -> Course
         ensures { result ≡ after_failed self }
     {

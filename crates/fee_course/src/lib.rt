@@ -8,8 +8,6 @@
 
 mod copies;
 mod course;
-mod course_laws;
 
 pub use copies::{Source, copies_left, copies_most, next_copy};
 pub use course::{Copying, Course, most_turns};
-pub use course_laws::turns_fall;

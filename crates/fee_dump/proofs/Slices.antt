@@ -8,11 +8,13 @@ use Rattle.fee_format.specs.declared.bank_head.BankHead.{BankHead}
 use Rattle.fee_format.specs.Pages.{blank_page}
 use Rattle.fee_image.specs.Bank.{Bank, page_of}
 use Rattle.fee_image.specs.Image.{Layout, bank_in, BankStands, head_of_bank}
-use Rattle.fee_image.specs.Laws.{HeadsCompute, RecordsStay, SlicesAgree, bank_bytes}
+use Rattle.fee_image.specs.Laws.{bank_bytes}
 use Rattle.fee_image.specs.RecordList.{StandsAs, StandsNot, IsTailBlank, records_of, end_of, end_after}
 use Rattle.fee_view.specs.View.{View, own_bank}
 use Rattle.fee_dump.specs.Dump.{are_blank, has_blank_tail}
 use Rattle.fee_dump.specs.Seen.{Shows}
+use Rattle.fee_image.proofs.Banks.{heads_compute}
+use Rattle.fee_image.proofs.Reading.{records_stay, slices_agree}
 
 -- THE TAIL
 and_true : (a b : Bool) → a ≡ true → b ≡ true → (a && b) ≡ true
@@ -57,37 +59,37 @@ tail_blank b bytes = (
 abbrev pub IsSliceOf : Layout → List ℕ → ℕ → List ℕ → Type 0
 IsSliceOf l image k slice = slice ≡ bank_bytes (bank_in l 1 k) image
 
-same_page : SlicesAgree → (l : Layout) (image : List ℕ) (k format : ℕ) (slice : List ℕ) (q : ℕ) → IsSliceOf l image k slice → q < l.pages → page_of (own_bank l.page l.pages format) slice q ≡ page_of (bank_in l format k) image q
-same_page slices l image k format slice q is lt = rw is (slices (bank_in l format k) image q lt)
+same_page : (l : Layout) (image : List ℕ) (k format : ℕ) (slice : List ℕ) (q : ℕ) → IsSliceOf l image k slice → q < l.pages → page_of (own_bank l.page l.pages format) slice q ≡ page_of (bank_in l format k) image q
+same_page l image k format slice q is lt = rw is (slices_agree (bank_in l format k) image q lt)
 
 -- THE HEAD
-stands_in : SlicesAgree → (l : Layout) (image : List ℕ) (k : ℕ) (slice : List ℕ) (h : BankHead) → IsSliceOf l image k slice → 2 ≤ l.pages → StandsAs (own_bank l.page 2 1) slice h → BankStands l image k h
-stands_in slices l image k slice h is two stands = record {
-  head = subst (λ (page : List ℕ). IsBankHead l.page page h) (same_page slices l image k h.format slice 0 is (omega arith)) stands.head;
-  gate = subst (λ (page : List ℕ). IsGate l.page page) (same_page slices l image k h.format slice 1 is (omega arith)) stands.gate;
+stands_in : (l : Layout) (image : List ℕ) (k : ℕ) (slice : List ℕ) (h : BankHead) → IsSliceOf l image k slice → 2 ≤ l.pages → StandsAs (own_bank l.page 2 1) slice h → BankStands l image k h
+stands_in l image k slice h is two stands = record {
+  head = subst (λ (page : List ℕ). IsBankHead l.page page h) (same_page l image k h.format slice 0 is (omega arith)) stands.head;
+  gate = subst (λ (page : List ℕ). IsGate l.page page) (same_page l image k h.format slice 1 is (omega arith)) stands.gate;
 }
 
-stands_own : SlicesAgree → (l : Layout) (image : List ℕ) (k : ℕ) (slice : List ℕ) (h : BankHead) → IsSliceOf l image k slice → 2 ≤ l.pages → BankStands l image k h → StandsAs (own_bank l.page 2 1) slice h
-stands_own slices l image k slice h is two stands = record {
-  head = subst (λ (page : List ℕ). IsBankHead l.page page h) (sym (same_page slices l image k h.format slice 0 is (omega arith))) stands.head;
-  gate = subst (λ (page : List ℕ). IsGate l.page page) (sym (same_page slices l image k h.format slice 1 is (omega arith))) stands.gate;
+stands_own : (l : Layout) (image : List ℕ) (k : ℕ) (slice : List ℕ) (h : BankHead) → IsSliceOf l image k slice → 2 ≤ l.pages → BankStands l image k h → StandsAs (own_bank l.page 2 1) slice h
+stands_own l image k slice h is two stands = record {
+  head = subst (λ (page : List ℕ). IsBankHead l.page page h) (sym (same_page l image k h.format slice 0 is (omega arith))) stands.head;
+  gate = subst (λ (page : List ℕ). IsGate l.page page) (sym (same_page l image k h.format slice 1 is (omega arith))) stands.gate;
 }
 
-none_found : HeadsCompute → SlicesAgree → (l : Layout) (image : List ℕ) (k : ℕ) (slice : List ℕ) (o : Option BankHead) → o ≡ head_of_bank l image k → IsSliceOf l image k slice → 2 ≤ l.pages → StandsNot (own_bank l.page 2 1) slice → None ≡ o
-none_found heads slices l image k slice None e is two not = refl
-none_found heads slices l image k slice (Some h) e is two not = absurd (not h (stands_own slices l image k slice h is two ((heads l image k h).1 (sym e))))
+none_found : (l : Layout) (image : List ℕ) (k : ℕ) (slice : List ℕ) (o : Option BankHead) → o ≡ head_of_bank l image k → IsSliceOf l image k slice → 2 ≤ l.pages → StandsNot (own_bank l.page 2 1) slice → None ≡ o
+none_found l image k slice None e is two not = refl
+none_found l image k slice (Some h) e is two not = absurd (not h (stands_own l image k slice h is two ((heads_compute l image k h).1 (sym e))))
 
-pub head_found : {V : Type 0} (head : V → BankHead) (o : Option V) → HeadsCompute → SlicesAgree → (l : Layout) (image : List ℕ) (k : ℕ) (slice : List ℕ) → IsSliceOf l image k slice → 2 ≤ l.pages → MatchOption o (StandsNot (own_bank l.page 2 1) slice) (λ v. StandsAs (own_bank l.page 2 1) slice (head v)) → option_map head o ≡ head_of_bank l image k
-head_found head None heads slices l image k slice is two not = none_found heads slices l image k slice (head_of_bank l image k) refl is two not
-head_found head (Some v) heads slices l image k slice is two stands = sym ((heads l image k (head v)).0 (stands_in slices l image k slice (head v) is two stands))
+pub head_found : {V : Type 0} (head : V → BankHead) (o : Option V) → (l : Layout) (image : List ℕ) (k : ℕ) (slice : List ℕ) → IsSliceOf l image k slice → 2 ≤ l.pages → MatchOption o (StandsNot (own_bank l.page 2 1) slice) (λ v. StandsAs (own_bank l.page 2 1) slice (head v)) → option_map head o ≡ head_of_bank l image k
+head_found head None l image k slice is two not = none_found l image k slice (head_of_bank l image k) refl is two not
+head_found head (Some v) l image k slice is two stands = sym ((heads_compute l image k (head v)).0 (stands_in l image k slice (head v) is two stands))
 
 -- THE LOG
-shows_at : RecordsStay → SlicesAgree → (l : Layout) (image : List ℕ) (k : ℕ) (slice : List ℕ) (h : BankHead) → IsSliceOf l image k slice → Shows l image k (record { bytes = slice; page = l.page; pages = l.pages; head = h })
-shows_at stay slices l image k slice h is =
+shows_at : (l : Layout) (image : List ℕ) (k : ℕ) (slice : List ℕ) (h : BankHead) → IsSliceOf l image k slice → Shows l image k (record { bytes = slice; page = l.page; pages = l.pages; head = h })
+shows_at l image k slice h is =
     let b = bank_in l h.format k in
     let own = own_bank l.page l.pages h.format in
-    let same : (q : ℕ) → q < l.pages → page_of own slice q ≡ page_of b image q = λ q lt. same_page slices l image k h.format slice q is lt in
-    let records : records_of own slice ≡ records_of b image = stay b image slice 0 (λ q low high. same q high) in
+    let same : (q : ℕ) → q < l.pages → page_of own slice q ≡ page_of b image q = λ q lt. same_page l image k h.format slice q is lt in
+    let records : records_of own slice ≡ records_of b image = records_stay b image slice 0 (λ q low high. same q high) in
     let end : end_of own slice ≡ end_of b image = ap (end_after l.page 2) records in
     let there : IsTailBlank own slice (end_of own slice) → IsTailBlank b image (end_of b image) = λ all q low high. sym (same q high) ∙ all q (rw end low) high in
     let back : IsTailBlank b image (end_of b image) → IsTailBlank own slice (end_of own slice) = λ all q low high. same q high ∙ all q (rw (← end) low) high in
@@ -97,8 +99,8 @@ shows_at stay slices l image k slice h is =
       tail = (λ all. law.0 (there all), λ e. back (law.1 e));
     }
 
-pub shows : RecordsStay → SlicesAgree → (l : Layout) (image : List ℕ) (k : ℕ) (slice : List ℕ) → IsSliceOf l image k slice → (pages : ℕ) → l.pages ≡ pages → (v : View) → v ≡ record { bytes = slice; page = l.page; pages = pages; head = v.head } → Shows l image k v
-shows stay slices l image k slice is pages same v e =
+pub shows : (l : Layout) (image : List ℕ) (k : ℕ) (slice : List ℕ) → IsSliceOf l image k slice → (pages : ℕ) → l.pages ≡ pages → (v : View) → v ≡ record { bytes = slice; page = l.page; pages = pages; head = v.head } → Shows l image k v
+shows l image k slice is pages same v e =
     let at_pages : Shows l image k (record { bytes = slice; page = l.page; pages = pages; head = v.head }) =
-    subst (λ (n : ℕ). Shows l image k (record { bytes = slice; page = l.page; pages = n; head = v.head })) same (shows_at stay slices l image k slice v.head is) in
+    subst (λ (n : ℕ). Shows l image k (record { bytes = slice; page = l.page; pages = n; head = v.head })) same (shows_at l image k slice v.head is) in
     subst (λ (w : View). Shows l image k w) (sym e) at_pages

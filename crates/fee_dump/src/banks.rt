@@ -4,9 +4,8 @@ ghost use Rattle.nv_base.specs.Geometry.{IsLegal, HasBanks, size_of};
 ghost use Rattle.fee_image.specs.Image.{layout_of, head_of_bank};
 ghost use Rattle.fee_dump.specs.Seen.{Shows};
 
-use fee_image::{images_compute, records_stay};
 use fee_view::BankView;
-use nv_base::{Geometry, banks_share_the_flash};
+use nv_base::Geometry;
 
 /// Bank `bank` of an image that so many banks share. None exactly where it doesn't stand.
 pub(crate) fn bank_of(
@@ -22,9 +21,6 @@ pub(crate) fn bank_of(
     ensures head { option_map (λ v. v.head) result ≡ head_of_bank (layout_of geometry banks) image.now bank }
     ensures shows { IfSome result (Shows (layout_of geometry banks) image.now bank) }
 {
-    records_stay();
-    images_compute();
-    banks_share_the_flash();
     let size = geometry.bank_size(banks) as usize;
     let from = bank as usize * size;
     BankView::of(&image[from..from + size], geometry.page)

@@ -23,11 +23,11 @@ grown_through (x ∷ xs) (y ∷ ys) (z ∷ zs) one two =
     let bits : bit_and x z ≡ x = ap (λ (n : ℕ). bit_and n z) (sym one.0) ∙ and_assoc z x y ∙ ap (bit_and x) two.0 ∙ one.0 in
     (bits, λ lt. two.1 (one.1 lt), grown_through xs ys zs one.2 two.2)
 
-pub grown_length : TornPagesKeepSize
-grown_length [] [] grown = refl
-grown_length [] (y ∷ ys) grown = absurd grown
-grown_length (x ∷ xs) [] grown = absurd grown
-grown_length (x ∷ xs) (y ∷ ys) grown = ap suc (grown_length xs ys grown.2)
+pub torn_pages_keep_size : TornPagesKeepSize
+torn_pages_keep_size [] [] grown = refl
+torn_pages_keep_size [] (y ∷ ys) grown = absurd grown
+torn_pages_keep_size (x ∷ xs) [] grown = absurd grown
+torn_pages_keep_size (x ∷ xs) (y ∷ ys) grown = ap suc (torn_pages_keep_size xs ys grown.2)
 
 pub grown_le : (x y : ℕ) → bit_and x y ≡ x → x ≤ y
 grown_le x y is = omega (arith, is, and_le_r x y)
@@ -82,13 +82,13 @@ torn_heads_stay_sound page torn (inl (h, is)) grown = elim (cases_Bool (same_byt
       let same : torn ≡ page = (bytes_are torn page).0 t in
       inl (h, subst (λ (l : List ℕ). IsBankHead (length l) l h) (sym same) is)
   | inr f ↦ inr (λ later more i also.
-      let size : length torn ≡ length page = grown_length page torn grown in
+      let size : length torn ≡ length page = torn_pages_keep_size page torn grown in
       let at : IsBankHead (length page) later i = subst (λ (n : ℕ). IsBankHead n later i) size also in
       let stays : later ≡ page = (torn_heads_are_same (length page) page later h i is (grown_through page torn later grown more) at).0 in
       let back : torn ≡ page = sym (grown_back page torn grown (subst (Grown torn) stays more)) in
       false≢true (sym f ∙ (bytes_are torn page).1 back))
 ]
-torn_heads_stay_sound page torn (inr none) grown = inr (λ later more. subst (λ (n : ℕ). (h : BankHead) → IsBankHead n later h → ⊥) (sym (grown_length page torn grown)) (none later (grown_through page torn later grown more)))
+torn_heads_stay_sound page torn (inr none) grown = inr (λ later more. subst (λ (n : ℕ). (h : BankHead) → IsBankHead n later h → ⊥) (sym (torn_pages_keep_size page torn grown)) (none later (grown_through page torn later grown more)))
 
 -- GATES
 gate_stood : (p : ℕ) (page : List ℕ) → Grown page (gate_page p) → page ≡ gate_page p

@@ -8,7 +8,6 @@
 mod bank_head;
 mod formats;
 mod gate;
-mod laws;
 mod pages;
 mod rec_head;
 mod sound_head;
@@ -16,7 +15,6 @@ mod sound_head;
 pub use bank_head::{BankHead, read_bank_head, write_bank_head};
 pub use formats::{NEW_FORMAT, OLD_FORMAT};
 pub use gate::{gate_stands, write_gate};
-pub use laws::{pages_compute, torn_erases_make_nothing};
 pub use pages::pages_of;
 pub use rec_head::{RecHead, read_rec_head, write_rec_head};
 pub use sound_head::is_sound_head;

@@ -8,14 +8,14 @@ use Rattle.fee_format.specs.Formats.{new_format}
 use Rattle.fee_format.specs.RecHead.{IsLegalRecHead, IsRecHead, rec_head_page}
 use Rattle.fee_format.specs.Pages.{gate_page, blank_page, body_pages_of}
 use Rattle.fee_format.specs.RecordPages.{body_page, record_page}
-use Rattle.fee_format.specs.Laws.{GatesCompute}
 use Rattle.fee_image.specs.Append.{Staged, Touches, whole, IsNoMore, IsOneMore, AppendsLeaveOneMore, CutsOfAppend, AppendsGoOn, WholeIsLast, LastIsNew}
 use Rattle.fee_image.specs.Bank.{Bank, page_of, pages_from}
 use Rattle.fee_image.specs.RecordList.{Rec, HasHead, Stops, Walks, IsLog, pages_of_head}
 use Rattle.fee_image.specs.Found.{counts, fits, last_from, last_record, last_held, held_shown}
-use Rattle.fee_image.specs.Laws.{LogsCompute}
-use Rattle.fee_image.proofs.Walks.{walk_push, walk_same}
-use Rattle.fee_image.proofs.Bodies.{blank_gate, enough, body_bytes}
+use Rattle.fee_image.proofs.Walks.{walks_go_on, walk_same}
+use Rattle.fee_image.proofs.Bodies.{blank_gate, bodies_have_room, body_bytes}
+use Rattle.fee_format.proofs.Tests.{gates_compute}
+use Rattle.fee_image.proofs.Records.{logs_compute}
 
 -- ONE RECORD MORE
 last_push : (number length : ℕ) (rs : List Rec) (o : Option Rec) (r : Rec) → last_from number length o (rs ++ r ∷ []) ≡ (if counts number length r then Some r else last_from number length o rs)
@@ -40,21 +40,21 @@ content b bytes e h body big size written =
     let pages : (i : ℕ) → i < n → page_of b bytes (e + 2 + i) ≡ body_page p body i = λ i below.
     let at : e + (2 + i) ≡ e + 2 + i = omega arith in
     ap (page_of b bytes) (sym at) ∙ written (2 + i) (omega arith) ∙ body_at p h body i below in
-    sym (body_bytes b bytes n body (e + 2) (omega arith) pages (omega (arith, size, enough h.length p (omega arith)))) ∙ ap (λ (s : ℕ). take s (pages_from b bytes (e + 2) n)) size
+    sym (body_bytes b bytes n body (e + 2) (omega arith) pages (omega (arith, size, bodies_have_room h.length p (omega arith)))) ∙ ap (λ (s : ℕ). take s (pages_from b bytes (e + 2) n)) size
 
 -- a header that was written is one of its bank's format
 head_on : (f p : ℕ) (page : List ℕ) (h : RecHead) → f ≡ new_format → IsLegalRecHead h → page ≡ rec_head_page new_format p h → IsRecHead f p page h
 head_on f p page h format legal is =
     subst (λ (n : ℕ). IsRecHead n p page h) (sym format) (let new : IsRecHead new_format p page h = record { legal = legal; counted = tt; page_is = is } in new)
 
--- behind the last page there is no record
-stops_behind : (b : Bank) (bytes : List ℕ) (e : ℕ) → 16 ≤ b.page → (e + 1 < b.pages → page_of b bytes (e + 1) ≡ blank_page b.page) → Stops b bytes e
+-- where the page behind it is blank, no record stands
+pub stops_behind : (b : Bank) (bytes : List ℕ) (e : ℕ) → 16 ≤ b.page → (e + 1 < b.pages → page_of b bytes (e + 1) ≡ blank_page b.page) → Stops b bytes e
 stops_behind b bytes e big blank = elim (cases_lt b.pages (e + 3)) [
   | inl few ↦ inl few
   | inr room ↦ inr (inl (λ gate. blank_gate b.page (omega arith) (sym (blank (omega arith)) ∙ gate)))
 ]
 
-module _ (gates : GatesCompute) (b : Bank) (old new : List ℕ) (rs : List Rec) (e : ℕ) (h : RecHead) (body : List ℕ) (k : ℕ) (big : 16 ≤ b.page) (staged : Staged b old rs e h body k) (lt : k < pages_of_head b.page h) (touches : Touches b (e + k) old new) where
+module _ (b : Bank) (old new : List ℕ) (rs : List Rec) (e : ℕ) (h : RecHead) (body : List ℕ) (k : ℕ) (big : 16 ≤ b.page) (staged : Staged b old rs e h body k) (lt : k < pages_of_head b.page h) (touches : Touches b (e + k) old new) where
   abbrev p : ℕ
   p = b.page
 
@@ -98,7 +98,7 @@ module _ (gates : GatesCompute) (b : Bank) (old new : List ℕ) (rs : List Rec) 
 
   part_log : IsGate p (Q (e + 1)) → (IsGate p (Q (e + 2 + n)) → ⊥) → IsLog b new (rs ++ part ∷ []) (e + pages_of_head p h)
   part_log gate no_commit = record {
-    walk = walk_push b new rs 2 e part walk (record {
+    walk = walks_go_on b new 2 e rs part walk (record {
       place = refl;
       head = header gate;
       gate = gate;
@@ -120,7 +120,7 @@ module _ (gates : GatesCompute) (b : Bank) (old new : List ℕ) (rs : List Rec) 
 
   whole_log : IsGate p (Q (e + 1)) → IsGate p (Q (e + 2 + n)) → IsLog b new (rs ++ whole e h body ∷ []) (e + pages_of_head p h)
   whole_log gate commit = record {
-    walk = walk_push b new rs 2 e (whole e h body) walk (record {
+    walk = walks_go_on b new 2 e rs (whole e h body) walk (record {
       place = refl;
       head = header gate;
       gate = gate;
@@ -139,7 +139,7 @@ module _ (gates : GatesCompute) (b : Bank) (old new : List ℕ) (rs : List Rec) 
   more : IsGate p (Q (e + 1)) → IsOneMore b new rs e h body k
   more gate = elim (cases_Bool (is_gate p (Q (e + 2 + n)))) [
     | inl t ↦
-        let commit = (gates p (Q (e + 2 + n))).0 t in
+        let commit = (gates_compute p (Q (e + 2 + n))).0 t in
         record {
           last = whole e h body;
           at = refl;
@@ -152,29 +152,29 @@ module _ (gates : GatesCompute) (b : Bank) (old new : List ℕ) (rs : List Rec) 
       at = refl;
       head = refl;
       committed = λ c. absurd (false≢true c);
-      log = part_log gate (λ commit. false≢true (sym f ∙ (gates p (Q (e + 2 + n))).1 commit));
+      log = part_log gate (λ commit. false≢true (sym f ∙ (gates_compute p (Q (e + 2 + n))).1 commit));
     }
   ]
 
   pub leaves : IsNoMore b new rs e k ⊎ IsOneMore b new rs e h body k
   leaves = elim (cases_Bool (is_gate p (Q (e + 1)))) [
-    | inl t ↦ inr (more ((gates p (Q (e + 1))).0 t))
-    | inr f ↦ inl (no_more (λ gate. false≢true (sym f ∙ (gates p (Q (e + 1))).1 gate)))
+    | inl t ↦ inr (more ((gates_compute p (Q (e + 1))).0 t))
+    | inr f ↦ inl (no_more (λ gate. false≢true (sym f ∙ (gates_compute p (Q (e + 1))).1 gate)))
   ]
 
-pub appends_leave_one_more : GatesCompute → AppendsLeaveOneMore
-appends_leave_one_more gates b old new rs e h body k big staged lt touches = leaves gates b old new rs e h body k big staged lt touches
+pub appends_leave_one_more : AppendsLeaveOneMore
+appends_leave_one_more b old new rs e h body k big staged lt touches = leaves b old new rs e h body k big staged lt touches
 
 -- CUTS
 -- a record that isn't committed changes no mark
-uncounted : (number length : ℕ) (rs : List Rec) (r : Rec) → r.committed ≡ false → last_held number length (rs ++ r ∷ []) ≡ last_held number length rs
+pub uncounted : (number length : ℕ) (rs : List Rec) (r : Rec) → r.committed ≡ false → last_held number length (rs ++ r ∷ []) ≡ last_held number length rs
 uncounted number length rs r shut =
     ap held_shown (last_is_new number length rs r ∙ ap (λ c. if c && fits number length r.head then Some r else last_record number length rs) shut)
 
-pub cuts_of_append : GatesCompute → LogsCompute → CutsOfAppend
-cuts_of_append gates logs b old new rs e h body k big staged lt touches number length m found =
-    let one : (ss : List Rec) (f : ℕ) → IsLog b new ss f → found.records ≡ ss = λ ss f log. ((logs b new found.records found.end).0 found.log).0 ∙ sym ((logs b new ss f).0 log).0 in
-    elim (leaves gates b old new rs e h body k big staged lt touches) [
+pub cuts_of_append : CutsOfAppend
+cuts_of_append b old new rs e h body k big staged lt touches number length m found =
+    let one : (ss : List Rec) (f : ℕ) → IsLog b new ss f → found.records ≡ ss = λ ss f log. ((logs_compute b new found.records found.end).0 found.log).0 ∙ sym ((logs_compute b new ss f).0 log).0 in
+    elim (leaves b old new rs e h body k big staged lt touches) [
       | inl (early, log) ↦ inl (found.is ∙ ap (last_held number length) (one rs e log))
       | inr more ↦
           let is : m ≡ last_held number length (rs ++ more.last ∷ []) = found.is ∙ ap (last_held number length) (one (rs ++ more.last ∷ []) _ more.log) in
@@ -212,7 +212,7 @@ whole_is_last b bytes rs e h body big staged =
     let commit_page : record_page p h body (2 + n) ≡ gate_page p =
     rw (ne_eqb (2 + n) 0 (λ s. absurd (omega arith)), ne_eqb (2 + n) 1 (λ s. absurd (omega arith)), eq-eqb (2 + n) (2 + n) refl) refl in
     record {
-      walk = walk_push b bytes rs 2 e (whole e h body) staged.front (record {
+      walk = walks_go_on b bytes 2 e rs (whole e h body) staged.front (record {
         place = refl;
         head = record { format = inr staged.format; page = head_on b.format p (page_of b bytes e) h staged.format staged.legal (ap (page_of b bytes) (sym at_e) ∙ staged.written 0 (omega arith)); within = staged.room };
         gate = staged.written 1 (omega arith);

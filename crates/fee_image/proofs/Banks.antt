@@ -2,24 +2,24 @@
 use Rattle.std.specs.Prelude.{nat_lt, if◌then◌else◌}
 use Rattle.std.proofs.Common.{◌≡◌, inl, inr, ◌↔◌, ◌<◌, ℕ, zero, suc, Bool, true, false, IsTrue, List, Option, Some, None, refl, sym, ◌∙◌, subst, arith}
 use Rattle.std.proofs.lemmas.Bool.{cases_eq, cases_order}
-use Rattle.std.proofs.lemmas.Bool.Decides.{nat_tests}
 use Rattle.std.proofs.lemmas.Option.{none-some, same_Some}
 use Rattle.fee_format.specs.declared.bank_head.BankHead.{BankHead}
 use Rattle.fee_format.specs.BankHead.{bank_head_of}
 use Rattle.fee_format.specs.Gate.{is_gate}
-use Rattle.fee_format.specs.Laws.{GatesCompute, BankHeadsCompute}
 use Rattle.fee_image.specs.Image.{Layout, image_page, BankStands, ComesFirst, IsActive, HasNoActive, head_of_bank, first_with, first_of, active_below, active_of}
 use Rattle.fee_image.specs.Laws.{HeadsCompute, ActiveComputes, NoActiveComputes, ActiveStays, SealedIsActive, FirstIsActive}
 use Rattle.fee_image.proofs.Picks.{then_is, if_some}
+use Rattle.fee_format.proofs.Heads.{bank_heads_compute}
+use Rattle.fee_format.proofs.Tests.{gates_compute, lt_is}
 
-pub heads_compute : GatesCompute → BankHeadsCompute → HeadsCompute
-heads_compute gates heads l bytes k h =
+pub heads_compute : HeadsCompute
+heads_compute l bytes k h =
     let g = is_gate l.page (image_page l bytes k 1) in
     let o = bank_head_of l.page (image_page l bytes k 0) in (
-      λ stands. then_is g o None ((gates l.page (image_page l bytes k 1)).1 stands.gate) ∙ (heads l.page (image_page l bytes k 0) h).0 stands.head,
+      λ stands. then_is g o None ((gates_compute l.page (image_page l bytes k 1)).1 stands.gate) ∙ (bank_heads_compute l.page (image_page l bytes k 0) h).0 stands.head,
       λ is.
           let all = if_some g o h is in
-          record { head = (heads l.page (image_page l bytes k 0) h).1 all.1; gate = (gates l.page (image_page l bytes k 1)).0 all.0 },
+          record { head = (bank_heads_compute l.page (image_page l bytes k 0) h).1 all.1; gate = (gates_compute l.page (image_page l bytes k 1)).0 all.0 },
     )
 
 -- two banks can't each come before the other
@@ -29,12 +29,12 @@ not_both k j h i (inr same) (inl more) = omega (arith, same.0)
 not_both k j h i (inl less) (inr same) = omega (arith, same.0)
 not_both k j h i (inr one) (inr two) = omega (arith, one.1, two.1)
 
-module _ (heads : HeadsCompute) (l : Layout) (bytes : List ℕ) where
+module _ (l : Layout) (bytes : List ℕ) where
   abbrev Stand : ℕ → BankHead → Type 0
   Stand k h = BankStands l bytes k h
 
   one_head : (k : ℕ) (h i : BankHead) → Stand k h → Stand k i → h ≡ i
-  one_head k h i one two = same_Some h i (sym ((heads l bytes k h).0 one) ∙ (heads l bytes k i).0 two)
+  one_head k h i one two = same_Some h i (sym ((heads_compute l bytes k h).0 one) ∙ (heads_compute l bytes k i).0 two)
 
   pub one_active : (k j : ℕ) (h i : BankHead) → IsActive l bytes k h → IsActive l bytes j i → (k ≡ j) × (h ≡ i)
   one_active k j h i one two = elim (cases_eq k j) [
@@ -98,20 +98,17 @@ module _ (heads : HeadsCompute) (l : Layout) (bytes : List ℕ) where
   with_pick n h x true is stands best = newer n h x stands best (is.0 refl)
   with_pick n h x false is stands best = older n h x stands best (λ less. absurd (let e : false ≡ true = is.1 less in cc e))
 
-  lt_test : (m n : ℕ) → IsTrue (nat_lt m n) ↔ (m < n)
-  lt_test m n = (λ t. grind (arith, nat_tests), λ lt. grind (arith, nat_tests))
-
   with_head : (n : ℕ) (h : BankHead) (o : Option (ℕ × BankHead)) → Stand n h → Best n o → Best (suc n) (first_with o n h)
   with_head n h None stands best = record {
     bank = omega arith;
     stands = stands;
     first = λ j other lt ne also. absurd (best j other (omega arith) also);
   }
-  with_head n h (Some x) stands best = with_pick n h x (nat_lt x.1.generation h.generation) (lt_test x.1.generation h.generation) stands best
+  with_head n h (Some x) stands best = with_pick n h x (nat_lt x.1.generation h.generation) (lt_is x.1.generation h.generation) stands best
 
   next : (n : ℕ) (o : Option (ℕ × BankHead)) (head : Option BankHead) → head_of_bank l bytes n ≡ head → Best n o → Best (suc n) (first_of o n head)
-  next n o None is best = without n o (λ h stands. none-some h (sym is ∙ (heads l bytes n h).0 stands)) best
-  next n o (Some h) is best = with_head n h o ((heads l bytes n h).1 is) best
+  next n o None is best = without n o (λ h stands. none-some h (sym is ∙ (heads_compute l bytes n h).0 stands)) best
+  next n o (Some h) is best = with_head n h o ((heads_compute l bytes n h).1 is) best
 
   best_below : (n : ℕ) → Best n (active_below l bytes n)
   best_below zero = λ k h lt stands. absurd (omega arith)
@@ -132,11 +129,11 @@ module _ (heads : HeadsCompute) (l : Layout) (bytes : List ℕ) where
   no_active None best = (λ none. refl, λ e. best)
   no_active (Some x) best = (λ none. absurd (none x.0 x.1 best.bank best.stands), λ e. absurd (none-some x (sym e)))
 
-pub active_computes : HeadsCompute → ActiveComputes
-active_computes heads l bytes k h = is_active heads l bytes k h (active_of l bytes) (best_below heads l bytes l.banks)
+pub active_computes : ActiveComputes
+active_computes l bytes k h = is_active l bytes k h (active_of l bytes) (best_below l bytes l.banks)
 
-pub no_active_computes : HeadsCompute → NoActiveComputes
-no_active_computes heads l bytes = no_active heads l bytes (active_of l bytes) (best_below heads l bytes l.banks)
+pub no_active_computes : NoActiveComputes
+no_active_computes l bytes = no_active l bytes (active_of l bytes) (best_below l bytes l.banks)
 
 -- WHAT THE ACTIVE BANK READS
 below_stays : (l : Layout) (old new : List ℕ) (n : ℕ) → ((k : ℕ) → k < n → (image_page l new k 0 ≡ image_page l old k 0) × (image_page l new k 1 ≡ image_page l old k 1)) → active_below l new n ≡ active_below l old n
@@ -157,14 +154,14 @@ first_is_active l old new t i none lt stands stood = record {
   first = λ j other inside ne also. absurd (none j other inside (stood j other inside ne also));
 }
 
-pub sealed_is_active : HeadsCompute → SealedIsActive
-sealed_is_active heads l old new k t h i active lt stands newer stood = record {
+pub sealed_is_active : SealedIsActive
+sealed_is_active l old new k t h i active lt stands newer stood = record {
   bank = lt;
   stands = stands;
   first = λ j other inside ne also.
       let was : BankStands l old j other = stood j other inside ne also in
       elim (cases_eq j k) [
-        | inl same ↦ inl (subst (λ (x : BankHead). x.generation < i.generation) (one_head heads l old k h other active.stands (subst (λ (n : ℕ). BankStands l old n other) same was)) newer)
+        | inl same ↦ inl (subst (λ (x : BankHead). x.generation < i.generation) (one_head l old k h other active.stands (subst (λ (n : ℕ). BankStands l old n other) same was)) newer)
         | inr differs ↦ elim (active.first j other inside differs was) [ inl less ↦ inl (omega arith) | inr tie ↦ inl (omega (arith, tie.0)) ]
       ];
 }

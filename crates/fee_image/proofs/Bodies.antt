@@ -4,17 +4,18 @@ use Rattle.std.proofs.lemmas.Bool.{cases_lt}
 use Rattle.std.proofs.lemmas.List.{take_at, take_all, drop-drop, length-take-le, append-nil, take-append-drop}
 use Rattle.std.proofs.Math.Nat.{div-add-mod, mul_comm}
 use Rattle.std.proofs.Math.Seq.{take-append-add}
-use Rattle.fee_format.specs.Pages.{gate_page, blank_page, body_pages_of}
+use Rattle.fee_format.specs.Pages.{gate_page, blank_page}
 use Rattle.fee_format.specs.RecordPages.{filled, body_page}
 use Rattle.fee_image.specs.Bank.{Bank, page_of, pages_from}
+use Rattle.fee_image.specs.Laws.{BodiesHaveRoom}
 
 pub blank_gate : (p : ℕ) → 1 ≤ p → blank_page p ≡ gate_page p → ⊥
 blank_gate zero le e = absurd (omega arith)
 blank_gate (suc p) le e = cc e
 
 -- the body's pages are enough
-pub enough : (length p : ℕ) → 1 ≤ p → length ≤ body_pages_of length p * p
-enough length p one =
+pub bodies_have_room : BodiesHaveRoom
+bodies_have_room length p one =
     let x = length + (p - 1) in
     let whole = div-add-mod x p in
     let turn : p * (x / p) ≡ x / p * p = mul_comm p (x / p) in

@@ -11,16 +11,17 @@ use Rattle.fee_format.specs.declared.rec_head.RecHead.{RecHead}
 use Rattle.fee_image.specs.Bank.{Bank, page_of, place_of_page, pages_from, moved}
 use Rattle.fee_image.specs.Found.{fits, counts, last_from, last_held, held_of, held_shown}
 use Rattle.nv_base.specs.Held.{Held}
-use Rattle.fee_image.specs.Laws.{PagesAreOneRange, BodiesHaveRoom}
 use Rattle.fee_image.specs.RecordList.{Rec, Stands, Walks, pages_of_head}
 use Rattle.fee_image.specs.declared.place.Place.{Place}
 use Rattle.fee_image.specs.declared.place.Place.TheVariants.{Content as PlaceContent, Invalid as PlaceInvalid, Erased as PlaceErased, Unwritten}
 use Rattle.fee_image.specs.LogLaws.{PlacesShowLast, EachIsPlaced, PlacesStay}
 use Rattle.fee_image.specs.May.{May, IsAmong, IsWider, settling, held_written}
 use Rattle.fee_image.specs.Places.{place_at, place_shown, held_at, places_of, noted, IsWithin, ArePlaced}
+use Rattle.fee_image.proofs.Bodies.{bodies_have_room}
+use Rattle.fee_image.proofs.Reading.{pages_are_one_range}
 
 -- a content that fits has the number's length
-fits_length : (number length : ℕ) (h : RecHead) → fits number length h ≡ true → (h.kind == 1) ≡ true → h.length ≡ length
+pub fits_length : (number length : ℕ) (h : RecHead) → fits number length h ≡ true → (h.kind == 1) ≡ true → h.length ≡ length
 fits_length number length h fit kind = grind (arith, nat_tests)
 
 counts_fits : (number length : ℕ) (r : Rec) → counts number length r ≡ true → fits number length r.head ≡ true
@@ -28,12 +29,12 @@ counts_fits number length r is = grind (arith, nat_tests)
 
 -- WHAT IS READ
 -- a range of bytes begins the pages that it lies in
-pub range_pages : PagesAreOneRange → BodiesHaveRoom → (b : Bank) (bytes : List ℕ) (q length : ℕ) → 1 ≤ b.page → piece (place_of_page b q) length bytes ≡ take length (pages_from b bytes q (body_pages_of length b.page))
-range_pages range room b bytes q length one =
+pub range_pages : (b : Bank) (bytes : List ℕ) (q length : ℕ) → 1 ≤ b.page → piece (place_of_page b q) length bytes ≡ take length (pages_from b bytes q (body_pages_of length b.page))
+range_pages b bytes q length one =
     let n = body_pages_of length b.page in
-    sym (ap (take length) (range b bytes q n) ∙ take-take length (n * b.page) (drop (place_of_page b q) bytes) (room length b.page one))
+    sym (ap (take length) (pages_are_one_range b bytes q n) ∙ take-take length (n * b.page) (drop (place_of_page b q) bytes) (bodies_have_room length b.page one))
 
-module _ (range : PagesAreOneRange) (room : BodiesHaveRoom) (b : Bank) (bytes : List ℕ) (one : 1 ≤ b.page) where
+module _ (b : Bank) (bytes : List ℕ) (one : 1 ≤ b.page) where
   by_kind : (length at count : ℕ) (payload : List ℕ) (k c : Bool) → (k ≡ true → payload ≡ piece (place_of_page b (at + 2)) length bytes)
       → held_at b bytes length (if k then PlaceContent at count else (if c then PlaceInvalid count else PlaceErased count)) ≡ (let h : Held = record { mark = if k then Content payload else (if c then Invalid else Erased); count = count } in h)
   by_kind length at count payload true c is = ap (λ (xs : List ℕ). let h : Held = record { mark = Content xs; count = count } in h) (sym (is refl))
@@ -46,7 +47,7 @@ module _ (range : PagesAreOneRange) (room : BodiesHaveRoom) (b : Bank) (bytes : 
       by_kind length q r.head.count r.payload (r.head.kind == 1) (r.head.kind == 2)
       (λ kind. stands.payload
       ∙ ap (λ (n : ℕ). take n (pages_from b bytes (q + 2) (body_pages_of n b.page))) (fits_length number length r.head fit kind)
-      ∙ sym (range_pages range room b bytes (q + 2) length one))
+      ∙ sym (range_pages b bytes (q + 2) length one))
 
   chosen : (length : ℕ) (c : Bool) (r : Rec) (o : Option Rec) → (c ≡ true → held_at b bytes length (place_at r.at r.head) ≡ held_of r) → held_at b bytes length (place_shown o) ≡ held_shown o → held_at b bytes length (place_shown (if c then Some r else o)) ≡ held_shown (if c then Some r else o)
   chosen length true r o this rest = this refl
@@ -60,11 +61,11 @@ module _ (range : PagesAreOneRange) (room : BodiesHaveRoom) (b : Bank) (bytes : 
       (chosen length (counts number length r) r o
       (λ count. ap (λ (n : ℕ). held_at b bytes length (place_at n r.head)) walk.0.place ∙ shows number length q r (counts_fits number length r count) walk.0) is)
 
-pub places_show_last : PagesAreOneRange → BodiesHaveRoom → PlacesShowLast
-places_show_last range room b bytes number length rs e big walk = last_shows range room b bytes (omega arith) number length rs 2 e None walk refl
+pub places_show_last : PlacesShowLast
+places_show_last b bytes number length rs e big walk = last_shows b bytes (omega arith) number length rs 2 e None walk refl
 
 -- WITHIN
-further : (p end later length : ℕ) (place : Place) → end ≤ later → IsWithin p end length place → IsWithin p later length place
+pub further : (p end later length : ℕ) (place : Place) → end ≤ later → IsWithin p end length place → IsWithin p later length place
 further p end later length (PlaceContent at count) le within = (within.0, omega (arith, within.1))
 further p end later length (PlaceInvalid count) le within = tt
 further p end later length (PlaceErased count) le within = tt
@@ -80,7 +81,7 @@ record_within p number length at h low fit =
     kind_within p (at + pages_of_head p h) length at h.count (h.kind == 1) (h.kind == 2)
     (λ kind. (low, (let same : record_pages_of h.length p ≡ record_pages_of length p = ap (λ (n : ℕ). record_pages_of n p) (fits_length number length h fit kind) in omega (arith, same))))
 
-pick_within : (p end length : ℕ) (c : Bool) (x y : Place) → (c ≡ true → IsWithin p end length x) → IsWithin p end length y → IsWithin p end length (if c then x else y)
+pub pick_within : (p end length : ℕ) (c : Bool) (x y : Place) → (c ≡ true → IsWithin p end length x) → IsWithin p end length y → IsWithin p end length (if c then x else y)
 pick_within p end length true x y this rest = this refl
 pick_within p end length false x y this rest = rest
 
@@ -98,12 +99,12 @@ last_within b bytes number length (r ∷ rs) q e o low walk within =
     (further b.page q next length (place_shown o) (omega arith) within))
 
 -- PLACES OF A LOG
-pub placed_loaded : PlacesShowLast → (b : Bank) (bytes : List ℕ) (may : May) (numbers : List (DeviceNumber × ℕ)) (rs : List Rec) (e : ℕ) → 16 ≤ b.page → Walks b bytes 2 rs e → ((number length : ℕ) → IsAmong (may number length) (last_held number length rs)) → ArePlaced b bytes may e numbers (places_of numbers rs)
-placed_loaded last b bytes may [] rs e big walk give = tt
-placed_loaded last b bytes may (n ∷ ns) rs e big walk give = (
+pub placed_loaded : (b : Bank) (bytes : List ℕ) (may : May) (numbers : List (DeviceNumber × ℕ)) (rs : List Rec) (e : ℕ) → 16 ≤ b.page → Walks b bytes 2 rs e → ((number length : ℕ) → IsAmong (may number length) (last_held number length rs)) → ArePlaced b bytes may e numbers (places_of numbers rs)
+placed_loaded b bytes may [] rs e big walk give = tt
+placed_loaded b bytes may (n ∷ ns) rs e big walk give = (
   last_within b bytes n.0.0 n.1 rs 2 e None (omega arith) walk tt,
-  subst (IsAmong (may n.0.0 n.1)) (sym (last b bytes n.0.0 n.1 rs e big walk)) (give n.0.0 n.1),
-  placed_loaded last b bytes may ns rs e big walk give,
+  subst (IsAmong (may n.0.0 n.1)) (sym (places_show_last b bytes n.0.0 n.1 rs e big walk)) (give n.0.0 n.1),
+  placed_loaded b bytes may ns rs e big walk give,
 )
 
 pub placed_wider : (b : Bank) (bytes : List ℕ) (may wide : May) (end : ℕ) (numbers : List (DeviceNumber × ℕ)) (places : List Place) → IsWider may wide → ArePlaced b bytes may end numbers places → ArePlaced b bytes wide end numbers places
@@ -113,7 +114,7 @@ placed_wider b bytes may wide end (n ∷ ns) [] more all = absurd all
 placed_wider b bytes may wide end (n ∷ ns) (place ∷ places) more all = (all.0, more n.0.0 n.1 (held_at b bytes n.1 place) all.1, placed_wider b bytes may wide end ns places more all.2)
 
 -- a content whose pages are as they were
-module _ (range : PagesAreOneRange) (room : BodiesHaveRoom) (b : Bank) (old new : List ℕ) (at end : ℕ) (one : 1 ≤ b.page) (same : (q : ℕ) → 2 ≤ q → q < end → page_of (moved b at) new q ≡ page_of b old q) where
+module _ (b : Bank) (old new : List ℕ) (at end : ℕ) (one : 1 ≤ b.page) (same : (q : ℕ) → 2 ≤ q → q < end → page_of (moved b at) new q ≡ page_of b old q) where
   pages_same : (n q : ℕ) → 2 ≤ q → q + n ≤ end → pages_from (moved b at) new q n ≡ pages_from b old q n
   pages_same zero q low le = refl
   pages_same (suc n) q low le = λ i. same q low (omega arith) i ++ pages_same n (suc q) (omega arith) (omega arith) i
@@ -121,9 +122,9 @@ module _ (range : PagesAreOneRange) (room : BodiesHaveRoom) (b : Bank) (old new 
   stays_at : (length : ℕ) (place : Place) → IsWithin b.page end length place → held_at (moved b at) new length place ≡ held_at b old length place
   stays_at length (PlaceContent q count) within =
       let n = body_pages_of length b.page in
-      ap (λ (xs : List ℕ). let h : Held = record { mark = Content xs; count = count } in h) (range_pages range room (moved b at) new (q + 2) length one
+      ap (λ (xs : List ℕ). let h : Held = record { mark = Content xs; count = count } in h) (range_pages (moved b at) new (q + 2) length one
       ∙ ap (take length) (pages_same n (q + 2) (omega arith) (omega (arith, within.1)))
-      ∙ sym (range_pages range room b old (q + 2) length one))
+      ∙ sym (range_pages b old (q + 2) length one))
   stays_at length (PlaceInvalid count) within = refl
   stays_at length (PlaceErased count) within = refl
   stays_at length Unwritten within = refl
@@ -143,20 +144,20 @@ among_chosen : (b : Bank) (bytes : List ℕ) (length : ℕ) (c : Bool) (may : Op
 among_chosen b bytes length true may m x y this rest = subst (IsAmong (Some (m ∷ []))) (sym (this refl)) (let here : IsAmong (Some (m ∷ [])) m = search rules in here)
 among_chosen b bytes length false may m x y this rest = rest
 
-pub placed_note : PagesAreOneRange → BodiesHaveRoom → (b : Bank) (bytes : List ℕ) (may : May) (end : ℕ) (r : Rec) (numbers : List (DeviceNumber × ℕ)) (places : List Place) → 1 ≤ b.page → 2 ≤ end → Stands b bytes end r → held_of r ≡ held_written r.head r.payload → ArePlaced b bytes may end numbers places
+pub placed_note : (b : Bank) (bytes : List ℕ) (may : May) (end : ℕ) (r : Rec) (numbers : List (DeviceNumber × ℕ)) (places : List Place) → 1 ≤ b.page → 2 ≤ end → Stands b bytes end r → held_of r ≡ held_written r.head r.payload → ArePlaced b bytes may end numbers places
     → ArePlaced b bytes (settling may r.head r.payload) (end + pages_of_head b.page r.head) numbers (noted numbers places end r.head)
-placed_note range room b bytes may end r [] [] one low stands is all = tt
-placed_note range room b bytes may end r [] (place ∷ places) one low stands is all = absurd all
-placed_note range room b bytes may end r (n ∷ ns) [] one low stands is all = absurd all
-placed_note range room b bytes may end r (n ∷ ns) (place ∷ places) one low stands is all =
+placed_note b bytes may end r [] [] one low stands is all = tt
+placed_note b bytes may end r [] (place ∷ places) one low stands is all = absurd all
+placed_note b bytes may end r (n ∷ ns) [] one low stands is all = absurd all
+placed_note b bytes may end r (n ∷ ns) (place ∷ places) one low stands is all =
     let next = end + pages_of_head b.page r.head in
     let fit = fits n.0.0 n.1 r.head in (
       pick_within b.page next n.1 fit (place_at end r.head) place
           (λ fits. record_within b.page n.0.0 n.1 end r.head low fits)
           (further b.page end next n.1 place (omega arith) all.0),
       among_chosen b bytes n.1 fit (may n.0.0 n.1) (held_written r.head r.payload) (place_at end r.head) place
-          (λ fits. shows range room b bytes one n.0.0 n.1 end r fits stands ∙ is) all.1,
-      placed_note range room b bytes may end r ns places one low stands is all.2,
+          (λ fits. shows b bytes one n.0.0 n.1 end r fits stands ∙ is) all.1,
+      placed_note b bytes may end r ns places one low stands is all.2,
     )
 
 -- EACH NUMBER
@@ -170,5 +171,5 @@ each_is_placed b bytes may end (suc i) (x ∷ xs) (place ∷ places) n all is =
     let rest = each_is_placed b bytes may end i xs places n all.2 is in
     record { place = rest.place; is = rest.is; within = rest.within; among = rest.among }
 
-pub places_stay : PagesAreOneRange → BodiesHaveRoom → PlacesStay
-places_stay range room b old new at end length place big same within = stays_at range room b old new at end (omega arith) same length place within
+pub places_stay : PlacesStay
+places_stay b old new at end length place big same within = stays_at b old new at end (omega arith) same length place within

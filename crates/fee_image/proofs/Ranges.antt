@@ -7,7 +7,6 @@ use Rattle.std.proofs.lemmas.Nat.{and_le_r, and_mask, and_comm}
 use Rattle.std.proofs.Math.Nat.{mul-le-mul_right, mod-eq_of_lt}
 use Rattle.std.specs.List.{All}
 use Rattle.fls_model.specs.Bytes.{AreBytes, SameOutside, and_bytes, spliced}
-use Rattle.fls_model.specs.Laws.{RangesKeepBytes}
 use Rattle.fls_model.specs.Op.{MayLeave, Program, after_op}
 use Rattle.fee_format.specs.Gate.{IsGate}
 use Rattle.fee_format.specs.Pages.{gate_page, page_at}
@@ -16,6 +15,7 @@ use Rattle.fee_image.specs.Bank.{Bank, page_of, place_of_page}
 use Rattle.fee_image.specs.Image.{Layout, bank_in, image_page}
 use Rattle.fee_image.specs.Sound.{IsSoundImage}
 use Rattle.fee_image.specs.Laws.{PagesOutsideStay, OtherBanksStay, ErasedIsBlank, KeepsSound, ProgramsTouchOnePage, ProgramsTouchTheirBank, ProgramsStand, GatesStand, ProgramsKeepSound}
+use Rattle.fls_model.proofs.Kept.{ranges_keep_bytes}
 
 -- a page inside a front that is kept
 page_front : (n m p : ℕ) (old new : List ℕ) → take n new ≡ take n old → m + p ≤ n → take p (drop m new) ≡ take p (drop m old)
@@ -128,7 +128,7 @@ zeros_are_bytes (suc n) zero = omega arith
 zeros_are_bytes (suc n) (suc k) = zeros_are_bytes n k
 
 -- a page each of whose bits is set in what stood in its place, or stays clear
-module _ (keep : RangesKeepBytes) (b : Bank) (bytes page : List ℕ) (q : ℕ) (size : length page ≡ b.page) (small : AreBytes page) (fits : place_of_page b q + b.page ≤ length bytes) where
+module _ (b : Bank) (bytes page : List ℕ) (q : ℕ) (size : length page ≡ b.page) (small : AreBytes page) (fits : place_of_page b q + b.page ≤ length bytes) where
   abbrev a : ℕ
   a = place_of_page b q
 
@@ -141,22 +141,22 @@ module _ (keep : RangesKeepBytes) (b : Bank) (bytes page : List ℕ) (q : ℕ) (
       let stands = spliced_piece bytes over a b.page (long ∙ size) (omega (arith, fits)) ∙ same in
       let outside = spliced_outside bytes over a (length page) long (omega (arith, fits, size)) in (
         stands,
-        (outside, λ were. keep a (length page) bytes (spliced bytes a over) outside were (subst AreBytes (sym (ap (λ (n : ℕ). take n (drop a (spliced bytes a over))) size ∙ stands)) small)),
+        (outside, λ were. ranges_keep_bytes a (length page) bytes (spliced bytes a over) outside were (subst AreBytes (sym (ap (λ (n : ℕ). take n (drop a (spliced bytes a over))) size ∙ stands)) small)),
       )
 
-pub programs_stand : RangesKeepBytes → ProgramsStand
-programs_stand keep b bytes page q size small fits blank =
+pub programs_stand : ProgramsStand
+programs_stand b bytes page q size small fits blank =
     let was : take (length page) (drop (place_of_page b q) bytes) ≡ replicate (length page) 255 =
     ap (λ (n : ℕ). take n (drop (place_of_page b q) bytes)) size ∙ blank ∙ ap (λ (n : ℕ). replicate n 255) (sym size) in
-    stands_over keep b bytes page q size (are_bytes page small) fits (ap (λ (l : List ℕ). and_bytes l page) was ∙ and_blank page small)
+    stands_over b bytes page q size (are_bytes page small) fits (ap (λ (l : List ℕ). and_bytes l page) was ∙ and_blank page small)
 
-pub gates_stand : RangesKeepBytes → GatesStand
-gates_stand keep b bytes q fits =
+pub gates_stand : GatesStand
+gates_stand b bytes q fits =
     let p = b.page in
     let size : length (gate_page p) ≡ p = length-replicate p 0 in
     let rest = drop (place_of_page b q) bytes in
     let whole : length (take (length (gate_page p)) rest) ≡ p = length-take-le (length (gate_page p)) rest (omega (arith, length-drop (place_of_page b q) bytes, fits, size)) ∙ size in
-    stands_over keep b bytes (gate_page p) q size (zeros_are_bytes p) fits (and_zeros p (take (length (gate_page p)) rest) whole)
+    stands_over b bytes (gate_page p) q size (zeros_are_bytes p) fits (and_zeros p (take (length (gate_page p)) rest) whole)
 
 -- RANGES
 pub pages_outside_stay : PagesOutsideStay

@@ -1,7 +1,6 @@
 -- What a bank's records read.
 use Rattle.std.specs.Prelude.{nat_le}
-use Rattle.std.proofs.Common.{◌≡◌, ◌<◌, ◌≤◌, ℕ, zero, suc, ◌+◌, ◌*◌, IsTrue, List, ◌∷◌, ◌++◌, take, drop, Option, Some, None, refl, sym, ap, ◌∙◌, arith}
-use Rattle.std.proofs.lemmas.Bool.Decides.{nat_tests}
+use Rattle.std.proofs.Common.{◌≡◌, ◌<◌, ◌≤◌, ℕ, zero, suc, ◌+◌, ◌*◌, List, ◌∷◌, ◌++◌, take, drop, Option, Some, None, refl, sym, ap, ◌∙◌, arith}
 use Rattle.std.proofs.lemmas.List.{drop-drop, drop-take, take-take}
 use Rattle.std.proofs.Math.Nat.{mul-le-mul_right}
 use Rattle.std.proofs.Math.Seq.{take-add}
@@ -14,9 +13,7 @@ use Rattle.fee_image.specs.Bank.{Bank, page_of, place_of_page, pages_from, moved
 use Rattle.fee_image.specs.RecordList.{Rec, pages_of_head, rec_of, rec_within, record_at, and_behind, records_from, records_of}
 use Rattle.fee_image.specs.Laws.{RecordsStay, SlicesAgree, PagesAreOneRange}
 use Rattle.fee_image.proofs.Picks.{if_alike, ifs_alike}
-
-le_of : (m n : ℕ) → IsTrue (nat_le m n) → m ≤ n
-le_of m n t = grind (arith, nat_tests)
+use Rattle.fee_format.proofs.Tests.{le_is}
 
 behind_same : (o : Option Rec) (f g : Rec → List Rec) → ((r : Rec) → f r ≡ g r) → and_behind o f ≡ and_behind o g
 behind_same None f g same = refl
@@ -42,14 +39,14 @@ module _ (b : Bank) (old new : List ℕ) (at : ℕ) (same : (q : ℕ) → 2 ≤ 
 
   within_same : (q : ℕ) (o : Option RecHead) → 2 ≤ q → rec_within (moved b at) new q o ≡ rec_within b old q o
   within_same q None low = refl
-  within_same q (Some h) low = if_alike (nat_le (q + pages_of_head p h) b.pages) (Some (rec_of (moved b at) new q h)) (Some (rec_of b old q h)) None (λ t. ap Some (rec_same q h low (le_of (q + pages_of_head p h) b.pages t)))
+  within_same q (Some h) low = if_alike (nat_le (q + pages_of_head p h) b.pages) (Some (rec_of (moved b at) new q h)) (Some (rec_of b old q h)) None (λ t. ap Some (rec_same q h low ((le_is (q + pages_of_head p h) b.pages).0 t)))
 
   at_same : (q : ℕ) → 2 ≤ q → record_at (moved b at) new q ≡ record_at b old q
   at_same q low =
       ifs_alike (is_format b.format) (nat_le (q + 3) b.pages) (is_gate p (page_of (moved b at) new (q + 1))) (is_gate p (page_of b old (q + 1)))
       (rec_within (moved b at) new q (rec_head_of b.format p (page_of (moved b at) new q))) (rec_within b old q (rec_head_of b.format p (page_of b old q))) None
       (λ t.
-      let room : q + 3 ≤ b.pages = le_of (q + 3) b.pages t in
+      let room : q + 3 ≤ b.pages = (le_is (q + 3) b.pages).0 t in
       (ap (is_gate p) (same (q + 1) (omega arith) (omega arith)), within_same q (rec_head_of b.format p (page_of (moved b at) new q)) low ∙ ap (λ (l : List ℕ). rec_within b old q (rec_head_of b.format p l)) (same q low (omega arith))))
 
   list_same : (n q : ℕ) → 2 ≤ q → records_from (moved b at) new n q ≡ records_from b old n q

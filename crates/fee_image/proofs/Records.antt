@@ -9,18 +9,16 @@ use Rattle.fee_format.specs.Formats.{IsFormat, is_format}
 use Rattle.fee_format.specs.Gate.{IsGate, is_gate}
 use Rattle.fee_format.specs.RecHead.{IsRecHead, rec_head_of}
 use Rattle.fee_format.specs.Pages.{body_pages_of}
-use Rattle.fee_format.specs.Laws.{GatesCompute, RecHeadsCompute}
 use Rattle.fee_image.specs.Bank.{Bank, page_of}
 use Rattle.fee_image.specs.RecordList.{Rec, HasHead, Stands, Stops, Walks, IsLog, pages_of_head, rec_of, rec_within, record_at, and_behind, records_from, records_left, records_of, end_after, end_of}
 use Rattle.fee_image.specs.Found.{last_held}
 use Rattle.fee_image.specs.Laws.{LogsCompute, ListsUnfold, MarksCompute}
 use Rattle.fee_image.proofs.Picks.{then_is, if_some, same_bool}
+use Rattle.fee_format.proofs.Heads.{rec_heads_compute}
+use Rattle.fee_format.proofs.Tests.{gates_compute, le_is}
 
 le_true : (m n : ℕ) → m ≤ n → IsTrue (nat_le m n)
 le_true m n le = grind (arith, nat_tests)
-
-true_le : (m n : ℕ) → IsTrue (nat_le m n) → m ≤ n
-true_le m n t = grind (arith, nat_tests)
 
 eq_true : (m n : ℕ) → m ≡ n → IsTrue (m == n)
 eq_true m n e = grind (arith, nat_tests)
@@ -39,7 +37,7 @@ true_format n t = elim (cases_Bool (n == 1)) [
   | inr other ↦ inr (eqb-true n 2 (let rest : IsTrue (n == 2) = rw other at t in rest))
 ]
 
-module _ (gates : GatesCompute) (heads : RecHeadsCompute) (b : Bank) (bytes : List ℕ) where
+module _ (b : Bank) (bytes : List ℕ) where
   abbrev p : ℕ
   p = b.page
 
@@ -54,19 +52,19 @@ module _ (gates : GatesCompute) (heads : RecHeadsCompute) (b : Bank) (bytes : Li
 
   -- A RECORD AT A PAGE
   built : (q : ℕ) (h : RecHead) → HasHead b bytes q h → IsGate p (P (q + 1)) → Stands b bytes q (rec_of b bytes q h)
-  built q h has gate = record { place = refl; head = has; gate = gate; commit = gates p (P (q + 2 + body_pages_of h.length p)); payload = refl }
+  built q h has gate = record { place = refl; head = has; gate = gate; commit = gates_compute p (P (q + 2 + body_pages_of h.length p)); payload = refl }
 
   seen : (q : ℕ) (h : RecHead) → HasHead b bytes q h → IsGate p (P (q + 1)) → record_at b bytes q ≡ Some (rec_of b bytes q h)
   seen q h has gate =
       let room : q + 3 ≤ b.pages = omega (arith, has.within) in
-      let all : IsTrue (test q) = and_from (is_format b.format) (nat_le (q + 3) b.pages && gate_at q) (format_true b.format has.format) (and_from (nat_le (q + 3) b.pages) (gate_at q) (le_true (q + 3) b.pages room) ((gates p (P (q + 1))).1 gate)) in
+      let all : IsTrue (test q) = and_from (is_format b.format) (nat_le (q + 3) b.pages && gate_at q) (format_true b.format has.format) (and_from (nat_le (q + 3) b.pages) (gate_at q) (le_true (q + 3) b.pages room) ((gates_compute p (P (q + 1))).1 gate)) in
       then_is (test q) (rec_within b bytes q (rec_head_of b.format p (P q))) None all
-      ∙ ap (rec_within b bytes q) ((heads b.format p (P q) h).0 has.page)
+      ∙ ap (rec_within b bytes q) ((rec_heads_compute b.format p (P q) h).0 has.page)
       ∙ then_is (nat_le (q + pages_of_head p h) b.pages) (Some (rec_of b bytes q h)) None (le_true (q + pages_of_head p h) b.pages has.within)
 
   pub stands_seen : (q : ℕ) (r : Rec) → Stands b bytes q r → record_at b bytes q ≡ Some r
   stands_seen q r stands =
-      let commit : is_gate p (P (q + 2 + body_pages_of r.head.length p)) ≡ r.committed = same_bool (is_gate p (P (q + 2 + body_pages_of r.head.length p))) r.committed (IsGate p (P (q + 2 + body_pages_of r.head.length p))) (gates p (P (q + 2 + body_pages_of r.head.length p))) stands.commit in
+      let commit : is_gate p (P (q + 2 + body_pages_of r.head.length p)) ≡ r.committed = same_bool (is_gate p (P (q + 2 + body_pages_of r.head.length p))) r.committed (IsGate p (P (q + 2 + body_pages_of r.head.length p))) (gates_compute p (P (q + 2 + body_pages_of r.head.length p))) stands.commit in
       let same : rec_of b bytes q r.head ≡ r = λ i. record { at = sym stands.place i; head = r.head; committed = commit i; payload = sym stands.payload i } in
       seen q r.head stands.head stands.gate ∙ ap Some same
 
@@ -76,13 +74,13 @@ module _ (gates : GatesCompute) (heads : RecHeadsCompute) (b : Bank) (bytes : Li
       let one = and_parts (is_format b.format) (nat_le (q + 3) b.pages && gate_at q) passed in
       let two = and_parts (nat_le (q + 3) b.pages) (gate_at q) one.1 in
       let fit = if_some (nat_le (q + pages_of_head p h) b.pages) (Some (rec_of b bytes q h)) r e in
-      let has : HasHead b bytes q h = record { format = true_format b.format one.0; page = head h refl; within = true_le (q + pages_of_head p h) b.pages fit.0 } in
-      subst (Stands b bytes q) (same_Some (rec_of b bytes q h) r fit.1) (built q h has ((gates p (P (q + 1))).0 two.1))
+      let has : HasHead b bytes q h = record { format = true_format b.format one.0; page = head h refl; within = (le_is (q + pages_of_head p h) b.pages).0 fit.0 } in
+      subst (Stands b bytes q) (same_Some (rec_of b bytes q h) r fit.1) (built q h has ((gates_compute p (P (q + 1))).0 two.1))
 
   pub seen_stands : (q : ℕ) (r : Rec) → record_at b bytes q ≡ Some r → Stands b bytes q r
   seen_stands q r e =
       let all = if_some (test q) (rec_within b bytes q (rec_head_of b.format p (P q))) r e in
-      within_stands q r (rec_head_of b.format p (P q)) (λ h is. (heads b.format p (P q) h).1 is) all.0 all.1
+      within_stands q r (rec_head_of b.format p (P q)) (λ h is. (rec_heads_compute b.format p (P q) h).1 is) all.0 all.1
 
   stops_not : (q : ℕ) (r : Rec) → Stops b bytes q → Stands b bytes q r → ⊥
   stops_not q r (inl few) stands = absurd (omega (arith, stands.head.within))
@@ -100,8 +98,8 @@ module _ (gates : GatesCompute) (heads : RecHeadsCompute) (b : Bank) (bytes : Li
   none_stops q none = elim (cases_lt b.pages (q + 3)) [
     | inl few ↦ inl few
     | inr room ↦ elim (cases_Bool (gate_at q)) [
-      | inr shut ↦ inr (inl (λ gate. false≢true (sym shut ∙ (gates p (P (q + 1))).1 gate)))
-      | inl gate ↦ inr (inr (λ h has. none-some (rec_of b bytes q h) (sym none ∙ seen q h has ((gates p (P (q + 1))).0 gate))))
+      | inr shut ↦ inr (inl (λ gate. false≢true (sym shut ∙ (gates_compute p (P (q + 1))).1 gate)))
+      | inl gate ↦ inr (inr (λ h has. none-some (rec_of b bytes q h) (sym none ∙ seen q h has ((gates_compute p (P (q + 1))).0 gate))))
     ]
   ]
 
@@ -138,23 +136,23 @@ module _ (gates : GatesCompute) (heads : RecHeadsCompute) (b : Bank) (bytes : Li
       let same : rs ≡ records_of b bytes = sym (walked rs 2 e b.pages (omega arith) log.walk log.stop) in
       (same, ends rs 2 e log.walk ∙ ap (end_after p 2) same)
 
-pub lists_unfold : GatesCompute → RecHeadsCompute → ListsUnfold
-lists_unfold gates heads b bytes q = record {
-  none = λ stops. walked gates heads b bytes [] q q b.pages (omega arith) refl stops;
+pub lists_unfold : ListsUnfold
+lists_unfold b bytes q = record {
+  none = λ stops. walked b bytes [] q q b.pages (omega arith) refl stops;
   first = λ r stands. (
       let q2 = q + pages_of_head b.page r.head in
-      let rest = walk_of gates heads b bytes b.pages q2 (omega arith) in
-      walked gates heads b bytes (r ∷ records_left b bytes q2) q (end_after b.page q2 (records_left b bytes q2)) b.pages (omega arith) (stands, rest.0) rest.1);
+      let rest = walk_of b bytes b.pages q2 (omega arith) in
+      walked b bytes (r ∷ records_left b bytes q2) q (end_after b.page q2 (records_left b bytes q2)) b.pages (omega arith) (stands, rest.0) rest.1);
 }
 
-pub logs_compute : GatesCompute → RecHeadsCompute → LogsCompute
-logs_compute gates heads b bytes rs e = (
-  one_log gates heads b bytes rs e,
-  λ same. subst (λ (x : List Rec). IsLog b bytes x e) (sym same.0) (subst (IsLog b bytes (records_of b bytes)) (sym same.1) (log_of gates heads b bytes)),
+pub logs_compute : LogsCompute
+logs_compute b bytes rs e = (
+  one_log b bytes rs e,
+  λ same. subst (λ (x : List Rec). IsLog b bytes x e) (sym same.0) (subst (IsLog b bytes (records_of b bytes)) (sym same.1) (log_of b bytes)),
 )
 
-pub marks_compute : GatesCompute → RecHeadsCompute → MarksCompute
-marks_compute gates heads b bytes number length m = (
-  λ found. found.is ∙ ap (last_held number length) (one_log gates heads b bytes found.records found.end found.log).0,
-  λ is. record { records = records_of b bytes; end = end_of b bytes; log = log_of gates heads b bytes; is = is },
+pub marks_compute : MarksCompute
+marks_compute b bytes number length m = (
+  λ found. found.is ∙ ap (last_held number length) (one_log b bytes found.records found.end found.log).0,
+  λ is. record { records = records_of b bytes; end = end_of b bytes; log = log_of b bytes; is = is },
 )

@@ -2,11 +2,12 @@
 use Rattle.std.proofs.Common.{◌≡◌, ◌<◌, ◌≤◌, ℕ, zero, suc, ◌+◌, List, [], ◌∷◌, ◌++◌, take, refl, sym, ap, ◌∙◌, subst, arith}
 use Rattle.fee_format.specs.Pages.{body_pages_of}
 use Rattle.fee_image.specs.Bank.{Bank, page_of, pages_from}
+use Rattle.fee_image.specs.Laws.{WalksGoOn}
 use Rattle.fee_image.specs.RecordList.{Rec, Stands, Walks, pages_of_head}
 
-pub walk_push : (b : Bank) (bytes : List ℕ) (rs : List Rec) (q e : ℕ) (r : Rec) → Walks b bytes q rs e → Stands b bytes e r → Walks b bytes q (rs ++ r ∷ []) (e + pages_of_head b.page r.head)
-walk_push b bytes [] q e r walk stands = (subst (λ (j : ℕ). Stands b bytes j r) (sym walk) stands, ap (λ (j : ℕ). j + pages_of_head b.page r.head) walk)
-walk_push b bytes (x ∷ rs) q e r walk stands = (walk.0, walk_push b bytes rs (q + pages_of_head b.page x.head) e r walk.1 stands)
+pub walks_go_on : WalksGoOn
+walks_go_on b bytes q e [] r walk stands = (subst (λ (j : ℕ). Stands b bytes j r) (sym walk) stands, ap (λ (j : ℕ). j + pages_of_head b.page r.head) walk)
+walks_go_on b bytes q e (x ∷ rs) r walk stands = (walk.0, walks_go_on b bytes (q + pages_of_head b.page x.head) e rs r walk.1 stands)
 
 -- RECORDS WHOSE PAGES STAY
 pages_same : (b : Bank) (old new : List ℕ) (n q : ℕ) → ((j : ℕ) → q ≤ j → j < q + n → page_of b new j ≡ page_of b old j) → pages_from b new q n ≡ pages_from b old q n
@@ -32,7 +33,7 @@ stands_same b old new q r same stands =
       payload = stands.payload ∙ ap (take r.head.length) (sym (pages_same b old new n (q + 2) (λ j low lt. same j (omega arith) (omega arith))));
     }
 
-walk_up : (b : Bank) (bytes : List ℕ) (rs : List Rec) (q e : ℕ) → Walks b bytes q rs e → q ≤ e
+pub walk_up : (b : Bank) (bytes : List ℕ) (rs : List Rec) (q e : ℕ) → Walks b bytes q rs e → q ≤ e
 walk_up b bytes [] q e walk = omega (arith, walk)
 walk_up b bytes (r ∷ rs) q e walk = omega (arith, walk_up b bytes rs (q + pages_of_head b.page r.head) e walk.1)
 

@@ -3,25 +3,19 @@ ghost use Rattle.std.specs.Prelude.{◌≡◌, ℕ, List, [], ◌∷◌, Some};
 ghost use Rattle.nv_base.specs.declared.instance.DeviceNumber.{DeviceNumber};
 ghost use Rattle.nv_base.specs.declared.mark.Mark.TheVariants.{Content};
 ghost use Rattle.fee_image.specs.Cases.{small, pages, torn_gate, content_1, content_2};
-ghost use Rattle.nv_base.specs.Held.{Held};
 ghost use Rattle.fee_image.specs.Image.{active_of, found_held};
 ghost use Rattle.fee_image.specs.LogCases.{numbers, first_log};
 ghost use Rattle.fee_image.specs.LogLaws.{erased_log};
-ghost use Rattle.fee_image.specs.Log.{Tail, Open, Log};
-ghost use Rattle.fee_image.specs.Banks.{NoBank, Phase, Idle, Sealing, Banks, Holds};
+ghost use Rattle.fee_image.specs.Log.{Open};
+ghost use Rattle.fee_image.specs.Banks.{NoBank, Idle, Sealing, Holds};
 ghost use Rattle.fee_image.specs.Copies.{copied_of, may_of, marked, cleared, need};
 ghost use Rattle.fee_image.specs.BankLaws.{found_alone};
 ghost use Rattle.fee_image.specs.SwitchCases.{head_of, stood, sealing, uncopied, in_switch, flags};
 
-use crate::{banks_load, blank_images, logs_begin, memory_alone, soundness_computes};
-
 /// A blank flash is held, with no old bank and any target.
 pub fn blank_flash()
     ensures { Holds small numbers (pages 24 0xff) (record { old = NoBank; target = 0; phase = Idle; may = found_alone small (pages 24 0xff); copied = found_alone small (pages 24 0xff) }) }
-{
-    blank_images();
-    banks_load();
-}
+{}
 
 /// The bank gate of a target that holds a copy of the one record: before it and where it is cut the old bank is active, and
 /// once it stands the target is. The same content is found each time, and the flash is held before it.
@@ -32,11 +26,7 @@ pub fn sealed_copy()
     ensures found_before { found_held small (sealing torn_gate) 128 4 ≡ record { mark = Content content_1; count = 1 } }
     ensures found_after { found_held small (sealing (pages 1 0)) 128 4 ≡ record { mark = Content content_1; count = 1 } }
     ensures held { Holds small numbers (sealing (pages 1 0xff)) (in_switch (sealing (pages 1 0xff)) (Sealing (first_log Open))) }
-{
-    soundness_computes();
-    logs_begin();
-    memory_alone();
-}
+{}
 
 /// Two numbers with four pages each, of which one is copied, and then written again before the seal.
 pub fn copied_flags()

@@ -14,7 +14,7 @@ use Rattle.fee_log.specs.declared.tail.Tail.TheVariants.{Open, Writes, Owes, Clo
 use Rattle.fee_log.specs.Log.{work_in}
 use Rattle.fee_course.specs.declared.course.Course.{Course}
 use Rattle.fee_course.specs.Course.{most_turns}
-use Rattle.fee_course.specs.Laws.{TurnsAreFew}
+use Rattle.fee_course.proofs.Turns.{turns_are_few}
 use Rattle.fee_switch.specs.Banks.{BanksState, index_of, left_of, left_with}
 use Rattle.fee_switch_laws.specs.KeepsRoom.{IsRoomy}
 use Rattle.fee_told.specs.Figures.{Work, FitsMark}
@@ -37,12 +37,12 @@ flags_clear b None has e = has
 flags_clear b (Some c) has e = cc e
 
 -- no more turns are left than the most of a switch
-few_by : TurnsAreFew → (b : BanksState) (c : Option Course) → HasSwitch b c → left_with b c ≤ most_turns b.geometry.page (sectors_of_bank b.geometry b.banks) b.log.numbers
-few_by few b None has = omega arith
-few_by few b (Some c) has = few b.geometry.page (sectors_of_bank b.geometry b.banks) b.log.numbers b.log.places b.log.flags (index_of b.log.numbers (work_in b.log.tail)) c has.1
+few_by : (b : BanksState) (c : Option Course) → HasSwitch b c → left_with b c ≤ most_turns b.geometry.page (sectors_of_bank b.geometry b.banks) b.log.numbers
+few_by b None has = omega arith
+few_by b (Some c) has = turns_are_few b.geometry.page (sectors_of_bank b.geometry b.banks) b.log.numbers b.log.places b.log.flags (index_of b.log.numbers (work_in b.log.tail)) c has.1
 
-pub few_left : TurnsAreFew → (b : BanksState) → HasSwitch b b.course → left_of b ≤ most_turns b.geometry.page (sectors_of_bank b.geometry b.banks) b.log.numbers
-few_left few b has = few_by few b b.course has
+pub few_left : (b : BanksState) → HasSwitch b b.course → left_of b ≤ most_turns b.geometry.page (sectors_of_bank b.geometry b.banks) b.log.numbers
+few_left b has = few_by b b.course has
 
 -- THE JOB
 -- no more pages are left than its record has

@@ -7,13 +7,16 @@ use Rattle.memif.specs.Calls.{ClockStays}
 use Rattle.fls_model.specs.Told.{Told, armed}
 use Rattle.promise_device.specs.Making.{Making}
 use Rattle.fee_told.specs.Device.{Device, told_of}
-use Rattle.fee_told.specs.Clock.{ClocksStay, MakesNone, clock_of}
-use Rattle.fee_told.specs.Runs.{RunsStay, CountsCuts}
+use Rattle.fee_told.specs.Clock.{MakesNone, clock_of}
+use Rattle.fee_told.specs.Runs.{CountsCuts}
 use Rattle.nv_base.specs.declared.instance.DeviceNumber.{DeviceNumber}
+use Rattle.fee_told.proofs.Clocks.{clocks_stay}
+use Rattle.fee_told.proofs.Making.{runs_stay}
 use Rattle.fee_laws.specs.Inside.{Parts, device_of, IsDevice, IsSound, ShowsCopies}
 use Rattle.fee_laws.proofs.Making.{shown_as}
 use Rattle.fee_laws.specs.Parts.{with_plan}
 use Rattle.fee_laws.proofs.CallOrder.{finds_on}
+use Rattle.fee_laws.specs.CallLaws.{PlansAreSound}
 
 same_cuts : (b : Bool) (p q : Planning) → q.unplanned ≡ p.unplanned → (if b then q else p).unplanned ≡ p.unplanned
 same_cuts true p q e = e
@@ -22,7 +25,7 @@ same_cuts false p q e = refl
 cuts_stay : (nth keep : ℕ) (p : Planning) → (planned nth keep p).unplanned ≡ p.unplanned
 cuts_stay nth keep p = same_cuts (nat_le 1 p.takes && nat_le 1 nth) p (record p { plan = Some (record { left = nth; keep = keep }); takes = p.takes - 1 }) refl
 
-module _ (stay : ClocksStay) (runs : RunsStay) (m : Making) (entry : Told) (s : Parts) (nth keep : ℕ) where
+module _ (m : Making) (entry : Told) (s : Parts) (nth keep : ℕ) where
   abbrev d : Device
   d = device_of m entry s
 
@@ -37,14 +40,14 @@ module _ (stay : ClocksStay) (runs : RunsStay) (m : Making) (entry : Told) (s : 
 
   pub arm_keeps : IsDevice d → IsDevice t
   arm_keeps is = record {
-    run = runs d t is.run (record { none = none; bytes = refl; counts = (refl, refl); flash_faults = omega arith; faults = is.run.faults; cuts = counted is.run.cuts; worn = λ since e. inl e });
+    run = runs_stay d t is.run (record { none = none; bytes = refl; counts = (refl, refl); flash_faults = omega arith; faults = is.run.faults; cuts = counted is.run.cuts; worn = λ since e. inl e });
     held = λ started. (let h = is.held started in record { behind = h.behind; copied = h.copied; banks = record { started = h.banks.started; alike = h.banks.alike; legal = h.banks.legal; some = h.banks.some; held = h.banks.held }; places = h.places; stand = h.stand; on = h.on; idle = h.idle });
-    order = record { bounded = is.order.bounded; fits = is.order.fits; ready = is.order.ready; wait = is.order.wait; second = is.order.second; now = finds_on (told_of d) (told_of t) (clock_of d) (clock_of t) (stay d t none refl) refl refl refl is.order.now };
+    order = record { bounded = is.order.bounded; fits = is.order.fits; ready = is.order.ready; wait = is.order.wait; second = is.order.second; now = finds_on (told_of d) (told_of t) (clock_of d) (clock_of t) (clocks_stay d t none refl) refl refl refl is.order.now };
     faults = is.faults;
   }
 
   pub arm_stays : IsDevice d → ClockStays (clock_of d) (told_of t) (clock_of t)
-  arm_stays is = record { same = stay d t none refl; order = (arm_keeps is).order }
+  arm_stays is = record { same = clocks_stay d t none refl; order = (arm_keeps is).order }
 
   counts : (s.fls.flash.planning.unplanned + entry.cuts ≤ entry.planning.unplanned + s.fls.flash.cuts) ⊎ (last_count ≤ s.fls.flash.cuts) → ((armed nth keep s.fls.flash).planning.unplanned + entry.cuts ≤ entry.planning.unplanned + s.fls.flash.cuts) ⊎ (last_count ≤ s.fls.flash.cuts)
   counts (inl few) = let same = cuts_stay nth keep s.fls.flash.planning in inl (omega arith)
@@ -78,3 +81,6 @@ module _ (stay : ClocksStay) (runs : RunsStay) (m : Making) (entry : Told) (s : 
         ops = is.ops;
         off = is.off;
       }
+
+pub plans_are_sound : PlansAreSound
+plans_are_sound nth keep m entry s listed kept count is_off sound = (plan_keeps m entry s nth keep listed kept count is_off sound, arm_stays m entry s nth keep sound.device)

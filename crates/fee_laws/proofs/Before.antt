@@ -9,8 +9,8 @@ use Rattle.nv_base.specs.declared.instance.DeviceNumber.{DeviceNumber}
 use Rattle.fls_model.specs.Attach.{AreBytesOf}
 use Rattle.fls_model.specs.Told.{Told, ToldBytes, bytes_now}
 use Rattle.fee_image.specs.Image.{Layout, IsLegalLayout}
-use Rattle.fee_image.specs.Laws.{LayoutsAreLegal}
 use Rattle.fee_image.specs.May.{May}
+use Rattle.fee_image.proofs.Sectors.{layouts_are_legal}
 use Rattle.promise_device.specs.Making.{Making, banks_of}
 use Rattle.fee_told.specs.Slots.{Memory}
 use Rattle.fee_told.specs.SlotLaws.{IsHeld}
@@ -37,10 +37,10 @@ each_now None P holds = tt
 each_now (Some b) P holds = holds b.now refl
 
 -- SIZES
-some_bytes : (a b : ℕ) → 0 < a → 0 < b → 0 < a * b
+pub some_bytes : (a b : ℕ) → 0 < a → 0 < b → 0 < a * b
 some_bytes a b more many = mul-pos more many
 
-as_many : (a b : ℕ) → a ≡ b → 0 < b → 0 < a
+pub as_many : (a b : ℕ) → a ≡ b → 0 < b → 0 < a
 as_many a b same more = omega (arith, same, more)
 
 pub has_bytes : (g : Geometry) → IsLegal g → 0 < size_of g
@@ -69,8 +69,8 @@ module _ (m : Making) (entry : Told) (s : Parts) (listed : List (DeviceNumber ×
   pub lengths : AreLengths 0 m.numbers
   lengths = on.sound.made_for.space.lengths
 
-  pub legal : LayoutsAreLegal → IsLegalLayout l
-  legal legals = legals m.geometry m.banks shape shared
+  pub legal : IsLegalLayout l
+  legal = layouts_are_legal m.geometry m.banks shape shared
 
   pub some : IfSome (bytes_now s.fls.flash) (λ bytes. 0 < length bytes)
   some = some_told m.geometry s.fls.flash.bytes shape on.sound.made_for.bytes

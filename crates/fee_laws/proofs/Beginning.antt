@@ -7,6 +7,7 @@ use Rattle.nv_base.specs.Geometry.{sectors_of_bank, pages_of_bank}
 use Rattle.nv_base.specs.declared.geometry.Geometry.{Geometry}
 use Rattle.nv_base.specs.declared.instance.DeviceNumber.{DeviceNumber}
 use Rattle.nv_base.specs.Pages.{record_pages_of}
+use Rattle.nv_base.proofs.Places.{numbers_have_places}
 use Rattle.memif.specs.Told.{length_of, Slot, Stand, Open as StandOpen, Ended as StandEnded, is_open}
 use Rattle.fls_model.specs.Told.{Told}
 use Rattle.fee_format.specs.declared.rec_head.RecHead.{RecHead}
@@ -22,6 +23,8 @@ use Rattle.fee_log.specs.declared.tail.Tail.TheVariants.{Open, Writes, Owes, Clo
 use Rattle.fee_log.specs.Index.{clear_flags, with_flag}
 use Rattle.fee_log.specs.Log.{HasFormat, pages_in, work_in, free_in, free_behind, log_of, tail_begun, tail_with}
 use Rattle.nv_base.specs.Lengths.{place_of}
+use Rattle.fee_log.proofs.Within.{within_length}
+use Rattle.fee_course.proofs.Turns.{appends_add}
 use Rattle.fee_switch.specs.declared.active.ActiveBank.{ActiveBank}
 use Rattle.fee_course.specs.declared.course.Course.{Course}
 use Rattle.fee_course.specs.Course.{appended_to, turns_left, most_turns}
@@ -29,6 +32,9 @@ use Rattle.fee_switch.specs.Banks.{TakesRecord, appended_at, index_of, left_of, 
 use Rattle.fee_switch_laws.specs.Shown.{old_shown}
 use Rattle.fee_switch_laws.specs.KeepsRoom.{KeepsRoom}
 use Rattle.fee_switch_laws.specs.Space.{free_pages, has_room}
+use Rattle.fee_switch_laws.proofs.RoomAppends.{records_keep_room}
+use Rattle.fee_switch_laws.proofs.RoomPages.{clear_flags_stay}
+use Rattle.fee_switch_laws.proofs.Appends.{takes}
 use Rattle.promise_device.specs.Making.{Making, banks_of}
 use Rattle.fee_told.specs.Slots.{Memory, IsWorkOf, slots_found}
 use Rattle.fee_told.specs.SlotLaws.{IsHeld, SamePlaces}
@@ -37,11 +43,14 @@ use Rattle.fee_told.specs.Clock.{MakesNone, clock_of}
 use Rattle.fee_told.specs.Runs.{HasRun}
 use Rattle.memif.specs.Clock.{SameClock}
 use Rattle.fee_told.specs.Kept.{with_log}
+use Rattle.fee_told.proofs.Kept.{same_places}
+use Rattle.fee_told.proofs.Appends.{records_begin}
+use Rattle.fee_told.proofs.Clocks.{clocks_stay}
+use Rattle.fee_told.proofs.Making.{runs_stay}
+use Rattle.fee_told.proofs.Steps.{places_tell}
 use Rattle.fee_laws.specs.declared.job.FeeJob.{FeeJob}
 use Rattle.fee_laws.specs.Inside.{Parts, body_of, device_of, memory_of, stand_of, IsActiveOf, IsAtWork, HasSwitch, HoldsBehind}
-use Rattle.fee_laws.specs.Record.{head_of, IsJobOf, IsLengthOf}
-use Rattle.nv_base.specs.declared.job.DeviceOp.{DeviceOp}
-use Rattle.nv_base.specs.declared.job.DeviceOp.TheVariants.{Write}
+use Rattle.fee_laws.specs.Record.{head_of, IsJobOf}
 use Rattle.fee_laws.specs.Work.{pages_of_op, pages_of_job, pages_free, work_of, is_waiting, begins_next, fits_in, claimed, seal_turns, switch_turns, turns_before, turns_beside, takes_append, is_urgent_job, is_promised}
 use Rattle.nv_base.specs.declared.mark.Mark.{Mark}
 use Rattle.fee_told.specs.Figures.{Work, turns_of, turns_owed, left_of as turns_told, ready_of, wait_of}
@@ -50,17 +59,16 @@ use Rattle.fee_laws.proofs.Figures.{switch_is, free_is}
 use Rattle.fee_laws.proofs.Appended.{has_switch, flags_clear, few_left, of_job}
 use Rattle.fee_laws.specs.Turn.{IsOn}
 use Rattle.fee_laws.specs.Begins.{HasBegun, MayBegin, begun_with}
-use Rattle.fee_laws.proofs.TurnLaws.{Laws, BeginLaws}
 use Rattle.fee_laws.proofs.Before.{lengths, legal, some, copied, held_at, each_told, log_geometry, log_banks, power}
-use Rattle.fee_laws.proofs.Places.{same_places}
 use Rattle.fee_laws.proofs.Order.{tells_by}
 use Rattle.fee_laws.proofs.Heads.{IsAmong, among, mark_is, legal_head}
 use Rattle.fee_laws.proofs.Marks.{counted_by}
 use Rattle.fee_laws.proofs.Begun.{no_course, Ready, opens, owes, ready_by, free_less, begun_work, begun_pages, begun_owed, ready_pages, room_is}
-use Rattle.fee_laws.proofs.Beside.{appended_phase, appended_takes, appended_none, takes_now, flag_at, named, places_many}
+use Rattle.fee_laws.proofs.Beside.{appended_phase, appended_takes, appended_none, takes_now, flag_at, named}
 use Rattle.fee_laws.proofs.GoneOn.{no_seal}
-use Rattle.fee_laws.proofs.Page.{some_of, takes}
 use Rattle.fee_laws.proofs.Shown.{few_by, pages_by}
+use Rattle.fee_laws.proofs.Raising.{writes_pages}
+use Rattle.fee_laws.proofs.FollowLifts.{some_of}
 
 -- a bank is active where pages are free
 is_active : (o : Option ActiveBank) (n : ℕ) → 1 ≤ (if is_some o then n else 0) → IsSome o
@@ -79,17 +87,11 @@ pub left_less : (st : Stand) (v w : Work) → v.pages ≡ w.pages → v.owed ≡
 left_less (StandOpen j) v w pages owed few = left_by j.mark v w pages owed few
 left_less (StandEnded result given) v w pages owed few = few
 
--- a content has its number's length
-content_pages : (p : ℕ) (op : DeviceOp) (length of : ℕ) → op ≡ Write → IsLengthOf op length of → pages_of_op p op length ≡ record_pages_of of p
-content_pages p op length of writes fits =
-    let same = subst (λ (o : DeviceOp). IsLengthOf o length of) writes fits in
-    ap (λ (o : DeviceOp). pages_of_op p o length) writes ∙ ap (λ (n : ℕ). record_pages_of n p) same
-
 pub and_four' : (a c d : Bool) → a && false && c && d ≡ false
 and_four' true c d = refl
 and_four' false c d = refl
 
-module _ (laws : Laws) (own : BeginLaws) (m : Making) (entry : Told) (s : Parts) (listed : List (DeviceNumber × ℕ)) (kept count : ℕ) (j : FeeJob) (on : IsOn m entry s listed kept count) (may : MayBegin m s j) where
+module _ (m : Making) (entry : Told) (s : Parts) (listed : List (DeviceNumber × ℕ)) (kept count : ℕ) (j : FeeJob) (on : IsOn m entry s listed kept count) (may : MayBegin m s j) where
   abbrev pub t : Parts
   t = begun_with j s
 
@@ -213,7 +215,7 @@ module _ (laws : Laws) (own : BeginLaws) (m : Making) (entry : Told) (s : Parts)
   pub held_by : (tl : Tail) → s.banks.log.tail ≡ tl → Ready tl → (bytes : List ℕ) (more : May) → IsHeld l m.numbers bytes mem more → IsHeld l m.numbers bytes (memory_of t) more
   held_by Open at opens bytes more held =
       let tail : was.tail ≡ LogOpen = ap (λ (x : Tail). tail_with x []) at in
-      let kept' = own.begin l m.numbers bytes mem more a.bank a.head was r body (record { lengths = lengths m entry s listed kept count on; legal = legal m entry s listed kept count on laws.legal; held = held; bank = old_is; takes = taking }) tail (record_at at) work_of_job in
+      let kept' = records_begin l m.numbers bytes mem more a.bank a.head was r body (record { lengths = lengths m entry s listed kept count on; legal = legal m entry s listed kept count on; held = held; bank = old_is; takes = taking }) tail (record_at at) work_of_job in
       subst (λ (x : Memory). IsHeld l m.numbers bytes x more) (sym (memory_is (log_begun was r body) (log_open at))) kept'.held
   held_by (Owes owed None) at (owes _) bytes more held = subst (λ (x : Memory). IsHeld l m.numbers bytes x more) (sym (memory_is was (log_owed owed at) ∙ same_is)) held
   held_by (Writes _ _) at x bytes more held = elim x [ ]
@@ -228,7 +230,7 @@ module _ (laws : Laws) (own : BeginLaws) (m : Making) (entry : Told) (s : Parts)
   places_by Closed at x = elim x [ ]
 
   slots_are : (x : List ℕ) → slots_in e x ≡ slots_in d x
-  slots_are x = ap (λ (z : List Slot). if s.started then z else slots_found l m.numbers x) (laws.places l m.numbers x mem (memory_of t) (places_by s.banks.log.tail refl ready) refl)
+  slots_are x = ap (λ (z : List Slot). if s.started then z else slots_found l m.numbers x) (places_tell l m.numbers x mem (memory_of t) (places_by s.banks.log.tail refl ready) refl)
 
   pub same_slots : (told_of e).slots ≡ (told_of d).slots
   same_slots = tells_by (tells d) s.fls.flash.bytes (slots_in e) (slots_in d) slots_are
@@ -237,10 +239,10 @@ module _ (laws : Laws) (own : BeginLaws) (m : Making) (entry : Told) (s : Parts)
   none = record { making = refl; entry = refl; operations = refl; bytes = refl }
 
   pub run_on : HasRun e
-  run_on = own.run d e on.sound.device.run (record { none = none; bytes = refl; counts = (refl, refl); flash_faults = omega arith; faults = on.sound.device.run.faults; cuts = on.sound.device.run.cuts; worn = λ since worn. inl worn })
+  run_on = runs_stay d e on.sound.device.run (record { none = none; bytes = refl; counts = (refl, refl); flash_faults = omega arith; faults = on.sound.device.run.faults; cuts = on.sound.device.run.cuts; worn = λ since worn. inl worn })
 
   pub same_clock : SameClock (clock_of d) (clock_of e)
-  same_clock = own.stay d e none refl
+  same_clock = clocks_stay d e none refl
 
   pub behind : HoldsBehind e
   behind = record {
@@ -249,7 +251,7 @@ module _ (laws : Laws) (own : BeginLaws) (m : Making) (entry : Told) (s : Parts)
     banks = record {
       started = on.started;
       alike = run_on.alike;
-      legal = legal m entry s listed kept count on laws.legal;
+      legal = legal m entry s listed kept count on;
       some = some m entry s listed kept count on;
       held = λ told. each_told s.fls.flash.bytes (λ (x : List ℕ). IsHeld l m.numbers x (memory_of t) (copied m entry s listed kept count on)) (λ bytes at.
           held_by s.banks.log.tail refl ready bytes (copied m entry s listed kept count on) (held_at m entry s listed kept count on bytes at told));
@@ -262,12 +264,12 @@ module _ (laws : Laws) (own : BeginLaws) (m : Making) (entry : Told) (s : Parts)
 
   -- THE SWITCH
   pub room_on : KeepsRoom m.reserve t.banks
-  room_on = own.room m.reserve s.banks r on.banks (on.sound.room on.started (power m entry s listed kept count on)) may.idle may.taken may.configured has_free
+  room_on = records_keep_room m.reserve s.banks r on.banks (on.sound.room on.started (power m entry s listed kept count on)) may.idle may.taken may.configured has_free
 
   flags : t.banks.course ≡ None → t.banks.log.flags ≡ clear_flags t.banks.log.numbers
   flags shut =
       ap (λ (x : List Bool). with_flag s.banks.log.numbers x r.number false) (flags_clear s.banks s.banks.course was_at_work.switch (appended_none place s.banks.course shut))
-      ∙ own.clear s.banks.log.numbers r.number
+      ∙ clear_flags_stay s.banks.log.numbers r.number
 
   pub switch_on : HasSwitch t.banks t.banks.course
   switch_on = has_switch m.reserve t.banks t.banks.course flags room_on.switch
@@ -313,7 +315,7 @@ module _ (laws : Laws) (own : BeginLaws) (m : Making) (entry : Told) (s : Parts)
   stands = named ns r.number job_of.length (subst (λ (x : List (DeviceNumber × ℕ)). length_of x r.number ≡ Some job_of.length) (sym on.sound.made_for.numbers) job_of.configured)
 
   place_is : place ≡ Some stands.0
-  place_is = own.places 0 ns stands.0 (record { 0 = r.number }, job_of.length) on.log.numbers stands.1
+  place_is = numbers_have_places 0 ns stands.0 (record { 0 = r.number }, job_of.length) on.log.numbers stands.1
 
   -- beside a switch its number is copied again
   abbrev turns : List Bool → Option ℕ → Course → ℕ
@@ -322,15 +324,15 @@ module _ (laws : Laws) (own : BeginLaws) (m : Making) (entry : Told) (s : Parts)
   switch_adds : (c : Course) → s.banks.course ≡ Some c → left_with t.banks (appended_at place (Some c)) ≤ left_of s.banks + turns_beside s.banks s.job
   switch_adds c at =
       let index : index_of ns (work_in t.banks.log.tail) ≡ Some stands.0 = ap (index_of ns) work_is ∙ place_is in
-      let cleared' = flag_at own.bounds 0 ns s.banks.log.flags stands.0 (record { 0 = r.number }, job_of.length) on.log.numbers stands.1 in
+      let cleared' = flag_at 0 ns s.banks.log.flags stands.0 (record { 0 = r.number }, job_of.length) on.log.numbers stands.1 in
       let then_is : left_with t.banks (appended_at place (Some c)) ≡ turns (set s.banks.log.flags stands.0 false) (Some stands.0) (appended_to stands.0 c) =
       ap (λ (k : Option ℕ). left_with t.banks (appended_at k (Some c))) place_is ∙ (λ i. turns (cleared' i) (index i) (appended_to stands.0 c)) in
       let was_is : left_of s.banks ≡ turns s.banks.log.flags None c = ap (left_with s.banks) at ∙ ap (λ (o : Option RecHead). turns s.banks.log.flags (index_of ns o) c) may.idle in
-      let more = own.add p (sectors_of_bank s.banks.geometry s.banks.banks) stands.0 ns s.banks.log.places s.banks.log.flags c (record { 0 = r.number }, job_of.length) stands.1
-      (places_many s.banks.log.geometry.page s.banks.log.end ns s.banks.log.places on.log.places) on.log.flags in
+      let more = appends_add p (sectors_of_bank s.banks.geometry s.banks.banks) stands.0 ns s.banks.log.places s.banks.log.flags c (record { 0 = r.number }, job_of.length) stands.1
+      (within_length s.banks.log.geometry.page s.banks.log.end ns s.banks.log.places on.log.places) on.log.flags in
       let urgent = may.beside (ap (λ (o : Option Course). is_some o) at) in
       let beside : turns_beside s.banks s.job ≡ pages_of_op p j.op j.length + 1 = ap (turns_beside s.banks) may.job ∙ ap (λ (b : Bool). if b then pages_of_op p j.op j.length + 1 else 0) (begins urgent) in
-      let whole : pages_of_op p j.op j.length ≡ record_pages_of job_of.length p = content_pages p j.op j.length job_of.length (job_of.urgent urgent) job_of.fits in
+      let whole : pages_of_op p j.op j.length ≡ record_pages_of job_of.length p = writes_pages p j.op j.length job_of.length (job_of.urgent urgent) job_of.fits in
       omega (arith, then_is, was_is, more, beside, whole)
 
   switch_by : (c : Option Course) → s.banks.course ≡ c → left_with t.banks (appended_at place c) ≤ switch_turns m.reserve s.banks s.job c
@@ -349,7 +351,7 @@ module _ (laws : Laws) (own : BeginLaws) (m : Making) (entry : Told) (s : Parts)
   pub work_then : IsWork m.geometry.page (sectors_of_bank m.geometry m.banks) m.numbers m.reserve (stand_of s.content s.job s.last s.given) v
   work_then =
       let geo = on.sound.made_for.banks_geometry in
-      let few' = few_left own.few t.banks switch_on in
+      let few' = few_left t.banks switch_on in
       let fits = subst (λ (g : Geometry). left_of t.banks ≤ most_turns g.page (sectors_of_bank g s.banks.banks) ns) geo few' in
       let fits2 = subst (λ (n : ℕ). left_of t.banks ≤ most_turns m.geometry.page (sectors_of_bank m.geometry n) ns) on.sound.made_for.shared fits in
       let fits3 = subst (λ (x : List (DeviceNumber × ℕ)). left_of t.banks ≤ most_turns m.geometry.page (sectors_of_bank m.geometry m.banks) x) on.sound.made_for.numbers fits2 in

@@ -6,6 +6,7 @@ use Rattle.nv_base.specs.declared.instance.DeviceNumber.{DeviceNumber}
 use Rattle.fls_model.specs.Told.{Told}
 use Rattle.fee_format.specs.declared.rec_head.RecHead.{RecHead}
 use Rattle.fee_image.specs.Copies.{Flag, cleared, copied_of}
+use Rattle.fee_image.proofs.Copies.{clearing_widens}
 use Rattle.fee_log.specs.Index.{with_flag}
 use Rattle.fee_log.specs.Log.{work_in}
 use Rattle.fee_course.specs.declared.course.Course.{Course}
@@ -14,35 +15,36 @@ use Rattle.fee_switch.specs.Banks.{appended_at}
 use Rattle.promise_device.specs.Making.{Making, banks_of}
 use Rattle.fee_told.specs.Slots.{settled_in}
 use Rattle.fee_told.specs.SlotLaws.{IsHeld}
+use Rattle.fee_told.proofs.Kept.{copies_widen}
+use Rattle.fee_told.proofs.Steps.{same_settled}
 use Rattle.fee_laws.specs.declared.job.FeeJob.{FeeJob}
 use Rattle.fee_laws.specs.Copied.{flags_of, IsCopying}
 use Rattle.fee_laws.specs.Inside.{Parts, memory_of, flags_in, IsActiveOf, IsAtWork, ShowsCopies, TellsCopies, IsSound}
 use Rattle.fee_laws.specs.Record.{IsInWork, IsReady}
 use Rattle.fee_laws.specs.Turn.{IsOn}
 use Rattle.fee_laws.specs.Begins.{MayBegin, RecordsBegin}
-use Rattle.fee_laws.proofs.TurnLaws.{Laws, BeginLaws}
 use Rattle.fee_laws.proofs.Before.{shape, lengths, each_now, now_at}
 use Rattle.fee_laws.proofs.Order.{behind_finds, in_order}
-use Rattle.fee_laws.proofs.Beside.{appended_again, appended_some, clear_again, flags_cleared, clears_copying, appended_copying, same_settled}
+use Rattle.fee_laws.proofs.Beside.{appended_again, appended_some, clear_again, flags_cleared, clears_copying, appended_copying}
 use Rattle.fee_laws.proofs.Begun.{no_course}
 use Rattle.fee_laws.proofs.GoesOn.{each_some}
 use Rattle.fee_laws.proofs.Beginning.{t, r, e, ready, active_is, formats, was_at_work, work_is, active, taken_then, taking, held_by, places_by, room_on, switch_on, run_on, behind, work_then, has_begun}
 
-module _ (laws : Laws) (own : BeginLaws) (m : Making) (entry : Told) (s : Parts) (listed : List (DeviceNumber × ℕ)) (kept count : ℕ) (j : FeeJob) (on : IsOn m entry s listed kept count) (may : MayBegin m s j) where
+module _ (m : Making) (entry : Told) (s : Parts) (listed : List (DeviceNumber × ℕ)) (kept count : ℕ) (j : FeeJob) (on : IsOn m entry s listed kept count) (may : MayBegin m s j) where
   abbrev begun : Parts
-  begun = t laws own m entry s listed kept count j on may
+  begun = t m entry s listed kept count j on may
 
   abbrev place : Option ℕ
   place = place_of s.banks.log.numbers j.number.0
 
-  in_work_on : IsInWork begun.banks s.job (r laws own m entry s listed kept count j on may)
+  in_work_on : IsInWork begun.banks s.job (r m entry s listed kept count j on may)
   in_work_on = record {
     of = j;
     is_open = may.job;
     head = refl;
     writes = may.writes;
-    active = active laws own m entry s listed kept count j on may;
-    taken = taken_then laws own m entry s listed kept count j on may;
+    active = active m entry s listed kept count j on may;
+    taken = taken_then m entry s listed kept count j on may;
     beside = λ some. may.beside (sym (appended_some place s.banks.course) ∙ some);
     clear = clear_again s.banks.log.numbers s.banks.log.flags j.number.0;
     alone = appended_again place s.banks.course;
@@ -51,15 +53,15 @@ module _ (laws : Laws) (own : BeginLaws) (m : Making) (entry : Told) (s : Parts)
   -- THE TARGET
   flags_then : (bytes : List ℕ) → flags_in m begun bytes ≡ cleared j.number.0 (flags_in m s bytes)
   flags_then bytes =
-      let settled = same_settled (banks_of m) m.numbers bytes (memory_of s).old (memory_of begun).old (places_by laws own m entry s listed kept count j on may s.banks.log.tail refl (ready laws own m entry s listed kept count j on may)) in
+      let settled = same_settled (banks_of m) m.numbers bytes (memory_of s).old (memory_of begun).old (places_by m entry s listed kept count j on may s.banks.log.tail refl (ready m entry s listed kept count j on may)) in
       (λ i. flags_of m.numbers s.banks.log.places (with_flag (on.sound.made_for.numbers i) s.banks.log.flags j.number.0 false) (settled i))
       ∙ flags_cleared m.numbers s.banks.log.places s.banks.log.flags (settled_in (banks_of m) m.numbers bytes (memory_of s).old) j.number.0
 
   held_then : (bytes : List ℕ) → IsHeld (banks_of m) m.numbers bytes (memory_of s) (copied_of (flags_in m s bytes)) → IsHeld (banks_of m) m.numbers bytes (memory_of begun) (copied_of (flags_in m begun bytes))
   held_then bytes held =
       let fs = flags_in m s bytes in
-      let wide = own.wider (banks_of m) m.numbers bytes (memory_of s) (copied_of fs) (copied_of (cleared j.number.0 fs)) held (own.clearing fs j.number.0) (taking laws own m entry s listed kept count j on may) in
-      held_by laws own m entry s listed kept count j on may s.banks.log.tail refl (ready laws own m entry s listed kept count j on may) bytes (copied_of (flags_in m begun bytes))
+      let wide = copies_widen (banks_of m) m.numbers bytes (memory_of s) (copied_of fs) (copied_of (cleared j.number.0 fs)) held (clearing_widens fs j.number.0) (taking m entry s listed kept count j on may) in
+      held_by m entry s listed kept count j on may s.banks.log.tail refl (ready m entry s listed kept count j on may) bytes (copied_of (flags_in m begun bytes))
       (subst (λ (x : List Flag). IsHeld (banks_of m) m.numbers bytes (memory_of s) (copied_of x)) (sym (flags_then bytes)) wide)
 
   shows_by : (bytes : List ℕ) (o : Option ℕ) (c : Option Course) → IfSome c (λ x. ShowsCopies m s x bytes) → IfSome (appended_at o c) (λ x. ShowsCopies m begun x bytes)
@@ -82,11 +84,11 @@ module _ (laws : Laws) (own : BeginLaws) (m : Making) (entry : Told) (s : Parts)
 
   at_work_on : IsAtWork m begun
   at_work_on = record {
-    active = subst (IsActiveOf begun.banks) (sym (active_is laws own m entry s listed kept count j on may)) (formats laws own m entry s listed kept count j on may);
-    job = (was_at_work laws own m entry s listed kept count j on may).job;
-    work = subst (λ (o : Option RecHead). IfSome o (IsInWork begun.banks s.job)) (sym (work_is laws own m entry s listed kept count j on may)) in_work_on;
-    ready = each_some s.job (IsReady begun.banks) (λ x promised none. (let w = work_is laws own m entry s listed kept count j on may in cc (w, none)));
-    switch = switch_on laws own m entry s listed kept count j on may;
+    active = subst (IsActiveOf begun.banks) (sym (active_is m entry s listed kept count j on may)) (formats m entry s listed kept count j on may);
+    job = (was_at_work m entry s listed kept count j on may).job;
+    work = subst (λ (o : Option RecHead). IfSome o (IsInWork begun.banks s.job)) (sym (work_is m entry s listed kept count j on may)) in_work_on;
+    ready = each_some s.job (IsReady begun.banks) (λ x promised none. (let w = work_is m entry s listed kept count j on may in cc (w, none)));
+    switch = switch_on m entry s listed kept count j on may;
   }
 
   pub sound : IsSound m entry begun listed kept count false
@@ -106,15 +108,15 @@ module _ (laws : Laws) (own : BeginLaws) (m : Making) (entry : Told) (s : Parts)
           ended = made.ended;
         };
         device = record {
-          run = run_on laws own m entry s listed kept count j on may;
-          held = λ started. behind laws own m entry s listed kept count j on may;
-          order = in_order laws m entry begun (shape m entry s listed kept count on) (lengths m entry s listed kept count on) (work_then laws own m entry s listed kept count j on may)
-              (behind_finds laws.finds laws.places (e laws own m entry s listed kept count j on may) on.started (behind laws own m entry s listed kept count j on may));
+          run = run_on m entry s listed kept count j on may;
+          held = λ started. behind m entry s listed kept count j on may;
+          order = in_order m entry begun (shape m entry s listed kept count on) (lengths m entry s listed kept count on) (work_then m entry s listed kept count j on may)
+              (behind_finds (e m entry s listed kept count j on may) on.started (behind m entry s listed kept count j on may));
           faults = on.sound.device.faults;
         };
         rests = λ stopped. (let h = on.started in absurd (cc (h, stopped)));
         works = λ started. at_work_on;
-        room = λ started on'. room_on laws own m entry s listed kept count j on may;
+        room = λ started on'. room_on m entry s listed kept count j on may;
         copies = copies;
         cuts = on.sound.cuts;
         worn = λ since worn. record { passed = (on.sound.worn since worn).passed; shut = ap (appended_at place) (on.sound.worn since worn).shut ∙ no_course place };
@@ -124,5 +126,5 @@ module _ (laws : Laws) (own : BeginLaws) (m : Making) (entry : Told) (s : Parts)
         off = on.sound.off;
       }
 
-pub records_begin : Laws → BeginLaws → RecordsBegin
-records_begin laws own m entry s listed kept count j on may = record { told = has_begun laws own m entry s listed kept count j on may; sound = sound laws own m entry s listed kept count j on may }
+pub records_begin : RecordsBegin
+records_begin m entry s listed kept count j on may = record { told = has_begun m entry s listed kept count j on may; sound = sound m entry s listed kept count j on may }

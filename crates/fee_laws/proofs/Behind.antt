@@ -14,7 +14,6 @@ use Rattle.fls_model.specs.Attach.{AreBytesOf}
 use Rattle.fls_model.specs.Op.{Op}
 use Rattle.fls_model.specs.Step.{IsAsked}
 use Rattle.fls_model.specs.Told.{Told, Change, bytes_now}
-use Rattle.fee_image.specs.Laws.{LayoutsAreLegal}
 use Rattle.fee_image.specs.May.{May}
 use Rattle.promise_device.specs.Making.{Making, banks_of}
 use Rattle.fee_told.specs.SlotLaws.{IsHeld}
@@ -27,20 +26,19 @@ use Rattle.fee_told.specs.Device.{Device, told_of}
 use Rattle.fee_told.specs.Clock.{clock_of, change_of}
 use Rattle.fee_told.specs.Runs.{HasRun, counts_fault}
 use Rattle.fee_told.specs.FigureLaws.{IsWork}
+use Rattle.fee_told.proofs.Kept.{same_places}
 use Rattle.fee_laws.specs.declared.job.FeeJob.{FeeJob}
 use Rattle.fee_laws.specs.Inside.{Parts, stand_of, memory_of, device_of, IsMadeFor, IsAtWork, HoldsBehind, TellsCopies, IsSound}
 use Rattle.fee_laws.specs.Work.{work_of}
 use Rattle.fee_laws.specs.Turn.{IsOn, Drives}
-use Rattle.fee_laws.proofs.TurnLaws.{Laws}
 use Rattle.fee_laws.proofs.Before.{shape, lengths, legal, some_told, each_told}
 use Rattle.fee_laws.proofs.Order.{behind_finds, in_order}
-use Rattle.fee_laws.proofs.Places.{same_places}
 use Rattle.fee_laws.proofs.Operation.{cuts, next_length, few_faults}
 
 later : (n : ℕ) (xs : List Change) (x : Change) → n ≤ min (length xs) last_count → n ≤ min (length (xs ++ x ∷ [])) last_count
 later n xs x few = let h = length-append xs (x ∷ []) in omega (arith, h)
 
-module _ (laws : Laws) (m : Making) (entry : Told) (s : Parts) (listed : List (DeviceNumber × ℕ)) (kept count : ℕ) (on : IsOn m entry s listed kept count) (op : Op) (answer : FlashAnswer) (f : FlsState) (drives : Drives s.fls f) (asked : IsAsked op s.fls.flash answer f.flash) (b : BanksState) (job : Option FeeJob) (last : JobResult) (given : ℕ) where
+module _ (m : Making) (entry : Told) (s : Parts) (listed : List (DeviceNumber × ℕ)) (kept count : ℕ) (on : IsOn m entry s listed kept count) (op : Op) (answer : FlashAnswer) (f : FlsState) (drives : Drives s.fls f) (asked : IsAsked op s.fls.flash answer f.flash) (b : BanksState) (job : Option FeeJob) (last : JobResult) (given : ℕ) where
   abbrev pub t : Parts
   t = record s { fls = f; banks = b; job = job; last = last; given = given; faults = counts_fault answer s.faults; operations = s.operations ++ change_of op s.fls.flash answer ∷ [] }
 
@@ -77,14 +75,14 @@ module _ (laws : Laws) (m : Making) (entry : Told) (s : Parts) (listed : List (D
   }
 
   -- the bytes hold its banks
-  pub held_behind : LayoutsAreLegal → HasRun e → (more : May) → ((new : List ℕ) → bytes_now f.flash ≡ Some new → IsTrue (tells e) → IsHeld (banks_of m) m.numbers new (memory_of t) more) → HoldsBehind e
-  held_behind legals run more held = record {
+  pub held_behind : HasRun e → (more : May) → ((new : List ℕ) → bytes_now f.flash ≡ Some new → IsTrue (tells e) → IsHeld (banks_of m) m.numbers new (memory_of t) more) → HoldsBehind e
+  held_behind run more held = record {
     behind = memory_of t;
     copied = more;
     banks = record {
       started = on.started;
       alike = run.alike;
-      legal = legal m entry s listed kept count on legals;
+      legal = legal m entry s listed kept count on;
       some = some_told m.geometry f.flash.bytes (shape m entry s listed kept count on) bytes;
       held = λ told. each_told f.flash.bytes (λ (x : List ℕ). IsHeld (banks_of m) m.numbers x (memory_of t) more) (λ new at. held new at told);
     };
@@ -106,7 +104,7 @@ module _ (laws : Laws) (m : Making) (entry : Told) (s : Parts) (listed : List (D
     pub copies : TellsCopies m entry t
 
   pub order : Facts → InOrder (told_of e) (clock_of e)
-  order is = in_order laws m entry t (shape m entry s listed kept count on) (lengths m entry s listed kept count on) is.work (behind_finds laws.finds laws.places e on.started is.behind)
+  order is = in_order m entry t (shape m entry s listed kept count on) (lengths m entry s listed kept count on) is.work (behind_finds e on.started is.behind)
 
   pub sound : Facts → (is_off : Bool) → is_off ≡ f.flash.off → IsSound m entry t listed kept (next_count count) is_off
   sound is is_off off = record {
@@ -116,7 +114,7 @@ module _ (laws : Laws) (m : Making) (entry : Told) (s : Parts) (listed : List (D
     works = λ started. is.at_work;
     room = λ started power. is.room power;
     copies = is.copies;
-    cuts = cuts laws m entry s listed kept count on op answer f drives asked;
+    cuts = cuts m entry s listed kept count on op answer f drives asked;
     worn = λ since is'. record { passed = later since s.operations (change_of op s.fls.flash answer) (on.sound.worn since is').passed; shut = is.shut since is' };
     numbers = on.sound.numbers;
     reserve = on.sound.reserve;

@@ -1,18 +1,16 @@
 -- What a record that begins changes of an open switch.
 use Rattle.std.specs.Prelude.{◌||◌, not, is_some, set, slice_get, IsTrue}
-use Rattle.std.proofs.Common.{◌≡◌, ◌≤◌, ◌==◌, ℕ, zero, suc, Bool, true, false, if◌then◌else◌, List, [], ◌∷◌, length, Option, Some, None, refl, ap, subst, arith}
+use Rattle.std.proofs.Common.{◌≡◌, ◌≤◌, ◌==◌, ℕ, zero, suc, Bool, true, false, if◌then◌else◌, List, [], ◌∷◌, Option, Some, None, refl, ap, subst, arith}
 use Rattle.std.proofs.lemmas.Bool.{cond_both, eqb-true, eq-eqb, ne_eqb}
-use Rattle.nv_base.specs.Laws.{NumbersAreInBounds}
 use Rattle.nv_base.specs.Lengths.{AreLengths}
 use Rattle.nv_base.specs.declared.instance.DeviceNumber.{DeviceNumber}
+use Rattle.nv_base.proofs.Places.{numbers_are_in_bounds}
 use Rattle.memif.specs.Told.{Held, length_of}
 use Rattle.fee_format.specs.declared.rec_head.RecHead.{RecHead}
 use Rattle.fee_image.specs.declared.place.Place.{Place}
 use Rattle.fee_image.specs.Places.{is_written}
-use Rattle.fee_image.specs.Banks.{Old, NoBank, OldBank}
 use Rattle.fee_image.specs.Copies.{Flag, Each, Copies, is_done, cleared}
-use Rattle.fee_image.specs.Image.{Layout, bank_in}
-use Rattle.fee_log.specs.Index.{with_flag, AreWithin}
+use Rattle.fee_log.specs.Index.{with_flag}
 use Rattle.fee_log.specs.Log.{LogState}
 use Rattle.fee_course.specs.declared.course.Course.{Course}
 use Rattle.fee_course.specs.declared.course.Course.TheVariants as course
@@ -20,8 +18,6 @@ use Rattle.fee_course.specs.Course.{appended_to}
 use Rattle.fee_switch.specs.Banks.{BanksState, TakesRecord, appended_at}
 use Rattle.fee_switch_laws.specs.Flags.{IsOpenFor}
 use Rattle.fee_switch_laws.specs.Shown.{phase_shown}
-use Rattle.fee_told.specs.Slots.{settled_in, held_all}
-use Rattle.fee_told.specs.SlotLaws.{SamePlaces}
 use Rattle.fee_laws.specs.Copied.{flags_of, IsCopyIn, IsCopying}
 use Rattle.fee_laws.specs.Work.{takes_append}
 
@@ -124,17 +120,17 @@ flags_above number low (n ∷ ns) (c ∷ cs) all le =
     let lt = all.0 in
     rw (ne_eqb n.0.0 number (λ e. omega arith)) (ap (λ (l : List Bool). c ∷ l) (flags_above number n.0.0 ns cs all.4 (omega arith)))
 
-pub flag_at : NumbersAreInBounds → (low : ℕ) (ns : List (DeviceNumber × ℕ)) (cs : List Bool) (i : ℕ) (n : DeviceNumber × ℕ) → AreLengths low ns → slice_get ns i ≡ Some n
+pub flag_at : (low : ℕ) (ns : List (DeviceNumber × ℕ)) (cs : List Bool) (i : ℕ) (n : DeviceNumber × ℕ) → AreLengths low ns → slice_get ns i ≡ Some n
     → with_flag ns cs n.0.0 false ≡ set cs i false
-flag_at bounds low [] cs i n all is = cc
-flag_at bounds low (m ∷ ns) [] i n all is = refl
-flag_at bounds low (m ∷ ns) (c ∷ cs) zero n all is =
+flag_at low [] cs i n all is = cc
+flag_at low (m ∷ ns) [] i n all is = refl
+flag_at low (m ∷ ns) (c ∷ cs) zero n all is =
     let same : m ≡ n = cc in
     subst (λ (x : DeviceNumber × ℕ). with_flag (m ∷ ns) (c ∷ cs) x.0.0 false ≡ false ∷ cs) same
     (rw (eq-eqb m.0.0 m.0.0 refl) (ap (λ (l : List Bool). false ∷ l) (flags_above m.0.0 m.0.0 ns cs all.4 (omega arith))))
-flag_at bounds low (m ∷ ns) (c ∷ cs) (suc i) n all is =
-    let lt = (bounds m.0.0 ns i n all.4 is).0 in
-    rw (ne_eqb m.0.0 n.0.0 (λ e. omega arith)) (ap (λ (l : List Bool). c ∷ l) (flag_at bounds m.0.0 ns cs i n all.4 is))
+flag_at low (m ∷ ns) (c ∷ cs) (suc i) n all is =
+    let lt = (numbers_are_in_bounds m.0.0 ns i n all.4 is).0 in
+    rw (ne_eqb m.0.0 n.0.0 (λ e. omega arith)) (ap (λ (l : List Bool). c ∷ l) (flag_at m.0.0 ns cs i n all.4 is))
 
 -- where a configured number stands
 pub named : (ns : List (DeviceNumber × ℕ)) (n size : ℕ) → length_of ns n ≡ Some size → (i : ℕ) × (slice_get ns i ≡ Some (record { 0 = n }, size))
@@ -145,12 +141,6 @@ named (x ∷ xs) n size is = by_test (λ e. named xs n size e) (x.0.0 == n) refl
         → (i : ℕ) × (slice_get (x ∷ xs) i ≡ Some (record { 0 = n }, size))
     by_test rest true e is' = (let same : x.0.0 ≡ n = eqb-true x.0.0 n e in let long : x.1 ≡ size = cc is' in (zero, λ i. Some (record { 0 = same i }, long i)))
     by_test rest false e is' = (let at = rest is' in (suc at.0, at.1))
-
-pub places_many : (p end : ℕ) (ns : List (DeviceNumber × ℕ)) (ps : List Place) → AreWithin p end ns ps → length ps ≡ length ns
-places_many p end [] [] within = refl
-places_many p end [] (q ∷ ps) within = absurd within
-places_many p end (n ∷ ns) [] within = absurd within
-places_many p end (n ∷ ns) (q ∷ ps) within = ap suc (places_many p end ns ps within.1)
 
 -- THE COPY IN WORK
 pub or_left : (a b : Bool) → a || b ≡ false → a ≡ false
@@ -198,8 +188,3 @@ appended_copying i n course.Head work buffer fs copy = tt
 appended_copying i n (course.Gate failed) work buffer fs copy = tt
 
 -- THE SETTLED MARKS
-pub same_settled : (l : Layout) (ns : List (DeviceNumber × ℕ)) (bytes : List ℕ) (o next : Old) → SamePlaces o next → settled_in l ns bytes next ≡ settled_in l ns bytes o
-same_settled l ns bytes NoBank NoBank same = refl
-same_settled l ns bytes NoBank (OldBank k h log) same = absurd same
-same_settled l ns bytes (OldBank k h log) NoBank same = absurd same
-same_settled l ns bytes (OldBank k h log) (OldBank j i next) same = λ x. held_all (bank_in l (same.1 x).format (same.0 x)) bytes ns (same.2 x)

@@ -13,11 +13,13 @@ use Rattle.fee_image.specs.Banks.{Old, NoBank, OldBank}
 use Rattle.fee_switch.specs.Banks.{BanksState}
 use Rattle.promise_device.specs.Making.{Making, banks_of}
 use Rattle.fee_told.specs.Slots.{Memory, HasJob, IsWorkOf, slots_held, slots_found}
-use Rattle.fee_told.specs.SlotLaws.{PlacesTell}
 use Rattle.fee_told.specs.Device.{Device, tells, told_of, slots_told}
-use Rattle.fee_told.specs.Clock.{ClocksStay, clock_of}
-use Rattle.fee_told.specs.Runs.{HasRun, RunsStay}
-use Rattle.fee_told.specs.Whole.{HeldFindsNow}
+use Rattle.fee_told.specs.Clock.{clock_of}
+use Rattle.fee_told.specs.Runs.{HasRun}
+use Rattle.fee_told.proofs.Clocks.{clocks_stay}
+use Rattle.fee_told.proofs.Making.{runs_stay}
+use Rattle.fee_told.proofs.Steps.{places_tell}
+use Rattle.fee_told.proofs.Whole.{held_finds_now}
 use Rattle.fee_laws.specs.declared.job.FeeJob.{FeeJob}
 use Rattle.fee_laws.specs.Inside.{Parts, device_of, body_of, HoldsBehind}
 use Rattle.fee_laws.specs.Record.{IsInWork}
@@ -48,7 +50,7 @@ job_in ns stand result given NoBank has = tt
 job_in ns stand result given (OldBank k h log) has = job_at ns log.places stand result given log.tail has
 
 -- WHAT IS TOLD
-module _ (stay : ClocksStay) (held : HeldFindsNow) (same : PlacesTell) (m : Making) (entry : Told) (t : Parts) (h : HoldsBehind (device_of m entry t)) where
+module _ (m : Making) (entry : Told) (t : Parts) (h : HoldsBehind (device_of m entry t)) where
   abbrev d : Device
   d = device_of m entry t
 
@@ -59,7 +61,7 @@ module _ (stay : ClocksStay) (held : HeldFindsNow) (same : PlacesTell) (m : Maki
   slots_by memory started bytes = if started then slots_held (banks_of m) m.numbers bytes memory else slots_found (banks_of m) m.numbers bytes
 
   same_slots : (started : Bool) (bytes : List ℕ) → slots_by d.memory started bytes ≡ slots_by h.behind started bytes
-  same_slots true bytes = same (banks_of m) m.numbers bytes h.behind d.memory h.places (sym h.stand)
+  same_slots true bytes = places_tell (banks_of m) m.numbers bytes h.behind d.memory h.places (sym h.stand)
   same_slots false bytes = refl
 
   told_by : (told started : Bool) (o : Option (List ℕ)) → (if told then option_map (slots_by d.memory started) o else None) ≡ (if told then option_map (slots_by h.behind started) o else None)
@@ -71,11 +73,11 @@ module _ (stay : ClocksStay) (held : HeldFindsNow) (same : PlacesTell) (m : Maki
   slots_are = told_by (tells d) t.started (bytes_now t.fls.flash)
 
   pub finds_now : FindsNow (told_of d) (clock_of d)
-  finds_now = finds_on (told_of x) (told_of d) (clock_of x) (clock_of d) (stay x d (record { making = refl; entry = refl; operations = refl; bytes = refl }) refl) refl slots_are refl (held x h.copied h.banks)
+  finds_now = finds_on (told_of x) (told_of d) (clock_of x) (clock_of d) (clocks_stay x d (record { making = refl; entry = refl; operations = refl; bytes = refl }) refl) refl slots_are refl (held_finds_now x h.copied h.banks)
 
 -- a run stays where memory alone changes
-pub run_stays : RunsStay → (m : Making) (entry : Told) (s : Parts) (b : BanksState) (content : List ℕ) (job : Option FeeJob) (last : JobResult) (given : ℕ)
+pub run_stays : (m : Making) (entry : Told) (s : Parts) (b : BanksState) (content : List ℕ) (job : Option FeeJob) (last : JobResult) (given : ℕ)
     → HasRun (device_of m entry s) → HasRun (device_of m entry (record s { banks = b; content = content; job = job; last = last; given = given }))
-run_stays runs m entry s b content job last given run =
-    runs (device_of m entry s) (device_of m entry (record s { banks = b; content = content; job = job; last = last; given = given })) run
+run_stays m entry s b content job last given run =
+    runs_stay (device_of m entry s) (device_of m entry (record s { banks = b; content = content; job = job; last = last; given = given })) run
     (record { none = record { making = refl; entry = refl; operations = refl; bytes = refl }; bytes = refl; counts = (refl, refl); flash_faults = omega arith; faults = run.faults; cuts = run.cuts; worn = λ since e. inl e })

@@ -12,16 +12,15 @@ use Rattle.fee_log.specs.Step.{given_up}
 use Rattle.fee_switch.specs.Banks.{BanksState}
 use Rattle.promise_device.specs.Making.{Making}
 use Rattle.fee_told.specs.Device.{Device, told_of}
-use Rattle.fee_told.specs.Clock.{ClocksStay, clock_of}
+use Rattle.fee_told.specs.Clock.{clock_of}
 use Rattle.fee_told.specs.SlotLaws.{SamePlaces}
-use Rattle.fee_told.specs.Appends.{RecordsGiveUp}
+use Rattle.fee_told.proofs.Clocks.{clocks_stay}
+use Rattle.fee_told.proofs.Kept.{same_places}
 use Rattle.fee_laws.specs.declared.job.FeeJob.{FeeJob}
 use Rattle.fee_laws.specs.Inside.{Parts, device_of, memory_of, stand_of, IsSound}
-use Rattle.fee_laws.specs.CallLaws.{MayCancel}
+use Rattle.fee_laws.specs.CallLaws.{MayCancel, JobsCancel, NoneCancels}
 use Rattle.fee_laws.specs.Parts.{canceled, without_work}
-use Rattle.fee_laws.proofs.Canceling.{CancelLaws}
 use Rattle.fee_laws.proofs.Ending.{Ends, ended_sound, ended_as, ended_stays, shape as idle_shape, ends as idle_ends}
-use Rattle.fee_laws.proofs.Starting.{same_places}
 use Rattle.fee_laws.proofs.Stopping.{places as record_places, shape as record_shape, ends as record_ends}
 
 started_by : (started : Bool) (job : Option FeeJob) (j : FeeJob) → (started ≡ false → job ≡ None) → job ≡ Some j → started ≡ true
@@ -33,16 +32,15 @@ none_by None is = refl
 none_by (Some h) is = cc is
 
 -- WITH NONE OPEN
-pub none_cancels : ClocksStay → (m : Making) (entry : Told) (s : Parts) (listed : List (DeviceNumber × ℕ)) (kept count : ℕ) (is_off : Bool) → IsSound m entry s listed kept count is_off → s.job ≡ None
-    → Cancels (told_of (device_of m entry s)) (clock_of (device_of m entry s)) (told_of (device_of m entry s)) (clock_of (device_of m entry s))
-none_cancels stay m entry s listed kept count is_off sound shut =
+pub none_cancels : NoneCancels
+none_cancels m entry s listed kept count is_off sound shut =
     let d : Device = device_of m entry s in (
       subst (λ (o : Option FeeJob). IfElse (is_open (stand_of s.content o s.last s.given)) (IsCanceled (told_of d) (told_of d)) (told_of d ≡ told_of d)) (sym shut) refl,
-      record { same = stay d d (record { making = refl; entry = refl; operations = refl; bytes = refl }) refl; order = sound.device.order },
+      record { same = clocks_stay d d (record { making = refl; entry = refl; operations = refl; bytes = refl }) refl; order = sound.device.order },
     )
 
 -- AN OPEN JOB
-module _ (laws : CancelLaws) (give_up : RecordsGiveUp) (m : Making) (entry : Told) (s : Parts) (listed : List (DeviceNumber × ℕ)) (kept count : ℕ) (is_off : Bool) (sound : IsSound m entry s listed kept count is_off) (j : FeeJob) (may : MayCancel s j) where
+module _ (m : Making) (entry : Told) (s : Parts) (listed : List (DeviceNumber × ℕ)) (kept count : ℕ) (is_off : Bool) (sound : IsSound m entry s listed kept count is_off) (j : FeeJob) (may : MayCancel s j) where
   abbrev d : Device
   d = device_of m entry s
 
@@ -52,24 +50,27 @@ module _ (laws : CancelLaws) (give_up : RecordsGiveUp) (m : Making) (entry : Tol
   abbrev Ended : Parts → Type 0
   Ended t = IsSound m entry t listed kept count is_off × Cancels (told_of d) (clock_of d) (told_of (device_of m entry t)) (clock_of (device_of m entry t))
 
-  ended : (b : BanksState) (places : SamePlaces (memory_of s).old (memory_of (canceled b s)).old) (legal : IsLegal m.geometry) → Ends laws m entry s listed kept count is_off sound started b places legal → Ended (canceled b s)
+  ended : (b : BanksState) (places : SamePlaces (memory_of s).old (memory_of (canceled b s)).old) (legal : IsLegal m.geometry) → Ends m entry s listed kept count is_off sound started b places legal → Ended (canceled b s)
   ended b places legal ends =
       let t : Device = device_of m entry (canceled b s) in (
-        ended_sound laws m entry s listed kept count is_off sound started b places legal ends,
+        ended_sound m entry s listed kept count is_off sound started b places legal ends,
         (
           subst (λ (o : Option FeeJob). IfElse (is_open (stand_of s.content o s.last s.given)) (IsCanceled (told_of d) (told_of t)) (told_of t ≡ told_of d)) (sym may.job)
-              (ended_as laws m entry s listed kept count is_off sound started b places legal ends),
-          ended_stays laws m entry s listed kept count is_off sound started b places legal ends,
+              (ended_as m entry s listed kept count is_off sound started b places legal ends),
+          ended_stays m entry s listed kept count is_off sound started b places legal ends,
         ),
       )
 
   ended_by : (work : Bool) → is_some (work_in s.banks.log.tail) ≡ work → Ended (canceled (if work then record s.banks { log = given_up s.banks.log } else s.banks) s)
   ended_by true is =
-      ended (record s.banks { log = given_up s.banks.log }) (record_places laws give_up m entry s listed kept count is_off sound started may.banks j may.job may.calm is) (record_shape laws give_up m entry s listed kept count is_off sound started may.banks j may.job may.calm is)
-      (record_ends laws give_up m entry s listed kept count is_off sound started may.banks j may.job may.calm is)
+      ended (record s.banks { log = given_up s.banks.log }) (record_places m entry s listed kept count is_off sound started may.banks j may.job may.calm is) (record_shape m entry s listed kept count is_off sound started may.banks j may.job may.calm is)
+      (record_ends m entry s listed kept count is_off sound started may.banks j may.job may.calm is)
   ended_by false is =
       let idle = none_by (work_in s.banks.log.tail) is in
-      ended s.banks (same_places (memory_of s).old) (idle_shape laws m entry s listed kept count is_off sound started may.banks j may.job may.calm idle) (idle_ends laws m entry s listed kept count is_off sound started may.banks j may.job may.calm idle)
+      ended s.banks (same_places (memory_of s).old) (idle_shape m entry s listed kept count is_off sound started may.banks j may.job may.calm idle) (idle_ends m entry s listed kept count is_off sound started may.banks j may.job may.calm idle)
 
-  pub cancels : Ended (canceled (without_work s.banks) s)
+  cancels : Ended (canceled (without_work s.banks) s)
   cancels = ended_by (is_some (work_in s.banks.log.tail)) refl
+
+pub jobs_cancel : JobsCancel
+jobs_cancel m entry s listed kept count is_off j sound may = cancels m entry s listed kept count is_off sound j may

@@ -16,13 +16,17 @@ use Rattle.fee_switch.specs.Banks.{BanksState}
 use Rattle.fee_switch_laws.specs.Shown.{old_shown}
 use Rattle.promise_device.specs.Making.{Making, banks_of}
 use Rattle.fee_told.specs.Slots.{Memory, HasJob, IsWorkOf, slots_held, slots_found}
-use Rattle.fee_told.specs.SlotLaws.{SamePlaces, IsHeld, JobsKeep}
+use Rattle.fee_told.specs.SlotLaws.{SamePlaces, IsHeld}
 use Rattle.fee_told.specs.Device.{Device, tells, told_of}
-use Rattle.fee_told.specs.Tells.{TellsKeep, was}
+use Rattle.fee_told.specs.Tells.{was}
+use Rattle.fee_told.proofs.Kept.{same_places}
+use Rattle.fee_told.proofs.Jobs.{jobs_change}
+use Rattle.fee_told.proofs.Steps.{jobs_keep, places_tell}
+use Rattle.fee_told.proofs.Tells.{tells_keep}
 use Rattle.fee_laws.specs.Inside.{Parts, device_of, memory_of, HoldsBehind, IsSound}
 use Rattle.fee_laws.specs.Parts.{canceled}
-use Rattle.fee_laws.proofs.Opening.{OpenLaws}
-use Rattle.fee_laws.proofs.Starting.{told_bytes, each_told, same_bytes, same_places}
+use Rattle.fee_laws.proofs.Starting.{same_bytes}
+use Rattle.fee_laws.proofs.Before.{each_told, told_at}
 
 -- WITHOUT A RECORD IN WORK
 -- any job may end or open
@@ -40,11 +44,6 @@ pub idle_job : (ns : List (DeviceNumber × ℕ)) (stand : Stand) (active : Optio
 idle_job ns stand None log body idle = tt
 idle_job ns stand (Some a) log body idle = idle_tail ns log.places stand log.tail body idle
 
-pub record CancelLaws : Type 0 where
-  pub base : OpenLaws
-  pub keep : JobsKeep
-  pub tell : TellsKeep
-
 -- PLACES
 pub places_on : (a b c : Old) → SamePlaces a b → SamePlaces b c → SamePlaces a c
 places_on NoBank NoBank NoBank p q = tt
@@ -56,7 +55,7 @@ places_on (OldBank k h log) (OldBank i g next) (OldBank j f last) p q = (q.0 ∙
 
 -- WHAT IS TOLD OF THE NUMBERS
 -- with any banks of the same places
-module _ (laws : CancelLaws) (m : Making) (entry : Told) (s : Parts) (listed : List (DeviceNumber × ℕ)) (kept count : ℕ) (is_off : Bool) (sound : IsSound m entry s listed kept count is_off) (started : s.started ≡ true) (b : BanksState) (places : SamePlaces (memory_of s).old (memory_of (canceled b s)).old) where
+module _ (m : Making) (entry : Told) (s : Parts) (listed : List (DeviceNumber × ℕ)) (kept count : ℕ) (is_off : Bool) (sound : IsSound m entry s listed kept count is_off) (started : s.started ≡ true) (b : BanksState) (places : SamePlaces (memory_of s).old (memory_of (canceled b s)).old) where
   abbrev u : Parts
   u = canceled b s
 
@@ -82,19 +81,19 @@ module _ (laws : CancelLaws) (m : Making) (entry : Told) (s : Parts) (listed : L
   behind = record h.behind { stand = st }
 
   pub held_at : (bytes : List ℕ) → bytes_now s.fls.flash ≡ Some bytes → IsTrue (tells d) → IsHeld l m.numbers bytes h.behind h.copied
-  held_at bytes at told = told_bytes s.fls.flash.bytes (λ (x : List ℕ). IsHeld l m.numbers x h.behind h.copied) bytes at (h.banks.held told)
+  held_at bytes at told = told_at s.fls.flash.bytes (λ (x : List ℕ). IsHeld l m.numbers x h.behind h.copied) bytes at (h.banks.held told)
 
   keeps_at : (bytes : List ℕ) → bytes_now s.fls.flash ≡ Some bytes → IsTrue (tells d) → (n : ℕ)
       → Keeps (slot_at m.numbers (slots_held l m.numbers bytes (memory_of s)) n) (slot_at m.numbers (slots_held l m.numbers bytes (memory_of u)) n)
   keeps_at bytes at told n =
-      let k = laws.keep l m.numbers bytes h.behind behind h.copied (held_at bytes at told) (same_places h.behind.old) (inr refl) n in
-      let before = sym (laws.base.same l m.numbers bytes h.behind (memory_of s) h.places (sym h.stand)) in
-      let after = sym (laws.base.same l m.numbers bytes behind (memory_of u) chain refl) in
+      let k = jobs_keep l m.numbers bytes h.behind behind h.copied (held_at bytes at told) (same_places h.behind.old) (inr refl) n in
+      let before = sym (places_tell l m.numbers bytes h.behind (memory_of s) h.places (sym h.stand)) in
+      let after = sym (places_tell l m.numbers bytes behind (memory_of u) chain refl) in
       subst (λ (slots : List Slot). Keeps (slot_at m.numbers (slots_held l m.numbers bytes (memory_of s)) n) (slot_at m.numbers slots n)) after
       (subst (λ (slots : List Slot). Keeps (slot_at m.numbers slots n) (slot_at m.numbers (slots_held l m.numbers bytes behind) n)) before k)
 
   pub keeps_all : KeepsAll (told_of d) (told_of t)
-  keeps_all = laws.tell d t (record { making = refl; entry = refl; old = sound.device.run.alike; new = sound.device.run.alike }) (λ old new told n.
+  keeps_all = tells_keep d t (record { making = refl; entry = refl; old = sound.device.run.alike; new = sound.device.run.alike }) (λ old new told n.
       subst (λ (x : List ℕ). Keeps (was d old n) (was t x n)) (same_bytes (bytes_now s.fls.flash) old new told.1 told.2)
       (subst (λ (x : Bool). Keeps
       (slot_at m.numbers (if x then slots_held l m.numbers old (memory_of s) else slots_found l m.numbers old) n)
@@ -103,7 +102,7 @@ module _ (laws : CancelLaws) (m : Making) (entry : Told) (s : Parts) (listed : L
   -- the bytes hold it where any job fits what is behind
   module _ (fits : (stand : Stand) → HasJob m.numbers stand h.behind.old) (on : s.fls.flash.off ≡ false → behind ≡ memory_of u) where
     holds_at : (bytes : List ℕ) → bytes_now s.fls.flash ≡ Some bytes → IsTrue (tells d) → IsHeld l m.numbers bytes behind h.copied
-    holds_at bytes at told = laws.base.job l m.numbers bytes h.behind h.copied st (record { lengths = sound.made_for.space.lengths; legal = h.banks.legal; held = held_at bytes at told }) (fits st)
+    holds_at bytes at told = jobs_change l m.numbers bytes h.behind h.copied st (record { lengths = sound.made_for.space.lengths; legal = h.banks.legal; held = held_at bytes at told }) (fits st)
 
     pub behind_it : HoldsBehind t
     behind_it = record {

@@ -9,6 +9,7 @@ use Rattle.nv_base.specs.declared.job.DeviceOp.{DeviceOp}
 use Rattle.nv_base.specs.declared.job.DeviceOp.TheVariants.{Write}
 use Rattle.nv_base.specs.declared.mark.Mark.{Mark}
 use Rattle.nv_base.specs.Lengths.{place_of}
+use Rattle.nv_base.proofs.Places.{numbers_have_places}
 use Rattle.memif.specs.declared.answer.DeviceTurn.TheVariants as turn
 use Rattle.memif.specs.declared.answer.JobResult.TheVariants.{JobOk}
 use Rattle.memif.specs.Told.{First, Held, Job, Stand, Open, Ended, at_number, held_next, more_writes, never_written, is_open, length_of}
@@ -21,6 +22,7 @@ use Rattle.fee_format.specs.declared.rec_head.RecHead.{RecHead}
 use Rattle.fee_image.specs.Found.{fits}
 use Rattle.fee_image.specs.Image.{Layout, bank_in}
 use Rattle.fee_image.specs.RecordList.{pages_of_head}
+use Rattle.fee_image.proofs.Copies.{settling_widens}
 use Rattle.fee_log.specs.declared.tail.Tail.{Tail}
 use Rattle.fee_log.specs.declared.tail.Tail.TheVariants.{Open as TailOpen, Writes, Owes, Closed}
 use Rattle.fee_log.specs.Index.{with_flag}
@@ -35,22 +37,28 @@ use Rattle.fee_image.specs.Banks.{Old}
 use Rattle.fee_image.specs.Copies.{Flag, copied_of, cleared, settled_at}
 use Rattle.fee_image.specs.Doubts.{shown_of}
 use Rattle.fee_image.specs.BankLaws.{TakesAppends}
+use Rattle.fee_log.proofs.Within.{within_length}
 use Rattle.fee_course.specs.declared.course.Copying.{Copying}
 use Rattle.fee_course.specs.declared.course.Course.{Course}
 use Rattle.fee_course.specs.declared.course.Course.TheVariants as course
 use Rattle.fee_course.specs.Course.{turns_left as switch_turns_left, most_turns}
+use Rattle.fee_course.proofs.Turns.{appends_end}
 use Rattle.fee_switch.specs.Banks.{BanksState, TakesRecord, appended_at, index_of, left_of, left_with}
 use Rattle.fee_switch_laws.specs.KeepsRoom.{KeepsRoom, IsRoomy}
 use Rattle.fee_switch_laws.specs.Space.{free_pages}
+use Rattle.fee_switch_laws.proofs.RoomAppends.{pages_keep_room}
+use Rattle.fee_switch_laws.proofs.Appends.{takes}
 use Rattle.promise_device.specs.Making.{Making}
 use Rattle.fee_told.specs.Slots.{Memory, settled_in, job_leaves, writes_of}
 use Rattle.fee_told.specs.SlotLaws.{IsHeld}
 use Rattle.fee_told.specs.Device.{Device, told_of}
 use Rattle.fee_told.specs.Clock.{clock_of}
 use Rattle.fee_told.specs.Appends.{IsCommitted}
-use Rattle.fee_told.specs.Whole.{CommitsAreTold}
 use Rattle.fee_told.specs.Figures.{Work, Waits, left_of as turns_left, ready_of, wait_of}
 use Rattle.fee_told.specs.FigureLaws.{IsWork}
+use Rattle.fee_told.proofs.Appends.{appends_commit as told_appends_commit}
+use Rattle.fee_told.proofs.Kept.{copies_widen}
+use Rattle.fee_told.proofs.Whole.{commits_are_told}
 use Rattle.fee_laws.specs.declared.job.FeeJob.{FeeJob}
 use Rattle.fee_laws.specs.Copied.{flags_of, IsCopying}
 use Rattle.fee_laws.specs.Inside.{Parts, device_of, memory_of, body_of, flags_in, mark_of, stand_of, fixed_in, IsActiveOf, IsAtWork, HasSwitch, HoldsBehind, ShowsCopies, TellsCopies}
@@ -58,9 +66,8 @@ use Rattle.fee_laws.specs.Record.{IsInWork, IsLengthOf}
 use Rattle.fee_laws.specs.Work.{work_of, switch_turns, pages_of_job, pages_left, waits_of, turns_before, seal_turns, is_urgent_job, pages_free}
 use Rattle.fee_laws.specs.Turn.{Turned, ended_as}
 use Rattle.fee_laws.specs.Appends.{IsAppending, work_op, after_page, AppendsCommit}
-use Rattle.fee_laws.proofs.TurnLaws.{Laws, AppendLaws}
 use Rattle.fee_laws.proofs.Before.{power, log_geometry, copied, held_at, each_now, now_at}
-use Rattle.fee_laws.proofs.Beside.{content_beside, flags_cleared, named, places_many}
+use Rattle.fee_laws.proofs.Beside.{content_beside, flags_cleared, named}
 use Rattle.fee_laws.proofs.Noted.{noted_set}
 use Rattle.fee_laws.proofs.Settled.{flags_settled, notes, settles_one, settled_count, settled_many, noted_many, settles_in, sets_none}
 use Rattle.fee_laws.proofs.Order.{first_of, urgent_is}
@@ -69,7 +76,7 @@ use Rattle.fee_laws.proofs.Behind.{Facts, held_behind, order, sound}
 use Rattle.fee_laws.proofs.Tails.{tailed, shown, page_commits, free_on}
 use Rattle.fee_laws.proofs.Figures.{free_is, switch_is}
 use Rattle.fee_laws.proofs.Heads.{head_fits}
-use Rattle.fee_laws.proofs.Page.{takes, in_work, h, work_is, a, active_is, old_is, formats, at_work, body, log, appending, stands}
+use Rattle.fee_laws.proofs.Page.{in_work, h, work_is, a, active_is, old_is, formats, at_work, body, log, appending, stands}
 use Rattle.fee_laws.proofs.Shown.{after_is, counted, j, open_is, mark as its_mark, head_is, writes, job_of, content_fits}
 use Rattle.fee_laws.proofs.Appended.{has_switch, flags_clear, few_left}
 use Rattle.fee_laws.proofs.GoneOn.{if_else, no_seal}
@@ -105,7 +112,7 @@ wait_by false p before pages v urgent wait = cc urgent
 wait_is : (w : Waits) (v : ℕ) → w.urgent ≡ true → wait_of w ≡ Some v → w.before + w.pages ≡ v
 wait_is w v urgent wait = wait_by w.urgent w.promised w.before w.pages v urgent wait
 
-module _ (laws : Laws) (own : AppendLaws) (told : CommitsAreTold) (m : Making) (entry : Told) (s : Parts) (listed : List (DeviceNumber × ℕ)) (kept count : ℕ) (f : FlsState) (is : IsAppending m entry s listed kept count Done f) (last : commits s.banks.geometry.page s.banks.log.tail ≡ true) where
+module _ (m : Making) (entry : Told) (s : Parts) (listed : List (DeviceNumber × ℕ)) (kept count : ℕ) (f : FlsState) (is : IsAppending m entry s listed kept count Done f) (last : commits s.banks.geometry.page s.banks.log.tail ≡ true) where
   abbrev then_log : LogState
   then_log = after_step s.banks.log Done
 
@@ -125,7 +132,7 @@ module _ (laws : Laws) (own : AppendLaws) (told : CommitsAreTold) (m : Making) (
   ended = Ended JobOk []
 
   abbrev layout : Layout
-  layout = l laws own m entry s listed kept count Done f is
+  layout = l m entry s listed kept count Done f is
 
   abbrev was : Log
   was = log m entry s listed kept count is.on is.work
@@ -176,25 +183,25 @@ module _ (laws : Laws) (own : AppendLaws) (told : CommitsAreTold) (m : Making) (
   committed : (old new : List ℕ) → bytes_now s.fls.flash ≡ Some old → bytes_now f.flash ≡ Some new → (more : May) → IsHeld layout m.numbers old (memory_of s) more
       → IsCommitted layout m.numbers old new (memory_of s) (memory_of t) more r content
   committed old new at_old at_new more held =
-      let both = left laws m entry s listed kept count is.on (work_op s) Done f is.drives (asked laws own m entry s listed kept count Done f is) old new at_old at_new in
+      let both = left m entry s listed kept count is.on (work_op s) Done f is.drives (asked m entry s listed kept count Done f is) old new at_old at_new in
       subst (λ (x : Memory). IsCommitted layout m.numbers old new (memory_of s) x more r content)
       (sym (after_is m entry s listed kept count is.on is.work then_log (log_done layout.page m.numbers was) ended shown_is))
-      (own.commit layout m.numbers old new (memory_of s) more (a m entry s listed kept count is.on is.work).bank (a m entry s listed kept count is.on is.work).head was r content at_last.done size ended
-      (appending m entry s listed kept count is.on is.work laws own.due is.page.size old more held new both.0)
-      (stands m entry s listed kept count is.on is.work laws own.due is.page.size own.widen own.stands (content_fits m entry s listed kept count is.on is.work) is.page old more held new both.1)
+      (told_appends_commit layout m.numbers old new (memory_of s) more (a m entry s listed kept count is.on is.work).bank (a m entry s listed kept count is.on is.work).head was r content at_last.done size ended
+      (appending m entry s listed kept count is.on is.work is.page.size old more held new both.0)
+      (stands m entry s listed kept count is.on is.work is.page.size (content_fits m entry s listed kept count is.on is.work) is.page old more held new both.1)
       was_tail last_log configured fits_it refl)
 
   abbrev more : May
   more = copied m entry s listed kept count is.on
 
   behind : HoldsBehind e
-  behind = held_behind laws m entry s listed kept count is.on (work_op s) Done f is.drives (asked laws own m entry s listed kept count Done f is) b None JobOk 0 laws.legal (run_on laws own m entry s listed kept count Done f is None JobOk 0) more
+  behind = held_behind m entry s listed kept count is.on (work_op s) Done f is.drives (asked m entry s listed kept count Done f is) b None JobOk 0 (run_on m entry s listed kept count Done f is None JobOk 0) more
       (λ new at told'.
-      (let before = before_told s.fls.flash.bytes f.flash.bytes (work_op s) Done new (asked laws own m entry s listed kept count Done f is).bytes at in
+      (let before = before_told s.fls.flash.bytes f.flash.bytes (work_op s) Done new (asked m entry s listed kept count Done f is).bytes at in
       (committed before.0 new before.1 at more (held_at m entry s listed kept count is.on before.0 before.1 told')).held))
 
   settles : Settles r.number (held_written r content).mark (told_of d) (told_of e)
-  settles = told d e more r content (started laws m entry s listed kept count is.on (work_op s) Done f is.drives (asked laws own m entry s listed kept count Done f is) (keeps laws own m entry s listed kept count Done f is) b None JobOk 0 (run_on laws own m entry s listed kept count Done f is None JobOk 0))
+  settles = commits_are_told d e more r content (started m entry s listed kept count is.on (work_op s) Done f is.drives (asked m entry s listed kept count Done f is) (keeps m entry s listed kept count Done f is) b None JobOk 0 (run_on m entry s listed kept count Done f is None JobOk 0))
       (λ old new at. committed old new at.1 at.2 more (held_at m entry s listed kept count is.on old at.1 at.0))
 
   -- BESIDE A SWITCH
@@ -228,7 +235,7 @@ module _ (laws : Laws) (own : AppendLaws) (told : CommitsAreTold) (m : Making) (
   stands_at = named ns number size length_in
 
   place_is : place_of ns number ≡ Some stands_at.0
-  place_is = own.places 0 ns stands_at.0 (record { 0 = number }, size) is.on.log.numbers stands_at.1
+  place_is = numbers_have_places 0 ns stands_at.0 (record { 0 = number }, size) is.on.log.numbers stands_at.1
 
   places_then : then_log.places ≡ noted ns s.banks.log.places s.banks.log.end r
   places_then =
@@ -236,7 +243,7 @@ module _ (laws : Laws) (own : AppendLaws) (told : CommitsAreTold) (m : Making) (
       ∙ ap (noted ns s.banks.log.places s.banks.log.end) (sym head_same)
 
   places_many_are : length s.banks.log.places ≡ length ns
-  places_many_are = places_many s.banks.log.geometry.page s.banks.log.end ns s.banks.log.places is.on.log.places
+  places_many_are = within_length s.banks.log.geometry.page s.banks.log.end ns s.banks.log.places is.on.log.places
 
   -- the switch has as many turns left
   abbrev turns : List Place → Option ℕ → Course → ℕ
@@ -248,7 +255,7 @@ module _ (laws : Laws) (own : AppendLaws) (told : CommitsAreTold) (m : Making) (
       let places = places_then ∙ noted_set 0 ns s.banks.log.places s.banks.log.end r stands_at.0 size is.on.log.numbers places_many_are place_is length_in (of_kind c at) (size_is c at) in
       let index : index_of ns (work_in s.banks.log.tail) ≡ Some stands_at.0 = ap (index_of ns) (work_is m entry s listed kept count is.on is.work) ∙ place_is in
       (λ i. turns (places i) (index_of ns (work_in (tail_open i))) c)
-      ∙ own.course s.banks.geometry.page (sectors_of_bank s.banks.geometry s.banks.banks) stands_at.0 s.banks.log.end r.count ns s.banks.log.places s.banks.log.flags c
+      ∙ appends_end s.banks.geometry.page (sectors_of_bank s.banks.geometry s.banks.banks) stands_at.0 s.banks.log.end r.count ns s.banks.log.places s.banks.log.flags c
       ∙ (λ i. turns s.banks.log.places (sym index i) c)
 
   same_left : left_of b ≡ left_of s.banks
@@ -288,14 +295,14 @@ module _ (laws : Laws) (own : AppendLaws) (told : CommitsAreTold) (m : Making) (
   wide_is : (c : Course) → s.banks.course ≡ Some c → (old : List ℕ) → IsWider (copied_of (flags_in m s old)) (copied_of (settled_at number settled (flags_in m s old)))
   wide_is c at old =
       subst (λ (x : List Flag). IsWider (copied_of x) (copied_of (settled_at number settled x))) (clear_is old)
-      (own.settling (flags_in m s old) number settled)
+      (settling_widens (flags_in m s old) number settled)
 
   -- a copy that sets a flag is of another number
   differs : (w : Copying) → s.banks.course ≡ Some (course.Copy (Some w)) → w.sets ≡ true → IfSome (work_in s.banks.copies.tail) (λ x. x.number ≢ number)
   differs w at sets =
       let roomy = subst (λ (o : Option Course). IfSome o (IsRoomy m.reserve s.banks)) at (is.on.sound.room is.on.started (power m entry s listed kept count is.on)).switch in
       let here = roomy.target.work in
-      let there = own.places 0 ns w.index (record { 0 = here.head.number }, here.length) is.on.log.numbers here.named in
+      let there = numbers_have_places 0 ns w.index (record { 0 = here.head.number }, here.length) is.on.log.numbers here.named in
       subst (λ (o : Option RecHead). IfSome o (λ x. x.number ≢ number)) (sym (ap work_in here.tail))
       (λ same.
       (let its_place : place_of ns number ≡ Some w.index = subst (λ (n : ℕ). place_of ns n ≡ Some w.index) same there in
@@ -320,18 +327,18 @@ module _ (laws : Laws) (own : AppendLaws) (told : CommitsAreTold) (m : Making) (
       let same = flags_are old new (copied_of fs) done_so in
       record {
         held = subst (λ (x : List Flag). IsHeld layout m.numbers new (memory_of t) (copied_of x)) (sym same)
-            (own.wider layout m.numbers new (memory_of t) (copied_of fs) (copied_of (settled_at number settled fs)) done_so.held (wide_is c at old) taking_then);
+            (copies_widen layout m.numbers new (memory_of t) (copied_of fs) (copied_of (settled_at number settled fs)) done_so.held (wide_is c at old) taking_then);
         copy = subst (λ (x : List Flag). IsCopying c (work_in s.banks.copies.tail) s.banks.buffer x) (sym same) (copying_by c at fs shows.copy);
       }
 
   copies : TellsCopies m entry t
   copies on told' = each_now f.flash.bytes (λ (x : List ℕ). IfSome s.banks.course (λ c. ShowsCopies m t c x)) (λ new at.
-      (let before = before_told s.fls.flash.bytes f.flash.bytes (work_op s) Done new (asked laws own m entry s listed kept count Done f is).bytes at in
+      (let before = before_told s.fls.flash.bytes f.flash.bytes (work_op s) Done new (asked m entry s listed kept count Done f is).bytes at in
       shows_by before.0 new before.1 at s.banks.course refl (now_at s.fls.flash.bytes (λ (x : List ℕ). IfSome s.banks.course (λ c. ShowsCopies m s c x)) before.0 before.1 (is.on.sound.copies (power m entry s listed kept count is.on) told'))))
 
   -- THE PARTS
   room_on : KeepsRoom m.reserve b
-  room_on = own.room m.reserve s.banks Done (is.on.sound.room is.on.started (power m entry s listed kept count is.on)) is.work
+  room_on = pages_keep_room m.reserve s.banks Done (is.on.sound.room is.on.started (power m entry s listed kept count is.on)) is.work
 
   was_at_work : IsAtWork m s
   was_at_work = at_work m entry s listed kept count is.on is.work
@@ -353,16 +360,16 @@ module _ (laws : Laws) (own : AppendLaws) (told : CommitsAreTold) (m : Making) (
 
   work_then : IsWork m.geometry.page (sectors_of_bank m.geometry m.banks) m.numbers m.reserve ended (work_of m.reserve b None)
   work_then =
-      let few = few_left own.few b switch_on in
+      let few = few_left b switch_on in
       let fits1 = subst (λ (g : Geometry). left_of b ≤ most_turns g.page (sectors_of_bank g s.banks.banks) ns) is.on.sound.made_for.banks_geometry few in
       let fits2 = subst (λ (n : ℕ). left_of b ≤ most_turns m.geometry.page (sectors_of_bank m.geometry n) ns) is.on.sound.made_for.shared fits1 in
       let fits3 = subst (λ (x : List (DeviceNumber × ℕ)). left_of b ≤ most_turns m.geometry.page (sectors_of_bank m.geometry m.banks) x) is.on.sound.made_for.numbers fits2 in
       record { job = tt; few = subst (λ (n : ℕ). n ≤ most_turns m.geometry.page (sectors_of_bank m.geometry m.banks) m.numbers) (sym switch_then) fits3 }
 
-  facts : Facts laws m entry s listed kept count is.on (work_op s) Done f is.drives (asked laws own m entry s listed kept count Done f is) b None JobOk 0
+  facts : Facts m entry s listed kept count is.on (work_op s) Done f is.drives (asked m entry s listed kept count Done f is) b None JobOk 0
   facts = record {
     ends = record { same = record { geometry = refl; banks = refl; numbers = refl }; ended = λ same. cc; given_few = omega arith };
-    run = run_on laws own m entry s listed kept count Done f is None JobOk 0;
+    run = run_on m entry s listed kept count Done f is None JobOk 0;
     behind = behind;
     work = work_then;
     at_work = at_work_on;
@@ -438,7 +445,7 @@ module _ (laws : Laws) (own : AppendLaws) (told : CommitsAreTold) (m : Making) (
     only = refl;
     up = is.on.started;
     of = subst (λ (o : Option FeeJob). IsOf First (fixed_in m) (at o)) (sym job_at) (tt, sym (first_of m asks.number));
-    part = part_works laws m entry s listed kept count is.on (work_op s) Done f is.drives (asked laws own m entry s listed kept count Done f is) (keeps laws own m entry s listed kept count Done f is) b None JobOk 0 (λ off. cc);
+    part = part_works m entry s listed kept count is.on (work_op s) Done f is.drives (asked m entry s listed kept count Done f is) (keeps m entry s listed kept count Done f is) b None JobOk 0 (λ off. cc);
     job = subst (λ (o : Option FeeJob). JobTurns First (at o) ended (told_of d) (told_of e) (clock_of e)) (sym job_at) (ends, λ failed. cc);
     read = subst (λ (o : Option FeeJob). is_read (at o) ≡ true → ((told_of e).ops ≡ (told_of d).ops) × ((told_of e).slots ≡ (told_of d).slots)) (sym job_at) (λ read. (let none = is_none_of in absurd (cc (read, none))));
     nearer = inl falls_at;
@@ -450,12 +457,12 @@ module _ (laws : Laws) (own : AppendLaws) (told : CommitsAreTold) (m : Making) (
     turns = (
       (
         subst (λ (o : Option FeeJob). not (is_open (at o)) && not (told_of d).switching ≡ false) (sym job_at) refl,
-        (First, works, ticks laws m entry s listed kept count is.on (work_op s) Done f is.drives (asked laws own m entry s listed kept count Done f is) (keeps laws own m entry s listed kept count Done f is) b None JobOk 0),
+        (First, works, ticks m entry s listed kept count is.on (work_op s) Done f is.drives (asked m entry s listed kept count Done f is) (keeps m entry s listed kept count Done f is) b None JobOk 0),
       ),
-      order laws m entry s listed kept count is.on (work_op s) Done f is.drives (asked laws own m entry s listed kept count Done f is) b None JobOk 0 facts,
+      order m entry s listed kept count is.on (work_op s) Done f is.drives (asked m entry s listed kept count Done f is) b None JobOk 0 facts,
     );
-    sound = sound laws m entry s listed kept count is.on (work_op s) Done f is.drives (asked laws own m entry s listed kept count Done f is) b None JobOk 0 facts false (sym (asked laws own m entry s listed kept count Done f is).cause.2);
+    sound = sound m entry s listed kept count is.on (work_op s) Done f is.drives (asked m entry s listed kept count Done f is) b None JobOk 0 facts false (sym (asked m entry s listed kept count Done f is).cause.2);
   }
 
-pub appends_commit : Laws → AppendLaws → CommitsAreTold → AppendsCommit
-appends_commit laws own told m entry s listed kept count f is last = commits_so laws own told m entry s listed kept count f is last
+pub appends_commit : AppendsCommit
+appends_commit m entry s listed kept count f is last = commits_so m entry s listed kept count f is last

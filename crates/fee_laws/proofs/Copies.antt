@@ -15,16 +15,16 @@ use Rattle.fee_log.specs.Step.{IsPageOf, due_bytes}
 use Rattle.promise_device.specs.Making.{Making, banks_of}
 use Rattle.fee_told.specs.Slots.{banks_with, may_told, settled_in}
 use Rattle.fee_told.specs.SlotLaws.{IsHeld, IsBehindLog, SamePlaces}
+use Rattle.fee_told.proofs.Places.{programs_keep_settled}
 use Rattle.fee_laws.specs.Inside.{Parts, memory_of}
 use Rattle.fee_laws.specs.Turn.{IsOn}
 use Rattle.fee_laws.specs.Appends.{work_body, work_op}
-use Rattle.fee_laws.proofs.TurnLaws.{Laws, AppendLaws}
 use Rattle.fee_laws.proofs.Before.{legal}
 use Rattle.fee_laws.proofs.Tails.{shown}
 use Rattle.fee_laws.proofs.Page.{a, log, old_is, op_is, inside, size}
 use Rattle.fee_laws.proofs.Shown.{after, after_is}
 
-module _ (laws : Laws) (own : AppendLaws) (m : Making) (entry : Told) (s : Parts) (listed : List (DeviceNumber × ℕ)) (kept count : ℕ) (on : IsOn m entry s listed kept count) (work : IsSome (work_in s.banks.log.tail)) (page : IsPageOf s.banks.geometry.page (due_bytes s.banks.log (work_body s))) (old new : List ℕ) (more : May) (held : IsHeld (banks_of m) m.numbers old (memory_of s) more) (leaves : MayLeave (work_op s) old new) where
+module _ (m : Making) (entry : Told) (s : Parts) (listed : List (DeviceNumber × ℕ)) (kept count : ℕ) (on : IsOn m entry s listed kept count) (work : IsSome (work_in s.banks.log.tail)) (page : IsPageOf s.banks.geometry.page (due_bytes s.banks.log (work_body s))) (old new : List ℕ) (more : May) (held : IsHeld (banks_of m) m.numbers old (memory_of s) more) (leaves : MayLeave (work_op s) old new) where
   abbrev l : Layout
   l = banks_of m
 
@@ -45,6 +45,6 @@ module _ (laws : Laws) (own : AppendLaws) (m : Making) (entry : Told) (s : Parts
       let same : SamePlaces (memory_of s).old (after m entry s listed kept count on work next stand).old =
       subst (λ (o : Old). SamePlaces o (after m entry s listed kept count on work next stand).old) (sym (old_is m entry s listed kept count on work))
       (subst (λ (o : Old). SamePlaces (OldBank k (a m entry s listed kept count on work).head was) o) (sym (ap (λ (x : _). x.old) path)) (refl, refl, places)) in
-      own.settled l m.numbers old new (bytes_due l.page was) (banks_with (memory_of s) (may_told l m.numbers old (memory_of s)) more) k (page_due was) (after m entry s listed kept count on work next stand).old
-      (legal m entry s listed kept count on laws.legal) held.banks (size m entry s listed kept count on work laws own.due page.size) (inside m entry s listed kept count on work laws own.due page.size).1
-      (subst (λ (o : Op). MayLeave o old new) (op_is m entry s listed kept count on work laws own.due page.size) leaves) behind same
+      programs_keep_settled l m.numbers old new (bytes_due l.page was) (banks_with (memory_of s) (may_told l m.numbers old (memory_of s)) more) k (page_due was) (after m entry s listed kept count on work next stand).old
+      (legal m entry s listed kept count on) held.banks (size m entry s listed kept count on work page.size) (inside m entry s listed kept count on work page.size).1
+      (subst (λ (o : Op). MayLeave o old new) (op_is m entry s listed kept count on work page.size) leaves) behind same

@@ -8,7 +8,7 @@ use Rattle.nv_base.specs.declared.geometry.Geometry.{Geometry}
 use Rattle.nv_base.specs.declared.instance.DeviceNumber.{DeviceNumber}
 use Rattle.nv_base.specs.declared.mark.Mark.{Mark}
 use Rattle.memif.specs.declared.answer.DeviceTurn.TheVariants as turn
-use Rattle.memif.specs.Told.{First, Job, Slot, Stand, Open, Ended, is_open, slot_at}
+use Rattle.memif.specs.Told.{First, Job, Slot, Stand, is_open, slot_at}
 use Rattle.memif.specs.Marks.{Keeps, KeepsAll}
 use Rattle.memif.specs.Calls.{IsCut, IsOf, is_read}
 use Rattle.fls_model.specs.declared.flash.FlashAnswer.TheVariants.{Off}
@@ -31,12 +31,16 @@ use Rattle.fee_told.specs.Tells.{AreTold, was as slot_was}
 use Rattle.fee_told.specs.Kept.{IsKept, with_log}
 use Rattle.fee_told.specs.Figures.{Work}
 use Rattle.fee_told.specs.FigureLaws.{IsWork, IsOfJob}
+use Rattle.fee_told.proofs.Appends.{appends_fail as told_appends_fail, failed_places}
+use Rattle.fee_told.proofs.Parts.{parts_cut}
+use Rattle.fee_told.proofs.Steps.{places_tell}
+use Rattle.fee_told.proofs.Tells.{tells_keep}
+use Rattle.fee_told.proofs.Kept.{none_closed, none_open}
 use Rattle.fee_laws.specs.declared.job.FeeJob.{FeeJob}
 use Rattle.fee_laws.specs.Inside.{Parts, device_of, memory_of, mark_of, stand_of, fixed_in, IsAtWork, HoldsBehind}
 use Rattle.fee_laws.specs.Work.{work_of, pages_of_op, pages_of_job}
 use Rattle.fee_laws.specs.Turn.{Turned}
 use Rattle.fee_laws.specs.Appends.{IsAppending, work_op, after_page, AppendsAreCut}
-use Rattle.fee_laws.proofs.TurnLaws.{Laws, AppendLaws}
 use Rattle.fee_laws.proofs.Before.{shape, legal, some_told, each_told, copied, held_at}
 use Rattle.fee_laws.proofs.Order.{first_of}
 use Rattle.fee_laws.proofs.Operation.{counts, ticks, same, left, before_told}
@@ -47,30 +51,14 @@ use Rattle.fee_laws.proofs.Shown.{j, open_is, mark, pages, job_of}
 use Rattle.fee_laws.proofs.Appended.{few_left, pages_few, of_job}
 use Rattle.fee_laws.proofs.Left.{l, asked, keeps, run_on}
 
--- a step that fails moves no place
-places_by : (p : ℕ) (x : Log) (t : LogTail) → (failed_with p x t).places ≡ x.places
-places_by p x LogOpen = refl
-places_by p x (LogWrites h body done) = cond_both (nat_lt done 2) (record x { tail = LogClosed }) (log_behind p x h) (λ (c : Log). c.places ≡ x.places) (λ e. refl) (λ e. refl)
-places_by p x (LogOwes h) = refl
-places_by p x LogClosed = refl
-
--- and leaves no record in work, which any job fits
-open_fits : (ns : List (DeviceNumber × ℕ)) (ps : List Place) (stand : Stand) → IsWorkOf ns ps stand LogOpen
-open_fits ns ps (Open j) = tt
-open_fits ns ps (Ended result given) = tt
-
-closed_fits : (ns : List (DeviceNumber × ℕ)) (ps : List Place) (stand : Stand) → IsWorkOf ns ps stand LogClosed
-closed_fits ns ps (Open j) = tt
-closed_fits ns ps (Ended result given) = tt
-
 torn_fits : (ns : List (DeviceNumber × ℕ)) (ps : List Place) (p : ℕ) (x : Log) (t : LogTail) → x.tail ≡ t → (stand : Stand) → IsWorkOf ns ps stand (failed_with p x t).tail
-torn_fits ns ps p x LogOpen is stand = subst (λ (y : LogTail). IsWorkOf ns ps stand y) (sym is) (open_fits ns ps stand)
+torn_fits ns ps p x LogOpen is stand = subst (λ (y : LogTail). IsWorkOf ns ps stand y) (sym is) (none_open ns ps stand)
 torn_fits ns ps p x (LogWrites h body done) is stand =
-    cond_both (nat_lt done 2) (record x { tail = LogClosed }) (log_behind p x h) (λ (c : Log). IsWorkOf ns ps stand c.tail) (λ e. closed_fits ns ps stand) (λ e. open_fits ns ps stand)
-torn_fits ns ps p x (LogOwes h) is stand = closed_fits ns ps stand
-torn_fits ns ps p x LogClosed is stand = subst (λ (y : LogTail). IsWorkOf ns ps stand y) (sym is) (closed_fits ns ps stand)
+    cond_both (nat_lt done 2) (record x { tail = LogClosed }) (log_behind p x h) (λ (c : Log). IsWorkOf ns ps stand c.tail) (λ e. none_closed ns ps stand) (λ e. none_open ns ps stand)
+torn_fits ns ps p x (LogOwes h) is stand = none_closed ns ps stand
+torn_fits ns ps p x LogClosed is stand = subst (λ (y : LogTail). IsWorkOf ns ps stand y) (sym is) (none_closed ns ps stand)
 
-module _ (laws : Laws) (own : AppendLaws) (m : Making) (entry : Told) (s : Parts) (listed : List (DeviceNumber × ℕ)) (kept count : ℕ) (f : FlsState) (is : IsAppending m entry s listed kept count Off f) where
+module _ (m : Making) (entry : Told) (s : Parts) (listed : List (DeviceNumber × ℕ)) (kept count : ℕ) (f : FlsState) (is : IsAppending m entry s listed kept count Off f) where
   abbrev t : Parts
   t = after_page Off f s
 
@@ -81,7 +69,7 @@ module _ (laws : Laws) (own : AppendLaws) (m : Making) (entry : Told) (s : Parts
   e = device_of m entry t
 
   abbrev layout : Layout
-  layout = l laws own m entry s listed kept count Off f is
+  layout = l m entry s listed kept count Off f is
 
   abbrev mem : Memory
   mem = memory_of s
@@ -99,15 +87,15 @@ module _ (laws : Laws) (own : AppendLaws) (m : Making) (entry : Told) (s : Parts
   more = copied m entry s listed kept count is.on
 
   went_off : f.flash.off ≡ true
-  went_off = (asked laws own m entry s listed kept count Off f is).cause.2
+  went_off = (asked m entry s listed kept count Off f is).cause.2
 
   kept_at : (old new : List ℕ) → bytes_now s.fls.flash ≡ Some old → bytes_now f.flash ≡ Some new → IsHeld layout m.numbers old mem more → IsKept layout m.numbers old new mem torn more
   kept_at old new at_old at_new held =
-      let both = left laws m entry s listed kept count is.on (work_op s) Off f is.drives (asked laws own m entry s listed kept count Off f is) old new at_old at_new in
-      own.fail layout m.numbers old new mem more k (a m entry s listed kept count is.on is.work).head was mem.stand (appending m entry s listed kept count is.on is.work laws own.due is.page.size old more held new both.0) (inl refl)
+      let both = left m entry s listed kept count is.on (work_op s) Off f is.drives (asked m entry s listed kept count Off f is) old new at_old at_new in
+      told_appends_fail layout m.numbers old new mem more k (a m entry s listed kept count is.on is.work).head was mem.stand (appending m entry s listed kept count is.on is.work is.page.size old more held new both.0) (inl refl)
 
   same_places : SamePlaces torn.old mem.old
-  same_places = subst (λ (o : Old). SamePlaces torn.old o) (sym (old_is m entry s listed kept count is.on is.work)) (refl, refl, sym (places_by layout.page was was.tail))
+  same_places = subst (λ (o : Old). SamePlaces torn.old o) (sym (old_is m entry s listed kept count is.on is.work)) (refl, refl, sym (failed_places layout.page was was.tail))
 
   behind : HoldsBehind e
   behind = record {
@@ -115,11 +103,11 @@ module _ (laws : Laws) (own : AppendLaws) (m : Making) (entry : Told) (s : Parts
     copied = more;
     banks = record {
       started = is.on.started;
-      alike = (run_on laws own m entry s listed kept count Off f is s.job s.last s.given).alike;
-      legal = legal m entry s listed kept count is.on laws.legal;
-      some = some_told m.geometry f.flash.bytes (shape m entry s listed kept count is.on) (bytes laws m entry s listed kept count is.on (work_op s) Off f is.drives (asked laws own m entry s listed kept count Off f is) t.banks s.job s.last s.given);
+      alike = (run_on m entry s listed kept count Off f is s.job s.last s.given).alike;
+      legal = legal m entry s listed kept count is.on;
+      some = some_told m.geometry f.flash.bytes (shape m entry s listed kept count is.on) (bytes m entry s listed kept count is.on (work_op s) Off f is.drives (asked m entry s listed kept count Off f is) t.banks s.job s.last s.given);
       held = λ told. each_told f.flash.bytes (λ (x : List ℕ). IsHeld layout m.numbers x torn more) (λ new at.
-          (let before = before_told s.fls.flash.bytes f.flash.bytes (work_op s) Off new (asked laws own m entry s listed kept count Off f is).bytes at in
+          (let before = before_told s.fls.flash.bytes f.flash.bytes (work_op s) Off new (asked m entry s listed kept count Off f is).bytes at in
           (kept_at before.0 new before.1 at (held_at m entry s listed kept count is.on before.0 before.1 told)).held));
     };
     places = same_places;
@@ -134,12 +122,12 @@ module _ (laws : Laws) (own : AppendLaws) (m : Making) (entry : Told) (s : Parts
   keeps_by : (old new : List ℕ) → AreTold d e old new → (n : ℕ) → Keeps (slot_was d old n) (slot_was e new n)
   keeps_by old new told n =
       let kept' = (kept_at old new told.1 told.2 (held_at m entry s listed kept count is.on old told.1 told.0)).keeps n in
-      let path = slots_at new mem ∙ laws.places layout m.numbers new torn mem same_places refl in
+      let path = slots_at new mem ∙ places_tell layout m.numbers new torn mem same_places refl in
       subst (λ (x : List Slot). Keeps (slot_at m.numbers x n) (slot_was e new n)) (sym (slots_at old mem))
       (subst (λ (x : List Slot). Keeps (slot_at m.numbers (slots_held layout m.numbers old mem) n) (slot_at m.numbers x n)) (sym path) kept')
 
   keeps_all : KeepsAll (told_of d) (told_of e)
-  keeps_all = laws.tell d e (same laws m entry s listed kept count is.on (work_op s) Off f is.drives (asked laws own m entry s listed kept count Off f is) (keeps laws own m entry s listed kept count Off f is) t.banks s.job s.last s.given (run_on laws own m entry s listed kept count Off f is s.job s.last s.given)) keeps_by
+  keeps_all = tells_keep d e (same m entry s listed kept count is.on (work_op s) Off f is.drives (asked m entry s listed kept count Off f is) (keeps m entry s listed kept count Off f is) t.banks s.job s.last s.given (run_on m entry s listed kept count Off f is s.job s.last s.given)) keeps_by
 
   -- THE PARTS
   abbrev jb : FeeJob
@@ -170,7 +158,7 @@ module _ (laws : Laws) (own : AppendLaws) (m : Making) (entry : Told) (s : Parts
   work_then : IsWork m.geometry.page (sectors_of_bank m.geometry m.banks) m.numbers m.reserve (stand_of s.content s.job s.last s.given) w
   work_then =
       let geo = is.on.sound.made_for.banks_geometry in
-      let few = few_left own.few s.banks was_at_work.switch in
+      let few = few_left s.banks was_at_work.switch in
       let fits = subst (λ (g : Geometry). left_of s.banks ≤ most_turns g.page (sectors_of_bank g s.banks.banks) s.banks.log.numbers) geo few in
       let fits2 = subst (λ (n : ℕ). left_of s.banks ≤ most_turns m.geometry.page (sectors_of_bank m.geometry n) s.banks.log.numbers) is.on.sound.made_for.shared fits in
       let fits3 = subst (λ (ns : List (DeviceNumber × ℕ)). left_of s.banks ≤ most_turns m.geometry.page (sectors_of_bank m.geometry m.banks) ns) is.on.sound.made_for.numbers fits2 in
@@ -181,10 +169,10 @@ module _ (laws : Laws) (own : AppendLaws) (m : Making) (entry : Told) (s : Parts
         few = subst (λ (n : ℕ). n ≤ most_turns m.geometry.page (sectors_of_bank m.geometry m.banks) m.numbers) (sym (switch_is s.banks is.work m.reserve s.job)) fits3;
       }
 
-  facts : Facts laws m entry s listed kept count is.on (work_op s) Off f is.drives (asked laws own m entry s listed kept count Off f is) t.banks s.job s.last s.given
+  facts : Facts m entry s listed kept count is.on (work_op s) Off f is.drives (asked m entry s listed kept count Off f is) t.banks s.job s.last s.given
   facts = record {
     ends = record { same = record { geometry = refl; banks = refl; numbers = refl }; ended = is.on.sound.made_for.ended; given_few = is.on.sound.made_for.given };
-    run = run_on laws own m entry s listed kept count Off f is s.job s.last s.given;
+    run = run_on m entry s listed kept count Off f is s.job s.last s.given;
     behind = behind;
     work = work_then;
     at_work = record { active = was_at_work.active; job = was_at_work.job; work = was_at_work.work; ready = was_at_work.ready; switch = was_at_work.switch };
@@ -207,7 +195,7 @@ module _ (laws : Laws) (own : AppendLaws) (m : Making) (entry : Told) (s : Parts
   cut_now = record {
     only = refl;
     of = subst (λ (o : Option FeeJob). IsOf First (fixed_in m) (at o)) (sym job_at) (tt, sym (first_of m asks.number));
-    part = laws.cut (work_op s) d e (counts laws m entry s listed kept count is.on (work_op s) Off f is.drives (asked laws own m entry s listed kept count Off f is) (keeps laws own m entry s listed kept count Off f is) t.banks s.job s.last s.given);
+    part = parts_cut (work_op s) d e (counts m entry s listed kept count is.on (work_op s) Off f is.drives (asked m entry s listed kept count Off f is) (keeps m entry s listed kept count Off f is) t.banks s.job s.last s.given);
     no_read = subst (λ (o : Option FeeJob). is_read (at o) ≡ false) (sym job_at) is_none_of;
     marks = keeps_all;
   }
@@ -217,12 +205,12 @@ module _ (laws : Laws) (own : AppendLaws) (m : Making) (entry : Told) (s : Parts
     turns = (
       (
         subst (λ (o : Option FeeJob). not (is_open (at o)) && not (told_of d).switching ≡ false) (sym job_at) refl,
-        (First, inr (cut_now, ticks laws m entry s listed kept count is.on (work_op s) Off f is.drives (asked laws own m entry s listed kept count Off f is) (keeps laws own m entry s listed kept count Off f is) t.banks s.job s.last s.given)),
+        (First, inr (cut_now, ticks m entry s listed kept count is.on (work_op s) Off f is.drives (asked m entry s listed kept count Off f is) (keeps m entry s listed kept count Off f is) t.banks s.job s.last s.given)),
       ),
-      order laws m entry s listed kept count is.on (work_op s) Off f is.drives (asked laws own m entry s listed kept count Off f is) t.banks s.job s.last s.given facts,
+      order m entry s listed kept count is.on (work_op s) Off f is.drives (asked m entry s listed kept count Off f is) t.banks s.job s.last s.given facts,
     );
-    sound = sound laws m entry s listed kept count is.on (work_op s) Off f is.drives (asked laws own m entry s listed kept count Off f is) t.banks s.job s.last s.given facts true (sym went_off);
+    sound = sound m entry s listed kept count is.on (work_op s) Off f is.drives (asked m entry s listed kept count Off f is) t.banks s.job s.last s.given facts true (sym went_off);
   }
 
-pub appends_are_cut : Laws → AppendLaws → AppendsAreCut
-appends_are_cut laws own m entry s listed kept count f is = was_cut laws own m entry s listed kept count f is
+pub appends_are_cut : AppendsAreCut
+appends_are_cut m entry s listed kept count f is = was_cut m entry s listed kept count f is

@@ -20,18 +20,20 @@ use Rattle.fee_told.specs.SlotLaws.{SamePlaces}
 use Rattle.fee_told.specs.Device.{Device, told_of}
 use Rattle.fee_told.specs.Clock.{clock_of}
 use Rattle.fee_told.specs.Figures.{left_of, ready_of}
+use Rattle.fee_told.proofs.Kept.{same_places}
+use Rattle.fee_told.proofs.Clocks.{clocks_stay}
+use Rattle.fee_told.proofs.Jobs.{jobs_change}
 use Rattle.fee_laws.specs.declared.job.FeeJob.{FeeJob}
 use Rattle.fee_laws.specs.Inside.{Parts, device_of, memory_of, stand_of, fixed_in, HoldsBehind, IsMadeFor, IsAtWork, IsSound, ShowsCopies, TellsCopies, flags_in}
 use Rattle.fee_laws.specs.Record.{IsJobOf, IsInWork}
 use Rattle.fee_laws.specs.Work.{work_of, seal_turns, pages_free, claimed, takes_append, is_waiting, fits_in, turns_before, pages_of_op}
 use Rattle.fee_laws.specs.Parts.{canceled}
 use Rattle.fee_laws.proofs.CallsBehind.{finds_now, run_stays}
-use Rattle.fee_laws.proofs.Canceling.{CancelLaws, keeps_all, behind_it, idle_job}
+use Rattle.fee_laws.proofs.Canceling.{keeps_all, behind_it, idle_job}
 use Rattle.fee_laws.proofs.Making.{shown_as}
 use Rattle.fee_laws.proofs.Opening.{own_small, each_some}
 use Rattle.fee_laws.proofs.CallOrder.{few_before, ready_kept}
 use Rattle.fee_laws.proofs.Raising.{adds, base_few, none_of}
-use Rattle.fee_laws.proofs.Starting.{same_places}
 
 pub no_record : (b : BanksState) (o : Option RecHead) → o ≡ None → IfSome o (IsInWork b None)
 no_record b None idle = tt
@@ -39,7 +41,7 @@ no_record b (Some h) idle = cc idle
 
 -- THE CALL
 -- with banks of the same places, where what is behind them is known
-module _ (laws : CancelLaws) (m : Making) (entry : Told) (s : Parts) (listed : List (DeviceNumber × ℕ)) (kept count : ℕ) (is_off : Bool) (sound : IsSound m entry s listed kept count is_off) (started : s.started ≡ true) (b : BanksState) (places : SamePlaces (memory_of s).old (memory_of (canceled b s)).old) (legal : IsLegal m.geometry) where
+module _ (m : Making) (entry : Told) (s : Parts) (listed : List (DeviceNumber × ℕ)) (kept count : ℕ) (is_off : Bool) (sound : IsSound m entry s listed kept count is_off) (started : s.started ≡ true) (b : BanksState) (places : SamePlaces (memory_of s).old (memory_of (canceled b s)).old) (legal : IsLegal m.geometry) where
   abbrev u : Parts
   u = canceled b s
 
@@ -59,7 +61,7 @@ module _ (laws : CancelLaws) (m : Making) (entry : Told) (s : Parts) (listed : L
     ready = ready_kept m.reserve (pages_free b None) (nat_le 1 (seal_turns b.course));
     wait = λ calm. (turns_before b.log.tail (seal_turns b.course), refl, few_before b.log.tail b.course);
     second = λ one. refl;
-    now = finds_now laws.base.stay laws.base.held laws.base.same m entry u behind;
+    now = finds_now m entry u behind;
   }
 
   -- what it needs beside
@@ -78,7 +80,7 @@ module _ (laws : CancelLaws) (m : Making) (entry : Told) (s : Parts) (listed : L
   pub ended_sound : Ends → IsSound m entry u listed kept count is_off
   ended_sound e = record {
     made_for = e.made_for;
-    device = record { run = run_stays laws.base.runs m entry s b s.content None _ 0 sound.device.run; held = λ on. e.behind; order = order e.behind e.few; faults = sound.device.faults };
+    device = record { run = run_stays m entry s b s.content None _ 0 sound.device.run; held = λ on. e.behind; order = order e.behind e.few; faults = sound.device.faults };
     rests = λ unstarted. cc (unstarted, started);
     works = λ on. e.works;
     room = λ on power. e.room power;
@@ -92,13 +94,13 @@ module _ (laws : CancelLaws) (m : Making) (entry : Told) (s : Parts) (listed : L
   }
 
   pub ended_as : Ends → IsCanceled (told_of d) (told_of t)
-  ended_as e = record { only = λ i. record (told_of t) { switching = e.switching i }; marks = keeps_all laws m entry s listed kept count is_off sound started b places; left = e.left; ready = e.ready }
+  ended_as e = record { only = λ i. record (told_of t) { switching = e.switching i }; marks = keeps_all m entry s listed kept count is_off sound started b places; left = e.left; ready = e.ready }
 
   pub ended_stays : Ends → ClockStays (clock_of d) (told_of t) (clock_of t)
-  ended_stays e = record { same = laws.base.stay d t (record { making = refl; entry = refl; operations = refl; bytes = refl }) refl; order = order e.behind e.few }
+  ended_stays e = record { same = clocks_stay d t (record { making = refl; entry = refl; operations = refl; bytes = refl }) refl; order = order e.behind e.few }
 
 -- WITHOUT A RECORD IN WORK
-module _ (laws : CancelLaws) (m : Making) (entry : Told) (s : Parts) (listed : List (DeviceNumber × ℕ)) (kept count : ℕ) (is_off : Bool) (sound : IsSound m entry s listed kept count is_off) (started : s.started ≡ true) (state : IsBanksState s.banks) (j : FeeJob) (job : s.job ≡ Some j) (calm : j.urgent ≡ false) (idle : work_in s.banks.log.tail ≡ None) where
+module _ (m : Making) (entry : Told) (s : Parts) (listed : List (DeviceNumber × ℕ)) (kept count : ℕ) (is_off : Bool) (sound : IsSound m entry s listed kept count is_off) (started : s.started ≡ true) (state : IsBanksState s.banks) (j : FeeJob) (job : s.job ≡ Some j) (calm : j.urgent ≡ false) (idle : work_in s.banks.log.tail ≡ None) where
   abbrev v : Parts
   v = canceled s.banks s
 
@@ -124,7 +126,7 @@ module _ (laws : CancelLaws) (m : Making) (entry : Told) (s : Parts) (listed : L
   ]
 
   behind : HoldsBehind f
-  behind = behind_it laws m entry s listed kept count is_off sound started s.banks (same_places (memory_of s).old) fits (λ on. ap (λ (x : Memory). record x { stand = (memory_of v).stand }) (h.on on))
+  behind = behind_it m entry s listed kept count is_off sound started s.banks (same_places (memory_of s).old) fits (λ on. ap (λ (x : Memory). record x { stand = (memory_of v).stand }) (h.on on))
 
   of : IsJobOf m.numbers j
   of = subst (λ (o : Option FeeJob). IfSome o (IsJobOf m.numbers)) job works.job
@@ -139,14 +141,14 @@ module _ (laws : CancelLaws) (m : Making) (entry : Told) (s : Parts) (listed : L
   own_same = λ i. most_turns (sound.made_for.banks_geometry i).page (sectors_of_bank (sound.made_for.banks_geometry i) (sound.made_for.shared i)) (sound.made_for.numbers i)
 
   few : f.left ≤ (fixed_in m).own
-  few = (let low = base_few laws.base.few m.reserve s.banks j of_banks idle works.switch some s.banks.course works.switch refl in omega (arith, low, own_same))
+  few = (let low = base_few m.reserve s.banks j of_banks idle works.switch some s.banks.course works.switch refl in omega (arith, low, own_same))
 
   left_was : g.left ≡ left_of (stand_of s.content (Some j) s.last s.given) (work_of m.reserve s.banks (Some j))
   left_was = ap (λ (o : Option FeeJob). left_of (stand_of s.content o s.last s.given) (work_of m.reserve s.banks o)) job
 
   less : f.left ≤ g.left
   less =
-      let a = adds laws.base.few m.reserve s.banks j of_banks idle works.switch some s.banks.course in
+      let a = adds m.reserve s.banks j of_banks idle works.switch some s.banks.course in
       let is = a.is in
       omega (arith, left_was, is)
 
@@ -159,11 +161,11 @@ module _ (laws : CancelLaws) (m : Making) (entry : Told) (s : Parts) (listed : L
 
   shows : (x : ToldBytes) (c : Course) → ShowsCopies m s c x.now → ShowsCopies m v c x.now
   shows x c was = record {
-    held = laws.base.job (banks_of m) m.numbers x.now (memory_of s) (copied_of (flags_in m s x.now)) (memory_of v).stand (record { lengths = sound.made_for.space.lengths; legal = h.banks.legal; held = was.held }) (idle_job m.numbers (memory_of v).stand s.banks.active s.banks.log _ idle);
+    held = jobs_change (banks_of m) m.numbers x.now (memory_of s) (copied_of (flags_in m s x.now)) (memory_of v).stand (record { lengths = sound.made_for.space.lengths; legal = h.banks.legal; held = was.held }) (idle_job m.numbers (memory_of v).stand s.banks.active s.banks.log _ idle);
     copy = was.copy;
   }
 
-  pub ends : Ends laws m entry s listed kept count is_off sound started s.banks (same_places (memory_of s).old) shape
+  pub ends : Ends m entry s listed kept count is_off sound started s.banks (same_places (memory_of s).old) shape
   ends =
       let was = sound.made_for in
       record {

@@ -21,19 +21,20 @@ use Rattle.fee_course.specs.declared.course.Course.{Course}
 use Rattle.fee_course.specs.Course.{most_turns}
 use Rattle.fee_switch.specs.Banks.{BanksState, left_of}
 use Rattle.fee_switch_laws.specs.KeepsRoom.{KeepsRoom}
+use Rattle.fee_switch_laws.proofs.RoomAppends.{pages_keep_room}
 use Rattle.promise_device.specs.Making.{Making}
 use Rattle.fee_told.specs.Slots.{Memory}
 use Rattle.fee_told.specs.Device.{Device, told_of}
 use Rattle.fee_told.specs.Clock.{clock_of}
 use Rattle.fee_told.specs.Kept.{IsKept}
 use Rattle.fee_told.specs.FigureLaws.{IsWork}
+use Rattle.fee_told.proofs.Appends.{appends_fail as told_appends_fail}
 use Rattle.fee_laws.specs.declared.job.FeeJob.{FeeJob}
 use Rattle.fee_laws.specs.Inside.{Parts, device_of, memory_of, mark_of, stand_of, fixed_in, IsActiveOf, IsAtWork, HasSwitch}
 use Rattle.fee_laws.specs.Record.{IsInWork}
 use Rattle.fee_laws.specs.Work.{work_of, switch_turns}
 use Rattle.fee_laws.specs.Turn.{Turned, ended_as}
 use Rattle.fee_laws.specs.Appends.{IsAppending, work_op, after_page, AppendsFail}
-use Rattle.fee_laws.proofs.TurnLaws.{Laws, AppendLaws}
 use Rattle.fee_laws.proofs.Before.{power, log_geometry}
 use Rattle.fee_laws.proofs.Order.{first_of}
 use Rattle.fee_laws.proofs.Operation.{part_works, ticks, rose_next}
@@ -49,7 +50,7 @@ pub resting_few : (reserve n : ℕ) (b : BanksState) (c : Option Course) → lef
 resting_few reserve n b None few = omega arith
 resting_few reserve n b (Some c) few = omega arith
 
-module _ (laws : Laws) (own : AppendLaws) (m : Making) (entry : Told) (s : Parts) (listed : List (DeviceNumber × ℕ)) (kept count : ℕ) (f : FlsState) (is : IsAppending m entry s listed kept count Failed f) where
+module _ (m : Making) (entry : Told) (s : Parts) (listed : List (DeviceNumber × ℕ)) (kept count : ℕ) (f : FlsState) (is : IsAppending m entry s listed kept count Failed f) where
   abbrev then_log : LogState
   then_log = after_step s.banks.log Failed
 
@@ -68,15 +69,15 @@ module _ (laws : Laws) (own : AppendLaws) (m : Making) (entry : Told) (s : Parts
   abbrev ended : Stand
   ended = Ended JobFailed []
 
-  shown_is : shown then_log s.content ≡ log_failed (l laws own m entry s listed kept count Failed f is).page (log m entry s listed kept count is.on is.work)
+  shown_is : shown then_log s.content ≡ log_failed (l m entry s listed kept count Failed f is).page (log m entry s listed kept count is.on is.work)
   shown_is = failed_shown s.banks.log s.banks.log.tail s.content is.work ∙ (λ i. log_failed (log_geometry m entry s listed kept count is.on i).page (log m entry s listed kept count is.on is.work))
 
-  keeping : Keeping laws own m entry s listed kept count Failed f is None JobFailed 0
+  keeping : Keeping m entry s listed kept count Failed f is None JobFailed 0
   keeping old new more held leaves left =
-      subst (λ (x : Memory). IsKept (l laws own m entry s listed kept count Failed f is) m.numbers old new (memory_of s) x more)
-      (sym (after_is m entry s listed kept count is.on is.work then_log (log_failed (l laws own m entry s listed kept count Failed f is).page (log m entry s listed kept count is.on is.work)) ended shown_is))
-      (own.fail (l laws own m entry s listed kept count Failed f is) m.numbers old new (memory_of s) more (a m entry s listed kept count is.on is.work).bank (a m entry s listed kept count is.on is.work).head (log m entry s listed kept count is.on is.work) ended
-      (appending m entry s listed kept count is.on is.work laws own.due is.page.size old more held new leaves) (inr refl))
+      subst (λ (x : Memory). IsKept (l m entry s listed kept count Failed f is) m.numbers old new (memory_of s) x more)
+      (sym (after_is m entry s listed kept count is.on is.work then_log (log_failed (l m entry s listed kept count Failed f is).page (log m entry s listed kept count is.on is.work)) ended shown_is))
+      (told_appends_fail (l m entry s listed kept count Failed f is) m.numbers old new (memory_of s) more (a m entry s listed kept count is.on is.work).bank (a m entry s listed kept count is.on is.work).head (log m entry s listed kept count is.on is.work) ended
+      (appending m entry s listed kept count is.on is.work is.page.size old more held new leaves) (inr refl))
 
   places : then_log.places ≡ s.banks.log.places
   places = failed_places s.banks.log s.banks.log.tail is.work
@@ -85,7 +86,7 @@ module _ (laws : Laws) (own : AppendLaws) (m : Making) (entry : Told) (s : Parts
   idle = failed_idle s.banks.log s.banks.log.tail is.work
 
   room_on : KeepsRoom m.reserve b
-  room_on = own.room m.reserve s.banks Failed (is.on.sound.room is.on.started (power m entry s listed kept count is.on)) is.work
+  room_on = pages_keep_room m.reserve s.banks Failed (is.on.sound.room is.on.started (power m entry s listed kept count is.on)) is.work
 
   was_at_work : IsAtWork m s
   was_at_work = at_work m entry s listed kept count is.on is.work
@@ -104,22 +105,22 @@ module _ (laws : Laws) (own : AppendLaws) (m : Making) (entry : Told) (s : Parts
 
   work_then : IsWork m.geometry.page (sectors_of_bank m.geometry m.banks) m.numbers m.reserve ended (work_of m.reserve b None)
   work_then =
-      let few = few_left own.few b switch_on in
+      let few = few_left b switch_on in
       let fits = subst (λ (g : Geometry). left_of b ≤ most_turns g.page (sectors_of_bank g s.banks.banks) s.banks.log.numbers) is.on.sound.made_for.banks_geometry few in
       let fits2 = subst (λ (n : ℕ). left_of b ≤ most_turns m.geometry.page (sectors_of_bank m.geometry n) s.banks.log.numbers) is.on.sound.made_for.shared fits in
       let fits3 = subst (λ (ns : List (DeviceNumber × ℕ)). left_of b ≤ most_turns m.geometry.page (sectors_of_bank m.geometry m.banks) ns) is.on.sound.made_for.numbers fits2 in
       record { job = tt; few = resting_few m.reserve (most_turns m.geometry.page (sectors_of_bank m.geometry m.banks) m.numbers) b b.course fits3 }
 
-  facts : Facts laws m entry s listed kept count is.on (work_op s) Failed f is.drives (asked laws own m entry s listed kept count Failed f is) b None JobFailed 0
+  facts : Facts m entry s listed kept count is.on (work_op s) Failed f is.drives (asked m entry s listed kept count Failed f is) b None JobFailed 0
   facts = record {
     ends = record { same = record { geometry = refl; banks = refl; numbers = refl }; ended = λ same. cc; given_few = omega arith };
-    run = run_on laws own m entry s listed kept count Failed f is None JobFailed 0;
-    behind = behind laws own m entry s listed kept count Failed f is None JobFailed 0 keeping places refl;
+    run = run_on m entry s listed kept count Failed f is None JobFailed 0;
+    behind = behind m entry s listed kept count Failed f is None JobFailed 0 keeping places refl;
     work = work_then;
     at_work = at_work_on;
     shut = λ since worn. (is.on.sound.worn since worn).shut;
     room = λ on. room_on;
-    copies = copies laws own m entry s listed kept count Failed f is None JobFailed 0 keeping places refl;
+    copies = copies m entry s listed kept count Failed f is None JobFailed 0 keeping places refl;
   }
 
   -- THE TURN
@@ -142,14 +143,14 @@ module _ (laws : Laws) (own : AppendLaws) (m : Making) (entry : Told) (s : Parts
   rose = rose_next s.faults is.on.sound.device.faults
 
   ends : EndsAs asks.mark asks.number JobFailed [] (told_of d) (told_of e)
-  ends = subst (λ (o : Option Mark). EndsAs o asks.number JobFailed [] (told_of d) (told_of e)) (sym (mark m entry s listed kept count is.on is.work)) (keeps_all laws own m entry s listed kept count Failed f is None JobFailed 0 keeping places refl, refl)
+  ends = subst (λ (o : Option Mark). EndsAs o asks.number JobFailed [] (told_of d) (told_of e)) (sym (mark m entry s listed kept count is.on is.work)) (keeps_all m entry s listed kept count Failed f is None JobFailed 0 keeping places refl, refl)
 
   works : Works First (told_of d) (told_of e) (clock_of e)
   works = record {
     only = refl;
     up = is.on.started;
     of = subst (λ (o : Option FeeJob). IsOf First (fixed_in m) (at o)) (sym job_at) (tt, sym (first_of m asks.number));
-    part = part_works laws m entry s listed kept count is.on (work_op s) Failed f is.drives (asked laws own m entry s listed kept count Failed f is) (keeps laws own m entry s listed kept count Failed f is) b None JobFailed 0 (λ off. cc);
+    part = part_works m entry s listed kept count is.on (work_op s) Failed f is.drives (asked m entry s listed kept count Failed f is) (keeps m entry s listed kept count Failed f is) b None JobFailed 0 (λ off. cc);
     job = subst (λ (o : Option FeeJob). JobTurns First (at o) ended (told_of d) (told_of e) (clock_of e)) (sym job_at) (ends, λ failed. inl rose);
     read = subst (λ (o : Option FeeJob). is_read (at o) ≡ true → ((told_of e).ops ≡ (told_of d).ops) × ((told_of e).slots ≡ (told_of d).slots)) (sym job_at) (λ read. (let none = is_none_of in absurd (cc (read, none))));
     nearer = inr rose;
@@ -161,12 +162,12 @@ module _ (laws : Laws) (own : AppendLaws) (m : Making) (entry : Told) (s : Parts
     turns = (
       (
         subst (λ (o : Option FeeJob). not (is_open (at o)) && not (told_of d).switching ≡ false) (sym job_at) refl,
-        (First, works, ticks laws m entry s listed kept count is.on (work_op s) Failed f is.drives (asked laws own m entry s listed kept count Failed f is) (keeps laws own m entry s listed kept count Failed f is) b None JobFailed 0),
+        (First, works, ticks m entry s listed kept count is.on (work_op s) Failed f is.drives (asked m entry s listed kept count Failed f is) (keeps m entry s listed kept count Failed f is) b None JobFailed 0),
       ),
-      order laws m entry s listed kept count is.on (work_op s) Failed f is.drives (asked laws own m entry s listed kept count Failed f is) b None JobFailed 0 facts,
+      order m entry s listed kept count is.on (work_op s) Failed f is.drives (asked m entry s listed kept count Failed f is) b None JobFailed 0 facts,
     );
-    sound = sound laws m entry s listed kept count is.on (work_op s) Failed f is.drives (asked laws own m entry s listed kept count Failed f is) b None JobFailed 0 facts false (sym (asked laws own m entry s listed kept count Failed f is).cause.2);
+    sound = sound m entry s listed kept count is.on (work_op s) Failed f is.drives (asked m entry s listed kept count Failed f is) b None JobFailed 0 facts false (sym (asked m entry s listed kept count Failed f is).cause.2);
   }
 
-pub appends_fail : Laws → AppendLaws → AppendsFail
-appends_fail laws own m entry s listed kept count f is = failed laws own m entry s listed kept count f is
+pub appends_fail : AppendsFail
+appends_fail m entry s listed kept count f is = failed m entry s listed kept count f is

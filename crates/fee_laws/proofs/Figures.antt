@@ -19,13 +19,13 @@ use Rattle.fee_laws.specs.declared.job.FeeJob.{FeeJob}
 use Rattle.fee_laws.specs.Work.{is_waiting, begins_next, takes_append, fits_in, claimed, pages_free, turns_beside, needs_switch, switch_turns, pages_left, is_owed, pages_of_op}
 use Rattle.fee_laws.proofs.Tails.{tailed, page_goes_on}
 
-and_false : (a : Bool) → a && false ≡ false
+pub and_false : (a : Bool) → a && false ≡ false
 and_false true = refl
 and_false false = refl
 
 -- A RECORD IN WORK
 -- nothing waits to begin then
-and_four : (a b d : Bool) → a && b && false && d ≡ false
+pub and_four : (a b d : Bool) → a && b && false && d ≡ false
 and_four true true d = refl
 and_four true false d = refl
 and_four false b d = refl

@@ -17,11 +17,11 @@ use Rattle.fee_log.specs.declared.tail.Tail.TheVariants.{Open, Writes, Owes, Clo
 use Rattle.fee_log.specs.Laws.{HoldsState, may_after}
 use Rattle.fee_log.specs.Log.{LogState, IsLogState, IsTail, pages_in, work_in}
 use Rattle.fee_log.specs.Step.{IsPageOf, due_page, due_bytes, op_of, after_step}
+use Rattle.fee_log.proofs.Steps.{answers_hold}
 use Rattle.fee_switch.specs.declared.active.ActiveBank.{ActiveBank}
 use Rattle.fee_switch.specs.Banks.{BanksState, IsBanksState, IsLogOf}
 use Rattle.fee_laws.specs.Inside.{body_of}
 use Rattle.fee_laws.specs.Follows.{anything, IsClosedFor, FollowsLog, FollowsBytes}
-use Rattle.fee_laws.proofs.FollowLaws.{Laws}
 use Rattle.fee_laws.proofs.FollowPages.{SameOthers, others_stay, page_stays}
 use Rattle.fee_laws.proofs.FollowStates.{any_content, any_marks}
 use Rattle.fee_laws.proofs.FollowSteps.{work_after, done_open}
@@ -37,7 +37,7 @@ due_inside log (Owes owed (Some h)) low is work = let within = is.0 in (omega ar
 due_inside log Closed low is work = cc
 
 -- so it leaves all other banks, and the head and the gate
-module _ (laws : Laws) (g : Geometry) (banks : ℕ) (k : LogState) (of : IsLogOf g banks k) (state : IsLogState k) (work : IsSome (work_in k.tail)) (body old new : List ℕ) (page : IsPageOf g.page (due_bytes k body)) (leaves : MayLeave (op_of k body) old new) where
+module _ (g : Geometry) (banks : ℕ) (k : LogState) (of : IsLogOf g banks k) (state : IsLogState k) (work : IsSome (work_in k.tail)) (body old new : List ℕ) (page : IsPageOf g.page (due_bytes k body)) (leaves : MayLeave (op_of k body) old new) where
   abbrev l : Layout
   l = layout_of g banks
 
@@ -51,19 +51,19 @@ module _ (laws : Laws) (g : Geometry) (banks : ℕ) (k : LogState) (of : IsLogOf
   programmed = subst (λ (o : Op). MayLeave o old new) op_is leaves
 
   pub others : SameOthers l old new k.bank
-  others = others_stay laws.touch l old new (due_bytes k body) k.bank (due_page k) page.size inside.1 programmed
+  others = others_stay l old new (due_bytes k body) k.bank (due_page k) page.size inside.1 programmed
 
   pub front : (q : ℕ) → q < 2 → q < l.pages → image_page l new k.bank q ≡ image_page l old k.bank q
-  front q less within = page_stays laws.touch l old new (due_bytes k body) k.bank (due_page k) page.size inside.1 programmed q within (λ same. (let low = inside.0 in omega (arith, low, same, less)))
+  front q less within = page_stays l old new (due_bytes k body) k.bank (due_page k) page.size inside.1 programmed q within (λ same. (let low = inside.0 in omega (arith, low, same, less)))
 
 -- a log behind a step, with the content of what is in work then
-pub state_after : Laws → (s : LogState) (content old new : List ℕ) (answer : FlashAnswer) → let body = body_of (work_in s.tail) content in
+pub state_after : (s : LogState) (content old new : List ℕ) (answer : FlashAnswer) → let body = body_of (work_in s.tail) content in
     IsLogState s → HoldsState s body old anything → IsSome (work_in s.tail) → IsPageOf s.geometry.page (due_bytes s body) → (answer ≡ Off → ⊥) → MayLeave (op_of s body) old new → Leaves (op_of s body) answer old new
     → HoldsState (after_step s answer) (body_of (work_in (after_step s answer).tail) content) new anything
-state_after laws s content old new answer state holds work page on leaves left =
+state_after s content old new answer state holds work page on leaves left =
     let body = body_of (work_in s.tail) content in
     let then = after_step s answer in
-    let h = any_marks laws.widen then body new (may_after s body answer anything) (laws.answers s body old new anything answer (record { state = state; holds = holds; work = work; page = page }) on leaves left) in
+    let h = any_marks then body new (may_after s body answer anything) (answers_hold s body old new anything answer (record { state = state; holds = holds; work = work; page = page }) on leaves left) in
     elim (work_after s s.tail answer) [
       | inl none ↦ any_content then body (body_of (work_in then.tail) content) new anything none h
       | inr same ↦ subst (λ (o : Option RecHead). HoldsState then (body_of o content) new anything) (sym same) h
@@ -75,7 +75,7 @@ closed_after s xs x new Done work on is = λ shut. (let wide = done_open s s.tai
 closed_after s xs x new Failed work on is = λ shut. inr (failed_last xs x is)
 closed_after s xs x new Off work on is = absurd (on refl)
 
-module _ (laws : Laws) (s : BanksState) (is : IsBanksState s) (state : IsLogState s.log) (content old new : List ℕ) (xs : List Change) (x : Change) (a : ActiveBank) (active : s.active ≡ Some a) (work : IsSome (work_in s.log.tail)) (follows : FollowsBytes s content xs old) where
+module _ (s : BanksState) (is : IsBanksState s) (state : IsLogState s.log) (content old new : List ℕ) (xs : List Change) (x : Change) (a : ActiveBank) (active : s.active ≡ Some a) (work : IsSome (work_in s.log.tail)) (follows : FollowsBytes s content xs old) where
   abbrev body : List ℕ
   body = body_of (work_in s.log.tail) content
 
@@ -86,26 +86,26 @@ module _ (laws : Laws) (s : BanksState) (is : IsBanksState s) (state : IsLogStat
   other same = (let b = subst (λ (o : Option ActiveBank). IfSome o (λ y. (y.bank ≡ s.target → ⊥) × (s.log.bank ≡ y.bank))) active is.active in b.0 (sym b.1 ∙ sym same))
 
   module _ (page : IsPageOf s.geometry.page (due_bytes s.log body)) (leaves : MayLeave (op_of s.log body) old new) where
-    fronts : (j : ℕ) → SameFronts laws s is old new j
+    fronts : (j : ℕ) → SameFronts s is old new j
     fronts j =
-        let two = (legal laws s is old new).pages in
+        let two = (legal s is old new).pages in
         elim (cases_eq j s.log.bank) [
-          | inl same ↦ subst (SameFronts laws s is old new) (sym same) (
-            front laws s.geometry s.banks s.log is.log state work body old new page leaves 0 (omega arith) (omega (arith, two)),
-            front laws s.geometry s.banks s.log is.log state work body old new page leaves 1 (omega arith) (omega (arith, two)),
+          | inl same ↦ subst (SameFronts s is old new) (sym same) (
+            front s.geometry s.banks s.log is.log state work body old new page leaves 0 (omega arith) (omega (arith, two)),
+            front s.geometry s.banks s.log is.log state work body old new page leaves 1 (omega arith) (omega (arith, two)),
           )
-          | inr differs ↦ fronts_of laws s is old new j (others laws s.geometry s.banks s.log is.log state work body old new page leaves j differs)
+          | inr differs ↦ fronts_of s is old new j (others s.geometry s.banks s.log is.log state work body old new page leaves j differs)
         ]
 
     pub goes_on : (answer : FlashAnswer) → (answer ≡ Off → ⊥) → Leaves (op_of s.log body) answer old new → x.answer ≡ answer → FollowsBytes (record s { log = after_step s.log answer }) content (xs ++ x ∷ []) new
     goes_on answer on left same =
         let page' = subst (λ (g : Geometry). IsPageOf g.page (due_bytes s.log body)) (sym is.log.shape) page in
         let then = after_step s.log answer in
-        let apart = others laws s.geometry s.banks s.log is.log state work body old new page leaves s.target other in
+        let apart = others s.geometry s.banks s.log is.log state work body old new page leaves s.target other in
         record {
           log = subst (λ (o : Option ActiveBank). IfSome o (λ y. FollowsLog then (body_of (work_in then.tail) content) (xs ++ x ∷ []) new)) (sym active) (record {
-            holds = state_after laws s.log content old new answer state log.holds work page' on leaves left;
+            holds = state_after s.log content old new answer state log.holds work page' on leaves left;
             closed = closed_after s.log xs x new answer work on same;
           });
-          banks = with_log s then s.course s.course new (banks_stay laws s is old new s.course leaves.0.size fronts apart follows.banks);
+          banks = with_log s then s.course s.course new (banks_stay s is old new s.course leaves.0.size fronts apart follows.banks);
         }

@@ -9,6 +9,9 @@ use Rattle.fls_model.specs.declared.flash.FlashAnswer.TheVariants.{Failed}
 use Rattle.fls_model.specs.Told.{Change}
 use Rattle.fee_image.specs.Bank.{page_of}
 use Rattle.fee_image.specs.Image.{Layout, layout_of, bank_in, image_page, BankStands, IsLegalLayout}
+use Rattle.fee_image.proofs.Banks.{active_stays}
+use Rattle.fee_image.proofs.Sectors.{layouts_are_legal}
+use Rattle.fee_image.proofs.Frames.{stands_same}
 use Rattle.fee_log.specs.Log.{LogState, bank_of, work_in}
 use Rattle.fee_switch.specs.declared.active.ActiveBank.{ActiveBank}
 use Rattle.fee_course.specs.declared.course.Course.{Course}
@@ -18,8 +21,7 @@ use Rattle.fee_switch_laws.specs.Shown.{layout_in}
 use Rattle.promise_device.specs.Bridge.{has_failed, is_failed}
 use Rattle.fee_laws.specs.Inside.{body_of}
 use Rattle.fee_laws.specs.Follows.{anything, FollowsLog, StandsFirst, FollowsCopies, FollowsTarget, FollowsBanks}
-use Rattle.fee_laws.proofs.FollowLaws.{Laws}
-use Rattle.fee_laws.proofs.FollowPages.{SamePages, stands_same}
+use Rattle.fee_laws.proofs.FollowPages.{SamePages}
 use Rattle.fee_laws.proofs.FollowStates.{SameBody, state_moves, closed_moves}
 
 -- OPERATIONS
@@ -47,22 +49,22 @@ module _ (g : Geometry) (banks : ℕ) (log : LogState) (of : IsLogOf g banks log
   same_body same q low inside = page_is new q ∙ same q (subst (λ (n : ℕ). q < n) (λ i. pages_of_bank (of.shape i) (of.shared i)) inside) ∙ sym (page_is old q)
 
 -- THE ACTIVE LOG
-pub log_stays : Laws → (s : LogState) (body old new : List ℕ) (xs more : List Change) → 16 ≤ s.geometry.page → length new ≡ length old → SameBody s old new → FollowsLog s body xs old → FollowsLog s body (xs ++ more) new
-log_stays laws s body old new xs more low long same follows = record {
-  holds = state_moves laws.logs s body old new anything low long same follows.holds;
+pub log_stays : (s : LogState) (body old new : List ℕ) (xs more : List Change) → 16 ≤ s.geometry.page → length new ≡ length old → SameBody s old new → FollowsLog s body xs old → FollowsLog s body (xs ++ more) new
+log_stays s body old new xs more low long same follows = record {
+  holds = state_moves s body old new anything low long same follows.holds;
   closed = λ shut. elim (follows.closed shut) [
-    | inl is ↦ inl (closed_moves laws.records s old new same is)
+    | inl is ↦ inl (closed_moves s old new same is)
     | inr failed ↦ inr (failed_more xs more failed)
   ];
 }
 
 -- THE BANKS
-module _ (laws : Laws) (s : BanksState) (is : IsBanksState s) (old new : List ℕ) where
+module _ (s : BanksState) (is : IsBanksState s) (old new : List ℕ) where
   abbrev l : Layout
   l = layout_in s
 
   pub legal : IsLegalLayout l
-  legal = laws.legal s.geometry s.banks is.legal is.shared
+  legal = layouts_are_legal s.geometry s.banks is.legal is.shared
 
   -- their heads and gates are as they were
   abbrev pub SameFronts : ℕ → Type 0
@@ -87,7 +89,7 @@ module _ (laws : Laws) (s : BanksState) (is : IsBanksState s) (old new : List �
   pub copies_stay : length new ≡ length old → ((q : ℕ) → 2 ≤ q → q < l.pages → image_page l new s.target q ≡ image_page l old s.target q) → FollowsCopies s old → FollowsCopies s new
   copies_stay long same holds =
       let low = subst (λ (g : Geometry). 16 ≤ g.page) (sym is.copies.shape) is.legal.page_low in
-      state_moves laws.logs s.copies (body_of (work_in s.copies.tail) s.buffer) old new anything low long
+      state_moves s.copies (body_of (work_in s.copies.tail) s.buffer) old new anything low long
       (λ q two inside. target_page new q ∙ same q two (subst (λ (n : ℕ). q < n) (λ i. pages_of_bank (is.copies.shape i) (is.copies.shared i)) inside) ∙ sym (target_page old q)) holds
 
   -- all pages of the target are
@@ -98,7 +100,7 @@ module _ (laws : Laws) (s : BanksState) (is : IsBanksState s) (old new : List �
   target_stays (Gate failed) long same (head, copies) = (same 0 (let two = legal.pages in omega (arith, two)) ∙ head, copies_stay long (λ q two inside. same q inside) copies)
 
   pub banks_stay : (c : Option Course) → length new ≡ length old → ((j : ℕ) → SameFronts j) → SamePages l old new s.target → FollowsBanks s c old → FollowsBanks s c new
-  banks_stay None long fronts same shown = shown ∙ sym (laws.actives l old new (λ j inside. fronts j))
+  banks_stay None long fronts same shown = shown ∙ sym (active_stays l old new (λ j inside. fronts j))
   banks_stay (Some c) long fronts same (first, target) = (first_stays (λ j other. fronts j) first, target_stays c long same target)
 
 -- WHAT THEY DON'T READ

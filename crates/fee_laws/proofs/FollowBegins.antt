@@ -7,21 +7,23 @@ use Rattle.fls_model.specs.Told.{Change}
 use Rattle.fee_format.specs.declared.bank_head.BankHead.{BankHead}
 use Rattle.fee_format.specs.declared.rec_head.RecHead.{RecHead}
 use Rattle.fee_image.specs.Image.{Layout, active_of, BankStands}
-use Rattle.fee_image.specs.Laws.{ActiveComputes, NoActiveComputes}
+use Rattle.fee_image.proofs.Banks.{active_computes, no_active_computes}
 use Rattle.fee_log.specs.Index.{clear_flags}
-use Rattle.fee_log.specs.Laws.{HoldsState, BeginsHold, GivenUpHolds}
+use Rattle.fee_log.specs.Laws.{HoldsState}
 use Rattle.fee_log.specs.Log.{LogState, IsLogState, IsFor, work_in, free_in, begun}
 use Rattle.fee_log.specs.Step.{given_up}
+use Rattle.fee_log.proofs.Holds.{begins_hold, given_up_holds}
 use Rattle.fee_switch.specs.declared.active.ActiveBank.{ActiveBank}
 use Rattle.fee_switch.specs.Active.{active_shown}
 use Rattle.fee_course.specs.declared.course.Course.{Course}
 use Rattle.fee_course.specs.declared.course.Course.TheVariants.{Erase}
 use Rattle.fee_switch.specs.Banks.{BanksState, append_begun, begun_again}
 use Rattle.fee_switch_laws.specs.Shown.{layout_in}
+use Rattle.fee_switch_laws.proofs.RoomAppends.{work_begun}
 use Rattle.fee_laws.specs.Inside.{body_of}
 use Rattle.fee_laws.specs.Follows.{anything, ComesBehind, StandsFirst, FollowsBanks, FollowsLog, FollowsBytes}
 use Rattle.fee_laws.proofs.FollowStates.{any_flags}
-use Rattle.fee_laws.proofs.FollowSteps.{begun_open, begun_work, given_closed}
+use Rattle.fee_laws.proofs.FollowSteps.{begun_open, given_closed}
 use Rattle.fee_laws.proofs.FollowBanks.{with_log, appended}
 
 -- THE ACTIVE BANK
@@ -38,16 +40,16 @@ pub record MayBeginIn (s : BanksState) (head : RecHead) (content : List ℕ) : T
   pub room : IfSome s.active (λ a. record_pages_of head.length s.log.geometry.page ≤ free_in s.log)
   pub size : length (body_of (Some head) content) ≡ head.length
 
-pub log_begins : BeginsHold → (s : LogState) (head : RecHead) (content bytes : List ℕ) (xs : List Change) → IsLogState s → work_in s.tail ≡ None → IsFor s.numbers head → record_pages_of head.length s.geometry.page ≤ free_in s
+pub log_begins : (s : LogState) (head : RecHead) (content bytes : List ℕ) (xs : List Change) → IsLogState s → work_in s.tail ≡ None → IsFor s.numbers head → record_pages_of head.length s.geometry.page ≤ free_in s
     → length (body_of (Some head) content) ≡ head.length → FollowsLog s (body_of (work_in s.tail) content) xs bytes → FollowsLog (begun s head) (body_of (work_in (begun s head).tail) content) xs bytes
-log_begins begins s head content bytes xs state idle configured room size follows = record {
-  holds = subst (λ (o : Option RecHead). HoldsState (begun s head) (body_of o content) bytes anything) (sym (begun_work s.tail head))
-      (begins s head (body_of (work_in s.tail) content) (body_of (Some head) content) bytes anything state follows.holds idle configured room size (λ number length fit. tt));
+log_begins s head content bytes xs state idle configured room size follows = record {
+  holds = subst (λ (o : Option RecHead). HoldsState (begun s head) (body_of o content) bytes anything) (sym (work_begun s.tail head))
+      (begins_hold s head (body_of (work_in s.tail) content) (body_of (Some head) content) bytes anything state follows.holds idle configured room size (λ number length fit. tt));
   closed = λ shut. (let wide = begun_open s.tail head in cc (shut, wide));
 }
 
-pub record_begins : BeginsHold → (s : BanksState) (head : RecHead) (content bytes : List ℕ) (xs : List Change) → IsLogState s.log → MayBeginIn s head content → FollowsBytes s content xs bytes → FollowsBytes (append_begun s head) content xs bytes
-record_begins begins s head content bytes xs state may follows =
+pub record_begins : (s : BanksState) (head : RecHead) (content bytes : List ℕ) (xs : List Change) → IsLogState s.log → MayBeginIn s head content → FollowsBytes s content xs bytes → FollowsBytes (append_begun s head) content xs bytes
+record_begins s head content bytes xs state may follows =
     let then = append_begun s head in
     record {
       log = by_active s.active may.room follows.log;
@@ -57,18 +59,18 @@ record_begins begins s head content bytes xs state may follows =
     by_active : (o : Option ActiveBank) → IfSome o (λ a. record_pages_of head.length s.log.geometry.page ≤ free_in s.log)
         → IfSome o (λ a. FollowsLog s.log (body_of (work_in s.log.tail) content) xs bytes) → IfSome o (λ a. FollowsLog (begun s.log head) (body_of (work_in (begun s.log head).tail) content) xs bytes)
     by_active None room follows' = tt
-    by_active (Some a) room follows' = log_begins begins s.log head content bytes xs state may.idle may.configured room may.size follows'
+    by_active (Some a) room follows' = log_begins s.log head content bytes xs state may.idle may.configured room may.size follows'
 
 -- A RECORD IS GIVEN UP
-log_given : GivenUpHolds → (s : LogState) (content bytes : List ℕ) (xs : List Change) → IsLogState s → FollowsLog s (body_of (work_in s.tail) content) xs bytes → FollowsLog (given_up s) (body_of (work_in (given_up s).tail) content) xs bytes
-log_given given s content bytes xs state follows = record {
-  holds = given s (body_of (work_in s.tail) content) (body_of (work_in (given_up s).tail) content) bytes anything state follows.holds;
+log_given : (s : LogState) (content bytes : List ℕ) (xs : List Change) → IsLogState s → FollowsLog s (body_of (work_in s.tail) content) xs bytes → FollowsLog (given_up s) (body_of (work_in (given_up s).tail) content) xs bytes
+log_given s content bytes xs state follows = record {
+  holds = given_up_holds s (body_of (work_in s.tail) content) (body_of (work_in (given_up s).tail) content) bytes anything state follows.holds;
   closed = λ shut. follows.closed (given_closed s s.tail shut);
 }
 
-pub record_given : GivenUpHolds → (s : BanksState) (content bytes : List ℕ) (xs : List Change) → IsLogState s.log → FollowsBytes s content xs bytes → FollowsBytes (record s { log = given_up s.log }) content xs bytes
-record_given given s content bytes xs state follows = record {
-  log = each s.active (λ a. FollowsLog s.log (body_of (work_in s.log.tail) content) xs bytes) (λ a. FollowsLog (given_up s.log) (body_of (work_in (given_up s.log).tail) content) xs bytes) (λ a at. log_given given s.log content bytes xs state) follows.log;
+pub record_given : (s : BanksState) (content bytes : List ℕ) (xs : List Change) → IsLogState s.log → FollowsBytes s content xs bytes → FollowsBytes (record s { log = given_up s.log }) content xs bytes
+record_given s content bytes xs state follows = record {
+  log = each s.active (λ a. FollowsLog s.log (body_of (work_in s.log.tail) content) xs bytes) (λ a. FollowsLog (given_up s.log) (body_of (work_in (given_up s.log).tail) content) xs bytes) (λ a at. log_given s.log content bytes xs state) follows.log;
   banks = with_log s (given_up s.log) s.course s.course bytes follows.banks;
 }
 
@@ -82,17 +84,17 @@ active_flagged s flags body bytes xs follows = each s.active (λ a. FollowsLog s
 
 -- A SWITCH BEGINS
 -- the active bank that is shown stands first
-module _ (active : ActiveComputes) (none : NoActiveComputes) (s : BanksState) (bytes : List ℕ) where
+module _ (s : BanksState) (bytes : List ℕ) where
   abbrev l : Layout
   l = layout_in s
 
   stands_shown : (o : Option ActiveBank) → active_shown o ≡ active_of l bytes → IfSome o (λ a. BankStands l bytes a.bank a.head)
   stands_shown None shown = tt
-  stands_shown (Some a) shown = ((active l bytes a.bank a.head).1 (sym shown)).stands
+  stands_shown (Some a) shown = ((active_computes l bytes a.bank a.head).1 (sym shown)).stands
 
   behind_shown : (o : Option ActiveBank) → active_shown o ≡ active_of l bytes → (j : ℕ) (other : BankHead) → j < s.banks → BankStands l bytes j other → ComesBehind o j other
-  behind_shown None shown j other inside stands = (none l bytes).1 (sym shown) j other inside stands
-  behind_shown (Some a) shown j other inside stands = λ differs. ((active l bytes a.bank a.head).1 (sym shown)).first j other inside differs stands
+  behind_shown None shown j other inside stands = (no_active_computes l bytes).1 (sym shown) j other inside stands
+  behind_shown (Some a) shown j other inside stands = λ differs. ((active_computes l bytes a.bank a.head).1 (sym shown)).first j other inside differs stands
 
   first_shown : active_shown s.active ≡ active_of l bytes → StandsFirst s bytes
   first_shown shown = record { stands = stands_shown s.active shown; behind = λ j other inside differs stands. behind_shown s.active shown j other inside stands }

@@ -13,6 +13,7 @@ use Rattle.fee_format.specs.Formats.{new_format}
 use Rattle.fee_format.specs.RecHead.{IsLegalRecHead, rec_head_page}
 use Rattle.fee_format.specs.Pages.{gate_page, body_pages_of}
 use Rattle.fee_format.specs.RecordPages.{filled, body_page, record_page}
+use Rattle.fee_format.proofs.Torn.{byte_small}
 use Rattle.fee_image.specs.Bank.{place_of_page}
 use Rattle.fee_image.specs.Image.{Layout, bank_in}
 use Rattle.fee_log.specs.Step.{IsPageOf}
@@ -20,21 +21,17 @@ use Rattle.fee_log.specs.Step.{IsPageOf}
 abbrev Small : ℕ → Type 0
 Small x = x < 256
 
-all_cons : (x : ℕ) (xs : List ℕ) → x < 256 → All Small xs → All Small (x ∷ xs)
+pub all_cons : (x : ℕ) (xs : List ℕ) → x < 256 → All Small xs → All Small (x ∷ xs)
 all_cons x xs small all zero d lt = small
 all_cons x xs small all (suc k) d lt = all k d (omega arith)
 
-byte_small : (k n : ℕ) → byte_at k n < 256
-byte_small zero n = omega arith
-byte_small (suc k) n = omega arith
-
-kind_small : (h : RecHead) → IsLegalRecHead h → h.kind < 256
+pub kind_small : (h : RecHead) → IsLegalRecHead h → h.kind < 256
 kind_small h legal = elim legal.kind [
   | inl is ↦ (let e = is.0 in omega (arith, e))
   | inr is ↦ elim is.0 [ inl e ↦ omega (arith, e) | inr e ↦ omega (arith, e) ]
 ]
 
-head_page : (p : ℕ) (h : RecHead) → 16 ≤ p → IsLegalRecHead h → IsPageOf p (rec_head_page new_format p h)
+pub head_page : (p : ℕ) (h : RecHead) → 16 ≤ p → IsLegalRecHead h → IsPageOf p (rec_head_page new_format p h)
 head_page p h low legal =
     let blank = replicate (p - 10) 255 in
     let t0 = byte_at 0 h.count ∷ blank in
@@ -64,10 +61,10 @@ head_page p h low legal =
 pub gate_is : (p : ℕ) → IsPageOf p (gate_page p)
 gate_is p = record { size = length-replicate {A = ℕ} p 0; bytes = All-replicate Small p 0 (omega arith) }
 
-few_taken : (p : ℕ) (xs : List ℕ) → length (take p xs) ≤ p
+pub few_taken : (p : ℕ) (xs : List ℕ) → length (take p xs) ≤ p
 few_taken p xs = let h = length-take p xs in omega (arith, h)
 
-filled_is : (p : ℕ) (xs : List ℕ) → length xs ≤ p → All Small xs → IsPageOf p (filled p xs)
+pub filled_is : (p : ℕ) (xs : List ℕ) → length xs ≤ p → All Small xs → IsPageOf p (filled p xs)
 filled_is p xs few all = record {
   size = (let a = length-append xs (replicate (p - length xs) 255) in let b = length-replicate {A = ℕ} (p - length xs) 255 in omega (arith, a, b));
   bytes = All-append Small xs (replicate (p - length xs) 255) all (All-replicate Small (p - length xs) 255 (omega arith));

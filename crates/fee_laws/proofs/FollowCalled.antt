@@ -1,30 +1,25 @@
 -- What a device knows of its room, its start-ups, and its calls without a changing operation.
 use Rattle.std.specs.Prelude.{IfSome, is_some, if◌then◌else◌, take}
-use Rattle.std.proofs.Common.{◌≡◌, ◌≢◌, ◌⊎◌, inl, inr, ◌≤◌, ◌+◌, ◌++◌, ℕ, Bool, true, false, List, length, Option, Some, None, refl, sym, ap, ◌∙◌, subst, arith}
-use Rattle.std.proofs.lemmas.Bool.{leb-true}
+use Rattle.std.proofs.Common.{◌≡◌, ◌≢◌, ◌⊎◌, inl, inr, ◌≤◌, ◌+◌, ◌++◌, ℕ, List, length, Option, Some, None, refl, sym, ap, ◌∙◌, subst, arith}
 use Rattle.std.proofs.lemmas.List.{length-take-le}
 use Rattle.std.proofs.lemmas.Option.{slice_get-get_or}
-use Rattle.nv_base.specs.Geometry.{BanksFill, address_of_page}
-use Rattle.nv_base.specs.Laws.{NumbersAreInBounds}
+use Rattle.nv_base.specs.Geometry.{address_of_page}
 use Rattle.nv_base.specs.Lengths.{AreLengths}
 use Rattle.nv_base.specs.Pages.{record_pages_of}
 use Rattle.nv_base.specs.declared.geometry.Geometry.{Geometry}
 use Rattle.nv_base.specs.declared.instance.DeviceNumber.{DeviceNumber}
 use Rattle.nv_base.specs.declared.job.DeviceOp.{DeviceOp}
 use Rattle.nv_base.specs.declared.job.DeviceOp.TheVariants.{Read, Write, Invalidate, Erase}
+use Rattle.nv_base.proofs.Places.{numbers_are_in_bounds}
 use Rattle.fls_model.specs.Attach.{AreBytesOf}
 use Rattle.fls_model.specs.Told.{Told, ToldBytes, Change}
 use Rattle.fee_format.specs.declared.rec_head.RecHead.{RecHead}
-use Rattle.fee_image.specs.Append.{AppendsLeaveOneMore}
-use Rattle.fee_image.specs.Laws.{ActiveComputes, NoActiveComputes, LogsCompute}
-use Rattle.fee_image.specs.LogLaws.{LoadedLogsHold}
-use Rattle.fee_log.specs.Laws.{BeginsHold, GivenUpHolds}
 use Rattle.fee_log.specs.Log.{IsFor, work_in, free_in}
 use Rattle.fee_log.specs.Step.{given_up}
 use Rattle.fee_switch.specs.declared.active.ActiveBank.{ActiveBank}
 use Rattle.fee_switch.specs.Banks.{BanksState, FindsActive, LoadsActive, append_begun, begun_again}
 use Rattle.fee_course.specs.declared.course.Course.TheVariants as course
-use Rattle.fee_switch_laws.specs.Space.{free_pages, has_room}
+use Rattle.fee_switch_laws.specs.Space.{free_pages}
 use Rattle.promise_device.specs.Making.{Making}
 use Rattle.fee_laws.specs.declared.job.FeeJob.{FeeJob}
 use Rattle.fee_laws.specs.Inside.{Parts, body_of}
@@ -35,27 +30,27 @@ use Rattle.fee_laws.specs.Worn.{KnowsRoom}
 use Rattle.fee_laws.specs.Begins.{MayBegin}
 use Rattle.fee_laws.specs.Follows.{FollowsLog, FollowsBytes}
 use Rattle.fee_laws.specs.FollowLaws.{RoomIsKnown, UnstartedFollows, StartsFollow, SameFollow, FailedFollow, GivenUpFollows, BegunFollows, SwitchingFollows, ReadsFollow}
-use Rattle.fee_laws.proofs.FollowLaws.{Laws}
 use Rattle.fee_laws.proofs.FollowBanks.{failed_more}
 use Rattle.fee_laws.proofs.FollowBegins.{MayBeginIn, each, record_begins, record_given, switch_begins}
 use Rattle.fee_laws.proofs.FollowStarts.{found_follows}
 use Rattle.fee_laws.proofs.FollowKnown.{knows}
 use Rattle.fee_laws.proofs.FollowLifts.{now_at, each_now, power, memory_follows, read_bytes}
+use Rattle.fee_laws.proofs.Begun.{room_is}
 
 -- WHAT IS KNOWN
-pub room_is_known : LogsCompute → AppendsLeaveOneMore → RoomIsKnown
-room_is_known logs one_more m entry s listed kept count on idle shut follows =
+pub room_is_known : RoomIsKnown
+room_is_known m entry s listed kept count on idle shut follows =
     each_now s.fls.flash.bytes (KnowsRoom m entry s) (λ bytes at.
-    knows logs one_more m entry s listed kept count on bytes (now_at s.fls.flash.bytes (FollowsBytes s.banks s.content s.operations) bytes at (follows on.started (power m entry s listed kept count on))) idle shut)
+    knows m entry s listed kept count on bytes (now_at s.fls.flash.bytes (FollowsBytes s.banks s.content s.operations) bytes at (follows on.started (power m entry s listed kept count on))) idle shut)
 
 -- STARTS
 pub unstarted_follows : UnstartedFollows
 unstarted_follows s unstarted = λ started on. absurd (cc (unstarted, started))
 
-pub starts_follow : Laws → LoadedLogsHold → BanksFill → StartsFollow
-starts_follow laws loads fill s is = λ started on.
+pub starts_follow : StartsFollow
+starts_follow s is = λ started on.
     each_now s.fls.flash.bytes (FollowsBytes s.banks s.content s.operations) (λ bytes at.
-    found_follows laws loads fill s.banks is.state bytes (now_at s.fls.flash.bytes (AreBytesOf s.banks.geometry) bytes at is.bytes) s.content s.operations is.shut
+    found_follows s.banks is.state bytes (now_at s.fls.flash.bytes (AreBytesOf s.banks.geometry) bytes at is.bytes) s.content s.operations is.shut
     (now_at s.fls.flash.bytes (λ (x : List ℕ). FindsActive x s.banks) bytes at is.finds) (now_at s.fls.flash.bytes (λ (x : List ℕ). LoadsActive x s.banks) bytes at is.loads))
 
 -- THE SAME BANKS
@@ -87,10 +82,10 @@ failed_follow s None follows = follows
 failed_follow s (Some j) follows = follows
 
 -- IN MEMORY
-pub given_up_follows : GivenUpHolds → GivenUpFollows
-given_up_follows given s state follows = λ started on.
+pub given_up_follows : GivenUpFollows
+given_up_follows s state follows = λ started on.
     each_now s.fls.flash.bytes (FollowsBytes (record s.banks { log = given_up s.banks.log }) s.content s.operations) (λ bytes at.
-    record_given given s.banks s.content bytes s.operations state (now_at s.fls.flash.bytes (FollowsBytes s.banks s.content s.operations) bytes at (follows started on)))
+    record_given s.banks s.content bytes s.operations state (now_at s.fls.flash.bytes (FollowsBytes s.banks s.content s.operations) bytes at (follows started on)))
 
 -- a record that begins has room, and its content
 has_pages : (p : ℕ) (op : DeviceOp) (length of : ℕ) → op ≢ Read → IsLengthOf op length of → record_pages_of length p ≤ pages_of_op p op length
@@ -99,28 +94,24 @@ has_pages p Write length of writes fits = omega arith
 has_pages p Invalidate length of writes fits = subst (λ (n : ℕ). record_pages_of n p ≤ record_pages_of 0 p) (sym fits) (omega arith)
 has_pages p Erase length of writes fits = subst (λ (n : ℕ). record_pages_of n p ≤ record_pages_of 0 p) (sym fits) (omega arith)
 
-has_free : (u : Bool) (pages reserve free : ℕ) → has_room u pages reserve free ≡ true → pages ≤ free
-has_free true pages reserve free room = leb-true pages free room
-has_free false pages reserve free room = let more = leb-true (pages + reserve) free room in omega (arith, more)
-
-few_for : NumbersAreInBounds → (numbers : List (DeviceNumber × ℕ)) (h : RecHead) → AreLengths 0 numbers → IsFor numbers h → h.length ≤ 4096
-few_for bounds numbers h all is =
+few_for : (numbers : List (DeviceNumber × ℕ)) (h : RecHead) → AreLengths 0 numbers → IsFor numbers h → h.length ≤ 4096
+few_for numbers h all is =
     let x : DeviceNumber × ℕ = (record { 0 = h.number }, is.length) in
-    let up = bounds 0 numbers is.configured.0 x all (slice_get-get_or numbers is.configured.0 x is.configured.1 ∙ ap Some is.configured.2) in
+    let up = numbers_are_in_bounds 0 numbers is.configured.0 x all (slice_get-get_or numbers is.configured.0 x is.configured.1 ∙ ap Some is.configured.2) in
     elim is.kind as (λ _. h.length ≤ 4096) [ inl content ↦ omega (arith, content.1, up.3) | inr mark ↦ omega (arith, mark.1) ]
 
 room_by : (o : Option ActiveBank) (pages free : ℕ) → pages ≤ (if is_some o then free else 0) → IfSome o (λ a. pages ≤ free)
 room_by None pages free less = tt
 room_by (Some a) pages free less = less
 
-may_begin : NumbersAreInBounds → (m : Making) (entry : Told) (s : Parts) (listed : List (DeviceNumber × ℕ)) (kept count : ℕ) (j : FeeJob) → IsOn m entry s listed kept count → MayBegin m s j → MayBeginIn s.banks (head_of s.banks.log j) s.content
-may_begin bounds m entry s listed kept count j on may =
+may_begin : (m : Making) (entry : Told) (s : Parts) (listed : List (DeviceNumber × ℕ)) (kept count : ℕ) (j : FeeJob) → IsOn m entry s listed kept count → MayBegin m s j → MayBeginIn s.banks (head_of s.banks.log j) s.content
+may_begin m entry s listed kept count j on may =
     let at_work = on.sound.works on.started in
     let job : IsJobOf m.numbers j = subst (λ (o : Option FeeJob). IfSome o (IsJobOf m.numbers)) may.job at_work.job in
     let p = s.banks.geometry.page in
     let pages = has_pages p j.op j.length job.length may.writes job.fits in
-    let free = has_free j.urgent (pages_of_op p j.op j.length) m.reserve (free_pages s.banks) may.room in
-    let few = few_for bounds s.banks.log.numbers (head_of s.banks.log j) on.log.numbers may.configured in
+    let free = room_is j.urgent (pages_of_op p j.op j.length) m.reserve (free_pages s.banks) may.room in
+    let few = few_for s.banks.log.numbers (head_of s.banks.log j) on.log.numbers may.configured in
     record {
       idle = may.idle;
       configured = may.configured;
@@ -129,15 +120,15 @@ may_begin bounds m entry s listed kept count j on may =
       size = length-take-le j.length s.content (let room = on.sound.made_for.room in omega (arith, few, room));
     }
 
-pub begun_follows : NumbersAreInBounds → BeginsHold → BegunFollows
-begun_follows bounds begins m entry s listed kept count j on may follows = λ started power'.
+pub begun_follows : BegunFollows
+begun_follows m entry s listed kept count j on may follows = λ started power'.
     each_now s.fls.flash.bytes (FollowsBytes (append_begun s.banks (head_of s.banks.log j)) s.content s.operations) (λ bytes at.
-    record_begins begins s.banks (head_of s.banks.log j) s.content bytes s.operations on.log (may_begin bounds m entry s listed kept count j on may) (now_at s.fls.flash.bytes (FollowsBytes s.banks s.content s.operations) bytes at (follows started power')))
+    record_begins s.banks (head_of s.banks.log j) s.content bytes s.operations on.log (may_begin m entry s listed kept count j on may) (now_at s.fls.flash.bytes (FollowsBytes s.banks s.content s.operations) bytes at (follows started power')))
 
-pub switching_follows : ActiveComputes → NoActiveComputes → SwitchingFollows
-switching_follows active none m entry s listed kept count j on may follows = λ started power'.
+pub switching_follows : SwitchingFollows
+switching_follows m entry s listed kept count j on may follows = λ started power'.
     each_now s.fls.flash.bytes (FollowsBytes (begun_again s.banks (course.Erase 0)) s.content s.operations) (λ bytes at.
-    switch_begins active none s.banks bytes s.content s.operations may.shut (now_at s.fls.flash.bytes (FollowsBytes s.banks s.content s.operations) bytes at (follows started power')))
+    switch_begins s.banks bytes s.content s.operations may.shut (now_at s.fls.flash.bytes (FollowsBytes s.banks s.content s.operations) bytes at (follows started power')))
 
 -- A READ
 no_work : (s : Parts) (j : FeeJob) (o : Option RecHead) → s.job ≡ Some j → j.op ≡ Read → IfSome o (IsInWork s.banks s.job) → o ≡ None

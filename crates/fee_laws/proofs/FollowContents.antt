@@ -5,7 +5,6 @@ use Rattle.fls_model.specs.declared.flash.FlashAnswer.{FlashAnswer}
 use Rattle.fls_model.specs.declared.flash.FlashAnswer.TheVariants.{Done, Failed, Off}
 use Rattle.fls_model.specs.Told.{Change}
 use Rattle.fee_format.specs.declared.rec_head.RecHead.{RecHead}
-use Rattle.fee_log.specs.Laws.{BeginsHold}
 use Rattle.fee_log.specs.Log.{IsLogState, work_in, begun}
 use Rattle.fee_course.specs.declared.course.Course.{Course}
 use Rattle.fee_course.specs.declared.course.Course.TheVariants.{Copy, Head}
@@ -15,14 +14,13 @@ use Rattle.fee_switch.specs.Copy.{begun_where}
 use Rattle.fee_laws.specs.Inside.{body_of}
 use Rattle.fee_laws.specs.Follows.{FollowsBytes, FollowsTarget, FollowsBanks}
 use Rattle.fee_switch_laws.specs.Shown.{layout_in}
-use Rattle.fee_laws.proofs.FollowLaws.{Laws}
 use Rattle.fee_laws.proofs.FollowPages.{SameOthers}
 use Rattle.fee_laws.proofs.FollowTargets.{builds, again}
 use Rattle.fee_laws.proofs.FollowCopies.{begun_course, begun_holds}
 use Rattle.fee_laws.proofs.FollowMarked.{MayCopy}
 
 -- nothing changes on the flash
-module _ (laws : Laws) (begins : BeginsHold) (s : BanksState) (is : IsBanksState s) (content bytes buffer : List ℕ) (xs : List Change) (course : s.course ≡ Some (Copy None)) (copies : IsLogState s.copies) (head : RecHead) (may : MayCopy s head) (follows : FollowsBytes s content xs bytes) where
+module _ (s : BanksState) (is : IsBanksState s) (content bytes buffer : List ℕ) (xs : List Change) (course : s.course ≡ Some (Copy None)) (copies : IsLogState s.copies) (head : RecHead) (may : MayCopy s head) (follows : FollowsBytes s content xs bytes) where
   abbrev c : Course
   c = Copy None
 
@@ -37,12 +35,12 @@ module _ (laws : Laws) (begins : BeginsHold) (s : BanksState) (is : IsBanksState
 
   pub content_copied : (answer : FlashAnswer) → (answer ≡ Off → ⊥) → (answer ≡ Done → length (body_of (Some head) buffer) ≡ head.length) → FollowsBytes (after_answer (record s { copies = begun_where answer s.copies head; buffer = buffer }) c answer) content xs bytes
   content_copied Done on fits =
-      let both : FollowsTarget (record s { copies = begun s.copies head; buffer = buffer }) c bytes = (target.0, begun_holds begins s.copies copies may.tail head may.configured may.room before buffer bytes (fits refl) target.1) in
+      let both : FollowsTarget (record s { copies = begun s.copies head; buffer = buffer }) c bytes = (target.0, begun_holds s.copies copies may.tail head may.configured may.room before buffer bytes (fits refl) target.1) in
       let goes = λ (next : Course) (holds : FollowsTarget (record s { course = Some next; copies = begun s.copies head; buffer = buffer }) next bytes).
-      builds laws s is content bytes bytes xs [] c course refl same follows s.log.flags next (begun s.copies head) buffer holds in
+      builds s is content bytes bytes xs [] c course refl same follows s.log.flags next (begun s.copies head) buffer holds in
       let t = λ (next : Course). record s { course = Some next; copies = begun s.copies head; buffer = buffer } in
       subst (λ (ys : List Change). FollowsBytes (after_answer (record s { copies = begun s.copies head; buffer = buffer }) c Done) content ys bytes) (append-nil xs)
       (begun_course s.geometry.page (next_copy s.log.numbers s.log.places s.log.flags) t (λ (y : BanksState). FollowsBytes y content (xs ++ []) bytes) (λ o. goes (Copy o) both) (goes Head both))
   content_copied Failed on fits =
-      subst (λ (ys : List Change). FollowsBytes (after_answer (record s { copies = s.copies; buffer = buffer }) c Failed) content ys bytes) (append-nil xs) (again laws s is content bytes bytes xs [] c course refl same follows buffer)
+      subst (λ (ys : List Change). FollowsBytes (after_answer (record s { copies = s.copies; buffer = buffer }) c Failed) content ys bytes) (append-nil xs) (again s is content bytes bytes xs [] c course refl same follows buffer)
   content_copied Off on fits = absurd (on refl)

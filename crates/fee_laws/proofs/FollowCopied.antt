@@ -20,12 +20,11 @@ use Rattle.fee_switch.specs.Banks.{BanksState, IsBanksState, flagged_by, advance
 use Rattle.fee_laws.specs.Inside.{body_of}
 use Rattle.fee_laws.specs.Follows.{FollowsBytes, FollowsTarget}
 use Rattle.fee_switch_laws.specs.Shown.{layout_in}
-use Rattle.fee_laws.proofs.FollowLaws.{Laws}
 use Rattle.fee_laws.proofs.FollowPages.{SameOthers}
 use Rattle.fee_laws.proofs.FollowTargets.{was, builds, again}
 use Rattle.fee_laws.proofs.FollowCopies.{page_small, apart, long, page_goes_on, flagged_is, paged}
 
-module _ (laws : Laws) (s : BanksState) (is : IsBanksState s) (content old new : List ℕ) (xs : List Change) (x : Change) (w : Copying) (course : s.course ≡ Some (Copy (Some w))) (copies : IsLogState s.copies) (h : RecHead) (done : ℕ) (tail : s.copies.tail ≡ Writes h done) (bytes : All (λ b. b < 256) s.buffer) (leaves : MayLeave (op_of s.copies (body_of (work_in s.copies.tail) s.buffer)) old new) (follows : FollowsBytes s content xs old) where
+module _ (s : BanksState) (is : IsBanksState s) (content old new : List ℕ) (xs : List Change) (x : Change) (w : Copying) (course : s.course ≡ Some (Copy (Some w))) (copies : IsLogState s.copies) (h : RecHead) (done : ℕ) (tail : s.copies.tail ≡ Writes h done) (bytes : All (λ b. b < 256) s.buffer) (leaves : MayLeave (op_of s.copies (body_of (work_in s.copies.tail) s.buffer)) old new) (follows : FollowsBytes s content xs old) where
   abbrev c : Course
   c = Copy (Some w)
 
@@ -45,21 +44,21 @@ module _ (laws : Laws) (s : BanksState) (is : IsBanksState s) (content old new :
   page = page_small s.copies h done body tail copies small
 
   other : SameOthers (layout_in s) old new s.target
-  other = apart laws s is content old new xs x c course s.copies is.copies is.target_log copies some page leaves follows
+  other = apart s is content old new xs x c course s.copies is.copies is.target_log copies some page leaves follows
 
   size : length new ≡ length old
-  size = long laws s is content old new xs x c course s.copies is.copies is.target_log copies some page leaves follows
+  size = long s is content old new xs x c course s.copies is.copies is.target_log copies some page leaves follows
 
   pub page_copied : (answer : FlashAnswer) → (answer ≡ Off → ⊥) → Leaves (op_of s.copies body) answer old new → FollowsBytes (after_answer (record s { copies = after_step s.copies answer }) c answer) content (xs ++ x ∷ []) new
   page_copied Done on left =
-      let target = (was laws s is content old new xs (x ∷ []) c course size other follows).1 in
-      let both = page_goes_on laws s is content old new xs x c course s.copies is.copies is.target_log copies some page leaves follows target.0 target.1 left in
+      let target = (was s is content old new xs (x ∷ []) c course size other follows).1 in
+      let both = page_goes_on s is content old new xs x c course s.copies is.copies is.target_log copies some page leaves follows target.0 target.1 left in
       let made : BanksState = record s { copies = after_step s.copies Done } in
       let flags = (flagged_by s.log (flag_due c)).flags in
       let goes = λ (next : Course) (holds : FollowsTarget (record s { course = Some next; log = record s.log { flags = flags }; copies = after_step s.copies Done }) next new).
-      builds laws s is content old new xs (x ∷ []) c course size other follows flags next (after_step s.copies Done) s.buffer holds in
+      builds s is content old new xs (x ∷ []) c course size other follows flags next (after_step s.copies Done) s.buffer holds in
       subst (λ (log : LogState). FollowsBytes (advanced_with made c log) content (xs ++ x ∷ []) new) (sym (flagged_is s.log (flag_due c)))
       (paged s.log.numbers s.log.places flags w (λ (next : Course). record s { course = Some next; log = record s.log { flags = flags }; copies = after_step s.copies Done }) (λ (t : BanksState). FollowsBytes t content (xs ++ x ∷ []) new)
       (λ o. goes (Copy o) both) (goes Head both))
-  page_copied Failed on left = again laws s is content old new xs (x ∷ []) c course size other follows s.buffer
+  page_copied Failed on left = again s is content old new xs (x ∷ []) c course size other follows s.buffer
   page_copied Off on left = absurd (on refl)

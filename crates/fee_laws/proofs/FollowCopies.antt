@@ -1,7 +1,7 @@
 -- The copies of a switch.
 use Rattle.std.specs.Prelude.{IsSome}
 use Rattle.std.specs.List.{All}
-use Rattle.std.proofs.Common.{◌≡◌, ◌<◌, ◌≤◌, ◌-◌, ◌∷◌, ◌==◌, ℕ, suc, Bool, false, List, [], length, Option, Some, None, refl, sym, ap, ◌∙◌, subst}
+use Rattle.std.proofs.Common.{◌≡◌, ◌<◌, ◌≤◌, ◌-◌, ◌==◌, ℕ, Bool, false, List, length, Option, Some, None, refl, sym, ap, ◌∙◌, subst}
 use Rattle.std.proofs.lemmas.Bool.{cond_both}
 use Rattle.nv_base.specs.Pages.{record_pages_of}
 use Rattle.nv_base.specs.declared.geometry.Geometry.{Geometry}
@@ -18,10 +18,11 @@ use Rattle.fee_image.specs.Step.{bytes_of_tail}
 use Rattle.fee_image.specs.Banks.{AreBlank}
 use Rattle.fee_log.specs.declared.tail.Tail.{Tail}
 use Rattle.fee_log.specs.declared.tail.Tail.TheVariants.{Open, Writes}
-use Rattle.fee_log.specs.Index.{with_flag}
-use Rattle.fee_log.specs.Laws.{HoldsState, BeginsHold}
+use Rattle.fee_log.specs.Laws.{HoldsState}
 use Rattle.fee_log.specs.Log.{LogState, HasFormat, IsLogState, IsTail, IsFor, bank_of, pages_in, free_in, tail_with, work_in, begun, tail_begun}
 use Rattle.fee_log.specs.Step.{IsPageOf, due_bytes, op_of, after_step}
+use Rattle.fee_log.proofs.Holds.{begins_hold}
+use Rattle.fee_log.proofs.Changes.{flag_length}
 use Rattle.fee_course.specs.declared.copies.Source.{Source}
 use Rattle.fee_course.specs.declared.course.Copying.{Copying}
 use Rattle.fee_course.specs.declared.course.Course.{Course}
@@ -29,11 +30,10 @@ use Rattle.fee_course.specs.declared.course.Course.TheVariants.{Copy, Head}
 use Rattle.fee_course.specs.Course.{settled, page_done, begun as course_begun}
 use Rattle.fee_switch.specs.Banks.{BanksState, IsBanksState, IsLogOf, flagged_at, flagged_by}
 use Rattle.fee_switch_laws.specs.Shown.{layout_in}
+use Rattle.fee_switch_laws.proofs.RoomAppends.{work_begun}
 use Rattle.fee_laws.specs.Inside.{body_of}
 use Rattle.fee_laws.specs.Follows.{anything, FollowsBytes}
-use Rattle.fee_laws.proofs.FollowLaws.{Laws}
 use Rattle.fee_laws.proofs.FollowPages.{SameOthers}
-use Rattle.fee_laws.proofs.FollowSteps.{begun_work}
 use Rattle.fee_laws.proofs.FollowBytes.{record_page_is}
 use Rattle.fee_laws.proofs.FollowAppends.{others, front, state_after}
 use Rattle.fee_laws.proofs.FollowTargets.{settled_target}
@@ -45,7 +45,7 @@ page_small k h done body tail state small =
     let is : IsTail k.geometry.page (pages_in k) k.end (Writes h done) = subst (IsTail k.geometry.page (pages_in k) k.end) tail state.tail in
     subst (λ (t : Tail). IsPageOf k.geometry.page (bytes_of_tail k.geometry.page (tail_with t body))) (sym tail) (record_page_is k.geometry.page h body done state.geometry.page_low is.0 small)
 
-module _ (laws : Laws) (s : BanksState) (is : IsBanksState s) (content old new : List ℕ) (xs : List Change) (x : Change) (c : Course) (course : s.course ≡ Some c) (k : LogState) (of : IsLogOf s.geometry s.banks k) (bank : k.bank ≡ s.target) (state : IsLogState k) (work : IsSome (work_in k.tail)) (page : IsPageOf k.geometry.page (due_bytes k (body_of (work_in k.tail) s.buffer))) (leaves : MayLeave (op_of k (body_of (work_in k.tail) s.buffer)) old new) (follows : FollowsBytes s content xs old) where
+module _ (s : BanksState) (is : IsBanksState s) (content old new : List ℕ) (xs : List Change) (x : Change) (c : Course) (course : s.course ≡ Some c) (k : LogState) (of : IsLogOf s.geometry s.banks k) (bank : k.bank ≡ s.target) (state : IsLogState k) (work : IsSome (work_in k.tail)) (page : IsPageOf k.geometry.page (due_bytes k (body_of (work_in k.tail) s.buffer))) (leaves : MayLeave (op_of k (body_of (work_in k.tail) s.buffer)) old new) (follows : FollowsBytes s content xs old) where
   abbrev l : Layout
   l = layout_in s
 
@@ -56,18 +56,18 @@ module _ (laws : Laws) (s : BanksState) (is : IsBanksState s) (content old new :
   page_is = subst (λ (g : Geometry). IsPageOf g.page (due_bytes k body)) of.shape page
 
   pub apart : SameOthers l old new s.target
-  apart j differs = others laws s.geometry s.banks k of state work body old new page_is leaves j (λ same. differs (same ∙ bank))
+  apart j differs = others s.geometry s.banks k of state work body old new page_is leaves j (λ same. differs (same ∙ bank))
 
   pub long : length new ≡ length old
   long = leaves.0.size
 
   still_blank : AreBlank l old s.target 2 → AreBlank l new s.target 2
-  still_blank blank q below inside = subst (λ (b : ℕ). image_page l new b q ≡ image_page l old b q) bank (front laws s.geometry s.banks k of state work body old new page_is leaves q below inside) ∙ blank q below inside
+  still_blank blank q below inside = subst (λ (b : ℕ). image_page l new b q ≡ image_page l old b q) bank (front s.geometry s.banks k of state work body old new page_is leaves q below inside) ∙ blank q below inside
 
   -- it is done
   pub page_goes_on : AreBlank l old s.target 2 → HoldsState k body old anything → Leaves (op_of k body) Done old new
       → AreBlank l new s.target 2 × HoldsState (after_step k Done) (body_of (work_in (after_step k Done).tail) s.buffer) new anything
-  page_goes_on blank holds done = (still_blank blank, state_after laws k s.buffer old new Done state holds work page (λ off. cc off) leaves done)
+  page_goes_on blank holds done = (still_blank blank, state_after k s.buffer old new Done state holds work page (λ off. cc off) leaves done)
 
 -- FLAGS
 -- those that are set are all that a done page changes in the active log
@@ -89,20 +89,15 @@ begun_course p None t P copy head = head
 begun_course p (Some source) t P copy head = copy _
 
 -- A COPY BEGINS
-many_flags : (ns : List (DeviceNumber × ℕ)) (flags : List Bool) (n : ℕ) (on : Bool) → length (with_flag ns flags n on) ≡ length flags
-many_flags [] flags n on = refl
-many_flags (x ∷ xs) [] n on = refl
-many_flags (x ∷ xs) (c ∷ cs) n on = ap suc (many_flags xs cs n on)
-
-module _ (begins : BeginsHold) (k : LogState) (state : IsLogState k) (tail : k.tail ≡ Open) (head : RecHead) (configured : IsFor k.numbers head) (room : record_pages_of head.length k.geometry.page ≤ free_in k) (before buffer bytes : List ℕ) (size : length (body_of (Some head) buffer) ≡ head.length) (holds : HoldsState k before bytes anything) where
+module _ (k : LogState) (state : IsLogState k) (tail : k.tail ≡ Open) (head : RecHead) (configured : IsFor k.numbers head) (room : record_pages_of head.length k.geometry.page ≤ free_in k) (before buffer bytes : List ℕ) (size : length (body_of (Some head) buffer) ≡ head.length) (holds : HoldsState k before bytes anything) where
   pub begun_tail : (begun k head).tail ≡ Writes head 0
   begun_tail = ap (λ (t : Tail). tail_begun t head) tail
 
   whole : HoldsState (begun k head) (body_of (Some head) buffer) bytes anything
-  whole = begins k head before (body_of (Some head) buffer) bytes anything state holds (ap work_in tail) configured room size (λ number length fit. tt)
+  whole = begins_hold k head before (body_of (Some head) buffer) bytes anything state holds (ap work_in tail) configured room size (λ number length fit. tt)
 
   pub begun_holds : HoldsState (begun k head) (body_of (work_in (begun k head).tail) buffer) bytes anything
-  begun_holds = subst (λ (o : Option RecHead). HoldsState (begun k head) (body_of o buffer) bytes anything) (sym (begun_work k.tail head)) whole
+  begun_holds = subst (λ (o : Option RecHead). HoldsState (begun k head) (body_of o buffer) bytes anything) (sym (work_begun k.tail head)) whole
 
   written : HasTail (bank_of k) bytes anything k.end (tail_with (Writes head 0) (body_of (Some head) buffer))
   written = subst (λ (t : Tail). HasTail (bank_of k) bytes anything k.end (tail_with t (body_of (Some head) buffer))) begun_tail whole.holds.tail
@@ -116,7 +111,7 @@ module _ (begins : BeginsHold) (k : LogState) (state : IsLogState k) (tail : k.t
     numbers = state.numbers;
     places = state.places;
     counts = state.counts;
-    flags = many_flags k.numbers k.flags head.number false ∙ state.flags;
+    flags = flag_length k.numbers k.flags head.number false ∙ state.flags;
     end_low = state.end_low;
     end_high = state.end_high;
     tail = subst (IsTail k.geometry.page (pages_in k) k.end) (sym begun_tail) (written.staged.legal, written.left, written.staged.room);

@@ -6,9 +6,11 @@ use Rattle.fls_model.specs.Op.{MayLeave, after_op}
 use Rattle.fls_model.specs.Told.{Change}
 use Rattle.fee_image.specs.Image.{Layout}
 use Rattle.fee_image.specs.Banks.{AreBlank}
+use Rattle.fee_image.proofs.Sectors.{sectors_fill_banks}
 use Rattle.fee_log.specs.Index.{clear_flags}
-use Rattle.fee_log.specs.Laws.{HoldsState, ErasedHolds}
+use Rattle.fee_log.specs.Laws.{HoldsState}
 use Rattle.fee_log.specs.Log.{LogState, IsLogState, work_in, erased_state}
+use Rattle.fee_log.proofs.Holds.{erased_holds}
 use Rattle.fee_course.specs.declared.course.Course.{Course}
 use Rattle.fee_course.specs.declared.course.Course.TheVariants.{Erase, Copy, Head}
 use Rattle.fee_course.specs.Course.{settled}
@@ -18,12 +20,11 @@ use Rattle.fee_switch.specs.Banks.{BanksState, IsBanksState, target_at, advanced
 use Rattle.fee_switch_laws.specs.Shown.{layout_in}
 use Rattle.fee_laws.specs.Inside.{body_of}
 use Rattle.fee_laws.specs.Follows.{anything, FollowsCopies, FollowsTarget, FollowsBytes}
-use Rattle.fee_laws.proofs.FollowLaws.{Laws}
-use Rattle.fee_laws.proofs.FollowPages.{SameOthers, EraseLaws, erased_others, erased_blank, still_blank}
+use Rattle.fee_laws.proofs.FollowPages.{SameOthers, erased_others, erased_blank, still_blank}
 use Rattle.fee_laws.proofs.FollowBanks.{legal}
 use Rattle.fee_laws.proofs.FollowTargets.{was, builds, settled_target}
 
-module _ (laws : Laws) (own : EraseLaws) (empty : ErasedHolds) (s : BanksState) (is : IsBanksState s) (content old new : List ℕ) (xs : List Change) (x : Change) (n : ℕ) (course : s.course ≡ Some (Erase n)) (short : n < sectors_of_bank s.geometry s.banks) (leaves : MayLeave (op_at (target_at s (stage.Erase n)) (stage.Erase n)) old new) (follows : FollowsBytes s content xs old) where
+module _ (s : BanksState) (is : IsBanksState s) (content old new : List ℕ) (xs : List Change) (x : Change) (n : ℕ) (course : s.course ≡ Some (Erase n)) (short : n < sectors_of_bank s.geometry s.banks) (leaves : MayLeave (op_at (target_at s (stage.Erase n)) (stage.Erase n)) old new) (follows : FollowsBytes s content xs old) where
   abbrev l : Layout
   l = layout_in s
 
@@ -31,34 +32,34 @@ module _ (laws : Laws) (own : EraseLaws) (empty : ErasedHolds) (s : BanksState) 
   long = leaves.0.size
 
   apart : SameOthers l old new s.target
-  apart = erased_others own s.geometry s.banks s.target n old new is.legal is.shared short leaves
+  apart = erased_others s.geometry s.banks s.target n old new is.legal is.shared short leaves
 
   was' : FollowsTarget s (Erase n) old
-  was' = (was laws s is content old new xs (x ∷ []) (Erase n) course long apart follows).1
+  was' = (was s is content old new xs (x ∷ []) (Erase n) course long apart follows).1
 
   pub erase_fails : FollowsBytes (fallen_back s (Erase n)) content (xs ++ x ∷ []) new
-  erase_fails = builds laws s is content old new xs (x ∷ []) (Erase n) course long apart follows (clear_flags s.log.numbers) (Erase n) (erased_state s.geometry s.banks s.target s.copies.numbers) s.buffer
-      (still_blank own s.geometry s.banks s.target n old new is.legal is.shared short leaves was')
+  erase_fails = builds s is content old new xs (x ∷ []) (Erase n) course long apart follows (clear_flags s.log.numbers) (Erase n) (erased_state s.geometry s.banks s.target s.copies.numbers) s.buffer
+      (still_blank s.geometry s.banks s.target n old new is.legal is.shared short leaves was')
 
   module _ (size : l.pages * l.page * s.banks ≤ length old) (copies : IsLogState s.copies) (is_empty : s.copies ≡ erased_state s.geometry s.banks s.target s.copies.numbers) (done : new ≡ after_op (op_at (target_at s (stage.Erase n)) (stage.Erase n)) old) where
     blank : AreBlank l new s.target ((n + 1) * pages_of_sector s.geometry)
-    blank = erased_blank own s.geometry s.banks s.target n old new is.legal is.shared short leaves is.target size done was'
+    blank = erased_blank s.geometry s.banks s.target n old new is.legal is.shared short leaves is.target size done was'
 
     all_blank : n + 1 ≡ sectors_of_bank s.geometry s.banks → AreBlank l new s.target l.pages
-    all_blank last q below inside = blank q (subst (λ (k : ℕ). q < k) (own.fill s.geometry s.banks is.legal is.shared ∙ ap (λ (k : ℕ). k * pages_of_sector s.geometry) (sym last)) inside) inside
+    all_blank last q below inside = blank q (subst (λ (k : ℕ). q < k) (sectors_fill_banks s.geometry s.banks is.legal is.shared ∙ ap (λ (k : ℕ). k * pages_of_sector s.geometry) (sym last)) inside) inside
 
     empty_holds : n + 1 ≡ sectors_of_bank s.geometry s.banks → FollowsCopies s new
     empty_holds last =
         let state = subst IsLogState is_empty copies in
         subst (λ (k : LogState). HoldsState k (body_of (work_in k.tail) s.buffer) new anything) (sym is_empty)
-        (empty s.geometry s.banks s.target s.copies.numbers [] new anything state (omega (arith, size, long)) (λ q two inside. all_blank last q inside inside) (λ number length. tt))
+        (erased_holds s.geometry s.banks s.target s.copies.numbers [] new anything state (omega (arith, size, long)) (λ q two inside. all_blank last q inside inside) (λ number length. tt))
 
     two : 2 ≤ l.pages
-    two = (legal laws s is old new).pages
+    two = (legal s is old new).pages
 
     pub erase_goes_on : FollowsBytes (advanced s (Erase n)) content (xs ++ x ∷ []) new
     erase_goes_on =
-        let goes = builds laws s is content old new xs (x ∷ []) (Erase n) course long apart follows s.log.flags in
+        let goes = builds s is content old new xs (x ∷ []) (Erase n) course long apart follows s.log.flags in
         cond_both (n + 1 == sectors_of_bank s.geometry s.banks) (settled s.log.numbers s.log.places s.log.flags) (Erase (n + 1)) (λ (after : Course). FollowsBytes (record s { course = Some after }) content (xs ++ x ∷ []) new)
         (λ e.
         (let last = eqb-true (n + 1) (sectors_of_bank s.geometry s.banks) e in

@@ -11,7 +11,8 @@ use Rattle.fee_format.specs.Formats.{new_format}
 use Rattle.fee_format.specs.BankHead.{bank_head_page}
 use Rattle.fee_format.specs.Pages.{gate_page}
 use Rattle.fee_image.specs.Image.{Layout, bank_in, image_page, BankStands, ComesFirst, IsActive}
-use Rattle.fee_image.specs.Laws.{GatesStand, HeadsCompute, ActiveComputes}
+use Rattle.fee_image.proofs.Banks.{active_computes, heads_compute}
+use Rattle.fee_image.proofs.Ranges.{gates_stand}
 use Rattle.fee_log.specs.declared.tail.Tail.TheVariants.{Open}
 use Rattle.fee_log.specs.Log.{work_in, is_closed}
 use Rattle.fee_switch.specs.declared.active.ActiveBank.{ActiveBank}
@@ -22,7 +23,6 @@ use Rattle.fee_switch.specs.Banks.{BanksState, IsBanksState, target_at, next_gen
 use Rattle.fee_switch_laws.specs.Shown.{layout_in}
 use Rattle.fee_laws.specs.Inside.{body_of}
 use Rattle.fee_laws.specs.Follows.{anything, ComesBehind, StandsFirst, target_head, FollowsCopies, FollowsTarget, FollowsBytes}
-use Rattle.fee_laws.proofs.FollowLaws.{Laws}
 use Rattle.fee_laws.proofs.FollowPages.{SameOthers, others_stay, page_stays}
 use Rattle.fee_laws.proofs.FollowStates.{any_content}
 use Rattle.fee_laws.proofs.FollowBytes.{page_inside}
@@ -38,17 +38,17 @@ next_fits (Some a) l bytes stands worn =
     elim (cases_lt a.head.generation 4294967295) [ inl less ↦ omega arith | inr more ↦ absurd (not_last (omega (arith, few))) ]
 
 -- every other bank is behind it
-newer : HeadsCompute → (l : Layout) (bytes : List ℕ) (t j : ℕ) (o : Option ActiveBank) (other : BankHead) → IfSome o (λ a. BankStands l bytes a.bank a.head) → ComesBehind o j other → BankStands l bytes j other → ComesFirst t (record { format = 1; generation = next_generation o }) j other
-newer heads l bytes t j None other first behind stands = absurd behind
-newer heads l bytes t j (Some a) other first behind stands = elim (cases_eq j a.bank) [
+newer : (l : Layout) (bytes : List ℕ) (t j : ℕ) (o : Option ActiveBank) (other : BankHead) → IfSome o (λ a. BankStands l bytes a.bank a.head) → ComesBehind o j other → BankStands l bytes j other → ComesFirst t (record { format = 1; generation = next_generation o }) j other
+newer l bytes t j None other first behind stands = absurd behind
+newer l bytes t j (Some a) other first behind stands = elim (cases_eq j a.bank) [
   | inl same ↦
       let at = subst (λ (n : ℕ). BankStands l bytes n other) same stands in
-      let is : a.head ≡ other = same_Some a.head other (sym ((heads l bytes a.bank a.head).0 first) ∙ (heads l bytes a.bank other).0 at) in
+      let is : a.head ≡ other = same_Some a.head other (sym ((heads_compute l bytes a.bank a.head).0 first) ∙ (heads_compute l bytes a.bank other).0 at) in
       inl (subst (λ (h : BankHead). h.generation < a.head.generation + 1) is (omega arith))
   | inr differs ↦ elim (behind differs) [ inl less ↦ inl (omega arith) | inr tie ↦ inl (omega (arith, tie.0)) ]
 ]
 
-module _ (laws : Laws) (stand : GatesStand) (heads : HeadsCompute) (active : ActiveComputes) (s : BanksState) (is : IsBanksState s) (content old new : List ℕ) (xs : List Change) (x : Change) (failed : Bool) (course : s.course ≡ Some (Gate failed)) (leaves : MayLeave (op_at (target_at s stage.Gate) stage.Gate) old new) (follows : FollowsBytes s content xs old) where
+module _ (s : BanksState) (is : IsBanksState s) (content old new : List ℕ) (xs : List Change) (x : Change) (failed : Bool) (course : s.course ≡ Some (Gate failed)) (leaves : MayLeave (op_at (target_at s stage.Gate) stage.Gate) old new) (follows : FollowsBytes s content xs old) where
   abbrev l : Layout
   l = layout_in s
 
@@ -56,37 +56,37 @@ module _ (laws : Laws) (stand : GatesStand) (heads : HeadsCompute) (active : Act
   page = gate_page s.geometry.page
 
   two : 2 ≤ l.pages
-  two = (legal laws s is old new).pages
+  two = (legal s is old new).pages
 
   size : length page ≡ s.geometry.page
   size = length-replicate {A = ℕ} s.geometry.page 0
 
   apart : SameOthers l old new s.target
-  apart = others_stay laws.touch l old new page s.target 1 size (omega (arith, two)) leaves
+  apart = others_stay l old new page s.target 1 size (omega (arith, two)) leaves
 
   same : (q : ℕ) → q < l.pages → (q ≡ 1 → ⊥) → image_page l new s.target q ≡ image_page l old s.target q
-  same = page_stays laws.touch l old new page s.target 1 size (omega (arith, two)) leaves
+  same = page_stays l old new page s.target 1 size (omega (arith, two)) leaves
 
   was' : FollowsTarget s (Gate failed) old
-  was' = (was laws s is content old new xs (x ∷ []) (Gate failed) course leaves.0.size apart follows).1
+  was' = (was s is content old new xs (x ∷ []) (Gate failed) course leaves.0.size apart follows).1
 
   head_on : image_page l new s.target 0 ≡ bank_head_page s.geometry.page (target_head s)
   head_on = same 0 (omega (arith, two)) (λ e. (let z : ◌≡◌ {A = ℕ} 0 1 = e in cc z)) ∙ was'.0
 
   copies_on : FollowsCopies s new
-  copies_on = copies_stay laws s is old new leaves.0.size (λ q low inside. same q inside (λ e. omega (arith, low, e))) was'.1
+  copies_on = copies_stay s is old new leaves.0.size (λ q low inside. same q inside (λ e. omega (arith, low, e))) was'.1
 
   pub gate_fails : FollowsBytes (fallen_back s (Gate failed)) content (xs ++ x ∷ []) new
-  gate_fails = builds laws s is content old new xs (x ∷ []) (Gate failed) course leaves.0.size apart follows s.log.flags (Gate true) s.copies s.buffer (head_on, copies_on)
+  gate_fails = builds s is content old new xs (x ∷ []) (Gate failed) course leaves.0.size apart follows s.log.flags (Gate true) s.copies s.buffer (head_on, copies_on)
 
   module _ (wide : l.pages * l.page * s.banks ≤ length old) (worn : is_worn_out s.active ≡ false) (tail : s.copies.tail ≡ Open) (done : new ≡ after_op (op_at (target_at s stage.Gate) stage.Gate) old) where
     gate_on : image_page l new s.target 1 ≡ page
     gate_on =
-        let stood = stand (bank_in l new_format s.target) old 1 (page_inside l old s.target 1 wide is.target (omega (arith, two))) in
+        let stood = gates_stand (bank_in l new_format s.target) old 1 (page_inside l old s.target 1 wide is.target (omega (arith, two))) in
         subst (λ (bytes : List ℕ). image_page l bytes s.target 1 ≡ page) (sym done) stood.0
 
     first_on : StandsFirst s new
-    first_on = first laws s is content old new xs (x ∷ []) (Gate failed) course leaves.0.size apart follows
+    first_on = first s is content old new xs (x ∷ []) (Gate failed) course leaves.0.size apart follows
 
     stands : BankStands l new s.target (target_head s)
     stands = record { head = record { legal = record { format = inr refl; generation = next_fits s.active l new first_on.stands worn }; page_is = head_on }; gate = gate_on }
@@ -95,7 +95,7 @@ module _ (laws : Laws) (stand : GatesStand) (heads : HeadsCompute) (active : Act
     is_active = record {
       bank = is.target;
       stands = stands;
-      first = λ j other inside differs there. newer heads l new s.target j s.active other first_on.stands (first_on.behind j other inside differs there) there;
+      first = λ j other inside differs there. newer l new s.target j s.active other first_on.stands (first_on.behind j other inside differs there) there;
     }
 
     pub gate_stands : FollowsBytes (ended s) content (xs ++ x ∷ []) new
@@ -107,5 +107,5 @@ module _ (laws : Laws) (stand : GatesStand) (heads : HeadsCompute) (active : Act
             holds = any_content s.copies (body_of (work_in s.copies.tail) s.buffer) (body_of (work_in s.copies.tail) content) new anything idle copies_on;
             closed = λ shut. cc;
           };
-          banks = sym ((active l new s.target (target_head s)).0 is_active);
+          banks = sym ((active_computes l new s.target (target_head s)).0 is_active);
         }

@@ -5,20 +5,19 @@ use Rattle.fls_model.specs.Told.{Change}
 use Rattle.fee_format.specs.Formats.{new_format}
 use Rattle.fee_format.specs.BankHead.{bank_head_page}
 use Rattle.fee_image.specs.Image.{Layout, bank_in, image_page}
-use Rattle.fee_image.specs.Laws.{ProgramsStand}
+use Rattle.fee_image.proofs.Ranges.{programs_stand}
 use Rattle.fee_course.specs.declared.course.Course.TheVariants.{Head, Gate}
 use Rattle.fee_switch.specs.declared.target.Stage.TheVariants as stage
 use Rattle.fee_switch.specs.Target.{op_at}
 use Rattle.fee_switch.specs.Banks.{BanksState, IsBanksState, target_at, next_generation, advanced, fallen_back}
 use Rattle.fee_switch_laws.specs.Shown.{layout_in}
 use Rattle.fee_laws.specs.Follows.{target_head, FollowsTarget, FollowsBytes}
-use Rattle.fee_laws.proofs.FollowLaws.{Laws}
 use Rattle.fee_laws.proofs.FollowPages.{SameOthers, others_stay, page_stays}
 use Rattle.fee_laws.proofs.FollowBytes.{bank_head_is, page_inside}
 use Rattle.fee_laws.proofs.FollowBanks.{legal, copies_stay}
 use Rattle.fee_laws.proofs.FollowTargets.{was, builds, again}
 
-module _ (laws : Laws) (stand : ProgramsStand) (s : BanksState) (is : IsBanksState s) (content old new : List ℕ) (xs : List Change) (x : Change) (course : s.course ≡ Some Head) (leaves : MayLeave (op_at (target_at s stage.Head) stage.Head) old new) (follows : FollowsBytes s content xs old) where
+module _ (s : BanksState) (is : IsBanksState s) (content old new : List ℕ) (xs : List Change) (x : Change) (course : s.course ≡ Some Head) (leaves : MayLeave (op_at (target_at s stage.Head) stage.Head) old new) (follows : FollowsBytes s content xs old) where
   abbrev l : Layout
   l = layout_in s
 
@@ -26,25 +25,25 @@ module _ (laws : Laws) (stand : ProgramsStand) (s : BanksState) (is : IsBanksSta
   page = bank_head_page s.geometry.page (target_head s)
 
   two : 2 ≤ l.pages
-  two = (legal laws s is old new).pages
+  two = (legal s is old new).pages
 
   size : length page ≡ s.geometry.page
   size = (bank_head_is s.geometry.page (next_generation s.active) is.legal.page_low).size
 
   apart : SameOthers l old new s.target
-  apart = others_stay laws.touch l old new page s.target 0 size (omega (arith, two)) leaves
+  apart = others_stay l old new page s.target 0 size (omega (arith, two)) leaves
 
   was' : FollowsTarget s Head old
-  was' = (was laws s is content old new xs (x ∷ []) Head course leaves.0.size apart follows).1
+  was' = (was s is content old new xs (x ∷ []) Head course leaves.0.size apart follows).1
 
   pub head_fails : FollowsBytes (fallen_back s Head) content (xs ++ x ∷ []) new
-  head_fails = again laws s is content old new xs (x ∷ []) Head course leaves.0.size apart follows s.buffer
+  head_fails = again s is content old new xs (x ∷ []) Head course leaves.0.size apart follows s.buffer
 
   pub head_stands : l.pages * l.page * s.banks ≤ length old → new ≡ after_op (op_at (target_at s stage.Head) stage.Head) old → FollowsBytes (advanced s Head) content (xs ++ x ∷ []) new
   head_stands wide done =
       let page_of = bank_head_is s.geometry.page (next_generation s.active) is.legal.page_low in
-      let stood = stand (bank_in l new_format s.target) old page 0 page_of.size page_of.bytes (page_inside l old s.target 0 wide is.target (omega (arith, two))) (was'.0 0 (omega arith) (omega (arith, two))) in
+      let stood = programs_stand (bank_in l new_format s.target) old page 0 page_of.size page_of.bytes (page_inside l old s.target 0 wide is.target (omega (arith, two))) (was'.0 0 (omega arith) (omega (arith, two))) in
       let here : image_page l new s.target 0 ≡ page = subst (λ (bytes : List ℕ). image_page l bytes s.target 0 ≡ page) (sym done) stood.0 in
-      let same = page_stays laws.touch l old new page s.target 0 size (omega (arith, two)) leaves in
-      builds laws s is content old new xs (x ∷ []) Head course leaves.0.size apart follows s.log.flags (Gate false) s.copies s.buffer
-      (here, copies_stay laws s is old new leaves.0.size (λ q low inside. same q inside (λ e. omega (arith, low, e))) was'.1)
+      let same = page_stays l old new page s.target 0 size (omega (arith, two)) leaves in
+      builds s is content old new xs (x ∷ []) Head course leaves.0.size apart follows s.log.flags (Gate false) s.copies s.buffer
+      (here, copies_stay s is old new leaves.0.size (λ q low inside. same q inside (λ e. omega (arith, low, e))) was'.1)

@@ -5,13 +5,13 @@ use Rattle.nv_base.specs.declared.geometry.Geometry.{Geometry}
 use Rattle.nv_base.specs.declared.instance.DeviceNumber.{DeviceNumber}
 use Rattle.fls_model.specs.Told.{Told}
 use Rattle.fee_format.specs.declared.rec_head.RecHead.{RecHead}
-use Rattle.fee_image.specs.Append.{AppendsLeaveOneMore}
 use Rattle.fee_image.specs.Bank.{Bank, page_of}
 use Rattle.fee_image.specs.Image.{Layout, layout_of, bank_in, active_of}
-use Rattle.fee_image.specs.Laws.{LogsCompute}
 use Rattle.fee_image.specs.RecordList.{IsClosed, end_of, pages_of_head}
 use Rattle.fee_image.specs.Log.{HasTail}
 use Rattle.fee_image.specs.May.{May}
+use Rattle.fee_image.proofs.Appends.{appends_leave_one_more}
+use Rattle.fee_image.proofs.Records.{logs_compute}
 use Rattle.fee_log.specs.declared.tail.Tail.{Tail}
 use Rattle.fee_log.specs.declared.tail.Tail.TheVariants as tail
 use Rattle.fee_log.specs.Log.{bank_of, work_in, is_closed, free_behind, free_in, tail_with, pages_with}
@@ -29,45 +29,45 @@ use Rattle.fee_laws.specs.Worn.{KnowsRoom}
 use Rattle.fee_laws.specs.Follows.{anything, FollowsLog, FollowsBanks, FollowsBytes}
 
 -- THE PAGES
-no_header : (p : ℕ) (rest : List ℕ) → 1 ≤ p → (82 ∷ rest) ≡ replicate p 255 → ⊥
+pub no_header : (p : ℕ) (rest : List ℕ) → 1 ≤ p → (82 ∷ rest) ≡ replicate p 255 → ⊥
 no_header zero rest some same = absurd (omega (arith, some))
 no_header (suc p) rest some same = let h : 82 ≡ 255 = ap (λ (xs : List ℕ). get_or xs 0 0) same in absurd (omega (arith, h))
 
 -- none in the bytes of a bank that is closed, else no more than in memory
-abbrev HasNoMore : Bank → List ℕ → ℕ → Type 0
+abbrev pub HasNoMore : Bank → List ℕ → ℕ → Type 0
 HasNoMore b bytes free = IsClosed b bytes (end_of b bytes) ⊎ (b.pages < end_of b bytes + (free + 1))
 
-module _ (logs : LogsCompute) (one_more : AppendsLeaveOneMore) (b : Bank) (bytes : List ℕ) (may : May) (big : 16 ≤ b.page) (end : ℕ) (body : List ℕ) where
+module _ (b : Bank) (bytes : List ℕ) (may : May) (big : 16 ≤ b.page) (end : ℕ) (body : List ℕ) where
   -- its records end here
   from_end : (n free : ℕ) → n ≡ end_of b bytes → b.pages < n + (free + 1) → HasNoMore b bytes free
   from_end n free same less = inr (omega (arith, same, less))
 
-  no_more : (t : Tail) → HasTail b bytes may end (tail_with t body) → end ≤ b.pages → work_in t ≡ None → is_closed t ≡ false → HasNoMore b bytes (free_behind b.page b.pages end t)
+  pub no_more : (t : Tail) → HasTail b bytes may end (tail_with t body) → end ≤ b.pages → work_in t ≡ None → is_closed t ≡ false → HasNoMore b bytes (free_behind b.page b.pages end t)
   no_more tail.Open open' high idle wide = from_end end (b.pages - (end + 0)) open'.is_end (omega (arith, high))
   no_more (tail.Writes h done) at high idle wide = cc idle
   no_more (tail.Owes h next) owes high idle wide =
-      elim (one_more b bytes bytes owes.records end h owes.body 1 big owes.staged (omega arith) (λ q inside other. refl)) [
+      elim (appends_leave_one_more b bytes bytes owes.records end h owes.body 1 big owes.staged (omega arith) (λ q inside other. refl)) [
         | inl none ↦ inl (inr (λ blank.
-            (let is_end = ((logs b bytes owes.records end).0 none.1).1 in
+            (let is_end = ((logs_compute b bytes owes.records end).0 none.1).1 in
             let start : end + 0 ≡ end = omega arith in
             let room = owes.staged.room in
             let written = owes.staged.written 0 (omega arith) in
             let page = sym written ∙ ap (page_of b bytes) start ∙ blank end (omega (arith, is_end)) (omega (arith, room)) in
             no_header b.page _ (omega (arith, big)) page)))
         | inr more ↦ (
-            let is_end = ((logs b bytes (owes.records ++ more.last ∷ []) (end + pages_of_head b.page h)).0 more.log).1 in
+            let is_end = ((logs_compute b bytes (owes.records ++ more.last ∷ []) (end + pages_of_head b.page h)).0 more.log).1 in
             let room = owes.staged.room in
             from_end (end + pages_of_head b.page h) (free_behind b.page b.pages end (tail.Owes h next)) is_end
             (subst (λ (o : Option RecHead). b.pages < end + pages_of_head b.page h + (b.pages - (end + (pages_of_head b.page h + pages_with b.page o)) + 1)) (sym idle) (omega (arith, room))))
       ]
   no_more tail.Closed at high idle wide = cc wide
 
-test : (b : Bool) → (b ≡ true) ⊎ (b ≡ false)
+pub test : (b : Bool) → (b ≡ true) ⊎ (b ≡ false)
 test true = inl refl
 test false = inr refl
 
 -- THE BANKS
-module _ (logs : LogsCompute) (one_more : AppendsLeaveOneMore) (m : Making) (entry : Told) (s : Parts) (listed : List (DeviceNumber × ℕ)) (kept count : ℕ) (on : IsOn m entry s listed kept count) (bytes : List ℕ) (follows : FollowsBytes s.banks s.content s.operations bytes) where
+module _ (m : Making) (entry : Told) (s : Parts) (listed : List (DeviceNumber × ℕ)) (kept count : ℕ) (on : IsOn m entry s listed kept count) (bytes : List ℕ) (follows : FollowsBytes s.banks s.content s.operations bytes) where
   abbrev body' : List ℕ
   body' = body_of (work_in s.banks.log.tail) s.content
 
@@ -98,7 +98,7 @@ module _ (logs : LogsCompute) (one_more : AppendsLeaveOneMore) (m : Making) (ent
       | inl shut ↦ (elim (closed_at shut) [ inl is ↦ inl (inl is) | inr failed ↦ inr failed ])
       | inr wide ↦ inl (
           let held = log.holds.holds in
-          let none = no_more logs one_more (bank_of s.banks.log) bytes anything (subst (λ (g : Geometry). 16 ≤ g.page) (sym on.banks.log.shape) on.banks.legal.page_low) s.banks.log.end body' s.banks.log.tail held.tail held.high idle wide in
+          let none = no_more (bank_of s.banks.log) bytes anything (subst (λ (g : Geometry). 16 ≤ g.page) (sym on.banks.log.shape) on.banks.legal.page_low) s.banks.log.end body' s.banks.log.tail held.tail held.high idle wide in
           subst (λ (n : ℕ). HasNoMore (bank_in (banks_of m) a.head.format a.bank) bytes n) (sym free_is) (subst (λ (b : Bank). HasNoMore b bytes (free_in s.banks.log)) bank_is none))
     ]
 

@@ -1,7 +1,6 @@
 -- From the banks and the bytes to a device.
 use Rattle.std.specs.Prelude.{IfSome, IsSome, option_map}
 use Rattle.std.proofs.Common.{◌≡◌, ◌≤◌, ◌*◌, ◌++◌, ◌∷◌, ℕ, Bool, true, false, List, [], length, Option, Some, None, refl, sym, ap, subst}
-use Rattle.nv_base.specs.Geometry.{BanksFill}
 use Rattle.nv_base.specs.declared.geometry.Geometry.{Geometry}
 use Rattle.nv_base.specs.declared.instance.DeviceNumber.{DeviceNumber}
 use Rattle.fls_model.specs.declared.flash.FlashAnswer.{FlashAnswer}
@@ -97,5 +96,5 @@ module _ (m : Making) (entry : Told) (s : Parts) (listed : List (DeviceNumber ×
   pub are_bytes : (bytes : List ℕ) → now_of s.fls.flash.bytes ≡ Some bytes → AreBytesOf s.banks.geometry bytes
   are_bytes bytes at = subst (λ (g : Geometry). AreBytesOf g bytes) (sym on.sound.made_for.banks_geometry) (now_at s.fls.flash.bytes (AreBytesOf m.geometry) bytes at on.sound.made_for.bytes)
 
-  pub all_pages : BanksFill → (bytes : List ℕ) → now_of s.fls.flash.bytes ≡ Some bytes → (layout_in s.banks).pages * (layout_in s.banks).page * s.banks.banks ≤ length bytes
-  all_pages fill bytes at = wide fill s.banks on.banks bytes (are_bytes bytes at)
+  pub all_pages : (bytes : List ℕ) → now_of s.fls.flash.bytes ≡ Some bytes → (layout_in s.banks).pages * (layout_in s.banks).page * s.banks.banks ≤ length bytes
+  all_pages bytes at = wide s.banks on.banks bytes (are_bytes bytes at)

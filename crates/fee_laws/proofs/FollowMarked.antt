@@ -10,20 +10,18 @@ use Rattle.fls_model.specs.Step.{Leaves}
 use Rattle.fls_model.specs.Told.{Change}
 use Rattle.fee_format.specs.declared.rec_head.RecHead.{RecHead}
 use Rattle.fee_log.specs.declared.tail.Tail.TheVariants.{Open, Writes}
-use Rattle.fee_log.specs.Laws.{BeginsHold}
 use Rattle.fee_log.specs.Log.{LogState, IsLogState, IsFor, free_in, work_in, begun}
 use Rattle.fee_log.specs.Step.{IsPageOf, due_bytes, op_of, after_step}
 use Rattle.fee_course.specs.declared.course.Course.{Course}
 use Rattle.fee_course.specs.declared.course.Course.TheVariants.{Copy, Head}
 use Rattle.fee_course.specs.Copies.{next_copy}
 use Rattle.fee_switch.specs.Banks.{BanksState, IsBanksState, IsLogOf, after_answer}
+use Rattle.fee_switch_laws.proofs.RoomAppends.{work_begun}
 use Rattle.fee_laws.specs.Inside.{body_of}
 use Rattle.fee_laws.specs.Follows.{FollowsBytes, FollowsTarget, FollowsBanks}
 use Rattle.fee_switch_laws.specs.Shown.{layout_in}
-use Rattle.fee_laws.proofs.FollowLaws.{Laws}
 use Rattle.fee_laws.proofs.FollowPages.{SameOthers}
 use Rattle.fee_laws.proofs.FollowTargets.{builds, again}
-use Rattle.fee_laws.proofs.FollowSteps.{begun_work}
 use Rattle.fee_laws.proofs.FollowCopies.{page_small, apart, page_goes_on, begun_course, begun_tail, begun_holds, begun_state}
 
 -- the target's log may take this record
@@ -32,7 +30,7 @@ pub record MayCopy (s : BanksState) (head : RecHead) : Type 0 where
   pub configured : IsFor s.copies.numbers head
   pub room : record_pages_of head.length s.copies.geometry.page ≤ free_in s.copies
 
-module _ (laws : Laws) (begins : BeginsHold) (s : BanksState) (is : IsBanksState s) (content old new : List ℕ) (xs : List Change) (x : Change) (course : s.course ≡ Some (Copy None)) (copies : IsLogState s.copies) (head : RecHead) (none : head.length ≡ 0) (may : MayCopy s head) (leaves : MayLeave (op_of (begun s.copies head) []) old new) (follows : FollowsBytes s content xs old) where
+module _ (s : BanksState) (is : IsBanksState s) (content old new : List ℕ) (xs : List Change) (x : Change) (course : s.course ≡ Some (Copy None)) (copies : IsLogState s.copies) (head : RecHead) (none : head.length ≡ 0) (may : MayCopy s head) (leaves : MayLeave (op_of (begun s.copies head) []) old new) (follows : FollowsBytes s content xs old) where
   abbrev c : Course
   c = Copy None
 
@@ -52,7 +50,7 @@ module _ (laws : Laws) (begins : BeginsHold) (s : BanksState) (is : IsBanksState
   fits = ap length no_bytes ∙ sym none
 
   work : work_in k.tail ≡ Some head
-  work = begun_work s.copies.tail head
+  work = work_begun s.copies.tail head
 
   body_none : body ≡ []
   body_none = ap (λ (o : Option RecHead). body_of o s.buffer) work ∙ no_bytes
@@ -64,10 +62,10 @@ module _ (laws : Laws) (begins : BeginsHold) (s : BanksState) (is : IsBanksState
   target = (subst (λ (o : Option Course). FollowsBanks s o old) course follows.banks).1
 
   tail : k.tail ≡ Writes head 0
-  tail = begun_tail begins s.copies copies may.tail head may.configured may.room before s.buffer old fits target.1
+  tail = begun_tail s.copies copies may.tail head may.configured may.room before s.buffer old fits target.1
 
   state : IsLogState k
-  state = begun_state begins s.copies copies may.tail head may.configured may.room before s.buffer old fits target.1
+  state = begun_state s.copies copies may.tail head may.configured may.room before s.buffer old fits target.1
 
   of : IsLogOf s.geometry s.banks k
   of = record { shape = is.copies.shape; shared = is.copies.shared }
@@ -79,7 +77,7 @@ module _ (laws : Laws) (begins : BeginsHold) (s : BanksState) (is : IsBanksState
   programs = subst (λ (b : List ℕ). MayLeave (op_of k b) old new) (sym body_none) leaves
 
   other : SameOthers (layout_in s) old new s.target
-  other = apart laws s is content old new xs x c course k of is.target_log state some page programs follows
+  other = apart s is content old new xs x c course k of is.target_log state some page programs follows
 
   size : length new ≡ length old
   size = leaves.0.size
@@ -87,11 +85,11 @@ module _ (laws : Laws) (begins : BeginsHold) (s : BanksState) (is : IsBanksState
   pub mark_copied : (answer : FlashAnswer) → (answer ≡ Off → ⊥) → Leaves (op_of k []) answer old new → FollowsBytes (after_answer (record s { copies = after_step k answer }) c answer) content (xs ++ x ∷ []) new
   mark_copied Done on left =
       let done = subst (λ (b : List ℕ). Leaves (op_of k b) Done old new) (sym body_none) left in
-      let both = page_goes_on laws s is content old new xs x c course k of is.target_log state some page programs follows target.0
-      (begun_holds begins s.copies copies may.tail head may.configured may.room before s.buffer old fits target.1) done in
+      let both = page_goes_on s is content old new xs x c course k of is.target_log state some page programs follows target.0
+      (begun_holds s.copies copies may.tail head may.configured may.room before s.buffer old fits target.1) done in
       let goes = λ (next : Course) (holds : FollowsTarget (record s { course = Some next; copies = after_step k Done }) next new).
-      builds laws s is content old new xs (x ∷ []) c course size other follows s.log.flags next (after_step k Done) s.buffer holds in
+      builds s is content old new xs (x ∷ []) c course size other follows s.log.flags next (after_step k Done) s.buffer holds in
       begun_course s.geometry.page (next_copy s.log.numbers s.log.places s.log.flags) (λ (next : Course). record s { course = Some next; copies = after_step k Done }) (λ (t : BanksState). FollowsBytes t content (xs ++ x ∷ []) new)
       (λ o. goes (Copy o) both) (goes Head both)
-  mark_copied Failed on left = again laws s is content old new xs (x ∷ []) c course size other follows s.buffer
+  mark_copied Failed on left = again s is content old new xs (x ∷ []) c course size other follows s.buffer
   mark_copied Off on left = absurd (on refl)

@@ -1,15 +1,17 @@
 -- What a start-up found follows the bytes.
 use Rattle.std.specs.Prelude.{IfSome}
 use Rattle.std.proofs.Common.{◌≡◌, inl, inr, ◌≤◌, ◌*◌, ℕ, List, length, Option, Some, None, sym, subst, arith}
-use Rattle.nv_base.specs.Geometry.{pages_of_bank, BanksFill}
+use Rattle.nv_base.specs.Geometry.{pages_of_bank}
+use Rattle.nv_base.proofs.Shapes.{banks_fill}
 use Rattle.fls_model.specs.Attach.{AreBytesOf}
 use Rattle.fls_model.specs.Told.{Change}
 use Rattle.fee_image.specs.Bank.{Bank}
 use Rattle.fee_image.specs.Image.{Layout, layout_of, bank_in, IsLegalLayout}
 use Rattle.fee_image.specs.RecordList.{IsClosed, end_of}
-use Rattle.fee_image.specs.LogLaws.{LoadedLogsHold, loaded_log, IsLoadedTail}
+use Rattle.fee_image.specs.LogLaws.{loaded_log, IsLoadedTail}
 use Rattle.fee_image.specs.Log.{HoldsLog}
 use Rattle.fee_image.specs.May.{exactly}
+use Rattle.fee_image.proofs.Logs.{loaded_logs_hold, logs_widen}
 use Rattle.fee_log.specs.declared.tail.Tail.{Tail}
 use Rattle.fee_log.specs.declared.tail.Tail.TheVariants.{Open, Writes, Owes, Closed}
 use Rattle.fee_log.specs.Laws.{MayFollow}
@@ -21,13 +23,12 @@ use Rattle.fee_switch.specs.Start.{IsLoadedAs}
 use Rattle.fee_switch_laws.specs.Shown.{layout_in}
 use Rattle.fee_laws.specs.Inside.{body_of}
 use Rattle.fee_laws.specs.Follows.{anything, FollowsLog, FollowsBanks, FollowsBytes}
-use Rattle.fee_laws.proofs.FollowLaws.{Laws}
 use Rattle.fee_laws.proofs.FollowBanks.{legal}
 
 -- THE SIZE
 -- the pages of all banks lie in the bytes
-pub wide : BanksFill → (s : BanksState) → IsBanksState s → (bytes : List ℕ) → AreBytesOf s.geometry bytes → (layout_in s).pages * (layout_in s).page * s.banks ≤ length bytes
-wide fill s is bytes are = let all = (fill s.geometry s.banks is.legal is.shared).0 in let size = are.size in omega (arith, all, size)
+pub wide : (s : BanksState) → IsBanksState s → (bytes : List ℕ) → AreBytesOf s.geometry bytes → (layout_in s).pages * (layout_in s).page * s.banks ≤ length bytes
+wide s is bytes are = let all = (banks_fill s.geometry s.banks is.legal is.shared).0 in let size = are.size in omega (arith, all, size)
 
 -- THE LOG
 -- no record waits in a log that is loaded
@@ -39,7 +40,7 @@ loaded_follows b bytes body (Owes h (Some next)) (inl open') = cc
 loaded_follows b bytes body (Owes h (Some next)) (inr shut) = cc
 loaded_follows b bytes body Closed loaded = tt
 
-module _ (laws : Laws) (loads : LoadedLogsHold) (fill : BanksFill) (s : BanksState) (is : IsBanksState s) (bytes : List ℕ) (are : AreBytesOf s.geometry bytes) (content : List ℕ) (xs : List Change) where
+module _ (s : BanksState) (is : IsBanksState s) (bytes : List ℕ) (are : AreBytesOf s.geometry bytes) (content : List ℕ) (xs : List Change) where
   abbrev l : Layout
   l = layout_in s
 
@@ -54,19 +55,19 @@ module _ (laws : Laws) (loads : LoadedLogsHold) (fill : BanksFill) (s : BanksSta
     size_is = λ i. pages_of_bank (sym is.log.shape i) (sym is.log.shared i) * (sym is.log.shape i).page * sym is.log.shared i
 
     fits : IsLegalLayout l
-    fits = legal laws s is bytes bytes
+    fits = legal s is bytes bytes
 
     held : HoldsLog (bank_in l a.head.format a.bank) s.log.numbers bytes anything (log_of s.log body)
     held =
         let b = bank_in l a.head.format a.bank in
-        let h = loads b s.log.numbers bytes (tail_with s.log.tail body) fits.page fits.pages (loaded.tail body) in
-        let any = laws.widen b s.log.numbers bytes (exactly b bytes) anything (loaded_log b s.log.numbers bytes (tail_with s.log.tail body)) (λ number length m among. tt) h in
+        let h = loaded_logs_hold b s.log.numbers bytes (tail_with s.log.tail body) fits.page fits.pages (loaded.tail body) in
+        let any = logs_widen b s.log.numbers bytes (exactly b bytes) anything (loaded_log b s.log.numbers bytes (tail_with s.log.tail body)) (λ number length m among. tt) h in
         subst (HoldsLog b s.log.numbers bytes anything) (sym (loaded.loaded body)) any
 
     pub log_found : FollowsLog s.log body xs bytes
     log_found = record {
       holds = record {
-        size = subst (λ (n : ℕ). n ≤ length bytes) size_is (wide fill s is bytes are);
+        size = subst (λ (n : ℕ). n ≤ length bytes) size_is (wide s is bytes are);
         holds = subst (λ (b : Bank). HoldsLog b s.log.numbers bytes anything (log_of s.log body)) bank_is held;
         follows = loaded_follows (bank_in l a.head.format a.bank) bytes body s.log.tail (loaded.tail body);
       };

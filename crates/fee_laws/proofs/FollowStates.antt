@@ -1,11 +1,11 @@
 -- Logs whose banks' pages stay, and logs of which nothing but the content of a record in work changes.
 use Rattle.std.proofs.Common.{◌≡◌, inl, inr, ◌<◌, ◌≤◌, ℕ, ◌+◌, ◌*◌, Bool, List, [], ◌∷◌, length, Some, None, refl, sym, ap, ◌∙◌, subst, arith}
 use Rattle.fee_image.specs.Bank.{Bank, page_of}
-use Rattle.fee_image.specs.Laws.{RecordsStay}
 use Rattle.fee_image.specs.RecordList.{Rec, IsClosed, end_after, end_of, records_of, pages_of_head}
-use Rattle.fee_image.specs.LogLaws.{LogsStay, LogsWiden}
 use Rattle.fee_image.specs.Log.{HoldsLog, Tail as LogTail}
 use Rattle.fee_image.specs.May.{May, IsWider}
+use Rattle.fee_image.proofs.Logs.{logs_stay, logs_widen}
+use Rattle.fee_image.proofs.Reading.{records_stay}
 use Rattle.fee_log.specs.declared.tail.Tail.{Tail}
 use Rattle.fee_log.specs.declared.tail.Tail.TheVariants.{Open, Writes, Owes, Closed}
 use Rattle.fee_log.specs.Laws.{HoldsState, MayFollow}
@@ -17,10 +17,10 @@ use Rattle.fee_laws.specs.Follows.{anything}
 abbrev pub SameBody : LogState → List ℕ → List ℕ → Type 0
 SameBody s old new = (q : ℕ) → 2 ≤ q → q < pages_in s → page_of (bank_of s) new q ≡ page_of (bank_of s) old q
 
-pub state_moves : LogsStay → (s : LogState) (body old new : List ℕ) (may : May) → 16 ≤ s.geometry.page → length new ≡ length old → SameBody s old new → HoldsState s body old may → HoldsState s body new may
-state_moves stay s body old new may low long same holds = record {
+pub state_moves : (s : LogState) (body old new : List ℕ) (may : May) → 16 ≤ s.geometry.page → length new ≡ length old → SameBody s old new → HoldsState s body old may → HoldsState s body new may
+state_moves s body old new may low long same holds = record {
   size = omega (arith, long, holds.size);
-  holds = stay (bank_of s) s.numbers old new (s.bank * pages_in s) may (log_of s body) low same holds.holds;
+  holds = logs_stay (bank_of s) s.numbers old new (s.bank * pages_in s) may (log_of s body) low same holds.holds;
   follows = holds.follows;
 }
 
@@ -28,12 +28,12 @@ low_end : (p q : ℕ) (rs : List Rec) → q ≤ end_after p q rs
 low_end p q [] = omega arith
 low_end p q (r ∷ rs) = let h = low_end p (q + pages_of_head p r.head) rs in omega (arith, h)
 
-module _ (stay : RecordsStay) (s : LogState) (old new : List ℕ) (same : SameBody s old new) where
+module _ (s : LogState) (old new : List ℕ) (same : SameBody s old new) where
   abbrev b : Bank
   b = bank_of s
 
   end_same : end_of b new ≡ end_of b old
-  end_same = ap (end_after b.page 2) (stay b old new (s.bank * pages_in s) same)
+  end_same = ap (end_after b.page 2) (records_stay b old new (s.bank * pages_in s) same)
 
   pub closed_moves : IsClosed b old (end_of b old) → IsClosed b new (end_of b new)
   closed_moves (inl other) = inl other
@@ -75,10 +75,10 @@ any_follows may (Owes head None) body follows = tt
 any_follows may (Owes head (Some next)) body follows = (follows.0, λ number length fit. tt)
 any_follows may Closed body follows = tt
 
-pub any_marks : LogsWiden → (s : LogState) (body bytes : List ℕ) (may : May) → HoldsState s body bytes may → HoldsState s body bytes anything
-any_marks widen s body bytes may holds = record {
+pub any_marks : (s : LogState) (body bytes : List ℕ) (may : May) → HoldsState s body bytes may → HoldsState s body bytes anything
+any_marks s body bytes may holds = record {
   size = holds.size;
-  holds = widen (bank_of s) s.numbers bytes may anything (log_of s body) (all_wider may) holds.holds;
+  holds = logs_widen (bank_of s) s.numbers bytes may anything (log_of s body) (all_wider may) holds.holds;
   follows = any_follows may s.tail body holds.follows;
 }
 

@@ -71,9 +71,3 @@ begun_open Open head = refl
 begun_open (Writes h done) head = refl
 begun_open (Owes h next) head = refl
 begun_open Closed head = refl
-
-pub begun_work : (t : Tail) (head : RecHead) → work_in (tail_begun t head) ≡ Some head
-begun_work Open head = refl
-begun_work (Writes h done) head = refl
-begun_work (Owes h next) head = refl
-begun_work Closed head = refl

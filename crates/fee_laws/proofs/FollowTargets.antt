@@ -16,13 +16,12 @@ use Rattle.fee_switch.specs.Banks.{BanksState, IsBanksState}
 use Rattle.fee_switch_laws.specs.Shown.{layout_in}
 use Rattle.fee_laws.specs.Inside.{body_of}
 use Rattle.fee_laws.specs.Follows.{FollowsLog, StandsFirst, FollowsTarget, FollowsBanks, FollowsBytes}
-use Rattle.fee_laws.proofs.FollowLaws.{Laws}
 use Rattle.fee_laws.proofs.FollowPages.{SameOthers}
 use Rattle.fee_laws.proofs.FollowBanks.{fronts_of, first_stays, same_body, log_stays}
 use Rattle.fee_laws.proofs.FollowBegins.{active_flagged}
 
 -- ANY OPERATION OF THE TARGET
-module _ (laws : Laws) (s : BanksState) (is : IsBanksState s) (content old new : List ℕ) (xs more : List Change) (c : Course) (course : s.course ≡ Some c) (long : length new ≡ length old) (apart : SameOthers (layout_in s) old new s.target) (follows : FollowsBytes s content xs old) where
+module _ (s : BanksState) (is : IsBanksState s) (content old new : List ℕ) (xs more : List Change) (c : Course) (course : s.course ≡ Some c) (long : length new ≡ length old) (apart : SameOthers (layout_in s) old new s.target) (follows : FollowsBytes s content xs old) where
   abbrev body : List ℕ
   body = body_of (work_in s.log.tail) content
 
@@ -30,14 +29,14 @@ module _ (laws : Laws) (s : BanksState) (is : IsBanksState s) (content old new :
   was = subst (λ (o : Option Course). FollowsBanks s o old) course follows.banks
 
   pub first : StandsFirst s new
-  first = first_stays laws s is old new (λ j other. fronts_of laws s is old new j (apart j other)) was.0
+  first = first_stays s is old new (λ j other. fronts_of s is old new j (apart j other)) was.0
 
   low : 16 ≤ s.log.geometry.page
   low = subst (λ g. 16 ≤ g.page) (sym is.log.shape) is.legal.page_low
 
   log_by : (o : Option ActiveBank) → IfSome o (λ a. (a.bank ≡ s.target → ⊥) × (s.log.bank ≡ a.bank)) → IfSome o (λ a. FollowsLog s.log body xs old) → IfSome o (λ a. FollowsLog s.log body (xs ++ more) new)
   log_by None other log = tt
-  log_by (Some a) other log = log_stays laws s.log body old new xs more low long (same_body s.geometry s.banks s.log is.log old new (apart s.log.bank (λ same. other.0 (sym other.1 ∙ same)))) log
+  log_by (Some a) other log = log_stays s.log body old new xs more low long (same_body s.geometry s.banks s.log is.log old new (apart s.log.bank (λ same. other.0 (sym other.1 ∙ same)))) log
 
   log : IfSome s.active (λ a. FollowsLog s.log body (xs ++ more) new)
   log = log_by s.active is.active follows.log

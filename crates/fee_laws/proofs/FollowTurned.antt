@@ -2,7 +2,7 @@
 use Rattle.std.specs.Prelude.{IfSome, take, slice_index_or}
 use Rattle.std.proofs.Common.{◌≡◌, ◌≤◌, ◌+◌, ◌*◌, ◌++◌, ◌∷◌, ℕ, true, false, List, [], length, Option, Some, None, refl, sym, ap, ◌∙◌, subst, arith}
 use Rattle.std.proofs.lemmas.List.{length-take-le}
-use Rattle.nv_base.specs.Geometry.{BanksFill, sectors_of_bank, address_of_page}
+use Rattle.nv_base.specs.Geometry.{sectors_of_bank, address_of_page}
 use Rattle.nv_base.specs.Pages.{record_pages_of}
 use Rattle.nv_base.specs.declared.geometry.Geometry.{Geometry}
 use Rattle.nv_base.specs.declared.instance.DeviceNumber.{DeviceNumber}
@@ -14,10 +14,8 @@ use Rattle.fls_model.specs.Step.{IsStep, Leaves}
 use Rattle.fls_model.specs.Told.{Told}
 use Rattle.fls_jobs.specs.State.{FlsState}
 use Rattle.fee_format.specs.declared.rec_head.RecHead.{RecHead}
-use Rattle.fee_image.specs.Laws.{ProgramsStand, GatesStand, HeadsCompute, ActiveComputes}
 use Rattle.fee_image.specs.declared.place.Place.{Place}
 use Rattle.fee_image.specs.declared.place.Place.TheVariants as place
-use Rattle.fee_log.specs.Laws.{BeginsHold, ErasedHolds}
 use Rattle.fee_log.specs.Log.{work_in, begun, free_in}
 use Rattle.fee_log.specs.Step.{op_of, after_step}
 use Rattle.fee_course.specs.declared.copies.Source.{Source}
@@ -30,7 +28,7 @@ use Rattle.fee_switch.specs.Banks.{BanksState, target_at, reads_next, reads_sour
 use Rattle.fee_switch.specs.Copy.{CanCopy, CanGoOn, BeginsAt, begun_where, head_at}
 use Rattle.fee_switch_laws.specs.Shown.{layout_in}
 use Rattle.fee_switch_laws.specs.KeepsRoom.{IsRoomy, IsTargetLog, IsOpenCopy}
-use Rattle.fee_switch_laws.specs.RoomLaws.{StepsMayBeMade}
+use Rattle.fee_switch_laws.proofs.RoomReady.{steps_may_be_made}
 use Rattle.promise_device.specs.Making.{Making}
 use Rattle.fee_told.specs.Clock.{change_of}
 use Rattle.fee_laws.specs.Inside.{Parts, body_of}
@@ -40,8 +38,6 @@ use Rattle.fee_laws.specs.Appends.{work_op}
 use Rattle.fee_laws.specs.Switches.{IsStepping, step_op}
 use Rattle.fee_laws.specs.Follows.{FollowsBytes, Follows}
 use Rattle.fee_laws.specs.FollowLaws.{PagesFollow, StepsFollow, CopiesFollow}
-use Rattle.fee_laws.proofs.FollowLaws.{Laws}
-use Rattle.fee_laws.proofs.FollowPages.{EraseLaws}
 use Rattle.fee_laws.proofs.FollowAppends.{goes_on}
 use Rattle.fee_laws.proofs.FollowErases.{erase_fails, erase_goes_on}
 use Rattle.fee_laws.proofs.FollowHeads.{head_fails, head_stands}
@@ -52,28 +48,16 @@ use Rattle.fee_laws.proofs.FollowContents.{content_copied}
 use Rattle.fee_laws.proofs.FollowLifts.{some_of, power, all_pages, operation_follows, memory_follows, read_bytes, read_off}
 
 -- A PAGE OF A RECORD
-pub pages_follow : Laws → PagesFollow
-pages_follow laws m entry s listed kept count answer f is follows =
+pub pages_follow : PagesFollow
+pages_follow m entry s listed kept count answer f is follows =
     let on = is.on in
     let h = some_of (work_in s.banks.log.tail) is.work in
     let in_work : IsInWork s.banks s.job h.0 = subst (λ (o : Option RecHead). IfSome o (IsInWork s.banks s.job)) h.1 (on.sound.works on.started).work in
     let a = some_of s.banks.active in_work.active in
     operation_follows s f (record s.banks { log = after_step s.banks.log answer }) (work_op s) (work_op s) answer on.started (power m entry s listed kept count on) is.step
-    (λ not_off old new at leaves left was. goes_on laws s.banks on.banks on.log s.content old new s.operations (change_of (work_op s) s.fls.flash answer) a.0 a.1 is.work was is.page leaves answer not_off left refl) follows
+    (λ not_off old new at leaves left was. goes_on s.banks on.banks on.log s.content old new s.operations (change_of (work_op s) s.fls.flash answer) a.0 a.1 is.work was is.page leaves answer not_off left refl) follows
 
--- A STEP OF A SWITCH
-pub record StepLaws : Type 0 where
-  pub erases : EraseLaws
-  pub empty : ErasedHolds
-  pub begins : BeginsHold
-  pub stands : ProgramsStand
-  pub gates : GatesStand
-  pub heads : HeadsCompute
-  pub active : ActiveComputes
-  pub fill : BanksFill
-  pub ready : StepsMayBeMade
-
-module _ (laws : Laws) (own : StepLaws) (m : Making) (entry : Told) (s : Parts) (listed : List (DeviceNumber × ℕ)) (kept count : ℕ) (c : Course) (made : BanksState) (answer : FlashAnswer) (f : FlsState) (is : IsStepping m entry s listed kept count c made answer f) where
+module _ (m : Making) (entry : Told) (s : Parts) (listed : List (DeviceNumber × ℕ)) (kept count : ℕ) (c : Course) (made : BanksState) (answer : FlashAnswer) (f : FlsState) (is : IsStepping m entry s listed kept count c made answer f) where
   abbrev on : IsOn m entry s listed kept count
   on = is.on
 
@@ -94,11 +78,11 @@ module _ (laws : Laws) (own : StepLaws) (m : Making) (entry : Told) (s : Parts) 
   lift op b step same goes follows =
       subst (λ (y : BanksState). Follows (operated (step_op s.banks c) answer f (after_answer y c answer) s)) (sym same)
       (operation_follows s f (after_answer b c answer) op (step_op s.banks c) answer on.started on_power step
-      (λ not_off old new at leaves left was. goes not_off old new (all_pages m entry s listed kept count on own.fill old at) leaves left was) follows)
+      (λ not_off old new at leaves left was. goes not_off old new (all_pages m entry s listed kept count on old at) leaves left was) follows)
 
 -- ITS FIRST ONE
 -- the number that is copied next, in what makes its copy, and in what was known before
-mark_length : (p : Place) (n size : ℕ) → reads_place p ≡ false → (head_at p n size).length ≡ 0
+pub mark_length : (p : Place) (n size : ℕ) → reads_place p ≡ false → (head_at p n size).length ≡ 0
 mark_length (place.Content at count) n size reads = cc reads
 mark_length (place.Invalid count) n size reads = refl
 mark_length (place.Erased count) n size reads = refl
@@ -111,15 +95,15 @@ mark_begins (place.Invalid count) s n size told told' answer made reads begins =
 mark_begins (place.Erased count) s n size told told' answer made reads begins = begins
 mark_begins place.Unwritten s n size told told' answer made reads begins = begins
 
-is_content : (p : Place) → reads_place p ≡ true → (at : ℕ) × (count : ℕ) × (p ≡ place.Content at count)
+pub is_content : (p : Place) → reads_place p ≡ true → (at : ℕ) × (count : ℕ) × (p ≡ place.Content at count)
 is_content (place.Content at count) reads = (at, count, refl)
 is_content (place.Invalid count) reads = cc reads
 is_content (place.Erased count) reads = cc reads
 is_content place.Unwritten reads = cc reads
 
-module _ (own : StepLaws) (m : Making) (entry : Told) (s : Parts) (listed : List (DeviceNumber × ℕ)) (kept count : ℕ) (made : BanksState) (answer : FlashAnswer) (f : FlsState) (is : IsStepping m entry s listed kept count (Copy None) made answer f) where
+module _ (m : Making) (entry : Told) (s : Parts) (listed : List (DeviceNumber × ℕ)) (kept count : ℕ) (made : BanksState) (answer : FlashAnswer) (f : FlsState) (is : IsStepping m entry s listed kept count (Copy None) made answer f) where
   can : CanCopy s.banks
-  can = subst (λ (o : Option Course). IfSome o (CanGoOn s.banks)) is.course (own.ready m.reserve s.banks is.on.banks is.on.log (is.on.sound.room is.on.started (power m entry s listed kept count is.on)))
+  can = subst (λ (o : Option Course). IfSome o (CanGoOn s.banks)) is.course (steps_may_be_made m.reserve s.banks is.on.banks is.on.log (is.on.sound.room is.on.started (power m entry s listed kept count is.on)))
 
   abbrev src : Source
   src = can.source
@@ -185,65 +169,65 @@ module _ (own : StepLaws) (m : Making) (entry : Told) (s : Parts) (listed : List
     content_fits wide = (let few = can.can.fits in length-take-le src.length made.buffer (omega (arith, few, wide)))
 
 -- THE STEPS
-steps : Laws → StepLaws → (m : Making) (entry : Told) (s : Parts) (listed : List (DeviceNumber × ℕ)) (kept count : ℕ) (c : Course) (made : BanksState) (answer : FlashAnswer) (f : FlsState)
+steps : (m : Making) (entry : Told) (s : Parts) (listed : List (DeviceNumber × ℕ)) (kept count : ℕ) (c : Course) (made : BanksState) (answer : FlashAnswer) (f : FlsState)
     → IsStepping m entry s listed kept count c made answer f → reads_next s.banks.log (Some c) ≡ false → Follows s → Follows (operated (step_op s.banks c) answer f (after_answer made c answer) s)
-steps laws own m entry s listed kept count (Erase n) made answer f is changes =
-    lift laws own m entry s listed kept count (Erase n) made answer f is (op_at (target_at s.banks (stage.Erase n)) (stage.Erase n)) s.banks is.makes.0 is.makes.1 (λ not_off old new wide leaves left was. by_answer answer old new wide leaves left was refl not_off)
+steps m entry s listed kept count (Erase n) made answer f is changes =
+    lift m entry s listed kept count (Erase n) made answer f is (op_at (target_at s.banks (stage.Erase n)) (stage.Erase n)) s.banks is.makes.0 is.makes.1 (λ not_off old new wide leaves left was. by_answer answer old new wide leaves left was refl not_off)
   where
     by_answer : (a : FlashAnswer) (old new : List ℕ) → (layout_in s.banks).pages * (layout_in s.banks).page * s.banks.banks ≤ length old → MayLeave (op_at (target_at s.banks (stage.Erase n)) (stage.Erase n)) old new → Leaves (op_at (target_at s.banks (stage.Erase n)) (stage.Erase n)) a old new
         → FollowsBytes s.banks s.content s.operations old → a ≡ answer → (a ≡ Off → ⊥) → FollowsBytes (after_answer s.banks (Erase n) a) s.content (s.operations ++ change_of (step_op s.banks (Erase n)) s.fls.flash answer ∷ []) new
     by_answer Done old new wide leaves left was same online =
-        erase_goes_on laws own.erases own.empty s.banks is.on.banks s.content old new s.operations (change_of (step_op s.banks (Erase n)) s.fls.flash answer) n is.course (short laws own m entry s listed kept count (Erase n) made answer f is) leaves was wide is.copies
-        (roomy laws own m entry s listed kept count (Erase n) made answer f is).target.copies left
+        erase_goes_on s.banks is.on.banks s.content old new s.operations (change_of (step_op s.banks (Erase n)) s.fls.flash answer) n is.course (short m entry s listed kept count (Erase n) made answer f is) leaves was wide is.copies
+        (roomy m entry s listed kept count (Erase n) made answer f is).target.copies left
     by_answer Failed old new wide leaves left was same online =
-        erase_fails laws own.erases own.empty s.banks is.on.banks s.content old new s.operations (change_of (step_op s.banks (Erase n)) s.fls.flash answer) n is.course (short laws own m entry s listed kept count (Erase n) made answer f is) leaves was
+        erase_fails s.banks is.on.banks s.content old new s.operations (change_of (step_op s.banks (Erase n)) s.fls.flash answer) n is.course (short m entry s listed kept count (Erase n) made answer f is) leaves was
     by_answer Off old new wide leaves left was same online = absurd (online refl)
-steps laws own m entry s listed kept count Head made answer f is changes =
-    lift laws own m entry s listed kept count Head made answer f is (op_at (target_at s.banks stage.Head) stage.Head) s.banks is.makes.0 is.makes.1 (λ not_off old new wide leaves left was. by_answer answer old new wide leaves left was not_off)
+steps m entry s listed kept count Head made answer f is changes =
+    lift m entry s listed kept count Head made answer f is (op_at (target_at s.banks stage.Head) stage.Head) s.banks is.makes.0 is.makes.1 (λ not_off old new wide leaves left was. by_answer answer old new wide leaves left was not_off)
   where
     by_answer : (a : FlashAnswer) (old new : List ℕ) → (layout_in s.banks).pages * (layout_in s.banks).page * s.banks.banks ≤ length old → MayLeave (op_at (target_at s.banks stage.Head) stage.Head) old new → Leaves (op_at (target_at s.banks stage.Head) stage.Head) a old new
         → FollowsBytes s.banks s.content s.operations old → (a ≡ Off → ⊥) → FollowsBytes (after_answer s.banks Head a) s.content (s.operations ++ change_of (step_op s.banks Head) s.fls.flash answer ∷ []) new
-    by_answer Done old new wide leaves left was online = head_stands laws own.stands s.banks is.on.banks s.content old new s.operations (change_of (step_op s.banks Head) s.fls.flash answer) is.course leaves was wide left
-    by_answer Failed old new wide leaves left was online = head_fails laws own.stands s.banks is.on.banks s.content old new s.operations (change_of (step_op s.banks Head) s.fls.flash answer) is.course leaves was
+    by_answer Done old new wide leaves left was online = head_stands s.banks is.on.banks s.content old new s.operations (change_of (step_op s.banks Head) s.fls.flash answer) is.course leaves was wide left
+    by_answer Failed old new wide leaves left was online = head_fails s.banks is.on.banks s.content old new s.operations (change_of (step_op s.banks Head) s.fls.flash answer) is.course leaves was
     by_answer Off old new wide leaves left was online = absurd (online refl)
-steps laws own m entry s listed kept count (Gate failed) made answer f is changes =
-    lift laws own m entry s listed kept count (Gate failed) made answer f is (op_at (target_at s.banks stage.Gate) stage.Gate) s.banks is.makes.0 is.makes.1 (λ not_off old new wide leaves left was. by_answer answer old new wide leaves left was not_off)
+steps m entry s listed kept count (Gate failed) made answer f is changes =
+    lift m entry s listed kept count (Gate failed) made answer f is (op_at (target_at s.banks stage.Gate) stage.Gate) s.banks is.makes.0 is.makes.1 (λ not_off old new wide leaves left was. by_answer answer old new wide leaves left was not_off)
   where
     by_answer : (a : FlashAnswer) (old new : List ℕ) → (layout_in s.banks).pages * (layout_in s.banks).page * s.banks.banks ≤ length old → MayLeave (op_at (target_at s.banks stage.Gate) stage.Gate) old new → Leaves (op_at (target_at s.banks stage.Gate) stage.Gate) a old new
         → FollowsBytes s.banks s.content s.operations old → (a ≡ Off → ⊥) → FollowsBytes (after_answer s.banks (Gate failed) a) s.content (s.operations ++ change_of (step_op s.banks (Gate failed)) s.fls.flash answer ∷ []) new
     by_answer Done old new wide leaves left was online =
-        (let room = roomy laws own m entry s listed kept count (Gate failed) made answer f is in
-        gate_stands laws own.gates own.heads own.active s.banks is.on.banks s.content old new s.operations (change_of (step_op s.banks (Gate failed)) s.fls.flash answer) failed is.course leaves was wide room.worn room.target.work left)
-    by_answer Failed old new wide leaves left was online = gate_fails laws own.gates own.heads own.active s.banks is.on.banks s.content old new s.operations (change_of (step_op s.banks (Gate failed)) s.fls.flash answer) failed is.course leaves was
+        (let room = roomy m entry s listed kept count (Gate failed) made answer f is in
+        gate_stands s.banks is.on.banks s.content old new s.operations (change_of (step_op s.banks (Gate failed)) s.fls.flash answer) failed is.course leaves was wide room.worn room.target.work left)
+    by_answer Failed old new wide leaves left was online = gate_fails s.banks is.on.banks s.content old new s.operations (change_of (step_op s.banks (Gate failed)) s.fls.flash answer) failed is.course leaves was
     by_answer Off old new wide leaves left was online = absurd (online refl)
-steps laws own m entry s listed kept count (Copy (Some w)) made answer f is changes =
-    let here : IsOpenCopy s.banks w = (roomy laws own m entry s listed kept count (Copy (Some w)) made answer f is).target.work in
+steps m entry s listed kept count (Copy (Some w)) made answer f is changes =
+    let here : IsOpenCopy s.banks w = (roomy m entry s listed kept count (Copy (Some w)) made answer f is).target.work in
     let work : work_in s.banks.copies.tail ≡ Some here.head = ap work_in here.tail in
     let step = subst (λ (o : Option RecHead). IsStep (op_of s.banks.copies (body_of o s.banks.buffer)) s.fls.flash answer f.flash) (sym work) (is.makes.0 here.head work) in
-    lift laws own m entry s listed kept count (Copy (Some w)) made answer f is (op_of s.banks.copies (body_of (work_in s.banks.copies.tail) s.banks.buffer)) (record s.banks { copies = after_step s.banks.copies answer }) step is.makes.1
-    (λ not_off old new wide leaves left was. page_copied laws s.banks is.on.banks s.content old new s.operations (change_of (step_op s.banks (Copy (Some w))) s.fls.flash answer) w is.course is.copies here.head here.done here.tail is.bytes leaves was answer not_off left)
-steps laws own m entry s listed kept count (Copy None) made answer f is changes =
-    let begins = begins_mark own m entry s listed kept count made answer f is changes in
-    let may = may_copy own m entry s listed kept count made answer f is in
-    let mark' = mark own m entry s listed kept count made answer f is changes in
-    let none' = none own m entry s listed kept count made answer f is changes in
-    lift laws own m entry s listed kept count (Copy None) made answer f is (op_of (begun s.banks.copies mark') []) (record s.banks { copies = after_step (begun s.banks.copies mark') answer }) begins.0 begins.1
-    (λ not_off old new wide leaves left was. mark_copied laws own.begins s.banks is.on.banks s.content old new s.operations (change_of (step_op s.banks (Copy None)) s.fls.flash answer) is.course is.copies mark' none' may leaves was answer not_off left)
+    lift m entry s listed kept count (Copy (Some w)) made answer f is (op_of s.banks.copies (body_of (work_in s.banks.copies.tail) s.banks.buffer)) (record s.banks { copies = after_step s.banks.copies answer }) step is.makes.1
+    (λ not_off old new wide leaves left was. page_copied s.banks is.on.banks s.content old new s.operations (change_of (step_op s.banks (Copy (Some w))) s.fls.flash answer) w is.course is.copies here.head here.done here.tail is.bytes leaves was answer not_off left)
+steps m entry s listed kept count (Copy None) made answer f is changes =
+    let begins = begins_mark m entry s listed kept count made answer f is changes in
+    let may = may_copy m entry s listed kept count made answer f is in
+    let mark' = mark m entry s listed kept count made answer f is changes in
+    let none' = none m entry s listed kept count made answer f is changes in
+    lift m entry s listed kept count (Copy None) made answer f is (op_of (begun s.banks.copies mark') []) (record s.banks { copies = after_step (begun s.banks.copies mark') answer }) begins.0 begins.1
+    (λ not_off old new wide leaves left was. mark_copied s.banks is.on.banks s.content old new s.operations (change_of (step_op s.banks (Copy None)) s.fls.flash answer) is.course is.copies mark' none' may leaves was answer not_off left)
 
-pub steps_follow : Laws → StepLaws → StepsFollow
-steps_follow laws own m entry s listed kept count c made answer f is changes follows = steps laws own m entry s listed kept count c made answer f is changes follows
+pub steps_follow : StepsFollow
+steps_follow m entry s listed kept count c made answer f is changes follows = steps m entry s listed kept count c made answer f is changes follows
 
-pub copies_follow : Laws → StepLaws → CopiesFollow
-copies_follow laws own m entry s listed kept count made answer f is reads wide follows =
-    let begins = begins_content own m entry s listed kept count made answer f is reads in
-    let may = may_content own m entry s listed kept count made answer f is reads in
-    let head = copy own m entry s listed kept count made answer f is reads in
+pub copies_follow : CopiesFollow
+copies_follow m entry s listed kept count made answer f is reads wide follows =
+    let begins = begins_content m entry s listed kept count made answer f is reads in
+    let may = may_content m entry s listed kept count made answer f is reads in
+    let head = copy m entry s listed kept count made answer f is reads in
     let on_power = power m entry s listed kept count is.on in
-    let src' = (can own m entry s listed kept count made answer f is).source in
-    let at = address_of_page s.banks.geometry s.banks.banks s.banks.log.bank ((content_at own m entry s listed kept count made answer f is reads).0 + 2) in
+    let src' = (can m entry s listed kept count made answer f is).source in
+    let at = address_of_page s.banks.geometry s.banks.banks s.banks.log.bank ((content_at m entry s listed kept count made answer f is reads).0 + 2) in
     let before = take src'.length s.banks.buffer in
     let into = take src'.length made.buffer in
     let not_off = read_off at s.fls.flash f.flash before into answer begins.0 on_power in
     subst (λ (y : BanksState). Follows (record s { fls = f; banks = after_answer y (Copy None) answer })) (sym begins.1)
     (memory_follows s f (after_answer (record s.banks { copies = begun_where answer s.banks.copies head; buffer = made.buffer }) (Copy None) answer) s.content is.on.started on_power (read_bytes at s.fls.flash f.flash before into answer begins.0)
-    (λ bytes at' was. content_copied laws own.begins s.banks is.on.banks s.content bytes made.buffer s.operations is.course is.copies head may was answer not_off (λ done. content_fits own m entry s listed kept count made answer f is reads (wide done))) follows)
+    (λ bytes at' was. content_copied s.banks is.on.banks s.content bytes made.buffer s.operations is.course is.copies head may was answer not_off (λ done. content_fits m entry s listed kept count made answer f is reads (wide done))) follows)

@@ -13,6 +13,7 @@ use Rattle.fee_log.specs.Log.{work_in}
 use Rattle.fee_log.specs.Step.{after_step, commits}
 use Rattle.fee_image.specs.RecordList.{pages_of_head}
 use Rattle.fee_course.specs.Course.{most_turns}
+use Rattle.fee_switch_laws.proofs.RoomAppends.{pages_keep_room}
 use Rattle.fee_told.specs.Figures.{Work, turns_owed}
 use Rattle.fee_told.specs.FigureLaws.{IsWork, IsOfJob}
 use Rattle.fee_switch.specs.Banks.{BanksState, left_of}
@@ -26,7 +27,6 @@ use Rattle.fee_laws.specs.Inside.{Parts, device_of, stand_of, HasSwitch, IsActiv
 use Rattle.fee_laws.specs.Work.{work_of, pages_of_job, pages_of_op, pages_left, is_owed}
 use Rattle.fee_laws.specs.Record.{IsInWork, IsReady}
 use Rattle.fee_laws.specs.Appends.{IsAppending, work_op, after_page}
-use Rattle.fee_laws.proofs.TurnLaws.{Laws, AppendLaws}
 use Rattle.fee_laws.proofs.Before.{power}
 use Rattle.fee_laws.proofs.Operation.{run, worn_by}
 use Rattle.fee_laws.proofs.Tails.{GoesOn, goes_on}
@@ -41,12 +41,12 @@ pub each_some : {A : Type 0} (o : Option A) (P : A → Type 0) → ((x : A) → 
 each_some None P all = tt
 each_some (Some x) P all = all x
 
-module _ (laws : Laws) (own : AppendLaws) (m : Making) (entry : Told) (s : Parts) (listed : List (DeviceNumber × ℕ)) (kept count : ℕ) (f : FlsState) (is : IsAppending m entry s listed kept count Done f) (goes : commits s.banks.geometry.page s.banks.log.tail ≡ false) where
+module _ (m : Making) (entry : Told) (s : Parts) (listed : List (DeviceNumber × ℕ)) (kept count : ℕ) (f : FlsState) (is : IsAppending m entry s listed kept count Done f) (goes : commits s.banks.geometry.page s.banks.log.tail ≡ false) where
   pub asked : IsAsked (work_op s) s.fls.flash Done f.flash
   asked = subst (λ (b : Bool). OffOrAsked b (work_op s) s.fls.flash Done f.flash) (power m entry s listed kept count is.on) is.step
 
   pub keeps : CutsKeep (work_op s) (device_of m entry s)
-  keeps = cut_keeps m entry s listed kept count is.on is.work laws own.due is.page.size own.fail
+  keeps = cut_keeps m entry s listed kept count is.on is.work is.page.size
 
   abbrev pub b : BanksState
   b = record s.banks { log = after_step s.banks.log Done }
@@ -61,16 +61,16 @@ module _ (laws : Laws) (own : AppendLaws) (m : Making) (entry : Told) (s : Parts
   e = device_of m entry t
 
   stays_worn : KeepsWorn (work_op s) d e
-  stays_worn = worn_by laws m entry s listed kept count is.on (work_op s) Done f is.drives asked keeps b s.job s.last s.given refl (keeps_last m entry s listed kept count is.on is.work laws own.due is.page.size own.last)
+  stays_worn = worn_by m entry s listed kept count is.on (work_op s) Done f is.drives asked keeps b s.job s.last s.given refl (keeps_last m entry s listed kept count is.on is.work is.page.size)
 
   pub run_on : HasRun e
-  run_on = run laws m entry s listed kept count is.on (work_op s) Done f is.drives asked keeps b s.job s.last s.given stays_worn
+  run_on = run m entry s listed kept count is.on (work_op s) Done f is.drives asked keeps b s.job s.last s.given stays_worn
 
   pub going : GoesOn s.banks.log s.banks.log.tail
   going = goes_on s.banks.log s.banks.log.tail is.work (ap (λ (g : Geometry). commits g.page s.banks.log.tail) is.on.banks.log.shape ∙ goes)
 
   pub room_on : KeepsRoom m.reserve b
-  room_on = own.room m.reserve s.banks Done (is.on.sound.room is.on.started (power m entry s listed kept count is.on)) is.work
+  room_on = pages_keep_room m.reserve s.banks Done (is.on.sound.room is.on.started (power m entry s listed kept count is.on)) is.work
 
   work_on : work_in b.log.tail ≡ Some (h m entry s listed kept count is.on is.work)
   work_on = going.work ∙ work_is m entry s listed kept count is.on is.work
@@ -146,7 +146,7 @@ module _ (laws : Laws) (own : AppendLaws) (m : Making) (entry : Told) (s : Parts
   pub work_then : IsWork m.geometry.page (sectors_of_bank m.geometry m.banks) m.numbers m.reserve (stand_of s.content s.job s.last s.given) v
   work_then =
       let geo = is.on.sound.made_for.banks_geometry in
-      let few = few_left own.few b switch_on in
+      let few = few_left b switch_on in
       let fits = subst (λ (g : Geometry). left_of b ≤ most_turns g.page (sectors_of_bank g s.banks.banks) s.banks.log.numbers) geo few in
       let fits2 = subst (λ (n : ℕ). left_of b ≤ most_turns m.geometry.page (sectors_of_bank m.geometry n) s.banks.log.numbers) is.on.sound.made_for.shared fits in
       let fits3 = subst (λ (ns : List (DeviceNumber × ℕ)). left_of b ≤ most_turns m.geometry.page (sectors_of_bank m.geometry m.banks) ns) is.on.sound.made_for.numbers fits2 in

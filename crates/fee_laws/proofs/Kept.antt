@@ -29,10 +29,10 @@ use Rattle.fee_told.specs.Slots.{Memory, IsWorkOf, slots_held}
 use Rattle.fee_told.specs.SlotLaws.{IsHeld}
 use Rattle.fee_told.specs.Appends.{commits as commits_log}
 use Rattle.fee_told.specs.Kept.{IsKept, with_log}
+use Rattle.fee_told.proofs.Appends.{appends_go_on, records_begin}
 use Rattle.fee_laws.specs.Inside.{Parts, body_of, memory_of}
 use Rattle.fee_laws.specs.Turn.{IsOn}
 use Rattle.fee_laws.specs.Appends.{work_body, work_op}
-use Rattle.fee_laws.proofs.TurnLaws.{Laws, AppendLaws}
 use Rattle.fee_laws.proofs.Before.{legal, lengths, log_geometry, log_banks}
 use Rattle.fee_laws.proofs.Tails.{tailed, shown, page_goes_on, owed_shown}
 use Rattle.fee_laws.proofs.Page.{h, work_is, a, body, log, formats, taking, appending, stands}
@@ -48,7 +48,7 @@ commits_same p (Writes r done) content = refl
 commits_same p (Owes r next) content = refl
 commits_same p Closed content = refl
 
-module _ (laws : Laws) (own : AppendLaws) (m : Making) (entry : Told) (s : Parts) (listed : List (DeviceNumber × ℕ)) (kept count : ℕ) (on : IsOn m entry s listed kept count) (work : IsSome (work_in s.banks.log.tail)) (page : IsPageOf s.banks.geometry.page (due_bytes s.banks.log (work_body s))) (goes : commits s.banks.geometry.page s.banks.log.tail ≡ false) (old new : List ℕ) (more : May) (held : IsHeld (banks_of m) m.numbers old (memory_of s) more) (leaves : MayLeave (work_op s) old new) (left : Leaves (work_op s) Done old new) where
+module _ (m : Making) (entry : Told) (s : Parts) (listed : List (DeviceNumber × ℕ)) (kept count : ℕ) (on : IsOn m entry s listed kept count) (work : IsSome (work_in s.banks.log.tail)) (page : IsPageOf s.banks.geometry.page (due_bytes s.banks.log (work_body s))) (goes : commits s.banks.geometry.page s.banks.log.tail ≡ false) (old new : List ℕ) (more : May) (held : IsHeld (banks_of m) m.numbers old (memory_of s) more) (leaves : MayLeave (work_op s) old new) (left : Leaves (work_op s) Done old new) where
   abbrev l : Layout
   l = banks_of m
 
@@ -84,8 +84,8 @@ module _ (laws : Laws) (own : AppendLaws) (m : Making) (entry : Told) (s : Parts
 
   first : IsKept l m.numbers old new memory (with_log memory k head next memory.stand) more
   first =
-      own.go l m.numbers old new memory more k head was (appending m entry s listed kept count on work laws own.due page.size old more held new leaves)
-      (stands m entry s listed kept count on work laws own.due page.size own.widen own.stands (content_fits m entry s listed kept count on work) page old more held new left) goes_log
+      appends_go_on l m.numbers old new memory more k head was (appending m entry s listed kept count on work page.size old more held new leaves)
+      (stands m entry s listed kept count on work page.size (content_fits m entry s listed kept count on work) page old more held new left) goes_log
 
   done_path : log_done s.banks.log.geometry.page s.banks.log.numbers was ≡ next
   done_path = λ i. log_done (geo i).page (numbers i) was
@@ -118,7 +118,7 @@ module _ (laws : Laws) (own : AppendLaws) (m : Making) (entry : Told) (s : Parts
       let format : s.banks.log.format ≡ new_format = subst (HasFormat s.banks.log.format) e on.log.format in
       let middle : Memory = with_log memory k head next memory.stand in
       let record_at : IsRecord (bank_in l head.format k) next.end r content = record { format = sym (formats m entry s listed kept count on work) ∙ format; legal = tail_is.1; size = length-take-le r.length s.content fits; room = omega (arith, end, room) } in
-      let second = own.begin l m.numbers new middle more k head next r content (record { lengths = lengths m entry s listed kept count on; legal = legal m entry s listed kept count on laws.legal; held = first.held; bank = refl; takes = taking m entry s listed kept count on work }) open_tail record_at job_then in
+      let second = records_begin l m.numbers new middle more k head next r content (record { lengths = lengths m entry s listed kept count on; legal = legal m entry s listed kept count on; held = first.held; bank = refl; takes = taking m entry s listed kept count on work }) open_tail record_at job_then in
       let both : IsKept l m.numbers old new memory (with_log memory k head (log_begun next r content) memory.stand) more = record {
         held = second.held;
         keeps = λ n. keeps_on (slot_at m.numbers (slots_held l m.numbers old memory) n) (slot_at m.numbers (slots_held l m.numbers new middle) n) (slot_at m.numbers (slots_held l m.numbers new (with_log memory k head (log_begun next r content) memory.stand)) n) (first.keeps n) (second.keeps n);

@@ -21,18 +21,18 @@ use Rattle.fee_told.specs.Device.{Device, told_of}
 use Rattle.fee_told.specs.Runs.{HasRun, KeepsWorn}
 use Rattle.fee_told.specs.Kept.{IsKept}
 use Rattle.fee_told.specs.Whole.{CutsKeep}
+use Rattle.fee_told.proofs.Whole.{kept_is_told}
 use Rattle.fee_laws.specs.declared.job.FeeJob.{FeeJob}
 use Rattle.fee_laws.specs.Copied.{flags_of, IsCopying}
 use Rattle.fee_laws.specs.Inside.{Parts, device_of, memory_of, stand_of, flags_in, ShowsCopies, HoldsBehind, TellsCopies}
 use Rattle.fee_laws.specs.Appends.{IsAppending, work_op, after_page}
-use Rattle.fee_laws.proofs.TurnLaws.{Laws, AppendLaws}
 use Rattle.fee_laws.proofs.Before.{power, copied, held_at, now_at, each_now}
 use Rattle.fee_laws.proofs.Operation.{left, before_told, run, worn_by, started}
 use Rattle.fee_laws.proofs.Behind.{held_behind}
 use Rattle.fee_laws.proofs.Page.{cut_keeps, keeps_last}
 use Rattle.fee_laws.proofs.Copies.{settled_stays}
 
-module _ (laws : Laws) (own : AppendLaws) (m : Making) (entry : Told) (s : Parts) (listed : List (DeviceNumber × ℕ)) (kept count : ℕ) (answer : FlashAnswer) (f : FlsState) (is : IsAppending m entry s listed kept count answer f) where
+module _ (m : Making) (entry : Told) (s : Parts) (listed : List (DeviceNumber × ℕ)) (kept count : ℕ) (answer : FlashAnswer) (f : FlsState) (is : IsAppending m entry s listed kept count answer f) where
   abbrev pub l : Layout
   l = banks_of m
 
@@ -40,7 +40,7 @@ module _ (laws : Laws) (own : AppendLaws) (m : Making) (entry : Told) (s : Parts
   asked = subst (λ (b : Bool). OffOrAsked b (work_op s) s.fls.flash answer f.flash) (power m entry s listed kept count is.on) is.step
 
   pub keeps : CutsKeep (work_op s) (device_of m entry s)
-  keeps = cut_keeps m entry s listed kept count is.on is.work laws own.due is.page.size own.fail
+  keeps = cut_keeps m entry s listed kept count is.on is.work is.page.size
 
   module _ (job : Option FeeJob) (last : JobResult) (given : ℕ) where
     abbrev pub t : Parts
@@ -53,10 +53,10 @@ module _ (laws : Laws) (own : AppendLaws) (m : Making) (entry : Told) (s : Parts
     e = device_of m entry t
 
     stays_worn : KeepsWorn (work_op s) d e
-    stays_worn = worn_by laws m entry s listed kept count is.on (work_op s) answer f is.drives asked keeps t.banks job last given refl (keeps_last m entry s listed kept count is.on is.work laws own.due is.page.size own.last)
+    stays_worn = worn_by m entry s listed kept count is.on (work_op s) answer f is.drives asked keeps t.banks job last given refl (keeps_last m entry s listed kept count is.on is.work is.page.size)
 
     pub run_on : HasRun e
-    run_on = run laws m entry s listed kept count is.on (work_op s) answer f is.drives asked keeps t.banks job last given stays_worn
+    run_on = run m entry s listed kept count is.on (work_op s) answer f is.drives asked keeps t.banks job last given stays_worn
 
     abbrev pub Keeping : Type 0
     Keeping = (old new : List ℕ) (more : May) → IsHeld l m.numbers old (memory_of s) more → MayLeave (work_op s) old new → Leaves (work_op s) answer old new → IsKept l m.numbers old new (memory_of s) (memory_of t) more
@@ -64,27 +64,27 @@ module _ (laws : Laws) (own : AppendLaws) (m : Making) (entry : Told) (s : Parts
     module _ (keeping : Keeping) (places : (after_step s.banks.log answer).places ≡ s.banks.log.places) (flags : (after_step s.banks.log answer).flags ≡ s.banks.log.flags) where
       kept_at : (old new : List ℕ) → bytes_now s.fls.flash ≡ Some old → bytes_now f.flash ≡ Some new → (more : May) → IsHeld l m.numbers old (memory_of s) more → IsKept l m.numbers old new (memory_of s) (memory_of t) more
       kept_at old new at_old at_new more held =
-          let both = left laws m entry s listed kept count is.on (work_op s) answer f is.drives asked old new at_old at_new in
+          let both = left m entry s listed kept count is.on (work_op s) answer f is.drives asked old new at_old at_new in
           keeping old new more held both.0 both.1
 
       abbrev more : May
       more = copied m entry s listed kept count is.on
 
       pub behind : HoldsBehind e
-      behind = held_behind laws m entry s listed kept count is.on (work_op s) answer f is.drives asked t.banks job last given laws.legal run_on more
+      behind = held_behind m entry s listed kept count is.on (work_op s) answer f is.drives asked t.banks job last given run_on more
           (λ new at told.
           (let before = before_told s.fls.flash.bytes f.flash.bytes (work_op s) answer new asked.bytes at in
           (kept_at before.0 new before.1 at more (held_at m entry s listed kept count is.on before.0 before.1 told)).held))
 
       pub keeps_all : KeepsAll (told_of d) (told_of e)
-      keeps_all = laws.kept d e more (started laws m entry s listed kept count is.on (work_op s) answer f is.drives asked keeps t.banks job last given run_on)
+      keeps_all = kept_is_told d e more (started m entry s listed kept count is.on (work_op s) answer f is.drives asked keeps t.banks job last given run_on)
           (λ old new told. kept_at old new told.1 told.2 more (held_at m entry s listed kept count is.on old told.1 told.0))
 
       -- THE TARGET
       same_flags : (old new : List ℕ) → bytes_now s.fls.flash ≡ Some old → bytes_now f.flash ≡ Some new → (more : May) → IsHeld l m.numbers old (memory_of s) more → flags_in m t new ≡ flags_in m s old
       same_flags old new at_old at_new more held =
-          let both = left laws m entry s listed kept count is.on (work_op s) answer f is.drives asked old new at_old at_new in
-          let settled = (settled_stays laws own m entry s listed kept count is.on is.work is.page old new more held both.0 t.banks.log (stand_of s.content job last given) places) in
+          let both = left m entry s listed kept count is.on (work_op s) answer f is.drives asked old new at_old at_new in
+          let settled = (settled_stays m entry s listed kept count is.on is.work is.page old new more held both.0 t.banks.log (stand_of s.content job last given) places) in
           λ i. flags_of m.numbers (places i) (flags i) (settled i)
 
       shows_by : (old new : List ℕ) → bytes_now s.fls.flash ≡ Some old → bytes_now f.flash ≡ Some new → (c : Option Course) → IfSome c (λ x. ShowsCopies m s x old) → IfSome c (λ x. ShowsCopies m t x new)

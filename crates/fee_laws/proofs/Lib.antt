@@ -1,23 +1,21 @@
-mod Arming
-mod CallsBehind
+pub mod Arming
+pub mod CallsBehind
 mod Bounds
-mod Canceled
+pub mod Canceled
 mod Canceling
 mod Ending
 mod GivenUp
-mod Making
-mod Opened
+pub mod Making
+pub mod Opened
 mod Opening
 mod CallOrder
 mod Raising
-mod Starting
+pub mod Starting
 mod Stopping
-mod TurnLaws
 mod Tails
 mod Before
 mod Order
 mod Operation
-mod Places
 mod Behind
 mod Heads
 mod Kept
@@ -26,27 +24,27 @@ mod Figures
 mod Appended
 mod Copies
 mod GoesOn
-mod GoneOn
+pub mod GoneOn
 mod Left
-mod Failed
-mod Cut
-mod Committed
-mod Lifting
+pub mod Failed
+pub mod Cut
+pub mod Committed
+pub mod Lifting
 mod Begun
-mod Marks
-mod Resting
+pub mod Marks
+pub mod Resting
 mod Reading
-mod Read
+pub mod Read
 mod Beginning
-mod BegunSound
+pub mod BegunSound
 mod Beside
 mod Settled
-mod SwitchBegun
+pub mod SwitchBegun
 mod Noted
 mod Shown
 mod SwitchFigures
-mod SwitchLaws
 mod Switching
+mod SwitchNearer
 mod SwitchOn
 mod SwitchFailed
 mod SwitchCut
@@ -58,23 +56,21 @@ mod SwitchWhole
 mod SwitchPage
 mod SwitchHead
 mod SwitchGate
-mod SwitchBytes
 mod SwitchCopy
 mod SwitchCopied
-mod SwitchEnded
-mod SwitchTurns
+pub mod SwitchEnded
+pub mod SwitchTurns
 mod SwitchNext
 mod SwitchFirst
-mod SwitchMark
+pub mod SwitchMark
 mod SwitchRead
 mod SwitchReadOn
 mod SwitchReadFailed
-mod SwitchContent
-mod WornFull
+pub mod SwitchContent
+pub mod WornFull
 mod WornShown
 mod WornKnown
-mod WornTurn
-mod FollowLaws
+pub mod WornTurn
 mod FollowPages
 mod FollowStates
 mod FollowSteps
@@ -93,5 +89,5 @@ mod FollowContents
 mod FollowStarts
 mod FollowKnown
 mod FollowLifts
-mod FollowTurned
-mod FollowCalled
+pub mod FollowTurned
+pub mod FollowCalled

@@ -1,8 +1,7 @@
 -- A device that is made.
-use Rattle.std.specs.Prelude.{IfSome, option_map}
-use Rattle.std.proofs.Common.{◌≡◌, inl, inr, ◌≤◌, ◌<◌, ◌*◌, ℕ, true, false, length, Option, Some, None, refl, ap, arith}
-use Rattle.std.proofs.Math.Nat.{mul-pos}
-use Rattle.nv_base.specs.Geometry.{IsLegal, size_of}
+use Rattle.std.specs.Prelude.{IfSome}
+use Rattle.std.proofs.Common.{◌≡◌, inl, inr, ◌≤◌, true, false, length, Option, Some, None, refl, ap, arith}
+use Rattle.nv_base.specs.Geometry.{IsLegal}
 use Rattle.nv_base.specs.Plan.{Planning}
 use Rattle.nv_base.specs.declared.geometry.Geometry.{Geometry}
 use Rattle.memif.specs.Told.{nothing_open}
@@ -11,35 +10,25 @@ use Rattle.fls_model.specs.Told.{Told, ToldBytes, IfBothTold}
 use Rattle.fls_jobs.specs.Start.{IsIdle}
 use Rattle.promise_device.specs.Making.{Making}
 use Rattle.fee_told.specs.Device.{Device, told_of}
-use Rattle.fee_told.specs.Runs.{CountsCuts, IsMade, RunsBegin}
-use Rattle.fee_told.specs.Whole.{UnstartedFindsNow}
+use Rattle.fee_told.specs.Runs.{CountsCuts, IsMade}
 use Rattle.fee_switch.specs.Banks.{IsMade as AreMade}
 use Rattle.fee_course.specs.declared.course.Course.{Course}
 use Rattle.fee_switch_laws.specs.Space.{HasSpace}
+use Rattle.fee_told.proofs.Making.{runs_begin}
+use Rattle.fee_told.proofs.Whole.{unstarted_finds_now}
 use Rattle.fee_laws.specs.Inside.{Parts, device_of, IsSound, ShowsCopies}
 use Rattle.fee_laws.specs.Parts.{fresh}
 use Rattle.fee_laws.specs.Made.{IsMadeOf}
 use Rattle.fee_laws.proofs.CallOrder.{at_rest}
+use Rattle.fee_laws.specs.CallLaws.{NewIsSound}
+use Rattle.fee_laws.proofs.Before.{some_told}
 
 -- SIZES
-some_bytes : (a b : ℕ) → 0 < a → 0 < b → 0 < a * b
-some_bytes a b more many = mul-pos more many
-
-pub has_bytes : (g : Geometry) → IsLegal g → 0 < size_of g
-has_bytes g legal = some_bytes g.sector g.sectors (omega (arith, legal.sector_low, legal.page_low)) (omega (arith, legal.sectors_low))
-
 pub filled_bytes : (g : Geometry) (x y : Option ToldBytes) → IfBothTold x y (IsFilled g) → IfSome y (λ b. AreBytesOf g b.now)
 filled_bytes g (Some x) (Some y) both = both.are_bytes
 filled_bytes g (Some x) None both = tt
 filled_bytes g None (Some y) both = absurd both
 filled_bytes g None None both = tt
-
-as_many : (a b : ℕ) → a ≡ b → 0 < b → 0 < a
-as_many a b same more = omega (arith, same, more)
-
-pub some_told : (g : Geometry) (y : Option ToldBytes) → IsLegal g → IfSome y (λ b. AreBytesOf g b.now) → IfSome (option_map (λ (b : ToldBytes). b.now) y) (λ bytes. 0 < length bytes)
-some_told g None legal are = tt
-some_told g (Some y) legal are = as_many (length y.now) (size_of g) are.size (has_bytes g legal)
 
 -- CUTS
 cuts_counted : (s t : Told) → t.planning ≡ s.planning → t.cuts ≡ s.cuts → s.planning.unplanned ≤ s.cuts → CountsCuts s t
@@ -62,7 +51,7 @@ shown_as None c P Q stays shows = tt
 shown_as (Some b) None P Q stays shows = tt
 shown_as (Some b) (Some k) P Q stays shows = stays b k shows
 
-module _ (find : UnstartedFindsNow) (begin : RunsBegin) (m : Making) (entry : Told) (s : Parts) (legal : IsLegal m.geometry) (at : IsAttached m.geometry entry s.fls.flash) (space : HasSpace m.numbers m.geometry m.banks m.reserve) (made : AreMade s.banks m.geometry m.banks m.numbers) where
+module _ (m : Making) (entry : Told) (s : Parts) (legal : IsLegal m.geometry) (at : IsAttached m.geometry entry s.fls.flash) (space : HasSpace m.numbers m.geometry m.banks m.reserve) (made : AreMade s.banks m.geometry m.banks m.numbers) where
   abbrev d : Device
   d = device_of m entry (fresh s)
 
@@ -82,9 +71,9 @@ module _ (find : UnstartedFindsNow) (begin : RunsBegin) (m : Making) (entry : To
   made_sound geometry idle room = record {
     made_for = record { geometry = geometry; idle = idle; banks_geometry = made.shape; shared = made.shared; numbers = made.configured; space = space; bytes = bytes; room = room; given = omega arith; ended = λ e. cc e };
     device = record {
-      run = begin d is_made (cuts_counted entry s.fls.flash at.planning at.cuts counted);
+      run = runs_begin d is_made (cuts_counted entry s.fls.flash at.planning at.cuts counted);
       held = λ started. cc started;
-      order = at_rest m entry (fresh s) made.course (find d refl (some_told m.geometry s.fls.flash.bytes legal bytes));
+      order = at_rest m entry (fresh s) made.course (unstarted_finds_now d refl (some_told m.geometry s.fls.flash.bytes legal bytes));
       faults = omega arith;
     };
     rests = λ unstarted. record { job = refl; course = made.course };
@@ -104,3 +93,9 @@ module _ (find : UnstartedFindsNow) (begin : RunsBegin) (m : Making) (entry : To
 
   pub made_of : IsMadeOf m entry d
   made_of = record { making = refl; told_entry = refl; made = is_made; started = refl; stand = refl; ops = refl; part = λ i. record { faults = 0; flash_faults = at.faults i; off = at.off i; planning = at.planning i }; rests = rests_made }
+
+pub new_is_sound : NewIsSound
+new_is_sound m entry s new = (
+  made_sound m entry s new.legal new.attached new.space new.banks new.geometry new.idle new.room,
+  made_of m entry s new.legal new.attached new.space new.banks,
+)

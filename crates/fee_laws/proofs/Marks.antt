@@ -16,7 +16,7 @@ later : (o : Option ℕ) (p : Place) (ps : List Place) → or_else Unwritten (at
 later None p ps = refl
 later (Some k) p ps = ap (λ (i : ℕ). or_else Unwritten (slice_get (p ∷ ps) i)) (add-one k)
 
-none_at : (o : Option ℕ) → or_else Unwritten (at_index [] o) ≡ Unwritten
+pub none_at : (o : Option ℕ) → or_else Unwritten (at_index [] o) ≡ Unwritten
 none_at None = refl
 none_at (Some i) = refl
 

@@ -9,7 +9,8 @@ use Rattle.fee_format.specs.declared.rec_head.RecHead.{RecHead}
 use Rattle.fee_image.specs.Found.{fits}
 use Rattle.fee_image.specs.declared.place.Place.{Place}
 use Rattle.fee_image.specs.declared.place.Place.TheVariants.{Content}
-use Rattle.fee_image.specs.Places.{noted, place_at}
+use Rattle.fee_image.specs.Places.{noted}
+use Rattle.fee_switch_laws.proofs.RoomAppends.{content_at}
 
 -- a record of another number changes nothing
 pub not_fits : (number length : ℕ) (h : RecHead) → h.number ≢ number → fits number length h ≡ false
@@ -29,9 +30,6 @@ one_more (Some k) i e = let same : k + 1 ≡ i = cc e in (k, refl, sym same ∙ 
 
 fits_here : (number length : ℕ) (h : RecHead) → number ≡ h.number → h.kind ≡ 1 → h.length ≡ length → fits number length h ≡ true
 fits_here number length h same kind whole = rw (eq-eqb h.number number (sym same), eq-eqb h.kind 1 kind, eq-eqb h.length length whole) refl
-
-content_at : (at : ℕ) (h : RecHead) → h.kind ≡ 1 → place_at at h ≡ Content at h.count
-content_at at h kind = rw (eq-eqb h.kind 1 kind) refl
 
 pub noted_set : (low : ℕ) (ns : List (DeviceNumber × ℕ)) (places : List Place) (at : ℕ) (h : RecHead) (i size : ℕ) → AreLengths low ns → length places ≡ length ns
     → place_of ns h.number ≡ Some i → length_of ns h.number ≡ Some size → h.kind ≡ 1 → h.length ≡ size → noted ns places at h ≡ set places i (Content at h.count)

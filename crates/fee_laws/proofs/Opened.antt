@@ -19,13 +19,16 @@ use Rattle.fee_switch.specs.Banks.{BanksState, IsBanksState}
 use Rattle.fee_switch_laws.specs.Space.{free_pages}
 use Rattle.promise_device.specs.Making.{Making, banks_of}
 use Rattle.fee_told.specs.Slots.{HasJob, slots_held, slots_found, settled_in}
-use Rattle.fee_told.specs.SlotLaws.{JobsOpen, Opened, IsHeld, SamePlaces}
+use Rattle.fee_told.specs.SlotLaws.{Opened, IsHeld, SamePlaces}
 use Rattle.fee_told.specs.Device.{Device, tells, told_of}
 use Rattle.fee_told.specs.Clock.{clock_of}
 use Rattle.fee_told.specs.Tells.{was}
-use Rattle.fee_told.specs.Whole.{OpensAreTold}
 use Rattle.fee_told.specs.Figures.{Waits, ready_of, wait_of}
-use Rattle.fee_told.specs.FigureLaws.{UrgentStarts}
+use Rattle.fee_told.proofs.Clocks.{clocks_stay}
+use Rattle.fee_told.proofs.Figures.{urgent_starts}
+use Rattle.fee_told.proofs.Jobs.{jobs_change}
+use Rattle.fee_told.proofs.Steps.{places_tell, jobs_open as told_jobs_open}
+use Rattle.fee_told.proofs.Whole.{opens_are_told}
 use Rattle.fee_laws.specs.declared.job.FeeJob.{FeeJob}
 use Rattle.fee_laws.specs.Copied.{flags_of, IsCopying}
 use Rattle.fee_laws.specs.Inside.{Parts, device_of, memory_of, stand_of, mark_of, fixed_in, HoldsBehind, IsSound, IsAtWork, ShowsCopies}
@@ -35,9 +38,11 @@ use Rattle.fee_laws.specs.Parts.{opened}
 use Rattle.fee_laws.proofs.CallsBehind.{run_stays, job_in}
 use Rattle.fee_laws.proofs.Bounds.{part_is, pages_are}
 use Rattle.fee_laws.proofs.Making.{shown_as}
-use Rattle.fee_laws.proofs.Opening.{OpenLaws, behind_it, raised, in_order, old_same, idle, h}
+use Rattle.fee_laws.proofs.Opening.{behind_it, raised, in_order, old_same, idle, h}
 use Rattle.fee_laws.proofs.Raising.{left_wanted, none_of, writes_pages}
-use Rattle.fee_laws.proofs.Starting.{told_bytes, same_bytes}
+use Rattle.fee_laws.proofs.Starting.{same_bytes}
+use Rattle.fee_laws.specs.CallLaws.{JobsOpen}
+use Rattle.fee_laws.proofs.Before.{told_at}
 
 -- TESTS
 all_four : (a b c d : Bool) → a ≡ true → b ≡ true → c ≡ true → d ≡ true → a && b && c && d ≡ true
@@ -70,12 +75,7 @@ claims : (b : BanksState) (j : FeeJob) (x : Bool) → (if x then pages_of_op b.g
 claims b j true = omega arith
 claims b j false = omega arith
 
-pub record MoreLaws : Type 0 where
-  pub opens : JobsOpen
-  pub tell : OpensAreTold
-  pub urgent : UrgentStarts
-
-module _ (laws : OpenLaws) (more : MoreLaws) (m : Making) (entry : Told) (s : Parts) (listed : List (DeviceNumber × ℕ)) (kept count : ℕ) (is_off : Bool) (sound : IsSound m entry s listed kept count is_off) (state : IsBanksState s.banks) (started : s.started ≡ true) (shut : s.job ≡ None) (j : FeeJob) (content : List ℕ) (room : length content ≡ 4096) (of : IsJobOf m.numbers j) (size : j.length ≤ 4096) where
+module _ (m : Making) (entry : Told) (s : Parts) (listed : List (DeviceNumber × ℕ)) (kept count : ℕ) (is_off : Bool) (sound : IsSound m entry s listed kept count is_off) (state : IsBanksState s.banks) (started : s.started ≡ true) (shut : s.job ≡ None) (j : FeeJob) (content : List ℕ) (room : length content ≡ 4096) (of : IsJobOf m.numbers j) (size : j.length ≤ 4096) where
   abbrev u : Parts
   u = opened j content s
 
@@ -95,16 +95,16 @@ module _ (laws : OpenLaws) (more : MoreLaws) (m : Making) (entry : Told) (s : Pa
   before = sound.device.held started
 
   same_old : (memory_of u).old ≡ (memory_of s).old
-  same_old = old_same laws m entry s listed kept count is_off sound state started shut j content room of size
+  same_old = old_same m entry s listed kept count is_off sound state started shut j content room of size
 
   no_record : work_in s.banks.log.tail ≡ None
-  no_record = idle laws m entry s listed kept count is_off sound state started shut j content room of size
+  no_record = idle m entry s listed kept count is_off sound state started shut j content room of size
 
   at_work : IsAtWork m s
   at_work = sound.works started
 
   ordered : ClockStays (clock_of d) (told_of t) (clock_of t)
-  ordered = record { same = laws.stay d t (record { making = refl; entry = refl; operations = refl; bytes = refl }) refl; order = in_order laws m entry s listed kept count is_off sound state started shut j content room of size }
+  ordered = record { same = clocks_stay d t (record { making = refl; entry = refl; operations = refl; bytes = refl }) refl; order = in_order m entry s listed kept count is_off sound state started shut j content room of size }
 
   -- WHAT HOLDS
   module _ (promised : j.promised ≡ true → pages ≤ ready) where
@@ -124,7 +124,7 @@ module _ (laws : OpenLaws) (more : MoreLaws) (m : Making) (entry : Told) (s : Pa
     shows : (b : ToldBytes) (c : Course) → ShowsCopies m s c b.now → ShowsCopies m u c b.now
     shows b c was =
         let job = job_in m.numbers (memory_of u).stand s.last (take s.given s.content) (memory_of s).old (subst (λ (x : Stand). HasJob m.numbers x (memory_of s).old) (ap (λ (o : Option FeeJob). stand_of s.content o s.last s.given) shut) was.held.job) in
-        let held = laws.job (banks_of m) m.numbers b.now (memory_of s) _ (memory_of u).stand (record { lengths = sound.made_for.space.lengths; legal = before.banks.legal; held = was.held }) job in
+        let held = jobs_change (banks_of m) m.numbers b.now (memory_of s) _ (memory_of u).stand (record { lengths = sound.made_for.space.lengths; legal = before.banks.legal; held = was.held }) job in
         record {
           held = subst (λ (o : Old). IsHeld (banks_of m) m.numbers b.now (record (memory_of u) { old = o }) (copied_of (flags_of m.numbers s.banks.log.places s.banks.log.flags (settled_in (banks_of m) m.numbers b.now o)))) (sym same_old) held;
           copy = subst (λ (o : Old). IsCopying c (work_in s.banks.copies.tail) s.banks.buffer (flags_of m.numbers s.banks.log.places s.banks.log.flags (settled_in (banks_of m) m.numbers b.now o))) (sym same_old) was.copy;
@@ -136,8 +136,8 @@ module _ (laws : OpenLaws) (more : MoreLaws) (m : Making) (entry : Told) (s : Pa
         record {
           made_for = record { geometry = was.geometry; idle = was.idle; banks_geometry = was.banks_geometry; shared = was.shared; numbers = was.numbers; space = was.space; bytes = was.bytes; room = room; given = omega arith; ended = was.ended };
           device = record {
-            run = run_stays laws.runs m entry s s.banks content (Some j) s.last 0 sound.device.run;
-            held = λ e. behind_it laws m entry s listed kept count is_off sound state started shut j content room of size;
+            run = run_stays m entry s s.banks content (Some j) s.last 0 sound.device.run;
+            held = λ e. behind_it m entry s listed kept count is_off sound state started shut j content room of size;
             order = ordered.order;
             faults = sound.device.faults;
           };
@@ -160,15 +160,15 @@ module _ (laws : OpenLaws) (more : MoreLaws) (m : Making) (entry : Told) (s : Pa
   opened_at : (bytes : List ℕ) → bytes_now s.fls.flash ≡ Some bytes → IsTrue (tells d) → (n : ℕ)
       → Opened jb n (slot_at m.numbers (slots_held (banks_of m) m.numbers bytes (memory_of s)) n) (slot_at m.numbers (slots_held (banks_of m) m.numbers bytes (memory_of u)) n) jb.mark
   opened_at bytes at told n =
-      let held : IsHeld (banks_of m) m.numbers bytes before.behind before.copied = told_bytes s.fls.flash.bytes (λ (x : List ℕ). IsHeld (banks_of m) m.numbers x before.behind before.copied) bytes at (before.banks.held told) in
+      let held : IsHeld (banks_of m) m.numbers bytes before.behind before.copied = told_at s.fls.flash.bytes (λ (x : List ℕ). IsHeld (banks_of m) m.numbers x before.behind before.copied) bytes at (before.banks.held told) in
       let places = subst (SamePlaces before.behind.old) (sym same_old) before.places in
       let closed : is_open before.behind.stand ≡ false = ap (λ (x : Stand). is_open x) (before.stand ∙ ap (λ (o : Option FeeJob). stand_of s.content o s.last s.given) shut) in
-      let o = more.opens (banks_of m) m.numbers bytes before.behind (memory_of u) before.copied jb of.length held places closed refl of.configured n in
+      let o = told_jobs_open (banks_of m) m.numbers bytes before.behind (memory_of u) before.copied jb of.length held places closed refl of.configured n in
       subst (λ (slots : List Slot). Opened jb n (slot_at m.numbers slots n) (slot_at m.numbers (slots_held (banks_of m) m.numbers bytes (memory_of u)) n) jb.mark)
-      (sym (laws.same (banks_of m) m.numbers bytes before.behind (memory_of s) before.places (sym before.stand))) o
+      (sym (places_tell (banks_of m) m.numbers bytes before.behind (memory_of s) before.places (sym before.stand))) o
 
   marks : DoubtsAt jb.number jb.mark (told_of d) (told_of t)
-  marks = more.tell d t jb (record { same = record { making = refl; entry = refl; old = sound.device.run.alike; new = sound.device.run.alike }; old = started; new = started }) (λ old new told n.
+  marks = opens_are_told d t jb (record { same = record { making = refl; entry = refl; old = sound.device.run.alike; new = sound.device.run.alike }; old = started; new = started }) (λ old new told n.
       subst (λ (x : List ℕ). Opened jb n (was d old n) (was t x n) jb.mark) (same_bytes (bytes_now s.fls.flash) old new told.1 told.2)
       (subst (λ (x : Bool). Opened jb n
       (slot_at m.numbers (if x then slots_held (banks_of m) m.numbers old (memory_of s) else slots_found (banks_of m) m.numbers old) n)
@@ -207,7 +207,7 @@ module _ (laws : OpenLaws) (more : MoreLaws) (m : Making) (entry : Told) (s : Pa
       let w0 : Waits = waits_of s.banks None in
       let few : kept_pages ≤ ready_of m.reserve (nat_le 1 (seal_turns s.banks.course)) (free_pages s.banks - 0) = omega (arith, ready_was, fits) in
       let claim = claims s.banks j (begins_next s.banks j) in
-      let r = more.urgent m.reserve (free_pages s.banks - 0) (pages_free s.banks (Some j)) kept_pages (nat_le 1 (seal_turns s.banks.course)) w0 refl few (omega (arith, same, claim)) in
+      let r = urgent_starts m.reserve (free_pages s.banks - 0) (pages_free s.banks (Some j)) kept_pages (nat_le 1 (seal_turns s.banks.course)) w0 refl few (omega (arith, same, claim)) in
       let zero : free_pages s.banks - 0 ≡ free_pages s.banks = omega arith in
       let as_ready = ap (λ (k : ℕ). ready_of m.reserve (nat_le 1 (seal_turns s.banks.course)) k) zero in
       let promise = promises urgent (omega (arith, same, few, as_ready)) in
@@ -223,8 +223,15 @@ module _ (laws : OpenLaws) (more : MoreLaws) (m : Making) (entry : Told) (s : Pa
 
   pub opens : (j.urgent ≡ true → pages ≤ ready → j.promised ≡ true) → Opens jb (told_of d) (told_of t)
   opens promises =
-      let r = raised laws m entry s listed kept count is_off sound state started shut j content room of size in
+      let r = raised m entry s listed kept count is_off sound state started shut j content room of size in
       record { only = refl; marks = marks; left_low = r.0; left_high = r.1; ready = ready_at promises j.urgent refl }
 
   pub stays : ClockStays (clock_of d) (told_of t) (clock_of t)
   stays = ordered
+
+pub jobs_open : JobsOpen
+jobs_open m entry s listed kept count is_off j content sound may = (
+  opened_sound m entry s listed kept count is_off sound may.banks may.started may.shut j content may.room may.job may.size may.promised.ready,
+  opens m entry s listed kept count is_off sound may.banks may.started may.shut j content may.room may.job may.size may.promised.urgent,
+  stays m entry s listed kept count is_off sound may.banks may.started may.shut j content may.room may.job may.size,
+)

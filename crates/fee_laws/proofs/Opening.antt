@@ -1,6 +1,6 @@
 -- A job opens.
 use Rattle.std.specs.Prelude.{IsTrue, nat_le, take}
-use Rattle.std.proofs.Common.{◌≡◌, inl, inr, ◌≤◌, ◌<◌, ◌+◌, ◌-◌, ◌*◌, ◌/◌, ◌%◌, ◌^◌, ℕ, Bool, true, false, List, length, Option, Some, None, refl, sym, ap, ◌∙◌, subst, arith}
+use Rattle.std.proofs.Common.{◌≡◌, inl, inr, ◌≤◌, ◌<◌, ◌+◌, ◌-◌, ◌*◌, ◌/◌, ◌%◌, ◌^◌, ℕ, Bool, true, List, length, Option, Some, None, refl, sym, ap, ◌∙◌, subst, arith}
 use Rattle.std.proofs.Math.Nat.{div-le_self, div-add-mod}
 use Rattle.std.proofs.lemmas.Bool.{cases_lt}
 use Rattle.nv_base.specs.Geometry.{IsLegal, HasBanks, sectors_of_bank}
@@ -16,20 +16,18 @@ use Rattle.fls_model.specs.Told.{Told, bytes_now}
 use Rattle.fee_image.specs.Image.{Layout}
 use Rattle.fee_log.specs.Log.{work_in}
 use Rattle.fee_course.specs.Course.{most_turns}
-use Rattle.fee_course.specs.Laws.{TurnsAreFew}
 use Rattle.fee_switch.specs.Banks.{IsBanksState}
 use Rattle.fee_switch_laws.specs.Shown.{old_shown}
 use Rattle.fee_switch_laws.specs.Space.{HasSpace}
 use Rattle.promise_device.specs.Making.{Making, banks_of}
 use Rattle.fee_told.specs.Slots.{Memory, HasJob}
-use Rattle.fee_told.specs.SlotLaws.{PlacesTell, SamePlaces, IsHeld}
+use Rattle.fee_told.specs.SlotLaws.{SamePlaces, IsHeld}
 use Rattle.fee_told.specs.Device.{Device, tells, told_of}
-use Rattle.fee_told.specs.Clock.{ClocksStay, clock_of}
-use Rattle.fee_told.specs.Runs.{RunsStay}
-use Rattle.fee_told.specs.Jobs.{JobsChange}
-use Rattle.fee_told.specs.Whole.{HoldsBanks, HeldFindsNow}
-use Rattle.fee_told.specs.Figures.{Work, fixed_for, left_of, turns_of, turns_owed}
-use Rattle.fee_told.specs.FigureLaws.{StartsRaise}
+use Rattle.fee_told.specs.Clock.{clock_of}
+use Rattle.fee_told.specs.Whole.{HoldsBanks}
+use Rattle.fee_told.specs.Figures.{Work, fixed_for, left_of, turns_of}
+use Rattle.fee_told.proofs.Jobs.{jobs_change}
+use Rattle.fee_told.proofs.Figures.{owed_few}
 use Rattle.fee_laws.specs.declared.job.FeeJob.{FeeJob}
 use Rattle.fee_laws.specs.Inside.{Parts, device_of, memory_of, stand_of, mark_of, fixed_in, HoldsBehind, IsSound, IsAtWork}
 use Rattle.fee_laws.specs.Record.{IsJobOf}
@@ -39,16 +37,7 @@ use Rattle.fee_laws.proofs.CallsBehind.{no_work, same_body, job_in, finds_now}
 use Rattle.fee_laws.proofs.Bounds.{part_is, copies_few, calm_waits}
 use Rattle.fee_laws.proofs.CallOrder.{few_before, ready_kept}
 use Rattle.fee_laws.proofs.Raising.{raises, adds, base_few, left_wanted}
-use Rattle.fee_laws.proofs.Starting.{told_bytes, each_told}
-
-pub record OpenLaws : Type 0 where
-  pub stay : ClocksStay
-  pub runs : RunsStay
-  pub held : HeldFindsNow
-  pub same : PlacesTell
-  pub job : JobsChange
-  pub few : TurnsAreFew
-  pub start : StartsRaise
+use Rattle.fee_laws.proofs.Before.{each_told, told_at}
 
 -- SIZES
 -- each bank has a sector
@@ -78,15 +67,11 @@ pages_small p Write length low few = (let a = div-le_self (length + (p - 1)) p i
 pages_small p Invalidate length low few = (let a = div-le_self (0 + (p - 1)) p in omega arith)
 pages_small p Erase length low few = (let a = div-le_self (0 + (p - 1)) p in omega arith)
 
-owed_one : (owed : Bool) → turns_owed owed ≤ 1
-owed_one true = omega arith
-owed_one false = omega arith
-
 turns_small : (mark : Option Mark) (w : Work) → turns_of mark w ≤ w.pages + 1
 turns_small None w = omega arith
-turns_small (Some mark) w = (let a = owed_one w.owed in omega arith)
+turns_small (Some mark) w = (let a = owed_few w.owed in omega arith)
 
-module _ (laws : OpenLaws) (m : Making) (entry : Told) (s : Parts) (listed : List (DeviceNumber × ℕ)) (kept count : ℕ) (is_off : Bool) (sound : IsSound m entry s listed kept count is_off) (state : IsBanksState s.banks) (started : s.started ≡ true) (shut : s.job ≡ None) (j : FeeJob) (content : List ℕ) (room : length content ≡ 4096) (of : IsJobOf m.numbers j) (size : j.length ≤ 4096) where
+module _ (m : Making) (entry : Told) (s : Parts) (listed : List (DeviceNumber × ℕ)) (kept count : ℕ) (is_off : Bool) (sound : IsSound m entry s listed kept count is_off) (state : IsBanksState s.banks) (started : s.started ≡ true) (shut : s.job ≡ None) (j : FeeJob) (content : List ℕ) (room : length content ≡ 4096) (of : IsJobOf m.numbers j) (size : j.length ≤ 4096) where
   abbrev u : Parts
   u = opened j content s
 
@@ -123,9 +108,9 @@ module _ (laws : OpenLaws) (m : Making) (entry : Told) (s : Parts) (listed : Lis
 
   held_at : (bytes : List ℕ) → bytes_now s.fls.flash ≡ Some bytes → IsTrue (tells d) → IsHeld l m.numbers bytes behind h.copied
   held_at bytes at told =
-      let held : IsHeld l m.numbers bytes h.behind h.copied = told_bytes s.fls.flash.bytes (λ (x : List ℕ). IsHeld l m.numbers x h.behind h.copied) bytes at (h.banks.held told) in
+      let held : IsHeld l m.numbers bytes h.behind h.copied = told_at s.fls.flash.bytes (λ (x : List ℕ). IsHeld l m.numbers x h.behind h.copied) bytes at (h.banks.held told) in
       let job = job_in m.numbers st s.last (take s.given s.content) h.behind.old (subst (λ (x : Stand). HasJob m.numbers x h.behind.old) (h.stand ∙ stand_was) held.job) in
-      laws.job l m.numbers bytes h.behind h.copied st (record { lengths = sound.made_for.space.lengths; legal = h.banks.legal; held = held }) job
+      jobs_change l m.numbers bytes h.behind h.copied st (record { lengths = sound.made_for.space.lengths; legal = h.banks.legal; held = held }) job
 
   holds : HoldsBanks (record t { memory = behind }) h.copied
   holds = record {
@@ -171,7 +156,7 @@ module _ (laws : OpenLaws) (m : Making) (entry : Told) (s : Parts) (listed : Lis
 
   pub raised : (d.left ≤ t.left) × (t.left ≤ d.left + most)
   raised =
-      let r = raises laws.few m.reserve s.banks j of_banks idle works.switch some laws.start (take j.length content) in
+      let r = raises m.reserve s.banks j of_banks idle works.switch some (take j.length content) in
       let same = ap (λ (f : Fixed). most_of (figures_at f j.number.0) (op_of jb.mark)) fixed_same in
       let low = r.0 in let high = r.1 in
       (omega (arith, left_was), omega (arith, left_was, same))
@@ -180,14 +165,14 @@ module _ (laws : OpenLaws) (m : Making) (entry : Told) (s : Parts) (listed : Lis
   own_same = ap (λ (f : Fixed). f.own) fixed_same
 
   base_small : d.left ≤ (fixed_in m).own
-  base_small = (let few = base_few laws.few m.reserve s.banks j of_banks idle works.switch some s.banks.course works.switch refl in omega (arith, left_was, own_same))
+  base_small = (let few = base_few m.reserve s.banks j of_banks idle works.switch some s.banks.course works.switch refl in omega (arith, left_was, own_same))
 
   own_is : (fixed_in m).own ≤ 20000000
   own_is = own_small m.numbers m.geometry m.banks m.reserve (subst IsLegal sound.made_for.banks_geometry state.legal) sound.made_for.space
 
   left_fits : t.left < 2 ^ 63
   left_fits =
-      let a = adds laws.few m.reserve s.banks j of_banks idle works.switch some s.banks.course in
+      let a = adds m.reserve s.banks j of_banks idle works.switch some s.banks.course in
       let w = work_of m.reserve s.banks (Some j) in
       let turns = turns_small jb.mark w in
       let wanted = left_wanted s.banks.geometry.page (pages_of_op s.banks.geometry.page j.op j.length) s.banks.log.tail idle in
@@ -206,7 +191,7 @@ module _ (laws : OpenLaws) (m : Making) (entry : Told) (s : Parts) (listed : Lis
   }
 
   pub now : FindsNow (told_of t) (clock_of t)
-  now = finds_now laws.stay laws.held laws.same m entry u behind_it
+  now = finds_now m entry u behind_it
 
   pub in_order : InOrder (told_of t) (clock_of t)
   in_order = order now

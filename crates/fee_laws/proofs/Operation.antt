@@ -25,10 +25,13 @@ use Rattle.fee_told.specs.Parts.{Counts}
 use Rattle.fee_told.specs.Runs.{HasRun, LeavesSound, KeepsWorn, CountsCuts as RunCounts, counts_fault}
 use Rattle.fee_told.specs.Tells.{IsSame}
 use Rattle.fee_told.specs.Whole.{CutsKeep, AreStarted}
+use Rattle.fee_told.proofs.Clocks.{clocks_tick}
+use Rattle.fee_told.proofs.Making.{runs_go_on}
+use Rattle.fee_told.proofs.Parts.{parts_work}
+use Rattle.fee_told.proofs.Whole.{cuts_are_told}
 use Rattle.fee_laws.specs.declared.job.FeeJob.{FeeJob}
 use Rattle.fee_laws.specs.Inside.{Parts, device_of, CountsCuts}
 use Rattle.fee_laws.specs.Turn.{IsOn, Drives, IsCounted}
-use Rattle.fee_laws.proofs.TurnLaws.{Laws}
 use Rattle.fee_laws.proofs.Before.{power, holds, copied, told_at, each_told}
 
 -- COUNTS
@@ -93,7 +96,7 @@ before_told None None op answer new both at = cc at
 before_told None (Some y) op answer new both at = absurd both
 before_told (Some x) y op answer new both at = (x.now, refl)
 
-module _ (laws : Laws) (m : Making) (entry : Told) (s : Parts) (listed : List (DeviceNumber × ℕ)) (kept count : ℕ) (on : IsOn m entry s listed kept count) (op : Op) (answer : FlashAnswer) (f : FlsState) (drives : Drives s.fls f) (asked : IsAsked op s.fls.flash answer f.flash) where
+module _ (m : Making) (entry : Told) (s : Parts) (listed : List (DeviceNumber × ℕ)) (kept count : ℕ) (on : IsOn m entry s listed kept count) (op : Op) (answer : FlashAnswer) (f : FlsState) (drives : Drives s.fls f) (asked : IsAsked op s.fls.flash answer f.flash) where
   abbrev d : Device
   d = device_of m entry s
 
@@ -106,7 +109,7 @@ module _ (laws : Laws) (m : Making) (entry : Told) (s : Parts) (listed : List (D
 
   module _ (keeps : CutsKeep op d) where
     are : CutsArePossible op d × LeavesSound op d
-    are = laws.cuts op d (copied m entry s listed kept count on) (holds m entry s listed kept count on) keeps
+    are = cuts_are_told op d (copied m entry s listed kept count on) (holds m entry s listed kept count on) keeps
 
     module _ (b : BanksState) (job : Option FeeJob) (last : JobResult) (given : ℕ) where
       abbrev pub t : Parts
@@ -122,13 +125,13 @@ module _ (laws : Laws) (m : Making) (entry : Told) (s : Parts) (listed : List (D
       counts = record { makes = makes; on = power m entry s listed kept count on; faults = refl; small = on.sound.device.faults }
 
       pub part_works : answer ≢ Off → PartTurns false (ops_in d) (ops_in e) (part_of d) (part_of e)
-      part_works on' = laws.work op answer d e counts on'
+      part_works on' = parts_work op answer d e counts on'
 
       pub ticks : Ticks First (turn_of answer) (told_of d) (clock_of d) (told_of e) (clock_of e)
-      ticks = laws.tick op answer d e on.sound.device.run.alike makes (failure_counted answer s.faults on.sound.device.faults) are.0
+      ticks = clocks_tick op answer d e on.sound.device.run.alike makes (failure_counted answer s.faults on.sound.device.faults) are.0
 
       pub run : KeepsWorn op d e → HasRun e
-      run worn = laws.more op answer d e on.sound.device.run makes refl (run_counts entry f.flash cuts) are.1 worn
+      run worn = runs_go_on op answer d e on.sound.device.run makes refl (run_counts entry f.flash cuts) are.1 worn
 
       pub same : HasRun e → IsSame d e
       same run' = record { making = refl; entry = refl; old = on.sound.device.run.alike; new = run'.alike }

@@ -11,20 +11,19 @@ use Rattle.memif.specs.Clock.{FindsNow, ArePossible}
 use Rattle.fls_model.specs.Told.{Told, ToldBytes}
 use Rattle.fee_log.specs.declared.tail.Tail.{Tail}
 use Rattle.fee_log.specs.declared.tail.Tail.TheVariants as tail
-use Rattle.fee_course.specs.declared.course.Course.{Course}
-use Rattle.fee_course.specs.declared.course.Course.TheVariants as course
 use Rattle.promise_device.specs.Making.{Making, banks_of}
 use Rattle.fee_told.specs.Slots.{slots_found}
-use Rattle.fee_told.specs.SlotLaws.{PlacesTell}
 use Rattle.fee_told.specs.Device.{Device, tells, told_of, slots_in}
 use Rattle.fee_told.specs.Clock.{clock_of}
-use Rattle.fee_told.specs.Whole.{HeldFindsNow}
 use Rattle.fee_told.specs.Figures.{figures_for, wait_of, turns_owed}
 use Rattle.fee_told.specs.FigureLaws.{IsWork}
+use Rattle.fee_told.proofs.Figures.{left_fits, left_is_bounded, ready_is_kept}
+use Rattle.fee_told.proofs.Steps.{places_tell}
+use Rattle.fee_told.proofs.Whole.{held_finds_now}
 use Rattle.fee_laws.specs.declared.job.FeeJob.{FeeJob}
 use Rattle.fee_laws.specs.Inside.{Parts, mark_of, stand_of, device_of, fixed_in, HoldsBehind}
 use Rattle.fee_laws.specs.Work.{is_owed, turns_before, seal_turns, waits_of, work_of, pages_free}
-use Rattle.fee_laws.proofs.TurnLaws.{Laws}
+use Rattle.fee_laws.proofs.CallOrder.{few_before}
 
 -- THE ONE PART
 each_first : (p own : ℕ) (all ns : List (DeviceNumber × ℕ)) (n : ℕ) → (at_number no_figures all (map (λ (x : DeviceNumber × ℕ). figures_for p own x.1) ns) n).part ≡ First
@@ -51,13 +50,6 @@ owed_one (tail.Writes h done) = omega arith
 owed_one (tail.Owes h next) = omega arith
 owed_one tail.Closed = omega arith
 
-few_before : (t : Tail) (c : Option Course) → turns_before t (seal_turns c) ≤ 2
-few_before t None = let h = owed_one t in omega (arith, h)
-few_before t (Some (course.Erase done)) = let h = owed_one t in omega (arith, h)
-few_before t (Some (course.Copy work)) = let h = owed_one t in omega (arith, h)
-few_before t (Some course.Head) = omega arith
-few_before t (Some (course.Gate failed)) = omega arith
-
 -- FOUND NOW
 pub tells_by : (b : Bool) (o : Option ToldBytes) (f g : List ℕ → List Slot) → ((x : List ℕ) → f x ≡ g x)
     → (if b then option_map f (option_map (λ (y : ToldBytes). y.now) o) else None) ≡ (if b then option_map g (option_map (λ (y : ToldBytes). y.now) o) else None)
@@ -69,19 +61,19 @@ possible_so : (old new : DeviceTold) (x y : Option (List Slot)) (m : _) → new.
 possible_so old new x y m fixed same is = subst (λ (f : Fixed). ArePossible (record new { fixed = f }) y m) (sym fixed) (subst (λ (o : Option (List Slot)). ArePossible (record new { fixed = old.fixed }) o m) same is)
 
 -- what the bytes of another memory's banks show is possible by its own, where the places and the job are the same
-pub behind_finds : HeldFindsNow → PlacesTell → (d : Device) → d.started ≡ true → HoldsBehind d → FindsNow (told_of d) (clock_of d)
-behind_finds finds places d started h m found =
+pub behind_finds : (d : Device) → d.started ≡ true → HoldsBehind d → FindsNow (told_of d) (clock_of d)
+behind_finds d started h m found =
     let e : Device = record d { memory = h.behind } in
-    let now = finds e h.copied h.banks m (record { told = found.told; made = found.made; small = found.small; image = found.image; is = found.is; finds = found.finds }) in
+    let now = held_finds_now e h.copied h.banks m (record { told = found.told; made = found.made; small = found.small; image = found.image; is = found.is; finds = found.finds }) in
     possible_so (told_of e) (told_of d) (told_of e).slots (told_of d).slots m refl (tells_by (tells d) d.flash.bytes (slots_in e) (slots_in d) same) now
   where
     same : (x : List ℕ) → slots_in (record d { memory = h.behind }) x ≡ slots_in d x
     same x =
         let l = banks_of d.making in
-        ap (λ (z : List Slot). if d.started then z else slots_found l d.making.numbers x) (sym (places l d.making.numbers x h.behind d.memory h.places (sym h.stand)))
+        ap (λ (z : List Slot). if d.started then z else slots_found l d.making.numbers x) (sym (places_tell l d.making.numbers x h.behind d.memory h.places (sym h.stand)))
 
 -- IN ORDER
-module _ (laws : Laws) (m : Making) (entry : Told) (t : Parts) (shape : IsLegal m.geometry) (lengths : AreLengths 0 m.numbers) where
+module _ (m : Making) (entry : Told) (t : Parts) (shape : IsLegal m.geometry) (lengths : AreLengths 0 m.numbers) where
   abbrev e : Device
   e = device_of m entry t
 
@@ -105,9 +97,9 @@ module _ (laws : Laws) (m : Making) (entry : Told) (t : Parts) (shape : IsLegal 
 
   pub in_order : IsWork m.geometry.page sectors m.numbers m.reserve stand (work_of m.reserve t.banks t.job) → FindsNow (told_of e) (clock_of e) → InOrder (told_of e) (clock_of e)
   in_order work now = record {
-    bounded = laws.bounded m.geometry.page sectors m.reserve m.numbers stand (work_of m.reserve t.banks t.job) work;
-    fits = laws.fits m.geometry.page sectors m.reserve m.numbers stand (work_of m.reserve t.banks t.job) shape.page_high few_sectors lengths work;
-    ready = laws.ready m.reserve (pages_free t.banks t.job) (nat_le 1 (seal_turns t.banks.course));
+    bounded = left_is_bounded m.geometry.page sectors m.reserve m.numbers stand (work_of m.reserve t.banks t.job) work;
+    fits = left_fits m.geometry.page sectors m.reserve m.numbers stand (work_of m.reserve t.banks t.job) shape.page_high few_sectors lengths work;
+    ready = ready_is_kept m.reserve (pages_free t.banks t.job) (nat_le 1 (seal_turns t.banks.course));
     wait = waits_by t.job;
     second = λ one. refl;
     now = now;

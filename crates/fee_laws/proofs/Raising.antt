@@ -14,15 +14,16 @@ use Rattle.fee_log.specs.Log.{work_in}
 use Rattle.fee_course.specs.declared.course.Course.{Course}
 use Rattle.fee_course.specs.declared.course.Course.TheVariants as course
 use Rattle.fee_course.specs.Course.{most_turns}
-use Rattle.fee_course.specs.Laws.{TurnsAreFew}
+use Rattle.fee_course.proofs.Turns.{turns_are_few}
 use Rattle.fee_switch.specs.Banks.{BanksState, begun_again, left_of as switch_left, left_with, index_of}
 use Rattle.fee_told.specs.Figures.{Work, fixed_for, left_of, turns_of, FitsMark}
-use Rattle.fee_told.specs.FigureLaws.{StartsRaise}
+use Rattle.fee_told.proofs.Figures.{starts_raise}
 use Rattle.fee_laws.specs.declared.job.FeeJob.{FeeJob}
 use Rattle.fee_laws.specs.Inside.{HasSwitch, mark_of}
 use Rattle.fee_laws.specs.Record.{IsJobOf, IsLengthOf}
 use Rattle.fee_laws.specs.Work.{work_of, pages_of_op, pages_left, switch_turns, begins_next, needs_switch, turns_beside, is_waiting, fits_in}
 use Rattle.fee_laws.proofs.Bounds.{copy_among}
+use Rattle.fee_laws.proofs.SwitchFigures.{no_mark}
 
 -- PAGES
 pub left_wanted : (p wanted : ℕ) (t : Tail) → work_in t ≡ None → pages_left p wanted t ≡ wanted
@@ -41,12 +42,6 @@ pub turns_same : (mark : Option Mark) (w : Work) (x : ℕ) → turns_of mark (re
 turns_same None w x = refl
 turns_same (Some mark) w x = refl
 
-not_read : (op : DeviceOp) (bytes : List ℕ) → mark_of op bytes ≡ None → op ≡ Read
-not_read Read bytes e = refl
-not_read Write bytes e = cc
-not_read Invalidate bytes e = cc
-not_read Erase bytes e = cc
-
 -- TESTS
 second_of : (a b c d : Bool) → a && b && c && d ≡ true → b ≡ true
 second_of true true c d e = refl
@@ -63,7 +58,7 @@ writes_pages p Write length of is fits = ap (λ (k : ℕ). record_pages_of k p) 
 writes_pages p Invalidate length of is fits = cc
 writes_pages p Erase length of is fits = cc
 
-module _ (turns_few : TurnsAreFew) (reserve : ℕ) (b : BanksState) (j : FeeJob) (of : IsJobOf b.log.numbers j) (idle : work_in b.log.tail ≡ None) (going : HasSwitch b b.course) (some : 0 < sectors_of_bank b.geometry b.banks) where
+module _ (reserve : ℕ) (b : BanksState) (j : FeeJob) (of : IsJobOf b.log.numbers j) (idle : work_in b.log.tail ≡ None) (going : HasSwitch b b.course) (some : 0 < sectors_of_bank b.geometry b.banks) where
   abbrev p : ℕ
   p = b.geometry.page
 
@@ -93,7 +88,7 @@ module _ (turns_few : TurnsAreFew) (reserve : ℕ) (b : BanksState) (j : FeeJob)
   whole = switch_left (begun_again b (course.Erase 0))
 
   whole_few : whole ≤ own
-  whole_few = turns_few p sectors b.log.numbers b.log.places (clear_flags b.log.numbers) (index_of b.log.numbers (work_in b.log.tail)) (course.Erase 0) (record { short = some; fitting = tt; few = tt })
+  whole_few = turns_are_few p sectors b.log.numbers b.log.places (clear_flags b.log.numbers) (index_of b.log.numbers (work_in b.log.tail)) (course.Erase 0) (record { short = some; fitting = tt; few = tt })
 
   no_need : (op : DeviceOp) (length : ℕ) (x y : Bool) → op ≡ Read → (nat_le 1 (pages_of_op p op length) && x) && y ≡ false
   no_need Read length x y e = refl
@@ -116,15 +111,15 @@ module _ (turns_few : TurnsAreFew) (reserve : ℕ) (b : BanksState) (j : FeeJob)
 
   -- of a switch that is open
   pub base_few : (o : Option Course) → HasSwitch b o → b.course ≡ o → switch_turns reserve b None o ≤ own
-  base_few (Some c) has e = (let left = turns_few p sectors b.log.numbers b.log.places b.log.flags (index_of b.log.numbers (work_in b.log.tail)) c has.1 in let same : switch_left b ≡ left_with b (Some c) = ap (λ (o : Option Course). left_with b o) e in omega arith)
+  base_few (Some c) has e = (let left = turns_are_few p sectors b.log.numbers b.log.places b.log.flags (index_of b.log.numbers (work_in b.log.tail)) c has.1 in let same : switch_left b ≡ left_with b (Some c) = ap (λ (o : Option Course). left_with b o) e in omega arith)
   base_few None has e = omega arith
 
   -- THE RAISE
-  pub raises : StartsRaise → (bytes : List ℕ) → let jb : Job = record { number = j.number.0; mark = mark_of j.op bytes; urgent = j.urgent } in
+  pub raises : (bytes : List ℕ) → let jb : Job = record { number = j.number.0; mark = mark_of j.op bytes; urgent = j.urgent } in
       let fixed = fixed_for p sectors b.log.numbers reserve in
       (switch_turns reserve b None b.course ≤ left_of (Open jb) (work_of reserve b (Some j)))
       × (left_of (Open jb) (work_of reserve b (Some j)) ≤ switch_turns reserve b None b.course + most_of (figures_at fixed jb.number) (op_of jb.mark))
-  raises law bytes =
+  raises bytes =
       let jb : Job = record { number = j.number.0; mark = mark_of j.op bytes; urgent = j.urgent } in
       let w = work_of reserve b (Some j) in
       let a = adds b.course in
@@ -132,7 +127,7 @@ module _ (turns_few : TurnsAreFew) (reserve : ℕ) (b : BanksState) (j : FeeJob)
       let none : Work = record { pages = 0; owed = false; switch = 0 } in
       let wanted = left_wanted p (pages_of_op p j.op j.length) b.log.tail idle in
       let fit = fits_mark p j.op j.length of.length bytes next of.fits wanted in
-      let h = law p sectors reserve b.log.numbers jb none next (record { job = (of.length, of.configured, fit); few = a.most_own }) (omega arith) (λ e. (let zero = a.read (not_read j.op bytes e) in omega arith)) in
+      let h = starts_raise p sectors reserve b.log.numbers jb none next (record { job = (of.length, of.configured, fit); few = a.most_own }) (omega arith) (λ e. (let zero = a.read (no_mark j.op bytes e) in omega arith)) in
       let same = turns_same (mark_of j.op bytes) w a.more in
       let is = a.is in
       (omega arith, (let high = h.1 in omega arith))

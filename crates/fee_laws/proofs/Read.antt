@@ -3,7 +3,7 @@ use Rattle.std.specs.Prelude.{IfSome, IsSome, length, take, map, if◌then◌els
 use Rattle.std.proofs.Common.{◌≡◌, ◌≢◌, ◌⊎◌, inl, inr, ◌≤◌, ◌+◌, ◌==◌, ℕ, Bool, false, List, [], ◌∷◌, Option, Some, None, refl, sym, ap, ◌∙◌, subst, arith}
 use Rattle.std.proofs.lemmas.Bool.{cond_both}
 use Rattle.std.proofs.lemmas.List.{length-take-le}
-use Rattle.nv_base.specs.Count.{Rose, next_count}
+use Rattle.nv_base.specs.Count.{next_count}
 use Rattle.nv_base.specs.Geometry.{address_of_page}
 use Rattle.nv_base.specs.declared.instance.DeviceNumber.{DeviceNumber}
 use Rattle.nv_base.specs.declared.job.DeviceOp.{DeviceOp}
@@ -31,28 +31,24 @@ use Rattle.fee_switch_laws.specs.Shown.{old_shown}
 use Rattle.promise_device.specs.Making.{Making, banks_of}
 use Rattle.fee_told.specs.Slots.{job_leaves, settled_in, slots_found, slots_held}
 use Rattle.fee_told.specs.Device.{slots_in}
+use Rattle.fee_told.proofs.Parts.{rose_more}
 use Rattle.fee_laws.specs.declared.job.FeeJob.{FeeJob}
 use Rattle.fee_laws.specs.Inside.{Parts, body_of, device_of, memory_of}
 use Rattle.fee_laws.specs.Record.{IsJobOf, IsLengthOf}
 use Rattle.fee_laws.specs.Turn.{Turned, ended_as}
 use Rattle.fee_laws.specs.Reads.{IsReading, IsAsked, IsErasedAt, place_now, ContentsAreRead, ReadsFail, MarksAreRead}
-use Rattle.fee_laws.proofs.TurnLaws.{Laws, ReadLaws}
 use Rattle.fee_laws.proofs.Before.{lengths, log_geometry, log_banks, now_at}
 use Rattle.fee_laws.proofs.Heads.{among}
 use Rattle.fee_laws.proofs.Marks.{settled_of, shows_at}
 use Rattle.fee_laws.proofs.Operation.{rose_next}
-use Rattle.fee_laws.proofs.Page.{some_of}
 use Rattle.fee_laws.proofs.Reading.{read_so}
+use Rattle.fee_laws.proofs.FollowLifts.{some_of}
 
 erased_at : (ns : List (DeviceNumber × ℕ)) (n : ℕ) → at_number never_written ns (map (λ (x : DeviceNumber × ℕ). never_written) ns) n ≡ never_written
 erased_at [] n = refl
 erased_at (x ∷ xs) n = cond_both (x.0.0 == n) never_written (at_number never_written xs (map (λ (y : DeviceNumber × ℕ). never_written) xs) n) (λ (k : Held). k ≡ never_written) (λ e. refl) (λ e. erased_at xs n)
 
-more_by : (a b : ℕ) → Rose a b → a ≤ b
-more_by a b (inl less) = omega arith
-more_by a b (inr (big, le)) = le
-
-module _ (laws : Laws) (own : ReadLaws) (m : Making) (entry : Told) (s : Parts) (listed : List (DeviceNumber × ℕ)) (kept count : ℕ) (j : FeeJob) (is : IsReading m entry s listed kept count j) where
+module _ (m : Making) (entry : Told) (s : Parts) (listed : List (DeviceNumber × ℕ)) (kept count : ℕ) (j : FeeJob) (is : IsReading m entry s listed kept count j) where
   abbrev l : Layout
   l = banks_of m
 
@@ -88,7 +84,7 @@ module _ (laws : Laws) (own : ReadLaws) (m : Making) (entry : Told) (s : Parts) 
   in_memory : (result : JobResult) (marked : Mark) → result ≢ JobPending → ((bytes : List ℕ) → (slot_at m.numbers (slots_in (device_of m entry s) bytes) j.number.0).settled.mark ≡ marked) → Reads marked result [] → Gives result (length_of m.numbers j.number.0) [] → (result ≡ JobFailed → ⊥)
       → Turned m entry turn.Worked s (ended_as result s) listed kept count false
   in_memory result marked ended shows reads gives never =
-      read_so laws own m entry s listed kept count j is s.fls.flash.faults s.fls.result s.content result 0 s.faults (omega arith) (inl refl) is.on.sound.made_for.room ended (omega arith)
+      read_so m entry s listed kept count j is s.fls.flash.faults s.fls.result s.content result 0 s.faults (omega arith) (inl refl) is.on.sound.made_for.room ended (omega arith)
       (λ bytes at told. subst (λ (x : Mark). Reads x result []) (sym (shows bytes)) reads) gives (λ failed. absurd (never failed))
 
   mark_at : (bytes : List ℕ) (a : ActiveBank) (p : Place) → s.banks.active ≡ Some a → place_now s j ≡ p → (slot_at m.numbers (slots_in (device_of m entry s) bytes) j.number.0).settled.mark ≡ (held_at (bank_in l a.head.format a.bank) bytes job_of.length p).mark
@@ -108,7 +104,7 @@ module _ (laws : Laws) (own : ReadLaws) (m : Making) (entry : Told) (s : Parts) 
   erased : (s.banks.active ≡ None) ⊎ IsErasedAt (place_now s j) → Turned m entry turn.Worked s (ended_as BlockInconsistent s) listed kept count false
   erased either = in_memory BlockInconsistent mark.Erased (λ same. cc) (erased_by s.banks.active refl either) refl refl (λ same. cc)
 
-module _ (laws : Laws) (own : ReadLaws) (m : Making) (entry : Told) (s : Parts) (listed : List (DeviceNumber × ℕ)) (kept count : ℕ) (j : FeeJob) (is : IsReading m entry s listed kept count j) (at written : ℕ) (content : List ℕ) (f : FlsState) where
+module _ (m : Making) (entry : Told) (s : Parts) (listed : List (DeviceNumber × ℕ)) (kept count : ℕ) (j : FeeJob) (is : IsReading m entry s listed kept count j) (at written : ℕ) (content : List ℕ) (f : FlsState) where
   abbrev lay : Layout
   lay = banks_of m
 
@@ -118,22 +114,22 @@ module _ (laws : Laws) (own : ReadLaws) (m : Making) (entry : Told) (s : Parts) 
 
   -- what a content's number has settled
   content_is : (a : ActiveBank) → s.banks.active ≡ Some a → place_now s j ≡ Content at written → (bytes : List ℕ)
-      → (slot_at m.numbers (slots_in (device_of m entry s) bytes) j.number.0).settled.mark ≡ mark.Content (piece (address_of_page m.geometry m.banks a.bank (at + 2)) (job_of laws own m entry s listed kept count j is).length bytes)
-  content_is a active place bytes = mark_at laws own m entry s listed kept count j is bytes a (Content at written) active place
+      → (slot_at m.numbers (slots_in (device_of m entry s) bytes) j.number.0).settled.mark ≡ mark.Content (piece (address_of_page m.geometry m.banks a.bank (at + 2)) (job_of m entry s listed kept count j is).length bytes)
+  content_is a active place bytes = mark_at m entry s listed kept count j is bytes a (Content at written) active place
 
   pub is_read : IsAsked s j at written content Done f → Turned m entry turn.Worked s (record s { fls = f; content = content; job = None; last = JobOk; given = j.length }) listed kept count false
   is_read asked =
       let a = some_of s.banks.active asked.active in
-      let size = size_is laws own m entry s listed kept count j is in
-      let whole : length (take j.length content) ≡ j.length = length-take-le j.length content (let x = few laws own m entry s listed kept count j is in omega (arith, x, asked.room)) in
+      let size = size_is m entry s listed kept count j is in
+      let whole : length (take j.length content) ≡ j.length = length-take-le j.length content (let x = few m entry s listed kept count j is in omega (arith, x, asked.room)) in
       let bank = (subst (λ (x : Option ActiveBank). IfSome x (λ y. (y.bank ≡ s.banks.target → ⊥) × (s.banks.log.bank ≡ y.bank))) a.1 is.on.banks.active).1 in
       subst (λ (x : FlsState). Turned m entry turn.Worked s (record s { fls = x; content = content; job = None; last = JobOk; given = j.length }) listed kept count false)
       (driver s.fls.flash.faults asked.only asked.read.1)
-      (read_so laws own m entry s listed kept count j is s.fls.flash.faults f.result content JobOk j.length s.faults (omega arith) (inl refl) asked.room (λ same. cc) (few laws own m entry s listed kept count j is)
+      (read_so m entry s listed kept count j is s.fls.flash.faults f.result content JobOk j.length s.faults (omega arith) (inl refl) asked.room (λ same. cc) (few m entry s listed kept count j is)
       (λ bytes now told. subst (λ (x : Mark). Reads x JobOk (take j.length content)) (sym (content_is a.0 a.1 asked.place bytes))
       (now_at s.fls.flash.bytes (λ (b : List ℕ). take j.length content ≡ piece (address_of_page s.banks.log.geometry s.banks.log.banks s.banks.log.bank (at + 2)) (length (take j.length content)) b) bytes now asked.read.0
       ∙ (λ i. piece (address_of_page (log_geometry m entry s listed kept count is.on i) (log_banks m entry s listed kept count is.on i) (bank i) (at + 2)) ((whole ∙ size) i) bytes)))
-      (subst (λ (o : Option ℕ). Gives JobOk o (take j.length content)) (sym (job_of laws own m entry s listed kept count j is).configured) (whole ∙ size))
+      (subst (λ (o : Option ℕ). Gives JobOk o (take j.length content)) (sym (job_of m entry s listed kept count j is).configured) (whole ∙ size))
       (λ failed. cc))
 
   pub has_failed : IsAsked s j at written content Failed f → Turned m entry turn.Worked s (ended_as JobFailed (record s { fls = f; content = content; faults = next_count s.faults })) listed kept count false
@@ -141,15 +137,15 @@ module _ (laws : Laws) (own : ReadLaws) (m : Making) (entry : Told) (s : Parts) 
       let a = some_of s.banks.active asked.active in
       subst (λ (x : FlsState). Turned m entry turn.Worked s (ended_as JobFailed (record s { fls = x; content = content; faults = next_count s.faults })) listed kept count false)
       (driver f.flash.faults asked.only asked.read.1)
-      (read_so laws own m entry s listed kept count j is f.flash.faults f.result content JobFailed 0 (next_count s.faults) (more_by s.fls.flash.faults f.flash.faults asked.read.0) (inr (refl, asked.read.0)) asked.room (λ same. cc) (omega arith)
+      (read_so m entry s listed kept count j is f.flash.faults f.result content JobFailed 0 (next_count s.faults) (rose_more s.fls.flash.faults f.flash.faults asked.read.0) (inr (refl, asked.read.0)) asked.room (λ same. cc) (omega arith)
       (λ bytes now told. subst (λ (x : Mark). Reads x JobFailed []) (sym (content_is a.0 a.1 asked.place bytes)) refl)
       refl (λ failed. rose_next s.faults is.on.sound.device.faults))
 
-pub contents_are_read : Laws → ReadLaws → ContentsAreRead
-contents_are_read laws own m entry s listed kept count j at written content f is asked = is_read laws own m entry s listed kept count j is at written content f asked
+pub contents_are_read : ContentsAreRead
+contents_are_read m entry s listed kept count j at written content f is asked = is_read m entry s listed kept count j is at written content f asked
 
-pub reads_fail : Laws → ReadLaws → ReadsFail
-reads_fail laws own m entry s listed kept count j at written content f is asked = has_failed laws own m entry s listed kept count j is at written content f asked
+pub reads_fail : ReadsFail
+reads_fail m entry s listed kept count j at written content f is asked = has_failed m entry s listed kept count j is at written content f asked
 
-pub marks_are_read : Laws → ReadLaws → MarksAreRead
-marks_are_read laws own m entry s listed kept count j is = (invalid laws own m entry s listed kept count j is, erased laws own m entry s listed kept count j is)
+pub marks_are_read : MarksAreRead
+marks_are_read m entry s listed kept count j is = (invalid m entry s listed kept count j is, erased m entry s listed kept count j is)

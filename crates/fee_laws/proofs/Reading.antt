@@ -37,6 +37,11 @@ use Rattle.fee_told.specs.Clock.{MakesNone, clock_of}
 use Rattle.fee_told.specs.Runs.{HasRun}
 use Rattle.fee_told.specs.Figures.{ready_of, turns_of, left_of as turns_left}
 use Rattle.fee_told.specs.FigureLaws.{IsWork}
+use Rattle.fee_told.proofs.Kept.{same_places}
+use Rattle.fee_told.proofs.Clocks.{clocks_pass}
+use Rattle.fee_told.proofs.Jobs.{jobs_change}
+use Rattle.fee_told.proofs.Making.{runs_stay}
+use Rattle.fee_told.proofs.Parts.{parts_read}
 use Rattle.fee_laws.specs.declared.job.FeeJob.{FeeJob}
 use Rattle.fee_laws.specs.Copied.{flags_of, IsCopying}
 use Rattle.fee_laws.specs.Inside.{Parts, body_of, device_of, memory_of, mark_of, stand_of, fixed_in, flags_in, HoldsBehind, IsAtWork, ShowsCopies, TellsCopies, IsSound}
@@ -44,14 +49,13 @@ use Rattle.fee_laws.specs.Record.{IsInWork, IsJobOf}
 use Rattle.fee_laws.specs.Work.{work_of, switch_turns, begins_next, claimed, pages_free, pages_of_op, seal_turns, is_waiting, fits_in, takes_append}
 use Rattle.fee_laws.specs.Turn.{Turned}
 use Rattle.fee_laws.specs.Reads.{IsReading}
-use Rattle.fee_laws.proofs.TurnLaws.{Laws, ReadLaws}
 use Rattle.fee_laws.proofs.Before.{power, shape, lengths, legal, some, copied, held_at, now_at, each_now, each_told}
 use Rattle.fee_laws.proofs.Order.{first_of, urgent_is, tells_by, behind_finds, in_order}
-use Rattle.fee_laws.proofs.Places.{same_places}
 use Rattle.fee_laws.proofs.Marks.{same_with}
 use Rattle.fee_laws.proofs.Appended.{few_left}
 use Rattle.fee_laws.proofs.Failed.{resting_few}
 use Rattle.fee_laws.proofs.GoneOn.{if_else}
+use Rattle.fee_laws.proofs.Figures.{and_four}
 
 -- no record is in work while a read is open
 idle_by : (s : BanksState) (job : Option FeeJob) (j : FeeJob) (o : Option RecHead) → job ≡ Some j → j.op ≡ Read → IfSome o (IsInWork s job) → o ≡ None
@@ -78,11 +82,6 @@ ends_fewer : (reserve : ℕ) (b : BanksState) (job : Option FeeJob) (c : Option 
 ends_fewer reserve b job None = omega arith
 ends_fewer reserve b job (Some c) = omega arith
 
-and_first : (a b c : Bool) → a && b && false && c ≡ false
-and_first true true c = refl
-and_first true false c = refl
-and_first false b c = refl
-
 reads_by : (number : ℕ) (b : Bool) (o : Option ToldBytes) (slots : List ℕ → List Slot) (numbers : List (DeviceNumber × ℕ)) (old : DeviceTold) (result : JobResult) (given : List ℕ)
     → ((bytes : List ℕ) → option_map (λ (y : ToldBytes). y.now) o ≡ Some bytes → b ≡ true → Reads (slot_at old.fixed.numbers (slots bytes) number).settled.mark result given)
     → ReadsAt number (if b then option_map slots (option_map (λ (y : ToldBytes). y.now) o) else None) result given old
@@ -90,7 +89,7 @@ reads_by number false o slots numbers old result given each = tt
 reads_by number true None slots numbers old result given each = tt
 reads_by number true (Some y) slots numbers old result given each = each y.now refl refl
 
-module _ (laws : Laws) (own : ReadLaws) (m : Making) (entry : Told) (s : Parts) (listed : List (DeviceNumber × ℕ)) (kept count : ℕ) (j : FeeJob) (is : IsReading m entry s listed kept count j) (flash_faults : ℕ) (fls_result : FlsResult) (content : List ℕ) (result : JobResult) (given faults : ℕ) (more : s.fls.flash.faults ≤ flash_faults) (counted : (faults ≡ s.faults) ⊎ ((faults ≡ next_count s.faults) × Rose s.fls.flash.faults flash_faults)) (room : length content ≡ 4096) (ended : result ≢ JobPending) (few_given : given ≤ 4096) where
+module _ (m : Making) (entry : Told) (s : Parts) (listed : List (DeviceNumber × ℕ)) (kept count : ℕ) (j : FeeJob) (is : IsReading m entry s listed kept count j) (flash_faults : ℕ) (fls_result : FlsResult) (content : List ℕ) (result : JobResult) (given faults : ℕ) (more : s.fls.flash.faults ≤ flash_faults) (counted : (faults ≡ s.faults) ⊎ ((faults ≡ next_count s.faults) × Rose s.fls.flash.faults flash_faults)) (room : length content ≡ 4096) (ended : result ≢ JobPending) (few_given : given ≤ 4096) where
   abbrev pub t : Parts
   t = record s { fls = record s.fls { flash = record s.fls.flash { faults = flash_faults }; result = fls_result }; content = content; job = None; last = result; given = given; faults = faults }
 
@@ -126,7 +125,7 @@ module _ (laws : Laws) (own : ReadLaws) (m : Making) (entry : Told) (s : Parts) 
 
   held_then : (bytes : List ℕ) (wide : May) → IsHeld l m.numbers bytes mem wide → IsHeld l m.numbers bytes (memory_of t) wide
   held_then bytes wide held = subst (λ (x : Memory). IsHeld l m.numbers bytes x wide) (sym mem_is)
-      (own.job l m.numbers bytes mem wide stand (record { lengths = lengths m entry s listed kept count is.on; legal = legal m entry s listed kept count is.on laws.legal; held = held }) has_job)
+      (jobs_change l m.numbers bytes mem wide stand (record { lengths = lengths m entry s listed kept count is.on; legal = legal m entry s listed kept count is.on; held = held }) has_job)
 
   none : MakesNone d e
   none = record { making = refl; entry = refl; operations = refl; bytes = refl }
@@ -143,7 +142,7 @@ module _ (laws : Laws) (own : ReadLaws) (m : Making) (entry : Told) (s : Parts) 
   few_faults own own' few (inr (is', rose)) = omega arith
 
   run_on : HasRun e
-  run_on = own.run d e is.on.sound.device.run (record { none = none; bytes = refl; counts = (refl, refl); flash_faults = more; faults = faults_counted s.fls.flash.faults flash_faults s.faults faults entry.faults more counted is.on.sound.device.run.faults; cuts = is.on.sound.device.run.cuts; worn = λ since worn. inl worn })
+  run_on = runs_stay d e is.on.sound.device.run (record { none = none; bytes = refl; counts = (refl, refl); flash_faults = more; faults = faults_counted s.fls.flash.faults flash_faults s.faults faults entry.faults more counted is.on.sound.device.run.faults; cuts = is.on.sound.device.run.cuts; worn = λ since worn. inl worn })
 
   behind : HoldsBehind e
   behind = record {
@@ -152,7 +151,7 @@ module _ (laws : Laws) (own : ReadLaws) (m : Making) (entry : Told) (s : Parts) 
     banks = record {
       started = is.on.started;
       alike = run_on.alike;
-      legal = legal m entry s listed kept count is.on laws.legal;
+      legal = legal m entry s listed kept count is.on;
       some = some m entry s listed kept count is.on;
       held = λ told. each_told s.fls.flash.bytes (λ (x : List ℕ). IsHeld l m.numbers x (memory_of t) (copied m entry s listed kept count is.on)) (λ bytes at.
           held_then bytes (copied m entry s listed kept count is.on) (held_at m entry s listed kept count is.on bytes at told));
@@ -198,7 +197,7 @@ module _ (laws : Laws) (own : ReadLaws) (m : Making) (entry : Told) (s : Parts) 
   -- THE PARTS
   work_then : IsWork m.geometry.page (sectors_of_bank m.geometry m.banks) m.numbers m.reserve stand (work_of m.reserve s.banks None)
   work_then =
-      let few = few_left own.few s.banks at_work.switch in
+      let few = few_left s.banks at_work.switch in
       let fits = subst (λ (g : Geometry). left_of s.banks ≤ most_turns g.page (sectors_of_bank g s.banks.banks) s.banks.log.numbers) is.on.sound.made_for.banks_geometry few in
       let fits2 = subst (λ (n : ℕ). left_of s.banks ≤ most_turns m.geometry.page (sectors_of_bank m.geometry n) s.banks.log.numbers) is.on.sound.made_for.shared fits in
       let fits3 = subst (λ (ns : List (DeviceNumber × ℕ)). left_of s.banks ≤ most_turns m.geometry.page (sectors_of_bank m.geometry m.banks) ns) is.on.sound.made_for.numbers fits2 in
@@ -223,7 +222,7 @@ module _ (laws : Laws) (own : ReadLaws) (m : Making) (entry : Told) (s : Parts) 
         device = record {
           run = run_on;
           held = λ started. behind;
-          order = in_order laws m entry t (shape m entry s listed kept count is.on) (lengths m entry s listed kept count is.on) work_then (behind_finds laws.finds laws.places e is.on.started behind);
+          order = in_order m entry t (shape m entry s listed kept count is.on) (lengths m entry s listed kept count is.on) work_then (behind_finds e is.on.started behind);
           faults = few_faults s.faults faults is.on.sound.device.faults counted;
         };
         rests = λ stopped. (let h = is.on.started in absurd (cc (h, stopped)));
@@ -261,7 +260,7 @@ module _ (laws : Laws) (own : ReadLaws) (m : Making) (entry : Told) (s : Parts) 
   none_claimed : claimed s.banks s.job ≡ 0
   none_claimed =
       let waits : is_waiting s.banks j ≡ false = ap (λ (o : DeviceOp). nat_le 1 (pages_of_op s.banks.geometry.page o j.length) && not (is_some (work_in s.banks.log.tail))) is.op in
-      let begins : begins_next s.banks j ≡ false = (λ i. takes_append s.banks.course && j.urgent && waits i && fits_in 0 s.banks j) ∙ and_first (takes_append s.banks.course) j.urgent (fits_in 0 s.banks j) in
+      let begins : begins_next s.banks j ≡ false = (λ i. takes_append s.banks.course && j.urgent && waits i && fits_in 0 s.banks j) ∙ and_four (takes_append s.banks.course) j.urgent (fits_in 0 s.banks j) in
       ap (claimed s.banks) is.job ∙ ap (λ (b : Bool). if b then pages_of_op s.banks.geometry.page j.op j.length else 0) begins
 
   ready_same : (told_of d).ready ≤ (told_of e).ready
@@ -288,7 +287,7 @@ module _ (laws : Laws) (own : ReadLaws) (m : Making) (entry : Told) (s : Parts) 
       only = refl;
       up = is.on.started;
       of = subst (λ (o : Option FeeJob). IsOf First (fixed_in m) (at o)) (sym is.job) (tt, sym (first_of m j.number.0));
-      part = own.read d e (record { flash = refl; operations = refl; more = more; faults = counted; small = is.on.sound.device.faults }) (power m entry s listed kept count is.on);
+      part = parts_read d e (record { flash = refl; operations = refl; more = more; faults = counted; small = is.on.sound.device.faults }) (power m entry s listed kept count is.on);
       job = subst (λ (o : Option FeeJob). JobTurns First (at o) stand (told_of d) (told_of e) (clock_of e)) (sym is.job) (ends, λ failed. inl (may_fail failed));
       read = λ read. (refl, same_slots);
       nearer = inl falls_at;
@@ -300,7 +299,7 @@ module _ (laws : Laws) (own : ReadLaws) (m : Making) (entry : Told) (s : Parts) 
       turns = (
         (
           subst (λ (o : Option FeeJob). not (is_open (at o)) && not (told_of d).switching ≡ false) (sym is.job) refl,
-          (First, works, own.pass turn.Worked d e none (inl refl)),
+          (First, works, clocks_pass turn.Worked d e none (inl refl)),
         ),
         sound.device.order,
       );

@@ -18,6 +18,7 @@ use Rattle.fee_laws.specs.declared.job.FeeJob.{FeeJob}
 use Rattle.fee_laws.specs.Inside.{Parts, body_of, device_of, memory_of, stand_of, fixed_in, IsSound}
 use Rattle.fee_laws.specs.Rests.{IdleTurns, OffTurns}
 use Rattle.fee_laws.proofs.Order.{first_of}
+use Rattle.fee_laws.proofs.Figures.{and_false}
 
 same_clock : (c : Clock) → SameClock c c
 same_clock c = record { may_find = λ w m. ((λ h. h), (λ h. h)); off_in = λ k. ((λ h. h), (λ h. h)); failed = λ k. ((λ h. h), (λ h. h)); worn = λ k n. ((λ h. h), (λ h. h)); of_second = λ k. ((λ h. h), (λ h. h)) }
@@ -34,10 +35,6 @@ open_by (Some (course.Copy w)) s body some = refl
 open_by (Some course.Head) s body some = refl
 open_by (Some (course.Gate failed)) s body some = refl
 
-and_none : (b : Bool) → b && false ≡ false
-and_none true = refl
-and_none false = refl
-
 module _ (m : Making) (entry : Told) (s : Parts) (listed : List (DeviceNumber × ℕ)) (kept count : ℕ) (is_off : Bool) (sound : IsSound m entry s listed kept count is_off) where
   abbrev at : Option FeeJob → Stand
   at o = stand_of s.content o s.last s.given
@@ -50,7 +47,7 @@ module _ (m : Making) (entry : Told) (s : Parts) (listed : List (DeviceNumber ×
 
   nothing : (s.started ≡ false) ⊎ ((s.job ≡ None) × (s.banks.course ≡ None)) → nothing_open (told_of (device_of m entry s)) ≡ true
   nothing (inl stopped) = shut_now (sound.rests stopped).job (λ i. stopped i && is_switching (memory_of s).phase)
-  nothing (inr (job, shut)) = shut_now job (ap (λ (b : Bool). s.started && b) (shut_by s.banks.course s.banks target_body shut) ∙ and_none s.started)
+  nothing (inr (job, shut)) = shut_now job (ap (λ (b : Bool). s.started && b) (shut_by s.banks.course s.banks target_body shut) ∙ and_false s.started)
 
   -- the work is that of its one part
   of_by : (o : Option FeeJob) → IsOf First (fixed_in m) (at o)
@@ -63,7 +60,7 @@ module _ (m : Making) (entry : Told) (s : Parts) (listed : List (DeviceNumber ×
 
   something : s.started ≡ true → IsSome s.job ⊎ IsSome s.banks.course → nothing_open (told_of (device_of m entry s)) ≡ false
   something started (inl job) = open_job s.job (not (s.started && is_switching (memory_of s).phase)) job
-  something started (inr open') = (λ i. not (is_open (at s.job)) && not (started i && open_by s.banks.course s.banks target_body open' i)) ∙ and_none (not (is_open (at s.job)))
+  something started (inr open') = (λ i. not (is_open (at s.job)) && not (started i && open_by s.banks.course s.banks target_body open' i)) ∙ and_false (not (is_open (at s.job)))
 
 pub idle_turns : IdleTurns
 idle_turns m entry s listed kept count is_off sound rests = ((nothing m entry s listed kept count is_off sound rests, refl, same_clock (clock_of (device_of m entry s))), sound.device.order)

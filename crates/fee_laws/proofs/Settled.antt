@@ -24,6 +24,7 @@ use Rattle.fee_course.specs.declared.course.Course.TheVariants as course
 use Rattle.fee_switch.specs.Banks.{appended_at}
 use Rattle.fee_switch_laws.specs.Flags.{IsOpenFor}
 use Rattle.fee_switch_laws.specs.Shown.{old_shown}
+use Rattle.fee_switch_laws.proofs.Flags.{is_placed}
 use Rattle.fee_told.specs.Slots.{held_all, settled_in, slots_with, writes_of}
 use Rattle.fee_laws.specs.Copied.{flags_of, IsCopyIn}
 use Rattle.fee_laws.proofs.Beside.{or_left}
@@ -56,9 +57,6 @@ kind_is : (a b : Bool) (at count : ℕ) → true ≡ is_written (if a then Conte
 kind_is true b at count = refl
 kind_is false true at count = refl
 kind_is false false at count = refl
-
-is_placed : (h : RecHead) (at : ℕ) → true ≡ is_written (place_at at h)
-is_placed h at = kind_is (h.kind == 1) (h.kind == 2) at h.count
 
 -- a record that is noted is its number's
 abbrev pub Notes : RecHead → List (DeviceNumber × ℕ) → Type 0

@@ -1,13 +1,13 @@
 -- A start-up.
-use Rattle.std.specs.Prelude.{IfSome, IsTrue, option_map, ◌&&◌}
+use Rattle.std.specs.Prelude.{IfSome, IsTrue, ◌&&◌}
 use Rattle.std.proofs.Common.{◌≡◌, ◌⊎◌, inl, inr, ◌≤◌, ◌<◌, ◌+◌, ◌*◌, ℕ, Bool, true, false, if◌then◌else◌, List, [], ◌∷◌, length, Option, Some, None, Ok, Err, refl, sym, ap, ◌∙◌, subst, arith}
-use Rattle.std.proofs.lemmas.Bool.{cases_lt}
 use Rattle.nv_base.specs.Count.{Rose, next_count, last_count, WereCounted}
-use Rattle.nv_base.specs.Geometry.{IsLegal, HasBanks, BanksFill, size_of}
+use Rattle.nv_base.specs.Geometry.{IsLegal, HasBanks, size_of}
 use Rattle.nv_base.specs.Lengths.{AreLengths}
 use Rattle.nv_base.specs.Plan.{dropped}
 use Rattle.nv_base.specs.declared.geometry.Geometry.{Geometry}
 use Rattle.nv_base.specs.declared.instance.DeviceNumber.{DeviceNumber}
+use Rattle.nv_base.proofs.Shapes.{banks_fill}
 use Rattle.memif.specs.declared.answer.JobResult.TheVariants.{JobOk}
 use Rattle.memif.specs.declared.answer.StartFault.TheVariants.{Fault}
 use Rattle.memif.specs.Told.{Slot, Ended, no_part, slot_at}
@@ -15,15 +15,15 @@ use Rattle.memif.specs.Marks.{IsPossible, ComesFrom, EachNumber}
 use Rattle.memif.specs.Clock.{FindsNow}
 use Rattle.memif.specs.Calls.{StartsUp, PowersUp, ClockStays}
 use Rattle.fls_model.specs.Attach.{AreBytesOf}
-use Rattle.fls_model.specs.Told.{Told, ToldBytes, bytes_now}
+use Rattle.fls_model.specs.Told.{Told, bytes_now}
 use Rattle.fls_jobs.specs.declared.answer.FlsResult.{FlsResult}
 use Rattle.fee_image.specs.Image.{Layout, layout_of, bank_in, active_of}
-use Rattle.fee_image.specs.Laws.{LayoutsAreLegal}
 use Rattle.fee_image.specs.Sound.{IsSoundImage}
 use Rattle.fee_image.specs.LogLaws.{loaded_log}
 use Rattle.fee_image.specs.Log.{Log}
 use Rattle.fee_image.specs.May.{May}
-use Rattle.fee_image.specs.Banks.{Old, NoBank, OldBank, Phase, Idle}
+use Rattle.fee_image.specs.Banks.{OldBank, Phase, Idle}
+use Rattle.fee_image.proofs.Sectors.{layouts_are_legal}
 use Rattle.fee_switch.specs.declared.active.ActiveBank.{ActiveBank}
 use Rattle.fee_switch.specs.Active.{active_shown}
 use Rattle.fee_log.specs.Log.{work_in, tail_with, log_of}
@@ -34,48 +34,38 @@ use Rattle.fee_switch_laws.specs.Shown.{old_shown, phase_shown}
 use Rattle.promise_device.specs.Making.{Making, banks_of}
 use Rattle.promise_device.specs.Image.{IsSoundFlash}
 use Rattle.fee_told.specs.Slots.{Memory, slots_held, slots_found, held_of, banks_with, may_told}
-use Rattle.fee_told.specs.SlotLaws.{ImagesFind, PlacesTell, SamePlaces, IsStarted, UnstartedFind, UnstartedIsFound, IsHeld}
+use Rattle.fee_told.specs.SlotLaws.{IsStarted, IsHeld}
 use Rattle.fee_told.specs.Device.{Device, tells, told_of, part_of, slots_in, is_switching}
-use Rattle.fee_told.specs.Clock.{ClocksStay, MakesNone, clock_of}
-use Rattle.fee_told.specs.Parts.{PartsPower}
-use Rattle.fee_told.specs.Runs.{HasRun, RunsStay}
-use Rattle.fee_told.specs.Tells.{TellsStart, IsSame, was}
-use Rattle.fee_told.specs.Jobs.{BanksStart, NoBankStarts, MayStart, AreStarted}
-use Rattle.fee_told.specs.Whole.{HoldsBanks, HeldFindsNow, UnstartedFindsNow}
+use Rattle.fee_told.specs.Clock.{MakesNone, clock_of}
+use Rattle.fee_told.specs.Runs.{HasRun}
+use Rattle.fee_told.specs.Tells.{IsSame, was}
+use Rattle.fee_told.specs.Jobs.{MayStart, AreStarted}
+use Rattle.fee_told.specs.Whole.{HoldsBanks}
 use Rattle.fee_told.specs.Figures.{left_of}
 use Rattle.fee_format.specs.declared.rec_head.RecHead.{RecHead}
 use Rattle.fee_log.specs.Index.{clear_flags}
 use Rattle.fee_switch_laws.specs.Space.{HasSpace}
 use Rattle.fee_switch_laws.specs.KeepsRoom.{IsRoomy}
+use Rattle.fee_told.proofs.Kept.{same_places}
+use Rattle.fee_told.proofs.Clocks.{clocks_stay}
+use Rattle.fee_told.proofs.Held.{images_find}
+use Rattle.fee_told.proofs.Jobs.{banks_start as told_banks_start, no_bank_starts}
+use Rattle.fee_told.proofs.Making.{runs_stay}
+use Rattle.fee_told.proofs.Parts.{parts_power}
+use Rattle.fee_told.proofs.Steps.{places_tell, unstarted_find, unstarted_is_found}
+use Rattle.fee_told.proofs.Tells.{tells_start}
+use Rattle.fee_told.proofs.Whole.{held_finds_now, unstarted_finds_now}
 use Rattle.fee_laws.specs.Inside.{Parts, memory_of, body_of, device_of, IsMadeFor, IsDevice, IsSound, HoldsBehind, HasSwitch, IsAtWork, ShowsCopies}
 use Rattle.fee_laws.specs.Record.{IsInWork}
 use Rattle.fee_laws.specs.Parts.{started_with}
 use Rattle.fee_laws.specs.Work.{work_of}
-use Rattle.fee_laws.specs.CallLaws.{AreOf, AreReady}
-use Rattle.fee_laws.proofs.Making.{some_told, none_shows}
+use Rattle.fee_laws.specs.CallLaws.{AreOf, AreReady, StartsAreReady, StartsFail}
+use Rattle.fee_laws.proofs.Making.{none_shows}
 use Rattle.fee_laws.proofs.CallOrder.{at_rest, nothing_left}
-
--- the laws that a start-up stands on
-pub record Laws : Type 0 where
-  pub stay : ClocksStay
-  pub runs : RunsStay
-  pub power : PartsPower
-  pub tell : TellsStart
-  pub start : BanksStart
-  pub blank : NoBankStarts
-  pub held : HeldFindsNow
-  pub found : UnstartedFindsNow
-  pub images : ImagesFind
-  pub same : PlacesTell
-  pub unstarted : UnstartedFind
-  pub is_found : UnstartedIsFound
-  pub legal : LayoutsAreLegal
-  pub fill : BanksFill
+use Rattle.fee_laws.proofs.Before.{each_told, now_at, some_told, told_at}
+use Rattle.fee_laws.proofs.Operation.{rose_next}
 
 -- COUNTS
-rose_next : (n : ℕ) → n ≤ last_count → Rose n (next_count n)
-rose_next n few = elim (cases_lt n last_count) [ inl less ↦ inl (omega arith) | inr big ↦ inr (big, omega arith) ]
-
 abbrev pub Counted : ℕ → ℕ → ℕ → ℕ → Type 0
 Counted a b own own' = (own' ≡ own) ⊎ ((own' ≡ next_count own) × Rose a b)
 
@@ -95,33 +85,17 @@ sound_in : (m : Making) (bytes : List ℕ) → 0 < length bytes → IsSoundFlash
 sound_in m [] some sound = absurd (omega arith)
 sound_in m (x ∷ xs) some sound = sound
 
-pub told_bytes : (o : Option ToldBytes) (P : List ℕ → Type 0) (bytes : List ℕ) → option_map (λ (b : ToldBytes). b.now) o ≡ Some bytes → IfSome (option_map (λ (b : ToldBytes). b.now) o) P → P bytes
-told_bytes None P bytes is holds = cc is
-told_bytes (Some b) P bytes is holds = subst P (cc is) holds
-
-pub told_now : (o : Option ToldBytes) (P : List ℕ → Type 0) (bytes : List ℕ) → option_map (λ (b : ToldBytes). b.now) o ≡ Some bytes → IfSome o (λ b. P b.now) → P bytes
-told_now None P bytes is holds = cc is
-told_now (Some b) P bytes is holds = subst P (cc is) holds
-
 at_most : (a b c : ℕ) → a ≡ c → b ≡ c → a ≤ b
 at_most a b c x y = omega (arith, x, y)
 
 pub same_bytes : (o : Option (List ℕ)) (x y : List ℕ) → o ≡ Some x → o ≡ Some y → x ≡ y
 same_bytes o x y a b = cc (a, b)
 
-pub each_told : (o : Option ToldBytes) (P : List ℕ → Type 0) → ((bytes : List ℕ) → option_map (λ (b : ToldBytes). b.now) o ≡ Some bytes → P bytes) → IfSome (option_map (λ (b : ToldBytes). b.now) o) P
-each_told None P holds = tt
-each_told (Some b) P holds = holds b.now refl
-
-pub same_places : (old : Old) → SamePlaces old old
-same_places NoBank = tt
-same_places (OldBank k h log) = (refl, refl, refl)
-
 -- no job is open, nothing more may be copied
 none_copied : May
 none_copied number length = None
 
-module _ (laws : Laws) (m : Making) (entry : Told) (s : Parts) (made : IsMadeFor m s) (is : IsDevice (device_of m entry s)) (lengths : AreLengths 0 m.numbers) (b : BanksState) (are : AreOf m b) (result : FlsResult) (flash_faults : ℕ) (ready : Bool) (faults : ℕ) (more : s.fls.flash.faults ≤ flash_faults) (counted : Counted s.fls.flash.faults flash_faults s.faults faults) where
+module _ (m : Making) (entry : Told) (s : Parts) (made : IsMadeFor m s) (is : IsDevice (device_of m entry s)) (lengths : AreLengths 0 m.numbers) (b : BanksState) (are : AreOf m b) (result : FlsResult) (flash_faults : ℕ) (ready : Bool) (faults : ℕ) (more : s.fls.flash.faults ≤ flash_faults) (counted : Counted s.fls.flash.faults flash_faults s.faults faults) where
   abbrev d : Device
   d = device_of m entry s
 
@@ -144,7 +118,7 @@ module _ (laws : Laws) (m : Making) (entry : Told) (s : Parts) (made : IsMadeFor
   none = record { making = refl; entry = refl; operations = refl; bytes = refl }
 
   run : HasRun t
-  run = laws.runs d t is.run (record {
+  run = runs_stay d t is.run (record {
     none = none;
     bytes = refl;
     counts = (refl, refl);
@@ -155,7 +129,7 @@ module _ (laws : Laws) (m : Making) (entry : Told) (s : Parts) (made : IsMadeFor
   })
 
   part : PowersUp (part_of d) (part_of t)
-  part = laws.power d t (record { off = refl; planning = refl; operations = refl; more = more; faults = counted; small = is.faults })
+  part = parts_power d t (record { off = refl; planning = refl; operations = refl; more = more; faults = counted; small = is.faults })
 
   second : PowersUp no_part no_part
   second = record { only = refl; faults = record { faults = omega arith; flash = omega arith; tied = inl (omega arith) }; off = λ e. e }
@@ -170,10 +144,10 @@ module _ (laws : Laws) (m : Making) (entry : Told) (s : Parts) (made : IsMadeFor
   possible_by : (started : Bool) → s.started ≡ started → (bytes : List ℕ) → bytes_now s.fls.flash ≡ Some bytes → IsTrue (tells d) → AllPossible bytes started
   possible_by true e bytes at told =
       let h = is.held e in
-      let held : IsHeld l m.numbers bytes h.behind h.copied = told_bytes s.fls.flash.bytes (λ (x : List ℕ). IsHeld l m.numbers x h.behind h.copied) bytes at (h.banks.held told) in
-      let found = laws.images l m.numbers (slots_held l m.numbers bytes h.behind) bytes (banks_with h.behind (may_told l m.numbers bytes h.behind) h.copied) h.banks.legal held.banks (λ number size x among. among) in
-      subst (λ (slots : List Slot). (n : ℕ) → IsPossible (slot_at m.numbers slots n) (held_of l m.numbers bytes n)) (sym (laws.same l m.numbers bytes h.behind d.memory h.places (sym h.stand))) found
-  possible_by false e bytes at told = laws.is_found l m.numbers bytes
+      let held : IsHeld l m.numbers bytes h.behind h.copied = told_at s.fls.flash.bytes (λ (x : List ℕ). IsHeld l m.numbers x h.behind h.copied) bytes at (h.banks.held told) in
+      let found = images_find l m.numbers (slots_held l m.numbers bytes h.behind) bytes (banks_with h.behind (may_told l m.numbers bytes h.behind) h.copied) h.banks.legal held.banks (λ number size x among. among) in
+      subst (λ (slots : List Slot). (n : ℕ) → IsPossible (slot_at m.numbers slots n) (held_of l m.numbers bytes n)) (sym (places_tell l m.numbers bytes h.behind d.memory h.places (sym h.stand))) found
+  possible_by false e bytes at told = unstarted_is_found l m.numbers bytes
 
   possible : (bytes : List ℕ) → bytes_now s.fls.flash ≡ Some bytes → IsTrue (tells d) → (n : ℕ) → IsPossible (was d bytes n) (held_of l m.numbers bytes n)
   possible bytes at told = possible_by s.started refl bytes at told
@@ -182,9 +156,9 @@ module _ (laws : Laws) (m : Making) (entry : Told) (s : Parts) (made : IsMadeFor
   may : (bytes : List ℕ) → bytes_now s.fls.flash ≡ Some bytes → IsTrue (tells d) → MayStart l m.numbers bytes (slots_in d bytes) b.target (Ended JobOk [])
   may bytes at told = record {
     lengths = lengths;
-    legal = laws.legal m.geometry m.banks legal shared;
-    size = at_most (l.pages * l.page * l.banks) (length bytes) (size_of m.geometry) (laws.fill m.geometry m.banks legal shared).0 (told_now s.fls.flash.bytes (AreBytesOf m.geometry) bytes at made.bytes).size;
-    sound = sound_in m bytes (told_bytes s.fls.flash.bytes (λ (x : List ℕ). 0 < length x) bytes at some) (told_bytes s.fls.flash.bytes (IsSoundFlash m) bytes at (is.run.sound told));
+    legal = layouts_are_legal m.geometry m.banks legal shared;
+    size = at_most (l.pages * l.page * l.banks) (length bytes) (size_of m.geometry) (banks_fill m.geometry m.banks legal shared).0 (now_at s.fls.flash.bytes (AreBytesOf m.geometry) bytes at made.bytes).size;
+    sound = sound_in m bytes (told_at s.fls.flash.bytes (λ (x : List ℕ). 0 < length x) bytes at some) (told_at s.fls.flash.bytes (IsSoundFlash m) bytes at (is.run.sound told));
     target_in = omega (arith, are.state.target, are.shared);
     possible = possible bytes at told;
     shut = refl;
@@ -202,10 +176,10 @@ module _ (laws : Laws) (m : Making) (entry : Told) (s : Parts) (made : IsMadeFor
   start_by : (bytes : List ℕ) → MayStart l m.numbers bytes (slots_in d bytes) b.target (Ended JobOk []) → (active : Option ActiveBank) → active_shown active ≡ active_of l bytes
       → IfSome active (λ a. IsLoadedAs l bytes a.bank a.head b.log) → IfSome active (λ a. (a.bank ≡ b.target → ⊥) × (b.log.bank ≡ a.bank))
       → AreStarted l m.numbers bytes (slots_in d bytes) (memory_with active Idle) none_copied
-  start_by bytes can None first loaded other = laws.blank l m.numbers bytes (slots_in d bytes) b.target none_copied (Ended JobOk []) can (sym first)
+  start_by bytes can None first loaded other = no_bank_starts l m.numbers bytes (slots_in d bytes) b.target none_copied (Ended JobOk []) can (sym first)
   start_by bytes can (Some a) first loaded other =
       let tail = tail_with b.log.tail body in
-      let h = laws.start l m.numbers bytes (slots_in d bytes) a.bank b.target a.head tail none_copied (Ended JobOk []) can (sym first) (λ e. other.0 (sym e)) (loaded.tail body) in
+      let h = told_banks_start l m.numbers bytes (slots_in d bytes) a.bank b.target a.head tail none_copied (Ended JobOk []) can (sym first) (λ e. other.0 (sym e)) (loaded.tail body) in
       let is_log = subst (λ (ns : List (DeviceNumber × ℕ)). log_of b.log body ≡ loaded_log (bank_in l a.head.format a.bank) ns bytes tail) are.numbers (loaded.loaded body) in
       subst (λ (log : Log). AreStarted l m.numbers bytes (slots_in d bytes) (record { old = OldBank a.bank a.head log; target = b.target; phase = Idle; stand = Ended JobOk [] }) none_copied) (sym is_log) h
 
@@ -216,8 +190,8 @@ module _ (laws : Laws) (m : Making) (entry : Told) (s : Parts) (made : IsMadeFor
   starts : IfSome s.fls.flash.bytes (λ x. FindsActive x.now b) → IfSome s.fls.flash.bytes (λ x. LoadsActive x.now b)
       → (bytes : List ℕ) → bytes_now s.fls.flash ≡ Some bytes → IsTrue (tells d) → AreStarted l m.numbers bytes (slots_in d bytes) (memory_of u) none_copied
   starts finds loads bytes at told =
-      let first = subst (λ (x : Layout). active_shown b.active ≡ active_of x bytes) lay (told_now s.fls.flash.bytes (λ (x : List ℕ). FindsActive x b) bytes at finds) in
-      let loaded = subst (λ (x : Layout). IfSome b.active (λ a. IsLoadedAs x bytes a.bank a.head b.log)) lay (told_now s.fls.flash.bytes (λ (x : List ℕ). LoadsActive x b) bytes at loads) in
+      let first = subst (λ (x : Layout). active_shown b.active ≡ active_of x bytes) lay (now_at s.fls.flash.bytes (λ (x : List ℕ). FindsActive x b) bytes at finds) in
+      let loaded = subst (λ (x : Layout). IfSome b.active (λ a. IsLoadedAs x bytes a.bank a.head b.log)) lay (now_at s.fls.flash.bytes (λ (x : List ℕ). LoadsActive x b) bytes at loads) in
       subst (λ (phase : Phase). AreStarted l m.numbers bytes (slots_in d bytes) (memory_with b.active phase) none_copied) (sym idle)
       (start_by bytes (may bytes at told) b.active first loaded are.state.active)
 
@@ -251,7 +225,7 @@ module _ (laws : Laws) (m : Making) (entry : Told) (s : Parts) (made : IsMadeFor
   only = λ i. record (told_of t) { switching = off_now i; left = left_now i }
 
   pub starts_up_as : FindsNow (told_of t) (clock_of t) → ClockStays (clock_of d) (told_of t) (clock_of t)
-  starts_up_as now = record { same = laws.stay d t none refl; order = at_rest m entry u are.closed now }
+  starts_up_as now = record { same = clocks_stay d t none refl; order = at_rest m entry u are.closed now }
 
   unplanned : (s.fls.flash.planning.unplanned + entry.cuts ≤ entry.planning.unplanned + s.fls.flash.cuts) ⊎ (last_count ≤ s.fls.flash.cuts) → ((dropped s.fls.flash.planning).unplanned + entry.cuts ≤ entry.planning.unplanned + s.fls.flash.cuts) ⊎ (last_count ≤ s.fls.flash.cuts)
   unplanned since = since
@@ -290,7 +264,7 @@ module _ (laws : Laws) (m : Making) (entry : Told) (s : Parts) (made : IsMadeFor
     off = λ started. refl;
   }
 
-module _ (laws : Laws) (m : Making) (entry : Told) (s : Parts) (made : IsMadeFor m s) (is : IsDevice (device_of m entry s)) (lengths : AreLengths 0 m.numbers) (b : BanksState) (are : AreOf m b) (result : FlsResult) where
+module _ (m : Making) (entry : Told) (s : Parts) (made : IsMadeFor m s) (is : IsDevice (device_of m entry s)) (lengths : AreLengths 0 m.numbers) (b : BanksState) (are : AreOf m b) (result : FlsResult) where
   -- THE BANKS ARE READY
   abbrev ready_parts : Parts
   ready_parts = started_with s b result s.fls.flash.faults true s.faults
@@ -303,14 +277,14 @@ module _ (laws : Laws) (m : Making) (entry : Told) (s : Parts) (made : IsMadeFor
     ready_more = omega arith
 
     banks_start : (bytes : List ℕ) → bytes_now s.fls.flash ≡ Some bytes → IsTrue (tells (device_of m entry s)) → AreStarted (banks_of m) m.numbers bytes (slots_in (device_of m entry s) bytes) (memory_of ready_parts) none_copied
-    banks_start = starts laws m entry s made is lengths b are result s.fls.flash.faults true s.faults ready_more (inl refl) finds loads
+    banks_start = starts m entry s made is lengths b are result s.fls.flash.faults true s.faults ready_more (inl refl) finds loads
 
     ready_holds : HoldsBanks ready_device none_copied
     ready_holds = record {
       started = refl;
       alike = is.run.alike;
-      legal = laws.legal m.geometry m.banks (legal laws m entry s made is lengths b are result s.fls.flash.faults true s.faults ready_more (inl refl)) (shared laws m entry s made is lengths b are result s.fls.flash.faults true s.faults ready_more (inl refl));
-      some = some laws m entry s made is lengths b are result s.fls.flash.faults true s.faults ready_more (inl refl);
+      legal = layouts_are_legal m.geometry m.banks (legal m entry s made is lengths b are result s.fls.flash.faults true s.faults ready_more (inl refl)) (shared m entry s made is lengths b are result s.fls.flash.faults true s.faults ready_more (inl refl));
+      some = some m entry s made is lengths b are result s.fls.flash.faults true s.faults ready_more (inl refl);
       held = λ told. each_told s.fls.flash.bytes (λ (x : List ℕ). IsHeld (banks_of m) m.numbers x (memory_of ready_parts) none_copied) (λ bytes at. (banks_start bytes at told).held);
     }
 
@@ -318,24 +292,24 @@ module _ (laws : Laws) (m : Making) (entry : Told) (s : Parts) (made : IsMadeFor
     ready_behind = record { behind = memory_of ready_parts; copied = none_copied; banks = ready_holds; places = same_places (memory_of ready_parts).old; stand = refl; on = λ on. refl; idle = inl refl }
 
     ready_now : FindsNow (told_of ready_device) (clock_of ready_device)
-    ready_now = laws.held ready_device none_copied ready_holds
+    ready_now = held_finds_now ready_device none_copied ready_holds
 
     ready_each : EachNumber (λ n x y. ComesFrom x y) (told_of (device_of m entry s)) (told_of ready_device) × EachNumber (λ n x y. y.doubts ≡ []) (told_of (device_of m entry s)) (told_of ready_device)
-    ready_each = laws.tell (device_of m entry s) ready_device (same laws m entry s made is lengths b are result s.fls.flash.faults true s.faults ready_more (inl refl)) (λ old new told n.
+    ready_each = tells_start (device_of m entry s) ready_device (same m entry s made is lengths b are result s.fls.flash.faults true s.faults ready_more (inl refl)) (λ old new told n.
         subst (λ (x : List ℕ). IsStarted (was (device_of m entry s) old n) (was ready_device x n)) (same_bytes (bytes_now s.fls.flash) old new told.1 told.2) ((banks_start old told.1 told.0).starts n))
 
     pub ready_starts : StartsUp (Ok tt) (told_of (device_of m entry s)) (clock_of (device_of m entry s)) (told_of ready_device) (clock_of ready_device)
     ready_starts = record {
-      only = only laws m entry s made is lengths b are result s.fls.flash.faults true s.faults ready_more (inl refl);
+      only = only m entry s made is lengths b are result s.fls.flash.faults true s.faults ready_more (inl refl);
       comes_to = (refl, refl, refl, ready_each.1);
       marks = ready_each.0;
-      first = part laws m entry s made is lengths b are result s.fls.flash.faults true s.faults ready_more (inl refl);
-      second = second laws m entry s made is lengths b are result s.fls.flash.faults true s.faults ready_more (inl refl);
-      clock_stays = starts_up_as laws m entry s made is lengths b are result s.fls.flash.faults true s.faults ready_more (inl refl) ready_now;
+      first = part m entry s made is lengths b are result s.fls.flash.faults true s.faults ready_more (inl refl);
+      second = second m entry s made is lengths b are result s.fls.flash.faults true s.faults ready_more (inl refl);
+      clock_stays = starts_up_as m entry s made is lengths b are result s.fls.flash.faults true s.faults ready_more (inl refl) ready_now;
     }
 
     pub ready_sound : (listed : List (DeviceNumber × ℕ)) (kept count : ℕ) (is_off : Bool) → IsSound m entry s listed kept count is_off → IsSound m entry ready_parts listed kept count false
-    ready_sound = sound_as laws m entry s made is lengths b are result s.fls.flash.faults true s.faults ready_more (inl refl) (λ started. ready_behind) (λ e. rdy) ready_now
+    ready_sound = sound_as m entry s made is lengths b are result s.fls.flash.faults true s.faults ready_more (inl refl) (λ started. ready_behind) (λ e. rdy) ready_now
 
   -- A READ FAILED
   module _ (flash_faults : ℕ) (rose : Rose s.fls.flash.faults flash_faults) where
@@ -353,22 +327,34 @@ module _ (laws : Laws) (m : Making) (entry : Told) (s : Parts) (made : IsMadeFor
     risen = failed_more s.fls.flash.faults flash_faults rose
 
     failed_now : FindsNow (told_of failed_device) (clock_of failed_device)
-    failed_now = laws.found failed_device refl (some laws m entry s made is lengths b are result flash_faults false (next_count s.faults) risen (inr (refl, rose)))
+    failed_now = unstarted_finds_now failed_device refl (some m entry s made is lengths b are result flash_faults false (next_count s.faults) risen (inr (refl, rose)))
 
     failed_each : EachNumber (λ n x y. ComesFrom x y) (told_of (device_of m entry s)) (told_of failed_device) × EachNumber (λ n x y. y.doubts ≡ []) (told_of (device_of m entry s)) (told_of failed_device)
-    failed_each = laws.tell (device_of m entry s) failed_device (same laws m entry s made is lengths b are result flash_faults false (next_count s.faults) risen (inr (refl, rose))) (λ old new told n.
+    failed_each = tells_start (device_of m entry s) failed_device (same m entry s made is lengths b are result flash_faults false (next_count s.faults) risen (inr (refl, rose))) (λ old new told n.
         subst (λ (x : List ℕ). IsStarted (was (device_of m entry s) old n) (was failed_device x n)) (same_bytes (bytes_now s.fls.flash) old new told.1 told.2)
-        (laws.unstarted (banks_of m) m.numbers old (slots_in (device_of m entry s) old) (possible laws m entry s made is lengths b are result flash_faults false (next_count s.faults) risen (inr (refl, rose)) old told.1 told.0) n))
+        (unstarted_find (banks_of m) m.numbers old (slots_in (device_of m entry s) old) (possible m entry s made is lengths b are result flash_faults false (next_count s.faults) risen (inr (refl, rose)) old told.1 told.0) n))
 
     pub failed_starts : StartsUp (Err Fault) (told_of (device_of m entry s)) (clock_of (device_of m entry s)) (told_of failed_device) (clock_of failed_device)
     failed_starts = record {
-      only = only laws m entry s made is lengths b are result flash_faults false (next_count s.faults) risen (inr (refl, rose));
+      only = only m entry s made is lengths b are result flash_faults false (next_count s.faults) risen (inr (refl, rose));
       comes_to = (refl, inl (rose_next s.faults is.faults));
       marks = failed_each.0;
-      first = part laws m entry s made is lengths b are result flash_faults false (next_count s.faults) risen (inr (refl, rose));
-      second = second laws m entry s made is lengths b are result flash_faults false (next_count s.faults) risen (inr (refl, rose));
-      clock_stays = starts_up_as laws m entry s made is lengths b are result flash_faults false (next_count s.faults) risen (inr (refl, rose)) failed_now;
+      first = part m entry s made is lengths b are result flash_faults false (next_count s.faults) risen (inr (refl, rose));
+      second = second m entry s made is lengths b are result flash_faults false (next_count s.faults) risen (inr (refl, rose));
+      clock_stays = starts_up_as m entry s made is lengths b are result flash_faults false (next_count s.faults) risen (inr (refl, rose)) failed_now;
     }
 
     pub failed_sound : (listed : List (DeviceNumber × ℕ)) (kept count : ℕ) (is_off : Bool) → IsSound m entry s listed kept count is_off → IsSound m entry failed_parts listed kept count false
-    failed_sound = sound_as laws m entry s made is lengths b are result flash_faults false (next_count s.faults) risen (inr (refl, rose)) (λ started. cc started) (λ e. cc e) failed_now
+    failed_sound = sound_as m entry s made is lengths b are result flash_faults false (next_count s.faults) risen (inr (refl, rose)) (λ started. cc started) (λ e. cc e) failed_now
+
+pub starts_are_ready : StartsAreReady
+starts_are_ready m entry s listed kept count is_off b result sound are loaded = (
+  ready_sound m entry s sound.made_for sound.device sound.made_for.space.lengths b are result loaded.ready loaded.finds loaded.loads listed kept count is_off sound,
+  ready_starts m entry s sound.made_for sound.device sound.made_for.space.lengths b are result loaded.ready loaded.finds loaded.loads,
+)
+
+pub starts_fail : StartsFail
+starts_fail m entry s listed kept count is_off b result faults sound are rose = (
+  failed_sound m entry s sound.made_for sound.device sound.made_for.space.lengths b are result faults rose listed kept count is_off sound,
+  failed_starts m entry s sound.made_for sound.device sound.made_for.space.lengths b are result faults rose,
+)

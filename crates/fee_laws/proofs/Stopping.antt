@@ -20,21 +20,22 @@ use Rattle.promise_device.specs.Making.{Making, banks_of}
 use Rattle.fee_told.specs.Slots.{Memory}
 use Rattle.fee_told.specs.SlotLaws.{SamePlaces, IsHeld}
 use Rattle.fee_told.specs.Device.{Device, is_switching}
-use Rattle.fee_told.specs.Appends.{RecordsGiveUp}
 use Rattle.fee_told.specs.Kept.{with_log}
 use Rattle.fee_told.specs.Figures.{ready_of}
+use Rattle.fee_told.proofs.Kept.{same_places}
+use Rattle.fee_told.proofs.Appends.{records_give_up}
 use Rattle.fee_laws.specs.declared.job.FeeJob.{FeeJob}
 use Rattle.fee_laws.specs.Inside.{Parts, device_of, memory_of, body_of, HoldsBehind, IsAtWork, IsSound, ShowsCopies}
 use Rattle.fee_laws.specs.Record.{IsInWork}
 use Rattle.fee_laws.specs.Work.{switch_turns, seal_turns, pages_free, claimed, takes_append, is_waiting, fits_in, pages_of_op}
 use Rattle.fee_laws.specs.Parts.{canceled}
-use Rattle.fee_laws.proofs.Canceling.{CancelLaws, behind_it}
+use Rattle.fee_laws.proofs.Canceling.{behind_it}
 use Rattle.fee_laws.proofs.Ending.{Ends, no_record}
 use Rattle.fee_laws.proofs.Raising.{none_of}
 use Rattle.fee_laws.proofs.GivenUp.{given_log, none_left, places_left, free_left, ready_up, phase_same, active_same, switch_same, takes, no_course}
 use Rattle.fee_laws.proofs.Making.{none_shows}
 use Rattle.fee_laws.proofs.CallOrder.{nothing_left}
-use Rattle.fee_laws.proofs.Starting.{told_bytes, each_told, same_places}
+use Rattle.fee_laws.proofs.Before.{each_told, told_at}
 
 in_work : (b : BanksState) (job : Option FeeJob) (o : Option RecHead) → is_some o ≡ true → IfSome o (IsInWork b job) → (h : RecHead) × IsInWork b job h
 in_work b job None some is = cc some
@@ -52,7 +53,7 @@ shut_room : (reserve : ℕ) (b : BanksState) (c : Option Course) → c ≡ None 
 shut_room reserve b None shut = tt
 shut_room reserve b (Some c) shut = cc shut
 
-module _ (laws : CancelLaws) (give_up : RecordsGiveUp) (m : Making) (entry : Told) (s : Parts) (listed : List (DeviceNumber × ℕ)) (kept count : ℕ) (is_off : Bool) (sound : IsSound m entry s listed kept count is_off) (started : s.started ≡ true) (state : IsBanksState s.banks) (j : FeeJob) (job : s.job ≡ Some j) (calm : j.urgent ≡ false) (work : is_some (work_in s.banks.log.tail) ≡ true) where
+module _ (m : Making) (entry : Told) (s : Parts) (listed : List (DeviceNumber × ℕ)) (kept count : ℕ) (is_off : Bool) (sound : IsSound m entry s listed kept count is_off) (started : s.started ≡ true) (state : IsBanksState s.banks) (j : FeeJob) (job : s.job ≡ Some j) (calm : j.urgent ≡ false) (work : is_some (work_in s.banks.log.tail) ≡ true) where
   abbrev pub b : BanksState
   b = record s.banks { log = given_up s.banks.log }
 
@@ -112,9 +113,9 @@ module _ (laws : CancelLaws) (give_up : RecordsGiveUp) (m : Making) (entry : Tol
           legal = h.banks.legal;
           some = h.banks.some;
           held = λ told. each_told s.fls.flash.bytes (λ (x : List ℕ). IsHeld l m.numbers x (memory_of v) h.copied) (λ bytes there.
-              (let behind = told_bytes s.fls.flash.bytes (λ (x : List ℕ). IsHeld l m.numbers x h.behind h.copied) bytes there (h.banks.held told) in
+              (let behind = told_at s.fls.flash.bytes (λ (x : List ℕ). IsHeld l m.numbers x h.behind h.copied) bytes there (h.banks.held told) in
               let held = subst (λ (x : Memory). IsHeld l m.numbers bytes x h.copied) own behind in
-              let k = give_up l m.numbers bytes (memory_of s) h.copied a.bank a.head log1 (memory_of v).stand (record { lengths = sound.made_for.space.lengths; legal = h.banks.legal; held = held; bank = old_was; takes = takes s.banks s.banks.course _ shut }) refl in
+              let k = records_give_up l m.numbers bytes (memory_of s) h.copied a.bank a.head log1 (memory_of v).stand (record { lengths = sound.made_for.space.lengths; legal = h.banks.legal; held = held; bank = old_was; takes = takes s.banks s.banks.course _ shut }) refl in
               subst (λ (x : Memory). IsHeld l m.numbers bytes x h.copied) is k.held));
         };
         places = same_places (memory_of v).old;
@@ -130,7 +131,7 @@ module _ (laws : CancelLaws) (give_up : RecordsGiveUp) (m : Making) (entry : Tol
   behind_by : (off : Bool) → s.fls.flash.off ≡ off → HoldsBehind f
   behind_by true off = elim h.idle [
     | inl own ↦ active_by own s.banks.active refl
-    | inr fits ↦ behind_it laws m entry s listed kept count is_off sound started b places fits (λ on. cc (on, off))
+    | inr fits ↦ behind_it m entry s listed kept count is_off sound started b places fits (λ on. cc (on, off))
   ]
   behind_by false on = active_by (h.on on) s.banks.active refl
 
@@ -148,7 +149,7 @@ module _ (laws : CancelLaws) (give_up : RecordsGiveUp) (m : Making) (entry : Tol
       let up = ready_up m.reserve (free_pages s.banks - 0) (free_pages b - 0) seals (omega (arith, more)) in
       omega (arith, was, up)
 
-  pub ends : Ends laws m entry s listed kept count is_off sound started b places shape
+  pub ends : Ends m entry s listed kept count is_off sound started b places shape
   ends =
       let was = sound.made_for in
       record {

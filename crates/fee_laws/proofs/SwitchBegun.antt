@@ -24,6 +24,7 @@ use Rattle.fee_switch.specs.Banks.{BanksState, begun_again, left_of}
 use Rattle.fee_switch_laws.specs.Shown.{old_shown, phase_shown}
 use Rattle.fee_switch_laws.specs.KeepsRoom.{KeepsRoom}
 use Rattle.fee_switch_laws.specs.Space.{free_pages, has_room}
+use Rattle.fee_switch_laws.proofs.RoomSteps.{begins_keep_room}
 use Rattle.promise_device.specs.Making.{Making, banks_of}
 use Rattle.fee_told.specs.Slots.{Memory, slots_found}
 use Rattle.fee_told.specs.SlotLaws.{IsHeld, SamePlaces}
@@ -32,30 +33,29 @@ use Rattle.fee_told.specs.Clock.{MakesNone, clock_of}
 use Rattle.fee_told.specs.Runs.{HasRun}
 use Rattle.fee_told.specs.Figures.{Work, ready_of, wait_of}
 use Rattle.fee_told.specs.FigureLaws.{IsWork, IsOfJob}
+use Rattle.fee_told.proofs.Kept.{same_places}
+use Rattle.fee_told.proofs.Clocks.{clocks_stay}
+use Rattle.fee_told.proofs.Making.{runs_stay}
+use Rattle.fee_told.proofs.Steps.{places_tell}
+use Rattle.fee_told.proofs.Switches.{switches_begin as told_switches_begin}
 use Rattle.fee_laws.specs.declared.job.FeeJob.{FeeJob}
 use Rattle.fee_laws.specs.Inside.{Parts, body_of, device_of, memory_of, stand_of, flags_in, HoldsBehind, HasSwitch, IsActiveOf, IsAtWork, ShowsCopies, TellsCopies, IsSound}
 use Rattle.fee_laws.specs.Record.{head_of, IsJobOf, IsInWork, IsReady}
 use Rattle.fee_laws.specs.Work.{work_of, pages_of_op, pages_of_job, pages_free, claimed, begins_next, takes_append, is_waiting, fits_in, needs_switch, switch_turns, turns_beside, seal_turns, turns_before, is_urgent_job, is_promised}
 use Rattle.fee_laws.specs.Turn.{IsOn}
 use Rattle.fee_laws.specs.Begins.{HasBegun, MaySwitch, switching_with, SwitchesBegin}
-use Rattle.fee_laws.proofs.TurnLaws.{Laws, SwitchLaws}
 use Rattle.fee_laws.proofs.Before.{power, shape, lengths, legal, some, copied, held_at, each_now, each_told}
 use Rattle.fee_laws.proofs.Order.{tells_by, behind_finds, in_order}
-use Rattle.fee_laws.proofs.Places.{same_places}
 use Rattle.fee_laws.proofs.Appended.{few_left, pages_few, of_job}
 use Rattle.fee_laws.proofs.Beginning.{left_less, and_four'}
 use Rattle.fee_laws.proofs.Shown.{pages_by}
-
--- other flags are no other bank
-old_flags : (o : Option ActiveBank) (log : LogState) (flags : List Bool) (body : List ℕ) → old_shown o (record log { flags = flags }) body ≡ old_shown o log body
-old_flags None log flags body = refl
-old_flags (Some a) log flags body = refl
+use Rattle.fee_laws.proofs.SwitchShown.{flags_hidden}
 
 active_on : (o : Option ActiveBank) (s : BanksState) → IsActiveOf s o → IsActiveOf (begun_again s (Erase 0)) o
 active_on None s is = λ i. record (is i) { flags = clear_flags s.log.numbers }
 active_on (Some a) s is = is
 
-idle_phase : (c : Option Course) (s : BanksState) (body : List ℕ) → c ≡ None → phase_shown c s body ≡ Idle
+pub idle_phase : (c : Option Course) (s : BanksState) (body : List ℕ) → c ≡ None → phase_shown c s body ≡ Idle
 idle_phase None s body e = refl
 idle_phase (Some c) s body e = cc e
 
@@ -69,14 +69,14 @@ and_last true true false = refl
 and_last true false c = refl
 and_last false b c = refl
 
-seal_is : (c : Option Course) → c ≡ None → seal_turns c ≡ 0
+pub seal_is : (c : Option Course) → c ≡ None → seal_turns c ≡ 0
 seal_is None e = refl
 seal_is (Some c) e = cc e
 
 no_pages : (p : ℕ) → 0 * p ≡ 0
 no_pages p = omega arith
 
-module _ (laws : Laws) (own : SwitchLaws) (m : Making) (entry : Told) (s : Parts) (listed : List (DeviceNumber × ℕ)) (kept count : ℕ) (j : FeeJob) (on : IsOn m entry s listed kept count) (may : MaySwitch m s j) where
+module _ (m : Making) (entry : Told) (s : Parts) (listed : List (DeviceNumber × ℕ)) (kept count : ℕ) (j : FeeJob) (on : IsOn m entry s listed kept count) (may : MaySwitch m s j) where
   abbrev t : Parts
   t = switching_with s
 
@@ -103,7 +103,7 @@ module _ (laws : Laws) (own : SwitchLaws) (m : Making) (entry : Told) (s : Parts
 
   -- MEMORY
   old_same : (memory_of t).old ≡ mem.old
-  old_same = old_flags s.banks.active s.banks.log (clear_flags s.banks.log.numbers) (body_of (work_in s.banks.log.tail) s.content)
+  old_same = flags_hidden s.banks.active s.banks.log (clear_flags s.banks.log.numbers) (body_of (work_in s.banks.log.tail) s.content)
 
   mem_is : memory_of t ≡ record mem { target = s.banks.target; phase = Erasing 0 }
   mem_is = λ i. record { old = old_same i; target = s.banks.target; phase = Erasing (no_pages (pages_of_sector s.banks.geometry) i); stand = mem.stand }
@@ -113,7 +113,7 @@ module _ (laws : Laws) (own : SwitchLaws) (m : Making) (entry : Told) (s : Parts
 
   held_then : (bytes : List ℕ) (wide more : May) → IsHeld l m.numbers bytes mem wide → IsHeld l m.numbers bytes (memory_of t) more
   held_then bytes wide more held = subst (λ (x : Memory). IsHeld l m.numbers bytes x more) (sym mem_is)
-      (own.begin l m.numbers bytes mem wide more s.banks.target (record { lengths = lengths m entry s listed kept count on; legal = legal m entry s listed kept count on laws.legal; held = held })
+      (told_switches_begin l m.numbers bytes mem wide more s.banks.target (record { lengths = lengths m entry s listed kept count on; legal = legal m entry s listed kept count on; held = held })
       (idle_phase s.banks.course s.banks (body_of (work_in s.banks.copies.tail) s.banks.buffer) may.shut) target_in
       (other_by s.banks.active s.banks.log (body_of (work_in s.banks.log.tail) s.content) s.banks.target on.banks.active)).held
 
@@ -121,7 +121,7 @@ module _ (laws : Laws) (own : SwitchLaws) (m : Making) (entry : Told) (s : Parts
   places = subst (λ (o : Old). SamePlaces mem.old o) (sym old_same) (same_places mem.old)
 
   slots_are : (x : List ℕ) → slots_in e x ≡ slots_in d x
-  slots_are x = ap (λ (z : List Slot). if s.started then z else slots_found l m.numbers x) (laws.places l m.numbers x mem (memory_of t) places refl)
+  slots_are x = ap (λ (z : List Slot). if s.started then z else slots_found l m.numbers x) (places_tell l m.numbers x mem (memory_of t) places refl)
 
   same_slots : (told_of e).slots ≡ (told_of d).slots
   same_slots = tells_by (tells d) s.fls.flash.bytes (slots_in e) (slots_in d) slots_are
@@ -130,7 +130,7 @@ module _ (laws : Laws) (own : SwitchLaws) (m : Making) (entry : Told) (s : Parts
   none = record { making = refl; entry = refl; operations = refl; bytes = refl }
 
   run_on : HasRun e
-  run_on = own.run d e on.sound.device.run (record { none = none; bytes = refl; counts = (refl, refl); flash_faults = omega arith; faults = on.sound.device.run.faults; cuts = on.sound.device.run.cuts; worn = λ since worn. inl worn })
+  run_on = runs_stay d e on.sound.device.run (record { none = none; bytes = refl; counts = (refl, refl); flash_faults = omega arith; faults = on.sound.device.run.faults; cuts = on.sound.device.run.cuts; worn = λ since worn. inl worn })
 
   abbrev more : May
   more = copied m entry s listed kept count on
@@ -142,7 +142,7 @@ module _ (laws : Laws) (own : SwitchLaws) (m : Making) (entry : Told) (s : Parts
     banks = record {
       started = on.started;
       alike = run_on.alike;
-      legal = legal m entry s listed kept count on laws.legal;
+      legal = legal m entry s listed kept count on;
       some = some m entry s listed kept count on;
       held = λ told. each_told s.fls.flash.bytes (λ (x : List ℕ). IsHeld l m.numbers x (memory_of t) more) (λ bytes at. held_then bytes more more (held_at m entry s listed kept count on bytes at told));
     };
@@ -164,7 +164,7 @@ module _ (laws : Laws) (own : SwitchLaws) (m : Making) (entry : Told) (s : Parts
   full = ap (λ (n : ℕ). has_room j.urgent n m.reserve (free_pages s.banks)) pages_are ∙ may.full
 
   room_on : KeepsRoom m.reserve t.banks
-  room_on = own.room m.reserve s.banks (head_of s.banks.log j) j.urgent on.banks (on.sound.room on.started (power m entry s listed kept count on)) may.idle may.worn may.configured full
+  room_on = begins_keep_room m.reserve s.banks (head_of s.banks.log j) j.urgent on.banks (on.sound.room on.started (power m entry s listed kept count on)) may.idle may.worn may.configured full
 
   switch_on : HasSwitch t.banks (Some (Erase 0))
   switch_on = (may.worn, room_on.switch.going)
@@ -233,7 +233,7 @@ module _ (laws : Laws) (own : SwitchLaws) (m : Making) (entry : Told) (s : Parts
   work_then : IsWork m.geometry.page (sectors_of_bank m.geometry m.banks) m.numbers m.reserve (stand_of s.content s.job s.last s.given) v
   work_then =
       let geo = on.sound.made_for.banks_geometry in
-      let few = few_left own.few t.banks switch_on in
+      let few = few_left t.banks switch_on in
       let fits = subst (λ (g : Geometry). left_of t.banks ≤ most_turns g.page (sectors_of_bank g s.banks.banks) s.banks.log.numbers) geo few in
       let fits2 = subst (λ (n : ℕ). left_of t.banks ≤ most_turns m.geometry.page (sectors_of_bank m.geometry n) s.banks.log.numbers) on.sound.made_for.shared fits in
       let fits3 = subst (λ (ns : List (DeviceNumber × ℕ)). left_of t.banks ≤ most_turns m.geometry.page (sectors_of_bank m.geometry m.banks) ns) on.sound.made_for.numbers fits2 in
@@ -265,7 +265,7 @@ module _ (laws : Laws) (own : SwitchLaws) (m : Making) (entry : Told) (s : Parts
     left = left_few;
     job = subst (λ (o : Option FeeJob). is_open (stand_of s.content o s.last s.given) ≡ true) (sym may.job) refl;
     on = (power m entry s listed kept count on, refl);
-    same = own.stay d e none refl;
+    same = clocks_stay d e none refl;
   }
 
   pub sound : IsSound m entry t listed kept count false
@@ -287,7 +287,7 @@ module _ (laws : Laws) (own : SwitchLaws) (m : Making) (entry : Told) (s : Parts
         device = record {
           run = run_on;
           held = λ started. behind;
-          order = in_order laws m entry t (shape m entry s listed kept count on) (lengths m entry s listed kept count on) work_then (behind_finds laws.finds laws.places e on.started behind);
+          order = in_order m entry t (shape m entry s listed kept count on) (lengths m entry s listed kept count on) work_then (behind_finds e on.started behind);
           faults = on.sound.device.faults;
         };
         rests = λ stopped. (let h = on.started in absurd (cc (h, stopped)));
@@ -302,5 +302,5 @@ module _ (laws : Laws) (own : SwitchLaws) (m : Making) (entry : Told) (s : Parts
         off = on.sound.off;
       }
 
-pub switches_begin : Laws → SwitchLaws → SwitchesBegin
-switches_begin laws own m entry s listed kept count j on may = record { told = has_begun laws own m entry s listed kept count j on may; sound = sound laws own m entry s listed kept count j on may }
+pub switches_begin : SwitchesBegin
+switches_begin m entry s listed kept count j on may = record { told = has_begun m entry s listed kept count j on may; sound = sound m entry s listed kept count j on may }

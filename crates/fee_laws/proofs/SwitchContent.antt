@@ -1,6 +1,6 @@
 -- The content that is copied next.
 use Rattle.std.specs.Prelude.{IfSome, length}
-use Rattle.std.proofs.Common.{◌≡◌, inl, inr, ◌≤◌, ◌<◌, ◌*◌, ◌+◌, ℕ, Bool, true, false, List, Option, Some, None, refl, sym, ap, ◌∙◌, subst, arith}
+use Rattle.std.proofs.Common.{◌≡◌, ◌≤◌, ◌<◌, ◌*◌, ◌+◌, ℕ, Bool, true, false, List, Option, Some, None, refl, sym, ap, ◌∙◌, subst, arith}
 use Rattle.nv_base.specs.Count.{next_count}
 use Rattle.nv_base.specs.Geometry.{sectors_of_bank, pages_of_sector}
 use Rattle.nv_base.specs.declared.instance.DeviceNumber.{DeviceNumber}
@@ -21,15 +21,17 @@ use Rattle.fee_course.specs.Course.{after_done}
 use Rattle.fee_switch.specs.Banks.{BanksState, after_answer, left_of}
 use Rattle.fee_switch_laws.specs.Shown.{phase_shown, phase_at}
 use Rattle.fee_switch_laws.specs.KeepsRoom.{KeepsRoom}
+use Rattle.fee_switch_laws.proofs.RoomSteps.{steps_keep_room, steps_lower}
 use Rattle.promise_device.specs.Making.{Making, banks_of}
 use Rattle.fee_told.specs.Slots.{Memory, settled_in}
 use Rattle.fee_told.specs.Kept.{IsKept}
+use Rattle.fee_told.proofs.Switches.{copies_fail}
+use Rattle.fee_told.proofs.Parts.{rose_more}
+use Rattle.fee_told.proofs.Slots.{keeps_same}
 use Rattle.fee_laws.specs.Copied.{flags_of, IsCopying}
 use Rattle.fee_laws.specs.Inside.{Parts, memory_of, body_of, flags_in, ShowsCopies, stand_of}
 use Rattle.fee_laws.specs.Turn.{Turned}
 use Rattle.fee_laws.specs.Switches.{IsStepping}
-use Rattle.fee_laws.proofs.TurnLaws.{Laws}
-use Rattle.fee_laws.proofs.SwitchLaws.{SwitchLaws}
 use Rattle.fee_laws.proofs.Before.{legal}
 use Rattle.fee_laws.proofs.SwitchShown.{no_job, standing}
 use Rattle.nv_base.specs.Geometry.{address_of_page}
@@ -47,12 +49,12 @@ use Rattle.fee_laws.proofs.Before.{power}
 use Rattle.std.specs.Prelude.{take}
 use Rattle.fee_image.specs.Places.{held_at}
 use Rattle.fee_course.specs.Course.{begun as course_begun}
-use Rattle.fee_switch.specs.Banks.{reads_next, reads_place, reads_source}
+use Rattle.fee_switch.specs.Banks.{reads_next, reads_source}
 use Rattle.fee_switch.specs.Copy.{BeginsAt}
 use Rattle.fee_image.specs.Copies.{Copies}
 use Rattle.fee_laws.specs.Switches.{failed_with}
 use Rattle.fee_laws.proofs.SwitchNext.{found_copies}
-use Rattle.fee_laws.proofs.SwitchFirst.{BeginLaws, can, source, number, h, k, tail, found, is_open, begun_held}
+use Rattle.fee_laws.proofs.SwitchFirst.{can, source, number, h, k, tail, found, is_open, begun_held}
 use Rattle.std.proofs.lemmas.List.{length-take-le}
 use Rattle.std.proofs.Math.ListN.{length-replicate}
 use Rattle.fls_model.specs.Bytes.{SameOutside}
@@ -64,41 +66,30 @@ use Rattle.fee_laws.proofs.SwitchReadOn.{went_read}
 use Rattle.fee_laws.proofs.SwitchReadFailed.{failed_read}
 use Rattle.fee_laws.proofs.SwitchShown.{flags_hidden}
 use Rattle.fee_switch.specs.declared.active.ActiveBank.{ActiveBank}
-use Rattle.nv_base.specs.Count.{Rose}
 use Rattle.fls_model.specs.Bytes.{piece}
 use Rattle.fls_model.specs.Read.{IsRead}
 use Rattle.fls_model.specs.Told.{bytes_now}
-use Rattle.memif.specs.Told.{Slot, slot_at}
-use Rattle.memif.specs.Marks.{Keeps}
+use Rattle.memif.specs.Told.{slot_at}
 use Rattle.fee_told.specs.Slots.{slots_held}
 use Rattle.nv_base.specs.declared.mark.Mark.TheVariants as mark
 use Rattle.fee_switch.specs.Copy.{begun_where}
 use Rattle.fee_laws.specs.Switches.{CopiesAreRead, CopiesAreNotRead}
-use Rattle.fee_laws.proofs.TurnLaws.{ReadLaws}
 use Rattle.fee_laws.proofs.SwitchFailed.{last_by, given_by, failed_is, stand_goes}
 use Rattle.fee_laws.proofs.SwitchMark.{begins_at}
+use Rattle.fee_laws.proofs.FollowTurned.{is_content}
 
-is_content : (p : Place) → reads_place p ≡ true → (at : ℕ) × (written : ℕ) × (p ≡ place.Content at written)
-is_content (place.Content at written) reads = (at, written, refl)
-is_content (place.Invalid written) reads = cc reads
-is_content (place.Erased written) reads = cc reads
-is_content place.Unwritten reads = cc reads
-
-stays : (x : Slot) → Keeps x x
-stays x = record { settled = refl; doubts = λ held among. among }
-
-module _ (laws : Laws) (own : SwitchLaws) (beg : BeginLaws) (m : Making) (entry : Told) (s : Parts) (listed : List (DeviceNumber × ℕ)) (kept count : ℕ) (made : BanksState) (answer : FlashAnswer) (f : FlsState) (is : IsStepping m entry s listed kept count (Copy None) made answer f) (reads : reads_next s.banks.log (Some (Copy None)) ≡ true) where
+module _ (m : Making) (entry : Told) (s : Parts) (listed : List (DeviceNumber × ℕ)) (kept count : ℕ) (made : BanksState) (answer : FlashAnswer) (f : FlsState) (is : IsStepping m entry s listed kept count (Copy None) made answer f) (reads : reads_next s.banks.log (Some (Copy None)) ≡ true) where
   abbrev c : Course
   c = Copy None
 
   abbrev pub src : Source
-  src = source laws own beg m entry s listed kept count made answer f is
+  src = source m entry s listed kept count made answer f is
 
   abbrev num : DeviceNumber
-  num = number laws own beg m entry s listed kept count made answer f is
+  num = number m entry s listed kept count made answer f is
 
   abbrev next_is : IsNext s.banks src num
-  next_is = (can laws own beg m entry s listed kept count made answer f is).next
+  next_is = (can m entry s listed kept count made answer f is).next
 
   pub content : (at : ℕ) × (written : ℕ) × (src.place ≡ place.Content at written)
   content = is_content src.place (sym (ap reads_source next_is.first) ∙ reads)
@@ -110,14 +101,14 @@ module _ (laws : Laws) (own : SwitchLaws) (beg : BeginLaws) (m : Making) (entry 
   copy = record { number = num.0; kind = 1; length = src.length; count = content.1 }
 
   abbrev head : RecHead
-  head = h laws own beg m entry s listed kept count made answer f is
+  head = h m entry s listed kept count made answer f is
 
   pub head_is : head ≡ copy
   head_is = ap (λ (p : Place). head_at p num.0 src.length) content.2
 
   pub begins : IsRead (address_of_page s.banks.geometry s.banks.banks s.banks.log.bank (at + 2)) s.fls.flash (take src.length s.banks.buffer) answer (take src.length made.buffer) f.flash
       × (made ≡ record s.banks { copies = begun_where answer s.banks.copies copy; buffer = made.buffer })
-  begins = subst (λ (p : Place). BeginsAt p s.banks num.0 src.length s.fls.flash answer made f.flash) content.2 (begins_at laws own beg m entry s listed kept count made answer f is)
+  begins = subst (λ (p : Place). BeginsAt p s.banks num.0 src.length s.fls.flash answer made f.flash) content.2 (begins_at m entry s listed kept count made answer f is)
 
   abbrev l : Layout
   l = banks_of m
@@ -126,10 +117,10 @@ module _ (laws : Laws) (own : SwitchLaws) (beg : BeginLaws) (m : Making) (entry 
   mem = memory_of s
 
   abbrev pub log_k : LogState
-  log_k = k laws own beg m entry s listed kept count made answer f is
+  log_k = k m entry s listed kept count made answer f is
 
   tail_k : log_k.tail ≡ Writes head 0
-  tail_k = tail laws own beg m entry s listed kept count made answer f is
+  tail_k = tail m entry s listed kept count made answer f is
 
   length_is : head.length ≡ src.length
   length_is = ap (λ (x : RecHead). x.length) head_is
@@ -155,7 +146,7 @@ module _ (laws : Laws) (own : SwitchLaws) (beg : BeginLaws) (m : Making) (entry 
 
   module _ (wide : length made.buffer ≡ length s.banks.buffer) where
     few : src.length ≤ length made.buffer
-    few = let fits' = (can laws own beg m entry s listed kept count made answer f is).can.fits in omega (arith, wide, fits')
+    few = let fits' = (can m entry s listed kept count made answer f is).can.fits in omega (arith, wide, fits')
 
     size_is : length body ≡ head.length
     size_is = ap length body_is ∙ length-take-le head.length made.buffer (omega (arith, few, length_is))
@@ -165,14 +156,14 @@ module _ (laws : Laws) (own : SwitchLaws) (beg : BeginLaws) (m : Making) (entry 
 
     pub kept_then : (old : List ℕ) → ShowsCopies m s c old → IsKept l m.numbers old old mem (record mem { phase = phase_at next b body }) (copied_of (flags_in m s old))
     kept_then old shows =
-        let held = begun_held laws own beg m entry s listed kept count made answer f is old body size_is shows.held in
+        let held = begun_held m entry s listed kept count made answer f is old body size_is shows.held in
         subst (λ (x : Phase). IsKept l m.numbers old old mem (record mem { phase = x }) (copied_of (flags_in m s old))) (sym phase_then)
-        (record { held = held; keeps = λ n. stays (slot_at m.numbers (slots_held l m.numbers old mem) n) })
+        (record { held = held; keeps = λ n. keeps_same (slot_at m.numbers (slots_held l m.numbers old mem) n) })
 
     module _ (read_in : (old : List ℕ) → bytes_now s.fls.flash ≡ Some old → take src.length made.buffer ≡ piece (address_of_page s.banks.geometry s.banks.banks s.banks.log.bank (at + 2)) (length (take src.length made.buffer)) old) where
       copies_it : (old : List ℕ) → bytes_now s.fls.flash ≡ Some old → Each (Copies head (take head.length made.buffer)) (flags_in m s old)
       copies_it old now =
-          let x = found laws own beg m entry s listed kept count made answer f is old in
+          let x = found m entry s listed kept count made answer f is old in
           let bank' = bank_in l x.active.head.format x.active.bank in
           let geo' = is.on.sound.made_for.banks_geometry in
           let banks_are' = is.on.sound.made_for.shared in
@@ -187,55 +178,51 @@ module _ (laws : Laws) (own : SwitchLaws) (beg : BeginLaws) (m : Making) (entry 
       pub copying_then : (old : List ℕ) → bytes_now s.fls.flash ≡ Some old → IsCopying next (work_in log_k.tail) made.buffer (flags_in m s old)
       copying_then old now =
           subst (λ (x : Course). IsCopying x (work_in log_k.tail) made.buffer (flags_in m s old)) (sym next_course)
-          (subst (λ (t : Tail). IsCopying begun_course (work_in t) made.buffer (flags_in m s old)) (sym tail_k) (copies_it old now, is_open laws own beg m entry s listed kept count made answer f is old))
+          (subst (λ (t : Tail). IsCopying begun_course (work_in t) made.buffer (flags_in m s old)) (sym tail_k) (copies_it old now, is_open m entry s listed kept count made answer f is old))
 
 -- THE TURNS
 active_on : (s : BanksState) (flags : List Bool) (c : Option Course) (copies : LogState) (buffer : List ℕ) (a : Option ActiveBank) → IsActiveOf s a → IsActiveOf (record s { course = c; log = record s.log { flags = flags }; copies = copies; buffer = buffer }) a
 active_on s flags c copies buffer None is = λ i. record (is i) { flags = flags }
 active_on s flags c copies buffer (Some a) is = is
 
-more_by : (a b : ℕ) → Rose a b → a ≤ b
-more_by a b (inl less) = omega arith
-more_by a b (inr (big, le)) = le
-
-pub copies_are_read : Laws → SwitchLaws → ReadLaws → BeginLaws → CopiesAreRead
-copies_are_read laws own rd beg m entry s listed kept count made f is reads wide =
+pub copies_are_read : CopiesAreRead
+copies_are_read m entry s listed kept count made f is reads wide =
     let c : Course = Copy None in
-    let start = begins laws own beg m entry s listed kept count made Done f is reads in
+    let start = begins m entry s listed kept count made Done f is reads in
     let room = is.on.sound.room is.on.started (power m entry s listed kept count is.on) in
-    let path : b laws own beg m entry s listed kept count made Done f is reads ≡ after_answer made c Done =
-    (λ i. record s.banks { course = Some (next laws own beg m entry s listed kept count made Done f is reads); log = record s.banks.log { flags = s.banks.log.flags }; copies = begun s.banks.copies (head_is laws own beg m entry s listed kept count made Done f is reads i); buffer = made.buffer })
+    let path : b m entry s listed kept count made Done f is reads ≡ after_answer made c Done =
+    (λ i. record s.banks { course = Some (next m entry s listed kept count made Done f is reads); log = record s.banks.log { flags = s.banks.log.flags }; copies = begun s.banks.copies (head_is m entry s listed kept count made Done f is reads i); buffer = made.buffer })
     ∙ (λ i. after_answer (sym start.1 i) c Done) in
-    let kept' = own.room m.reserve s.banks made c s.fls.flash f.flash Done is.on.banks is.on.log is.idle is.course room is.makes (λ off. cc off) in
-    let less = own.lower m.reserve s.banks made c s.fls.flash f.flash is.on.banks is.on.log is.idle is.course room tt is.makes in
+    let kept' = steps_keep_room m.reserve s.banks made c s.fls.flash f.flash Done is.on.banks is.on.log is.idle is.course room is.makes (λ off. cc off) in
+    let less = steps_lower m.reserve s.banks made c s.fls.flash f.flash is.on.banks is.on.log is.idle is.course room tt is.makes in
     let driver = sym (is.drives.only ∙ (λ i. record s.fls { flash = start.0.1 i; result = f.result })) in
-    let read_in = λ (old : List ℕ) (now : bytes_now s.fls.flash ≡ Some old). now_at s.fls.flash.bytes (λ (x : List ℕ). take (src laws own beg m entry s listed kept count made Done f is reads).length made.buffer
-    ≡ piece (address_of_page s.banks.geometry s.banks.banks s.banks.log.bank ((at laws own beg m entry s listed kept count made Done f is reads) + 2)) (length (take (src laws own beg m entry s listed kept count made Done f is reads).length made.buffer)) x) old now start.0.0 in
+    let read_in = λ (old : List ℕ) (now : bytes_now s.fls.flash ≡ Some old). now_at s.fls.flash.bytes (λ (x : List ℕ). take (src m entry s listed kept count made Done f is reads).length made.buffer
+    ≡ piece (address_of_page s.banks.geometry s.banks.banks s.banks.log.bank ((at m entry s listed kept count made Done f is reads) + 2)) (length (take (src m entry s listed kept count made Done f is reads).length made.buffer)) x) old now start.0.0 in
     subst (λ (x : FlsState). Turned m entry turn.Worked s (record s { fls = x; banks = after_answer made c Done }) listed kept count false) driver
     (subst (λ (x : BanksState). Turned m entry turn.Worked s (record s { fls = record s.fls { flash = record s.fls.flash { faults = s.fls.flash.faults }; result = f.result }; banks = x }) listed kept count false) path
-    (went_read laws own rd m entry s listed kept count c is.course is.on is.idle is.behind f.result (next laws own beg m entry s listed kept count made Done f is reads) s.banks.log.flags (log_k laws own beg m entry s listed kept count made Done f is reads) made.buffer (record {
+    (went_read m entry s listed kept count c is.course is.on is.idle is.behind f.result (next m entry s listed kept count made Done f is reads) s.banks.log.flags (log_k m entry s listed kept count made Done f is reads) made.buffer (record {
       seals = record { takes = λ more. refl; nearer = λ some'. absurd (omega arith) };
       room = subst (KeepsRoom m.reserve) (sym path) kept';
       lower = subst (λ (x : BanksState). left_of x < left_of s.banks) (sym path) less;
-      active = active_on s.banks s.banks.log.flags (Some (next laws own beg m entry s listed kept count made Done f is reads)) (log_k laws own beg m entry s listed kept count made Done f is reads) made.buffer s.banks.active (is.on.sound.works is.on.started).active;
-      reading = λ old now shows. (kept_then laws own beg m entry s listed kept count made Done f is reads wide old shows, copying_then laws own beg m entry s listed kept count made Done f is reads wide read_in old now);
+      active = active_on s.banks s.banks.log.flags (Some (next m entry s listed kept count made Done f is reads)) (log_k m entry s listed kept count made Done f is reads) made.buffer s.banks.active (is.on.sound.works is.on.started).active;
+      reading = λ old now shows. (kept_then m entry s listed kept count made Done f is reads wide old shows, copying_then m entry s listed kept count made Done f is reads wide read_in old now);
     })))
 
 same_outside : (address n : ℕ) (old : List ℕ) → SameOutside address n old old
 same_outside address n old = record { size = refl; front = refl; back = refl }
 
-pub copies_are_not_read : Laws → SwitchLaws → ReadLaws → BeginLaws → CopiesAreNotRead
-copies_are_not_read laws own rd beg m entry s listed kept count made f is reads =
+pub copies_are_not_read : CopiesAreNotRead
+copies_are_not_read m entry s listed kept count made f is reads =
     let c : Course = Copy None in
     let mem = memory_of s in
     let l = banks_of m in
-    let start = begins laws own beg m entry s listed kept count made Failed f is reads in
+    let start = begins m entry s listed kept count made Failed f is reads in
     let room = is.on.sound.room is.on.started (power m entry s listed kept count is.on) in
     let flags = clear_flags s.banks.log.numbers in
     let log = erased_state s.banks.geometry s.banks.banks s.banks.target s.banks.copies.numbers in
     let fb : BanksState = record s.banks { course = Some (Erase 0); log = record s.banks.log { flags = flags }; copies = log; buffer = made.buffer } in
     let path : fb ≡ after_answer made c Failed = λ i. after_answer (sym start.1 i) c Failed in
-    let kept' = own.room m.reserve s.banks made c s.fls.flash f.flash Failed is.on.banks is.on.log is.idle is.course room is.makes (λ off. cc off) in
+    let kept' = steps_keep_room m.reserve s.banks made c s.fls.flash f.flash Failed is.on.banks is.on.log is.idle is.course room is.makes (λ off. cc off) in
     let driver = sym (is.drives.only ∙ (λ i. record s.fls { flash = start.0.1 i; result = f.result })) in
     let last = last_by s.job s.last in
     let given = given_by s.job s.given in
@@ -244,17 +231,17 @@ copies_are_not_read laws own rd beg m entry s listed kept count made f is reads 
     let body = body_of (work_in s.banks.copies.tail) s.banks.buffer in
     let phase : mem.phase ≡ Copying (log_of s.banks.copies body) = ap (λ (o : Option Course). phase_shown o s.banks body) is.course in
     let none_blank : 0 ≡ 0 * pages_of_sector s.banks.geometry = omega arith in
-    let low = (legal m entry s listed kept count is.on laws.legal).pages in
+    let low = (legal m entry s listed kept count is.on).pages in
     subst (λ (y : FlsState). Turned m entry turn.Worked s (failed_with s.job (record s { fls = y; banks = after_answer made c Failed; faults = next_count s.faults })) listed kept count false) driver
     (subst (λ (y : BanksState). Turned m entry turn.Worked s (failed_with s.job (record s { fls = record s.fls { flash = record s.fls.flash { faults = f.flash.faults }; result = f.result }; banks = y; faults = next_count s.faults })) listed kept count false) path
     (subst (λ (y : Parts). Turned m entry turn.Worked s y listed kept count false) (sym (failed_is s.job (record s { fls = record s.fls { flash = record s.fls.flash { faults = f.flash.faults }; result = f.result }; banks = fb; faults = next_count s.faults }) refl))
-    (failed_read laws own rd m entry s listed kept count c is.course is.on is.idle is.behind f.flash.faults f.result (more_by s.fls.flash.faults f.flash.faults start.0.0) start.0.0 (Erase 0) flags log made.buffer (record {
+    (failed_read m entry s listed kept count c is.course is.on is.idle is.behind f.flash.faults f.result (rose_more s.fls.flash.faults f.flash.faults start.0.0) start.0.0 (Erase 0) flags log made.buffer (record {
       room = subst (KeepsRoom m.reserve) (sym path) kept';
       active = active_on s.banks flags (Some (Erase 0)) log made.buffer s.banks.active (is.on.sound.works is.on.started).active;
       reading = λ old now shows. (
-        (let is' = own.copy_fails l m.numbers old old (gate_page l.page) mem (copied_of (flags_in m s old)) (copied_of (flags_in m x old)) 0 (log_of s.banks.copies body) stand
-            (standing laws m entry s listed kept count c made Failed f is old (copied_of (flags_in m s old)) shows.held) phase (length-replicate {A = ℕ} l.page 0) (omega (arith, low)) (λ same. (let z : ◌≡◌ {A = ℕ} 0 1 = same in cc z))
-            (same_outside (place_in_image l s.banks.target 0) (length (gate_page l.page)) old, λ are. are) (stand_goes s.content s.job s.last s.given) (no_job laws m entry s listed kept count c made Failed f is stand) in
+        (let is' = copies_fail l m.numbers old old (gate_page l.page) mem (copied_of (flags_in m s old)) (copied_of (flags_in m x old)) 0 (log_of s.banks.copies body) stand
+            (standing m entry s listed kept count c made Failed f is old (copied_of (flags_in m s old)) shows.held) phase (length-replicate {A = ℕ} l.page 0) (omega (arith, low)) (λ same. (let z : ◌≡◌ {A = ℕ} 0 1 = same in cc z))
+            (same_outside (place_in_image l s.banks.target 0) (length (gate_page l.page)) old, λ are. are) (stand_goes s.content s.job s.last s.given) (no_job m entry s listed kept count c made Failed f is stand) in
             let way : record mem { phase = Erasing 0; stand = stand } ≡ memory_of x =
             λ i. record mem { old = sym (flags_hidden s.banks.active s.banks.log flags (body_of (work_in s.banks.log.tail) s.content)) i; phase = Erasing (none_blank i); stand = stand } in
             subst (λ (y : Memory). IsKept l m.numbers old old mem y (copied_of (flags_in m x old))) way is'),

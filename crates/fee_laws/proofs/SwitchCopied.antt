@@ -20,22 +20,23 @@ use Rattle.fee_image.specs.May.{May}
 use Rattle.fee_image.specs.Banks.{Phase, Copying}
 use Rattle.fee_image.specs.Copies.{Flag, copied_of}
 use Rattle.fee_format.specs.Formats.{new_format}
+use Rattle.fee_image.proofs.Copies.{marking_holds}
 use Rattle.fee_log.specs.Log.{LogState, log_of, work_in}
 use Rattle.fee_course.specs.declared.course.Course.{Course}
 use Rattle.fee_course.specs.Course.{settled}
 use Rattle.fee_switch.specs.Banks.{BanksState, after_answer}
 use Rattle.fee_switch_laws.specs.Shown.{phase_shown, phase_at}
+use Rattle.fee_switch_laws.proofs.Copies.{settled_stays}
 use Rattle.promise_device.specs.Making.{Making, banks_of}
 use Rattle.fee_told.specs.Slots.{Memory, settled_in}
 use Rattle.fee_told.specs.SlotLaws.{IsHeld}
 use Rattle.fee_told.specs.Kept.{IsKept}
+use Rattle.fee_told.proofs.Kept.{copies_widen}
 use Rattle.fee_laws.specs.Copied.{flags_of, IsCopying}
 use Rattle.fee_laws.specs.Inside.{Parts, memory_of, body_of, flags_in, ShowsCopies}
 use Rattle.fee_laws.specs.Turn.{operated, Turned}
 use Rattle.fee_laws.specs.Switches.{IsStepping, step_op}
-use Rattle.fee_laws.proofs.TurnLaws.{Laws}
-use Rattle.fee_laws.proofs.SwitchLaws.{SwitchLaws}
-use Rattle.fee_laws.proofs.SwitchShown.{settled_copying, settled_phase, roomy}
+use Rattle.fee_laws.proofs.SwitchShown.{settled_copying, roomy}
 use Rattle.std.specs.List.{All}
 use Rattle.std.specs.Prelude.{◌&&◌}
 use Rattle.std.proofs.lemmas.Bool.{cases_Bool}
@@ -44,7 +45,7 @@ use Rattle.fee_image.specs.RecordList.{pages_of_head}
 use Rattle.fee_image.specs.May.{IsAmong, IsWider, held_written, settling}
 use Rattle.fee_image.specs.Step.{log_done, may_done}
 use Rattle.fee_image.specs.BankLaws.{program_of}
-use Rattle.fee_image.specs.Copies.{marked, MarkingHolds}
+use Rattle.fee_image.specs.Copies.{marked}
 use Rattle.fee_image.specs.declared.place.Place.{Place}
 use Rattle.fee_log.specs.declared.tail.Tail.{Tail}
 use Rattle.fee_log.specs.declared.tail.Tail.TheVariants.{Writes}
@@ -67,11 +68,12 @@ use Rattle.fee_laws.specs.Switches.{failed_with, copy_op_of}
 use Rattle.fee_laws.proofs.Tails.{tailed, shown, page_goes_on, page_commits}
 use Rattle.fee_image.specs.Banks.{Old}
 use Rattle.fee_switch_laws.specs.Shown.{old_shown}
-use Rattle.fee_laws.proofs.SwitchOn.{Seals}
+use Rattle.fee_laws.proofs.SwitchNearer.{Seals}
 use Rattle.fee_laws.proofs.SwitchKinds.{done_by}
 use Rattle.fee_laws.proofs.SwitchShown.{flags_hidden}
 use Rattle.fee_laws.proofs.SwitchPage.{settled_same, torn, cutting, page_failed, page_cut}
 use Rattle.fee_laws.proofs.SwitchCopy.{L, q, page, op_of_is, size, inside, not_gate, done_kept, flags_marked, open_any}
+use Rattle.fee_laws.proofs.Figures.{and_false}
 
 -- ITS LAST PAGE
 pub last_is : (done pages total : ℕ) → done + pages ≡ total → (done + 1 == total) ≡ (pages == 1)
@@ -96,12 +98,12 @@ settling_open h body fs open' number length m among =
 abbrev marked_if : Bool → ℕ → List Flag → List Flag
 marked_if b number fs = if b then marked number fs else fs
 
-wider_by : (marking : MarkingHolds) (last sets : Bool) (h : RecHead) (body : List ℕ) (fs : List Flag) → CopiesOrNot sets h body fs
+wider_by : (last sets : Bool) (h : RecHead) (body : List ℕ) (fs : List Flag) → CopiesOrNot sets h body fs
     → IsWider (if last then settling (copied_of fs) h body else copied_of fs) (copied_of (marked_if (sets && last) h.number fs))
-wider_by marking true true h body fs copies = marking fs h body copies
-wider_by marking true false h body fs copies = settling_open h body fs copies
-wider_by marking false true h body fs copies = λ number length m among. among
-wider_by marking false false h body fs copies = λ number length m among. among
+wider_by true true h body fs copies = marking_holds fs h body copies
+wider_by true false h body fs copies = settling_open h body fs copies
+wider_by false true h body fs copies = λ number length m among. among
+wider_by false false h body fs copies = λ number length m among. among
 
 -- its flag
 flag_set : (log : LogState) (i : ℕ) (n : DeviceNumber × ℕ) (b : Bool) → slice_get log.numbers i ≡ Some n → flagged_by log (if b then Some i else None) ≡ record log { flags = if b then with_flag log.numbers log.flags n.0.0 true else log.flags }
@@ -112,16 +114,11 @@ flags_if : (ns : List (DeviceNumber × ℕ)) (ps : List Place) (flags : List Boo
 flags_if ns ps flags held number true = flags_marked ns ps flags held number
 flags_if ns ps flags held number false = refl
 
--- what comes behind it
-and_false : (a : Bool) → a && false ≡ false
-and_false true = refl
-and_false false = refl
-
 page_phase : (ns : List (DeviceNumber × ℕ)) (ps : List Place) (cs : List Bool) (w : InWork) (b : BanksState) (x : List ℕ) → phase_at (page_done ns ps cs w) b x ≡ Copying (log_of b.copies x)
 page_phase ns ps cs w b x =
-    cond_both (w.pages == 1) (settled ns ps cs) (Copy (Some (record w { pages = w.pages - 1 }))) (λ (c : Course). phase_at c b x ≡ Copying (log_of b.copies x)) (λ e. settled_phase ns ps cs b x) (λ e. refl)
+    cond_both (w.pages == 1) (settled ns ps cs) (Copy (Some (record w { pages = w.pages - 1 }))) (λ (c : Course). phase_at c b x ≡ Copying (log_of b.copies x)) (λ e. settled_stays ns ps cs b x) (λ e. refl)
 
-module _ (laws : Laws) (own : SwitchLaws) (m : Making) (entry : Told) (s : Parts) (listed : List (DeviceNumber × ℕ)) (kept count : ℕ) (w : InWork) (made : BanksState) (answer : FlashAnswer) (f : FlsState) (is : IsStepping m entry s listed kept count (Copy (Some w)) made answer f) where
+module _ (m : Making) (entry : Told) (s : Parts) (listed : List (DeviceNumber × ℕ)) (kept count : ℕ) (w : InWork) (made : BanksState) (answer : FlashAnswer) (f : FlsState) (is : IsStepping m entry s listed kept count (Copy (Some w)) made answer f) where
   abbrev c : Course
   c = Copy (Some w)
 
@@ -138,7 +135,7 @@ module _ (laws : Laws) (own : SwitchLaws) (m : Making) (entry : Told) (s : Parts
   body = body_of (work_in k.tail) s.banks.buffer
 
   pub target : IsTargetLog s.banks c
-  target = (roomy laws m entry s listed kept count c made answer f is).target
+  target = (roomy m entry s listed kept count c made answer f is).target
 
   abbrev here : IsOpenCopy s.banks w
   here = target.work
@@ -182,8 +179,8 @@ module _ (laws : Laws) (own : SwitchLaws) (m : Making) (entry : Told) (s : Parts
   op_body : op ≡ op_of k body
   op_body = ap (copy_op_of s.banks) work ∙ ap (op_of k) (sym body_is)
 
-  pub op_is : op ≡ program_of l s.banks.target (q laws own m entry s listed kept count c made answer f is k body h done tail is.copies geo banks_are bank format numbers small) (page laws own m entry s listed kept count c made answer f is k body h done tail is.copies geo banks_are bank format numbers small)
-  op_is = op_body ∙ op_of_is laws own m entry s listed kept count c made answer f is k body h done tail is.copies geo banks_are bank format numbers small
+  pub op_is : op ≡ program_of l s.banks.target (q m entry s listed kept count c made answer f is k body h done tail is.copies geo banks_are bank format numbers small) (page m entry s listed kept count c made answer f is k body h done tail is.copies geo banks_are bank format numbers small)
+  op_is = op_body ∙ op_of_is m entry s listed kept count c made answer f is k body h done tail is.copies geo banks_are bank format numbers small
 
   pub step : IsStep op s.fls.flash answer f.flash
   step = subst (λ (o : Op). IsStep o s.fls.flash answer f.flash) (sym (ap (copy_op_of s.banks) work)) (is.makes.0 h work)
@@ -193,7 +190,7 @@ module _ (laws : Laws) (own : SwitchLaws) (m : Making) (entry : Told) (s : Parts
 
   -- WHERE IT IS DONE
   abbrev N : Log
-  N = log_done l.page m.numbers (L laws own m entry s listed kept count c made answer f is k body h done tail is.copies geo banks_are bank format numbers small)
+  N = log_done l.page m.numbers (L m entry s listed kept count c made answer f is k body h done tail is.copies geo banks_are bank format numbers small)
 
   pages_at : (p : ℕ) → p ≡ s.banks.geometry.page → done + w.pages ≡ pages_of_head p h
   pages_at p same = subst (λ (x : ℕ). done + w.pages ≡ pages_of_head x h) (sym same) here.pages
@@ -254,9 +251,9 @@ module _ (laws : Laws) (own : SwitchLaws) (m : Making) (entry : Told) (s : Parts
 
   flags_then : (old new : List ℕ) → ShowsCopies m s c old → MayLeave op old new → fs' new ≡ marked_if sets_now h.number (fs old)
   flags_then old new shows leaves =
-      let settled' = settled_same laws own m entry s listed kept count c made answer f is op step (q laws own m entry s listed kept count c made answer f is k body h done tail is.copies geo banks_are bank format numbers small)
-      (page laws own m entry s listed kept count c made answer f is k body h done tail is.copies geo banks_are bank format numbers small) op_is (size laws own m entry s listed kept count c made answer f is k body h done tail is.copies geo banks_are bank format numbers small)
-      (inside laws own m entry s listed kept count c made answer f is k body h done tail is.copies geo banks_are bank format numbers small) old new (copied_of (fs old)) shows.held leaves in
+      let settled' = settled_same m entry s listed kept count c made answer f is op step (q m entry s listed kept count c made answer f is k body h done tail is.copies geo banks_are bank format numbers small)
+      (page m entry s listed kept count c made answer f is k body h done tail is.copies geo banks_are bank format numbers small) op_is (size m entry s listed kept count c made answer f is k body h done tail is.copies geo banks_are bank format numbers small)
+      (inside m entry s listed kept count c made answer f is k body h done tail is.copies geo banks_are bank format numbers small) old new (copied_of (fs old)) shows.held leaves in
       let held = settled_in l m.numbers old mem.old in
       let same : settled_in l m.numbers new old' ≡ held = ap (settled_in l m.numbers new) old_is ∙ settled' in
       let set_flags : set.flags ≡ (if sets_now then with_flag m.numbers s.banks.log.flags h.number true else s.banks.log.flags) =
@@ -275,12 +272,12 @@ module _ (laws : Laws) (own : SwitchLaws) (m : Making) (entry : Told) (s : Parts
   kept_then old new shows leaves left =
       let cop = copied_of (fs old) in
       let held' = subst (λ (x : Phase). IsHeld l m.numbers old (record mem { phase = x }) cop) phase shows.held in
-      let first = done_kept laws own m entry s listed kept count c made answer f is k body h done tail is.copies geo banks_are bank format numbers small old new cop held'
+      let first = done_kept m entry s listed kept count c made answer f is k body h done tail is.copies geo banks_are bank format numbers small old new cop held'
       (subst (λ (o : Op). MayLeave o old new) op_body leaves) (subst (λ (o : Op). Leaves o Done old new) op_body left) in
       let held_if = subst (λ (x : May). IsHeld l m.numbers new (record mem { phase = Copying N }) x) (may_is cop) first.held in
       let copies = subst (λ (x : List ℕ). CopiesOrNot w.sets h x (fs old)) (sym body_is) (copy_was old shows).0 in
-      let wide = wider_by own.marking (w.pages == 1) w.sets h body (fs old) copies in
-      let held_wide = own.wider l m.numbers new (record mem { phase = Copying N }) (if w.pages == 1 then settling cop h body else cop) (copied_of (marked_if sets_now h.number (fs old))) held_if wide tt in
+      let wide = wider_by (w.pages == 1) w.sets h body (fs old) copies in
+      let held_wide = copies_widen l m.numbers new (record mem { phase = Copying N }) (if w.pages == 1 then settling cop h body else cop) (copied_of (marked_if sets_now h.number (fs old))) held_if wide tt in
       let both : IsKept l m.numbers old new mem (record mem { phase = Copying N }) (copied_of (marked_if sets_now h.number (fs old))) = record { held = held_wide; keeps = first.keeps } in
       subst (λ (x : Memory). IsKept l m.numbers old new mem x (copied_of (fs' new))) then_is
       (subst (λ (x : List Flag). IsKept l m.numbers old new mem (record mem { phase = Copying N }) (copied_of x)) (sym (flags_then old new shows leaves)) both)
@@ -301,7 +298,7 @@ module _ (laws : Laws) (own : SwitchLaws) (m : Making) (entry : Told) (s : Parts
       (subst (λ (o : Option RecHead). IsCopying (Copy (Some (record w { pages = w.pages - 1 }))) o s.banks.buffer (fs old)) (sym on) (copy_was old shows))))
 
 -- THE TURNS
-module _ (laws : Laws) (own : SwitchLaws) (m : Making) (entry : Told) (s : Parts) (listed : List (DeviceNumber × ℕ)) (kept count : ℕ) (w : InWork) (made : BanksState) (f : FlsState) where
+module _ (m : Making) (entry : Told) (s : Parts) (listed : List (DeviceNumber × ℕ)) (kept count : ℕ) (w : InWork) (made : BanksState) (f : FlsState) where
   abbrev at : Course
   at = Copy (Some w)
 
@@ -310,45 +307,45 @@ module _ (laws : Laws) (own : SwitchLaws) (m : Making) (entry : Told) (s : Parts
 
   module _ (answer : FlashAnswer) (is : IsStepping m entry s listed kept count (Copy (Some w)) made answer f) where
     abbrev q' : ℕ
-    q' = q laws own m entry s listed kept count at made answer f is (k laws own m entry s listed kept count w made answer f is) (body laws own m entry s listed kept count w made answer f is) (h laws own m entry s listed kept count w made answer f is) (done laws own m entry s listed kept count w made answer f is) (tail laws own m entry s listed kept count w made answer f is) is.copies (geo laws own m entry s listed kept count w made answer f is) (banks_are laws own m entry s listed kept count w made answer f is) (bank laws own m entry s listed kept count w made answer f is) (format laws own m entry s listed kept count w made answer f is) (numbers laws own m entry s listed kept count w made answer f is) (small laws own m entry s listed kept count w made answer f is)
+    q' = q m entry s listed kept count at made answer f is (k m entry s listed kept count w made answer f is) (body m entry s listed kept count w made answer f is) (h m entry s listed kept count w made answer f is) (done m entry s listed kept count w made answer f is) (tail m entry s listed kept count w made answer f is) is.copies (geo m entry s listed kept count w made answer f is) (banks_are m entry s listed kept count w made answer f is) (bank m entry s listed kept count w made answer f is) (format m entry s listed kept count w made answer f is) (numbers m entry s listed kept count w made answer f is) (small m entry s listed kept count w made answer f is)
 
     abbrev page' : List ℕ
-    page' = page laws own m entry s listed kept count at made answer f is (k laws own m entry s listed kept count w made answer f is) (body laws own m entry s listed kept count w made answer f is) (h laws own m entry s listed kept count w made answer f is) (done laws own m entry s listed kept count w made answer f is) (tail laws own m entry s listed kept count w made answer f is) is.copies (geo laws own m entry s listed kept count w made answer f is) (banks_are laws own m entry s listed kept count w made answer f is) (bank laws own m entry s listed kept count w made answer f is) (format laws own m entry s listed kept count w made answer f is) (numbers laws own m entry s listed kept count w made answer f is) (small laws own m entry s listed kept count w made answer f is)
+    page' = page m entry s listed kept count at made answer f is (k m entry s listed kept count w made answer f is) (body m entry s listed kept count w made answer f is) (h m entry s listed kept count w made answer f is) (done m entry s listed kept count w made answer f is) (tail m entry s listed kept count w made answer f is) is.copies (geo m entry s listed kept count w made answer f is) (banks_are m entry s listed kept count w made answer f is) (bank m entry s listed kept count w made answer f is) (format m entry s listed kept count w made answer f is) (numbers m entry s listed kept count w made answer f is) (small m entry s listed kept count w made answer f is)
 
     size' : length page' ≡ m.geometry.page
-    size' = size laws own m entry s listed kept count at made answer f is (k laws own m entry s listed kept count w made answer f is) (body laws own m entry s listed kept count w made answer f is) (h laws own m entry s listed kept count w made answer f is) (done laws own m entry s listed kept count w made answer f is) (tail laws own m entry s listed kept count w made answer f is) is.copies (geo laws own m entry s listed kept count w made answer f is) (banks_are laws own m entry s listed kept count w made answer f is) (bank laws own m entry s listed kept count w made answer f is) (format laws own m entry s listed kept count w made answer f is) (numbers laws own m entry s listed kept count w made answer f is) (small laws own m entry s listed kept count w made answer f is)
+    size' = size m entry s listed kept count at made answer f is (k m entry s listed kept count w made answer f is) (body m entry s listed kept count w made answer f is) (h m entry s listed kept count w made answer f is) (done m entry s listed kept count w made answer f is) (tail m entry s listed kept count w made answer f is) is.copies (geo m entry s listed kept count w made answer f is) (banks_are m entry s listed kept count w made answer f is) (bank m entry s listed kept count w made answer f is) (format m entry s listed kept count w made answer f is) (numbers m entry s listed kept count w made answer f is) (small m entry s listed kept count w made answer f is)
 
     inside' : q' < (banks_of m).pages
-    inside' = inside laws own m entry s listed kept count at made answer f is (k laws own m entry s listed kept count w made answer f is) (body laws own m entry s listed kept count w made answer f is) (h laws own m entry s listed kept count w made answer f is) (done laws own m entry s listed kept count w made answer f is) (tail laws own m entry s listed kept count w made answer f is) is.copies (geo laws own m entry s listed kept count w made answer f is) (banks_are laws own m entry s listed kept count w made answer f is) (bank laws own m entry s listed kept count w made answer f is) (format laws own m entry s listed kept count w made answer f is) (numbers laws own m entry s listed kept count w made answer f is) (small laws own m entry s listed kept count w made answer f is)
+    inside' = inside m entry s listed kept count at made answer f is (k m entry s listed kept count w made answer f is) (body m entry s listed kept count w made answer f is) (h m entry s listed kept count w made answer f is) (done m entry s listed kept count w made answer f is) (tail m entry s listed kept count w made answer f is) is.copies (geo m entry s listed kept count w made answer f is) (banks_are m entry s listed kept count w made answer f is) (bank m entry s listed kept count w made answer f is) (format m entry s listed kept count w made answer f is) (numbers m entry s listed kept count w made answer f is) (small m entry s listed kept count w made answer f is)
 
     not_gate' : q' ≡ 1 → ⊥
-    not_gate' = not_gate laws own m entry s listed kept count at made answer f is (k laws own m entry s listed kept count w made answer f is) (body laws own m entry s listed kept count w made answer f is) (h laws own m entry s listed kept count w made answer f is) (done laws own m entry s listed kept count w made answer f is) (tail laws own m entry s listed kept count w made answer f is) is.copies (geo laws own m entry s listed kept count w made answer f is) (banks_are laws own m entry s listed kept count w made answer f is) (bank laws own m entry s listed kept count w made answer f is) (format laws own m entry s listed kept count w made answer f is) (numbers laws own m entry s listed kept count w made answer f is) (small laws own m entry s listed kept count w made answer f is)
+    not_gate' = not_gate m entry s listed kept count at made answer f is (k m entry s listed kept count w made answer f is) (body m entry s listed kept count w made answer f is) (h m entry s listed kept count w made answer f is) (done m entry s listed kept count w made answer f is) (tail m entry s listed kept count w made answer f is) is.copies (geo m entry s listed kept count w made answer f is) (banks_are m entry s listed kept count w made answer f is) (bank m entry s listed kept count w made answer f is) (format m entry s listed kept count w made answer f is) (numbers m entry s listed kept count w made answer f is) (small m entry s listed kept count w made answer f is)
 
     abbrev log' : Log
-    log' = log_of (k laws own m entry s listed kept count w made answer f is) (body laws own m entry s listed kept count w made answer f is)
+    log' = log_of (k m entry s listed kept count w made answer f is) (body m entry s listed kept count w made answer f is)
 
   pub copy_failed : IsStepping m entry s listed kept count at made Failed f → Turned m entry turn.Worked s (failed_with s.job (operated (step_op s.banks at) Failed f (after_answer made at Failed) s)) listed kept (next_count count) false
   copy_failed is =
-      page_failed laws own m entry s listed kept count at made f (step_op s.banks at) (q' Failed is) (page' Failed is) (op_is laws own m entry s listed kept count w made Failed f is) (size' Failed is) (inside' Failed is) (log' Failed is)
-      (phase laws own m entry s listed kept count w made Failed f is) (not_gate' Failed is) is (step laws own m entry s listed kept count w made Failed f is) (λ i. after_answer (sym is.makes.1 i) at Failed)
+      page_failed m entry s listed kept count at made f (step_op s.banks at) (q' Failed is) (page' Failed is) (op_is m entry s listed kept count w made Failed f is) (size' Failed is) (inside' Failed is) (log' Failed is)
+      (phase m entry s listed kept count w made Failed f is) (not_gate' Failed is) is (step m entry s listed kept count w made Failed f is) (λ i. after_answer (sym is.makes.1 i) at Failed)
 
   pub copy_cut : IsStepping m entry s listed kept count at made Off f → Turned m entry turn.Off s (operated (step_op s.banks at) Off f (after_answer made at Off) s) listed kept (next_count count) true
   copy_cut is =
-      page_cut laws own m entry s listed kept count at made f (step_op s.banks at) (q' Off is) (page' Off is) (op_is laws own m entry s listed kept count w made Off f is) (size' Off is) (inside' Off is) (log' Off is)
-      (phase laws own m entry s listed kept count w made Off f is) (not_gate' Off is) is (step laws own m entry s listed kept count w made Off f is) s.banks.copies (sym is.makes.1)
+      page_cut m entry s listed kept count at made f (step_op s.banks at) (q' Off is) (page' Off is) (op_is m entry s listed kept count w made Off f is) (size' Off is) (inside' Off is) (log' Off is)
+      (phase m entry s listed kept count w made Off f is) (not_gate' Off is) is (step m entry s listed kept count w made Off f is) s.banks.copies (sym is.makes.1)
 
-  b_is : (is : IsStepping m entry s listed kept count at made Done f) → b laws own m entry s listed kept count w made Done f is ≡ after_answer made at Done
+  b_is : (is : IsStepping m entry s listed kept count at made Done f) → b m entry s listed kept count w made Done f is ≡ after_answer made at Done
   b_is is =
-      (λ i. record s.banks { course = Some (next laws own m entry s listed kept count w made Done f is); log = sym (set_same laws own m entry s listed kept count w made Done f is) i; copies = after_step s.banks.copies Done })
+      (λ i. record s.banks { course = Some (next m entry s listed kept count w made Done f is); log = sym (set_same m entry s listed kept count w made Done f is) i; copies = after_step s.banks.copies Done })
       ∙ (λ i. after_answer (sym is.makes.1 i) at Done)
 
-  seals : (is : IsStepping m entry s listed kept count at made Done f) → Seals at (next laws own m entry s listed kept count w made Done f is)
+  seals : (is : IsStepping m entry s listed kept count at made Done f) → Seals at (next m entry s listed kept count w made Done f is)
   seals is = record { takes = λ more. refl; nearer = λ some'. absurd (omega arith) }
 
   pub copy_done : IsStepping m entry s listed kept count at made Done f → Turned m entry turn.Worked s (operated (step_op s.banks at) Done f (after_answer made at Done) s) listed kept (next_count count) false
   copy_done is =
-      done_by laws own m entry s listed kept count at made f is tt (step_op s.banks at) (step laws own m entry s listed kept count w made Done f is)
-      (torn laws own m entry s listed kept count at made Done f is (step_op s.banks at) (step laws own m entry s listed kept count w made Done f is) (q' Done is) (page' Done is) (op_is laws own m entry s listed kept count w made Done f is) (size' Done is) (inside' Done is) (log' Done is) (phase laws own m entry s listed kept count w made Done f is) (not_gate' Done is))
-      (cutting laws own m entry s listed kept count at made Done f is (step_op s.banks at) (step laws own m entry s listed kept count w made Done f is) (q' Done is) (page' Done is) (op_is laws own m entry s listed kept count w made Done f is) (size' Done is) (inside' Done is) (log' Done is) (phase laws own m entry s listed kept count w made Done f is) (not_gate' Done is))
-      (next laws own m entry s listed kept count w made Done f is) (set laws own m entry s listed kept count w made Done f is).flags (after_step s.banks.copies Done) (b_is is) (seals is)
-      (λ old new shows leaves left. record { kept_all = kept_then laws own m entry s listed kept count w made Done f is old new shows leaves left; copying = copying_then laws own m entry s listed kept count w made Done f is old new shows leaves })
+      done_by m entry s listed kept count at made f is tt (step_op s.banks at) (step m entry s listed kept count w made Done f is)
+      (torn m entry s listed kept count at made Done f is (step_op s.banks at) (step m entry s listed kept count w made Done f is) (q' Done is) (page' Done is) (op_is m entry s listed kept count w made Done f is) (size' Done is) (inside' Done is) (log' Done is) (phase m entry s listed kept count w made Done f is) (not_gate' Done is))
+      (cutting m entry s listed kept count at made Done f is (step_op s.banks at) (step m entry s listed kept count w made Done f is) (q' Done is) (page' Done is) (op_is m entry s listed kept count w made Done f is) (size' Done is) (inside' Done is) (log' Done is) (phase m entry s listed kept count w made Done f is) (not_gate' Done is))
+      (next m entry s listed kept count w made Done f is) (set m entry s listed kept count w made Done f is).flags (after_step s.banks.copies Done) (b_is is) (seals is)
+      (λ old new shows leaves left. record { kept_all = kept_then m entry s listed kept count w made Done f is old new shows leaves left; copying = copying_then m entry s listed kept count w made Done f is old new shows leaves })

@@ -20,17 +20,18 @@ use Rattle.fee_image.specs.declared.place.Place.{Place}
 use Rattle.fee_image.specs.Places.{is_written}
 use Rattle.fee_format.specs.Formats.{new_format}
 use Rattle.fee_log.specs.Log.{LogState, log_of, work_in}
+use Rattle.fee_log.proofs.Follows.{work_is_due}
+use Rattle.fee_log.proofs.Steps.{pages_stand}
 use Rattle.fee_course.specs.declared.course.Course.{Course}
 use Rattle.fee_switch.specs.Banks.{BanksState}
 use Rattle.promise_device.specs.Making.{Making, banks_of}
 use Rattle.fee_told.specs.Slots.{Memory}
 use Rattle.fee_told.specs.SlotLaws.{IsHeld}
 use Rattle.fee_told.specs.Kept.{IsKept}
+use Rattle.fee_told.proofs.Switches.{copies_go_on}
 use Rattle.fee_laws.specs.Copied.{flags_of}
 use Rattle.fee_laws.specs.Inside.{Parts, memory_of}
 use Rattle.fee_laws.specs.Switches.{IsStepping}
-use Rattle.fee_laws.proofs.TurnLaws.{Laws}
-use Rattle.fee_laws.proofs.SwitchLaws.{SwitchLaws}
 use Rattle.fee_laws.proofs.Before.{shape, lengths, legal}
 use Rattle.std.specs.List.{All}
 use Rattle.std.specs.Prelude.{◌&&◌}
@@ -51,7 +52,7 @@ use Rattle.fee_log.specs.Log.{IsLogState, IsTail, bank_of, pages_in, tail_with}
 use Rattle.fee_log.specs.Step.{IsPageOf, op_of, due_bytes}
 use Rattle.fee_switch_laws.specs.Flags.{IsOpenFor}
 use Rattle.fee_laws.proofs.Page.{due_inside}
-use Rattle.fee_laws.proofs.SwitchBytes.{record_page_is}
+use Rattle.fee_laws.proofs.FollowBytes.{record_page_is}
 
 -- FLAGS
 one_marked : (x : DeviceNumber × ℕ) (w c b : Bool) (y : Held)
@@ -82,7 +83,7 @@ open_any number [] length m open' = tt
 open_any number (f ∷ fs) length m open' =
     open_one ((f.number == number) && (f.length == length)) (is_done f) (shown_by f) m (copied_of fs number length) (λ e. open'.0 (both_true (f.number == number) (f.length == length) e)) (open_any number fs length m open'.1)
 
-module _ (laws : Laws) (own : SwitchLaws) (m : Making) (entry : Told) (s : Parts) (listed : List (DeviceNumber × ℕ)) (kept count : ℕ) (c : Course) (made : BanksState) (answer : FlashAnswer) (f : FlsState) (is : IsStepping m entry s listed kept count c made answer f) (k : LogState) (body : List ℕ) (h : RecHead) (done : ℕ) (tail : k.tail ≡ Writes h done) (state : IsLogState k) (geo : k.geometry ≡ m.geometry) (banks_are : k.banks ≡ m.banks) (bank : k.bank ≡ s.banks.target) (format : k.format ≡ new_format) (numbers : k.numbers ≡ m.numbers) (small : All (λ x. x < 256) body) where
+module _ (m : Making) (entry : Told) (s : Parts) (listed : List (DeviceNumber × ℕ)) (kept count : ℕ) (c : Course) (made : BanksState) (answer : FlashAnswer) (f : FlsState) (is : IsStepping m entry s listed kept count c made answer f) (k : LogState) (body : List ℕ) (h : RecHead) (done : ℕ) (tail : k.tail ≡ Writes h done) (state : IsLogState k) (geo : k.geometry ≡ m.geometry) (banks_are : k.banks ≡ m.banks) (bank : k.bank ≡ s.banks.target) (format : k.format ≡ new_format) (numbers : k.numbers ≡ m.numbers) (small : All (λ x. x < 256) body) where
   abbrev mem : Memory
   mem = memory_of s
 
@@ -102,7 +103,7 @@ module _ (laws : Laws) (own : SwitchLaws) (m : Making) (entry : Told) (s : Parts
   some = ap (λ (t : Tail). is_some (work_in t)) tail
 
   pub op_of_is : op_of k body ≡ program_of l s.banks.target q page
-  op_of_is = λ i. programs (address_of_page (geo i) (banks_are i) (bank i) ((own.due k body some).1 i)) (bytes_due (geo i).page L)
+  op_of_is = λ i. programs (address_of_page (geo i) (banks_are i) (bank i) ((work_is_due k body some).1 i)) (bytes_due (geo i).page L)
 
   tail_is : IsTail k.geometry.page (pages_in k) k.end (Writes h done)
   tail_is = subst (IsTail k.geometry.page (pages_in k) k.end) tail state.tail
@@ -136,8 +137,8 @@ module _ (laws : Laws) (own : SwitchLaws) (m : Making) (entry : Told) (s : Parts
       let holds = subst (λ (b : Bank). HoldsLog b k.numbers old cop L) bank_path (subst (λ (ns : List (DeviceNumber × ℕ)). HoldsLog (bank_in l new_format s.banks.target) ns old cop L) (sym numbers) held.banks.phase.holds) in
       let size_path : l.pages * l.page * l.banks ≡ pages_in k * k.geometry.page * k.banks = λ i. pages_of_bank (sym geo i) (sym banks_are i) * (sym geo i).page * sym banks_are i in
       let held_state : HoldsState k body old cop = record { size = subst (λ (n : ℕ). n ≤ length old) size_path held.banks.size; holds = holds; follows = subst (λ (t : Tail). MayFollow cop t body) (sym tail) tt } in
-      let stood = own.stands k body old new cop (record { state = state; holds = held_state; work = some; page = page_k }) left in
+      let stood = pages_stand k body old new cop (record { state = state; holds = held_state; work = some; page = page_k }) left in
       let here : image_page l new s.banks.target q ≡ page =
-      (λ i. page_of (bank_in (layout_of (sym geo i) (sym banks_are i)) (sym format i) (sym bank i)) new (sym (own.due k body some).1 i)) ∙ stood ∙ (λ i. bytes_due (geo i).page L) in
-      own.copy l m.numbers old new mid cop L (record { lengths = lengths m entry s listed kept count is.on; legal = legal m entry s listed kept count is.on laws.legal; held = held }) refl (own.due k body some).0 size
+      (λ i. page_of (bank_in (layout_of (sym geo i) (sym banks_are i)) (sym format i) (sym bank i)) new (sym (work_is_due k body some).1 i)) ∙ stood ∙ (λ i. bytes_due (geo i).page L) in
+      copies_go_on l m.numbers old new mid cop L (record { lengths = lengths m entry s listed kept count is.on; legal = legal m entry s listed kept count is.on; held = held }) refl (work_is_due k body some).0 size
       (subst (λ (o : Op). MayLeave o old new) op_of_is leaves) here

@@ -22,14 +22,16 @@ use Rattle.fee_image.specs.Banks.{Old}
 use Rattle.fee_told.specs.Slots.{Memory, HasJob}
 use Rattle.fee_told.specs.Device.{Device, tells, told_of, is_switching}
 use Rattle.fee_told.specs.Runs.{HasRun}
+use Rattle.fee_told.proofs.Kept.{same_places}
+use Rattle.fee_told.proofs.Parts.{parts_cut}
+use Rattle.fee_told.proofs.Steps.{places_tell}
+use Rattle.fee_told.proofs.Tells.{tells_keep}
 use Rattle.fee_laws.specs.declared.job.FeeJob.{FeeJob}
 use Rattle.fee_laws.specs.Inside.{Parts, body_of, device_of, stand_of, fixed_in, IsAtWork, HasSwitch}
 use Rattle.fee_laws.specs.Record.{IsInWork, IsReady}
 use Rattle.fee_laws.specs.Work.{begins_next}
 use Rattle.fee_laws.specs.Turn.{Turned, operated}
 use Rattle.fee_laws.specs.Switches.{IsStepping, IsBehind}
-use Rattle.fee_laws.proofs.TurnLaws.{Laws}
-use Rattle.fee_laws.proofs.SwitchLaws.{SwitchLaws}
 use Rattle.fee_laws.proofs.Order.{first_of}
 use Rattle.fee_laws.proofs.Operation.{ticks}
 use Rattle.fee_laws.proofs.Behind.{Facts, order, sound}
@@ -52,10 +54,9 @@ use Rattle.fee_laws.proofs.Operation.{counts, same, left, before_told}
 use Rattle.fee_laws.proofs.Behind.{bytes}
 use Rattle.fee_laws.proofs.Switching.{l, shows, may_in}
 use Rattle.fee_laws.proofs.SwitchShown.{no_job}
-use Rattle.fee_laws.proofs.Places.{same_places}
-use Rattle.fee_laws.proofs.SwitchOn.{nothing_by, switching_by, each_job}
+use Rattle.fee_laws.proofs.SwitchNearer.{nothing_by, switching_by, each_job}
 
-module _ (laws : Laws) (own : SwitchLaws) (m : Making) (entry : Told) (s : Parts) (listed : List (DeviceNumber × ℕ)) (kept count : ℕ) (c : Course) (made : BanksState) (f : FlsState) (is : IsStepping m entry s listed kept count c made Off f) (op : Op) (step : IsStep op s.fls.flash Off f.flash) (torn : Memory) (cutting : Cutting laws m entry s listed kept count c made Off f is op step torn) (same_old : torn.old ≡ (memory_of s).old) (stands : torn.stand ≡ (memory_of s).stand) (log : LogState) where
+module _ (m : Making) (entry : Told) (s : Parts) (listed : List (DeviceNumber × ℕ)) (kept count : ℕ) (c : Course) (made : BanksState) (f : FlsState) (is : IsStepping m entry s listed kept count c made Off f) (op : Op) (step : IsStep op s.fls.flash Off f.flash) (torn : Memory) (cutting : Cutting m entry s listed kept count c made Off f is op step torn) (same_old : torn.old ≡ (memory_of s).old) (stands : torn.stand ≡ (memory_of s).stand) (log : LogState) where
   abbrev pub b : BanksState
   b = record s.banks { copies = log }
 
@@ -75,12 +76,12 @@ module _ (laws : Laws) (own : SwitchLaws) (m : Making) (entry : Told) (s : Parts
   places = subst (λ (o : Old). SamePlaces torn.old o) same_old (same_places torn.old)
 
   went_off : f.flash.off ≡ true
-  went_off = (asked laws m entry s listed kept count c made Off f is op step).cause.2
+  went_off = (asked m entry s listed kept count c made Off f is op step).cause.2
 
-  kept_at : (old new : List ℕ) → bytes_now s.fls.flash ≡ Some old → bytes_now f.flash ≡ Some new → IsTrue (tells d) → IsKept (l laws m entry s listed kept count c made Off f is op step) m.numbers old new mem torn (copied_of (flags_in m s old))
+  kept_at : (old new : List ℕ) → bytes_now s.fls.flash ≡ Some old → bytes_now f.flash ≡ Some new → IsTrue (tells d) → IsKept (l m entry s listed kept count c made Off f is op step) m.numbers old new mem torn (copied_of (flags_in m s old))
   kept_at old new at_old at_new told =
-      let both = left laws m entry s listed kept count is.on op Off f is.drives (asked laws m entry s listed kept count c made Off f is op step) old new at_old at_new in
-      cutting old new (shows laws m entry s listed kept count c made Off f is op step old at_old told) both.0
+      let both = left m entry s listed kept count is.on op Off f is.drives (asked m entry s listed kept count c made Off f is op step) old new at_old at_new in
+      cutting old new (shows m entry s listed kept count c made Off f is op step old at_old told) both.0
 
   abbrev more : May
   more = may_in m s (bytes_now s.fls.flash)
@@ -89,7 +90,7 @@ module _ (laws : Laws) (own : SwitchLaws) (m : Making) (entry : Told) (s : Parts
   more_is old at = ap (may_in m s) at
 
   run_then : HasRun e
-  run_then = run_on laws m entry s listed kept count c made Off f is op step torn cutting b c is.course s.job s.last s.given
+  run_then = run_on m entry s listed kept count c made Off f is op step torn cutting b c is.course s.job s.last s.given
 
   behind_then : HoldsBehind e
   behind_then = record {
@@ -98,31 +99,31 @@ module _ (laws : Laws) (own : SwitchLaws) (m : Making) (entry : Told) (s : Parts
     banks = record {
       started = is.on.started;
       alike = run_then.alike;
-      legal = legal m entry s listed kept count is.on laws.legal;
-      some = some_told m.geometry f.flash.bytes (shape m entry s listed kept count is.on) (bytes laws m entry s listed kept count is.on op Off f is.drives (asked laws m entry s listed kept count c made Off f is op step) b s.job s.last s.given);
-      held = λ told. each_told f.flash.bytes (λ (x : List ℕ). IsHeld (l laws m entry s listed kept count c made Off f is op step) m.numbers x torn more) (λ new at.
-          (let before = before_told s.fls.flash.bytes f.flash.bytes op Off new (asked laws m entry s listed kept count c made Off f is op step).bytes at in
-          subst (λ (x : May). IsHeld (l laws m entry s listed kept count c made Off f is op step) m.numbers new torn x) (sym (more_is before.0 before.1)) (kept_at before.0 new before.1 at told).held));
+      legal = legal m entry s listed kept count is.on;
+      some = some_told m.geometry f.flash.bytes (shape m entry s listed kept count is.on) (bytes m entry s listed kept count is.on op Off f is.drives (asked m entry s listed kept count c made Off f is op step) b s.job s.last s.given);
+      held = λ told. each_told f.flash.bytes (λ (x : List ℕ). IsHeld (l m entry s listed kept count c made Off f is op step) m.numbers x torn more) (λ new at.
+          (let before = before_told s.fls.flash.bytes f.flash.bytes op Off new (asked m entry s listed kept count c made Off f is op step).bytes at in
+          subst (λ (x : May). IsHeld (l m entry s listed kept count c made Off f is op step) m.numbers new torn x) (sym (more_is before.0 before.1)) (kept_at before.0 new before.1 at told).held));
     };
     places = places;
     stand = stands;
     on = λ power. (let off = went_off in absurd (let z : true ≡ false = sym off ∙ power in cc z));
-    idle = inr (λ stand. subst (HasJob m.numbers stand) (sym same_old) (no_job laws m entry s listed kept count c made Off f is stand));
+    idle = inr (λ stand. subst (HasJob m.numbers stand) (sym same_old) (no_job m entry s listed kept count c made Off f is stand));
   }
 
-  slots_at : (x : List ℕ) (o : Memory) → (if s.started then slots_held (l laws m entry s listed kept count c made Off f is op step) m.numbers x o else slots_found (l laws m entry s listed kept count c made Off f is op step) m.numbers x) ≡ slots_held (l laws m entry s listed kept count c made Off f is op step) m.numbers x o
-  slots_at x o = ap (λ (y : Bool). if y then slots_held (l laws m entry s listed kept count c made Off f is op step) m.numbers x o else slots_found (l laws m entry s listed kept count c made Off f is op step) m.numbers x) is.on.started
+  slots_at : (x : List ℕ) (o : Memory) → (if s.started then slots_held (l m entry s listed kept count c made Off f is op step) m.numbers x o else slots_found (l m entry s listed kept count c made Off f is op step) m.numbers x) ≡ slots_held (l m entry s listed kept count c made Off f is op step) m.numbers x o
+  slots_at x o = ap (λ (y : Bool). if y then slots_held (l m entry s listed kept count c made Off f is op step) m.numbers x o else slots_found (l m entry s listed kept count c made Off f is op step) m.numbers x) is.on.started
 
   keeps_by : (old new : List ℕ) → AreTold d e old new → (n : ℕ) → Keeps (slot_was d old n) (slot_was e new n)
   keeps_by old new told n =
       let kept' = (kept_at old new told.1 told.2 told.0).keeps n in
-      let path : slots_held (l laws m entry s listed kept count c made Off f is op step) m.numbers new (memory_of t) ≡ slots_held (l laws m entry s listed kept count c made Off f is op step) m.numbers new torn =
-      laws.places (l laws m entry s listed kept count c made Off f is op step) m.numbers new torn (memory_of t) places (sym stands) in
+      let path : slots_held (l m entry s listed kept count c made Off f is op step) m.numbers new (memory_of t) ≡ slots_held (l m entry s listed kept count c made Off f is op step) m.numbers new torn =
+      places_tell (l m entry s listed kept count c made Off f is op step) m.numbers new torn (memory_of t) places (sym stands) in
       subst (λ (x : List Slot). Keeps (slot_at m.numbers x n) (slot_was e new n)) (sym (slots_at old mem))
-      (subst (λ (x : List Slot). Keeps (slot_at m.numbers (slots_held (l laws m entry s listed kept count c made Off f is op step) m.numbers old mem) n) (slot_at m.numbers x n)) (sym (slots_at new (memory_of t) ∙ path)) kept')
+      (subst (λ (x : List Slot). Keeps (slot_at m.numbers (slots_held (l m entry s listed kept count c made Off f is op step) m.numbers old mem) n) (slot_at m.numbers x n)) (sym (slots_at new (memory_of t) ∙ path)) kept')
 
   keeping : KeepsAll (told_of d) (told_of e)
-  keeping = laws.tell d e (same laws m entry s listed kept count is.on op Off f is.drives (asked laws m entry s listed kept count c made Off f is op step) (keeps laws m entry s listed kept count c made Off f is op step torn cutting) b s.job s.last s.given run_then) keeps_by
+  keeping = tells_keep d e (same m entry s listed kept count is.on op Off f is.drives (asked m entry s listed kept count c made Off f is op step) (keeps m entry s listed kept count c made Off f is op step torn cutting) b s.job s.last s.given run_then) keeps_by
 
   -- THE PARTS
   was_at_work : IsAtWork m s
@@ -135,12 +136,12 @@ module _ (laws : Laws) (own : SwitchLaws) (m : Making) (entry : Told) (s : Parts
   switch_by None has = has
   switch_by (Some x) has = (has.0, has.1)
 
-  facts : Facts laws m entry s listed kept count is.on op Off f is.drives (asked laws m entry s listed kept count c made Off f is op step) b s.job s.last s.given
+  facts : Facts m entry s listed kept count is.on op Off f is.drives (asked m entry s listed kept count c made Off f is op step) b s.job s.last s.given
   facts = record {
     ends = record { same = record { geometry = refl; banks = refl; numbers = refl }; ended = is.on.sound.made_for.ended; given_few = is.on.sound.made_for.given };
     run = run_then;
     behind = behind_then;
-    work = work_none own.few m s.content b s.job s.last s.given c (record { geometry = is.on.sound.made_for.banks_geometry; shared = is.on.sound.made_for.shared; numbers = is.on.sound.made_for.numbers }) is.course is.idle (switch_by s.banks.course was_at_work.switch) none_then was_at_work.job;
+    work = work_none m s.content b s.job s.last s.given c (record { geometry = is.on.sound.made_for.banks_geometry; shared = is.on.sound.made_for.shared; numbers = is.on.sound.made_for.numbers }) is.course is.idle (switch_by s.banks.course was_at_work.switch) none_then was_at_work.job;
     at_work = record {
       active = was_at_work.active;
       job = was_at_work.job;
@@ -148,7 +149,7 @@ module _ (laws : Laws) (own : SwitchLaws) (m : Making) (entry : Told) (s : Parts
       ready = each_job (IsReady s.banks) (IsReady b) s.job (λ j x. x) was_at_work.ready;
       switch = switch_by s.banks.course was_at_work.switch;
     };
-    shut = λ since worn. absurd (not_worn laws m entry s listed kept count c made Off f is op step since worn);
+    shut = λ since worn. absurd (not_worn m entry s listed kept count c made Off f is op step since worn);
     room = λ power. (let off = went_off in absurd (let z : true ≡ false = sym off ∙ power in cc z));
     copies = λ power told. (let off = went_off in absurd (let z : true ≡ false = sym off ∙ power in cc z));
   }
@@ -172,7 +173,7 @@ module _ (laws : Laws) (own : SwitchLaws) (m : Making) (entry : Told) (s : Parts
   cut_now = record {
     only = refl;
     of = of_by s.job;
-    part = laws.cut op d e (counts laws m entry s listed kept count is.on op Off f is.drives (asked laws m entry s listed kept count c made Off f is op step) (keeps laws m entry s listed kept count c made Off f is op step torn cutting) b s.job s.last s.given);
+    part = parts_cut op d e (counts m entry s listed kept count is.on op Off f is.drives (asked m entry s listed kept count c made Off f is op step) (keeps m entry s listed kept count c made Off f is op step torn cutting) b s.job s.last s.given);
     no_read = no_read s.job writes;
     marks = keeping;
   }
@@ -185,8 +186,8 @@ module _ (laws : Laws) (own : SwitchLaws) (m : Making) (entry : Told) (s : Parts
   pub was_cut : Turned m entry turn.Off s t listed kept (next_count count) true
   was_cut = record {
     turns = (
-      (nothing_by (is_open (at s.job)) (told_of d).switching switching, (First, inr (cut_now, ticks laws m entry s listed kept count is.on op Off f is.drives (asked laws m entry s listed kept count c made Off f is op step) (keeps laws m entry s listed kept count c made Off f is op step torn cutting) b s.job s.last s.given))),
-      order laws m entry s listed kept count is.on op Off f is.drives (asked laws m entry s listed kept count c made Off f is op step) b s.job s.last s.given facts,
+      (nothing_by (is_open (at s.job)) (told_of d).switching switching, (First, inr (cut_now, ticks m entry s listed kept count is.on op Off f is.drives (asked m entry s listed kept count c made Off f is op step) (keeps m entry s listed kept count c made Off f is op step torn cutting) b s.job s.last s.given))),
+      order m entry s listed kept count is.on op Off f is.drives (asked m entry s listed kept count c made Off f is op step) b s.job s.last s.given facts,
     );
-    sound = sound laws m entry s listed kept count is.on op Off f is.drives (asked laws m entry s listed kept count c made Off f is op step) b s.job s.last s.given facts true (sym went_off);
+    sound = sound m entry s listed kept count is.on op Off f is.drives (asked m entry s listed kept count c made Off f is op step) b s.job s.last s.given facts true (sym went_off);
   }

@@ -26,20 +26,22 @@ use Rattle.nv_base.specs.declared.job.DeviceOp.TheVariants.{Read}
 use Rattle.fee_switch_laws.specs.KeepsRoom.{KeepsRoom}
 use Rattle.fee_switch_laws.specs.Space.{free_pages}
 use Rattle.fee_switch_laws.specs.Shown.{phase_shown}
+use Rattle.fee_switch_laws.proofs.RoomSteps.{records_have_room, steps_keep_room, switches_make_room}
 use Rattle.promise_device.specs.Making.{Making, banks_of}
 use Rattle.fee_told.specs.Slots.{Memory}
 use Rattle.fee_told.specs.Device.{Device, told_of, is_switching}
 use Rattle.fee_told.specs.Clock.{clock_of}
 use Rattle.fee_told.specs.Figures.{Work, turns_owed, wait_of}
 use Rattle.fee_told.specs.FigureLaws.{IsWork}
+use Rattle.fee_told.proofs.Figures.{ready_stays, turns_lower, urgent_nears}
+use Rattle.fee_told.proofs.Switches.{gates_end}
+use Rattle.fee_told.proofs.Whole.{kept_is_told}
 use Rattle.fee_laws.specs.declared.job.FeeJob.{FeeJob}
 use Rattle.fee_laws.specs.Inside.{Parts, body_of, device_of, mark_of, stand_of, fixed_in, IsAtWork}
 use Rattle.fee_laws.specs.Record.{IsInWork, IsReady, IsJobOf}
 use Rattle.fee_laws.specs.Work.{work_of, waits_of, pages_free, begins_next, seal_turns, switch_turns, turns_before, is_owed}
 use Rattle.fee_laws.specs.Turn.{Turned, operated}
 use Rattle.fee_laws.specs.Switches.{IsStepping, IsBehind}
-use Rattle.fee_laws.proofs.TurnLaws.{Laws}
-use Rattle.fee_laws.proofs.SwitchLaws.{SwitchLaws}
 use Rattle.fee_laws.proofs.Before.{power}
 use Rattle.fee_laws.proofs.Order.{first_of, urgent_is}
 use Rattle.fee_laws.proofs.Operation.{part_works, ticks}
@@ -70,11 +72,11 @@ use Rattle.nv_base.specs.declared.geometry.Geometry.{Geometry}
 use Rattle.fee_told.specs.Figures.{left_of as left_in}
 use Rattle.fee_laws.specs.Work.{pages_of_job, pages_left}
 use Rattle.fee_laws.proofs.SwitchFigures.{job_part}
-use Rattle.fee_laws.proofs.SwitchOn.{before_by, not_sealed}
+use Rattle.fee_laws.proofs.SwitchNearer.{before_by, not_sealed}
 use Rattle.fee_laws.proofs.Before.{each_now}
 use Rattle.fee_switch.specs.Banks.{left_with, begun_again, ended, stood, target_after, after_answer}
 use Rattle.fee_switch_laws.specs.KeepsRoom.{IsTargetLog}
-use Rattle.fee_switch_laws.specs.RoomLaws.{IsBehindSwitch, RecordsHaveRoom}
+use Rattle.fee_switch_laws.specs.RoomLaws.{IsBehindSwitch}
 use Rattle.fee_switch_laws.specs.Space.{most_pages, has_room}
 use Rattle.fee_told.specs.SlotLaws.{IsHeld}
 use Rattle.fee_told.specs.Device.{tells}
@@ -88,10 +90,11 @@ use Rattle.fee_laws.specs.Switches.{step_op}
 use Rattle.fee_laws.proofs.Operation.{run, left, before_told, started}
 use Rattle.fee_laws.proofs.Behind.{held_behind}
 use Rattle.fee_laws.proofs.Switching.{asked, not_worn, keeps, shows, may_in}
-use Rattle.fee_laws.proofs.SwitchOn.{if_else, nothing_by, switching_by, each_job, both_jobs}
+use Rattle.fee_laws.proofs.SwitchNearer.{nothing_by, switching_by, each_job, both_jobs}
 use Rattle.fee_laws.proofs.SwitchShown.{roomy, standing}
 use Rattle.fee_laws.proofs.SwitchHead.{next_is}
 use Rattle.fee_laws.proofs.SwitchGate.{op, log, phase, step, page_leaves, cutting, stood as gate_stood}
+use Rattle.fee_laws.proofs.GoneOn.{if_else}
 
 -- THE NEXT TARGET
 pub target_other : (target banks : ℕ) → target < banks → 2 ≤ banks → let next = if target + 1 == banks then 0 else target + 1 in (next < banks) × (next ≡ target → ⊥)
@@ -104,7 +107,7 @@ target_other target banks less two =
     less_by a b le other = elim (cases_lt a b) [ inl less' ↦ less' | inr more ↦ absurd (other (omega arith)) ]
 
 -- A RECORD HAS ROOM
-is_listed : (ns : List (DeviceNumber × ℕ)) (n size : ℕ) → length_of ns n ≡ Some size → Contains ns (record { 0 = n }, size)
+pub is_listed : (ns : List (DeviceNumber × ℕ)) (n size : ℕ) → length_of ns n ≡ Some size → Contains ns (record { 0 = n }, size)
 is_listed [] n size is = cc is
 is_listed (x ∷ xs) n size is =
     cond_both (x.0.0 == n) (Some x.1) (length_of xs n) (λ (o : Option ℕ). o ≡ Some size → Contains (x ∷ xs) (record { 0 = n }, size))
@@ -123,16 +126,16 @@ for_job numbers Erase j e writes is =
     let fits = subst (λ (o : DeviceOp). IsLengthOf o j.length is.length) e is.fits in
     record { length = is.length; configured = is_listed numbers j.number.0 is.length is.configured; kind = inr (inr (ap kind_of e), fits); count = omega arith }
 
-pages_for : (p : ℕ) (op : DeviceOp) (length of : ℕ) → op ≢ Read → IsLengthOf op length of → pages_of_op p op length ≡ record_pages_of length p
+pub pages_for : (p : ℕ) (op : DeviceOp) (length of : ℕ) → op ≢ Read → IsLengthOf op length of → pages_of_op p op length ≡ record_pages_of length p
 pages_for p Read length of writes fits = absurd (writes refl)
 pages_for p Write length of writes fits = refl
 pages_for p Invalidate length of writes fits = ap (λ (n : ℕ). record_pages_of n p) (sym fits)
 pages_for p Erase length of writes fits = ap (λ (n : ℕ). record_pages_of n p) (sym fits)
 
-pub job_fits : RecordsHaveRoom → (reserve : ℕ) (b : BanksState) (j : FeeJob) → 16 ≤ b.geometry.page → j.op ≢ Read → IsJobOf b.log.numbers j → most_pages b.geometry.page b.log.numbers reserve ≤ free_pages b → fits_in reserve b j ≡ true
-job_fits records reserve b j low writes is room =
+pub job_fits : (reserve : ℕ) (b : BanksState) (j : FeeJob) → 16 ≤ b.geometry.page → j.op ≢ Read → IsJobOf b.log.numbers j → most_pages b.geometry.page b.log.numbers reserve ≤ free_pages b → fits_in reserve b j ≡ true
+job_fits reserve b j low writes is room =
     ap (λ (n : ℕ). has_room j.urgent n reserve (free_pages b)) (pages_for b.geometry.page j.op j.length is.length writes is.fits)
-    ∙ records b.geometry.page reserve (free_pages b) b.log.numbers (head_with j.op j.number.0 j.length 0) j.urgent low (for_job b.log.numbers j.op j refl writes is) room
+    ∙ records_have_room b.geometry.page reserve (free_pages b) b.log.numbers (head_with j.op j.number.0 j.length 0) j.urgent low (for_job b.log.numbers j.op j refl writes is) room
 
 -- so none needs another switch
 pub no_need : (reserve : ℕ) (b : BanksState) (j : FeeJob) → fits_in reserve b j ≡ true → needs_switch reserve b (Some j) ≡ false
@@ -142,7 +145,7 @@ no_need reserve b j fits = ap (λ (x : Bool). is_waiting b j && not x) fits ∙ 
     and_false true = refl
     and_false false = refl
 
-module _ (laws : Laws) (own : SwitchLaws) (m : Making) (entry : Told) (s : Parts) (listed : List (DeviceNumber × ℕ)) (kept count : ℕ) (doubtful : Bool) (made : BanksState) (f : FlsState) (is : IsStepping m entry s listed kept count (Gate doubtful) made Done f) where
+module _ (m : Making) (entry : Told) (s : Parts) (listed : List (DeviceNumber × ℕ)) (kept count : ℕ) (doubtful : Bool) (made : BanksState) (f : FlsState) (is : IsStepping m entry s listed kept count (Gate doubtful) made Done f) where
   abbrev c : Course
   c = Gate doubtful
 
@@ -153,16 +156,16 @@ module _ (laws : Laws) (own : SwitchLaws) (m : Making) (entry : Told) (s : Parts
   l = banks_of m
 
   abbrev o : Op
-  o = op laws own m entry s listed kept count doubtful made f
+  o = op m entry s listed kept count doubtful made f
 
   stepped : IsStep o s.fls.flash Done f.flash
-  stepped = step laws own m entry s listed kept count doubtful made f Done is
+  stepped = step m entry s listed kept count doubtful made f Done is
 
   asks : IsAsked o s.fls.flash Done f.flash
-  asks = asked laws m entry s listed kept count c made Done f is o stepped
+  asks = asked m entry s listed kept count c made Done f is o stepped
 
   keep : CutsKeep o (device_of m entry s)
-  keep = keeps laws m entry s listed kept count c made Done f is o stepped mem (cutting laws own m entry s listed kept count doubtful made f Done is)
+  keep = keeps m entry s listed kept count c made Done f is o stepped mem (cutting m entry s listed kept count doubtful made f Done is)
 
   abbrev pub b : BanksState
   b = ended s.banks
@@ -180,14 +183,14 @@ module _ (laws : Laws) (own : SwitchLaws) (m : Making) (entry : Told) (s : Parts
   e = device_of m entry t
 
   run_then : HasRun e
-  run_then = run laws m entry s listed kept count is.on o Done f is.drives asks keep b s.job s.last s.given (λ since worn. absurd (not_worn laws m entry s listed kept count c made Done f is o stepped since worn))
+  run_then = run m entry s listed kept count is.on o Done f is.drives asks keep b s.job s.last s.given (λ since worn. absurd (not_worn m entry s listed kept count c made Done f is o stepped since worn))
 
   -- THE BANKS
   target : IsTargetLog s.banks c
-  target = (roomy laws m entry s listed kept count c made Done f is).target
+  target = (roomy m entry s listed kept count c made Done f is).target
 
   abbrev was : Log
-  was = log laws own m entry s listed kept count doubtful made f
+  was = log m entry s listed kept count doubtful made f
 
   open' : was.tail ≡ LogOpen
   open' = ap (λ (x : Tail). tail_with x (body_of (work_in s.banks.copies.tail) s.banks.buffer)) target.work
@@ -219,12 +222,12 @@ module _ (laws : Laws) (own : SwitchLaws) (m : Making) (entry : Told) (s : Parts
 
   kept_at : (old new : List ℕ) → bytes_now s.fls.flash ≡ Some old → bytes_now f.flash ≡ Some new → IsTrue (tells d) → IsKept l m.numbers old new mem (memory_of t) (copied_of (flags_in m s old))
   kept_at old new at_old at_new told =
-      let both = left laws m entry s listed kept count is.on o Done f is.drives asks old new at_old at_new in
+      let both = left m entry s listed kept count is.on o Done f is.drives asks old new at_old at_new in
       let cop = copied_of (flags_in m s old) in
-      let sh = shows laws m entry s listed kept count c made Done f is o stepped old at_old told in
+      let sh = shows m entry s listed kept count c made Done f is o stepped old at_old told in
       subst (λ (x : Memory). IsKept l m.numbers old new mem x cop) memory_is
-      (own.gate l m.numbers old new mem cop was next (standing laws m entry s listed kept count c made Done f is old cop sh.held) (phase laws own m entry s listed kept count doubtful made f Done is) open'
-      (page_leaves laws own m entry s listed kept count doubtful made f Done is old new both.0) (gate_stood laws own m entry s listed kept count doubtful made f Done is old new sh both.0 both.1) next_ok.0 next_ok.1)
+      (gates_end l m.numbers old new mem cop was next (standing m entry s listed kept count c made Done f is old cop sh.held) (phase m entry s listed kept count doubtful made f Done is) open'
+      (page_leaves m entry s listed kept count doubtful made f Done is old new both.0) (gate_stood m entry s listed kept count doubtful made f Done is old new sh both.0 both.1) next_ok.0 next_ok.1)
 
   abbrev more : May
   more = may_in m s (bytes_now s.fls.flash)
@@ -233,13 +236,13 @@ module _ (laws : Laws) (own : SwitchLaws) (m : Making) (entry : Told) (s : Parts
   more_is old at = ap (may_in m s) at
 
   behind_then : HoldsBehind e
-  behind_then = held_behind laws m entry s listed kept count is.on o Done f is.drives asks b s.job s.last s.given laws.legal run_then more
+  behind_then = held_behind m entry s listed kept count is.on o Done f is.drives asks b s.job s.last s.given run_then more
       (λ new at told.
       (let before = before_told s.fls.flash.bytes f.flash.bytes o Done new asks.bytes at in
       subst (λ (x : May). IsHeld l m.numbers new (memory_of t) x) (sym (more_is before.0 before.1)) (kept_at before.0 new before.1 at told).held))
 
   keeping : KeepsAll (told_of d) (told_of e)
-  keeping = laws.kept d e more (started laws m entry s listed kept count is.on o Done f is.drives asks keep b s.job s.last s.given run_then)
+  keeping = kept_is_told d e more (started m entry s listed kept count is.on o Done f is.drives asks keep b s.job s.last s.given run_then)
       (λ old new told. subst (λ (x : May). IsKept l m.numbers old new mem (memory_of t) x) (sym (more_is old told.1)) (kept_at old new told.1 told.2 told.0))
 
   -- THE ROOM
@@ -247,10 +250,10 @@ module _ (laws : Laws) (own : SwitchLaws) (m : Making) (entry : Told) (s : Parts
   was_room = is.on.sound.room is.on.started (power m entry s listed kept count is.on)
 
   room_then : KeepsRoom m.reserve b
-  room_then = subst (KeepsRoom m.reserve) (sym b_is) (own.room m.reserve s.banks made c s.fls.flash f.flash Done is.on.banks is.on.log is.idle is.course was_room is.makes (λ off. cc off))
+  room_then = subst (KeepsRoom m.reserve) (sym b_is) (steps_keep_room m.reserve s.banks made c s.fls.flash f.flash Done is.on.banks is.on.log is.idle is.course was_room is.makes (λ off. cc off))
 
   behind_switch : IsBehindSwitch m.reserve b
-  behind_switch = own.behind m.reserve s.banks doubtful is.on.banks was_room is.course
+  behind_switch = switches_make_room m.reserve s.banks doubtful is.on.banks was_room is.course
 
   was_at_work : IsAtWork m s
   was_at_work = is.on.sound.works is.on.started
@@ -265,11 +268,11 @@ module _ (laws : Laws) (own : SwitchLaws) (m : Making) (entry : Told) (s : Parts
   low = is.on.banks.legal.page_low
 
   fits_by : (j : FeeJob) → IsJobOf m.numbers j → j.op ≢ Read → fits_in m.reserve b j ≡ true
-  fits_by j is' w' = job_fits own.records m.reserve b j low w' (subst (λ (ns : List (DeviceNumber × ℕ)). IsJobOf ns j) (sym numbers) is') behind_switch.room
+  fits_by j is' w' = job_fits m.reserve b j low w' (subst (λ (ns : List (DeviceNumber × ℕ)). IsJobOf ns j) (sym numbers) is') behind_switch.room
 
   fits_urgent : (j : FeeJob) → IsJobOf m.numbers j → j.op ≢ Read → fits_in 0 b j ≡ true
   fits_urgent j is' w' =
-      job_fits own.records 0 b j low w' (subst (λ (ns : List (DeviceNumber × ℕ)). IsJobOf ns j) (sym numbers) is')
+      job_fits 0 b j low w' (subst (λ (ns : List (DeviceNumber × ℕ)). IsJobOf ns j) (sym numbers) is')
       (let much = behind_switch.room in omega (arith, much))
 
   no_switch : (o' : Option FeeJob) → IfSome o' (IsJobOf m.numbers) → IfSome o' (λ j. j.op ≢ Read) → switch_turns m.reserve b o' None ≡ 0
@@ -280,7 +283,7 @@ module _ (laws : Laws) (own : SwitchLaws) (m : Making) (entry : Told) (s : Parts
   room_beside : (j : FeeJob) → IsJobOf m.numbers j → j.op ≢ Read → pages_of_op b.geometry.page j.op j.length + m.reserve ≤ free_pages b
   room_beside j is' w' =
       let is'' = subst (λ (ns : List (DeviceNumber × ℕ)). IsJobOf ns j) (sym numbers) is' in
-      let has = own.records b.geometry.page m.reserve (free_pages b) b.log.numbers (head_with j.op j.number.0 j.length 0) false low (for_job b.log.numbers j.op j refl w' is'') behind_switch.room in
+      let has = records_have_room b.geometry.page m.reserve (free_pages b) b.log.numbers (head_with j.op j.number.0 j.length 0) false low (for_job b.log.numbers j.op j refl w' is'') behind_switch.room in
       let same = pages_for b.geometry.page j.op j.length is'.length w' is'.fits in
       let le = leb-true (record_pages_of j.length b.geometry.page + m.reserve) (free_pages b) has in
       omega (arith, same, le)
@@ -298,7 +301,7 @@ module _ (laws : Laws) (own : SwitchLaws) (m : Making) (entry : Told) (s : Parts
       let goal : m.reserve ≤ free_pages b - claimed b (Some j) = omega (arith, beside, few) in goal
 
   ready_on : (told_of d).ready ≤ (told_of e).ready
-  ready_on = own.ready m.reserve (pages_free s.banks s.job) (pages_free b s.job) (nat_le 1 (seal_turns s.banks.course)) (nat_le 1 0) (inr (inr (much_free s.job was_at_work.job writes)))
+  ready_on = ready_stays m.reserve (pages_free s.banks s.job) (pages_free b s.job) (nat_le 1 (seal_turns s.banks.course)) (nat_le 1 0) (inr (inr (much_free s.job was_at_work.job writes)))
 
   some_pages : (p : ℕ) (o' : DeviceOp) (length : ℕ) → o' ≡ Write → 1 ≤ pages_of_op p o' length
   some_pages p Read length same = cc same
@@ -362,7 +365,7 @@ module _ (laws : Laws) (own : SwitchLaws) (m : Making) (entry : Told) (s : Parts
       let a = pages_was (Some j) in
       let b' = pages_then (Some j) in
       let owed = ap turns_owed (owed_then (Some j)) in
-      laws.lower (record { number = j.number.0; mark = mark_of j.op (take j.length s.content); urgent = j.urgent }) (w (Some j)) (v (Some j)) (λ none'. w' (no_mark j.op (take j.length s.content) none'))
+      turns_lower (record { number = j.number.0; mark = mark_of j.op (take j.length s.content); urgent = j.urgent }) (w (Some j)) (v (Some j)) (λ none'. w' (no_mark j.op (take j.length s.content) none'))
       (omega (arith, none, one), omega (arith, a, b', owed), inl (omega (arith, none, one)))
 
   falls : (told_of e).left < (told_of d).left
@@ -389,7 +392,7 @@ module _ (laws : Laws) (own : SwitchLaws) (m : Making) (entry : Told) (s : Parts
     switch = behind_switch.clear;
   }
 
-  facts : Facts laws m entry s listed kept count is.on o Done f is.drives asks b s.job s.last s.given
+  facts : Facts m entry s listed kept count is.on o Done f is.drives asks b s.job s.last s.given
   facts = record {
     ends = record { same = record { geometry = refl; banks = refl; numbers = is.on.banks.numbers }; ended = is.on.sound.made_for.ended; given_few = is.on.sound.made_for.given };
     run = run_then;
@@ -411,7 +414,7 @@ module _ (laws : Laws) (own : SwitchLaws) (m : Making) (entry : Told) (s : Parts
           let two : (waits_of b (Some j)).before ≡ 0 = ap (λ (x' : Tail). turns_before x' 0) behind_switch.tail ∙ ap (λ (y : Bool). if y then 0 else 0) (not_sealed 0 (λ some. omega arith)) in
           let a = pages_was (Some j) in
           let b' = pages_then (Some j) in
-          laws.nears (waits_of s.banks (Some j)) (waits_of b (Some j)) x urgent urgent refl (omega (arith, one, two, a, b')) wait
+          urgent_nears (waits_of s.banks (Some j)) (waits_of b (Some j)) x urgent urgent refl (omega (arith, one, two, a, b')) wait
       by_promise false e' = (let z : wait_of (waits_of s.banks (Some j)) ≡ None = (λ i. if urgent i then (if e' i then Some ((waits_of s.banks (Some j)).before + (waits_of s.banks (Some j)).pages) else None) else Some (waits_of s.banks (Some j)).before) in absurd (let y = sym z ∙ wait in cc y))
 
   urgent_by : (o' : Option FeeJob) → IfSome o' (IsReady s.banks) → IfSome o' (λ j. begins_next s.banks j ≡ false) → urgent_first (fixed_in m) (at o') ≡ true
@@ -443,7 +446,7 @@ module _ (laws : Laws) (own : SwitchLaws) (m : Making) (entry : Told) (s : Parts
     only = refl;
     up = is.on.started;
     of = of_by s.job;
-    part = part_works laws m entry s listed kept count is.on o Done f is.drives asks keep b s.job s.last s.given (λ off. cc off);
+    part = part_works m entry s listed kept count is.on o Done f is.drives asks keep b s.job s.last s.given (λ off. cc off);
     job = turns_by s.job keeping falls;
     read = λ read. (let none = no_read s.job writes in absurd (let z : true ≡ false = sym read ∙ none in cc z));
     nearer = inl falls;
@@ -458,10 +461,10 @@ module _ (laws : Laws) (own : SwitchLaws) (m : Making) (entry : Told) (s : Parts
   ended_now : Turned m entry turn.Worked s t listed kept (next_count count) false
   ended_now = record {
     turns = (
-      (nothing_by (is_open (at s.job)) (told_of d).switching switching, (First, works, ticks laws m entry s listed kept count is.on o Done f is.drives asks keep b s.job s.last s.given)),
-      order laws m entry s listed kept count is.on o Done f is.drives asks b s.job s.last s.given facts,
+      (nothing_by (is_open (at s.job)) (told_of d).switching switching, (First, works, ticks m entry s listed kept count is.on o Done f is.drives asks keep b s.job s.last s.given)),
+      order m entry s listed kept count is.on o Done f is.drives asks b s.job s.last s.given facts,
     );
-    sound = sound laws m entry s listed kept count is.on o Done f is.drives asks b s.job s.last s.given facts false (sym asks.cause.2);
+    sound = sound m entry s listed kept count is.on o Done f is.drives asks b s.job s.last s.given facts false (sym asks.cause.2);
   }
 
   pub gate_done : Turned m entry turn.Worked s (operated (step_op s.banks c) Done f (after_answer made c Done) s) listed kept (next_count count) false

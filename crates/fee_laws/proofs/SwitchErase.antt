@@ -18,6 +18,8 @@ use Rattle.fee_image.specs.May.{May}
 use Rattle.fee_image.specs.Banks.{Phase, Erasing, Copying}
 use Rattle.fee_image.specs.BankLaws.{erase_of}
 use Rattle.fee_image.specs.Copies.{Flag, Each, copied_of}
+use Rattle.fee_image.proofs.Copies.{clear_may_be_erased}
+use Rattle.fee_image.proofs.Sectors.{sectors_fill_banks}
 use Rattle.fee_log.specs.Index.{clear_flags}
 use Rattle.fee_log.specs.Log.{LogState, log_of, work_in, erased_state}
 use Rattle.fee_course.specs.declared.course.Course.{Course}
@@ -26,22 +28,23 @@ use Rattle.fee_course.specs.Course.{settled, after_done}
 use Rattle.fee_switch.specs.Banks.{BanksState, after_answer}
 use Rattle.fee_switch_laws.specs.Shown.{phase_shown, phase_at}
 use Rattle.fee_switch_laws.specs.KeepsRoom.{IsEmptyTarget}
+use Rattle.fee_switch_laws.proofs.Copies.{settled_stays}
 use Rattle.promise_device.specs.Making.{Making, banks_of}
 use Rattle.fee_told.specs.Slots.{Memory, banks_with, may_told, settled_in}
 use Rattle.fee_told.specs.SlotLaws.{IsHeld, GoesOn}
 use Rattle.fee_told.specs.Kept.{IsKept}
 use Rattle.fee_told.specs.Switches.{Stands, IsErasing}
+use Rattle.fee_told.proofs.Kept.{same_places}
+use Rattle.fee_told.proofs.Places.{erases_keep_settled}
+use Rattle.fee_told.proofs.Switches.{copies_begin, erases_fail, erases_go_on}
 use Rattle.fee_laws.specs.Copied.{flags_of, IsCopying}
 use Rattle.fee_laws.specs.Inside.{Parts, memory_of, body_of, flags_in, ShowsCopies}
 use Rattle.fee_laws.specs.Switches.{IsStepping, step_op}
-use Rattle.fee_laws.proofs.TurnLaws.{Laws}
-use Rattle.fee_laws.proofs.SwitchLaws.{SwitchLaws}
-use Rattle.fee_laws.proofs.Places.{same_places}
 use Rattle.fee_laws.proofs.Before.{shape, shared, lengths, legal}
 use Rattle.fee_laws.proofs.Switching.{Cutting}
-use Rattle.fee_laws.proofs.SwitchShown.{kept_both, each_clear, settled_copying, settled_phase, roomy, short, no_job, standing}
+use Rattle.fee_laws.proofs.SwitchShown.{kept_both, each_clear, settled_copying, roomy, short, no_job, standing}
 
-module _ (laws : Laws) (own : SwitchLaws) (m : Making) (entry : Told) (s : Parts) (listed : List (DeviceNumber × ℕ)) (kept count : ℕ) (n : ℕ) (made : BanksState) (answer : FlashAnswer) (f : FlsState) (is : IsStepping m entry s listed kept count (Erase n) made answer f) where
+module _ (m : Making) (entry : Told) (s : Parts) (listed : List (DeviceNumber × ℕ)) (kept count : ℕ) (n : ℕ) (made : BanksState) (answer : FlashAnswer) (f : FlsState) (is : IsStepping m entry s listed kept count (Erase n) made answer f) where
   abbrev mem : Memory
   mem = memory_of s
 
@@ -70,17 +73,17 @@ module _ (laws : Laws) (own : SwitchLaws) (m : Making) (entry : Told) (s : Parts
   erasing old new copied held leaves = record {
     shape = shape m entry s listed kept count is.on;
     shared = shared m entry s listed kept count is.on;
-    stands = standing laws m entry s listed kept count (Erase n) made answer f is old copied held;
+    stands = standing m entry s listed kept count (Erase n) made answer f is old copied held;
     phase = phase;
-    inside = short laws m entry s listed kept count (Erase n) made answer f is;
+    inside = short m entry s listed kept count (Erase n) made answer f is;
     leaves = subst (λ (o : Op). MayLeave o old new) op_is leaves;
   }
 
   -- the places of the active bank show what they showed
   settled_same : (old new : List ℕ) (copied : May) → IsHeld l m.numbers old mem copied → MayLeave op old new → settled_in l m.numbers new mem.old ≡ settled_in l m.numbers old mem.old
   settled_same old new copied held leaves =
-      own.erase_settled m.geometry m.banks m.numbers old new (banks_with mem (may_told l m.numbers old mem) copied) n mem.old (shape m entry s listed kept count is.on) (shared m entry s listed kept count is.on) held.banks
-      (short laws m entry s listed kept count (Erase n) made answer f is) (subst (λ (o : Op). MayLeave o old new) op_is leaves) (same_places mem.old)
+      erases_keep_settled m.geometry m.banks m.numbers old new (banks_with mem (may_told l m.numbers old mem) copied) n mem.old (shape m entry s listed kept count is.on) (shared m entry s listed kept count is.on) held.banks
+      (short m entry s listed kept count (Erase n) made answer f is) (subst (λ (o : Op). MayLeave o old new) op_is leaves) (same_places mem.old)
 
   abbrev fs : List ℕ → List Flag
   fs bytes = flags_in m s bytes
@@ -91,17 +94,17 @@ module _ (laws : Laws) (own : SwitchLaws) (m : Making) (entry : Told) (s : Parts
   -- WHATEVER IT LEAVES
   failing : (old new : List ℕ) (copied : May) (stand : Stand) → IsHeld l m.numbers old mem copied → MayLeave op old new → GoesOn mem.stand stand → IsKept l m.numbers old new mem (record mem { stand = stand }) copied
   failing old new copied stand held leaves goes =
-      own.erase_fails m.geometry m.banks m.numbers old new mem copied n stand (erasing old new copied held leaves) goes (no_job laws m entry s listed kept count (Erase n) made answer f is stand)
+      erases_fail m.geometry m.banks m.numbers old new mem copied n stand (erasing old new copied held leaves) goes (no_job m entry s listed kept count (Erase n) made answer f is stand)
 
   pub step : IsStep op s.fls.flash answer f.flash
   step = is.makes.0
 
-  pub cutting : Cutting laws m entry s listed kept count (Erase n) made answer f is op step mem
+  pub cutting : Cutting m entry s listed kept count (Erase n) made answer f is op step mem
   cutting old image shows leaves = failing old image (copied_of (fs old)) mem.stand shows.held leaves (inl refl)
 
   -- WHILE IT IS ERASED
   pub target : IsEmptyTarget s.banks
-  target = (roomy laws m entry s listed kept count (Erase n) made answer f is).target
+  target = (roomy m entry s listed kept count (Erase n) made answer f is).target
 
   abbrev p : ℕ
   p = s.banks.geometry.page
@@ -137,24 +140,24 @@ module _ (laws : Laws) (own : SwitchLaws) (m : Making) (entry : Told) (s : Parts
   going : (old new : List ℕ) → ShowsCopies m s (Erase n) old → MayLeave op old new → Leaves op Done old new → IsKept l m.numbers old new mem (with_phase (phase_at next b body)) (copied_of (fs old))
   going old new shows leaves left =
       let cop = copied_of (fs old) in
-      let first = own.erase m.geometry m.banks m.numbers old new mem cop n (erasing old new cop shows.held leaves) (subst (λ (o : Op). new ≡ after_op o old) op_is left) in
+      let first = erases_go_on m.geometry m.banks m.numbers old new mem cop n (erasing old new cop shows.held leaves) (subst (λ (o : Op). new ≡ after_op o old) op_is left) in
       let N = (n + 1) * pages_of_sector m.geometry in
       cond_both (n + 1 == sectors) rest (Erase (n + 1)) (λ (c : Course). IsKept l m.numbers old new mem (with_phase (phase_at c b body)) cop)
       (λ e.
       (let last : n + 1 ≡ sectors = eqb-true (n + 1) sectors e in
       let all : l.pages ≤ N =
-      (let one = own.fill m.geometry m.banks (shape m entry s listed kept count is.on) (shared m entry s listed kept count is.on) in
+      (let one = sectors_fill_banks m.geometry m.banks (shape m entry s listed kept count is.on) (shared m entry s listed kept count is.on) in
       let same : n + 1 ≡ sectors_of_bank m.geometry m.banks = last ∙ (λ i. sectors_of_bank (geo i) (banks_are i)) in
       subst (λ (k : ℕ). l.pages ≤ k * pages_of_sector m.geometry) (sym same) (omega (arith, one))) in
-      let second = own.copies l m.numbers new (with_phase (Erasing N)) cop N (standing_on old new cop first) refl all (own.clear (fs old) (clear old)) in
+      let second = copies_begin l m.numbers new (with_phase (Erasing N)) cop N (standing_on old new cop first) refl all (clear_may_be_erased (fs old) (clear old)) in
       let both = kept_both l m.numbers old new new mem (with_phase (Erasing N)) (with_phase (Copying (erased_log m.numbers))) cop cop first second in
-      let is_phase : Copying (erased_log m.numbers) ≡ phase_at rest b body = ap Copying (sym erased) ∙ sym (settled_phase s.banks.log.numbers s.banks.log.places s.banks.log.flags b body) in
+      let is_phase : Copying (erased_log m.numbers) ≡ phase_at rest b body = ap Copying (sym erased) ∙ sym (settled_stays s.banks.log.numbers s.banks.log.places s.banks.log.flags b body) in
       subst (λ (x : Phase). IsKept l m.numbers old new mem (with_phase x) cop) is_phase both))
       (λ e. subst (λ (x : Phase). IsKept l m.numbers old new mem (with_phase x) cop) (ap (λ (g : Geometry). Erasing ((n + 1) * pages_of_sector g)) (sym geo)) first)
     where
       standing_on : (old new : List ℕ) (cop : May) → IsKept l m.numbers old new mem (with_phase (Erasing ((n + 1) * pages_of_sector m.geometry))) cop → Stands l m.numbers new (with_phase (Erasing ((n + 1) * pages_of_sector m.geometry))) cop
       standing_on old new cop first =
-          record { lengths = lengths m entry s listed kept count is.on; legal = legal m entry s listed kept count is.on laws.legal; held = first.held }
+          record { lengths = lengths m entry s listed kept count is.on; legal = legal m entry s listed kept count is.on; held = first.held }
 
   next_copying : (work : Option RecHead) (buffer : List ℕ) (x : List Flag) → IsCopying next work buffer x
   next_copying work buffer x =

@@ -18,32 +18,30 @@ use Rattle.fee_told.specs.Kept.{IsKept}
 use Rattle.fee_laws.specs.Inside.{Parts, memory_of, body_of, flags_in, stand_of}
 use Rattle.fee_laws.specs.Turn.{operated, Turned}
 use Rattle.fee_laws.specs.Switches.{IsStepping, step_op, failed_with}
-use Rattle.fee_laws.proofs.TurnLaws.{Laws}
-use Rattle.fee_laws.proofs.SwitchLaws.{SwitchLaws}
 use Rattle.fee_laws.proofs.SwitchFailed.{last_by, given_by, stand_goes}
 use Rattle.fee_laws.proofs.SwitchErase.{step, cutting, next, b_is, went, again_is, failed, target}
 use Rattle.fee_laws.proofs.SwitchKinds.{done_by, failed_by, cut_by}
 
-module _ (laws : Laws) (own : SwitchLaws) (m : Making) (entry : Told) (s : Parts) (listed : List (DeviceNumber × ℕ)) (kept count : ℕ) (n : ℕ) (made : BanksState) (f : FlsState) where
+module _ (m : Making) (entry : Told) (s : Parts) (listed : List (DeviceNumber × ℕ)) (kept count : ℕ) (n : ℕ) (made : BanksState) (f : FlsState) where
   abbrev c : Course
   c = Erase n
 
   pub erase_done : IsStepping m entry s listed kept count c made Done f → Turned m entry turn.Worked s (operated (step_op s.banks c) Done f (after_answer made c Done) s) listed kept (next_count count) false
   erase_done is =
-      done_by laws own m entry s listed kept count c made f is tt (step_op s.banks c) (step laws own m entry s listed kept count n made Done f is) (memory_of s) (cutting laws own m entry s listed kept count n made Done f is)
-      (next laws own m entry s listed kept count n made Done f is) s.banks.log.flags s.banks.copies (b_is laws own m entry s listed kept count n made Done f is)
+      done_by m entry s listed kept count c made f is tt (step_op s.banks c) (step m entry s listed kept count n made Done f is) (memory_of s) (cutting m entry s listed kept count n made Done f is)
+      (next m entry s listed kept count n made Done f is) s.banks.log.flags s.banks.copies (b_is m entry s listed kept count n made Done f is)
       (record { takes = λ more. refl; nearer = λ some. absurd (omega arith) })
-      (λ old new shows leaves left. (let both = went laws own m entry s listed kept count n made Done f is old new shows leaves left in record { kept_all = both.0; copying = both.1 }))
+      (λ old new shows leaves left. (let both = went m entry s listed kept count n made Done f is old new shows leaves left in record { kept_all = both.0; copying = both.1 }))
 
   pub erase_failed : IsStepping m entry s listed kept count c made Failed f → Turned m entry turn.Worked s (failed_with s.job (operated (step_op s.banks c) Failed f (after_answer made c Failed) s)) listed kept (next_count count) false
   erase_failed is =
-      let empty = target laws own m entry s listed kept count n made Failed f is in
+      let empty = target m entry s listed kept count n made Failed f is in
       let body = body_of (work_in s.banks.copies.tail) s.banks.buffer in
       let stand = stand_of s.content None (last_by s.job s.last) (given_by s.job s.given) in
-      failed_by laws own m entry s listed kept count c made f is (step_op s.banks c) (step laws own m entry s listed kept count n made Failed f is) (memory_of s) (cutting laws own m entry s listed kept count n made Failed f is)
-      c s.banks.log.flags s.banks.copies ((λ i. record s.banks { course = Some c; log = record s.banks.log { flags = empty.clear i }; copies = empty.copies i }) ∙ again_is laws own m entry s listed kept count n made Failed f is)
+      failed_by m entry s listed kept count c made f is (step_op s.banks c) (step m entry s listed kept count n made Failed f is) (memory_of s) (cutting m entry s listed kept count n made Failed f is)
+      c s.banks.log.flags s.banks.copies ((λ i. record s.banks { course = Some c; log = record s.banks.log { flags = empty.clear i }; copies = empty.copies i }) ∙ again_is m entry s listed kept count n made Failed f is)
       (λ old new shows leaves left.
-      (let is' = failed laws own m entry s listed kept count n made Failed f is old new stand shows leaves (stand_goes s.content s.job s.last s.given) in
+      (let is' = failed m entry s listed kept count n made Failed f is old new stand shows leaves (stand_goes s.content s.job s.last s.given) in
       let path : record (memory_of s) { stand = stand } ≡ record (memory_of s) { phase = phase_shown (Some c) s.banks body; stand = stand } = λ i. record (memory_of s) { phase = phase_shown (is.course i) s.banks body; stand = stand } in
       record {
         kept_all = subst (λ (x : Memory). IsKept (banks_of m) m.numbers old new (memory_of s) x (copied_of (flags_in m s new))) path is';
@@ -52,5 +50,5 @@ module _ (laws : Laws) (own : SwitchLaws) (m : Making) (entry : Told) (s : Parts
 
   pub erase_cut : IsStepping m entry s listed kept count c made Off f → Turned m entry turn.Off s (operated (step_op s.banks c) Off f (after_answer made c Off) s) listed kept (next_count count) true
   erase_cut is =
-      cut_by laws own m entry s listed kept count c made f is (step_op s.banks c) (step laws own m entry s listed kept count n made Off f is) (memory_of s) (cutting laws own m entry s listed kept count n made Off f is)
+      cut_by m entry s listed kept count c made f is (step_op s.banks c) (step m entry s listed kept count n made Off f is) (memory_of s) (cutting m entry s listed kept count n made Off f is)
       s.banks.copies (sym is.makes.1) refl refl

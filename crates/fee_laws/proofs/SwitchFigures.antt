@@ -10,12 +10,12 @@ use Rattle.memif.specs.declared.answer.JobResult.{JobResult}
 use Rattle.fee_log.specs.Log.{LogState, work_in}
 use Rattle.fee_course.specs.declared.course.Course.{Course}
 use Rattle.fee_course.specs.Course.{most_turns}
-use Rattle.fee_course.specs.Laws.{TurnsAreFew}
 use Rattle.fee_switch.specs.Banks.{BanksState, left_of}
 use Rattle.fee_switch_laws.specs.Space.{free_pages}
 use Rattle.promise_device.specs.Making.{Making}
 use Rattle.fee_told.specs.Figures.{Work, turns_owed, left_of as left_in}
-use Rattle.fee_told.specs.FigureLaws.{IsWork, IsOfJob, TurnsLower}
+use Rattle.fee_told.specs.FigureLaws.{IsWork, IsOfJob}
+use Rattle.fee_told.proofs.Figures.{turns_lower}
 use Rattle.fee_laws.specs.declared.job.FeeJob.{FeeJob}
 use Rattle.fee_laws.specs.Inside.{mark_of, stand_of, HasSwitch}
 use Rattle.fee_laws.specs.Record.{IsJobOf}
@@ -62,11 +62,11 @@ pub record IsShaped (m : Making) (b : BanksState) : Type 0 where
   pub shared : b.banks ≡ m.banks
   pub numbers : b.log.numbers ≡ m.numbers
 
-pub work_none : TurnsAreFew → (m : Making) (content : List ℕ) (b : BanksState) (job : Option FeeJob) (last : JobResult) (given : ℕ) (c : Course) → IsShaped m b → b.course ≡ Some c → work_in b.log.tail ≡ None → HasSwitch b b.course
+pub work_none : (m : Making) (content : List ℕ) (b : BanksState) (job : Option FeeJob) (last : JobResult) (given : ℕ) (c : Course) → IsShaped m b → b.course ≡ Some c → work_in b.log.tail ≡ None → HasSwitch b b.course
     → NoneBegins b job → IfSome job (IsJobOf m.numbers)
     → IsWork m.geometry.page (sectors_of_bank m.geometry m.banks) m.numbers m.reserve (stand_of content job last given) (work_of m.reserve b job)
-work_none few m content b job last given c shape at idle has none is =
-    let most = few_left few b has in
+work_none m content b job last given c shape at idle has none is =
+    let most = few_left b has in
     let one = subst (λ (g : Geometry). left_of b ≤ most_turns g.page (sectors_of_bank g b.banks) b.log.numbers) shape.geometry most in
     let two = subst (λ (n : ℕ). left_of b ≤ most_turns m.geometry.page (sectors_of_bank m.geometry n) b.log.numbers) shape.shared one in
     let three = subst (λ (ns : List (DeviceNumber × ℕ)). left_of b ≤ most_turns m.geometry.page (sectors_of_bank m.geometry m.banks) ns) shape.numbers two in
@@ -93,9 +93,9 @@ has_mark Invalidate content writes = refl
 has_mark Erase content writes = refl
 
 -- fewer turns of the switch are left, and as many pages
-pub left_falls : TurnsLower → (content : List ℕ) (job : Option FeeJob) (last : JobResult) (given : ℕ) (w v : Work) → IfSome job (λ j. j.op ≢ Read) → v.pages ≡ w.pages → v.owed ≡ w.owed → v.switch < w.switch
+pub left_falls : (content : List ℕ) (job : Option FeeJob) (last : JobResult) (given : ℕ) (w v : Work) → IfSome job (λ j. j.op ≢ Read) → v.pages ≡ w.pages → v.owed ≡ w.owed → v.switch < w.switch
     → left_in (stand_of content job last given) v < left_in (stand_of content job last given) w
-left_falls lower content None last given w v writes pages owed less = less
-left_falls lower content (Some j) last given w v writes pages owed less =
-    lower (record { number = j.number.0; mark = mark_of j.op (take j.length content); urgent = j.urgent }) w v (λ none. writes (no_mark j.op (take j.length content) none))
+left_falls content None last given w v writes pages owed less = less
+left_falls content (Some j) last given w v writes pages owed less =
+    turns_lower (record { number = j.number.0; mark = mark_of j.op (take j.length content); urgent = j.urgent }) w v (λ none. writes (no_mark j.op (take j.length content) none))
     (let same : v.pages + turns_owed v.owed ≡ w.pages + turns_owed w.owed = (λ i. pages i + turns_owed (owed i)) in (omega (arith, less), omega (arith, same), inl less))

@@ -12,18 +12,19 @@ use Rattle.fee_image.specs.Image.{Layout, layout_of}
 use Rattle.fee_image.specs.Banks.{Phase, Copying}
 use Rattle.fee_image.specs.Copies.{copied_of}
 use Rattle.fee_format.specs.Formats.{new_format}
+use Rattle.fee_image.proofs.Seals.{copies_change}
 use Rattle.fee_log.specs.Log.{LogState, log_of, work_in}
+use Rattle.fee_log.proofs.Holds.{begins_hold}
 use Rattle.fee_course.specs.declared.course.Course.{Course}
 use Rattle.fee_switch.specs.Banks.{BanksState}
 use Rattle.fee_switch_laws.specs.Shown.{phase_shown}
+use Rattle.fee_switch_laws.proofs.RoomReady.{steps_may_be_made}
 use Rattle.promise_device.specs.Making.{Making, banks_of}
 use Rattle.fee_told.specs.Slots.{Memory, banks_with, may_told, settled_in}
 use Rattle.fee_told.specs.SlotLaws.{IsHeld}
 use Rattle.fee_laws.specs.Copied.{flags_of}
 use Rattle.fee_laws.specs.Inside.{Parts, memory_of, body_of, flags_in}
 use Rattle.fee_laws.specs.Switches.{IsStepping}
-use Rattle.fee_laws.proofs.TurnLaws.{Laws}
-use Rattle.fee_laws.proofs.SwitchLaws.{SwitchLaws}
 use Rattle.fee_laws.proofs.SwitchShown.{roomy}
 use Rattle.nv_base.specs.Geometry.{pages_of_bank}
 use Rattle.fee_image.specs.Bank.{Bank}
@@ -45,22 +46,14 @@ use Rattle.fee_format.specs.RecHead.{IsLegalRecHead}
 use Rattle.fee_image.specs.declared.place.Place.{Place}
 use Rattle.fee_image.specs.declared.place.Place.TheVariants as place
 use Rattle.fee_image.specs.May.{MayCommit}
-use Rattle.fee_image.specs.BankLaws.{CopiesChange}
-use Rattle.fee_log.specs.Laws.{BeginsHold}
 use Rattle.fee_log.specs.Log.{begun, tail_begun, free_in, free_behind}
 use Rattle.fee_course.specs.declared.copies.Source.{Source}
 use Rattle.fee_course.specs.declared.course.Course.TheVariants.{Copy}
 use Rattle.fee_switch.specs.Copy.{head_at, CanCopy, CanGoOn}
-use Rattle.fee_switch_laws.specs.RoomLaws.{StepsMayBeMade}
 use Rattle.fee_switch_laws.specs.KeepsRoom.{IsTargetLog}
 use Rattle.fee_laws.proofs.Before.{power}
 use Rattle.fee_laws.proofs.SwitchCopy.{open_any, both_true}
 use Rattle.fee_laws.proofs.SwitchNext.{Named, FoundIn, found_in, found_open}
-
-pub record BeginLaws : Type 0 where
-  pub ready : StepsMayBeMade
-  pub holds : BeginsHold
-  pub change : CopiesChange
 
 -- ITS NUMBER
 pub record Bounds (low n size : ℕ) : Type 0 where
@@ -99,7 +92,7 @@ flags_many [] flags n on = refl
 flags_many (x ∷ xs) [] n on = refl
 flags_many (x ∷ xs) (c ∷ cs) n on = ap suc (flags_many xs cs n on)
 
-module _ (laws : Laws) (own : SwitchLaws) (beg : BeginLaws) (m : Making) (entry : Told) (s : Parts) (listed : List (DeviceNumber × ℕ)) (kept count : ℕ) (made : BanksState) (answer : FlashAnswer) (f : FlsState) (is : IsStepping m entry s listed kept count (Copy None) made answer f) where
+module _ (m : Making) (entry : Told) (s : Parts) (listed : List (DeviceNumber × ℕ)) (kept count : ℕ) (made : BanksState) (answer : FlashAnswer) (f : FlsState) (is : IsStepping m entry s listed kept count (Copy None) made answer f) where
   abbrev c : Course
   c = Copy None
 
@@ -110,7 +103,7 @@ module _ (laws : Laws) (own : SwitchLaws) (beg : BeginLaws) (m : Making) (entry 
   l = banks_of m
 
   pub can : CanCopy s.banks
-  can = subst (λ (o : Option Course). IfSome o (CanGoOn s.banks)) is.course (beg.ready m.reserve s.banks is.on.banks is.on.log (is.on.sound.room is.on.started (power m entry s listed kept count is.on)))
+  can = subst (λ (o : Option Course). IfSome o (CanGoOn s.banks)) is.course (steps_may_be_made m.reserve s.banks is.on.banks is.on.log (is.on.sound.room is.on.started (power m entry s listed kept count is.on)))
 
   abbrev pub source : Source
   source = can.source
@@ -128,7 +121,7 @@ module _ (laws : Laws) (own : SwitchLaws) (beg : BeginLaws) (m : Making) (entry 
   k = begun k0 h
 
   pub target : IsTargetLog s.banks c
-  target = (roomy laws m entry s listed kept count c made answer f is).target
+  target = (roomy m entry s listed kept count c made answer f is).target
 
   pub tail : k.tail ≡ Writes h 0
   tail = ap (λ (t : Tail). tail_begun t h) target.work
@@ -209,10 +202,10 @@ module _ (laws : Laws) (own : SwitchLaws) (beg : BeginLaws) (m : Making) (entry 
       let size_path : l.pages * l.page * l.banks ≡ pages_in k0 * k0.geometry.page * k0.banks = λ i. pages_of_bank (sym geo i) (sym banks_are i) * (sym geo i).page * sym banks_are i in
       let was_state : HoldsState k0 body0 old cop = record { size = subst (λ (n : ℕ). n ≤ length old) size_path held.banks.size; holds = was; follows = subst (λ (t : Tail). MayFollow cop t body0) (sym target.work) tt } in
       let commit : MayCommit cop h body = λ n size' fit. subst (λ (x : ℕ). IsAmong (cop x size') (held_written h body)) (eqb-true h.number n (both_true (h.number == n) (if h.kind == 1 then h.length == size' else true) fit)) (open_any h.number (flags_in m s old) size' (held_written h body) (is_open old)) in
-      let now = beg.holds k0 h body0 body old cop is.copies was_state can.can.idle can.can.configured room size commit in
+      let now = begins_hold k0 h body0 body old cop is.copies was_state can.can.idle can.can.configured room size commit in
       let holds = subst (λ (ns : List (DeviceNumber × ℕ)). HoldsLog (bank_in l new_format s.banks.target) ns old cop (log_of k body)) numbers (subst (λ (b : Bank). HoldsLog b k0.numbers old cop (log_of k body)) (sym path) now.holds) in
       record {
-        banks = beg.change l m.numbers old (banks_with mem may cop) (log_of k0 body0) (log_of k body) cop held.banks phase holds;
+        banks = copies_change l m.numbers old (banks_with mem may cop) (log_of k0 body0) (log_of k body) cop held.banks phase holds;
         job = held.job;
         seal = tt;
       }

@@ -19,16 +19,16 @@ use Rattle.fee_log.specs.Log.{log_of, work_in}
 use Rattle.fee_course.specs.declared.course.Course.{Course}
 use Rattle.fee_switch.specs.Banks.{BanksState, after_answer}
 use Rattle.fee_switch_laws.specs.Shown.{phase_shown}
+use Rattle.fee_switch_laws.proofs.Gates.{gates_stand}
 use Rattle.promise_device.specs.Making.{Making, banks_of}
 use Rattle.fee_told.specs.Slots.{Memory, may_told}
 use Rattle.fee_told.specs.SlotLaws.{IsHeld, GoesOn}
 use Rattle.fee_told.specs.Kept.{IsKept}
+use Rattle.fee_told.proofs.Switches.{gates_fail}
 use Rattle.fee_laws.specs.Copied.{flags_of}
 use Rattle.fee_laws.specs.Inside.{Parts, memory_of, body_of, flags_in, ShowsCopies, stand_of}
 use Rattle.fee_laws.specs.Turn.{operated, Turned}
 use Rattle.fee_laws.specs.Switches.{IsStepping, step_op}
-use Rattle.fee_laws.proofs.TurnLaws.{Laws}
-use Rattle.fee_laws.proofs.SwitchLaws.{SwitchLaws}
 use Rattle.fee_laws.proofs.Before.{legal}
 use Rattle.fee_laws.proofs.Switching.{Cutting}
 use Rattle.fee_laws.proofs.SwitchShown.{no_job, standing}
@@ -46,7 +46,7 @@ use Rattle.fee_laws.proofs.SwitchFailed.{last_by, given_by, stand_goes}
 use Rattle.fee_laws.proofs.SwitchKinds.{failed_by, cut_by}
 use Rattle.fee_laws.proofs.SwitchPage.{settled_same, leaves_page}
 
-module _ (laws : Laws) (own : SwitchLaws) (m : Making) (entry : Told) (s : Parts) (listed : List (DeviceNumber × ℕ)) (kept count : ℕ) (doubtful : Bool) (made : BanksState) (f : FlsState) where
+module _ (m : Making) (entry : Told) (s : Parts) (listed : List (DeviceNumber × ℕ)) (kept count : ℕ) (doubtful : Bool) (made : BanksState) (f : FlsState) where
   abbrev c : Course
   c = Gate doubtful
 
@@ -79,7 +79,7 @@ module _ (laws : Laws) (own : SwitchLaws) (m : Making) (entry : Told) (s : Parts
     size = length-replicate {A = ℕ} m.geometry.page 0
 
     inside : 1 < l.pages
-    inside = let low = (legal m entry s listed kept count is.on laws.legal).pages in omega (arith, low)
+    inside = let low = (legal m entry s listed kept count is.on).pages in omega (arith, low)
 
     pub phase : mem.phase ≡ Sealing log
     phase = ap (λ (o : Option Course). phase_shown o s.banks body) is.course
@@ -88,16 +88,16 @@ module _ (laws : Laws) (own : SwitchLaws) (m : Making) (entry : Told) (s : Parts
     step = is.makes.0
 
     pub page_leaves : (old new : List ℕ) → MayLeave op old new → MayLeave (program_of l s.banks.target 1 page) old new
-    page_leaves old new leaves = leaves_page laws own m entry s listed kept count c made answer f is op step 1 page op_is size inside old new leaves
+    page_leaves old new leaves = leaves_page m entry s listed kept count c made answer f is op step 1 page op_is size inside old new leaves
 
     pub flags_same : (old new : List ℕ) → ShowsCopies m s c old → MayLeave op old new → flags_in m s new ≡ flags_in m s old
-    flags_same old new shows leaves = ap (flags_of m.numbers s.banks.log.places s.banks.log.flags) (settled_same laws own m entry s listed kept count c made answer f is op step 1 page op_is size inside old new (copied_of (flags_in m s old)) shows.held leaves)
+    flags_same old new shows leaves = ap (flags_of m.numbers s.banks.log.places s.banks.log.flags) (settled_same m entry s listed kept count c made answer f is op step 1 page op_is size inside old new (copied_of (flags_in m s old)) shows.held leaves)
 
     failing : (old new : List ℕ) (copied : May) (stand : Stand) → IsHeld l m.numbers old mem copied → MayLeave op old new → GoesOn mem.stand stand → IsKept l m.numbers old new mem (record mem { stand = stand }) copied
     failing old new copied stand held leaves goes =
-        own.gate_fails l m.numbers old new mem copied log stand (standing laws m entry s listed kept count c made answer f is old copied held) phase (page_leaves old new leaves) goes (no_job laws m entry s listed kept count c made answer f is stand)
+        gates_fail l m.numbers old new mem copied log stand (standing m entry s listed kept count c made answer f is old copied held) phase (page_leaves old new leaves) goes (no_job m entry s listed kept count c made answer f is stand)
 
-    pub cutting : Cutting laws m entry s listed kept count c made answer f is op step mem
+    pub cutting : Cutting m entry s listed kept count c made answer f is op step mem
     cutting old image shows leaves = failing old image (copied_of (flags_in m s old)) mem.stand shows.held leaves (inl refl)
 
     pub layout_is : layout_in s.banks ≡ l
@@ -112,13 +112,13 @@ module _ (laws : Laws) (own : SwitchLaws) (m : Making) (entry : Told) (s : Parts
         let holds : HoldsBanks s.banks bodies old may cop =
         subst (λ (x : Layout). Holds x s.banks.log.numbers old (banks_shown s.banks bodies may cop)) (sym layout_is)
         (subst (λ (ns : List (DeviceNumber × ℕ)). Holds l ns old (banks_shown s.banks bodies may cop)) (sym is.on.sound.made_for.numbers) shows.held.banks) in
-        let then_holds = own.gate_stands s.banks bodies old new may cop doubtful is.on.banks is.course holds leaves left in
+        let then_holds = gates_stand s.banks bodies old new may cop doubtful is.on.banks is.course holds leaves left in
         subst (λ (x : Layout). image_page x new s.banks.target 1 ≡ gate_page x.page) layout_is then_holds.old.1.stands.gate
 
   pub gate_failed : IsStepping m entry s listed kept count c made Failed f → Turned m entry turn.Worked s (failed_with s.job (operated (step_op s.banks c) Failed f (after_answer made c Failed) s)) listed kept (next_count count) false
   gate_failed is =
       let stand = stand_of s.content None (last_by s.job s.last) (given_by s.job s.given) in
-      failed_by laws own m entry s listed kept count c made f is op (step Failed is) mem (cutting Failed is) (Gate true) s.banks.log.flags s.banks.copies (λ i. after_answer (sym is.makes.1 i) c Failed)
+      failed_by m entry s listed kept count c made f is op (step Failed is) mem (cutting Failed is) (Gate true) s.banks.log.flags s.banks.copies (λ i. after_answer (sym is.makes.1 i) c Failed)
       (λ old new shows leaves left.
       (let is' = failing Failed is old new (copied_of (flags_in m s old)) stand shows.held leaves (stand_goes s.content s.job s.last s.given) in
       let path : record mem { stand = stand } ≡ record mem { phase = Sealing log; stand = stand } = λ i. record mem { phase = phase Failed is i; stand = stand } in
@@ -128,4 +128,4 @@ module _ (laws : Laws) (own : SwitchLaws) (m : Making) (entry : Told) (s : Parts
       }))
 
   pub gate_cut : IsStepping m entry s listed kept count c made Off f → Turned m entry turn.Off s (operated (step_op s.banks c) Off f (after_answer made c Off) s) listed kept (next_count count) true
-  gate_cut is = cut_by laws own m entry s listed kept count c made f is op (step Off is) mem (cutting Off is) s.banks.copies (sym is.makes.1) refl refl
+  gate_cut is = cut_by m entry s listed kept count c made f is op (step Off is) mem (cutting Off is) s.banks.copies (sym is.makes.1) refl refl

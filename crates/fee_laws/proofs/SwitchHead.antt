@@ -19,15 +19,16 @@ use Rattle.fee_log.specs.Log.{LogState, log_of, work_in}
 use Rattle.fee_course.specs.declared.course.Course.{Course}
 use Rattle.fee_switch.specs.Banks.{BanksState, after_answer}
 use Rattle.fee_switch_laws.specs.Shown.{phase_shown}
+use Rattle.fee_switch_laws.proofs.Targets.{heads_stand}
 use Rattle.promise_device.specs.Making.{Making, banks_of}
 use Rattle.fee_told.specs.Slots.{Memory, may_told, settled_in}
 use Rattle.fee_told.specs.Kept.{IsKept}
+use Rattle.fee_told.proofs.Held.{copies_are_told}
+use Rattle.fee_told.proofs.Switches.{heads_go_on}
 use Rattle.fee_laws.specs.Copied.{flags_of}
 use Rattle.fee_laws.specs.Inside.{Parts, memory_of, body_of, flags_in, ShowsCopies}
 use Rattle.fee_laws.specs.Turn.{operated, Turned}
 use Rattle.fee_laws.specs.Switches.{IsStepping, step_op}
-use Rattle.fee_laws.proofs.TurnLaws.{Laws}
-use Rattle.fee_laws.proofs.SwitchLaws.{SwitchLaws}
 use Rattle.fee_laws.proofs.Before.{shape, legal}
 use Rattle.fee_laws.proofs.SwitchShown.{roomy, standing}
 use Rattle.std.proofs.Math.ListN.{length-replicate}
@@ -67,7 +68,7 @@ next_fits l numbers bytes target may (Some a) log body holds worn =
 head_size : (p : ℕ) (h : BankHead) → 16 ≤ p → length (bank_head_page p h) ≡ p
 head_size p h more = omega (arith, length-replicate {A = ℕ} (p - 12) 255)
 
-module _ (laws : Laws) (own : SwitchLaws) (m : Making) (entry : Told) (s : Parts) (listed : List (DeviceNumber × ℕ)) (kept count : ℕ) (made : BanksState) (f : FlsState) where
+module _ (m : Making) (entry : Told) (s : Parts) (listed : List (DeviceNumber × ℕ)) (kept count : ℕ) (made : BanksState) (f : FlsState) where
   abbrev mem : Memory
   mem = memory_of s
 
@@ -100,7 +101,7 @@ module _ (laws : Laws) (own : SwitchLaws) (m : Making) (entry : Told) (s : Parts
     size = head_size m.geometry.page (next_head mem.old) (shape m entry s listed kept count is.on).page_low
 
     inside : 0 < l.pages
-    inside = let low = (legal m entry s listed kept count is.on laws.legal).pages in omega (arith, low)
+    inside = let low = (legal m entry s listed kept count is.on).pages in omega (arith, low)
 
     phase : mem.phase ≡ Copying log
     phase = ap (λ (o : Option Course). phase_shown o s.banks body) is.course
@@ -117,7 +118,7 @@ module _ (laws : Laws) (own : SwitchLaws) (m : Making) (entry : Told) (s : Parts
     -- each number is copied
     whole : (old : List ℕ) → AreCopied l m.numbers old mem.old (copied_of (flags_in m s old))
     whole old =
-        let none = (roomy laws m entry s listed kept count Head made answer f is).going.fitting in
+        let none = (roomy m entry s listed kept count Head made answer f is).going.fitting in
         let a = are_copied l old s.banks.active s.banks.log (body_of (work_in s.banks.log.tail) s.content) is.on.log none in
         subst (λ (ns : List (DeviceNumber × ℕ)). AreCopied l ns old mem.old (copied_of (flags_of ns s.banks.log.places s.banks.log.flags (settled_in l ns old mem.old)))) is.on.sound.made_for.numbers a
 
@@ -127,35 +128,35 @@ module _ (laws : Laws) (own : SwitchLaws) (m : Making) (entry : Told) (s : Parts
         let may = may_told l m.numbers old mem in
         let cop = copied_of (flags_in m s old) in
         let bodies : Bodies = record { append = body_of (work_in s.banks.log.tail) s.content; copy = body } in
-        let fits = next_fits l m.numbers old s.banks.target may s.banks.active s.banks.log (body_of (work_in s.banks.log.tail) s.content) shows.held.banks.old (roomy laws m entry s listed kept count Head made answer f is).worn in
+        let fits = next_fits l m.numbers old s.banks.target may s.banks.active s.banks.log (body_of (work_in s.banks.log.tail) s.content) shows.held.banks.old (roomy m entry s listed kept count Head made answer f is).worn in
         let few = subst (λ (n : ℕ). n < 2 ^ 32) (sym (next_is s.banks.active s.banks.log (body_of (work_in s.banks.log.tail) s.content))) fits in
         let holds : HoldsBanks s.banks bodies old may cop =
         subst (λ (x : Layout). Holds x s.banks.log.numbers old (banks_shown s.banks bodies may cop)) (sym layout_is)
         (subst (λ (ns : List (DeviceNumber × ℕ)). Holds l ns old (banks_shown s.banks bodies may cop)) (sym is.on.sound.made_for.numbers) shows.held.banks) in
-        let then_holds = own.head_stands s.banks bodies old new may cop is.on.banks is.course few (own.told l m.numbers old mem cop cop shows.held (whole old)) holds leaves left in
+        let then_holds = heads_stand s.banks bodies old new may cop is.on.banks is.course few (copies_are_told l m.numbers old mem cop cop shows.held (whole old)) holds leaves left in
         subst (λ (x : Layout). image_page x new s.banks.target 0 ≡ bank_head_page x.page (next_head mem.old)) layout_is then_holds.phase.head
 
   pub head_failed : IsStepping m entry s listed kept count Head made Failed f → Turned m entry turn.Worked s (failed_with s.job (operated (step_op s.banks Head) Failed f (after_answer made Head Failed) s)) listed kept (next_count count) false
   head_failed is =
-      page_failed laws own m entry s listed kept count Head made f op 0 page (op_at Failed is) (size Failed is) (inside Failed is) log (phase Failed is) (not_gate Failed is) is (step Failed is)
+      page_failed m entry s listed kept count Head made f op 0 page (op_at Failed is) (size Failed is) (inside Failed is) log (phase Failed is) (not_gate Failed is) is (step Failed is)
       (λ i. after_answer (sym is.makes.1 i) Head Failed)
 
   pub head_cut : IsStepping m entry s listed kept count Head made Off f → Turned m entry turn.Off s (operated (step_op s.banks Head) Off f (after_answer made Head Off) s) listed kept (next_count count) true
   head_cut is =
-      page_cut laws own m entry s listed kept count Head made f op 0 page (op_at Off is) (size Off is) (inside Off is) log (phase Off is) (not_gate Off is) is (step Off is) s.banks.copies (sym is.makes.1)
+      page_cut m entry s listed kept count Head made f op 0 page (op_at Off is) (size Off is) (inside Off is) log (phase Off is) (not_gate Off is) is (step Off is) s.banks.copies (sym is.makes.1)
 
   pub head_done : IsStepping m entry s listed kept count Head made Done f → Turned m entry turn.Worked s (operated (step_op s.banks Head) Done f (after_answer made Head Done) s) listed kept (next_count count) false
   head_done is =
-      done_by laws own m entry s listed kept count Head made f is tt op (step Done is) (torn laws own m entry s listed kept count Head made Done f is op (step Done is) 0 page (op_at Done is) (size Done is) (inside Done is) log (phase Done is) (not_gate Done is))
-      (cutting laws own m entry s listed kept count Head made Done f is op (step Done is) 0 page (op_at Done is) (size Done is) (inside Done is) log (phase Done is) (not_gate Done is))
+      done_by m entry s listed kept count Head made f is tt op (step Done is) (torn m entry s listed kept count Head made Done f is op (step Done is) 0 page (op_at Done is) (size Done is) (inside Done is) log (phase Done is) (not_gate Done is))
+      (cutting m entry s listed kept count Head made Done f is op (step Done is) 0 page (op_at Done is) (size Done is) (inside Done is) log (phase Done is) (not_gate Done is))
       (Gate false) s.banks.log.flags s.banks.copies (λ i. after_answer (sym is.makes.1 i) Head Done)
       (record { takes = λ more. (let z : false ≡ true = more in cc z); nearer = λ some. (omega arith, omega arith) })
       (λ old new shows leaves left.
       (let cop = copied_of (flags_in m s old) in
-      let fits = next_fits l m.numbers old s.banks.target (may_told l m.numbers old mem) s.banks.active s.banks.log (body_of (work_in s.banks.log.tail) s.content) shows.held.banks.old (roomy laws m entry s listed kept count Head made Done f is).worn in
-      let first = own.head l m.numbers old new mem cop log (standing laws m entry s listed kept count Head made Done f is old cop shows.held) (phase Done is) fits (whole Done is old)
-      (leaves_page laws own m entry s listed kept count Head made Done f is op (step Done is) 0 page (op_at Done is) (size Done is) (inside Done is) old new leaves) (stood Done is old new shows leaves left) in
-      let same = settled_same laws own m entry s listed kept count Head made Done f is op (step Done is) 0 page (op_at Done is) (size Done is) (inside Done is) old new cop shows.held leaves in
+      let fits = next_fits l m.numbers old s.banks.target (may_told l m.numbers old mem) s.banks.active s.banks.log (body_of (work_in s.banks.log.tail) s.content) shows.held.banks.old (roomy m entry s listed kept count Head made Done f is).worn in
+      let first = heads_go_on l m.numbers old new mem cop log (standing m entry s listed kept count Head made Done f is old cop shows.held) (phase Done is) fits (whole Done is old)
+      (leaves_page m entry s listed kept count Head made Done f is op (step Done is) 0 page (op_at Done is) (size Done is) (inside Done is) old new leaves) (stood Done is old new shows leaves left) in
+      let same = settled_same m entry s listed kept count Head made Done f is op (step Done is) 0 page (op_at Done is) (size Done is) (inside Done is) old new cop shows.held leaves in
       let path : flags_in m s new ≡ flags_in m s old = ap (flags_of m.numbers s.banks.log.places s.banks.log.flags) same in
       record {
         kept_all = subst (λ (x : List Flag). IsKept l m.numbers old new mem (record mem { phase = Sealing log }) (copied_of x)) (sym path) first;

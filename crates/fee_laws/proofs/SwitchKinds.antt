@@ -13,34 +13,34 @@ use Rattle.fee_course.specs.declared.course.Course.{Course}
 use Rattle.fee_course.specs.Laws.{IsBeforeGate}
 use Rattle.fee_switch.specs.Banks.{BanksState, after_answer, left_of}
 use Rattle.fee_switch_laws.specs.KeepsRoom.{KeepsRoom}
+use Rattle.fee_switch_laws.proofs.RoomSteps.{steps_keep_room, steps_lower}
 use Rattle.promise_device.specs.Making.{Making}
 use Rattle.fee_told.specs.Slots.{Memory}
 use Rattle.fee_laws.specs.Inside.{Parts, memory_of}
 use Rattle.fee_laws.specs.Turn.{operated, Turned}
 use Rattle.fee_laws.specs.Switches.{IsStepping, failed_with}
-use Rattle.fee_laws.proofs.TurnLaws.{Laws}
-use Rattle.fee_laws.proofs.SwitchLaws.{SwitchLaws}
 use Rattle.fee_laws.proofs.Before.{power}
 use Rattle.fee_laws.proofs.Switching.{Cutting, Showing}
-use Rattle.fee_laws.proofs.SwitchOn.{Seals, went_on}
+use Rattle.fee_laws.proofs.SwitchNearer.{Seals}
+use Rattle.fee_laws.proofs.SwitchOn.{went_on}
 use Rattle.fee_laws.proofs.SwitchFailed.{failed, failed_is, last_by, given_by}
 use Rattle.fee_laws.proofs.SwitchCut.{was_cut}
 use Rattle.fee_laws.proofs.SwitchShown.{still_active}
 
-module _ (laws : Laws) (own : SwitchLaws) (m : Making) (entry : Told) (s : Parts) (listed : List (DeviceNumber × ℕ)) (kept count : ℕ) (c : Course) (made : BanksState) (f : FlsState) where
+module _ (m : Making) (entry : Told) (s : Parts) (listed : List (DeviceNumber × ℕ)) (kept count : ℕ) (c : Course) (made : BanksState) (f : FlsState) where
   -- it is done
-  module _ (is : IsStepping m entry s listed kept count c made Done f) (before : IsBeforeGate c) (op : Op) (step : IsStep op s.fls.flash Done f.flash) (torn : Memory) (cutting : Cutting laws m entry s listed kept count c made Done f is op step torn) (c' : Course) (flags : List Bool) (log : LogState) where
+  module _ (is : IsStepping m entry s listed kept count c made Done f) (before : IsBeforeGate c) (op : Op) (step : IsStep op s.fls.flash Done f.flash) (torn : Memory) (cutting : Cutting m entry s listed kept count c made Done f is op step torn) (c' : Course) (flags : List Bool) (log : LogState) where
     abbrev b : BanksState
     b = record s.banks { course = Some c'; log = record s.banks.log { flags = flags }; copies = log }
 
-    pub done_by : b ≡ after_answer made c Done → Seals c c' → Showing laws m entry s listed kept count c made Done f is op step torn cutting b c' refl s.job s.last s.given
+    pub done_by : b ≡ after_answer made c Done → Seals c c' → Showing m entry s listed kept count c made Done f is op step torn cutting b c' refl s.job s.last s.given
         → Turned m entry turn.Worked s (operated op Done f (after_answer made c Done) s) listed kept (next_count count) false
     done_by path seals showing =
         let room = is.on.sound.room is.on.started (power m entry s listed kept count is.on) in
-        let kept' = own.room m.reserve s.banks made c s.fls.flash f.flash Done is.on.banks is.on.log is.idle is.course room is.makes (λ off. cc off) in
-        let less = own.lower m.reserve s.banks made c s.fls.flash f.flash is.on.banks is.on.log is.idle is.course room before is.makes in
+        let kept' = steps_keep_room m.reserve s.banks made c s.fls.flash f.flash Done is.on.banks is.on.log is.idle is.course room is.makes (λ off. cc off) in
+        let less = steps_lower m.reserve s.banks made c s.fls.flash f.flash is.on.banks is.on.log is.idle is.course room before is.makes in
         subst (λ (x : BanksState). Turned m entry turn.Worked s (operated op Done f x s) listed kept (next_count count) false) path
-        (went_on laws own m entry s listed kept count c made f is op step torn cutting c' flags log (record {
+        (went_on m entry s listed kept count c made f is op step torn cutting c' flags log (record {
           seals = seals;
           room = subst (KeepsRoom m.reserve) (sym path) kept';
           lower = subst (λ (x : BanksState). left_of x < left_of s.banks) (sym path) less;
@@ -49,27 +49,27 @@ module _ (laws : Laws) (own : SwitchLaws) (m : Making) (entry : Told) (s : Parts
         }))
 
   -- it failed
-  module _ (is : IsStepping m entry s listed kept count c made Failed f) (op : Op) (step : IsStep op s.fls.flash Failed f.flash) (torn : Memory) (cutting : Cutting laws m entry s listed kept count c made Failed f is op step torn) (c' : Course) (flags : List Bool) (log : LogState) where
+  module _ (is : IsStepping m entry s listed kept count c made Failed f) (op : Op) (step : IsStep op s.fls.flash Failed f.flash) (torn : Memory) (cutting : Cutting m entry s listed kept count c made Failed f is op step torn) (c' : Course) (flags : List Bool) (log : LogState) where
     abbrev fb : BanksState
     fb = record s.banks { course = Some c'; log = record s.banks.log { flags = flags }; copies = log }
 
-    pub failed_by : fb ≡ after_answer made c Failed → Showing laws m entry s listed kept count c made Failed f is op step torn cutting fb c' refl None (last_by s.job s.last) (given_by s.job s.given)
+    pub failed_by : fb ≡ after_answer made c Failed → Showing m entry s listed kept count c made Failed f is op step torn cutting fb c' refl None (last_by s.job s.last) (given_by s.job s.given)
         → Turned m entry turn.Worked s (failed_with s.job (operated op Failed f (after_answer made c Failed) s)) listed kept (next_count count) false
     failed_by path showing =
         let room = is.on.sound.room is.on.started (power m entry s listed kept count is.on) in
-        let kept' = own.room m.reserve s.banks made c s.fls.flash f.flash Failed is.on.banks is.on.log is.idle is.course room is.makes (λ off. cc off) in
+        let kept' = steps_keep_room m.reserve s.banks made c s.fls.flash f.flash Failed is.on.banks is.on.log is.idle is.course room is.makes (λ off. cc off) in
         subst (λ (x : BanksState). Turned m entry turn.Worked s (failed_with s.job (operated op Failed f x s)) listed kept (next_count count) false) path
         (subst (λ (x : Parts). Turned m entry turn.Worked s x listed kept (next_count count) false) (sym (failed_is s.job (operated op Failed f fb s) refl))
-        (failed laws own m entry s listed kept count c made f is op step torn cutting c' flags log (record {
+        (failed m entry s listed kept count c made f is op step torn cutting c' flags log (record {
           room = subst (KeepsRoom m.reserve) (sym path) kept';
           active = still_active s.banks flags (Some c') log s.banks.active (is.on.sound.works is.on.started).active;
           showing = showing;
         })))
 
   -- the power went off
-  module _ (is : IsStepping m entry s listed kept count c made Off f) (op : Op) (step : IsStep op s.fls.flash Off f.flash) (torn : Memory) (cutting : Cutting laws m entry s listed kept count c made Off f is op step torn) (log : LogState) where
+  module _ (is : IsStepping m entry s listed kept count c made Off f) (op : Op) (step : IsStep op s.fls.flash Off f.flash) (torn : Memory) (cutting : Cutting m entry s listed kept count c made Off f is op step torn) (log : LogState) where
     pub cut_by : record s.banks { copies = log } ≡ after_answer made c Off → torn.old ≡ (memory_of s).old → torn.stand ≡ (memory_of s).stand
         → Turned m entry turn.Off s (operated op Off f (after_answer made c Off) s) listed kept (next_count count) true
     cut_by path same stands =
         subst (λ (x : BanksState). Turned m entry turn.Off s (operated op Off f x s) listed kept (next_count count) true) path
-        (was_cut laws own m entry s listed kept count c made f is op step torn cutting same stands log)
+        (was_cut m entry s listed kept count c made f is op step torn cutting same stands log)

@@ -30,8 +30,6 @@ use Rattle.fee_told.specs.Kept.{IsKept}
 use Rattle.fee_laws.specs.Copied.{flags_of, IsCopying}
 use Rattle.fee_laws.specs.Inside.{Parts, memory_of, body_of, flags_in, ShowsCopies}
 use Rattle.fee_laws.specs.Switches.{IsStepping, step_op}
-use Rattle.fee_laws.proofs.TurnLaws.{Laws}
-use Rattle.fee_laws.proofs.SwitchLaws.{SwitchLaws}
 use Rattle.std.specs.List.{All}
 use Rattle.fee_image.specs.Image.{bank_in}
 use Rattle.fee_image.specs.RecordList.{pages_of_head}
@@ -66,7 +64,8 @@ use Rattle.fee_laws.proofs.SwitchKinds.{done_by}
 use Rattle.fee_laws.proofs.SwitchPage.{settled_same, torn, cutting, page_failed, page_cut}
 use Rattle.fee_laws.proofs.SwitchCopy.{q, page, op_of_is, size, inside, not_gate, done_kept}
 use Rattle.fee_laws.proofs.SwitchNext.{found_copies}
-use Rattle.fee_laws.proofs.SwitchFirst.{BeginLaws, can, source, number, h, k, tail, state, geo, banks_are, bank, format, numbers, found, is_open, begun_held}
+use Rattle.fee_laws.proofs.SwitchFirst.{can, source, number, h, k, tail, state, geo, banks_are, bank, format, numbers, found, is_open, begun_held}
+use Rattle.fee_laws.proofs.FollowTurned.{mark_length}
 
 slice_is : (ns : List (DeviceNumber × ℕ)) (i : ℕ) (n : DeviceNumber) (size : ℕ) → i < length ns → Named ns i n size → slice_get ns i ≡ Some (n, size)
 slice_is [] i n size less named = absurd (omega arith)
@@ -81,30 +80,24 @@ begins_mark (place.Invalid count) s n size told answer made then_told reads begi
 begins_mark (place.Erased count) s n size told answer made then_told reads begins = begins
 begins_mark place.Unwritten s n size told answer made then_told reads begins = begins
 
-mark_length : (p : Place) (n size : ℕ) → reads_place p ≡ false → (head_at p n size).length ≡ 0
-mark_length (place.Content at count) n size reads = cc reads
-mark_length (place.Invalid count) n size reads = refl
-mark_length (place.Erased count) n size reads = refl
-mark_length place.Unwritten n size reads = refl
-
 mark_shown : (b : Bank) (bytes body : List ℕ) (p : Place) (n size : ℕ) → reads_place p ≡ false → held_written (head_at p n size) body ≡ held_at b bytes size p
 mark_shown b bytes body (place.Content at count) n size reads = cc reads
 mark_shown b bytes body (place.Invalid count) n size reads = refl
 mark_shown b bytes body (place.Erased count) n size reads = refl
 mark_shown b bytes body place.Unwritten n size reads = refl
 
-module _ (laws : Laws) (own : SwitchLaws) (beg : BeginLaws) (m : Making) (entry : Told) (s : Parts) (listed : List (DeviceNumber × ℕ)) (kept count : ℕ) (made : BanksState) (answer : FlashAnswer) (f : FlsState) (is : IsStepping m entry s listed kept count (Copy None) made answer f) where
+module _ (m : Making) (entry : Told) (s : Parts) (listed : List (DeviceNumber × ℕ)) (kept count : ℕ) (made : BanksState) (answer : FlashAnswer) (f : FlsState) (is : IsStepping m entry s listed kept count (Copy None) made answer f) where
   abbrev c : Course
   c = Copy None
 
   abbrev src : Source
-  src = source laws own beg m entry s listed kept count made answer f is
+  src = source m entry s listed kept count made answer f is
 
   abbrev num : DeviceNumber
-  num = number laws own beg m entry s listed kept count made answer f is
+  num = number m entry s listed kept count made answer f is
 
   abbrev next_is : IsNext s.banks src num
-  next_is = (can laws own beg m entry s listed kept count made answer f is).next
+  next_is = (can m entry s listed kept count made answer f is).next
 
   source_same : is.makes.source ≡ src
   source_same = let a = is.makes.next.first in let b = next_is.first in cc (a, b)
@@ -122,13 +115,13 @@ module _ (laws : Laws) (own : SwitchLaws) (beg : BeginLaws) (m : Making) (entry 
       (subst (λ (x : Source). BeginsAt x.place s.banks is.makes.number.0 x.length s.fls.flash answer made f.flash) source_same is.makes.begins)
 
   abbrev head : RecHead
-  head = h laws own beg m entry s listed kept count made answer f is
+  head = h m entry s listed kept count made answer f is
 
   abbrev log_k : LogState
-  log_k = k laws own beg m entry s listed kept count made answer f is
+  log_k = k m entry s listed kept count made answer f is
 
   abbrev tail_k : log_k.tail ≡ Writes head 0
-  tail_k = tail laws own beg m entry s listed kept count made answer f is
+  tail_k = tail m entry s listed kept count made answer f is
 
   abbrev pub body : List ℕ
   body = body_of (work_in log_k.tail) s.banks.buffer
@@ -171,22 +164,22 @@ module _ (laws : Laws) (own : SwitchLaws) (beg : BeginLaws) (m : Making) (entry 
         (sym (ap (mark_op_of s.banks) next_is.first ∙ ap (mark_op_for s.banks.copies src.place) (slice_is s.banks.log.numbers src.index num src.length next_is.inside next_is.named))) begins.0
 
     abbrev g : log_k.geometry ≡ m.geometry
-    g = geo laws own beg m entry s listed kept count made answer f is
+    g = geo m entry s listed kept count made answer f is
 
     abbrev w2 : log_k.banks ≡ m.banks
-    w2 = banks_are laws own beg m entry s listed kept count made answer f is
+    w2 = banks_are m entry s listed kept count made answer f is
 
     abbrev bk : log_k.bank ≡ s.banks.target
-    bk = bank laws own beg m entry s listed kept count made answer f is
+    bk = bank m entry s listed kept count made answer f is
 
     abbrev fm : log_k.format ≡ new_format
-    fm = format laws own beg m entry s listed kept count made answer f is
+    fm = format m entry s listed kept count made answer f is
 
     abbrev nb : log_k.numbers ≡ m.numbers
-    nb = numbers laws own beg m entry s listed kept count made answer f is
+    nb = numbers m entry s listed kept count made answer f is
 
     abbrev st : IsLogState log_k
-    st = state laws own beg m entry s listed kept count made answer f is
+    st = state m entry s listed kept count made answer f is
 
     abbrev l : Layout
     l = banks_of m
@@ -195,22 +188,22 @@ module _ (laws : Laws) (own : SwitchLaws) (beg : BeginLaws) (m : Making) (entry 
     mem = memory_of s
 
     abbrev q' : ℕ
-    q' = q laws own m entry s listed kept count c made answer f is log_k body head 0 tail_k st g w2 bk fm nb small
+    q' = q m entry s listed kept count c made answer f is log_k body head 0 tail_k st g w2 bk fm nb small
 
     abbrev page' : List ℕ
-    page' = page laws own m entry s listed kept count c made answer f is log_k body head 0 tail_k st g w2 bk fm nb small
+    page' = page m entry s listed kept count c made answer f is log_k body head 0 tail_k st g w2 bk fm nb small
 
     op_is : op ≡ program_of l s.banks.target q' page'
-    op_is = op_body ∙ op_of_is laws own m entry s listed kept count c made answer f is log_k body head 0 tail_k st g w2 bk fm nb small
+    op_is = op_body ∙ op_of_is m entry s listed kept count c made answer f is log_k body head 0 tail_k st g w2 bk fm nb small
 
     size' : length page' ≡ m.geometry.page
-    size' = size laws own m entry s listed kept count c made answer f is log_k body head 0 tail_k st g w2 bk fm nb small
+    size' = size m entry s listed kept count c made answer f is log_k body head 0 tail_k st g w2 bk fm nb small
 
     inside' : q' < l.pages
-    inside' = inside laws own m entry s listed kept count c made answer f is log_k body head 0 tail_k st g w2 bk fm nb small
+    inside' = inside m entry s listed kept count c made answer f is log_k body head 0 tail_k st g w2 bk fm nb small
 
     not_gate' : q' ≡ 1 → ⊥
-    not_gate' = not_gate laws own m entry s listed kept count c made answer f is log_k body head 0 tail_k st g w2 bk fm nb small
+    not_gate' = not_gate m entry s listed kept count c made answer f is log_k body head 0 tail_k st g w2 bk fm nb small
 
     abbrev log0 : Log
     log0 = log_of s.banks.copies (body_of (work_in s.banks.copies.tail) s.banks.buffer)
@@ -249,7 +242,7 @@ module _ (laws : Laws) (own : SwitchLaws) (beg : BeginLaws) (m : Making) (entry 
     phase_then = ap (λ (x : Course). phase_at x b body') next_course ∙ ap Copying shown_is
 
     flags_same : (old new : List ℕ) → ShowsCopies m s c old → MayLeave op old new → flags_in m s new ≡ flags_in m s old
-    flags_same old new shows leaves = ap (flags_of m.numbers s.banks.log.places s.banks.log.flags) (settled_same laws own m entry s listed kept count c made answer f is op step q' page' op_is size' inside' old new (copied_of (flags_in m s old)) shows.held leaves)
+    flags_same old new shows leaves = ap (flags_of m.numbers s.banks.log.places s.banks.log.flags) (settled_same m entry s listed kept count c made answer f is op step q' page' op_is size' inside' old new (copied_of (flags_in m s old)) shows.held leaves)
 
     may_is : (may : May) → may_done l.page may (log_of log_k body) ≡ may
     may_is may =
@@ -259,8 +252,8 @@ module _ (laws : Laws) (own : SwitchLaws) (beg : BeginLaws) (m : Making) (entry 
     kept_then : (old new : List ℕ) → ShowsCopies m s c old → MayLeave op old new → Leaves op Done old new → IsKept l m.numbers old new mem (record mem { phase = phase_at next b body' }) (copied_of (flags_in m s new))
     kept_then old new shows leaves left =
         let cop = copied_of (flags_in m s old) in
-        let held' = begun_held laws own beg m entry s listed kept count made answer f is old body size_is shows.held in
-        let first = done_kept laws own m entry s listed kept count c made answer f is log_k body head 0 tail_k st g w2 bk fm nb small old new cop held'
+        let held' = begun_held m entry s listed kept count made answer f is old body size_is shows.held in
+        let first = done_kept m entry s listed kept count c made answer f is log_k body head 0 tail_k st g w2 bk fm nb small old new cop held'
         (subst (λ (o : Op). MayLeave o old new) op_body leaves) (subst (λ (o : Op). Leaves o Done old new) op_body left) in
         let held = subst (λ (x : May). IsHeld l m.numbers new (record mem { phase = Copying (log_done l.page m.numbers (log_of log_k body)) }) x) (may_is cop) first.held in
         let both : IsKept l m.numbers old new mem (record mem { phase = Copying (log_done l.page m.numbers (log_of log_k body)) }) cop = record { held = held; keeps = first.keeps } in
@@ -269,7 +262,7 @@ module _ (laws : Laws) (own : SwitchLaws) (beg : BeginLaws) (m : Making) (entry 
 
     copies_it : (old : List ℕ) → Each (Copies head (take head.length s.banks.buffer)) (flags_in m s old)
     copies_it old =
-        let x = found laws own beg m entry s listed kept count made answer f is old in
+        let x = found m entry s listed kept count made answer f is old in
         let bank' = bank_in l x.active.head.format x.active.bank in
         let writes = mark_shown bank' old (take head.length s.banks.buffer) src.place num.0 src.length reads in
         subst (λ (ns : List (DeviceNumber × ℕ)). Each (Copies head (take head.length s.banks.buffer)) (flags_of ns s.banks.log.places s.banks.log.flags (settled_in l ns old mem.old))) is.on.sound.made_for.numbers
@@ -278,29 +271,29 @@ module _ (laws : Laws) (own : SwitchLaws) (beg : BeginLaws) (m : Making) (entry 
     copying_then : (old new : List ℕ) → ShowsCopies m s c old → MayLeave op old new → IsCopying next (work_in (after_step log_k Done).tail) s.banks.buffer (flags_in m s new)
     copying_then old new shows leaves =
         subst (λ (x : Course). IsCopying x (work_in (after_step log_k Done).tail) s.banks.buffer (flags_in m s new)) (sym next_course)
-        (subst (λ (o : Option RecHead). IsCopying begun_course o s.banks.buffer (flags_in m s new)) (sym work_on) (copies_it new, is_open laws own beg m entry s listed kept count made answer f is new))
+        (subst (λ (o : Option RecHead). IsCopying begun_course o s.banks.buffer (flags_in m s new)) (sym work_on) (copies_it new, is_open m entry s listed kept count made answer f is new))
 
 -- THE TURNS
-pub marks_fail : Laws → SwitchLaws → BeginLaws → MarksFail
-marks_fail laws own beg m entry s listed kept count made f is changes =
-    page_failed laws own m entry s listed kept count (Copy None) made f (step_op s.banks (Copy None)) (q' laws own beg m entry s listed kept count made Failed f is changes) (page' laws own beg m entry s listed kept count made Failed f is changes)
-    (op_is laws own beg m entry s listed kept count made Failed f is changes) (size' laws own beg m entry s listed kept count made Failed f is changes) (inside' laws own beg m entry s listed kept count made Failed f is changes)
-    (log0 laws own beg m entry s listed kept count made Failed f is changes) (phase0 laws own beg m entry s listed kept count made Failed f is changes) (not_gate' laws own beg m entry s listed kept count made Failed f is changes) is
-    (step laws own beg m entry s listed kept count made Failed f is changes) (λ i. after_answer (sym (made_is laws own beg m entry s listed kept count made Failed f is changes) i) (Copy None) Failed)
+pub marks_fail : MarksFail
+marks_fail m entry s listed kept count made f is changes =
+    page_failed m entry s listed kept count (Copy None) made f (step_op s.banks (Copy None)) (q' m entry s listed kept count made Failed f is changes) (page' m entry s listed kept count made Failed f is changes)
+    (op_is m entry s listed kept count made Failed f is changes) (size' m entry s listed kept count made Failed f is changes) (inside' m entry s listed kept count made Failed f is changes)
+    (log0 m entry s listed kept count made Failed f is changes) (phase0 m entry s listed kept count made Failed f is changes) (not_gate' m entry s listed kept count made Failed f is changes) is
+    (step m entry s listed kept count made Failed f is changes) (λ i. after_answer (sym (made_is m entry s listed kept count made Failed f is changes) i) (Copy None) Failed)
 
-pub marks_are_cut : Laws → SwitchLaws → BeginLaws → MarksAreCut
-marks_are_cut laws own beg m entry s listed kept count made f is changes =
-    page_cut laws own m entry s listed kept count (Copy None) made f (step_op s.banks (Copy None)) (q' laws own beg m entry s listed kept count made Off f is changes) (page' laws own beg m entry s listed kept count made Off f is changes)
-    (op_is laws own beg m entry s listed kept count made Off f is changes) (size' laws own beg m entry s listed kept count made Off f is changes) (inside' laws own beg m entry s listed kept count made Off f is changes)
-    (log0 laws own beg m entry s listed kept count made Off f is changes) (phase0 laws own beg m entry s listed kept count made Off f is changes) (not_gate' laws own beg m entry s listed kept count made Off f is changes) is
-    (step laws own beg m entry s listed kept count made Off f is changes) (log_k laws own beg m entry s listed kept count made Off f is) (sym (made_is laws own beg m entry s listed kept count made Off f is changes))
+pub marks_are_cut : MarksAreCut
+marks_are_cut m entry s listed kept count made f is changes =
+    page_cut m entry s listed kept count (Copy None) made f (step_op s.banks (Copy None)) (q' m entry s listed kept count made Off f is changes) (page' m entry s listed kept count made Off f is changes)
+    (op_is m entry s listed kept count made Off f is changes) (size' m entry s listed kept count made Off f is changes) (inside' m entry s listed kept count made Off f is changes)
+    (log0 m entry s listed kept count made Off f is changes) (phase0 m entry s listed kept count made Off f is changes) (not_gate' m entry s listed kept count made Off f is changes) is
+    (step m entry s listed kept count made Off f is changes) (log_k m entry s listed kept count made Off f is) (sym (made_is m entry s listed kept count made Off f is changes))
 
-pub marks_go_on : Laws → SwitchLaws → BeginLaws → MarksGoOn
-marks_go_on laws own beg m entry s listed kept count made f is changes =
-    done_by laws own m entry s listed kept count (Copy None) made f is tt (step_op s.banks (Copy None)) (step laws own beg m entry s listed kept count made Done f is changes)
-    (torn laws own m entry s listed kept count (Copy None) made Done f is (step_op s.banks (Copy None)) (step laws own beg m entry s listed kept count made Done f is changes) (q' laws own beg m entry s listed kept count made Done f is changes) (page' laws own beg m entry s listed kept count made Done f is changes) (op_is laws own beg m entry s listed kept count made Done f is changes) (size' laws own beg m entry s listed kept count made Done f is changes) (inside' laws own beg m entry s listed kept count made Done f is changes) (log0 laws own beg m entry s listed kept count made Done f is changes) (phase0 laws own beg m entry s listed kept count made Done f is changes) (not_gate' laws own beg m entry s listed kept count made Done f is changes))
-    (cutting laws own m entry s listed kept count (Copy None) made Done f is (step_op s.banks (Copy None)) (step laws own beg m entry s listed kept count made Done f is changes) (q' laws own beg m entry s listed kept count made Done f is changes) (page' laws own beg m entry s listed kept count made Done f is changes) (op_is laws own beg m entry s listed kept count made Done f is changes) (size' laws own beg m entry s listed kept count made Done f is changes) (inside' laws own beg m entry s listed kept count made Done f is changes) (log0 laws own beg m entry s listed kept count made Done f is changes) (phase0 laws own beg m entry s listed kept count made Done f is changes) (not_gate' laws own beg m entry s listed kept count made Done f is changes))
-    (next laws own beg m entry s listed kept count made Done f is changes) s.banks.log.flags (after_step (log_k laws own beg m entry s listed kept count made Done f is) Done)
-    (λ i. after_answer (sym (made_is laws own beg m entry s listed kept count made Done f is changes) i) (Copy None) Done)
+pub marks_go_on : MarksGoOn
+marks_go_on m entry s listed kept count made f is changes =
+    done_by m entry s listed kept count (Copy None) made f is tt (step_op s.banks (Copy None)) (step m entry s listed kept count made Done f is changes)
+    (torn m entry s listed kept count (Copy None) made Done f is (step_op s.banks (Copy None)) (step m entry s listed kept count made Done f is changes) (q' m entry s listed kept count made Done f is changes) (page' m entry s listed kept count made Done f is changes) (op_is m entry s listed kept count made Done f is changes) (size' m entry s listed kept count made Done f is changes) (inside' m entry s listed kept count made Done f is changes) (log0 m entry s listed kept count made Done f is changes) (phase0 m entry s listed kept count made Done f is changes) (not_gate' m entry s listed kept count made Done f is changes))
+    (cutting m entry s listed kept count (Copy None) made Done f is (step_op s.banks (Copy None)) (step m entry s listed kept count made Done f is changes) (q' m entry s listed kept count made Done f is changes) (page' m entry s listed kept count made Done f is changes) (op_is m entry s listed kept count made Done f is changes) (size' m entry s listed kept count made Done f is changes) (inside' m entry s listed kept count made Done f is changes) (log0 m entry s listed kept count made Done f is changes) (phase0 m entry s listed kept count made Done f is changes) (not_gate' m entry s listed kept count made Done f is changes))
+    (next m entry s listed kept count made Done f is changes) s.banks.log.flags (after_step (log_k m entry s listed kept count made Done f is) Done)
+    (λ i. after_answer (sym (made_is m entry s listed kept count made Done f is changes) i) (Copy None) Done)
     (record { takes = λ more. refl; nearer = λ some'. absurd (omega arith) })
-    (λ old new shows leaves left. record { kept_all = kept_then laws own beg m entry s listed kept count made Done f is changes old new shows leaves left; copying = copying_then laws own beg m entry s listed kept count made Done f is changes old new shows leaves })
+    (λ old new shows leaves left. record { kept_all = kept_then m entry s listed kept count made Done f is changes old new shows leaves left; copying = copying_then m entry s listed kept count made Done f is changes old new shows leaves })

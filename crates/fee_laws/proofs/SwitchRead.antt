@@ -16,11 +16,11 @@ use Rattle.fee_switch_laws.specs.KeepsRoom.{KeepsRoom}
 use Rattle.promise_device.specs.Making.{Making, banks_of}
 use Rattle.fee_told.specs.SlotLaws.{IsHeld}
 use Rattle.fee_told.specs.Kept.{IsKept}
+use Rattle.fee_told.proofs.Kept.{same_places}
+use Rattle.fee_told.proofs.Making.{runs_stay}
+use Rattle.fee_told.proofs.Whole.{kept_is_told}
 use Rattle.fee_laws.specs.Copied.{IsCopying}
 use Rattle.fee_laws.specs.Inside.{Parts, memory_of, flags_in, ShowsCopies, stand_of}
-use Rattle.fee_laws.proofs.TurnLaws.{Laws}
-use Rattle.fee_laws.proofs.SwitchLaws.{SwitchLaws}
-use Rattle.fee_laws.proofs.Places.{same_places}
 use Rattle.fee_laws.proofs.Before.{shape, lengths, legal}
 use Rattle.fee_image.specs.Found.{fits}
 use Rattle.fee_laws.proofs.Before.{power}
@@ -42,13 +42,12 @@ use Rattle.fee_told.specs.Device.{tells}
 use Rattle.fee_told.specs.Whole.{AreStarted}
 use Rattle.fee_laws.specs.Inside.{HoldsBehind, TellsCopies, IsSound}
 use Rattle.fls_jobs.specs.declared.answer.FlsResult.{FlsResult}
-use Rattle.fee_laws.proofs.TurnLaws.{ReadLaws}
 use Rattle.fee_laws.proofs.Before.{some, each_told, each_now, now_at}
 use Rattle.fee_laws.proofs.Order.{behind_finds, in_order}
 use Rattle.fee_laws.proofs.Switching.{may_in}
 
 -- A STEP WITHOUT A CHANGING OPERATION
-module _ (laws : Laws) (own : SwitchLaws) (rd : ReadLaws) (m : Making) (entry : Told) (s : Parts) (listed : List (DeviceNumber × ℕ)) (kept count : ℕ) (c : Course) (course_is : s.banks.course ≡ Some c) (on : IsOn m entry s listed kept count) (idle : work_in s.banks.log.tail ≡ None) (flash_faults : ℕ) (fls_result : FlsResult) (faults : ℕ) (more : s.fls.flash.faults ≤ flash_faults) (counted : (faults ≡ s.faults) ⊎ ((faults ≡ next_count s.faults) × Rose s.fls.flash.faults flash_faults))
+module _ (m : Making) (entry : Told) (s : Parts) (listed : List (DeviceNumber × ℕ)) (kept count : ℕ) (c : Course) (course_is : s.banks.course ≡ Some c) (on : IsOn m entry s listed kept count) (idle : work_in s.banks.log.tail ≡ None) (flash_faults : ℕ) (fls_result : FlsResult) (faults : ℕ) (more : s.fls.flash.faults ≤ flash_faults) (counted : (faults ≡ s.faults) ⊎ ((faults ≡ next_count s.faults) × Rose s.fls.flash.faults flash_faults))
     (b : BanksState) (c' : Course) (at' : b.course ≡ Some c') (job : Option FeeJob) (last : JobResult) (given : ℕ) where
   abbrev pub f : FlsState
   f = record s.fls { flash = record s.fls.flash { faults = flash_faults }; result = fls_result }
@@ -88,7 +87,7 @@ module _ (laws : Laws) (own : SwitchLaws) (rd : ReadLaws) (m : Making) (entry : 
   few_counted own own' few (inr (is', rose)) = omega arith
 
   run_read : HasRun e
-  run_read = rd.run d e on.sound.device.run (record { none = none; bytes = refl; counts = (refl, refl); flash_faults = more; faults = faults_counted s.fls.flash.faults flash_faults s.faults faults entry.faults more counted on.sound.device.run.faults; cuts = on.sound.device.run.cuts; worn = λ since worn. inl worn })
+  run_read = runs_stay d e on.sound.device.run (record { none = none; bytes = refl; counts = (refl, refl); flash_faults = more; faults = faults_counted s.fls.flash.faults flash_faults s.faults faults entry.faults more counted on.sound.device.run.faults; cuts = on.sound.device.run.cuts; worn = λ since worn. inl worn })
 
   -- what the bytes hold then
   abbrev pub Reading : Type 0
@@ -108,7 +107,7 @@ module _ (laws : Laws) (own : SwitchLaws) (rd : ReadLaws) (m : Making) (entry : 
       banks = record {
         started = on.started;
         alike = run_read.alike;
-        legal = legal m entry s listed kept count on laws.legal;
+        legal = legal m entry s listed kept count on;
         some = some m entry s listed kept count on;
         held = λ told. each_told s.fls.flash.bytes (λ (x : List ℕ). IsHeld l m.numbers x (memory_of t) may) (λ old at.
             subst (λ (x : May). IsHeld l m.numbers old (memory_of t) x) (sym (may_is old at)) (reading old at (shows_now old at told)).0.held);
@@ -126,7 +125,7 @@ module _ (laws : Laws) (own : SwitchLaws) (rd : ReadLaws) (m : Making) (entry : 
     same_bytes old new a b' = cc (a, b')
 
     pub keeping : KeepsAll (told_of d) (told_of e)
-    keeping = laws.kept d e may started' (λ old new told.
+    keeping = kept_is_told d e may started' (λ old new told.
         subst (λ (x : List ℕ). IsKept l m.numbers old x (memory_of s) (memory_of t) may) (same_bytes old new told.1 told.2)
         (subst (λ (x : May). IsKept l m.numbers old old (memory_of s) (memory_of t) x) (sym (may_is old told.1)) (reading old told.1 (shows_now old told.1 told.0)).0))
 
@@ -164,7 +163,7 @@ module _ (laws : Laws) (own : SwitchLaws) (rd : ReadLaws) (m : Making) (entry : 
           device = record {
             run = run_read;
             held = λ started''. behind_read;
-            order = in_order laws m entry t (shape m entry s listed kept count on) (lengths m entry s listed kept count on) x.work (behind_finds laws.finds laws.places e on.started behind_read);
+            order = in_order m entry t (shape m entry s listed kept count on) (lengths m entry s listed kept count on) x.work (behind_finds e on.started behind_read);
             faults = few_counted s.faults faults on.sound.device.faults counted;
           };
           rests = λ stopped. (let h = on.started in absurd (cc (h, stopped)));

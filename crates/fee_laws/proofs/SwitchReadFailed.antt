@@ -1,14 +1,13 @@
 -- The turn in which it wasn't read.
-use Rattle.std.specs.Prelude.{IfSome, ◌&&◌, take}
-use Rattle.std.proofs.Common.{◌≡◌, ◌≢◌, inl, inr, ◌≤◌, ℕ, Bool, true, false, List, [], Option, Some, None, refl, sym, ◌∙◌, subst}
+use Rattle.std.specs.Prelude.{IfSome, ◌&&◌}
+use Rattle.std.proofs.Common.{◌≡◌, ◌≢◌, inl, inr, ◌≤◌, ℕ, Bool, true, false, List, Option, Some, None, refl, sym, ◌∙◌, subst}
 use Rattle.nv_base.specs.Count.{next_count}
 use Rattle.nv_base.specs.declared.instance.DeviceNumber.{DeviceNumber}
 use Rattle.memif.specs.declared.answer.DeviceTurn.TheVariants as turn
 use Rattle.memif.specs.declared.answer.JobResult.{JobResult}
-use Rattle.memif.specs.declared.answer.JobResult.TheVariants.{JobFailed}
 use Rattle.memif.specs.Told.{First, Stand, is_open}
 use Rattle.memif.specs.Marks.{KeepsAll}
-use Rattle.memif.specs.Calls.{Works, IsOf, JobTurns, is_read}
+use Rattle.memif.specs.Calls.{Works}
 use Rattle.fls_model.specs.Told.{Told}
 use Rattle.fee_log.specs.Log.{LogState, work_in}
 use Rattle.fee_course.specs.declared.course.Course.{Course}
@@ -20,29 +19,24 @@ use Rattle.fee_switch_laws.specs.Shown.{phase_shown}
 use Rattle.promise_device.specs.Making.{Making}
 use Rattle.fee_told.specs.Device.{Device, told_of, is_switching}
 use Rattle.fee_told.specs.Clock.{clock_of}
+use Rattle.fee_told.proofs.Clocks.{clocks_pass}
+use Rattle.fee_told.proofs.Parts.{parts_read}
 use Rattle.fee_laws.specs.declared.job.FeeJob.{FeeJob}
-use Rattle.fee_laws.specs.Inside.{Parts, body_of, device_of, mark_of, stand_of, fixed_in, IsActiveOf, IsAtWork, HasSwitch}
+use Rattle.fee_laws.specs.Inside.{Parts, body_of, device_of, stand_of, IsActiveOf, IsAtWork, HasSwitch}
 use Rattle.fee_laws.specs.Record.{IsInWork}
 use Rattle.fee_laws.specs.Turn.{Turned}
 use Rattle.fee_laws.specs.Switches.{IsBehind}
-use Rattle.fee_laws.proofs.TurnLaws.{Laws}
-use Rattle.fee_laws.proofs.SwitchLaws.{SwitchLaws}
 use Rattle.fee_laws.proofs.Before.{power}
-use Rattle.fee_laws.proofs.Order.{first_of}
-use Rattle.fee_laws.proofs.SwitchFigures.{IsShaped, work_none, has_mark}
+use Rattle.fee_laws.proofs.SwitchFigures.{IsShaped, work_none}
 use Rattle.nv_base.specs.Count.{Rose}
-use Rattle.nv_base.specs.declared.job.DeviceOp.{DeviceOp}
-use Rattle.nv_base.specs.declared.job.DeviceOp.TheVariants.{Write, Invalidate, Erase}
-use Rattle.memif.specs.Calls.{EndsAs}
 use Rattle.fee_laws.proofs.Operation.{rose_next}
-use Rattle.fee_laws.proofs.SwitchOn.{nothing_by, switching_by, each_job}
+use Rattle.fee_laws.proofs.SwitchNearer.{nothing_by, switching_by, each_job, is_of_first, no_read}
 use Rattle.fls_jobs.specs.declared.answer.FlsResult.{FlsResult}
 use Rattle.fee_laws.specs.Turn.{IsOn}
-use Rattle.fee_laws.proofs.TurnLaws.{ReadLaws}
-use Rattle.fee_laws.proofs.SwitchFailed.{last_by, given_by, last_ends, given_few}
+use Rattle.fee_laws.proofs.SwitchFailed.{last_by, given_by, last_ends, given_few, turns_fail}
 use Rattle.fee_laws.proofs.SwitchRead.{Reading, Behind, sound_then, keeping as kept_read}
 
-module _ (laws : Laws) (own : SwitchLaws) (rd : ReadLaws) (m : Making) (entry : Told) (s : Parts) (listed : List (DeviceNumber × ℕ)) (kept count : ℕ) (c : Course) (course_is : s.banks.course ≡ Some c) (on : IsOn m entry s listed kept count) (idle : work_in s.banks.log.tail ≡ None) (behind_is : IfSome s.job (IsBehind s.banks)) (flash_faults : ℕ) (fls_result : FlsResult) (more : s.fls.flash.faults ≤ flash_faults) (rose_flash : Rose s.fls.flash.faults flash_faults) (c' : Course) (flags : List Bool) (log : LogState) (buffer : List ℕ) where
+module _ (m : Making) (entry : Told) (s : Parts) (listed : List (DeviceNumber × ℕ)) (kept count : ℕ) (c : Course) (course_is : s.banks.course ≡ Some c) (on : IsOn m entry s listed kept count) (idle : work_in s.banks.log.tail ≡ None) (behind_is : IfSome s.job (IsBehind s.banks)) (flash_faults : ℕ) (fls_result : FlsResult) (more : s.fls.flash.faults ≤ flash_faults) (rose_flash : Rose s.fls.flash.faults flash_faults) (c' : Course) (flags : List Bool) (log : LogState) (buffer : List ℕ) where
   abbrev pub b : BanksState
   b = record s.banks { course = Some c'; log = record s.banks.log { flags = flags }; copies = log; buffer = buffer }
 
@@ -65,7 +59,7 @@ module _ (laws : Laws) (own : SwitchLaws) (rd : ReadLaws) (m : Making) (entry : 
   pub record Falls : Type 0 where
     pub room : KeepsRoom m.reserve b
     pub active : IsActiveOf b b.active
-    pub reading : Reading laws own rd m entry s listed kept count c course_is on idle flash_faults fls_result (next_count s.faults) more (inr (refl, rose_flash)) b c' refl None last given
+    pub reading : Reading m entry s listed kept count c course_is on idle flash_faults fls_result (next_count s.faults) more (inr (refl, rose_flash)) b c' refl None last given
 
   module _ (falls : Falls) where
     switch_then : HasSwitch b b.course
@@ -83,18 +77,18 @@ module _ (laws : Laws) (own : SwitchLaws) (rd : ReadLaws) (m : Making) (entry : 
     shape : IsShaped m b
     shape = record { geometry = on.sound.made_for.banks_geometry; shared = on.sound.made_for.shared; numbers = on.sound.made_for.numbers }
 
-    facts : Behind laws own rd m entry s listed kept count c course_is on idle flash_faults fls_result (next_count s.faults) more (inr (refl, rose_flash)) b c' refl None last given falls.reading
+    facts : Behind m entry s listed kept count c course_is on idle flash_faults fls_result (next_count s.faults) more (inr (refl, rose_flash)) b c' refl None last given falls.reading
     facts = record {
       same = record { geometry = refl; banks = refl; numbers = refl };
       ended = last_ends s.job s.last on.sound.made_for.ended;
       given_few = given_few s.job s.given on.sound.made_for.given;
-      work = work_none own.few m s.content b None last given c' shape refl idle switch_then tt tt;
+      work = work_none m s.content b None last given c' shape refl idle switch_then tt tt;
       at_work = at_work_then;
       room = falls.room;
     }
 
     keeping : KeepsAll (told_of d) (told_of e)
-    keeping = kept_read laws own rd m entry s listed kept count c course_is on idle flash_faults fls_result (next_count s.faults) more (inr (refl, rose_flash)) b c' refl None last given falls.reading
+    keeping = kept_read m entry s listed kept count c course_is on idle flash_faults fls_result (next_count s.faults) more (inr (refl, rose_flash)) b c' refl None last given falls.reading
 
     rose : Rose (told_of d).first.faults (told_of e).first.faults
     rose = rose_next s.faults on.sound.device.faults
@@ -103,38 +97,17 @@ module _ (laws : Laws) (own : SwitchLaws) (rd : ReadLaws) (m : Making) (entry : 
     abbrev at : Option FeeJob → Stand
     at o = stand_of s.content o s.last s.given
 
-    abbrev behind_it : Option FeeJob → Stand
-    behind_it o = stand_of s.content None (last_by o s.last) (given_by o s.given)
-
     writes : IfSome s.job (λ j. j.op ≢ Read)
     writes = each_job (IsBehind s.banks) (λ j. j.op ≢ Read) s.job (λ j x. x.0) behind_is
-
-    of_by : (o : Option FeeJob) → IsOf First (fixed_in m) (at o)
-    of_by None = tt
-    of_by (Some j) = (tt, sym (first_of m j.number.0))
-
-    fails_as : (j : DeviceOp) (content : List ℕ) (number : ℕ) → j ≢ Read → KeepsAll (told_of d) (told_of e) → EndsAs (mark_of j content) number JobFailed [] (told_of d) (told_of e)
-    fails_as Read content number writes' keeps' = absurd (writes' refl)
-    fails_as Write content number writes' keeps' = (keeps', refl)
-    fails_as Invalidate content number writes' keeps' = (keeps', refl)
-    fails_as Erase content number writes' keeps' = (keeps', refl)
-
-    turns_by : (o : Option FeeJob) → IfSome o (λ j. j.op ≢ Read) → JobTurns First (at o) (behind_it o) (told_of d) (told_of e) (clock_of e)
-    turns_by None w' = (refl, keeping)
-    turns_by (Some j) w' = (fails_as j.op (take j.length s.content) j.number.0 w' keeping, λ failed. inl rose)
-
-    no_read : (o : Option FeeJob) → IfSome o (λ j. j.op ≢ Read) → is_read (at o) ≡ false
-    no_read None w' = refl
-    no_read (Some j) w' = has_mark j.op (take j.length s.content) w'
 
     works : Works First (told_of d) (told_of e) (clock_of e)
     works = record {
       only = refl;
       up = on.started;
-      of = of_by s.job;
-      part = rd.read d e (record { flash = refl; operations = refl; more = more; faults = inr (refl, rose_flash); small = on.sound.device.faults }) (power m entry s listed kept count on);
-      job = turns_by s.job writes;
-      read = λ read. (let none = no_read s.job writes in absurd (let z : true ≡ false = sym read ∙ none in cc z));
+      of = is_of_first m s.content s.job s.last s.given;
+      part = parts_read d e (record { flash = refl; operations = refl; more = more; faults = inr (refl, rose_flash); small = on.sound.device.faults }) (power m entry s listed kept count on);
+      job = turns_fail s.content s.job s.last s.given (told_of d) (told_of e) (clock_of e) writes keeping rose;
+      read = λ read. (let none = no_read s.content s.job s.last s.given writes in absurd (let z : true ≡ false = sym read ∙ none in cc z));
       nearer = inr rose;
       ready = λ calm. absurd (calm.faults rose);
     }
@@ -146,6 +119,6 @@ module _ (laws : Laws) (own : SwitchLaws) (rd : ReadLaws) (m : Making) (entry : 
 
     pub failed_read : Turned m entry turn.Worked s t listed kept count false
     failed_read = record {
-      turns = ((nothing_by (is_open (at s.job)) (told_of d).switching switching, (First, works, rd.pass turn.Worked d e (record { making = refl; entry = refl; operations = refl; bytes = refl }) (inl refl))), (sound_then laws own rd m entry s listed kept count c course_is on idle flash_faults fls_result (next_count s.faults) more (inr (refl, rose_flash)) b c' refl None last given falls.reading facts).device.order);
-      sound = sound_then laws own rd m entry s listed kept count c course_is on idle flash_faults fls_result (next_count s.faults) more (inr (refl, rose_flash)) b c' refl None last given falls.reading facts;
+      turns = ((nothing_by (is_open (at s.job)) (told_of d).switching switching, (First, works, clocks_pass turn.Worked d e (record { making = refl; entry = refl; operations = refl; bytes = refl }) (inl refl))), (sound_then m entry s listed kept count c course_is on idle flash_faults fls_result (next_count s.faults) more (inr (refl, rose_flash)) b c' refl None last given falls.reading facts).device.order);
+      sound = sound_then m entry s listed kept count c course_is on idle flash_faults fls_result (next_count s.faults) more (inr (refl, rose_flash)) b c' refl None last given falls.reading facts;
     }

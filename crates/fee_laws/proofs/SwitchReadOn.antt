@@ -1,44 +1,37 @@
 -- The turn in which it was read.
-use Rattle.std.specs.Prelude.{IfSome, ◌&&◌, nat_le, take, if◌then◌else◌}
-use Rattle.std.proofs.Common.{◌≡◌, ◌≢◌, inl, inr, ◌≤◌, ◌<◌, ◌+◌, ℕ, Bool, true, false, List, Option, Some, None, refl, sym, ap, ◌∙◌, subst, arith}
-use Rattle.std.proofs.lemmas.Bool.{cases_lt}
+use Rattle.std.specs.Prelude.{IfSome, ◌&&◌}
+use Rattle.std.proofs.Common.{◌≡◌, inl, ◌≤◌, ◌<◌, ℕ, Bool, true, false, List, Option, Some, None, refl, sym, ◌∙◌, subst, arith}
 use Rattle.nv_base.specs.declared.instance.DeviceNumber.{DeviceNumber}
 use Rattle.memif.specs.declared.answer.DeviceTurn.TheVariants as turn
-use Rattle.memif.specs.declared.answer.JobResult.TheVariants.{JobFailed}
-use Rattle.memif.specs.Told.{First, Job, Stand, Ended, is_open}
+use Rattle.memif.specs.Told.{First, Stand, is_open}
 use Rattle.memif.specs.Marks.{KeepsAll}
-use Rattle.memif.specs.Calls.{Works, IsOf, JobTurns, Nearer, TurnsReady, is_read, urgent_first}
+use Rattle.memif.specs.Calls.{Works, Nearer, TurnsReady, urgent_first}
 use Rattle.fls_model.specs.Told.{Told}
 use Rattle.fee_log.specs.Log.{LogState, work_in}
 use Rattle.fee_course.specs.declared.course.Course.{Course}
 use Rattle.fee_switch.specs.Banks.{BanksState, left_of}
 use Rattle.fee_format.specs.declared.rec_head.RecHead.{RecHead}
-use Rattle.nv_base.specs.declared.job.DeviceOp.TheVariants.{Read}
 use Rattle.fee_switch_laws.specs.KeepsRoom.{KeepsRoom}
 use Rattle.fee_switch_laws.specs.Shown.{phase_shown}
 use Rattle.promise_device.specs.Making.{Making}
 use Rattle.fee_told.specs.Device.{Device, told_of, is_switching}
 use Rattle.fee_told.specs.Clock.{clock_of}
-use Rattle.fee_told.specs.Figures.{Work, Waits, wait_of}
+use Rattle.fee_told.proofs.Clocks.{clocks_pass}
+use Rattle.fee_told.proofs.Parts.{parts_read}
 use Rattle.fee_laws.specs.declared.job.FeeJob.{FeeJob}
-use Rattle.fee_laws.specs.Inside.{Parts, body_of, device_of, mark_of, stand_of, fixed_in, IsActiveOf, IsAtWork, HasSwitch}
-use Rattle.fee_laws.specs.Record.{IsInWork, IsReady}
-use Rattle.fee_laws.specs.Work.{work_of, waits_of, pages_free, begins_next, takes_append, seal_turns, switch_turns}
+use Rattle.fee_laws.specs.Inside.{Parts, body_of, device_of, stand_of, fixed_in, IsActiveOf, IsAtWork, HasSwitch}
+use Rattle.fee_laws.specs.Record.{IsInWork}
 use Rattle.fee_laws.specs.Turn.{Turned}
 use Rattle.fee_laws.specs.Switches.{IsBehind}
-use Rattle.fee_laws.proofs.TurnLaws.{Laws}
-use Rattle.fee_laws.proofs.SwitchLaws.{SwitchLaws}
 use Rattle.fee_laws.proofs.Before.{power}
-use Rattle.fee_laws.proofs.Order.{first_of, urgent_is}
-use Rattle.fee_laws.proofs.SwitchFigures.{NoneBegins, IsShaped, still_behind, free_none, switch_none, work_none, has_mark, left_falls}
-use Rattle.fee_laws.proofs.Switching.{keeps}
+use Rattle.fee_laws.proofs.SwitchFigures.{IsShaped, work_none}
 use Rattle.fls_jobs.specs.declared.answer.FlsResult.{FlsResult}
 use Rattle.fee_laws.specs.Turn.{IsOn}
-use Rattle.fee_laws.proofs.TurnLaws.{ReadLaws}
-use Rattle.fee_laws.proofs.SwitchOn.{if_else, nothing_by, switching_by, each_job, both_jobs, le_true, not_sealed, before_by, Seals}
+use Rattle.fee_laws.proofs.SwitchNearer.{nothing_by, switching_by, Seals, IsNearer, is_nearer, is_of_first, no_read, turns_keep}
 use Rattle.fee_laws.proofs.SwitchRead.{Reading, Behind, sound_then, keeping as kept_read}
+use Rattle.fee_laws.proofs.GoneOn.{if_else}
 
-module _ (laws : Laws) (own : SwitchLaws) (rd : ReadLaws) (m : Making) (entry : Told) (s : Parts) (listed : List (DeviceNumber × ℕ)) (kept count : ℕ) (c : Course) (course_is : s.banks.course ≡ Some c) (on : IsOn m entry s listed kept count) (idle : work_in s.banks.log.tail ≡ None) (behind_is : IfSome s.job (IsBehind s.banks)) (fls_result : FlsResult) (c' : Course) (flags : List Bool) (log : LogState) (buffer : List ℕ) where
+module _ (m : Making) (entry : Told) (s : Parts) (listed : List (DeviceNumber × ℕ)) (kept count : ℕ) (c : Course) (course_is : s.banks.course ≡ Some c) (on : IsOn m entry s listed kept count) (idle : work_in s.banks.log.tail ≡ None) (behind_is : IfSome s.job (IsBehind s.banks)) (fls_result : FlsResult) (c' : Course) (flags : List Bool) (log : LogState) (buffer : List ℕ) where
   abbrev pub b : BanksState
   b = record s.banks { course = Some c'; log = record s.banks.log { flags = flags }; copies = log; buffer = buffer }
 
@@ -57,146 +50,61 @@ module _ (laws : Laws) (own : SwitchLaws) (rd : ReadLaws) (m : Making) (entry : 
     pub room : KeepsRoom m.reserve b
     pub lower : left_of b < left_of s.banks
     pub active : IsActiveOf b b.active
-    pub reading : Reading laws own rd m entry s listed kept count c course_is on idle s.fls.flash.faults fls_result s.faults (omega arith) (inl refl) b c' refl s.job s.last s.given
+    pub reading : Reading m entry s listed kept count c course_is on idle s.fls.flash.faults fls_result s.faults (omega arith) (inl refl) b c' refl s.job s.last s.given
 
   module _ (goes : Goes) where
     was_at_work : IsAtWork m s
     was_at_work = on.sound.works on.started
 
-    takes_on : takes_append (Some c') ≡ true → takes_append s.banks.course ≡ true
-    takes_on more = ap takes_append course_is ∙ goes.seals.takes more
-
-    none_before : NoneBegins s.banks s.job
-    none_before = each_job (IsBehind s.banks) (λ j. begins_next s.banks j ≡ false) s.job (λ j x. x.1) behind_is
-
-    none_then : NoneBegins b s.job
-    none_then = each_job (IsBehind s.banks) (λ j. begins_next b j ≡ false) s.job (λ j x. still_behind s.banks c' flags log j takes_on x.1) behind_is
-
-    writes : IfSome s.job (λ j. j.op ≢ Read)
-    writes = each_job (IsBehind s.banks) (λ j. j.op ≢ Read) s.job (λ j x. x.0) behind_is
+    near : IsNearer m s c c' flags log buffer course_is idle behind_is was_at_work.ready goes.seals
+    near = is_nearer m s c c' flags log buffer course_is idle behind_is was_at_work.ready goes.seals goes.lower
 
     switch_then : HasSwitch b b.course
     switch_then = (goes.room.switch.worn, goes.room.switch.going)
-
-    ready_by : (j : FeeJob) → IsReady s.banks j → begins_next s.banks j ≡ false → IsReady b j
-    ready_by j was none promised idle = elim (was promised idle) [
-      | inl begins ↦ absurd (let x : true ≡ false = sym begins ∙ none in cc x)
-      | inr seal ↦ inr (goes.seals.nearer (subst (λ (o : Option Course). 1 ≤ seal_turns o) course_is seal)).1
-    ]
 
     at_work_then : IsAtWork m t
     at_work_then = record {
       active = goes.active;
       job = was_at_work.job;
       work = subst (λ (o : Option RecHead). IfSome o (IsInWork b s.job)) (sym idle) tt;
-      ready = both_jobs (IsReady s.banks) (λ j. begins_next s.banks j ≡ false) (IsReady b) s.job ready_by was_at_work.ready none_before;
+      ready = near.ready;
       switch = switch_then;
     }
 
     shape : IsShaped m b
     shape = record { geometry = on.sound.made_for.banks_geometry; shared = on.sound.made_for.shared; numbers = on.sound.made_for.numbers }
 
-    facts : Behind laws own rd m entry s listed kept count c course_is on idle s.fls.flash.faults fls_result s.faults (omega arith) (inl refl) b c' refl s.job s.last s.given goes.reading
+    facts : Behind m entry s listed kept count c course_is on idle s.fls.flash.faults fls_result s.faults (omega arith) (inl refl) b c' refl s.job s.last s.given goes.reading
     facts = record {
       same = record { geometry = refl; banks = refl; numbers = refl };
       ended = on.sound.made_for.ended;
       given_few = on.sound.made_for.given;
-      work = work_none own.few m s.content b s.job s.last s.given c' shape refl idle switch_then none_then was_at_work.job;
+      work = work_none m s.content b s.job s.last s.given c' shape refl idle switch_then near.none was_at_work.job;
       at_work = at_work_then;
       room = goes.room;
     }
 
     keeping : KeepsAll (told_of d) (told_of e)
-    keeping = kept_read laws own rd m entry s listed kept count c course_is on idle s.fls.flash.faults fls_result s.faults (omega arith) (inl refl) b c' refl s.job s.last s.given goes.reading
+    keeping = kept_read m entry s listed kept count c course_is on idle s.fls.flash.faults fls_result s.faults (omega arith) (inl refl) b c' refl s.job s.last s.given goes.reading
 
     -- THE TURN
     abbrev at : Option FeeJob → Stand
     at o = stand_of s.content o s.last s.given
 
-    abbrev w : Work
-    w = work_of m.reserve s.banks s.job
-
-    abbrev v : Work
-    v = work_of m.reserve b s.job
-
-    switch_was : w.switch ≡ left_of s.banks
-    switch_was = ap (switch_turns m.reserve s.banks s.job) course_is ∙ switch_none m.reserve s.banks s.job c none_before
-
-    switch_now : v.switch ≡ left_of b
-    switch_now = switch_none m.reserve b s.job c' none_then
-
-    falls : (told_of e).left < (told_of d).left
-    falls = left_falls laws.lower s.content s.job s.last s.given w v writes refl refl (let low = goes.lower in omega (arith, switch_was, switch_now, low))
-
-    free_same : pages_free b s.job ≡ pages_free s.banks s.job
-    free_same = free_none b s.job none_then ∙ sym (free_none s.banks s.job none_before)
-
-    abbrev n : ℕ
-    n = seal_turns s.banks.course
-
-    seals_then : 1 ≤ n → (seal_turns (Some c') < n) × (1 ≤ seal_turns (Some c'))
-    seals_then some =
-        subst (λ (o : Option Course). 1 ≤ seal_turns o → (seal_turns (Some c') < seal_turns o) × (1 ≤ seal_turns (Some c'))) (sym course_is) goes.seals.nearer some
-
-    ready_on : (told_of d).ready ≤ (told_of e).ready
-    ready_on = own.ready m.reserve (pages_free s.banks s.job) (pages_free b s.job) (nat_le 1 n) (nat_le 1 (seal_turns (Some c')))
-        (elim (cases_lt 0 n) [
-          | inl some ↦ inl (le_true (seal_turns (Some c')) (seals_then (omega arith)).1)
-          | inr none ↦ inr (inl ((let same = free_same in omega (arith, same)), not_sealed n (λ some. absurd (omega arith))))
-        ])
-
-    abbrev waits : Option FeeJob → Waits
-    waits o = waits_of s.banks o
-
-    abbrev waits' : Option FeeJob → Waits
-    waits' o = waits_of b o
-
-    -- an urgent write that is promised waits for the seal
-    near_by : (j : FeeJob) → IsReady s.banks j → begins_next s.banks j ≡ false → j.urgent ≡ true → (x : ℕ) → wait_of (waits (Some j)) ≡ Some x → (y : ℕ) × (wait_of (waits' (Some j)) ≡ Some y) × (y < x)
-    near_by j was none urgent x wait = by_promise j.promised refl
-      where
-        by_promise : (p : Bool) → j.promised ≡ p → (y : ℕ) × (wait_of (waits' (Some j)) ≡ Some y) × (y < x)
-        by_promise true e =
-            let seal : 1 ≤ n = elim (was e idle) [ inl begins ↦ absurd (let z : true ≡ false = sym begins ∙ none in cc z) | inr some ↦ some ] in
-            let after = seals_then seal in
-            let one = before_by s.banks.log.tail n seal in
-            let two = before_by s.banks.log.tail (seal_turns (Some c')) after.1 in
-            laws.nears (waits (Some j)) (waits' (Some j)) x urgent urgent refl (omega (arith, one, two, after.0)) wait
-        by_promise false e = (let z : wait_of (waits (Some j)) ≡ None = (λ i. if urgent i then (if e i then Some ((waits (Some j)).before + (waits (Some j)).pages) else None) else Some (waits (Some j)).before) in absurd (let y = sym z ∙ wait in cc y))
-
-    urgent_by : (o : Option FeeJob) → IfSome o (IsReady s.banks) → IfSome o (λ j. begins_next s.banks j ≡ false) → urgent_first (fixed_in m) (at o) ≡ true
-        → (x : ℕ) → wait_of (waits o) ≡ Some x → ((y : ℕ) × (wait_of (waits' o) ≡ Some y) × (y < x)) × ((given : List ℕ) → at o ≢ Ended JobFailed given)
-    urgent_by None was none urgent x wait = cc urgent
-    urgent_by (Some j) was none urgent x wait =
-        let j' : Job = record { number = j.number.0; mark = mark_of j.op (take j.length s.content); urgent = j.urgent } in
-        (near_by j was none (sym (urgent_is m j') ∙ urgent) x wait, λ given same. cc same)
-
     readies : TurnsReady (told_of d) (told_of e)
     readies calm = if_else (urgent_first (fixed_in m) (at s.job)) (Nearer (told_of d) (told_of e)) ((told_of d).ready ≤ (told_of e).ready)
-        (λ urgent x wait. (let near = urgent_by s.job was_at_work.ready none_before urgent x wait in (ready_on, near.0, near.1)))
-        (λ calm'. ready_on)
-
-    of_by : (o : Option FeeJob) → IsOf First (fixed_in m) (at o)
-    of_by None = tt
-    of_by (Some j) = (tt, sym (first_of m j.number.0))
-
-    turns_by : (o : Option FeeJob) → KeepsAll (told_of d) (told_of e) → (told_of e).left < (told_of d).left → JobTurns First (at o) (at o) (told_of d) (told_of e) (clock_of e)
-    turns_by None keeps less = (refl, keeps)
-    turns_by (Some j) keeps less = (refl, keeps, less)
-
-    no_read : (o : Option FeeJob) → IfSome o (λ j. j.op ≢ Read) → is_read (at o) ≡ false
-    no_read None w' = refl
-    no_read (Some j) w' = has_mark j.op (take j.length s.content) w'
+        (λ urgent x wait. (let it = near.urgent urgent x wait in (near.stays, it.0, it.1)))
+        (λ calm'. near.stays)
 
     works : Works First (told_of d) (told_of e) (clock_of e)
     works = record {
       only = refl;
       up = on.started;
-      of = of_by s.job;
-      part = rd.read d e (record { flash = refl; operations = refl; more = omega arith; faults = inl refl; small = on.sound.device.faults }) (power m entry s listed kept count on);
-      job = turns_by s.job keeping falls;
-      read = λ read. (let none = no_read s.job writes in absurd (let z : true ≡ false = sym read ∙ none in cc z));
-      nearer = inl falls;
+      of = is_of_first m s.content s.job s.last s.given;
+      part = parts_read d e (record { flash = refl; operations = refl; more = omega arith; faults = inl refl; small = on.sound.device.faults }) (power m entry s listed kept count on);
+      job = turns_keep s.content s.job s.last s.given (told_of d) (told_of e) (clock_of e) keeping near.falls;
+      read = λ read. (let none = no_read s.content s.job s.last s.given near.writes in absurd (let z : true ≡ false = sym read ∙ none in cc z));
+      nearer = inl near.falls;
       ready = readies;
     }
 
@@ -207,6 +115,6 @@ module _ (laws : Laws) (own : SwitchLaws) (rd : ReadLaws) (m : Making) (entry : 
 
     pub went_read : Turned m entry turn.Worked s t listed kept count false
     went_read = record {
-      turns = ((nothing_by (is_open (at s.job)) (told_of d).switching switching, (First, works, rd.pass turn.Worked d e (record { making = refl; entry = refl; operations = refl; bytes = refl }) (inl refl))), (sound_then laws own rd m entry s listed kept count c course_is on idle s.fls.flash.faults fls_result s.faults (omega arith) (inl refl) b c' refl s.job s.last s.given goes.reading facts).device.order);
-      sound = sound_then laws own rd m entry s listed kept count c course_is on idle s.fls.flash.faults fls_result s.faults (omega arith) (inl refl) b c' refl s.job s.last s.given goes.reading facts;
+      turns = ((nothing_by (is_open (at s.job)) (told_of d).switching switching, (First, works, clocks_pass turn.Worked d e (record { making = refl; entry = refl; operations = refl; bytes = refl }) (inl refl))), (sound_then m entry s listed kept count c course_is on idle s.fls.flash.faults fls_result s.faults (omega arith) (inl refl) b c' refl s.job s.last s.given goes.reading facts).device.order);
+      sound = sound_then m entry s listed kept count c course_is on idle s.fls.flash.faults fls_result s.faults (omega arith) (inl refl) b c' refl s.job s.last s.given goes.reading facts;
     }

@@ -1,13 +1,12 @@
 -- What a step of a switch leaves of the memory.
 use Rattle.std.specs.Prelude.{IfSome, is_some}
-use Rattle.std.proofs.Common.{◌≡◌, ℕ, Bool, false, List, [], ◌∷◌, Option, Some, None, refl, ◌∙◌, subst}
+use Rattle.std.proofs.Common.{◌≡◌, ℕ, Bool, false, List, [], ◌∷◌, Option, Some, None, refl, subst}
 use Rattle.std.proofs.lemmas.Bool.{cond_both}
 use Rattle.nv_base.specs.Geometry.{sectors_of_bank}
 use Rattle.nv_base.specs.declared.geometry.Geometry.{Geometry}
 use Rattle.nv_base.specs.declared.instance.DeviceNumber.{DeviceNumber}
 use Rattle.nv_base.specs.Held.{Held}
-use Rattle.memif.specs.Told.{Slot, Stand, slot_at}
-use Rattle.memif.specs.Marks.{Keeps}
+use Rattle.memif.specs.Told.{Stand, slot_at}
 use Rattle.fls_model.specs.declared.flash.FlashAnswer.{FlashAnswer}
 use Rattle.fls_model.specs.Told.{Told}
 use Rattle.fls_jobs.specs.State.{FlsState}
@@ -15,17 +14,16 @@ use Rattle.fee_format.specs.declared.rec_head.RecHead.{RecHead}
 use Rattle.fee_image.specs.Image.{Layout}
 use Rattle.fee_image.specs.declared.place.Place.{Place}
 use Rattle.fee_image.specs.May.{May}
-use Rattle.fee_image.specs.Banks.{Copying}
 use Rattle.fee_image.specs.Copies.{Flag, Each}
 use Rattle.fee_switch.specs.declared.active.ActiveBank.{ActiveBank}
 use Rattle.fee_log.specs.Index.{clear_flags}
-use Rattle.fee_log.specs.Log.{LogState, log_of, work_in}
+use Rattle.fee_log.specs.Log.{LogState, work_in}
 use Rattle.fee_course.specs.declared.course.Course.{Course}
 use Rattle.fee_course.specs.declared.course.Course.TheVariants.{Copy, Head}
 use Rattle.fee_course.specs.Copies.{next_copy}
 use Rattle.fee_course.specs.Course.{settled, IsShort}
 use Rattle.fee_switch.specs.Banks.{BanksState}
-use Rattle.fee_switch_laws.specs.Shown.{old_shown, phase_at}
+use Rattle.fee_switch_laws.specs.Shown.{old_shown}
 use Rattle.fee_switch_laws.specs.KeepsRoom.{IsRoomy}
 use Rattle.promise_device.specs.Making.{Making, banks_of}
 use Rattle.fee_told.specs.Slots.{Memory, HasJob, slots_held}
@@ -35,14 +33,11 @@ use Rattle.fee_told.specs.SlotLaws.{IsHeld}
 use Rattle.fee_laws.specs.Copied.{flags_of, IsCopying}
 use Rattle.fee_laws.specs.Inside.{Parts, memory_of, body_of, IsActiveOf}
 use Rattle.fee_laws.specs.Switches.{IsStepping}
-use Rattle.fee_laws.proofs.TurnLaws.{Laws}
 use Rattle.fee_laws.proofs.Before.{power, lengths, legal}
-use Rattle.fee_laws.proofs.SwitchFailed.{has_none}
+use Rattle.fee_laws.proofs.Kept.{keeps_on}
+use Rattle.fee_laws.proofs.Canceling.{idle_job}
 
 -- KEPT
-keeps_on : (x y z : Slot) → Keeps x y → Keeps y z → Keeps x z
-keeps_on x y z a b = record { settled = b.settled ∙ a.settled; doubts = λ held among. a.doubts held (b.doubts held among) }
-
 -- first the one, then the other
 pub kept_both : (l : Layout) (numbers : List (DeviceNumber × ℕ)) (old mid new : List ℕ) (m t u : Memory) (first copied : May)
     → IsKept l numbers old mid m t first → IsKept l numbers mid new t u copied → IsKept l numbers old new m u copied
@@ -71,10 +66,7 @@ still_active s flags c copies (Some a) is = is
 pub settled_copying : (ns : List (DeviceNumber × ℕ)) (ps : List Place) (cs : List Bool) (work : Option RecHead) (buffer : List ℕ) (fs : List Flag) → IsCopying (settled ns ps cs) work buffer fs
 settled_copying ns ps cs work buffer fs = cond_both (is_some (next_copy ns ps cs)) (Copy None) Head (λ (c : Course). IsCopying c work buffer fs) (λ e. tt) (λ e. tt)
 
-pub settled_phase : (ns : List (DeviceNumber × ℕ)) (ps : List Place) (cs : List Bool) (b : BanksState) (body : List ℕ) → phase_at (settled ns ps cs) b body ≡ Copying (log_of b.copies body)
-settled_phase ns ps cs b body = cond_both (is_some (next_copy ns ps cs)) (Copy None) Head (λ (c : Course). phase_at c b body ≡ Copying (log_of b.copies body)) (λ e. refl) (λ e. refl)
-
-module _ (laws : Laws) (m : Making) (entry : Told) (s : Parts) (listed : List (DeviceNumber × ℕ)) (kept count : ℕ) (c : Course) (made : BanksState) (answer : FlashAnswer) (f : FlsState) (is : IsStepping m entry s listed kept count c made answer f) where
+module _ (m : Making) (entry : Told) (s : Parts) (listed : List (DeviceNumber × ℕ)) (kept count : ℕ) (c : Course) (made : BanksState) (answer : FlashAnswer) (f : FlsState) (is : IsStepping m entry s listed kept count c made answer f) where
   abbrev mem : Memory
   mem = memory_of s
 
@@ -92,7 +84,7 @@ module _ (laws : Laws) (m : Making) (entry : Told) (s : Parts) (listed : List (D
       (subst (λ (o : Option Course). IfSome o (IsShort (sectors_of_bank s.banks.geometry s.banks.banks))) is.course is.on.banks.course))
 
   pub no_job : (stand : Stand) → HasJob m.numbers stand mem.old
-  no_job stand = has_none m.numbers stand s.banks.active s.banks.log (body_of (work_in s.banks.log.tail) s.content) is.idle
+  no_job stand = idle_job m.numbers stand s.banks.active s.banks.log (body_of (work_in s.banks.log.tail) s.content) is.idle
 
   pub standing : (old : List ℕ) (copied : May) → IsHeld l m.numbers old mem copied → Stands l m.numbers old mem copied
-  standing old copied held = record { lengths = lengths m entry s listed kept count is.on; legal = legal m entry s listed kept count is.on laws.legal; held = held }
+  standing old copied held = record { lengths = lengths m entry s listed kept count is.on; legal = legal m entry s listed kept count is.on; held = held }

@@ -13,13 +13,13 @@ use Rattle.fee_image.specs.May.{IsAmong}
 use Rattle.fee_image.specs.Copies.{Flag, Each, is_done, copied_of, shown_by}
 use Rattle.fee_image.specs.Places.{held_at, is_written}
 use Rattle.fee_log.specs.Log.{LogState, IsLogState}
+use Rattle.fee_log.proofs.Within.{within_length}
 use Rattle.fee_course.specs.declared.copies.Source.{Source}
 use Rattle.fee_course.specs.Copies.{next_copy, later}
 use Rattle.fee_switch_laws.specs.Shown.{old_shown}
 use Rattle.fee_switch.specs.declared.active.ActiveBank.{ActiveBank}
 use Rattle.fee_told.specs.Slots.{held_all, settled_in, AreCopied}
 use Rattle.fee_laws.specs.Copied.{flags_of}
-use Rattle.fee_laws.proofs.Beside.{places_many}
 
 -- A COPY OF EACH IS DONE
 none_later : (o : Option Source) → option_map (later 1) o ≡ None → o ≡ None
@@ -109,11 +109,11 @@ pub are_copied : (l : Layout) (bytes : List ℕ) (a : Option ActiveBank) (log : 
     → AreCopied l log.numbers bytes (old_shown a log body) (copied_of (flags_of log.numbers log.places log.flags (settled_in l log.numbers bytes (old_shown a log body))))
 are_copied l bytes None log body is none n size m at among =
     let held = map {A = DeviceNumber × ℕ} (λ n. never_written) log.numbers in
-    settled_alone log.numbers log.places log.flags held n size m (places_many log.geometry.page log.end log.numbers log.places is.places) is.flags (none_many log.numbers)
+    settled_alone log.numbers log.places log.flags held n size m (within_length log.geometry.page log.end log.numbers log.places is.places) is.flags (none_many log.numbers)
     (all_done log.numbers log.places log.flags held none) (none_blank log.numbers log.places) at among
 are_copied l bytes (Some a) log body is none n size m at among =
     let b = bank_in l a.head.format a.bank in
     let held = held_all b bytes log.numbers log.places in
-    let many = places_many log.geometry.page log.end log.numbers log.places is.places in
+    let many = within_length log.geometry.page log.end log.numbers log.places is.places in
     settled_alone log.numbers log.places log.flags held n size m many is.flags (held_many b bytes log.numbers log.places many)
     (all_done log.numbers log.places log.flags held none) (all_blank b bytes log.numbers log.places) at among

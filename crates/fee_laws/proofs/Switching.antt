@@ -23,11 +23,11 @@ use Rattle.fee_told.specs.Clock.{change_of}
 use Rattle.fee_told.specs.Runs.{HasRun, KeepsWorn, counts_fault}
 use Rattle.fee_told.specs.Kept.{IsKept}
 use Rattle.fee_told.specs.Whole.{CutsKeep, IsKeptSo}
+use Rattle.fee_told.proofs.Whole.{kept_is_told}
 use Rattle.fee_laws.specs.declared.job.FeeJob.{FeeJob}
 use Rattle.fee_laws.specs.Copied.{IsCopying}
 use Rattle.fee_laws.specs.Inside.{Parts, device_of, memory_of, flags_in, ShowsCopies, HoldsBehind, TellsCopies}
 use Rattle.fee_laws.specs.Switches.{IsStepping}
-use Rattle.fee_laws.proofs.TurnLaws.{Laws}
 use Rattle.fee_laws.proofs.Before.{power, now_at, each_now, each_told}
 use Rattle.fee_laws.proofs.Operation.{left, before_told, run, started}
 use Rattle.fee_laws.proofs.Behind.{held_behind}
@@ -37,7 +37,7 @@ abbrev pub may_in : Making → Parts → Option (List ℕ) → May
 may_in m t None = λ number length. None
 may_in m t (Some bytes) = copied_of (flags_in m t bytes)
 
-module _ (laws : Laws) (m : Making) (entry : Told) (s : Parts) (listed : List (DeviceNumber × ℕ)) (kept count : ℕ) (c : Course) (made : BanksState) (answer : FlashAnswer) (f : FlsState) (is : IsStepping m entry s listed kept count c made answer f) (op : Op) (step : IsStep op s.fls.flash answer f.flash) where
+module _ (m : Making) (entry : Told) (s : Parts) (listed : List (DeviceNumber × ℕ)) (kept count : ℕ) (c : Course) (made : BanksState) (answer : FlashAnswer) (f : FlsState) (is : IsStepping m entry s listed kept count c made answer f) (op : Op) (step : IsStep op s.fls.flash answer f.flash) where
   abbrev pub l : Layout
   l = banks_of m
 
@@ -79,7 +79,7 @@ module _ (laws : Laws) (m : Making) (entry : Told) (s : Parts) (listed : List (D
       stays_worn since worn = absurd (not_worn since worn)
 
       pub run_on : HasRun e
-      run_on = run laws m entry s listed kept count is.on op answer f is.drives asked keeps b job last given stays_worn
+      run_on = run m entry s listed kept count is.on op answer f is.drives asked keeps b job last given stays_worn
 
       -- what the bytes hold then
       pub record Showed (old new : List ℕ) : Type 0 where
@@ -92,7 +92,7 @@ module _ (laws : Laws) (m : Making) (entry : Told) (s : Parts) (listed : List (D
       module _ (showing : Showing) where
         showed : (old new : List ℕ) → bytes_now s.fls.flash ≡ Some old → bytes_now f.flash ≡ Some new → IsTrue (tells d) → Showed old new
         showed old new at_old at_new told =
-            let both = left laws m entry s listed kept count is.on op answer f is.drives asked old new at_old at_new in
+            let both = left m entry s listed kept count is.on op answer f is.drives asked old new at_old at_new in
             showing old new (shows old at_old told) both.0 both.1
 
         abbrev more : May
@@ -102,13 +102,13 @@ module _ (laws : Laws) (m : Making) (entry : Told) (s : Parts) (listed : List (D
         more_is new at = ap (may_in m t) at
 
         pub behind : HoldsBehind e
-        behind = held_behind laws m entry s listed kept count is.on op answer f is.drives asked b job last given laws.legal run_on more
+        behind = held_behind m entry s listed kept count is.on op answer f is.drives asked b job last given run_on more
             (λ new at told.
             (let before = before_told s.fls.flash.bytes f.flash.bytes op answer new asked.bytes at in
             subst (λ (x : May). IsHeld l m.numbers new (memory_of t) x) (sym (more_is new at)) (showed before.0 new before.1 at told).kept_all.held))
 
         pub keeps_all : KeepsAll (told_of d) (told_of e)
-        keeps_all = laws.kept d e more (started laws m entry s listed kept count is.on op answer f is.drives asked keeps b job last given run_on)
+        keeps_all = kept_is_told d e more (started m entry s listed kept count is.on op answer f is.drives asked keeps b job last given run_on)
             (λ old new told. subst (λ (x : May). IsKept l m.numbers old new (memory_of s) (memory_of t) x) (sym (more_is new told.2)) (showed old new told.1 told.2 told.0).kept_all)
 
         pub copies : TellsCopies m entry t

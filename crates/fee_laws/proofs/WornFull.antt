@@ -1,20 +1,17 @@
 -- What a job without room asks of the pages.
 use Rattle.std.specs.Prelude.{◌&&◌, ◌/◌}
-use Rattle.std.proofs.Common.{◌≡◌, ◌≢◌, ◌≤◌, ◌<◌, ◌+◌, ◌-◌, ℕ, Bool, true, false, None, refl, ap, ◌∙◌, subst, arith}
+use Rattle.std.proofs.Common.{◌≡◌, ◌≢◌, ◌≤◌, ◌<◌, ◌+◌, ◌-◌, ℕ, Bool, true, false, refl, ap, ◌∙◌, subst, arith}
 use Rattle.std.proofs.lemmas.Bool.{leb-false}
 use Rattle.std.proofs.lemmas.Nat.{le-div}
 use Rattle.std.proofs.Math.Nat.{div-mul-le_self}
 use Rattle.nv_base.specs.Pages.{record_pages_of}
 use Rattle.nv_base.specs.declared.job.DeviceOp.{DeviceOp}
 use Rattle.nv_base.specs.declared.job.DeviceOp.TheVariants.{Read, Write, Invalidate, Erase}
-use Rattle.fee_log.specs.declared.tail.Tail.{Tail}
-use Rattle.fee_log.specs.declared.tail.Tail.TheVariants as tail
-use Rattle.fee_log.specs.Log.{work_in}
 use Rattle.fee_switch_laws.specs.Space.{free_pages, has_room}
 use Rattle.fee_switch.specs.Banks.{BanksState}
 use Rattle.fee_laws.specs.declared.job.FeeJob.{FeeJob}
 use Rattle.fee_laws.specs.Record.{IsLengthOf}
-use Rattle.fee_laws.specs.Work.{pages_of_op, pages_left, is_waiting, fits_in, begins_next, takes_append}
+use Rattle.fee_laws.specs.Work.{pages_of_op, is_waiting, fits_in, begins_next, takes_append}
 
 -- PAGES
 more_body : (a b p : ℕ) → a ≤ b → 0 < p → (a + (p - 1)) / p ≤ (b + (p - 1)) / p
@@ -35,13 +32,6 @@ op_some p Read length writes = absurd (writes refl)
 op_some p Write length writes = omega arith
 op_some p Invalidate length writes = omega arith
 op_some p Erase length writes = omega arith
-
--- what is left of a record that hasn't begun
-pub left_whole : (p wanted : ℕ) (t : Tail) → work_in t ≡ None → pages_left p wanted t ≡ wanted
-left_whole p wanted tail.Open idle = refl
-left_whole p wanted (tail.Writes h done) idle = cc idle
-left_whole p wanted (tail.Owes h next) idle = refl
-left_whole p wanted tail.Closed idle = refl
 
 -- ROOM
 pub lacks : (urgent : Bool) (pages reserve free : ℕ) → has_room urgent pages reserve free ≡ false → free < pages + reserve

@@ -1,20 +1,16 @@
 -- What the invariant of a device tells of its active bank and its room.
 use Rattle.std.specs.Prelude.{IsSome, IsTrue, if◌then◌else◌, is_some}
-use Rattle.std.proofs.Common.{◌≡◌, ◌⊎◌, inl, inr, ◌+◌, ℕ, Bool, true, false, List, Option, Some, None, refl, sym, ap, ◌∙◌, subst}
+use Rattle.std.proofs.Common.{◌≡◌, ◌⊎◌, inl, inr, ◌+◌, ℕ, false, List, Option, Some, None, refl, sym, ap, ◌∙◌, subst}
 use Rattle.nv_base.specs.Geometry.{pages_of_bank}
 use Rattle.nv_base.specs.declared.geometry.Geometry.{Geometry}
 use Rattle.nv_base.specs.declared.instance.DeviceNumber.{DeviceNumber}
 use Rattle.fls_model.specs.Told.{Told, bytes_now}
-use Rattle.fee_image.specs.Append.{AppendsLeaveOneMore}
 use Rattle.fee_image.specs.Image.{Layout, bank_in, active_of}
-use Rattle.fee_image.specs.Laws.{LogsCompute, ActiveComputes, NoActiveComputes}
 use Rattle.fee_image.specs.Banks.{Idle, Banks}
 use Rattle.fee_switch.specs.declared.active.ActiveBank.{ActiveBank}
 use Rattle.fee_switch.specs.Active.{active_shown}
 use Rattle.fee_log.specs.Log.{work_in, is_closed, free_behind, free_in, pages_in, log_of}
-use Rattle.fee_course.specs.declared.course.Course.{Course}
-use Rattle.fee_switch.specs.Banks.{BanksState}
-use Rattle.fee_switch_laws.specs.Shown.{old_shown, phase_shown}
+use Rattle.fee_switch_laws.specs.Shown.{old_shown}
 use Rattle.fee_switch_laws.specs.Space.{free_pages}
 use Rattle.promise_device.specs.Making.{Making, banks_of}
 use Rattle.promise_device.specs.Bridge.{has_failed}
@@ -26,23 +22,11 @@ use Rattle.fee_laws.specs.Inside.{Parts, body_of, device_of, memory_of}
 use Rattle.fee_laws.specs.Turn.{IsOn}
 use Rattle.fee_laws.specs.Worn.{ShowsRoom, ShowsClosed}
 use Rattle.fee_laws.proofs.Before.{shape, copied, held_at, log_geometry, log_banks}
-use Rattle.fee_laws.proofs.WornShown.{active_is, none_is, own_bank, no_more, HasNoMore}
+use Rattle.fee_laws.proofs.WornShown.{active_is, none_is, own_bank}
+use Rattle.fee_laws.proofs.SwitchBegun.{idle_phase}
+use Rattle.fee_laws.proofs.FollowKnown.{HasNoMore, no_more, test}
 
-pub record ShownLaws : Type 0 where
-  pub active : ActiveComputes
-  pub none : NoActiveComputes
-  pub logs : LogsCompute
-  pub more : AppendsLeaveOneMore
-
-idle_phase : (c : Option Course) (s : BanksState) (body : List ℕ) → c ≡ None → phase_shown c s body ≡ Idle
-idle_phase None s body e = refl
-idle_phase (Some c) s body e = cc e
-
-test : (b : Bool) → (b ≡ true) ⊎ (b ≡ false)
-test true = inl refl
-test false = inr refl
-
-module _ (own : ShownLaws) (m : Making) (entry : Told) (s : Parts) (listed : List (DeviceNumber × ℕ)) (kept count : ℕ) (on : IsOn m entry s listed kept count) (idle : work_in s.banks.log.tail ≡ None) (shut : s.banks.course ≡ None) (bytes : List ℕ) (at : bytes_now s.fls.flash ≡ Some bytes) (told : IsTrue (tells (device_of m entry s))) where
+module _ (m : Making) (entry : Told) (s : Parts) (listed : List (DeviceNumber × ℕ)) (kept count : ℕ) (on : IsOn m entry s listed kept count) (idle : work_in s.banks.log.tail ≡ None) (shut : s.banks.course ≡ None) (bytes : List ℕ) (at : bytes_now s.fls.flash ≡ Some bytes) (told : IsTrue (tells (device_of m entry s))) where
   abbrev l : Layout
   l = banks_of m
 
@@ -59,8 +43,8 @@ module _ (own : ShownLaws) (m : Making) (entry : Told) (s : Parts) (listed : Lis
   banks = banks_with (memory_of s) (may_told l m.numbers bytes (memory_of s)) (copied m entry s listed kept count on)
 
   active_by : (o : Option ActiveBank) → s.banks.active ≡ o → active_shown o ≡ active_of l bytes
-  active_by None none = sym (none_is own.active own.none l m.numbers bytes banks held.banks no_phase (ap (λ (o : Option ActiveBank). old_shown o s.banks.log body) none))
-  active_by (Some a) some = sym (active_is own.active own.none l m.numbers bytes banks held.banks no_phase a.bank a.head (log_of s.banks.log body) (ap (λ (o : Option ActiveBank). old_shown o s.banks.log body) some))
+  active_by None none = sym (none_is l m.numbers bytes banks held.banks no_phase (ap (λ (o : Option ActiveBank). old_shown o s.banks.log body) none))
+  active_by (Some a) some = sym (active_is l m.numbers bytes banks held.banks no_phase a.bank a.head (log_of s.banks.log body) (ap (λ (o : Option ActiveBank). old_shown o s.banks.log body) some))
 
   -- in the shape of its log
   page_is : s.banks.log.geometry.page ≡ m.geometry.page
@@ -74,10 +58,10 @@ module _ (own : ShownLaws) (m : Making) (entry : Told) (s : Parts) (listed : Lis
 
   open_room : (a : ActiveBank) → s.banks.active ≡ Some a → is_closed s.banks.log.tail ≡ false → HasNoMore (bank_in l a.head.format a.bank) bytes (free_behind m.geometry.page (pages_of_bank m.geometry m.banks) s.banks.log.end s.banks.log.tail)
   open_room a some wide =
-      let bank = own_bank own.active own.none l m.numbers bytes banks held.banks no_phase a.bank a.head (log_of s.banks.log body) (ap (λ (o : Option ActiveBank). old_shown o s.banks.log body) some) in
+      let bank = own_bank l m.numbers bytes banks held.banks no_phase a.bank a.head (log_of s.banks.log body) (ap (λ (o : Option ActiveBank). old_shown o s.banks.log body) some) in
       let log = bank.1.holds in
       let low = (shape m entry s listed kept count on).page_low in
-      no_more own.logs own.more (bank_in l a.head.format a.bank) bytes (may_told l m.numbers bytes (memory_of s)) low s.banks.log.end body s.banks.log.tail log.tail log.high idle wide
+      no_more (bank_in l a.head.format a.bank) bytes (may_told l m.numbers bytes (memory_of s)) low s.banks.log.end body s.banks.log.tail log.tail log.high idle wide
 
   shows_by : ShowsClosed m s bytes → (o : Option ActiveBank) → s.banks.active ≡ o → IsSome o → HasNoRoomFor (free_pages s.banks + 1) m bytes ⊎ IsTrue (has_failed s.operations)
   shows_by closed None none some = cc some

@@ -24,56 +24,43 @@ use Rattle.fee_log.specs.Log.{work_in}
 use Rattle.fee_switch.specs.declared.active.ActiveBank.{ActiveBank}
 use Rattle.fee_switch.specs.Active.{active_shown}
 use Rattle.fee_course.specs.declared.course.Course.{Course}
-use Rattle.fee_switch.specs.Banks.{BanksState, is_worn_out}
+use Rattle.fee_switch.specs.Banks.{is_worn_out}
 use Rattle.fee_switch_laws.specs.Space.{free_pages}
 use Rattle.promise_device.specs.Making.{Making, banks_of}
 use Rattle.promise_device.specs.Bridge.{has_failed, is_program, wanted_pages}
 use Rattle.promise_device.specs.Image.{HasNoRoomFor, IsOfLastGeneration}
 use Rattle.fee_told.specs.Slots.{Memory, HasJob}
-use Rattle.fee_told.specs.SlotLaws.{IsHeld, JobsKeep}
+use Rattle.fee_told.specs.SlotLaws.{IsHeld}
 use Rattle.fee_told.specs.Device.{Device, tells, told_of, ops_in}
-use Rattle.fee_told.specs.Clock.{MakesNone, clock_of, ClocksPass, WornNow}
-use Rattle.fee_told.specs.Parts.{PartsRead}
-use Rattle.fee_told.specs.Runs.{HasRun, IsWornSince, RunsStay}
-use Rattle.fee_told.specs.Jobs.{JobsChange}
+use Rattle.fee_told.specs.Clock.{MakesNone, clock_of}
+use Rattle.fee_told.specs.Runs.{HasRun, IsWornSince}
 use Rattle.fee_told.specs.Kept.{IsKept}
 use Rattle.fee_told.specs.Figures.{left_of as turns_left, ready_of, turns_of, wait_of}
 use Rattle.fee_told.specs.FigureLaws.{IsWork}
+use Rattle.fee_told.proofs.Kept.{same_places}
+use Rattle.fee_told.proofs.Clocks.{clocks_pass, worn_now}
+use Rattle.fee_told.proofs.Jobs.{jobs_change}
+use Rattle.fee_told.proofs.Making.{runs_stay}
+use Rattle.fee_told.proofs.Parts.{parts_read}
+use Rattle.fee_told.proofs.Steps.{jobs_keep}
+use Rattle.fee_told.proofs.Whole.{kept_is_told}
 use Rattle.fee_laws.specs.declared.job.FeeJob.{FeeJob}
 use Rattle.fee_laws.specs.Inside.{Parts, body_of, device_of, memory_of, mark_of, stand_of, fixed_in, HoldsBehind, IsAtWork, IsWorn, ShowsCopies, IsSound}
 use Rattle.fee_laws.specs.Record.{IsInWork, IsJobOf, IsReady}
 use Rattle.fee_laws.specs.Work.{work_of, waits_of, switch_turns, begins_next, claimed, pages_free, pages_left, pages_of_job, pages_of_op, seal_turns}
 use Rattle.fee_laws.specs.Turn.{IsOn, Turned}
 use Rattle.fee_laws.specs.Worn.{IsWornNow, KnowsRoom, ShowsRoom, WearsOut, worn_with}
-use Rattle.fee_laws.proofs.TurnLaws.{Laws}
 use Rattle.fee_laws.proofs.Before.{power, shape, lengths, legal, some, copied, held_at, each_told, each_now, told_at, now_at}
 use Rattle.fee_laws.proofs.Order.{first_of, urgent_is, behind_finds, in_order}
-use Rattle.fee_laws.proofs.Places.{same_places}
 use Rattle.fee_laws.proofs.Reading.{has_none}
 use Rattle.fee_laws.proofs.GoneOn.{if_else}
-use Rattle.fee_laws.proofs.Page.{some_of}
 use Rattle.fee_laws.proofs.SwitchFigures.{has_mark}
-use Rattle.fee_laws.proofs.WornKnown.{ShownLaws, shows_room}
-use Rattle.fee_laws.proofs.WornFull.{op_few, op_some, left_whole, lacks, never_begins}
-
-pub record WornLaws : Type 0 where
-  pub pass : ClocksPass
-  pub now : WornNow
-  pub read : PartsRead
-  pub run : RunsStay
-  pub job : JobsChange
-  pub keep : JobsKeep
-  pub shown : ShownLaws
-
--- nothing is sealed without a switch
-seal_none : (c : Option Course) → c ≡ None → seal_turns c ≡ 0
-seal_none None e = refl
-seal_none (Some c) e = cc e
-
--- no turns are left without a job and a switch
-rests_none : (reserve : ℕ) (b : BanksState) (c : Option Course) → c ≡ None → switch_turns reserve b None c ≡ 0
-rests_none reserve b None e = refl
-rests_none reserve b (Some c) e = cc e
+use Rattle.fee_laws.proofs.WornKnown.{shows_room}
+use Rattle.fee_laws.proofs.WornFull.{op_few, op_some, lacks, never_begins}
+use Rattle.fee_laws.proofs.SwitchBegun.{seal_is}
+use Rattle.fee_laws.proofs.CallOrder.{nothing_left as rests_none}
+use Rattle.fee_laws.proofs.Raising.{left_wanted}
+use Rattle.fee_laws.proofs.FollowLifts.{some_of}
 
 no_copies : (m : Making) (t : Parts) (x : List ℕ) (c : Option Course) → c ≡ None → IfSome c (λ y. ShowsCopies m t y x)
 no_copies m t x None e = tt
@@ -110,7 +97,7 @@ last_shown : (o : Option ActiveBank) (m : Making) (bytes : List ℕ) → is_worn
 last_shown None m bytes worn shown = cc worn
 last_shown (Some a) m bytes worn shown = (a.bank, a.head, sym shown, eqb-true a.head.generation 4294967295 worn)
 
-module _ (laws : Laws) (own : WornLaws) (m : Making) (entry : Told) (s : Parts) (listed : List (DeviceNumber × ℕ)) (kept count : ℕ) (j : FeeJob) (on : IsOn m entry s listed kept count) (is : IsWornNow m entry s j) where
+module _ (m : Making) (entry : Told) (s : Parts) (listed : List (DeviceNumber × ℕ)) (kept count : ℕ) (j : FeeJob) (on : IsOn m entry s listed kept count) (is : IsWornNow m entry s j) where
   abbrev since : ℕ
   since = unwrap_or s.worn count
 
@@ -143,7 +130,7 @@ module _ (laws : Laws) (own : WornLaws) (m : Making) (entry : Told) (s : Parts) 
 
   -- WORN OUT
   shows_by : (bytes : List ℕ) → bytes_now s.fls.flash ≡ Some bytes → (b : Bool) → tells d ≡ b → KnowsRoom m entry s bytes → ShowsRoom m s bytes
-  shows_by bytes at true told knows = shows_room own.shown m entry s listed kept count on is.idle is.shut bytes at told knows.closed
+  shows_by bytes at true told knows = shows_room m entry s listed kept count on is.idle is.shut bytes at told knows.closed
   shows_by bytes at false told knows = knows.unsound told
 
   shows_at : (bytes : List ℕ) → bytes_now s.fls.flash ≡ Some bytes → ShowsRoom m s bytes
@@ -207,14 +194,14 @@ module _ (laws : Laws) (own : WornLaws) (m : Making) (entry : Told) (s : Parts) 
       (each_now s.fls.flash.bytes (λ (x : List ℕ). HasNoRoomFor (wanted_pages m j.number.0) m x ⊎ IsTrue (has_failed s.operations)) room_at)
 
   is_worn : (clock_of e).worn (ops_in e) j.number.0
-  is_worn = own.now e since j.number.0 refl few_now room_now
+  is_worn = worn_now e since j.number.0 refl few_now room_now
 
   -- BEHIND IT
   none : MakesNone d e
   none = record { making = refl; entry = refl; operations = refl; bytes = refl }
 
   run_on : HasRun e
-  run_on = own.run d e on.sound.device.run (record {
+  run_on = runs_stay d e on.sound.device.run (record {
     none = none;
     bytes = refl;
     counts = (refl, refl);
@@ -228,7 +215,7 @@ module _ (laws : Laws) (own : WornLaws) (m : Making) (entry : Told) (s : Parts) 
   has_job = has_none m.numbers s.banks.active s.banks.log s.banks.log.tail (body_of (work_in s.banks.log.tail) s.content) [] JobFailed is.idle
 
   held_then : (bytes : List ℕ) (wide : May) → IsHeld l m.numbers bytes mem wide → IsHeld l m.numbers bytes (memory_of t) wide
-  held_then bytes wide held = own.job l m.numbers bytes mem wide ended (record { lengths = lengths m entry s listed kept count on; legal = legal m entry s listed kept count on laws.legal; held = held }) has_job
+  held_then bytes wide held = jobs_change l m.numbers bytes mem wide ended (record { lengths = lengths m entry s listed kept count on; legal = legal m entry s listed kept count on; held = held }) has_job
 
   abbrev more : May
   more = copied m entry s listed kept count on
@@ -236,13 +223,13 @@ module _ (laws : Laws) (own : WornLaws) (m : Making) (entry : Told) (s : Parts) 
   kept_at : (bytes : List ℕ) → bytes_now s.fls.flash ≡ Some bytes → IsTrue (tells d) → IsKept l m.numbers bytes bytes mem (memory_of t) more
   kept_at bytes at told =
       let held = held_at m entry s listed kept count on bytes at told in
-      record { held = held_then bytes more held; keeps = own.keep l m.numbers bytes mem (memory_of t) more held (same_places mem.old) (inr refl) }
+      record { held = held_then bytes more held; keeps = jobs_keep l m.numbers bytes mem (memory_of t) more held (same_places mem.old) (inr refl) }
 
   same_bytes : (old new : List ℕ) → bytes_now s.fls.flash ≡ Some old → bytes_now s.fls.flash ≡ Some new → old ≡ new
   same_bytes old new a b = cc (a, b)
 
   keeps_all : KeepsAll (told_of d) (told_of e)
-  keeps_all = laws.kept d e more
+  keeps_all = kept_is_told d e more
       (record { same = record { making = refl; entry = refl; old = on.sound.device.run.alike; new = run_on.alike }; old = on.started; new = on.started })
       (λ old new told. subst (λ (x : List ℕ). IsKept l m.numbers old x mem (memory_of t) more) (same_bytes old new told.1 told.2) (kept_at old told.1 told.0))
 
@@ -253,7 +240,7 @@ module _ (laws : Laws) (own : WornLaws) (m : Making) (entry : Told) (s : Parts) 
     banks = record {
       started = on.started;
       alike = run_on.alike;
-      legal = legal m entry s listed kept count on laws.legal;
+      legal = legal m entry s listed kept count on;
       some = some m entry s listed kept count on;
       held = λ told. each_told s.fls.flash.bytes (λ (x : List ℕ). IsHeld l m.numbers x (memory_of t) more) (λ bytes at. (kept_at bytes at told).held);
     };
@@ -289,7 +276,7 @@ module _ (laws : Laws) (own : WornLaws) (m : Making) (entry : Told) (s : Parts) 
         device = record {
           run = run_on;
           held = λ started. behind;
-          order = in_order laws m entry t (shape m entry s listed kept count on) (lengths m entry s listed kept count on) work_then (behind_finds laws.finds laws.places e on.started behind);
+          order = in_order m entry t (shape m entry s listed kept count on) (lengths m entry s listed kept count on) work_then (behind_finds e on.started behind);
           faults = on.sound.device.faults;
         };
         rests = λ stopped. (let h = on.started in absurd (cc (h, stopped)));
@@ -342,7 +329,7 @@ module _ (laws : Laws) (own : WornLaws) (m : Making) (entry : Told) (s : Parts) 
       let ready = subst (λ (o : Option FeeJob). IfSome o (IsReady s.banks)) is.job at_work.ready in
       elim (ready promised is.idle) [
         | inl begins ↦ absurd (let x : true ≡ false = sym begins ∙ none_begins in cc x)
-        | inr seal ↦ (let shut = seal_none s.banks.course is.shut in absurd (omega (arith, seal, shut)))
+        | inr seal ↦ (let shut = seal_is s.banks.course is.shut in absurd (omega (arith, seal, shut)))
       ]
   not_promised false promised = promised
 
@@ -353,7 +340,7 @@ module _ (laws : Laws) (own : WornLaws) (m : Making) (entry : Told) (s : Parts) 
       ap (λ (o : Option FeeJob). wait_of (waits_of s.banks o)) is.job ∙ (λ i. wait_of (record (waits_of s.banks (Some j)) { urgent = is_urgent i; promised = promised i }))
 
   pages_whole : pages_left p (pages_of_job p s.job) s.banks.log.tail ≡ pages_of_op p j.op j.length
-  pages_whole = left_whole p (pages_of_job p s.job) s.banks.log.tail is.idle ∙ ap (pages_of_job p) is.job
+  pages_whole = left_wanted p (pages_of_job p s.job) s.banks.log.tail is.idle ∙ ap (pages_of_job p) is.job
 
   falls : (told_of e).left < (told_of d).left
   falls =
@@ -375,7 +362,7 @@ module _ (laws : Laws) (own : WornLaws) (m : Making) (entry : Told) (s : Parts) 
     only = refl;
     up = on.started;
     of = subst (λ (o : Option FeeJob). IsOf First (fixed_in m) (at o)) (sym is.job) (tt, sym (first_of m j.number.0));
-    part = own.read d e (record { flash = refl; operations = refl; more = omega arith; faults = inl refl; small = on.sound.device.faults }) (power m entry s listed kept count on);
+    part = parts_read d e (record { flash = refl; operations = refl; more = omega arith; faults = inl refl; small = on.sound.device.faults }) (power m entry s listed kept count on);
     job = subst (λ (o : Option FeeJob). JobTurns First (at o) ended (told_of d) (told_of e) (clock_of e)) (sym is.job) (ends, λ failed. may_fail);
     read = subst (λ (o : Option FeeJob). is_read (at o) ≡ true → ((told_of e).ops ≡ (told_of d).ops) × ((told_of e).slots ≡ (told_of d).slots)) (sym is.job) (λ read. (let none = has_none' in absurd (cc (read, none))));
     nearer = inl falls;
@@ -387,12 +374,12 @@ module _ (laws : Laws) (own : WornLaws) (m : Making) (entry : Told) (s : Parts) 
     turns = (
       (
         subst (λ (o : Option FeeJob). not (is_open (at o)) && not (told_of d).switching ≡ false) (sym is.job) refl,
-        (First, works, own.pass turn.Worked d e none (worn_either s.worn refl)),
+        (First, works, clocks_pass turn.Worked d e none (worn_either s.worn refl)),
       ),
       sound.device.order,
     );
     sound = sound;
   }
 
-pub wears_out : Laws → WornLaws → WearsOut
-wears_out laws own m entry s listed kept count j on is = worn_out laws own m entry s listed kept count j on is
+pub wears_out : WearsOut
+wears_out m entry s listed kept count j on is = worn_out m entry s listed kept count j on is

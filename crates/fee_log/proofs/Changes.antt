@@ -4,7 +4,6 @@ use Rattle.std.proofs.Common.{◌≡◌, ◌≢◌, ℕ, zero, suc, ◌<◌, Boo
 use Rattle.std.proofs.lemmas.Bool.{ne_eqb}
 use Rattle.std.proofs.lemmas.Bool.Decides.{nat_tests}
 use Rattle.nv_base.specs.declared.instance.DeviceNumber.{DeviceNumber}
-use Rattle.nv_base.specs.Laws.{NumbersAreAbove}
 use Rattle.nv_base.specs.Lengths.{AreLengths}
 use Rattle.fee_format.specs.declared.rec_head.RecHead.{RecHead}
 use Rattle.fee_image.specs.Found.{fits}
@@ -12,6 +11,7 @@ use Rattle.fee_image.specs.declared.place.Place.{Place}
 use Rattle.fee_image.specs.declared.place.Place.TheVariants.{Unwritten}
 use Rattle.fee_image.specs.Places.{place_at, noted, erased_places}
 use Rattle.fee_log.specs.Index.{with_flag, clear_flags}
+use Rattle.nv_base.proofs.Places.{numbers_are_above}
 
 -- nothing is found of any number, and no flag is set
 pub erased : (ns : List (DeviceNumber × ℕ)) → replicate (length ns) Unwritten ≡ erased_places ns
@@ -54,24 +54,23 @@ noted_none (n ∷ ns) (place ∷ places) at h none =
     rw (not_fits n.0.0 n.1 h (λ e. none 0 n (omega arith) (sym e)))
     (ap (λ (l : List Place). place ∷ l) (noted_none ns places at h (λ k d lt. none (suc k) d (omega arith))))
 
-module _ (above : NumbersAreAbove) where
-  -- a record of the number at an index changes its place, where it fits
-  pub noted_at : (low : ℕ) (ns : List (DeviceNumber × ℕ)) (places : List Place) (at : ℕ) (h : RecHead) (i : ℕ) (d : DeviceNumber × ℕ)
-      → AreLengths low ns → length places ≡ length ns → i < length ns
-      → ((n : DeviceNumber × ℕ) → (get_or ns i n).0.0 ≡ h.number)
-      → noted ns places at h ≡ (if fits (get_or ns i d).0.0 (get_or ns i d).1 h then set places i (place_at at h) else places)
-  noted_at low [] places at h i d all each lt is = absurd (omega arith)
-  noted_at low (n ∷ ns) [] at h i d all each lt is = absurd (omega arith)
-  noted_at low (n ∷ ns) (place ∷ places) at h zero d all each lt is =
-      rw (← noted_none ns places at h (λ k e within same. omega (arith, above n.0.0 ns all.4 k e within, is n)))
-      (pick_cons (fits n.0.0 n.1 h) (place_at at h) place places)
-  noted_at low (n ∷ ns) (place ∷ places) at h (suc i) d all each lt is =
-      rw (
-        not_fits n.0.0 n.1 h (λ e. omega (arith, above n.0.0 ns all.4 i n (omega arith), is n)),
-        noted_at n.0.0 ns
-            places at h i d all.4 (omega arith) (omega arith) is,
-      )
-      (cons_pick (fits (get_or ns i d).0.0 (get_or ns i d).1 h) place (set places i (place_at at h)) places)
+-- a record of the number at an index changes its place, where it fits
+pub noted_at : (low : ℕ) (ns : List (DeviceNumber × ℕ)) (places : List Place) (at : ℕ) (h : RecHead) (i : ℕ) (d : DeviceNumber × ℕ)
+    → AreLengths low ns → length places ≡ length ns → i < length ns
+    → ((n : DeviceNumber × ℕ) → (get_or ns i n).0.0 ≡ h.number)
+    → noted ns places at h ≡ (if fits (get_or ns i d).0.0 (get_or ns i d).1 h then set places i (place_at at h) else places)
+noted_at low [] places at h i d all each lt is = absurd (omega arith)
+noted_at low (n ∷ ns) [] at h i d all each lt is = absurd (omega arith)
+noted_at low (n ∷ ns) (place ∷ places) at h zero d all each lt is =
+    rw (← noted_none ns places at h (λ k e within same. omega (arith, numbers_are_above n.0.0 ns all.4 k e within, is n)))
+    (pick_cons (fits n.0.0 n.1 h) (place_at at h) place places)
+noted_at low (n ∷ ns) (place ∷ places) at h (suc i) d all each lt is =
+    rw (
+      not_fits n.0.0 n.1 h (λ e. omega (arith, numbers_are_above n.0.0 ns all.4 i n (omega arith), is n)),
+      noted_at n.0.0 ns
+          places at h i d all.4 (omega arith) (omega arith) is,
+    )
+    (cons_pick (fits (get_or ns i d).0.0 (get_or ns i d).1 h) place (set places i (place_at at h)) places)
 
 -- FLAGS
 pub flags_none : (ns : List (DeviceNumber × ℕ)) (flags : List Bool) (number : ℕ) (on : Bool)
@@ -82,15 +81,14 @@ flags_none (n ∷ ns) (flag ∷ flags) number on none =
     rw (ne_eqb n.0.0 number (none 0 n (omega arith)))
     (ap (λ (l : List Bool). flag ∷ l) (flags_none ns flags number on (λ k d lt. none (suc k) d (omega arith))))
 
-module _ (above : NumbersAreAbove) where
-  pub flags_at : (low : ℕ) (ns : List (DeviceNumber × ℕ)) (flags : List Bool) (number : ℕ) (on : Bool) (i : ℕ)
-      → AreLengths low ns → length flags ≡ length ns → i < length ns
-      → ((n : DeviceNumber × ℕ) → (get_or ns i n).0.0 ≡ number) → set flags i on ≡ with_flag ns flags number on
-  flags_at low [] flags number on i all each lt is = absurd (omega arith)
-  flags_at low (n ∷ ns) [] number on i all each lt is = absurd (omega arith)
-  flags_at low (n ∷ ns) (flag ∷ flags) number on zero all each lt is =
-      rw (← flags_none ns flags number on (λ k e within same. omega (arith, above n.0.0 ns all.4 k e within, is n)))
-      grind (arith, nat_tests, is n)
-  flags_at low (n ∷ ns) (flag ∷ flags) number on (suc i) all each lt is =
-      rw (ne_eqb n.0.0 number (λ e. omega (arith, above n.0.0 ns all.4 i n (omega arith), is n)))
-      (ap (λ (l : List Bool). flag ∷ l) (flags_at n.0.0 ns flags number on i all.4 (omega arith) (omega arith) is))
+pub flags_at : (low : ℕ) (ns : List (DeviceNumber × ℕ)) (flags : List Bool) (number : ℕ) (on : Bool) (i : ℕ)
+    → AreLengths low ns → length flags ≡ length ns → i < length ns
+    → ((n : DeviceNumber × ℕ) → (get_or ns i n).0.0 ≡ number) → set flags i on ≡ with_flag ns flags number on
+flags_at low [] flags number on i all each lt is = absurd (omega arith)
+flags_at low (n ∷ ns) [] number on i all each lt is = absurd (omega arith)
+flags_at low (n ∷ ns) (flag ∷ flags) number on zero all each lt is =
+    rw (← flags_none ns flags number on (λ k e within same. omega (arith, numbers_are_above n.0.0 ns all.4 k e within, is n)))
+    grind (arith, nat_tests, is n)
+flags_at low (n ∷ ns) (flag ∷ flags) number on (suc i) all each lt is =
+    rw (ne_eqb n.0.0 number (λ e. omega (arith, numbers_are_above n.0.0 ns all.4 i n (omega arith), is n)))
+    (ap (λ (l : List Bool). flag ∷ l) (flags_at n.0.0 ns flags number on i all.4 (omega arith) (omega arith) is))

@@ -7,13 +7,13 @@ use Rattle.nv_base.specs.declared.instance.DeviceNumber.{DeviceNumber}
 use Rattle.fee_format.specs.declared.rec_head.RecHead.{RecHead}
 use Rattle.fee_image.specs.Bank.{Bank}
 use Rattle.fee_image.specs.Found.{fits, last_from, last_record}
-use Rattle.fee_image.specs.Laws.{LogsCompute}
 use Rattle.fee_image.specs.RecordList.{Rec, Walks, pages_of_head, records_of, end_of}
 use Rattle.fee_image.specs.declared.place.Place.{Place}
 use Rattle.fee_image.specs.declared.place.Place.TheVariants.{Content, Invalid, Erased, Unwritten}
 use Rattle.fee_image.specs.Places.{count_at, place_at, place_shown, noted, erased_places, places_of}
 use Rattle.fee_log.specs.Index.{AreCounted, at_index, or_else, place_in}
 use Rattle.fee_log.specs.Laws.{PlacesAreCounted, NextIsCounted}
+use Rattle.fee_image.proofs.Records.{logs_compute}
 
 pub erased_counted : (ns : List (DeviceNumber × ℕ)) → AreCounted (erased_places ns)
 erased_counted [] = tt
@@ -69,9 +69,9 @@ places_counted : (ns : List (DeviceNumber × ℕ)) (records : List Rec) → AreS
 places_counted [] records all = tt
 places_counted (n ∷ ns) records all = (shown_counted (last_record n.0.0 n.1 records) (last_small n.0.0 n.1 None records tt all), places_counted ns records all)
 
-pub loaded_counted : LogsCompute → (b : Bank) (bytes : List ℕ) (ns : List (DeviceNumber × ℕ)) → AreCounted (places_of ns (records_of b bytes))
-loaded_counted logs b bytes ns =
-    places_counted ns (records_of b bytes) (walked b bytes 2 (end_of b bytes) (records_of b bytes) ((logs b bytes (records_of b bytes) (end_of b bytes)).1 (refl, refl)).walk)
+pub loaded_counted : (b : Bank) (bytes : List ℕ) (ns : List (DeviceNumber × ℕ)) → AreCounted (places_of ns (records_of b bytes))
+loaded_counted b bytes ns =
+    places_counted ns (records_of b bytes) (walked b bytes 2 (end_of b bytes) (records_of b bytes) ((logs_compute b bytes (records_of b bytes) (end_of b bytes)).1 (refl, refl)).walk)
 
 -- ONE PLACE
 at_counted : (places : List Place) (i : ℕ) (place : Place) → AreCounted places → slice_get places i ≡ Some place → count_at place < 2 ^ 32

@@ -1,6 +1,5 @@
 -- What the bytes hold.
 use Rattle.std.proofs.Common.{◌≡◌, ℕ, zero, suc, ◌<◌, ◌≤◌, ◌*◌, List, length, Some, None, refl, sym, ◌∙◌, subst, arith}
-use Rattle.nv_base.specs.Laws.{NumbersAreInBounds}
 use Rattle.nv_base.specs.Pages.{record_pages_of}
 use Rattle.fee_format.specs.declared.rec_head.RecHead.{RecHead}
 use Rattle.fee_image.specs.Bank.{Bank, page_of, moved}
@@ -8,16 +7,20 @@ use Rattle.fee_format.specs.Formats.{new_format}
 use Rattle.fee_format.specs.RecHead.{IsLegalRecHead}
 use Rattle.fee_image.specs.Image.{layout_of, bank_in}
 use Rattle.fee_view.specs.View.{View, bank_of as viewed_bank}
-use Rattle.fee_image.specs.LogLaws.{loaded_log, LoadedLogsHold, ErasedLogsHold, LogsStay, RecordsBegin, GivenUpHolds as LogsGivenUp}
+use Rattle.fee_image.specs.LogLaws.{loaded_log}
 use Rattle.fee_image.specs.Log.{Log, HoldsLog}
 use Rattle.fee_image.specs.May.{May, MayCommit, exactly}
 use Rattle.fee_image.specs.Step.{IsRecord}
 use Rattle.fee_log.specs.declared.tail.Tail.{Tail}
 use Rattle.fee_log.specs.declared.tail.Tail.TheVariants.{Open, Writes, Owes, Closed}
-use Rattle.fee_log.specs.Laws.{HoldsState, MayFollow, LoadsAreLoaded, GivenUpFollows, LoadsHold, ErasedHolds, BeginsHold, GivenUpHolds, FlagsHold}
+use Rattle.fee_log.specs.Laws.{HoldsState, MayFollow, LoadsHold, ErasedHolds, BeginsHold, GivenUpHolds, FlagsHold}
 use Rattle.fee_log.specs.Log.{LogState, IsLogState, HasFormat, IsTailSeen, bank_of, pages_in, free_behind, log_of, tail_with, work_in, tail_begun}
 use Rattle.fee_log.specs.Step.{given_up}
 use Rattle.fee_log.proofs.Soundness.{legal_for}
+use Rattle.fee_image.proofs.Logs.{erased_logs_hold, loaded_logs_hold, logs_stay, records_begin}
+use Rattle.fee_image.proofs.Steps.{given_up_holds as logs_given_up}
+use Rattle.fee_log.proofs.Follows.{given_up_follows}
+use Rattle.fee_log.proofs.Loads.{loads_are_loaded}
 
 -- STARTS
 -- no record waits behind a load
@@ -31,8 +34,8 @@ bank_is : (format p n p' n' at : ℕ) → p ≡ p' → n ≡ n'
     → (let b : Bank = record { page = p; pages = n; format = format; at = at } in b) ≡ record { page = p'; pages = n'; format = format; at = at }
 bank_is format p n p' n' at one two = λ i. record { page = one i; pages = two i; format = format; at = at }
 
-pub loads_hold : LoadedLogsHold → LogsStay → LoadsAreLoaded → LoadsHold
-loads_hold loaded stay are v old new body bytes sound view of is size same =
+pub loads_hold : LoadsHold
+loads_hold v old new body bytes sound view of is size same =
     let b = viewed_bank v in
     let may = exactly b v.bytes in
     let at = old.bank * pages_in old in
@@ -42,41 +45,41 @@ loads_hold loaded stay are v old new body bytes sound view of is size same =
     let same_bank : moved b at ≡ image = bank_is v.head.format v.page v.pages old.geometry.page (pages_in old) at of.page of.pages in
     let pages : (q : ℕ) → 2 ≤ q → q < v.pages → page_of (moved b at) bytes q ≡ page_of b v.bytes q = λ q low lt.
     subst (λ (c : Bank). page_of c bytes q ≡ page_of b v.bytes q) (sym same_bank) (same q low (subst (λ (n : ℕ). q < n) of.pages lt)) in
-    let in_view : HoldsLog b old.numbers v.bytes may log = loaded b old.numbers v.bytes tail view.page.low view.two (are v old new body is).1 in
+    let in_view : HoldsLog b old.numbers v.bytes may log = loaded_logs_hold b old.numbers v.bytes tail view.page.low view.two (loads_are_loaded v old new body is).1 in
     let in_image : HoldsLog image old.numbers bytes may log = subst
-    (λ (c : Bank). HoldsLog c old.numbers bytes may log) same_bank (stay b old.numbers v.bytes bytes at may log view.page.low pages in_view) in
+    (λ (c : Bank). HoldsLog c old.numbers bytes may log) same_bank (logs_stay b old.numbers v.bytes bytes at may log view.page.low pages in_view) in
     subst (λ (s : LogState). HoldsState s body bytes may) (sym is.same)
     (record { size = size; holds = in_image; follows = seen_follows may v body new.tail is.tail })
 
-pub erased_holds : ErasedLogsHold → ErasedHolds
-erased_holds erased g banks bank numbers body bytes may sound size blank each = record {
+pub erased_holds : ErasedHolds
+erased_holds g banks bank numbers body bytes may sound size blank each = record {
   size = size;
   holds =
-      erased (bank_in (layout_of g banks) new_format bank) numbers bytes may sound.geometry.page_low sound.end_high blank each;
+      erased_logs_hold (bank_in (layout_of g banks) new_format bank) numbers bytes may sound.geometry.page_low sound.end_high blank each;
   follows = tt;
 }
 
 -- A RECORD BEGINS
-begins_at : RecordsBegin → (s : LogState) (tail : Tail) (head : RecHead) (before body bytes : List ℕ) (may : May)
+begins_at : (s : LogState) (tail : Tail) (head : RecHead) (before body bytes : List ℕ) (may : May)
     → IsLogState s → HasFormat s.format tail → IsLegalRecHead head → length body ≡ head.length → MayCommit may head body
     → work_in tail ≡ None
     → record_pages_of head.length s.geometry.page ≤ free_behind s.geometry.page (pages_in s) s.end tail
     → HoldsLog (bank_of s) s.numbers bytes may (log_of (record s { tail = tail }) before)
     → HoldsLog (bank_of s) s.numbers bytes may (log_of (record s { tail = tail_begun tail head }) body) × MayFollow may (tail_begun tail head) body
-begins_at begin s Open head before body bytes may sound format legal size commit idle room holds =
+begins_at s Open head before body bytes may sound format legal size commit idle room holds =
     let is : IsRecord (bank_of s) s.end head body = record { format = format; legal = legal; size = size; room = omega (arith, room, sound.end_high) } in
-    (begin (bank_of s) s.numbers bytes may (log_of (record s { tail = Open }) before) head body holds refl is commit, tt)
-begins_at begin s (Writes h k) head before body bytes may sound format legal size commit idle room holds = cc
-begins_at begin s (Owes h None) head before body bytes may sound format legal size commit idle room holds =
+    (records_begin (bank_of s) s.numbers bytes may (log_of (record s { tail = Open }) before) head body holds refl is commit, tt)
+begins_at s (Writes h k) head before body bytes may sound format legal size commit idle room holds = cc
+begins_at s (Owes h None) head before body bytes may sound format legal size commit idle room holds =
     (holds, (size, commit))
-begins_at begin s (Owes h (Some next)) head before body bytes may sound format legal size commit idle room holds = cc
-begins_at begin s Closed head before body bytes may sound format legal size commit idle room holds =
+begins_at s (Owes h (Some next)) head before body bytes may sound format legal size commit idle room holds = cc
+begins_at s Closed head before body bytes may sound format legal size commit idle room holds =
     absurd (omega (arith, room))
 
-pub begins_hold : NumbersAreInBounds → RecordsBegin → BeginsHold
-begins_hold bounds begin s head before body bytes may sound holds idle is room size commit =
-    let legal : IsLegalRecHead head = legal_for bounds s.numbers head sound.numbers is in
-    let both = begins_at begin s s.tail head before body bytes may sound sound.format legal size commit idle room holds.holds in
+pub begins_hold : BeginsHold
+begins_hold s head before body bytes may sound holds idle is room size commit =
+    let legal : IsLegalRecHead head = legal_for s.numbers head sound.numbers is in
+    let both = begins_at s s.tail head before body bytes may sound sound.format legal size commit idle room holds.holds in
     record { size = holds.size; holds = both.0; follows = both.1 }
 
 -- A RECORD IS GIVEN UP
@@ -99,13 +102,13 @@ module _ (s : LogState) where
   given_waits (Owes h next) may body = tt
   given_waits Closed may body = tt
 
-pub given_up_holds : LogsGivenUp → GivenUpFollows → GivenUpHolds
-given_up_holds give follow s body after bytes may sound holds = record {
+pub given_up_holds : GivenUpHolds
+given_up_holds s body after bytes may sound holds = record {
   size = holds.size;
   holds =
       subst (λ (l : Log). HoldsLog (bank_of s) s.numbers bytes may l)
-      (sym (follow s body) ∙ given_same s s.tail body after)
-      (give (bank_of s) s.numbers bytes may (log_of s body) sound.geometry.page_low holds.holds);
+      (sym (given_up_follows s body) ∙ given_same s s.tail body after)
+      (logs_given_up (bank_of s) s.numbers bytes may (log_of s body) sound.geometry.page_low holds.holds);
   follows = given_waits s s.tail may after;
 }
 

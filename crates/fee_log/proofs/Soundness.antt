@@ -4,7 +4,6 @@ use Rattle.std.proofs.lemmas.Option.{slice_get-get_or}
 use Rattle.nv_base.specs.declared.instance.DeviceNumber.{DeviceNumber}
 use Rattle.nv_base.specs.declared.geometry.Geometry.{Geometry}
 use Rattle.nv_base.specs.Geometry.{IsLegal, HasBanks, pages_of_bank}
-use Rattle.nv_base.specs.Laws.{NumbersAreInBounds}
 use Rattle.nv_base.specs.Lengths.{AreLengths}
 use Rattle.nv_base.specs.Pages.{record_pages_of}
 use Rattle.fee_format.specs.declared.rec_head.RecHead.{RecHead}
@@ -12,7 +11,6 @@ use Rattle.fee_format.specs.Formats.{new_format}
 use Rattle.fee_format.specs.RecHead.{IsLegalRecHead}
 use Rattle.fee_image.specs.RecordList.{pages_of_head, records_of, end_of}
 use Rattle.fee_view.specs.View.{View, IsView, bank_of as viewed_bank}
-use Rattle.fee_image.specs.LogLaws.{LoadedLogsHold}
 use Rattle.fee_image.specs.Log.{Closed as LogClosed}
 use Rattle.fee_image.specs.May.{exactly}
 use Rattle.fee_image.specs.Places.{noted, places_of}
@@ -20,10 +18,11 @@ use Rattle.fee_log.specs.declared.tail.Tail.{Tail}
 use Rattle.fee_log.specs.declared.tail.Tail.TheVariants.{Open, Writes, Owes, Closed}
 use Rattle.fee_log.specs.Index.{clear_flags, AreWithin}
 use Rattle.fee_log.specs.Log.{LogState, IsLogState, HasFormat, IsTail, IsTailSeen, IsViewOf, IsFor, pages_in, free_in, free_behind, work_in, tail_begun, begun, erased_state}
-use Rattle.fee_image.specs.Laws.{LogsCompute}
 use Rattle.fee_log.proofs.Counts.{erased_counted, loaded_counted, noted_counted}
 use Rattle.fee_log.proofs.Changes.{clear_length, flag_length}
 use Rattle.fee_log.proofs.Within.{erased_within, placed_within, further, noted_within}
+use Rattle.fee_image.proofs.Logs.{loaded_logs_hold}
+use Rattle.nv_base.proofs.Places.{numbers_are_in_bounds}
 
 -- what holds of a log's tail
 tail_sound : (s : LogState) (tail : Tail) → IsLogState s → s.tail ≡ tail
@@ -99,11 +98,11 @@ followed_sound s h next sound is =
 
 -- A RECORD BEGINS
 -- a record of a configured number has a legal header
-pub legal_for : NumbersAreInBounds → (numbers : List (DeviceNumber × ℕ)) (h : RecHead) → AreLengths 0 numbers → IsFor numbers h
+pub legal_for : (numbers : List (DeviceNumber × ℕ)) (h : RecHead) → AreLengths 0 numbers → IsFor numbers h
     → IsLegalRecHead h
-legal_for bounds numbers h all is =
+legal_for numbers h all is =
     let x : DeviceNumber × ℕ = (record { 0 = h.number }, is.length) in
-    let up = bounds 0 numbers is.configured.0 x all (slice_get-get_or numbers is.configured.0 x is.configured.1 ∙ ap Some is.configured.2) in
+    let up = numbers_are_in_bounds 0 numbers is.configured.0 x all (slice_get-get_or numbers is.configured.0 x is.configured.1 ∙ ap Some is.configured.2) in
     elim is.kind as (λ _. IsLegalRecHead h) [
       | inl content ↦ record {
         number_low = up.0;
@@ -134,9 +133,9 @@ begun_format format p pages end (Writes head done) h idle is room = cc
 begun_format format p pages end (Owes head next) h idle is room = is
 begun_format format p pages end Closed h idle is room = absurd (omega (arith, room))
 
-pub begun_sound : NumbersAreInBounds → (s : LogState) (h : RecHead) → IsLogState s → work_in s.tail ≡ None → IsFor s.numbers h
+pub begun_sound : (s : LogState) (h : RecHead) → IsLogState s → work_in s.tail ≡ None → IsFor s.numbers h
     → record_pages_of h.length s.geometry.page ≤ free_in s → IsLogState (begun s h)
-begun_sound bounds s h sound idle is room = record {
+begun_sound s h sound idle is room = record {
   geometry = sound.geometry;
   shared = sound.shared;
   bank = sound.bank;
@@ -148,7 +147,7 @@ begun_sound bounds s h sound idle is room = record {
   end_low = sound.end_low;
   end_high = sound.end_high;
   tail =
-      begun_tail s.geometry.page (pages_in s) s.end s.tail h sound.end_high sound.tail idle room (legal_for bounds s.numbers h sound.numbers is);
+      begun_tail s.geometry.page (pages_in s) s.end s.tail h sound.end_high sound.tail idle room (legal_for s.numbers h sound.numbers is);
 }
 
 -- STARTS
@@ -180,7 +179,7 @@ seen_format s v (Writes head done) view seen = absurd seen
 seen_format s v (Owes head next) view seen = absurd seen
 seen_format s v Closed view seen = view.stands.head.legal.format
 
-pub loaded_sound : LogsCompute → LoadedLogsHold → (s : LogState) (v : View) (tail : Tail) → IsLogState s → IsView v → IsViewOf s v
+pub loaded_sound : (s : LogState) (v : View) (tail : Tail) → IsLogState s → IsView v → IsViewOf s v
     → IsTailSeen v tail
     → let b = viewed_bank v in let end = end_of b v.bytes in 2 ≤ end → end ≤ v.pages
     → IsLogState (record s {
@@ -190,11 +189,11 @@ pub loaded_sound : LogsCompute → LoadedLogsHold → (s : LogState) (v : View) 
       end = end;
       tail = tail;
     })
-loaded_sound logs loaded s v tail sound view is seen low high =
+loaded_sound s v tail sound view is seen low high =
     let b = viewed_bank v in
     let end = end_of b v.bytes in
     let places = places_of s.numbers (records_of b v.bytes) in
-    let holds = loaded b s.numbers v.bytes LogClosed view.page.low view.two (inr refl) in
+    let holds = loaded_logs_hold b s.numbers v.bytes LogClosed view.page.low view.two (inr refl) in
     record {
       geometry = sound.geometry;
       shared = sound.shared;
@@ -203,7 +202,7 @@ loaded_sound logs loaded s v tail sound view is seen low high =
       numbers = sound.numbers;
       places =
           subst (λ (p : ℕ). AreWithin p end s.numbers places) is.page (placed_within b v.bytes (exactly b v.bytes) end s.numbers places holds.placed);
-      counts = loaded_counted logs b v.bytes s.numbers;
+      counts = loaded_counted b v.bytes s.numbers;
       flags = clear_length s.numbers;
       end_low = low;
       end_high = subst (λ (n : ℕ). end ≤ n) is.pages high;

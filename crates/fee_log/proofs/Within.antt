@@ -1,7 +1,6 @@
 -- Places among a bank's records.
 use Rattle.std.specs.Prelude.{if◌then◌else◌, ◌==◌}
 use Rattle.std.proofs.Common.{◌≡◌, ℕ, zero, suc, ◌≤◌, ◌+◌, Bool, true, false, List, [], ◌∷◌, length, Some, slice_get, refl, subst, arith}
-use Rattle.std.proofs.lemmas.Bool.Decides.{nat_tests}
 use Rattle.nv_base.specs.declared.instance.DeviceNumber.{DeviceNumber}
 use Rattle.nv_base.specs.Pages.{record_pages_of}
 use Rattle.fee_format.specs.declared.rec_head.RecHead.{RecHead}
@@ -12,6 +11,7 @@ use Rattle.fee_image.specs.declared.place.Place.TheVariants.{Content, Invalid, E
 use Rattle.fee_image.specs.May.{May}
 use Rattle.fee_image.specs.Places.{place_at, noted, erased_places, IsWithin, ArePlaced}
 use Rattle.fee_log.specs.Index.{AreWithin, or_else}
+use Rattle.fee_image.proofs.Placed.{fits_length, further as further_place, pick_within}
 
 pub within_length : (p end : ℕ) (ns : List (DeviceNumber × ℕ)) (places : List Place) → AreWithin p end ns places
     → length places ≡ length ns
@@ -31,13 +31,6 @@ placed_within b bytes may end [] (place ∷ places) all = absurd all
 placed_within b bytes may end (n ∷ ns) [] all = absurd all
 placed_within b bytes may end (n ∷ ns) (place ∷ places) all = (all.0, placed_within b bytes may end ns places all.2)
 
-further_one : (p end end' length : ℕ) (place : Place) → end ≤ end' → IsWithin p end length place
-    → IsWithin p end' length place
-further_one p end end' length (Content at count) le within = (within.0, omega (arith, within.1))
-further_one p end end' length (Invalid count) le within = tt
-further_one p end end' length (Erased count) le within = tt
-further_one p end end' length Unwritten le within = tt
-
 -- a log that goes on keeps its places
 pub further : (p end end' : ℕ) (ns : List (DeviceNumber × ℕ)) (places : List Place) → end ≤ end'
     → AreWithin p end ns places → AreWithin p end' ns places
@@ -45,21 +38,13 @@ further p end end' [] [] le all = tt
 further p end end' [] (place ∷ places) le all = absurd all
 further p end end' (n ∷ ns) [] le all = absurd all
 further p end end' (n ∷ ns) (place ∷ places) le all =
-    (further_one p end end' n.1 place le all.0, further p end end' ns places le all.1)
+    (further_place p end end' n.1 place le all.0, further p end end' ns places le all.1)
 
 kind_within : (p end length at count : ℕ) (b c : Bool) → (b ≡ true → (2 ≤ at) × (at + record_pages_of length p ≤ end))
     → IsWithin p end length (if b then Content at count else (if c then Invalid count else Erased count))
 kind_within p end length at count true c content = content refl
 kind_within p end length at count false true content = tt
 kind_within p end length at count false false content = tt
-
-pick_within : (p end length : ℕ) (b : Bool) (x y : Place) → (b ≡ true → IsWithin p end length x)
-    → IsWithin p end length y → IsWithin p end length (if b then x else y)
-pick_within p end length true x y one two = one refl
-pick_within p end length false x y one two = two
-
-fits_length : (number length : ℕ) (h : RecHead) → fits number length h ≡ true → (h.kind == 1) ≡ true → h.length ≡ length
-fits_length number length h fit kind = grind (arith, nat_tests)
 
 -- a record that is taken in lies among the bank's records
 pub noted_within : (p end end' : ℕ) (ns : List (DeviceNumber × ℕ)) (places : List Place) (h : RecHead) → 2 ≤ end
@@ -71,7 +56,7 @@ noted_within p end end' (n ∷ ns) [] h low le all = absurd all
 noted_within p end end' (n ∷ ns) (place ∷ places) h low le all = (
   pick_within p end' n.1 (fits n.0.0 n.1 h) (place_at end h) place
       (λ fit. kind_within p end' n.1 end h.count (h.kind == 1) (h.kind == 2) (λ kind. (low, rw (← fits_length n.0.0 n.1 h fit kind) le)))
-      (further_one p end end' n.1 place (omega arith) all.0),
+      (further_place p end end' n.1 place (omega arith) all.0),
   noted_within p end end' ns places h low le all.1,
 )
 

@@ -5,7 +5,7 @@ ghost use Rattle.fee_image.specs.Places.{place_at, count_at, noted, erased_place
 ghost use Rattle.fee_log.specs.Index.{place_in, flag_in, with_flag, clear_flags};
 
 use fee_image::Place;
-use nv_base::{DeviceNumber, Lengths, numbers_ascend};
+use nv_base::{DeviceNumber, Lengths};
 use std::alloc::{AllocError, Global};
 
 /// Places for all numbers, of which nothing is found.
@@ -67,7 +67,6 @@ pub(crate) fn put_flag(numbers: &Lengths, flags: &mut [bool], number: DeviceNumb
     requires { length flags.old ≡ length numbers.now }
     ensures { flags.new ≡ with_flag numbers.now flags.old number.0 on }
 {
-    numbers_ascend();
     let _ = numbers.len();
     let Some(i) = numbers.place_of(number) else {
         return;
@@ -115,7 +114,6 @@ pub(crate) fn note(
     requires { length places.old ≡ length numbers.now }
     ensures { places.new ≡ noted numbers.now places.old at (record { number = number.0; kind = kind; length = size; count = count }) }
 {
-    numbers_ascend();
     let Some(i) = numbers.place_of(number) else {
         return;
     };

@@ -7,13 +7,11 @@
 
 mod index;
 mod log;
-mod log_laws;
 mod log_step;
 mod page;
 mod tail;
 mod walk;
 
 pub use log::Log;
-pub use log_laws::{answers_hold, counts_fit, loads_agree, states_follow, states_hold};
 pub use log_step::LogStep;
 pub use tail::Tail;

@@ -3,13 +3,13 @@ ghost use Rattle.std.specs.Prelude.{◌≡◌, ◌≤◌, ◌<◌, ◌+◌, ℕ,
 ghost use Rattle.std.specs.Option.{ForSome};
 ghost use Rattle.nv_base.specs.Geometry.{IsLegal, HasBanks, size_of, address_of_page};
 ghost use Rattle.nv_base.specs.Pages.{record_pages_of};
-ghost use Rattle.fls_model.specs.Step.{IsStep, programs};
+ghost use Rattle.fls_model.specs.Step.{IsStep};
 ghost use Rattle.fls_jobs.specs.CallOf.{closed_as};
 ghost use Rattle.fls_jobs.specs.Start.{IsIdle};
 ghost use Rattle.fee_image.specs.Places.{IsWithin};
 ghost use Rattle.fee_log.specs.Index.{place_in, flag_in, with_flag, clear_flags};
 ghost use Rattle.fee_log.specs.Log.{IsLogState, IsViewOf, IsLoaded, IsFor, head_next, work_in, is_closed, is_owed, free_in, left_in, pages_in, erased_state, begun};
-ghost use Rattle.fee_log.specs.Step.{IsPageOf, IsStepAt, due_bytes, due_page, op_of, answer_of, after_step, given_up};
+ghost use Rattle.fee_log.specs.Step.{IsPageOf, IsStepAt, due_bytes, op_of, answer_of, after_step, given_up};
 
 use crate::index::{
     clear_all, clear_flags, count_at, erased_places, flag_of, forget, note, place_of, put_flag,
@@ -19,11 +19,11 @@ use crate::tail::{tail_begun, tail_seen};
 use crate::walk::take_records;
 use crate::{LogStep, Tail};
 use fee_format::{NEW_FORMAT, RecHead, pages_of};
-use fee_image::{Place, logs_begin, records_compute, records_stay};
+use fee_image::Place;
 use fee_view::BankView;
 use fls_jobs::Fls;
 use fls_model::{Flash, FlashAnswer};
-use nv_base::{DeviceNumber, Geometry, Lengths, banks_share_the_flash, lengths_of, numbers_ascend};
+use nv_base::{DeviceNumber, Geometry, Lengths, lengths_of};
 use std::alloc::{AllocError, Global};
 use std::marker::Model;
 
@@ -176,7 +176,6 @@ impl Log {
         ensures within { (length : ℕ) → Contains self.now.numbers (number, length) → IsWithin self.now.geometry.page self.now.end length result }
         ensures state { IsLogState self.now }
     {
-        numbers_ascend();
         place_of(&self.numbers, &self.places, number)
     }
 
@@ -186,8 +185,6 @@ impl Log {
         ensures address { result ≡ address_of_page self.now.geometry self.now.banks self.now.bank (at + 2) }
         ensures inside { (length : ℕ) → at + record_pages_of length self.now.geometry.page ≤ pages_in self.now → result + length ≤ size_of self.now.geometry }
     {
-        banks_share_the_flash();
-        records_stay();
         self.geometry.page_address(self.banks, self.bank, at + 2)
     }
 
@@ -257,8 +254,6 @@ impl Log {
         requires view { IsViewOf self.old view.now }
         ensures log { IsLoaded view.now self.old self.new }
     {
-        logs_begin();
-        records_compute();
         take_records(view, &self.numbers, &mut self.places);
         clear_all(&self.numbers, &mut self.flags);
         self.format = view.head().format;
@@ -287,7 +282,6 @@ impl Log {
         requires room { record_pages_of head.length self.old.geometry.page ≤ free_in self.old }
         ensures { self.new ≡ begun self.old head }
     {
-        numbers_ascend();
         put_flag(
             &self.numbers,
             &mut self.flags,

@@ -6,7 +6,7 @@ ghost use Rattle.fee_view.specs.Record.{rec_shown};
 ghost use Rattle.fee_image.specs.Places.{noted, places_of};
 
 use crate::index::{forget, note};
-use fee_image::{Place, appends_leave_one_more};
+use fee_image::Place;
 use fee_view::{BankView, Record};
 use nv_base::{DeviceNumber, Lengths};
 
@@ -33,7 +33,6 @@ pub(crate) fn take_records(view: &BankView<'_>, numbers: &Lengths, places: &mut 
     requires each { length places.old ≡ length numbers.now }
     ensures { places.new ≡ places_of numbers.now (records_of (bank_of view.now) view.now.bytes) }
 {
-    appends_leave_one_more();
     forget(numbers, places);
     for item in view.records() {
         take_record(numbers, places, item);

@@ -14,15 +14,20 @@ use Rattle.fee_format.specs.BankHead.{bank_head_page}
 use Rattle.fee_format.specs.Pages.{gate_page}
 use Rattle.fee_image.specs.Bank.{place_of_page}
 use Rattle.fee_image.specs.Image.{Layout, IsLegalLayout, layout_of, bank_in, image_page}
-use Rattle.fee_image.specs.Laws.{LayoutsAreLegal, ProgramsStand}
 use Rattle.fee_image.specs.Sound.{IsSoundImage}
 use Rattle.fee_image.specs.Log.{Log}
 use Rattle.fee_image.specs.Banks.{Erasing, Copying, Sealing, Banks, Holds, HoldsPhase, ImageShows, IsCopying, next_head}
-use Rattle.fee_image.specs.BankLaws.{program_of, BanksShow, ErasesFail, ErasesDone, CopiesFail, HeadsDone, GatesFail, GatesDone, GatesStand}
+use Rattle.fee_image.specs.BankLaws.{program_of}
 use Rattle.fee_switch.specs.declared.target.Stage.{Stage}
 use Rattle.fee_switch.specs.declared.target.Stage.TheVariants.{Erase, Head, Gate}
 use Rattle.fee_switch.specs.declared.target.Target.{Target}
 use Rattle.fee_switch.specs.Target.{IsTarget, IsWorking, head_of, op_at, phase_of, IsReady, banks_at, TargetsHold, CutsShow}
+use Rattle.fee_image.proofs.Erases.{erases_done, erases_fail}
+use Rattle.fee_image.proofs.Ranges.{gates_stand, programs_stand}
+use Rattle.fee_image.proofs.Seals.{copies_fail, gates_done, gates_fail, heads_done}
+use Rattle.fee_image.proofs.Sectors.{layouts_are_legal}
+use Rattle.fee_image.proofs.Shows.{banks_show}
+use Rattle.fee_format.proofs.Torn.{byte_small}
 
 -- A HEAD'S BYTES
 abbrev Small : List ℕ → Type 0
@@ -38,20 +43,16 @@ blank_small : (n : ℕ) → Small (replicate n 255)
 blank_small zero = tt
 blank_small (suc n) = (omega arith, blank_small n)
 
-byte_small : (k n : ℕ) → byte_at k n < 256
-byte_small zero n = omega arith
-byte_small (suc k) n = omega arith
-
 turned : (x : ℕ) → 255 - x < 256
 turned x = omega arith
 
-head_small : (p g : ℕ) → All (λ (x : ℕ). x < 256) (bank_head_page p (record { format = 2; generation = g }))
+pub head_small : (p g : ℕ) → All (λ (x : ℕ). x < 256) (bank_head_page p (record { format = 2; generation = g }))
 head_small p g =
     let low : Small ((255 - byte_at 3 g) ∷ (255 - byte_at 2 g) ∷ (255 - byte_at 1 g) ∷ (255 - byte_at 0 g) ∷ replicate (p - 12) 255) = (turned (byte_at 3 g), (turned (byte_at 2 g), (turned (byte_at 1 g), (turned (byte_at 0 g), blank_small (p - 12))))) in
     all_small (bank_head_page p (record { format = 2; generation = g })) (omega arith, (omega arith, (byte_small 3 g, (byte_small 2 g, (byte_small 1 g, (byte_small 0 g, (omega arith, (omega arith, low))))))))
 
 -- a page of a bank lies in the bytes
-page_inside : (l : Layout) (bytes : List ℕ) (k q : ℕ) → l.pages * l.page * l.banks ≤ length bytes → k < l.banks → q < l.pages → place_of_page (bank_in l 1 k) q + l.page ≤ length bytes
+pub page_inside : (l : Layout) (bytes : List ℕ) (k q : ℕ) → l.pages * l.page * l.banks ≤ length bytes → k < l.banks → q < l.pages → place_of_page (bank_in l 1 k) q + l.page ≤ length bytes
 page_inside l bytes k q size low lt =
     let p = l.page in
     let B = l.pages in
@@ -63,12 +64,12 @@ page_inside l bytes k q size low lt =
     let c : (k * B + q) * p ≡ k * (B * p) + q * p = grind arith in
     omega (arith, size, one, two, turn, a, b, c)
 
-module _ (erases_fail : ErasesFail) (erases_done : ErasesDone) (copies_fail : CopiesFail) (heads_done : HeadsDone) (gates_fail : GatesFail) (gates_done : GatesDone) (gates_stand : GatesStand) (stand : ProgramsStand) (legal : LayoutsAreLegal) (t : Target) (numbers : List (DeviceNumber × ℕ)) (old new : List ℕ) (s : Banks) (log : Log) (is : IsTarget t) (banks : Holds (layout_of t.geometry t.banks) numbers old s) (at : s.target ≡ t.bank) where
+module _ (t : Target) (numbers : List (DeviceNumber × ℕ)) (old new : List ℕ) (s : Banks) (log : Log) (is : IsTarget t) (banks : Holds (layout_of t.geometry t.banks) numbers old s) (at : s.target ≡ t.bank) where
   abbrev l : Layout
   l = layout_of t.geometry t.banks
 
   shape : IsLegalLayout l
-  shape = legal t.geometry t.banks is.legal is.shared
+  shape = layouts_are_legal t.geometry t.banks is.legal is.shared
 
   -- the target's own number
   own : (stage : Stage) → MayLeave (op_at t stage) old new → MayLeave (op_at (record t { bank = s.target }) stage) old new
@@ -90,7 +91,7 @@ module _ (erases_fail : ErasesFail) (erases_done : ErasesDone) (copies_fail : Co
       let size : length page ≡ l.page = omega (arith, shape.page, length-replicate {A = ℕ} (l.page - 12) 255) in
       let c : IsCopying l numbers old s.target log s.copied = subst (HoldsPhase l numbers old s) phase banks.phase in
       let done_own : new ≡ after_op (op_at (record t { bank = s.target }) Head) old = subst (λ (k : ℕ). new ≡ after_op (op_at (record t { bank = k }) Head) old) (sym at) done in
-      let stood = stand b old page 0 size (head_small l.page t.generation) (page_inside l old s.target 0 banks.size banks.target (omega (arith, shape.pages))) (c.first 0 (omega arith) (omega (arith, shape.pages))) in
+      let stood = programs_stand b old page 0 size (head_small l.page t.generation) (page_inside l old s.target 0 banks.size banks.target (omega (arith, shape.pages))) (c.first 0 (omega arith) (omega (arith, shape.pages))) in
       let here : image_page l new s.target 0 ≡ page = subst (λ (bytes : List ℕ). image_page l bytes s.target 0 ≡ page) (sym done_own) stood.0 in
       let same : page ≡ bank_head_page l.page (next_head s.old) = ap (bank_head_page l.page) ready.0 in
       let last : (next_head s.old).generation < 2 ^ 32 = subst (λ (h : BankHead). h.generation < 2 ^ 32) ready.0 ready.1 in
@@ -118,17 +119,17 @@ module _ (erases_fail : ErasesFail) (erases_done : ErasesDone) (copies_fail : Co
   by_stage next inside other Gate Off lt phase ready leaves also = gates_fail l numbers old new s log shape banks phase (own Gate leaves)
 
   -- CUTS
-  shown : BanksShow → (x : Banks) → Holds l numbers new x → ImageShows l new x.may × IsSoundImage l new
-  shown show x h = (show l numbers new x shape h, h.sound)
+  shown : (x : Banks) → Holds l numbers new x → ImageShows l new x.may × IsSoundImage l new
+  shown x h = (banks_show l numbers new x shape h, h.sound)
 
-  cut_by_stage : BanksShow → (stage : Stage) → IsWorking (t.geometry.sectors / t.banks) stage → s.phase ≡ phase_of t stage log → MayLeave (op_at t stage) old new → ImageShows l new s.may × IsSoundImage l new
-  cut_by_stage show (Erase n) lt phase leaves = shown show s (erase_fails n lt phase leaves)
-  cut_by_stage show Head lt phase leaves = shown show (record s { phase = Erasing 0 }) (head_fails phase leaves)
-  cut_by_stage show Gate lt phase leaves = shown show s (gates_fail l numbers old new s log shape banks phase (own Gate leaves))
+  cut_by_stage : (stage : Stage) → IsWorking (t.geometry.sectors / t.banks) stage → s.phase ≡ phase_of t stage log → MayLeave (op_at t stage) old new → ImageShows l new s.may × IsSoundImage l new
+  cut_by_stage (Erase n) lt phase leaves = shown s (erase_fails n lt phase leaves)
+  cut_by_stage Head lt phase leaves = shown (record s { phase = Erasing 0 }) (head_fails phase leaves)
+  cut_by_stage Gate lt phase leaves = shown s (gates_fail l numbers old new s log shape banks phase (own Gate leaves))
 
-pub targets_hold : ErasesFail → ErasesDone → CopiesFail → HeadsDone → GatesFail → GatesDone → GatesStand → ProgramsStand → LayoutsAreLegal → TargetsHold
-targets_hold ef ed cf hd gf gd gs ps ll t numbers old new s log next answer is holds inside other leaves after =
-    by_stage ef ed cf hd gf gd gs ps ll t numbers old new s log is holds.banks holds.target next inside other t.stage answer is.working holds.phase holds.ready leaves after
+pub targets_hold : TargetsHold
+targets_hold t numbers old new s log next answer is holds inside other leaves after =
+    by_stage t numbers old new s log is holds.banks holds.target next inside other t.stage answer is.working holds.phase holds.ready leaves after
 
-pub cuts_show : ErasesFail → ErasesDone → CopiesFail → HeadsDone → GatesFail → GatesDone → GatesStand → ProgramsStand → LayoutsAreLegal → BanksShow → CutsShow
-cuts_show ef ed cf hd gf gd gs ps ll show t numbers old image s log is holds leaves = cut_by_stage ef ed cf hd gf gd gs ps ll t numbers old image s log is holds.banks holds.target show t.stage is.working holds.phase leaves
+pub cuts_show : CutsShow
+cuts_show t numbers old image s log is holds leaves = cut_by_stage t numbers old image s log is holds.banks holds.target t.stage is.working holds.phase leaves

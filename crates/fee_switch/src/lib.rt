@@ -14,14 +14,11 @@ mod due;
 mod phase;
 mod reading;
 mod start;
-mod start_laws;
+mod steps;
 mod target;
-mod target_laws;
 
 pub use active::{ActiveBank, comes_first};
 pub use banks::Banks;
 pub use phase::{BankBegin, BankStart, BankStep, Phase};
 pub use reading::read_bank;
-pub use start_laws::banks_stand_alone;
 pub use target::{Stage, Target};
-pub use target_laws::targets_hold;

@@ -1,5 +1,5 @@
 // A start-up: which bank is active, and its log.
-ghost use Rattle.std.specs.Prelude.{◌≡◌, ◌<◌, ◌≤◌, ◌*◌, ◌/◌, length, None, IfSome, MatchOption};
+ghost use Rattle.std.specs.Prelude.{◌≡◌, ◌<◌, ◌≤◌, ◌*◌, ◌/◌, length, None, IfSome, MatchOption, false};
 ghost use Rattle.nv_base.specs.Geometry.{IsLegal, HasBanks, pages_of_bank, size_of_bank};
 ghost use Rattle.fls_jobs.specs.Start.{IsIdle};
 ghost use Rattle.fls_model.specs.Told.{Told};
@@ -9,10 +9,13 @@ ghost use Rattle.fee_image.specs.RecordList.{StandsAs, StandsNot};
 ghost use Rattle.fee_view.specs.View.{own_bank};
 ghost use Rattle.fee_switch.specs.Reading.{IsAnswered};
 ghost use Rattle.fee_switch.specs.Start.{AreTaken, TakesNext, IsLogAt, IsSameShape};
+ghost use Rattle.fee_switch.specs.Banks.{IsSameFlash, IsStartOf, target_after, FindsActive, LoadsActive};
+ghost use Rattle.fee_log.specs.Index.{clear_flags};
+ghost use Rattle.fee_log.specs.Log.{work_in, erased_state};
 
-use crate::{ActiveBank, banks_stand_alone, comes_first, read_bank};
-use fee_image::records_stay;
-use fee_log::{Log, loads_agree};
+use crate::due::target_of;
+use crate::{ActiveBank, BankStart, Banks, comes_first, read_bank};
+use fee_log::Log;
 use fee_view::BankView;
 use fls_jobs::Fls;
 use fls_model::{Flash, FlashAnswer};
@@ -52,9 +55,6 @@ fn take_bytes(
     ensures place { IsLogAt banks first.old log.old → IsLogAt banks first.new log.new }
     ensures shape { IsSameShape log.old log.new }
 {
-    loads_agree();
-    records_stay();
-    banks_stand_alone();
     let Some(view) = view_of(geometry, banks, bytes) else {
         return;
     };
@@ -100,7 +100,7 @@ fn take_bank<F: Flash>(
 }
 
 /// Reads all banks, one after another, and loads the log from the active one.
-pub(crate) fn take_banks<F: Flash>(
+fn take_banks<F: Flash>(
     fls: &mut Fls<F>,
     geometry: Geometry,
     banks: u32,
@@ -130,4 +130,59 @@ pub(crate) fn take_banks<F: Flash>(
         }
     }
     FlashAnswer::Done
+}
+
+impl Banks {
+    /// Reads each sector once, whole, in ascending order, and programs nothing. The active bank is the one that stands with
+    /// the greatest generation, on a tie the lower one, whatever the bytes are; its log is loaded, or without one that of an
+    /// erased bank, and no switch is open. `Failed` comes only where the flash's faults rose; then no bank is active.
+    pub fn start<F: Flash>(&mut self, fls: &mut Fls<F>) -> BankStart
+        requires idle { IsIdle fls.old }
+        requires geometry { fls.old.geometry ≡ self.old.geometry }
+        requires on { fls.old.flash.off ≡ false }
+        ensures ready { result ≡ BankStart.Ready → IfSome fls.old.flash.bytes (λ b. FindsActive b.now self.new) }
+        ensures loaded { result ≡ BankStart.Ready → IfSome fls.old.flash.bytes (λ b. LoadsActive b.now self.new) }
+        ensures flash { IsStartOf fls.old.flash result fls.new.flash }
+        ensures failed { result ≡ BankStart.Failed → self.new.active ≡ None }
+        ensures format { IfSome self.new.active (λ a. self.new.log.format ≡ a.head.format) }
+        ensures clear { result ≡ BankStart.Ready → self.new.log.flags ≡ clear_flags self.new.log.numbers }
+        ensures idle { result ≡ BankStart.Ready → work_in self.new.log.tail ≡ None }
+        ensures blank { result ≡ BankStart.Ready → self.new.active ≡ None → self.new.log ≡ erased_state self.old.geometry self.old.banks 0 self.old.log.numbers }
+        ensures closed { self.new.course ≡ None }
+        ensures same { fls.new ≡ record fls.old { flash = fls.new.flash; result = fls.new.result } }
+        ensures flash_of { IsSameFlash self.old self.new }
+    {
+        self.active = None;
+        let mut first = None;
+        let answer = take_banks(
+            fls,
+            self.geometry,
+            self.banks,
+            &mut first,
+            &mut self.log,
+            &mut self.buffer,
+        );
+        self.activate(first);
+        if let FlashAnswer::Done = answer {
+            if first.is_none() {
+                self.log.move_to(0);
+            }
+            BankStart::Ready
+        } else {
+            self.active = None;
+            BankStart::Failed
+        }
+    }
+
+    // A bank is active, or none: the bank behind it is the next target, and no switch is open.
+    fn activate(&mut self, active: Option<ActiveBank>)
+        requires place { IsLogAt self.old.banks active self.old.log }
+        ensures { self.new ≡ record self.old { active = active; target = target_after self.old.banks active; course = None; copies = erased_state self.old.geometry self.old.banks (target_after self.old.banks active) self.old.copies.numbers } }
+    {
+        let target = target_of(active, self.banks);
+        self.copies.move_to(target);
+        self.active = active;
+        self.target = target;
+        self.course = None;
+    }
 }

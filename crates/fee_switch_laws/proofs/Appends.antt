@@ -12,25 +12,30 @@ use Rattle.fls_model.specs.Step.{Leaves, programs}
 use Rattle.fee_format.specs.declared.rec_head.RecHead.{RecHead}
 use Rattle.fee_image.specs.Bank.{Bank}
 use Rattle.fee_image.specs.Image.{layout_of, bank_in}
-use Rattle.fee_image.specs.Laws.{LayoutsAreLegal}
-use Rattle.fee_image.specs.LogLaws.{NextIsFresh}
 use Rattle.fee_image.specs.Log.{Log, HoldsLog}
 use Rattle.fee_image.specs.May.{May}
 use Rattle.fee_image.specs.Step.{page_due}
 use Rattle.fee_image.specs.Banks.{Old, OldBank, Phase, Copying, Banks, Holds, HoldsOld}
 use Rattle.fee_image.specs.Copies.{copied_of}
-use Rattle.fee_image.specs.BankLaws.{TakesAppends, OldLogsGoOn, OldLogsChange, BanksShow, program_of}
-use Rattle.fee_log.specs.Laws.{HoldsState, BeginsHold, GivenUpHolds, AnswersHold, WorkIsDue, may_after}
+use Rattle.fee_image.specs.BankLaws.{TakesAppends, program_of}
+use Rattle.fee_image.proofs.Seals.{old_logs_change, old_logs_go_on}
+use Rattle.fee_image.proofs.Sectors.{layouts_are_legal}
+use Rattle.fee_image.proofs.Shows.{banks_show}
+use Rattle.fee_image.proofs.Steps.{next_is_fresh}
+use Rattle.fee_log.specs.Laws.{HoldsState, may_after}
 use Rattle.fee_log.specs.Log.{LogState, bank_of, pages_in, log_of, begun}
 use Rattle.fee_log.specs.Step.{due_bytes, op_of, after_step, given_up}
+use Rattle.fee_log.proofs.Follows.{work_is_due}
+use Rattle.fee_log.proofs.Holds.{begins_hold, given_up_holds}
+use Rattle.fee_log.proofs.Steps.{answers_hold}
 use Rattle.fee_switch.specs.declared.active.ActiveBank.{ActiveBank}
 use Rattle.fee_course.specs.declared.course.Course.{Course}
 use Rattle.fee_course.specs.declared.course.Course.TheVariants.{Erase, Copy, Head, Gate}
-use Rattle.fee_switch_laws.specs.FlagLaws.{FlagsMayClear}
 use Rattle.fee_switch.specs.Banks.{BanksState, IsBanksState, TakesRecord, appended_at, append_begun}
 use Rattle.fee_switch_laws.specs.Appends.{IsActiveLog, HoldsWork, IsTaking, IsDueNow, AppendsBegin, AppendsClear, AppendsGoOn, CutAppendsShow, AppendsGivenUp}
 use Rattle.fee_switch_laws.specs.Shown.{Bodies, old_shown, phase_shown, layout_in, banks_shown, HoldsBanks}
 use Rattle.fee_switch_laws.proofs.Flags.{are_with}
+use Rattle.fee_switch_laws.proofs.FlagTurns.{flags_may_clear}
 
 -- an append changes no phase
 pub same_phase : (o : Option ℕ) (course : Option Course) (x : BanksState) (body : List ℕ) → phase_shown (appended_at o course) x body ≡ phase_shown course x body
@@ -100,34 +105,34 @@ module _ (s : BanksState) (bodies : Bodies) (old : List ℕ) (may copied : May) 
       (subst (λ (ns : List (DeviceNumber × ℕ)). Holds (layout_in s) ns new (record before { old = old_shown s.active changed body; may = may' })) (sym numbers)
       (subst (λ (o : Old). Holds (layout_in s) s.log.numbers new (record before { old = o; may = may' })) (sym (ap (λ (x : Option ActiveBank). old_shown x changed body) active.is)) h))
 
-  pub in_memory : OldLogsChange → (changed : LogState) (body : List ℕ) → IsTaking s bodies → changed.numbers ≡ s.log.numbers → bank_of changed ≡ bank_of s.log → HoldsState changed body old may
+  pub in_memory : (changed : LogState) (body : List ℕ) → IsTaking s bodies → changed.numbers ≡ s.log.numbers → bank_of changed ≡ bank_of s.log → HoldsState changed body old may
       → HoldsBanks (record s { log = changed }) (record bodies { append = body }) old may copied
-  in_memory change changed body taking numbers same h =
+  in_memory changed body taking numbers same h =
       let h2 = subst (λ (b : Bank). HoldsLog b changed.numbers old may (log_of changed body)) same h.holds in
       let h3 = subst (λ (b : Bank). HoldsLog b changed.numbers old may (log_of changed body)) bank_is h2 in
       let h4 = subst (λ (ns : List (DeviceNumber × ℕ)). HoldsLog (bank_in (layout_in s) a.head.format a.bank) ns old may (log_of changed body)) numbers h3 in
-      with_log changed body old may numbers (change (layout_in s) s.log.numbers old before a.bank a.head log (log_of changed body) may holds.banks old_is taking h4)
+      with_log changed body old may numbers (old_logs_change (layout_in s) s.log.numbers old before a.bank a.head log (log_of changed body) may holds.banks old_is taking h4)
 
-  module _ (fresh : NextIsFresh) (due : WorkIsDue) (go : OldLogsGoOn) (answers : AnswersHold) (legal : LayoutsAreLegal) (taking : IsTaking s bodies) (now : IsDueNow s bodies.append) (new : List ℕ) (leaves : MayLeave (op_of s.log bodies.append) old new) where
+  module _ (taking : IsTaking s bodies) (now : IsDueNow s bodies.append) (new : List ℕ) (leaves : MayLeave (op_of s.log bodies.append) old new) where
     op_is : op_of s.log bodies.append ≡ program_of (layout_in s) a.bank (page_due log) (due_bytes s.log bodies.append)
-    op_is = λ i. programs (address_of_page (is.log.shape i) (is.log.shared i) (bank i) ((due s.log bodies.append now.work).1 i)) (due_bytes s.log bodies.append)
+    op_is = λ i. programs (address_of_page (is.log.shape i) (is.log.shared i) (bank i) ((work_is_due s.log bodies.append now.work).1 i)) (due_bytes s.log bodies.append)
 
     after : (answer : FlashAnswer) → (answer ≡ Off → ⊥) → Leaves (op_of s.log bodies.append) answer old new → HoldsState (after_step s.log answer) bodies.append new (may_after s.log bodies.append answer may)
-    after answer on left = answers s.log bodies.append old new may answer (record { state = active.state; holds = state; work = now.work; page = now.page }) on leaves left
+    after answer on left = answers_hold s.log bodies.append old new may answer (record { state = active.state; holds = state; work = now.work; page = now.page }) on leaves left
 
     over : (changed : LogState) (may' : May) → changed.numbers ≡ s.log.numbers → bank_of changed ≡ bank_of s.log → HoldsState changed bodies.append new may'
         → HoldsBanks (record s { log = changed }) bodies new may' copied
     over changed may' numbers same h =
         let l = layout_in s in
         let b = bank_in l a.head.format a.bank in
-        let f = fresh b s.log.numbers old may log held_log (due s.log bodies.append now.work).0 in
+        let f = next_is_fresh b s.log.numbers old may log held_log (work_is_due s.log bodies.append now.work).0 in
         let size : length (due_bytes s.log bodies.append) ≡ l.page = subst (λ (g : _). length (due_bytes s.log bodies.append) ≡ g) (λ i. (is.log.shape i).page) now.page.size in
         let leaves' = subst (λ (o : Op). MayLeave o old new) op_is leaves in
         let h2 = subst (λ (x : Bank). HoldsLog x changed.numbers new may' (log_of changed bodies.append)) same h.holds in
         let h3 = subst (λ (x : Bank). HoldsLog x changed.numbers new may' (log_of changed bodies.append)) bank_is h2 in
         let h4 = subst (λ (ns : List (DeviceNumber × ℕ)). HoldsLog b ns new may' (log_of changed bodies.append)) numbers h3 in
         with_log changed bodies.append new may' numbers
-        (go l s.log.numbers old new (due_bytes s.log bodies.append) before a.bank (page_due log) a.head log (log_of changed bodies.append) may' (legal s.geometry s.banks is.legal is.shared) holds.banks old_is taking size f.low f.high leaves' h4)
+        (old_logs_go_on l s.log.numbers old new (due_bytes s.log bodies.append) before a.bank (page_due log) a.head log (log_of changed bodies.append) may' (layouts_are_legal s.geometry s.banks is.legal is.shared) holds.banks old_is taking size f.low f.high leaves' h4)
 
     pub goes_on : (answer : FlashAnswer) → (answer ≡ Off → ⊥) → Leaves (op_of s.log bodies.append) answer old new
         → HoldsWork (record s { log = after_step s.log answer }) bodies new (may_after s.log bodies.append answer may) copied
@@ -141,10 +146,10 @@ begun_phase s head body =
     other_log s.course (record s { log = begun s.log head }) (begun s.log head) (append_begun s head).course body
     ∙ sym (same_phase (place_of s.log.numbers head.number) s.course (append_begun s head) body)
 
-pub appends_begin : BeginsHold → OldLogsChange → AppendsBegin
-appends_begin begins change s bodies bytes body may copied a head is active may_begin holds =
-    let h = begins s.log head bodies.append body bytes may active.state (state s bodies bytes may copied a is active holds) may_begin.idle may_begin.configured may_begin.room may_begin.size may_begin.commit in
-    let banks = in_memory s bodies bytes may copied a is active holds change (begun s.log head) body (takes head.kind s.course s bodies.copy may_begin.taken) refl refl h in
+pub appends_begin : AppendsBegin
+appends_begin s bodies bytes body may copied a head is active may_begin holds =
+    let h = begins_hold s.log head bodies.append body bytes may active.state (state s bodies bytes may copied a is active holds) may_begin.idle may_begin.configured may_begin.room may_begin.size may_begin.commit in
+    let banks = in_memory s bodies bytes may copied a is active holds (begun s.log head) body (takes head.kind s.course s bodies.copy may_begin.taken) refl refl h in
     record {
       banks =
           subst (λ (p : Phase). Holds (layout_in s) s.log.numbers bytes (record { old = old_shown s.active (begun s.log head) body; target = s.target; phase = p; may = may; copied = copied }))
@@ -152,27 +157,27 @@ appends_begin begins change s bodies bytes body may copied a head is active may_
       follows = h.follows;
     }
 
-pub appends_clear : BeginsHold → OldLogsChange → FlagsMayClear → AppendsClear
-appends_clear begins change clear s bodies bytes body may fs a head is active may_begin follows holds =
-    let h = appends_begin begins change s bodies bytes body may (copied_of fs) a head is active may_begin (record { banks = holds.banks; follows = follows }) in
+pub appends_clear : AppendsClear
+appends_clear s bodies bytes body may fs a head is active may_begin follows holds =
+    let h = appends_begin s bodies bytes body may (copied_of fs) a head is active may_begin (record { banks = holds.banks; follows = follows }) in
     let t = append_begun s head in
     let taking = subst TakesAppends (begun_phase s head bodies.copy) (takes head.kind s.course (record s { log = begun s.log head }) bodies.copy may_begin.taken) in
     record {
-      banks = clear (layout_in s) s.log.numbers bytes (banks_shown t (record bodies { append = body }) may (copied_of fs)) head.number fs h.banks taking;
+      banks = flags_may_clear (layout_in s) s.log.numbers bytes (banks_shown t (record bodies { append = body }) may (copied_of fs)) head.number fs h.banks taking;
       flags = are_with s.log.numbers s.log.places s.log.flags fs head.number false holds.flags;
     }
 
-pub appends_go_on : NextIsFresh → WorkIsDue → OldLogsGoOn → AnswersHold → LayoutsAreLegal → AppendsGoOn
-appends_go_on fresh due go answers legal s bodies old new may copied a answer is active taking now holds on leaves left =
-    goes_on s bodies old may copied a is active holds fresh due go answers legal taking now new leaves answer on left
+pub appends_go_on : AppendsGoOn
+appends_go_on s bodies old new may copied a answer is active taking now holds on leaves left =
+    goes_on s bodies old may copied a is active holds taking now new leaves answer on left
 
-pub cut_appends_show : NextIsFresh → WorkIsDue → OldLogsGoOn → AnswersHold → LayoutsAreLegal → BanksShow → CutAppendsShow
-cut_appends_show fresh due go answers legal show s bodies old image may copied a is active taking now holds leaves =
-    let h = (goes_on s bodies old may copied a is active holds fresh due go answers legal taking now image leaves Failed (λ e. cc) leaves).banks in
+pub cut_appends_show : CutAppendsShow
+cut_appends_show s bodies old image may copied a is active taking now holds leaves =
+    let h = (goes_on s bodies old may copied a is active holds taking now image leaves Failed (λ e. cc) leaves).banks in
     let t : BanksState = record s { log = after_step s.log Failed } in
-    (show (layout_in s) s.log.numbers image (banks_shown t bodies may copied) (legal s.geometry s.banks is.legal is.shared) h, h.sound)
+    (banks_show (layout_in s) s.log.numbers image (banks_shown t bodies may copied) (layouts_are_legal s.geometry s.banks is.legal is.shared) h, h.sound)
 
-pub appends_given_up : GivenUpHolds → OldLogsChange → AppendsGivenUp
-appends_given_up give change s bodies bytes body may copied a is active taking holds =
-    let h = give s.log bodies.append body bytes may active.state (state s bodies bytes may copied a is active holds) in
-    record { banks = in_memory s bodies bytes may copied a is active holds change (given_up s.log) body taking refl refl h; follows = h.follows }
+pub appends_given_up : AppendsGivenUp
+appends_given_up s bodies bytes body may copied a is active taking holds =
+    let h = given_up_holds s.log bodies.append body bytes may active.state (state s bodies bytes may copied a is active holds) in
+    record { banks = in_memory s bodies bytes may copied a is active holds (given_up s.log) body taking refl refl h; follows = h.follows }

@@ -5,43 +5,44 @@ use Rattle.std.proofs.lemmas.List.{length-replicate}
 use Rattle.std.proofs.lemmas.Option.{slice_get-get_or}
 use Rattle.nv_base.specs.declared.instance.DeviceNumber.{DeviceNumber}
 use Rattle.nv_base.specs.Geometry.{pages_of_bank}
-use Rattle.nv_base.specs.Laws.{NumbersAreInBounds}
 use Rattle.nv_base.specs.Lengths.{AreLengths}
+use Rattle.nv_base.proofs.Places.{numbers_are_in_bounds}
 use Rattle.fls_model.specs.declared.flash.FlashAnswer.TheVariants.{Done, Failed}
 use Rattle.fls_model.specs.Op.{MayLeave, after_op}
 use Rattle.fee_format.specs.declared.rec_head.RecHead.{RecHead}
 use Rattle.fee_format.specs.RecHead.{IsLegalRecHead}
 use Rattle.fee_format.specs.Formats.{new_format}
 use Rattle.fee_image.specs.Image.{IsLegalLayout, bank_in}
-use Rattle.fee_image.specs.Laws.{LayoutsAreLegal}
 use Rattle.fee_image.specs.RecordList.{pages_of_head}
 use Rattle.fee_image.specs.declared.place.Place.{Place}
 use Rattle.fee_image.specs.declared.place.Place.TheVariants.{Content, Invalid, Erased, Unwritten}
-use Rattle.fee_image.specs.LogLaws.{NextIsFresh}
 use Rattle.fee_image.specs.Log.{Log, Open as LogOpen}
 use Rattle.fee_image.specs.May.{May}
 use Rattle.fee_image.specs.Step.{IsRecord}
 use Rattle.fee_image.specs.Banks.{Phase, Erasing, Copying}
 use Rattle.fee_image.specs.Copies.{Flag, Each, Copies, copied_of}
-use Rattle.fee_image.specs.BankLaws.{BanksShow, program_of}
+use Rattle.fee_image.specs.BankLaws.{program_of}
+use Rattle.fee_image.proofs.Sectors.{layouts_are_legal}
+use Rattle.fee_image.proofs.Shows.{banks_show}
 use Rattle.fee_log.specs.declared.tail.Tail.{Tail}
 use Rattle.fee_log.specs.declared.tail.Tail.TheVariants.{Writes}
-use Rattle.fee_log.specs.Laws.{PagesStand, StepsFollow, BeginsOpen}
 use Rattle.fee_log.specs.Log.{IsFor, free_behind, pages_in, log_of, tail_with, tail_begun, begun}
 use Rattle.fee_log.specs.Step.{op_of, after_step}
+use Rattle.fee_log.proofs.Follows.{begins_open}
 use Rattle.fee_course.specs.declared.copies.Source.{Source}
 use Rattle.fee_course.specs.declared.course.Course.{Course}
 use Rattle.fee_course.specs.declared.course.Course.TheVariants.{Copy}
 use Rattle.fee_course.specs.Copies.{next_copy}
 use Rattle.fee_course.specs.Course.{begun as course_begun}
 use Rattle.fee_switch_laws.specs.Flags.{IsOpenFor, all_clear, flags_copied}
-use Rattle.fee_switch_laws.specs.FlagLaws.{NextIsOpen, CopiesMayBegin, CopiedPagesHold, FailedCopiesHold}
 use Rattle.fee_switch.specs.Banks.{BanksState, IsBanksState, advanced}
 use Rattle.fee_switch.specs.Copy.{head_at}
 use Rattle.fee_switch_laws.specs.Begins.{IsBeginning, IsMarkBeginning, mark_head, ContentsBegin, ContentsFallBack, MarksBegin, MarksFallBack, CutMarksShow}
 use Rattle.fee_switch_laws.specs.Flagged.{HoldsFlags, IsCopyLog}
 use Rattle.fee_switch_laws.specs.Shown.{Bodies, phase_at, phase_shown, layout_in, banks_shown}
 use Rattle.fee_switch_laws.proofs.Copies.{Held, banks_in, StaysCopying, advanced_holds, again_holds, goes_on, falls_back}
+use Rattle.fee_switch_laws.proofs.FlagChoices.{next_is_open}
+use Rattle.fee_switch_laws.proofs.FlagTurns.{copies_may_begin, failed_copies_hold}
 
 -- a copy that begins leaves the target's log as it is
 first_stays : (s : BanksState) (body : List ℕ) → StaysCopying s body (Copy None)
@@ -52,16 +53,16 @@ first_stays s body x ns ps cs = split (next_copy ns ps cs)
     split (Some source) = refl
 
 -- what a record of a configured number is
-legal_for : NumbersAreInBounds → (numbers : List (DeviceNumber × ℕ)) (h : RecHead) → AreLengths 0 numbers → IsFor numbers h → IsLegalRecHead h
-legal_for bounds numbers h all is =
+legal_for : (numbers : List (DeviceNumber × ℕ)) (h : RecHead) → AreLengths 0 numbers → IsFor numbers h → IsLegalRecHead h
+legal_for numbers h all is =
     let x : DeviceNumber × ℕ = (record { 0 = h.number }, is.length) in
-    let up = bounds 0 numbers is.configured.0 x all (slice_get-get_or numbers is.configured.0 x is.configured.1 ∙ ap Some is.configured.2) in
+    let up = numbers_are_in_bounds 0 numbers is.configured.0 x all (slice_get-get_or numbers is.configured.0 x is.configured.1 ∙ ap Some is.configured.2) in
     elim is.kind as (λ _. IsLegalRecHead h) [
       | inl content ↦ record { number_low = up.0; number_high = up.1; kind = inl (content.0, omega (arith, content.1, up.2)); length = omega (arith, content.1, up.3); count = is.count }
       | inr mark ↦ record { number_low = up.0; number_high = up.1; kind = inr mark; length = omega (arith, mark.1); count = is.count }
     ]
 
-module _ (next_open : NextIsOpen) (bounds : NumbersAreInBounds) (may_begin : CopiesMayBegin) (opens : BeginsOpen) (s : BanksState) (bodies : Bodies) (bytes body : List ℕ) (may : May) (fs : List Flag)
+module _ (s : BanksState) (bodies : Bodies) (bytes body : List ℕ) (may : May) (fs : List Flag)
     (source : Source) (number : DeviceNumber) (is : IsBanksState s) (target : IsCopyLog s) (begins : IsBeginning s source number body fs) (holds : HoldsFlags s bodies bytes may fs) where
   abbrev head : RecHead
   head = head_at source.place number.0 source.length
@@ -69,7 +70,7 @@ module _ (next_open : NextIsOpen) (bounds : NumbersAreInBounds) (may_begin : Cop
   open_for : IsOpenFor number.0 fs
   open_for =
       let there = slice_get-get_or s.log.numbers source.index (number, source.length) begins.next.inside ∙ ap Some (begins.next.named (number, source.length)) in
-      next_open s.log.numbers s.log.places s.log.flags fs source (number, source.length) (subst (AreLengths 0) is.numbers target.state.numbers) holds.flags begins.next.first there
+      next_is_open s.log.numbers s.log.places s.log.flags fs source (number, source.length) (subst (AreLengths 0) is.numbers target.state.numbers) holds.flags begins.next.first there
 
   number_is : (place : Place) → (head_at place number.0 source.length).number ≡ number.0
   number_is (Content at count) = refl
@@ -86,7 +87,7 @@ module _ (next_open : NextIsOpen) (bounds : NumbersAreInBounds) (may_begin : Cop
       let pages : pages_in s.copies ≡ (layout_in s).pages = λ i. pages_of_bank (is.copies.shape i) (is.copies.shared i) in
       record {
         format = refl;
-        legal = legal_for bounds s.copies.numbers head target.state.numbers begins.can.configured;
+        legal = legal_for s.copies.numbers head target.state.numbers begins.can.configured;
         size = begins.size;
         room = omega (arith, room, pages, target.state.end_high);
       }
@@ -95,27 +96,27 @@ module _ (next_open : NextIsOpen) (bounds : NumbersAreInBounds) (may_begin : Cop
   begun_held =
       let idle : (log_of s.copies bodies.copy).tail ≡ LogOpen = ap (λ (t : Tail). tail_with t bodies.copy) begins.tail in
       let opened = subst (λ (n : ℕ). IsOpenFor n fs) (sym (number_is source.place)) open_for in
-      let h = may_begin (layout_in s) s.log.numbers bytes (banks_shown s bodies may (copied_of fs)) (log_of s.copies bodies.copy) head body fs holds.banks phase idle is_record opened in
-      subst (λ (x : Log). Held s bodies bytes may (Copying x) fs) (sym (opens s.copies head body begins.tail)) h
+      let h = copies_may_begin (layout_in s) s.log.numbers bytes (banks_shown s bodies may (copied_of fs)) (log_of s.copies bodies.copy) head body fs holds.banks phase idle is_record opened in
+      subst (λ (x : Log). Held s bodies bytes may (Copying x) fs) (sym (begins_open s.copies head body begins.tail)) h
 
-pub contents_begin : NextIsOpen → NumbersAreInBounds → CopiesMayBegin → BeginsOpen → ContentsBegin
-contents_begin next bounds may_begin opens s bodies bytes buffer body may fs source number at count is target place begins holds =
-    let h = begun_held next bounds may_begin opens s bodies bytes body may fs source number is target begins holds in
+pub contents_begin : ContentsBegin
+contents_begin s bodies bytes buffer body may fs source number at count is target place begins holds =
+    let h = begun_held s bodies bytes body may fs source number is target begins holds in
     let made : BanksState = record s { copies = begun s.copies (head_at source.place number.0 source.length); buffer = buffer } in
     advanced_holds made (record bodies { copy = body }) bytes may fs (Copy None) (first_stays made body) (record { flags = s.log.flags; is = refl; are = holds.flags }) h
 
-pub contents_fall_back : LayoutsAreLegal → FailedCopiesHold → ContentsFallBack
-contents_fall_back legal fail s bodies bytes buffer may fs is course holds =
+pub contents_fall_back : ContentsFallBack
+contents_fall_back s bodies bytes buffer may fs is course holds =
     let l = layout_in s in
-    let shape : IsLegalLayout l = legal s.geometry s.banks is.legal is.shared in
+    let shape : IsLegalLayout l = layouts_are_legal s.geometry s.banks is.legal is.shared in
     let page : List ℕ = replicate l.page 255 in
     let phase : phase_shown s.course s bodies.copy ≡ Copying (log_of s.copies bodies.copy) = ap (λ (c : Option Course). phase_shown c s bodies.copy) course in
     let kept : MayLeave (program_of l s.target 0 page) bytes bytes = (record { size = refl; front = refl; back = refl }, λ b. b) in
-    let h = fail l s.log.numbers bytes bytes page (banks_shown s bodies may (copied_of fs)) 0 (log_of s.copies bodies.copy) fs shape holds.banks phase (length-replicate {A = ℕ} l.page 255) (omega (arith, shape.pages)) (λ e. omega (arith, e)) kept in
+    let h = failed_copies_hold l s.log.numbers bytes bytes page (banks_shown s bodies may (copied_of fs)) 0 (log_of s.copies bodies.copy) fs shape holds.banks phase (length-replicate {A = ℕ} l.page 255) (omega (arith, shape.pages)) (λ e. omega (arith, e)) kept in
     (again_holds (record s { buffer = buffer }) bodies bytes may fs holds.flags h.0, h.1)
 
 -- A MARK
-module _ (next_open : NextIsOpen) (bounds : NumbersAreInBounds) (may_begin : CopiesMayBegin) (opens : BeginsOpen) (s : BanksState) (bodies : Bodies) (old new : List ℕ) (may : May) (fs : List Flag)
+module _ (s : BanksState) (bodies : Bodies) (old new : List ℕ) (may : May) (fs : List Flag)
     (source : Source) (number : DeviceNumber) (is : IsBanksState s) (target : IsCopyLog s) (begins : IsMarkBeginning s source number fs) (holds : HoldsFlags s bodies old may fs) where
   abbrev mark : RecHead
   mark = mark_head source number
@@ -154,7 +155,7 @@ module _ (next_open : NextIsOpen) (bounds : NumbersAreInBounds) (may_begin : Cop
 
   held : HoldsFlags made with_mark old may fs
   held =
-      let h = begun_held next_open bounds may_begin opens s bodies old [] may fs source number is target begins.begins holds in
+      let h = begun_held s bodies old [] may fs source number is target begins.begins holds in
       let h2 = subst (λ (x : RecHead). Held s bodies old may (Copying (log_of (begun s.copies x) [])) fs) same_mark h in
       record { banks = subst (λ (p : Phase). Held made with_mark old may p fs) (sym phase_made) h2; flags = holds.flags }
 
@@ -165,28 +166,27 @@ module _ (next_open : NextIsOpen) (bounds : NumbersAreInBounds) (may_begin : Cop
   not_last : flags_copied s.geometry.page true (tail_with (Writes mark 0) []) fs ≡ fs
   not_last = rw (ne_eqb (0 + 1) (pages_of_head s.geometry.page mark) (λ e. omega arith)) refl
 
-  module _ (stand : PagesStand) (fresh : NextIsFresh) (legal : LayoutsAreLegal) where
-    pub mark_done : StepsFollow → CopiedPagesHold → MayLeave (op_of made.copies []) old new → new ≡ after_op (op_of made.copies []) old
-        → HoldsFlags (advanced (record s { copies = after_step made.copies Done }) (Copy None)) with_mark new may fs
-    mark_done follow pages leaves done =
-        let h = goes_on made with_mark old new may fs mark 0 true stand fresh legal is_made target_made tail_made begins.page phase_made held follow pages copies leaves done in
-        let x : BanksState = record s { copies = after_step made.copies Done } in
-        advanced_holds x with_mark new may fs (Copy None) (first_stays x []) (record { flags = s.log.flags; is = refl; are = holds.flags })
-        (subst (λ (g : List Flag). Held made with_mark new may (Copying (log_of (after_step made.copies Done) [])) g) not_last h)
+  pub mark_done : MayLeave (op_of made.copies []) old new → new ≡ after_op (op_of made.copies []) old
+      → HoldsFlags (advanced (record s { copies = after_step made.copies Done }) (Copy None)) with_mark new may fs
+  mark_done leaves done =
+      let h = goes_on made with_mark old new may fs mark 0 true is_made target_made tail_made begins.page phase_made held copies leaves done in
+      let x : BanksState = record s { copies = after_step made.copies Done } in
+      advanced_holds x with_mark new may fs (Copy None) (first_stays x []) (record { flags = s.log.flags; is = refl; are = holds.flags })
+      (subst (λ (g : List Flag). Held made with_mark new may (Copying (log_of (after_step made.copies Done) [])) g) not_last h)
 
-    pub mark_failed : FailedCopiesHold → MayLeave (op_of made.copies []) old new → Held s bodies new may (Erasing 0) (all_clear fs) × Each (λ f. f.copied ≡ false) (all_clear fs)
-    mark_failed fail leaves = falls_back made with_mark old new may fs mark 0 true stand fresh legal is_made target_made tail_made begins.page phase_made held fail leaves
+  pub mark_failed : MayLeave (op_of made.copies []) old new → Held s bodies new may (Erasing 0) (all_clear fs) × Each (λ f. f.copied ≡ false) (all_clear fs)
+  mark_failed leaves = falls_back made with_mark old new may fs mark 0 true is_made target_made tail_made begins.page phase_made held leaves
 
-pub marks_begin : NextIsOpen → NumbersAreInBounds → CopiesMayBegin → BeginsOpen → PagesStand → NextIsFresh → LayoutsAreLegal → StepsFollow → CopiedPagesHold → MarksBegin
-marks_begin next bounds may_begin opens stand fresh legal follow pages s bodies old new may fs source number is target begins holds leaves done =
-    mark_done next bounds may_begin opens s bodies old new may fs source number is target begins holds stand fresh legal follow pages leaves done
+pub marks_begin : MarksBegin
+marks_begin s bodies old new may fs source number is target begins holds leaves done =
+    mark_done s bodies old new may fs source number is target begins holds leaves done
 
-pub marks_fall_back : NextIsOpen → NumbersAreInBounds → CopiesMayBegin → BeginsOpen → PagesStand → NextIsFresh → LayoutsAreLegal → FailedCopiesHold → MarksFallBack
-marks_fall_back next bounds may_begin opens stand fresh legal fail s bodies old new may fs source number is target begins holds leaves =
-    let h = mark_failed next bounds may_begin opens s bodies old new may fs source number is target begins holds stand fresh legal fail leaves in
+pub marks_fall_back : MarksFallBack
+marks_fall_back s bodies old new may fs source number is target begins holds leaves =
+    let h = mark_failed s bodies old new may fs source number is target begins holds leaves in
     (again_holds (record s { copies = after_step (begun s.copies (mark_head source number)) Failed }) bodies new may fs holds.flags h.0, h.1)
 
-pub cut_marks_show : NextIsOpen → NumbersAreInBounds → CopiesMayBegin → BeginsOpen → PagesStand → NextIsFresh → LayoutsAreLegal → FailedCopiesHold → BanksShow → CutMarksShow
-cut_marks_show next bounds may_begin opens stand fresh legal fail show s bodies old image may fs source number is target begins holds leaves =
-    let h = (mark_failed next bounds may_begin opens s bodies old image may fs source number is target begins holds stand fresh legal fail leaves).0 in
-    (show (layout_in s) s.log.numbers image (banks_in s bodies may (Erasing 0) (all_clear fs)) (legal s.geometry s.banks is.legal is.shared) h, h.sound)
+pub cut_marks_show : CutMarksShow
+cut_marks_show s bodies old image may fs source number is target begins holds leaves =
+    let h = (mark_failed s bodies old image may fs source number is target begins holds leaves).0 in
+    (banks_show (layout_in s) s.log.numbers image (banks_in s bodies may (Erasing 0) (all_clear fs)) (layouts_are_legal s.geometry s.banks is.legal is.shared) h, h.sound)

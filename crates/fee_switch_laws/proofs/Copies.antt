@@ -9,37 +9,39 @@ use Rattle.fls_model.specs.Op.{MayLeave, after_op}
 use Rattle.fee_format.specs.declared.rec_head.RecHead.{RecHead}
 use Rattle.fee_format.specs.Formats.{new_format}
 use Rattle.fee_image.specs.Image.{IsLegalLayout, bank_in}
-use Rattle.fee_image.specs.Laws.{LayoutsAreLegal, SectorsFillBanks}
 use Rattle.fee_image.specs.RecordList.{pages_of_head}
 use Rattle.fee_image.specs.declared.place.Place.{Place}
-use Rattle.fee_image.specs.LogLaws.{NextIsFresh, erased_log}
+use Rattle.fee_image.specs.LogLaws.{erased_log}
 use Rattle.fee_image.specs.Log.{Tail as LogTail, Log}
 use Rattle.fee_image.specs.May.{May}
 use Rattle.fee_image.specs.Step.{page_due}
 use Rattle.fee_image.specs.Banks.{Old, Phase, Erasing, Copying, Banks, Holds, HoldsPhase, IsCopying}
 use Rattle.fee_image.specs.Copies.{Flag, Each, copied_of, marked}
-use Rattle.fee_image.specs.BankLaws.{BanksShow}
+use Rattle.fee_image.proofs.Sectors.{layouts_are_legal, sectors_fill_banks}
+use Rattle.fee_image.proofs.Shows.{banks_show}
+use Rattle.fee_image.proofs.Steps.{next_is_fresh}
 use Rattle.fee_log.specs.declared.tail.Tail.{Tail}
 use Rattle.fee_log.specs.declared.tail.Tail.TheVariants.{Writes}
 use Rattle.fee_log.specs.Index.{with_flag, clear_flags}
-use Rattle.fee_log.specs.Laws.{PagesStand, StepsFollow, IsDueOn}
+use Rattle.fee_log.specs.Laws.{IsDueOn}
 use Rattle.fee_log.specs.Log.{LogState, IsLogState, log_of, tail_with}
 use Rattle.fee_log.specs.Step.{IsPageOf, due_bytes, op_of, after_step}
+use Rattle.fee_log.proofs.Follows.{steps_follow}
+use Rattle.fee_log.proofs.Steps.{pages_stand}
 use Rattle.fee_switch.specs.declared.active.ActiveBank.{ActiveBank}
 use Rattle.fee_course.specs.declared.course.Copying.{Copying as CopyInWork}
 use Rattle.fee_course.specs.declared.course.Course.{Course}
 use Rattle.fee_course.specs.declared.course.Course.TheVariants.{Erase as CourseErase, Copy, Head as CourseHead}
 use Rattle.fee_course.specs.Course.{after_done, flag_due, settled}
 use Rattle.fee_switch_laws.specs.Flags.{AreFlagsOf, CopiesOrNot, all_clear, flags_copied}
-use Rattle.fee_switch_laws.specs.FlagLaws.{CopiesStart, CopiedPagesHold, FailedCopiesHold}
 use Rattle.fee_switch.specs.declared.target.Stage.TheVariants.{Erase}
-use Rattle.fee_switch.specs.Target.{TargetsHold}
 use Rattle.fee_switch.specs.Banks.{BanksState, IsBanksState, flagged_at, flagged_by, advanced, advanced_with, begun_again}
 use Rattle.fee_switch_laws.specs.Copies.{LastErasesStand, CopiesGoOn, CopiesFallBack, CutCopiesShow}
 use Rattle.fee_switch_laws.specs.Flagged.{HoldsFlags, IsCopyLog}
 use Rattle.fee_switch_laws.specs.Shown.{Bodies, old_shown, phase_at, phase_shown, layout_in, banks_shown}
 use Rattle.fee_switch_laws.proofs.Flags.{are_with, are_clear}
 use Rattle.fee_switch_laws.proofs.Targets.{by_answer}
+use Rattle.fee_switch_laws.proofs.FlagTurns.{copied_pages_hold, copies_start, failed_copies_hold}
 
 -- flags are none of what a log shows
 pub same_flags : (active : Option ActiveBank) (log : LogState) (flags : List Bool) (body : List ℕ) → old_shown active log body ≡ old_shown active (record log { flags = flags }) body
@@ -110,12 +112,12 @@ again_holds s bodies new may fs are h =
     }
 
 -- THE LAST ERASE
-pub last_erases_stand : TargetsHold → CopiesStart → LayoutsAreLegal → SectorsFillBanks → LastErasesStand
-last_erases_stand targets start legal fill s bodies old new may fs n is course last erasing holds leaves done =
+pub last_erases_stand : LastErasesStand
+last_erases_stand s bodies old new may fs n is course last erasing holds leaves done =
     let phase = ap (λ (c : Option Course). phase_shown c s bodies.copy) course in
-    let h = by_answer targets s bodies old new may (copied_of fs) is holds.banks (Erase n) Done (let t : n < sectors_of_bank s.geometry s.banks = omega arith in t) phase tt leaves done in
-    let all : (layout_in s).pages ≤ (n + 1) * pages_of_sector s.geometry = subst (λ (k : ℕ). (layout_in s).pages ≤ k * pages_of_sector s.geometry) (sym last) (omega (arith, fill s.geometry s.banks is.legal is.shared)) in
-    let begun = start (layout_in s) s.log.numbers new (banks_in s bodies may (Erasing ((n + 1) * pages_of_sector s.geometry)) fs) ((n + 1) * pages_of_sector s.geometry) fs (legal s.geometry s.banks is.legal is.shared) h refl all erasing.clear in
+    let h = by_answer s bodies old new may (copied_of fs) is holds.banks (Erase n) Done (let t : n < sectors_of_bank s.geometry s.banks = omega arith in t) phase tt leaves done in
+    let all : (layout_in s).pages ≤ (n + 1) * pages_of_sector s.geometry = subst (λ (k : ℕ). (layout_in s).pages ≤ k * pages_of_sector s.geometry) (sym last) (omega (arith, sectors_fill_banks s.geometry s.banks is.legal is.shared)) in
+    let begun = copies_start (layout_in s) s.log.numbers new (banks_in s bodies may (Erasing ((n + 1) * pages_of_sector s.geometry)) fs) ((n + 1) * pages_of_sector s.geometry) fs (layouts_are_legal s.geometry s.banks is.legal is.shared) h refl all erasing.clear in
     let log : erased_log s.log.numbers ≡ log_of s.copies bodies.copy = sym (ap (λ (c : LogState). log_of c bodies.copy) erasing.copies ∙ ap erased_log is.numbers) in
     let h2 = subst (λ (x : Log). Held s bodies new may (Copying x) fs) log begun in
     advanced_holds s bodies new may fs (CourseErase n) (last_erase_stays s bodies.copy n last) (record { flags = s.log.flags; is = refl; are = holds.flags }) h2
@@ -162,7 +164,7 @@ turned true false c e = rw e refl
 turned false true c e = rw e refl
 turned false false c e = rw e refl
 
-module _ (stand : PagesStand) (fresh : NextIsFresh) (s : BanksState) (bodies : Bodies) (old new : List ℕ) (may : May) (fs : List Flag) (legal : IsLegalLayout (layout_in s)) (h : RecHead) (k : ℕ)
+module _ (s : BanksState) (bodies : Bodies) (old new : List ℕ) (may : May) (fs : List Flag) (legal : IsLegalLayout (layout_in s)) (h : RecHead) (k : ℕ)
     (holds : HoldsFlags s bodies old may fs) where
   abbrev here : LogState
   here = log_at s h k
@@ -179,19 +181,19 @@ module _ (stand : PagesStand) (fresh : NextIsFresh) (s : BanksState) (bodies : B
   is_due : before.phase ≡ Copying log → IsLogState here → IsPageOf s.geometry.page (due_bytes here bodies.copy) → IsDueOn here bodies.copy old (copied_of fs)
   is_due phase state page = record { state = state; holds = record { size = holds.banks.size; holds = (copying phase).holds; follows = tt }; work = refl; page = page }
 
-  pub done_holds : StepsFollow → CopiedPagesHold → (sets : Bool) → CopiesOrNot sets h bodies.copy fs → before.phase ≡ Copying log → IsLogState here → IsPageOf s.geometry.page (due_bytes here bodies.copy)
+  pub done_holds : (sets : Bool) → CopiesOrNot sets h bodies.copy fs → before.phase ≡ Copying log → IsLogState here → IsPageOf s.geometry.page (due_bytes here bodies.copy)
       → MayLeave (op_of here bodies.copy) old new → new ≡ after_op (op_of here bodies.copy) old
       → Held s bodies new may (Copying (log_of (after_step here Done) bodies.copy)) (flags_copied s.geometry.page sets log.tail fs)
-  done_holds follow pages sets copies phase state page leaves done =
-      let stood = stand here bodies.copy old new (copied_of fs) (is_due phase state page) done in
-      let h2 = pages (layout_in s) s.log.numbers old new before log sets fs legal holds.banks phase copies tt page.size leaves stood in
-      subst (λ (x : Log). Held s bodies new may (Copying x) (flags_copied s.geometry.page sets log.tail fs)) (sym (follow here bodies.copy Done)) h2
+  done_holds sets copies phase state page leaves done =
+      let stood = pages_stand here bodies.copy old new (copied_of fs) (is_due phase state page) done in
+      let h2 = copied_pages_hold (layout_in s) s.log.numbers old new before log sets fs legal holds.banks phase copies tt page.size leaves stood in
+      subst (λ (x : Log). Held s bodies new may (Copying x) (flags_copied s.geometry.page sets log.tail fs)) (sym (steps_follow here bodies.copy Done)) h2
 
-  pub failed_holds : FailedCopiesHold → before.phase ≡ Copying log → IsPageOf s.geometry.page (due_bytes here bodies.copy) → MayLeave (op_of here bodies.copy) old new
+  pub failed_holds : before.phase ≡ Copying log → IsPageOf s.geometry.page (due_bytes here bodies.copy) → MayLeave (op_of here bodies.copy) old new
       → Held s bodies new may (Erasing 0) (all_clear fs) × Each (λ f. f.copied ≡ false) (all_clear fs)
-  failed_holds fail phase page leaves =
-      let f = fresh (bank_in (layout_in s) new_format s.target) s.log.numbers old (copied_of fs) log (copying phase).holds tt in
-      fail (layout_in s) s.log.numbers old new (due_bytes here bodies.copy) before (page_due log) log fs legal holds.banks phase page.size f.high (let low = f.low in λ e. omega arith) leaves
+  failed_holds phase page leaves =
+      let f = next_is_fresh (bank_in (layout_in s) new_format s.target) s.log.numbers old (copied_of fs) log (copying phase).holds tt in
+      failed_copies_hold (layout_in s) s.log.numbers old new (due_bytes here bodies.copy) before (page_due log) log fs legal holds.banks phase page.size f.high (let low = f.low in λ e. omega arith) leaves
 
 module _ (s : BanksState) (bodies : Bodies) (old new : List ℕ) (may : May) (fs : List Flag) (h : RecHead) (k : ℕ) (sets : Bool) where
   -- the laws of a page, for any log of the target
@@ -206,34 +208,34 @@ module _ (s : BanksState) (bodies : Bodies) (old new : List ℕ) (may : May) (fs
       IsPageOf s.geometry.page (due_bytes c bodies.copy) → MayLeave (op_of c bodies.copy) old new → phase_shown s.course s bodies.copy ≡ Copying (log_of c bodies.copy)
       → Held s bodies new may (Erasing 0) (all_clear fs) × Each (λ f. f.copied ≡ false) (all_clear fs)
 
-  module _ (stand : PagesStand) (fresh : NextIsFresh) (legal : LayoutsAreLegal) (is : IsBanksState s) (target : IsCopyLog s) (tail : s.copies.tail ≡ Writes h k)
+  module _ (is : IsBanksState s) (target : IsCopyLog s) (tail : s.copies.tail ≡ Writes h k)
       (page : IsPageOf s.geometry.page (due_bytes s.copies bodies.copy)) (phase : phase_shown s.course s bodies.copy ≡ Copying (log_of s.copies bodies.copy)) (holds : HoldsFlags s bodies old may fs) where
     same : s.copies ≡ log_at s h k
     same = is_at s h k is target.format tail
 
-    pub goes_on : StepsFollow → CopiedPagesHold → CopiesOrNot sets h bodies.copy fs → MayLeave (op_of s.copies bodies.copy) old new → new ≡ after_op (op_of s.copies bodies.copy) old
+    pub goes_on : CopiesOrNot sets h bodies.copy fs → MayLeave (op_of s.copies bodies.copy) old new → new ≡ after_op (op_of s.copies bodies.copy) old
         → Held s bodies new may (Copying (log_of (after_step s.copies Done) bodies.copy)) (flags_copied s.geometry.page sets (tail_with (Writes h k) bodies.copy) fs)
-    goes_on follow pages copies leaves done = subst GoesOn (sym same) at target.state page leaves done phase
+    goes_on copies leaves done = subst GoesOn (sym same) at target.state page leaves done phase
       where
         at : GoesOn (log_at s h k)
         at state page' leaves' done' phase' =
-            done_holds stand fresh s bodies old new may fs (legal s.geometry s.banks is.legal is.shared) h k holds follow pages sets copies phase' state page' leaves' done'
+            done_holds s bodies old new may fs (layouts_are_legal s.geometry s.banks is.legal is.shared) h k holds sets copies phase' state page' leaves' done'
 
-    pub falls_back : FailedCopiesHold → MayLeave (op_of s.copies bodies.copy) old new → Held s bodies new may (Erasing 0) (all_clear fs) × Each (λ f. f.copied ≡ false) (all_clear fs)
-    falls_back fail leaves = subst FallsBack (sym same) at page leaves phase
+    pub falls_back : MayLeave (op_of s.copies bodies.copy) old new → Held s bodies new may (Erasing 0) (all_clear fs) × Each (λ f. f.copied ≡ false) (all_clear fs)
+    falls_back leaves = subst FallsBack (sym same) at page leaves phase
       where
         at : FallsBack (log_at s h k)
-        at page' leaves' phase' = failed_holds stand fresh s bodies old new may fs (legal s.geometry s.banks is.legal is.shared) h k holds fail phase' page' leaves'
+        at page' leaves' phase' = failed_holds s bodies old new may fs (layouts_are_legal s.geometry s.banks is.legal is.shared) h k holds phase' page' leaves'
 
 module _ (s : BanksState) (bodies : Bodies) (w : CopyInWork) (course : s.course ≡ Some (Copy (Some w))) where
   phase_of_page : phase_shown s.course s bodies.copy ≡ Copying (log_of s.copies bodies.copy)
   phase_of_page = ap (λ (c : Option Course). phase_shown c s bodies.copy) course
 
-pub copies_go_on : PagesStand → NextIsFresh → LayoutsAreLegal → StepsFollow → CopiedPagesHold → CopiesGoOn
-copies_go_on stand fresh legal follow pages s bodies old new may fs w is target course work holds leaves done =
+pub copies_go_on : CopiesGoOn
+copies_go_on s bodies old new may fs w is target course work holds leaves done =
     let p = s.geometry.page in
     let pages_of = pages_of_head p work.head in
-    let h = goes_on s bodies old new may fs work.head work.done w.sets stand fresh legal is target work.tail work.page (phase_of_page s bodies w course) holds follow pages work.copies leaves done in
+    let h = goes_on s bodies old new may fs work.head work.done w.sets is target work.tail work.page (phase_of_page s bodies w course) holds work.copies leaves done in
     let last = turned (eqb w.pages 1) w.sets (eqb (work.done + 1) pages_of) (last_page work.done w.pages pages_of work.pages) in
     let one = one_flagged s.log fs w.index (record { 0 = work.head.number }, work.length) (w.sets && eqb w.pages 1) work.named holds.flags in
     let flags = subst (λ (b : Bool). IsFlagged s.log (flagged_by s.log (flag_due (Copy (Some w)))) (cond b (marked work.head.number fs) fs)) (sym last) one in
@@ -242,12 +244,12 @@ copies_go_on stand fresh legal follow pages s bodies old new may fs w is target 
     subst (λ (t : LogTail). HoldsFlags (advanced made (Copy (Some w))) bodies new may (flags_copied p w.sets t fs)) (sym tail)
     (advanced_holds made bodies new may (flags_copied p w.sets (tail_with (Writes work.head work.done) bodies.copy) fs) (Copy (Some w)) (page_stays made bodies.copy w) flags h)
 
-pub copies_fall_back : PagesStand → NextIsFresh → LayoutsAreLegal → FailedCopiesHold → CopiesFallBack
-copies_fall_back stand fresh legal fail s bodies old new may fs w is target course work holds leaves =
-    let h = falls_back s bodies old new may fs work.head work.done w.sets stand fresh legal is target work.tail work.page (phase_of_page s bodies w course) holds fail leaves in
+pub copies_fall_back : CopiesFallBack
+copies_fall_back s bodies old new may fs w is target course work holds leaves =
+    let h = falls_back s bodies old new may fs work.head work.done w.sets is target work.tail work.page (phase_of_page s bodies w course) holds leaves in
     (again_holds (record s { copies = after_step s.copies Failed }) bodies new may fs holds.flags h.0, h.1)
 
-pub cut_copies_show : PagesStand → NextIsFresh → LayoutsAreLegal → FailedCopiesHold → BanksShow → CutCopiesShow
-cut_copies_show stand fresh legal fail show s bodies old image may fs w is target course work holds leaves =
-    let h = (falls_back s bodies old image may fs work.head work.done w.sets stand fresh legal is target work.tail work.page (phase_of_page s bodies w course) holds fail leaves).0 in
-    (show (layout_in s) s.log.numbers image (banks_in s bodies may (Erasing 0) (all_clear fs)) (legal s.geometry s.banks is.legal is.shared) h, h.sound)
+pub cut_copies_show : CutCopiesShow
+cut_copies_show s bodies old image may fs w is target course work holds leaves =
+    let h = (falls_back s bodies old image may fs work.head work.done w.sets is target work.tail work.page (phase_of_page s bodies w course) holds leaves).0 in
+    (banks_show (layout_in s) s.log.numbers image (banks_in s bodies may (Erasing 0) (all_clear fs)) (layouts_are_legal s.geometry s.banks is.legal is.shared) h, h.sound)

@@ -11,9 +11,10 @@ use Rattle.fee_image.specs.Copies.{Flag, is_done, Each}
 use Rattle.fee_course.specs.declared.copies.Source.{Source}
 use Rattle.fee_course.specs.Copies.{is_left, later, next_copy}
 use Rattle.fee_switch_laws.specs.Flags.{AreFlagsOf, IsOpenFor}
-use Rattle.fee_switch_laws.specs.FlagLaws.{NextIsOpen}
+use Rattle.fee_switch_laws.specs.FlagLaws.{NextIsOpen, SealsMayBegin}
+use Rattle.fee_image.proofs.Copies.{done_is_whole}
 
-none_is_some : {A : Type 0} (x : A) → None ≡ Some x → ⊥
+pub none_is_some : {A : Type 0} (x : A) → None ≡ Some x → ⊥
 none_is_some x e = cc
 
 some_is_none : {A : Type 0} (x : A) → Some x ≡ None → ⊥
@@ -104,3 +105,6 @@ each_is_done (n ∷ ns) (x ∷ ps) (c ∷ cs) (f ∷ fs) are none = split (λ e.
     split behind true left e = absurd (some_is_none (record { index = 0; length = n.1; place = x }) e)
     split behind false left e =
         (left_is_open x c f.copied f.written are.2 are.3 ∙ ap not left, behind (rest (next_copy ns ps cs) e))
+
+pub seals_may_begin : SealsMayBegin
+seals_may_begin ns places copied fs doubts are none = done_is_whole fs doubts (each_is_done ns places copied fs are none)

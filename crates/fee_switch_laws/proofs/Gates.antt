@@ -13,8 +13,9 @@ use Rattle.fee_switch.specs.declared.active.ActiveBank.{ActiveBank}
 use Rattle.fee_course.specs.declared.course.Course.{Course}
 use Rattle.fee_course.specs.declared.course.Course.TheVariants.{Gate as CourseGate}
 use Rattle.fee_switch.specs.declared.target.Stage.TheVariants.{Gate}
-use Rattle.fee_switch.specs.Target.{IsTarget, HoldsTarget, TargetsHold}
+use Rattle.fee_switch.specs.Target.{IsTarget, HoldsTarget}
 use Rattle.fee_switch.specs.Banks.{BanksState, IsBanksState, target_at, target_after, stood, next_generation, ended, fallen_back}
+use Rattle.fee_switch.proofs.Targets.{targets_hold}
 use Rattle.fee_switch_laws.specs.Shown.{Bodies, old_shown, phase_shown, layout_in, banks_shown, HoldsBanks}
 use Rattle.fee_switch_laws.specs.BankBytes.{gate_of, GatesStand, GatesFail}
 
@@ -28,7 +29,7 @@ pub same_head : (active : Option ActiveBank) (s : BanksState) (body : List ℕ) 
 same_head None s body = refl
 same_head (Some a) s body = refl
 
-module _ (targets : TargetsHold) (s : BanksState) (bodies : Bodies) (old new : List ℕ) (may copied : May) (failed : Bool) (is : IsBanksState s) (course : s.course ≡ Some (CourseGate failed)) (holds : HoldsBanks s bodies old may copied) (leaves : MayLeave (gate_of s) old new) where
+module _ (s : BanksState) (bodies : Bodies) (old new : List ℕ) (may copied : May) (failed : Bool) (is : IsBanksState s) (course : s.course ≡ Some (CourseGate failed)) (holds : HoldsBanks s bodies old may copied) (leaves : MayLeave (gate_of s) old new) where
   abbrev log : Log
   log = log_of s.copies bodies.copy
 
@@ -49,17 +50,17 @@ module _ (targets : TargetsHold) (s : BanksState) (bodies : Bodies) (old new : L
 
   stands : new ≡ after_op (gate_of s) old → HoldsBanks (ended s) (record { append = bodies.copy; copy = [] }) new copied copied
   stands done =
-      let h = targets (target_at s Gate) s.log.numbers old new (banks_shown s bodies may copied) log (target_after s.banks (stood s)) Done target held inside other leaves done in
+      let h = targets_hold (target_at s Gate) s.log.numbers old new (banks_shown s bodies may copied) log (target_after s.banks (stood s)) Done target held inside other leaves done in
       subst (λ (ns : List (DeviceNumber × ℕ)). Holds (layout_in s) ns new (record { old = OldBank s.target (record { format = new_format; generation = next_generation s.active }) log; target = target_after s.banks (stood s); phase = Idle; may = copied; copied = copied })) (sym is.numbers)
       (rw (← same_head s.active s bodies.append) h)
 
   fails : HoldsBanks (fallen_back s (CourseGate failed)) bodies new may copied
   fails =
-      let h = targets (target_at s Gate) s.log.numbers old new (banks_shown s bodies may copied) log (target_after s.banks (stood s)) Failed target held inside other leaves leaves in
+      let h = targets_hold (target_at s Gate) s.log.numbers old new (banks_shown s bodies may copied) log (target_after s.banks (stood s)) Failed target held inside other leaves leaves in
       subst (λ (p : Phase). Holds (layout_in s) s.log.numbers new (record { old = old_shown s.active s.log bodies.append; target = s.target; phase = p; may = may; copied = copied })) phase h
 
-pub gates_stand : TargetsHold → GatesStand
-gates_stand targets s bodies old new may copied failed is course holds leaves done = stands targets s bodies old new may copied failed is course holds leaves done
+pub gates_stand : GatesStand
+gates_stand s bodies old new may copied failed is course holds leaves done = stands s bodies old new may copied failed is course holds leaves done
 
-pub gates_fail : TargetsHold → GatesFail
-gates_fail targets s bodies old new may copied failed is course holds leaves = fails targets s bodies old new may copied failed is course holds leaves
+pub gates_fail : GatesFail
+gates_fail s bodies old new may copied failed is course holds leaves = fails s bodies old new may copied failed is course holds leaves

@@ -9,8 +9,8 @@ pub mod Targets
 pub mod Turns
 pub mod FlagChoices
 pub mod FlagTurns
-mod RoomAppends
+pub mod RoomAppends
 mod RoomNext
-mod RoomPages
-mod RoomReady
-mod RoomSteps
+pub mod RoomPages
+pub mod RoomReady
+pub mod RoomSteps

@@ -4,9 +4,9 @@ use Rattle.std.specs.Prelude.{slice_get, is_some, IsSome, IfSome, nat_lt}
 use Rattle.std.proofs.lemmas.Bool.{eq-eqb, eqb-true}
 use Rattle.std.proofs.lemmas.List.{set-set, set_comm}
 use Rattle.nv_base.specs.declared.instance.DeviceNumber.{DeviceNumber}
-use Rattle.nv_base.specs.Laws.{NumbersAreInBounds, NumbersHavePlaces}
 use Rattle.nv_base.specs.Lengths.{place_of}
 use Rattle.nv_base.specs.Pages.{record_pages_of}
+use Rattle.nv_base.proofs.Places.{numbers_have_places}
 use Rattle.fls_model.specs.declared.flash.FlashAnswer.{FlashAnswer}
 use Rattle.fls_model.specs.declared.flash.FlashAnswer.TheVariants.{Done, Failed, Off}
 use Rattle.fee_format.specs.declared.rec_head.RecHead.{RecHead}
@@ -31,7 +31,7 @@ use Rattle.fee_switch_laws.specs.Space.{HasSpace, free_pages}
 use Rattle.fee_switch_laws.specs.KeepsRoom.{HasTarget, uncopied_pages, flags_due, IsRoomy, KeepsRoom}
 use Rattle.fee_switch_laws.specs.RoomLaws.{RecordsKeepRoom, PagesKeepRoom, GivingUpKeepsRoom}
 use Rattle.fee_switch_laws.proofs.RoomNext.{clear_leaves, content_leaves}
-use Rattle.fee_switch_laws.proofs.RoomPages.{IsAt, cleared_adds, at_number, flag_at, clear_stays}
+use Rattle.fee_switch_laws.proofs.RoomPages.{IsAt, cleared_adds, at_number, flag_at, clear_flags_stay}
 
 -- A PAGE
 -- what a step of a log makes of it, whose record in work is a content: no page becomes free, and no number that is left to
@@ -50,7 +50,7 @@ stepped : (c : LogState) (answer : FlashAnswer) (tail : Tail) (end : ℕ) (next 
     → free_in (record c { end = end; tail = next }) ≤ free_in (record c { tail = tail }) → IfSome (work_in next) (λ h. h.kind ≡ 1) → IsStepped (record c { tail = tail }) answer
 stepped c answer tail end next is free work = record { end = end; tail = next; places = c.places; is = is; free = free; work = work; left = λ flags l. l }
 
-content_at : (at : ℕ) (h : RecHead) → h.kind ≡ 1 → place_at at h ≡ Content at h.count
+pub content_at : (at : ℕ) (h : RecHead) → h.kind ≡ 1 → place_at at h ≡ Content at h.count
 content_at at h content = rw (eq-eqb h.kind 1 content) refl
 
 writes_done : (c : LogState) (h : RecHead) (done : ℕ) (b : Bool) → is_last c.geometry.page h done ≡ b → h.kind ≡ 1 → IsStepped (record c { tail = Writes h done }) Done
@@ -165,7 +165,7 @@ giving_up_keeps_room reserve s keeps (inl closed) = record { space = keeps.space
 giving_up_keeps_room reserve s keeps (inr idle) = subst (λ (x : LogState). KeepsRoom reserve (record s { log = x })) (sym (given_up_stays s.log s.log.tail idle)) keeps
 
 -- A RECORD BEGINS
-work_begun : (tail : Tail) (h : RecHead) → work_in (tail_begun tail h) ≡ Some h
+pub work_begun : (tail : Tail) (h : RecHead) → work_in (tail_begun tail h) ≡ Some h
 work_begun Open h = refl
 work_begun (Writes head done) h = refl
 work_begun (Owes head next) h = refl
@@ -203,7 +203,7 @@ content_length ns h for content = elim for.kind as (λ _. h.length ≡ for.lengt
   | inr (inr three, empty) ↦ absurd (omega (arith, content, three))
 ]
 
-module _ (bounds : NumbersAreInBounds) (reserve : ℕ) (s : BanksState) (h : RecHead) (is : IsBanksState s) (space : HasSpace s.log.numbers s.geometry s.banks reserve)
+module _ (reserve : ℕ) (s : BanksState) (h : RecHead) (is : IsBanksState s) (space : HasSpace s.log.numbers s.geometry s.banks reserve)
     (idle : work_in s.log.tail ≡ None) (for : IsFor s.log.numbers h) (room : record_pages_of h.length s.geometry.page ≤ free_pages s)
     (content : h.kind ≡ 1) (i : ℕ) (named : slice_get s.log.numbers i ≡ Some (record { 0 = h.number }, for.length)) where
   abbrev page : ℕ
@@ -220,7 +220,7 @@ module _ (bounds : NumbersAreInBounds) (reserve : ℕ) (s : BanksState) (h : Rec
 
   -- its flag is cleared
   cleared : with_flag ns flags h.number false ≡ set flags i false
-  cleared = flag_at bounds 0 ns flags i (record { 0 = h.number }, for.length) false space.lengths named
+  cleared = flag_at 0 ns flags i (record { 0 = h.number }, for.length) false space.lengths named
 
   -- which adds its pages to the copies at most
   adds : (due : List Bool) → uncopied_pages page ns (set due i false) ≤ uncopied_pages page ns due + record_pages_of h.length page
@@ -286,7 +286,7 @@ module _ (bounds : NumbersAreInBounds) (reserve : ℕ) (s : BanksState) (h : Rec
       begun_roomy (set flags i false) (Erase n) (Erase n) r (record { short = r.going.short; fitting = tt; few = tt })
       (record {
         copies = r.target.copies;
-        clear = sym cleared ∙ ap (λ (f : List Bool). with_flag ns f h.number false) r.target.clear ∙ clear_stays ns h.number;
+        clear = sym cleared ∙ ap (λ (f : List Bool). with_flag ns f h.number false) r.target.clear ∙ clear_flags_stay ns h.number;
       })
       takes (adds flags)
   begins_at (Copy None) r takes =
@@ -303,14 +303,14 @@ takes_content (Copy w) kind takes = takes
 takes_content Head kind takes = absurd takes
 takes_content (Gate failed) kind takes = absurd takes
 
-pub records_keep_room : NumbersAreInBounds → NumbersHavePlaces → RecordsKeepRoom
-records_keep_room bounds have reserve s h is keeps idle takes for room = record { space = keeps.space; switch = at s.course keeps.switch takes }
+pub records_keep_room : RecordsKeepRoom
+records_keep_room reserve s h is keeps idle takes for room = record { space = keeps.space; switch = at s.course keeps.switch takes }
   where
     here : IsAt s.log.numbers h.number for.length
     here = at_number s.log.numbers h for
 
     place : place_of s.log.numbers h.number ≡ Some here.index
-    place = have 0 s.log.numbers here.index (record { 0 = h.number }, for.length) keeps.space.lengths here.is
+    place = numbers_have_places 0 s.log.numbers here.index (record { 0 = h.number }, for.length) keeps.space.lengths here.is
 
     -- where its number stands
     at_place : (o : Option Course) → IfSome o (IsRoomy reserve s) → TakesRecord h.kind o
@@ -318,10 +318,10 @@ records_keep_room bounds have reserve s h is keeps idle takes for room = record 
         IfSome course (IsRoomy reserve (record s { log = record s.log { tail = tail_begun s.log.tail h; flags = set s.log.flags here.index false }; course = course }))
     at_place None r takes = tt
     at_place (Some course) r takes =
-        begins_at bounds reserve s h is keeps.space idle for room (takes_content course h.kind takes) here.index here.is course r takes
+        begins_at reserve s h is keeps.space idle for room (takes_content course h.kind takes) here.index here.is course r takes
 
     flags_are : with_flag s.log.numbers s.log.flags h.number false ≡ set s.log.flags here.index false
-    flags_are = flag_at bounds 0 s.log.numbers s.log.flags here.index (record { 0 = h.number }, for.length) false keeps.space.lengths here.is
+    flags_are = flag_at 0 s.log.numbers s.log.flags here.index (record { 0 = h.number }, for.length) false keeps.space.lengths here.is
 
     P : Option Course → List Bool → Type 0
     P course flags = IfSome course (IsRoomy reserve (record s { log = record s.log { tail = tail_begun s.log.tail h; flags = flags }; course = course }))

@@ -9,6 +9,7 @@ use Rattle.fee_image.specs.declared.place.Place.TheVariants.{Content}
 use Rattle.fee_image.specs.Places.{place_at, noted}
 use Rattle.fee_course.specs.declared.copies.Source.{Source}
 use Rattle.fee_course.specs.Copies.{is_left, later, next_copy}
+use Rattle.fee_switch_laws.proofs.FlagChoices.{none_is_some}
 
 -- it stands at its place in the list, and has no copy
 pub record IsChosen (ns : List (DeviceNumber × ℕ)) (ps : List Place) (cs : List Bool) (s : Source) : Type 0 where
@@ -17,9 +18,6 @@ pub record IsChosen (ns : List (DeviceNumber × ℕ)) (ps : List Place) (cs : Li
   pub place : slice_get ps s.index ≡ Some s.place
   pub clear : slice_get cs s.index ≡ Some false
   pub left : is_left s.place false ≡ true
-
-none_is_some : {A : Type 0} (x : A) → None ≡ Some x → ⊥
-none_is_some x e = cc
 
 chosen_later : (n : DeviceNumber × ℕ) (ns : List (DeviceNumber × ℕ)) (x : Place) (ps : List Place) (c : Bool) (cs : List Bool) (o : Option Source) (s : Source)
     → ((t : Source) → o ≡ Some t → IsChosen ns ps cs t) → option_map (later 1) o ≡ Some s → IsChosen (n ∷ ns) (x ∷ ps) (c ∷ cs) s

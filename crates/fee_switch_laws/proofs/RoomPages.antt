@@ -5,9 +5,9 @@ use Rattle.std.proofs.lemmas.Bool.{eq-eqb, ne_eqb}
 use Rattle.std.proofs.lemmas.Nat.{div-mul-add}
 use Rattle.std.proofs.lemmas.Option.{slice_get-get_or}
 use Rattle.nv_base.specs.declared.instance.DeviceNumber.{DeviceNumber}
-use Rattle.nv_base.specs.Laws.{NumbersAreInBounds}
 use Rattle.nv_base.specs.Lengths.{AreLengths}
 use Rattle.nv_base.specs.Pages.{record_pages_of}
+use Rattle.nv_base.proofs.Places.{numbers_are_in_bounds}
 use Rattle.fee_format.specs.declared.rec_head.RecHead.{RecHead}
 use Rattle.fee_log.specs.Index.{with_flag, clear_flags}
 use Rattle.fee_log.specs.Log.{IsFor}
@@ -87,7 +87,7 @@ few_pages p ns h for low =
 
 -- FLAGS
 -- no flag is that of a number below all
-flags_above : (number low : ℕ) (ns : List (DeviceNumber × ℕ)) (cs : List Bool) (on : Bool) → AreLengths low ns → number ≤ low → with_flag ns cs number on ≡ cs
+pub flags_above : (number low : ℕ) (ns : List (DeviceNumber × ℕ)) (cs : List Bool) (on : Bool) → AreLengths low ns → number ≤ low → with_flag ns cs number on ≡ cs
 flags_above number low [] cs on all le = refl
 flags_above number low (n ∷ ns) [] on all le = refl
 flags_above number low (n ∷ ns) (c ∷ cs) on all le =
@@ -95,23 +95,23 @@ flags_above number low (n ∷ ns) (c ∷ cs) on all le =
     rw (ne_eqb n.0.0 number (λ e. omega arith)) (ap (λ (l : List Bool). c ∷ l) (flags_above number n.0.0 ns cs on all.4 (omega arith)))
 
 -- the flag of a number is the one at its place
-pub flag_at : NumbersAreInBounds → (low : ℕ) (ns : List (DeviceNumber × ℕ)) (cs : List Bool) (i : ℕ) (n : DeviceNumber × ℕ) (on : Bool) → AreLengths low ns → slice_get ns i ≡ Some n
+pub flag_at : (low : ℕ) (ns : List (DeviceNumber × ℕ)) (cs : List Bool) (i : ℕ) (n : DeviceNumber × ℕ) (on : Bool) → AreLengths low ns → slice_get ns i ≡ Some n
     → with_flag ns cs n.0.0 on ≡ set cs i on
-flag_at bounds low [] cs i n on all is = cc
-flag_at bounds low (m ∷ ns) [] i n on all is = refl
-flag_at bounds low (m ∷ ns) (c ∷ cs) zero n on all is =
+flag_at low [] cs i n on all is = cc
+flag_at low (m ∷ ns) [] i n on all is = refl
+flag_at low (m ∷ ns) (c ∷ cs) zero n on all is =
     let same : m ≡ n = cc in
     subst (λ (x : DeviceNumber × ℕ). with_flag (m ∷ ns) (c ∷ cs) x.0.0 on ≡ on ∷ cs) same
     (rw (eq-eqb m.0.0 m.0.0 refl) (ap (λ (l : List Bool). on ∷ l) (flags_above m.0.0 m.0.0 ns cs on all.4 (omega arith))))
-flag_at bounds low (m ∷ ns) (c ∷ cs) (suc i) n on all is =
-    let lt = (bounds m.0.0 ns i n all.4 is).0 in
-    rw (ne_eqb m.0.0 n.0.0 (λ e. omega arith)) (ap (λ (l : List Bool). c ∷ l) (flag_at bounds m.0.0 ns cs i n on all.4 is))
+flag_at low (m ∷ ns) (c ∷ cs) (suc i) n on all is =
+    let lt = (numbers_are_in_bounds m.0.0 ns i n all.4 is).0 in
+    rw (ne_eqb m.0.0 n.0.0 (λ e. omega arith)) (ap (λ (l : List Bool). c ∷ l) (flag_at m.0.0 ns cs i n on all.4 is))
 
 -- where none is set, none is cleared
 kept_clear : (b : Bool) → (if b then false else false) ≡ false
 kept_clear true = refl
 kept_clear false = refl
 
-pub clear_stays : ClearFlagsStay
-clear_stays [] number = refl
-clear_stays (n ∷ ns) number = rw (kept_clear (n.0.0 == number)) (ap (λ (l : List Bool). false ∷ l) (clear_stays ns number))
+pub clear_flags_stay : ClearFlagsStay
+clear_flags_stay [] number = refl
+clear_flags_stay (n ∷ ns) number = rw (kept_clear (n.0.0 == number)) (ap (λ (l : List Bool). false ∷ l) (clear_flags_stay ns number))

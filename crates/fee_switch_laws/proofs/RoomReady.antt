@@ -6,14 +6,15 @@ use Rattle.std.proofs.Math.Nat.{div-add-mod, mul_comm, mul-le-mul_right}
 use Rattle.nv_base.specs.declared.geometry.Geometry.{Geometry}
 use Rattle.nv_base.specs.declared.instance.DeviceNumber.{DeviceNumber}
 use Rattle.nv_base.specs.Geometry.{IsLegal, HasBanks, pages_of_bank, pages_of_sector, sectors_of_bank, size_of_bank}
-use Rattle.nv_base.specs.Laws.{NumbersAreInBounds}
 use Rattle.nv_base.specs.Pages.{record_pages_of, body_pages_of}
+use Rattle.nv_base.proofs.Places.{numbers_are_in_bounds}
 use Rattle.fee_format.specs.declared.rec_head.RecHead.{RecHead}
-use Rattle.fee_image.specs.Laws.{BodiesHaveRoom, SectorsFillBanks}
 use Rattle.fee_image.specs.RecordList.{pages_of_head}
 use Rattle.fee_image.specs.declared.place.Place.{Place}
 use Rattle.fee_image.specs.declared.place.Place.TheVariants.{Content, Invalid, Erased, Unwritten}
 use Rattle.fee_image.specs.Places.{IsWithin, count_at}
+use Rattle.fee_image.proofs.Bodies.{bodies_have_room}
+use Rattle.fee_image.proofs.Sectors.{sectors_fill_banks}
 use Rattle.fee_log.specs.declared.tail.Tail.TheVariants.{Open}
 use Rattle.fee_log.specs.Index.{AreCounted, AreWithin}
 use Rattle.fee_log.specs.Log.{IsLogState, IsFor, work_in, taken_in, free_behind, free_in, pages_in}
@@ -32,23 +33,23 @@ use Rattle.fee_switch_laws.proofs.RoomPages.{mark_pages, set_takes}
 
 -- SHAPES
 -- the pages of a bank are its bytes
-bank_bytes : SectorsFillBanks → (g : Geometry) (banks : ℕ) → IsLegal g → HasBanks g banks → pages_of_bank g banks * g.page ≡ size_of_bank g banks
-bank_bytes fill g banks legal shared =
+bank_bytes : (g : Geometry) (banks : ℕ) → IsLegal g → HasBanks g banks → pages_of_bank g banks * g.page ≡ size_of_bank g banks
+bank_bytes g banks legal shared =
     let m = sectors_of_bank g banks in
     let k = pages_of_sector g in
     let sector : g.sector ≡ k * g.page = omega (arith, div-add-mod g.sector g.page, mul_comm g.page (g.sector / g.page), legal.whole_pages) in
-    let pages : pages_of_bank g banks ≡ m * k = fill g banks legal shared in
+    let pages : pages_of_bank g banks ≡ m * k = sectors_fill_banks g banks legal shared in
     ap (λ (x : ℕ). x * g.page) pages ∙ (let e : m * k * g.page ≡ m * (k * g.page) = grind arith in e) ∙ sym (ap (λ (x : ℕ). m * x) sector)
 
 -- so a content whose record has so many pages fits the buffer
-pub fits_buffer : BodiesHaveRoom → SectorsFillBanks → (s : BanksState) (length' : ℕ) → IsBanksState s
+pub fits_buffer : (s : BanksState) (length' : ℕ) → IsBanksState s
     → record_pages_of length' s.geometry.page ≤ pages_of_bank s.geometry s.banks → length' ≤ length s.buffer
-fits_buffer room fill s length' is le =
+fits_buffer s length' is le =
     let p = s.geometry.page in
     let low : 1 ≤ p = omega (arith, is.legal.page_low) in
-    let body = room length' p low in
+    let body = bodies_have_room length' p low in
     let all : body_pages_of length' p * p ≤ pages_of_bank s.geometry s.banks * p = mul-le-mul_right p (omega arith) in
-    let bytes = bank_bytes fill s.geometry s.banks is.legal is.shared in
+    let bytes = bank_bytes s.geometry s.banks is.legal is.shared in
     omega (arith, body, all, bytes, is.buffer)
 
 -- A COPY THAT BEGINS
@@ -87,7 +88,7 @@ head_pages p length' number (Invalid count) low = mark_pages p length' low
 head_pages p length' number (Erased count) low = mark_pages p length' low
 head_pages p length' number Unwritten low = mark_pages p length' low
 
-module _ (bodies : BodiesHaveRoom) (fill : SectorsFillBanks) (bounds : NumbersAreInBounds) (reserve : ℕ) (s : BanksState)
+module _ (reserve : ℕ) (s : BanksState)
     (is : IsBanksState s) (state : IsLogState s.log) (space : HasSpace s.log.numbers s.geometry s.banks reserve) where
   abbrev page : ℕ
   page = s.geometry.page
@@ -107,8 +108,8 @@ module _ (bodies : BodiesHaveRoom) (fill : SectorsFillBanks) (bounds : NumbersAr
       record {
         within = subst (λ (g : Geometry). IsWithin g.page s.log.end source.length source.place) is.log.shape
             (index_within s.log.geometry.page s.log.end s.log.numbers s.log.places source.index n source.place state.places named h.place);
-        some = omega (arith, (bounds 0 s.log.numbers source.index n space.lengths named).2);
-        fits = fits_buffer bodies fill s source.length is (omega (arith, takes, r.room));
+        some = omega (arith, (numbers_are_in_bounds 0 s.log.numbers source.index n space.lengths named).2);
+        fits = fits_buffer s source.length is (omega (arith, takes, r.room));
         idle = ap work_in tail;
         configured = subst (λ (ns : List (DeviceNumber × ℕ)). IsFor ns (head_at source.place number.0 source.length)) (sym is.numbers)
             (for_number s.log.numbers source.index source.length number source.place named (counted_at s.log.places source.index source.place state.counts h.place));
@@ -136,7 +137,7 @@ module _ (bodies : BodiesHaveRoom) (fill : SectorsFillBanks) (bounds : NumbersAr
       let work = r.target.work in
       let taken : taken_in page s.copies.tail ≡ pages_of_head page work.head = ap (taken_in page) work.tail in
       let in_work : work_in s.copies.tail ≡ Some work.head = ap work_in work.tail in
-      let fits : work.head.length ≤ length s.buffer = fits_buffer bodies fill s work.head.length is (omega (arith, taken, r.room)) in
+      let fits : work.head.length ≤ length s.buffer = fits_buffer s work.head.length is (omega (arith, taken, r.room)) in
       record {
         work = ap is_some in_work;
         fits = λ h at. (let same : work.head ≡ h = cc in subst (λ (x : RecHead). x.length ≤ length s.buffer) same fits);
@@ -150,5 +151,5 @@ module _ (bodies : BodiesHaveRoom) (fill : SectorsFillBanks) (bounds : NumbersAr
   can_go_on (Some Head) r = tt
   can_go_on (Some (Gate failed)) r = tt
 
-pub steps_may_be_made : BodiesHaveRoom → SectorsFillBanks → NumbersAreInBounds → StepsMayBeMade
-steps_may_be_made bodies fill bounds reserve s is state keeps = can_go_on bodies fill bounds reserve s is state keeps.space s.course keeps.switch
+pub steps_may_be_made : StepsMayBeMade
+steps_may_be_made reserve s is state keeps = can_go_on reserve s is state keeps.space s.course keeps.switch

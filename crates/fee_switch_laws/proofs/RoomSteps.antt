@@ -5,19 +5,18 @@ use Rattle.std.proofs.lemmas.Bool.{cond_both, eq-eqb, eqb-true, eqb-false, ne_eq
 use Rattle.std.proofs.lemmas.Option.{slice_get-get_or}
 use Rattle.nv_base.specs.declared.instance.DeviceNumber.{DeviceNumber}
 use Rattle.nv_base.specs.Geometry.{pages_of_bank, pages_of_sector, sectors_of_bank}
-use Rattle.nv_base.specs.Laws.{NumbersAreInBounds}
 use Rattle.nv_base.specs.Pages.{record_pages_of}
 use Rattle.fls_model.specs.declared.flash.FlashAnswer.{FlashAnswer}
 use Rattle.fls_model.specs.declared.flash.FlashAnswer.TheVariants.{Done, Failed, Off}
 use Rattle.fls_model.specs.Told.{Told}
 use Rattle.fee_format.specs.declared.rec_head.RecHead.{RecHead}
 use Rattle.fee_format.specs.Formats.{new_format}
-use Rattle.fee_image.specs.Laws.{SectorsFillBanks}
 use Rattle.fee_image.specs.RecordList.{pages_of_head}
 use Rattle.fee_image.specs.declared.place.Place.{Place}
 use Rattle.fee_image.specs.declared.place.Place.TheVariants.{Content, Invalid, Erased, Unwritten}
 use Rattle.fee_image.specs.Places.{noted}
 use Rattle.fee_image.specs.Step.{is_last}
+use Rattle.fee_image.proofs.Sectors.{sectors_fill_banks}
 use Rattle.fee_log.specs.declared.tail.Tail.{Tail}
 use Rattle.fee_log.specs.declared.tail.Tail.TheVariants.{Open, Writes}
 use Rattle.fee_log.specs.Index.{with_flag, clear_flags}
@@ -32,12 +31,13 @@ use Rattle.fee_course.specs.Course.{begun as course_begun, settled, after_done, 
 use Rattle.fee_course.specs.Laws.{IsBeforeGate}
 use Rattle.fee_switch.specs.Banks.{BanksState, IsBanksState, TakesRecord, is_worn_out, begun_again, flagged_by, flagged_at, advanced, ended, after_answer, left_of}
 use Rattle.fee_switch.specs.Copy.{IsNext, MakesNext, BeginsAt, head_at}
-use Rattle.fee_switch_laws.specs.Turns.{IsGoing, LeftFalls}
+use Rattle.fee_switch_laws.specs.Turns.{IsGoing}
 use Rattle.fee_switch_laws.specs.Space.{HasSpace, most_pages, free_pages, has_room}
 use Rattle.fee_switch_laws.specs.KeepsRoom.{IsOpenCopy, HasTarget, uncopied_pages, flags_due, taken_pages, IsRoomy, KeepsRoom}
 use Rattle.fee_switch_laws.specs.RoomLaws.{StepsLower, SwitchesMakeRoom, RecordsHaveRoom, MadeKeepRoom, ClosedKeepRoom, BeginsKeepRoom, StepsKeepRoom}
 use Rattle.fee_switch_laws.proofs.RoomNext.{chosen}
-use Rattle.fee_switch_laws.proofs.RoomPages.{clear_is_all, set_takes, few_pages, flag_at, clear_stays, mark_pages}
+use Rattle.fee_switch_laws.proofs.RoomPages.{clear_is_all, set_takes, few_pages, flag_at, clear_flags_stay, mark_pages}
+use Rattle.fee_switch_laws.proofs.Turns.{left_falls}
 
 -- THE BANKS THAT A STEP MAKES
 -- only the target's log and the buffer change
@@ -67,9 +67,9 @@ some_sector : (sectors pages per : ℕ) → pages ≡ sectors * per → 1 ≤ pa
 some_sector zero pages per fill some = absurd (omega (arith, fill, some))
 some_sector (suc n) pages per fill some = omega arith
 
-has_sector : SectorsFillBanks → (reserve : ℕ) (s : BanksState) → IsBanksState s → HasSpace s.log.numbers s.geometry s.banks reserve → 0 < sectors_of_bank s.geometry s.banks
-has_sector fill reserve s is space =
-    some_sector (sectors_of_bank s.geometry s.banks) (pages_of_bank s.geometry s.banks) (pages_of_sector s.geometry) (fill s.geometry s.banks is.legal is.shared) (omega (arith, space.space))
+has_sector : (reserve : ℕ) (s : BanksState) → IsBanksState s → HasSpace s.log.numbers s.geometry s.banks reserve → 0 < sectors_of_bank s.geometry s.banks
+has_sector reserve s is space =
+    some_sector (sectors_of_bank s.geometry s.banks) (pages_of_bank s.geometry s.banks) (pages_of_sector s.geometry) (sectors_fill_banks s.geometry s.banks is.legal is.shared) (omega (arith, space.space))
 
 pub again_roomy : (reserve : ℕ) (s : BanksState) (n : ℕ) → HasSpace s.log.numbers s.geometry s.banks reserve → n < sectors_of_bank s.geometry s.banks
     → is_worn_out s.active ≡ false → work_in s.log.tail ≡ None → free_pages s < most_pages s.geometry.page s.log.numbers reserve
@@ -114,7 +114,7 @@ flagged_numbers log (Some i) = split (slice_get log.numbers i)
     split (Some n) = refl
 
 -- A STEP
-module _ (falls : LeftFalls) (bounds : NumbersAreInBounds) (reserve : ℕ) (s : BanksState) (is : IsBanksState s) (state : IsLogState s.log) (idle : work_in s.log.tail ≡ None)
+module _ (reserve : ℕ) (s : BanksState) (is : IsBanksState s) (state : IsLogState s.log) (idle : work_in s.log.tail ≡ None)
     (space : HasSpace s.log.numbers s.geometry s.banks reserve) where
   abbrev page : ℕ
   page = s.geometry.page
@@ -141,7 +141,7 @@ module _ (falls : LeftFalls) (bounds : NumbersAreInBounds) (reserve : ℕ) (s : 
 
   going_after : (course : Course) (copies : LogState) (buffer : List ℕ) → s.course ≡ Some course → IsBeforeGate course → IsGoing s course
       → let t = advanced (record s { copies = copies; buffer = buffer }) course in IfSome t.course (IsGoing t)
-  going_after course copies buffer at before going = (falls s copies buffer course is state idle at before going).1
+  going_after course copies buffer at before going = (left_falls s copies buffer course is state idle at before going).1
 
   -- no copy is in work behind it
   settled_keeps : (flags : List Bool) (old : Course) (copies : LogState) (buffer : List ℕ) → IsRoomy reserve s old
@@ -212,7 +212,7 @@ module _ (falls : LeftFalls) (bounds : NumbersAreInBounds) (reserve : ℕ) (s : 
 
     -- the log with this record begun
     begun_clear : (number' : ℕ) → with_flag s.copies.numbers s.copies.flags number' false ≡ clear_flags s.copies.numbers
-    begun_clear number' = ap (λ (f : List Bool). with_flag s.copies.numbers f number' false) r.target.clear ∙ clear_stays s.copies.numbers number'
+    begun_clear number' = ap (λ (f : List Bool). with_flag s.copies.numbers f number' false) r.target.clear ∙ clear_flags_stay s.copies.numbers number'
 
     content_keeps : (buffer : List ℕ) (at' count : ℕ) → source.place ≡ Content at' count
         → KeepsRoom reserve (advanced (record s { copies = begun s.copies (head_at (Content at' count) number.0 source.length); buffer = buffer }) (Copy None))
@@ -328,7 +328,7 @@ module _ (falls : LeftFalls) (bounds : NumbersAreInBounds) (reserve : ℕ) (s : 
     flag_set : log_due true true ≡ record s.log { flags = set s.log.flags index true }
     flag_set =
         ap (flagged_at s.log) work.named ∙ ap (λ (f : List Bool). record s.log { flags = f })
-        (flag_at bounds 0 ns s.log.flags index (record { 0 = work.head.number }, work.length) true space.lengths work.named)
+        (flag_at 0 ns s.log.flags index (record { 0 = work.head.number }, work.length) true space.lengths work.named)
 
   page_keeps : (index pages : ℕ) (sets last : Bool) (r : IsRoomy reserve s (Copy (Some (record { index = index; pages = pages; sets = sets })))) → eqb pages 1 ≡ last
       → PageKeeps (record { index = index; pages = pages; sets = sets }) (flagged_by s.log (cond (sets && last) (Some index) None)) (after_step s.copies Done) last
@@ -381,45 +381,45 @@ module _ (falls : LeftFalls) (bounds : NumbersAreInBounds) (reserve : ℕ) (s : 
   done_keeps made (Gate failed) told told' at r makes = subst (λ (x : BanksState). KeepsRoom reserve (ended x)) (sym makes.1) gate_keeps
 
   -- the first erase comes again, or the same
-  again_keeps : (fill : SectorsFillBanks) (made : BanksState) (old : Course) (n : ℕ) → IsMadeOf s made → IsRoomy reserve s old → n < sectors_of_bank s.geometry s.banks
+  again_keeps : (made : BanksState) (old : Course) (n : ℕ) → IsMadeOf s made → IsRoomy reserve s old → n < sectors_of_bank s.geometry s.banks
       → KeepsRoom reserve (begun_again made (Erase n))
-  again_keeps fill made old n of r short =
+  again_keeps made old n of r short =
       subst (λ (x : BanksState). KeepsRoom reserve (begun_again x (Erase n))) (sym of.is)
       (record { space = space; switch = again_roomy reserve (record s { copies = of.copies; buffer = of.buffer }) n space short r.worn idle r.few })
 
-  failed_keeps : SectorsFillBanks → (made : BanksState) (course : Course) (told told' : Told) → IsRoomy reserve s course → MakesNext s course told Failed made told'
+  failed_keeps : (made : BanksState) (course : Course) (told told' : Told) → IsRoomy reserve s course → MakesNext s course told Failed made told'
       → KeepsRoom reserve (after_answer made course Failed)
-  failed_keeps fill made (Erase n) told told' r makes = again_keeps fill made (Erase n) n (made_of s made (Erase n) told told' Failed makes) r r.going.short
-  failed_keeps fill made (Copy None) told told' r makes =
-      again_keeps fill made (Copy None) 0 (made_of s made (Copy None) told told' Failed makes) r (has_sector fill reserve s is space)
-  failed_keeps fill made (Copy (Some w)) told told' r makes =
-      again_keeps fill made (Copy (Some w)) 0 (made_of s made (Copy (Some w)) told told' Failed makes) r (has_sector fill reserve s is space)
-  failed_keeps fill made Head told told' r makes = again_keeps fill made Head 0 (made_of s made Head told told' Failed makes) r (has_sector fill reserve s is space)
-  failed_keeps fill made (Gate failed) told told' r makes =
+  failed_keeps made (Erase n) told told' r makes = again_keeps made (Erase n) n (made_of s made (Erase n) told told' Failed makes) r r.going.short
+  failed_keeps made (Copy None) told told' r makes =
+      again_keeps made (Copy None) 0 (made_of s made (Copy None) told told' Failed makes) r (has_sector reserve s is space)
+  failed_keeps made (Copy (Some w)) told told' r makes =
+      again_keeps made (Copy (Some w)) 0 (made_of s made (Copy (Some w)) told told' Failed makes) r (has_sector reserve s is space)
+  failed_keeps made Head told told' r makes = again_keeps made Head 0 (made_of s made Head told told' Failed makes) r (has_sector reserve s is space)
+  failed_keeps made (Gate failed) told told' r makes =
       subst (λ (x : BanksState). KeepsRoom reserve (record x { course = Some (Gate true) })) (sym makes.1) (gate_again failed r)
 
 -- the relation at an open switch
 roomy_at : (reserve : ℕ) (s : BanksState) (course : Course) → KeepsRoom reserve s → s.course ≡ Some course → IsRoomy reserve s course
 roomy_at reserve s course keeps at = subst (λ (o : Option Course). IfSome o (IsRoomy reserve s)) at keeps.switch
 
-pub steps_keep_room : LeftFalls → NumbersAreInBounds → SectorsFillBanks → StepsKeepRoom
-steps_keep_room falls bounds fill reserve s made course told told' Done is state idle at keeps makes on =
-    done_keeps falls bounds reserve s is state idle keeps.space made course told told' at (roomy_at reserve s course keeps at) makes
-steps_keep_room falls bounds fill reserve s made course told told' Failed is state idle at keeps makes on =
-    failed_keeps falls bounds reserve s is state idle keeps.space fill made course told told' (roomy_at reserve s course keeps at) makes
-steps_keep_room falls bounds fill reserve s made course told told' Off is state idle at keeps makes on = absurd (on refl)
+pub steps_keep_room : StepsKeepRoom
+steps_keep_room reserve s made course told told' Done is state idle at keeps makes on =
+    done_keeps reserve s is state idle keeps.space made course told told' at (roomy_at reserve s course keeps at) makes
+steps_keep_room reserve s made course told told' Failed is state idle at keeps makes on =
+    failed_keeps reserve s is state idle keeps.space made course told told' (roomy_at reserve s course keeps at) makes
+steps_keep_room reserve s made course told told' Off is state idle at keeps makes on = absurd (on refl)
 
 -- THE END
-pub steps_lower : LeftFalls → StepsLower
-steps_lower falls reserve s made course told told' is state idle at keeps before makes =
+pub steps_lower : StepsLower
+steps_lower reserve s made course told told' is state idle at keeps before makes =
     let of = made_of s made course told told' Done makes in
     let r = roomy_at reserve s course keeps at in
     lower made course before of r.going at
   where
     lower : (made : BanksState) (course : Course) → IsBeforeGate course → IsMadeOf s made → IsGoing s course → s.course ≡ Some course → left_of (after_answer made course Done) < left_of s
-    lower made (Erase n) before of going at = subst (λ (x : BanksState). left_of (advanced x (Erase n)) < left_of s) (sym of.is) (falls s of.copies of.buffer (Erase n) is state idle at before going).0
-    lower made (Copy w) before of going at = subst (λ (x : BanksState). left_of (advanced x (Copy w)) < left_of s) (sym of.is) (falls s of.copies of.buffer (Copy w) is state idle at before going).0
-    lower made Head before of going at = subst (λ (x : BanksState). left_of (advanced x Head) < left_of s) (sym of.is) (falls s of.copies of.buffer Head is state idle at before going).0
+    lower made (Erase n) before of going at = subst (λ (x : BanksState). left_of (advanced x (Erase n)) < left_of s) (sym of.is) (left_falls s of.copies of.buffer (Erase n) is state idle at before going).0
+    lower made (Copy w) before of going at = subst (λ (x : BanksState). left_of (advanced x (Copy w)) < left_of s) (sym of.is) (left_falls s of.copies of.buffer (Copy w) is state idle at before going).0
+    lower made Head before of going at = subst (λ (x : BanksState). left_of (advanced x Head) < left_of s) (sym of.is) (left_falls s of.copies of.buffer Head is state idle at before going).0
     lower made (Gate failed) before of going at = absurd before
 
 pub switches_make_room : SwitchesMakeRoom
@@ -456,10 +456,10 @@ few_free : (urgent : Bool) (pages most reserve free : ℕ) → pages ≤ most �
 few_free true pages most reserve free le none = omega (arith, leb-false pages free none)
 few_free false pages most reserve free le none = omega (arith, leb-false (pages + reserve) free none)
 
-pub begins_keep_room : SectorsFillBanks → BeginsKeepRoom
-begins_keep_room fill reserve s head urgent is keeps idle worn for none = record {
+pub begins_keep_room : BeginsKeepRoom
+begins_keep_room reserve s head urgent is keeps idle worn for none = record {
   space = keeps.space;
-  switch = again_roomy reserve s 0 keeps.space (has_sector fill reserve s is keeps.space) worn idle
+  switch = again_roomy reserve s 0 keeps.space (has_sector reserve s is keeps.space) worn idle
       (few_free urgent (record_pages_of head.length s.geometry.page) (greatest s.geometry.page s.log.numbers) reserve (free_pages s)
       (few_pages s.geometry.page s.log.numbers head for is.legal.page_low) none);
 }

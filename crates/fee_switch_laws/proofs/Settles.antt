@@ -2,24 +2,25 @@
 use Rattle.std.proofs.Common.{ℕ, ◌+◌, Bool, true, false, List, [], Some, None, cond, subst}
 use Rattle.nv_base.specs.declared.geometry.Geometry.{Geometry}
 use Rattle.fls_model.specs.declared.flash.FlashAnswer.TheVariants.{Done}
-use Rattle.fee_image.specs.Log.{Tail as LogTail, Open as LogOpen, Writes as LogWrites, Owes as LogOwes, Closed as LogClosed}
-use Rattle.fee_image.specs.May.{May, IsWider, held_written}
+use Rattle.fee_image.specs.Log.{Writes as LogWrites}
+use Rattle.fee_image.specs.May.{held_written}
 use Rattle.fee_image.specs.Places.{noted}
 use Rattle.fee_image.specs.Step.{is_last, log_behind}
-use Rattle.fee_image.specs.Banks.{Phase, Idle, Erasing, Copying, Sealing}
-use Rattle.fee_image.specs.Copies.{Flag, copied_of, settled_at, SettlingWidens}
-use Rattle.fee_image.specs.BankLaws.{TakesAppends, SealsWithin, BanksWiden}
+use Rattle.fee_image.specs.Copies.{Flag, copied_of, settled_at}
+use Rattle.fee_image.specs.BankLaws.{TakesAppends}
+use Rattle.fee_image.proofs.Doubts.{banks_widen}
 use Rattle.fee_log.specs.declared.tail.Tail.{Tail}
 use Rattle.fee_log.specs.declared.tail.Tail.TheVariants.{Open, Writes, Owes, Closed}
 use Rattle.fee_log.specs.Laws.{may_after}
 use Rattle.fee_log.specs.Log.{LogState, log_of, tail_with}
 use Rattle.fee_log.specs.Step.{after_step}
-use Rattle.fee_switch_laws.specs.Flags.{AreFlagsOf, IsAppendTo, flags_appended}
+use Rattle.fee_switch_laws.specs.Flags.{AreFlagsOf, flags_appended}
 use Rattle.fee_switch.specs.Banks.{BanksState}
-use Rattle.fee_switch_laws.specs.Appends.{AppendsGoOn, AppendsSettle, FitsFlags}
+use Rattle.fee_switch_laws.specs.Appends.{AppendsSettle, FitsFlags}
 use Rattle.fee_switch_laws.specs.Shown.{layout_in, phase_shown, banks_shown}
-use Rattle.fee_switch_laws.proofs.Appends.{other_log}
+use Rattle.fee_switch_laws.proofs.Appends.{other_log, appends_go_on}
 use Rattle.fee_switch_laws.proofs.Flags.{are_settled, is_placed}
+use Rattle.fee_switch_laws.proofs.FlagTurns.{appended_wide, within_by}
 
 -- the flags are those of the places behind a page that is done
 after_flags : (s : LogState) (tail : Tail) (body : List ℕ) (fs : List Flag) → AreFlagsOf s.numbers s.places s.flags fs → FitsFlags (tail_with tail body) fs
@@ -36,35 +37,18 @@ after_flags s (Owes h None) body fs are fit = are
 after_flags s (Owes h (Some next)) body fs are fit = are
 after_flags s Closed body fs are fit = are
 
--- of a number whose flag is clear the target may show anything
-settled_wide : SettlingWidens → (p : ℕ) (tail : LogTail) (fs : List Flag) → IsAppendTo tail fs → IsWider (copied_of fs) (copied_of (flags_appended p tail fs))
-settled_wide settles p LogOpen fs is = λ number length m among. among
-settled_wide settles p (LogOwes h) fs is = λ number length m among. among
-settled_wide settles p LogClosed fs is = λ number length m among. among
-settled_wide settles p (LogWrites h body k) fs is = split (is_last p h k)
-  where
-    split : (b : Bool) → IsWider (copied_of fs) (copied_of (cond b (settled_at h.number (held_written h body) fs) fs))
-    split true = subst (λ (x : List Flag). IsWider (copied_of x) (copied_of (settled_at h.number (held_written h body) x))) is (settles fs h.number (held_written h body))
-    split false = λ number length m among. among
-
-within : (phase : Phase) (copied may : May) → TakesAppends phase → SealsWithin phase copied may
-within Idle copied may taken = tt
-within (Erasing n) copied may taken = tt
-within (Copying log) copied may taken = tt
-within (Sealing log) copied may taken = absurd taken
-
-pub appends_settle : AppendsGoOn → BanksWiden → SettlingWidens → AppendsSettle
-appends_settle go widen settles s bodies old new may fs a is active taking now append fit follows holds leaves done =
+pub appends_settle : AppendsSettle
+appends_settle s bodies old new may fs a is active taking now append fit follows holds leaves done =
     let t : BanksState = record s { log = after_step s.log Done } in
     let may' = may_after s.log bodies.append Done may in
     let tail = (log_of s.log bodies.append).tail in
-    let g = go s bodies old new may (copied_of fs) a Done is active taking now (record { banks = holds.banks; follows = follows }) (λ e. cc) leaves done in
+    let g = appends_go_on s bodies old new may (copied_of fs) a Done is active taking now (record { banks = holds.banks; follows = follows }) (λ e. cc) leaves done in
     let taken = subst TakesAppends (other_log s.course s (after_step s.log Done) s.course bodies.copy) taking in
     let copied = copied_of (flags_appended s.geometry.page tail fs) in
     record {
       banks =
-          widen (layout_in s) s.log.numbers new (banks_shown t bodies may' (copied_of fs)) may' copied g.banks (λ number length m among. among) (settled_wide settles s.geometry.page tail fs append)
-          (within (phase_shown t.course t bodies.copy) copied may' taken);
+          banks_widen (layout_in s) s.log.numbers new (banks_shown t bodies may' (copied_of fs)) may' copied g.banks (λ number length m among. among) (appended_wide s.geometry.page tail fs append)
+          (within_by (phase_shown t.course t bodies.copy) copied may' taken);
       flags =
           subst (λ (g : Geometry). AreFlagsOf t.log.numbers t.log.places t.log.flags (flags_appended g.page tail fs)) is.log.shape
           (after_flags s.log s.log.tail bodies.append fs holds.flags fit);

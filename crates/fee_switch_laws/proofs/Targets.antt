@@ -16,8 +16,9 @@ use Rattle.fee_course.specs.declared.course.Course.{Course}
 use Rattle.fee_course.specs.declared.course.Course.TheVariants.{Erase as CourseErase, Head as CourseHead}
 use Rattle.fee_switch.specs.declared.target.Stage.{Stage}
 use Rattle.fee_switch.specs.declared.target.Stage.TheVariants.{Erase, Head}
-use Rattle.fee_switch.specs.Target.{IsWorking, TargetsHold, IsReady, phase_of, banks_after}
+use Rattle.fee_switch.specs.Target.{IsWorking, IsReady, phase_of, banks_after}
 use Rattle.fee_switch.specs.Banks.{BanksState, IsBanksState, target_at, target_after, stood, next_generation, advanced, fallen_back}
+use Rattle.fee_switch.proofs.Targets.{targets_hold}
 use Rattle.fee_switch_laws.specs.Shown.{Bodies, old_shown, phase_shown, layout_in, banks_shown, HoldsBanks}
 use Rattle.fee_switch_laws.specs.Targets.{op_in, ErasesGoOn, ErasesFail, HeadsStand, HeadsFail}
 use Rattle.fee_switch_laws.proofs.Gates.{next_inside, next_other, same_head}
@@ -27,7 +28,7 @@ same_old : (active : Option ActiveBank) (s : BanksState) (body : List ℕ) → o
 same_old None s body = refl
 same_old (Some a) s body = refl
 
-module _ (targets : TargetsHold) (s : BanksState) (bodies : Bodies) (old new : List ℕ) (may copied : May) (is : IsBanksState s) (holds : HoldsBanks s bodies old may copied) where
+module _ (s : BanksState) (bodies : Bodies) (old new : List ℕ) (may copied : May) (is : IsBanksState s) (holds : HoldsBanks s bodies old may copied) where
   abbrev log : Log
   log = log_of s.copies bodies.copy
 
@@ -35,7 +36,7 @@ module _ (targets : TargetsHold) (s : BanksState) (bodies : Bodies) (old new : L
       → IsReady (target_at s stage) stage (banks_shown s bodies may copied) → MayLeave (op_in s stage) old new → Leaves (op_in s stage) answer old new
       → Holds (layout_in s) s.log.numbers new (banks_after (target_at s stage) (banks_shown s bodies may copied) log (target_after s.banks (stood s)) answer)
   by_answer stage answer working phase ready leaves also =
-      targets (target_at s stage) s.log.numbers old new (banks_shown s bodies may copied) log (target_after s.banks (stood s)) answer
+      targets_hold (target_at s stage) s.log.numbers old new (banks_shown s bodies may copied) log (target_after s.banks (stood s)) answer
       (record { legal = is.legal; shared = is.shared; bank = is.target; working = working }) (record { banks = holds; target = refl; phase = phase; ready = ready })
       (next_inside s.banks s.target is.shared.low is.target) (next_other s.banks s.target is.shared.low) leaves also
 
@@ -73,14 +74,14 @@ module _ (targets : TargetsHold) (s : BanksState) (bodies : Bodies) (old new : L
       let none : 0 ≡ 0 * pages_of_sector s.geometry = omega arith in
       cleared (Erasing (0 * pages_of_sector s.geometry)) (subst (λ (n : ℕ). Holds (layout_in s) s.log.numbers new (record { old = old_shown s.active s.log bodies.append; target = s.target; phase = Erasing n; may = may; copied = copied })) none h)
 
-pub erases_go_on : TargetsHold → ErasesGoOn
-erases_go_on targets s bodies old new may copied n is course lt holds leaves done = erased targets s bodies old new may copied is holds n course lt leaves done
+pub erases_go_on : ErasesGoOn
+erases_go_on s bodies old new may copied n is course lt holds leaves done = erased s bodies old new may copied is holds n course lt leaves done
 
-pub erases_fail : TargetsHold → ErasesFail
-erases_fail targets s bodies old new may copied n is course lt holds leaves = erase_again targets s bodies old new may copied is holds n course lt leaves
+pub erases_fail : ErasesFail
+erases_fail s bodies old new may copied n is course lt holds leaves = erase_again s bodies old new may copied is holds n course lt leaves
 
-pub heads_stand : TargetsHold → HeadsStand
-heads_stand targets s bodies old new may copied is course few wide holds leaves done = head_stood targets s bodies old new may copied is holds course few wide leaves done
+pub heads_stand : HeadsStand
+heads_stand s bodies old new may copied is course few wide holds leaves done = head_stood s bodies old new may copied is holds course few wide leaves done
 
-pub heads_fail : TargetsHold → HeadsFail
-heads_fail targets s bodies old new may copied is course few wide holds leaves = head_again targets s bodies old new may copied is holds course few wide leaves
+pub heads_fail : HeadsFail
+heads_fail s bodies old new may copied is course few wide holds leaves = head_again s bodies old new may copied is holds course few wide leaves

@@ -22,7 +22,7 @@ figures_found p own (x ∷ xs) n length is = elim (cases_Bool (x.0.0 == n)) [
   | inr e ↦ rw e (figures_found p own xs n length (rw e at is))
 ]
 
-owed_few : (owed : Bool) → turns_owed owed ≤ 1
+pub owed_few : (owed : Bool) → turns_owed owed ≤ 1
 owed_few true = omega arith
 owed_few false = omega arith
 
@@ -64,7 +64,7 @@ greatest_few p low (n ∷ ns) small all = omega (arith, record_few p n.1 small a
 own_few : (p sectors : ℕ) (ns : List (DeviceNumber × ℕ)) → p ≤ 256 → sectors ≤ 64 → AreLengths 0 ns → most_turns p sectors ns ≤ 300000000
 own_few p sectors ns small few all = omega (arith, copies_few p 0 ns small (omega arith) all, greatest_few p 0 ns small all)
 
-length_few : (low : ℕ) (ns : List (DeviceNumber × ℕ)) (n length : ℕ) → AreLengths low ns → length_of ns n ≡ Some length → length ≤ 4096
+pub length_few : (low : ℕ) (ns : List (DeviceNumber × ℕ)) (n length : ℕ) → AreLengths low ns → length_of ns n ≡ Some length → length ≤ 4096
 length_few low [] n length all is = cc
 length_few low (x ∷ xs) n length all is = elim (cases_Bool (x.0.0 == n)) [
   | inl e ↦ (let same : x.1 ≡ length = (let s : Some x.1 ≡ Some length = rw e at is in cc) in omega (arith, same, all.3))

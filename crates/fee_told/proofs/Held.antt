@@ -19,8 +19,10 @@ use Rattle.fee_image.specs.Log.{Tail, Open as OpenTail, Writes, Owes, Closed}
 use Rattle.fee_format.specs.declared.rec_head.RecHead.{RecHead}
 use Rattle.fee_image.specs.May.{beside, held_written}
 use Rattle.fee_image.specs.Banks.{Old, NoBank, OldBank, Phase, Idle, Erasing, Copying, Sealing, Holds, HoldsOld}
-use Rattle.fee_image.specs.Doubts.{shown_of, OldBanksShow, HasMarks, HasCopies, BanksTighten}
-use Rattle.fee_image.specs.BankLaws.{BanksShow, BanksWiden, SealsWithin}
+use Rattle.fee_image.specs.Doubts.{shown_of, HasMarks, HasCopies}
+use Rattle.fee_image.specs.BankLaws.{SealsWithin}
+use Rattle.fee_image.proofs.Doubts.{banks_tighten, banks_widen, old_banks_show}
+use Rattle.fee_image.proofs.Shows.{banks_show}
 use Rattle.promise_device.specs.Image.{held_as}
 use Rattle.fee_told.specs.Slots.{Memory, banks_with, writes_of, writes_in, IsWorkOf, HasJob, IsCopied, slot_of, left_by, left_on, job_leaves, held_all, settled_in, settled_at, slots_held, may_of, may_told}
 use Rattle.fee_told.specs.SlotLaws.{HeldAnew, CopiesAreTold, ImagesFind, StepsKeep, GoesOn}
@@ -31,9 +33,9 @@ found_possible : (l : Layout) (numbers : List (DeviceNumber × ℕ)) (slots : Li
 found_possible l numbers slots image n None is shows = inl (ap (λ (s : Slot). s.settled) (sym (slot_none numbers slots n is)))
 found_possible l numbers slots image n (Some size) is shows = possible_from numbers slots n size (found_held l image n size) is (shows size)
 
-pub images_find : BanksShow → ImagesFind
-images_find show l numbers slots image s legal holds wider n =
-    found_possible l numbers slots image n (length_of numbers n) refl (λ size. wider n size (found_held l image n size) (show l numbers image s legal holds n size))
+pub images_find : ImagesFind
+images_find l numbers slots image s legal holds wider n =
+    found_possible l numbers slots image n (length_of numbers n) refl (λ size. wider n size (found_held l image n size) (banks_show l numbers image s legal holds n size))
 
 -- PLACES
 module _ (l : Layout) (numbers : List (DeviceNumber × ℕ)) (bytes : List ℕ) where
@@ -197,13 +199,13 @@ module _ (l : Layout) (numbers : List (DeviceNumber × ℕ)) (bytes : List ℕ) 
   within_told (Copying log) is = tt
   within_told (Sealing log) is = copies_told (Sealing log) is
 
-  pub anew : BanksTighten → BanksWiden → Holds l numbers bytes (banks_with m told copied)
-  anew tighten widen =
-      let tight = tighten l numbers bytes (banks_with m may copied) told holds (marks_told m.old (settled_count l numbers bytes m.old) job holds.old settled_told) (copies_told m.phase seal) in
-      widen l numbers bytes _ told copied tight (λ number length x is. beside_in (told number length) (shown_of l bytes m.old number length) x (shown_told number length) is) (λ number length x is. is) (within_told m.phase seal)
+  pub anew : Holds l numbers bytes (banks_with m told copied)
+  anew =
+      let tight = banks_tighten l numbers bytes (banks_with m may copied) told holds (marks_told m.old (settled_count l numbers bytes m.old) job holds.old settled_told) (copies_told m.phase seal) in
+      banks_widen l numbers bytes _ told copied tight (λ number length x is. beside_in (told number length) (shown_of l bytes m.old number length) x (shown_told number length) is) (λ number length x is. is) (within_told m.phase seal)
 
-pub held_anew : BanksTighten → BanksWiden → HeldAnew
-held_anew tighten widen l numbers bytes m may copied all holds job seal = record { banks = anew l numbers bytes m may copied all holds job seal tighten widen; job = job; seal = seal }
+pub held_anew : HeldAnew
+held_anew l numbers bytes m may copied all holds job seal = record { banks = anew l numbers bytes m may copied all holds job seal; job = job; seal = seal }
 
 pub copies_are_told : CopiesAreTold
 copies_are_told l numbers bytes m copied before is_held are number length x among = among_from numbers (slots_held l numbers bytes m) number length x (λ has.
@@ -211,7 +213,7 @@ copies_are_told l numbers bytes m copied before is_held are number length x amon
     subst (λ (s : Slot). IsPossible s x) (sym (held_slot l numbers bytes m (may_told l numbers bytes m) number length is_held.banks.old has)) (inl is))
 
 -- STEPS
-module _ (show : OldBanksShow) (l : Layout) (numbers : List (DeviceNumber × ℕ)) (old new : List ℕ) (m t : Memory) (copied : May) (holds : Holds l numbers new (banks_with t (may_told l numbers old m) copied)) (same : settled_in l numbers new t.old ≡ settled_in l numbers old m.old) (goes : GoesOn m.stand t.stand) where
+module _ (l : Layout) (numbers : List (DeviceNumber × ℕ)) (old new : List ℕ) (m t : Memory) (copied : May) (holds : Holds l numbers new (banks_with t (may_told l numbers old m) copied)) (same : settled_in l numbers new t.old ≡ settled_in l numbers old m.old) (goes : GoesOn m.stand t.stand) where
   by_number : (n : ℕ) (o : Option ℕ) → length_of numbers n ≡ o → Keeps (slot_at numbers (slots_held l numbers old m) n) (slot_at numbers (slots_held l numbers new t) n)
   by_number n None is = rw (slot_none numbers (slots_held l numbers old m) n is, slot_none numbers (slots_held l numbers new t) n is) (keeps_same no_slot)
   by_number n (Some size) is =
@@ -220,11 +222,11 @@ module _ (show : OldBanksShow) (l : Layout) (numbers : List (DeviceNumber × ℕ
       let was = slot_is (shown_of l old m.old) (job_leaves m.stand) numbers marks n size (ap (length {A = Held}) (sym same) ∙ long) is in
       let now = held_slot l numbers new t (may_told l numbers old m) n size holds.old is in
       let mark : settled_at l numbers new t.old n ≡ settled_at l numbers old m.old n = ap (λ (ms : List Held). at_number never_written numbers ms n) same in
-      let shown = possible_from numbers (slots_held l numbers old m) n size (shown_of l new t.old n size) is (show l numbers new (banks_with t (may_told l numbers old m) copied) holds n size) in
+      let shown = possible_from numbers (slots_held l numbers old m) n size (shown_of l new t.old n size) is (old_banks_show l numbers new (banks_with t (may_told l numbers old m) copied) holds n size) in
       subst (λ (s : Slot). Keeps s (slot_at numbers (slots_held l numbers new t) n)) (sym was)
       (subst (Keeps (slot_of (settled_at l numbers old m.old n) (shown_of l old m.old n size) (left_on (settled_at l numbers old m.old n) (job_leaves m.stand n)))) (sym (now ∙ ap (λ (x : Held). slot_of x (shown_of l new t.old n size) (left_on x (job_leaves t.stand n))) mark))
       (keeps_one (settled_at l numbers old m.old n) (shown_of l old m.old n size) (shown_of l new t.old n size) (left_on (settled_at l numbers old m.old n) (job_leaves m.stand n)) (left_on (settled_at l numbers old m.old n) (job_leaves t.stand n))
       (subst (λ (s : Slot). IsPossible s (shown_of l new t.old n size)) was shown) (λ h has. leaves_fewer m.stand t.stand n (settled_at l numbers old m.old n) h goes has)))
 
-pub steps_keep : OldBanksShow → StepsKeep
-steps_keep show l numbers old new m t copied holds same goes n = by_number show l numbers old new m t copied holds same goes n (length_of numbers n) refl
+pub steps_keep : StepsKeep
+steps_keep l numbers old new m t copied holds same goes n = by_number l numbers old new m t copied holds same goes n (length_of numbers n) refl

@@ -10,19 +10,22 @@ use Rattle.fee_image.specs.declared.place.Place.{Place}
 use Rattle.fee_image.specs.Log.{Open, Closed, Log}
 use Rattle.fee_image.specs.May.{May}
 use Rattle.fee_image.specs.Banks.{Old, NoBank, OldBank, Phase, Idle, Erasing, Copying, Sealing, Holds, HoldsOld, HoldsBank}
-use Rattle.fee_image.specs.BankLaws.{BanksWiden, SealsWithin, TakesAppends}
+use Rattle.fee_image.specs.BankLaws.{SealsWithin, TakesAppends}
+use Rattle.fee_image.proofs.Doubts.{banks_widen}
 use Rattle.fee_told.specs.Slots.{Memory, banks_with, IsWorkOf, HasJob, settled_in, slots_held, may_told, IsCopied}
-use Rattle.fee_told.specs.SlotLaws.{IsHeld, HeldAnew, ImagesFind, StepsKeep, JobsKeep, SamePlaces, GoesOn}
+use Rattle.fee_told.specs.SlotLaws.{IsHeld, SamePlaces, GoesOn}
 use Rattle.fee_told.specs.Kept.{IsKept, KeptIsFound, CopiesWiden}
+use Rattle.fee_told.proofs.Held.{held_anew, images_find, steps_keep}
+use Rattle.fee_told.proofs.Steps.{jobs_keep}
 
 keeps_possible : (s t : Slot) (h : Held) → Keeps s t → IsPossible t h → IsPossible s h
 keeps_possible s t h keeps (inl is) = inl (is ∙ keeps.settled)
 keeps_possible s t h keeps (inr has) = inr (keeps.doubts h has)
 
-pub kept_is_found : ImagesFind → KeptIsFound
-kept_is_found find l numbers old image m t copied legal kept n =
+pub kept_is_found : KeptIsFound
+kept_is_found l numbers old image m t copied legal kept n =
     keeps_possible (slot_at numbers (slots_held l numbers old m) n) (slot_at numbers (slots_held l numbers image t) n) _ (kept.keeps n)
-    (find l numbers (slots_held l numbers image t) image (banks_with t (may_told l numbers image t) copied) legal kept.held.banks (λ number length x is. is) n)
+    (images_find l numbers (slots_held l numbers image t) image (banks_with t (may_told l numbers image t) copied) legal kept.held.banks (λ number length x is. is) n)
 
 -- PHASES AND TAILS
 pub takes_copied : (l : Layout) (numbers : List (DeviceNumber × ℕ)) (bytes : List ℕ) (phase : Phase) (old : Old) (copied : May) → TakesAppends phase → IsCopied l numbers bytes phase old copied
@@ -46,9 +49,9 @@ none_closed ns ps (OpenJob j) = tt
 none_closed ns ps (Ended result given) = tt
 
 -- a job that goes on, or ends, without a record
-pub copies_widen : BanksWiden → CopiesWiden
-copies_widen widen l numbers bytes m copied wide is_held more takes = record {
-  banks = widen l numbers bytes (banks_with m (may_told l numbers bytes m) copied) (may_told l numbers bytes m) wide is_held.banks (λ number length x is. is) more (takes_within m.phase wide (may_told l numbers bytes m) takes);
+pub copies_widen : CopiesWiden
+copies_widen l numbers bytes m copied wide is_held more takes = record {
+  banks = banks_widen l numbers bytes (banks_with m (may_told l numbers bytes m) copied) (may_told l numbers bytes m) wide is_held.banks (λ number length x is. is) more (takes_within m.phase wide (may_told l numbers bytes m) takes);
   job = is_held.job;
   seal = takes_copied l numbers bytes m.phase m.old wide takes;
 }
@@ -62,19 +65,19 @@ same_places NoBank = tt
 same_places (OldBank k h log) = (refl, refl, refl)
 
 -- a step behind which no more may be found, and in which the places stay
-pub kept_by : HeldAnew → StepsKeep → (l : Layout) (numbers : List (DeviceNumber × ℕ)) (old new : List ℕ) (m t : Memory) (copied : May)
+pub kept_by : (l : Layout) (numbers : List (DeviceNumber × ℕ)) (old new : List ℕ) (m t : Memory) (copied : May)
     → AreLengths 0 numbers → Holds l numbers new (banks_with t (may_told l numbers old m) copied) → settled_in l numbers new t.old ≡ settled_in l numbers old m.old → GoesOn m.stand t.stand
     → HasJob numbers t.stand t.old → IsCopied l numbers new t.phase t.old copied → IsKept l numbers old new m t copied
-kept_by anew keep l numbers old new m t copied lengths holds same goes job seal = record {
-  held = anew l numbers new t (may_told l numbers old m) copied lengths holds job seal;
-  keeps = keep l numbers old new m t copied holds same goes;
+kept_by l numbers old new m t copied lengths holds same goes job seal = record {
+  held = held_anew l numbers new t (may_told l numbers old m) copied lengths holds job seal;
+  keeps = steps_keep l numbers old new m t copied holds same goes;
 }
 
 -- a change in memory alone
-pub kept_memory : HeldAnew → JobsKeep → (l : Layout) (numbers : List (DeviceNumber × ℕ)) (bytes : List ℕ) (m t : Memory) (before may copied : May)
+pub kept_memory : (l : Layout) (numbers : List (DeviceNumber × ℕ)) (bytes : List ℕ) (m t : Memory) (before may copied : May)
     → AreLengths 0 numbers → IsHeld l numbers bytes m before → Holds l numbers bytes (banks_with t may copied) → SamePlaces m.old t.old → GoesOn m.stand t.stand
     → HasJob numbers t.stand t.old → IsCopied l numbers bytes t.phase t.old copied → IsKept l numbers bytes bytes m t copied
-kept_memory anew jobs l numbers bytes m t before may copied lengths is_held holds same goes job seal = record {
-  held = anew l numbers bytes t may copied lengths holds job seal;
-  keeps = jobs l numbers bytes m t before is_held same goes;
+kept_memory l numbers bytes m t before may copied lengths is_held holds same goes job seal = record {
+  held = held_anew l numbers bytes t may copied lengths holds job seal;
+  keeps = jobs_keep l numbers bytes m t before is_held same goes;
 }

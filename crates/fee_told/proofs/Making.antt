@@ -12,7 +12,6 @@ use Rattle.fls_model.specs.Attach.{enlarged, IsFilled}
 use Rattle.fls_model.specs.Op.{Op, MayLeave}
 use Rattle.fls_model.specs.Step.{IsChanged, Leaves, Notes, HasCause}
 use Rattle.fls_model.specs.Told.{Told, ToldBytes, Change, IfBothTold, bytes_now, changes_in}
-use Rattle.fee_image.specs.Laws.{SoundImagesCompute}
 use Rattle.fee_image.specs.Sound.{IsSoundImage}
 use Rattle.promise_device.specs.Making.{Making, banks_of}
 use Rattle.promise_device.specs.Bridge.{is_program, is_failed, has_failed}
@@ -64,8 +63,8 @@ no_get : (k : ℕ) (x : Change) → slice_get [] k ≡ Some x → ⊥
 no_get zero x is = cc
 no_get (suc k) x is = cc
 
-pub runs_begin : SoundImagesCompute → RunsBegin
-runs_begin computes d made cuts =
+pub runs_begin : RunsBegin
+runs_begin d made cuts =
     let m = d.making in
     let g = m.geometry in
     let at = made.attaches in
@@ -76,7 +75,7 @@ runs_begin computes d made cuts =
       sound = λ told. some_if (bytes_now d.flash) (IsSoundFlash m) (λ end is.
           let first = filled_before g d.entry.bytes d.flash.bytes end at.bytes is in
           let same = filled g d.entry.bytes d.flash.bytes first.bytes end at.bytes first.is is in
-          subst (IsSoundImage (banks_of m)) (sym (ap (attached g) same ∙ twice (size_of g) first.bytes)) (told_sound computes d first.bytes first.is told));
+          subst (IsSoundImage (banks_of m)) (sym (ap (attached g) same ∙ twice (size_of g) first.bytes)) (told_sound d first.bytes first.is told));
       sound_cut = λ told k image (x, get, leaves). (let none : slice_get [] k ≡ Some x = ap (λ (l : List Change). slice_get l k) (sym made.operations) ∙ get in absurd (no_get k x none));
       faults = inl (omega (arith, made.faults, at.faults));
       failed = λ failed. absurd (false≢true (subst (λ (l : List Change). IsTrue (has_failed l)) made.operations failed));

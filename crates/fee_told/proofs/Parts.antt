@@ -11,7 +11,8 @@ use Rattle.fls_model.specs.Plan.{PlanGoes}
 use Rattle.fls_model.specs.Step.{HasCause}
 use Rattle.fls_model.specs.Told.{Told, Change}
 use Rattle.fee_image.specs.Image.{active_of}
-use Rattle.fee_image.specs.Laws.{ActiveStays, ProgramsTouchOnePage}
+use Rattle.fee_image.proofs.Banks.{active_stays}
+use Rattle.fee_image.proofs.Ranges.{programs_touch_one_page}
 use Rattle.promise_device.specs.Making.{banks_of}
 use Rattle.fee_told.specs.Device.{Device, ops_in, part_of}
 use Rattle.fee_told.specs.Clock.{Makes, change_of}
@@ -24,7 +25,7 @@ grow a b own own' le (inl same) few = (omega arith, inl (omega arith))
 grow a b own own' le (inr (is, inl less)) few = (omega arith, inl (omega arith))
 grow a b own own' le (inr (is, inr (big, more))) few = (omega arith, inr (omega arith))
 
-rose_more : (a b : ℕ) → Rose a b → a ≤ b
+pub rose_more : (a b : ℕ) → Rose a b → a ≤ b
 rose_more a b (inl less) = omega arith
 rose_more a b (inr (big, more)) = more
 
@@ -111,9 +112,9 @@ parts_power d t p =
     }
 
 -- A WORN-OUT DEVICE
-pub programs_keep_last : ActiveStays → ProgramsTouchOnePage → ProgramsKeepLast
-programs_keep_last stays touch m old new page k q legal size low high leaves (j, h, active, is_last) =
+pub programs_keep_last : ProgramsKeepLast
+programs_keep_last m old new page k q legal size low high leaves (j, h, active, is_last) =
     let l = banks_of m in
-    let page_same = λ (i : ℕ) (r : ℕ) (few : r < 2). touch l old new page k q i r size leaves high (let lt : r < l.pages = omega (arith, legal.pages) in lt) (λ same. omega (arith, same.1)) in
-    let same : active_of l new ≡ active_of l old = stays l old new (λ i few. (page_same i 0 (omega arith), page_same i 1 (omega arith))) in
+    let page_same = λ (i : ℕ) (r : ℕ) (few : r < 2). programs_touch_one_page l old new page k q i r size leaves high (let lt : r < l.pages = omega (arith, legal.pages) in lt) (λ same. omega (arith, same.1)) in
+    let same : active_of l new ≡ active_of l old = active_stays l old new (λ i few. (page_same i 0 (omega arith), page_same i 1 (omega arith))) in
     (j, h, same ∙ active, is_last)

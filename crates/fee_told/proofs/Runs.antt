@@ -1,40 +1,32 @@
 -- What ties a device to its flash, over its calls.
 use Rattle.std.specs.Prelude.{IsTrue, IfSome, take, drop, ◌||◌}
 use Rattle.std.specs.List.{list_all, list_any}
-use Rattle.std.proofs.Common.{◌≡◌, inl, inr, ℕ, zero, suc, ◌≤◌, ◌+◌, Bool, true, false, List, [], ◌∷◌, Option, Some, None, refl, sym, ◌∙◌, subst, arith}
+use Rattle.std.proofs.Common.{◌≡◌, inl, inr, ℕ, zero, suc, ◌≤◌, Bool, true, false, List, [], ◌∷◌, Option, Some, None, refl, sym, ◌∙◌, subst, arith}
 use Rattle.std.proofs.lemmas.Bool.{and_parts, false≢true, or_cases}
 use Rattle.nv_base.specs.Count.{WereCounted}
-use Rattle.fls_model.specs.Op.{Op, Program, Erase}
 use Rattle.fls_model.specs.Told.{Change, bytes_now, changes_in}
-use Rattle.fee_image.specs.Laws.{SoundImagesCompute}
+use Rattle.fee_image.proofs.Soundness.{sound_images_compute}
 use Rattle.promise_device.specs.Bridge.{is_program, is_failed, IsWornOut}
-use Rattle.promise_device.specs.FlashRun.{TellsBytes, StartsSound, HasSamePlace, AreSeen, bytes_after}
+use Rattle.promise_device.specs.FlashRun.{TellsBytes, StartsSound, AreSeen, bytes_after}
 use Rattle.promise_device.specs.Making.{banks_of}
 use Rattle.promise_device.specs.Image.{attached, IsSoundFlash}
+use Rattle.promise_device.proofs.FlashRun.{seen_all}
 use Rattle.fee_told.specs.Device.{Device, run_of, is_told_sound, tells}
 use Rattle.fee_told.specs.Clock.{IsWornFor}
 use Rattle.fee_told.specs.Runs.{HasRun, RunsBridge}
 use Rattle.fee_told.proofs.Clocks.{some_if, if_some}
 
 -- THE BRIDGE
-sound_told : SoundImagesCompute → (d : Device) → TellsBytes (run_of d) → StartsSound d.making (run_of d) → IsTrue (tells d)
-sound_told computes d t sound =
+sound_told : (d : Device) → TellsBytes (run_of d) → StartsSound d.making (run_of d) → IsTrue (tells d)
+sound_told d t sound =
     let m = d.making in
     let is : IsSoundFlash m t.first = if_some (bytes_now d.entry) (IsSoundFlash m) t.first t.entry sound in
-    subst (λ (o : Option (List ℕ)). IsTrue (is_told_sound m o)) (sym t.entry) ((computes (banks_of m) (attached m.geometry t.first)).1 is)
+    subst (λ (o : Option (List ℕ)). IsTrue (is_told_sound m o)) (sym t.entry) ((sound_images_compute (banks_of m) (attached m.geometry t.first)).1 is)
 
-pub told_sound : SoundImagesCompute → (d : Device) (first : List ℕ) → bytes_now d.entry ≡ Some first → IsTrue (tells d) → IsSoundFlash d.making first
-told_sound computes d first is told =
+pub told_sound : (d : Device) (first : List ℕ) → bytes_now d.entry ≡ Some first → IsTrue (tells d) → IsSoundFlash d.making first
+told_sound d first is told =
     let m = d.making in
-    (computes (banks_of m) (attached m.geometry first)).0 (subst (λ (o : Option (List ℕ)). IsTrue (is_told_sound m o)) is told)
-
-same_place : (op : Op) → HasSamePlace op op
-same_place (Program address page) = (refl, refl)
-same_place (Erase address n) = (refl, refl)
-
-seen_all : (kept : ℕ → Type 0) (k : ℕ) (end : List ℕ) (xs : List Change) → AreSeen kept k end xs xs
-seen_all kept k end [] = refl
-seen_all kept k end (x ∷ xs) = inl (same_place x.op, refl, inl refl, seen_all kept (k + 1) end xs)
+    (sound_images_compute (banks_of m) (attached m.geometry first)).0 (subst (λ (o : Option (List ℕ)). IsTrue (is_told_sound m o)) is told)
 
 if_changes : (o : Option (List Change)) (operations changes : List Change) → IfSome o (λ (c : List Change). c ≡ operations) → o ≡ Some changes → changes ≡ operations
 if_changes (Some c) operations changes same is = (let e : c ≡ changes = cc is in sym e ∙ same)
@@ -74,15 +66,15 @@ worn_out d k n has w =
       full = λ told small. elim (w.full told small) [ inl room ↦ inl room | inr failed ↦ inr (has.failed (any_front (λ (x : Change). is_failed x.answer) k d.operations failed), failed) ];
     }
 
-pub runs_bridge : SoundImagesCompute → RunsBridge
-runs_bridge computes cutter d has =
+pub runs_bridge : RunsBridge
+runs_bridge cutter d has =
     let g = d.making.geometry in
     record {
       after = λ t sound k made small. some_if (bytes_after (run_of d) k) _ (λ image is.
-          record { told = sound_told computes d t sound; made = made; small = small; image = image; is = is; finds = λ n. refl });
-      cut = λ t sound k image small leaves. record { told = sound_told computes d t.bytes sound; small = small; image = image; leaves = leaves; finds = λ n. refl };
-      sound = λ t sound. has.sound (sound_told computes d t sound);
-      sound_cut = λ t sound k image small leaves. has.sound_cut (sound_told computes d t.bytes sound) k image leaves;
+          record { told = sound_told d t sound; made = made; small = small; image = image; is = is; finds = λ n. refl });
+      cut = λ t sound k image small leaves. record { told = sound_told d t.bytes sound; small = small; image = image; leaves = leaves; finds = λ n. refl };
+      sound = λ t sound. has.sound (sound_told d t sound);
+      sound_cut = λ t sound k image small leaves. has.sound_cut (sound_told d t.bytes sound) k image leaves;
       operations = record {
         told_alike = has.alike;
         chain = has.chain;

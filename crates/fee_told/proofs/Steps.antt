@@ -12,8 +12,9 @@ use Rattle.fee_image.specs.Found.{fits}
 use Rattle.fee_image.specs.Image.{Layout, bank_in, found_held}
 use Rattle.fee_image.specs.May.{May, IsAmong, settling, held_written}
 use Rattle.fee_image.specs.Banks.{Old, NoBank, OldBank, Holds}
-use Rattle.fee_image.specs.Doubts.{shown_of, OldBanksShow}
+use Rattle.fee_image.specs.Doubts.{shown_of}
 use Rattle.fee_image.specs.BankLaws.{found_alone}
+use Rattle.fee_image.proofs.Doubts.{old_banks_show}
 use Rattle.promise_device.specs.Image.{held_as}
 use Rattle.fee_told.specs.Slots.{Memory, banks_with, writes_in, slot_of, left_by, left_on, job_leaves, slots_with, held_all, settled_in, settled_at, slots_held, slots_found, may_told, AreCopied}
 use Rattle.fee_told.specs.SlotLaws.{IsHeld, StepsSettle, StepsSeal, SamePlaces, PlacesTell, JobsKeep, Opened, JobsOpen, IsStarted, StartsFind, UnstartedFind, UnstartedIsFound, GoesOn}
@@ -46,7 +47,7 @@ pair_is : (now before : Held) → now.count ≡ more_writes 1 before.count → n
 pair_is now before p = λ i. record { mark = now.mark; count = p i }
 
 -- COMMITS
-module _ (show : OldBanksShow) (l : Layout) (numbers : List (DeviceNumber × ℕ)) (old new : List ℕ) (m t : Memory) (before copied : May) (is_held : IsHeld l numbers old m before) where
+module _ (l : Layout) (numbers : List (DeviceNumber × ℕ)) (old new : List ℕ) (m t : Memory) (before copied : May) (is_held : IsHeld l numbers old m before) where
   abbrev was : ℕ → Slot
   was n = slot_at numbers (slots_held l numbers old m) n
 
@@ -67,7 +68,7 @@ module _ (show : OldBanksShow) (l : Layout) (numbers : List (DeviceNumber × ℕ
     now_settled n size is = settled_among l numbers new t.target t.old may n size holds.old is
 
     now_shown : (n size : ℕ) → IsAmong (may n size) (shown_of l new t.old n size)
-    now_shown n size = show l numbers new (banks_with t may copied) holds n size
+    now_shown n size = old_banks_show l numbers new (banks_with t may copied) holds n size
 
     seal_keeps : AreCopied l numbers old m.old may → GoesOn m.stand t.stand → (n : ℕ) (o : Option ℕ) → length_of numbers n ≡ o → Keeps (was n) (now n)
     seal_keeps only goes n None is = none_keep n is
@@ -121,14 +122,14 @@ module _ (show : OldBanksShow) (l : Layout) (numbers : List (DeviceNumber × ℕ
         let differs = eqb-false n h.number c in
         others_keep n (length_of numbers n) refl (elim (cases_Bool (h.number == n)) [ inl e ↦ absurd (differs (sym (eqb-true h.number n e))) | inr e ↦ e ]) (others n differs)
 
-pub steps_settle : OldBanksShow → StepsSettle
-steps_settle show l numbers old new m t before copied h body size is_held holds shut is fit count others n = one_settles show l numbers old new m t before copied is_held h body holds shut size is fit count others n (n == h.number) refl
+pub steps_settle : StepsSettle
+steps_settle l numbers old new m t before copied h body size is_held holds shut is fit count others n = one_settles l numbers old new m t before copied is_held h body holds shut size is fit count others n (n == h.number) refl
 
-pub steps_seal : OldBanksShow → StepsSeal
-steps_seal show l numbers old new m t before may copied is_held holds only goes n = seal_keeps show l numbers old new m t before copied is_held may holds only goes n (length_of numbers n) refl
+pub steps_seal : StepsSeal
+steps_seal l numbers old new m t before may copied is_held holds only goes n = seal_keeps l numbers old new m t before copied is_held may holds only goes n (length_of numbers n) refl
 
 -- IN MEMORY ALONE
-same_settled : (l : Layout) (numbers : List (DeviceNumber × ℕ)) (bytes : List ℕ) (old new : Old) → SamePlaces old new → settled_in l numbers bytes new ≡ settled_in l numbers bytes old
+pub same_settled : (l : Layout) (numbers : List (DeviceNumber × ℕ)) (bytes : List ℕ) (old new : Old) → SamePlaces old new → settled_in l numbers bytes new ≡ settled_in l numbers bytes old
 same_settled l numbers bytes NoBank NoBank same = refl
 same_settled l numbers bytes NoBank (OldBank j i next) same = absurd same
 same_settled l numbers bytes (OldBank k h log) NoBank same = absurd same
@@ -234,13 +235,13 @@ started_as s t m is possible = record {
 }
 
 module _ (l : Layout) (numbers : List (DeviceNumber × ℕ)) (bytes : List ℕ) where
-  at_start : (show : OldBanksShow) (slots : List Slot) (t : Memory) (copied : May) → Holds l numbers bytes (banks_with t (found_alone l bytes) copied) → is_open t.stand ≡ false
+  at_start : (slots : List Slot) (t : Memory) (copied : May) → Holds l numbers bytes (banks_with t (found_alone l bytes) copied) → is_open t.stand ≡ false
       → (n : ℕ) (o : Option ℕ) → length_of numbers n ≡ o → IsPossible (slot_at numbers slots n) (held_as l bytes n o) → IsStarted (slot_at numbers slots n) (slot_at numbers (slots_held l numbers bytes t) n)
-  at_start show slots t copied holds shut n None is possible = started_as (slot_at numbers slots n) (slot_at numbers (slots_held l numbers bytes t) n) never_written (slot_none numbers (slots_held l numbers bytes t) n is) possible
-  at_start show slots t copied holds shut n (Some size) is possible =
+  at_start slots t copied holds shut n None is possible = started_as (slot_at numbers slots n) (slot_at numbers (slots_held l numbers bytes t) n) never_written (slot_none numbers (slots_held l numbers bytes t) n is) possible
+  at_start slots t copied holds shut n (Some size) is possible =
       let found = found_held l bytes n size in
       let settled = alone found (settled_at l numbers bytes t.old n) (settled_among l numbers bytes t.target t.old (found_alone l bytes) n size holds.old is) in
-      let shown = alone found (shown_of l bytes t.old n size) (show l numbers bytes (banks_with t (found_alone l bytes) copied) holds n size) in
+      let shown = alone found (shown_of l bytes t.old n size) (old_banks_show l numbers bytes (banks_with t (found_alone l bytes) copied) holds n size) in
       started_as (slot_at numbers slots n) (slot_at numbers (slots_held l numbers bytes t) n) found
       (held_slot l numbers bytes t (found_alone l bytes) n size holds.old is
       ∙ ap (λ (x : Held). slot_of x (shown_of l bytes t.old n size) (left_on x (job_leaves t.stand n))) settled
@@ -275,8 +276,8 @@ module _ (l : Layout) (numbers : List (DeviceNumber × ℕ)) (bytes : List ℕ) 
   unstarted_found n None is = inl (ap (λ (s : Slot). s.settled) (sym (slot_none numbers (slots_found l numbers bytes) n is)))
   unstarted_found n (Some size) is = inl (ap (λ (s : Slot). s.settled) (sym (found_slot n size is)))
 
-pub starts_find : OldBanksShow → StartsFind
-starts_find show l numbers bytes slots t copied possible holds shut n = at_start l numbers bytes show slots t copied holds shut n (length_of numbers n) refl (possible n)
+pub starts_find : StartsFind
+starts_find l numbers bytes slots t copied possible holds shut n = at_start l numbers bytes slots t copied holds shut n (length_of numbers n) refl (possible n)
 
 pub unstarted_find : UnstartedFind
 unstarted_find l numbers bytes slots possible n = unstarted l numbers bytes slots n (length_of numbers n) refl (possible n)

@@ -10,12 +10,16 @@ use Rattle.fee_image.specs.May.{held_written}
 use Rattle.promise_device.specs.Making.{banks_of}
 use Rattle.promise_device.specs.Image.{held_in, IsSoundFlash}
 use Rattle.fee_told.specs.Slots.{banks_with, slots_held, slots_found, may_told, held_of}
-use Rattle.fee_told.specs.SlotLaws.{UnstartedIsFound, ImagesFind, Opened}
+use Rattle.fee_told.specs.SlotLaws.{Opened}
 use Rattle.fee_told.specs.Device.{Device, layout_in, slots_in, told_of}
-use Rattle.fee_told.specs.Clock.{ClocksFindNow, ImageIsPossible}
-use Rattle.fee_told.specs.Tells.{TellsKeep, TellsSettle, TellsDoubt, ImagesAttach, was, AreTold, OneSettles}
-use Rattle.fee_told.specs.Kept.{KeptIsFound}
+use Rattle.fee_told.specs.Clock.{ImageIsPossible}
+use Rattle.fee_told.specs.Tells.{was, AreTold, OneSettles}
 use Rattle.fee_told.specs.Whole.{HeldFindsNow, UnstartedFindsNow, CutsAreTold, AreStarted, KeptIsTold, CommitsAreTold, OpensAreTold}
+use Rattle.fee_told.proofs.Clocks.{clocks_find_now}
+use Rattle.fee_told.proofs.Held.{images_find}
+use Rattle.fee_told.proofs.Kept.{kept_is_found}
+use Rattle.fee_told.proofs.Steps.{unstarted_is_found}
+use Rattle.fee_told.proofs.Tells.{images_attach, tells_doubt, tells_keep, tells_settle}
 
 -- BYTES
 both_some : (o : Option (List ℕ)) (P Q R : List ℕ → Type 0) → IfSome o P → IfSome o Q → ((bytes : List ℕ) → P bytes → Q bytes → R bytes) → IfSome o R
@@ -31,40 +35,40 @@ same_size (Program address page) bytes image leaves = leaves.0.size
 same_size (Erase address n) bytes image leaves = leaves.0.size
 
 -- what is found in an image, by the slots that it tells
-possible_in : ImagesAttach → (d : Device) (bytes image : List ℕ) → d.started ≡ true → 0 < length image
+possible_in : (d : Device) (bytes image : List ℕ) → d.started ≡ true → 0 < length image
     → ((n : ℕ) → IsPossible (slot_at d.making.numbers (slots_held (layout_in d) d.making.numbers bytes d.memory) n) (held_of (layout_in d) d.making.numbers image n))
     → ImageIsPossible d bytes image
-possible_in attach d bytes image started some possible n =
+possible_in d bytes image started some possible n =
     subst (λ (s : List Slot). IsPossible (slot_at d.making.numbers s n) (held_in d.making image n)) (sym (slots_are d bytes started))
-    (subst (IsPossible (slot_at d.making.numbers (slots_held (layout_in d) d.making.numbers bytes d.memory) n)) (sym ((attach d.making image some).0 n)) (possible n))
+    (subst (IsPossible (slot_at d.making.numbers (slots_held (layout_in d) d.making.numbers bytes d.memory) n)) (sym ((images_attach d.making image some).0 n)) (possible n))
 
 -- NOW
-pub held_finds_now : ImagesFind → ImagesAttach → ClocksFindNow → HeldFindsNow
-held_finds_now find attach now d copied holds = now d (λ told.
+pub held_finds_now : HeldFindsNow
+held_finds_now d copied holds = clocks_find_now d (λ told.
     both_some (bytes_now d.flash) _ _ (λ bytes. ImageIsPossible d bytes bytes) holds.some (holds.held told) (λ bytes some held.
-    possible_in attach d bytes bytes holds.started some
-    (find (layout_in d) d.making.numbers (slots_held (layout_in d) d.making.numbers bytes d.memory) bytes (banks_with d.memory (may_told (layout_in d) d.making.numbers bytes d.memory) copied) holds.legal held.banks (λ number size x is. is))))
+    possible_in d bytes bytes holds.started some
+    (images_find (layout_in d) d.making.numbers (slots_held (layout_in d) d.making.numbers bytes d.memory) bytes (banks_with d.memory (may_told (layout_in d) d.making.numbers bytes d.memory) copied) holds.legal held.banks (λ number size x is. is))))
 
 found_are : (d : Device) (bytes : List ℕ) → d.started ≡ false → slots_in d bytes ≡ slots_found (layout_in d) d.making.numbers bytes
 found_are d bytes started = ap (λ (b : Bool). if b then slots_held (layout_in d) d.making.numbers bytes d.memory else slots_found (layout_in d) d.making.numbers bytes) started
 
-pub unstarted_finds_now : UnstartedIsFound → ImagesAttach → ClocksFindNow → UnstartedFindsNow
-unstarted_finds_now found attach now d started some = now d (λ told.
+pub unstarted_finds_now : UnstartedFindsNow
+unstarted_finds_now d started some = clocks_find_now d (λ told.
     both_some (bytes_now d.flash) _ _ (λ bytes. ImageIsPossible d bytes bytes) some some (λ bytes more same n.
     subst (λ (s : List Slot). IsPossible (slot_at d.making.numbers s n) (held_in d.making bytes n)) (sym (found_are d bytes started))
-    (subst (IsPossible (slot_at d.making.numbers (slots_found (layout_in d) d.making.numbers bytes) n)) (sym ((attach d.making bytes more).0 n)) (found (layout_in d) d.making.numbers bytes n))))
+    (subst (IsPossible (slot_at d.making.numbers (slots_found (layout_in d) d.making.numbers bytes) n)) (sym ((images_attach d.making bytes more).0 n)) (unstarted_is_found (layout_in d) d.making.numbers bytes n))))
 
 -- CUTS
-pub cuts_are_told : KeptIsFound → ImagesAttach → CutsAreTold
-cuts_are_told found attach op d copied holds keep = (
+pub cuts_are_told : CutsAreTold
+cuts_are_told op d copied holds keep = (
   λ told. both_some (bytes_now d.flash) _ _ (λ bytes. (image : List ℕ) → MayLeave op bytes image → ImageIsPossible d bytes image) holds.some (keep told) (λ bytes some kept image leaves.
       let k = kept image leaves in
       let more : 0 < length image = omega (arith, same_size op bytes image leaves) in
-      possible_in attach d bytes image holds.started more (found (layout_in d) d.making.numbers bytes image d.memory k.behind k.copied holds.legal k.kept)),
+      possible_in d bytes image holds.started more (kept_is_found (layout_in d) d.making.numbers bytes image d.memory k.behind k.copied holds.legal k.kept)),
   λ told. both_some (bytes_now d.flash) _ _ (λ bytes. (image : List ℕ) → MayLeave op bytes image → IsSoundFlash d.making image) holds.some (keep told) (λ bytes some kept image leaves.
       let k = kept image leaves in
       let more : 0 < length image = omega (arith, same_size op bytes image leaves) in
-      (attach d.making image more).1 k.kept.held.banks.sound),
+      (images_attach d.making image more).1 k.kept.held.banks.sound),
 )
 
 -- BEFORE AND AFTER
@@ -78,17 +82,17 @@ module _ (d t : Device) (are : AreStarted d t) (old new : List ℕ) where
   pub by_slots : (P : Slot → Slot → Type 0) (n : ℕ) → P (slot_at d.making.numbers (slots_held (layout_in d) d.making.numbers old d.memory) n) (slot_at d.making.numbers (slots_held (layout_in d) d.making.numbers new t.memory) n) → P (was d old n) (was t new n)
   by_slots P n holds = subst (λ (s : Slot). P s (was t new n)) (sym (was_is n)) (subst (P (slot_at d.making.numbers (slots_held (layout_in d) d.making.numbers old d.memory) n)) (sym (now_is n)) holds)
 
-pub kept_is_told : TellsKeep → KeptIsTold
-kept_is_told tell d t copied are kept = tell d t are.same (λ old new told n. by_slots d t are old new Keeps n ((kept old new told).keeps n))
+pub kept_is_told : KeptIsTold
+kept_is_told d t copied are kept = tells_keep d t are.same (λ old new told n. by_slots d t are old new Keeps n ((kept old new told).keeps n))
 
-pub commits_are_told : TellsSettle → CommitsAreTold
-commits_are_told tell d t copied r body are committed =
-    tell d t r.number (held_written r body).mark are.same
+pub commits_are_told : CommitsAreTold
+commits_are_told d t copied r body are committed =
+    tells_settle d t r.number (held_written r body).mark are.same
     (λ old new told n. by_slots d t are old new (OneSettles r.number (held_written r body).mark n) n ((committed old new told).settles n))
 
-opens_as : TellsKeep → TellsDoubt → (d t : Device) (j : Job) (o : Option Mark) → AreStarted d t → ((old new : List ℕ) → AreTold d t old new → (n : ℕ) → Opened j n (was d old n) (was t new n) o) → DoubtsAt j.number o (told_of d) (told_of t)
-opens_as keep doubt d t j None are opened = keep d t are.same opened
-opens_as keep doubt d t j (Some mark) are opened = doubt d t j.number mark are.same opened
+opens_as : (d t : Device) (j : Job) (o : Option Mark) → AreStarted d t → ((old new : List ℕ) → AreTold d t old new → (n : ℕ) → Opened j n (was d old n) (was t new n) o) → DoubtsAt j.number o (told_of d) (told_of t)
+opens_as d t j None are opened = tells_keep d t are.same opened
+opens_as d t j (Some mark) are opened = tells_doubt d t j.number mark are.same opened
 
-pub opens_are_told : TellsKeep → TellsDoubt → OpensAreTold
-opens_are_told keep doubt d t j are opened = opens_as keep doubt d t j j.mark are opened
+pub opens_are_told : OpensAreTold
+opens_are_told d t j are opened = opens_as d t j j.mark are opened

@@ -9,7 +9,6 @@ use crate::Records;
 use crate::page::page_of;
 use crate::record::seen_at;
 use fee_format::{BankHead, gate_stands, pages_of, read_bank_head};
-use fee_image::records_compute;
 use nv_base::all_are;
 use std::marker::Model;
 
@@ -85,7 +84,6 @@ impl<'a> BankView<'a> {
         ensures low { 2 ≤ result }
         ensures high { result ≤ self.now.pages }
     {
-        records_compute();
         let mut at = 2;
         while let Some(seen) = seen_at(self.bytes, self.page, self.pages, self.head.format, at) {
             at += pages_of(seen.head.length, self.page);

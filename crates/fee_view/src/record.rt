@@ -7,7 +7,6 @@ ghost use Rattle.fee_view.specs.Record.{rec_seen, rec_shown};
 
 use crate::page::page_of;
 use fee_format::{RecHead, gate_stands, pages_of, read_rec_head};
-use fee_image::records_stay;
 
 /// A record as its bank shows it: the page of the bank where its header stands, its number and kind (1 a content, 2 an
 /// invalidated instance, 3 an erased one), its count (0 in format 1), whether it is one of the bank's list, which each item
@@ -59,7 +58,6 @@ pub(crate) fn record_of<'a>(bank: &'a [u8], page: u32, at: u32, seen: Seen) -> R
     ensures shown { rec_shown result ≡ rec_seen (own_bank page 2 1) bank.now at seen }
     ensures trusted { result.trusted ≡ true }
 {
-    records_stay();
     let from = (at as usize + 2) * page as usize;
     Record {
         at,

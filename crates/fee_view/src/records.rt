@@ -4,7 +4,6 @@ ghost use Rattle.std.specs.Prelude.{◌≡◌};
 use crate::Record;
 use crate::record::{record_of, seen_at};
 use fee_format::pages_of;
-use fee_image::records_compute;
 use std::marker::Model;
 
 /// The records of a bank from a page on, in order, each borrowed from the bank's bytes. Contracts see the bytes, the
@@ -40,7 +39,6 @@ impl<'a> Iterator for Records<'a> {
     ghost remaining = { item_count records_in };
 
     fn next(&mut self) -> Option<Record<'a>> {
-        records_compute();
         let seen = seen_at(self.bytes, self.page, self.pages, self.format, self.at)?;
         let record = record_of(self.bytes, self.page, self.at, seen);
         self.at += pages_of(seen.head.length, self.page);

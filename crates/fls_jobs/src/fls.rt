@@ -17,7 +17,7 @@ use crate::call::do_call;
 use crate::job::left_of;
 use crate::reach::{Reach, check_length, check_place, of_compare, of_erase, of_read, of_write};
 use crate::{FlsJob, FlsRefusal, FlsResult, FlsStatus, FlsTurn, Page};
-use fls_model::{AttachFault, Flash, steps_keep_bytes};
+use fls_model::{AttachFault, Flash};
 use nv_base::Geometry;
 use std::alloc::Global;
 use std::marker::Model;
@@ -213,7 +213,6 @@ impl<F: Flash> Fls<F> {
         ensures plan_waits { result ≡ FlsTurn.Worked → (self.new.flash.planning ≡ self.old.flash.planning) ⊎ (Nears self.old.flash.planning self.new.flash.planning × (self.new.flash.ops ≡ next_count self.old.flash.ops)) }
         ensures one_change { (self.new.flash.ops ≡ self.old.flash.ops) ⊎ (self.new.flash.ops ≡ next_count self.old.flash.ops) }
     {
-        steps_keep_bytes();
         let Some(job) = &self.job else {
             return FlsTurn::Idle;
         };

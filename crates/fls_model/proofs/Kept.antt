@@ -5,8 +5,8 @@ use Rattle.std.proofs.lemmas.List.{get_or-take, get_or-drop}
 use Rattle.nv_base.specs.declared.geometry.Geometry.{Geometry}
 use Rattle.fls_model.specs.declared.flash.FlashAnswer.{FlashAnswer}
 use Rattle.fls_model.specs.Attach.{AreBytesOf}
-use Rattle.fls_model.specs.Bytes.{AreBytes, SameOutside, Grown, piece}
-use Rattle.fls_model.specs.Laws.{StepsKeepBytes}
+use Rattle.fls_model.specs.Bytes.{AreBytes, Grown, piece}
+use Rattle.fls_model.specs.Laws.{StepsKeepBytes, RangesKeepBytes}
 use Rattle.fls_model.specs.Op.{Op, Program, Erase, MayLeave}
 use Rattle.fls_model.specs.Step.{OffOrAsked, IsChanged}
 use Rattle.fls_model.specs.Told.{Told, ToldBytes, IfBothTold}
@@ -31,8 +31,8 @@ piece_bytes : (a n : ℕ) (bytes : List ℕ) → AreBytes bytes → AreBytes (pi
 piece_bytes a n bytes small = take_bytes n (drop a bytes) (λ i. rw (get_or-drop a bytes i 0) (small (a + i)))
 
 -- in front of the range, in it, and behind it
-pub outside_bytes : (a n : ℕ) (old new : List ℕ) → SameOutside a n old new → AreBytes old → AreBytes (piece a n new) → AreBytes new
-outside_bytes a n old new same small inside k = elim (cases_lt k a) [
+pub ranges_keep_bytes : RangesKeepBytes
+ranges_keep_bytes a n old new same small inside k = elim (cases_lt k a) [
   | inl front ↦ rw (← get_or-take a new k 0 front) (same_at k (take a new) (take a old) same.front (rw (get_or-take a old k 0 front) (small k)))
   | inr from ↦ elim (cases_lt k (a + n)) [
     | inl within ↦
@@ -51,7 +51,7 @@ pub leaves_bytes : (g : Geometry) (op : Op) (old new : List ℕ) → MayLeave op
 leaves_bytes g (Program a page) old new leaves are = record { size = leaves.0.size ∙ are.size; bytes = leaves.1 are.bytes }
 leaves_bytes g (Erase a n) old new leaves are = record {
   size = leaves.0.size ∙ are.size;
-  bytes = outside_bytes a n old new leaves.0 are.bytes (grown_bytes (piece a n old) (piece a n new) leaves.1 (piece_bytes a n old are.bytes));
+  bytes = ranges_keep_bytes a n old new leaves.0 are.bytes (grown_bytes (piece a n old) (piece a n new) leaves.1 (piece_bytes a n old are.bytes));
 }
 
 told_bytes : (g : Geometry) (op : Op) (a : FlashAnswer) (old new : Option ToldBytes) → IfBothTold old new (IsChanged op a) → IfSome old (λ b. AreBytesOf g b.now) → IfSome new (λ b. AreBytesOf g b.now)

@@ -7,7 +7,6 @@
 mod call;
 mod flash;
 mod image;
-mod laws;
 mod memory;
 mod range;
 mod worked;
@@ -15,6 +14,5 @@ mod worked;
 pub use call::{Call, program_call};
 pub use flash::{AttachFault, Flash, FlashAnswer};
 pub use image::may_leave;
-pub use laws::{ranges_keep_bytes, steps_keep_bytes};
 pub use memory::{MemFlash, mem_flash};
 pub use worked::{planned_cases, worked_cases};

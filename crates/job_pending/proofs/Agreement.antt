@@ -10,10 +10,12 @@ use Rattle.block_machine.specs.Blocks.{job_block, rank_of}
 use Rattle.block_machine.specs.Next.{next_in}
 use Rattle.block_machine.specs.Steps.{without_job, interrupted}
 use Rattle.block_laws.specs.Consistent.{Each}
-use Rattle.block_laws.specs.Laws.{NextIsWaiting}
+use Rattle.block_laws.proofs.NextLaws.{next_is_waiting}
 use Rattle.job_queues.specs.declared.waiting.Waiting.{Waiting}
 use Rattle.job_queues.specs.Jobs.{jobs_of, size_of, with_job, with_job_first, first_in, without_first}
-use Rattle.job_queues.specs.Laws.{only, waiting_of, queues_of, FirstIsNext, AddedWaits, PutBackWaits, NextLeaves}
+use Rattle.job_queues.specs.Laws.{only, waiting_of, queues_of}
+use Rattle.job_queues.proofs.Order.{first_is_next, added_waits, put_back_waits}
+use Rattle.job_queues.proofs.Taken.{next_leaves}
 use Rattle.job_pending.specs.declared.unpicked.Unpicked.{Unpicked}
 use Rattle.job_pending.specs.Slots.{slot}
 use Rattle.job_pending.specs.Unpicked.{unpicked_with, unpicked_without}
@@ -71,9 +73,9 @@ held_more : (n : ℕ) (waiting : List Job) (j : Job) (held : Option Job) → IfS
 held_more n waiting j None h new = tt
 held_more n waiting j (Some x) h new = record { picked = h.picked; place = h.place; apart = each_push (λ y. IsOther y x) waiting j h.apart (flip x j (new x (0, omega arith, refl))) }
 
-pub accepted : AddedWaits → (c : Configuration) (p : Pending) (waiting : List Job) (held : Option Job) (j : Job) → Agree c p waiting held → IsNew j waiting held → j.taken ≡ None → job_block j < length p.slots
+pub accepted : (c : Configuration) (p : Pending) (waiting : List Job) (held : Option Job) (j : Job) → Agree c p waiting held → IsNew j waiting held → j.taken ≡ None → job_block j < length p.slots
     → Agree c (record p { slots = slice_set p.slots (job_block j) (Some j); queues = with_job (waiting_of c j) p.queues; unpicked = unpicked_with (rank_of c j).immediate p.unpicked; reserved = p.reserved + j.reserved }) (waiting ++ j ∷ []) held
-accepted law c p waiting held j h new taken below =
+accepted c p waiting held j h new taken below =
     let apart = new_apart waiting held j new in
     let none = none_on waiting j apart in
     let empty = filled p.slots (job_block j) j below (h.slots (job_block j) ∙ none) in
@@ -83,7 +85,7 @@ accepted law c p waiting held j h new taken below =
     record {
       slots = put_last p.slots waiting j h.slots none below;
       hand = h.hand;
-      queues = rw (n, h.queues) (sym (law c waiting j (length p.slots) (length p.slots)));
+      queues = rw (n, h.queues) (sym (added_waits c waiting j (length p.slots) (length p.slots)));
       unpicked = one_more (rank_of c j).immediate j.taken p.unpicked _ _ taken h.unpicked ∙ sym (unpicked_push c waiting j);
       reserved = rw (sum_by_push (λ j. j.reserved) waiting j, h.reserved) refl;
       apart = apart_push waiting j h.apart apart;
@@ -140,9 +142,9 @@ pub record IsNext (c : Configuration) (p : Pending) (waiting : List Job) (j : Jo
   pub below : job_block j < length p.slots
   pub among : j.reserved ≤ p.reserved
 
-pub next_is : NextIsWaiting → (c : Configuration) (p : Pending) (waiting : List Job) (held : Option Job) (j : Job) → Agree c p waiting held → next_in c waiting ≡ Some j → IsNext c p waiting j
-next_is law c p waiting held j h next =
-    let (before, after, is) = law c waiting j next in
+pub next_is : (c : Configuration) (p : Pending) (waiting : List Job) (held : Option Job) (j : Job) → Agree c p waiting held → next_in c waiting ≡ Some j → IsNext c p waiting j
+next_is c p waiting held j h next =
+    let (before, after, is) = next_is_waiting c waiting j next in
     let sp = split_of waiting before j after is h.apart in
     let on : slot p.slots (job_block j) ≡ Some j = h.slots (job_block j) ∙ on_block waiting j sp in
     let r = ap reserved_by sp.is in
@@ -150,14 +152,14 @@ next_is law c p waiting held j h next =
     let e = less_at (λ j. j.reserved) sp.before j sp.after in
     record { on = on; split = sp; below = slot_below p.slots (job_block j) j on; among = omega arith }
 
-pub taken_out : NextLeaves → (c : Configuration) (p : Pending) (waiting : List Job) (held : Option Job) (j : Job) → Agree c p waiting held → next_in c waiting ≡ Some j → IsNext c p waiting j
+pub taken_out : (c : Configuration) (p : Pending) (waiting : List Job) (held : Option Job) (j : Job) → Agree c p waiting held → next_in c waiting ≡ Some j → IsNext c p waiting j
     → Agree c (record p { slots = slice_set p.slots (job_block j) None; queues = without_first p.queues; unpicked = unpicked_without (rank_of c j).immediate (is_some j.taken) p.unpicked; reserved = p.reserved - j.reserved }) (without_job j.number waiting) held
-taken_out law c p waiting held j h next x =
+taken_out c p waiting held j h next x =
     let sp = x.split in
     let less = x.among in
     let without = without_is waiting j sp in
     let queues : without_first p.queues ≡ queues_of c (sp.before ++ sp.after) (length p.slots) (length p.slots) =
-    ap without_first h.queues ∙ law c waiting j (length p.slots) (length p.slots) (tells waiting j sp) next ∙ ap (λ xs. queues_of c xs (length p.slots) (length p.slots)) without in
+    ap without_first h.queues ∙ next_leaves c waiting j (length p.slots) (length p.slots) (tells waiting j sp) next ∙ ap (λ xs. queues_of c xs (length p.slots) (length p.slots)) without in
     rw without (left_by c p waiting held j sp (p.reserved - j.reserved) h (omega arith) queues)
 
 -- the job in hand is another one
@@ -186,9 +188,9 @@ still n waiting h g x taken number request = record {
 }
 
 -- it waits again, with two entries more
-pub waits_again : PutBackWaits → (c : Configuration) (p : Pending) (waiting : List Job) (h : Job) → Agree c p waiting (Some h)
+pub waits_again : (c : Configuration) (p : Pending) (waiting : List Job) (h : Job) → Agree c p waiting (Some h)
     → Agree c (record p { slots = slice_set p.slots (job_block h) (Some (record h { reserved = h.reserved + 2 })); hand = None; queues = with_job_first (waiting_of c h) p.queues; reserved = p.reserved + (h.reserved + 2) }) (record h { reserved = h.reserved + 2 } ∷ waiting) None
-waits_again law c p waiting h a =
+waits_again c p waiting h a =
     let g : Job = record h { reserved = h.reserved + 2 } in
     let below = a.hand_apart.place in
     let none = none_on waiting h a.hand_apart.apart in
@@ -204,7 +206,7 @@ waits_again law c p waiting h a =
     record {
       slots = λ id. slot_set p.slots (job_block h) (Some g) below id ∙ ap (λ o. cond (job_block h == id) (Some g) o) (a.slots id);
       hand = refl;
-      queues = rw (z, a.queues) (sym (law c waiting g (length p.slots) (length p.slots)));
+      queues = rw (z, a.queues) (sym (put_back_waits c waiting g (length p.slots) (length p.slots)));
       unpicked = a.unpicked ∙ sym (same_counts _ _ _ _ _ _ standard immediate s i);
       reserved = omega arith;
       apart = (others waiting h g a.hand_apart.apart refl refl, a.apart);
@@ -241,25 +243,25 @@ none_queued c None is = refl
 none_queued c (Some j) is = cc
 
 -- it is in the place of the block that the queues name first
-pub next_on : FirstIsNext → NextIsWaiting → (c : Configuration) (p : Pending) (waiting : List Job) (held : Option Job) (w : Waiting) → Agree c p waiting held → Some w ≡ first_in p.queues → slot p.slots w.block ≡ next_in c waiting
-next_on law waits c p waiting held w h first =
-    some_queued c p (next_in c waiting) w (λ j next. (next_is waits c p waiting held j h next).on) (law c waiting (length p.slots) (length p.slots) ∙ sym (ap first_in h.queues) ∙ sym first)
+pub next_on : (c : Configuration) (p : Pending) (waiting : List Job) (held : Option Job) (w : Waiting) → Agree c p waiting held → Some w ≡ first_in p.queues → slot p.slots w.block ≡ next_in c waiting
+next_on c p waiting held w h first =
+    some_queued c p (next_in c waiting) w (λ j next. (next_is c p waiting held j h next).on) (first_is_next c waiting (length p.slots) (length p.slots) ∙ sym (ap first_in h.queues) ∙ sym first)
 
 -- none waits where they name none
-pub no_next : FirstIsNext → (c : Configuration) (p : Pending) (waiting : List Job) (held : Option Job) → Agree c p waiting held → None ≡ first_in p.queues → next_in c waiting ≡ None
-no_next law c p waiting held h first = none_queued c (next_in c waiting) (law c waiting (length p.slots) (length p.slots) ∙ sym (ap first_in h.queues) ∙ sym first)
+pub no_next : (c : Configuration) (p : Pending) (waiting : List Job) (held : Option Job) → Agree c p waiting held → None ≡ first_in p.queues → next_in c waiting ≡ None
+no_next c p waiting held h first = none_queued c (next_in c waiting) (first_is_next c waiting (length p.slots) (length p.slots) ∙ sym (ap first_in h.queues) ∙ sym first)
 
 -- and what they name is the job as it waits
-pub first_is : FirstIsNext → (c : Configuration) (p : Pending) (waiting : List Job) (held : Option Job) (j : Job) → Agree c p waiting held → next_in c waiting ≡ Some j → first_in p.queues ≡ Some (waiting_of c j)
-first_is law c p waiting held j h next = ap first_in h.queues ∙ sym (law c waiting (length p.slots) (length p.slots)) ∙ ap (option_map (waiting_of c)) next
+pub first_is : (c : Configuration) (p : Pending) (waiting : List Job) (held : Option Job) (j : Job) → Agree c p waiting held → next_in c waiting ≡ Some j → first_in p.queues ≡ Some (waiting_of c j)
+first_is c p waiting held j h next = ap first_in h.queues ∙ sym (first_is_next c waiting (length p.slots) (length p.slots)) ∙ ap (option_map (waiting_of c)) next
 
-pub taken : NextLeaves → NextIsWaiting → (c : Configuration) (p : Pending) (waiting : List Job) (held : Option Job) (j : Job) → Agree c p waiting held → next_in c waiting ≡ Some j
+pub taken : (c : Configuration) (p : Pending) (waiting : List Job) (held : Option Job) (j : Job) → Agree c p waiting held → next_in c waiting ≡ Some j
     → IsTakenOut c p (record p { slots = slice_set p.slots (job_block j) None; queues = without_first p.queues; unpicked = unpicked_without (rank_of c j).immediate (is_some j.taken) p.unpicked; reserved = p.reserved - j.reserved }) waiting held j (Some j)
-taken leaves waits c p waiting held j h next =
-    let x = next_is waits c p waiting held j h next in
+taken c p waiting held j h next =
+    let x = next_is c p waiting held j h next in
     record {
       job = refl;
-      agrees = taken_out leaves c p waiting held j h next x;
+      agrees = taken_out c p waiting held j h next x;
       place = x.below;
       apart = left_apart waiting j x.split;
       other = other_hand (length p.slots) waiting j x.split held h.hand_apart;

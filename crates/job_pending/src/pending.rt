@@ -17,9 +17,8 @@ use crate::slots::Slots;
 use crate::unpicked::Unpicked;
 use crate::waiting::{is_immediate, waiting_of};
 use crate::{Job, Took};
-use block_laws::the_next_job_goes_first;
 use block_machine::block_config::Config;
-use job_queues::{Queues, queues_follow_the_machine};
+use job_queues::Queues;
 use std::alloc::{AllocError, Global};
 use std::marker::Model;
 
@@ -74,8 +73,6 @@ impl PendingJobs {
     pub fn next(&self) -> Option<&Job>
         ensures { (c : Configuration) (waiting : List MachineJob) (held : Option MachineJob) → Agree c self.now waiting held → option_copied result ≡ next_in c waiting }
     {
-        queues_follow_the_machine();
-        the_next_job_goes_first();
         let first = self.queues.first()?;
         self.slots.job(first.block)
     }
@@ -124,7 +121,6 @@ impl PendingJobs {
         ensures places { length self.new.slots ≡ length self.old.slots }
         ensures agrees { (waiting : List MachineJob) (held : Option MachineJob) → Agree config.now self.old waiting held → IsNew job waiting held → job.taken ≡ None → Agree config.now self.new (waiting ++ job ∷ []) held }
     {
-        queues_follow_the_machine();
         let waiting = waiting_of(config, &job);
         let _added = self.queues.add(waiting);
         self.unpicked.accept(waiting.immediate);
@@ -186,8 +182,6 @@ impl PendingJobs {
         ensures reserved { self.new.reserved ≤ self.old.reserved }
         ensures agrees { (c : Configuration) (waiting : List MachineJob) (held : Option MachineJob) (j : MachineJob) → Agree c self.old waiting held → next_in c waiting ≡ Some j → IsTakenOut c self.old self.new waiting held j result }
     {
-        queues_follow_the_machine();
-        the_next_job_goes_first();
         let first = self.queues.next()?;
         let job = self.slots.take(first.block)?;
         self.unpicked.pick(first.immediate, job.was_picked());
@@ -202,7 +196,6 @@ impl PendingJobs {
         ensures more { result ≡ (if is_some self.old.hand then 2 else 0) }
         ensures agrees { (waiting : List MachineJob) (held : Option MachineJob) → Agree config.now self.old waiting held → Agree config.now self.new (interrupted held waiting) None }
     {
-        queues_follow_the_machine();
         let Some(mut job) = self.hand.take() else {
             return 0;
         };

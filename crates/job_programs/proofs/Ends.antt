@@ -71,6 +71,6 @@ by_marks kind d (a ∷ b ∷ []) (o ∷ p ∷ []) w f n = ap (table d kind) (sym
 by_marks kind d (a ∷ b ∷ []) (o ∷ p ∷ q ∷ os) w f n = absurd f.1.1
 by_marks kind d (a ∷ b ∷ m ∷ ms) done w f n = let e = (apart a.0 b.0 (m.0 ∷ indices_in ms) w).1 in cc
 
-pub ends : EndsByTheMachine
-ends o p same works defaults fit over =
+pub ends_by_the_machine : EndsByTheMachine
+ends_by_the_machine o p same works defaults fit over =
     rw (defaults, ← same) (by_marks p.kind p.defaults o.marks p.done (subst Works (sym same) works) fit (rw (← same) at over))

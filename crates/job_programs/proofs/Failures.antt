@@ -12,7 +12,7 @@ use Rattle.block_machine.specs.Blocks.{is_in}
 use Rattle.block_machine.specs.Results.{Own, own_indices, sets_of, unwritten, open_sets, took_none}
 use Rattle.job_programs.specs.Program.{Program, works, settles, is_failed, next_in, is_again, after_by}
 use Rattle.job_programs.specs.Laws.{failed_of, Works}
-use Rattle.job_programs.specs.Failures.{served_of, FailedAreOpen, failed_tries, TriesAreCounted}
+use Rattle.job_programs.specs.Failures.{served_of, FailedAreOpen, failed_tries, TriesAreCounted, TriesArePriced}
 
 -- SETS OF A READ
 mapped : (x : ℕ) (sets : List (List ℕ)) (ys : List ℕ) → Contains sets ys → Contains (map (λ zs. x ∷ zs) sets) (x ∷ ys)
@@ -88,6 +88,10 @@ counted_by p (Some i) o le = again_by p o (is_again o p.failures p.retries) refl
 
 pub tries_are_counted : TriesAreCounted
 tries_are_counted p outcome le = counted_by p (next_in p) outcome le
+
+pub tries_are_priced : TriesArePriced
+tries_are_priced d ReadJob = refl
+tries_are_priced d kind = refl
 
 -- THE SET OF A WRITE
 none_settles : (kind : JobKind) (os : List Outcome) → kind ≢ ReadJob → list_any (settles kind) os ≡ false

@@ -65,8 +65,8 @@ by_marks kind d (a ∷ b ∷ []) (o ∷ p ∷ []) w f n g e = second_by kind d a
 by_marks kind d (a ∷ b ∷ []) (o ∷ p ∷ q ∷ os) w f n g e = absurd f.1.1
 by_marks kind d (a ∷ b ∷ m ∷ ms) done w f n g e = let h = (apart a.0 b.0 (m.0 ∷ indices_in ms) w).1 in cc
 
-pub gives : GivesTheLastRead
-gives o p same works fit over needed from =
+pub gives_the_last_read : GivesTheLastRead
+gives_the_last_read o p same works fit over needed from =
     subst (λ is. device_content o.marks (failed_of is p.done) ≡ last_content o.marks (length p.done)) same
     (by_marks p.kind p.defaults o.marks p.done (subst Works (sym same) works) fit (rw (← same) at over) needed (rw (← same) at from))
 
@@ -99,5 +99,5 @@ after_by_next p None o e g = g
 after_by_next p (Some i) First e g = g
 after_by_next p (Some i) o e g = tried_by p o (is_again o p.failures p.retries) g (some_by (list_any (settles p.kind) p.done) (slice_get p.indices (length p.done)) i e)
 
-pub go_as_needed : ProgramsGoAsNeeded
-go_as_needed p outcome g = after_by_next p (next_in p) outcome refl g
+pub programs_go_as_needed : ProgramsGoAsNeeded
+programs_go_as_needed p outcome g = after_by_next p (next_in p) outcome refl g

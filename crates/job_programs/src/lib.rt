@@ -5,11 +5,7 @@
 #![tactic(auto)]
 
 mod job;
-mod laws;
 mod table;
 
 pub use job::{is_again, operation, retries, settles, works};
-pub use laws::{
-    programs_count_their_failures, programs_end_by_the_machine, programs_work_on_their_own,
-};
 pub use table::{end_of_none, end_of_one, end_of_two};

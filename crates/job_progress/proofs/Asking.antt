@@ -10,8 +10,9 @@ use Rattle.block_machine.specs.State.{State, Job}
 use Rattle.block_machine.specs.Blocks.{block_at, status_of, is_pending, asked_block, job_block}
 use Rattle.block_machine.specs.Reply.{reply_of, tested, holds}
 use Rattle.block_machine.specs.Steps.{step as stepped, asked, accepted}
-use Rattle.block_laws.specs.Laws.{AcceptedPass, AsksAreLocal}
 use Rattle.job_programs.specs.Program.{Program}
+use Rattle.block_laws.proofs.HistoryLaws.{asks_are_local}
+use Rattle.block_laws.proofs.NextLaws.{accepted_pass}
 use Rattle.job_progress.specs.Hand.{HandState}
 use Rattle.job_progress.specs.JobInHand.{IsInHand, IsPaired}
 use Rattle.job_progress.specs.Asks.{AsksKeepHands, PendingStay, OffsKeepHands, DevicesStandIn}
@@ -40,12 +41,12 @@ module _ (c : Configuration) (s t : State) (same : t.hand ≡ s.hand) (blocks : 
   paired None d is = (same ∙ is.0, is.1)
   paired (Some h) d is = in_hand h d is
 
-pub offs : OffsKeepHands
-offs c s hand d ops is = paired c s (stepped c s (Off ops)) refl (λ j held. refl) hand d is
+pub offs_keep_hands : OffsKeepHands
+offs_keep_hands c s hand d ops is = paired c s (stepped c s (Off ops)) refl (λ j held. refl) hand d is
 
-devices_by : (c : Configuration) (s : State) (hand : Option HandState) (old new : DeviceTold) → new.stand ≡ old.stand → IsPaired c s hand old → IsPaired c s hand new
-devices_by c s None old new same is = (is.0, ap is_open same ∙ is.1)
-devices_by c s (Some h) old new same is = record {
+pub devices_stand_in : DevicesStandIn
+devices_stand_in c s None old new same is = (is.0, ap is_open same ∙ is.1)
+devices_stand_in c s (Some h) old new same is = record {
   job = is.job;
   hand = is.hand;
   working = is.working;
@@ -54,11 +55,8 @@ devices_by c s (Some h) old new same is = record {
   given = rw same is.given;
 }
 
-pub devices : DevicesStandIn
-devices = devices_by
-
 -- REQUESTS
-asked_hand : (c : Configuration) (s : State) (r : Request) (reply : Reply) → (asked c s r reply).hand ≡ s.hand
+pub asked_hand : (c : Configuration) (s : State) (r : Request) (reply : Reply) → (asked c s r reply).hand ≡ s.hand
 asked_hand c s (Read block ram) Accepted = refl
 asked_hand c s (Write block content store) Accepted = refl
 asked_hand c s (Restore block ram) Accepted = refl
@@ -79,9 +77,9 @@ asked_hand c s r (StatusIs status) = refl
 asked_hand c s r (IndexIs index) = refl
 
 -- a request of a PENDING block changes nothing of it
-module _ (pass : AcceptedPass) (c : Configuration) (most : ℕ) (s : State) where
+module _ (c : Configuration) (most : ℕ) (s : State) where
   refuses : (r : Request) (x : Refusal) → reply_of c most s r ≡ Accepted → Contains (tested r) x → holds c most s x r ≡ true → ⊥
-  refuses r x taken test held = false≢true (sym (pass c most s r x taken test) ∙ held)
+  refuses r x taken test held = false≢true (sym (accepted_pass c most s r x taken test) ∙ held)
 
   own_by : (r : Request) → reply_of c most s r ≡ Accepted → is_pending (status_of s (asked_block r)) ≡ true
       → block_at (accepted c s r) (asked_block r) ≡ block_at s (asked_block r)
@@ -111,17 +109,17 @@ module _ (pass : AcceptedPass) (c : Configuration) (most : ℕ) (s : State) wher
   own_reply caller r (StatusIs status) is pending = refl
   own_reply caller r (IndexIs index) is pending = refl
 
-pub pending_stay : AcceptedPass → AsksAreLocal → PendingStay
-pending_stay pass local c most s caller r reply id is pending = by (eqb_tells id (asked_block r))
+pub pending_stay : PendingStay
+pending_stay c most s caller r reply id is pending = by (eqb_tells id (asked_block r))
   where
     by : ((eqb id (asked_block r) ≡ true) × (id ≡ asked_block r)) ⊎ ((eqb id (asked_block r) ≡ false) × (id ≢ asked_block r)) → block_at (stepped c s (Ask caller r reply)) id ≡ block_at s id
     by (inl (_, same)) = subst (λ (b : ℕ). block_at (stepped c s (Ask caller r reply)) b ≡ block_at s b) (sym same)
-        (own_reply pass c most s caller r reply is (subst (λ (b : ℕ). is_pending (status_of s b) ≡ true) same pending))
-    by (inr (_, other)) = (local c s caller r reply).1 id other
+        (own_reply c most s caller r reply is (subst (λ (b : ℕ). is_pending (status_of s b) ≡ true) same pending))
+    by (inr (_, other)) = (asks_are_local c s caller r reply).1 id other
 
-pub asks : AcceptedPass → AsksAreLocal → AsksKeepHands
-asks pass local c most s hand d caller r reply is pending pairs =
+pub asks_keep_hands : AsksKeepHands
+asks_keep_hands c most s hand d caller r reply is pending pairs =
     paired c s (stepped c s (Ask caller r reply)) (asked_hand c s r reply) blocks hand d pairs
   where
     blocks : (j : Job) → s.hand ≡ Some j → block_at (stepped c s (Ask caller r reply)) (job_block j) ≡ block_at s (job_block j)
-    blocks j held = pending_stay pass local c most s caller r reply (job_block j) is (rw held at pending)
+    blocks j held = pending_stay c most s caller r reply (job_block j) is (rw held at pending)

@@ -9,9 +9,9 @@ use Rattle.block_machine.specs.Next.{Next, Nothing, PickJob, BeginSweep, PickMem
 use Rattle.block_machine.specs.Sweeps.{member_job}
 use Rattle.block_machine.specs.Steps.{step, picked_job, content_after}
 use Rattle.block_machine.specs.Legal.{MayPick, TakesBy, TakesForWrite, TakesCopy}
-use Rattle.block_laws.specs.Laws.{PickTakesInHand}
 use Rattle.job_programs.specs.Failures.{served_of}
 use Rattle.job_programs.specs.Program.{step_of}
+use Rattle.block_laws.proofs.NextLaws.{pick_takes_in_hand}
 use Rattle.job_progress.specs.Hand.{HandState}
 use Rattle.job_progress.specs.JobInHand.{GivesWhole, IsFruitless, IsWorking, IsPaired, program_for}
 use Rattle.job_progress.specs.Begins.{hand_by, hand_for, IsPicked, HandsBegin, PicksTakeJobs}
@@ -117,17 +117,17 @@ none_in_hand c s (Some j) held sweep sw is = cc
 none_in_hand c s None None sweep sw is = refl
 none_in_hand c s None (Some h) sweep sw is = cc
 
-picks_by : PickTakesInHand → (c : Configuration) (s : State) (block ops : ℕ) (kind : JobKind) (t : Taken) (n : Next) → next_of c s ≡ n
+picks_by : (c : Configuration) (s : State) (block ops : ℕ) (kind : JobKind) (t : Taken) (n : Next) → next_of c s ≡ n
     → MayPick c s block kind t n
     → ((step c s (Pick block kind t ops)).hand ≡ None) ⊎ ((j : Job) × ((step c s (Pick block kind t ops)).hand ≡ Some j) × IsPicked j)
-picks_by law c s block ops kind t (PickJob j) is may =
-    inr (picked_job t (if is_some s.hand then 2 else 0) j, (law c s j (record { number = 0; writes = false; under_way = false; canceled = false; left = []; same = false; spoiled = false }) 0 block ops kind t).0 is, picked_is c s j t _ may.takes)
-picks_by law c s block ops kind t (PickMember sw id) is may =
-    inr (picked_job t (if is_some s.hand then 2 else 0) (member_job c sw id), (law c s (member_job c sw id) sw id block ops kind t).1 is, picked_is c s (member_job c sw id) t _ may.takes)
-picks_by law c s block ops kind t (BeginSweep sw) is may = inl (rw is (none_in_hand c s (next_in c s.waiting) s.hand s.sweep sw is))
-picks_by law c s block ops kind t Nothing is may = absurd may
-picks_by law c s block ops kind t (PostMember sw id) is may = absurd may
-picks_by law c s block ops kind t (EndSweep sw) is may = absurd may
+picks_by c s block ops kind t (PickJob j) is may =
+    inr (picked_job t (if is_some s.hand then 2 else 0) j, (pick_takes_in_hand c s j (record { number = 0; writes = false; under_way = false; canceled = false; left = []; same = false; spoiled = false }) 0 block ops kind t).0 is, picked_is c s j t _ may.takes)
+picks_by c s block ops kind t (PickMember sw id) is may =
+    inr (picked_job t (if is_some s.hand then 2 else 0) (member_job c sw id), (pick_takes_in_hand c s (member_job c sw id) sw id block ops kind t).1 is, picked_is c s (member_job c sw id) t _ may.takes)
+picks_by c s block ops kind t (BeginSweep sw) is may = inl (rw is (none_in_hand c s (next_in c s.waiting) s.hand s.sweep sw is))
+picks_by c s block ops kind t Nothing is may = absurd may
+picks_by c s block ops kind t (PostMember sw id) is may = absurd may
+picks_by c s block ops kind t (EndSweep sw) is may = absurd may
 
-pub picks_take_jobs : PickTakesInHand → PicksTakeJobs
-picks_take_jobs law c cap s block ops kind t allowed = picks_by law c s block ops kind t (next_of c s) refl allowed.1
+pub picks_take_jobs : PicksTakeJobs
+picks_take_jobs c cap s block ops kind t allowed = picks_by c s block ops kind t (next_of c s) refl allowed.1

@@ -9,8 +9,11 @@ use Rattle.block_machine.specs.Blocks.{desc_of, block_at, job_block, kind_of}
 use Rattle.block_machine.specs.Results.{took_none}
 use Rattle.job_programs.specs.Program as program
 use Rattle.job_programs.specs.Program.{Program, program_of, next_in, step_of, is_again, tried, after_by}
-use Rattle.job_programs.specs.Laws.{Works, ProgramsWork, ProgramsGoAsNeeded}
-use Rattle.job_programs.specs.Failures.{served_of, TriesAreCounted}
+use Rattle.job_programs.specs.Laws.{Works}
+use Rattle.job_programs.specs.Failures.{served_of}
+use Rattle.job_programs.proofs.Failures.{tries_are_counted}
+use Rattle.job_programs.proofs.Gives.{programs_go_as_needed}
+use Rattle.job_programs.proofs.Worked.{programs_work}
 use Rattle.job_progress.specs.Hand.{HandState, ended}
 use Rattle.job_progress.specs.JobInHand.{GivesWhole, IsWorking, IsInHand, program_for}
 use Rattle.job_progress.proofs.Given.{gives_done}
@@ -51,8 +54,7 @@ tried_gives size stand p o index whole shape next = by (is_again o p.failures p.
     by true = again_gives size stand p index next
     by false = let (on, has) = next_of_done p index next in gives_done size stand o whole p index shape has on
 
-module _ (counted : TriesAreCounted) (needed : ProgramsGoAsNeeded) (shapes : ProgramsWork) (c : Configuration) (s : State) (h : HandState)
-    (old new : DeviceTold) (is : IsInHand c s h old) (index : ℕ) (next : next_in h.program ≡ Some index) (some : took_none is.job.taken ≡ false)
+module _ (c : Configuration) (s : State) (h : HandState) (old new : DeviceTold) (is : IsInHand c s h old) (index : ℕ) (next : next_in h.program ≡ Some index) (some : took_none is.job.taken ≡ false)
     (o : Outcome) (other : o ≢ First) (t : State) (n : ℕ) (w : List ℕ) (hand : t.hand ≡ Some (record is.job { reserved = n; written = w }))
     (blocks : (id : ℕ) → block_at t id ≡ block_at s id)
     (written : kind_of is.job ≢ ReadJob → w ≡ served_of (tried h.program o).indices (tried h.program o).done)
@@ -69,7 +71,7 @@ module _ (counted : TriesAreCounted) (needed : ProgramsGoAsNeeded) (shapes : Pro
 
   pub shape : Works h.program.indices
   shape = subst Works (sym (ap (λ (q : Program). q.indices) is.working.is))
-      (shapes (desc_of c (job_block is.job)) (is_some (desc_of c (job_block is.job)).defaults) (job_block is.job) (block_at s (job_block is.job)).index (kind_of is.job))
+      (programs_work (desc_of c (job_block is.job)) (is_some (desc_of c (job_block is.job)).defaults) (job_block is.job) (block_at s (job_block is.job)).index (kind_of is.job))
 
   abbrev with : List Outcome → ℕ → Program → Program
   with done failures q = record q { done = done; failures = failures }
@@ -83,7 +85,7 @@ module _ (counted : TriesAreCounted) (needed : ProgramsGoAsNeeded) (shapes : Pro
 
   tries_now : (tried h.program o).failures ≤ (tried h.program o).retries
   tries_now =
-      let few : (program.after h.program o).failures ≤ h.program.retries = (counted h.program o is.working.tries).0 in
+      let few : (program.after h.program o).failures ≤ h.program.retries = (tries_are_counted h.program o is.working.tries).0 in
       let same : (tried h.program o).retries ≡ h.program.retries = ap (λ (q : Program). q.retries) (tried_is h.program o) in
       let at : (program.after h.program o).failures ≡ (tried h.program o).failures = ap (λ (q : Program). q.failures) now_is in
       omega (arith, few, same, at)
@@ -92,7 +94,7 @@ module _ (counted : TriesAreCounted) (needed : ProgramsGoAsNeeded) (shapes : Pro
   working = record {
     is = rw now_is now_by;
     tries = rw (now_is) tries_now;
-    needed = rw kind_now (needed h.program o is.working.needed);
+    needed = rw kind_now (programs_go_as_needed h.program o is.working.needed);
     written = λ writes. rw now_is (written writes);
     content = is.working.content;
   }

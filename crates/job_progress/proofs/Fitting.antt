@@ -12,11 +12,14 @@ use Rattle.block_machine.specs.Blocks.{desc_of, block_at, job_block, job_kind, k
 use Rattle.block_machine.specs.ResultTable.{table}
 use Rattle.block_machine.specs.Results.{Own, own_of, own_indices, outcomes_of, open_sets, sets_of, unwritten, took_none}
 use Rattle.job_programs.specs.Program.{Program, works, retries_of, next_in, step_by, step_of, outcomes_in}
-use Rattle.job_programs.specs.Laws.{Works, failed_of, ProgramsWork, ProgramsWorkOnTheirOwn, EndsByTheMachine, GivesTheLastRead}
-use Rattle.job_programs.specs.Failures.{FailedAreOpen}
+use Rattle.job_programs.specs.Laws.{Works, failed_of}
+use Rattle.job_programs.proofs.Ends.{ends_by_the_machine}
+use Rattle.job_programs.proofs.Failures.{failed_are_open}
+use Rattle.job_programs.proofs.Gives.{gives_the_last_read}
+use Rattle.job_programs.proofs.Worked.{programs_work, programs_work_on_their_own}
 use Rattle.nvm_device_laws.specs.Tries.{IsProgramOf}
 use Rattle.job_progress.specs.Hand.{HandState}
-use Rattle.job_progress.specs.JobInHand.{GivesWhole, IsFruitless, IsInHand, FitsMarks, program_for}
+use Rattle.job_progress.specs.JobInHand.{GivesWhole, IsFruitless, IsInHand, FitsMarks}
 use Rattle.job_progress.specs.Fits.{IsExplained, EndsAreExplained, EndsAreOfPrograms}
 
 -- where nothing failed that is one of the open sets, of a job that can't fail at the device
@@ -52,18 +55,14 @@ writes_mark InvalidateJob content on writes has = refl
 writes_mark ReadAllJob content on writes has = cc
 writes_mark WriteAllJob content on writes has = cc
 
-module _ (ends : EndsByTheMachine) (gives : GivesTheLastRead) (open_set : FailedAreOpen) (shapes : ProgramsWork) (owns : ProgramsWorkOnTheirOwn)
-    (c : Configuration) (s : State) (h : HandState) (d : DeviceTold) (r : ReqResult) (source : GivenFrom) (is : IsInHand c s h d)
+module _ (c : Configuration) (s : State) (h : HandState) (d : DeviceTold) (r : ReqResult) (source : GivenFrom) (is : IsInHand c s h d)
     (fits : FitsMarks c s is.job h d.stand) (over : h.step ≡ step.Ended r source) where
-  static : h.program ≡ record (program_for c s is.job) { done = h.program.done; failures = h.program.failures }
-  static = is.working.is
-
   kind_is : h.program.kind ≡ kind_of is.job
   kind_is = ap (λ (q : Program). q.kind) is.working.is
 
   shape : Works h.program.indices
   shape = subst Works (sym (ap (λ (q : Program). q.indices) is.working.is))
-      (shapes (desc_of c (job_block is.job)) (is_some (desc_of c (job_block is.job)).defaults) (job_block is.job) (block_at s (job_block is.job)).index (kind_of is.job))
+      (programs_work (desc_of c (job_block is.job)) (is_some (desc_of c (job_block is.job)).defaults) (job_block is.job) (block_at s (job_block is.job)).index (kind_of is.job))
 
   step_is : (t : Bool) → took_none is.job.taken ≡ t → IfElse t (IsFruitless h) (h.step ≡ step_of h.program) → t ≡ false → h.step ≡ step_of h.program
   step_is true none fruitless off = cc
@@ -73,7 +72,7 @@ module _ (ends : EndsByTheMachine) (gives : GivesTheLastRead) (open_set : Failed
   at_end some = end_is h.program (next_in h.program) r source (sym (step_is (took_none is.job.taken) refl is.step some) ∙ over)
 
   own_is : works (kind_of is.job) ≡ true → own_indices (own_of c s (job_block is.job)) ≡ h.program.indices
-  own_is on = owns c s (job_block is.job) (job_block is.job) (is_some (desc_of c (job_block is.job)).defaults) (kind_of is.job) on
+  own_is on = programs_work_on_their_own c s (job_block is.job) (job_block is.job) (is_some (desc_of c (job_block is.job)).defaults) (kind_of is.job) on
       ∙ sym (ap (λ (q : Program). q.indices) is.working.is)
 
   defaults_are : is_some (own_of c s (job_block is.job)).desc.defaults ≡ h.program.defaults
@@ -91,15 +90,15 @@ module _ (ends : EndsByTheMachine) (gives : GivesTheLastRead) (open_set : Failed
   pub explained : (on : works (kind_of is.job) ≡ true) (some : took_none is.job.taken ≡ false)
       → IsExplained c s is.job r source (given_by d.stand) (failed_of h.program.indices h.program.done)
   explained on some = record {
-    open_set = open_set (own_of c s (job_block is.job)) is.job h.program (own_is on) shape (sym kind_is) (works_on on) fits.fit (at_end some).0 some
+    open_set = failed_are_open (own_of c s (job_block is.job)) is.job h.program (own_is on) shape (sym kind_is) (works_on on) fits.fit (at_end some).0 some
         (λ writes. is.working.written (λ reads. writes (kind_is ∙ reads)));
-    ends = λ got. (at_end some).1 ∙ ends (own_of c s (job_block is.job)) h.program (own_is on) shape defaults_are fits.fit (at_end some).0
+    ends = λ got. (at_end some).1 ∙ ends_by_the_machine (own_of c s (job_block is.job)) h.program (own_is on) shape defaults_are fits.fit (at_end some).0
         ∙ ap (λ (k : JobKind). table (is_some (desc_of c (job_block is.job)).defaults) k (outcomes_of k (own_of c s (job_block is.job)).marks (failed_of h.program.indices h.program.done))) kind_is;
     gives = λ got reads.
         let (bytes, stands) = content_is source refl reads in
         let read : h.step ≡ step.Ended r FromDevice = over ∙ ap (λ (g : GivenFrom). step.Ended r g) reads in
         let device_is : (table h.program.defaults h.program.kind (outcomes_in h.program)).1 ≡ FromDevice = ap (λ (e : ReqResult × GivenFrom). e.1) (sym (at_end some).1) ∙ reads in
-        ap (λ (x : Stand). Some (given_by x)) stands ∙ sym (gives (own_of c s (job_block is.job)) h.program (own_is on) shape fits.fit (at_end some).0 is.working.needed device_is ∙ fits.last r bytes read stands);
+        ap (λ (x : Stand). Some (given_by x)) stands ∙ sym (gives_the_last_read (own_of c s (job_block is.job)) h.program (own_is on) shape fits.fit (at_end some).0 is.working.needed device_is ∙ fits.last r bytes read stands);
   }
 
   pub program_of_it : (on : works (kind_of is.job) ≡ true) (some : took_none is.job.taken ≡ false) → IsProgramOf c s is.job h.program
@@ -140,7 +139,8 @@ module _ (c : Configuration) (s : State) (h : HandState) (d : DeviceTold) (r : R
       }
 
 -- THE LAWS
-kind_by : (r : Request) → works (unwrap_or (job_kind r) ReadJob) ≡ false → unwrap_or (job_kind r) ReadJob ≡ RestoreJob
+-- a job that doesn't work on the device is a restore
+pub kind_by : (r : Request) → works (unwrap_or (job_kind r) ReadJob) ≡ false → unwrap_or (job_kind r) ReadJob ≡ RestoreJob
 kind_by (Restore block ram) off = refl
 kind_by (Read block ram) off = cc
 kind_by (Write block content store) off = cc
@@ -157,33 +157,32 @@ kind_by ReadAll off = cc
 kind_by WriteAll off = cc
 kind_by CancelWriteAll off = cc
 
-module _ (ends : EndsByTheMachine) (gives : GivesTheLastRead) (open_set : FailedAreOpen) (shapes : ProgramsWork) (owns : ProgramsWorkOnTheirOwn) where
-  by_cases : (c : Configuration) (s : State) (h : HandState) (d : DeviceTold) (r : ReqResult) (source : GivenFrom) (is : IsInHand c s h d)
-      → FitsMarks c s is.job h d.stand → h.step ≡ step.Ended r source → (t u : Bool) → took_none is.job.taken ≡ t → works (kind_of is.job) ≡ u
-      → (failed : List ℕ) × IsExplained c s is.job r source (given_by d.stand) failed
-  by_cases c s h d r source is fits over true u none on = ([], fruitless c s h d r source is over none)
-  by_cases c s h d r source is fits over false true some on =
-      (failed_of h.program.indices h.program.done, explained ends gives open_set shapes owns c s h d r source is fits over on some)
-  by_cases c s h d r source is fits over false false some off = (
-    [],
-    restored c s h d r source is over (kind_by is.job.request off) some
-        (step_is ends gives open_set shapes owns c s h d r source is fits over (took_none is.job.taken) refl is.step some),
-  )
+by_cases : (c : Configuration) (s : State) (h : HandState) (d : DeviceTold) (r : ReqResult) (source : GivenFrom) (is : IsInHand c s h d)
+    → FitsMarks c s is.job h d.stand → h.step ≡ step.Ended r source → (t u : Bool) → took_none is.job.taken ≡ t → works (kind_of is.job) ≡ u
+    → (failed : List ℕ) × IsExplained c s is.job r source (given_by d.stand) failed
+by_cases c s h d r source is fits over true u none on = ([], fruitless c s h d r source is over none)
+by_cases c s h d r source is fits over false true some on =
+    (failed_of h.program.indices h.program.done, explained c s h d r source is fits over on some)
+by_cases c s h d r source is fits over false false some off = (
+  [],
+  restored c s h d r source is over (kind_by is.job.request off) some
+      (step_is c s h d r source is fits over (took_none is.job.taken) refl is.step some),
+)
 
-  pub ends_are_explained : EndsAreExplained
-  ends_are_explained c s h d j r source is hand fits over =
-      let same : is.job ≡ j = let both : Some is.job ≡ Some j = sym is.hand ∙ hand in cc in
-      subst (λ (k : Job). (failed : List ℕ) × IsExplained c s k r source (given_by d.stand) failed) same
-      (by_cases c s h d r source is (subst (λ (k : Job). FitsMarks c s k h d.stand) (sym same) fits) over
-      (took_none is.job.taken) (works (kind_of is.job)) refl refl)
+pub ends_are_explained : EndsAreExplained
+ends_are_explained c s h d j r source is hand fits over =
+    let same : is.job ≡ j = let both : Some is.job ≡ Some j = sym is.hand ∙ hand in cc in
+    subst (λ (k : Job). (failed : List ℕ) × IsExplained c s k r source (given_by d.stand) failed) same
+    (by_cases c s h d r source is (subst (λ (k : Job). FitsMarks c s k h d.stand) (sym same) fits) over
+    (took_none is.job.taken) (works (kind_of is.job)) refl refl)
 
-  pub ends_are_of_programs : EndsAreOfPrograms
-  ends_are_of_programs c s h d j r source is hand fits over on some =
-      let same : is.job ≡ j = let both : Some is.job ≡ Some j = sym is.hand ∙ hand in cc in
-      let own_fits : FitsMarks c s is.job h d.stand = subst (λ (k : Job). FitsMarks c s k h d.stand) (sym same) fits in
-      let own_on : works (kind_of is.job) ≡ true = ap (λ (k : Job). works (kind_of k)) same ∙ on in
-      let own_some : took_none is.job.taken ≡ false = ap (λ (k : Job). took_none k.taken) same ∙ some in
-      subst (λ (k : Job). IsProgramOf c s k h.program × IsExplained c s k r source (given_by d.stand) (failed_of h.program.indices h.program.done)) same (
-        program_of_it ends gives open_set shapes owns c s h d r source is own_fits over own_on own_some,
-        explained ends gives open_set shapes owns c s h d r source is own_fits over own_on own_some,
-      )
+pub ends_are_of_programs : EndsAreOfPrograms
+ends_are_of_programs c s h d j r source is hand fits over on some =
+    let same : is.job ≡ j = let both : Some is.job ≡ Some j = sym is.hand ∙ hand in cc in
+    let own_fits : FitsMarks c s is.job h d.stand = subst (λ (k : Job). FitsMarks c s k h d.stand) (sym same) fits in
+    let own_on : works (kind_of is.job) ≡ true = ap (λ (k : Job). works (kind_of k)) same ∙ on in
+    let own_some : took_none is.job.taken ≡ false = ap (λ (k : Job). took_none k.taken) same ∙ some in
+    subst (λ (k : Job). IsProgramOf c s k h.program × IsExplained c s k r source (given_by d.stand) (failed_of h.program.indices h.program.done)) same (
+      program_of_it c s h d r source is own_fits over own_on own_some,
+      explained c s h d r source is own_fits over own_on own_some,
+    )

@@ -18,9 +18,9 @@ use Rattle.block_machine.specs.Results.{took_none}
 use Rattle.job_programs.specs.Program.{Program, works, operation, settles, next_in, step_by, step_of, is_failed, is_again, tried}
 use Rattle.job_programs.specs.Failures.{served_of}
 use Rattle.job_progress.proofs.Beginning.{none_served}
-use Rattle.job_progress.specs.Hand.{HandState}
+use Rattle.job_progress.specs.Hand.{HandState, with_start}
 use Rattle.job_progress.specs.JobInHand.{IsFruitless, IsInHand, program_for}
-use Rattle.job_progress.specs.Goes.{Names, StepsName}
+use Rattle.job_progress.specs.Goes.{Names, StepsName, StartsGoOn}
 
 -- THE NUMBERS
 few_by : (kind : BlockKind) (nv : ℕ) → IsDatasetCount kind nv → nv ≤ 64
@@ -116,6 +116,22 @@ module _ (c : Configuration) (s : State) (h : HandState) (d : DeviceTold) (rules
 
 pub steps_name : StepsName
 steps_name c s h d op i rules is at = names c s h d rules is op i at
+
+-- a step at the device isn't that of a job without content
+started_step : (t : Bool) (h : HandState) (op : DeviceOp) (i : Instance) → h.step ≡ step.Device op i
+    → IfElse t (IsFruitless h) (h.step ≡ step_of h.program) → IfElse t (IsFruitless (with_start h)) (h.step ≡ step_of h.program)
+started_step true h op i at fruitless = let none = fruitless.0 in cc
+started_step false h op i at is = is
+
+pub starts_go_on : StartsGoOn
+starts_go_on c s h old new op i j index is step_is hand next stands = record {
+  job = is.job;
+  hand = is.hand;
+  working = is.working;
+  step = started_step (took_none is.job.taken) h op i step_is is.step;
+  at = record { index = index; next = next; stands = let same : Some j ≡ Some is.job = sym hand ∙ is.hand in cc };
+  given = rw step_is tt;
+}
 
 -- THE OUTCOME
 -- an outcome changes only what is done and the failures

@@ -1,8 +1,8 @@
-mod Beginning
-mod Given
-mod Going
-mod Ended
-mod Writing
-mod Asking
-mod Fitting
-mod Powering
+pub mod Beginning
+pub mod Given
+pub mod Going
+pub mod Ended
+pub mod Writing
+pub mod Asking
+pub mod Fitting
+pub mod Powering

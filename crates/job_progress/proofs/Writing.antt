@@ -20,8 +20,9 @@ use Rattle.block_machine.specs.Results.{took_none}
 use Rattle.block_machine.specs.Steps.{step, wrote}
 use Rattle.block_machine.specs.Legal.{IsAllowed, IsDriving}
 use Rattle.job_programs.specs.Program.{Program, works, next_in, is_failed, tried}
-use Rattle.job_programs.specs.Laws.{Works, ProgramsWork, ProgramsGoAsNeeded}
-use Rattle.job_programs.specs.Failures.{served_of, TriesAreCounted}
+use Rattle.job_programs.specs.Laws.{Works}
+use Rattle.job_programs.specs.Failures.{served_of}
+use Rattle.job_programs.proofs.Worked.{programs_work}
 use Rattle.nvm_device_laws.specs.Outcomes.{outcome_by}
 use Rattle.nvm_device_laws.specs.Turn.{settled_by, wrote_by}
 use Rattle.job_progress.specs.Hand.{HandState, ended}
@@ -234,8 +235,7 @@ module _ (c : Configuration) (s : State) (h : HandState) (old : DeviceTold) (job
   )
 
 -- THE END OF THE DEVICE'S JOB
-module _ (counted : TriesAreCounted) (needed : ProgramsGoAsNeeded) (shapes : ProgramsWork) (c : Configuration) (s : State) (h : HandState) (old new : DeviceTold)
-    (job : device.Job) (r : JobResult) (given : List ℕ) (ops : ℕ) (rules : IsLegalConfig c) (is : IsInHand c s h old) (on : old.stand ≡ Open job)
+module _ (c : Configuration) (s : State) (h : HandState) (old new : DeviceTold) (job : device.Job) (r : JobResult) (given : List ℕ) (ops : ℕ) (rules : IsLegalConfig c) (is : IsInHand c s h old) (on : old.stand ≡ Open job)
     (off : new.stand ≡ Ended r given) (whole : ReadsWhole (desc_of c (job_block is.job)).length job.mark r given) where
   closed : is_open new.stand ≡ false
   closed = ap is_open off
@@ -251,7 +251,7 @@ module _ (counted : TriesAreCounted) (needed : ProgramsGoAsNeeded) (shapes : Pro
 
   -- without a Wrote
   pub stays : (kind_of is.job ≢ ReadJob → is_failed (outcome_by job.mark r) ≡ true) → IsInHand c s (ended (outcome_by job.mark r) h) new
-  stays failed = goes_on counted needed shapes c s h old new is (index c s h old job rules is on) (next c s h old job rules is on)
+  stays failed = goes_on c s h old new is (index c s h old job rules is on) (next c s h old job rules is on)
       (some c s h old job rules is on) (outcome_by job.mark r) (other_than_first job.mark r) s is.job.reserved is.job.written is.hand (λ id. refl)
       (λ writes. is.working.written writes ∙ sym (served ∙ none_more (failed writes))) closed read_whole
     where
@@ -262,7 +262,7 @@ module _ (counted : TriesAreCounted) (needed : ProgramsGoAsNeeded) (shapes : Pro
   -- with one
   pub wrote_it : (m : Mark) → job.mark ≡ Some m → is_failed (outcome_by job.mark r) ≡ false
       → IsInHand c (step c s (Wrote (instance_of (record { 0 = job.number })) m ops)) (ended (outcome_by job.mark r) h) new
-  wrote_it m marks fine = goes_on counted needed shapes c s h old new is (index c s h old job rules is on) (next c s h old job rules is on)
+  wrote_it m marks fine = goes_on c s h old new is (index c s h old job rules is on) (next c s h old job rules is on)
       (some c s h old job rules is on) (outcome_by job.mark r) (other_than_first job.mark r)
       (step c s (Wrote (instance_of (record { 0 = job.number })) m ops)) (is.job.reserved - 1) (is.job.written ++ (instance_of (record { 0 = job.number })).index ∷ [])
       (ap (λ (x : Option Job). (wrote s (instance_of (record { 0 = job.number })) m x).hand) is.hand)
@@ -296,23 +296,23 @@ module _ (counted : TriesAreCounted) (needed : ProgramsGoAsNeeded) (shapes : Pro
       asks = ap (λ (x : Stand). settled_by x (Ended r given) ops) (sym on) ∙ ap (λ (x : Stand). settled_by old.stand x ops) (sym off)
 
 -- THE LAWS
-pub hands_go_on : TriesAreCounted → ProgramsGoAsNeeded → ProgramsWork → HandsGoOn
-hands_go_on counted needed shapes c s h old new job r given j ops rules is hand on off whole =
+pub hands_go_on : HandsGoOn
+hands_go_on c s h old new job r given j ops rules is hand on off whole =
     let same : j ≡ is.job = let both : Some j ≡ Some is.job = sym hand ∙ is.hand in cc in
-    ends counted needed shapes c s h old new job r given ops rules is on off (subst (λ (k : Job). ReadsWhole (desc_of c (job_block k)).length job.mark r given) same whole)
+    ends c s h old new job r given ops rules is on off (subst (λ (k : Job). ReadsWhole (desc_of c (job_block k)).length job.mark r given) same whole)
 
-shape_of : ProgramsWork → (c : Configuration) (s : State) (h : HandState) (d : DeviceTold) → IsInHand c s h d → Works h.program.indices
-shape_of shapes c s h d is = subst Works (sym (ap (λ (q : Program). q.indices) is.working.is))
-    (shapes (desc_of c (job_block is.job)) (is_some (desc_of c (job_block is.job)).defaults) (job_block is.job) (block_at s (job_block is.job)).index (kind_of is.job))
+shape_of : (c : Configuration) (s : State) (h : HandState) (d : DeviceTold) → IsInHand c s h d → Works h.program.indices
+shape_of c s h d is = subst Works (sym (ap (λ (q : Program). q.indices) is.working.is))
+    (programs_work (desc_of c (job_block is.job)) (is_some (desc_of c (job_block is.job)).defaults) (job_block is.job) (block_at s (job_block is.job)).index (kind_of is.job))
 
-pub writes_are_allowed : ProgramsWork → WritesAreAllowed
-writes_are_allowed shapes c most s h old new e ops rules is driving asks = by old.stand new.stand refl asks
+pub writes_are_allowed : WritesAreAllowed
+writes_are_allowed c most s h old new e ops rules is driving asks = by old.stand new.stand refl asks
   where
     wrote_is : (job : device.Job) (mark : Option Mark) → old.stand ≡ Open job → job.mark ≡ mark → wrote_by job.number mark ops ≡ Some e → IsAllowed c most s e
     wrote_is job None on marks asks = cc
     wrote_is job (Some m) on marks asks =
         let same : Wrote (instance_of (record { 0 = job.number })) m ops ≡ e = cc in
-        subst (IsAllowed c most s) same (allowed c s h old job rules is on most ops m driving marks (shape_of shapes c s h old is))
+        subst (IsAllowed c most s) same (allowed c s h old job rules is on most ops m driving marks (shape_of c s h old is))
 
     by : (a b : Stand) → old.stand ≡ a → settled_by a b ops ≡ Some e → IsAllowed c most s e
     by (Open job) (Ended JobOk given) on asks = wrote_is job job.mark on refl asks

@@ -1,20 +1,12 @@
 //! How far the job in hand is: its program, the step that the program named last, and whether the device is at it.
 //!
 //! It promises that the program goes on by the outcomes of its operations, each of which may be open at the device
-//! once, and, as laws, that it stays paired with the block machine's job and the device's open job from the Pick to the
+//! once, and, as lemmas, that it stays paired with the block machine's job and the device's open job from the Pick to the
 //! Post, and ends as the machine says. Who calls the device and adds the entries is left to the crates above.
 #![tactic(auto)]
 
-mod ask_laws;
-mod begin_laws;
-mod end_laws;
 mod hand;
 mod program;
-mod step_laws;
 
-pub use ask_laws::hands_stay;
-pub use begin_laws::hands_begin;
-pub use end_laws::hands_end;
 pub use hand::Hand;
 pub use program::JobProgram;
-pub use step_laws::hands_go_on;

@@ -1,5 +1,7 @@
 -- The queues and the machine's order.
 use Rattle.std.proofs.Common.{◌≡◌, ◌≢◌, ℕ, ◌==◌, not, Bool, true, false, if◌then◌else◌, List, [], ◌∷◌, ◌++◌, map, fold, refl, ap, ◌∙◌, Option, Some, None, option_map}
+use Rattle.std.proofs.lemmas.List.{append-nil, map-append}
+use Rattle.std.proofs.lemmas.List.Elements.{filter-append}
 use Rattle.block_machine.specs.Words.{Configuration}
 use Rattle.block_machine.specs.State.{Job}
 use Rattle.block_machine.specs.Order.{goes_before}
@@ -7,8 +9,8 @@ use Rattle.block_machine.specs.Next.{first_of_two as machine_two}
 use Rattle.block_machine.specs.Steps.{without_job}
 use Rattle.job_queues.specs.declared.waiting.Waiting.{Waiting}
 use Rattle.job_queues.specs.Order.{first_of, first_of_two, rank_of}
-use Rattle.job_queues.specs.Jobs.{either, without}
-use Rattle.job_queues.specs.Laws.{only, OneOrder, FirstIsNext, TakenLeaves, NoneIsEmpty, waiting_of}
+use Rattle.job_queues.specs.Jobs.{Jobs, either, with_job, with_job_first, without}
+use Rattle.job_queues.specs.Laws.{only, OneOrder, FirstIsNext, AddedWaits, PutBackWaits, TakenLeaves, NoneIsEmpty, waiting_of}
 
 -- ONE ORDER
 
@@ -107,3 +109,23 @@ leaves_by false false k c j jobs n e f h = rw f h
 pub taken_leaves : TakenLeaves
 taken_leaves c [] n k = refl
 taken_leaves c (j ∷ jobs) n k = leaves_by (j.number == n) (if k then (waiting_of c j).immediate else not (waiting_of c j).immediate) k c j jobs n refl refl (taken_leaves c jobs n k)
+
+-- A JOB THAT WAITS
+
+abbrev queued : List Waiting → ℕ → ℕ → Jobs
+queued ws i s = record { immediate = only true ws; standard = only false ws; immediate_size = i; standard_size = s }
+
+added_by : (t : Bool) (w : Waiting) (ws : List Waiting) (i s : ℕ) → w.immediate ≡ t → queued (ws ++ w ∷ []) i s ≡ with_job w (queued ws i s)
+added_by true w ws i s is = rw (filter-append (λ w. w.immediate) ws (w ∷ []), filter-append (λ w. not w.immediate) ws (w ∷ []), is, append-nil (only false ws)) refl
+added_by false w ws i s is = rw (filter-append (λ w. w.immediate) ws (w ∷ []), filter-append (λ w. not w.immediate) ws (w ∷ []), is, append-nil (only true ws)) refl
+
+pub added_waits : AddedWaits
+added_waits c jobs j i s =
+    rw (map-append (waiting_of c) jobs (j ∷ [])) (added_by (waiting_of c j).immediate (waiting_of c j) (map (waiting_of c) jobs) i s refl)
+
+put_first : (t : Bool) (w : Waiting) (ws : List Waiting) (i s : ℕ) → w.immediate ≡ t → queued (w ∷ ws) i s ≡ with_job_first w (queued ws i s)
+put_first true w ws i s is = rw is refl
+put_first false w ws i s is = rw is refl
+
+pub put_back_waits : PutBackWaits
+put_back_waits c jobs j i s = put_first (waiting_of c j).immediate (waiting_of c j) (map (waiting_of c) jobs) i s refl

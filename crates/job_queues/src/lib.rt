@@ -4,11 +4,9 @@
 //! exactly while it has room, and that only `make` takes memory. Which jobs are added is left to the crate above.
 #![tactic(auto)]
 
-mod laws;
 mod queues;
 mod ring;
 mod waiting;
 
-pub use laws::{queues_follow_the_machine, queues_have_one_order};
 pub use queues::Queues;
 pub use waiting::Waiting;

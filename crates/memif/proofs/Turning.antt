@@ -27,11 +27,11 @@ settled_at d None (Some t) m clear possible = absurd clear
 settled_at d None None m clear possible = tt
 
 -- A COUNT THAT ROSE
-rose_before : (a b c : ℕ) → Rose a b → b ≤ c → Rose a c
+pub rose_before : (a b c : ℕ) → Rose a b → b ≤ c → Rose a c
 rose_before a b c (inl lt) le = inl (omega (arith, lt, le))
 rose_before a b c (inr end) le = inr (end.0, omega (arith, end.1, le))
 
-rose_since : (a b c : ℕ) → a ≤ b → Rose b c → Rose a c
+pub rose_since : (a b c : ℕ) → a ≤ b → Rose b c → Rose a c
 rose_since a b c le (inl lt) = inl (omega arith)
 rose_since a b c le (inr end) =
     let up : a ≤ c = omega (arith, le, end.1) in
@@ -115,7 +115,7 @@ on_parts First old new P same here rest Second = subst (P old.second) (sym (rest
 on_parts Second old new P same here rest First = subst (P old.first) (sym (rest First)) (same old.first)
 on_parts Second old new P same here rest Second = here
 
-works_rest : (p : Part) (old new : DeviceTold) (clock : Clock) → Works p old new clock → (q : Part) → part_at q new ≡ part_at q (with_part p (part_at p new) old)
+pub works_rest : (p : Part) (old new : DeviceTold) (clock : Clock) → Works p old new clock → (q : Part) → part_at q new ≡ part_at q (with_part p (part_at p new) old)
 works_rest First old new clock works First = ap (λ (d : DeviceTold). d.first) works.only
 works_rest First old new clock works Second = ap (λ (d : DeviceTold). d.second) works.only
 works_rest Second old new clock works First = ap (λ (d : DeviceTold). d.first) works.only

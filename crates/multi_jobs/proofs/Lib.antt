@@ -2,3 +2,4 @@ pub mod Ids
 pub mod Taken
 pub mod Noted
 pub mod Configured
+pub mod NextSteps

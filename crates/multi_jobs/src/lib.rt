@@ -4,9 +4,7 @@
 //! and that the sweep ends with the machine's result. What a member's job does is left to the crates above.
 #![tactic(auto)]
 
-mod laws;
 mod members;
 mod sweep;
 
-pub use laws::sweeps_follow_the_machine;
 pub use sweep::{MemberFacts, Sweep, SweepStep};

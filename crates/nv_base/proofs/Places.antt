@@ -12,16 +12,16 @@ use Rattle.nv_base.specs.Laws.{NumbersAreAbove, NumbersAreInBounds, NumbersHaveP
 use Rattle.nv_base.specs.Lengths.{AreLengths, IsPlace, last_or, place_of}
 
 -- all numbers are above the first bound
-pub above : NumbersAreAbove
-above low [] all i d lt = absurd (omega arith)
-above low (n ∷ ns) all zero d lt = all.0
-above low (n ∷ ns) all (suc i) d lt = omega (arith, all.0, above n.0.0 ns all.4 i d (omega arith))
+pub numbers_are_above : NumbersAreAbove
+numbers_are_above low [] all i d lt = absurd (omega arith)
+numbers_are_above low (n ∷ ns) all zero d lt = all.0
+numbers_are_above low (n ∷ ns) all (suc i) d lt = omega (arith, all.0, numbers_are_above n.0.0 ns all.4 i d (omega arith))
 
 -- the numbers ascend
 pub ascending : (low : ℕ) (ns : List (DeviceNumber × ℕ)) → AreLengths low ns → (i j : ℕ) (d : DeviceNumber × ℕ) → i < j → j < length ns → (get_or ns i d).0.0 < (get_or ns j d).0.0
 ascending low [] all i j d lt within = absurd (omega arith)
 ascending low (n ∷ ns) all i zero d lt within = absurd (omega arith)
-ascending low (n ∷ ns) all zero (suc j) d lt within = above n.0.0 ns all.4 j d (omega arith)
+ascending low (n ∷ ns) all zero (suc j) d lt within = numbers_are_above n.0.0 ns all.4 j d (omega arith)
 ascending low (n ∷ ns) all (suc i) (suc j) d lt within = ascending n.0.0 ns all.4 i j d (omega arith) (omega arith)
 
 module _ (low : ℕ) (ns : List (DeviceNumber × ℕ)) (all : AreLengths low ns) (number : ℕ) where
@@ -43,7 +43,7 @@ place_is low [] number i all place = absurd (omega (arith, place.within))
 place_is low (n ∷ ns) number zero all place = let same : n.0.0 ≡ number = place.is n in grind (arith, nat_tests)
 place_is low (n ∷ ns) number (suc i) all place =
     let rest : IsPlace ns number i = record { within = omega (arith, place.within); is = λ d. place.is d } in
-    let differs : n.0.0 ≢ number = λ same. (let more : n.0.0 < (get_or ns i n).0.0 = above n.0.0 ns all.4 i n rest.within in omega (arith, rest.is n)) in
+    let differs : n.0.0 ≢ number = λ same. (let more : n.0.0 < (get_or ns i n).0.0 = numbers_are_above n.0.0 ns all.4 i n rest.within in omega (arith, rest.is n)) in
     let one : option_map (λ (place : ℕ). place + 1) (place_of ns number) ≡ Some (suc i) = rw (place_is n.0.0 ns number i all.4 rest) (ap (λ (k : ℕ). Some k) (add-one i)) in
     grind (arith, nat_tests)
 
@@ -60,20 +60,20 @@ found_place low ns number None all none = sym (place_is_none ns number none)
 found_place low ns number (Some i) all place = sym (place_is low ns number i all place)
 
 -- what stands at an index
-pub bounds : NumbersAreInBounds
-bounds low [] i x all is = cc
-bounds low (n ∷ ns) zero x all is =
+pub numbers_are_in_bounds : NumbersAreInBounds
+numbers_are_in_bounds low [] i x all is = cc
+numbers_are_in_bounds low (n ∷ ns) zero x all is =
     let e : n ≡ x = cc in subst (λ (y : DeviceNumber × ℕ). (low < y.0.0) × (y.0.0 < 65535) × (1 ≤ y.1) × (y.1 ≤ 4096)) e (all.0, all.1, all.2, all.3)
-bounds low (n ∷ ns) (suc i) x all is =
-    let r = bounds n.0.0 ns i x all.4 is in (omega (arith, all.0, r.0), r.1, r.2, r.3)
+numbers_are_in_bounds low (n ∷ ns) (suc i) x all is =
+    let r = numbers_are_in_bounds n.0.0 ns i x all.4 is in (omega (arith, all.0, r.0), r.1, r.2, r.3)
 
 -- has its place there
-pub placed : NumbersHavePlaces
-placed low [] i x all is = cc
-placed low (n ∷ ns) zero x all is = let e : n ≡ x = cc in rw (← e, eq-eqb n.0.0 n.0.0 refl) refl
-placed low (n ∷ ns) (suc i) x all is =
-    let up = bounds n.0.0 ns i x all.4 is in
-    rw (ne_eqb n.0.0 x.0.0 (λ e. omega (arith, up.0)), placed n.0.0 ns i x all.4 is, add-one) refl
+pub numbers_have_places : NumbersHavePlaces
+numbers_have_places low [] i x all is = cc
+numbers_have_places low (n ∷ ns) zero x all is = let e : n ≡ x = cc in rw (← e, eq-eqb n.0.0 n.0.0 refl) refl
+numbers_have_places low (n ∷ ns) (suc i) x all is =
+    let up = numbers_are_in_bounds n.0.0 ns i x all.4 is in
+    rw (ne_eqb n.0.0 x.0.0 (λ e. omega (arith, up.0)), numbers_have_places n.0.0 ns i x all.4 is, add-one) refl
 
 -- and comes behind all before it
 come : (low : ℕ) (ns : List (DeviceNumber × ℕ)) (i : ℕ) (x : DeviceNumber × ℕ) → AreLengths low ns → slice_get ns i ≡ Some x
@@ -83,5 +83,5 @@ come low (n ∷ ns) zero x all is =
     let e : n ≡ x = cc in subst (λ (y : DeviceNumber × ℕ). (low < y.0.0) × (n.0.0 ≡ y.0.0)) e (all.0, refl)
 come low (n ∷ ns) (suc i) x all is = come n.0.0 ns i x all.4 is
 
-pub comes_last : NumbersComeLast
-comes_last low ns i x all is = rw add-one (come low ns i x all is)
+pub numbers_come_last : NumbersComeLast
+numbers_come_last low ns i x all is = rw add-one (come low ns i x all is)

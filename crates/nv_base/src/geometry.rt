@@ -1,6 +1,6 @@
 // The shape of a flash.
 ghost use Rattle.std.specs.Prelude.{◌≡◌, ◌<◌, ◌≤◌, ◌+◌, ◌*◌, ◌↔◌, IsTrue};
-ghost use Rattle.nv_base.specs.Geometry.{IsLegal, IsPageSize, HasBanks, BanksFill, PagesLieInside, size_of, pages_of_sector, sectors_of_bank, pages_of_bank, size_of_bank, address_of_page};
+ghost use Rattle.nv_base.specs.Geometry.{IsLegal, IsPageSize, HasBanks, size_of, pages_of_sector, sectors_of_bank, pages_of_bank, size_of_bank, address_of_page};
 
 /// The shape of a flash: bytes of a page, bytes of a sector, and sectors of the whole flash, which its banks share
 /// equally.
@@ -102,9 +102,3 @@ fn is_page_size(page: u32) -> bool
 {
     [16, 32, 64, 128, 256].contains(&page)
 }
-
-/// Laws of each legal shape. The function does nothing.
-pub fn banks_share_the_flash()
-    ensures fill { BanksFill }
-    ensures inside { PagesLieInside }
-{}

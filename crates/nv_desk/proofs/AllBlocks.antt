@@ -7,13 +7,13 @@ use Rattle.block_machine.specs.Sweeps.{is_picked, sweep_result}
 use Rattle.block_machine.specs.Next.{Next, BeginSweep, PickMember, PostMember, EndSweep, next_in, next_by, next_of, next_member, next_in_sweep}
 use Rattle.block_machine.specs.Steps.{changed_by, step, posted, posted_next, with_status}
 use Rattle.block_machine.specs.Legal.{IsAllowed, IsDriving, MayPost, MayPostNext}
-use Rattle.block_laws.specs.Laws.{NoneWaits}
 use Rattle.block_laws.specs.Consistent.{IsConsistent}
+use Rattle.block_laws.proofs.ConsistentSteps.{allowed_steps_stay_consistent}
+use Rattle.block_laws.proofs.NextLaws.{none_waits}
 use Rattle.std.proofs.lemmas.List.{length-set}
 use Rattle.nv_desk_state.specs.declared.sweep.PendingSweep.{PendingSweep}
 use Rattle.nv_desk_state.specs.declared.kept.Kept.{Kept}
 use Rattle.nv_desk.specs.AllBlocks.{sweep_kind}
-use Rattle.nv_desk.specs.Driver.{DriverLaws}
 use Rattle.nv_desk_state.specs.Kept.{Agrees}
 use Rattle.nv_desk_state.specs.Pending.{AreSweeps}
 use Rattle.nv_desk.specs.Sound.{IsSound}
@@ -46,10 +46,10 @@ begins_by c s sw None None (Some x) e =
     let (is, off) = sweep_by c s x sw x.under_way refl e in
     (refl, refl, rw is refl, subst (λ (y : Sweep). y.under_way ≡ false) is off)
 
-pub begins : NoneWaits → (c : Configuration) (s : State) (sw : Sweep) → next_of c s ≡ BeginSweep sw → Begins s sw
-begins law c s sw is =
+pub begins : (c : Configuration) (s : State) (sw : Sweep) → next_of c s ≡ BeginSweep sw → Begins s sw
+begins c s sw is =
     let b = begins_by c s sw (next_in c s.waiting) s.hand s.sweep is in
-    record { waiting = law c s.waiting b.0; hand = b.1; sweep = b.2; before = b.3 }
+    record { waiting = none_waits c s.waiting b.0; hand = b.1; sweep = b.2; before = b.3 }
 
 pub may_begin : (c : Configuration) (cap : ℕ) (s : State) (sw : Sweep) (ops : ℕ) → next_of c s ≡ BeginSweep sw → IsDriving s ops → IsAllowed c cap s (Pick 0 (sweep_kind sw.writes) TookNothing ops)
 may_begin c cap s sw ops is driving = (driving, rw is (record { all_blocks = refl; same_kind = refl; takes_nothing = refl }))
@@ -57,9 +57,9 @@ may_begin c cap s sw ops is driving = (driving, rw is (record { all_blocks = ref
 pub begun_step : (c : Configuration) (k : Kept) (s : State) (sw : Sweep) (ops : ℕ) → next_of c s ≡ BeginSweep sw → Agrees c k (record s { sweep = Some (record sw { under_way = true }) }) → Agrees c k (changed_by c s (Pick 0 (sweep_kind sw.writes) TookNothing ops))
 begun_step c k s sw ops is h = rw is h
 
-pub begun_sound : DriverLaws → (c : Configuration) (cap : ℕ) (s : State) (sw : Sweep) (ops : ℕ) → IsSound c s → next_of c s ≡ BeginSweep sw → IsAllowed c cap s (Pick 0 (sweep_kind sw.writes) TookNothing ops) → IsSound c (step c s (Pick 0 (sweep_kind sw.writes) TookNothing ops))
-begun_sound law c cap s sw ops sound is allowed =
-    let consistent = law.consistent c cap s (Pick 0 (sweep_kind sw.writes) TookNothing ops) sound.consistent allowed in
+pub begun_sound : (c : Configuration) (cap : ℕ) (s : State) (sw : Sweep) (ops : ℕ) → IsSound c s → next_of c s ≡ BeginSweep sw → IsAllowed c cap s (Pick 0 (sweep_kind sw.writes) TookNothing ops) → IsSound c (step c s (Pick 0 (sweep_kind sw.writes) TookNothing ops))
+begun_sound c cap s sw ops sound is allowed =
+    let consistent = allowed_steps_stay_consistent c cap s (Pick 0 (sweep_kind sw.writes) TookNothing ops) sound.consistent allowed in
     rw is (sound_same c s (record s { sweep = Some (record sw { under_way = true }); count = s.count + 1; ops = ops }) sound (rw is at consistent) refl refl refl)
 
 pub kept_sweep : (c : Configuration) (p : Option PendingSweep) (s : State) (sw : Sweep) → s.sweep ≡ Some sw → AreSweeps c p s.sweep → AreSweeps c p (Some sw)
@@ -113,10 +113,10 @@ ends_by c s sw None None (Some x) e =
     let (is, on) = ends_on c s x sw x.under_way refl e in
     (refl, refl, rw is refl, subst (λ (y : Sweep). y.under_way ≡ true) is on, subst (λ (y : Sweep). next_in_sweep c s y ≡ EndSweep sw) is e)
 
-pub ends : NoneWaits → (c : Configuration) (s : State) (sw : Sweep) → next_of c s ≡ EndSweep sw → Ends c s sw
-ends law c s sw is =
+pub ends : (c : Configuration) (s : State) (sw : Sweep) → next_of c s ≡ EndSweep sw → Ends c s sw
+ends c s sw is =
     let b = ends_by c s sw (next_in c s.waiting) s.hand s.sweep is in
-    record { waiting = law c s.waiting b.0; hand = b.1; sweep = b.2; under_way = b.3; next = b.4 }
+    record { waiting = none_waits c s.waiting b.0; hand = b.1; sweep = b.2; under_way = b.3; next = b.4 }
 
 pub may_finish : (c : Configuration) (cap : ℕ) (s : State) (sw : Sweep) (ops : ℕ) → s.hand ≡ None → next_of c s ≡ EndSweep sw → IsDriving s ops → IsAllowed c cap s (Post 0 (sweep_result sw) None 0 ops)
 may_finish c cap s sw ops hand is driving = (driving, subst (λ (o : Option Job). MayPost c s 0 (sweep_result sw, None) 0 o) (sym hand) (may_by c s sw (next_of c s) is))
@@ -124,7 +124,7 @@ may_finish c cap s sw ops hand is driving = (driving, subst (λ (o : Option Job)
 pub finished_step : (c : Configuration) (k : Kept) (s : State) (sw : Sweep) (ops : ℕ) → s.hand ≡ None → next_of c s ≡ EndSweep sw → Agrees c k (posted_next c s (sweep_result sw) None (EndSweep sw)) → Agrees c k (changed_by c s (Post 0 (sweep_result sw) None 0 ops))
 finished_step c k s sw ops hand is h = subst (λ (o : Option Job). Agrees c k (posted c s (sweep_result sw) None o)) (sym hand) (finished_by c k s sw (next_of c s) is h)
 
-pub finished_sound : DriverLaws → (c : Configuration) (cap : ℕ) (s : State) (sw : Sweep) (ops : ℕ) → IsSound c s → Ends c s sw → next_of c s ≡ EndSweep sw → IsAllowed c cap s (Post 0 (sweep_result sw) None 0 ops) → IsSound c (step c s (Post 0 (sweep_result sw) None 0 ops))
-finished_sound law c cap s sw ops sound x is allowed =
-    let consistent = law.consistent c cap s (Post 0 (sweep_result sw) None 0 ops) sound.consistent allowed in
+pub finished_sound : (c : Configuration) (cap : ℕ) (s : State) (sw : Sweep) (ops : ℕ) → IsSound c s → Ends c s sw → next_of c s ≡ EndSweep sw → IsAllowed c cap s (Post 0 (sweep_result sw) None 0 ops) → IsSound c (step c s (Post 0 (sweep_result sw) None 0 ops))
+finished_sound c cap s sw ops sound x is allowed =
+    let consistent = allowed_steps_stay_consistent c cap s (Post 0 (sweep_result sw) None 0 ops) sound.consistent allowed in
     end_sound c s sw ops s.hand x.hand x.waiting (next_of c s) is sound consistent refl refl

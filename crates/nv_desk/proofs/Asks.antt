@@ -1,12 +1,15 @@
 -- What an accepted request has passed.
-use Rattle.std.proofs.Common.{◌≡◌, ◌≢◌, ℕ, ◌==◌, ◌+◌, ◌≤◌, ◌||◌, not, Bool, true, false, cond, List, [], ◌∷◌, refl, sym, Option, Some, None, is_some, find, nat_lt, length, get_or, ◌∙◌}
+use Rattle.std.proofs.Common.{◌≡◌, ◌≢◌, ℕ, ◌==◌, ◌+◌, ◌≤◌, ◌||◌, not, Bool, true, false, cond, List, [], ◌∷◌, refl, sym, Option, Some, None, is_some, find, nat_le, nat_lt, length, get_or, ap, ◌∙◌}
 use Rattle.std.specs.Option.{option_map_or}
-use Rattle.std.proofs.lemmas.Bool.{leb-true, ltb-false, eq-eqb, eqb-true}
-use Rattle.block_machine.specs.Words.{Configuration, Request, Read, Write, Restore, Erase, Invalidate, PutRam, ReadAll, WriteAll, Reply, Accepted, Refused, Refusal, RamKind, NoRamBlock, Permanent, Sync}
+use Rattle.std.proofs.lemmas.Bool.{ltb-false, eq-eqb, eqb-true}
+use Rattle.block_machine.specs.Words.{Configuration, Entry, Request, Read, Write, Restore, Erase, Invalidate, PutRam, ReadAll, WriteAll, Reply, Accepted, Refused, Refusal, RamKind, NoRamBlock, Permanent, Sync}
 use Rattle.block_machine.specs.State.{State}
 use Rattle.block_machine.specs.Blocks.{job_kind, desc_of, is_permanent, is_synchronized}
 use Rattle.block_machine.specs.Reply.{reply_of, holds, tested, answer_to, fits, reserved_entries, has_no_ram}
-use Rattle.block_states.specs.States.{rooms_of, RoomsHaveLengths}
+use Rattle.block_machine.specs.Steps.{after}
+use Rattle.block_laws.proofs.HistoryLaws.{entries_are_counted}
+use Rattle.block_states.specs.States.{rooms_of}
+use Rattle.block_states.proofs.Started.{rooms_have_lengths}
 use Rattle.nv_desk.specs.Asks.{IsJobAccepted, IsSweepAccepted}
 use Rattle.nv_desk.specs.Desk.{sweep_request}
 use Rattle.nv_desk.specs.Sound.{HasRam}
@@ -117,8 +120,11 @@ sweep_accepted c cap s true is = let p = passed c cap s WriteAll is in record { 
 
 -- WHAT THAT MEANS
 
-pub room_of : (c : Configuration) (cap : ℕ) (s : State) (more : ℕ) → fits c cap s more ≡ true → s.count + reserved_entries c s + more ≤ cap
-room_of c cap s more is = leb-true (s.count + reserved_entries c s + more) cap is
+-- whether so many more entries fit, by what is kept
+pub fits_is : (c : Configuration) (cap : ℕ) (h : List Entry) (more count reserved most : ℕ) → count ≡ length h → reserved ≡ reserved_entries c (after c h)
+    → most ≡ cap → nat_le (count + reserved + more) most ≡ fits c cap (after c h) more
+fits_is c cap h more count reserved most counted value size =
+    rw (counted, value, size) (ap (λ (n : ℕ). nat_le (n + reserved_entries c (after c h) + more) cap) (sym (entries_are_counted c h)))
 
 or_parts : (a b : Bool) → (a || b) ≡ false → (a ≡ false) × (b ≡ false)
 or_parts false false e = (refl, refl)
@@ -132,8 +138,8 @@ keeps : (a b : Bool) → not b ≡ false → (a || b) ≡ true
 keeps true b e = refl
 keeps false b e = not_false b e
 
-pub put_fits : RoomsHaveLengths → (c : Configuration) (cap : ℕ) (s : State) (block : ℕ) (content : List ℕ)
+pub put_fits : (c : Configuration) (cap : ℕ) (s : State) (block : ℕ) (content : List ℕ)
     → Accepted ≡ reply_of c cap s (PutRam block content) → length content ≡ get_or (rooms_of c) block 0
-put_fits law c cap s block content is =
+put_fits c cap s block content is =
     let p = passed c cap s (PutRam block content) is in
-    length_is (length content) (desc_of c block).length p.1.1.1.0 ∙ sym (law c block (keeps (block == 1) (is_permanent (desc_of c block).ram) p.1.1.1.1.0))
+    length_is (length content) (desc_of c block).length p.1.1.1.0 ∙ sym (rooms_have_lengths c block (keeps (block == 1) (is_permanent (desc_of c block).ram) p.1.1.1.1.0))

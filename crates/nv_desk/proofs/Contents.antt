@@ -14,7 +14,8 @@ use Rattle.block_machine.specs.Reply.{has_no_ram}
 use Rattle.block_machine.specs.Next.{PickJob, PickMember, next_in, next_by, next_of}
 use Rattle.block_machine.specs.Steps.{content_after}
 use Rattle.block_machine.specs.Legal.{IsAllowed, MayPick, TakesBy, TakesForWrite}
-use Rattle.block_states.specs.States.{RoomsHaveLengths, state_at}
+use Rattle.block_states.specs.States.{state_at}
+use Rattle.block_states.proofs.Started.{rooms_have_lengths}
 use Rattle.block_laws.specs.Consistent.{Each}
 use Rattle.multi_jobs.specs.Members.{ids_from, is_member}
 use Rattle.multi_jobs.specs.Sweep.{members_at}
@@ -37,14 +38,14 @@ abbrev pub RamIsWhole : Configuration → State → Type 0
 RamIsWhole c s = (id : ℕ) → keeps_ram c id ≡ true → length (block_at s id).ram ≡ (desc_of c id).length
 
 -- as it fills the rooms that are kept for it
-pub ram_is_whole : RoomsHaveLengths → (c : Configuration) (k : Kept) (s : State) → Agrees c k s → IsSound c s → IsTrue s.started
+pub ram_is_whole : (c : Configuration) (k : Kept) (s : State) → Agrees c k s → IsSound c s → IsTrue s.started
     → (0 < length k.blocks.states → (id : ℕ) → length (state_at k.blocks.states id).ram ≡ get_or k.blocks.rooms id 0) → RamIsWhole c s
-ram_is_whole law c k s agrees sound on fills id keeps =
+ram_is_whole c k s agrees sound on fills id keeps =
     let same : length k.blocks.states ≡ length s.blocks = ap length agrees.blocks in
     let places = sound.places on in
     ap (λ (bs : List BlockState). length (state_at bs id).ram) (sym agrees.blocks)
     ∙ fills (omega (arith, same, places)) id
-    ∙ ap (λ (ns : List ℕ). get_or ns id 0) agrees.rooms ∙ law c id keeps
+    ∙ ap (λ (ns : List ℕ). get_or ns id 0) agrees.rooms ∙ rooms_have_lengths c id keeps
 
 -- WHAT A JOB TAKES
 abbrev IsWhole : ℕ → Option (List ℕ × ℕ) → Type 0

@@ -15,14 +15,16 @@ use Rattle.block_machine.specs.Steps.{after, changed_by, step, wrote, posted}
 use Rattle.block_machine.specs.Legal.{IsAllowed, MayWrite, IsWrote}
 use Rattle.block_laws.specs.Laws.{uses_reserved}
 use Rattle.block_laws.specs.Consistent.{Each, IsConsistent, IsJobInHand}
-use Rattle.block_states.specs.States.{rooms_of, RoomsHaveLengths}
+use Rattle.block_laws.proofs.EntryRoom.{driver_entries_are_reserved}
+use Rattle.block_states.specs.States.{rooms_of}
+use Rattle.block_states.proofs.Started.{rooms_have_lengths}
 use Rattle.nv_desk.specs.declared.desk.Desk.TheInside.{Inside}
 use Rattle.nv_desk_state.specs.declared.kept.Kept.{Kept}
 use Rattle.nv_desk.specs.Rooms.{Roomy}
 use Rattle.nv_desk_state.specs.Kept.{Agrees}
 use Rattle.nv_desk.specs.Sound.{IsPendingJob, IsSound}
 use Rattle.nv_desk.specs.Desk.{IsKept}
-use Rattle.nv_desk.specs.Driver.{DriverLaws, block_now}
+use Rattle.nv_desk.specs.Driver.{block_now}
 use Rattle.nv_desk.proofs.Entries.{entry_kept}
 use Rattle.job_pending.specs.Pending.{Pending, Agree, IsHeld, IsOther, StandsApart}
 use Rattle.nv_desk.proofs.Sound.{each_map}
@@ -44,21 +46,21 @@ room_for d e is less = record {
   fewer = omega (arith, less);
 }
 
-pub has_room : DriverLaws → (d : Inside) (e : Entry) → IsKept d → IsAllowed d.config d.history.cap (after d.config d.history.entries) e
+pub has_room : (d : Inside) (e : Entry) → IsKept d → IsAllowed d.config d.history.cap (after d.config d.history.entries) e
     → uses_reserved e ≡ true → HasRoom d e
-has_room law d e is allowed uses = room_for d e is (law.reserved d.config d.history.cap (after d.config d.history.entries) e is.sound.consistent allowed uses)
+has_room d e is allowed uses = room_for d e is (driver_entries_are_reserved d.config d.history.cap (after d.config d.history.entries) e is.sound.consistent allowed uses)
 
 -- what is kept stands behind it
-pub driver_kept : DriverLaws → (d : Inside) (h : Listed) (k : Kept) (r : Roomy) (e : Entry) → IsKept d → HasRoom d e
+pub driver_kept : (d : Inside) (h : Listed) (k : Kept) (r : Roomy) (e : Entry) → IsKept d → HasRoom d e
     → IsSound d.config (step d.config (after d.config d.history.entries) e)
     → h ≡ record d.history { entries = d.history.entries ++ e ∷ []; reserved = d.history.reserved - 1 }
     → Agrees d.config k (changed_by d.config (after d.config d.history.entries) e)
     → d.rooms.count ≤ r.count + 2 → r.longest ≡ d.rooms.longest
     → IsKept (record d { history = h; kept = k; rooms = r })
-driver_kept law d h k r e is has sound added agrees count longest =
+driver_kept d h k r e is has sound added agrees count longest =
     let left = reserved_entries d.config (changed_by d.config (after d.config d.history.entries) e) in
     let reserved = ap (λ (x : Listed). x.reserved) added in
-    entry_kept law.steps d h k r e left is
+    entry_kept d h k r e left is
     (record { entries = ap (λ (x : Listed). x.entries) added; cap = ap (λ (x : Listed). x.cap) added; memory = omega (arith, reserved, has.fewer, is.memory) })
     agrees sound (omega arith) (omega (arith, has.fewer, is.fits)) (omega (arith, has.fewer, is.rooms, count)) (omega (arith, longest))
 
@@ -145,13 +147,13 @@ in_room rooms n id None whole is = tt
 in_room rooms n id (Some x) whole is = whole ∙ sym is
 
 -- a content that RAM is given has the length of that
-pub given_to_ram : RoomsHaveLengths → (c : Configuration) (s : State) (rooms : List ℕ) (given : Option (List ℕ)) (j : Job)
+pub given_to_ram : (c : Configuration) (s : State) (rooms : List ℕ) (given : Option (List ℕ)) (j : Job)
     → rooms ≡ rooms_of c → s.hand ≡ Some j → IfSome given (λ x. length x ≡ (desc_of c (block_now s)).length)
     → (names_ram j.request && keeps_ram c (job_block j)) ≡ true → IfSome given (λ x. length x ≡ get_or rooms (job_block j) 0)
-given_to_ram law c s rooms given j is hand whole kept =
+given_to_ram c s rooms given j is hand whole kept =
     let own = subst (λ (n : ℕ). IfSome given (λ x. length x ≡ (desc_of c n).length)) (ap (λ (o : Option Job). option_map_or job_block o 0) hand) whole in
     in_room rooms (desc_of c (job_block j)).length (job_block j) given own
-    (rw is (law c (job_block j) (both_true (names_ram j.request) (keeps_ram c (job_block j)) kept)))
+    (rw is (rooms_have_lengths c (job_block j) (both_true (names_ram j.request) (keeps_ram c (job_block j)) kept)))
 
 -- an ended job leaves all entries that were reserved for it
 same_entries : (c : Configuration) (id : ℕ) (r : ReqResult) (sw : Sweep) (b : Bool) → sw.under_way ≡ b

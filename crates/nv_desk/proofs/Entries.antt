@@ -5,7 +5,7 @@ use Rattle.block_machine.specs.Words.{Configuration, Entry}
 use Rattle.block_machine.specs.State.{State}
 use Rattle.block_machine.specs.Reply.{reserved_entries}
 use Rattle.block_machine.specs.Steps.{after, step, changed_by}
-use Rattle.block_laws.specs.Laws.{HistoriesStep}
+use Rattle.block_laws.proofs.HistoryLaws.{histories_step}
 use Rattle.nv_desk.specs.declared.desk.Desk.TheInside.{Inside}
 use Rattle.nv_desk_state.specs.declared.kept.Kept.{Kept}
 use Rattle.nv_desk.specs.Rooms.{Roomy}
@@ -62,15 +62,15 @@ memory_kept d h r is same more longest count =
     }
 
 -- What is kept stands behind an entry, with memory for the entries that are reserved then.
-pub entry_kept : HistoriesStep → (d : Inside) (h : Listed) (k : Kept) (r : Roomy) (e : Entry) (most : ℕ) → IsKept d → IsPushed d.history h e most
+pub entry_kept : (d : Inside) (h : Listed) (k : Kept) (r : Roomy) (e : Entry) (most : ℕ) → IsKept d → IsPushed d.history h e most
     → Agrees d.config k (changed_by d.config (after d.config d.history.entries) e)
     → IsSound d.config (step d.config (after d.config d.history.entries) e)
     → reserved_entries d.config (changed_by d.config (after d.config d.history.entries) e) ≤ most
     → length d.history.entries + 1 + most ≤ d.history.cap → 2 * most ≤ r.count → d.rooms.longest ≤ r.longest
     → IsKept (record d { history = h; kept = k; rooms = r })
-entry_kept steps d h k r e most is push agrees sound few fits rooms longest =
+entry_kept d h k r e most is push agrees sound few fits rooms longest =
     let next : after d.config h.entries ≡ step d.config (after d.config d.history.entries) e = ap (after d.config) push.entries
-    ∙ steps d.config d.history.entries e in
+    ∙ histories_step d.config d.history.entries e in
     let reserved : reserved_entries d.config (after d.config h.entries) ≡ reserved_entries d.config
     (changed_by d.config (after d.config d.history.entries) e) = ap (reserved_entries d.config) next in
     let count : length h.entries ≡ length d.history.entries + 1 = ap length push.entries ∙ length-append d.history.entries (e ∷ []) in

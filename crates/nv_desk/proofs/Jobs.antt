@@ -7,6 +7,7 @@ use Rattle.block_machine.specs.Blocks.{asked_block, asked_content, job_block, jo
 use Rattle.block_machine.specs.Reply.{reserved_entries, needed}
 use Rattle.block_machine.specs.Steps.{step, accepted, accepted_by, job_at, with_status}
 use Rattle.block_laws.specs.Consistent.{Each, IsConsistent, IsWaitingJob, IsJobInHand, IsPendingSweep}
+use Rattle.block_laws.proofs.NextLaws.{fitting_has_room}
 use Rattle.job_pending.specs.declared.unpicked.Unpicked.{Unpicked}
 use Rattle.job_pending.specs.Unpicked.{unpicked_in}
 use Rattle.job_pending.specs.Pending.{IsNew, reserved_by}
@@ -15,7 +16,7 @@ use Rattle.nv_desk_state.specs.Kept.{Agrees}
 use Rattle.nv_desk.specs.Sound.{IsPendingJob, IsSound}
 use Rattle.nv_desk.proofs.Sound.{sound_job}
 use Rattle.nv_desk_state.specs.declared.kept.Kept.{Kept}
-use Rattle.nv_desk.proofs.Asks.{known_of, room_of}
+use Rattle.nv_desk.proofs.Asks.{known_of}
 
 each_at : {X : Type 0} (P : X → Type 0) (xs : List X) (x : X) (k : ℕ) → k < length xs → get_or xs k x ≡ x → Each P xs → P x
 each_at P [] x k below is each = absurd (omega arith)
@@ -63,7 +64,7 @@ waiting_reserves c s = let d = sum_by-append (λ (j : Job). j.reserved) (option_
 -- the entries fit into a number
 pub few_entries : (c : Configuration) (cap : ℕ) (s : State) (r : Request) → cap < 2 ^ 32 → IsJobAccepted c cap s r
     → (reserved_entries c s + needed c r + 1 < 2 ^ 32) × (reserved_by s.waiting + needed c r < 2 ^ 32)
-few_entries c cap s r within passed = let room = room_of c cap s (1 + needed c r) passed.room in
+few_entries c cap s r within passed = let room = (fitting_has_room c cap s (1 + needed c r)).0 passed.room in
     (omega (arith, room, within), omega (arith, room, within, waiting_reserves c s))
 
 -- its block has a place

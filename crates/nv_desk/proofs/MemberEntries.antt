@@ -8,15 +8,16 @@ use Rattle.block_machine.specs.Sweeps.{is_picked, member_job, member_kind}
 use Rattle.block_machine.specs.Next.{Next, BeginSweep, PickMember, PostMember, next_in, next_by, next_of, next_member, next_in_sweep}
 use Rattle.block_machine.specs.Steps.{changed_by, step, posted, posted_next, content_after, in_hand, with_member, ended}
 use Rattle.block_machine.specs.Legal.{IsAllowed}
-use Rattle.block_laws.specs.Laws.{NoneWaits}
 use Rattle.block_laws.specs.Consistent.{IsConsistent}
-use Rattle.block_states.specs.States.{rooms_of, RoomsHaveLengths}
+use Rattle.block_laws.proofs.ConsistentSteps.{allowed_steps_stay_consistent}
+use Rattle.block_laws.proofs.NextLaws.{none_waits}
+use Rattle.block_states.specs.States.{rooms_of}
+use Rattle.block_states.proofs.Started.{rooms_have_lengths}
 use Rattle.job_pending.specs.declared.took.Took.{Took}
 use Rattle.job_pending.specs.Took.{taken_with}
 use Rattle.nv_desk_state.specs.declared.kept.Kept.{Kept}
 use Rattle.nv_desk_state.specs.Kept.{Agrees}
 use Rattle.nv_desk_state.specs.Pending.{IsAtMember}
-use Rattle.nv_desk.specs.Driver.{DriverLaws}
 use Rattle.nv_desk.specs.Sound.{HasRam, IsSound}
 use Rattle.nv_desk.proofs.Drivers.{in_room}
 use Rattle.nv_desk.proofs.Contents.{block_is, writes_is}
@@ -63,18 +64,18 @@ member_by c s sw id t None None (Some x) e =
     let (same, holds) = open_by c s x sw id t x.under_way x.canceled refl refl e in
     (refl, refl, ap Some same, subst (λ (y : Sweep). IsOpen y id) same holds)
 
-at_member : NoneWaits → (c : Configuration) (s : State) (sw : Sweep) (id : ℕ) (t : Bool)
+at_member : (c : Configuration) (s : State) (sw : Sweep) (id : ℕ) (t : Bool)
     → next_of c s ≡ (if t then PickMember sw id else PostMember sw id) → IsAtMember s sw id
-at_member law c s sw id t is =
+at_member c s sw id t is =
     let (none, hand, sweep, at) = member_by c s sw id t (next_in c s.waiting) s.hand s.sweep is in
     let (on, going, rest, left) = at in
-    record { waiting = law c s.waiting none; hand = hand; sweep = sweep; under_way = on; goes_on = going; rest = rest; left = left }
+    record { waiting = none_waits c s.waiting none; hand = hand; sweep = sweep; under_way = on; goes_on = going; rest = rest; left = left }
 
-pub at_picked : NoneWaits → (c : Configuration) (s : State) (sw : Sweep) (id : ℕ) → next_of c s ≡ PickMember sw id → IsAtMember s sw id
-at_picked law c s sw id is = at_member law c s sw id true is
+pub at_picked : (c : Configuration) (s : State) (sw : Sweep) (id : ℕ) → next_of c s ≡ PickMember sw id → IsAtMember s sw id
+at_picked c s sw id is = at_member c s sw id true is
 
-pub at_posted : NoneWaits → (c : Configuration) (s : State) (sw : Sweep) (id : ℕ) → next_of c s ≡ PostMember sw id → IsAtMember s sw id
-at_posted law c s sw id is = at_member law c s sw id false is
+pub at_posted : (c : Configuration) (s : State) (sw : Sweep) (id : ℕ) → next_of c s ≡ PostMember sw id → IsAtMember s sw id
+at_posted c s sw id is = at_member c s sw id false is
 
 -- it is what comes next in the sweep
 pub next_at : (c : Configuration) (s : State) (sw : Sweep) (id : ℕ) (n : Next) → IsAtMember s sw id → next_of c s ≡ n → next_in_sweep c s sw ≡ n
@@ -103,13 +104,13 @@ held_sound c s sw id t count ops sound consistent waiting hand below ram whole =
       );
     }
 
-pub member_sound : DriverLaws → (c : Configuration) (cap : ℕ) (s : State) (sw : Sweep) (id : ℕ) (kind : JobKind) (t : Took) (ops : ℕ)
+pub member_sound : (c : Configuration) (cap : ℕ) (s : State) (sw : Sweep) (id : ℕ) (kind : JobKind) (t : Took) (ops : ℕ)
     → IsSound c s → IsAtMember s sw id → next_of c s ≡ PickMember sw id → id ≤ length c.blocks
     → IsAllowed c cap s (Pick id kind (taken_with None t) ops) → (sw.writes ≡ true → HasRam c id)
     → IfSome (content_after None (taken_with None t)) (λ x. length x.0 ≡ (desc_of c id).length)
     → IsSound c (step c s (Pick id kind (taken_with None t) ops))
-member_sound law c cap s sw id kind t ops sound x is known allowed ram whole =
-    let consistent = law.consistent c cap s (Pick id kind (taken_with None t) ops) sound.consistent allowed in
+member_sound c cap s sw id kind t ops sound x is known allowed ram whole =
+    let consistent = allowed_steps_stay_consistent c cap s (Pick id kind (taken_with None t) ops) sound.consistent allowed in
     rw is (held_sound c s sw id t (s.count + 1) ops sound (rw is at consistent) x.waiting x.hand
     (omega (arith, known, sound.places allowed.0.started)) ram whole)
 
@@ -142,13 +143,13 @@ ended_sound c s sw id r given ops sound x is consistent =
       jobs = rw (changed, x.hand, x.waiting) tt;
     }
 
-pub posted_sound : DriverLaws → (c : Configuration) (cap : ℕ) (s : State) (sw : Sweep) (id : ℕ) (r : ReqResult) (given : Option (List ℕ)) (refused ops : ℕ)
+pub posted_sound : (c : Configuration) (cap : ℕ) (s : State) (sw : Sweep) (id : ℕ) (r : ReqResult) (given : Option (List ℕ)) (refused ops : ℕ)
     → IsSound c s → IsAtMember s sw id → next_of c s ≡ PostMember sw id → IsAllowed c cap s (Post id r given refused ops)
     → IsSound c (step c s (Post id r given refused ops))
-posted_sound law c cap s sw id r given refused ops sound x is allowed = ended_sound c s sw id r given ops sound x is
-    (law.consistent c cap s (Post id r given refused ops) sound.consistent allowed)
+posted_sound c cap s sw id r given refused ops sound x is allowed = ended_sound c s sw id r given ops sound x is
+    (allowed_steps_stay_consistent c cap s (Post id r given refused ops) sound.consistent allowed)
 
 -- a content that RAM is given has the length of that
-pub member_given : RoomsHaveLengths → (c : Configuration) (rooms : List ℕ) (id : ℕ) (given : Option (List ℕ)) → rooms ≡ rooms_of c
+pub member_given : (c : Configuration) (rooms : List ℕ) (id : ℕ) (given : Option (List ℕ)) → rooms ≡ rooms_of c
     → IfSome given (λ x. length x ≡ (desc_of c id).length) → keeps_ram c id ≡ true → IfSome given (λ x. length x ≡ get_or rooms id 0)
-member_given law c rooms id given is whole kept = in_room rooms (desc_of c id).length id given whole (rw is (law c id kept))
+member_given c rooms id given is whole kept = in_room rooms (desc_of c id).length id given whole (rw is (rooms_have_lengths c id kept))

@@ -8,15 +8,15 @@ use Rattle.block_machine.specs.Next.{PickJob, next_in, next_of}
 use Rattle.block_machine.specs.Reply.{reserved_entries}
 use Rattle.block_machine.specs.Steps.{after, step, changed_by, in_hand, content_after}
 use Rattle.block_machine.specs.Legal.{IsAllowed, MayInterrupt}
-use Rattle.block_laws.specs.Laws.{NextIsWaiting}
 use Rattle.block_laws.specs.Consistent.{Each, IsWaitingJob, IsJobInHand}
+use Rattle.block_laws.proofs.ConsistentSteps.{allowed_steps_stay_consistent}
+use Rattle.block_laws.proofs.NextLaws.{next_is_waiting}
 use Rattle.job_pending.specs.declared.took.Took.{Took}
 use Rattle.job_pending.specs.Took.{taken_with}
 use Rattle.job_pending.specs.Pending.{Pending, Agree}
 use Rattle.nv_desk_state.specs.declared.kept.Kept.{Kept}
 use Rattle.nv_desk_state.specs.Kept.{Agrees}
 use Rattle.nv_desk.specs.Sound.{IsPendingJob, IsSound}
-use Rattle.nv_desk.specs.Driver.{DriverLaws}
 use Rattle.nv_desk.specs.Desk.{DeskState, state_of}
 use Rattle.nv_desk.specs.Picks.{IsInterruption}
 use Rattle.nv_desk.proofs.SoundDriver.{sound_pick}
@@ -46,9 +46,9 @@ other_by c s (Some x) before j after is h = (
       (subst (Each (λ (y : Job). y.number ≢ x.number)) is h.apart),
 )
 
-pub ready : NextIsWaiting → (c : Configuration) (s : State) (j : Job) → IsSound c s → next_in c s.waiting ≡ Some j → IsReady c s j
-ready law c s j sound next =
-    let (before, after, is) = law c s.waiting j next in
+pub ready : (c : Configuration) (s : State) (j : Job) → IsSound c s → next_in c s.waiting ≡ Some j → IsReady c s j
+ready c s j sound next =
+    let (before, after, is) = next_is_waiting c s.waiting j next in
     record {
       pending = each_in (IsPendingJob c s) s.hand s.waiting before j after is sound.jobs;
       number = (each_mid (IsWaitingJob c s.count) before j after (subst (Each (IsWaitingJob c s.count)) is sound.consistent.waiting)).number;
@@ -59,8 +59,8 @@ next_by : (c : Configuration) (s : State) (o : Option Job) → ((j : Job) → o 
 next_by c s None each = tt
 next_by c s (Some j) each = each j refl
 
-pub next_pending : NextIsWaiting → (c : Configuration) (s : State) → IsSound c s → IfSome (next_in c s.waiting) (IsPendingJob c s)
-next_pending law c s sound = next_by c s (next_in c s.waiting) (λ j next. (ready law c s j sound next).pending)
+pub next_pending : (c : Configuration) (s : State) → IsSound c s → IfSome (next_in c s.waiting) (IsPendingJob c s)
+next_pending c s sound = next_by c s (next_in c s.waiting) (λ j next. (ready c s j sound next).pending)
 
 -- the entries of a job in hand and two more have a number
 room_by : (c : Configuration) (s : State) (p : Pending) (held o : Option Job) (j : Job) (n m : ℕ) → Agree c p s.waiting held → s.hand ≡ held
@@ -90,14 +90,14 @@ pub pick_step : (c : Configuration) (k : Kept) (s : State) (j : Job) (block : �
     → next_in c s.waiting ≡ Some j → Agrees c k (in_hand c s j t) → Agrees c k (changed_by c s (Pick block kind t ops))
 pick_step c k s j block kind t ops next h = rw (next_is c s j next) h
 
-pub picked_sound : DriverLaws → (c : Configuration) (cap : ℕ) (s : State) (j : Job) (block : ℕ) (kind : JobKind) (t : Took) (ops : ℕ)
+pub picked_sound : (c : Configuration) (cap : ℕ) (s : State) (j : Job) (block : ℕ) (kind : JobKind) (t : Took) (ops : ℕ)
     → IsSound c s → next_in c s.waiting ≡ Some j → IsReady c s j
     → IsAllowed c cap s (Pick block kind (taken_with j.content t) ops)
     → IfSome (content_after j.content (taken_with j.content t)) (λ x. length x.0 ≡ (desc_of c (job_block j)).length)
     → IsSound c (step c s (Pick block kind (taken_with j.content t) ops))
-picked_sound law c cap s j block kind t ops sound next r allowed whole =
+picked_sound c cap s j block kind t ops sound next r allowed whole =
     let e = next_is c s j next in
-    let consistent = law.consistent c cap s (Pick block kind (taken_with j.content t) ops) sound.consistent allowed in
+    let consistent = allowed_steps_stay_consistent c cap s (Pick block kind (taken_with j.content t) ops) sound.consistent allowed in
     rw e (sound_pick c s j (taken_with j.content t) (s.count + 1) ops sound (rw e at consistent) r.pending whole)
 
 -- bytes that fill a block have room

@@ -5,7 +5,6 @@ use Rattle.block_machine.specs.Words.{Mark, Erased, Entry}
 use Rattle.block_machine.specs.State.{State}
 use Rattle.block_machine.specs.Blocks.{desc_of, job_block, mark_of}
 use Rattle.block_machine.specs.Legal.{IsAllowed}
-use Rattle.block_laws.specs.Laws.{HistoriesStep, EntriesAreCounted, DriverEntriesAreReserved, AllowedStepsStayConsistent}
 use Rattle.nv_desk.specs.Desk.{DeskState, state_of}
 
 -- an entry may come behind those of the desk
@@ -21,13 +20,6 @@ mark_now s = unwrap_or (option_and_then mark_of s.hand) Erased
 -- its block
 abbrev pub block_now : State → ℕ
 block_now s = option_map_or job_block s.hand 0
-
--- the laws on which the driver's entries rest
-pub record DriverLaws : Type 0 where
-  pub steps : HistoriesStep
-  pub counted : EntriesAreCounted
-  pub reserved : DriverEntriesAreReserved
-  pub consistent : AllowedStepsStayConsistent
 
 -- a job is in hand, and a content that it gives, if it gives one, has its block's length
 pub record MayEnd (d : DeskState) (given : Option (List ℕ)) : Type 0 where

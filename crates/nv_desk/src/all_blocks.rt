@@ -11,8 +11,6 @@ ghost use Rattle.nv_desk.specs.Desk.{state_of};
 ghost use Rattle.nv_desk_state.specs.Pending.{AreSweeps};
 
 use crate::Desk;
-use crate::driver::driver_laws;
-use block_laws::the_next_job_goes_first;
 use block_machine::nv_base::{Entry, JobKind, ReqResult, Taken};
 use multi_jobs::SweepStep;
 use nv_desk_state::PendingSweep;
@@ -23,8 +21,6 @@ impl Desk {
         requires { MayBegin self.old ops }
         ensures { (sw : MachineSweep) → next_of self.old.config (state_of self.old) ≡ BeginSweep sw → self.new ≡ record self.old { entries = self.old.entries ++ Entry.Pick 0 (sweep_kind sw.writes) Taken.Nothing ops ∷ [] } }
     {
-        driver_laws();
-        the_next_job_goes_first();
         let job = sweep_kind(&self.kept.sweep);
         self.kept.pick_sweep();
         self.history.add(Entry::Pick {
@@ -40,8 +36,6 @@ impl Desk {
         requires { MayFinish self.old ops }
         ensures { (sw : MachineSweep) → next_of self.old.config (state_of self.old) ≡ EndSweep sw → self.new ≡ record self.old { entries = self.old.entries ++ Entry.Post 0 (sweep_result sw) None 0 ops ∷ [] } }
     {
-        driver_laws();
-        the_next_job_goes_first();
         let answer = result_of(self.kept.next_step(&self.config));
         self.kept.end_sweep(answer);
         self.history.add(Entry::Post {

@@ -10,9 +10,7 @@ ghost use Rattle.nv_desk_state.specs.Kept.{IsChange};
 
 use crate::Desk;
 use crate::memory::take_memory;
-use block_laws::{histories_grow, legal_states_are_consistent};
 use block_machine::nv_base::{Bytes, Entry, Reply, Request};
-use block_states::rooms_have_lengths;
 use job_pending::Job;
 use std::alloc::{AllocError, Global};
 
@@ -49,8 +47,6 @@ impl Desk {
         ensures ok { OnOk result (self.new ≡ record self.old { entries = self.old.entries ++ Entry.Ask caller request reply ∷ [] }) }
         ensures err { OnErr result (self.new ≡ self.old) }
     {
-        histories_grow();
-        legal_states_are_consistent();
         let reserved = self.kept.reserved() as u32;
         take_memory(alloc, &mut self.history, &mut self.rooms, reserved)?;
         self.history.add(Entry::Ask {
@@ -68,8 +64,6 @@ impl Desk {
         ensures ok { OnOk result (self.new ≡ record self.old { entries = self.old.entries ++ Entry.Ask caller request Reply.Accepted ∷ [] }) }
         ensures err { OnErr result (self.new ≡ self.old) }
     {
-        histories_grow();
-        legal_states_are_consistent();
         let _sizes = self.config.queue_sizes();
         let needed = self.needed(&request);
         let asked_for = copied(&request)?;
@@ -97,8 +91,6 @@ impl Desk {
         ensures ok { OnOk result (self.new ≡ record self.old { entries = self.old.entries ++ Entry.Ask caller request Reply.Accepted ∷ [] }) }
         ensures err { OnErr result (self.new ≡ self.old) }
     {
-        histories_grow();
-        legal_states_are_consistent();
         let reserved = self.kept.reserved() as u32;
         take_memory(alloc, &mut self.history, &mut self.rooms, reserved)?;
         self.kept.change(&request);
@@ -116,8 +108,6 @@ impl Desk {
         ensures ok { OnOk result (self.new ≡ record self.old { entries = self.old.entries ++ Entry.Ask caller (sweep_request writes) Reply.Accepted ∷ [] }) }
         ensures err { OnErr result (self.new ≡ self.old) }
     {
-        histories_grow();
-        legal_states_are_consistent();
         let request = sweep_request(writes);
         let needed = self.needed(&request);
         let reserved = self.kept.reserved() as u32 + needed;
@@ -146,7 +136,6 @@ impl Desk {
         }) }
         ensures err { OnErr result (self.new ≡ self.old) }
     {
-        rooms_have_lengths();
         self.accept_change(alloc, caller, Request::PutRam { block, content })
     }
 
@@ -182,7 +171,6 @@ impl Desk {
         ensures err { OnErr result (self.new ≡ self.old) }
         ensures no_room { IsErrOf result AskFault.NoRoom ↔ fits self.old.config self.old.cap (state_of self.old) 1 ≡ false }
     {
-        histories_grow();
         if !self.fits(1) {
             return Err(AskFault::NoRoom);
         }

@@ -4,7 +4,6 @@ ghost use Rattle.std.specs.Prelude.{◌≡◌, [], IfOk};
 use crate::longest::longest_content;
 use crate::memory::take_memory;
 use crate::rooms::Rooms;
-use block_laws::legal_states_are_consistent;
 use block_machine::block_config::Config;
 use block_machine::nv_base::History;
 use nv_desk_state::{Kept, sweep_share};
@@ -40,7 +39,6 @@ impl Desk {
     pub fn make(alloc: Global, config: Config, cap: u32) -> Result<Desk, AllocError>
         ensures { IfOk result (λ d. d ≡ record { config = config; cap = cap; entries = []; prepared = 0 }) }
     {
-        legal_states_are_consistent();
         let kept = Kept::make(alloc, &config)?;
         let mut rooms = Rooms::new(alloc, longest_content(&config));
         let mut history = History::make(alloc, cap);

@@ -5,13 +5,11 @@ ghost use Rattle.block_machine.specs.Blocks.{job_block, mark_of};
 ghost use Rattle.block_machine.specs.Legal.{IsDriving};
 ghost use Rattle.block_machine.specs.nv_base.declared.mark.Mark.TheVariants as Mark;
 ghost use Rattle.nv_desk.specs.Desk.{state_of};
-ghost use Rattle.nv_desk.specs.Driver.{DriverLaws, MayAdd, MayEnd, block_now, mark_now};
+ghost use Rattle.nv_desk.specs.Driver.{MayAdd, MayEnd, block_now, mark_now};
 
 use crate::Desk;
 use crate::rooms::Rooms;
-use block_laws::{entries_fit, histories_grow, legal_states_are_consistent};
 use block_machine::nv_base::{Bytes, Entry, Instance, JobKind, Mark, ReqResult};
-use block_states::rooms_have_lengths;
 use job_pending::PendingJobs;
 
 impl Desk {
@@ -20,7 +18,6 @@ impl Desk {
         requires { IsDriving (state_of self.old) ops }
         ensures { self.new ≡ record self.old { entries = self.old.entries ++ Entry.Off ops ∷ [] } }
     {
-        driver_laws();
         self.kept.go_off();
         self.history.add(Entry::Off { ops });
     }
@@ -30,7 +27,6 @@ impl Desk {
         requires { MayAdd self.old (Entry.Wrote instance (mark_now (state_of self.old)) ops) }
         ensures { self.new ≡ record self.old { entries = self.old.entries ++ Entry.Wrote instance (mark_now (state_of self.old)) ops ∷ [] } }
     {
-        driver_laws();
         let mark = mark_in_hand(&self.kept.jobs, &mut self.rooms);
         self.kept.wrote(instance.index);
         self.history.add(Entry::Wrote {
@@ -49,8 +45,6 @@ impl Desk {
               (option_copied given.entry) refused ops ∷ [];
         } }
     {
-        driver_laws();
-        rooms_have_lengths();
         let block = block_in_hand(&self.kept.jobs);
         let bytes = content_of(given, &mut self.rooms);
         self.kept.end(&self.config, answer, given);
@@ -102,13 +96,4 @@ fn mark_in_hand(jobs: &PendingJobs, rooms: &mut Rooms) -> Mark
         (JobKind::Invalidate, _) => Mark::Invalid,
         _ => Mark::Erased,
     }
-}
-
-/// The laws on which the entries of the driver rest.
-pub fn driver_laws()
-    ensures { DriverLaws }
-{
-    histories_grow();
-    entries_fit();
-    legal_states_are_consistent();
 }

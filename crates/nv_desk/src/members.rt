@@ -12,11 +12,9 @@ ghost use Rattle.nv_desk.specs.Members.{MayPickMember, MayPostMember};
 ghost use Rattle.nv_desk.specs.Picks.{took_of};
 
 use crate::Desk;
-use crate::driver::{content_of, driver_laws};
+use crate::driver::content_of;
 use crate::pick::{Take, copy_of, took_by};
-use block_laws::the_next_job_goes_first;
 use block_machine::nv_base::{Entry, JobKind, ReqResult};
-use block_states::rooms_have_lengths;
 use multi_jobs::SweepStep;
 use nv_desk_state::PendingSweep;
 
@@ -29,9 +27,6 @@ impl Desk {
               entries = self.old.entries ++ Entry.Pick id (member_kind sw.writes) (taken_with None (took_of take lent.now)) ops ∷ [];
             } }
     {
-        driver_laws();
-        the_next_job_goes_first();
-        rooms_have_lengths();
         self.kept.blocks.fills_its_rooms();
         let _sizes = self.config.queue_sizes();
         let block = block_of(self.kept.next_step(&self.config));
@@ -56,9 +51,6 @@ impl Desk {
               entries = self.old.entries ++ Entry.Post id answer (option_copied given.entry) refused ops ∷ [];
             } }
     {
-        driver_laws();
-        the_next_job_goes_first();
-        rooms_have_lengths();
         let block = block_of(self.kept.next_step(&self.config));
         let bytes = content_of(given, &mut self.rooms);
         self.kept.post_member(&self.config, block, answer, given);

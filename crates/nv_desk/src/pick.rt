@@ -8,11 +8,8 @@ ghost use Rattle.nv_desk.specs.Desk.{state_of};
 ghost use Rattle.nv_desk.specs.Picks.{MayPickNext, copied_in, took_of};
 
 use crate::Desk;
-use crate::driver::driver_laws;
 use crate::rooms::Rooms;
-use block_laws::the_next_job_goes_first;
 use block_machine::nv_base::{Entry, Taken};
-use block_states::rooms_have_lengths;
 use job_pending::{Job, Staged, Took};
 
 /// What a job takes of a content that is lent to the desk: nothing, as it isn't a write; the content that the job has
@@ -38,9 +35,6 @@ impl Desk {
                   (taken_with j.content (took_of take lent.now)) ops ∷ [];
             } }
     {
-        driver_laws();
-        the_next_job_goes_first();
-        rooms_have_lengths();
         self.kept.blocks.fills_its_rooms();
         let Some(next) = self.kept.jobs.next() else {
             return;

@@ -7,7 +7,6 @@ ghost use Rattle.nv_desk.specs.Desk.{state_of};
 
 use crate::Desk;
 use crate::tested::tested;
-use block_laws::histories_grow;
 use block_machine::nv_base::{Refusal, Reply, ReqResult, Request};
 use job_pending::asked_block;
 use nv_desk_state::{
@@ -135,7 +134,6 @@ impl Desk {
         requires { more < 2 ^ 33 }
         ensures { result ≡ fits self.now.config self.now.cap (state_of self.now) more }
     {
-        histories_grow();
         u64::from(self.history.len()) + self.kept.reserved() + more <= u64::from(self.history.cap())
     }
 

@@ -4,7 +4,6 @@ ghost use Rattle.nv_desk.specs.Desk.{state_of};
 
 use crate::Desk;
 use crate::memory::take_memory;
-use block_laws::histories_grow;
 use block_machine::nv_base::{Entry, Marks};
 use std::alloc::{AllocError, Global};
 
@@ -32,7 +31,6 @@ impl Desk {
         requires prepared { self.old.prepared ≡ length self.old.entries }
         ensures { self.new ≡ record self.old { entries = self.old.entries ++ Entry.Found marks ops ∷ [] } }
     {
-        histories_grow();
         self.kept.start_up(&self.config, &marks);
         self.history.add(Entry::Found { marks, ops });
     }

@@ -11,7 +11,6 @@ ghost use Rattle.nv_desk.specs.Sound.{IsPendingJob};
 
 use crate::Desk;
 use crate::all_blocks::result_of;
-use block_laws::the_next_job_goes_first;
 use block_machine::block_config::Config;
 use block_machine::nv_base::ReqResult;
 use job_pending::Job;
@@ -58,7 +57,6 @@ impl Desk {
         ensures next { option_copied result ≡ next_in self.now.config (state_of self.now).waiting }
         ensures pending { IfSome (next_in self.now.config (state_of self.now).waiting) (IsPendingJob self.now.config (state_of self.now)) }
     {
-        the_next_job_goes_first();
         self.kept.jobs.next()
     }
 
@@ -99,7 +97,6 @@ impl Desk {
     pub fn sweep_result(&self) -> ReqResult
         ensures { (sw : MachineSweep) → next_of self.now.config (state_of self.now) ≡ EndSweep sw → result ≡ sweep_result sw }
     {
-        the_next_job_goes_first();
         result_of(self.kept.next_step(&self.config))
     }
 }

@@ -1,17 +1,18 @@
 -- A Post, by the machine.
-use Rattle.std.proofs.Common.{◌≡◌, ◌⊎◌, ℕ, ◌+◌, ◌==◌, ◌&&◌, Bool, true, false, List, [], ◌∷◌, ◌++◌, is_some, inl, inr, refl, sym, ap, ◌∙◌, subst, Option, Some, IsSome}
+use Rattle.std.proofs.Common.{◌≡◌, ◌⊎◌, ℕ, ◌+◌, ◌==◌, ◌&&◌, Bool, true, false, List, [], ◌∷◌, ◌++◌, is_some, inl, inr, refl, sym, ap, ◌∙◌, subst, if◌then◌else◌, Option, Some, None, IsSome}
 use Rattle.std.specs.Option.{option_map_or}
 use Rattle.std.proofs.lemmas.Bool.{eqb-true}
-use Rattle.block_machine.specs.Words.{ReqResult, JobKind, ReadJob, WriteJob, RestoreJob, EraseJob, InvalidateJob, ReadAllJob, WriteAllJob, GivenFrom, BlockDesc, Configuration, Post}
+use Rattle.block_machine.specs.Words.{ReqResult, JobKind, ReadJob, WriteJob, RestoreJob, EraseJob, InvalidateJob, ReadAllJob, WriteAllJob, NotOk, GivenFrom, FromDevice, BlockDesc, Configuration, Post}
 use Rattle.block_machine.specs.State.{State, Job, Sweep}
 use Rattle.block_machine.specs.Blocks.{desc_of, block_at, is_synchronized, job_block, kind_of, names_ram}
-use Rattle.block_machine.specs.Results.{Answer, own_of, result_of, failed_set, took_none, checks_id, checked_id, unpicked_result}
+use Rattle.block_machine.specs.ResultTable.{table}
+use Rattle.block_machine.specs.Results.{Answer, Own, own_of, outcomes_of, device_content, with_content, given_by, result_of, failed_set, took_none, checks_id, checked_id, unpicked_result}
 use Rattle.block_machine.specs.Next.{Next, PostMember, next_of}
 use Rattle.block_machine.specs.Legal.{IsDriving, MayPost, MayPostNext, ByTable, IsCopyRefused, IsAllowed}
-use Rattle.block_laws.specs.Laws.{FailedSetsAreLeast}
 use Rattle.ram_blocks.specs.Told.{Told}
 use Rattle.nv_desk.specs.Desk.{DeskState, state_of}
 use Rattle.nv_desk.specs.Driver.{block_now}
+use Rattle.block_laws.proofs.FailedSets.{failed_sets_are_least}
 use Rattle.nv_desk_copies.specs.Posts.{IsProgramEnd, IsEndOf, IsPosted, EndsAreTheMachines, given_from, answer_of, goes_over, IsHandedOver}
 use Rattle.nv_desk_copies.proofs.Offers.{offers}
 use Rattle.nv_desk_copies.proofs.Taking.{posts_of}
@@ -20,6 +21,27 @@ both_by : (a b : Bool) → (a && b) ≡ true → (a ≡ true) × (b ≡ true)
 both_by true true h = (refl, refl)
 both_by true false h = cc
 both_by false b h = cc
+
+-- WHAT A JOB ENDS WITH
+
+given_is : (o : Own) (content failed : List ℕ) (source : GivenFrom) → (source ≡ FromDevice → Some content ≡ device_content o.marks failed)
+    → given_from o.desc o.state.index content source ≡ given_by o failed source
+given_is o content failed FromDevice gives = gives refl
+given_is o content failed source gives = refl
+
+same_end : (took checks : Bool) (id : Option (List ℕ)) (a b : Answer) → (took ≡ false → a ≡ b)
+    → (let none : Answer = (NotOk, None) in if took then none else (if checks then checked_id id a else a))
+    ≡ (let none : Answer = (NotOk, None) in if took then none else (if checks then checked_id id b else b))
+same_end true checks id a b same = refl
+same_end false checks id a b same = ap (λ (x : Answer). if checks then checked_id id x else x) (same refl)
+
+pub ends_are_the_machines : EndsAreTheMachines
+ends_are_the_machines c s j r source content failed end =
+    let o = own_of c s (job_block j) in
+    same_end (took_none j.taken) (checks_id j (kind_of j)) o.desc.defaults (r, given_from o.desc o.state.index content source)
+    (with_content o failed (table (is_some o.desc.defaults) (kind_of j) (outcomes_of (kind_of j) o.marks failed)))
+    (λ got. ap (λ (x : Option (List ℕ)). (r, x)) (given_is o content failed source (end.gives got))
+    ∙ ap (with_content o failed) (end.ends got))
 
 -- what is posted is as the machine has it, or each copy of what it offers was refused
 posts_by : (d : BlockDesc) (ram : Bool) (offered : Option (List ℕ)) (Keeps : Answer → Type 0) (ended posted : Answer) (refused block : ℕ) (before after : List Told)
@@ -32,17 +54,17 @@ posts_by d ram offered Keeps ended posted refused block before after true is kee
     let (synchronized, something) = both_by (ram && is_synchronized d.ram) (is_some ended.1) is in
     inr (record { synchronized = synchronized; something = so something; fails = h.0; each_try = h.1 })
 
-pub job_posts : FailedSetsAreLeast → EndsAreTheMachines → (c : Configuration) (cap : ℕ) (s : State) (j : Job) (r : ReqResult) (source : GivenFrom)
+pub job_posts : (c : Configuration) (cap : ℕ) (s : State) (j : Job) (r : ReqResult) (source : GivenFrom)
     (content failed : List ℕ) (posted : Answer) (refused ops : ℕ) (before after : List Told) → IsDriving s ops → s.hand ≡ Some j
     → IsProgramEnd c s j r source content failed
     → IsHandedOver (goes_over (desc_of c (job_block j)) (names_ram j.request) (answer_of c s j r source content).1) (answer_of c s j r source content)
     posted refused ((desc_of c (job_block j)).repeats + 1) (job_block j) before after
     → IsAllowed c cap s (Post (job_block j) posted.0 posted.1 refused ops)
-job_posts least ends c cap s j r source content failed posted refused ops before after driving hand end over =
+job_posts c cap s j r source content failed posted refused ops before after driving hand end over =
     let o = own_of c s (job_block j) in
     let ended = answer_of c s j r source content in
-    let is : ended ≡ result_of o j failed = ends c s j r source content failed end in
-    let explained = (least c s j failed end.open_set).0 in (
+    let is : ended ≡ result_of o j failed = ends_are_the_machines c s j r source content failed end in
+    let explained = (failed_sets_are_least c s j failed end.open_set).0 in (
       driving,
       subst (λ (h : Option Job). MayPost c s (job_block j) (posted.0, posted.1) refused h) (sym hand)
           (record {
@@ -99,14 +121,14 @@ checked_answer c s j r source content given is took checks from e =
 pub same_job : (x y : Job) → Some x ≡ Some y → x ≡ y
 same_job x y e = cc
 
-pub posted : FailedSetsAreLeast → EndsAreTheMachines → (old new : DeskState) (j : Job) (r : ReqResult) (source : GivenFrom) (content : List ℕ) (ops : ℕ)
+pub posted : (old new : DeskState) (j : Job) (r : ReqResult) (source : GivenFrom) (content : List ℕ) (ops : ℕ)
     (before after : List Told) (block : ℕ) (ram : Bool) (ended answer : Answer) (refused : ℕ) → (state_of old).hand ≡ Some j → block ≡ job_block j
     → ram ≡ names_ram j.request → ended ≡ answer_of old.config (state_of old) j r source content
     → IsHandedOver (goes_over (desc_of old.config block) ram ended.1) ended answer refused ((desc_of old.config block).repeats + 1) block before after
     → new ≡ record old { entries = old.entries ++ Post (block_now (state_of old)) answer.0 answer.1 refused ops ∷ [] }
     → IsPosted (IsEndOf old j r source content ops) (job_block j) (names_ram j.request) (answer_of old.config (state_of old) j r source content) ops old new before after
     (record { block = block; result = answer.0 })
-posted least ends old new j r source content ops before after block ram ended answer refused hand at names is over adds =
+posted old new j r source content ops before after block ram ended answer refused hand at names is over adds =
     let c = old.config in
     let here : IsHandedOver (goes_over (desc_of c (job_block j)) ram ended.1) ended answer refused ((desc_of c (job_block j)).repeats + 1) (job_block j) before after
     = subst (λ (n : ℕ). IsHandedOver (goes_over (desc_of c n) ram ended.1) ended answer refused ((desc_of c n).repeats + 1) n before after) at over in
@@ -120,7 +142,7 @@ posted least ends old new j r source content ops before after block ram ended an
       block_is = at;
       adds = adds ∙ ap (λ (o : Option Job). record old { entries = old.entries ++ Post (option_map_or job_block o 0) answer.0 answer.1 refused ops ∷ [] }) hand;
       over = all;
-      allowed = λ end. job_posts least ends c old.cap (state_of old) j r source content end.failed answer refused ops before after end.driving hand end.ended all;
+      allowed = λ end. job_posts c old.cap (state_of old) j r source content end.failed answer refused ops before after end.driving hand end.ended all;
     }
 
 -- A MEMBER

@@ -18,6 +18,6 @@ mod unread;
 
 pub use front::Front;
 pub use pick::PickAnswer;
-pub use post::{Posted, ends_are_the_machines};
+pub use post::Posted;
 pub use staging::Staging;
 pub use unread::Unread;

@@ -9,12 +9,11 @@ ghost use Rattle.ram_blocks.specs.Told.{sizes_of};
 ghost use Rattle.ram_blocks.specs.Tries.{OthersStay, OnlyRefuses};
 ghost use Rattle.nv_desk.specs.Desk.{state_of};
 ghost use Rattle.nv_desk_copies.specs.Front.{StagesAll, AreSynchronized};
-ghost use Rattle.nv_desk_copies.specs.Posts.{EndsAreTheMachines, MayPostNow, IsEndOf, IsPosted, answer_in, answer_of, is_read, reads_own};
+ghost use Rattle.nv_desk_copies.specs.Posts.{MayPostNow, IsEndOf, IsPosted, answer_in, answer_of, is_read, reads_own};
 
 use crate::Staging;
 use crate::given::{defaults_of, stage_given};
 use crate::over::{End, hand_over};
-use block_laws::failures_are_explained;
 use block_machine::block_config::Config;
 use block_machine::nv_base::{GivenFrom, JobKind, ReqResult};
 use job_pending::{Job, LastPick, names_ram};
@@ -58,8 +57,6 @@ pub fn post<C: SyncCalls>(
     ensures stores_stay { (b n : ℕ) (x : List ℕ) → C.is_store copies.old b n x → C.is_store copies.new b n x }
     ensures stays_over { (first : C) → C.over first copies.old → C.over first copies.new }
 {
-    failures_are_explained();
-    ends_are_the_machines();
     let Some(job) = desk.hand() else {
         return not_posted(answer);
     };
@@ -171,8 +168,3 @@ fn checked(config: &Config, staging: &mut Staging, answer: ReqResult, gives: boo
         gives,
     }
 }
-
-/// What a job ends with is the machine's, where its program ended so.
-pub fn ends_are_the_machines()
-    ensures { EndsAreTheMachines }
-{}

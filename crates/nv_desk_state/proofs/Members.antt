@@ -1,15 +1,21 @@
 -- A request on all blocks through its steps.
-use Rattle.std.proofs.Common.{◌≡◌, ◌<◌, ◌≤◌, ℕ, Bool, true, false, List, [], ◌∷◌, drop, length, refl, ◌∙◌, sym, ap, subst, unwrap_or, arith, Option, Some, None}
+use Rattle.std.proofs.Common.{◌≡◌, ◌<◌, ◌≤◌, ℕ, ◌+◌, ◌-◌, Bool, true, false, if◌then◌else◌, List, [], ◌∷◌, drop, length, sum_by, refl, ◌∙◌, sym, ap, subst, unwrap_or, arith, Option, Some, None}
+use Rattle.std.proofs.lemmas.List.Sums.{sum_by-cons}
 use Rattle.block_machine.specs.Words.{ReqResult, Pending as PendingResult, ReadJob, Taken, Configuration}
 use Rattle.block_machine.specs.State.{State, Job, Sweep}
 use Rattle.block_machine.specs.Blocks.{asked_block, job_kind, desc_of, keeps_ram}
-use Rattle.block_machine.specs.Sweeps.{after_member, is_done, member_job, member_kind, member_request}
-use Rattle.block_machine.specs.Next.{BeginSweep, PostMember, next_by}
+use Rattle.block_machine.specs.Sweeps.{after_member, is_done, member_entries, member_job, member_kind, member_request, sweep_entries}
+use Rattle.block_machine.specs.Next.{BeginSweep, PostMember, next_by, next_in_sweep}
 use Rattle.block_machine.specs.Steps.{ended, in_hand, picked_job, posted_next, with_member}
 use Rattle.block_states.specs.States.{KeptBlocks, changed_at}
 use Rattle.job_pending.specs.Pending.{Pending, Agree as AreJobs}
-use Rattle.multi_jobs.specs.Sweep.{SweepState, left_of, next_member, moved}
-use Rattle.multi_jobs.specs.Laws.{MembersAreNoted, MembersAreConfigured}
+use Rattle.multi_jobs.specs.declared.sweep.MemberFacts.{MemberFacts}
+use Rattle.multi_jobs.specs.Laws.{Agree, AreFacts, IsNext}
+use Rattle.multi_jobs.specs.Sweep.{SweepState, left_of, next_member, moved, step_of}
+use Rattle.multi_jobs.proofs.Configured.{members_are_configured}
+use Rattle.multi_jobs.proofs.NextSteps.{step_is_next}
+use Rattle.multi_jobs.proofs.Noted.{members_are_noted}
+use Rattle.multi_jobs.proofs.Taken.{takes_the_first}
 use Rattle.nv_desk_state.specs.declared.sweep.PendingSweep.{PendingSweep}
 use Rattle.nv_desk_state.specs.declared.kept.Kept.{Kept}
 use Rattle.nv_desk_state.specs.Pending.{IsSweep, IsNoted, AreSweeps, IsAtMember, IsTaken}
@@ -29,12 +35,39 @@ canceled_noted c p sw id h = λ r. let a = h r in record {
 member_next : (c : Configuration) (s : SweepState) (id : ℕ) (rest : List ℕ) → s.canceled ≡ false → left_of c s ≡ id ∷ rest → next_member c s ≡ Some id
 member_next c s id rest on left = rw (on, left) refl
 
-pub taken_noted : MembersAreNoted → (c : Configuration) (p : PendingSweep) (sw : Sweep) (id : ℕ) (rest : List ℕ) (n : ℕ) → IsSweep c p sw
+pub taken_noted : (c : Configuration) (p : PendingSweep) (sw : Sweep) (id : ℕ) (rest : List ℕ) (n : ℕ) → IsSweep c p sw
     → sw.canceled ≡ false → sw.left ≡ id ∷ rest
     → IsNoted c (record p { members = moved c p.members; entries = n }) (record sw { left = drop 1 sw.left }) id
-taken_noted law c p sw id rest n h on left = λ r.
-    law c p.members (record sw { under_way = true }) id r (is_done r) h.members
+taken_noted c p sw id rest n h on left = λ r.
+    members_are_noted c p.members (record sw { under_way = true }) id r (is_done r) h.members
     (member_next c p.members id rest (h.members.canceled ∙ on) (h.members.left ∙ left)) (λ e. refl)
+
+-- and the others are left
+pub taken_left : (c : Configuration) (p : PendingSweep) (sw : Sweep) → IsSweep c p sw → sw.canceled ≡ false
+    → Agree c (moved c p.members) (record sw { under_way = true; left = drop 1 sw.left })
+taken_left c p sw h on = record {
+  under_way = refl;
+  writes = h.members.writes;
+  canceled = h.members.canceled;
+  same = h.members.same;
+  spoiled = h.members.spoiled;
+  left = takes_the_first c p.members (h.members.canceled ∙ on) ∙ ap (drop 1) h.members.left;
+}
+
+-- with the entries that are reserved for them
+pub entries_left : (c : Configuration) (sw : Sweep) (id : ℕ) (rest : List ℕ) (entries n : ℕ) → sw.left ≡ id ∷ rest → entries ≡ sweep_entries c sw
+    → n ≡ member_entries c sw.writes id → entries - n ≡ sweep_entries c (record sw { left = drop 1 sw.left })
+entries_left c sw id rest entries n left all one =
+    let sum = sum_by-cons (member_entries c sw.writes) id rest in
+    let whole : entries ≡ sum_by (member_entries c sw.writes) (id ∷ rest) + (if sw.under_way then 1 else 2) = rw left at all in
+    rw left (omega (arith, whole, one, sum))
+
+-- what comes next in one under way is the machine's
+pub sweep_goes_on : (c : Configuration) (s : State) (p : PendingSweep) (sw : Sweep) (f : MemberFacts) → IsSweep c p sw → sw.under_way ≡ true
+    → AreFacts c s (next_member c p.members) f → IsNext (step_of c p.members f) sw (next_in_sweep c s sw)
+sweep_goes_on c s p sw f h on facts =
+    subst (λ (u : Bool). IsNext (step_of c p.members f) (record sw { under_way = u }) (next_in_sweep c s (record sw { under_way = u }))) (sym on)
+    (step_is_next c s p.members (record sw { under_way = true }) f h.members facts)
 
 -- A MEMBER IS PICKED OR POSTED
 
@@ -85,14 +118,14 @@ member_posted c k s sw id r given p blocks h x noted is = record {
 }
 
 -- the member has a place for its job
-known_by : MembersAreConfigured → (c : Configuration) (o : Option PendingSweep) (sw : Sweep) (id : ℕ) (rest : List ℕ) → 0 < length c.blocks
+known_by : (c : Configuration) (o : Option PendingSweep) (sw : Sweep) (id : ℕ) (rest : List ℕ) → 0 < length c.blocks
     → AreSweeps c o (Some sw) → sw.left ≡ id ∷ rest → id ≤ length c.blocks
-known_by law c None sw id rest some h left = absurd h
-known_by law c (Some p) sw id rest some h left = law c p.members id rest some (h.members.left ∙ left)
+known_by c None sw id rest some h left = absurd h
+known_by c (Some p) sw id rest some h left = members_are_configured c p.members id rest some (h.members.left ∙ left)
 
-pub member_known : MembersAreConfigured → (c : Configuration) (k : Kept) (s : State) (sw : Sweep) (id : ℕ) → 0 < length c.blocks → Agrees c k s
+pub member_known : (c : Configuration) (k : Kept) (s : State) (sw : Sweep) (id : ℕ) → 0 < length c.blocks → Agrees c k s
     → IsAtMember s sw id → id < length k.jobs.slots
-member_known law c k s sw id some h x = omega (arith, h.places, known_by law c k.sweep sw id x.rest some (sweep_at_member c k.sweep s sw id x h.sweep) x.left)
+member_known c k s sw id some h x = omega (arith, h.places, known_by c k.sweep sw id x.rest some (sweep_at_member c k.sweep s sw id x h.sweep) x.left)
 
 -- one that is kept and wasn't picked begins next
 pub sweep_begins : (c : Configuration) (s : State) (o : Option PendingSweep) (w : Option Sweep) (p : PendingSweep) → o ≡ Some p → p.under_way ≡ false

@@ -10,7 +10,7 @@ use crate::described::{is_dataset, stored};
 use crate::kept::Kept;
 use block_machine::block_config::Config;
 use block_machine::nv_base::ReqResult;
-use multi_jobs::{MemberFacts, SweepStep, sweeps_follow_the_machine};
+use multi_jobs::{MemberFacts, SweepStep};
 
 impl Kept {
     /// What comes next in the sweep under way. The member that it is at has a place for its job.
@@ -18,7 +18,6 @@ impl Kept {
         ensures next { (s : State) (sw : MachineSweep) → Agrees config.now self.now s → s.sweep ≡ Some sw → sw.under_way ≡ true → IsNext result sw (next_in_sweep config.now s sw) }
         ensures known { (s : State) (sw : MachineSweep) (id : ℕ) → Agrees config.now self.now s → IsAtMember s sw id → id < length self.now.jobs.slots }
     {
-        sweeps_follow_the_machine();
         let _blocks = config.blocks();
         let Some(sweep) = &self.sweep else {
             return SweepStep::Ended {

@@ -8,7 +8,7 @@ ghost use Rattle.nv_desk_state.specs.Pending.{IsSweep, IsNoted};
 
 use block_machine::block_config::Config;
 use block_machine::nv_base::{JobKind, ReqResult};
-use multi_jobs::{Sweep, sweeps_follow_the_machine};
+use multi_jobs::Sweep;
 
 /// A request on all blocks, from its acceptance to the Post of id 0: the number of the entry that accepted it, whether it
 /// was picked, the entries that are reserved for it, and its members to come.
@@ -25,7 +25,6 @@ impl PendingSweep {
     pub fn accepted(number: u32, writes: bool, entries: u32) -> PendingSweep
         ensures { (c : Configuration) → entries ≡ sweep_entries c (sweep_at c 0 writes) → IsSweep c result (sweep_at c number writes) }
     {
-        sweeps_follow_the_machine();
         let job = if writes {
             JobKind::WriteAll
         } else {
@@ -70,7 +69,6 @@ impl PendingSweep {
         ensures noted { (sw : MachineSweep) (id : ℕ) (rest : List ℕ) → IsSweep config.now self.old sw → sw.canceled ≡ false
             → sw.left ≡ id ∷ rest → IsNoted config.now self.new (record sw { left = drop 1 sw.left }) id }
     {
-        sweeps_follow_the_machine();
         self.members.take(config);
         self.entries = self.entries.saturating_sub(entries);
     }

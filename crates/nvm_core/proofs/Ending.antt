@@ -1,5 +1,5 @@
 -- The end of an operation of the job in hand.
-use Rattle.std.specs.Prelude.{◌&&◌, not, slice_get, unwrap_or, ◌/◌, ◌%◌, ◌*◌}
+use Rattle.std.specs.Prelude.{◌&&◌, not, slice_get, unwrap_or, ◌%◌, ◌*◌}
 use Rattle.std.specs.List.{list_any}
 use Rattle.std.specs.Option.{option_and_then}
 use Rattle.std.proofs.Common.{◌≡◌, ◌≢◌, ◌⊎◌, inl, inr, ℕ, ◌+◌, ◌≤◌, Bool, true, false, if◌then◌else◌, List, [], length, IsSome, Option, Some, None, refl, sym, ap, ◌∙◌, subst, arith}
@@ -19,10 +19,12 @@ use Rattle.nvm_laws.specs.nvm_device_laws.Turn.{settled_by}
 use Rattle.nvm_laws.specs.nv_desk.Driver.{mark_now}
 use Rattle.nvm_laws.specs.job_progress.Hand.{HandState, ended}
 use Rattle.nvm_laws.specs.job_progress.JobInHand.{IsAt, IsInHand, job_for, program_for}
-use Rattle.nvm_laws.specs.job_progress.Goes.{Names, StepsName, WritesAreAllowed}
+use Rattle.nvm_laws.specs.job_progress.Goes.{Names}
 use Rattle.nvm_laws.specs.nv_desk.Desk.{DeskState, state_of}
 use Rattle.nvm_laws.specs.block_config.Rules.{IsLegalConfig}
 use Rattle.nvm_laws.specs.Halves.{Adds}
+use Rattle.nvm_laws.proofs.job_progress.Going.{steps_name}
+use Rattle.nvm_laws.proofs.job_progress.Writing.{writes_are_allowed, same_block, same_index}
 use Rattle.nvm_core.specs.BehindDevice.{IsAtWork}
 use Rattle.nvm_laws.specs.nv_base.declared.job.JobStep.TheVariants as step
 use Rattle.nvm_laws.specs.nv_base.declared.job.Outcome.TheVariants.{First}
@@ -137,13 +139,6 @@ none_by_outcome number ops urgent None JobCanceled given isnt = refl
 none_by_outcome number ops urgent None BlockInconsistent given isnt = refl
 none_by_outcome number ops urgent None BlockInvalid given isnt = refl
 
--- the instance of its number
-same_block : (b i : ℕ) → i ≤ 63 → (b * 64 + i) / 64 ≡ b
-same_block b i small = omega (arith, small)
-
-same_index : (b i : ℕ) → i ≤ 63 → (b * 64 + i) % 64 ≡ i
-same_index b i small = omega (arith, small)
-
 instance_is : (b n : ℕ) (i : Instance) → n ≤ 63 → i.block ≡ b → i.index ≡ n → instance_of (record { 0 = number_of (record { block = b; index = n }) }) ≡ i
 instance_is b n i small block index =
     ap (λ (x : ℕ). record { block = x; index = (b * 64 + n) % 64 }) (same_block b n small ∙ sym block)
@@ -189,11 +184,11 @@ pub record Ends (s : State) (h : HandState) (old new : Stand) (i : Instance) (ou
   pub none : (ops : ℕ) → outcome ≢ WroteMark → settled_by old new ops ≡ None
   pub hand : Some (ended outcome h) ≡ hand_by old new (Some h)
 
-pub ends : StepsName → (c : Configuration) (s : State) (h : HandState) (old new : DeviceTold) (op : DeviceOp) (i : Instance) (outcome : Outcome) (came : JobResult)
+pub ends : (c : Configuration) (s : State) (h : HandState) (old new : DeviceTold) (op : DeviceOp) (i : Instance) (outcome : Outcome) (came : JobResult)
     → IsLegalConfig c → IsInHand c s h old → (h.started && not (is_open new.stand)) ≡ true → h.step ≡ step.Device op i
     → ((mark : Option Mark) → op_of mark ≡ op → outcome ≡ outcome_by mark came) → came ≡ result_of new.stand → Ends s h old.stand new.stand i outcome
-ends names c s h old new op i outcome came legal is ended at outcomes came_is =
-    let named = names c s h old op i legal is at in
+ends c s h old new op i outcome came legal is ended at outcomes came_is =
+    let named = steps_name c s h old op i legal is at in
     let over_now = over c s h old new is ended in
     let mark = op_is c s h old op i is named in
     let outcome_is = outcomes (mark_of is.job) mark ∙ ap (outcome_by (mark_of is.job)) (came_is ∙ ap result_of over_now.is) in record {
@@ -211,14 +206,14 @@ wrote_or_not FoundInvalid = inr (λ is. cc)
 wrote_or_not WroteMark = inl refl
 wrote_or_not Failed = inr (λ is. cc)
 
-pub adds_by : WritesAreAllowed → (desk new : DeskState) (h : HandState) (old d : DeviceTold) (i : Instance) (outcome : Outcome) → IsLegalConfig desk.config
+pub adds_by : (desk new : DeskState) (h : HandState) (old d : DeviceTold) (i : Instance) (outcome : Outcome) → IsLegalConfig desk.config
     → IsAtWork desk h old d → Ends (state_of desk) h old.stand d.stand i outcome
     → (outcome ≡ WroteMark → Adds (Wrote i (mark_now (state_of desk)) (ops_of d)) desk new) → (outcome ≢ WroteMark → new ≡ desk)
     → AddsBy (settled_by old.stand d.stand (ops_of d)) desk new
-adds_by allowed desk new h old d i outcome legal work ends wrote other = elim (wrote_or_not outcome) [
+adds_by desk new h old d i outcome legal work ends wrote other = elim (wrote_or_not outcome) [
   | inl is ↦
       let entry = ends.wrote (ops_of d) is in
       subst (λ (e : Option Entry). AddsBy e desk new) (sym entry)
-      (wrote is, allowed desk.config desk.cap (state_of desk) h old d (Wrote i (mark_now (state_of desk)) (ops_of d)) (ops_of d) legal work.in_hand work.driving entry)
+      (wrote is, writes_are_allowed desk.config desk.cap (state_of desk) h old d (Wrote i (mark_now (state_of desk)) (ops_of d)) (ops_of d) legal work.in_hand work.driving entry)
   | inr isnt ↦ subst (λ (e : Option Entry). AddsBy e desk new) (sym (ends.none (ops_of d) isnt)) (other isnt)
 ]

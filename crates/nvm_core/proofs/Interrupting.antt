@@ -6,9 +6,9 @@ use Rattle.nvm_laws.specs.memif.Told.{DeviceTold, Stand, Open, is_open, is_urgen
 use Rattle.nvm_laws.specs.memif.Clock.{Clock}
 use Rattle.nvm_laws.specs.memif.Calls.{Cancels, IsCanceled}
 use Rattle.nvm_laws.specs.block_machine.Words.{Configuration}
-use Rattle.nvm_laws.specs.block_machine.State.{State, Job}
+use Rattle.nvm_laws.specs.block_machine.State.{Job}
 use Rattle.nvm_laws.specs.block_machine.Blocks.{rank_of}
-use Rattle.nvm_laws.specs.block_machine.Next.{Next, PickJob, next_by, next_in, next_of}
+use Rattle.nvm_laws.specs.block_machine.Next.{Next}
 use Rattle.nvm_laws.specs.block_machine.Legal.{HandIsFree}
 use Rattle.nvm_laws.specs.nv_desk.Desk.{DeskState, state_of}
 use Rattle.nvm_laws.specs.nv_desk.Picks.{IsInterruption}
@@ -17,6 +17,7 @@ use Rattle.nvm_laws.specs.job_programs.Program.{Program}
 use Rattle.nvm_laws.specs.job_progress.Hand.{HandState}
 use Rattle.nvm_laws.specs.job_progress.JobInHand.{IsInHand, IsAt}
 use Rattle.nvm_laws.specs.Ties.{IsTied}
+use Rattle.nvm_laws.proofs.DueTurning.{next_is}
 use Rattle.nvm_core.specs.Choice.{IsPickNext, IsPickable}
 use Rattle.nvm_core.specs.OperationStart.{LeavesDevice}
 use Rattle.nvm_core.proofs.WorkingBefore.{cancel_leaves}
@@ -45,9 +46,6 @@ not_urgent desk h d is may =
 closed_by : (old new : DeviceTold) (t : Bool) → is_open old.stand ≡ t → IfElse t (IsCanceled old new) (new ≡ old) → is_open new.stand ≡ false
 closed_by old new true on is = ap (λ (x : DeviceTold). is_open x.stand) is.only
 closed_by old new false off is = ap (λ (x : DeviceTold). is_open x.stand) is ∙ off
-
-next_is : (c : Configuration) (s : State) (j : Job) → next_in c s.waiting ≡ Some j → next_of c s ≡ PickJob j
-next_is c s j first = ap (λ (o : Option Job). next_by c s o s.hand s.sweep) first
 
 -- then the Pick may come
 pub interrupts : (desk : DeskState) (hand : Option HandState) (old : DeviceTold) (clock : Clock) (new : DeviceTold) (clock_new : Clock) → IsTied desk hand old

@@ -9,7 +9,7 @@ use Rattle.nvm_laws.specs.memif.declared.answer.DeviceTurn.TheVariants as turn
 use Rattle.nvm_laws.specs.memif.declared.answer.JobResult.TheVariants.{JobOk}
 use Rattle.nvm_laws.specs.memif.Told.{DeviceTold, Part, First, Second, PartTold, Stand, Open, Ended as At, part_at, part_of_block, is_part, faults_of, ops_of}
 use Rattle.nvm_laws.specs.memif.Clock.{Clock, SameClock}
-use Rattle.nvm_laws.specs.memif.Calls.{Turns, IsCut, Works, JobTurns}
+use Rattle.nvm_laws.specs.memif.Calls.{Works, JobTurns}
 use Rattle.nvm_laws.specs.memif.Trials.{Lasts}
 use Rattle.nvm_laws.proofs.memif.Turning.{turn_lasts, same_lasts}
 use Rattle.nvm_laws.specs.block_machine.Words.{ReqResult, JobKind, Mark, Entry, Ask, Pick, Wrote, Post, Off, Found, Taken, Configuration}
@@ -25,7 +25,7 @@ use Rattle.nvm_laws.specs.nvm_device_laws.Turn.{settled_by, wrote_by}
 use Rattle.nvm_laws.specs.nvm_device_laws.Tries.{AreTriesPaid, IsWornOut, IsWornNext, counted_at, counted_from, tries_of_done}
 use Rattle.nvm_laws.specs.job_programs.Program.{Program, next_in}
 use Rattle.nvm_laws.specs.job_programs.Laws.{failed_of}
-use Rattle.nvm_laws.specs.job_programs.Failures.{TriesAreCounted, failed_tries}
+use Rattle.nvm_laws.specs.job_programs.Failures.{failed_tries}
 use Rattle.nvm_laws.specs.ram_blocks.Told.{Told}
 use Rattle.nvm_laws.specs.nv_desk.Desk.{DeskState, state_of}
 use Rattle.nvm_laws.specs.nv_desk_copies.Posts.{IsPostedNext}
@@ -40,6 +40,8 @@ use Rattle.nvm_laws.specs.declared.turned.Turned.{Turned}
 use Rattle.nvm_laws.specs.declared.turned.Turned.TheVariants as turned
 use Rattle.nvm_laws.specs.declared.turned.Act.TheVariants.{Ended}
 use Rattle.nvm_laws.specs.AtDevice.{AtDevice, GoesOn}
+use Rattle.nvm_laws.proofs.Turning.{off_stand, hand_same}
+use Rattle.nvm_laws.proofs.Operations.{same_job}
 use Rattle.nvm_core.specs.OperationStart.{LeavesDevice}
 use Rattle.nvm_core.specs.BehindDevice.{TurnsDevice, asked_by}
 use Rattle.nvm_core.specs.Paying.{counted_of, TriesSince, OwesSince, PaysSince, worn_so_far}
@@ -264,9 +266,6 @@ begun c s None since d clock less = (less, tt)
 begun c s (Some j) since d clock less =
     (less, none_since clock.worn since (counted_of d) (hand_for c s j).program less (begun_done c s j (took_none j.taken)) (begun_failures c s j (took_none j.taken)))
 
-same_job : (a b : Job) (o : Option Job) → o ≡ Some a → o ≡ Some b → a ≡ b
-same_job a b o first second = let both : Some a ≡ Some b = sym first ∙ second in cc
-
 -- A TURN THAT IS ITS FIRST HALF
 module _ (since : ℕ) (old new : DeskState) (hand hand_new : Option HandState) (d d_new : DeviceTold) (clock clock_new : Clock) (leaves : LeavesDevice d d_new) (same : SameClock clock clock_new)
     (paired : IsPaired old.config (state_of old) hand d) (keeps : StaysKept old hand d clock new hand_new d_new clock_new)
@@ -372,22 +371,7 @@ module _ (since : ℕ) (old new : DeskState) (hand hand_new : Option HandState) 
       (half_stays (Some h) (subst (λ (x : Option HandState). OwesSince since x d clock) some owes))
 
 -- A TURN OF THE DEVICE
-hand_same : (a b : Stand) (hand : Option HandState) → b ≡ a → hand_by a b hand ≡ hand
-hand_same (Open j) (Open k) hand same = refl
-hand_same (Open j) (At r given) hand same = cc
-hand_same (At r given) b hand same = refl
-
-cut_stand : (p : Part) (old new : DeviceTold) → IsCut p old new → new.stand ≡ old.stand
-cut_stand First old new cut = ap (λ (d : DeviceTold). d.stand) cut.only
-cut_stand Second old new cut = ap (λ (d : DeviceTold). d.stand) cut.only
-
-off_stand : (old : DeviceTold) (clock : Clock) (new : DeviceTold) (clock_new : Clock) → Turns turn.Off old clock new clock_new → new.stand ≡ old.stand
-off_stand old clock new clock_new turns = elim turns.0.1.1 [
-  | inl still ↦ ap (λ (d : DeviceTold). d.stand) still.2
-  | inr cut ↦ cut_stand turns.0.1.0 old new cut.0
-]
-
-module _ (counted : TriesAreCounted) (c : Configuration) (s : State) (since : ℕ) (hand : Option HandState) (old new : DeviceTold) (clock clock_new : Clock) (grows : faults_of old ≤ faults_of new)
+module _ (c : Configuration) (s : State) (since : ℕ) (hand : Option HandState) (old new : DeviceTold) (clock clock_new : Clock) (grows : faults_of old ≤ faults_of new)
     (paired : IsPaired c s hand old) (started : IfSome hand (λ h. h.started ≡ true)) (owes : OwesSince since hand old clock) where
   by_lasts : Lasts old clock new clock_new → (held : Option HandState) → hand ≡ held → OwesSince since held new clock_new
   by_lasts lasts held is = since_stays c since old clock new clock_new lasts.ops grows lasts.past.worn held (subst (λ (x : Option HandState). OwesSince since x old clock) is owes)
@@ -400,7 +384,7 @@ module _ (counted : TriesAreCounted) (c : Configuration) (s : State) (since : �
   moved lasts p works (Open j) (Open k) was turns held is = by_lasts lasts held is
   moved lasts p works (Open j) (At r given) was turns None is = by_lasts lasts None is
   moved lasts p works (Open j) (At r given) was turns (Some h) is =
-      since_goes_on c since old clock new clock_new lasts.ops grows lasts.past.worn counted s h (subst (λ (x : Option HandState). IsPaired c s x old) is paired)
+      since_goes_on c since old clock new clock_new lasts.ops grows lasts.past.worn s h (subst (λ (x : Option HandState). IsPaired c s x old) is paired)
       (subst (λ (x : Option HandState). IfSome x (λ y. y.started ≡ true)) is started) p works j r given was turns.0 turns.1 (subst (λ (x : Option HandState). OwesSince since x old clock) is owes)
   moved lasts p works (At r given) b was turns held is = by_lasts lasts held is
 

@@ -19,8 +19,8 @@ use Rattle.nvm_laws.specs.nv_desk_copies.Posts.{IsEndOf, IsPosted, answer_of, Is
 use Rattle.nvm_laws.specs.nv_desk_copies.declared.post.Posted.{Posted}
 use Rattle.nvm_laws.specs.job_progress.Hand.{HandState}
 use Rattle.nvm_laws.specs.job_progress.JobInHand.{IsInHand, GivesWhole, HandFits}
-use Rattle.nvm_laws.specs.job_progress.Fits.{EndsAreExplained}
 use Rattle.nvm_laws.specs.Halves.{Adds, AddsPost}
+use Rattle.nvm_laws.proofs.job_progress.Fitting.{ends_are_explained}
 use Rattle.nvm_core.specs.Reads.{NotesReads, noted_by}
 
 -- what the device gave is whole
@@ -32,11 +32,11 @@ whole_given size at stand r source content is given gave from =
     ap length (gave ∙ ap device.given_by at_end) ∙ has
 
 -- where what its program saw fits, the job ended by the machine
-pub ends_as : EndsAreExplained → (desk : DeskState) (h : HandState) (d : DeviceTold) (ops : ℕ) (r : ReqResult) (source : GivenFrom) (content : List ℕ)
+pub ends_as : (desk : DeskState) (h : HandState) (d : DeviceTold) (ops : ℕ) (r : ReqResult) (source : GivenFrom) (content : List ℕ)
     (is : IsInHand desk.config (state_of desk) h d) → IsDriving (state_of desk) ops → h.step ≡ step.Ended r source → content ≡ device.given_by d.stand
     → HandFits desk.config (state_of desk) (Some h) d → IsEndOf desk is.job r source content ops
-ends_as explained desk h d ops r source content is driving at gave fits =
-    let (failed, ended) = explained desk.config (state_of desk) h d is.job r source is is.hand (fits is.job is.hand) at in
+ends_as desk h d ops r source content is driving at gave fits =
+    let (failed, ended) = ends_are_explained desk.config (state_of desk) h d is.job r source is is.hand (fits is.job is.hand) at in
     record {
       driving = driving;
       failed = failed;
@@ -55,7 +55,7 @@ posted_under P Q block ram ended ops old new before after posted so is = record 
   allowed = λ q. is.allowed (so q);
 }
 
-module _ (explained : EndsAreExplained) (old new : DeskState) (h : HandState) (d : DeviceTold) (ops : ℕ) (r : ReqResult) (source : GivenFrom) (content : List ℕ)
+module _ (old new : DeskState) (h : HandState) (d : DeviceTold) (ops : ℕ) (r : ReqResult) (source : GivenFrom) (content : List ℕ)
     (before after : List Told) (posted : Posted) (timed : ops ≡ device.ops_of d) (is : IsInHand old.config (state_of old) h d)
     (driving : IsDriving (state_of old) ops) (at : h.step ≡ step.Ended r source) (gave : content ≡ device.given_by d.stand)
     (has : IsPosted (IsEndOf old is.job r source content ops) (job_block is.job) (names_ram is.job.request)
@@ -65,7 +65,7 @@ module _ (explained : EndsAreExplained) (old new : DeskState) (h : HandState) (d
       (answer_of old.config (state_of old) is.job r source (device.given_by d.stand)) (device.ops_of d) old new before after posted
   hand_posted =
       let under = posted_under (IsEndOf old is.job r source content ops) (HandFits old.config (state_of old) (Some h) d) (job_block is.job) (names_ram is.job.request)
-      (answer_of old.config (state_of old) is.job r source content) ops old new before after posted (ends_as explained old h d ops r source content is driving at gave) has in
+      (answer_of old.config (state_of old) is.job r source content) ops old new before after posted (ends_as old h d ops r source content is driving at gave) has in
       let now = subst (λ (n : ℕ). IsPosted (HandFits old.config (state_of old) (Some h) d) (job_block is.job) (names_ram is.job.request)
       (answer_of old.config (state_of old) is.job r source content) n old new before after posted) timed under in
       subst (λ (bytes : List ℕ). IsPosted (HandFits old.config (state_of old) (Some h) d) (job_block is.job) (names_ram is.job.request)

@@ -2,29 +2,30 @@
 use Rattle.std.specs.Prelude.{min}
 use Rattle.std.proofs.Common.{◌≡◌, ◌≢◌, ◌<◌, ◌≤◌, ◌+◌, ◌⊎◌, ℕ, Bool, true, false, List, [], Option, Some, None, refl, sym, ap, ◌∙◌, subst, inl, inr, arith}
 use Rattle.std.proofs.lemmas.Bool.Decides.{leb_tells}
-use Rattle.nvm_laws.specs.nv_base.Count.{last_count, Rose, WereCounted}
+use Rattle.nvm_laws.specs.nv_base.Count.{Rose, WereCounted}
 use Rattle.nvm_laws.specs.nv_base.declared.mark.Mark.{Mark}
-use Rattle.nvm_laws.specs.nv_base.declared.job.Outcome.TheVariants.{First as NoOutcome}
 use Rattle.nvm_laws.specs.memif.declared.answer.JobResult.{JobResult}
-use Rattle.nvm_laws.specs.memif.declared.answer.JobResult.TheVariants.{JobOk, JobFailed, JobPending, JobCanceled, BlockInconsistent, BlockInvalid}
+use Rattle.nvm_laws.specs.memif.declared.answer.JobResult.TheVariants.{JobOk, JobFailed, BlockInconsistent, BlockInvalid}
 use Rattle.nvm_laws.specs.memif.Told as device
-use Rattle.nvm_laws.specs.memif.Told.{DeviceTold, Part, First, Second, Stand, Open, Ended, IfElse, part_at, is_open, length_of, faults_of}
+use Rattle.nvm_laws.specs.memif.Told.{DeviceTold, Part, Open, IfElse, is_open, length_of, faults_of}
 use Rattle.nvm_laws.specs.memif.Clock.{Clock}
 use Rattle.nvm_laws.specs.memif.Calls.{Works, EndsAs, Gives, MayFail}
-use Rattle.nvm_laws.specs.block_machine.Words.{JobKind, ReadJob, WriteJob, RestoreJob, EraseJob, InvalidateJob, ReadAllJob, WriteAllJob, Outcome, WroteMark, ReadContent, FoundErased, FoundInvalid, Failed, Configuration}
+use Rattle.nvm_laws.specs.block_machine.Words.{JobKind, ReadJob, WriteJob, RestoreJob, EraseJob, InvalidateJob, ReadAllJob, WriteAllJob, Configuration}
 use Rattle.nvm_laws.specs.block_machine.State.{State, Job}
 use Rattle.nvm_laws.specs.block_machine.Blocks.{kind_of, mark_by}
 use Rattle.nvm_laws.specs.promise_blocks.Payment.{Worn, every_block}
 use Rattle.nvm_laws.specs.promise_blocks.OverDevice.{TellsAtMost}
 use Rattle.nvm_laws.specs.job_programs.Program as program
-use Rattle.nvm_laws.specs.job_programs.Program.{Program, is_failed, tried, after_by, next_in}
-use Rattle.nvm_laws.specs.job_programs.Failures.{TriesAreCounted, failed_tries}
+use Rattle.nvm_laws.specs.job_programs.Program.{Program, is_failed}
+use Rattle.nvm_laws.specs.job_programs.Failures.{failed_tries}
 use Rattle.nvm_laws.specs.nvm_device_laws.Outcomes.{outcome_by}
 use Rattle.nvm_laws.specs.nvm_device_laws.Tries.{Counted, IsWornOut, AreTriesPaid, tries_of_done}
 use Rattle.nvm_laws.proofs.nvm_device_laws.PaidTries.{no_tries, tries_stay, tries_go_on}
 use Rattle.nvm_laws.specs.job_progress.Hand.{HandState, ended}
 use Rattle.nvm_laws.specs.job_progress.JobInHand.{IsAt, IsInHand, job_for}
+use Rattle.nvm_laws.proofs.nvm_device_laws.DeviceTries.{after_is, some_outcome}
 use Rattle.nvm_core.specs.Paying.{counted_of, TriesSince, OwesSince}
+use Rattle.nvm_core.proofs.Working.{rose_of}
 
 none_told : (n : ℕ) → TellsAtMost n []
 none_told n e ops has is = let few = has.1 in absurd (omega (arith, few))
@@ -72,15 +73,6 @@ turned_sum : (l a b u v : ℕ) → (min (b + a) l < min (v + u) l) ⊎ ((l ≤ m
 turned_sum l a b u v (inl rose) = inl (omega (arith, rose))
 turned_sum l a b u v (inr (full, up)) = inr (omega (arith, full), omega (arith, up))
 
-rose_by : (p : Part) (old new : DeviceTold) (clock_new : Clock) → Works p old new clock_new → Rose (part_at p old).faults (part_at p new).faults → Rose (faults_of old) (faults_of new)
-rose_by First old new clock_new works rose =
-    let other = ap (λ (d : DeviceTold). d.second.faults) works.only in
-    rose_in last_count old.first.faults old.second.faults new.first.faults new.second.faults (omega (arith, other)) rose
-rose_by Second old new clock_new works rose =
-    let other = ap (λ (d : DeviceTold). d.first.faults) works.only in
-    turned_sum last_count old.first.faults old.second.faults new.first.faults new.second.faults
-    (rose_in last_count old.second.faults old.first.faults new.second.faults new.first.faults (omega (arith, other)) rose)
-
 -- A FAILED TRY
 -- is a failed job
 failed_read : (r : JobResult) (n : Option ℕ) (given : List ℕ) → Gives r n given → is_failed (outcome_by None r) ≡ true → r ≡ JobFailed
@@ -96,28 +88,6 @@ failed_job None number r given old new ends failed = failed_read r (length_of ol
 failed_job (Some mark) number JobOk given old new ends failed = cc
 failed_job (Some mark) number JobFailed given old new ends failed = refl
 failed_job (Some mark) number r given old new ends failed = absurd ends.0
-
-some_outcome : (mark : Option Mark) (r : JobResult) → outcome_by mark r ≢ NoOutcome
-some_outcome None JobOk is = cc
-some_outcome None BlockInvalid is = cc
-some_outcome None BlockInconsistent is = cc
-some_outcome (Some mark) JobOk is = cc
-some_outcome None JobFailed is = cc
-some_outcome None JobPending is = cc
-some_outcome None JobCanceled is = cc
-some_outcome (Some mark) r is = cc
-
--- which the program counts
-after_is : (p : Program) (o : Outcome) (index : ℕ) → next_in p ≡ Some index → o ≢ NoOutcome → program.after p o ≡ tried p o
-after_is p o index at other = ap (λ (n : Option ℕ). after_by p n o) at ∙ by o other
-  where
-    by : (o : Outcome) → o ≢ NoOutcome → after_by p (Some index) o ≡ tried p o
-    by NoOutcome other = absurd (other refl)
-    by WroteMark other = refl
-    by ReadContent other = refl
-    by FoundErased other = refl
-    by FoundInvalid other = refl
-    by Failed other = refl
 
 no_mark : (kind : JobKind) (content : Option (List ℕ × ℕ)) → kind ≡ ReadJob → mark_by kind content ≡ None
 no_mark ReadJob content is = refl
@@ -148,7 +118,7 @@ module _ (c : Configuration) (since : ℕ) (old : DeviceTold) (clock : Clock) (n
   )
 
   -- the operation of the job in hand ends
-  module _ (counted : TriesAreCounted) (s : State) (h : HandState) (is : IsInHand c s h old) (on : h.started ≡ true) (p : Part) (works : Works p old new clock_new) (job : device.Job) (r : JobResult) (given : List ℕ)
+  module _ (s : State) (h : HandState) (is : IsInHand c s h old) (on : h.started ≡ true) (p : Part) (works : Works p old new clock_new) (job : device.Job) (r : JobResult) (given : List ℕ)
       (was : old.stand ≡ Open job) (ends : EndsAs job.mark job.number r given old new) (fails : r ≡ JobFailed → MayFail p job old new clock_new) where
     at : IsAt c is.job h.program old.stand
     at = at_by c is.job h.program h.started old is.at on
@@ -163,7 +133,7 @@ module _ (c : Configuration) (since : ℕ) (old : DeviceTold) (clock : Clock) (n
 
     cause : is_failed (outcome_by job.mark r) ≡ true → Rose (faults_of old) (faults_of new) ⊎ IsWornOut clock_new.worn new.ops h.program at.index
     cause failed = elim (fails (failed_job job.mark job.number r given old new ends failed)) [
-      | inl rose ↦ inl (rose_by p old new clock_new works rose)
+      | inl rose ↦ inl (rose_of p old new clock_new works rose)
       | inr out ↦ inr (writes out.0, (new.ops, omega arith, subst (λ (n : ℕ). clock_new.worn new.ops n) (ap (λ (j : device.Job). j.number) asked) out.1))
     ]
 
@@ -171,6 +141,6 @@ module _ (c : Configuration) (since : ℕ) (old : DeviceTold) (clock : Clock) (n
     since_goes_on (less, owes) = (
       omega (arith, less, grows),
       since_of c clock_new.worn since (counted_of new) (program.after h.program (outcome_by job.mark r))
-          (tries_go_on every_block c clock.worn clock_new.worn (counted_since since) (counted_of old) (counted_of new) [] ops grows worn (none_told old.ops) counted h.program (outcome_by job.mark r) at.index at.next
+          (tries_go_on every_block c clock.worn clock_new.worn (counted_since since) (counted_of old) (counted_of new) [] ops grows worn (none_told old.ops) h.program (outcome_by job.mark r) at.index at.next
           (after_is h.program (outcome_by job.mark r) at.index at.next (some_outcome job.mark r)) is.working.tries cause (over_none c clock.worn since (counted_of old) h.program owes)),
     )

@@ -10,18 +10,20 @@ use Rattle.nvm_laws.specs.block_machine.State.{State, Job}
 use Rattle.nvm_laws.specs.block_machine.Next.{Next, Nothing, PickJob, BeginSweep, PickMember, PostMember, EndSweep, next_of}
 use Rattle.nvm_laws.specs.block_machine.Steps.{step}
 use Rattle.nvm_laws.specs.block_machine.Legal.{IsAllowed, IsDriving}
-use Rattle.nvm_laws.specs.block_laws.Laws.{HistoriesStep}
 use Rattle.nvm_laws.specs.nv_desk.Desk.{DeskState, state_of}
 use Rattle.nvm_laws.specs.nv_desk_copies.Picks.{IsPicked, IsSkipped, AnswersNext}
 use Rattle.nvm_laws.specs.nv_desk_copies.declared.pick.PickAnswer.{PickAnswer}
 use Rattle.nvm_laws.specs.nv_desk_copies.declared.pick.PickAnswer.TheVariants as answer
 use Rattle.nvm_laws.specs.job_progress.Hand.{HandState}
 use Rattle.nvm_laws.specs.job_progress.JobInHand.{IsInHand, IsPaired}
-use Rattle.nvm_laws.specs.job_progress.Begins.{PicksTakeJobs, HandsBegin, hand_for}
-use Rattle.nvm_laws.specs.job_progress.Asks.{KeepsPower, JobsKeepPower}
+use Rattle.nvm_laws.specs.job_progress.Begins.{hand_for}
+use Rattle.nvm_laws.specs.job_progress.Asks.{KeepsPower}
 use Rattle.nvm_laws.specs.Ties.{IsTied}
 use Rattle.nvm_laws.specs.Turns.{hand_in}
 use Rattle.nvm_laws.specs.Halves.{Adds, AddsPick}
+use Rattle.nvm_laws.proofs.block_laws.HistoryLaws.{histories_step}
+use Rattle.nvm_laws.proofs.job_progress.Powering.{jobs_keep_power}
+use Rattle.nvm_laws.proofs.job_progress.Beginning.{picks_take_jobs, hands_begin}
 use Rattle.nvm_core.specs.Choice.{HasHand, HasNone, IsPickNext, IsPickable}
 use Rattle.nvm_core.specs.declared.choice.Case.{Case}
 
@@ -29,16 +31,16 @@ use Rattle.nvm_core.specs.declared.choice.Case.{Case}
 pub drives : (s : State) (ops : ℕ) → IsTrue s.started → s.off ≡ false → s.ops ≤ ops → IsDriving s ops
 drives s ops started on later = record { started = started; on = rw on refl; grows = later }
 
-module _ (steps : HistoriesStep) (desk new : DeskState) (e : Entry) (d : DeviceTold) (adds : Adds e desk new) where
+module _ (desk new : DeskState) (e : Entry) (d : DeviceTold) (adds : Adds e desk new) where
   pub state_is : state_of new ≡ step desk.config (state_of desk) e
-  state_is = ap state_of adds ∙ steps desk.config desk.entries e
+  state_is = ap state_of adds ∙ histories_step desk.config desk.entries e
 
   pub tied_behind : (hand : Option HandState) → KeepsPower (state_of desk) (step desk.config (state_of desk) e) e → ops_of e ≡ Some (device.ops_of d)
       → d.started ≡ true → d.fixed.numbers ≡ lengths_of desk.config → IsTrue (state_of desk).started → (state_of desk).off ≡ false
       → IsPaired desk.config (step desk.config (state_of desk) e) hand d → IsTied new hand d
   tied_behind hand power timed up numbers started on paired = record {
     paired = subst (λ (x : DeskState). IsPaired x.config (state_of x) hand d) (sym adds)
-        (subst (λ (s : State). IsPaired desk.config s hand d) (sym (steps desk.config desk.entries e)) paired);
+        (subst (λ (s : State). IsPaired desk.config s hand d) (sym (histories_step desk.config desk.entries e)) paired);
     up = up;
     numbers = numbers ∙ ap (λ (x : DeskState). lengths_of x.config) (sym adds);
     started = ap (λ (s : State). s.started) state_is ∙ power.started ∙ started;
@@ -50,28 +52,28 @@ module _ (steps : HistoriesStep) (desk new : DeskState) (e : Entry) (d : DeviceT
   pub hand_is : option_map (hand_for new.config (state_of new)) (state_of new).hand
       ≡ option_map (hand_for desk.config (step desk.config (state_of desk) e)) (step desk.config (state_of desk) e).hand
   hand_is = ap (λ (x : DeskState). option_map (hand_for x.config (state_of x)) (state_of x).hand) adds
-      ∙ ap (λ (s : State). option_map (hand_for desk.config s) s.hand) (steps desk.config desk.entries e)
+      ∙ ap (λ (s : State). option_map (hand_for desk.config s) s.hand) (histories_step desk.config desk.entries e)
 
 -- PICKS
-picked_paired : PicksTakeJobs → HandsBegin → (c : Configuration) (most : ℕ) (s : State) (block ops : ℕ) (kind : JobKind) (t : Taken) (d : DeviceTold)
+picked_paired : (c : Configuration) (most : ℕ) (s : State) (block ops : ℕ) (kind : JobKind) (t : Taken) (d : DeviceTold)
     → IsAllowed c most s (Pick block kind t ops) → is_open d.stand ≡ false
     → IsPaired c (step c s (Pick block kind t ops)) (option_map (hand_for c (step c s (Pick block kind t ops))) (step c s (Pick block kind t ops)).hand) d
-picked_paired picks begins c most s block ops kind t d allowed closed = elim (picks c most s block ops kind t allowed) [
+picked_paired c most s block ops kind t d allowed closed = elim (picks_take_jobs c most s block ops kind t allowed) [
   | inl none ↦ subst (λ (x : Option Job). IsPaired c (step c s (Pick block kind t ops)) (option_map (hand_for c (step c s (Pick block kind t ops))) x) d) (sym none) (none, closed)
   | inr some ↦ subst (λ (x : Option Job). IsPaired c (step c s (Pick block kind t ops)) (option_map (hand_for c (step c s (Pick block kind t ops))) x) d) (sym some.1)
-      (begins c (step c s (Pick block kind t ops)) some.0 d some.1 some.2 closed)
+      (hands_begin c (step c s (Pick block kind t ops)) some.0 d some.1 some.2 closed)
 ]
 
-pub picked_tied : HistoriesStep → JobsKeepPower → PicksTakeJobs → HandsBegin → (desk new : DeskState) (d : DeviceTold) (hand : Option HandState)
+pub picked_tied : (desk new : DeskState) (d : DeviceTold) (hand : Option HandState)
     (Holds : ℕ → Taken → Type 0) → IsPickable desk d → AddsPick Holds (device.ops_of d) desk new
     → hand ≡ hand_in new → IsTied new hand d
-picked_tied steps powers picks begins desk new d hand Holds may picked begun =
+picked_tied desk new d hand Holds may picked begun =
     let (block, is) = picked in
     let e = Pick block is.kind is.taken (device.ops_of d) in
-    tied_behind steps desk new e d is.adds hand (powers desk.config (state_of desk) e refl) refl may.up may.numbers may.started may.on
+    tied_behind desk new e d is.adds hand (jobs_keep_power desk.config (state_of desk) e refl) refl may.up may.numbers may.started may.on
     (subst (λ (x : Option HandState). IsPaired desk.config (step desk.config (state_of desk) e) x d)
-    (sym (begun ∙ hand_is steps desk new e d is.adds))
-    (picked_paired picks begins desk.config desk.cap (state_of desk) block (device.ops_of d) is.kind is.taken d is.allowed may.closed))
+    (sym (begun ∙ hand_is desk new e d is.adds))
+    (picked_paired desk.config desk.cap (state_of desk) block (device.ops_of d) is.kind is.taken d is.allowed may.closed))
 
 -- where a Pick comes next it is made
 not_skipped : (block : ℕ) (n : Next) → IsPickNext n → IsSkipped block n → ⊥

@@ -1,7 +1,7 @@
 -- The parts of the stack behind the second half.
-use Rattle.std.specs.Prelude.{◌==◌, ◌/◌, ◌*◌}
+use Rattle.std.specs.Prelude.{◌==◌, ◌/◌}
 use Rattle.std.specs.List.{Contains}
-use Rattle.std.proofs.Common.{◌≡◌, ℕ, suc, ◌+◌, ◌≤◌, Bool, true, false, if◌then◌else◌, List, [], ◌∷◌, Option, Some, None, refl, sym, ap, ◌∙◌, subst, eqb-true, arith}
+use Rattle.std.proofs.Common.{◌≡◌, ℕ, suc, ◌≤◌, Bool, true, false, if◌then◌else◌, List, [], ◌∷◌, Option, Some, None, refl, sym, ap, ◌∙◌, subst, eqb-true, arith}
 use Rattle.nvm_laws.specs.nv_base.Entry.{ops_of}
 use Rattle.nvm_laws.specs.nv_base.declared.mark.Mark.{Mark}
 use Rattle.nvm_laws.specs.nv_base.declared.instance.DeviceNumber.{DeviceNumber}
@@ -17,7 +17,6 @@ use Rattle.nvm_laws.specs.block_machine.Words.{Entry, Off, Configuration}
 use Rattle.nvm_laws.specs.block_machine.State.{State, Job}
 use Rattle.nvm_laws.specs.block_machine.Blocks.{desc_of, job_block}
 use Rattle.nvm_laws.specs.block_machine.Steps.{step}
-use Rattle.nvm_laws.specs.block_laws.Laws.{HistoriesStep}
 use Rattle.nvm_laws.specs.job_programs.Program.{Program, next_in, operation, step_by, step_of}
 use Rattle.nvm_laws.specs.block_machine.Results.{took_none}
 use Rattle.nvm_laws.specs.nv_base.declared.job.JobStep.TheVariants as jobstep
@@ -25,12 +24,17 @@ use Rattle.nvm_laws.specs.nvm_device_laws.Turn.{settled_by, wrote_by}
 use Rattle.nvm_laws.specs.nv_desk.Desk.{DeskState, state_of}
 use Rattle.nvm_laws.specs.job_progress.Hand.{HandState}
 use Rattle.nvm_laws.specs.job_progress.JobInHand.{IsAt, IsFruitless, IsInHand, IsPaired, job_for}
-use Rattle.nvm_laws.specs.job_progress.Asks.{OffsKeepHands, DevicesStandIn, JobsKeepPower, is_of_jobs}
-use Rattle.nvm_laws.specs.job_progress.Goes.{HandsGoOn, ReadsWhole, StepsName, state_by}
+use Rattle.nvm_laws.specs.job_progress.Asks.{is_of_jobs}
+use Rattle.nvm_laws.specs.job_progress.Goes.{ReadsWhole, state_by}
 use Rattle.nvm_laws.specs.Ties.{IsTied}
 use Rattle.nvm_laws.specs.Turns.{AddsBy, entry_by, hand_by}
+use Rattle.nvm_laws.proofs.block_laws.HistoryLaws.{histories_step}
+use Rattle.nvm_laws.proofs.job_progress.Asking.{offs_keep_hands, devices_stand_in}
+use Rattle.nvm_laws.proofs.job_progress.Powering.{jobs_keep_power}
+use Rattle.nvm_laws.proofs.job_progress.Going.{steps_name}
+use Rattle.nvm_laws.proofs.job_progress.Writing.{hands_go_on, same_block}
 use Rattle.nvm_core.specs.BehindDevice.{GivesBy, IsBehindTurn, StandTurns}
-use Rattle.nvm_core.proofs.BlockLengths.{own_length}
+use Rattle.nvm_found.proofs.BlockLengths.{own_length}
 
 -- THE LENGTH
 some_is : (n m : ℕ) → Some n ≡ Some m → n ≡ m
@@ -84,18 +88,15 @@ step_at : (h : HandState) (u : Bool) (index : ℕ) → IfElse u (IsFruitless h) 
 step_at h true index fruitless on next = let off = fruitless.1 in cc
 step_at h false index step on next = step ∙ ap (step_by h.program) next
 
-number_block : (b i : ℕ) → i ≤ 63 → (b * 64 + i) / 64 ≡ b
-number_block b i small = omega (arith, small)
-
 -- so its number is one of its block
-block_of_job : StepsName → (c : Configuration) (s : State) (h : HandState) (d : DeviceTold) (job : device.Job) → IsLegalConfig c → (is : IsInHand c s h d)
+block_of_job : (c : Configuration) (s : State) (h : HandState) (d : DeviceTold) (job : device.Job) → IsLegalConfig c → (is : IsInHand c s h d)
     → d.stand ≡ Open job → job.number / 64 ≡ job_block is.job
-block_of_job names c s h d job legal is open_now =
+block_of_job c s h d job legal is open_now =
     let (on, (index, next, same)) = at_by c is.job h.program h.started d.stand job is.at open_now in
     let step = step_at h (took_none is.job.taken) index is.step on next in
-    let named = names c s h d (operation h.program.kind) (record { block = h.program.block; index = index }) legal is step in
+    let named = steps_name c s h d (operation h.program.kind) (record { block = h.program.block; index = index }) legal is step in
     let small : index ≤ 63 = omega (arith, some_is index named.index (sym next ∙ named.next), named.small) in
-    ap (λ (x : device.Job). x.number / 64) same ∙ number_block h.program.block index small ∙ ap (λ (q : Program). q.block) is.working.is
+    ap (λ (x : device.Job). x.number / 64) same ∙ same_block h.program.block index small ∙ ap (λ (q : Program). q.block) is.working.is
 
 -- THE PARTS
 -- no job ended
@@ -104,25 +105,25 @@ stays (Open j) n ops hand same = rw same (refl, refl)
 stays (Ended r given) n ops hand same = (refl, refl)
 
 -- the hand is paired behind the entry
-pub paired_behind : StepsName → HandsGoOn → DevicesStandIn → (c : Configuration) (s : State) (hand : Option HandState) (old new : DeviceTold) (ops : ℕ)
+pub paired_behind : (c : Configuration) (s : State) (hand : Option HandState) (old new : DeviceTold) (ops : ℕ)
     → IsLegalConfig c → old.fixed.numbers ≡ lengths_of c → IsPaired c s hand old → StandTurns old.fixed.numbers old.stand new.stand
     → IsPaired c (state_by c s (settled_by old.stand new.stand ops)) (hand_by old.stand new.stand hand) new
-paired_behind names goes stand c s hand old new ops legal numbers paired turns = by old.stand new.stand refl refl turns
+paired_behind c s hand old new ops legal numbers paired turns = by old.stand new.stand refl refl turns
   where
     same_by : new.stand ≡ old.stand → IsPaired c (state_by c s (settled_by old.stand new.stand ops)) (hand_by old.stand new.stand hand) new
     same_by same =
         let (entry, held) = stays old.stand new.stand ops hand same in
         subst (λ (h : Option HandState). IsPaired c (state_by c s (settled_by old.stand new.stand ops)) h new) (sym held)
-        (subst (λ (e : Option Entry). IsPaired c (state_by c s e) hand new) (sym entry) (stand c s hand old new same paired))
+        (subst (λ (e : Option Entry). IsPaired c (state_by c s e) hand new) (sym entry) (devices_stand_in c s hand old new same paired))
 
     held_by : (x : Option HandState) (j : device.Job) (r : JobResult) (given : List ℕ) → IsPaired c s x old → old.stand ≡ Open j → new.stand ≡ Ended r given
         → GivesBy j.mark r (length_of old.fixed.numbers j.number) given
         → IsPaired c (state_by c s (settled_by old.stand new.stand ops)) (hand_by (Open j) (Ended r given) x) new
     held_by None j r given is was now gives = let on : is_open old.stand ≡ true = ap is_open was in let off = is.1 in cc
     held_by (Some h) j r given is was now gives =
-        let block = block_of_job names c s h old j legal is was in
+        let block = block_of_job c s h old j legal is was in
         let whole = whole_by c j.number (length_of (lengths_of c) j.number) j.mark r given legal refl (subst (λ (xs : List (DeviceNumber × ℕ)). GivesBy j.mark r (length_of xs j.number) given) numbers gives) in
-        goes c s h old new j r given is.job ops legal is is.hand was now
+        hands_go_on c s h old new j r given is.job ops legal is is.hand was now
         (subst (λ (b : ℕ). ReadsWhole (desc_of c b).length j.mark r given) block whole)
 
     by : (o n : Stand) → old.stand ≡ o → new.stand ≡ n → StandTurns old.fixed.numbers o n
@@ -145,8 +146,8 @@ abbrev IsJobs : ℕ → Option Entry → Type 0
 IsJobs ops None = Unit {0}
 IsJobs ops (Some e) = (is_of_jobs e ≡ true) × (ops_of e ≡ Some ops)
 
-powered_by : JobsKeepPower → (c : Configuration) (s : State) (o n : Stand) (old new : ℕ) → old ≤ new → IsPowered s (state_by c s (settled_by o n new)) old new
-powered_by keep c s o n old new later = by (settled_by o n new) (wrote_or_none o n new refl)
+powered_by : (c : Configuration) (s : State) (o n : Stand) (old new : ℕ) → old ≤ new → IsPowered s (state_by c s (settled_by o n new)) old new
+powered_by c s o n old new later = by (settled_by o n new) (wrote_or_none o n new refl)
   where
     marked : (number : ℕ) (mark : Option Mark) (ops : ℕ) → ops ≡ new → IsJobs new (wrote_by number mark ops)
     marked number None ops same = tt
@@ -160,7 +161,7 @@ powered_by keep c s o n old new later = by (settled_by o n new) (wrote_or_none o
 
     by : (e : Option Entry) → IsJobs new e → IsPowered s (state_by c s e) old new
     by None is = record { started = refl; off = refl; later = λ less. omega (arith, less, later) }
-    by (Some e) is = let keeps = keep c s e is.0 in let ops = keeps.ops new is.1 in
+    by (Some e) is = let keeps = jobs_keep_power c s e is.0 in let ops = keeps.ops new is.1 in
         record { started = keeps.started; off = keeps.off; later = λ less. omega (arith, ops) }
 
 on_and_off : (b : Bool) → b ≡ true → b ≡ false → ⊥
@@ -172,17 +173,16 @@ idle_turns numbers (Open j) n same = rw same refl
 idle_turns numbers (Ended r given) n same = same
 
 -- the state behind what was added
-state_behind : HistoriesStep → (desk new : DeskState) (e : Option Entry) → AddsBy e desk new → (state_of new ≡ state_by desk.config (state_of desk) e) × (new.config ≡ desk.config)
-state_behind steps desk new None same = (ap state_of same, ap (λ (x : DeskState). x.config) same)
-state_behind steps desk new (Some e) adds = (ap state_of adds.0 ∙ steps desk.config desk.entries e, ap (λ (x : DeskState). x.config) adds.0)
+state_behind : (desk new : DeskState) (e : Option Entry) → AddsBy e desk new → (state_of new ≡ state_by desk.config (state_of desk) e) × (new.config ≡ desk.config)
+state_behind desk new None same = (ap state_of same, ap (λ (x : DeskState). x.config) same)
+state_behind desk new (Some e) adds = (ap state_of adds.0 ∙ histories_step desk.config desk.entries e, ap (λ (x : DeskState). x.config) adds.0)
 
-module _ (steps : HistoriesStep) (names : StepsName) (goes : HandsGoOn) (offs : OffsKeepHands) (stand : DevicesStandIn) (keep : JobsKeepPower)
-    (desk new : DeskState) (hand hand_new : Option HandState) (old d : DeviceTold) (legal : IsLegalConfig desk.config) where
+module _ (desk new : DeskState) (hand hand_new : Option HandState) (old d : DeviceTold) (legal : IsLegalConfig desk.config) where
   tied_by : (e : Option Entry) → AddsBy e desk new → IsPaired desk.config (state_by desk.config (state_of desk) e) hand_new d → d.started ≡ true
       → (state_by desk.config (state_of desk) e).started ≡ true → (state_by desk.config (state_of desk) e).ops ≤ device.ops_of d
       → ((state_by desk.config (state_of desk) e).off ≡ true → is_off d ≡ true) → d.fixed.numbers ≡ lengths_of desk.config → IsTied new hand_new d
   tied_by e adds paired up started later off numbers =
-      let (state, config) = state_behind steps desk new e adds in record {
+      let (state, config) = state_behind desk new e adds in record {
         paired = subst (λ (c : Configuration). IsPaired c (state_of new) hand_new d) (sym config)
             (subst (λ (s : State). IsPaired desk.config s hand_new d) (sym state) paired);
         up = up;
@@ -197,8 +197,8 @@ module _ (steps : HistoriesStep) (names : StepsName) (goes : HandsGoOn) (offs : 
   by_stand answer is adds held turns =
       let tied = is.tied in let turned = is.turned in
       let entry = settled_by old.stand d.stand (device.ops_of d) in
-      let paired = paired_behind names goes stand desk.config (state_of desk) hand old d (device.ops_of d) legal tied.numbers tied.paired turns in
-      let power = powered_by keep desk.config (state_of desk) old.stand d.stand (device.ops_of old) (device.ops_of d) turned.later in
+      let paired = paired_behind desk.config (state_of desk) hand old d (device.ops_of d) legal tied.numbers tied.paired turns in
+      let power = powered_by desk.config (state_of desk) old.stand d.stand (device.ops_of old) (device.ops_of d) turned.later in
       tied_by entry adds (subst (λ (h : Option HandState). IsPaired desk.config (state_by desk.config (state_of desk) entry) h d) (sym held) paired)
       (turned.started ∙ tied.up) (power.started ∙ tied.started) (power.later tied.later)
       (λ off. absurd (on_and_off (state_of desk).off (sym power.off ∙ off) is.on)) (ap (λ (f : device.Fixed). f.numbers) turned.fixed ∙ tied.numbers)
@@ -208,7 +208,7 @@ module _ (steps : HistoriesStep) (names : StepsName) (goes : HandsGoOn) (offs : 
   tied_behind turn.Off is adds held =
       let tied = is.tied in let turned = is.turned in
       let (entry, same) = stays old.stand d.stand (device.ops_of d) hand turned.stand.0 in
-      let paired = stand desk.config (state_by desk.config (state_of desk) (Some (Off (device.ops_of d)))) hand old d turned.stand.0 (offs desk.config (state_of desk) hand old (device.ops_of d) tied.paired) in
+      let paired = devices_stand_in desk.config (state_by desk.config (state_of desk) (Some (Off (device.ops_of d)))) hand old d turned.stand.0 (offs_keep_hands desk.config (state_of desk) hand old (device.ops_of d) tied.paired) in
       tied_by (Some (Off (device.ops_of d))) adds
       (subst (λ (h : Option HandState). IsPaired desk.config (state_by desk.config (state_of desk) (Some (Off (device.ops_of d)))) h d) (sym (held ∙ same)) paired)
       (turned.started ∙ tied.up) tied.started (omega arith) (λ off. turned.stand.1) (ap (λ (f : device.Fixed). f.numbers) turned.fixed ∙ tied.numbers)

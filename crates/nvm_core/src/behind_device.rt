@@ -9,8 +9,7 @@ ghost use Rattle.nvm_core.specs.BehindDevice.{IsBehindTurn, answer_by};
 
 use crate::operation_end::end_operation;
 use nvm_laws::Turned;
-use nvm_laws::block_laws::histories_grow;
-use nvm_laws::job_progress::{Hand, hands_go_on, hands_stay};
+use nvm_laws::job_progress::Hand;
 use nvm_laws::memif::{DeviceTurn, MemDevice};
 use nvm_laws::nv_desk::Desk;
 
@@ -30,9 +29,6 @@ pub fn second_half<D: MemDevice>(
         → hand.new ≡ hand_by old.stand (D.told device.now).stand hand.old }
     ensures tied { IsTied desk.new hand.new (D.told device.now) }
 {
-    hands_go_on();
-    hands_stay();
-    histories_grow();
     let _blocks = desk.config().blocks();
     take(desk, hand, device, turned)
 }

@@ -8,10 +8,10 @@ ghost use Rattle.nvm_laws.specs.Turns.{AddsBy, hand_by};
 ghost use Rattle.nvm_core.specs.BehindDevice.{TurnsDevice, asked_by};
 
 use crate::second_half;
+use nvm_laws::Turned;
 use nvm_laws::job_progress::Hand;
 use nvm_laws::memif::MemDevice;
 use nvm_laws::nv_desk::Desk;
-use nvm_laws::{Turned, turn};
 
 /// A turn of the device with the second half behind it, where the machine's power is on. It takes no memory.
 pub fn device_turn<D: MemDevice>(desk: &mut Desk, hand: &mut Option<Hand>, device: &mut D) -> Turned
@@ -23,6 +23,6 @@ pub fn device_turn<D: MemDevice>(desk: &mut Desk, hand: &mut Option<Hand>, devic
     ensures tied { IsTied desk.new hand.new (D.told device.new) }
     ensures keeps { StaysKept desk.old hand.old (D.told device.old) (D.clock device.old) desk.new hand.new (D.told device.new) (D.clock device.new) }
 {
-    let turned = turn(device);
+    let turned = device.turn();
     second_half(desk, hand, device, turned)
 }

@@ -7,7 +7,7 @@ ghost use Rattle.nvm_laws.specs.nv_desk.Driver.{MayAdd, mark_now};
 ghost use Rattle.nvm_laws.specs.Turns.{AddsBy, hand_by};
 ghost use Rattle.nvm_core.specs.BehindDevice.{IsAtWork};
 
-use nvm_laws::job_progress::{Hand, hands_go_on, hands_stay};
+use nvm_laws::job_progress::Hand;
 use nvm_laws::memif::{JobResult, MemDevice};
 use nvm_laws::nv_base::{Entry, Instance, JobStep, Outcome};
 use nvm_laws::nv_desk::Desk;
@@ -21,8 +21,6 @@ pub(crate) fn end_operation<D: MemDevice>(desk: &mut Desk, hand: &mut Hand, devi
     ensures hand { (old : DeviceTold) → IsAtWork desk.old hand.old old (D.told device.now)
         → Some hand.new ≡ hand_by old.stand (D.told device.now).stand (Some hand.old) }
 {
-    hands_go_on();
-    hands_stay();
     let _blocks = desk.config().blocks();
     if !has_ended(hand, device) {
         return;

@@ -25,10 +25,10 @@ pub(crate) fn start_on<D: MemDevice>(
     };
     let number = number_of(instance);
     match op {
-        DeviceOp::Read => nvm_laws::start_read(device, number, desc.length),
+        DeviceOp::Read => device.start_read(number, desc.length),
         DeviceOp::Write => start_write(desk, device, number),
-        DeviceOp::Invalidate => nvm_laws::start_invalidate(device, number),
-        DeviceOp::Erase => nvm_laws::start_erase(device, number),
+        DeviceOp::Invalidate => device.start_invalidate(number),
+        DeviceOp::Erase => device.start_erase(number),
     }
 }
 
@@ -46,7 +46,7 @@ fn start_write<D: MemDevice>(
     let urgent = desk.is_urgent();
     match desk.hand() {
         Some(job) => match job.content() {
-            Some(content) => nvm_laws::start_write(device, number, content, urgent),
+            Some(content) => device.start_write(number, content, urgent),
             None => Err(DeviceRefusal::BadLength),
         },
         None => Err(DeviceRefusal::BadLength),

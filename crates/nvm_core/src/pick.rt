@@ -25,14 +25,11 @@ ghost use Rattle.nvm_core.specs.OperationStart.{LeavesDevice};
 
 use job_pending::{Job, LastPick};
 use nvm_laws::block_config::BlockDesc;
-use nvm_laws::block_laws::histories_grow;
-use nvm_laws::job_progress::{Hand, hands_begin, hands_stay};
+use nvm_laws::job_progress::Hand;
 use nvm_laws::memif::MemDevice;
 use nvm_laws::nv_desk::Desk;
 use nvm_laws::nv_desk_copies::Front;
-use nvm_laws::nvm_figures::picks_are_bounded;
 use nvm_laws::ram_blocks::SyncCalls;
-use nvm_laws::{cancel, hands_are_small, picks_keep, stack_works};
 
 /// An immediate job is picked over the standard one in hand.
 pub(crate) fn interrupt<D: MemDevice, C: SyncCalls>(
@@ -64,7 +61,7 @@ pub(crate) fn interrupt<D: MemDevice, C: SyncCalls>(
     ensures hand { hand.new ≡ hand_in front.new.desk }
     ensures cancels { IfElse (is_open (D.told device.old).stand) (IsCanceled (D.told device.old) (D.told device.new)) (D.told device.new ≡ D.told device.old) }
 {
-    cancel(device);
+    device.cancel();
     pick(front, hand, device, copies);
 }
 
@@ -93,13 +90,6 @@ pub(crate) fn pick<D: MemDevice, C: SyncCalls>(
     ensures left { IsWithinMost (program_in_hand hand.new) (D.told device.now) }
     ensures hand { hand.new ≡ hand_in front.new.desk }
 {
-    histories_grow();
-    hands_begin();
-    hands_stay();
-    picks_keep(device);
-    hands_are_small();
-    stack_works(device);
-    picks_are_bounded(device);
     let _left = device.left();
     front.pick(device.ops(), copies);
     *hand = hand_of(&front.desk);

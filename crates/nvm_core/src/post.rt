@@ -18,13 +18,11 @@ ghost use Rattle.nvm_core.specs.Choice.{HasHand, HasNone};
 ghost use Rattle.nvm_core.specs.Lowers.{posts_left};
 ghost use Rattle.nvm_core.specs.Reads.{NotesReads};
 
-use nvm_laws::block_laws::histories_grow;
-use nvm_laws::job_progress::{Hand, hands_end, hands_stay};
+use nvm_laws::job_progress::Hand;
 use nvm_laws::memif::MemDevice;
 use nvm_laws::nv_base::{GivenFrom, JobStep, ReqResult};
 use nvm_laws::nv_desk_copies::Front;
 use nvm_laws::ram_blocks::SyncCalls;
-use nvm_laws::{posts_keep, stack_works};
 
 /// The Post of a finished job.
 pub(crate) fn post<D: MemDevice, C: SyncCalls>(
@@ -51,11 +49,6 @@ pub(crate) fn post<D: MemDevice, C: SyncCalls>(
     ensures left { stack_left (program_in_hand hand.new) (D.told device.now) + posts_left (program_in_hand hand.old) ≤ stack_left (program_in_hand hand.old) (D.told device.now) }
     ensures hand { hand.new ≡ None }
 {
-    histories_grow();
-    hands_stay();
-    hands_end();
-    posts_keep(device);
-    stack_works(device);
     let _left = device.left();
     let (answer, source) = end_of(hand);
     front.post(answer, source, device.take_data(), device.ops(), copies);
@@ -100,10 +93,6 @@ pub(crate) fn skip<D: MemDevice, C: SyncCalls>(
     ensures lowers { stack_work front.new.desk hand.now (D.told device.now) < stack_work front.old.desk hand.now (D.told device.now) }
     ensures left { stack_left (program_in_hand hand.now) (D.told device.now) + posts_left (program_in_hand hand.now) ≤ stack_left (program_in_hand hand.now) (D.told device.now) }
 {
-    histories_grow();
-    hands_stay();
-    posts_keep(device);
-    stack_works(device);
     let _left = device.left();
     front.post_skipped(device.ops(), copies);
     let _count = front.desk.history().len();

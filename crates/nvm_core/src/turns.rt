@@ -10,13 +10,9 @@ ghost use Rattle.nvm_core.specs.Due.{now_of};
 ghost use Rattle.nvm_core.specs.Paying.{TurnPays};
 
 use crate::{Stack, device_turn, first_half};
-use nvm_laws::block_laws::histories_grow;
-use nvm_laws::job_programs::programs_count_their_failures;
-use nvm_laws::job_progress::hands_stay;
 use nvm_laws::memif::MemDevice;
-use nvm_laws::nvm_figures::turns_keep_figures;
 use nvm_laws::ram_blocks::SyncCalls;
-use nvm_laws::{Act, Turned, halves_bring_nearer, hands_are_small, stack_works};
+use nvm_laws::{Act, Turned};
 
 impl<D: MemDevice, C: SyncCalls + Drop> Stack<D, C> {
     /// One turn of the main function: the first of what is to be done, and nothing else. It makes at most one turn of the
@@ -32,10 +28,6 @@ impl<D: MemDevice, C: SyncCalls + Drop> Stack<D, C> {
         ensures pays { TurnPays D.told D.clock self.old self.new }
         ensures due { TurnServesDue (now_of D.told self.old) (now_of D.told self.new) }
     {
-        histories_grow();
-        hands_stay();
-        hands_are_small();
-        programs_count_their_failures();
         match first_half(
             &mut self.front,
             &mut self.hand,
@@ -43,16 +35,11 @@ impl<D: MemDevice, C: SyncCalls + Drop> Stack<D, C> {
             &mut self.copies,
         ) {
             Act::Ended(turned) => {
-                halves_bring_nearer(&self.device);
                 let _left = self.device.left();
                 turned
             }
             Act::Device => {
-                halves_bring_nearer(&self.device);
                 let turned = device_turn(&mut self.front.desk, &mut self.hand, &mut self.device);
-                stack_works(&self.device);
-                turns_keep_figures(&self.device);
-                halves_bring_nearer(&self.device);
                 let _blocks = self.front.desk.config().blocks();
                 let _count = self.front.desk.history().len();
                 turned

@@ -15,12 +15,10 @@ ghost use Rattle.nvm_core.specs.Choice.{HasHand};
 ghost use Rattle.nvm_core.specs.OperationStart.{LeavesDevice};
 
 use crate::operation_start::start_on;
-use nvm_laws::job_progress::{Hand, hands_go_on};
+use nvm_laws::job_progress::Hand;
 use nvm_laws::memif::{MemDevice, MemStatus};
 use nvm_laws::nv_base::JobStep;
 use nvm_laws::nv_desk::Desk;
-use nvm_laws::nvm_figures::{picks_are_bounded, starts_keep_figures};
-use nvm_laws::refusals_dont_come;
 
 /// The job in hand goes on: its next operation is open at the device.
 pub(crate) fn go_on<D: MemDevice>(desk: &Desk, hand: &mut Option<Hand>, device: &mut D)
@@ -59,9 +57,6 @@ fn go_on_with<D: MemDevice>(desk: &Desk, hand: &mut Hand, device: &mut D)
     ensures left { stack_left (Some hand.new.program) (D.told device.new) ≤ stack_left (Some hand.old.program) (D.told device.old) }
     ensures goes { GoesOn (Some hand.old) (D.told device.old) (Some hand.new) (D.told device.new) }
 {
-    hands_go_on();
-    refusals_dont_come();
-    starts_keep_figures();
     let _blocks = desk.config().blocks();
     let _desc = desk.desc_in_hand();
     if hand.is_started() {
@@ -75,7 +70,6 @@ fn go_on_with<D: MemDevice>(desk: &Desk, hand: &mut Hand, device: &mut D)
         unreachable!();
     };
     hand.start();
-    picks_are_bounded(device);
     let _left = device.left();
 }
 

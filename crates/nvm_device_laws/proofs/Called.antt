@@ -3,7 +3,7 @@ use Rattle.std.proofs.Common.{◌≡◌, ◌⊎◌, ℕ, ◌≤◌, ◌<◌, tru
 use Rattle.block_machine.specs.nv_base.Count.{last_count, next_count}
 use Rattle.memif.specs.Told as device
 use Rattle.memif.specs.Told.{DeviceTold, Part, Held, part_at, PartTold}
-use Rattle.memif.specs.Clock.{Clock, SameClock, Past, After, CutIn, ArePossible}
+use Rattle.memif.specs.Clock.{Clock, SameClock, After, ArePossible}
 use Rattle.memif.proofs.Turning.{past_same}
 use Rattle.block_machine.specs.Words.{Instance, Mark, Entry, Ask, Pick, Wrote, Post, Off, Found, Configuration}
 use Rattle.block_machine.specs.State.{State}
@@ -13,7 +13,7 @@ use Rattle.promise_blocks.specs.Payment.{IsPaid, price_for}
 use Rattle.promise_blocks.specs.Counts.{count_due}
 use Rattle.promise_blocks.specs.Marks.{Lists, marks_in}
 use Rattle.promise_blocks.specs.OverDevice.{HasStarted, BeginsBefore, HasOffAt, is_of}
-use Rattle.nvm_device_laws.specs.Machine.{MachineLaws}
+use Rattle.block_laws.proofs.HistoryLaws.{histories_step}
 use Rattle.nvm_device_laws.specs.Pairing.{Allows, Agrees, Pairs}
 use Rattle.nvm_device_laws.specs.Turn.{Keeps, IsBase, is_plain, IsTimed, Pays, EntriesKeep, BeginsKept}
 use Rattle.nvm_device_laws.proofs.Pairings as pairs
@@ -56,7 +56,7 @@ plain_settles (Found marks ops) plain = cc
 no_found : (e : Entry) (marks : List (Instance × Mark)) (ops : ℕ) → is_plain e ≡ true → e ≡ Found marks ops → ⊥
 no_found e marks ops plain is = let not_plain : is_plain (Found marks ops) ≡ true = subst (λ (x : Entry). is_plain x ≡ true) is plain in cc
 
-module _ (laws : MachineLaws) (c : Configuration) (cap : ℕ) (h : List Entry) (before : Part → PartTold) where
+module _ (c : Configuration) (cap : ℕ) (h : List Entry) (before : Part → PartTold) where
   abbrev PaidFor : DeviceTold → Clock → List Entry → Part → Type 0
   PaidFor d clock es p = IsPaid (is_of p d.fixed) c clock.worn (before p).faults (part_at p d).faults es
 
@@ -73,24 +73,24 @@ module _ (laws : MachineLaws) (c : Configuration) (cap : ℕ) (h : List Entry) (
 
   -- the state behind one entry more
   stepped : (P : State → Type 0) (e : Entry) → P (step c (after c h) e) → P (after c (h ++ e ∷ []))
-  stepped P e is = subst P (sym (laws.steps c h e)) is
+  stepped P e is = subst P (sym (histories_step c h e)) is
 
   pub entry_keeps : (d : DeviceTold) (clock : Clock) (e : Entry) → HasStarted h → Keeps c cap h before d clock
       → is_plain e ≡ true → IsAllowed c cap (after c h) e → IsTimed d e
       → Pays c before d clock h e → Keeps c cap (h ++ e ∷ []) before d clock
   entry_keeps d clock e started keeps plain allowed timed pays =
-      let most = most_pushed laws c cap h before d clock e keeps.device (most_of c cap h before d clock keeps.over) timed allowed
+      let most = most_pushed c cap h before d clock e keeps.device (most_of c cap h before d clock keeps.over) timed allowed
       (paid_by d clock e plain pays keeps.over.paid) (begins_push h e started keeps.over.begins)
       (λ marks ops held is small finds. absurd (no_found e marks ops plain is)) in
       let due : (n : ℕ) → count_due (h ++ e ∷ []) keeps.base n ≡ count_due h keeps.base n = λ n. due_plain h e keeps.base n (plain_settles e plain) in
       let marks : Pairs Allows c (after c (h ++ e ∷ [])) (count_due (h ++ e ∷ []) keeps.base) d.fixed.numbers d.slots =
       stepped (λ s. Pairs Allows c s (count_due (h ++ e ∷ []) keeps.base) d.fixed.numbers d.slots) e
       (pairs.pairs_due Allows c (step c (after c h) e) (count_due h keeps.base) (count_due (h ++ e ∷ []) keeps.base) d.fixed.numbers due d.slots
-      (pairs.allows_entry c cap (after c h) (count_due h keeps.base) d.fixed.numbers laws.cells e (plain_settles e plain) allowed d.slots
+      (pairs.allows_entry c cap (after c h) (count_due h keeps.base) d.fixed.numbers e (plain_settles e plain) allowed d.slots
       (keeps.marks started))) in
       record {
         device = keeps.device;
-        over = over_of laws c cap (h ++ e ∷ []) before d clock keeps.device most (count_due (h ++ e ∷ []) keeps.base) (λ now. marks) keeps.finds
+        over = over_of c cap (h ++ e ∷ []) before d clock keeps.device most (count_due (h ++ e ∷ []) keeps.base) (λ now. marks) keeps.finds
             (λ k off. off_before h e (next_count k) (keeps.over.off k off));
         base = keeps.base;
         based = λ ops found is small was. keeps.based ops found (sym (found_plain h e (plain_settles e plain)) ∙ is) small was;
@@ -98,19 +98,19 @@ module _ (laws : MachineLaws) (c : Configuration) (cap : ℕ) (h : List Entry) (
         settled = λ now up.
             stepped (λ s. Pairs Agrees c s (count_due (h ++ e ∷ []) keeps.base) d.fixed.numbers d.slots) e
             (pairs.pairs_due Agrees c (step c (after c h) e) (count_due h keeps.base) (count_due (h ++ e ∷ []) keeps.base) d.fixed.numbers due d.slots
-            (pairs.agrees_entry c cap (after c h) (count_due h keeps.base) d.fixed.numbers laws.cells e
+            (pairs.agrees_entry c cap (after c h) (count_due h keeps.base) d.fixed.numbers e
             (plain_settles e plain) allowed d.slots (keeps.settled started up)));
         finds = keeps.finds;
         few = keeps.few;
       }
 
-pub entries_keep : MachineLaws → (d : DeviceTold) (clock : Clock) → EntriesKeep d clock
-entries_keep laws d clock c cap h before e started keeps plain allowed timed pays =
-    entry_keeps laws c cap h before d clock e started keeps plain allowed timed pays
+pub entries_keep : (d : DeviceTold) (clock : Clock) → EntriesKeep d clock
+entries_keep d clock c cap h before e started keeps plain allowed timed pays =
+    entry_keeps c cap h before d clock e started keeps plain allowed timed pays
 
 -- CALLS
 -- a call that makes no operation and adds no entry
-module _ (laws : MachineLaws) (c : Configuration) (cap : ℕ) (h : List Entry) (before : Part → PartTold) (old : DeviceTold)
+module _ (c : Configuration) (cap : ℕ) (h : List Entry) (before : Part → PartTold) (old : DeviceTold)
     (clock : Clock) (new : DeviceTold) (clock_new : Clock)
     (keeps : Keeps c cap h before old clock) (goes : Goes old clock new clock_new) where
   pub call_keeps : HasStarted h ⊎ (new.ops ≡ old.ops) → ((k : ℕ) → clock_new.off_in k → clock.off_in k)
@@ -126,11 +126,11 @@ module _ (laws : MachineLaws) (c : Configuration) (cap : ℕ) (h : List Entry) (
       (λ ns. Pairs Allows c (after c h) due ns new.slots) (sym numbers) (allows has) in
       record {
         device = is;
-        over = over_of laws c cap h before new clock_new is
-            (most_called laws c cap h before old clock new clock_new keeps goes started) due marks goes.finds
+        over = over_of c cap h before new clock_new is
+            (most_called c cap h before old clock new clock_new keeps goes started) due marks goes.finds
             (λ k is_off. keeps.over.off k (off k is_off));
         base = keeps.base;
-        based = base_called laws c cap h before old clock new clock_new keeps goes;
+        based = base_called c cap h before old clock new clock_new keeps goes;
         marks = marks;
         settled = λ has up. subst (λ ns. Pairs Agrees c (after c h) due ns new.slots) (sym numbers) (agrees has up);
         finds = goes.finds;
@@ -151,20 +151,20 @@ module _ (laws : MachineLaws) (c : Configuration) (cap : ℕ) (h : List Entry) (
       let due = count_due (h ++ e ∷ []) base in
       let is = device_on c old new goes.fixed keeps.device in
       let numbers : new.fixed.numbers ≡ old.fixed.numbers = ap (λ (f : device.Fixed). f.numbers) goes.fixed in
-      let most = most_called laws c cap h before old clock new clock_new keeps goes started in
-      let pushed = most_pushed laws c cap h before new clock_new e is most timed allowed
+      let most = most_called c cap h before old clock new clock_new keeps goes started in
+      let pushed = most_pushed c cap h before new clock_new e is most timed allowed
       (λ p. pays_free (is_of p new.fixed) c clock_new.worn (before p).faults (part_at p new).faults h e (free (is_of p new.fixed) (after c h)) (most.paid p)) begins news in
       let marks : Pairs Allows c (after c (h ++ e ∷ [])) due new.fixed.numbers new.slots =
-      stepped laws c cap h before (λ s. Pairs Allows c s due new.fixed.numbers new.slots) e
+      stepped c cap h before (λ s. Pairs Allows c s due new.fixed.numbers new.slots) e
       (subst (λ ns. Pairs Allows c (step c (after c h) e) due ns new.slots) (sym numbers) allows) in
       record {
         device = is;
-        over = over_of laws c cap (h ++ e ∷ []) before new clock_new is pushed due (λ now. marks) goes.finds off;
+        over = over_of c cap (h ++ e ∷ []) before new clock_new is pushed due (λ now. marks) goes.finds off;
         base = base;
         based = based;
         marks = λ now. marks;
         settled = λ now up.
-            stepped laws c cap h before (λ s. Pairs Agrees c s due new.fixed.numbers new.slots) e
+            stepped c cap h before (λ s. Pairs Agrees c s due new.fixed.numbers new.slots) e
             (subst (λ ns. Pairs Agrees c (step c (after c h) e) due ns new.slots) (sym numbers) (agrees up));
         finds = goes.finds;
         few = goes.few keeps.few;

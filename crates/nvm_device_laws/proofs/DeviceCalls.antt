@@ -26,7 +26,6 @@ use Rattle.block_machine.specs.Steps.{step, after}
 use Rattle.block_machine.specs.Legal.{IsAllowed}
 use Rattle.promise_blocks.specs.Counts.{count_due}
 use Rattle.promise_blocks.specs.OverDevice.{HasStarted}
-use Rattle.nvm_device_laws.specs.Machine.{MachineLaws}
 use Rattle.nvm_device_laws.specs.Pairing.{Allows, Agrees, Pairs, IsStaged, IsFor}
 use Rattle.nvm_device_laws.specs.Turn.{Keeps, Stays, StartsStay, StaysWith, StaysBy, settled_by, TurnsKeep, ListsSettled, down, StartUpsKeep}
 use Rattle.nvm_device_laws.proofs.Pairings as pairs
@@ -79,7 +78,7 @@ goes_from goes = record {
   finds = goes.finds;
 }
 
-module _ (laws : MachineLaws) (old : DeviceTold) (clock : Clock) (new : DeviceTold) (clock_new : Clock) where
+module _ (old : DeviceTold) (clock : Clock) (new : DeviceTold) (clock_new : Clock) where
   -- nothing changed
   pub goes_same : new ≡ old → SameClock clock clock_new
       → ((held : ℕ → Held) → clock_new.may_find (After new.ops) held
@@ -93,7 +92,7 @@ module _ (laws : MachineLaws) (old : DeviceTold) (clock : Clock) (new : DeviceTo
       → ArePossible new new.slots held) → Stays old clock new clock_new
   stays_same same clocks finds c cap h before started keeps =
       let slots : new.slots ≡ old.slots = ap (λ (d : DeviceTold). d.slots) same in
-      call_keeps laws c cap h before old clock new clock_new keeps (goes_same same clocks finds)
+      call_keeps c cap h before old clock new clock_new keeps (goes_same same clocks finds)
       (inl started) (λ k off. (clocks.off_in k).0 off)
       (λ has. subst (λ (o : Option (List Slot)). Pairs Allows c (after c h) (count_due h keeps.base) old.fixed.numbers o) (sym slots) (keeps.marks has))
       (λ has up. subst (λ (o : Option (List Slot)). Pairs Agrees c (after c h) (count_due h keeps.base) old.fixed.numbers o) (sym slots)
@@ -125,7 +124,7 @@ module _ (laws : MachineLaws) (old : DeviceTold) (clock : Clock) (new : DeviceTo
       (λ held. accepts.1.order.now held) c cap h before started keeps
   start_stays w (Ok u) accepts c cap h before started staged keeps =
       let opens = accepts.0.1 in
-      call_keeps laws c cap h before old clock new clock_new keeps (goes_opened w.job opens accepts.1)
+      call_keeps c cap h before old clock new clock_new keeps (goes_opened w.job opens accepts.1)
       (inl started) (λ k off. (accepts.1.same.off_in k).0 off)
       (λ has. pairs.pairs_more c (after c h) (count_due h keeps.base) old.fixed.numbers Agrees Allows pairs.agrees_allow new.slots (agrees has))
       (λ has up. agrees has)
@@ -159,7 +158,7 @@ module _ (laws : MachineLaws) (old : DeviceTold) (clock : Clock) (new : DeviceTo
   cancel_stays cancels c cap h before started keeps = elim (cases_Bool (is_open old.stand)) [
     | inl on ↦
         let is : IsCanceled old new = rw on at cancels.0 in
-        call_keeps laws c cap h before old clock new clock_new keeps (goes_canceled cancels)
+        call_keeps c cap h before old clock new clock_new keeps (goes_canceled cancels)
         (inl started) (λ k off. (cancels.1.same.off_in k).0 off)
         (λ has. pairs.allows_keep c (after c h) (count_due h keeps.base) old.fixed.numbers old.slots new.slots is.marks (keeps.marks has))
         (λ has up. pairs.agrees_keep c (after c h) (count_due h keeps.base) old.fixed.numbers old.slots new.slots is.marks
@@ -194,7 +193,7 @@ module _ (laws : MachineLaws) (old : DeviceTold) (clock : Clock) (new : DeviceTo
   pub start_up_keeps : (answer : Result (Unit {0}) StartFault) → StartsUp answer old clock new clock_new
       → StartUpsKeep answer old clock new clock_new
   start_up_keeps (Err fault) up = λ c cap h before keeps.
-      call_keeps laws c cap h before (down old) clock new clock_new keeps
+      call_keeps c cap h before (down old) clock new clock_new keeps
       (goes_from (goes_up (Err fault) up))
       (inr (up_ops (Err fault) up)) (λ k off. (up.clock_stays.same.off_in k).0 off)
       (λ has. pairs.allows_come c (after c h) (count_due h keeps.base) old.fixed.numbers old.slots new.slots up.marks (keeps.marks has))
@@ -208,7 +207,7 @@ module _ (laws : MachineLaws) (old : DeviceTold) (clock : Clock) (new : DeviceTo
       let base = pairs.settled_counts old.fixed.numbers new.slots in
       let agrees : Pairs Agrees c (step c (after c h) e) (count_due (h ++ e ∷ []) base) old.fixed.numbers new.slots =
       pairs.pairs_due Agrees c (step c (after c h) e) base (count_due (h ++ e ∷ []) base) old.fixed.numbers (due_found h marks (device.ops_of new) base) new.slots
-      (pairs.agrees_listed c (after c h) old.fixed.numbers marks (device.ops_of new) laws.found old.slots new.slots up.comes_to.3 listed) in
+      (pairs.agrees_listed c (after c h) old.fixed.numbers marks (device.ops_of new) old.slots new.slots up.comes_to.3 listed) in
       let settled : (ops : ℕ) (held : ℕ → Held) → ops ≡ device.ops_of new → ops < last_count → clock_new.may_find (After ops) held
       → (x : DeviceNumber × ℕ) → Contains (lengths_of c) x → (listed_mark marks (instance_of x.0) ≡ (held x.0.0).mark) × ((held x.0.0).count ≡ base x.0.0) =
       λ ops held now small finds.
@@ -217,7 +216,7 @@ module _ (laws : MachineLaws) (old : DeviceTold) (clock : Clock) (new : DeviceTo
       subst (λ (f : device.Fixed). ArePossible (record old { fixed = f }) new.slots held) fixed
       (goes.finds held (subst (λ (k : ℕ). clock_new.may_find (After k) held) moment finds)) in
       pairs.possible_settled c old marks held old.slots new.slots up.comes_to.3 possible listed in
-      call_with laws c cap h before (down old) clock new clock_new keeps (goes_from goes) e
+      call_with c cap h before (down old) clock new clock_new keeps (goes_from goes) e
       (inr (up_ops (Ok u) up)) refl allowed (λ of s. refl)
       (begins_with h marks (device.ops_of new)
       first keeps.over.begins)
@@ -242,7 +241,7 @@ module _ (laws : MachineLaws) (old : DeviceTold) (clock : Clock) (new : DeviceTo
   arm_stays which nth keep arms c cap h before started keeps =
       let is = armed_is which nth keep old in
       let slots : new.slots ≡ old.slots = ap (λ (d : DeviceTold). d.slots) arms.0 ∙ is.slots in
-      call_keeps laws c cap h before old clock new clock_new keeps (goes_armed which nth keep arms)
+      call_keeps c cap h before old clock new clock_new keeps (goes_armed which nth keep arms)
       (inl started) (λ k off. (arms.1.same.off_in k).0 off)
       (λ has. subst (λ (o : Option (List Slot)). Pairs Allows c (after c h) (count_due h keeps.base) old.fixed.numbers o) (sym slots) (keeps.marks has))
       (λ has up. subst (λ (o : Option (List Slot)). Pairs Agrees c (after c h) (count_due h keeps.base) old.fixed.numbers o) (sym slots)
@@ -324,7 +323,7 @@ module _ (laws : MachineLaws) (old : DeviceTold) (clock : Clock) (new : DeviceTo
     -- no mark is settled
     keeps_on : KeepsAll old new → Stays old clock new clock_new
     keeps_on marks c cap h before started keeps =
-        call_keeps laws c cap h before old clock new clock_new keeps (goes_worked p works ticks finds)
+        call_keeps c cap h before old clock new clock_new keeps (goes_worked p works ticks finds)
         (inl started) (stays_off p ticks)
         (λ has. pairs.allows_keep c (after c h) (count_due h keeps.base) old.fixed.numbers old.slots new.slots marks (keeps.marks has))
         (λ has up. pairs.agrees_keep c (after c h) (count_due h keeps.base) old.fixed.numbers old.slots new.slots marks (keeps.settled has (started_before up)))
@@ -334,14 +333,14 @@ module _ (laws : MachineLaws) (old : DeviceTold) (clock : Clock) (new : DeviceTo
         → StaysWith (Wrote (instance_of (record { 0 = number })) mark (device.ops_of new)) old clock new clock_new
     settles_on number mark marks c cap h before started allowed keeps =
         let e : Entry = Wrote (instance_of (record { 0 = number })) mark (device.ops_of new) in
-        call_with laws c cap h before old clock new clock_new keeps (goes_worked p works ticks finds) e
+        call_with c cap h before old clock new clock_new keeps (goes_worked p works ticks finds) e
         (inl started) refl allowed (λ of s. refl)
         (begins_push h e started keeps.over.begins)
         (λ other ops held is. absurd
         (no_found_wrote (instance_of (record { 0 = number })) mark (device.ops_of new) ops other is))
         (λ k off. off_before h e (next_count k) (keeps.over.off k (stays_off p ticks k off)))
         keeps.base
-        (λ ops found is small was. base_called laws c cap h before old clock new clock_new keeps (goes_worked p works ticks finds) ops found
+        (λ ops found is small was. base_called c cap h before old clock new clock_new keeps (goes_worked p works ticks finds) ops found
         (sym (found_wrote h (instance_of (record { 0 = number })) mark (device.ops_of new)) ∙ is) small was)
         (pairs.pairs_more c (step c (after c h) e) due old.fixed.numbers Agrees Allows pairs.agrees_allow new.slots agrees)
         (λ up. agrees)
@@ -350,7 +349,7 @@ module _ (laws : MachineLaws) (old : DeviceTold) (clock : Clock) (new : DeviceTo
         due = count_due (h ++ Wrote (instance_of (record { 0 = number })) mark (device.ops_of new) ∷ []) keeps.base
 
         agrees : Pairs Agrees c (step c (after c h) (Wrote (instance_of (record { 0 = number })) mark (device.ops_of new))) due old.fixed.numbers new.slots
-        agrees = pairs.agrees_wrote c cap (after c h) (count_due h keeps.base) old.fixed.numbers laws.cells number mark (device.ops_of new) due
+        agrees = pairs.agrees_wrote c cap (after c h) (count_due h keeps.base) old.fixed.numbers number mark (device.ops_of new) due
             (λ i same. due_wrote h (instance_of (record { 0 = number })) mark (device.ops_of new) keeps.base i (pairs.same_number i number same))
             (λ i other. due_other h (instance_of (record { 0 = number })) mark (device.ops_of new) keeps.base i (pairs.other_number i number other))
             allowed old.slots new.slots marks (keeps.settled started works.up)
@@ -388,19 +387,19 @@ module _ (laws : MachineLaws) (old : DeviceTold) (clock : Clock) (new : DeviceTo
       → Keeps c cap (h ++ Off (device.ops_of new) ∷ []) before new clock_new
   off_with c cap h before started allowed keeps goes off marks up =
       let e : Entry = Off (device.ops_of new) in
-      call_with laws c cap h before old clock new clock_new keeps goes e (inl started) refl allowed (λ of s. refl)
+      call_with c cap h before old clock new clock_new keeps goes e (inl started) refl allowed (λ of s. refl)
       (begins_push h e started keeps.over.begins) (λ other ops held is. absurd (no_found_off (device.ops_of new) ops other is))
       (λ k is. elim (off k is) [
         | inl earlier ↦ off_before h e (next_count k) (keeps.over.off k earlier)
         | inr now ↦
             off_now h (device.ops_of new) (next_count k) now
       ])
-      keeps.base (λ ops found is small was. base_called laws c cap h before old clock new clock_new keeps goes ops found (sym (found_plain h e refl) ∙ is) small was)
+      keeps.base (λ ops found is small was. base_called c cap h before old clock new clock_new keeps goes ops found (sym (found_plain h e refl) ∙ is) small was)
       (pairs.pairs_due Allows c (step c (after c h) e) (count_due h keeps.base) (count_due (h ++ e ∷ []) keeps.base) old.fixed.numbers (λ n. due_plain h e keeps.base n refl) new.slots
-      (pairs.allows_entry c cap (after c h) (count_due h keeps.base) old.fixed.numbers laws.cells e refl allowed new.slots
+      (pairs.allows_entry c cap (after c h) (count_due h keeps.base) old.fixed.numbers e refl allowed new.slots
       (pairs.allows_keep c (after c h) (count_due h keeps.base) old.fixed.numbers old.slots new.slots marks (keeps.marks started))))
       (λ on. pairs.pairs_due Agrees c (step c (after c h) e) (count_due h keeps.base) (count_due (h ++ e ∷ []) keeps.base) old.fixed.numbers (λ n. due_plain h e keeps.base n refl) new.slots
-      (pairs.agrees_entry c cap (after c h) (count_due h keeps.base) old.fixed.numbers laws.cells e refl allowed new.slots
+      (pairs.agrees_entry c cap (after c h) (count_due h keeps.base) old.fixed.numbers e refl allowed new.slots
       (pairs.agrees_keep c (after c h) (count_due h keeps.base) old.fixed.numbers old.slots new.slots marks (keeps.settled started (up on)))))
 
   cut_with : (p : Part) → IsCut p old new → Ticks p turn.Off old clock new clock_new

@@ -14,11 +14,9 @@ use Rattle.block_machine.specs.Words.{Mark, Outcome, WroteMark, ReadContent, Fou
 use Rattle.block_machine.specs.Words.{Configuration}
 use Rattle.job_programs.specs.Program as program
 use Rattle.job_programs.specs.Program.{Program, next_in, is_failed, is_again, tried, after_by}
-use Rattle.job_programs.specs.Failures.{TriesAreCounted}
 use Rattle.block_machine.specs.nv_base.Count.{Rose}
 use Rattle.promise_blocks.specs.OverDevice.{is_of}
 use Rattle.promise_blocks.specs.Payment.{Worn}
-use Rattle.nvm_device_laws.specs.Machine.{MachineLaws}
 use Rattle.nvm_device_laws.specs.Turn.{Keeps}
 use Rattle.nvm_device_laws.specs.Outcomes.{outcome_by}
 use Rattle.nvm_device_laws.specs.Tries.{AreTriesPaid, TriesArePaidAt, TriesArePaid, TriesStay, TriesGoOn, counted_at, counted_from}
@@ -41,7 +39,7 @@ stays_by old clock new clock_new c cap h before p keeps goes paid =
     keeps.over.counted p paid)
 
 -- an outcome of an operation isn't the one before the first
-after_is : (p : Program) (o : Outcome) (index : ℕ) → next_in p ≡ Some index → o ≢ NoOutcome → program.after p o ≡ tried p o
+pub after_is : (p : Program) (o : Outcome) (index : ℕ) → next_in p ≡ Some index → o ≢ NoOutcome → program.after p o ≡ tried p o
 after_is p o index at other = ap (λ (n : Option ℕ). after_by p n o) at ∙ by o other
   where
     by : (o : Outcome) → o ≢ NoOutcome → after_by p (Some index) o ≡ tried p o
@@ -69,7 +67,7 @@ block_after p o = by (next_in p) o
     by (Some index) FoundInvalid = block_by (is_again FoundInvalid p.failures p.retries) p FoundInvalid
     by (Some index) Failed = block_by (is_again Failed p.failures p.retries) p Failed
 
-some_outcome : (mark : Option Mark) (r : JobResult) → outcome_by mark r ≢ NoOutcome
+pub some_outcome : (mark : Option Mark) (r : JobResult) → outcome_by mark r ≢ NoOutcome
 some_outcome None JobOk is = cc
 some_outcome None BlockInvalid is = cc
 some_outcome None BlockInconsistent is = cc
@@ -79,7 +77,7 @@ some_outcome None JobPending is = cc
 some_outcome None JobCanceled is = cc
 some_outcome (Some mark) r is = cc
 
-module _ (laws : MachineLaws) (old : DeviceTold) (clock : Clock) (new : DeviceTold) (clock_new : Clock) where
+module _ (old : DeviceTold) (clock : Clock) (new : DeviceTold) (clock_new : Clock) where
   -- a failed outcome is a failed job
   failed_read : (r : JobResult) (n : Option ℕ) (given : List ℕ) → Gives r n given → is_failed (outcome_by None r) ≡ true → r ≡ JobFailed
   failed_read JobOk n given gives failed = cc
@@ -102,17 +100,17 @@ module _ (laws : MachineLaws) (old : DeviceTold) (clock : Clock) (new : DeviceTo
 
   -- what each call does
   turn_goes : (answer : DeviceTurn) → Turns answer old clock new clock_new → Goes old clock new clock_new
-  turn_goes turn.Idle turns = calls.goes_same laws old clock new clock_new turns.0.1 turns.0.2 (λ held. turns.1.now held)
-  turn_goes turn.Worked turns = calls.goes_worked laws old clock new clock_new turns.0.1.0 turns.0.1.1 turns.0.1.2 (λ held. turns.1.now held)
+  turn_goes turn.Idle turns = calls.goes_same old clock new clock_new turns.0.1 turns.0.2 (λ held. turns.1.now held)
+  turn_goes turn.Worked turns = calls.goes_worked old clock new clock_new turns.0.1.0 turns.0.1.1 turns.0.1.2 (λ held. turns.1.now held)
   turn_goes turn.Off turns = elim turns.0.1.1 [
-    | inl still_off ↦ calls.goes_same laws old clock new clock_new still_off.2 still_off.3 (λ held. turns.1.now held)
-    | inr cut ↦ calls.goes_cut laws old clock new clock_new turns.0.1.0 cut.0 cut.1 (λ held. turns.1.now held)
+    | inl still_off ↦ calls.goes_same old clock new clock_new still_off.2 still_off.3 (λ held. turns.1.now held)
+    | inr cut ↦ calls.goes_cut old clock new clock_new turns.0.1.0 cut.0 cut.1 (λ held. turns.1.now held)
   ]
 
   start_goes : (w : Wish) (answer : Result (Unit {0}) DeviceRefusal) → Accepts w answer old clock new clock_new
       → Goes old clock new clock_new
-  start_goes w (Ok u) accepts = calls.goes_opened laws old clock new clock_new w.job accepts.0.1 accepts.1
-  start_goes w (Err refusal) accepts = calls.goes_same laws old clock new clock_new accepts.0.1 accepts.1.same
+  start_goes w (Ok u) accepts = calls.goes_opened old clock new clock_new w.job accepts.0.1 accepts.1
+  start_goes w (Err refusal) accepts = calls.goes_same old clock new clock_new accepts.0.1 accepts.1.same
       (λ held. accepts.1.order.now held)
 
   -- so each leaves them paid
@@ -127,12 +125,12 @@ module _ (laws : MachineLaws) (old : DeviceTold) (clock : Clock) (new : DeviceTo
 
   pub cancel_tries : Cancels old clock new clock_new → TriesStay old clock new clock_new
   cancel_tries cancels c cap h before p keeps paid =
-      stays_by old clock new clock_new c cap h before p keeps (calls.goes_canceled laws old clock new clock_new cancels) paid
+      stays_by old clock new clock_new c cap h before p keeps (calls.goes_canceled old clock new clock_new cancels) paid
 
   pub arm_tries : (which nth keep : ℕ) → Arms which nth keep old clock new clock_new → TriesStay old clock new clock_new
   arm_tries which nth keep arms c cap h before p keeps paid =
       stays_by old clock new clock_new c cap h before p keeps
-      (calls.goes_armed laws old clock new clock_new which nth keep arms) paid
+      (calls.goes_armed old clock new clock_new which nth keep arms) paid
 
   -- THE END OF A JOB
   -- a job that ends in a turn ends in one of its own part
@@ -165,9 +163,9 @@ module _ (laws : MachineLaws) (old : DeviceTold) (clock : Clock) (new : DeviceTo
     | inr cut ↦ absurd (not_ended j r given (sym was ∙ sym (cut_stand turns.0.1.0 cut.0) ∙ is))
   ]
 
-  pub turn_goes_on : TriesAreCounted → (answer : DeviceTurn) → Turns answer old clock new clock_new
+  pub turn_goes_on : (answer : DeviceTurn) → Turns answer old clock new clock_new
       → TriesGoOn old clock new clock_new
-  turn_goes_on counted answer turns c cap h before p j index x r given keeps was is at number listed own block reads few paid =
+  turn_goes_on answer turns c cap h before p j index x r given keeps was is at number listed own block reads few paid =
       let goes = turn_goes answer turns in
       let ends = ends_own answer j r given turns was is in
       let q = part_of_block old.fixed p.block in
@@ -176,7 +174,7 @@ module _ (laws : MachineLaws) (old : DeviceTold) (clock : Clock) (new : DeviceTo
       (subst (λ (b : ℕ). AreTriesPaid (is_of (part_of_block old.fixed b) old.fixed) c clock_new.worn (counted_from (before (part_of_block old.fixed b)))
       (counted_at (part_of_block old.fixed b) new) h (program.after p (outcome_by j.mark r))) (block_after p (outcome_by j.mark r))
       (tries_go_on (is_of q old.fixed) c clock.worn clock_new.worn (counted_from (before q)) (counted_at q old) (counted_at q new) h goes.ops (goes.faults q)
-      goes.past.worn keeps.over.counted counted p (outcome_by j.mark r) index at
+      goes.past.worn keeps.over.counted p (outcome_by j.mark r) index at
       (after_is p (outcome_by j.mark r) index at (some_outcome j.mark r)) few
       (λ failed. elim (ends.1 (failed_job j.mark j.number r given ends.0 failed)) [
         | inl rose ↦ inl (subst (λ (y : Part). Rose (part_at y old).faults (part_at y new).faults) of rose)

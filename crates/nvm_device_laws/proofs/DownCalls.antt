@@ -13,7 +13,6 @@ use Rattle.block_machine.specs.Words.{Entry, Configuration}
 use Rattle.block_machine.specs.Steps.{after}
 use Rattle.promise_blocks.specs.Counts.{count_due}
 use Rattle.promise_blocks.specs.OverDevice.{KeepsOver}
-use Rattle.nvm_device_laws.specs.Machine.{MachineLaws}
 use Rattle.nvm_device_laws.specs.Pairing.{Allows, Pairs}
 use Rattle.nvm_device_laws.specs.Turn.{Keeps, down, StaysDown, ComesDown}
 use Rattle.nvm_device_laws.proofs.Pairings as pairs
@@ -63,14 +62,14 @@ goes_down goes = record {
   finds = goes.finds;
 }
 
-module _ (laws : MachineLaws) (old : DeviceTold) (clock : Clock) (new : DeviceTold) (clock_new : Clock) where
+module _ (old : DeviceTold) (clock : Clock) (new : DeviceTold) (clock_new : Clock) where
   -- a call that makes no operation, and behind which each mark may still stand
   stays_down : (c : Configuration) (cap : ℕ) (h : List Entry) (before : Part → PartTold) → Goes old clock new clock_new
       → new.ops ≡ old.ops → ((k : ℕ) → clock_new.off_in k → clock.off_in k)
       → ((due : ℕ → ℕ) → Pairs Allows c (after c h) due old.fixed.numbers old.slots → Pairs Allows c (after c h) due old.fixed.numbers new.slots)
       → Keeps c cap h before (down old) clock → Keeps c cap h before (down new) clock_new
   stays_down c cap h before goes ops off allows keeps =
-      call_keeps laws c cap h before (down old) clock (down new) clock_new keeps (goes_down goes) (inr ops) off
+      call_keeps c cap h before (down old) clock (down new) clock_new keeps (goes_down goes) (inr ops) off
       (λ has. allows (count_due h keeps.base) (keeps.marks has)) (λ has up. absurd (not_both false refl up))
 
   -- no mark changes
@@ -83,14 +82,14 @@ module _ (laws : MachineLaws) (old : DeviceTold) (clock : Clock) (new : DeviceTo
   same_down : new ≡ old → SameClock clock clock_new
       → ((held : ℕ → Held) → clock_new.may_find (After new.ops) held → ArePossible new new.slots held)
       → StaysDown old clock new clock_new
-  same_down same clocks finds = keeps_down (goes_same laws old clock new clock_new same clocks finds)
+  same_down same clocks finds = keeps_down (goes_same old clock new clock_new same clocks finds)
       (ap (λ (d : DeviceTold). d.ops) same) (λ k off. (clocks.off_in k).0 off)
       (keeps_same old.fixed.numbers old.slots new.slots (ap (λ (d : DeviceTold). d.slots) same))
 
   pub start_up_down : (answer : Result (Unit {0}) StartFault) → StartsUp answer old clock new clock_new
       → StaysDown old clock new clock_new
   start_up_down answer up c cap h before keeps = stays_down c cap h before
-      (goes_up laws old clock new clock_new answer up) (up_ops laws old clock new clock_new answer up)
+      (goes_up old clock new clock_new answer up) (up_ops old clock new clock_new answer up)
       (λ k off. (up.clock_stays.same.off_in k).0 off)
       (λ due. pairs.allows_come c (after c h) due old.fixed.numbers old.slots new.slots up.marks) keeps
 
@@ -99,15 +98,15 @@ module _ (laws : MachineLaws) (old : DeviceTold) (clock : Clock) (new : DeviceTo
   read_down w (Err refusal) none accepts = same_down accepts.0.1 accepts.1.same (λ held. accepts.1.order.now held)
   read_down w (Ok u) none accepts =
       let opens = accepts.0.1 in
-      keeps_down (goes_opened laws old clock new clock_new w.job opens accepts.1) (ap (λ (d : DeviceTold). d.ops) opens.only)
+      keeps_down (goes_opened old clock new clock_new w.job opens accepts.1) (ap (λ (d : DeviceTold). d.ops) opens.only)
       (λ k off. (accepts.1.same.off_in k).0 off)
       (subst (λ (o : Option Mark). DoubtsAt w.job.number o old new) none opens.marks)
 
   worked_down : (p : Part) → Works p old new clock_new → Ticks p turn.Worked old clock new clock_new
       → ((held : ℕ → Held) → clock_new.may_find (After new.ops) held → ArePossible new new.slots held)
       → is_read old.stand ≡ true → StaysDown old clock new clock_new
-  worked_down p works ticks finds read = keeps_down (goes_worked laws old clock new clock_new p works ticks finds) (works.read read).0
-      (stays_off laws old clock new clock_new p ticks) (keeps_same old.fixed.numbers old.slots new.slots (works.read read).1)
+  worked_down p works ticks finds read = keeps_down (goes_worked old clock new clock_new p works ticks finds) (works.read read).0
+      (stays_off old clock new clock_new p ticks) (keeps_same old.fixed.numbers old.slots new.slots (works.read read).1)
 
   pub turn_down : (answer : DeviceTurn) → Turns answer old clock new clock_new → is_read old.stand ≡ true
       → StaysDown old clock new clock_new

@@ -17,12 +17,13 @@ use Rattle.block_machine.specs.StartUp.{at_first}
 use Rattle.block_machine.specs.Steps.{step, after, after_from}
 use Rattle.block_machine.specs.Results.{Answer, Own, own_of, result_of, open_sets, failed_set, same_answer, took_none, unwritten}
 use Rattle.block_machine.specs.Prices.{device_tries}
-use Rattle.block_laws.specs.Laws.{FailedSetsAreLeast}
 use Rattle.promise_blocks.specs.Payment.{Worn, IsExcused, ArePaid, IsPaid, price_for}
 use Rattle.promise_blocks.specs.OverDevice.{is_of}
 use Rattle.job_programs.specs.Program.{Program, works, next_in}
 use Rattle.job_programs.specs.Laws.{failed_of}
-use Rattle.job_programs.specs.Failures.{FailedAreOpen, TriesArePriced, failed_tries}
+use Rattle.job_programs.specs.Failures.{failed_tries}
+use Rattle.block_laws.proofs.FailedSets.{failed_sets_are_least}
+use Rattle.job_programs.proofs.Failures.{failed_are_open, tries_are_priced}
 use Rattle.nvm_device_laws.proofs.Payments.{pays_free}
 use Rattle.nvm_device_laws.specs.Tries.{IsWornOut, IsWornNext, TriesArePaid, IsProgramOf, PostsArePaid}
 
@@ -70,7 +71,7 @@ least_by o j answer RestoreJob failed writes at has some = cc
 least_by o j answer ReadAllJob failed writes at has some = cc
 least_by o j answer WriteAllJob failed writes at has some = cc
 
-module _ (least : FailedSetsAreLeast) (open_set : FailedAreOpen) (priced : TriesArePriced) (c : Configuration)
+module _ (c : Configuration)
     (s : State) (j : Job) (p : Program) (is : IsProgramOf c s j p) (over : next_in p ≡ None) where
   abbrev own : Own
   own = own_of c s (job_block j)
@@ -79,14 +80,14 @@ module _ (least : FailedSetsAreLeast) (open_set : FailedAreOpen) (priced : Tries
   failed = failed_of p.indices p.done
 
   is_open : Contains (open_sets own j (kind_of j)) failed
-  is_open = open_set own j p is.own is.shape is.kind is.works is.fits over is.took is.written
+  is_open = failed_are_open own j p is.own is.shape is.kind is.works is.fits over is.took is.written
 
   explained : IsSome (failed_set own j (result_of own j failed))
       × (length (unwrap_or (failed_set own j (result_of own j failed)) []) ≤ length failed)
-  explained = least c s j failed is_open
+  explained = failed_sets_are_least c s j failed is_open
 
   tries : device_tries (desc_of c (job_block j)) (kind_of j) ≡ p.retries + 1
-  tries = let kind = ap (device_tries (desc_of c (job_block j))) is.kind in let price = priced
+  tries = let kind = ap (device_tries (desc_of c (job_block j))) is.kind in let price = tries_are_priced
       (desc_of c (job_block j)) p.kind in let retries = is.retries in omega (arith, kind, price, retries)
 
   -- its price is at most its failed tries
@@ -147,8 +148,8 @@ parts_apart Second First = inr not_second
 abbrev PaidAt : (Part → PartTold) → DeviceTold → Clock → Configuration → Part → List Entry → Type 0
 PaidAt before d clock c q es = IsPaid (is_of q d.fixed) c clock.worn (before q).faults (part_at q d).faults es
 
-pub posts_are_paid : FailedSetsAreLeast → FailedAreOpen → TriesArePriced → (d : DeviceTold) (clock : Clock) → PostsArePaid d clock
-posts_are_paid least open_set priced d clock c cap h before j p r given is over answer keeps paid =
+pub posts_are_paid : (d : DeviceTold) (clock : Clock) → PostsArePaid d clock
+posts_are_paid d clock c cap h before j p r given is over answer keeps paid =
     subst (λ (a : Answer). (q : Part) → PaidAt before d clock c q (h ++ Post (job_block j) a.0 a.1 0 (device.ops_of d) ∷ [])) (sym answer)
     (λ q. elim (parts_apart q own) [
       | inl same ↦ subst (λ (x : Part). PaidAt before d clock c x (h ++ Post (job_block j) a.0 a.1 0 (device.ops_of d) ∷ [])) same (by paid)
@@ -169,13 +170,13 @@ posts_are_paid least open_set priced d clock c cap h before j p r given is over 
       faults = faults + failed_tries p;
       counted = counted;
       pay = pay_more (is_of own d.fixed) c clock.worn faults (failed_tries p) at_first h (Post (job_block j) a.0 a.1 0 (device.ops_of d))
-          (price least open_set priced c (after c h) j p is over (is_of own d.fixed) (device.ops_of d)) pay;
+          (price c (after c h) j p is over (is_of own d.fixed) (device.ops_of d)) pay;
     }
     by (inr (inl (rest, next))) = absurd (subst (IsWornNext clock.worn d.ops p) over next)
     by (inr (inr (index, has, out))) = record {
       faults = (keeps.over.paid own).faults;
       counted = (keeps.over.paid own).counted;
       pay = pay_excused (is_of own d.fixed) c clock.worn (keeps.over.paid own).faults at_first h (Post (job_block j) a.0 a.1 0 (device.ops_of d))
-          (excuse least open_set priced c (after c h) j p is over clock.worn d.ops
+          (excuse c (after c h) j p is over clock.worn d.ops
           (device.ops_of d) index (omega arith) has out) (keeps.over.paid own).pay;
     }

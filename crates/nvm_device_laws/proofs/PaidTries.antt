@@ -5,17 +5,20 @@ use Rattle.std.proofs.Common.{◌≡◌, ◌⊎◌, ℕ, zero, suc, ◌+◌, ◌
 use Rattle.std.proofs.Common.{◌∷◌, ◌++◌, length, Option, Some, None, refl, sym, ap, ◌∙◌, subst, inl, inr, arith}
 use Rattle.std.proofs.lemmas.Bool.{cases_Bool}
 use Rattle.block_machine.specs.nv_base.Count.{WereCounted, Rose}
+use Rattle.memif.specs.Told.{DeviceTold, part_of_block}
+use Rattle.memif.specs.Clock.{Clock}
 use Rattle.block_machine.specs.Words.{Outcome, Entry, Ask, Pick, Wrote, Post, Off, Found, Configuration}
 use Rattle.block_machine.specs.State.{State}
 use Rattle.block_machine.specs.StartUp.{at_first}
 use Rattle.block_machine.specs.Steps.{after_from}
 use Rattle.promise_blocks.specs.Payment.{Worn, IsPaid, price_for}
-use Rattle.promise_blocks.specs.OverDevice.{TellsAtMost}
+use Rattle.promise_blocks.specs.OverDevice.{TellsAtMost, is_of}
 use Rattle.job_programs.specs.Program as program
 use Rattle.job_programs.specs.Program.{Program, next_in, is_failed, is_again, tried, settles}
 use Rattle.job_programs.specs.Laws.{failed_of}
-use Rattle.job_programs.specs.Failures.{failed_tries, TriesAreCounted}
-use Rattle.nvm_device_laws.specs.Tries.{Counted, IsWornOut, ArePaidWith, tries_of_done, IsWornNext, AreTriesPaid, is_post}
+use Rattle.job_programs.specs.Failures.{failed_tries}
+use Rattle.job_programs.proofs.Failures.{tries_are_counted}
+use Rattle.nvm_device_laws.specs.Tries.{Counted, IsWornOut, ArePaidWith, tries_of_done, IsWornNext, AreTriesPaid, TriesBegin, TriesStayWith, is_post, counted_at, counted_from}
 use Rattle.nvm_device_laws.proofs.Payments.{paid_on, no_price}
 
 -- A PROGRAM THAT BEGINS
@@ -30,12 +33,17 @@ no_tries p done failures =
     let times : (p.retries + 1) * length (failed_of p.indices p.done) ≡ (p.retries + 1) * 0 = ap (λ (n : ℕ). (p.retries + 1) * n) none in
     omega (arith, times, failures)
 
-pub tries_begin : (of : ℕ → Bool) (c : Configuration) (worn : Worn) (before now : Counted) (h : List Entry) (p : Program)
+paid_at_begin : (of : ℕ → Bool) (c : Configuration) (worn : Worn) (before now : Counted) (h : List Entry) (p : Program)
     → p.done ≡ [] → p.failures ≡ 0 → IsPaid of c worn before.faults now.faults h → AreTriesPaid of c worn before now h p
-tries_begin of c worn before now h p done failures paid =
+paid_at_begin of c worn before now h p done failures paid =
     let none = no_tries p done failures in
     let same : paid.faults + failed_tries p ≡ paid.faults = omega (arith, none) in
     inl (paid.faults, subst (λ (n : ℕ). WereCounted n before.faults now.faults) (sym same) paid.counted, paid.pay)
+
+pub tries_begin : (d : DeviceTold) (clock : Clock) → TriesBegin d clock
+tries_begin d clock c h before p done failures paid =
+    let q = part_of_block d.fixed p.block in
+    paid_at_begin (is_of q d.fixed) c clock.worn (counted_from (before q)) (counted_at q d) h p done failures (paid q)
 
 -- AN ENTRY MORE
 free : (of : ℕ → Bool) (c : Configuration) (s : State) (e : Entry) → is_post e ≡ false → price_for of c s e ≡ 0
@@ -51,10 +59,15 @@ module _ (of : ℕ → Bool) (c : Configuration) (worn : Worn) (before now : Cou
   with_entry n (faults, counted, paid) =
       (faults, counted, no_price of c worn faults at_first h e (free of c (after_from c at_first h) e other) paid)
 
-  pub tries_stay_with : (p : Program) → AreTriesPaid of c worn before now h p → AreTriesPaid of c worn before now (h ++ e ∷ []) p
-  tries_stay_with p (inl paid) = inl (with_entry (failed_tries p) paid)
-  tries_stay_with p (inr (inl (paid, next))) = inr (inl (with_entry (tries_of_done p) paid, next))
-  tries_stay_with p (inr (inr worn_out)) = inr (inr worn_out)
+  paid_with : (p : Program) → AreTriesPaid of c worn before now h p → AreTriesPaid of c worn before now (h ++ e ∷ []) p
+  paid_with p (inl paid) = inl (with_entry (failed_tries p) paid)
+  paid_with p (inr (inl (paid, next))) = inr (inl (with_entry (tries_of_done p) paid, next))
+  paid_with p (inr (inr worn_out)) = inr (inr worn_out)
+
+pub tries_stay_with : (d : DeviceTold) (clock : Clock) → TriesStayWith d clock
+tries_stay_with d clock c h before p e other paid =
+    let q = part_of_block d.fixed p.block in
+    paid_with (is_of q d.fixed) c clock.worn (counted_from (before q)) (counted_at q d) h e other p paid
 
 -- ONE INSTANCE BEFORE THE OTHERS
 stays_by : (t : Bool) (i : ℕ) (xs ys : List ℕ) (index : ℕ) → (Contains xs index → Contains ys index)
@@ -187,17 +200,17 @@ module _ (of : ℕ → Bool) (c : Configuration) (worn other : Worn) (before now
           (omega (arith, rest)) paid))
       by rest (inr (inr (index, has, is))) = worn_stays p o index has (worn_on p index is)
 
-  rose_failed : TriesAreCounted → (p : Program) (o : Outcome) (index : ℕ) → next_in p ≡ Some index
+  rose_failed : (p : Program) (o : Outcome) (index : ℕ) → next_in p ≡ Some index
       → program.after p o ≡ tried p o → is_failed o ≡ true → p.failures ≤ p.retries → Rose now.faults new.faults
       → AreTriesPaid of c worn before now h p → AreTriesPaid of c other before new h (tried p o)
-  rose_failed counted p o index at same failed few rose (inl paid) =
-      let most = subst (λ (q : Program). failed_tries q ≤ failed_tries p + (if is_failed o then 1 else 0)) same (counted p o few).1 in
+  rose_failed p o index at same failed few rose (inl paid) =
+      let most = subst (λ (q : Program). failed_tries q ≤ failed_tries p + (if is_failed o then 1 else 0)) same (tries_are_counted p o few).1 in
       let one : ◌≡◌ {A = ℕ} (if is_failed o then 1 else 0) 1 = ap (λ (b : Bool). if b then 1 else 0) failed in
       let less : failed_tries (tried p o) ≤ failed_tries p + 1 = omega (arith, most, one) in
       inl (with_one (failed_tries p) (failed_tries (tried p o)) less rose paid)
-  rose_failed counted p o index at same failed few rose (inr (inl (paid, next))) =
+  rose_failed p o index at same failed few rose (inr (inl (paid, next))) =
       worn_failed p o index at failed (with_on (tries_of_done p) (tries_of_done p) (omega arith) paid) (next_worn p index at next)
-  rose_failed counted p o index at same failed few rose (inr (inr (other_index, has, is))) =
+  rose_failed p o index at same failed few rose (inr (inr (other_index, has, is))) =
       worn_stays p o other_index has (worn_on p other_index is)
 
   out_failed : (p : Program) (o : Outcome) (index : ℕ) → next_in p ≡ Some index → is_failed o ≡ true
@@ -208,14 +221,14 @@ module _ (of : ℕ → Bool) (c : Configuration) (worn other : Worn) (before now
       (with_on (tries_of_done p) (tries_of_done p) (omega arith) paid) out
   out_failed p o index at failed out (inr (inr (other_index, has, is))) = worn_stays p o other_index has (worn_on p other_index is)
 
-  pub tries_go_on : TriesAreCounted → (p : Program) (o : Outcome) (index : ℕ) → next_in p ≡ Some index
+  pub tries_go_on : (p : Program) (o : Outcome) (index : ℕ) → next_in p ≡ Some index
       → program.after p o ≡ tried p o → p.failures ≤ p.retries
       → (is_failed o ≡ true → Rose now.faults new.faults ⊎ IsWornOut other new.ops p index)
       → AreTriesPaid of c worn before now h p → AreTriesPaid of c other before new h (program.after p o)
-  tries_go_on counted p o index at same few cause paid = subst (AreTriesPaid of c other before new h) (sym same)
+  tries_go_on p o index at same few cause paid = subst (AreTriesPaid of c other before new h) (sym same)
       (elim (cases_Bool (is_failed o)) [
         | inl failed ↦ elim (cause failed) [
-          | inl rose ↦ rose_failed counted p o index at same failed few rose paid
+          | inl rose ↦ rose_failed p o index at same failed few rose paid
           | inr out ↦ out_failed p o index at failed out paid
         ]
         | inr fine ↦ tries_fine p o fine paid

@@ -21,15 +21,14 @@ use Rattle.block_machine.specs.StartUp.{listed_mark, found_instance}
 use Rattle.block_machine.specs.History.{MayStandIn}
 use Rattle.block_machine.specs.Steps.{step}
 use Rattle.block_machine.specs.Legal.{IsAllowed}
-use Rattle.block_laws.specs.Laws.{is_found, cell_by, CellsChange, FoundCells}
+use Rattle.block_laws.specs.Laws.{is_found, cell_by}
+use Rattle.block_laws.proofs.CellChanges.{cells_change, found_cells}
 use Rattle.promise_blocks.specs.Counts.{MayCountIn}
+use Rattle.memif.proofs.Turning.{none_in}
 use Rattle.nvm_device_laws.specs.Pairing.{MayHold, Allows, Agrees, Pairs, HasDoubt, IsStaged}
 use Rattle.nvm_device_laws.specs.Turn.{ListsSettled}
 
 -- ONE CELL AND ONE SLOT
-none_in : (h : Held) → Contains [] h → ⊥
-none_in h has = absurd (omega (arith, has.1))
-
 stands : (cell : Cell) (m n : Mark) → m ≡ n → MayStand cell m → MayStand cell n
 stands cell m n same is = subst (MayStand cell) same is
 
@@ -201,7 +200,7 @@ other_number a b other = elim (cases_Bool (same_instance (instance_of (record { 
 pub same_number : (a b : ℕ) → (a == b) ≡ true → same_instance (instance_of (record { 0 = b })) (instance_of (record { 0 = a })) ≡ true
 same_number a b is = let same : a ≡ b = grind (arith, nat_tests) in rw same (grind (arith, nat_tests))
 
-module _ (c : Configuration) (cap : ℕ) (s : State) (due : ℕ → ℕ) (numbers : List (DeviceNumber × ℕ)) (cells : CellsChange) where
+module _ (c : Configuration) (cap : ℕ) (s : State) (due : ℕ → ℕ) (numbers : List (DeviceNumber × ℕ)) where
   -- an entry that settles nothing leaves a fact on cells that a doubt more leaves
   abbrev StaysDoubted : (ℕ → Cell → Slot → Type 0) → Type 0
   StaysDoubted P = (n : ℕ) (cell : Cell) (more : Mark) (slot : Slot) → P n cell slot → P n (doubted more cell) slot
@@ -237,7 +236,7 @@ module _ (c : Configuration) (cap : ℕ) (s : State) (due : ℕ → ℕ) (number
   pairs_entry P stays e plain allowed (Some u) pairs = λ x has.
       let (y, at, is) = pairs x has in (
         record y { cell = cell_by c s (instance_of x.0) y.cell e },
-        cells c cap s e (instance_of x.0) y allowed (no_found e plain) at,
+        cells_change c cap s e (instance_of x.0) y allowed (no_found e plain) at,
         by_entry P stays (due x.0.0) e plain (instance_of x.0) y.cell (slot_at numbers u x.0.0) is,
       )
   pairs_entry P stays e plain allowed None pairs = absurd pairs
@@ -262,7 +261,7 @@ module _ (c : Configuration) (cap : ℕ) (s : State) (due : ℕ → ℕ) (number
       let e : Entry = Wrote (instance_of (record { 0 = number })) mark ops in
       let (y, at, is) = pairs x has in (
         record y { cell = cell_by c s (instance_of x.0) y.cell e },
-        cells c cap s e (instance_of x.0) y allowed refl at,
+        cells_change c cap s e (instance_of x.0) y allowed refl at,
         elim (cases_Bool (x.0.0 == number)) [
           | inl same ↦
               let now : SettlesAs mark (slot_at numbers u x.0.0) (slot_at numbers v x.0.0) = rw same at (each x.0.0) in
@@ -284,17 +283,17 @@ settled_counts numbers (Some slots) n = (slot_at numbers slots n).settled.count
 
 -- a start-up settles what it lists
 pub agrees_listed : (c : Configuration) (s : State) (numbers : List (DeviceNumber × ℕ))
-    (marks : List (Instance × Mark)) (ops : ℕ) → FoundCells → (o n : Option (List Slot))
+    (marks : List (Instance × Mark)) (ops : ℕ) (o n : Option (List Slot))
     → IfTold o n (λ u v. (i : ℕ) → (slot_at numbers v i).doubts ≡ []) → ListsSettled c marks numbers n
     → Pairs Agrees c (step c s (Found marks ops)) (settled_counts numbers n) numbers n
-agrees_listed c s numbers marks ops found (Some u) (Some v) clear lists = λ x has. (
+agrees_listed c s numbers marks ops (Some u) (Some v) clear lists = λ x has. (
   found_instance marks (instance_of x.0),
-  found c s marks ops x has,
+  found_cells c s marks ops x has,
   agrees_found
       (listed_mark marks (instance_of x.0)) (slot_at numbers v x.0.0) (lists x has) (clear x.0.0),
 )
-agrees_listed c s numbers marks ops found None (Some v) clear lists = absurd clear
-agrees_listed c s numbers marks ops found o None clear lists = absurd lists
+agrees_listed c s numbers marks ops None (Some v) clear lists = absurd clear
+agrees_listed c s numbers marks ops o None clear lists = absurd lists
 
 -- each map that is possible holds what may stand
 module _ (c : Configuration) (s : State) (due : ℕ → ℕ) (d : DeviceTold) (m : ℕ → Held) where

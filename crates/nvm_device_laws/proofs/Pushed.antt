@@ -22,7 +22,7 @@ use Rattle.promise_blocks.specs.Counts.{KeepsCounts, counts_in, count_due, last_
 use Rattle.promise_blocks.specs.Marks.{KeepsMarks, Lists, marks_in}
 use Rattle.promise_blocks.specs.Payment.{IsPaid}
 use Rattle.promise_blocks.specs.OverDevice.{KeepsOver, HasStarted, BeginsBefore, TellsAtMost, HasOffAt, is_off_at, is_of}
-use Rattle.nvm_device_laws.specs.Machine.{MachineLaws}
+use Rattle.block_laws.proofs.HistoryLaws.{histories_stay_legal, late_entries_are_cut_off, up_to_is_a_beginning}
 use Rattle.nvm_device_laws.specs.Pairing.{Allows, Pairs, IsFor}
 use Rattle.nvm_device_laws.specs.Turn.{Keeps, IsBase, IsTimed}
 use Rattle.nvm_device_laws.proofs.Pairings.{possible_stand, possible_count}
@@ -81,7 +81,7 @@ device_on c old new fixed is = record {
 tells_more : (n m : ℕ) (h : List Entry) → n ≤ m → TellsAtMost n h → TellsAtMost m h
 tells_more n m h le tells e ops has is = omega (arith, le, tells e ops has is)
 
-module _ (laws : MachineLaws) (c : Configuration) (cap : ℕ) (h : List Entry) (before : Part → PartTold) (old : DeviceTold)
+module _ (c : Configuration) (cap : ℕ) (h : List Entry) (before : Part → PartTold) (old : DeviceTold)
     (clock : Clock) (new : DeviceTold) (clock_new : Clock)
     (keeps : Keeps c cap h before old clock) (goes : Goes old clock new clock_new) where
   cut_called : HasStarted h ⊎ (new.ops ≡ old.ops) → (k : ℕ) (held : ℕ → Held) → k < last_count
@@ -90,7 +90,7 @@ module _ (laws : MachineLaws) (c : Configuration) (cap : ℕ) (h : List Entry) (
     | inl past ↦ keeps.over.cut k held small past (goes.past.cut k held past finds)
     | inr now ↦ elim started [
       | inl has ↦
-          keeps_up_to laws c cap h old.ops k held keeps.device.rules keeps.over.legal keeps.over.counted now
+          keeps_up_to c cap h old.ops k held keeps.device.rules keeps.over.legal keeps.over.counted now
           (possible_stand c (after c h) (count_due h keeps.base) old held old.slots (goes.cut k held now within finds) (keeps.marks has))
       | inr same ↦ absurd (omega (arith, now, within, same))
     ]
@@ -98,7 +98,7 @@ module _ (laws : MachineLaws) (c : Configuration) (cap : ℕ) (h : List Entry) (
 
   told_by : (k ops : ℕ) → last_found (up_to k h) ≡ Some ops → ops ≤ old.ops
   told_by k ops is =
-      let beginning = laws.beginning k h in
+      let beginning = up_to_is_a_beginning k h in
       last_found_within old.ops (up_to k h) ops
       (λ e n has told. keeps.over.counted e n (subst (λ (es : List Entry). Contains es e) (sym beginning.1) (Contains-append_left (up_to k h) beginning.0 e has)) told) is
 
@@ -111,7 +111,7 @@ module _ (laws : MachineLaws) (c : Configuration) (cap : ℕ) (h : List Entry) (
       | inl has ↦
           let last_now : last_found h ≡ Some ops = sym (found_up_to None old.ops k h keeps.over.counted now) ∙ last in
           let few : ops < last_count = omega (arith, told_by k ops last, now, small) in
-          counts_up_to laws c h old.ops k keeps.base found held keeps.over.counted now
+          counts_up_to c h old.ops k keeps.base found held keeps.over.counted now
           (keeps.based ops found last_now few (goes.past.after ops found (told_by k ops last) was))
           (possible_count c (after c h) (count_due h keeps.base) old held old.slots (goes.cut k held now within finds) (keeps.marks has))
       | inr same ↦ absurd (omega (arith, now, within, same))
@@ -176,7 +176,7 @@ begins_with h marks ops (inl started) begins = begins_push h (Found marks ops) s
 begins_with [] marks ops (inr none) begins = none
 begins_with (x ∷ es) marks ops (inr none) begins = begins_push (x ∷ es) (Found marks ops) tt begins
 
-module _ (laws : MachineLaws) (c : Configuration) (cap : ℕ) (h : List Entry) (before : Part → PartTold) (d : DeviceTold)
+module _ (c : Configuration) (cap : ℕ) (h : List Entry) (before : Part → PartTold) (d : DeviceTold)
     (clock : Clock) (e : Entry)
     (is : IsFor c d) (most : Most c cap h before d clock) (timed : IsTimed d e) (allowed : IsAllowed c cap (after c h) e) where
   abbrev pub NewFound : Type 0
@@ -188,11 +188,11 @@ module _ (laws : MachineLaws) (c : Configuration) (cap : ℕ) (h : List Entry) (
   most_pushed paid begins news =
       record {
         cut = λ k held small within finds.
-            let cut_off : up_to k (h ++ e ∷ []) ≡ up_to k h = laws.late k h e
+            let cut_off : up_to k (h ++ e ∷ []) ≡ up_to k h = late_entries_are_cut_off k h e
             (late_entry d e k timed within) in
             subst (λ (es : List Entry). KeepsMarks c es (marks_in held)) (sym cut_off) (most.cut k held small within finds);
         counts = λ k ops found held small within finds last was.
-            let cut_off : up_to k (h ++ e ∷ []) ≡ up_to k h = laws.late k h e
+            let cut_off : up_to k (h ++ e ∷ []) ≡ up_to k h = late_entries_are_cut_off k h e
             (late_entry d e k timed within) in
             subst (λ (es : List Entry). last_found es ≡ Some ops → KeepsCounts c es (counts_in found) (counts_in held)) (sym cut_off)
             (λ here. most.counts k ops found held small within finds here was) last;
@@ -200,7 +200,7 @@ module _ (laws : MachineLaws) (c : Configuration) (cap : ℕ) (h : List Entry) (
           | inl before_it ↦ most.found marks ops held before_it small finds
           | inr new ↦ news marks ops held new small finds
         ];
-        legal = laws.legal c cap h e most.legal allowed;
+        legal = histories_stay_legal c cap h e most.legal allowed;
         paid = paid;
         begins = begins;
         counted = λ x ops has tells. elim (Contains-push_cases h e x has) [
@@ -210,18 +210,17 @@ module _ (laws : MachineLaws) (c : Configuration) (cap : ℕ) (h : List Entry) (
       }
 
 -- THE END
-pub over_of : MachineLaws
-    → (c : Configuration) (cap : ℕ) (h : List Entry) (before : Part → PartTold) (d : DeviceTold) (clock : Clock)
+pub over_of : (c : Configuration) (cap : ℕ) (h : List Entry) (before : Part → PartTold) (d : DeviceTold) (clock : Clock)
     → IsFor c d → Most c cap h before d clock
     → (due : ℕ → ℕ) → (HasStarted h → Pairs Allows c (after c h) due d.fixed.numbers d.slots)
     → ((held : ℕ → Held) → clock.may_find (After d.ops) held → ArePossible d d.slots held)
     → ((k : ℕ) → clock.off_in k → HasOffAt h (next_count k)) → KeepsOver c cap h before d clock
-over_of laws c cap h before d clock is most due marks finds off = record {
+over_of c cap h before d clock is most due marks finds off = record {
   cut = most.cut;
   found = most.found;
   counts = most.counts;
   at_end = λ held started small now.
-      keeps_marks laws c cap h held is.rules most.legal
+      keeps_marks c cap h held is.rules most.legal
       (possible_stand c (after c h) due d held d.slots (finds held now) (marks started));
   legal = most.legal;
   paid = most.paid;

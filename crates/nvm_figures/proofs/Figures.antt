@@ -4,11 +4,12 @@ use Rattle.std.proofs.Common.{◌≡◌, inl, inr, ℕ, ◌+◌, ◌≤◌, suc,
 use Rattle.std.proofs.lemmas.Bool.{cases_Bool}
 use Rattle.memif.specs.declared.answer.DeviceRefusal.{DeviceRefusal}
 use Rattle.memif.specs.declared.answer.DeviceRefusal.TheVariants.{Busy}
-use Rattle.memif.specs.Told.{DeviceTold, Fixed, Part, First, Second, Stand, Open, Ended, Job, is_open, figures_at, most_of, most_open, op_of}
+use Rattle.memif.specs.Told.{DeviceTold, Fixed, Part, Stand, Open, Ended, Job, is_open, figures_at, most_of, most_open, op_of}
 use Rattle.memif.specs.Clock.{Clock}
-use Rattle.memif.specs.Calls.{Wish, AcceptsAs, Opens, IsCanceled, Works, JobTurns}
+use Rattle.memif.specs.Calls.{Wish, AcceptsAs, Opens, IsCanceled, JobTurns}
 use Rattle.block_machine.specs.Words.{JobKind, Outcome}
 use Rattle.job_programs.specs.Program.{Program, program_of, settles}
+use Rattle.memif.proofs.Turning.{works_fixed}
 use Rattle.nvm_figures.specs.Left.{ahead, over_unstarted, most_at, left_of_hand}
 use Rattle.nvm_figures.specs.Job.{program_next, hand_next}
 use Rattle.nvm_figures.specs.Laws.{TurnsLower, StartsDontRaise, CancelsDontRaise, PostsLower, PicksAreBounded, JobsAreBounded}
@@ -16,10 +17,6 @@ use Rattle.nvm_figures.proofs.Tries.{over_ahead, next_ahead, unstarted_fresh, st
 use Rattle.nvm_figures.proofs.Programs.{never_first, program_same}
 
 -- A TURN
-pub works_fixed : (q : Part) (old new : DeviceTold) (clock : Clock) → Works q old new clock → new.fixed ≡ old.fixed
-works_fixed First old new clock works = ap (λ (d : DeviceTold). d.fixed) works.only
-works_fixed Second old new clock works = ap (λ (d : DeviceTold). d.fixed) works.only
-
 -- no more is to be started behind it than before
 pub unstarted_less : (q : Part) (count : ℕ → ℕ) (p : Program) (a b : Stand) (old new : DeviceTold) (clock : Clock) → JobTurns q a b old new clock
     → over_unstarted count (program_next p a b) (is_open b) (ahead (program_next p a b)) ≤ over_unstarted count p (is_open a) (ahead p)

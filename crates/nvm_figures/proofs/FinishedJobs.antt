@@ -4,13 +4,13 @@ use Rattle.block_machine.specs.Words.{BlockKind, Native, Redundant, Dataset}
 use Rattle.block_machine.specs.Blocks.{indices_by}
 use Rattle.job_programs.specs.Program.{works}
 use Rattle.std.proofs.Common.{zero, suc, if◌then◌else◌, true, ap, sym, ◌≡◌, inl, inr, ℕ, ◌+◌, ◌≤◌, Bool, false, List, [], ◌∷◌, ◌++◌, length, min, length-append, refl, ◌∙◌, subst, Some, arith}
-use Rattle.std.proofs.Math.Nat.{eq-or-lt_of_le}
 use Rattle.std.specs.List.{Contains}
 use Rattle.block_machine.specs.nv_base.Count.{Rose, last_count}
 use Rattle.memif.specs.Told.{DeviceTold, Fixed, Part, First, Second, part_at, Stand, is_open}
 use Rattle.memif.specs.Clock.{Clock}
 use Rattle.memif.specs.Calls.{InOrder}
 use Rattle.memif.specs.Trials.{IsFaultless}
+use Rattle.memif.proofs.Turning.{rose_before, rose_since}
 use Rattle.job_programs.specs.Program.{Program, next_in}
 use Rattle.nvm_figures.specs.Left.{stack_left}
 use Rattle.nvm_figures.specs.Job.{IsSameJob, job_at}
@@ -23,16 +23,6 @@ use Rattle.nvm_figures.proofs.Figures.{picks_are_bounded}
 use Rattle.nvm_figures.proofs.OnTime.{picks_are_on_time}
 
 -- COUNTS OF FAULTS
-rose_before : (a b c : ℕ) → Rose a b → b ≤ c → Rose a c
-rose_before a b c (inl less) le = inl (omega arith)
-rose_before a b c (inr end) le = inr (end.0, omega (arith, end.1, le))
-
-rose_since : (a b c : ℕ) → a ≤ b → Rose b c → Rose a c
-rose_since a b c le (inl less) = inl (omega arith)
-rose_since a b c le (inr end) =
-    let up : a ≤ c = omega (arith, le, end.1) in
-    elim (eq-or-lt_of_le up) [ inl same ↦ inr (omega (arith, end.0, end.1, le, same), up) | inr less ↦ inl less ]
-
 pub calm_before : (begun old new : DeviceTold) → ((part : Part) → (part_at part old).faults ≤ (part_at part new).faults) → IsFaultless begun new → IsFaultless begun old
 calm_before begun old new grow calm = record {
   first = λ rose. calm.first (rose_before begun.first.faults old.first.faults new.first.faults rose (grow First));

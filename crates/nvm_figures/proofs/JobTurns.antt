@@ -16,9 +16,10 @@ use Rattle.memif.specs.Told.{DeviceTold, PartTold, Fixed, Part, First, Second, p
 use Rattle.memif.specs.Clock.{Clock}
 use Rattle.memif.specs.Calls.{AcceptsAs, Wish, Opens, Works, JobTurns, urgent_first}
 use Rattle.block_machine.specs.Words.{JobKind, Outcome}
-use Rattle.job_programs.specs.Failures.{TriesAreCounted}
 use Rattle.job_programs.specs.Program.{Program, operation, next_in, step_by, step_of, after}
 use Rattle.nvm_device_laws.specs.Outcomes.{outcome_by}
+use Rattle.job_programs.proofs.Failures.{tries_are_counted}
+use Rattle.memif.proofs.Turning.{works_rest, works_fixed}
 use Rattle.nvm_figures.specs.Left.{stack_left}
 use Rattle.nvm_figures.specs.Job.{IsOperation, job_at, program_next, wish_for}
 use Rattle.nvm_figures.specs.Drain.{hand_work}
@@ -27,7 +28,7 @@ use Rattle.nvm_figures.specs.Run.{JobTurnsKeep, IsStarted, IsUrgentWrite, IsInWo
 use Rattle.nvm_figures.specs.Finish.{IsPlaced, Begins, GoesOn, TurnsJob}
 use Rattle.nvm_figures.proofs.Programs.{program_same}
 use Rattle.nvm_figures.proofs.Tries.{next_ahead}
-use Rattle.nvm_figures.proofs.Figures.{works_fixed, was_closed, turns_lower, starts_dont_raise, opens_stand, opens_fixed}
+use Rattle.nvm_figures.proofs.Figures.{was_closed, turns_lower, starts_dont_raise, opens_stand, opens_fixed}
 use Rattle.nvm_figures.proofs.DrainWork.{left_fits, hand_work_less, start_adds_none}
 use Rattle.nvm_figures.proofs.OnTime.{starts_stay_on_time, turns_stay_on_time}
 
@@ -169,10 +170,6 @@ on_parts First old new here rest Second = omega (arith, ap (λ (t : PartTold). t
 on_parts Second old new here rest First = omega (arith, ap (λ (t : PartTold). t.faults) (rest First))
 on_parts Second old new here rest Second = here
 
-works_rest : (q : Part) (old new : DeviceTold) (clock : Clock) → Works q old new clock → (r : Part) → part_at r new ≡ part_at r (with_part q (part_at q new) old)
-works_rest q old new clock works First = ap (λ (d : DeviceTold). d.first) works.only
-works_rest q old new clock works Second = ap (λ (d : DeviceTold). d.second) works.only
-
 faults_grow : (q : Part) (old new : DeviceTold) (clock : Clock) → Works q old new clock → (r : Part) → (part_at r old).faults ≤ (part_at r new).faults
 faults_grow q old new clock works = on_parts q old new works.part.faults.faults (works_rest q old new clock works)
 
@@ -181,10 +178,10 @@ comes_to : (q : Part) (p : Program) (j : Job) (b : Stand) (mid new : DeviceTold)
 comes_to q p j (Open k) mid new clock turns = (turns.0, refl, turns.1)
 comes_to q p j (Ended r given) mid new clock turns = (refl, turns.0)
 
-next_tries : TriesAreCounted → (p : Program) (a b : Stand) → p.failures ≤ p.retries → (program_next p a b).failures ≤ (program_next p a b).retries
-next_tries counted p (Open j) (Open k) few = few
-next_tries counted p (Open j) (Ended r given) few = omega (arith, (counted p (outcome_by j.mark r) few).0, (program_same p (Open j) (Ended r given)).retries)
-next_tries counted p (Ended r given) b few = few
+next_tries : (p : Program) (a b : Stand) → p.failures ≤ p.retries → (program_next p a b).failures ≤ (program_next p a b).retries
+next_tries p (Open j) (Open k) few = few
+next_tries p (Open j) (Ended r given) few = omega (arith, (tries_are_counted p (outcome_by j.mark r) few).0, (program_same p (Open j) (Ended r given)).retries)
+next_tries p (Ended r given) b few = few
 
 turn_made : (content : List ℕ) (urgent : Bool) (p : Program) (old mid : DeviceTold) (q : Part) (new : DeviceTold) (clock : Clock)
     → IsReady content urgent p old mid → Works q mid new clock → IsTurnOf content urgent p old (program_next p mid.stand new.stand) new
@@ -200,14 +197,14 @@ turn_made content urgent p old mid q new clock ready works =
       comes = subst (λ (s : Stand). Comes p j mid (program_next p s new.stand) new new.stand) (sym ready.stand) (comes_to q p j new.stand mid new clock job);
     }
 
-pub job_turned : (counted : TriesAreCounted) (content : List ℕ) (urgent : Bool) (p : Program) (old mid : DeviceTold) (q : Part) (new : DeviceTold) (clock : Clock)
+pub job_turned : (content : List ℕ) (urgent : Bool) (p : Program) (old mid : DeviceTold) (q : Part) (new : DeviceTold) (clock : Clock)
     → p.failures ≤ p.retries → IsReady content urgent p old mid → Works q mid new clock → IsJobTurned content urgent p old (program_next p mid.stand new.stand) new
-job_turned counted content urgent p old mid q new clock few ready works = record {
+job_turned content urgent p old mid q new clock few ready works = record {
   made = turn_made content urgent p old mid q new clock ready works;
   faults = λ part. omega (arith, ap (λ (t : PartTold). t.faults) (ready.parts part), faults_grow q mid new clock works part);
   fixed = works_fixed q mid new clock works ∙ ready.fixed;
   same = program_same p mid.stand new.stand;
-  tries = next_tries counted p mid.stand new.stand few;
+  tries = next_tries p mid.stand new.stand few;
   left = elim (turns_lower new clock mid q (Some p) works) [
     | inl less ↦ inl (omega (arith, less, ready.left))
     | inr rose ↦ inr (q, subst (λ (t : PartTold). Rose t.faults (part_at q new).faults) (ready.parts q) rose)
@@ -222,9 +219,9 @@ job_turned counted content urgent p old mid q new clock few ready works = record
 }
 
 -- as a law of any turn of a device
-pub job_turns_keep : TriesAreCounted → (new : DeviceTold) (clock : Clock) → JobTurnsKeep new clock
-job_turns_keep counted new clock content urgent p index old begun q few next is works =
-    job_turned counted content urgent p old begun q new clock few (ready is) works
+pub job_turns_keep : (new : DeviceTold) (clock : Clock) → JobTurnsKeep new clock
+job_turns_keep new clock content urgent p index old begun q few next is works =
+    job_turned content urgent p old begun q new clock few (ready is) works
   where
     ready : IsStarted (job_at p index content urgent) old begun → IsReady content urgent p old begun
     ready (inl (same, stand)) = subst (λ (d : DeviceTold). IsReady content urgent p old d) (sym same)
@@ -253,14 +250,14 @@ placed_at p o instance is placed =
     )
 
 -- the start and the turn
-pub turns_job : (next : Option JobStep) (counted : TriesAreCounted) (content : List ℕ) (urgent : Bool) (p q : Program) (old mid new : DeviceTold) (clock : Clock)
+pub turns_job : (next : Option JobStep) (content : List ℕ) (urgent : Bool) (p q : Program) (old mid new : DeviceTold) (clock : Clock)
     → p.failures ≤ p.retries → IsReady content urgent p old mid → GoesOn next p mid q new clock → TurnsJob content urgent next p old q new
-turns_job None counted content urgent p q old mid new clock few ready (off, same, faults) = (
+turns_job None content urgent p q old mid new clock few ready (off, same, faults) = (
   off,
   same,
   λ part. omega (arith, ap (λ (t : PartTold). t.faults) (ready.parts part), faults part),
 )
-turns_job (Some step) counted content urgent p q old mid new clock few ready (is, same, (part, works)) = (
+turns_job (Some step) content urgent p q old mid new clock few ready (is, same, (part, works)) = (
   is,
-  subst (λ (x : Program). IsJobTurned content urgent p old x new) (sym same) (job_turned counted content urgent p old mid part new clock few ready works),
+  subst (λ (x : Program). IsJobTurned content urgent p old x new) (sym same) (job_turned content urgent p old mid part new clock few ready works),
 )

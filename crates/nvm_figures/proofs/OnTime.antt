@@ -8,12 +8,13 @@ use Rattle.memif.specs.Clock.{Clock}
 use Rattle.memif.specs.Calls.{Works, JobTurns, EndsAs, IsOf, is_first, urgent_first, IsPrompt, Nearer}
 use Rattle.job_programs.specs.Program.{Program, is_failed}
 use Rattle.nvm_device_laws.specs.Outcomes.{outcome_by}
+use Rattle.memif.proofs.Turning.{works_fixed}
 use Rattle.nvm_figures.specs.Left.{ahead}
 use Rattle.nvm_figures.specs.Job.{program_next}
 use Rattle.nvm_figures.specs.Urgent.{pages_of, untaken, pages_ahead, DoesntFail, PicksAreOnTime, TurnsKeepReady, StartsStayOnTime, TurnsStayOnTime, EndsAreOnTime}
 use Rattle.nvm_figures.proofs.Tries.{over_ahead, next_ahead, done_ahead}
 use Rattle.nvm_figures.proofs.Programs.{never_first, program_same}
-use Rattle.nvm_figures.proofs.Figures.{works_fixed, was_closed, opens_stand, opens_fixed, ahead_fresh}
+use Rattle.nvm_figures.proofs.Figures.{was_closed, opens_stand, opens_fixed, ahead_fresh}
 
 -- AT A PICK
 not_urgent : (f : Fixed) (s : Stand) → is_open s ≡ false → urgent_first f s ≡ false

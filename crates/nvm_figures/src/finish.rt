@@ -15,7 +15,6 @@ use crate::{JobSteps, outcome_of};
 use block_machine::nv_base::{
     DeviceNumber, DeviceOp, GivenFrom, Instance, JobStep, Outcome, ReqResult, number_of,
 };
-use job_programs::programs_count_their_failures;
 use memif::{DeviceRefusal, DeviceTurn, JobResult, MemDevice};
 
 /// How a job ended: as its program says, or as the power went off.
@@ -122,7 +121,6 @@ fn turn_job<D: MemDevice, P: JobSteps>(
     ensures turned { IfOk result (λ next. TurnsJob job.now.content.now job.now.urgent next (P.shown program.old) (D.told device.old) (P.shown program.new) (D.told device.new)) }
     ensures refused { IfErr result (λ r. Refuses r (wish_of (step_of (P.shown program.new)) job.now.length job.now.content.now job.now.urgent) (D.told device.new)) }
 {
-    programs_count_their_failures();
     begin_next(device, op, instance, job)?;
     Ok(go_on(device, program, op, instance, job))
 }

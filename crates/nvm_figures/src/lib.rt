@@ -6,15 +6,10 @@
 
 mod cases;
 mod counted;
-mod figure_laws;
 mod finish;
 mod job_steps;
 
 pub use cases::{left_cases, urgent_cases};
 pub use counted::{AtWork, turns_left};
-pub use figure_laws::{
-    picks_are_bounded, programs_are_small, runs_keep_figures, starts_keep_figures,
-    turns_keep_figures,
-};
 pub use finish::{Brought, Finish, JobEnd, finish_job};
 pub use job_steps::{JobSteps, outcome_of};

@@ -13,12 +13,9 @@ use Rattle.fee_core.specs.fls_model.Told.{Change}
 use Rattle.fls_devices.specs.Journal.{Harmed, HasPart, HaveParts, change_of, before_all, without_part, merged}
 use Rattle.fls_devices.specs.Part.{kept_page, part_of, off_of}
 use Rattle.fee_core.specs.promise_device.FlashRun.{HasSamePlace, AreSeen, StaysBack, next_bytes}
+use Rattle.fee_core.proofs.promise_device.FlashRun.{same_place, seen_all}
 
 -- THE SAME PLACES
-same_place : (op : Op) → HasSamePlace op op
-same_place (Program address page) = (refl, refl)
-same_place (Erase address n) = (refl, refl)
-
 length-kept : (keep : ℕ) (page : List ℕ) → length (kept_page keep page) ≡ length page
 length-kept keep page = simp (length-append, length-take, length-replicate) (omega arith)
 
@@ -59,10 +56,6 @@ next_merged g (e ∷ es) cs last =
     next_front e.since cs (merged g es (without_part e.reached (drop e.since cs)) last) (change_of g e (before_all (drop e.since cs) last)) last refl
 
 -- THE OPERATIONS
-seen_all : (kept : ℕ → Type 0) (k : ℕ) (last : List ℕ) (xs : List Change) → AreSeen kept k last xs xs
-seen_all kept k last [] = refl
-seen_all kept k last (x ∷ xs) = inl (same_place x.op, refl, inl refl, seen_all kept (k + 1) last xs)
-
 seen_front : (kept : ℕ → Type 0) (last : List ℕ) (n k : ℕ) (cs rest : List Change) → OffsKept kept k (take n cs ++ rest)
     → ((j : ℕ) → OffsKept kept j rest → AreSeen kept j last rest (drop n cs)) → AreSeen kept k last (take n cs ++ rest) cs
 seen_front kept last zero k cs rest offs more = more k offs

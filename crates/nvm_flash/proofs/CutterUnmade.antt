@@ -21,8 +21,8 @@ ops_within : (w a b : ℕ) → w ≡ 0 → ops_over b w ≡ ops_over a 0 → b �
 ops_within zero a b none same = same
 ops_within (suc w) a b none same = absurd (omega (arith, none))
 
-pub counts_stay : CountsStayWithin
-counts_stay inner cuts c only stay unplanned =
+pub counts_stay_within : CountsStayWithin
+counts_stay_within inner cuts c only stay unplanned =
     let own : c.flash.cuts ≡ 0 = omega (arith, stay.cuts, unplanned) in
     record { ops = ops_within c.flash.withheld inner.ops c.flash.inner.ops (only.none own) stay.ops; cuts = unplanned }
 
@@ -31,7 +31,7 @@ left : (inner : Told) (cuts : ℕ) (c : Cutting) (fault : AttachFault) (faults :
     → IsRefusal inner fault c.flash.inner → IsRefused inner fault c.flash.inner
 left inner cuts c fault faults only same why = record {
   bytes = sym (same_exit c) ∙ ap bytes_now same ∙ same_entry inner cuts;
-  counts = counts_stay inner cuts c only
+  counts = counts_stay_within inner cuts c only
       (record { ops = ap (λ (t : Told). t.ops) same; cuts = ap (λ (t : Told). t.cuts) same }) (ap (λ (t : Told). t.planning.unplanned) same);
   why = why;
 }

@@ -18,8 +18,6 @@ use Rattle.fee_core.specs.promise_device.Image.{attached}
 use Rattle.fee_core.specs.fee_told.Device.{Device, told_of}
 use Rattle.fee_core.specs.fee_told.Clock.{clock_of}
 use Rattle.fee_core.specs.fee_laws.Made.{IsMadeOf, part_at}
-use Rattle.nvm_flash.specs.CutterLaws.{DevicesBridge}
-use Rattle.nvm_flash.specs.CutterUnmade.{TellsWithin, CountsStayWithin}
 use Rattle.promise_run.specs.Run.{cap}
 use Rattle.nvm_core.specs.ram_blocks.declared.plain_block.PlainBlock.{PlainBlock}
 use Rattle.nvm_core.specs.ram_blocks.Plain.{plain_blocks_of}
@@ -32,29 +30,31 @@ use Rattle.nvm_flash.specs.declared.device.MakeFault.{MakeFault}
 use Rattle.nvm_flash.specs.declared.device.MakeFault.TheVariants.{Flash, Memory}
 use Rattle.nvm_flash.specs.Turns.{fixed_by}
 use Rattle.nvm_flash.specs.Made.{IsOrigin, IsCause, ComesBack, IsBack, AreOfFirst, IsMadeStack}
+use Rattle.nvm_flash.proofs.CutterRuns.{devices_bridge}
+use Rattle.nvm_flash.proofs.CutterUnmade.{counts_stay_within, tells_within}
 
 none_made : (n : ℕ) (xs : List Change) → n ≡ length xs → min n last_count ≡ 0 → xs ≡ []
 none_made n [] is none = refl
 none_made n (x ∷ xs) is none = absurd (omega (arith, is, none))
 
-pub back : DevicesBridge → TellsWithin → CountsStayWithin → (c : Configuration) (inner : Told) (cuts : ℕ) (making : Making) (entry exit : Told) (k : Cutting) (d : Device) → IsOrigin c inner cuts making entry → OnlyCuts k → exit ≡ k.flash.inner
+pub back : (c : Configuration) (inner : Told) (cuts : ℕ) (making : Making) (entry exit : Told) (k : Cutting) (d : Device) → IsOrigin c inner cuts making entry → OnlyCuts k → exit ≡ k.flash.inner
     → told_cutting k ≡ d.flash → IfSome (changes_in (told_cutting k).bytes) (λ changes. changes ≡ d.operations) → (d.operations ≡ [] → ((told_cutting k).ops ≡ entry.ops) × ((told_cutting k).cuts ≡ entry.cuts)) → entry.faults ≤ (told_cutting k).faults
     → AreOfFirst d → ((cutter : Bool) → Bridges making cutter (record { entry = entry; exit = told_cutting k; operations = d.operations }) (part_at entry) (told_of d) (clock_of d))
     → IsBack c inner exit (part_at entry) (told_of d) (clock_of d)
-back devices tells counts c inner cuts making entry exit k d origin only is_exit told changes none more parts bridge =
+back c inner cuts making entry exit k d origin only is_exit told changes none more parts bridge =
     subst (λ (e : Told). IsBack c inner exit (part_at e) (told_of d) (clock_of d)) (sym origin.over)
     (subst (λ (x : Told). IsBack c inner x (part_at (told_cutting (cutting inner cuts))) (told_of d) (clock_of d)) (sym is_exit) (record {
       operations = d.operations;
-      bridges = devices (making_of c) true inner cuts k d (part_at (told_cutting (cutting inner cuts))) only (record { told = told; changes = changes }) refl
+      bridges = devices_bridge (making_of c) true inner cuts k d (part_at (told_cutting (cutting inner cuts))) only (record { told = told; changes = changes }) refl
           (subst (λ (m : Making). Bridges m true (record { entry = told_cutting (cutting inner cuts); exit = told_cutting k; operations = d.operations }) (part_at (told_cutting (cutting inner cuts))) (told_of d) (clock_of d)) origin.made_for
           (subst (λ (e : Told). Bridges making true (record { entry = e; exit = told_cutting k; operations = d.operations }) (part_at e) (told_of d) (clock_of d)) origin.over (bridge true)));
       parts = parts;
-      faults = (tells k only).1 ∙ ap (λ t. t.faults) told;
-      more = let over = ap (λ t. t.faults) origin.over in let within = (tells k only).1 in omega (arith, over, within, more);
+      faults = (tells_within k only).1 ∙ ap (λ t. t.faults) told;
+      more = let over = ap (λ t. t.faults) origin.over in let within = (tells_within k only).1 in omega (arith, over, within, more);
       none = λ no_ops unplanned.
           let empty : d.operations ≡ [] = none_made (length d.operations) d.operations refl no_ops in
           let stays = none empty in
-          let within = counts inner cuts k only (record { ops = stays.0 ∙ ap (λ t. t.ops) origin.over; cuts = stays.1 ∙ ap (λ t. t.cuts) origin.over }) (ap (λ t. t.planning.unplanned) told ∙ unplanned) in
+          let within = counts_stay_within inner cuts k only (record { ops = stays.0 ∙ ap (λ t. t.ops) origin.over; cuts = stays.1 ∙ ap (λ t. t.cuts) origin.over }) (ap (λ t. t.planning.unplanned) told ∙ unplanned) in
           (empty, within.ops, within.cuts);
     }))
 

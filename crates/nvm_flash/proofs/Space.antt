@@ -21,7 +21,7 @@ all_more : (p : ℕ) (xs ys : List (DeviceNumber × ℕ)) → all_pages p (xs ++
 all_more p [] ys = omega arith
 all_more p (x ∷ xs) ys = let rest = all_more p xs ys in omega (arith, rest)
 
-greatest_more : (p : ℕ) (xs ys : List (DeviceNumber × ℕ)) → greatest p (xs ++ ys) ≡ max (greatest p xs) (greatest p ys)
+pub greatest_more : (p : ℕ) (xs ys : List (DeviceNumber × ℕ)) → greatest p (xs ++ ys) ≡ max (greatest p xs) (greatest p ys)
 greatest_more p [] ys = omega arith
 greatest_more p (x ∷ xs) ys = let rest = greatest_more p xs ys in omega (arith, rest)
 
@@ -39,7 +39,7 @@ range_length start zero = refl
 range_length start (suc n) = let rest = range_length (start + 1) n in grind (arith, rest)
 
 -- all of them
-all_blocks : (p id : ℕ) (bs : List BlockDesc) → all_pages p (lengths_from id bs) ≡ sum_by (λ b. instances_of b * size_of p b) bs
+pub all_blocks : (p id : ℕ) (bs : List BlockDesc) → all_pages p (lengths_from id bs) ≡ sum_by (λ b. instances_of b * size_of p b) bs
 all_blocks p id [] = refl
 all_blocks p id (b ∷ bs) =
     let one = all_of p id b.length (range_with_len 0 (instances_of b)) in
@@ -56,7 +56,7 @@ fold_grows : (f : BlockDesc → ℕ) (m n : ℕ) (bs : List BlockDesc) → m ≤
 fold_grows f m n [] less = less
 fold_grows f m n (b ∷ bs) less = fold_grows f (max m (f b)) (max n (f b)) bs (omega (arith, less))
 
-greatest_blocks : (p id : ℕ) (bs : List BlockDesc) → greatest p (lengths_from id bs) ≤ sizes.greatest (size_of p) bs
+pub greatest_blocks : (p id : ℕ) (bs : List BlockDesc) → greatest p (lengths_from id bs) ≤ sizes.greatest (size_of p) bs
 greatest_blocks p id [] = omega arith
 greatest_blocks p id (b ∷ bs) =
     let one = greatest_of p id b.length (range_with_len 0 (instances_of b)) in

@@ -5,7 +5,7 @@ use Rattle.fee_core.specs.nv_base.Geometry.{size_of}
 use Rattle.nvm_core.specs.block_config.Config.{Configuration}
 use Rattle.fee_core.specs.memif.Told.{PartTold, DeviceTold, First, figures_at}
 use Rattle.fee_core.specs.memif.Clock.{Clock}
-use Rattle.fee_core.specs.fls_model.Told.{Told, Change, bytes_now}
+use Rattle.fee_core.specs.fls_model.Told.{Told, Change}
 use Rattle.fee_core.specs.fls_model.declared.flash.AttachFault.{AttachFault}
 use Rattle.fee_core.specs.fls_model.declared.flash.AttachFault.TheVariants as attach
 use Rattle.fls_devices.specs.Cutter.{cutting, told_cutting}
@@ -15,7 +15,7 @@ use Rattle.fee_core.specs.fee_told.Device.{Device, told_of}
 use Rattle.fee_core.specs.fee_laws.Made.{IsMadeOf}
 use Rattle.nvm_core.specs.ram_blocks.declared.plain_block.PlainBlock.{PlainBlock}
 use Rattle.nvm_core.specs.ram_blocks.Plain.{plain_blocks_of}
-use Rattle.promise_run.specs.Run.{cap, LeavesFlash}
+use Rattle.promise_run.specs.Run.{cap, LeavesAlone, LeavesFlash}
 use Rattle.promise_run.specs.Promise.{making_of}
 use Rattle.nvm_core.specs.Stack.{StackState}
 use Rattle.nvm_flash.specs.Turns.{fixed_by}
@@ -28,13 +28,6 @@ pub record IsOrigin (c : Configuration) (inner : Told) (cuts : ℕ) (making : Ma
   pub over : entry ≡ told_cutting (cutting inner cuts)
 
 -- WITHOUT A START-UP
--- no changing operation, no fault and no cut was counted, and the bytes are as they were
-pub record LeavesAlone (s t : Told) : Type 0 where
-  pub bytes : bytes_now t ≡ bytes_now s
-  pub ops : t.ops ≡ s.ops
-  pub faults : t.faults ≡ s.faults
-  pub cuts : t.cuts ≡ s.cuts
-
 -- why it isn't made or started: the flash has another size than the configuration's, and is left alone; a fault of the flash;
 -- or want of memory
 abbrev pub IsCause : Configuration → MakeFault → Told → Told → Type 0

@@ -7,7 +7,6 @@ ghost use Rattle.fee_core.specs.fee_laws.Made.{part_at};
 ghost use Rattle.fee_core.specs.fls_model.Told.{Told};
 ghost use Rattle.nvm_flash.specs.Made.{IsBack, IsOrigin};
 
-use crate::{cuts_bridge, flash_stays};
 use fee_core::fls_model::Flash;
 use fee_core::{Fee, Origin};
 use fls_devices::Cutter;
@@ -16,7 +15,5 @@ use fls_devices::Cutter;
 pub fn give_back<F: Flash, O: Origin>(device: Fee<Cutter<F>, O>) -> F
     ensures { (c : Configuration) (inner : Told) (cuts : ℕ) → IsOrigin c inner cuts O.making O.entry → IsBack c inner (F.told result) (part_at O.entry) (told_of device) (clock_of device) }
 {
-    cuts_bridge();
-    flash_stays();
     device.into_flash().into_inner()
 }

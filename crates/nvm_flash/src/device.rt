@@ -6,7 +6,6 @@ ghost use Rattle.fee_core.specs.fee_laws.Made.{IsMadeOf};
 ghost use Rattle.nvm_flash.specs.Made.{AreOfFirst, ComesBack, IsOrigin, fault_of};
 ghost use Rattle.nvm_flash.specs.Turns.{fixed_by};
 
-use crate::flash_stays;
 use fee_core::fls_model::{AttachFault, Flash};
 use fee_core::{Fee, Origin};
 use fls_devices::Cutter;
@@ -35,7 +34,6 @@ pub fn make_device<F: Flash, O: Origin>(
     ensures legal { IsLegalConfig config.now }
     ensures stopped { IfErr result (λ e. ComesBack config.now e.0 (F.told flash) (F.told e.1)) }
 {
-    flash_stays();
     let geometry = config.geometry();
     let Ok(numbers) = config.lengths(alloc) else {
         return Err((MakeFault::Memory, flash));

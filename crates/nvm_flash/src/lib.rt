@@ -7,13 +7,10 @@
 #![tactic(auto)]
 
 mod back;
-mod cutter_laws;
 mod device;
 mod stack;
-mod turn_cases;
 
 pub use back::give_back;
-pub use cutter_laws::{cuts_bridge, flash_stays};
 pub use device::{MakeFault, make_device};
 pub use fee_core;
 pub use fee_core::{fee_image, fee_laws, fee_told, fls_model, memif, nv_base, promise_device};
@@ -25,4 +22,3 @@ pub use nvm_core::{
 };
 pub use promise_run;
 pub use stack::{FlashStack, make_stack, start_stack};
-pub use turn_cases::turns_of_jobs;

@@ -7,7 +7,7 @@ use Rattle.block_machine.specs.nv_base.Marks.{instance_of, listed}
 use Rattle.block_machine.specs.nv_base.declared.instance.DeviceNumber.{DeviceNumber}
 use Rattle.block_machine.specs.nv_base.declared.mark.Mark.TheVariants.{Content, Invalid, Erased}
 use Rattle.memif.specs.Told as device
-use Rattle.memif.specs.Told.{DeviceTold, PartTold, Slot, Held, Fixed, slot_at, Part}
+use Rattle.memif.specs.Told.{DeviceTold, PartTold, Slot, Fixed, slot_at, Part}
 use Rattle.memif.specs.Marks.{ComesFrom, IfTold}
 use Rattle.memif.specs.Clock.{Clock}
 use Rattle.block_machine.specs.block_config.Lengths.{lengths_of}
@@ -19,10 +19,12 @@ use Rattle.block_machine.specs.Steps.{after}
 use Rattle.block_machine.specs.History.{MayStandIn}
 use Rattle.block_machine.specs.Legal.{IsAllowed, IsFound, MayBeFound, marks_of, has_length}
 use Rattle.promise_blocks.specs.OverDevice.{HasStarted}
-use Rattle.block_laws.specs.Laws.{EntriesAreCounted, FoundMayStand}
 use Rattle.promise_blocks.specs.Counts.{count_due}
 use Rattle.nvm_device_laws.specs.Pairing.{Allows, Pairs}
-use Rattle.nvm_device_laws.specs.Turn.{Keeps, ListsSettled, down, IsBehind}
+use Rattle.nvm_device_laws.specs.Turn.{Keeps, ListsSettled, down}
+use Rattle.block_laws.proofs.HistoryLaws.{entries_are_counted}
+use Rattle.block_laws.proofs.OwnInstances.{found_may_stand}
+use Rattle.nvm_device_laws.proofs.Behind.{is_behind}
 use Rattle.nvm_found.specs.Found.{relisted, HasLength, IsListOf, AreHeld, Finds}
 use Rattle.nvm_found.proofs.BlockLengths.{own_length}
 
@@ -76,28 +78,28 @@ first_found : (c : Configuration) (h : List Entry) (marks : List (Instance × Ma
 first_found c [] marks later = tt
 first_found c (e ∷ es) marks later = later tt
 
-module _ (counted : EntriesAreCounted) (later : FoundMayStand) (c : Configuration) (cap : ℕ) (h : List Entry) (before : Part → PartTold)
+module _ (c : Configuration) (cap : ℕ) (h : List Entry) (before : Part → PartTold)
     (old : DeviceTold) (clock : Clock) (new : DeviceTold) (marks : List (Instance × Mark)) where
-  pub found_allowed : IsBehind old clock → Finds marks old new → IsSome old.slots → length h + 2 ≤ cap → Keeps c cap h before (down old) clock
+  pub found_allowed : Finds marks old new → IsSome old.slots → length h + 2 ≤ cap → Keeps c cap h before (down old) clock
       → IsAllowed c cap (after c h) (Found marks (device.ops_of new)) × ListsSettled c marks new.fixed.numbers new.slots
-  found_allowed behind finds told fits keeps =
+  found_allowed finds told fits keeps =
       let was = finds.up.restarted in
       let numbers : new.fixed.numbers ≡ old.fixed.numbers = ap (λ (f : Fixed). f.numbers) was.fixed in
       let configured : new.fixed.numbers ≡ lengths_of c = numbers ∙ keeps.device.numbers in
       let settled : ListsSettled c marks new.fixed.numbers new.slots =
       settled_list c marks new.fixed.numbers (λ u v. (i : ℕ) → ComesFrom (slot_at old.fixed.numbers u i) (slot_at old.fixed.numbers v i)) old.slots new.slots was.marks told configured finds.held in
       let listed_old : ListsSettled c marks old.fixed.numbers new.slots = subst (λ ns. ListsSettled c marks ns new.slots) numbers settled in
-      let (few, started) = behind c cap h before keeps in
+      let (few, started) = is_behind old clock c cap h before keeps in
       let now : device.ops_of new ≡ device.ops_of old = was.ops in
       let list : IsListOf (lengths_of c) marks = subst (λ ns. IsListOf ns marks) configured finds.lists in
       let whole : list_all (λ (x : Instance × Mark). has_length c x.0 x.1) (relisted marks (lengths_of c)) ≡ true =
       each_whole c marks (lengths_of c) list.lengths (λ x has. own_length c x keeps.device.rules has) in
       let allowed : IsFound c cap (after c h) marks (device.ops_of new) = record {
-        room = (let count = counted c h in omega (arith, count, fits));
+        room = (let count = entries_are_counted c h in omega (arith, count, fits));
         grows = omega (arith, few, now);
         lists = list.lists ∙ sym (relists marks (lengths_of c));
         lengths = ap (λ ms. list_all (λ (x : Instance × Mark). has_length c x.0 x.1) ms) list.lists ∙ whole;
-        stands = first_found c h marks (λ has. later c cap h marks keeps.over.legal (started has)
+        stands = first_found c h marks (λ has. found_may_stand c cap h marks keeps.over.legal (started has)
             (found_stands c (after c h) (count_due h keeps.base) marks old.fixed.numbers old.slots new.slots was.marks (keeps.marks has) listed_old));
       } in
       (allowed, settled)

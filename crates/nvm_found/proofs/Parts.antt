@@ -1,20 +1,16 @@
 -- What reads leave of a part and of what the numbers hold.
-use Rattle.std.proofs.Common.{◌≡◌, ℕ, ◌≤◌, false, List, [], ◌∷◌, Option, Some, None, refl, sym, ap, ◌∙◌, subst, inl, inr, arith}
+use Rattle.std.proofs.Common.{◌≡◌, ℕ, false, List, [], ◌∷◌, Option, Some, None, refl, sym, ap, ◌∙◌, subst, inl, inr, arith}
 use Rattle.std.specs.List.{Contains}
-use Rattle.block_machine.specs.nv_base.Count.{Rose}
 use Rattle.block_machine.specs.nv_base.Plan.{Planning, dropped, nearer, Nears}
 use Rattle.block_machine.specs.nv_base.declared.instance.DeviceNumber.{DeviceNumber}
 use Rattle.memif.specs.Told.{DeviceTold, PartTold, Slot, Held, Fixed, slot_at}
 use Rattle.memif.specs.Marks.{IsPossible, Keeps, ComesFrom, IfTold, KeepsAll, EachNumber}
 use Rattle.memif.specs.Calls.{FaultsGrow, PowersUp, PartTurns}
+use Rattle.memif.proofs.Turning.{none_in}
 use Rattle.nvm_found.specs.Found.{IsUp}
 use Rattle.nvm_found.specs.Reading.{PartReads}
 
 -- COUNTS OF FAULTS
-pub rose_since : (a b c : ℕ) → a ≤ b → Rose b c → Rose a c
-rose_since a b c le (inl lt) = inl (omega arith)
-rose_since a b c le (inr end) = grind (arith, end.0, end.1, le)
-
 pub grows_more : (a b c : PartTold) → FaultsGrow a b → FaultsGrow b c → FaultsGrow a c
 grows_more a b c one two = record {
   faults = omega (arith, one.faults, two.faults);
@@ -102,9 +98,6 @@ comes_more a b c one two = record {
   settled = subst (λ (h : Held). IsPossible a h) (sym two.settled) one.settled;
   doubts = λ h has. one.doubts h (two.doubts h has);
 }
-
-none_in : (h : Held) → Contains [] h → ⊥
-none_in h has = absurd (omega (arith, has.1))
 
 -- the doubts of a slot that has none stay none
 no_doubts : (l : List Held) → ((h : Held) → Contains l h → Contains [] h) → l ≡ []

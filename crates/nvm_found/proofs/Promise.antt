@@ -7,12 +7,11 @@ use Rattle.memif.specs.Told.{DeviceTold, Slot, Held, Fixed, slot_at, is_open}
 use Rattle.block_machine.specs.nv_base.Lengths.{AreLengths}
 use Rattle.memif.specs.Marks.{Keeps as KeepsSlot, IfTold}
 use Rattle.memif.specs.Clock.{Clock}
-use Rattle.block_machine.specs.Words.{Instance, Mark, Entry, Found, Configuration}
+use Rattle.block_machine.specs.Words.{Instance, Mark, Found, Configuration}
 use Rattle.block_machine.specs.Steps.{after}
 use Rattle.block_machine.specs.Legal.{IsAllowed}
-use Rattle.promise_blocks.specs.OverDevice.{HasStarted}
-use Rattle.block_laws.specs.Laws.{EntriesAreCounted, FoundMayStand}
-use Rattle.nvm_device_laws.specs.Turn.{Keeps, ListsSettled, StartUpsKeep, IsBehind}
+use Rattle.nvm_device_laws.specs.Turn.{Keeps, ListsSettled, StartUpsKeep}
+use Rattle.nvm_device_laws.proofs.Pushed.{started_push}
 use Rattle.nvm_found.specs.declared.place.Place.{Place}
 use Rattle.nvm_found.specs.Found.{IsUp, IsListOf, AreHeld, Finds, FindsKeep}
 use Rattle.nvm_found.specs.Places.{number_at, AreWhole, FirstHeld, marks_at, ReadsOn}
@@ -27,10 +26,6 @@ lists_before c marks numbers (Some u) (Some v) each lists = λ x has. lists x ha
 lists_before c marks numbers None (Some v) each lists = absurd each
 lists_before c marks numbers o None each lists = absurd lists
 
-started_with : (h : List Entry) (e : Entry) → HasStarted (h ++ e ∷ [])
-started_with [] e = tt
-started_with (x ∷ es) e = tt
-
 -- the reads keep what the start-up asks for
 pub ups_more : (old : DeviceTold) (clock : Clock) (mid : DeviceTold) (clock_mid : Clock) (new : DeviceTold) (clock_new : Clock)
     → StartUpsKeep (Ok tt) old clock mid clock_mid → ReadsOn mid clock_mid new clock_new → StartUpsKeep (Ok tt) old clock new clock_new
@@ -42,7 +37,7 @@ ups_more old clock mid clock_mid new clock_new ups reads c cap h before marks fi
     (subst (λ (n : ℕ). IsAllowed c cap (after c h) (Found marks n)) now allowed)
     (lists_before c marks mid.fixed.numbers mid.slots new.slots reads.marks (subst (λ ns. ListsSettled c marks ns new.slots) numbers lists)) keeps in
     subst (λ (n : ℕ). Keeps c cap (h ++ Found marks n ∷ []) before new clock_new) (sym now)
-    (reads.stays c cap (h ++ Found marks (device.ops_of mid) ∷ []) before (started_with h (Found marks (device.ops_of mid))) before_reads)
+    (reads.stays c cap (h ++ Found marks (device.ops_of mid) ∷ []) before (started_push h (Found marks (device.ops_of mid))) before_reads)
 
 pub on_ok : {T E : Type 0} (r : Result T E) {P Q : Type 0} → (P → Q) → OnOk r P → OnOk r Q
 on_ok (Ok v) f p = f p
@@ -52,11 +47,11 @@ pub any_ok : {T E : Type 0} (r : Result T E) {P : Type 0} → P → OnOk r P
 any_ok (Ok v) p = p
 any_ok (Err e) p = tt
 
-pub finds_keep : EntriesAreCounted → FoundMayStand → (old : DeviceTold) (clock : Clock) (new : DeviceTold) (clock_new : Clock)
-    (marks : List (Instance × Mark)) → IsBehind old clock → StartUpsKeep (Ok tt) old clock new clock_new → Finds marks old new
+pub finds_keep : (old : DeviceTold) (clock : Clock) (new : DeviceTold) (clock_new : Clock)
+    (marks : List (Instance × Mark)) → StartUpsKeep (Ok tt) old clock new clock_new → Finds marks old new
     → FindsKeep {E = List (DeviceNumber × ℕ)} (Ok marks) old clock new clock_new
-finds_keep counted later old clock new clock_new marks behind ups finds c cap h before told first fits keeps =
-    let (allowed, settled) = found_allowed counted later c cap h before old clock new marks behind finds told fits keeps in
+finds_keep old clock new clock_new marks ups finds c cap h before told first fits keeps =
+    let (allowed, settled) = found_allowed c cap h before old clock new marks finds told fits keeps in
     (allowed, ups c cap h before marks first allowed settled keeps)
 
 -- the marks of places are what was found

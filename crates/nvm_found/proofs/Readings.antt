@@ -11,19 +11,21 @@ use Rattle.memif.specs.declared.answer.JobResult.{JobResult}
 use Rattle.memif.specs.declared.answer.JobResult.TheVariants.{JobOk}
 use Rattle.memif.specs.declared.answer.StartFault.{StartFault}
 use Rattle.memif.specs.Told as device
-use Rattle.memif.specs.Told.{DeviceTold, PartTold, Fixed, Slot, Part, First, Second, part_at, Stand, Job, Open, Ended, is_open, nothing_open, length_of, slot_at}
+use Rattle.memif.specs.Told.{DeviceTold, Fixed, Slot, Part, First, Second, part_at, Stand, Job, Open, Ended, is_open, nothing_open, length_of, slot_at}
 use Rattle.memif.specs.Marks.{Keeps, KeepsAll, IfTold}
 use Rattle.memif.specs.Clock.{Clock, SameClock}
 use Rattle.memif.specs.Trials.{Lasts}
-use Rattle.memif.proofs.Turning.{lasts_more, still_lasts, same_lasts, turn_lasts}
+use Rattle.memif.proofs.Turning.{lasts_more, rose_since, same_lasts, still_lasts, turn_lasts}
 use Rattle.memif.specs.Calls.{PartTurns, Accepts, Opens, StartsUp, Turns, Works, JobTurns, EndsAs, Reads, ReadsAt, Gives, is_read, refusal_of}
 use Rattle.block_machine.specs.Words.{Entry}
 use Rattle.nvm_device_laws.specs.Turn.{Stays, StaysBy, StaysDown, TurnsKeep, settled_by, read_wish}
+use Rattle.nvm_device_laws.proofs.DeviceCalls.{read_stays, turn_keeps}
+use Rattle.nvm_device_laws.proofs.DownCalls.{read_down, turn_down}
 use Rattle.nvm_found.specs.Found.{IsRestarted, IsUp}
 use Rattle.nvm_found.specs.Places.{IsReady, ReadsOn, HasFault, ReadComesTo}
 use Rattle.nvm_found.specs.Reading.{PartReads, StandsAs, IsReading}
 use Rattle.nvm_found.proofs.PlaceLists.{own_test}
-use Rattle.nvm_found.proofs.Parts.{rose_since, part_same, part_turned, keeps_same, keeps_all_more, up_more}
+use Rattle.nvm_found.proofs.Parts.{part_same, part_turned, keeps_same, keeps_all_more, up_more}
 
 -- the turns of a read that are left, with one for its end
 abbrev pub reading_left : DeviceTold → ℕ
@@ -74,16 +76,17 @@ module _ (number size : ℕ) (old : DeviceTold) (clock : Clock) (new : DeviceTol
       }
 
   pub begins : (answer : Result (Unit {0}) DeviceRefusal) → IsReady old → length_of old.fixed.numbers number ≡ Some size
-      → Accepts (read_wish number size) answer old clock new clock_new → Stays old clock new clock_new
-      → StaysDown old clock new clock_new → IsReading number size old clock new clock_new
-  begins (Err r) ready configured accepts stays down = absurd (taken number size old r ready configured accepts.0.0)
-  begins (Ok u) ready configured accepts stays down =
+      → Accepts (read_wish number size) answer old clock new clock_new → IsReading number size old clock new clock_new
+  begins (Err r) ready configured accepts = absurd (taken number size old r ready configured accepts.0.0)
+  begins (Ok u) ready configured accepts =
       let opens = accepts.0.1 in
       record {
         started = ap (λ (d : DeviceTold). d.started) opens.only ∙ ready.started;
         first_on = ap (λ (d : DeviceTold). d.first.off) opens.only ∙ ready.first_on;
         second_on = ap (λ (d : DeviceTold). d.second.off) opens.only ∙ ready.second_on;
-        reads = opened opens accepts.1.same stays down;
+        reads = opened opens accepts.1.same
+            (read_stays old clock new clock_new (read_wish number size) (Ok u) refl accepts)
+            (read_down old clock new clock_new (read_wish number size) (Ok u) refl accepts);
         stand = subst (λ (s : Stand). StandsAs number size old new s) (sym (ap (λ (d : DeviceTold). d.stand) opens.only)) (refl, refl);
       }
 
@@ -196,17 +199,16 @@ module _ (number size : ℕ) (begun : DeviceTold) (clock_begun : Clock) (old : D
         ];
       }
 
-  pub goes_on : (answer : DeviceTurn) → Turns answer old clock new clock_new
-      → TurnsKeep answer old clock new clock_new → (is_read old.stand ≡ true → StaysDown old clock new clock_new)
-      → IsReading number size begun clock_begun new clock_new
-  goes_on answer turns keeps down =
+  pub goes_on : (answer : DeviceTurn) → Turns answer old clock new clock_new → IsReading number size begun clock_begun new clock_new
+  goes_on answer turns =
       let (p, works, work) = worked answer turns in
-      let stays = stays_by (subst (λ (a : DeviceTurn). TurnsKeep a old clock new clock_new) work keeps) in
+      let stays = stays_by (subst (λ (a : DeviceTurn). TurnsKeep a old clock new clock_new) work (turn_keeps old clock new clock_new answer turns)) in
+      let down = turn_down old clock new clock_new answer turns is_reading in
       record {
         started = works_started old new clock_new p works ∙ so.started;
         first_on = (first_reads old new clock_new p works is_reading).off ∙ so.first_on;
         second_on = (second_reads old new clock_new p works is_reading).off ∙ so.second_on;
-        reads = reads_more begun clock_begun old clock new clock_new so.reads (works_on old new clock_new p clock works is_reading stays (down is_reading) (turn_lasts answer old clock new clock_new turns).0);
+        reads = reads_more begun clock_begun old clock new clock_new so.reads (works_on old new clock_new p clock works is_reading stays down (turn_lasts answer old clock new clock_new turns).0);
         stand = turned_to p new.stand works (subst (λ (s : Stand). JobTurns p s new.stand old new clock_new) is works.job);
       }
 
@@ -228,8 +230,7 @@ open_job (Ended outcome given) on = cc
 
 pub turns_on : (number size : ℕ) (begun : DeviceTold) (clock_begun : Clock) (old : DeviceTold) (clock : Clock) (new : DeviceTold) (clock_new : Clock)
     → IsReading number size begun clock_begun old clock → length_of begun.fixed.numbers number ≡ Some size → is_open old.stand ≡ true
-    → (answer : DeviceTurn) → Turns answer old clock new clock_new → TurnsKeep answer old clock new clock_new
-    → (is_read old.stand ≡ true → StaysDown old clock new clock_new) → IsReading number size begun clock_begun new clock_new
+    → (answer : DeviceTurn) → Turns answer old clock new clock_new → IsReading number size begun clock_begun new clock_new
 turns_on number size begun clock_begun old clock new clock_new so configured on =
     let (j, is) = open_job old.stand on in
     goes_on number size begun clock_begun old clock new clock_new so configured j is

@@ -10,10 +10,8 @@ ghost use Rattle.nvm_found.specs.Found.{FailsToFind, Finds, FindsKeep, IsRestart
 ghost use Rattle.nvm_found.specs.Places.{FirstHeld, AreWhole, HasFault, IsReady, IsWhole, ReadsOn, listed_at, marks_at, number_at};
 
 use crate::place::{Place, places_of};
-use block_laws::{histories_grow, what_is_found_is_settled};
 use block_machine::nv_base::{Lengths, Mark, Marks, MarksRoom, instance_of};
 use memif::{MemDevice, PlainMark, StartFault};
-use nvm_device_laws::{start_up, the_machine_is_behind};
 use std::alloc::{AllocError, Global};
 use std::marker::Model;
 
@@ -58,9 +56,6 @@ impl FoundRoom {
         ensures lasts { Lasts (D.told device.old) (D.clock device.old) (D.told device.new) (D.clock device.new) }
         ensures keeps { FindsKeep result (D.told device.old) (D.clock device.old) (D.told device.new) (D.clock device.new) }
     {
-        histories_grow();
-        what_is_found_is_settled();
-        the_machine_is_behind(device);
         let FoundRoom { mut places, marks } = self;
         let answer = find_all(device, &mut places);
         let _left = device.left();
@@ -87,7 +82,7 @@ fn find_all<D: MemDevice>(device: &mut D, places: &mut [Place]) -> Result<(), St
     ensures down { StaysDown (D.told device.old) (D.clock device.old) (D.told device.new) (D.clock device.new) }
     ensures lasts { Lasts (D.told device.old) (D.clock device.old) (D.told device.new) (D.clock device.new) }
 {
-    start_up(device)?;
+    device.start()?;
     read_all(device, places)
 }
 

@@ -5,7 +5,6 @@ ghost use Rattle.nvm_found.specs.Places.{IsReady, ReadComesTo, ReadsOn};
 
 use block_machine::nv_base::DeviceNumber;
 use memif::{JobResult, MemDevice};
-use nvm_device_laws::{start_read, turn};
 
 /// Reads the content of a number at a device that was started up, and tells what the read came to.
 pub(crate) fn read<D: MemDevice>(device: &mut D, number: DeviceNumber, length: u16) -> JobResult
@@ -15,9 +14,9 @@ pub(crate) fn read<D: MemDevice>(device: &mut D, number: DeviceNumber, length: u
     ensures reads { ReadsOn (D.told device.old) (D.clock device.old) (D.told device.new) (D.clock device.new) }
     ensures outcome { ReadComesTo number.0 length (D.told device.old) result (given_by (D.told device.new).stand) (D.told device.new) }
 {
-    let _taken = start_read(device, number, length);
+    let _taken = device.start_read(number, length);
     while is_pending(device) {
-        turn(device);
+        device.turn();
     }
     device.result()
 }

@@ -10,13 +10,14 @@ use Rattle.block_machine.specs.Blocks.{asked_block, block_at, is_pending, job_bl
 use Rattle.block_machine.specs.Next.{first_of_two, next_in}
 use Rattle.block_machine.specs.Reply.{reply_of}
 use Rattle.block_machine.specs.Steps.{step, changed, accepted_by, asked, job_at}
-use Rattle.block_laws.specs.Laws.{HistoriesStep, EntriesAreCounted, NextIsWaiting}
 use Rattle.nv_desk.specs.Desk.{DeskState, state_of}
 use Rattle.nv_desk.specs.Sound.{IsPendingJob}
 use Rattle.job_progress.specs.Hand.{HandState}
-use Rattle.job_progress.specs.Asks.{PendingStay}
+use Rattle.block_laws.proofs.HistoryLaws.{histories_step, entries_are_counted}
+use Rattle.job_progress.proofs.Asking.{pending_stay}
+use Rattle.block_laws.proofs.NextLaws.{next_is_waiting}
 use Rattle.nvm_laws.specs.Due.{IsDue, IsDueInHand, IsDueNext, pages_now, post_first}
-use Rattle.nvm_laws.specs.DueLaws.{AcceptedAreDue, AreReplied, AsksKeepDue, NextIsPending, PlansKeepDue, RequestsKeepDue, RequestsKeepDueInHand, IsUrgentRequest, with_entries}
+use Rattle.nvm_laws.specs.DueLaws.{AcceptedAreDue, AreReplied, AsksKeepDue, PlansKeepDue, RequestsKeepDue, RequestsKeepDueInHand, IsUrgentRequest, with_entries}
 use Rattle.nvm_laws.proofs.DueOrder.{next_with, stays_first, comes_first}
 use Rattle.nvm_laws.proofs.DueBlocks.{added, status_index, same_pages}
 
@@ -58,9 +59,9 @@ longer : {X : Type 0} (xs : List X) (x : X) → length (xs ++ x ∷ []) ≡ leng
 longer xs x = length-append xs (x ∷ [])
 
 -- A REQUEST MORE
-module _ (steps : HistoriesStep) (counted : EntriesAreCounted) (stay : PendingStay) (desk : DeskState) (hand : Option HandState) (d : DeviceTold) (caller : ℕ) (r : Request) (reply : Reply) where
+module _ (desk : DeskState) (hand : Option HandState) (d : DeviceTold) (caller : ℕ) (r : Request) (reply : Reply) where
   state_is : state_of (added (Ask caller r reply) desk) ≡ step desk.config (state_of desk) (Ask caller r reply)
-  state_is = steps desk.config desk.entries (Ask caller r reply)
+  state_is = histories_step desk.config desk.entries (Ask caller r reply)
 
   held_is : (state_of (added (Ask caller r reply) desk)).hand ≡ (state_of desk).hand
   held_is = ap (λ (t : State). t.hand) state_is ∙ (asked_beside desk.config (state_of desk) r reply).0
@@ -76,14 +77,14 @@ module _ (steps : HistoriesStep) (counted : EntriesAreCounted) (stay : PendingSt
       → pages_now (added (Ask caller r reply) desk) d.fixed id ≡ pages_now desk d.fixed id
   pages_stay id is pending =
       let block : block_at (state_of (added (Ask caller r reply) desk)) id ≡ block_at (state_of desk) id =
-      ap (λ (t : State). block_at t id) state_is ∙ stay desk.config desk.cap (state_of desk) caller r reply id is pending in
+      ap (λ (t : State). block_at t id) state_is ∙ pending_stay desk.config desk.cap (state_of desk) caller r reply id is pending in
       same_pages desk.config (state_of desk) (state_of (added (Ask caller r reply) desk)) d.fixed id (ap (λ (b : BlockState). b.index) block)
 
   -- its block stays PENDING
   status_stays : (id : ℕ) → reply ≡ reply_of desk.config desk.cap (state_of desk) r → is_pending (status_of (state_of desk) id) ≡ true
       → is_pending (status_of (state_of (added (Ask caller r reply) desk)) id) ≡ true
   status_stays id is pending =
-      ap (λ (t : State). is_pending (status_of t id)) state_is ∙ ap (λ (b : BlockState). is_pending b.status) (stay desk.config desk.cap (state_of desk) caller r reply id is pending) ∙ pending
+      ap (λ (t : State). is_pending (status_of t id)) state_is ∙ ap (λ (b : BlockState). is_pending b.status) (pending_stay desk.config desk.cap (state_of desk) caller r reply id is pending) ∙ pending
 
   next_stays : (number turns : ℕ) → reply ≡ reply_of desk.config desk.cap (state_of desk) r → (due : IsDueNext number turns (record { desk = desk; hand = hand; device = d }))
       → is_pending (status_of (state_of desk) (job_block due.job)) ≡ true
@@ -92,7 +93,7 @@ module _ (steps : HistoriesStep) (counted : EntriesAreCounted) (stay : PendingSt
   next_stays number turns is due pending =
       let pages : pages_now (added (Ask caller r reply) desk) d.fixed (job_block due.job) ≡ pages_now desk d.fixed (job_block due.job) = pages_stay (job_block due.job) is pending in
       let count : length (desk.entries ++ Ask caller r reply ∷ []) ≡ length desk.entries + 1 = longer desk.entries (Ask caller r reply) in
-      let all : (state_of desk).count ≡ length desk.entries = counted desk.config desk.entries in
+      let all : (state_of desk).count ≡ length desk.entries = entries_are_counted desk.config desk.entries in
       let less : due.job.number < (state_of desk).count = omega (arith, all, due.earlier, due.is.accepted) in (
         record {
           job = due.job;
@@ -125,13 +126,13 @@ module _ (steps : HistoriesStep) (counted : EntriesAreCounted) (stay : PendingSt
       let own : IsPendingJob desk.config (state_of desk) due.job = rw due.next at pending in inl (next_stays number turns is due own.pending).0
   due_stays number turns is pending (inr due) = inr (held_stays number turns due)
 
-pub asks_keep_due : HistoriesStep → EntriesAreCounted → PendingStay → AsksKeepDue
-asks_keep_due steps counted stay desk new hand d caller r reply number turns adds is pending due =
+pub asks_keep_due : AsksKeepDue
+asks_keep_due desk new hand d caller r reply number turns adds is pending due =
     subst (λ (x : DeskState). IsDue number turns (record { desk = x; hand = hand; device = d })) (sym adds)
-    (due_stays steps counted stay desk hand d caller r reply number turns is pending due)
+    (due_stays desk hand d caller r reply number turns is pending due)
 
 -- ANY NUMBER OF REQUESTS
-module _ (steps : HistoriesStep) (counted : EntriesAreCounted) (stay : PendingStay) (hand : Option HandState) (d : DeviceTold) (number turns : ℕ) where
+module _ (hand : Option HandState) (d : DeviceTold) (number turns : ℕ) where
   none_more : (desk : DeskState) → desk ≡ with_entries desk []
   none_more desk = ap (λ (h : List Entry). record desk { entries = h }) (sym (append-nil desk.entries))
 
@@ -140,14 +141,14 @@ module _ (steps : HistoriesStep) (counted : EntriesAreCounted) (stay : PendingSt
 
   replied_on : (desk : DeskState) (caller : ℕ) (r : Request) (reply : Reply) (es : List Entry) → AreReplied desk.config desk.cap (step desk.config (state_of desk) (Ask caller r reply)) es
       → AreReplied desk.config desk.cap (state_of (added (Ask caller r reply) desk)) es
-  replied_on desk caller r reply es are = subst (λ (s : State). AreReplied desk.config desk.cap s es) (sym (steps desk.config desk.entries (Ask caller r reply))) are
+  replied_on desk caller r reply es are = subst (λ (s : State). AreReplied desk.config desk.cap s es) (sym (histories_step desk.config desk.entries (Ask caller r reply))) are
 
   pub many_held : (desk : DeskState) (more : List Entry) → AreReplied desk.config desk.cap (state_of desk) more
       → IsDueInHand number turns (record { desk = desk; hand = hand; device = d }) → IsDueInHand number turns (record { desk = with_entries desk more; hand = hand; device = d })
   many_held desk [] are due = subst (λ (x : DeskState). IsDueInHand number turns (record { desk = x; hand = hand; device = d })) (none_more desk) due
   many_held desk (Ask caller r reply ∷ es) are due =
       subst (λ (x : DeskState). IsDueInHand number turns (record { desk = x; hand = hand; device = d })) (one_more desk (Ask caller r reply) es)
-      (many_held (added (Ask caller r reply) desk) es (replied_on desk caller r reply es are.1) (held_stays steps counted stay desk hand d caller r reply number turns due))
+      (many_held (added (Ask caller r reply) desk) es (replied_on desk caller r reply es are.1) (held_stays desk hand d caller r reply number turns due))
   many_held desk (e ∷ es) are due = absurd are
 
   pub many_next : (desk : DeskState) (more : List Entry) → AreReplied desk.config desk.cap (state_of desk) more
@@ -155,18 +156,18 @@ module _ (steps : HistoriesStep) (counted : EntriesAreCounted) (stay : PendingSt
       → IsDueNext number turns (record { desk = with_entries desk more; hand = hand; device = d })
   many_next desk [] are due pending = subst (λ (x : DeskState). IsDueNext number turns (record { desk = x; hand = hand; device = d })) (none_more desk) due
   many_next desk (Ask caller r reply ∷ es) are due pending =
-      let next = next_stays steps counted stay desk hand d caller r reply number turns are.0 due pending in
+      let next = next_stays desk hand d caller r reply number turns are.0 due pending in
       subst (λ (x : DeskState). IsDueNext number turns (record { desk = x; hand = hand; device = d })) (one_more desk (Ask caller r reply) es)
       (many_next (added (Ask caller r reply) desk) es (replied_on desk caller r reply es are.1) next.0 next.1)
   many_next desk (e ∷ es) are due pending = absurd are
 
-pub requests_keep_due : HistoriesStep → EntriesAreCounted → PendingStay → RequestsKeepDue
-requests_keep_due steps counted stay desk hand d more number turns are pending (inl due) =
-    inl (many_next steps counted stay hand d number turns desk more are due (rw due.next at pending))
-requests_keep_due steps counted stay desk hand d more number turns are pending (inr due) = inr (many_held steps counted stay hand d number turns desk more are due)
+pub requests_keep_due : RequestsKeepDue
+requests_keep_due desk hand d more number turns are pending (inl due) =
+    inl (many_next hand d number turns desk more are due (rw due.next at pending))
+requests_keep_due desk hand d more number turns are pending (inr due) = inr (many_held hand d number turns desk more are due)
 
-pub requests_keep_held : HistoriesStep → EntriesAreCounted → PendingStay → RequestsKeepDueInHand
-requests_keep_held steps counted stay desk hand d more number turns are due = many_held steps counted stay hand d number turns desk more are due
+pub requests_keep_due_in_hand : RequestsKeepDueInHand
+requests_keep_due_in_hand desk hand d more number turns are due = many_held hand d number turns desk more are due
 
 -- ONE THAT IS ACCEPTED
 first_true : (a b : Bool) → (a && b) ≡ true → a ≡ true
@@ -194,19 +195,19 @@ standard_hand c (Some h) jobs all = (
   second_true (not (rank_of c h).immediate) (list_all (λ j. not (rank_of c j).immediate) jobs) all,
 )
 
-standard_next : NextIsWaiting → (c : Configuration) (jobs : List Job) → list_all (λ j. not (rank_of c j).immediate) jobs ≡ true → (x : Job) → next_in c jobs ≡ Some x
+standard_next : (c : Configuration) (jobs : List Job) → list_all (λ j. not (rank_of c j).immediate) jobs ≡ true → (x : Job) → next_in c jobs ≡ Some x
     → (rank_of c x).immediate ≡ false
-standard_next waits c jobs all x next =
-    let (before, after, is) = waits c jobs x next in
+standard_next c jobs all x next =
+    let (before, after, is) = next_is_waiting c jobs x next in
     not_true (rank_of c x).immediate
     (one_of (λ j. not (rank_of c j).immediate) before x after (subst (λ (xs : List Job). list_all (λ j. not (rank_of c j).immediate) xs ≡ true) is all))
 
-module _ (steps : HistoriesStep) (counted : EntriesAreCounted) (waits : NextIsWaiting) (desk : DeskState) (hand : Option HandState) (d : DeviceTold) (caller block : ℕ) (content : Option (List ℕ)) (store : ℕ) where
+module _ (desk : DeskState) (hand : Option HandState) (d : DeviceTold) (caller block : ℕ) (content : Option (List ℕ)) (store : ℕ) where
   write_due : IsUrgentRequest (Write block content store) (record { desk = desk; hand = hand; device = d })
       → IsDue (length desk.entries) (pages_now desk d.fixed block + 4 + post_first hand) (record { desk = added (Ask caller (Write block content store) Accepted) desk; hand = hand; device = d })
   write_due urgent =
       let request = Write block content store in
-      let behind : state_of (added (Ask caller request Accepted) desk) ≡ step desk.config (state_of desk) (Ask caller request Accepted) = steps desk.config desk.entries (Ask caller request Accepted) in
+      let behind : state_of (added (Ask caller request Accepted) desk) ≡ step desk.config (state_of desk) (Ask caller request Accepted) = histories_step desk.config desk.entries (Ask caller request Accepted) in
       let count : length (desk.entries ++ Ask caller request Accepted ∷ []) ≡ length desk.entries + 1 = longer desk.entries (Ask caller request Accepted) in
       let standard = standard_hand desk.config (state_of desk).hand (state_of desk).waiting urgent.alone in
       let index : (block_at (state_of (added (Ask caller request Accepted) desk)) block).index ≡ (block_at (state_of desk) block).index =
@@ -217,27 +218,27 @@ module _ (steps : HistoriesStep) (counted : EntriesAreCounted) (waits : NextIsWa
       inl (record {
         job = job;
         is = record {
-          accepted = counted desk.config desk.entries;
+          accepted = entries_are_counted desk.config desk.entries;
           urgent = record { is_urgent = urgent.immediate; is_write = refl; of_first = urgent.of_first };
         };
         earlier = omega (arith, count);
         next = ap (λ (t : State). next_in desk.config t.waiting) behind ∙ next_with desk.config (state_of desk).waiting job
-            ∙ comes_first desk.config (next_in desk.config (state_of desk).waiting) job urgent.immediate (standard_next waits desk.config (state_of desk).waiting standard.1);
+            ∙ comes_first desk.config (next_in desk.config (state_of desk).waiting) job urgent.immediate (standard_next desk.config (state_of desk).waiting standard.1);
         standard = subst (λ (o : Option Job). IfSome o (λ h. (rank_of desk.config h).immediate ≡ false)) (sym (ap (λ (t : State). t.hand) behind)) standard.0;
         ready = omega (arith, pages, urgent.ready);
         within = omega (arith, pages);
       })
 
-accepted_due : HistoriesStep → EntriesAreCounted → NextIsWaiting → (desk : DeskState) (hand : Option HandState) (d : DeviceTold) (caller : ℕ) (r : Request)
+accepted_due : (desk : DeskState) (hand : Option HandState) (d : DeviceTold) (caller : ℕ) (r : Request)
     → IsUrgentRequest r (record { desk = desk; hand = hand; device = d })
     → IsDue (length desk.entries) (pages_now desk d.fixed (asked_block r) + 4 + post_first hand) (record { desk = added (Ask caller r Accepted) desk; hand = hand; device = d })
-accepted_due steps counted waits desk hand d caller (Write block content store) urgent = write_due steps counted waits desk hand d caller block content store urgent
-accepted_due steps counted waits desk hand d caller r urgent = let never = urgent.immediate in cc
+accepted_due desk hand d caller (Write block content store) urgent = write_due desk hand d caller block content store urgent
+accepted_due desk hand d caller r urgent = let never = urgent.immediate in cc
 
-pub accepted_are_due : HistoriesStep → EntriesAreCounted → NextIsWaiting → AcceptedAreDue
-accepted_are_due steps counted waits desk new hand d caller r adds urgent =
+pub accepted_are_due : AcceptedAreDue
+accepted_are_due desk new hand d caller r adds urgent =
     subst (λ (x : DeskState). IsDue (length desk.entries) (pages_now desk d.fixed (asked_block r) + 4 + post_first hand) (record { desk = x; hand = hand; device = d })) (sym adds)
-    (accepted_due steps counted waits desk hand d caller r urgent)
+    (accepted_due desk hand d caller r urgent)
 
 -- THE PLAN OF A POWER CUT
 -- a device in whose place another stands that serves urgent writes alike

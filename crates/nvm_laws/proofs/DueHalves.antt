@@ -5,26 +5,27 @@ use Rattle.block_machine.specs.nv_base.Count.{Rose}
 use Rattle.memif.specs.declared.answer.JobResult.{JobResult}
 use Rattle.memif.specs.declared.answer.JobResult.TheVariants.{JobOk, JobFailed, JobPending, JobCanceled, BlockInconsistent, BlockInvalid}
 use Rattle.memif.specs.Told as device
-use Rattle.memif.specs.Told.{DeviceTold, Part, First, Second, Stand, Open, is_open}
+use Rattle.memif.specs.Told.{DeviceTold, Part, Stand, Open, is_open}
 use Rattle.memif.specs.Clock.{Clock}
 use Rattle.memif.specs.Calls.{InOrder, Works}
 use Rattle.block_machine.specs.Words.{Fine, Mark, Instance, Taken, Pick, Wrote, Post}
 use Rattle.block_machine.specs.State.{State, Job}
 use Rattle.block_machine.specs.Blocks.{job_block, rank_of}
 use Rattle.block_machine.specs.Next.{Nothing, next_in, next_of}
-use Rattle.block_laws.specs.Laws.{HistoriesStep, PickTakesInHand, EntriesOfTheJobInHand}
 use Rattle.ram_blocks.specs.Told.{Told}
 use Rattle.job_programs.specs.Program.{Program}
 use Rattle.nvm_device_laws.specs.Outcomes.{outcome_by}
 use Rattle.nvm_device_laws.specs.Turn.{settled_by, wrote_by}
 use Rattle.nvm_figures.specs.Job.{program_next}
-use Rattle.nvm_figures.specs.Urgent.{PicksAreOnTime, StartsStayOnTime, TurnsStayOnTime}
 use Rattle.nv_desk.specs.Desk.{DeskState, state_of}
 use Rattle.nv_desk.specs.Picks.{IsInterruption}
 use Rattle.nv_desk_copies.specs.Picks.{IsPicked}
 use Rattle.job_progress.specs.Hand.{HandState, ended}
 use Rattle.job_progress.specs.JobInHand.{IsAt, IsInHand, IsPaired}
-use Rattle.job_progress.specs.Asks.{PostsLeaveNone}
+use Rattle.block_laws.proofs.HistoryLaws.{histories_step}
+use Rattle.block_laws.proofs.NextLaws.{entries_of_the_job_in_hand}
+use Rattle.nvm_figures.proofs.OnTime.{turns_stay_on_time}
+use Rattle.memif.proofs.Turning.{works_fixed}
 use Rattle.nvm_laws.specs.Halves.{AddsPost}
 use Rattle.nvm_laws.specs.Turns.{AddsBy, hand_by, hand_in}
 use Rattle.nvm_laws.specs.declared.turned.Turned.TheVariants as turned
@@ -37,7 +38,7 @@ use Rattle.nvm_laws.proofs.DueBlocks.{added}
 use Rattle.nvm_laws.proofs.DueTurning.{finished_first, freed, hand_of, never_picked, never_posted, next_is, on_time, pick_due, post_due, start_due, urgent_at}
 
 -- THE FIRST HALF
-module _ (steps : HistoriesStep) (takes : PickTakesInHand) (posts : PostsLeaveNone) (starts : StartsStayOnTime) (new : DeviceTold) (clock : Clock) (picks : PicksAreOnTime new clock)
+module _ (new : DeviceTold) (clock : Clock)
     (desk desk_new : DeskState) (hand hand_new : Option HandState) (old : DeviceTold) (number turns : ℕ) (before : IsPaired desk.config (state_of desk) hand old) where
   -- a Pick
   picked_by : InOrder new clock → (block : ℕ) (Holds : Taken → Type 0) (ops : ℕ) → IsPicked Holds block ops desk desk_new → AtDevice (Ended turned.Picked) hand old desk_new hand_new new
@@ -45,7 +46,7 @@ module _ (steps : HistoriesStep) (takes : PickTakesInHand) (posts : PostsLeaveNo
   picked_by order block Holds ops is at (inl due) =
       let same : hand_new ≡ hand_in (added (Pick block is.kind is.taken ops) desk) = at.0 ∙ ap hand_in is.adds in
       subst (λ (x : DeskState). IsNearer number turns (record { desk = x; hand = hand_new; device = new })) (sym is.adds)
-      (pick_due steps takes number turns desk hand old new clock picks order due (freed old new (is_open old.stand) refl at.1) block ops is.kind is.taken hand_new same)
+      (pick_due number turns desk hand old new clock order due (freed old new (is_open old.stand) refl at.1) block ops is.kind is.taken hand_new same)
   picked_by order block Holds ops is at (inr due) =
       absurd (never_picked desk.config (state_of desk) due.job block is.kind is.taken (next_in desk.config (state_of desk).waiting) (state_of desk).hand (state_of desk).sweep due.held due.held
       due.is.urgent.is_urgent is.allowed.1)
@@ -57,7 +58,7 @@ module _ (steps : HistoriesStep) (takes : PickTakesInHand) (posts : PostsLeaveNo
   posted_by Fits ops copies copies_new (posted, inl is) at (inl due) =
       let entry = Post (job_block is.job) posted.result is.is.given is.is.refused ops in
       let (h, held, in_hand) = hand_of desk.config (state_of desk) is.job hand old is.hand before in
-      let there = post_due steps posts number turns desk hand old due is.job is.hand (job_block is.job) is.is.refused ops posted.result is.is.given hand_new
+      let there = post_due number turns desk hand old due is.job is.hand (job_block is.job) is.is.refused ops posted.result is.is.given hand_new
       (finished_first hand h held at.0) (ap post_first at.1) in
       inr (subst (λ (x : DeskState). IsNearer number turns (record { desk = x; hand = hand_new; device = new })) (sym is.is.adds)
       (subst (λ (d : DeviceTold). IsNearer number turns (record { desk = added entry desk; hand = hand_new; device = d })) (sym at.2) there))
@@ -108,24 +109,21 @@ module _ (steps : HistoriesStep) (takes : PickTakesInHand) (posts : PostsLeaveNo
       → IsPaired desk.config (state_of desk) hand_new new → IsDue number turns (record { desk = desk; hand = hand; device = old })
       → IsDueInHand number turns (record { desk = desk; hand = hand_new; device = new })
   goes_by goes never rest behind (inl due) = absurd (waits_not due goes never rest)
-  goes_by goes never rest behind (inr due) = start_due starts number turns desk hand hand_new old new due behind goes
+  goes_by goes never rest behind (inr due) = start_due number turns desk hand hand_new old new due behind goes
 
-first_serves : HistoriesStep → PickTakesInHand → PostsLeaveNone → StartsStayOnTime → (new : DeviceTold) (clock : Clock) → PicksAreOnTime new clock → FirstHalvesServe new clock
-first_serves steps takes posts starts new clock picks (Ended turned.Off) desk desk_new copies copies_new hand hand_new old number turns order half at never before behind due = tt
-first_serves steps takes posts starts new clock picks (Ended turned.Picked) desk desk_new copies copies_new hand hand_new old number turns order half at never before behind due =
-    inr (picked_by steps takes posts starts new clock picks desk desk_new hand hand_new old number turns before.paired (order refl) half.0 (λ t. Unit {0}) _ half.1 at due)
-first_serves steps takes posts starts new clock picks (Ended turned.Posted) desk desk_new copies copies_new hand hand_new old number turns order half at never before behind due =
-    posted_by steps takes posts starts new clock picks desk desk_new hand hand_new old number turns before.paired ⊥ _ copies copies_new half at due
-first_serves steps takes posts starts new clock picks (Ended turned.Idle) desk desk_new copies copies_new hand hand_new old number turns order half at never before behind due =
-    absurd (rests_not steps takes posts starts new clock picks desk desk_new hand hand_new old number turns before.paired half.1.hand half.1.next due)
-first_serves steps takes posts starts new clock picks (Ended turned.Worked) desk desk_new copies copies_new hand hand_new old number turns order half at never before behind due = absurd half
-first_serves steps takes posts starts new clock picks Device desk desk_new copies copies_new hand hand_new old number turns order half at never before behind due =
+pub first_halves_serve : (new : DeviceTold) (clock : Clock) → FirstHalvesServe new clock
+first_halves_serve new clock (Ended turned.Off) desk desk_new copies copies_new hand hand_new old number turns order half at never before behind due = tt
+first_halves_serve new clock (Ended turned.Picked) desk desk_new copies copies_new hand hand_new old number turns order half at never before behind due =
+    inr (picked_by new clock desk desk_new hand hand_new old number turns before.paired (order refl) half.0 (λ t. Unit {0}) _ half.1 at due)
+first_halves_serve new clock (Ended turned.Posted) desk desk_new copies copies_new hand hand_new old number turns order half at never before behind due =
+    posted_by new clock desk desk_new hand hand_new old number turns before.paired ⊥ _ copies copies_new half at due
+first_halves_serve new clock (Ended turned.Idle) desk desk_new copies copies_new hand hand_new old number turns order half at never before behind due =
+    absurd (rests_not new clock desk desk_new hand hand_new old number turns before.paired half.1.hand half.1.next due)
+first_halves_serve new clock (Ended turned.Worked) desk desk_new copies copies_new hand hand_new old number turns order half at never before behind due = absurd half
+first_halves_serve new clock Device desk desk_new copies copies_new hand hand_new old number turns order half at never before behind due =
     let paired = subst (λ (x : DeskState). IsPaired x.config (state_of x) hand_new new) half.0.0 behind.paired in
     subst (λ (x : DeskState). IsDueInHand number turns (record { desk = x; hand = hand_new; device = new })) (sym half.0.0)
-    (goes_by steps takes posts starts new clock picks desk desk_new hand hand_new old number turns before.paired at (never refl) half.3 paired due)
-
-pub first_halves_serve : HistoriesStep → PickTakesInHand → PostsLeaveNone → StartsStayOnTime → (new : DeviceTold) (clock : Clock) → PicksAreOnTime new clock → FirstHalvesServe new clock
-first_halves_serve = first_serves
+    (goes_by new clock desk desk_new hand hand_new old number turns before.paired at (never refl) half.3 paired due)
 
 -- THE DEVICE'S TURN
 -- a Wrote is added, or nothing
@@ -154,11 +152,7 @@ goes_on (Open j) (device.Ended r given) h = (ended (outcome_by j.mark r) h, refl
 goes_on (Open j) (Open k) h = (h, refl, refl)
 goes_on (device.Ended r given) n h = (h, refl, refl)
 
-fixed_stays : (p : Part) (old new : DeviceTold) (clock : Clock) → Works p old new clock → new.fixed ≡ old.fixed
-fixed_stays First old new clock works = ap (λ (x : DeviceTold). x.fixed) works.only
-fixed_stays Second old new clock works = ap (λ (x : DeviceTold). x.fixed) works.only
-
-module _ (steps : HistoriesStep) (goes : EntriesOfTheJobInHand) (new : DeviceTold) (clock : Clock) (stay : TurnsStayOnTime new clock) (p : Part) (desk : DeskState) (hand : Option HandState) (old : DeviceTold)
+module _ (new : DeviceTold) (clock : Clock) (p : Part) (desk : DeskState) (hand : Option HandState) (old : DeviceTold)
     (number turns : ℕ) (works : Works p old new clock) (calm : ¬ Rose old.first.faults new.first.faults) (paired : IsPaired desk.config (state_of desk) hand old)
     (started : IfSome hand (λ h. h.started ≡ true)) (due : IsDueInHand number turns (record { desk = desk; hand = hand; device = old })) where
   -- with this job in the machine's hand
@@ -170,10 +164,10 @@ module _ (steps : HistoriesStep) (goes : EntriesOfTheJobInHand) (new : DeviceTol
       let at : IsAt desk.config in_hand.job due.driver.program old.stand = rw on at in_hand.at in
       let same : in_hand.job ≡ due.job = let both : Some in_hand.job ≡ Some due.job = sym in_hand.hand ∙ due.held in cc in
       let urgent = urgent_at old.fixed desk.config in_hand.job number due.driver.program old.stand (rw same due.is) (ap (λ (q : Program). q.block) in_hand.working.is) at in
-      let (time, fine) = stay turns 3 old p due.driver.program works calm urgent (on_time number turns desk hand old due) in
+      let (time, fine) = turns_stay_on_time new clock turns 3 old p due.driver.program works calm urgent (on_time number turns desk hand old due) in
       let (g, drives, program) = goes_on old.stand new.stand due.driver in
       let (w, told, soon) = time.wait in
-      let fixed = fixed_stays p old new clock works in (
+      let fixed = works_fixed p old new clock works in (
         turns - 1,
         omega (arith, soon),
         inr (record {
@@ -192,10 +186,10 @@ module _ (steps : HistoriesStep) (goes : EntriesOfTheJobInHand) (new : DeviceTol
   nearer_by desk_new ops (inl same) = nearer_with desk_new due.job (ap (λ (x : DeskState). x.config) same) (ap (λ (x : DeskState). (state_of x).hand) same ∙ due.held) due.is
   nearer_by desk_new ops (inr (i, m, adds)) =
       nearer_with desk_new _ (ap (λ (x : DeskState). x.config) adds)
-      (ap (λ (x : DeskState). (state_of x).hand) adds ∙ ap (λ (s : State). s.hand) (steps desk.config desk.entries (Wrote i m ops))
-      ∙ (goes desk.config (state_of desk) due.job i m 0 0 ops Fine None due.held).0)
+      (ap (λ (x : DeskState). (state_of x).hand) adds ∙ ap (λ (s : State). s.hand) (histories_step desk.config desk.entries (Wrote i m ops))
+      ∙ (entries_of_the_job_in_hand desk.config (state_of desk) due.job i m 0 0 ops Fine None due.held).0)
       (record { accepted = due.is.accepted; urgent = due.is.urgent })
 
-pub second_halves_serve : HistoriesStep → EntriesOfTheJobInHand → (new : DeviceTold) (clock : Clock) → TurnsStayOnTime new clock → SecondHalvesServe new clock
-second_halves_serve steps goes new clock stay p desk desk_new hand old number turns ops works calm adds tied started due =
-    nearer_by steps goes new clock stay p desk hand old number turns works calm tied.paired started due desk_new ops (adds_of old.stand new.stand ops desk desk_new adds)
+pub second_halves_serve : (new : DeviceTold) (clock : Clock) → SecondHalvesServe new clock
+second_halves_serve new clock p desk desk_new hand old number turns ops works calm adds tied started due =
+    nearer_by new clock p desk hand old number turns works calm tied.paired started due desk_new ops (adds_of old.stand new.stand ops desk desk_new adds)

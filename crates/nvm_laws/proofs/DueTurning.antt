@@ -12,17 +12,19 @@ use Rattle.block_machine.specs.Next.{Next, PickJob, next_by, next_in, next_of}
 use Rattle.block_machine.specs.Legal.{HandIsFree, MayInterrupt, MayPick}
 use Rattle.block_machine.specs.Results.{took_none}
 use Rattle.block_machine.specs.Steps.{step, picked_job}
-use Rattle.block_laws.specs.Laws.{HistoriesStep, PickTakesInHand}
 use Rattle.ram_blocks.specs.Told.{Told}
 use Rattle.job_programs.specs.Program.{Program, works}
-use Rattle.nvm_figures.specs.Urgent.{IsOnTime, PicksAreOnTime, StartsStayOnTime, pages_of}
+use Rattle.nvm_figures.specs.Urgent.{IsOnTime, pages_of}
 use Rattle.nv_desk.specs.Desk.{DeskState, state_of}
 use Rattle.nv_desk_copies.specs.Posts.{IsPostedNext}
 use Rattle.nv_desk_copies.specs.declared.post.Posted.{Posted}
 use Rattle.job_progress.specs.Hand.{HandState, is_finished, with_start}
 use Rattle.job_progress.specs.JobInHand.{IsAt, IsInHand, IsPaired, program_for}
 use Rattle.job_progress.specs.Begins.{hand_by, hand_for}
-use Rattle.job_progress.specs.Asks.{PostsLeaveNone}
+use Rattle.block_laws.proofs.HistoryLaws.{histories_step}
+use Rattle.block_laws.proofs.NextLaws.{pick_takes_in_hand}
+use Rattle.job_progress.proofs.Powering.{posts_leave_none}
+use Rattle.nvm_figures.proofs.OnTime.{starts_stay_on_time, picks_are_on_time}
 use Rattle.nvm_laws.specs.Turns.{hand_in}
 use Rattle.nvm_laws.specs.Due.{IsDueNext, IsDueInHand, IsNearer, IsUrgentJob, pages_now, post_first}
 use Rattle.nvm_laws.specs.AtDevice.{Begins, GoesOn}
@@ -86,14 +88,14 @@ program_is false c s j = refl
 indices_for : (c : Configuration) (s : State) (j : Job) → kind_of j ≡ WriteJob → (program_for c s j).indices ≡ indices_of c s (job_block j)
 indices_for c s j is = ap (λ (k : JobKind). if works k then indices_by (desc_of c (job_block j)).kind (desc_of c (job_block j)).nv (block_at s (job_block j)).index else []) is
 
-module _ (steps : HistoriesStep) (takes : PickTakesInHand) (number turns : ℕ) (desk : DeskState) (hand : Option HandState) (old new : DeviceTold) (clock : Clock) (picks : PicksAreOnTime new clock)
+module _ (number turns : ℕ) (desk : DeskState) (hand : Option HandState) (old new : DeviceTold) (clock : Clock)
     (order : InOrder new clock) (due : IsDueNext number turns (record { desk = desk; hand = hand; device = old })) (free : IsFree old new) (block ops : ℕ) (kind : JobKind) (t : Taken) where
   picked_behind : state_of (added (Pick block kind t ops) desk) ≡ step desk.config (state_of desk) (Pick block kind t ops)
-  picked_behind = steps desk.config desk.entries (Pick block kind t ops)
+  picked_behind = histories_step desk.config desk.entries (Pick block kind t ops)
 
   picked_held : (state_of (added (Pick block kind t ops) desk)).hand ≡ Some (picked_job t (if is_some (state_of desk).hand then 2 else 0) due.job)
   picked_held = ap (λ (s : State). s.hand) picked_behind
-      ∙ (takes desk.config (state_of desk) due.job no_sweep 0 block ops kind t).0 (next_is desk.config (state_of desk) due.job due.next)
+      ∙ (pick_takes_in_hand desk.config (state_of desk) due.job no_sweep 0 block ops kind t).0 (next_is desk.config (state_of desk) due.job due.next)
 
   picked_index : (block_at (state_of (added (Pick block kind t ops) desk)) (job_block due.job)).index ≡ (block_at (state_of desk) (job_block due.job)).index
   picked_index = ap (λ (s : State). (block_at s (job_block due.job)).index) picked_behind
@@ -116,7 +118,7 @@ module _ (steps : HistoriesStep) (takes : PickTakesInHand) (number turns : ℕ) 
       let job = picked_job t (if is_some (state_of desk).hand then 2 else 0) due.job in
       let p = program_for desk.config behind job in
       let pages : pages_of new.fixed p.block p.indices ≡ pages_now desk old.fixed (job_block due.job) = picked_pages job refl due.is.urgent.is_write in
-      let on : IsOnTime (pages_of new.fixed p.block p.indices) 0 p new = picks p order free.2 refl (omega (arith, pages, due.ready, free.1)) in
+      let on : IsOnTime (pages_of new.fixed p.block p.indices) 0 p new = picks_are_on_time new clock p order free.2 refl (omega (arith, pages, due.ready, free.1)) in
       let still : IsOnTime (pages_of new.fixed p.block p.indices) 0 (hand_for desk.config behind job).program new =
       subst (λ (q : Program). IsOnTime (pages_of new.fixed p.block p.indices) 0 q new) (sym (program_is (took_none job.taken) desk.config behind job)) on in
       let (w, told, soon) = still.wait in (
@@ -134,11 +136,11 @@ module _ (steps : HistoriesStep) (takes : PickTakesInHand) (number turns : ℕ) 
       )
 
 -- THE POST OF ANOTHER JOB
-module _ (steps : HistoriesStep) (posts : PostsLeaveNone) (number turns : ℕ) (desk : DeskState) (hand : Option HandState) (old : DeviceTold)
+module _ (number turns : ℕ) (desk : DeskState) (hand : Option HandState) (old : DeviceTold)
     (due : IsDueNext number turns (record { desk = desk; hand = hand; device = old })) (other : Job) (held : (state_of desk).hand ≡ Some other)
     (block refused ops : ℕ) (r : ReqResult) (given : Option (List ℕ)) where
   posted_behind : state_of (added (Post block r given refused ops) desk) ≡ step desk.config (state_of desk) (Post block r given refused ops)
-  posted_behind = steps desk.config desk.entries (Post block r given refused ops)
+  posted_behind = histories_step desk.config desk.entries (Post block r given refused ops)
 
   posted_pages : pages_now (added (Post block r given refused ops) desk) old.fixed (job_block due.job) ≡ pages_now desk old.fixed (job_block due.job)
   posted_pages = same_pages desk.config (state_of desk) (state_of (added (Post block r given refused ops) desk)) old.fixed (job_block due.job)
@@ -150,7 +152,7 @@ module _ (steps : HistoriesStep) (posts : PostsLeaveNone) (number turns : ℕ) (
   post_due hand_new one none =
       let count = length-append desk.entries (Post block r given refused ops ∷ []) in
       let free : (state_of (added (Post block r given refused ops) desk)).hand ≡ None =
-      ap (λ (s : State). s.hand) posted_behind ∙ posts desk.config (state_of desk) (Post block r given refused ops) tt in (
+      ap (λ (s : State). s.hand) posted_behind ∙ posts_leave_none desk.config (state_of desk) (Post block r given refused ops) tt in (
         turns - 1,
         omega (arith, due.within),
         inl (record {
@@ -171,7 +173,7 @@ pub on_time : (number turns : ℕ) (desk : DeskState) (hand : Option HandState) 
     → IsOnTime turns 3 due.driver.program d
 on_time number turns desk hand d due = let (w, told, soon) = due.within in record { ready = due.ready; wait = (w, told, omega (arith, soon)) }
 
-module _ (starts : StartsStayOnTime) (number turns : ℕ) (desk : DeskState) (hand hand_new : Option HandState) (old new : DeviceTold)
+module _ (number turns : ℕ) (desk : DeskState) (hand hand_new : Option HandState) (old new : DeviceTold)
     (due : IsDueInHand number turns (record { desk = desk; hand = hand; device = old })) (paired : IsPaired desk.config (state_of desk) hand_new new) where
   -- the device is at it as an urgent one
   started_urgent : hand_new ≡ Some (with_start due.driver) → urgent_first old.fixed new.stand ≡ true
@@ -187,7 +189,7 @@ module _ (starts : StartsStayOnTime) (number turns : ℕ) (desk : DeskState) (ha
       let opens = begins.accepts.1 in
       let stand : new.stand ≡ Open begins.wish.job = ap (λ (x : DeviceTold). x.stand) opens.only in (
         ap (λ (x : DeviceTold). x.fixed) opens.only,
-        starts turns 3 old new begins.wish due.driver.program begins.index begins.operation (ap (urgent_first old.fixed) (sym stand) ∙ started_urgent is) begins.accepts
+        starts_stay_on_time turns 3 old new begins.wish due.driver.program begins.index begins.operation (ap (urgent_first old.fixed) (sym stand) ∙ started_urgent is) begins.accepts
             (on_time number turns desk hand old due),
       )
 

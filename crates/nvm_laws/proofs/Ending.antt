@@ -17,16 +17,17 @@ use Rattle.block_machine.specs.Blocks.{desc_of, block_at, indices_by, indices_of
 use Rattle.block_machine.specs.Results.{own_of, took_none, outcome_of}
 use Rattle.block_machine.specs.Steps.{step, wrote}
 use Rattle.job_programs.specs.Program as program
-use Rattle.job_programs.specs.Program.{Program, works, next_in, is_failed, step_of}
+use Rattle.job_programs.specs.Program.{Program, works, next_in, is_failed}
 use Rattle.job_programs.specs.Laws.{Fit}
 use Rattle.nvm_device_laws.specs.Outcomes.{outcome_by, FitsSettled}
 use Rattle.nvm_device_laws.specs.Turn.{settled_by}
 use Rattle.job_progress.specs.Hand.{HandState, ended}
 use Rattle.job_progress.specs.JobInHand.{HandFits, IsAt, IsFruitless, IsInHand, job_for}
 use Rattle.job_progress.specs.Goes.{state_by}
+use Rattle.nvm_figures.proofs.Programs.{never_first}
 use Rattle.nvm_laws.proofs.Numbers.{few_at, listed_at}
 use Rattle.nvm_laws.proofs.Operations.{own, stored, same_job}
-use Rattle.nvm_laws.proofs.Seeing.{Seen, fit_other, map_at, not_first, seen_after, wrote_fits}
+use Rattle.nvm_laws.proofs.Seeing.{Seen, fit_other, map_at, seen_after, wrote_fits}
 
 -- THE DEVICE IS AT AN OPERATION
 pub at_by : (c : Configuration) (j : Job) (p : Program) (t : Bool) (stand : Stand) (job : device.Job) → IfElse t (IsAt c j p stand) (is_open stand ≡ false)
@@ -138,7 +139,7 @@ module _ (c : Configuration) (s : State) (h : HandState) (old new : DeviceTold) 
   read_seen : FitsSettled None (mark_at s at.1.index) r given → h.program.kind ≡ ReadJob → HandFits c s (Some h) old
       → HandFits c s (Some (ended (outcome_by None r) h)) new
   read_seen finds reads fits = hand_seen s (outcome_by None r) is.job is.hand refl refl
-      (seen_after h.program (outcome_by None r) at.1.index next (not_first None r) (marks_in s own_indices) (at.1.index, mark_at s at.1.index) (fit_so fits) (has_mark s)
+      (seen_after h.program (outcome_by None r) at.1.index next (never_first None r) (marks_in s own_indices) (at.1.index, mark_at s at.1.index) (fit_so fits) (has_mark s)
       (subst (λ (k : JobKind). outcome_of k (mark_at s at.1.index) (is_failed (outcome_by None r)) ≡ outcome_by None r) (sym reads) finds.0) new.stand
       (λ kind bytes stands.
       let both : Ended r given ≡ Ended JobOk bytes = sym off ∙ stands in
@@ -149,7 +150,7 @@ module _ (c : Configuration) (s : State) (h : HandState) (old new : DeviceTold) 
   -- any other operation, of which nothing is settled
   failed_seen : (m : Mark) → h.program.kind ≢ ReadJob → HandFits c s (Some h) old → HandFits c s (Some (ended (outcome_by (Some m) r) h)) new
   failed_seen m writes fits = hand_seen s (outcome_by (Some m) r) is.job is.hand refl refl
-      (seen_after h.program (outcome_by (Some m) r) at.1.index next (not_first (Some m) r) (marks_in s own_indices) (at.1.index, mark_at s at.1.index) (fit_so fits) (has_mark s)
+      (seen_after h.program (outcome_by (Some m) r) at.1.index next (never_first (Some m) r) (marks_in s own_indices) (at.1.index, mark_at s at.1.index) (fit_so fits) (has_mark s)
       (wrote_fits h.program.kind m (mark_at s at.1.index) r writes) new.stand (λ reads bytes stands. absurd (writes reads)))
 
   -- WITH ONE
@@ -159,7 +160,7 @@ module _ (c : Configuration) (s : State) (h : HandState) (old new : DeviceTold) 
       hand_seen t (outcome_by (Some m) r) (record is.job { reserved = is.job.reserved - 1; written = is.job.written ++ (instance_of (record { 0 = job.number })).index ∷ [] })
       (ap (λ (x : Option Job). (wrote s (instance_of (record { 0 = job.number })) m x).hand) is.hand) refl
       (ap (λ (b : BlockState). indices_by (desc_of c (job_block is.job)).kind (desc_of c (job_block is.job)).nv b.index) block_same)
-      (seen_after h.program (outcome_by (Some m) r) at.1.index next (not_first (Some m) r) (marks_in t own_indices) (at.1.index, mark_at t at.1.index)
+      (seen_after h.program (outcome_by (Some m) r) at.1.index next (never_first (Some m) r) (marks_in t own_indices) (at.1.index, mark_at t at.1.index)
       (fit_other h.program.kind writes (mark_at s) (mark_at t) own_indices h.program.done (fit_so fits)) (has_mark t)
       (wrote_fits h.program.kind m (mark_at t at.1.index) r writes) new.stand (λ reads bytes stands. absurd (writes reads)))
     where

@@ -1,17 +1,18 @@
 mod Numbers
-mod Operations
-mod Refusing
-mod Picking
+pub mod Operations
+pub mod Refusing
+pub mod Numbered
+pub mod Picking
 mod Paying
-mod Posting
-mod Starting
-mod Staying
-mod StartingUp
+pub mod Posting
+pub mod Starting
+pub mod Staying
+pub mod StartingUp
 mod Seeing
 mod Ending
-mod Turning
-mod Asking
-mod Working
+pub mod Turning
+pub mod Asking
+pub mod Working
 pub mod DueOrder
 pub mod DueBlocks
 pub mod DueAsking

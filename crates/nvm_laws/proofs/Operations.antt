@@ -1,7 +1,7 @@
 -- An operation that the job in hand names, on one of its instances.
 use Rattle.std.specs.Prelude.{slice_get, nat_le, option_to_list, IfSome}
-use Rattle.std.specs.List.{list_any, Contains}
-use Rattle.std.proofs.Common.{◌≡◌, ◌≢◌, ℕ, zero, suc, ◌≤◌, ◌<◌, Bool, true, false, if◌then◌else◌, List, [], ◌∷◌, ◌++◌, length, Option, Some, None, refl, sym, ap, ◌∙◌, subst, arith}
+use Rattle.std.specs.List.{Contains}
+use Rattle.std.proofs.Common.{◌≡◌, ◌≢◌, ℕ, zero, suc, ◌≤◌, ◌<◌, Bool, true, false, if◌then◌else◌, List, [], ◌∷◌, ◌++◌, length, Option, Some, refl, sym, ap, ◌∙◌, subst, arith}
 use Rattle.std.proofs.lemmas.Bool.{leb-false}
 use Rattle.memif.specs.Told.{DeviceTold}
 use Rattle.block_machine.specs.block_config.Rules.{IsLegalConfig}
@@ -13,10 +13,12 @@ use Rattle.block_machine.specs.Blocks.{desc_of, job_block, kind_of, indices_by, 
 use Rattle.block_machine.specs.Steps.{after}
 use Rattle.block_machine.specs.Legal.{IsLegal}
 use Rattle.block_laws.specs.Consistent.{IsJobInHand}
-use Rattle.block_laws.specs.Laws.{LegalStatesAreConsistent, JobsAreConfigured}
-use Rattle.job_programs.specs.Program.{Program, works, settles, next_in}
+use Rattle.job_programs.specs.Program.{Program, works, next_in}
 use Rattle.job_progress.specs.Hand.{HandState}
 use Rattle.job_progress.specs.JobInHand.{IsInHand}
+use Rattle.block_laws.proofs.ConsistentSteps.{legal_states_are_consistent}
+use Rattle.block_laws.proofs.JobPlaces.{jobs_are_configured}
+use Rattle.job_progress.proofs.Going.{next_of_done}
 
 -- THE JOB
 pub held : (s : State) (j : Job) → s.hand ≡ Some j → Contains (jobs_of s) j
@@ -26,22 +28,14 @@ pub same_job : (a b : Job) (o : Option Job) → o ≡ Some a → o ≡ Some b �
 same_job a b o first second = let both : Some a ≡ Some b = sym first ∙ second in cc
 
 -- its block is a configured one
-pub is_block : LegalStatesAreConsistent → JobsAreConfigured → (c : Configuration) (cap : ℕ) (h : List Entry) (j : Job) → IsLegalConfig c → IsLegal c cap h
+pub is_block : (c : Configuration) (cap : ℕ) (h : List Entry) (j : Job) → IsLegalConfig c → IsLegal c cap h
     → (after c h).hand ≡ Some j → (job_block j ≢ 0) × (job_block j ≤ length c.blocks)
-is_block consistent configured c cap h j rules legal hand = (
-  (subst (λ (o : Option Job). IfSome o (IsJobInHand c (after c h))) hand (consistent c cap h legal).hand).named,
-  configured c cap h j rules legal (held (after c h) j hand),
+is_block c cap h j rules legal hand = (
+  (subst (λ (o : Option Job). IfSome o (IsJobInHand c (after c h))) hand (legal_states_are_consistent c cap h legal).hand).named,
+  jobs_are_configured c cap h j rules legal (held (after c h) j hand),
 )
 
 -- ITS INSTANCE
-pub next_of_done : (p : Program) (index : ℕ) → next_in p ≡ Some index → (list_any (settles p.kind) p.done ≡ false) × (slice_get p.indices (length p.done) ≡ Some index)
-next_of_done p index is = by (list_any (settles p.kind) p.done) refl is
-  where
-    by : (t : Bool) → list_any (settles p.kind) p.done ≡ t → (if t then None else slice_get p.indices (length p.done)) ≡ Some index
-        → (list_any (settles p.kind) p.done ≡ false) × (slice_get p.indices (length p.done) ≡ Some index)
-    by true on none = cc
-    by false off some = (off, some)
-
 works_at : (t : Bool) (xs : List ℕ) (n index : ℕ) → slice_get (if t then xs else []) n ≡ Some index → (t ≡ true) × (slice_get xs n ≡ Some index)
 works_at true xs n index has = (refl, has)
 works_at false xs n index has = cc

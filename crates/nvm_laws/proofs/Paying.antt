@@ -8,21 +8,16 @@ use Rattle.block_machine.specs.Words.{Entry, Ask, Pick, Wrote, Off, Found, Post,
 use Rattle.block_machine.specs.State.{State, Job}
 use Rattle.block_machine.specs.Blocks.{job_block, kind_of}
 use Rattle.block_machine.specs.StartUp.{at_first}
-use Rattle.block_machine.specs.Steps.{step, after, after_from}
+use Rattle.block_machine.specs.Steps.{after}
 use Rattle.block_machine.specs.Results.{Answer, Own, own_of, own_indices, result_of, open_sets, sets_of, failed_set, took_none, unwritten}
 use Rattle.block_machine.specs.Prices.{device_tries, faults_of, price_in_faults}
-use Rattle.block_laws.specs.Laws.{FailedSetsAreLeast}
-use Rattle.promise_blocks.specs.Payment.{Worn, ArePaid, IsPaid, price_for}
+use Rattle.promise_blocks.specs.Payment.{Worn, IsPaid, price_for}
 use Rattle.ram_blocks.specs.Told.{Told}
 use Rattle.nv_desk_copies.specs.Posts.{IsHandedOver}
+use Rattle.block_laws.proofs.FailedSets.{failed_sets_are_least}
+use Rattle.nvm_device_laws.proofs.Payments.{no_price}
 
 -- AN ENTRY WITHOUT A PRICE
-no_price : (of : ℕ → Bool) (c : Configuration) (worn : Worn) (n : ℕ) (s : State) (es : List Entry) (e : Entry)
-    → price_for of c (after_from c s es) e ≡ 0 → ArePaid of c worn n s es → ArePaid of c worn n s (es ++ e ∷ [])
-no_price of c worn n s [] e free paid = inl (omega (arith, free), tt)
-no_price of c worn n s (x ∷ es) e free (inl (cheap, rest)) = inl (cheap, no_price of c worn (n - price_for of c s x) (step c s x) es e free rest)
-no_price of c worn n s (x ∷ es) e free (inr (excused, rest)) = inr (excused, no_price of c worn n (step c s x) es e free rest)
-
 -- what has no price has none for some blocks
 price_by : (b : Bool) (price : ℕ) → price ≡ 0 → (if b then price else 0) ≡ 0
 price_by true price none = none
@@ -55,15 +50,15 @@ free_refused c s block r given zero n ops is = absurd (omega (arith, is))
 free_refused c s block r given (suc m) n ops is = refl
 
 -- of a result for which nothing need have failed
-pub free_unfailed : FailedSetsAreLeast → (c : Configuration) (s : State) (j : Job) (r : ReqResult) (given : Option (List ℕ)) (ops : ℕ) → s.hand ≡ Some j
+pub free_unfailed : (c : Configuration) (s : State) (j : Job) (r : ReqResult) (given : Option (List ℕ)) (ops : ℕ) → s.hand ≡ Some j
     → Contains (open_sets (own_of c s (job_block j)) j (kind_of j)) [] → (r, given) ≡ result_of (own_of c s (job_block j)) j []
     → price_in_faults c s (Post (job_block j) r given 0 ops) ≡ 0
-free_unfailed least c s j r given ops hand at answer =
+free_unfailed c s j r given ops hand at answer =
     ap (λ (o : Option Job). option_map_or (λ k. faults_of (own_of c s (job_block k)) (r, given) k) o 0) hand
     ∙ (ap (λ (a : Answer). faults_of (own_of c s (job_block j)) a j) answer ∙ nothing)
   where
     few : length (unwrap_or (failed_set (own_of c s (job_block j)) j (result_of (own_of c s (job_block j)) j [])) []) ≡ 0
-    few = let most = (least c s j [] at).1 in omega (arith, most)
+    few = let most = (failed_sets_are_least c s j [] at).1 in omega (arith, most)
 
     nothing : faults_of (own_of c s (job_block j)) (result_of (own_of c s (job_block j)) j []) j ≡ 0
     nothing = ap (λ (n : ℕ). device_tries (own_of c s (job_block j)).desc (kind_of j) * n) few ∙ omega arith

@@ -8,22 +8,20 @@ use Rattle.block_machine.specs.Words.{Entry, Pick, JobKind, ReadJob, WriteJob, R
 use Rattle.block_machine.specs.State.{State, Job}
 use Rattle.block_machine.specs.Results.{took_none}
 use Rattle.block_machine.specs.Steps.{after}
-use Rattle.promise_blocks.specs.OverDevice.{HasStarted}
 use Rattle.promise_blocks.specs.OverDevice.{is_of}
 use Rattle.promise_blocks.specs.Payment.{IsPaid}
-use Rattle.nvm_device_laws.specs.Turn.{Keeps, EntriesKeep}
-use Rattle.nvm_device_laws.specs.Tries.{TriesArePaid, TriesBegin}
+use Rattle.nvm_device_laws.specs.Turn.{Keeps}
+use Rattle.nvm_device_laws.specs.Tries.{TriesArePaid}
 use Rattle.job_programs.specs.Program.{step_of}
 use Rattle.nv_desk.specs.Desk.{DeskState}
 use Rattle.job_progress.specs.JobInHand.{FitsMarks, HandFits, program_for}
 use Rattle.job_progress.specs.Begins.{hand_by, hand_for}
+use Rattle.nvm_device_laws.proofs.Called.{entries_keep}
+use Rattle.nvm_device_laws.proofs.PaidTries.{tries_begin}
+use Rattle.nvm_device_laws.proofs.Pushed.{started_push}
 use Rattle.nvm_laws.specs.Turns.{hand_in}
 use Rattle.nvm_laws.specs.Keeps.{StackKeeps}
 use Rattle.nvm_laws.specs.Entries.{PicksKeep}
-
-pub started_push : (h : List Entry) (e : Entry) → HasStarted (h ++ e ∷ [])
-started_push [] e = tt
-started_push (x ∷ es) e = tt
 
 -- THE HAND OF A JOB ON WHICH NOTHING WAS DONE
 -- it gives nothing that the device read
@@ -57,20 +55,20 @@ failures_are : (c : Configuration) (s : State) (j : Job) (t : Bool) → (hand_by
 failures_are c s j true = refl
 failures_are c s j false = refl
 
-paid_by : (d : DeviceTold) (clock : Clock) → TriesBegin d clock → (c : Configuration) (s : State) (h : List Entry) (before : Part → PartTold)
+paid_by : (d : DeviceTold) (clock : Clock) (c : Configuration) (s : State) (h : List Entry) (before : Part → PartTold)
     → ((p : Part) → IsPaid (is_of p d.fixed) c clock.worn (before p).faults (part_at p d).faults h) → (o : Option Job)
     → IfSome (option_map (hand_for c s) o) (λ x. TriesArePaid c clock.worn before d h x.program)
-paid_by d clock begins c s h before paid None = tt
-paid_by d clock begins c s h before paid (Some j) = begins c h before (hand_for c s j).program (done_is c s j (took_none j.taken)) (failures_are c s j (took_none j.taken)) paid
+paid_by d clock c s h before paid None = tt
+paid_by d clock c s h before paid (Some j) = tries_begin d clock c h before (hand_for c s j).program (done_is c s j (took_none j.taken)) (failures_are c s j (took_none j.taken)) paid
 
 -- THE PICK
-pub picks_keep : (d : DeviceTold) (clock : Clock) → EntriesKeep d clock → TriesBegin d clock → PicksKeep d clock
-picks_keep d clock keep begins old new hand block kind taken adds allowed before kept =
+pub picks_keep : (d : DeviceTold) (clock : Clock) → PicksKeep d clock
+picks_keep d clock old new hand block kind taken adds allowed before kept =
     subst (λ (x : DeskState). StackKeeps before x (hand_in x) d clock) (sym adds) (record {
       started = started_push old.entries e;
       keeps = keeps_now;
       fits = fits_by old.config behind d behind.hand;
-      paid = paid_by d clock begins old.config behind (old.entries ++ e ∷ []) before keeps_now.over.paid behind.hand;
+      paid = paid_by d clock old.config behind (old.entries ++ e ∷ []) before keeps_now.over.paid behind.hand;
     })
   where
     e : Entry
@@ -80,4 +78,4 @@ picks_keep d clock keep begins old new hand block kind taken adds allowed before
     behind = after old.config (old.entries ++ e ∷ [])
 
     keeps_now : Keeps old.config old.cap (old.entries ++ e ∷ []) before d clock
-    keeps_now = keep old.config old.cap old.entries before e kept.started kept.keeps refl allowed refl tt
+    keeps_now = entries_keep d clock old.config old.cap old.entries before e kept.started kept.keeps refl allowed refl tt

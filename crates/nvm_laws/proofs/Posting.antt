@@ -1,54 +1,36 @@
 -- The Post of a finished job, and a Post without a Pick.
-use Rattle.std.specs.Prelude.{unwrap_or}
 use Rattle.std.specs.List.{Contains}
 use Rattle.std.proofs.Common.{◌≡◌, ℕ, ◌+◌, ◌⊎◌, Bool, true, false, List, [], ◌∷◌, ◌++◌, Option, Some, None, refl, sym, ap, ◌∙◌, subst, inl, inr}
 use Rattle.block_machine.specs.nv_base.declared.job.JobStep.TheVariants as step
 use Rattle.memif.specs.Told.{DeviceTold, ops_of, given_by, IfElse, Part, part_at, PartTold}
 use Rattle.memif.specs.Clock.{Clock}
-use Rattle.block_machine.specs.Words.{Entry, Post, ReqResult, GivenFrom, JobKind, ReadJob, RestoreJob, Request, Read, Write, Restore, Erase, Invalidate, SetIndex, GetIndex, SetProtection, SetLock, SetRam, PutRam, Status, ReadAll, WriteAll, CancelWriteAll}
+use Rattle.block_machine.specs.Words.{Entry, Post, ReqResult, GivenFrom, JobKind, RestoreJob}
 use Rattle.block_machine.specs.State.{Job}
-use Rattle.block_machine.specs.Blocks.{desc_of, job_block, job_kind, kind_of, names_ram}
+use Rattle.block_machine.specs.Blocks.{desc_of, job_block, kind_of, names_ram}
 use Rattle.block_machine.specs.Next.{Next, Nothing, PickJob, BeginSweep, PickMember, PostMember, EndSweep, next_of}
 use Rattle.block_machine.specs.Results.{Answer, Own, own_of, open_sets, result_of, unpicked_result, took_none}
 use Rattle.block_machine.specs.Sweeps.{sweep_result}
 use Rattle.block_machine.specs.Prices.{price_in_faults}
-use Rattle.block_laws.specs.Laws.{FailedSetsAreLeast}
 use Rattle.promise_blocks.specs.OverDevice.{is_of}
 use Rattle.promise_blocks.specs.Payment.{IsPaid}
-use Rattle.nvm_device_laws.specs.Turn.{EntriesKeep}
-use Rattle.nvm_device_laws.specs.Tries.{PostsArePaid}
 use Rattle.job_programs.specs.Program.{Program, works, next_in, step_by, step_of}
 use Rattle.job_programs.specs.Laws.{failed_of}
 use Rattle.ram_blocks.specs.Told.{Told}
 use Rattle.nv_desk.specs.Desk.{DeskState, state_of}
-use Rattle.nv_desk_copies.specs.Posts.{IsPosted, IsPostedNext, EndsAreTheMachines, answer_of, goes_over}
+use Rattle.nv_desk_copies.specs.Posts.{IsPosted, IsPostedNext, answer_of, goes_over}
 use Rattle.nv_desk_copies.specs.declared.post.Posted.{Posted}
 use Rattle.job_progress.specs.Hand.{HandState}
 use Rattle.job_progress.specs.JobInHand.{HandFits, IsFruitless, IsInHand}
-use Rattle.job_progress.specs.Fits.{IsExplained, EndsAreExplained, EndsAreOfPrograms}
+use Rattle.job_progress.specs.Fits.{IsExplained}
+use Rattle.nv_desk_copies.proofs.Posting.{ends_are_the_machines}
+use Rattle.job_progress.proofs.Fitting.{ends_are_explained, ends_are_of_programs, kind_by}
+use Rattle.nvm_device_laws.proofs.Called.{entries_keep}
+use Rattle.nvm_device_laws.proofs.PaidPosts.{posts_are_paid}
+use Rattle.nvm_device_laws.proofs.Pushed.{started_push}
 use Rattle.nvm_laws.specs.Keeps.{StackKeeps}
 use Rattle.nvm_laws.specs.Entries.{PostsKeep, SkippedKeep}
 use Rattle.nvm_laws.proofs.Operations.{same_job}
-use Rattle.nvm_laws.proofs.Picking.{started_push}
 use Rattle.nvm_laws.proofs.Paying.{pays_free, free_alone, free_refused, free_unfailed, open_none, none_result, only_none, over_by}
-
--- a job that doesn't work on the device is a restore
-kind_by : (r : Request) → works (unwrap_or (job_kind r) ReadJob) ≡ false → unwrap_or (job_kind r) ReadJob ≡ RestoreJob
-kind_by (Restore block ram) off = refl
-kind_by (Read block ram) off = cc
-kind_by (Write block content store) off = cc
-kind_by (Erase block) off = cc
-kind_by (Invalidate block) off = cc
-kind_by (SetIndex block index) off = cc
-kind_by (GetIndex block) off = cc
-kind_by (SetProtection block on) off = cc
-kind_by (SetLock block on) off = cc
-kind_by (SetRam block on) off = cc
-kind_by (PutRam block content) off = cc
-kind_by (Status block) off = cc
-kind_by ReadAll off = cc
-kind_by WriteAll off = cc
-kind_by CancelWriteAll off = cc
 
 -- a program that ended has no instance next
 none_next : (p : Program) (n : Option ℕ) (r : ReqResult) (source : GivenFrom) → step_by p n ≡ step.Ended r source → n ≡ None
@@ -60,9 +42,7 @@ step_is true h some is = cc
 step_is false h some is = is
 
 -- THE JOB IN HAND
-module _ (least : FailedSetsAreLeast) (machines : EndsAreTheMachines) (explained : EndsAreExplained) (programs : EndsAreOfPrograms)
-    (d : DeviceTold) (clock : Clock) (keep : EntriesKeep d clock) (pay : PostsArePaid d clock)
-    (old : DeskState) (h : HandState) (j : Job) (r : ReqResult) (source : GivenFrom) (hand : (state_of old).hand ≡ Some j)
+module _ (d : DeviceTold) (clock : Clock) (old : DeskState) (h : HandState) (j : Job) (r : ReqResult) (source : GivenFrom) (hand : (state_of old).hand ≡ Some j)
     (is : IsInHand old.config (state_of old) h d) (over : h.step ≡ step.Ended r source) (before : Part → PartTold) (kept : StackKeeps before old (Some h) d clock) where
   abbrev own : Own
   own = own_of old.config (state_of old) (job_block j)
@@ -72,7 +52,7 @@ module _ (least : FailedSetsAreLeast) (machines : EndsAreTheMachines) (explained
 
   -- what it ends with is the machine's
   is_machines : (failed : List ℕ) → IsExplained old.config (state_of old) j r source (given_by d.stand) failed → answer ≡ result_of own j failed
-  is_machines failed ex = machines old.config (state_of old) j r source (given_by d.stand) failed (record { open_set = ex.open_set; ends = ex.ends; gives = ex.gives })
+  is_machines failed ex = ends_are_the_machines old.config (state_of old) j r source (given_by d.stand) failed (record { open_set = ex.open_set; ends = ex.ends; gives = ex.gives })
 
   abbrev IsPaidNow : Answer → ℕ → Type 0
   IsPaidNow a refused = (p : Part) → IsPaid (is_of p d.fixed) old.config clock.worn (before p).faults (part_at p d).faults (old.entries ++ Post (job_block j) a.0 a.1 refused (ops_of d) ∷ [])
@@ -88,7 +68,7 @@ module _ (least : FailedSetsAreLeast) (machines : EndsAreTheMachines) (explained
 
   -- of an answer for which nothing failed
   unfailed : Contains (open_sets own j (kind_of j)) [] → answer ≡ result_of own j [] → IsPaidNow answer 0
-  unfailed at same = free answer 0 (free_unfailed least old.config (state_of old) j answer.0 answer.1 (ops_of d) hand at same)
+  unfailed at same = free answer 0 (free_unfailed old.config (state_of old) j answer.0 answer.1 (ops_of d) hand at same)
 
   restored : (failed : List ℕ) → IsExplained old.config (state_of old) j r source (given_by d.stand) failed → kind_of j ≡ RestoreJob → IsPaidNow answer 0
   restored failed ex kind =
@@ -98,14 +78,14 @@ module _ (least : FailedSetsAreLeast) (machines : EndsAreTheMachines) (explained
 
   as_ended : (t u : Bool) → took_none j.taken ≡ t → works (kind_of j) ≡ u → IsPaidNow answer 0
   as_ended true u none on =
-      let (failed, ex) = explained old.config (state_of old) h d j r source is hand (kept.fits j hand) over in
+      let (failed, ex) = ends_are_explained old.config (state_of old) h d j r source is hand (kept.fits j hand) over in
       unfailed (open_none own j (kind_of j) none) (is_machines failed ex ∙ (none_result own j failed none ∙ sym (none_result own j [] none)))
   as_ended false true some on =
-      let (program, ex) = programs old.config (state_of old) h d j r source is hand (kept.fits j hand) over on some in
-      pay old.config old.cap old.entries before j h.program answer.0 answer.1 program (next_is some) (is_machines (failed_of h.program.indices h.program.done) ex)
+      let (program, ex) = ends_are_of_programs old.config (state_of old) h d j r source is hand (kept.fits j hand) over on some in
+      posts_are_paid d clock old.config old.cap old.entries before j h.program answer.0 answer.1 program (next_is some) (is_machines (failed_of h.program.indices h.program.done) ex)
       kept.keeps kept.paid
   as_ended false false some off =
-      let (failed, ex) = explained old.config (state_of old) h d j r source is hand (kept.fits j hand) over in
+      let (failed, ex) = ends_are_explained old.config (state_of old) h d j r source is hand (kept.fits j hand) over in
       restored failed ex (kind_by j.request off)
 
   pub posted_keeps : (new : DeskState) (told behind : List Told) (posted : Posted)
@@ -114,7 +94,7 @@ module _ (least : FailedSetsAreLeast) (machines : EndsAreTheMachines) (explained
   posted_keeps new told behind posted post =
       subst (λ (x : DeskState). StackKeeps before x None d clock) (sym post.adds) (record {
         started = started_push old.entries e;
-        keeps = keep old.config old.cap old.entries before e kept.started kept.keeps refl (post.allowed kept.fits) refl
+        keeps = entries_keep d clock old.config old.cap old.entries before e kept.started kept.keeps refl (post.allowed kept.fits) refl
             (by (over_by (goes_over (desc_of old.config (job_block j)) (names_ram j.request) answer.1) answer (posted.result, post.given) post.refused
             (desc_of old.config (job_block j)).repeats (job_block j) told behind post.over));
         fits = tt;
@@ -131,19 +111,19 @@ module _ (least : FailedSetsAreLeast) (machines : EndsAreTheMachines) (explained
       by (inr each) = free (posted.result, post.given) post.refused
           (free_refused old.config (state_of old) (job_block j) posted.result post.given post.refused (desc_of old.config (job_block j)).repeats (ops_of d) each)
 
-pub posts_keep : FailedSetsAreLeast → EndsAreTheMachines → EndsAreExplained → EndsAreOfPrograms → (d : DeviceTold) (clock : Clock)
-    → EntriesKeep d clock → PostsArePaid d clock → PostsKeep d clock
-posts_keep least machines explained programs d clock keep pay old new h j r source told behind posted hand is over post before kept =
-    posted_keeps least machines explained programs d clock keep pay old h j r source hand is over before kept new told behind posted post
+pub posts_keep : (d : DeviceTold) (clock : Clock)
+    → PostsKeep d clock
+posts_keep d clock old new h j r source told behind posted hand is over post before kept =
+    posted_keeps d clock old h j r source hand is over before kept new told behind posted post
 
 -- WITHOUT A PICK
-module _ (d : DeviceTold) (clock : Clock) (keep : EntriesKeep d clock) (old new : DeskState) (told behind : List Told) (posted : Posted)
+module _ (d : DeviceTold) (clock : Clock) (old new : DeskState) (told behind : List Told) (posted : Posted)
     (none : (state_of old).hand ≡ None) (before : Part → PartTold) (kept : StackKeeps before old None d clock) where
   alone : (block : ℕ) (ram : Bool) (ended : Answer) → IsPosted (Unit {0}) block ram ended (ops_of d) old new told behind posted → StackKeeps before new None d clock
   alone block ram ended post =
       subst (λ (x : DeskState). StackKeeps before x None d clock) (sym post.adds) (record {
         started = started_push old.entries e;
-        keeps = keep old.config old.cap old.entries before e kept.started kept.keeps refl (post.allowed tt) refl
+        keeps = entries_keep d clock old.config old.cap old.entries before e kept.started kept.keeps refl (post.allowed tt) refl
             (λ p. pays_free (is_of p d.fixed) old.config clock.worn (before p).faults (part_at p d).faults old.entries e
             (free_alone old.config (state_of old) block posted.result post.given post.refused (ops_of d) none) (kept.keeps.over.paid p));
         fits = tt;
@@ -161,6 +141,6 @@ module _ (d : DeviceTold) (clock : Clock) (keep : EntriesKeep d clock) (old new 
   alone_by (BeginSweep sw) post = absurd post
   alone_by (PickMember sw id) post = absurd post
 
-pub skipped_keep : (d : DeviceTold) (clock : Clock) → EntriesKeep d clock → SkippedKeep d clock
-skipped_keep d clock keep old new told behind posted none post before kept =
-    alone_by d clock keep old new told behind posted none before kept (next_of old.config (state_of old)) post
+pub skipped_keep : (d : DeviceTold) (clock : Clock) → SkippedKeep d clock
+skipped_keep d clock old new told behind posted none post before kept =
+    alone_by d clock old new told behind posted none before kept (next_of old.config (state_of old)) post

@@ -53,20 +53,6 @@ wrote_fits kind mark settled r other = out_of kind settled (is_failed (outcome_b
     by BlockInconsistent = refl
     by BlockInvalid = refl
 
-pub not_first : (mark : Option Mark) (r : JobResult) → outcome_by mark r ≢ First
-not_first None JobOk is = cc
-not_first None BlockInvalid is = cc
-not_first None BlockInconsistent is = cc
-not_first None JobFailed is = cc
-not_first None JobPending is = cc
-not_first None JobCanceled is = cc
-not_first (Some mark) JobOk is = cc
-not_first (Some mark) BlockInvalid is = cc
-not_first (Some mark) BlockInconsistent is = cc
-not_first (Some mark) JobFailed is = cc
-not_first (Some mark) JobPending is = cc
-not_first (Some mark) JobCanceled is = cc
-
 -- MARKS
 pub map_at : {A B : Type 0} (f : A → B) (xs : List A) (n : ℕ) (x : A) → slice_get xs n ≡ Some x → slice_get (map f xs) n ≡ Some (f x)
 map_at f [] n x has = cc

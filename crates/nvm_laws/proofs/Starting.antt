@@ -1,7 +1,7 @@
 -- The start of an operation that the job in hand names, and the calls that drop or leave the job in hand.
 use Rattle.std.specs.Prelude.{slice_get, nat_le, ◌==◌, ◌||◌, if◌then◌else◌}
 use Rattle.std.specs.List.{Contains}
-use Rattle.std.proofs.Common.{◌≡◌, ◌≢◌, ℕ, zero, suc, ◌+◌, ◌*◌, Bool, true, false, List, [], ◌∷◌, length, Option, Some, None, refl, sym, ap, ◌∙◌, subst, arith}
+use Rattle.std.proofs.Common.{◌≡◌, ◌≢◌, ℕ, zero, suc, ◌+◌, ◌*◌, Bool, true, false, List, [], ◌∷◌, length, Option, Some, None, Result, refl, sym, ap, ◌∙◌, subst, arith}
 use Rattle.std.proofs.lemmas.Bool.{eq-eqb}
 use Rattle.block_machine.specs.nv_base.Marks.{instance_of}
 use Rattle.block_machine.specs.nv_base.declared.instance.DeviceNumber.{DeviceNumber}
@@ -9,25 +9,26 @@ use Rattle.block_machine.specs.nv_base.declared.instance.Instance.{Instance}
 use Rattle.block_machine.specs.nv_base.declared.job.DeviceOp.{DeviceOp}
 use Rattle.block_machine.specs.nv_base.declared.job.JobStep.TheVariants as step
 use Rattle.memif.specs.Told as device
-use Rattle.memif.specs.Told.{DeviceTold, Slot, Stand, Open, is_open, Part, PartTold}
+use Rattle.memif.specs.Told.{DeviceTold, Slot, Part, PartTold}
 use Rattle.memif.specs.Clock.{Clock}
-use Rattle.memif.specs.Calls.{Wish}
+use Rattle.memif.specs.Calls.{Wish, Accepts, Cancels}
+use Rattle.memif.specs.declared.answer.DeviceRefusal.{DeviceRefusal}
 use Rattle.block_machine.specs.block_config.Lengths.{lengths_of}
 use Rattle.block_machine.specs.Words.{Mark, JobKind, ReadJob, Outcome, BlockKind, Native, Redundant, Dataset, Configuration}
 use Rattle.block_machine.specs.State.{State, InstanceState, Job}
 use Rattle.block_machine.specs.Blocks.{desc_of, instance_at, indices_by, indices_of, is_in, job_block, kind_of, mark_by, mark_of}
 use Rattle.block_machine.specs.History.{MayStandIn}
-use Rattle.block_laws.specs.Laws.{MarksInHandStand, MarksInHandAreDoubts}
 use Rattle.job_programs.specs.Program.{Program, is_failed}
 use Rattle.job_programs.specs.Failures.{served_of}
 use Rattle.nvm_device_laws.specs.Pairing.{Allows, HasDoubt, Pairs, IsStaged}
-use Rattle.nvm_device_laws.specs.Turn.{Stays, StartsStay}
-use Rattle.nvm_device_laws.specs.Tries.{TriesStay}
 use Rattle.promise_blocks.specs.Counts.{count_due}
 use Rattle.nv_desk.specs.Desk.{DeskState, state_of}
 use Rattle.job_progress.specs.Hand.{HandState, with_start}
 use Rattle.job_progress.specs.JobInHand.{HandFits, IsInHand, job_for, program_for}
 use Rattle.job_progress.specs.Goes.{Names}
+use Rattle.block_laws.proofs.HandMarks.{marks_in_hand_stand, marks_in_hand_are_doubts}
+use Rattle.nvm_device_laws.proofs.DeviceCalls.{cancel_stays, read_stays, start_stays}
+use Rattle.nvm_device_laws.proofs.DeviceTries.{start_tries}
 use Rattle.nvm_laws.specs.Keeps.{StackKeeps}
 use Rattle.nvm_laws.specs.Calls.{StartsKeep, CancelsKeep}
 use Rattle.nvm_laws.proofs.Operations.{own, same_job}
@@ -77,7 +78,7 @@ some_doubt : (xs : List Mark) (m : Mark) → Contains xs m → xs ≢ []
 some_doubt [] m has = absurd (omega (arith, has.1))
 some_doubt (x ∷ xs) m has = λ is. cc
 
-module _ (stands : MarksInHandStand) (owes : MarksInHandAreDoubts) (before : Part → PartTold) (desk : DeskState) (h : HandState) (op : DeviceOp) (i : Instance)
+module _ (before : Part → PartTold) (desk : DeskState) (h : HandState) (op : DeviceOp) (i : Instance)
     (names : Names desk.config (state_of desk) h op i) (d : DeviceTold) (clock : Clock) (is : IsInHand desk.config (state_of desk) h d)
     (kept : StackKeeps before desk (Some h) d clock) where
   job_is : is.job ≡ names.job
@@ -106,10 +107,10 @@ module _ (stands : MarksInHandStand) (owes : MarksInHandAreDoubts) (before : Par
       ∙ is_in_at (indices_of desk.config (state_of desk) (job_block names.job)) (length h.program.done) names.index
       (own desk.config (state_of desk) h d is names.job names.hand names.index names.next).1 in
       let doubt : Contains y.cell.doubts m =
-      owes desk.config desk.cap desk.entries names.job m (instance_of x.0) y kept.keeps.over.legal names.hand marks (block ∙ names.same_block) in_it
+      marks_in_hand_are_doubts desk.config desk.cap desk.entries names.job m (instance_of x.0) y kept.keeps.over.legal names.hand marks (block ∙ names.same_block) in_it
       (ap (is_in names.job.written) index ∙ left m marks) at in (
         subst (λ (o : Option InstanceState). MayStandIn o m) (sym at)
-            (stands desk.config desk.cap desk.entries names.job m (instance_of x.0) y kept.keeps.over.legal names.hand marks (block ∙ names.same_block) in_it at),
+            (marks_in_hand_stand desk.config desk.cap desk.entries names.job m (instance_of x.0) y kept.keeps.over.legal names.hand marks (block ∙ names.same_block) in_it at),
         subst HasDoubt (sym at) (some_doubt y.cell.doubts m doubt),
       )
 
@@ -126,31 +127,31 @@ pub fits_on : (c : Configuration) (s : State) (h : HandState) (old new : DeviceT
 fits_on c s h old new op i at fits j held = record { fit = (fits j held).fit; last = λ r bytes ends stands. cc }
 
 -- THE START
-pub starts_keep : MarksInHandStand → MarksInHandAreDoubts → (w : Wish) (old : DeviceTold) (clock : Clock) (new : DeviceTold) (clock_new : Clock)
-    → StartsStay w old clock new clock_new → TriesStay old clock new clock_new → StartsKeep w old clock new clock_new
-starts_keep stands owes w old clock new clock_new stays tries desk h op i names at is asked before kept = record {
+pub starts_keep : (old : DeviceTold) (clock : Clock) (new : DeviceTold) (clock_new : Clock) (w : Wish) (answer : Result (Unit {0}) DeviceRefusal)
+    → Accepts w answer old clock new clock_new → StartsKeep w old clock new clock_new
+starts_keep old clock new clock_new w answer accepts desk h op i names at is asked before kept = record {
   started = kept.started;
-  keeps = stays desk.config desk.cap desk.entries before kept.started
-      (subst (λ (j : device.Job). IsStaged desk.config (state_of desk) j.number j.mark) (sym asked) (staged stands owes before desk h op i names old clock is kept)) kept.keeps;
+  keeps = start_stays old clock new clock_new w answer accepts desk.config desk.cap desk.entries before kept.started
+      (subst (λ (j : device.Job). IsStaged desk.config (state_of desk) j.number j.mark) (sym asked) (staged before desk h op i names old clock is kept)) kept.keeps;
   fits = fits_on desk.config (state_of desk) h old new op i at kept.fits;
-  paid = tries desk.config desk.cap desk.entries before h.program kept.keeps kept.paid;
+  paid = start_tries old clock new clock_new w answer accepts desk.config desk.cap desk.entries before h.program kept.keeps kept.paid;
 }
 
 -- a read has no mark
-pub reads_keep : (w : Wish) (old : DeviceTold) (clock : Clock) (new : DeviceTold) (clock_new : Clock)
-    → Stays old clock new clock_new → TriesStay old clock new clock_new → StartsKeep w old clock new clock_new
-reads_keep w old clock new clock_new stays tries desk h op i names at is asked before kept = record {
+pub reads_keep : (old : DeviceTold) (clock : Clock) (new : DeviceTold) (clock_new : Clock) (w : Wish) (answer : Result (Unit {0}) DeviceRefusal)
+    → w.job.mark ≡ None → Accepts w answer old clock new clock_new → StartsKeep w old clock new clock_new
+reads_keep old clock new clock_new w answer none accepts desk h op i names at is asked before kept = record {
   started = kept.started;
-  keeps = stays desk.config desk.cap desk.entries before kept.started kept.keeps;
+  keeps = read_stays old clock new clock_new w answer none accepts desk.config desk.cap desk.entries before kept.started kept.keeps;
   fits = fits_on desk.config (state_of desk) h old new op i at kept.fits;
-  paid = tries desk.config desk.cap desk.entries before h.program kept.keeps kept.paid;
+  paid = start_tries old clock new clock_new w answer accepts desk.config desk.cap desk.entries before h.program kept.keeps kept.paid;
 }
 
 -- A CANCEL
-pub cancels_keep : (old : DeviceTold) (clock : Clock) (new : DeviceTold) (clock_new : Clock) → Stays old clock new clock_new → CancelsKeep old clock new clock_new
-cancels_keep old clock new clock_new stays desk hand before kept = record {
+pub cancels_keep : (old : DeviceTold) (clock : Clock) (new : DeviceTold) (clock_new : Clock) → Cancels old clock new clock_new → CancelsKeep old clock new clock_new
+cancels_keep old clock new clock_new cancels desk hand before kept = record {
   started = kept.started;
-  keeps = stays desk.config desk.cap desk.entries before kept.started kept.keeps;
+  keeps = cancel_stays old clock new clock_new cancels desk.config desk.cap desk.entries before kept.started kept.keeps;
   fits = tt;
   paid = tt;
 }

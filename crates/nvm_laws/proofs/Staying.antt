@@ -11,6 +11,8 @@ use Rattle.nvm_device_laws.specs.Tries.{TriesArePaid, TriesStay}
 use Rattle.nv_desk.specs.Desk.{DeskState, state_of}
 use Rattle.job_progress.specs.Hand.{HandState}
 use Rattle.job_progress.specs.JobInHand.{FitsMarks, HandFits}
+use Rattle.nvm_device_laws.proofs.DeviceCalls.{arm_stays}
+use Rattle.nvm_device_laws.proofs.DeviceTries.{arm_tries}
 use Rattle.nvm_laws.specs.Keeps.{StaysKept}
 use Rattle.nvm_laws.specs.Calls.{ArmsKeep}
 
@@ -42,7 +44,8 @@ armed_stand which nth keep d = by (which == 0) (which == 1)
     by false true = refl
     by false false = refl
 
-pub arms_keep : (which nth keep : ℕ) (old : DeviceTold) (clock : Clock) (new : DeviceTold) (clock_new : Clock) → Arms which nth keep old clock new clock_new
-    → Stays old clock new clock_new → TriesStay old clock new clock_new → ArmsKeep old clock new clock_new
-arms_keep which nth keep old clock new clock_new arms stays tries =
-    stays_kept old clock new clock_new (ap (λ (d : DeviceTold). d.stand) arms.0 ∙ armed_stand which nth keep old) stays tries
+pub arms_keep : (old : DeviceTold) (clock : Clock) (new : DeviceTold) (clock_new : Clock) (which nth keep : ℕ)
+    → Arms which nth keep old clock new clock_new → ArmsKeep old clock new clock_new
+arms_keep old clock new clock_new which nth keep arms =
+    stays_kept old clock new clock_new (ap (λ (d : DeviceTold). d.stand) arms.0 ∙ armed_stand which nth keep old)
+    (arm_stays old clock new clock_new which nth keep arms) (arm_tries old clock new clock_new which nth keep arms)

@@ -13,20 +13,24 @@ use Rattle.memif.specs.Calls.{JobTurns, IsCut, Turns}
 use Rattle.block_machine.specs.Words.{Mark, Entry, Off, Configuration}
 use Rattle.block_machine.specs.State.{State}
 use Rattle.block_machine.specs.Steps.{step}
-use Rattle.block_laws.specs.Laws.{HistoriesStep, LegalStatesAreConsistent, JobsAreConfigured}
 use Rattle.promise_blocks.specs.Counts.{count_due}
 use Rattle.nvm_device_laws.specs.Outcomes.{outcome_by, OutcomesFit}
 use Rattle.nvm_device_laws.specs.Turn.{StaysBy, TurnsKeep, settled_by, wrote_by}
-use Rattle.nvm_device_laws.specs.Tries.{TriesArePaid, TriesStay, TriesGoOn, TriesStayWith, is_post}
+use Rattle.nvm_device_laws.specs.Tries.{TriesArePaid, TriesStay, TriesGoOn, is_post}
 use Rattle.nv_desk.specs.Desk.{DeskState, state_of}
 use Rattle.job_progress.specs.Hand.{HandState, ended}
 use Rattle.job_progress.specs.JobInHand.{HandFits, IsInHand, IsPaired}
 use Rattle.job_progress.specs.Goes.{state_by}
+use Rattle.block_laws.proofs.HistoryLaws.{histories_step}
+use Rattle.nvm_device_laws.proofs.DeviceCalls.{turn_keeps}
+use Rattle.nvm_device_laws.proofs.DeviceTries.{turn_tries, turn_goes_on}
+use Rattle.nvm_device_laws.proofs.FittingOutcomes.{outcomes_fit}
+use Rattle.nvm_device_laws.proofs.PaidTries.{tries_stay_with}
+use Rattle.nvm_device_laws.proofs.Pushed.{started_push}
 use Rattle.nvm_laws.specs.Turns.{entry_by, AddsBy, hand_by}
 use Rattle.nvm_laws.specs.Keeps.{StackKeeps}
 use Rattle.nvm_laws.specs.Calls.{DeviceTurnsKeep}
 use Rattle.nvm_laws.proofs.Operations.{is_block}
-use Rattle.nvm_laws.proofs.Picking.{started_push}
 use Rattle.nvm_laws.proofs.Staying.{fits_stay, paid_stays}
 use Rattle.nvm_laws.proofs.Ending.{ended_fits, index, listed, next, number_is, read_has_none, small_index}
 
@@ -44,7 +48,7 @@ cut_stand : (p : Part) (old new : DeviceTold) → IsCut p old new → new.stand 
 cut_stand First old new cut = ap (λ (d : DeviceTold). d.stand) cut.only
 cut_stand Second old new cut = ap (λ (d : DeviceTold). d.stand) cut.only
 
-off_stand : (old : DeviceTold) (clock : Clock) (new : DeviceTold) (clock_new : Clock) → Turns turn.Off old clock new clock_new → new.stand ≡ old.stand
+pub off_stand : (old : DeviceTold) (clock : Clock) (new : DeviceTold) (clock_new : Clock) → Turns turn.Off old clock new clock_new → new.stand ≡ old.stand
 off_stand old clock new clock_new turns = elim turns.0.1.1 [
   | inl still ↦ ap (λ (d : DeviceTold). d.stand) still.2
   | inr cut ↦ cut_stand turns.0.1.0 old new cut.0
@@ -55,7 +59,7 @@ settled_same (Open j) (Open j') ops same = refl
 settled_same (Open j) (Ended r given) ops same = cc
 settled_same (Ended r given) b ops same = refl
 
-hand_same : (a b : Stand) (hand : Option HandState) → b ≡ a → hand_by a b hand ≡ hand
+pub hand_same : (a b : Stand) (hand : Option HandState) → b ≡ a → hand_by a b hand ≡ hand
 hand_same (Open j) (Open j') hand same = refl
 hand_same (Open j) (Ended r given) hand same = cc
 hand_same (Ended r given) b hand same = refl
@@ -77,16 +81,16 @@ fits_off : (c : Configuration) (s : State) (hand : Option HandState) (d : Device
 fits_off c s None d ops fits = tt
 fits_off c s (Some h) d ops fits = λ j held. record { fit = (fits j held).fit; last = (fits j held).last }
 
-module _ (steps : HistoriesStep) (consistent : LegalStatesAreConsistent) (configured : JobsAreConfigured) (old : DeviceTold) (clock : Clock) (new : DeviceTold) (clock_new : Clock)
+module _ (old : DeviceTold) (clock : Clock) (new : DeviceTold) (clock_new : Clock)
     (tries : TriesStay old clock new clock_new) (goes_on : TriesGoOn old clock new clock_new) (outcomes : OutcomesFit old new)
-    (stay_with : TriesStayWith new clock_new) (before : Part → PartTold) (desk desk_new : DeskState) (hand : Option HandState)
+    (before : Part → PartTold) (desk desk_new : DeskState) (hand : Option HandState)
     (up : old.started ≡ true) (paired : IsPaired desk.config (state_of desk) hand old) (kept : StackKeeps before desk hand old clock) where
   abbrev ArePaidAt : List Entry → Option HandState → Type 0
   ArePaidAt entries held = IfSome held (λ x. TriesArePaid desk.config clock_new.worn before new entries x.program)
 
   paid_with : (e : Entry) → is_post e ≡ false → (held : Option HandState) → ArePaidAt desk.entries held → ArePaidAt (desk.entries ++ e ∷ []) held
   paid_with e plain None paid = tt
-  paid_with e plain (Some x) paid = stay_with desk.config desk.entries before x.program e plain paid
+  paid_with e plain (Some x) paid = tries_stay_with new clock_new desk.config desk.entries before x.program e plain paid
 
   -- all is kept behind an entry, or without one
   made : (e : Option Entry) → IsNoPost e → StaysBy e old clock new clock_new → AddsBy e desk desk_new → (held : Option HandState)
@@ -100,7 +104,7 @@ module _ (steps : HistoriesStep) (consistent : LegalStatesAreConsistent) (config
   made (Some e) plain stays adds held fits paid = subst (λ (x : DeskState). StackKeeps before x held new clock_new) (sym adds.0) (record {
     started = started_push desk.entries e;
     keeps = stays desk.config desk.cap desk.entries before kept.started adds.1 kept.keeps;
-    fits = subst (λ (t : State). HandFits desk.config t held new) (sym (steps desk.config desk.entries e)) fits;
+    fits = subst (λ (t : State). HandFits desk.config t held new) (sym (histories_step desk.config desk.entries e)) fits;
     paid = paid_with e plain held paid;
   })
 
@@ -135,7 +139,7 @@ module _ (steps : HistoriesStep) (consistent : LegalStatesAreConsistent) (config
         → ArePaidAt desk.entries (Some (ended (outcome_by job.mark r) h))
     ended_paid h held is paid =
         let (x, has, same) = listed desk.config (state_of desk) h old new job r given is on off
-        (is_block consistent configured desk.config desk.cap desk.entries is.job kept.keeps.device.rules kept.keeps.over.legal is.hand) in
+        (is_block desk.config desk.cap desk.entries is.job kept.keeps.device.rules kept.keeps.over.legal is.hand) in
         let number = number_is desk.config (state_of desk) h old new job r given is on off in
         let small = small_index desk.config (state_of desk) h old new job r given is on off kept.keeps.device.rules in
         let own : (instance_of x.0).block ≡ h.program.block = omega (arith, number, small, same) in
@@ -148,7 +152,7 @@ module _ (steps : HistoriesStep) (consistent : LegalStatesAreConsistent) (config
         → HandFits desk.config (state_by desk.config (state_of desk) (settled_by (Open job) (Ended r given) (ops_of new))) (Some (ended (outcome_by job.mark r) h)) new
     ended_seen h is fits =
         let (x, has, same) = listed desk.config (state_of desk) h old new job r given is on off
-        (is_block consistent configured desk.config desk.cap desk.entries is.job kept.keeps.device.rules kept.keeps.over.legal is.hand) in
+        (is_block desk.config desk.cap desk.entries is.job kept.keeps.device.rules kept.keeps.over.legal is.hand) in
         ended_fits desk.config (state_of desk) h old new job r given is on off (ops_of new) x same
         (small_index desk.config (state_of desk) h old new job r given is on off kept.keeps.device.rules)
         (outcomes desk.config (state_of desk) (count_due desk.entries kept.keeps.base) job x r given on off (kept.keeps.settled kept.started up) has same) fits
@@ -189,9 +193,9 @@ module _ (steps : HistoriesStep) (consistent : LegalStatesAreConsistent) (config
   turned turn.Idle turns keeps adds = stood (ap (λ (d : DeviceTold). d.stand) turns.0.1) keeps adds
   turned turn.Worked turns keeps adds = moved (moves_by turns.0.1.0 old new clock_new old.stand new.stand turns.0.1.1.job) keeps adds
 
-pub turns_keep : HistoriesStep → LegalStatesAreConsistent → JobsAreConfigured → (old : DeviceTold) (clock : Clock) (new : DeviceTold) (clock_new : Clock) → (answer : DeviceTurn)
-    → Turns answer old clock new clock_new → TurnsKeep answer old clock new clock_new → TriesStay old clock new clock_new
-    → TriesGoOn old clock new clock_new → OutcomesFit old new → TriesStayWith new clock_new
-    → DeviceTurnsKeep answer old clock new clock_new
-turns_keep steps consistent configured old clock new clock_new answer turns keeps tries goes_on outcomes stay_with desk desk_new hand up paired adds before kept =
-    turned steps consistent configured old clock new clock_new tries goes_on outcomes stay_with before desk desk_new hand up paired kept answer turns keeps adds
+pub device_turns_keep : (old : DeviceTold) (clock : Clock) (new : DeviceTold) (clock_new : Clock) (answer : DeviceTurn)
+    → Turns answer old clock new clock_new → DeviceTurnsKeep answer old clock new clock_new
+device_turns_keep old clock new clock_new answer turns desk desk_new hand up paired adds before kept =
+    turned old clock new clock_new (turn_tries old clock new clock_new answer turns) (turn_goes_on old clock new clock_new answer turns)
+    (outcomes_fit old clock new clock_new answer turns) before desk desk_new hand up paired kept answer turns
+    (turn_keeps old clock new clock_new answer turns) adds

@@ -9,9 +9,9 @@ use Rattle.block_machine.specs.block_config.Rules.{IsLegalConfig, IsLegalBlock, 
 use Rattle.block_machine.specs.Words.{Entry, BlockDesc, Configuration}
 use Rattle.block_machine.specs.Blocks.{desc_of, job_block, kind_of, block_at}
 use Rattle.job_programs.specs.Program.{Program}
-use Rattle.nvm_figures.specs.Drain.{ProgramsAreSmall, EntriesLower}
 use Rattle.nv_desk.specs.Desk.{DeskState}
 use Rattle.job_progress.specs.JobInHand.{program_for}
+use Rattle.nvm_figures.proofs.DrainWork.{programs_are_small, entries_lower}
 use Rattle.nvm_laws.specs.Work.{program_in_hand, HandsAreSmall, EntriesLowerWork}
 
 -- THE TRIES
@@ -37,12 +37,12 @@ few_tries c zero rules = record { reads = omega arith; writes = omega arith }
 few_tries c (suc i) rules = few_in c.blocks c.id i rules.blocks_legal
 
 -- THE PROGRAM IN HAND
-pub hands_small : ProgramsAreSmall → HandsAreSmall
-hands_small small c s None d rules paired = tt
-hands_small small c s (Some h) d rules paired =
+pub hands_are_small : HandsAreSmall
+hands_are_small c s None d rules paired = tt
+hands_are_small c s (Some h) d rules paired =
     let j = paired.job in
     let few = few_tries c (job_block j) rules in
-    let is = small (desc_of c (job_block j)) (is_some (desc_of c (job_block j)).defaults) (job_block j) (block_at s (job_block j)).index (kind_of j) few.reads few.writes in
+    let is = programs_are_small (desc_of c (job_block j)) (is_some (desc_of c (job_block j)).defaults) (job_block j) (block_at s (job_block j)).index (kind_of j) few.reads few.writes in
     let indices : h.program.indices ≡ (program_for c s j).indices = ap (λ (q : Program). q.indices) paired.working.is in
     let retries : h.program.retries ≡ (program_for c s j).retries = ap (λ (q : Program). q.retries) paired.working.is in
     (rw indices is.0, rw retries is.1)
@@ -51,8 +51,8 @@ hands_small small c s (Some h) d rules paired =
 room_less : (cap : ℕ) (es : List Entry) (e : Entry) → length (es ++ e ∷ []) ≤ cap → cap - length (es ++ e ∷ []) < cap - length es
 room_less cap es e fits = let one = length-append es (e ∷ []) in omega (arith, fits, one)
 
-pub entries_lower_work : (new : DeviceTold) (clock : Clock) → EntriesLower new clock → EntriesLowerWork new clock
-entries_lower_work new clock lower old desk desk_new e hand next order adds fits small =
+pub entries_lower_work : (new : DeviceTold) (clock : Clock) → EntriesLowerWork new clock
+entries_lower_work new clock old desk desk_new e hand next order adds fits small =
     let within : length (desk.entries ++ e ∷ []) ≤ desk.cap = subst (λ (x : DeskState). length x.entries ≤ x.cap) adds fits in
-    rw adds (lower old (desk.cap - length desk.entries) (desk.cap - length (desk.entries ++ e ∷ [])) (program_in_hand hand) (program_in_hand next) order
+    rw adds (entries_lower new clock old (desk.cap - length desk.entries) (desk.cap - length (desk.entries ++ e ∷ [])) (program_in_hand hand) (program_in_hand next) order
     (room_less desk.cap desk.entries e within) small)

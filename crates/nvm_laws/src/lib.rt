@@ -6,27 +6,16 @@
 //! within these pages and four turns. Who makes the turns, and which entries they add, is left to `nvm_core`.
 #![tactic(auto)]
 
-mod calls;
 mod cases;
-mod due_laws;
-mod entries;
-mod numbered;
 mod turned;
-mod work_laws;
 
 pub use block_laws;
 pub use block_machine;
 pub use block_machine::{block_config, nv_base};
-pub use calls::{
-    arm, cancel, refusals_dont_come, start_erase, start_invalidate, start_read, start_write, turn,
-};
 pub use cases::due_cases;
-pub use due_laws::{asks_keep_due, calls_post_in_time, halves_bring_nearer};
-pub use entries::{asks_keep, picks_keep, posts_keep, stacks_come_up};
 pub use job_programs;
 pub use job_progress;
 pub use memif;
-pub use numbered::hands_are_numbered;
 pub use nv_desk;
 pub use nv_desk_copies;
 pub use nvm_device_laws;
@@ -34,4 +23,3 @@ pub use nvm_figures;
 pub use promise_blocks;
 pub use ram_blocks;
 pub use turned::{Act, FoundAnswer, Turned};
-pub use work_laws::{hands_are_small, stack_works};

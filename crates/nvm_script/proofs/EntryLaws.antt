@@ -327,24 +327,24 @@ read_entry-line tries (Found marks ops) s is =
 
 -- THE LAWS
 
-pub lines_tell : LinesTellEntries
-lines_tell tries a b s t is_a is_b e =
+pub lines_tell_entries : LinesTellEntries
+lines_tell_entries tries a b s t is_a is_b e =
     let same : ◌≡◌ {A = Entry × List ℕ} (a, s) (b, t) = sym (read_entry-line tries a s is_a) ∙ ap (read_entry tries) e ∙ read_entry-line tries b t is_b in
     (ap (λ (p : Entry × List ℕ). p.0) same, ap (λ (p : Entry × List ℕ). p.1) same)
 
-pub leave_out : LinesLeaveOut
-leave_out = (λ caller block store other bytes reply. refl, λ block asked got count other ops job. refl)
+pub lines_leave_out : LinesLeaveOut
+lines_leave_out = (λ caller block store other bytes reply. refl, λ block asked got count other ops job. refl)
 
 lines-append : (e : Entry) (es : List Entry) (s : List ℕ) → history_text (e ∷ es) ++ s ≡ entry_line e ++ (history_text es ++ s)
 lines-append e es s = append_assoc (entry_line e) (history_text es) s
 
-pub texts_tell : TextsTellHistories
-texts_tell tries [] [] s t are_a are_b no_a no_b e = (refl, e)
-texts_tell tries [] (y ∷ b) s t are_a are_b no_a no_b e = absurd (no_a y (history_text b ++ t) (e ∙ lines-append y b t))
-texts_tell tries (x ∷ a) [] s t are_a are_b no_a no_b e = absurd (no_b x (history_text a ++ s) (sym e ∙ lines-append x a s))
-texts_tell tries (x ∷ a) (y ∷ b) s t are_a are_b no_a no_b e =
-    let first = lines_tell tries x y (history_text a ++ s) (history_text b ++ t) are_a.0 are_b.0 (sym (lines-append x a s) ∙ e ∙ lines-append y b t) in
-    let rest = texts_tell tries a b s t are_a.1 are_b.1 no_a no_b first.1 in
+pub texts_tell_histories : TextsTellHistories
+texts_tell_histories tries [] [] s t are_a are_b no_a no_b e = (refl, e)
+texts_tell_histories tries [] (y ∷ b) s t are_a are_b no_a no_b e = absurd (no_a y (history_text b ++ t) (e ∙ lines-append y b t))
+texts_tell_histories tries (x ∷ a) [] s t are_a are_b no_a no_b e = absurd (no_b x (history_text a ++ s) (sym e ∙ lines-append x a s))
+texts_tell_histories tries (x ∷ a) (y ∷ b) s t are_a are_b no_a no_b e =
+    let first = lines_tell_entries tries x y (history_text a ++ s) (history_text b ++ t) are_a.0 are_b.0 (sym (lines-append x a s) ∙ e ∙ lines-append y b t) in
+    let rest = texts_tell_histories tries a b s t are_a.1 are_b.1 no_a no_b first.1 in
     let head : x ≡ y = first.0 in
     let tail : a ≡ b = rest.0 in
     (cc, rest.1)
@@ -357,5 +357,5 @@ last_begins : (count : ℕ) → BeginsNoEntry (end_line count)
 last_begins count (Ask caller r p) rest e = let first : true ≡ false = ap (λ (l : List ℕ). slice_index l 0 == 101) e in cc first
 last_begins count _ rest e = let first : true ≡ false = ap (λ (l : List ℕ). slice_index l 0 == 101) e in cc first
 
-pub ends_begin : EndsBeginNoEntry
-ends_begin = (nothing_begins, last_begins)
+pub ends_begin_no_entry : EndsBeginNoEntry
+ends_begin_no_entry = (nothing_begins, last_begins)

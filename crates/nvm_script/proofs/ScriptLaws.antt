@@ -11,6 +11,7 @@ use Rattle.nvm_script.specs.Cut.{cut_where, cut_at}
 use Rattle.nvm_script.specs.Line.{without_return, IsIdle, IsStepLine}
 use Rattle.nvm_script.specs.Owners.{owner_of, keeps_owner}
 use Rattle.nvm_script.specs.Script.{lines_of, Follows, IsWrong, IsScript, IsFirstWrong, later_lines}
+use Rattle.nvm_script.specs.Readings.{LeadToOne, BreakAtOne, DoOneOfBoth}
 use Rattle.nvm_script.proofs.LineLaws.{idle_or_step, one_step}
 
 -- a step of another owner is wrong
@@ -87,20 +88,20 @@ one_after c mode n line before a b (inr one) (inr two) =
     let same = one_step c mode line one.0 two.0 one.1 two.1 one.2 two.2 in
     one.4 ∙ ap (λ (m : ℕ). before ++ record { line = n; caller = m; kind = one.1 } ∷ []) same.0 ∙ ap (λ (k : StepKind). before ++ record { line = n; caller = two.0; kind = k } ∷ []) same.1 ∙ sym two.4
 
-pub one_script : (c : Configuration) (mode : Mode) (n : ℕ) (before : List Step) (lines : List (List ℕ)) (a b : List Step) → IsScript c mode n before lines a → IsScript c mode n before lines b → a ≡ b
+one_script : (c : Configuration) (mode : Mode) (n : ℕ) (before : List Step) (lines : List (List ℕ)) (a b : List Step) → IsScript c mode n before lines a → IsScript c mode n before lines b → a ≡ b
 one_script c mode n before [] a b one two = one ∙ sym two
 one_script c mode n before (line ∷ lines) a b one two =
     let same = one_after c mode n line before one.0 two.0 one.1 two.1 in
     one_script c mode (n + 1) one.0 lines a b one.2 (subst (λ (l : List Step). IsScript c mode (n + 1) l lines b) (sym same) two.2)
 
-pub script_or_wrong : (c : Configuration) (mode : Mode) (n : ℕ) (before : List Step) (lines : List (List ℕ)) (steps : List Step) (k : ℕ) → IsScript c mode n before lines steps → IsFirstWrong c mode n before lines k → ⊥
+script_or_wrong : (c : Configuration) (mode : Mode) (n : ℕ) (before : List Step) (lines : List (List ℕ)) (steps : List Step) (k : ℕ) → IsScript c mode n before lines steps → IsFirstWrong c mode n before lines k → ⊥
 script_or_wrong c mode n before [] steps k is wrong = wrong
 script_or_wrong c mode n before (line ∷ lines) steps k is (inl wrong) = wrong.1 is.0 is.1
 script_or_wrong c mode n before (line ∷ lines) steps k is (inr wrong) =
     let same = one_after c mode n line before is.0 wrong.0 is.1 wrong.1 in
     script_or_wrong c mode (n + 1) is.0 lines steps k is.2 (subst (λ (l : List Step). IsFirstWrong c mode (n + 1) l lines k) (sym same) wrong.2)
 
-pub one_wrong : (c : Configuration) (mode : Mode) (n : ℕ) (before : List Step) (lines : List (List ℕ)) (j k : ℕ) → IsFirstWrong c mode n before lines j → IsFirstWrong c mode n before lines k → j ≡ k
+one_wrong : (c : Configuration) (mode : Mode) (n : ℕ) (before : List Step) (lines : List (List ℕ)) (j k : ℕ) → IsFirstWrong c mode n before lines j → IsFirstWrong c mode n before lines k → j ≡ k
 one_wrong c mode n before [] j k one two = absurd one
 one_wrong c mode n before (line ∷ lines) j k (inl one) (inl two) = one.0 ∙ sym two.0
 one_wrong c mode n before (line ∷ lines) j k (inl one) (inr two) = absurd (one.1 two.0 two.1)
@@ -108,3 +109,13 @@ one_wrong c mode n before (line ∷ lines) j k (inr one) (inl two) = absurd (two
 one_wrong c mode n before (line ∷ lines) j k (inr one) (inr two) =
     let same = one_after c mode n line before one.0 two.0 one.1 two.1 in
     one_wrong c mode (n + 1) one.0 lines j k one.2 (subst (λ (l : List Step). IsFirstWrong c mode (n + 1) l lines k) (sym same) two.2)
+
+-- A SCRIPT HAS ONE READING
+pub lead_to_one : LeadToOne
+lead_to_one c mode lines a b = one_script c mode 2 [] lines a b
+
+pub break_at_one : BreakAtOne
+break_at_one c mode lines j k = one_wrong c mode 2 [] lines j k
+
+pub do_one_of_both : DoOneOfBoth
+do_one_of_both c mode lines steps k = script_or_wrong c mode 2 [] lines steps k

@@ -12,12 +12,16 @@ use Rattle.nvm_core.specs.block_machine.State.{State, BlockState, Job, Sweep}
 use Rattle.nvm_core.specs.block_machine.Blocks.{desc_of, block_at, no_block, status_of, is_pending, asked_block, job_kind}
 use Rattle.nvm_core.specs.block_machine.Sweeps.{is_picked}
 use Rattle.nvm_core.specs.block_machine.Next.{Next, Nothing, PickJob, BeginSweep, PickMember, PostMember, EndSweep, next_of, next_in, next_by, next_member}
-use Rattle.nvm_core.proofs.block_laws.ConsistentSteps.{member_block}
+use Rattle.nvm_core.proofs.block_laws.ConsistentSteps.{member_block, legal_states_are_consistent}
 use Rattle.nvm_core.specs.block_machine.StartUp.{started_block}
 use Rattle.nvm_core.specs.block_machine.Steps.{step, after, picked, wrote, with_block}
 use Rattle.nvm_core.specs.block_machine.Legal.{IsAllowed, IsLegal, MayPick}
-use Rattle.nvm_core.specs.block_laws.Laws.{HistoriesStep, BeginningsAreLegal, EntriesAreLocal, EntriesGiveStatus, JobsArePending, PlacesAreConfigured, LegalStatesAreConsistent, NextIsWaiting, entry_block}
+use Rattle.nvm_core.specs.block_laws.Laws.{entry_block}
 use Rattle.nvm_core.specs.block_laws.Consistent.{IsConsistent, IsPendingSweep}
+use Rattle.nvm_core.proofs.block_laws.HistoryLaws.{histories_step, beginnings_are_legal}
+use Rattle.nvm_core.proofs.block_laws.Locality.{entries_are_local, entries_give_status}
+use Rattle.nvm_core.proofs.block_laws.NextLaws.{next_is_waiting}
+use Rattle.nvm_core.proofs.block_laws.JobBlocks.{jobs_are_pending, places_are_configured}
 use Rattle.nvm_shared.specs.StatusWords.{off_word, told_at, told_by, pending_block, gives_by, gives, is_found}
 use Rattle.nvm_shared.specs.Statuses.{IsTold, EntriesTellStatuses}
 use Rattle.nvm_shared.proofs.WordsTold.{same, some_pair, told_if}
@@ -56,33 +60,33 @@ keeps : (s : State) (id : ℕ) (change : BlockState → BlockState) → ((b : Bl
 keeps s id change same within = ap (λ (b : BlockState). b.status) (with_same s id change within) ∙ same (block_at s id)
 
 module _ (c : Configuration) (s : State) (caller : ℕ) where
-  asked_job : (r : Request) → EntriesGiveStatus → (cap : ℕ) → is_some (job_kind r) ≡ true → pending_block r ≡ Some (asked_block r) → asked_block r < length s.blocks → asked_block r < off_word
+  asked_job : (r : Request) → (cap : ℕ) → is_some (job_kind r) ≡ true → pending_block r ≡ Some (asked_block r) → asked_block r < length s.blocks → asked_block r < off_word
       → IsTold (status_of s (asked_block r)) (status_of (step c s (Ask caller r Accepted)) (asked_block r)) (gives (Ask caller r Accepted) (asked_block r))
-  asked_job r give cap makes block within low =
+  asked_job r cap makes block within low =
       becomes (status_of s (asked_block r)) (status_of (step c s (Ask caller r Accepted)) (asked_block r)) (gives (Ask caller r Accepted) (asked_block r)) 2
       (ap (λ (o : Option ℕ). gives_by (option_and_then (told_at (code_of Pending)) o) (asked_block r)) block ∙ own_at 2 (asked_block r) low)
-      (pending_code (status_of (step c s (Ask caller r Accepted)) (asked_block r)) ((give c cap s 0 0 0 caller Fine None r).1 makes within))
+      (pending_code (status_of (step c s (Ask caller r Accepted)) (asked_block r)) ((entries_give_status c cap s 0 0 0 caller Fine None r).1 makes within))
 
-  asked : EntriesGiveStatus → (cap : ℕ) (r : Request) (reply : Reply) → asked_block r < length s.blocks → asked_block r < off_word
+  asked : (cap : ℕ) (r : Request) (reply : Reply) → asked_block r < length s.blocks → asked_block r < off_word
       → IsTold (status_of s (asked_block r)) (status_of (step c s (Ask caller r reply)) (asked_block r)) (gives (Ask caller r reply) (asked_block r))
-  asked give cap (Read block ram) Accepted within low = asked_job (Read block ram) give cap refl refl within low
-  asked give cap (Write block content store) Accepted within low = asked_job (Write block content store) give cap refl refl within low
-  asked give cap (Restore block ram) Accepted within low = asked_job (Restore block ram) give cap refl refl within low
-  asked give cap (Erase block) Accepted within low = asked_job (Erase block) give cap refl refl within low
-  asked give cap (Invalidate block) Accepted within low = asked_job (Invalidate block) give cap refl refl within low
-  asked give cap (SetIndex block index) Accepted within low = stays _ _ _ refl (keeps s block (λ b. record b { index = index }) (λ b. refl) within)
-  asked give cap (GetIndex block) Accepted within low = stays _ _ _ refl refl
-  asked give cap (SetProtection block on) Accepted within low = stays _ _ _ refl (keeps s block (λ b. record b { protected = on }) (λ b. refl) within)
-  asked give cap (SetLock block on) Accepted within low = stays _ _ _ refl (keeps s block (λ b. record b { locked = on }) (λ b. refl) within)
-  asked give cap (SetRam block on) Accepted within low = stays _ _ _ refl (keeps s block (λ b. record b { valid = on; changed = on }) (λ b. refl) within)
-  asked give cap (PutRam block content) Accepted within low = stays _ _ _ refl (keeps s block (λ b. record b { ram = content }) (λ b. refl) within)
-  asked give cap (Status block) Accepted within low = stays _ _ _ refl refl
-  asked give cap ReadAll Accepted within low = becomes _ _ _ 2 (own_at 2 0 low) (ap (λ (b : BlockState). code_of b.status) (with_same s 0 (λ b. record b { status = Pending }) within))
-  asked give cap WriteAll Accepted within low = becomes _ _ _ 2 (own_at 2 0 low) (ap (λ (b : BlockState). code_of b.status) (with_same s 0 (λ b. record b { status = Pending }) within))
-  asked give cap CancelWriteAll Accepted within low = stays _ _ _ refl refl
-  asked give cap r (Refused why) within low = stays _ _ _ refl refl
-  asked give cap r (StatusIs status) within low = stays _ _ _ refl refl
-  asked give cap r (IndexIs index) within low = stays _ _ _ refl refl
+  asked cap (Read block ram) Accepted within low = asked_job (Read block ram) cap refl refl within low
+  asked cap (Write block content store) Accepted within low = asked_job (Write block content store) cap refl refl within low
+  asked cap (Restore block ram) Accepted within low = asked_job (Restore block ram) cap refl refl within low
+  asked cap (Erase block) Accepted within low = asked_job (Erase block) cap refl refl within low
+  asked cap (Invalidate block) Accepted within low = asked_job (Invalidate block) cap refl refl within low
+  asked cap (SetIndex block index) Accepted within low = stays _ _ _ refl (keeps s block (λ b. record b { index = index }) (λ b. refl) within)
+  asked cap (GetIndex block) Accepted within low = stays _ _ _ refl refl
+  asked cap (SetProtection block on) Accepted within low = stays _ _ _ refl (keeps s block (λ b. record b { protected = on }) (λ b. refl) within)
+  asked cap (SetLock block on) Accepted within low = stays _ _ _ refl (keeps s block (λ b. record b { locked = on }) (λ b. refl) within)
+  asked cap (SetRam block on) Accepted within low = stays _ _ _ refl (keeps s block (λ b. record b { valid = on; changed = on }) (λ b. refl) within)
+  asked cap (PutRam block content) Accepted within low = stays _ _ _ refl (keeps s block (λ b. record b { ram = content }) (λ b. refl) within)
+  asked cap (Status block) Accepted within low = stays _ _ _ refl refl
+  asked cap ReadAll Accepted within low = becomes _ _ _ 2 (own_at 2 0 low) (ap (λ (b : BlockState). code_of b.status) (with_same s 0 (λ b. record b { status = Pending }) within))
+  asked cap WriteAll Accepted within low = becomes _ _ _ 2 (own_at 2 0 low) (ap (λ (b : BlockState). code_of b.status) (with_same s 0 (λ b. record b { status = Pending }) within))
+  asked cap CancelWriteAll Accepted within low = stays _ _ _ refl refl
+  asked cap r (Refused why) within low = stays _ _ _ refl refl
+  asked cap r (StatusIs status) within low = stays _ _ _ refl refl
+  asked cap r (IndexIs index) within low = stays _ _ _ refl refl
 
 -- PICKS
 next_job : (c : Configuration) (s : State) (j : Job) (n : Option Job) (hand : Option Job) (sweep : Option Sweep) → next_by c s n hand sweep ≡ PickJob j → n ≡ Some j
@@ -125,16 +129,16 @@ swept : (s : State) (o : Option Sweep) (sw : Sweep) → o ≡ Some sw → IfSome
 swept s (Some x) sw is pending = let same : x ≡ sw = cc in subst (IsPendingSweep s) same pending
 swept s None sw is pending = cc
 
-module _ (c : Configuration) (cap : ℕ) (h : List Entry) (waits : NextIsWaiting) (pending : JobsArePending) (legal : IsLegal c cap h) (consistent : IsConsistent c (after c h)) where
+module _ (c : Configuration) (cap : ℕ) (h : List Entry) (legal : IsLegal c cap h) (consistent : IsConsistent c (after c h)) where
   abbrev s : State
   s = after c h
 
   picked_by : (block : ℕ) (kind : JobKind) (t : Taken) (n : Next) → next_of c s ≡ n → MayPick c s block kind t n → block < length s.blocks → is_pending (status_of (picked c s t n) block) ≡ true
   picked_by block kind t (PickJob j) is may within =
-      let (front, rest, at) = waits c s.waiting j (next_job c s j (next_in c s.waiting) s.hand s.sweep is) in
+      let (front, rest, at) = next_is_waiting c s.waiting j (next_job c s j (next_in c s.waiting) s.hand s.sweep is) in
       let here : Contains (option_to_list s.hand ++ s.waiting) j = Contains-append_right (option_to_list s.hand) s.waiting j (subst (λ (l : List Job). Contains l j) (sym at) (Contains-append_right front (j ∷ rest) j (0, omega arith, refl))) in
       subst (λ (b : ℕ). is_pending (status_of s b) ≡ true) (sym may.same_block)
-      (pending c cap h j legal here (subst (λ (b : ℕ). b < length s.blocks) may.same_block within))
+      (jobs_are_pending c cap h j legal here (subst (λ (b : ℕ). b < length s.blocks) may.same_block within))
   picked_by block kind t (PickMember sw id) is may within =
       let at : block ≡ id = may.same_block ∙ member_block sw.writes id in
       subst (λ (b : ℕ). is_pending (status_of (picked c s t (PickMember sw id)) b) ≡ true) (sym at)
@@ -205,37 +209,35 @@ begun c cap s (Post block r given refused ops) is allowed = allowed.0.started
 begun c cap s (Off ops) is allowed = allowed.started
 begun c cap s (Found marks ops) is allowed = cc
 
-module _ (steps : HistoriesStep) (begins : BeginningsAreLegal) (local : EntriesAreLocal) (give : EntriesGiveStatus) (waits : NextIsWaiting) (pending : JobsArePending)
-    (places : PlacesAreConfigured) (consistent : LegalStatesAreConsistent) where
-  module _ (c : Configuration) (cap : ℕ) (h : List Entry) (legal : IsLegal c cap h) where
-    own : (e : Entry) → is_found e ≡ false → IsAllowed c cap (after c h) e → entry_block e < length (after c h).blocks → entry_block e < off_word
-        → IsTold (status_of (after c h) (entry_block e)) (status_of (step c (after c h) e) (entry_block e)) (gives e (entry_block e))
-    own (Ask caller r reply) is allowed within low = asked c (after c h) caller give cap r reply within low
-    own (Pick block kind t ops) is allowed within low = becomes _ _ _ 2 (own_at 2 block low)
-        (pending_code _ (picked_by c cap h waits pending legal (consistent c cap h legal) block kind t (next_of c (after c h)) refl allowed.1 within))
-    own (Wrote i mark ops) is allowed within low = stays _ _ _ refl (ap (λ (bs : List BlockState). (get_or bs 0 no_block).status) (wrote_blocks (after c h) i mark (after c h).hand))
-    own (Post block r given refused ops) is allowed within low = becomes _ _ _ (code_of r) (own_at (code_of r) block low)
-        (ap code_of ((give c cap (after c h) block refused ops 0 r given ReadAll).0 allowed within))
-    own (Off ops) is allowed within low = stays _ _ _ refl refl
-    own (Found marks ops) is allowed within low = cc
+module _ (c : Configuration) (cap : ℕ) (h : List Entry) (legal : IsLegal c cap h) where
+  own : (e : Entry) → is_found e ≡ false → IsAllowed c cap (after c h) e → entry_block e < length (after c h).blocks → entry_block e < off_word
+      → IsTold (status_of (after c h) (entry_block e)) (status_of (step c (after c h) e) (entry_block e)) (gives e (entry_block e))
+  own (Ask caller r reply) is allowed within low = asked c (after c h) caller cap r reply within low
+  own (Pick block kind t ops) is allowed within low = becomes _ _ _ 2 (own_at 2 block low)
+      (pending_code _ (picked_by c cap h legal (legal_states_are_consistent c cap h legal) block kind t (next_of c (after c h)) refl allowed.1 within))
+  own (Wrote i mark ops) is allowed within low = stays _ _ _ refl (ap (λ (bs : List BlockState). (get_or bs 0 no_block).status) (wrote_blocks (after c h) i mark (after c h).hand))
+  own (Post block r given refused ops) is allowed within low = becomes _ _ _ (code_of r) (own_at (code_of r) block low)
+      (ap code_of ((entries_give_status c cap (after c h) block refused ops 0 r given ReadAll).0 allowed within))
+  own (Off ops) is allowed within low = stays _ _ _ refl refl
+  own (Found marks ops) is allowed within low = cc
 
-    each : (e : Entry) (block : ℕ) → is_found e ≡ false → IsAllowed c cap (after c h) e → block < length (after c h).blocks → block < off_word
-        → IsTold (status_of (after c h) block) (status_of (step c (after c h) e) block) (gives e block)
-    each e block is allowed within low = by (eqb_tells block (entry_block e))
-      where
-        by : ((eqb block (entry_block e) ≡ true) × (block ≡ entry_block e)) ⊎ ((eqb block (entry_block e) ≡ false) × (block ≢ entry_block e))
-            → IsTold (status_of (after c h) block) (status_of (step c (after c h) e) block) (gives e block)
-        by (inl (on, here)) = subst (λ (b : ℕ). IsTold (status_of (after c h) b) (status_of (step c (after c h) e) b) (gives e b)) (sym here)
-            (own e is allowed (subst (λ (b : ℕ). b < length (after c h).blocks) here within) (subst (λ (b : ℕ). b < off_word) here low))
-        by (inr (off, apart)) = stays _ _ _ (not_own e block is low apart) (ap (λ (b : BlockState). b.status) (local c cap (after c h) e block allowed is apart))
+  each : (e : Entry) (block : ℕ) → is_found e ≡ false → IsAllowed c cap (after c h) e → block < length (after c h).blocks → block < off_word
+      → IsTold (status_of (after c h) block) (status_of (step c (after c h) e) block) (gives e block)
+  each e block is allowed within low = by (eqb_tells block (entry_block e))
+    where
+      by : ((eqb block (entry_block e) ≡ true) × (block ≡ entry_block e)) ⊎ ((eqb block (entry_block e) ≡ false) × (block ≢ entry_block e))
+          → IsTold (status_of (after c h) block) (status_of (step c (after c h) e) block) (gives e block)
+      by (inl (on, here)) = subst (λ (b : ℕ). IsTold (status_of (after c h) b) (status_of (step c (after c h) e) b) (gives e b)) (sym here)
+          (own e is allowed (subst (λ (b : ℕ). b < length (after c h).blocks) here within) (subst (λ (b : ℕ). b < off_word) here low))
+      by (inr (off, apart)) = stays _ _ _ (not_own e block is low apart) (ap (λ (b : BlockState). b.status) (entries_are_local c cap (after c h) e block allowed is apart))
 
-    entry : (e : Entry) (block : ℕ) → IsAllowed c cap (after c h) e → block ≤ length c.blocks → block < off_word
-        → IsTold (status_of (after c h) block) (status_of (step c (after c h) e) block) (gives e block)
-    entry (Found marks ops) block allowed few low = becomes _ _ _ 0 refl (found_at c (after c h) marks ops block)
-    entry e block allowed few low =
-        let count = (places c cap h legal (begun c cap (after c h) e refl allowed)).0 in each e block refl allowed (omega (arith, count, few)) low
+  entry : (e : Entry) (block : ℕ) → IsAllowed c cap (after c h) e → block ≤ length c.blocks → block < off_word
+      → IsTold (status_of (after c h) block) (status_of (step c (after c h) e) block) (gives e block)
+  entry (Found marks ops) block allowed few low = becomes _ _ _ 0 refl (found_at c (after c h) marks ops block)
+  entry e block allowed few low =
+      let count = (places_are_configured c cap h legal (begun c cap (after c h) e refl allowed)).0 in each e block refl allowed (omega (arith, count, few)) low
 
-  pub entries_tell : EntriesTellStatuses
-  entries_tell c cap h e block legal few low =
-      subst (λ (t : State). IsTold (status_of (after c h) block) (status_of t block) (gives e block)) (sym (steps c h e))
-      (entry c cap h (begins c cap h (e ∷ []) legal) e block (allowed_behind c cap h e legal) few low)
+pub entries_tell : EntriesTellStatuses
+entries_tell c cap h e block legal few low =
+    subst (λ (t : State). IsTold (status_of (after c h) block) (status_of t block) (gives e block)) (sym (histories_step c h e))
+    (entry c cap h (beginnings_are_legal c cap h (e ∷ []) legal) e block (allowed_behind c cap h e legal) few low)

@@ -6,11 +6,11 @@ mod Making
 mod Learning
 mod Serving
 mod Stale
-mod WritingLegal
-mod Standing
-mod Opened
-mod WordsTold
+pub mod WritingLegal
+pub mod Standing
+pub mod Opened
+pub mod WordsTold
 mod EntryStatuses
-mod Words
-mod Numbering
+pub mod Words
+pub mod Numbering
 mod Power

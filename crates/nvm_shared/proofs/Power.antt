@@ -6,10 +6,10 @@ use Rattle.nvm_core.specs.nv_base.Result.{code_of}
 use Rattle.nvm_core.specs.block_machine.Words.{Pending, Accepted, Refused, StatusIs, IndexIs, Entry, Ask, Pick, Wrote, Post, Off, Found, Configuration}
 use Rattle.nvm_core.specs.block_machine.State.{State}
 use Rattle.nvm_core.specs.block_machine.Steps.{step}
-use Rattle.nvm_core.specs.job_progress.Asks.{JobsKeepPower}
+use Rattle.nvm_core.proofs.job_progress.Powering.{jobs_keep_power}
 use Rattle.nvm_shared.specs.StatusWords.{off_word, told_at, pending_block, gives_by, gives}
 use Rattle.nvm_shared.proofs.WordsTold.{told_if}
-use Rattle.nvm_shared.proofs.Standing.{leave_power}
+use Rattle.nvm_shared.proofs.Standing.{asks_leave_power}
 
 none_if : (status block : ℕ) (b : Bool) → nat_lt block off_word ≡ b → gives_by (told_if b status block) off_word ≡ None
 none_if status block false test = refl
@@ -36,13 +36,13 @@ pub record TellsPower (s t : State) (given : Option ℕ) : Type 0 where
 quiet : (s t : State) (given : Option ℕ) → given ≡ None → t.off ≡ s.off → TellsPower s t given
 quiet s t given nothing same = record { none = λ is. ap (λ (b : Bool). if b then 1 else 0) same; some = λ x is. let never : None ≡ Some x = sym nothing ∙ is in cc }
 
-pub tells_power : JobsKeepPower → (c : Configuration) (s : State) (e : Entry) → TellsPower s (step c s e) (gives e off_word)
-tells_power keep c s (Ask caller r Accepted) = quiet s (step c s (Ask caller r Accepted)) _ (none_pending (pending_block r)) (leave_power c s caller r Accepted).1
-tells_power keep c s (Ask caller r (Refused why)) = quiet s (step c s (Ask caller r (Refused why))) _ refl refl
-tells_power keep c s (Ask caller r (StatusIs status)) = quiet s (step c s (Ask caller r (StatusIs status))) _ refl refl
-tells_power keep c s (Ask caller r (IndexIs index)) = quiet s (step c s (Ask caller r (IndexIs index))) _ refl refl
-tells_power keep c s (Pick block kind t ops) = quiet s (step c s (Pick block kind t ops)) _ (none_at (code_of Pending) block) (keep c s (Pick block kind t ops) refl).off
-tells_power keep c s (Wrote i mark ops) = quiet s (step c s (Wrote i mark ops)) _ refl (keep c s (Wrote i mark ops) refl).off
-tells_power keep c s (Post block r given refused ops) = quiet s (step c s (Post block r given refused ops)) _ (none_at (code_of r) block) (keep c s (Post block r given refused ops) refl).off
-tells_power keep c s (Off ops) = record { none = λ is. cc; some = λ x is. let same : 1 ≡ x = cc in same }
-tells_power keep c s (Found marks ops) = record { none = λ is. cc; some = λ x is. let same : 0 ≡ x = cc in same }
+pub tells_power : (c : Configuration) (s : State) (e : Entry) → TellsPower s (step c s e) (gives e off_word)
+tells_power c s (Ask caller r Accepted) = quiet s (step c s (Ask caller r Accepted)) _ (none_pending (pending_block r)) (asks_leave_power c s caller r Accepted).1
+tells_power c s (Ask caller r (Refused why)) = quiet s (step c s (Ask caller r (Refused why))) _ refl refl
+tells_power c s (Ask caller r (StatusIs status)) = quiet s (step c s (Ask caller r (StatusIs status))) _ refl refl
+tells_power c s (Ask caller r (IndexIs index)) = quiet s (step c s (Ask caller r (IndexIs index))) _ refl refl
+tells_power c s (Pick block kind t ops) = quiet s (step c s (Pick block kind t ops)) _ (none_at (code_of Pending) block) (jobs_keep_power c s (Pick block kind t ops) refl).off
+tells_power c s (Wrote i mark ops) = quiet s (step c s (Wrote i mark ops)) _ refl (jobs_keep_power c s (Wrote i mark ops) refl).off
+tells_power c s (Post block r given refused ops) = quiet s (step c s (Post block r given refused ops)) _ (none_at (code_of r) block) (jobs_keep_power c s (Post block r given refused ops) refl).off
+tells_power c s (Off ops) = record { none = λ is. cc; some = λ x is. let same : 1 ≡ x = cc in same }
+tells_power c s (Found marks ops) = record { none = λ is. cc; some = λ x is. let same : 0 ≡ x = cc in same }

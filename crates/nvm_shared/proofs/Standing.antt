@@ -10,13 +10,13 @@ use Rattle.nvm_core.specs.block_machine.Blocks.{job_block, job_kind, status_of, 
 use Rattle.nvm_core.specs.block_machine.Reply.{reply_of}
 use Rattle.nvm_core.specs.block_machine.Legal.{IsAllowed}
 use Rattle.nvm_core.specs.block_machine.Steps.{step, changed, accepted_by, asked}
-use Rattle.nvm_core.specs.block_laws.Laws.{HistoriesStep}
 use Rattle.nvm_core.specs.nv_desk.Desk.{DeskState, state_of}
 use Rattle.nvm_core.specs.job_progress.Hand.{HandState}
 use Rattle.nvm_core.specs.job_progress.JobInHand.{IsPaired}
-use Rattle.nvm_core.specs.job_progress.Asks.{AsksKeepHands, PendingStay}
 use Rattle.nvm_core.specs.nvm_laws.Ties.{IsTied}
-use Rattle.nvm_core.specs.nvm_laws.Entries.{AsksKeep}
+use Rattle.nvm_core.proofs.block_laws.HistoryLaws.{histories_step}
+use Rattle.nvm_core.proofs.job_progress.Asking.{asks_keep_hands, pending_stay}
+use Rattle.nvm_core.proofs.nvm_laws.Asking.{asks_keep}
 use Rattle.nvm_shared.specs.Written.{AreWritten}
 use Rattle.nvm_shared.specs.Behind.{AreAsks, AsksLeavePower, HandIsPending, StandsBehind, AsksStandBehind, with_more}
 
@@ -73,12 +73,12 @@ asked_rest c s r (StatusIs status) = record { started = refl; off = refl; hand =
 asked_rest c s r (IndexIs index) = record { started = refl; off = refl; hand = refl }
 
 -- ONE REQUEST
-module _ (steps : HistoriesStep) (asks : AsksKeepHands) (blocks : PendingStay) (d : DeviceTold) (clock : Clock) (keep : AsksKeep d clock) where
+module _ (d : DeviceTold) (clock : Clock) where
   pending_on : (c : Configuration) (cap : ℕ) (s : State) (caller : ℕ) (r : Request) (reply : Reply) → reply ≡ reply_of c cap s r → (o : Option Job)
       → IfSome o (λ j. is_pending (status_of s (job_block j)) ≡ true) → IfSome o (λ j. is_pending (status_of (step c s (Ask caller r reply)) (job_block j)) ≡ true)
   pending_on c cap s caller r reply is None pending = tt
   pending_on c cap s caller r reply is (Some j) pending =
-      ap (λ (b : BlockState). is_pending b.status) (blocks c cap s caller r reply (job_block j) is pending) ∙ pending
+      ap (λ (b : BlockState). is_pending b.status) (pending_stay c cap s caller r reply (job_block j) is pending) ∙ pending
 
   one : (desk : DeskState) (hand : Option HandState) (caller : ℕ) (r : Request) (reply : Reply) → IsAllowed desk.config desk.cap (state_of desk) (Ask caller r reply)
       → HandIsPending (state_of desk) → IsTied desk hand d → StandsBehind desk (with_more desk (Ask caller r reply ∷ [])) hand d clock
@@ -87,12 +87,12 @@ module _ (steps : HistoriesStep) (asks : AsksKeepHands) (blocks : PendingStay) (
       let s = state_of desk in
       let e = Ask caller r reply in
       let new = with_more desk (e ∷ []) in
-      let state : state_of new ≡ step c s e = steps c desk.entries e in
+      let state : state_of new ≡ step c s e = histories_step c desk.entries e in
       let rest = asked_rest c s r reply in
       let held : (step c s e).hand ≡ s.hand = rest.hand in
       let stays = pending_on c desk.cap s caller r reply allowed.replies s.hand pending in record {
         tied = record {
-          paired = subst (λ (t : State). IsPaired c t hand d) (sym state) (asks c desk.cap s hand d caller r reply allowed.replies pending tied.paired);
+          paired = subst (λ (t : State). IsPaired c t hand d) (sym state) (asks_keep_hands c desk.cap s hand d caller r reply allowed.replies pending tied.paired);
           up = tied.up;
           started = ap (λ (t : State). t.started) state ∙ rest.started ∙ tied.started;
           later = rw (ap (λ (t : State). t.ops) state) tied.later;
@@ -102,7 +102,7 @@ module _ (steps : HistoriesStep) (asks : AsksKeepHands) (blocks : PendingStay) (
         pending = subst (λ (t : State). HandIsPending t) (sym state)
             (subst (λ (o : Option Job). IfSome o (λ j. is_pending (status_of (step c s e) (job_block j)) ≡ true)) (sym held) stays);
         power = ap (λ (t : State). t.off) state ∙ rest.off;
-        kept = keep desk new hand caller r reply refl allowed;
+        kept = asks_keep d clock desk new hand caller r reply refl allowed;
       }
 
   -- ANY NUMBER
@@ -120,7 +120,7 @@ module _ (steps : HistoriesStep) (asks : AsksKeepHands) (blocks : PendingStay) (
       let first = one desk hand caller r reply written.0 pending tied in
       let next = with_more desk (Ask caller r reply ∷ []) in
       let behind = many tells next hand es are.1
-      (subst (λ (s : State). AreWritten tells desk.config desk.cap s es) (sym (steps desk.config desk.entries (Ask caller r reply))) written.1) first.pending first.tied in
+      (subst (λ (s : State). AreWritten tells desk.config desk.cap s es) (sym (histories_step desk.config desk.entries (Ask caller r reply))) written.1) first.pending first.tied in
       subst (λ (x : DeskState). StandsBehind desk x hand d clock) (more_by desk (Ask caller r reply) es) (record {
         tied = behind.tied;
         pending = behind.pending;
@@ -129,8 +129,8 @@ module _ (steps : HistoriesStep) (asks : AsksKeepHands) (blocks : PendingStay) (
       })
   many tells desk hand (e ∷ es) are written pending tied = let off : false ≡ true = are.0 in cc
 
-pub stand : HistoriesStep → AsksKeepHands → PendingStay → (d : DeviceTold) (clock : Clock) → AsksKeep d clock → AsksStandBehind d clock
-stand steps asks blocks d clock keep tells desk hand more are written pending tied = many steps asks blocks d clock keep tells desk hand more are written pending tied
+pub asks_stand_behind : (d : DeviceTold) (clock : Clock) → AsksStandBehind d clock
+asks_stand_behind d clock tells desk hand more are written pending tied = many d clock tells desk hand more are written pending tied
 
-pub leave_power : AsksLeavePower
-leave_power c s caller r reply = ((asked_rest c s r reply).started, (asked_rest c s r reply).off)
+pub asks_leave_power : AsksLeavePower
+asks_leave_power c s caller r reply = ((asked_rest c s r reply).started, (asked_rest c s r reply).off)

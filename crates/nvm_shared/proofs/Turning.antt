@@ -20,13 +20,16 @@ use Rattle.atomic_table.proofs.Lists.{at_last, at_longer}
 use Rattle.turn_gate.specs.Entries.{Note, StartsWith, AllAgree, OpenFrom}
 use Rattle.turn_gate.specs.Pass.{IsKin, grown, went_out}
 use Rattle.nvm_shared.specs.StatusWords.{gives, is_ask}
-use Rattle.nvm_shared.specs.Written.{AreWritten, RestsAreWritten}
-use Rattle.nvm_shared.specs.Behind.{AreAsks, AsksStandBehind, HandIsPending, OpenAreAsks, StandsBehind, with_more}
+use Rattle.nvm_shared.specs.Written.{AreWritten}
+use Rattle.nvm_shared.specs.Behind.{AreAsks, HandIsPending, StandsBehind, with_more}
 use Rattle.nvm_shared.specs.declared.terms.Terms.{Terms}
 use Rattle.nvm_shared.specs.Locked.{LockedState, desk_with, terms_of}
 use Rattle.nvm_shared.specs.Passes.{IsExtended, LearnsHalf, IsEntry}
 use Rattle.nvm_shared.proofs.Asking.{V, starts_on}
 use Rattle.nvm_shared.proofs.Writing.{Writes}
+use Rattle.nvm_shared.proofs.WritingLegal.{rests_are_written}
+use Rattle.nvm_shared.proofs.Opened.{open_are_asks}
+use Rattle.nvm_shared.proofs.Standing.{asks_stand_behind}
 
 -- what the marked pass v finds under the lock, and knows as u
 pub record Enters (t : Terms) (v u : V) (x : LockedState) : Type 0 where
@@ -58,22 +61,21 @@ replied_by tells c cap s (e ∷ es) are written = let off : false ≡ true = are
 same_terms : (o : Option Terms) (s t : Terms) → o ≡ Some s → o ≡ Some t → s ≡ t
 same_terms o s t one other = cc
 
-pub behind : RestsAreWritten → OpenAreAsks → (t : Terms) (v u : V) (x : LockedState) (hand : Option HandState) (d : DeviceTold) (clock : Clock) → AsksStandBehind d clock
-    → Enters t v u x → HandIsPending (state_of (desk_with t v.seen)) → IsTied (desk_with t v.seen) hand d → Behind t v.seen x hand d clock
-behind rests opens t v u x hand d clock law enters pending tied =
+pub behind : (t : Terms) (v u : V) (x : LockedState) (hand : Option HandState) (d : DeviceTold) (clock : Clock) → Enters t v u x → HandIsPending (state_of (desk_with t v.seen)) → IsTied (desk_with t v.seen) hand d → Behind t v.seen x hand d clock
+behind t v u x hand d clock enters pending tied =
     let terms : terms_of x ≡ t = same_terms v.root (terms_of x) t enters.root enters.own in
     let (asks, is) = enters.starts in
     let desk : x.desk ≡ with_more (desk_with t v.seen) asks = ap (λ (s : Terms). desk_with s x.desk.entries) terms ∙ ap (desk_with t) is in
-    let are = opens v.seen asks (subst (λ (l : List Entry). OpenFrom is_ask l (length v.seen)) is (enters.open_now enters.mark)) in
+    let are = open_are_asks v.seen asks (subst (λ (l : List Entry). OpenFrom is_ask l (length v.seen)) is (enters.open_now enters.mark)) in
     let written : AreWritten t.tells t.config t.cap at_first (v.seen ++ asks) =
     subst (λ (s : Terms). AreWritten s.tells s.config s.cap at_first (v.seen ++ asks)) terms (subst (λ (l : List Entry). AreWritten x.tells x.desk.config x.desk.cap at_first l) is enters.written) in record {
       asks = asks;
       are = are;
       terms = terms;
       desk = desk;
-      replied = replied_by t.tells t.config t.cap (state_of (desk_with t v.seen)) asks are (rests t.tells t.config t.cap at_first v.seen asks written);
+      replied = replied_by t.tells t.config t.cap (state_of (desk_with t v.seen)) asks are (rests_are_written t.tells t.config t.cap at_first v.seen asks written);
       stands = subst (λ (y : DeskState). StandsBehind (desk_with t v.seen) y hand d clock) (sym desk)
-          (law t.tells (desk_with t v.seen) hand asks are (rests t.tells t.config t.cap at_first v.seen asks written) pending tied);
+          (asks_stand_behind d clock t.tells (desk_with t v.seen) hand asks are (rests_are_written t.tells t.config t.cap at_first v.seen asks written) pending tied);
     }
 
 -- the job in hand still fits what the device holds

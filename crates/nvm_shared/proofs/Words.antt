@@ -10,12 +10,12 @@ use Rattle.nvm_core.specs.block_machine.State.{State}
 use Rattle.nvm_core.specs.block_machine.Blocks.{status_of}
 use Rattle.nvm_core.specs.block_machine.Legal.{IsLegal}
 use Rattle.nvm_core.specs.block_machine.Steps.{after}
-use Rattle.nvm_core.specs.block_laws.Laws.{BeginningsAreLegal, HistoriesStep}
-use Rattle.nvm_core.specs.job_progress.Asks.{JobsKeepPower}
+use Rattle.nvm_core.proofs.block_laws.HistoryLaws.{histories_step, beginnings_are_legal}
 use Rattle.nvm_shared.proofs.Power.{power_of, tells_power}
 use Rattle.turn_gate.specs.Entries.{Gave}
 use Rattle.nvm_shared.specs.StatusWords.{gives, off_word}
-use Rattle.nvm_shared.specs.Statuses.{EntriesTellStatuses, IsLast, TheOffWordTells, WordsTellStatuses}
+use Rattle.nvm_shared.specs.Statuses.{IsLast, TheOffWordTells, WordsTellStatuses}
+use Rattle.nvm_shared.proofs.EntryStatuses.{entries_tell}
 
 -- a list is what is before a place, what stands there, and the rest
 abbrev IsSplit : {E : Type 0} → List E → ℕ → E → Type 0
@@ -35,7 +35,7 @@ pub record Follows (c : Configuration) (cap : ℕ) (word : ℕ) (f : State → �
   pub none : gives e word ≡ None → f (after c (h ++ e ∷ [])) ≡ f (after c h)
   pub some : (x : ℕ) → gives e word ≡ Some x → f (after c (h ++ e ∷ [])) ≡ x
 
-module _ (begins : BeginningsAreLegal) (c : Configuration) (cap : ℕ) (block : ℕ) (f : State → ℕ)
+module _ (c : Configuration) (cap : ℕ) (block : ℕ) (f : State → ℕ)
     (tell : (h : List Entry) (e : Entry) → IsLegal c cap (h ++ e ∷ []) → Follows c cap block f h e) where
   -- no entry of the rest gives the word a status
   abbrev GiveNone : List Entry → Type 0
@@ -49,7 +49,7 @@ module _ (begins : BeginningsAreLegal) (c : Configuration) (cap : ℕ) (block : 
       let legal' = subst (IsLegal c cap) (sym joined) legal in
       ap (λ (l : List Entry). f (after c l)) (sym joined)
       ∙ stays_along (h ++ e ∷ []) es legal' none.1
-      ∙ (tell h e (begins c cap (h ++ e ∷ []) es legal')).none none.0
+      ∙ (tell h e (beginnings_are_legal c cap (h ++ e ∷ []) es legal')).none none.0
 
   quiet : (h es : List Entry) (entry : ℕ) → ((j y : ℕ) → Gave gives (h ++ es) block j y → j ≤ entry) → entry < length h → GiveNone es
   quiet h [] entry last behind = tt
@@ -74,12 +74,12 @@ module _ (begins : BeginningsAreLegal) (c : Configuration) (cap : ℕ) (block : 
       let none = quiet (front ++ gave.0 ∷ []) rest entry (λ j y g. last j y (subst (λ (l : List Entry). Gave gives l block j y) (sym whole) g)) (omega (arith, count, longer)) in
       ap (λ (l : List Entry). f (after c l)) whole
       ∙ stays_along (front ++ gave.0 ∷ []) rest legal' none
-      ∙ (tell front gave.0 (begins c cap (front ++ gave.0 ∷ []) rest legal')).some status gave.2
+      ∙ (tell front gave.0 (beginnings_are_legal c cap (front ++ gave.0 ∷ []) rest legal')).some status gave.2
 
-pub words : BeginningsAreLegal → EntriesTellStatuses → WordsTellStatuses
-words begins tell c cap h block entry status legal few low gave last =
-    told begins c cap block (λ s. code_of (status_of s block))
-    (λ h e legal. let is = tell c cap h e block legal few low in record { none = λ nothing. ap code_of (is.none nothing); some = is.some })
+pub words_tell_statuses : WordsTellStatuses
+words_tell_statuses c cap h block entry status legal few low gave last =
+    told c cap block (λ s. code_of (status_of s block))
+    (λ h e legal. let is = entries_tell c cap h e block legal few low in record { none = λ nothing. ap code_of (is.none nothing); some = is.some })
     h entry status legal gave last
 
 off_by : (s : State) → power_of s ≡ 1 → s.off ≡ true
@@ -89,11 +89,11 @@ off_by s is = by s.off refl
     by true now = now
     by false now = let none : power_of s ≡ 0 = ap (λ (b : Bool). if b then 1 else 0) now in absurd (omega (arith, is, none))
 
-pub off_word_tells : HistoriesStep → BeginningsAreLegal → JobsKeepPower → TheOffWordTells
-off_word_tells steps begins keep c cap h entry legal gave last = off_by (after c h)
-    (told begins c cap off_word power_of
-    (λ h e legal. let is = tells_power keep c (after c h) e in record {
-      none = λ nothing. ap power_of (steps c h e) ∙ is.none nothing;
-      some = λ x one. ap power_of (steps c h e) ∙ is.some x one;
+pub the_off_word_tells : TheOffWordTells
+the_off_word_tells c cap h entry legal gave last = off_by (after c h)
+    (told c cap off_word power_of
+    (λ h e legal. let is = tells_power c (after c h) e in record {
+      none = λ nothing. ap power_of (histories_step c h e) ∙ is.none nothing;
+      some = λ x one. ap power_of (histories_step c h e) ∙ is.some x one;
     })
     h entry 1 legal gave last)

@@ -59,8 +59,8 @@ gives_as (Post block r given refused ops) word is = refl
 gives_as (Off ops) word is = refl
 gives_as (Found marks ops) word is = cc
 
-pub one_word : EntriesChangeOneWord
-one_word e is = record {
+pub entries_change_one_word : EntriesChangeOneWord
+entries_change_one_word e is = record {
   none = λ nothing u. gives_as e u is ∙ ap (λ (t : Option (ℕ × ℕ)). gives_by t u) nothing;
   one = λ word status one. (
     (

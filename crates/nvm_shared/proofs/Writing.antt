@@ -6,12 +6,10 @@ use Rattle.nvm_core.specs.memif.declared.answer.DeviceTurn.{DeviceTurn}
 use Rattle.nvm_core.specs.memif.declared.answer.DeviceTurn.TheVariants as turn
 use Rattle.nvm_core.specs.memif.declared.answer.JobResult.TheVariants.{JobOk}
 use Rattle.nvm_core.specs.block_machine.Words.{Mark}
-use Rattle.nvm_core.specs.block_machine.State.{State}
 use Rattle.nvm_core.specs.nvm_device_laws.Turn.{settled_by, wrote_by}
-use Rattle.nvm_core.specs.block_machine.Words.{Entry, Ask, Pick, Wrote, Post, Off, Found, Taken, Configuration}
+use Rattle.nvm_core.specs.block_machine.Words.{Entry, Pick, Post, Taken, Configuration}
 use Rattle.nvm_core.specs.block_machine.StartUp.{at_first}
 use Rattle.nvm_core.specs.block_machine.Next.{Next, Nothing, PickJob, BeginSweep, PickMember, PostMember, EndSweep, next_of}
-use Rattle.nvm_core.specs.block_machine.Legal.{IsAllowed}
 use Rattle.nvm_core.specs.ram_blocks.Told.{Told}
 use Rattle.nvm_core.specs.nv_desk.Desk.{DeskState, state_of}
 use Rattle.nvm_core.specs.nv_desk_copies.Front.{StagingState, StagesAll}
@@ -22,10 +20,11 @@ use Rattle.nvm_core.specs.nvm_laws.Turns.{AddsBy, entry_by}
 use Rattle.nvm_core.specs.nvm_laws.declared.turned.Turned.TheVariants as turned
 use Rattle.nvm_core.specs.nvm_laws.declared.turned.Act.{Act}
 use Rattle.nvm_core.specs.nvm_laws.declared.turned.Act.TheVariants.{Ended, Device}
-use Rattle.nvm_shared.specs.Written.{IsWritten, AreWritten, HistoriesAreWrittenOn}
+use Rattle.nvm_shared.specs.Written.{IsWritten, AreWritten}
 use Rattle.nvm_shared.specs.StatusWords.{is_ask, is_found}
 use Rattle.nvm_shared.specs.declared.terms.Terms.{Terms}
 use Rattle.nvm_shared.specs.Locked.{IsLocked, terms_of}
+use Rattle.nvm_shared.proofs.WritingLegal.{histories_are_written_on, written_by}
 
 -- an entry of the driver that is no start-up
 abbrev pub IsDriven : Entry → Type 0
@@ -60,19 +59,19 @@ pub writes_terms : (tells : Bool) (old new : DeskState) → Writes tells old new
 writes_terms tells old new (inl same) = ap (λ (x : DeskState). terms_of (record { desk = x; tells = tells })) same
 writes_terms tells old new (inr (e, adds, written, driven)) = ap (λ (x : DeskState). terms_of (record { desk = x; tells = tells })) adds
 
-pub writes_on : HistoriesAreWrittenOn → (tells : Bool) (old new : DeskState) → Writes tells old new → AreWritten tells old.config old.cap at_first old.entries
+pub writes_on : (tells : Bool) (old new : DeskState) → Writes tells old new → AreWritten tells old.config old.cap at_first old.entries
     → AreWritten tells new.config new.cap at_first new.entries
-writes_on on tells old new (inl same) are = subst (λ (x : DeskState). AreWritten tells x.config x.cap at_first x.entries) (sym same) are
-writes_on on tells old new (inr (e, adds, written, driven)) are = subst (λ (x : DeskState). AreWritten tells x.config x.cap at_first x.entries) (sym adds)
-    (on tells old.config old.cap at_first old.entries e are written)
+writes_on tells old new (inl same) are = subst (λ (x : DeskState). AreWritten tells x.config x.cap at_first x.entries) (sym same) are
+writes_on tells old new (inr (e, adds, written, driven)) are = subst (λ (x : DeskState). AreWritten tells x.config x.cap at_first x.entries) (sym adds)
+    (histories_are_written_on tells old.config old.cap at_first old.entries e are written)
 
-pub locked_on : HistoriesAreWrittenOn → (tells : Bool) (old new : DeskState) (staging staging_new : StagingState) → Writes tells old new → staging_new.room ≡ staging.room
+pub locked_on : (tells : Bool) (old new : DeskState) (staging staging_new : StagingState) → Writes tells old new → staging_new.room ≡ staging.room
     → IsTrue (state_of new).started → IsLocked old staging tells → IsLocked new staging_new tells
-locked_on on tells old new staging staging_new writes room started is =
+locked_on tells old new staging staging_new writes room started is =
     let config : new.config ≡ old.config = ap (λ (t : Terms). t.config) (writes_terms tells old new writes) in record {
       stages = subst (λ (c : Configuration). StagesAll c staging_new) (sym config) (λ id. rw room (is.stages id));
       started = started;
-      written = writes_on on tells old new writes is.written;
+      written = writes_on tells old new writes is.written;
     }
 
 -- THE SECOND HALF
@@ -92,14 +91,6 @@ pub entry_driven : (answer : DeviceTurn) (old new : Stand) (ops : ℕ) → IfDri
 entry_driven turn.Off old new ops = (refl, refl)
 entry_driven turn.Idle old new ops = settled_driven old new ops
 entry_driven turn.Worked old new ops = settled_driven old new ops
-
-written_by : (tells : Bool) (c : Configuration) (cap : ℕ) (s : State) (e : Entry) → IsAllowed c cap s e → IsWritten tells c cap s e
-written_by tells c cap s (Ask caller r reply) is = is
-written_by tells c cap s (Pick block kind t ops) is = λ told. is
-written_by tells c cap s (Wrote i mark ops) is = λ told. is
-written_by tells c cap s (Post block r given refused ops) is = λ told. is
-written_by tells c cap s (Off ops) is = λ told. is
-written_by tells c cap s (Found marks ops) is = λ told. is
 
 pub adds_writes : (tells : Bool) (o : Option Entry) (old new : DeskState) → AddsBy o old new → IfDriven o → Writes tells old new
 adds_writes tells None old new adds driven = inl adds

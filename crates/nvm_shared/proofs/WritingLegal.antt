@@ -7,13 +7,13 @@ use Rattle.nvm_core.specs.block_machine.Steps.{step, after}
 use Rattle.nvm_core.specs.block_machine.Legal.{IsAllowed, IsLegal, IsLegalFrom}
 use Rattle.nvm_shared.specs.Written.{IsWritten, AreWritten, HistoriesAreWrittenOn, RestsAreWritten, WrittenAreLegal, LegalAreWritten}
 
-pub written_on : HistoriesAreWrittenOn
-written_on tells c cap s [] e are is = (is, tt)
-written_on tells c cap s (x ∷ xs) e are is = (are.0, written_on tells c cap (step c s x) xs e are.1 is)
+pub histories_are_written_on : HistoriesAreWrittenOn
+histories_are_written_on tells c cap s [] e are is = (is, tt)
+histories_are_written_on tells c cap s (x ∷ xs) e are is = (are.0, histories_are_written_on tells c cap (step c s x) xs e are.1 is)
 
-pub rests : RestsAreWritten
-rests tells c cap s [] more are = are
-rests tells c cap s (x ∷ xs) more are = rests tells c cap (step c s x) xs more are.1
+pub rests_are_written : RestsAreWritten
+rests_are_written tells c cap s [] more are = are
+rests_are_written tells c cap s (x ∷ xs) more are = rests_are_written tells c cap (step c s x) xs more are.1
 
 allowed : (c : Configuration) (cap : ℕ) (s : State) (e : Entry) → IsWritten true c cap s e → IsAllowed c cap s e
 allowed c cap s (Ask caller r reply) is = is
@@ -27,8 +27,8 @@ legal_from : (c : Configuration) (cap : ℕ) (s : State) (h : List Entry) → Ar
 legal_from c cap s [] are = tt
 legal_from c cap s (e ∷ es) are = (allowed c cap s e are.0, legal_from c cap (step c s e) es are.1)
 
-pub legal : WrittenAreLegal
-legal c cap h are = legal_from c cap at_first h are
+pub written_are_legal : WrittenAreLegal
+written_are_legal c cap h are = legal_from c cap at_first h are
 
 pub written_by : (tells : Bool) (c : Configuration) (cap : ℕ) (s : State) (e : Entry) → IsAllowed c cap s e → IsWritten tells c cap s e
 written_by tells c cap s (Ask caller r reply) is = is
@@ -42,9 +42,9 @@ written_from : (tells : Bool) (c : Configuration) (cap : ℕ) (s : State) (h : L
 written_from tells c cap s [] are = tt
 written_from tells c cap s (e ∷ es) are = (written_by tells c cap s e are.0, written_from tells c cap (step c s e) es are.1)
 
-pub written : LegalAreWritten
-written tells c cap h are = written_from tells c cap at_first h are
+pub legal_are_written : LegalAreWritten
+legal_are_written tells c cap h are = written_from tells c cap at_first h are
 
 -- the last entry of a legal history is allowed by the state before it
 pub allowed_behind : (c : Configuration) (cap : ℕ) (h : List Entry) (e : Entry) → IsLegal c cap (h ++ e ∷ []) → IsAllowed c cap (after c h) e
-allowed_behind c cap h e legal = allowed c cap (after c h) e (rests true c cap at_first h (e ∷ []) (written_from true c cap at_first (h ++ e ∷ []) legal)).0
+allowed_behind c cap h e legal = allowed c cap (after c h) e (rests_are_written true c cap at_first h (e ∷ []) (written_from true c cap at_first (h ++ e ∷ []) legal)).0

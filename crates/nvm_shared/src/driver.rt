@@ -21,14 +21,9 @@ ghost use Rattle.nvm_shared.specs.Stale.{StaleIsShown};
 ghost use Rattle.nvm_shared.specs.Driving.{DriverState, Drives, BeginsTurn, IsTurned, EndsTurn, MayEnd, ServesDue, TurnsBehind, stack_of};
 
 use crate::shared::{Shared, StackPass};
-use crate::{asks_stand_behind, histories_are_written, open_are_asks};
-use nvm_core::block_laws::histories_grow;
 use nvm_core::job_progress::Hand;
 use nvm_core::memif::{DeviceTurn, MemDevice};
-use nvm_core::nvm_figures::turns_keep_figures;
-use nvm_core::nvm_laws::{
-    Act, Turned, asks_keep_due, halves_bring_nearer, hands_are_small, stack_works, turn,
-};
+use nvm_core::nvm_laws::{Act, Turned};
 use nvm_core::ram_blocks::SyncCalls;
 use std::marker::Model;
 use std::sync::Wait;
@@ -80,14 +75,9 @@ impl<D: MemDevice, C: SyncCalls + Drop> Driver<D, C> {
         ensures stays_over { (first : C) → C.over first self.old.copies → C.over first self.new.copies }
         ensures learns { LearnsHalf (knows pass.old) (knows pass.new) }
     {
-        asks_stand_behind(&self.device);
-        asks_keep_due();
-        histories_are_written();
-        open_are_asks();
         let mut value = shared.gate.enter(rt, pass);
         let number = value.len();
         let act = value.first_half(&mut self.hand, &mut self.device, &mut self.copies);
-        halves_bring_nearer(&self.device);
         let _left = self.device.left();
         let _len = value.len();
         shared.leave(pass, value, number);
@@ -98,8 +88,7 @@ impl<D: MemDevice, C: SyncCalls + Drop> Driver<D, C> {
     pub fn device_turn(&mut self) -> DeviceTurn
         ensures turns { IsTurned D.told D.clock result self.old self.new }
     {
-        asks_stand_behind(&self.device);
-        turn(&mut self.device)
+        self.device.turn()
     }
 
     /// The second half of a turn, under the lock: what the device's turn came to.
@@ -120,14 +109,6 @@ impl<D: MemDevice, C: SyncCalls + Drop> Driver<D, C> {
         ensures drives { Drives D.told D.clock C.told shared.now.terms.tells (desk_with shared.now.terms (knows pass.new).seen) self.new }
         ensures learns { LearnsHalf (knows pass.old) (knows pass.new) }
     {
-        asks_keep_due();
-        halves_bring_nearer(&self.device);
-        hands_are_small();
-        histories_are_written();
-        histories_grow();
-        open_are_asks();
-        stack_works(&self.device);
-        turns_keep_figures(&self.device);
         let mut value = shared.gate.enter(rt, pass);
         let number = value.len();
         let answer = value.second_half(&mut self.hand, &self.device, turned);
@@ -161,7 +142,6 @@ impl<D: MemDevice, C: SyncCalls + Drop> Driver<D, C> {
             Act::Device => {
                 let turned = self.device_turn();
                 let answer = self.finish(rt, shared, pass, turned);
-                turns_keep_figures(&self.device);
                 answer
             }
         }

@@ -30,8 +30,7 @@ ghost use Rattle.nvm_shared.specs.Driving.{stack_with};
 
 use crate::telling::{Telling, Tells};
 use crate::terms::Terms;
-use crate::{asks_leave_power, histories_are_written, told_by};
-use nvm_core::block_laws::histories_grow;
+use crate::told_by;
 use nvm_core::job_progress::Hand;
 use nvm_core::memif::{DeviceTurn, MemDevice};
 use nvm_core::nv_base::{Entry, Reply, Request};
@@ -139,6 +138,7 @@ impl Locked {
     }
 
     /// Takes a request of a caller, and replies.
+    #[tactic(auto, using(nvm_core::proofs::block_laws::HistoryLaws::histories_step, crate::proofs::WritingLegal::histories_are_written_on, crate::proofs::Standing::asks_leave_power))]
     pub fn ask(&mut self, alloc: Global, caller: u8, request: Request) -> Result<Reply, AskFault>
         requires caller { caller ≤ 15 }
         requires store { HasStore self.old.desk.config request }
@@ -146,9 +146,6 @@ impl Locked {
         ensures err { OnErr result (self.new ≡ self.old) }
         ensures no_room { IsErrOf result AskFault.NoRoom ↔ fits self.old.desk.config self.old.desk.cap (state_of self.old.desk) 1 ≡ false }
     {
-        histories_grow();
-        histories_are_written();
-        asks_leave_power();
         self.front.desk.ask(alloc, caller, request)
     }
 
@@ -172,7 +169,6 @@ impl Locked {
         ensures clock { SameClock (D.clock device.old) (D.clock device.new) }
         ensures keeps { StaysKept self.old.desk hand.old (D.told device.old) (D.clock device.old) self.new.desk hand.new (D.told device.new) (D.clock device.new) }
     {
-        histories_are_written();
         first_half(&mut self.front, hand, device, copies)
     }
 
@@ -192,7 +188,6 @@ impl Locked {
         ensures tied { IsTied self.new.desk hand.new (D.told device.now) }
         ensures terms { terms_of self.new ≡ terms_of self.old }
     {
-        histories_are_written();
         second_half(&mut self.front.desk, hand, device, turned)
     }
 }

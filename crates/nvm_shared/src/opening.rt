@@ -11,10 +11,10 @@ ghost use Rattle.nvm_core.specs.Stack.{StackState};
 ghost use Rattle.nvm_core.specs.StartUps.{StartsUp};
 ghost use Rattle.nvm_shared.specs.Opening.{IsFirst, IsMade, IsShared, TellsAtFirst, WhyNot, first_stack};
 
+use crate::WORD_COUNT;
 use crate::driver::Driver;
 use crate::locked::{Locked, LockedOf};
 use crate::shared::{Shared, SharedOf, StackPass};
-use crate::{WORD_COUNT, histories_are_written};
 use nvm_core::Stack;
 use nvm_core::block_config::Config;
 use nvm_core::memif::MemDevice;
@@ -88,6 +88,7 @@ pub fn make<D: MemDevice, C: SyncCalls + Drop>(
 }
 
 // A stack behind its first start-up.
+#[tactic(auto, using(crate::proofs::WritingLegal::legal_are_written))]
 fn share<D: MemDevice, C: SyncCalls + Drop>(
     alloc: Global,
     stack: Stack<D, C>,
@@ -99,7 +100,6 @@ fn share<D: MemDevice, C: SyncCalls + Drop>(
     ensures shared { IfOk result (λ r. IsShared D.told C.told stack tells r.0 r.1 r.2) }
     ensures fault { IfErr result (λ f. (f.fault ≡ ShareFault.Memory) × (f.device ≡ stack.device)) }
 {
-    histories_are_written();
     let (front, device, copies, hand) = stack.into_parts();
     let value = Locked::of(front);
     let _len = value.len();

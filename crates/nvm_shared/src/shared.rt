@@ -14,8 +14,8 @@ ghost use Rattle.nvm_shared.specs.Written.{AreWritten};
 ghost use Rattle.nvm_shared.specs.Locked.{terms_of, desk_with};
 ghost use Rattle.nvm_shared.specs.Passes.{Asked, IsUserOf, IsExtended};
 
+use crate::OFF_WORD;
 use crate::locked::Locked;
-use crate::{OFF_WORD, entries_change_one_word};
 use nvm_core::nv_base::{Reply, Request};
 use nvm_core::nv_desk::AskFault;
 use nvm_core::nv_desk_copies::Front;
@@ -174,7 +174,6 @@ impl Shared {
         ensures same { value.desk.entries ≡ (knows pass.old).seen → knows pass.new ≡ went_out (knows pass.old) }
         ensures more { (e : MachineEntry) → value.desk.entries ≡ (knows pass.old).seen ++ e ∷ [] → knows pass.new ≡ went_out (grown (knows pass.old) value.desk.entries) }
     {
-        entries_change_one_word();
         match value.change_behind(seen) {
             Some((word, status)) => {
                 self.gate.set_word(pass, &value, word, status);

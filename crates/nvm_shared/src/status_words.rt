@@ -1,7 +1,7 @@
 // The word that an entry changes.
 ghost use Rattle.std.specs.Prelude.{◌≡◌};
 ghost use Rattle.nvm_core.specs.nv_base.Result.{code_of};
-ghost use Rattle.nvm_shared.specs.StatusWords.{EntriesChangeOneWord, told_by, told_at, pending_block};
+ghost use Rattle.nvm_shared.specs.StatusWords.{told_by, told_at, pending_block};
 
 use nvm_core::nv_base::{Entry, Reply, ReqResult, Request, result_code};
 
@@ -52,8 +52,3 @@ fn pending_block(request: &Request) -> Option<u16>
         _ => None,
     }
 }
-
-/// An entry that is no start-up changes the word that is told, and no other.
-pub fn entries_change_one_word()
-    ensures { EntriesChangeOneWord }
-{}

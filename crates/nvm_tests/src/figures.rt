@@ -2,9 +2,7 @@
 use nvm_laws::block_config::{BlockDesc, BlockKind, Config, demo};
 use nvm_laws::memif::{PlainStore, start_up};
 use nvm_laws::nv_base::{DeviceNumber, GivenFrom, JobKind, JobStep, ReqResult, lengths_of};
-use nvm_laws::nvm_figures::{
-    AtWork, Brought, Finish, JobEnd, finish_job, programs_are_small, turns_left,
-};
+use nvm_laws::nvm_figures::{AtWork, Brought, Finish, JobEnd, finish_job, turns_left};
 use plain_blocks::PlainProgram;
 use redundant_blocks::RedundantProgram;
 use std::alloc::{AllocError, Global};
@@ -35,8 +33,8 @@ fn is_done_in(turns: u64, finished: &Finish) -> bool {
 }
 
 // Whether an urgent write of block 2 of the demo takes one turn.
+#[tactic(auto, using(nvm_laws::proofs::nvm_figures::FinishedJobs::programs_are_placed))]
 fn takes_one(device: &mut PlainStore, desc: &BlockDesc) -> bool {
-    programs_are_small();
     if desc.kind == BlockKind::Redundant || start_up(device).is_err() {
         return false;
     }
@@ -53,8 +51,8 @@ fn takes_one(device: &mut PlainStore, desc: &BlockDesc) -> bool {
 }
 
 // Whether a write of block 1, which is redundant, takes two.
+#[tactic(auto, using(nvm_laws::proofs::nvm_figures::FinishedJobs::programs_are_placed))]
 fn takes_two(device: &mut PlainStore, desc: &BlockDesc) -> bool {
-    programs_are_small();
     if desc.kind != BlockKind::Redundant || start_up(device).is_err() {
         return false;
     }

@@ -21,7 +21,7 @@ use Rattle.nvm_flash.specs.fls_devices.Cutter.{cutting, told_cutting}
 use Rattle.nvm_flash.specs.fee_image.Laws.{SoundImagesCompute}
 use Rattle.nvm_flash.specs.promise_device.Making.{Making, banks_of}
 use Rattle.nvm_flash.specs.promise_device.Bridge.{Bridges}
-use Rattle.nvm_flash.specs.promise_device.FlashRun.{AreSeen, HasFailed}
+use Rattle.nvm_flash.specs.promise_device.FlashRun.{HasFailed}
 use Rattle.nvm_flash.specs.promise_device.Image.{attached}
 use Rattle.nvm_flash.specs.fee_told.Device.{Device, told_of, is_told_sound, tells, slots_told}
 use Rattle.nvm_flash.specs.fee_told.Clock.{clock_of, off_in_of}
@@ -50,6 +50,8 @@ use Rattle.nvm_flash.specs.declared.device.MakeFault.TheVariants as fault
 use Rattle.nvm_flash.specs.job_progress.JobInHand.{program_for}
 use Rattle.nvm_flash.specs.nvm_figures.Left.{most_turns}
 use Rattle.nvm_flash.specs.Turns.{fixed_by}
+use Rattle.nvm_flash.proofs.JobTurns.{job_turns_are_figures}
+use Rattle.nvm_flash.proofs.promise_device.FlashRun.{seen_more}
 use Rattle.nvm_flash.specs.Made.{IsOrigin, IsMadeStack, AreOfFirst, ComesBack, IsBack}
 use Rattle.nvm_flash.specs.promise_device.Bridge.{IsWornOut}
 use Rattle.nvm_flash.specs.nvm_core.Paying.{counted_of, TriesSince}
@@ -168,13 +170,14 @@ none_refused : (c : Configuration) (id : ℕ) → (most_of (map sync_told (plain
 none_refused c zero = refl
 none_refused c (suc i) = none_at c.blocks i
 
-pub started : (c : Configuration) (inner : Told) (cuts : ℕ) (making : Making) (entry : Told) (m s : StackState Device (List PlainBlock)) → IsOrigin c inner cuts making entry → IsMadeStack c making entry m → StartsUp told_of m s → IsStarted c cuts (part_at entry) (told_by told_of s)
-started c inner cuts making entry m s origin made starts = record {
+pub started : (c : Configuration) (inner : Told) (cuts : ℕ) (making : Making) (entry : Told) (m s : StackState Device (List PlainBlock)) → IsLegalConfig c → IsOrigin c inner cuts making entry → IsMadeStack c making entry m → StartsUp told_of m s → IsStarted c cuts (part_at entry) (told_by told_of s)
+started c inner cuts making entry m s legal origin made starts = record {
   configuration = config;
   most = ap (λ x. x.desk.cap) starts.only ∙ ap (λ x. x.desk.cap) made.only;
   turns =
       ap (λ (f : Fixed). λ (x : State) (j : Job). most_turns f (program_for s.desk.config x j)) (starts.finds.up.restarted.fixed ∙ made.fixed)
-      ∙ ap (λ (y : Configuration). λ (x : State) (j : Job). most_turns (fixed_by c) (program_for y x j)) config;
+      ∙ ap (λ (y : Configuration). λ (x : State) (j : Job). most_turns (fixed_by c) (program_for y x j)) config
+      ∙ (λ i x j. job_turns_are_figures c legal x j i);
   fresh = record {
     ready = ap (λ x. x.ready) starts.only;
     marks = starts.marks;
@@ -243,13 +246,6 @@ up_over c most h before d clock over = record {
 over_of : (b : Bool) (before : Part → PartTold) (desk : DeskState) (hand : Option HandState) (d : Device) → IsKept b before desk hand (told_of d) (told_clock d) → KeepsOver desk.config desk.cap desk.entries before (told_of d) (told_clock d)
 over_of true before desk hand d keeps = keeps.keeps.over
 over_of false before desk hand d keeps = up_over desk.config desk.cap desk.entries before (told_of d) (told_clock d) keeps.keeps.over
-
-seen_more : (kept other : ℕ → Type 0) (k : ℕ) (last : List ℕ) (xs ys : List Change) → ((n : ℕ) → kept n → other n) → AreSeen kept k last xs ys → AreSeen other k last xs ys
-seen_more kept other k last [] ys more seen = seen
-seen_more kept other k last (x ∷ xs) [] more ((is, same), rest) = ((more k is, same), seen_more kept other (k + 1) last xs [] more rest)
-seen_more kept other k last (x ∷ xs) (y ∷ ys) more (inl (place, same, answer, rest)) =
-    inl (place, same, elim answer [ inl told ↦ inl told | inr cut ↦ inr (more k cut.0, cut.1) ], seen_more kept other (k + 1) last xs ys more rest)
-seen_more kept other k last (x ∷ xs) (y ∷ ys) more (inr ((is, same), rest)) = inr ((more k is, same), seen_more kept other (k + 1) last xs (y ∷ ys) more rest)
 
 -- what the device told of its operations, by the clock that it tells
 told_bridge : (m : Making) (inner exit : Told) (operations : List Change) (before : PartTold) (d : Device) → Bridges m true (record { entry = inner; exit = exit; operations = operations }) before (told_of d) (clock_of d)

@@ -19,14 +19,13 @@ use Rattle.nvm_flash.specs.block_machine.State.{State, Job}
 use Rattle.nvm_flash.specs.block_machine.Steps.{after}
 use Rattle.nvm_flash.specs.block_machine.Prices.{prices_in_refusals}
 use Rattle.nvm_flash.specs.promise_run.Run.{Run, Course, Played, End, Whole, cap, HasOrder, LeavesFor, EndsAtStart, HasNoRoom, RefusalsExplain, refusals_of, unpaid_offs}
-use Rattle.nvm_flash.specs.promise_run.Run.{FlashFault, HistoryFull, Memory}
+use Rattle.nvm_flash.specs.promise_run.Run.{FlashFault, HistoryFull, LeavesAlone, Memory}
 use Rattle.nvm_flash.specs.promise_run.Promise.{Promise, making_of}
 use Rattle.nvm_flash.specs.promise_run.Call.{Ends, last_line, IsCourseOf, IsInputOf}
 use Rattle.nvm_script.specs.Script.{IsScript, later_lines}
 use Rattle.nvm_script.specs.declared.script.Mode.TheVariants as mode
-use Rattle.nvm_flash.specs.Turns.{job_turns}
+use Rattle.nvm_flash.specs.promise_run.JobTurns.{job_turns}
 use Rattle.nvm_top.specs.Ends.{HasPlayable}
-use Rattle.nvm_flash.specs.Made.{LeavesAlone}
 use Rattle.nvm_top.specs.Play.{IsStepsEnd}
 use Rattle.nvm_top.specs.Reading.{IsEarly}
 use Rattle.nvm_flash.specs.promise_run.Turns.{Moment, moment_behind, BeginsAt, EndsBy, ArePaidSince, HasTurns, EachMove, ServesTurn, all_moves}

@@ -26,7 +26,7 @@ use Rattle.nvm_top.specs.declared.stop.Stop.{Stop}
 use Rattle.nvm_top.specs.declared.stop.Stop.TheVariants as stop
 use Rattle.nvm_top.specs.Ends.{HasPlayable}
 use Rattle.nvm_top.specs.Output.{Writes, IsReport}
-use Rattle.nvm_flash.specs.Made.{LeavesAlone}
+use Rattle.nvm_flash.specs.promise_run.Run.{LeavesAlone}
 use Rattle.nvm_top.specs.Play.{IsStepsEnd}
 use Rattle.nvm_top.specs.Promised.{played_call, HasRun, RunsAs, RunsOrWants, SoakEnds, SoakKeepsPromise}
 use Rattle.nvm_top.specs.Reading.{IsEarly}

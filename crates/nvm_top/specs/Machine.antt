@@ -15,7 +15,7 @@ use Rattle.nvm_flash.specs.promise_device.FlashRun.{HasFailed}
 use Rattle.script_player.specs.Told.{StackTold}
 use Rattle.script_player.specs.Paying.{Payer}
 use Rattle.script_player.specs.Made.{IsFresh}
-use Rattle.nvm_flash.specs.Turns.{job_turns}
+use Rattle.nvm_flash.specs.promise_run.JobTurns.{job_turns}
 use Rattle.nvm_top.specs.declared.stop.Stop.{Stop}
 use Rattle.nvm_top.specs.Play.{IsAttachStop, IsStepsEnd}
 use Rattle.nvm_top.specs.Stop.{status_of}

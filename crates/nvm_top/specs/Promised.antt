@@ -8,18 +8,17 @@ use Rattle.nvm_script.specs.declared.script.Mode.TheVariants as mode
 use Rattle.nvm_script.specs.Summary.{summary}
 use Rattle.script_walks.specs.Words.{Step}
 use Rattle.nvm_flash.specs.block_machine.Words.{Entry}
-use Rattle.nvm_flash.specs.promise_run.Run.{Run, End, Whole, Memory, HasOrder, RefusalsExplain, offs_of_flash}
+use Rattle.nvm_flash.specs.promise_run.Run.{Run, End, Whole, Memory, HasOrder, LeavesAlone, RefusalsExplain, offs_of_flash}
 use Rattle.nvm_flash.specs.nv_base.Count.{WereCounted}
 use Rattle.nvm_flash.specs.promise_device.FlashRun.{TellsBytes, StartsSound}
 use Rattle.nvm_flash.specs.promise_run.Promise.{Promise, making_of}
 use Rattle.nvm_flash.specs.promise_run.Completeness.{Completeness}
+use Rattle.nvm_flash.specs.promise_run.JobTurns.{job_turns}
 use Rattle.nvm_flash.specs.promise_run.Turns.{HasTurns}
 use Rattle.nvm_flash.specs.promise_run.Call.{Call, IsCourseOf, IsRunOf, status_of_end, last_line}
 use Rattle.nvm_top.specs.declared.status.Status.{Status}
 use Rattle.nvm_top.specs.declared.status.Status.TheVariants as status
 use Rattle.nvm_top.specs.Ends.{HasPlayable}
-use Rattle.nvm_flash.specs.Made.{LeavesAlone}
-use Rattle.nvm_flash.specs.Turns.{job_turns}
 use Rattle.nvm_top.specs.Status.{code_of_status}
 
 -- a call of `play`

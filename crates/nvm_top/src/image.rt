@@ -1,6 +1,5 @@
 // Reading the bytes of a flash.
 ghost use Rattle.std.specs.Prelude.{◌≡◌, ◌+◌, ◌++◌, IfErr, IfOk, IfSome, OnOk, false, length, vec_len};
-ghost use Rattle.nvm_flash.specs.nv_base.Count.{Rose};
 ghost use Rattle.nvm_flash.specs.nv_base.Geometry.{IsLegal, size_of};
 ghost use Rattle.nvm_flash.specs.fls_model.Bytes.{piece};
 ghost use Rattle.nvm_flash.specs.fls_model.Told.{HasRange};

@@ -13,7 +13,7 @@ ghost use Rattle.nvm_top.specs.Ends.{PlaysBy, StopsBy, IsBadWords};
 ghost use Rattle.nvm_top.specs.Machine.{IsKeptFrom, IsStarted, StartsWell, one_part};
 ghost use Rattle.nvm_top.specs.Output.{Writes, Prints};
 ghost use Rattle.nvm_top.specs.Play.{IsBeforeAttach, IsOfWrongSize, IsStepsEnd, IsRunEnd, RunsBy, PrintsBy, WritesSize};
-ghost use Rattle.nvm_top.specs.Promised.{HasRun, RunsAs, KeepsPromise, SoakEnds, played_call};
+ghost use Rattle.nvm_top.specs.Promised.{HasRun, RunsAs, KeepsPromise, played_call};
 
 use crate::Status;
 use crate::machine::Machine;

@@ -1,5 +1,5 @@
 // What `play` reads: a configuration, and the steps of a script for it.
-ghost use Rattle.std.specs.Prelude.{◌≡◌, ◌≤◌, ◌<◌, [], Ok, Err, IfOk, IfErr, IfSome, OnOk, length, codes};
+ghost use Rattle.std.specs.Prelude.{◌≡◌, ◌≤◌, ◌<◌, [], Ok, Err, IfOk, IfErr, IfSome, OnOk, length};
 ghost use Rattle.std.specs.Io.KnownBytes.{IsAtEnd};
 ghost use Rattle.nvm_flash.specs.nv_base.Count.{Rose};
 ghost use Rattle.nvm_script.specs.Script.{IsScript, later_lines};
@@ -12,7 +12,7 @@ use crate::input::{LIMIT, read_input};
 use crate::stop::Stop;
 use nv_streams::Source;
 use nvm_flash::block_config::Config;
-use nvm_script::{Mode, ScriptFault, StepList, read_script, scripts_are_played};
+use nvm_script::{Mode, ScriptFault, StepList, read_script};
 use std::alloc::Global;
 
 /// A configuration with the steps of a script for it.
@@ -48,13 +48,13 @@ fn playable_of(alloc: Global, input: &[u8]) -> Result<Playable, Stop>
     Ok(Playable { config, steps })
 }
 
+#[tactic(auto, using(nvm_script::proofs::PlayedScripts::scripts_are_played))]
 fn steps_of(alloc: Global, input: &[u8], config: &Config) -> Result<StepList, Stop>
     requires short { length input.now < u32.MAX }
     ensures ok { IfOk result (λ steps. IsScript config.now Mode.Play 2 [] (later_lines input.now) steps) }
     ensures played { IfOk result (λ steps. ArePlayed config.now steps) }
     ensures err { IfErr result (IsLineStop config.now (later_lines input.now)) }
 {
-    scripts_are_played();
     match read_script(alloc, input, config, Mode::Play) {
         Ok(steps) => Ok(steps),
         Err(ScriptFault::Line { number }) => Err(Stop::BadScript { line: number }),

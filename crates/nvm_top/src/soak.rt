@@ -30,7 +30,7 @@ use nvm_flash::fls_model::Flash;
 use nvm_script::StepList;
 use nvm_words::{CommandKind, command_of};
 use script_player::make_steps;
-use script_soak::{soak_is_played, soak_steps};
+use script_soak::soak_steps;
 use std::alloc::{AllocError, Global};
 use std::marker::Brand;
 
@@ -91,6 +91,7 @@ pub(crate) fn soak<S: Source, K: Sink, F: Flash>(
 }
 
 // The steps of a seed on the flash.
+#[tactic(auto, using(script_soak::proofs::Played::soak_is_played))]
 fn soak_config<K: Sink, F: Flash>(
     alloc: Global,
     config: Config,
@@ -107,7 +108,6 @@ fn soak_config<K: Sink, F: Flash>(
         (F.told flash) (F.told result.1) }
     ensures write_fault { result.0 ≡ Status.WriteFault → Rose (K.faults output.old) (K.faults output.new) }
 {
-    soak_is_played();
     let Ok(steps) = soak_steps(alloc, &config, seed, count) else {
         return (Status::Memory, flash);
     };

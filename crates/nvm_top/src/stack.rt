@@ -22,13 +22,10 @@ use crate::machine::Machine;
 use crate::stop::Stop;
 use nvm_flash::block_config::Config;
 use nvm_flash::fee_core::{Fee, Origin};
-use nvm_flash::fee_image::soundness_computes;
 use nvm_flash::fls_devices::Cutter;
 use nvm_flash::fls_model::Flash;
 use nvm_flash::memif::MemDevice;
 use nvm_flash::nv_base::{Geometry, History};
-use nvm_flash::nvm_device_laws::begins_kept;
-use nvm_flash::promise_run::halves_make_the_promise;
 use nvm_flash::{FlashStack, MakeFault, give_back, make_stack, start_stack};
 use script_player::PlainStack;
 use std::alloc::Global;
@@ -92,7 +89,6 @@ pub fn start_driven<F: Flash, O: Origin>(
     ensures kept { IfOk result (λ m. StartsWell config (F.told flash) → IsKeptFrom (IsKept m.ready (one_part (part_at O.entry)) m.desk m.hand (told_of m.device) (told_clock m.device)) (payer_by told_of told_clock m) (told_by told_of m)) }
     ensures stopped { IfErr result (λ e. StopsAtStart config (F.told flash) (F.told e.1) e.0) }
 {
-    soundness_computes();
     let geometry = config.geometry();
     match make_stack(alloc, config, flash, cuts) {
         Ok(stack) => match begin(stack) {
@@ -109,7 +105,6 @@ pub fn end_driven<F: Flash, O: Origin>(machine: Driven<F, O>) -> F
         → Vouches (IsKept machine.ready (one_part (part_at O.entry)) machine.desk machine.hand (told_of machine.device) (told_clock machine.device)) (payer_by told_of told_clock machine) (part_at O.entry) (told_by told_of machine) inner (F.told result) }
 {
     let stack = machine.into_stack();
-    halves_make_the_promise(stack.device());
     give_back(stack.into_device())
 }
 
@@ -121,7 +116,6 @@ fn begin<F: Flash, O: Origin>(stack: FlashStack<F, O>) -> Result<FlashStack<F, O
         → StackKeeps (one_part (part_at O.entry)) s.desk None (told_of s.device) (told_clock s.device)) }
     ensures stopped { IfErr result (λ e. (inner : Told) (cuts : ℕ) → IsOrigin stack.desk.config inner cuts O.making O.entry → ComesBack stack.desk.config e.0 inner (F.told e.1)) }
 {
-    begins_kept(stack.device());
     stack.device().left();
     start_stack(stack)
 }

@@ -1,7 +1,7 @@
 -- The promise from its two halves.
 use Rattle.std.specs.Prelude.{slice_get, min, IfSome}
 use Rattle.std.specs.Option.{option_map_or}
-use Rattle.std.proofs.Common.{◌≡◌, ℕ, zero, suc, ◌<◌, ◌≤◌, ◌+◌, ◌-◌, ◌⊎◌, IsTrue, Bool, true, List, [], ◌∷◌, length, Option, Some, None, refl, sym, subst, ap, inl, inr, arith}
+use Rattle.std.proofs.Common.{◌≡◌, ℕ, zero, suc, ◌<◌, ◌≤◌, ◌-◌, ◌⊎◌, IsTrue, Bool, true, List, [], ◌∷◌, length, Option, Some, None, refl, sym, subst, ap, inl, inr, arith}
 use Rattle.block_machine.specs.nv_base.Count.{last_count, next_count, WereCounted}
 use Rattle.fls_model.specs.Told.{Change, bytes_now}
 use Rattle.memif.specs.Told.{PartTold, Part, DeviceTold, First}
@@ -13,8 +13,9 @@ use Rattle.block_machine.specs.Steps.{step}
 use Rattle.promise_blocks.specs.Payment.{Worn, ArePaid, IsPaid, price_for, every_block}
 use Rattle.promise_blocks.specs.OverDevice.{HasStarted, HasOffAt, is_of}
 use Rattle.promise_device.specs.Image.{held_in, IsSoundFlash}
-use Rattle.promise_device.specs.FlashRun.{TellsBytes, StartsSound, IsCutImage, bytes_after, AreSeen}
+use Rattle.promise_device.specs.FlashRun.{TellsBytes, StartsSound, IsCutImage, bytes_after}
 use Rattle.promise_device.specs.Bridge.{IsWornOut}
+use Rattle.promise_device.proofs.FlashRun.{seen_more}
 use Rattle.promise_run.specs.Run.{Run, cap, has_cutter}
 use Rattle.promise_run.specs.Promise.{CutsCount, Keeps, StartUpsFind, making_of}
 use Rattle.promise_run.proofs.Founds.{last_soon}
@@ -45,13 +46,6 @@ pays : (of : ℕ → Bool) → ((block : ℕ) → of block ≡ true) → (c : Co
 pays of all c worn other before after first last h more counts paid = record { faults = paid.faults; counted = counts paid.faults paid.counted; pay = paid_too of all c worn other paid.faults at_first h more paid.pay }
 
 -- OPERATIONS
-seen_too : (kept other : ℕ → Type 0) (k : ℕ) (last : List ℕ) (xs ys : List Change) → ((n : ℕ) → kept n → other n) → AreSeen kept k last xs ys → AreSeen other k last xs ys
-seen_too kept other k last [] ys more seen = seen
-seen_too kept other k last (x ∷ xs) [] more ((is, same), rest) = ((more k is, same), seen_too kept other (k + 1) last xs [] more rest)
-seen_too kept other k last (x ∷ xs) (y ∷ ys) more (inl (place, same, answer, rest)) =
-    inl (place, same, elim answer [ inl told ↦ inl told | inr cut ↦ inr (more k cut.0, cut.1) ], seen_too kept other (k + 1) last xs ys more rest)
-seen_too kept other k last (x ∷ xs) (y ∷ ys) more (inr ((is, same), rest)) = inr ((more k is, same), seen_too kept other (k + 1) last xs (y ∷ ys) more rest)
-
 -- an operation of the flash is one that the device asked for
 one_of : (k : ℕ) (xs : List Change) (x : Change) → slice_get xs k ≡ Some x → k < length xs
 one_of k [] x is = cc
@@ -115,8 +109,8 @@ cuts_count r before now clock block device tells sound cuts k ops image small cu
     (was_asked (length r.flash.operations) now.ops k small within device.ops) (cuts k image small cut) last finds)
     (device.after tells sound ops (omega (arith, soon, within)) (omega (arith, soon, small)))
 
-pub promised : (clock : Clock) → HalvesMakeIt clock
-promised clock r before now block device = record {
+pub halves_make_the_promise : (clock : Clock) → HalvesMakeIt clock
+halves_make_the_promise clock r before now block device = record {
   order = block.order;
   power_cut = λ tells sound k image small cut. record {
     marks = block.over.cut k (held_in (making_of r.configuration) image) small
@@ -135,7 +129,7 @@ promised clock r before now block device = record {
   operations = λ started. record {
     told_alike = device.operations.told_alike;
     chain = device.operations.chain;
-    seen = λ t. seen_too (λ k. IsTrue (has_cutter r.course) × ((last_count ≤ k) ⊎ clock.off_in k)) _ 0 t.bytes.last r.flash.operations t.changes (λ k is. (is.0, told k is.1)) (device.operations.seen t);
+    seen = λ t. seen_more (λ k. IsTrue (has_cutter r.course) × ((last_count ≤ k) ⊎ clock.off_in k)) _ 0 t.bytes.last r.flash.operations t.changes (λ k is. (is.0, told k is.1)) (device.operations.seen t);
   };
   begins = block.over.begins;
   counted = λ e ops has is. omega (arith, block.over.counted e ops has is, device.ops);

@@ -1,10 +1,10 @@
 -- Operations that failed, in their moves.
 use Rattle.std.specs.Prelude.{map, IfSome}
 use Rattle.std.proofs.Common.{◌≡◌, ◌⊎◌, ◌≤◌, ◌<◌, ◌+◌, ℕ, zero, suc, List, [], ◌∷◌, ◌++◌, Option, Some, None, if◌then◌else◌, refl, sym, ap, ◌∙◌, subst, inl, inr, arith, append-nil, append_assoc}
-use Rattle.std.proofs.Math.Nat.{eq-or-lt_of_le}
 use Rattle.std.proofs.lemmas.Bool.{cases_lt}
 use Rattle.block_machine.specs.nv_base.Count.{Rose, WereCounted}
 use Rattle.block_machine.specs.nv_base.Entry.{ops_of}
+use Rattle.memif.proofs.Turning.{rose_before, rose_since}
 use Rattle.fee_image.specs.Laws.{SoundImagesCompute}
 use Rattle.script_walks.specs.Words.{Step, StepKind, AskStep, Store, Turn, Drain, Cut, Refuse, Restart, Await}
 use Rattle.block_machine.specs.Words.{Fine, NotOk, Content, Write, WriteJob, TookContent, Entry, Pick, Wrote, Post, Found, Configuration}
@@ -21,16 +21,6 @@ use Rattle.promise_run.proofs.Counted.{behind_more, all_behind}
 use Rattle.promise_run.proofs.OneByOne.{two_lists, asked_one, asks_step, at_ops, turn_to}
 
 -- A FAULT THAT WAS COUNTED
-rose_before : (a b c : ℕ) → Rose a b → b ≤ c → Rose a c
-rose_before a b c (inl lt) le = inl (omega (arith, lt, le))
-rose_before a b c (inr end) le = inr (end.0, omega (arith, end.1, le))
-
-rose_since : (a b c : ℕ) → a ≤ b → Rose b c → Rose a c
-rose_since a b c le (inl lt) = inl (omega arith)
-rose_since a b c le (inr end) =
-    let up : a ≤ c = omega (arith, le, end.1) in
-    elim (eq-or-lt_of_le up) [ inl same ↦ inr (omega (arith, end.0, end.1, le, same), up) | inr lt ↦ inl lt ]
-
 -- no move takes a fault back
 abbrev NoneFall : Moment → List Move → Type 0
 NoneFall before [] = Unit {0}

@@ -1,7 +1,7 @@
 mod Founds
 pub mod Paid
 pub mod Counted
-mod Composition
+pub mod Composition
 mod Spells
 mod WrongOrders
 mod WrongMarks

@@ -5,4 +5,5 @@ pub mod Life
 pub mod Call
 pub mod Completeness
 pub mod Turns
+pub mod JobTurns
 pub mod Cases

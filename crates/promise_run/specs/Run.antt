@@ -3,7 +3,7 @@ use Rattle.std.specs.Prelude.{◌≡◌, ◌⊎◌, ◌<◌, ◌≤◌, ◌+◌,
 use Rattle.block_machine.specs.nv_base.Count.{last_count, Rose}
 use Rattle.block_machine.specs.nv_base.declared.geometry.Geometry.{Geometry}
 use Rattle.block_machine.specs.nv_base.Entry.{ops_behind}
-use Rattle.fls_model.specs.Told.{IfBothTold, bytes_now}
+use Rattle.fls_model.specs.Told.{Told, IfBothTold, bytes_now}
 use Rattle.script_walks.specs.Words.{Step, StepKind, AskStep, Cut, Refuse, Restart}
 use Rattle.block_machine.specs.Words.{Entry, Off, Configuration}
 use Rattle.block_machine.specs.State.{State}
@@ -52,6 +52,13 @@ pub record LeavesFlash (g : Geometry) (f : FlashRun) : Type 0 where
   pub none : f.operations ≡ []
   pub ops : f.exit.ops ≡ f.entry.ops
   pub bytes : IfBothTold (bytes_now f.entry) (bytes_now f.exit) (λ old new. (new ≡ old) ⊎ (new ≡ attached g old))
+
+-- no changing operation, no fault and no cut was counted, and the bytes are as they were
+pub record LeavesAlone (s t : Told) : Type 0 where
+  pub bytes : bytes_now t ≡ bytes_now s
+  pub ops : t.ops ≡ s.ops
+  pub faults : t.faults ≡ s.faults
+  pub cuts : t.cuts ≡ s.cuts
 
 -- `PLAY`
 -- the next step has no room in the history

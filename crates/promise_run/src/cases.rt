@@ -13,19 +13,14 @@ ghost use Rattle.promise_run.specs.Run.{FlashFault};
 ghost use Rattle.promise_run.specs.Turns.{BeginsAt, EndsBy, HasTurns};
 ghost use Rattle.promise_run.specs.Cases.{six_turns, lazy, leaps, at_faults, faulty, PaysFailed, CountsFailed, mended, posts_on_credit, starts_on_credit, untold, BreaksBy, small, quiet, wiped, empty_at_11, made_up_mark, off_without_a_cut, stale_in_play, invented_store, second_found, other_dataset, worn_but_roomy, worn_and_full, kept_write, lost_write, two_callers, written_at, always, turned, not_drained, ends_for_nothing, demo_run, demo_call};
 
-use fee_image::{blank_images, images_compute, soundness_computes, torn_erases_keep_soundness};
-
 /// A start-up alone keeps it, and so do a write that a cut breaks off with a restart behind it, and the requests of two
 /// callers.
+#[tactic(auto, using(fee_image::proofs::Soundness::blank_is_sound, fee_image::proofs::Soundness::blank_has_erased))]
 pub fn runs_that_keep_it()
     ensures quiet { Promise quiet }
     ensures kept_write { Promise kept_write }
     ensures two_callers { Promise two_callers }
-{
-    blank_images();
-    images_compute();
-    torn_erases_keep_soundness();
-}
+{}
 
 /// A run that wipes the flash or ends with a full history before a start-up breaks it by its order, and so does one that
 /// takes an old copy or one that nobody stored, or that starts twice beside its callers.
@@ -42,9 +37,7 @@ pub fn wrong_orders_break_it()
 pub fn wrong_marks_break_it()
     ensures made_up_mark { BreaksBy made_up_mark (StartUpsFind made_up_mark) }
     ensures other_dataset { BreaksBy other_dataset (ExitKeeps other_dataset) }
-{
-    blank_images();
-}
+{}
 
 /// A power cut that nothing brought breaks it by its cuts, and a failure with a fault too few, over a bank of the last
 /// generation that has room, by its faults. Over one that has none the failure is paid.
@@ -68,9 +61,7 @@ pub fn a_lost_write_breaks_it()
     ensures operations { AreOperations small.geometry lost_write.flash (MayBeKept lost_write) }
     ensures begins { BeginsBefore lost_write.history }
     ensures counted { TellsAtMost 5 lost_write.history }
-{
-    soundness_computes();
-}
+{}
 
 /// A call is told by its run where configuration, steps, status and output are the run's.
 pub fn runs_of_calls()
@@ -112,6 +103,4 @@ pub fn failures_are_counted_in_their_moves()
     ensures posts_on_credit { HasTurns (always 8) posts_on_credit posts_on_credit.course → ⊥ }
     ensures starts_on_credit { HasTurns (always 8) starts_on_credit starts_on_credit.course → ⊥ }
     ensures untold { HasTurns (always 8) untold untold.course → ⊥ }
-{
-    soundness_computes();
-}
+{}

@@ -6,12 +6,12 @@
 #![tactic(auto)]
 
 mod cases;
-mod halves;
 mod life;
+mod turn_cases;
 
 pub use cases::{
     a_lost_write_breaks_it, runs_of_calls, runs_that_are_served, runs_that_keep_it,
     turns_one_by_one, wrong_causes_break_it, wrong_marks_break_it, wrong_orders_break_it,
 };
-pub use halves::halves_make_the_promise;
 pub use life::units_hold_marks;
+pub use turn_cases::turns_of_jobs;

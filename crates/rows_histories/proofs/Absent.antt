@@ -15,7 +15,7 @@ use Rattle.block_machine.specs.StartUp.{at_first}
 use Rattle.block_machine.specs.Steps.{step, after}
 use Rattle.block_machine.specs.Legal.{IsLegal}
 use Rattle.block_machine.specs.History.{MayStandIn}
-use Rattle.block_laws.specs.Laws.{PlacesAreConfigured}
+use Rattle.block_laws.proofs.JobBlocks.{places_are_configured}
 use Rattle.rows_histories.specs.Instances.{IsConfigured}
 use Rattle.rows_histories.proofs.Numbers.{pair_same, configured}
 use Rattle.rows_histories.proofs.Walks.{starts, starts_all}
@@ -49,10 +49,10 @@ absent_by : (c : Configuration) (cap : ℕ) (h : List Entry) (i : Instance) (mar
 absent_by c cap [] i mark started legal h = absurd h
 absent_by c cap (e ∷ es) i mark started legal h = started (starts_all c cap (step c at_first e) es legal.1 (starts c cap at_first e legal.0)) h
 
-pub absent : PlacesAreConfigured → (c : Configuration) (cap : ℕ) (h : List Entry) (i : Instance) (mark : Mark) → IsLegalConfig c → (IsConfigured c i → ⊥) → IsLegal c cap h
+pub absent : (c : Configuration) (cap : ℕ) (h : List Entry) (i : Instance) (mark : Mark) → IsLegalConfig c → (IsConfigured c i → ⊥) → IsLegal c cap h
     → MayStandIn (instance_at (after c h) i) mark → ⊥
-absent law c cap h i mark rules not_one legal stands =
+absent c cap h i mark rules not_one legal stands =
     absent_by c cap h i mark
-    (λ on. none_in i mark (after c h).instances (lengths_of c) (law c cap h legal on).1
+    (λ on. none_in i mark (after c h).instances (lengths_of c) (places_are_configured c cap h legal on).1
     (λ n has is. not_one (subst (λ (k : Instance). IsConfigured c k) (sym is) (configured c n rules has))))
     legal stands

@@ -16,7 +16,8 @@ use Rattle.block_machine.specs.StartUp.{listed_mark, found_instance}
 use Rattle.block_machine.specs.Steps.{step}
 use Rattle.block_machine.specs.Legal.{MayPick, IsAllowed}
 use Rattle.block_machine.specs.History.{MayStandIn}
-use Rattle.block_laws.specs.Laws.{is_found, cell_by, CellsChange, FoundCells}
+use Rattle.block_laws.specs.Laws.{is_found, cell_by}
+use Rattle.block_laws.proofs.CellChanges.{found_cells, cells_change}
 use Rattle.rows_histories.specs.declared.seen.Seen.{Seen}
 use Rattle.rows_histories.specs.Seen.{mark_taken, IsTaken, StandsBy, index_by, IsSeenBy, IsSeen}
 use Rattle.rows_histories.proofs.Lists.{some_is}
@@ -154,33 +155,33 @@ stands_in i mark old s x seen is = subst (λ (o : Option InstanceState). IsTrue 
 abbrev Index : Configuration → State → Instance → Seen → Entry → Type 0
 Index c s i new e = new.index ≡ (block_at (step c s e) i.block).index
 
-later_seen : CellsChange → (c : Configuration) (cap : ℕ) (s : State) (e : Entry) (i : Instance) (mark : Mark) (old new : Seen) → Index c s i new e
+later_seen : (c : Configuration) (cap : ℕ) (s : State) (e : Entry) (i : Instance) (mark : Mark) (old new : Seen) → Index c s i new e
     → IsAllowed c cap s e → is_found e ≡ false → IsSeen i mark old s → IsSeenBy c i mark old e new → IsSeen i mark new (step c s e)
-later_seen law c cap s e i mark old new index allowed found seen by =
+later_seen c cap s e i mark old new index allowed found seen by =
     let (x, is) = some_of (instance_at s i) (seen.there (stood c cap s e allowed found)) in
-    seen_at i mark new (step c s e) (record x { cell = cell_by c s i x.cell e }) (law c cap s e i x allowed found is)
+    seen_at i mark new (step c s e) (record x { cell = cell_by c s i x.cell e }) (cells_change c cap s e i x allowed found is)
     (through (IsTrue new.stands) (StandsBy c i mark old e) (MayStand (cell_by c s i x.cell e) mark) by.stands
     (stands_by c cap s i mark old x.cell e (stands_in i mark old s x seen is) seen.index allowed found)) index
 
-found_seen : FoundCells → (c : Configuration) (s : State) (marks : List (Instance × Mark)) (ops : ℕ) (n : DeviceNumber × ℕ) (i : Instance) (mark : Mark) (new : Seen)
+found_seen : (c : Configuration) (s : State) (marks : List (Instance × Mark)) (ops : ℕ) (n : DeviceNumber × ℕ) (i : Instance) (mark : Mark) (new : Seen)
     → Contains (lengths_of c) n → instance_of n.0 ≡ i → Index c s i new (Found marks ops) → IsTrue new.stands ↔ (mark ≡ listed_mark marks i)
     → IsSeen i mark new (step c s (Found marks ops))
-found_seen law c s marks ops n i mark new has is index stands =
+found_seen c s marks ops n i mark new has is index stands =
     seen_at i mark new (step c s (Found marks ops)) (found_instance marks i)
-    (subst (λ (k : Instance). instance_at (step c s (Found marks ops)) k ≡ Some (found_instance marks k)) is (law c s marks ops n has))
+    (subst (λ (k : Instance). instance_at (step c s (Found marks ops)) k ≡ Some (found_instance marks k)) is (found_cells c s marks ops n has))
     (through (IsTrue new.stands) (mark ≡ listed_mark marks i) (MayStand (settled_as (listed_mark marks i)) mark) stands
     (λ same. inl same, λ h. only_settled (listed_mark marks i) mark h)) index
 
-by_entry : CellsChange → FoundCells → (c : Configuration) (cap : ℕ) (s : State) (e : Entry) (n : DeviceNumber × ℕ) (i : Instance) (mark : Mark) (old new : Seen)
+by_entry : (c : Configuration) (cap : ℕ) (s : State) (e : Entry) (n : DeviceNumber × ℕ) (i : Instance) (mark : Mark) (old new : Seen)
     → Contains (lengths_of c) n → instance_of n.0 ≡ i → IsAllowed c cap s e → Index c s i new e → IsSeen i mark old s → IsSeenBy c i mark old e new
     → IsSeen i mark new (step c s e)
-by_entry change found c cap s (Found marks ops) n i mark old new has is allowed index seen by = found_seen found c s marks ops n i mark new has is index by.stands
-by_entry change found c cap s e n i mark old new has is allowed index seen by = later_seen change c cap s e i mark old new index allowed refl seen by
+by_entry c cap s (Found marks ops) n i mark old new has is allowed index seen by = found_seen c s marks ops n i mark new has is index by.stands
+by_entry c cap s e n i mark old new has is allowed index seen by = later_seen c cap s e i mark old new index allowed refl seen by
 
 -- what is kept goes on with each entry
-pub seen_more : CellsChange → FoundCells → (c : Configuration) (cap : ℕ) (s : State) (e : Entry) (n : DeviceNumber × ℕ) (i : Instance) (mark : Mark) (old new : Seen)
+pub seen_more : (c : Configuration) (cap : ℕ) (s : State) (e : Entry) (n : DeviceNumber × ℕ) (i : Instance) (mark : Mark) (old new : Seen)
     → Contains (lengths_of c) n → instance_of n.0 ≡ i → (is_found e ≡ false → i.block < length s.blocks) → IsAllowed c cap s e → IsSeen i mark old s
     → IsSeenBy c i mark old e new → IsSeen i mark new (step c s e)
-seen_more change found c cap s e n i mark old new has is within allowed seen by =
-    by_entry change found c cap s e n i mark old new has is allowed
+seen_more c cap s e n i mark old new has is within allowed seen by =
+    by_entry c cap s e n i mark old new has is allowed
     (by.index ∙ ap (λ k. index_by i.block k e) seen.index ∙ sym (index_step c s e i.block within)) seen by

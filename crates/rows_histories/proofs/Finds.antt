@@ -15,7 +15,8 @@ use Rattle.block_machine.specs.StartUp.{listed_mark}
 use Rattle.block_machine.specs.Steps.{after}
 use Rattle.block_machine.specs.Legal.{IsLegal, MayBeFound}
 use Rattle.block_machine.specs.History.{MayStandIn}
-use Rattle.block_laws.specs.Laws.{PlacesAreConfigured, FoundMayStand}
+use Rattle.block_laws.proofs.JobBlocks.{places_are_configured}
+use Rattle.block_laws.proofs.OwnInstances.{found_may_stand}
 use Rattle.rows_histories.specs.Instances.{EachConfigured}
 use Rattle.rows_histories.proofs.Numbers.{numbered, configured}
 use Rattle.rows_histories.proofs.Absent.{same_is, same_from, heads}
@@ -41,11 +42,11 @@ found_in marks (x ∷ xs) (m ∷ ns) n same (k, within, is) found =
           same_from (instance_of n.0) x.instance (ap (λ (y : DeviceNumber × ℕ). instance_of y.0) (sym own) ∙ sym one) in let no_ : true ≡ false = sym on ∙ off in cc)) found.1)
     ]
 
-pub may_find : PlacesAreConfigured → FoundMayStand → (c : Configuration) (cap : ℕ) (h : List Entry) (marks : List (Instance × Mark)) → IsLegalConfig c → IsLegal c cap h
+pub may_find : (c : Configuration) (cap : ℕ) (h : List Entry) (marks : List (Instance × Mark)) → IsLegalConfig c → IsLegal c cap h
     → IsTrue (after c h).started → EachConfigured c (Stands c h marks) ↔ MayBeFound marks (after c h).instances
-may_find places law c cap h marks rules legal on = (
-  λ each. law c cap h marks legal on (λ n has. each (instance_of n.0).block (instance_of n.0).index (configured c n rules has)),
+may_find c cap h marks rules legal on = (
+  λ each. found_may_stand c cap h marks legal on (λ n has. each (instance_of n.0).block (instance_of n.0).index (configured c n rules has)),
   λ found id index one.
       let (n, has, is) = numbered c (record { block = id; index = index }) rules one in
-      subst (Stands c h marks) is (found_in marks (after c h).instances (lengths_of c) n (places c cap h legal on).1 has found),
+      subst (Stands c h marks) is (found_in marks (after c h).instances (lengths_of c) n (places_are_configured c cap h legal on).1 has found),
 )

@@ -7,7 +7,8 @@ use Rattle.block_machine.specs.State.{State}
 use Rattle.block_machine.specs.StartUp.{at_first}
 use Rattle.block_machine.specs.Steps.{after}
 use Rattle.block_machine.specs.Legal.{IsLegal}
-use Rattle.block_laws.specs.Laws.{is_found, CellsChange, FoundCells, PlacesAreConfigured}
+use Rattle.block_laws.specs.Laws.{is_found}
+use Rattle.block_laws.proofs.JobBlocks.{places_are_configured}
 use Rattle.rows_histories.specs.declared.seen.Seen.{Seen}
 use Rattle.rows_histories.specs.Instances.{IsConfigured}
 use Rattle.rows_histories.specs.Seen.{IsSeenBy, IsSeen}
@@ -24,15 +25,15 @@ seen_first c i mark seen none zero = record {
 }
 
 -- one entry more of a legal history
-pub scanned : CellsChange → FoundCells → PlacesAreConfigured → (c : Configuration) (cap : ℕ) (h : List Entry) (k : ℕ) (e : Entry) (i : Instance) (mark : Mark) (old new : Seen)
+pub scanned : (c : Configuration) (cap : ℕ) (h : List Entry) (k : ℕ) (e : Entry) (i : Instance) (mark : Mark) (old new : Seen)
     → IsLegalConfig c → IsConfigured c i → slice_get h k ≡ Some e → IsLegal c cap h → IsSeen i mark old (after c (take k h)) → IsSeenBy c i mark old e new
     → IsSeen i mark new (after c (take (suc k) h))
-scanned change found places c cap h k e i mark old new rules one at legal seen by =
+scanned c cap h k e i mark old new rules one at legal seen by =
     let (n, has, is) = numbered c i rules one in
     let s : State = after c (take k h) in
     let allowed = allowed_at c cap at_first h k e at legal in
     let within = λ (later : is_found e ≡ false).
-    let blocks = (places c cap (take k h) (legal_before c cap at_first h k legal) (stood c cap s e allowed later)).0 in
+    let blocks = (places_are_configured c cap (take k h) (legal_before c cap at_first h k legal) (stood c cap s e allowed later)).0 in
     let low = is_within c i one in
     let fits : i.block < length s.blocks = omega (arith, blocks, low) in fits in
-    subst (λ (t : State). IsSeen i mark new t) (sym (after_more c at_first h k e at)) (seen_more change found c cap s e n i mark old new has is within allowed seen by)
+    subst (λ (t : State). IsSeen i mark new t) (sym (after_more c at_first h k e at)) (seen_more c cap s e n i mark old new has is within allowed seen by)

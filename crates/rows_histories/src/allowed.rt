@@ -8,7 +8,6 @@ ghost use Rattle.rows_histories.specs.Instances.{IsConfigured};
 
 use crate::instances::is_configured;
 use crate::seen::Seen;
-use block_laws::{jobs_are_pending, what_is_found_is_settled};
 use block_machine::block_config::Config;
 use block_machine::nv_base::{History, Instance, Mark};
 
@@ -33,7 +32,6 @@ pub fn allows_behind(
     ensures { (cap : ℕ) → IsLegal config.now cap (take count history.now.entries)
         → IsTrue result ↔ MayStandIn (instance_at (after config.now (take count history.now.entries)) instance) mark.now }
 {
-    jobs_are_pending();
     let _blocks = config.blocks();
     is_configured(config, instance) && stands(config, history, count, instance, mark)
 }
@@ -45,8 +43,6 @@ fn stands(config: &Config, history: &History, count: u32, instance: Instance, ma
     ensures { (cap : ℕ) → IsLegal config.now cap (take count history.now.entries)
         → IsTrue result ↔ MayStandIn (instance_at (after config.now (take count history.now.entries)) instance) mark.now }
 {
-    jobs_are_pending();
-    what_is_found_is_settled();
     let _blocks = config.blocks();
     let mut seen = Seen::at_first();
     for i in 0..count {

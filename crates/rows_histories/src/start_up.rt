@@ -9,7 +9,6 @@ ghost use Rattle.rows_histories.specs.Instances.{IsConfigured, EachIndexOf, Each
 
 use crate::allowed::allows_behind;
 use crate::found::find_mark;
-use block_laws::{jobs_are_pending, what_is_found_is_settled};
 use block_machine::block_config::Config;
 use block_machine::nv_base::{History, Instance, Mark, Marks};
 
@@ -20,8 +19,6 @@ pub fn may_find(config: &Config, history: &History, count: u32, marks: &Marks) -
     ensures { (cap : ℕ) → IsLegal config.now cap (take count history.now.entries) → IsTrue (after config.now (take count history.now.entries)).started
         → IsTrue result ↔ MayBeFound marks.now (after config.now (take count history.now.entries)).instances }
 {
-    jobs_are_pending();
-    what_is_found_is_settled();
     let _blocks = config.blocks();
     each_may_stand(config, history, count, marks)
 }

@@ -7,9 +7,7 @@ ghost use Rattle.script_player.specs.Made.{cuts_in, cuts_of};
 
 use crate::MemoryStop;
 use nvm_core::block_config::{Config, ConfigFault, read};
-use nvm_script::{
-    Mode, ScriptFault, StepKind, StepList, first_line, read_script, scripts_are_played,
-};
+use nvm_script::{Mode, ScriptFault, StepKind, StepList, first_line, read_script};
 use std::alloc::Global;
 
 /// The configuration that the first line is.
@@ -24,12 +22,12 @@ pub fn read_config(alloc: Global, input: &[u8]) -> Result<Config, MemoryStop>
 }
 
 /// The steps that the later lines are, none of which plans a power cut.
+#[tactic(auto, using(nvm_script::proofs::PlayedScripts::scripts_are_played))]
 pub fn read_steps(alloc: Global, input: &[u8], config: &Config) -> Result<StepList, MemoryStop>
     ensures script { IfOk result (λ steps. IsScript config.now Mode.Play 2 [] (later_lines input.now) steps) }
     ensures played { IfOk result (λ steps. ArePlayed config.now steps) }
     ensures no_cuts { IfOk result (λ steps. cuts_of steps ≡ 0) }
 {
-    scripts_are_played();
     if input.len() >= u32::MAX as usize {
         return Err(MemoryStop::Memory);
     }

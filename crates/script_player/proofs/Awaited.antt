@@ -8,10 +8,10 @@ use Rattle.nvm_core.specs.block_machine.Words.{Instance, Mark, Entry, Found, Con
 use Rattle.nvm_core.specs.block_machine.State.{State, Job}
 use Rattle.nvm_core.specs.block_machine.Blocks.{job_block}
 use Rattle.nvm_core.specs.block_machine.Steps.{after, after_from}
-use Rattle.nvm_core.specs.block_laws.Laws.{HistoriesGoOn}
 use Rattle.script_walks.specs.Words.{Step}
 use Rattle.script_walks.specs.Walk.{is_at_rest, joined}
 use Rattle.promise_run.specs.Completeness.{turns_of, is_drain, is_restart, entries_within, ends_job, EachPiece, PostsInHand, DrainsAll, IsServed}
+use Rattle.nvm_core.proofs.block_laws.HistoryLaws.{histories_go_on}
 use Rattle.script_player.specs.Told.{StackTold, state_of, IsWithin}
 use Rattle.script_player.specs.Made.{IsMade, ServesJobs}
 use Rattle.script_player.specs.Paying.{Payer}
@@ -61,14 +61,14 @@ awaited_more id n (y ∷ ys) (q ∷ qs) x p mid new state serves within (inr (in
 -- EACH PLACE
 
 -- a fact of each place and one of a place more
-each_more : HistoriesGoOn → (c : Configuration) (P Q : State → Step → List Entry → List Step → List (List Entry) → Type 0) (x : Step) (p : List Entry) (last : State)
+each_more : (c : Configuration) (P Q : State → Step → List Entry → List Step → List (List Entry) → Type 0) (x : Step) (p : List Entry) (last : State)
     → ((s : State) (y : Step) (q : List Entry) (ys : List Step) (qs : List (List Entry)) → P s y q ys qs → Q s y q (ys ++ x ∷ []) (qs ++ p ∷ [])) → Q last x p [] []
     → (s : State) (xs : List Step) (ps : List (List Entry)) → length ps ≡ length xs → after_from c s (joined ps) ≡ last → EachPiece c P s xs ps → EachPiece c Q s (xs ++ x ∷ []) (ps ++ p ∷ [])
-each_more go c P Q x p last keeps here s [] [] many is each = (subst (λ (t : State). Q t x p [] []) (sym is) here, tt)
-each_more go c P Q x p last keeps here s [] (q ∷ qs) many is each = absurd (omega (arith, many))
-each_more go c P Q x p last keeps here s (y ∷ ys) [] many is each = absurd (omega (arith, many))
-each_more go c P Q x p last keeps here s (y ∷ ys) (q ∷ qs) many is (one, each) =
-    (keeps s y q ys qs one, each_more go c P Q x p last keeps here (after_from c s q) ys qs (omega (arith, many)) (sym (go c s q (joined qs)) ∙ is) each)
+each_more c P Q x p last keeps here s [] [] many is each = (subst (λ (t : State). Q t x p [] []) (sym is) here, tt)
+each_more c P Q x p last keeps here s [] (q ∷ qs) many is each = absurd (omega (arith, many))
+each_more c P Q x p last keeps here s (y ∷ ys) [] many is each = absurd (omega (arith, many))
+each_more c P Q x p last keeps here s (y ∷ ys) (q ∷ qs) many is (one, each) =
+    (keeps s y q ys qs one, each_more c P Q x p last keeps here (after_from c s q) ys qs (omega (arith, many)) (sym (histories_go_on c s q (joined qs)) ∙ is) each)
 
 each_by : (c : Configuration) (P Q : State → Step → List Entry → List Step → List (List Entry) → Type 0)
     → ((s : State) (y : Step) (q : List Entry) (ys : List Step) (qs : List (List Entry)) → P s y q ys qs → Q s y q ys qs)
@@ -78,14 +78,14 @@ each_by c P Q from s (y ∷ ys) [] each = tt
 each_by c P Q from s (y ∷ ys) (q ∷ qs) (one, each) = (from s y q ys qs one, each_by c P Q from (after_from c s q) ys qs each)
 
 -- the steps go on serving with a step more
-pub serving_more : {q r : Payer} → HistoriesGoOn → (first : Entry) (made : List Step) (pieces : List (List Entry)) (x : Step) (old mid new : StackTold) → length pieces ≡ length made → mid.configuration ≡ old.configuration → mid.most ≡ old.most
+pub serving_more : {q r : Payer} → (first : Entry) (made : List Step) (pieces : List (List Entry)) (x : Step) (old mid new : StackTold) → length pieces ≡ length made → mid.configuration ≡ old.configuration → mid.most ≡ old.most
     → mid.entries ≡ first ∷ joined pieces → (step : IsMade q r made x mid new) → AreServing first made pieces old mid → ServesJobs x.kind step.piece mid new
     → AreServing first (made ++ x ∷ []) (pieces ++ step.piece ∷ []) old new
-serving_more go first made pieces x old mid new many same most at step was serves = record {
-  posts = each_more go c (AwaitsInHand old mid) (AwaitsInHand old new) x piece (state_of mid)
+serving_more first made pieces x old mid new many same most at step was serves = record {
+  posts = each_more c (AwaitsInHand old mid) (AwaitsInHand old new) x piece (state_of mid)
       (λ s y q ys qs awaits j hand. awaited_more (job_block j) (old.most (after_from c s q) j) ys qs x piece mid new state serves within (awaits j hand)) here
       (after c (first ∷ [])) made pieces many before was.posts;
-  drains = each_more go c (DrainsAll c) (DrainsAll c) x piece (state_of mid) (λ s y q ys qs drains. drains)
+  drains = each_more c (DrainsAll c) (DrainsAll c) x piece (state_of mid) (λ s y q ys qs drains. drains)
       (λ drain. subst (λ (s : State). IsTrue (is_at_rest s)) now (serves.drains (ap is_drain drain)))
       (after c (first ∷ [])) made pieces many before was.drains;
   within = within;
@@ -105,7 +105,7 @@ serving_more go first made pieces x old mid new many same most at step was serve
     before = ap (λ (d : Configuration). after d (first ∷ joined pieces)) (sym same) ∙ ap (after mid.configuration) (sym at)
 
     state : state_of new ≡ after_from mid.configuration (state_of mid) piece
-    state = ap (λ (d : Configuration). after d new.entries) step.configuration ∙ ap (after mid.configuration) step.entries ∙ state_more go mid.configuration mid.entries piece
+    state = ap (λ (d : Configuration). after d new.entries) step.configuration ∙ ap (after mid.configuration) step.entries ∙ state_more mid.configuration mid.entries piece
 
     now : state_of new ≡ after_from c (state_of mid) piece
     now = state ∙ ap (λ (d : Configuration). after_from d (state_of mid) piece) same

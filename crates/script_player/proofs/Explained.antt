@@ -9,7 +9,6 @@ use Rattle.nvm_core.specs.block_machine.Words.{Entry, Ask, Pick, Wrote, Post, Of
 use Rattle.nvm_core.specs.block_machine.State.{State}
 use Rattle.nvm_core.specs.block_machine.Prices.{sum_from, block_price}
 use Rattle.nvm_core.specs.block_machine.Steps.{step, after_from}
-use Rattle.nvm_core.specs.block_laws.Laws.{HistoriesGoOn}
 use Rattle.script_walks.specs.Words.{StepKind, Cut, Refuse, Restart}
 use Rattle.promise_run.specs.Run.{is_paid, unpaid_off, plan_after}
 use Rattle.script_player.specs.Told.{StackTold, state_of, IsGrown, IsNoEarlier}
@@ -102,18 +101,18 @@ sum_more c price s [] more = omega arith
 sum_more c price s (e ∷ es) more = let rest = sum_more c price (step c s e) es more in omega (arith, rest)
 
 -- the prices of entries behind these
-pub prices_behind : HistoriesGoOn → (price : State → Entry → ℕ) (old mid : StackTold) (es more : List Entry) → IsGrown es old mid
+pub prices_behind : (price : State → Entry → ℕ) (old mid : StackTold) (es more : List Entry) → IsGrown es old mid
     → sum_from mid.configuration price (state_of mid) more ≡ sum_from old.configuration price (after_from old.configuration (state_of old) es) more
-prices_behind go price old mid es more grows =
+prices_behind price old mid es more grows =
     ap (λ (t : StackTold). sum_from t.configuration price (state_of t) more) grows
-    ∙ ap (λ (s : State). sum_from old.configuration price s more) (state_more go old.configuration old.entries es)
+    ∙ ap (λ (s : State). sum_from old.configuration price s more) (state_more old.configuration old.entries es)
 
-pub explained_more : HistoriesGoOn → (plan : Option ℕ) (old mid new : StackTold) (es more : List Entry) → IsGrown es old mid → AreExplained plan es old mid → AreExplained mid.causes.plan more mid new
+pub explained_more : (plan : Option ℕ) (old mid new : StackTold) (es more : List Entry) → IsGrown es old mid → AreExplained plan es old mid → AreExplained mid.causes.plan more mid new
     → AreExplained plan (es ++ more) old new
-explained_more go plan old mid new es more grows one two = record {
+explained_more plan old mid new es more grows one two = record {
   refusals = λ id.
       let sum = sum_more old.configuration (block_price id) (state_of old) es more in
-      let same = prices_behind go (block_price id) old mid es more grows in
+      let same = prices_behind (block_price id) old mid es more grows in
       let a = one.refusals id in
       let b = two.refusals id in omega (arith, sum, same, a, b);
   off = subst (λ (n : ℕ). WereCounted n old.causes.unplanned new.causes.unplanned) (sym (sum_by-append (unpaid_off plan) es more))

@@ -3,16 +3,16 @@ use Rattle.std.proofs.Common.{◌≡◌, true, List, ◌++◌, ap, ◌∙◌, su
 use Rattle.nvm_core.specs.block_machine.Words.{Entry, Configuration}
 use Rattle.nvm_core.specs.block_machine.StartUp.{at_first}
 use Rattle.nvm_core.specs.block_machine.Steps.{after, after_from}
-use Rattle.nvm_core.specs.block_laws.Laws.{HistoriesGoOn}
+use Rattle.nvm_core.proofs.block_laws.HistoryLaws.{histories_go_on}
 use Rattle.script_player.specs.Told.{StackTold, state_of, IsGrown}
 
 -- the state behind more entries
-pub state_more : HistoriesGoOn → (c : Configuration) (h es : List Entry) → after c (h ++ es) ≡ after_from c (after c h) es
-state_more go c h es = go c at_first h es
+pub state_more : (c : Configuration) (h es : List Entry) → after c (h ++ es) ≡ after_from c (after c h) es
+state_more c h es = histories_go_on c at_first h es
 
 -- that of a stack with these entries more
-pub state_grown : HistoriesGoOn → (old new : StackTold) (es : List Entry) → IsGrown es old new → state_of new ≡ after_from old.configuration (state_of old) es
-state_grown go old new es is = ap state_of is ∙ state_more go old.configuration old.entries es
+pub state_grown : (old new : StackTold) (es : List Entry) → IsGrown es old new → state_of new ≡ after_from old.configuration (state_of old) es
+state_grown old new es is = ap state_of is ∙ state_more old.configuration old.entries es
 
 pub grown_more : (old mid new : StackTold) (es more : List Entry) → IsGrown es old mid → IsGrown more mid new → IsGrown (es ++ more) old new
 grown_more old mid new es more one two =

@@ -7,7 +7,6 @@ use Rattle.nvm_core.specs.block_machine.State.{State}
 use Rattle.nvm_core.specs.block_machine.Blocks.{desc_of, is_synchronized}
 use Rattle.nvm_core.specs.block_machine.Next.{next_of}
 use Rattle.nvm_core.specs.block_machine.Steps.{step, after}
-use Rattle.nvm_core.specs.block_laws.Laws.{HistoriesStep, HistoriesGoOn}
 use Rattle.nvm_core.specs.ram_blocks.Copies.{next_number}
 use Rattle.script_walks.specs.Words.{Step, StepKind, AskStep, Store, Turn, Drain, Restart}
 use Rattle.promise_run.specs.Run.{plan_after}
@@ -15,7 +14,10 @@ use Rattle.promise_run.specs.Completeness.{turns_of, is_drain}
 use Rattle.script_walks.specs.Walk.{stores_of, request_after, is_at_rest, copies_by, TakesStore, IsPieceBy}
 use Rattle.nvm_script.specs.Played.{CanBePlayed}
 use Rattle.script_walks.specs.Stores.{AreNewest, JobsTookStored}
-use Rattle.script_walks.specs.StoreLaws.{AsksKeepStored, StartsKeepStored, StepsKeepStored, OthersKeepNewest, StoresAreNewest, StoresAreFew, is_store}
+use Rattle.script_walks.specs.StoreLaws.{is_store}
+use Rattle.nvm_core.proofs.block_laws.HistoryLaws.{histories_step}
+use Rattle.script_walks.proofs.Newest.{others_keep_newest, stores_are_newest, stores_are_few}
+use Rattle.script_walks.proofs.Jobs.{steps_keep_stored, asks_keep_stored, starts_keep_stored}
 use Rattle.script_player.specs.Told.{StackTold, state_of, moment_of}
 use Rattle.script_player.specs.Calls.{StartsAgain, Arms, Stores, Refuses}
 use Rattle.script_player.specs.Kept.{IsKept, StaysCalm, HasTurned, AreMade, MakesTurns, Drains}
@@ -34,18 +36,18 @@ pub at_kind : (P : Step → Type 0) (x : Step) (kind : StepKind) → x.kind ≡ 
 at_kind P x kind is at = subst (λ (k : StepKind). P (record { line = x.line; caller = x.caller; kind = k })) (sym is) at
 
 -- a step that stores nothing keeps what is kept
-pub kept_more : OthersKeepNewest → StepsKeepStored → (before : List Step) (x : Step) (t : StackTold) → is_store x.kind ≡ false → IsKept before t → IsKept (before ++ x ∷ []) t
-kept_more others steps before x t none kept = record {
+pub kept_more : (before : List Step) (x : Step) (t : StackTold) → is_store x.kind ≡ false → IsKept before t → IsKept (before ++ x ∷ []) t
+kept_more before x t none kept = record {
   ready = kept.ready;
   places = kept.places;
-  stores = others t.configuration before t.stores x none kept.stores;
-  jobs = steps t.configuration before (state_of t) x kept.jobs;
+  stores = others_keep_newest t.configuration before t.stores x none kept.stores;
+  jobs = steps_keep_stored t.configuration before (state_of t) x kept.jobs;
 }
 
 -- a step that adds nothing, and changes the causes at most
-pub nothing_made : OthersKeepNewest → StepsKeepStored → (p q : Payer) (before : List Step) (line caller : ℕ) (kind : StepKind) (old new : StackTold) → is_store kind ≡ false → turns_of kind ≡ 0 → is_drain kind ≡ false → AreMovesOf kind (moment_of old) [] → IsPieceBy old.configuration before (state_of old) caller kind []
+pub nothing_made : (p q : Payer) (before : List Step) (line caller : ℕ) (kind : StepKind) (old new : StackTold) → is_store kind ≡ false → turns_of kind ≡ 0 → is_drain kind ≡ false → AreMovesOf kind (moment_of old) [] → IsPieceBy old.configuration before (state_of old) caller kind []
     → new ≡ record old { causes = new.causes } → IsExplained kind [] old new → PaysNothing p q new → IsKept before old → IsMade p q before (record { line = line; caller = caller; kind = kind }) old new
-nothing_made others steps p q before line caller kind old new none turns no_drain rests is same explained pays kept =
+nothing_made p q before line caller kind old new none turns no_drain rests is same explained pays kept =
     let x : Step = record { line = line; caller = caller; kind = kind } in
     record {
       piece = [];
@@ -63,7 +65,7 @@ nothing_made others steps p q before line caller kind old new none turns no_drai
       behind = sym (ap moment_of same);
       chain = ap shown_of same;
       pays = nothing_pays p q old new pays;
-      kept = subst (λ (t : StackTold). IsKept (before ++ x ∷ []) t) (sym same) (moved (kept_more others steps before x old none kept));
+      kept = subst (λ (t : StackTold). IsKept (before ++ x ∷ []) t) (sym same) (moved (kept_more before x old none kept));
     }
   where
     moved : {xs : List Step} → IsKept xs old → IsKept xs (record old { causes = new.causes })
@@ -85,9 +87,9 @@ found_takes c before true marks ops = tt
 found_takes c before false marks ops = tt
 
 -- a request
-pub ask_made : HistoriesStep → OthersKeepNewest → StepsKeepStored → AsksKeepStored → (p q : Payer) (before : List Step) (line caller : ℕ) (r : Request) (table : List ℕ) (old new : StackTold) → CanBePlayed old.configuration (AskStep r)
+pub ask_made : (p q : Payer) (before : List Step) (line caller : ℕ) (r : Request) (table : List ℕ) (old new : StackTold) → CanBePlayed old.configuration (AskStep r)
     → IsAsked caller r table old new → PaysNothing p q new → HasLastStores old.configuration before table → IsKept before old → IsMade p q before (record { line = line; caller = caller; kind = AskStep r }) old new
-ask_made one others steps asks p q before line caller r table old new can asked pays has kept =
+ask_made p q before line caller r table old new can asked pays has kept =
     let x : Step = record { line = line; caller = caller; kind = AskStep r } in
     let (reply, adds) = asked before has in
     let e : Entry = Ask caller (request_after old.configuration before caller r) reply in
@@ -99,7 +101,7 @@ ask_made one others steps asks p q before line caller r table old new can asked 
       entries = ap (λ t. t.entries) adds.adds;
       counted = let n : new.faults ≡ old.faults = ap (λ t. t.faults) adds.adds in omega (arith, n);
       explained = by_entries (AskStep r) (e ∷ []) old new (λ plan ops. refl) adds.explained;
-      serves = λ calm. ask_serves one r caller (request_after old.configuration before caller r) reply old new adds;
+      serves = λ calm. ask_serves r caller (request_after old.configuration before caller r) reply old new adds;
       moves = move_to (e ∷ []) old ∷ [];
       moved = refl;
       tell = refl;
@@ -110,22 +112,22 @@ ask_made one others steps asks p q before line caller r table old new can asked 
       kept = subst (λ (t : StackTold). IsKept (before ++ x ∷ []) t) (sym adds.adds) (record {
         ready = kept.ready;
         places = kept.places;
-        stores = others old.configuration before old.stores x refl kept.stores;
-        jobs = subst (λ (s : State). JobsTookStored old.configuration (before ++ x ∷ []) s) (sym (one old.configuration old.entries e))
-            (steps old.configuration before (step old.configuration (state_of old) e) x (asks old.configuration before (state_of old) caller r reply can kept.jobs));
+        stores = others_keep_newest old.configuration before old.stores x refl kept.stores;
+        jobs = subst (λ (s : State). JobsTookStored old.configuration (before ++ x ∷ []) s) (sym (histories_step old.configuration old.entries e))
+            (steps_keep_stored old.configuration before (step old.configuration (state_of old) e) x (asks_keep_stored old.configuration before (state_of old) caller r reply can kept.jobs));
       });
     }
 
 -- a start-up
-pub restart_made : HistoriesStep → OthersKeepNewest → StepsKeepStored → StartsKeepStored → (p q : Payer) (before : List Step) (line caller : ℕ) (old new : StackTold)
+pub restart_made : (p q : Payer) (before : List Step) (line caller : ℕ) (old new : StackTold)
     → StartsAgain old new → PaysNothing p q new → IsKept before old → IsMade p q before (record { line = line; caller = caller; kind = Restart }) old new
-restart_made one others steps starts p q before line caller old new starts_again pays kept =
+restart_made p q before line caller old new starts_again pays kept =
     let x : Step = record { line = line; caller = caller; kind = Restart } in
     let marks = starts_again.marks in
     let ops = starts_again.ops in
     let same = starts_again.grows in
     let e : Entry = Found marks ops in
-    let after_is : after old.configuration (old.entries ++ e ∷ []) ≡ step old.configuration (state_of old) e = one old.configuration old.entries e in
+    let after_is : after old.configuration (old.entries ++ e ∷ []) ≡ step old.configuration (state_of old) e = histories_step old.configuration old.entries e in
     record {
       piece = e ∷ [];
       configuration = ap (λ t. t.configuration) same;
@@ -145,16 +147,16 @@ restart_made one others steps starts p q before line caller old new starts_again
       kept = subst (λ (t : StackTold). IsKept (before ++ x ∷ []) t) (sym same) (record {
         ready = refl;
         places = kept.places;
-        stores = others old.configuration before old.stores x refl kept.stores;
+        stores = others_keep_newest old.configuration before old.stores x refl kept.stores;
         jobs = subst (λ (s : State). JobsTookStored old.configuration (before ++ x ∷ []) s) (sym after_is)
-            (steps old.configuration before (step old.configuration (state_of old) e) x (starts old.configuration before (state_of old) marks ops));
+            (steps_keep_stored old.configuration before (step old.configuration (state_of old) e) x (starts_keep_stored old.configuration before (state_of old) marks ops));
       });
     }
 
 -- turns, with the piece that they added
-turned_made : OthersKeepNewest → StepsKeepStored → (p q : Payer) (before : List Step) (line caller : ℕ) (kind : StepKind) (old new : StackTold) (es : List Entry) (ms : List Move) → AreMovesOf kind (moment_of old) ms → AreMade p q es ms old new → is_store kind ≡ false → ((plan : Option ℕ) (ops : ℕ) → plan_after kind plan ops ≡ plan)
+turned_made : (p q : Payer) (before : List Step) (line caller : ℕ) (kind : StepKind) (old new : StackTold) (es : List Entry) (ms : List Move) → AreMovesOf kind (moment_of old) ms → AreMade p q es ms old new → is_store kind ≡ false → ((plan : Option ℕ) (ops : ℕ) → plan_after kind plan ops ≡ plan)
     → HasTurned (turns_of kind) before old new es → (StaysCalm old new → is_drain kind ≡ true → IsTrue (is_at_rest (state_of new))) → IsPieceBy old.configuration before (state_of old) caller kind es → IsKept before new → IsMade p q before (record { line = line; caller = caller; kind = kind }) old new
-turned_made others steps p q before line caller kind old new es ms own moved none plans turned drains is kept =
+turned_made p q before line caller kind old new es ms own moved none plans turned drains is kept =
     let x : Step = record { line = line; caller = caller; kind = kind } in
     record {
       piece = es;
@@ -172,31 +174,31 @@ turned_made others steps p q before line caller kind old new es ms own moved non
       chain = moved.chain;
       pays = moved.pays;
       is = (is, turned.keeps.stores);
-      kept = kept_more others steps before x new none kept;
+      kept = kept_more before x new none kept;
     }
 
-pub turns_made : OthersKeepNewest → StepsKeepStored → (p q : Payer) (before : List Step) (line caller count : ℕ) (old new : StackTold) → 1 ≤ count → MakesTurns p q count before old new → IsKept before new
+pub turns_made : (p q : Payer) (before : List Step) (line caller count : ℕ) (old new : StackTold) → 1 ≤ count → MakesTurns p q count before old new → IsKept before new
     → IsMade p q before (record { line = line; caller = caller; kind = Turn count }) old new
-turns_made others steps p q before line caller zero old new some made kept = absurd (let none : 1 ≤ 0 = some in omega (arith, none))
-turns_made others steps p q before line caller (suc n) old new some (es, turned, is, (ms, many, moved)) kept = turned_made others steps p q before line caller (Turn (suc n)) old new es ms (many, moved.turns) moved refl (λ plan ops. refl) turned (λ calm no_. absurd (cc no_)) is kept
+turns_made p q before line caller zero old new some made kept = absurd (let none : 1 ≤ 0 = some in omega (arith, none))
+turns_made p q before line caller (suc n) old new some (es, turned, is, (ms, many, moved)) kept = turned_made p q before line caller (Turn (suc n)) old new es ms (many, moved.turns) moved refl (λ plan ops. refl) turned (λ calm no_. absurd (cc no_)) is kept
 
-pub drain_made : HistoriesGoOn → OthersKeepNewest → StepsKeepStored → (p q : Payer) (before : List Step) (line caller : ℕ) (old new : StackTold) → Drains p q before old new → IsKept before new → IsMade p q before (record { line = line; caller = caller; kind = Drain }) old new
-drain_made go others steps p q before line caller old new (es, turned, is, (ms, moved)) kept =
-    turned_made others steps p q before line caller Drain old new es ms moved.turns moved refl (λ plan ops. refl) turned (λ calm drain. at_rest_where_calm go old new es turned.grows calm is.ends) is kept
+pub drain_made : (p q : Payer) (before : List Step) (line caller : ℕ) (old new : StackTold) → Drains p q before old new → IsKept before new → IsMade p q before (record { line = line; caller = caller; kind = Drain }) old new
+drain_made p q before line caller old new (es, turned, is, (ms, moved)) kept =
+    turned_made p q before line caller Drain old new es ms moved.turns moved refl (λ plan ops. refl) turned (λ calm drain. at_rest_where_calm old new es turned.grows calm is.ends) is kept
 
 -- a store
-pub next_store : (c : Configuration) (before : List Step) (block n : ℕ) → StoresAreFew → length before < 2 ^ 32 → n ≡ length (stores_of block before) → next_number n ≡ length (stores_of block before) + 1
-next_store c before block n few small is =
-    let fewer = few block before in
+pub next_store : (c : Configuration) (before : List Step) (block n : ℕ) → length before < 2 ^ 32 → n ≡ length (stores_of block before) → next_number n ≡ length (stores_of block before) + 1
+next_store c before block n small is =
+    let fewer = stores_are_few block before in
     let less : n + 1 ≤ 2 ^ 60 = omega (arith, fewer, small, is) in
     min-eq_left less ∙ ap (λ m. m + 1) is
 
-pub store_made : StoresAreNewest → StoresAreFew → StepsKeepStored → (p q : Payer) (before : List Step) (line caller block number : ℕ) (content : List ℕ) (old new : StackTold) → is_synchronized (desc_of old.configuration block).ram ≡ true
+pub store_made : (p q : Payer) (before : List Step) (line caller block number : ℕ) (content : List ℕ) (old new : StackTold) → is_synchronized (desc_of old.configuration block).ram ≡ true
     → block < length old.configuration.blocks + 1 → length before < 2 ^ 32 → Stores block content number old new → PaysNothing p q new → IsKept before old → IsMade p q before (record { line = line; caller = caller; kind = Store block content }) old new
-store_made newest few steps p q before line caller block number content old new sync within small stored pays kept =
+store_made p q before line caller block number content old new sync within small stored pays kept =
     let x : Step = record { line = line; caller = caller; kind = Store block content } in
     let inside : block < length old.stores = let places = kept.places in omega (arith, places, within) in
-    let is : number ≡ length (stores_of block before) + 1 = stored.numbered ∙ next_store old.configuration before block (get_or old.stores block (0, [])).0 few small (kept.stores block sync).number in
+    let is : number ≡ length (stores_of block before) + 1 = stored.numbered ∙ next_store old.configuration before block (get_or old.stores block (0, [])).0 small (kept.stores block sync).number in
     subst (λ (t : StackTold). IsMade p q before x old t) (sym stored.stored) (record {
       piece = [];
       configuration = refl;
@@ -216,8 +218,8 @@ store_made newest few steps p q before line caller block number content old new 
       kept = record {
         ready = kept.ready;
         places = simp length-set kept.places;
-        stores = subst (λ (n : ℕ). AreNewest old.configuration (before ++ x ∷ []) (slice_set old.stores block (n, content))) (sym is) (newest old.configuration before old.stores line caller block content inside kept.stores);
-        jobs = steps old.configuration before (state_of old) x kept.jobs;
+        stores = subst (λ (n : ℕ). AreNewest old.configuration (before ++ x ∷ []) (slice_set old.stores block (n, content))) (sym is) (stores_are_newest old.configuration before old.stores line caller block content inside kept.stores);
+        jobs = steps_keep_stored old.configuration before (state_of old) x kept.jobs;
       };
     })
 

@@ -11,7 +11,6 @@ use Rattle.script_walks.specs.Words.{Step}
 use Rattle.script_walks.specs.Turn.{IsTurn}
 use Rattle.promise_run.specs.Turns.{Moment, Move, entry_list, entries_of, moment_behind, moment_after, AreTurnsMade, AreMovesOf, AreMoves, HasMoves, is_asked, is_picked, all_moves}
 use Rattle.nvm_core.specs.block_machine.Steps.{after_from}
-use Rattle.nvm_core.specs.block_laws.Laws.{HistoriesGoOn}
 use Rattle.script_player.specs.Told.{StackTold, state_of, moment_of, IsGrown}
 use Rattle.script_player.specs.Paying.{Payer, PaysTurn, PaysBy}
 use Rattle.promise_run.proofs.Counted.{behind_more}
@@ -36,14 +35,14 @@ entries_more (x ∷ xs) ys = ap (λ (es : List Entry). entry_list x.entry ++ es)
 pub none_moved : (p : Payer) (t : StackTold) → AreMade p p [] [] t t
 none_moved p t = record { turns = tt; tell = refl; behind = refl; chain = refl; pays = none_pays p t }
 
-pub made_more : HistoriesGoOn → (p q r : Payer) (old mid new : StackTold) (es more : List Entry) (xs ys : List Move) → IsGrown es old mid → AreMade p q es xs old mid → AreMade q r more ys mid new → AreMade p r (es ++ more) (xs ++ ys) old new
-made_more go p q r old mid new es more xs ys grows one two = record {
+pub made_more : (p q r : Payer) (old mid new : StackTold) (es more : List Entry) (xs ys : List Move) → IsGrown es old mid → AreMade p q es xs old mid → AreMade q r more ys mid new → AreMade p r (es ++ more) (xs ++ ys) old new
+made_more p q r old mid new es more xs ys grows one two = record {
   turns = turns_more (moment_of old) xs ys one.turns (subst (λ (m : Moment). AreTurnsMade m ys) (sym one.behind) two.turns);
   tell = ap (λ (a : List Entry). a ++ more) one.tell ∙ ap (λ (a : List Entry). entries_of xs ++ a) two.tell ∙ sym (entries_more xs ys);
   behind = behind_more (moment_of old) xs ys ∙ ap (λ (m : Moment). moment_behind m ys) one.behind ∙ two.behind;
   chain = moved_more xs ys (shown_of old) (shown_of mid) (shown_of new) one.chain two.chain;
-  pays = by_more go p q r old mid xs ys (ap (λ (t : StackTold). t.configuration) grows) one.behind
-      (state_grown go old mid es grows ∙ ap (after_from old.configuration (state_of old)) one.tell) one.pays two.pays;
+  pays = by_more p q r old mid xs ys (ap (λ (t : StackTold). t.configuration) grows) one.behind
+      (state_grown old mid es grows ∙ ap (after_from old.configuration (state_of old)) one.tell) one.pays two.pays;
 }
 
 -- the entries behind moves

@@ -4,10 +4,10 @@ use Rattle.nvm_core.specs.block_machine.Words.{Instance, Mark, Request, Reply, A
 use Rattle.nvm_core.specs.block_machine.State.{State}
 use Rattle.nvm_core.specs.block_machine.Steps.{after_from}
 use Rattle.nvm_core.specs.promise_blocks.Payment.{Worn}
-use Rattle.nvm_core.specs.block_laws.Laws.{HistoriesGoOn}
 use Rattle.promise_run.specs.Turns.{Moment, Move, entry_list, entries_of, moment_behind, is_picked, ArePaidSince}
 use Rattle.promise_run.proofs.Paid.{since_too}
 use Rattle.promise_run.proofs.Counted.{behind_later, counted_by, counted_more}
+use Rattle.nvm_core.proofs.block_laws.HistoryLaws.{histories_go_on}
 use Rattle.script_player.specs.Told.{StackTold, state_of, moment_of}
 use Rattle.script_player.specs.Paying.{Payer, PaysNothing, since_behind, Pays, PaysBy}
 
@@ -47,35 +47,35 @@ since_more : (since : ℕ) (before : Moment) (xs ys : List Move) → since_behin
 since_more since before [] ys = refl
 since_more since before (m ∷ ms) ys = since_more (if is_picked m.entry then before.faults else since) m.behind ms ys
 
-are_more : HistoriesGoOn → (c : Configuration) (worn : Worn) (since : ℕ) (before : Moment) (s : State) (xs ys : List Move) → ArePaidSince c worn since before s xs
+are_more : (c : Configuration) (worn : Worn) (since : ℕ) (before : Moment) (s : State) (xs ys : List Move) → ArePaidSince c worn since before s xs
     → ArePaidSince c worn (since_behind since before xs) (moment_behind before xs) (after_from c s (entries_of xs)) ys → ArePaidSince c worn since before s (xs ++ ys)
-are_more go c worn since before s [] ys one two = two
-are_more go c worn since before s (m ∷ ms) ys one two =
+are_more c worn since before s [] ys one two = two
+are_more c worn since before s (m ∷ ms) ys one two =
     let from = if is_picked m.entry then before.faults else since in (
       one.0,
-      are_more go c worn from m.behind (after_from c s (entry_list m.entry)) ms ys one.1
-          (subst (λ (t : State). ArePaidSince c worn (since_behind from m.behind ms) (moment_behind m.behind ms) t ys) (go c s (entry_list m.entry) (entries_of ms)) two),
+      are_more c worn from m.behind (after_from c s (entry_list m.entry)) ms ys one.1
+          (subst (λ (t : State). ArePaidSince c worn (since_behind from m.behind ms) (moment_behind m.behind ms) t ys) (histories_go_on c s (entry_list m.entry) (entries_of ms)) two),
     )
 
-pays_more : HistoriesGoOn → (c : Configuration) (p q r : Payer) (before : Moment) (s : State) (xs ys : List Move) → Pays c p q before s xs → Pays c q r (moment_behind before xs) (after_from c s (entries_of xs)) ys
+pays_more : (c : Configuration) (p q r : Payer) (before : Moment) (s : State) (xs ys : List Move) → Pays c p q before s xs → Pays c q r (moment_behind before xs) (after_from c s (entries_of xs)) ys
     → Pays c p r before s (xs ++ ys)
-pays_more go c p q r before s xs ys one two = record {
+pays_more c p q r before s xs ys one two = record {
   worn = λ k n is. two.worn k n (one.worn k n is);
   failed = λ k few is. one.failed k few (two.failed k (let later = behind_later q.failed before xs one.counts in omega (arith, few, later)) is);
   counts = counted_more r.failed before xs ys (counted_by q.failed r.failed (moment_behind before xs).ops two.failed before xs (omega arith) one.counts) two.counts;
   pays = λ since owes.
       let (paid, then_owes) = one.pays since owes in
       let (more, now) = two.pays (since_behind since before xs) then_owes in (
-        are_more go c r.worn since before s xs ys (since_too c q.worn r.worn two.worn since before s xs paid) more,
+        are_more c r.worn since before s xs ys (since_too c q.worn r.worn two.worn since before s xs paid) more,
         subst (λ (n : ℕ). r.owes n) (sym (since_more since before xs ys)) now,
       );
 }
 
 -- of a stack
-pub by_more : HistoriesGoOn → (p q r : Payer) (old mid : StackTold) (xs ys : List Move) → mid.configuration ≡ old.configuration → moment_behind (moment_of old) xs ≡ moment_of mid
+pub by_more : (p q r : Payer) (old mid : StackTold) (xs ys : List Move) → mid.configuration ≡ old.configuration → moment_behind (moment_of old) xs ≡ moment_of mid
     → state_of mid ≡ after_from old.configuration (state_of old) (entries_of xs) → PaysBy p q old xs → PaysBy q r mid ys → PaysBy p r old (xs ++ ys)
-by_more go p q r old mid xs ys same behind state one two =
-    pays_more go old.configuration p q r (moment_of old) (state_of old) xs ys one
+by_more p q r old mid xs ys same behind state one two =
+    pays_more old.configuration p q r (moment_of old) (state_of old) xs ys one
     (subst (λ (m : Moment). Pays old.configuration q r m (after_from old.configuration (state_of old) (entries_of xs)) ys) (sym behind)
     (subst (λ (s : State). Pays old.configuration q r (moment_of mid) s ys) state
     (subst (λ (c : Configuration). Pays c q r (moment_of mid) (state_of mid) ys) same two)))

@@ -12,7 +12,6 @@ use Rattle.nvm_core.specs.block_machine.Words.{Instance, Mark, Entry, Wrote, Off
 use Rattle.nvm_core.specs.block_machine.State.{State, Job}
 use Rattle.nvm_core.specs.block_machine.Legal.{MayWrite}
 use Rattle.nvm_core.specs.block_machine.Steps.{step}
-use Rattle.nvm_core.specs.block_laws.Laws.{HistoriesStep, NoneWaits}
 use Rattle.nvm_core.specs.ram_blocks.declared.plain_block.PlainBlock.{PlainBlock}
 use Rattle.nvm_core.specs.ram_blocks.Plain.{told_of, store_of}
 use Rattle.nvm_core.specs.nv_desk.Desk.{DeskState, state_of}
@@ -64,11 +63,11 @@ false_true {t} off on = never (sym off ∙ on)
     never : false ≡ true → ⊥
     never e = cc
 
-module _ {D : Type 0} (device : D → DeviceTold) (clock : D → Clock) (steps : HistoriesStep) (waits : NoneWaits) (old between new : StackState D (List PlainBlock))
+module _ {D : Type 0} (device : D → DeviceTold) (clock : D → Clock) (old between new : StackState D (List PlainBlock))
     (half : IsFirstHalf device are_told is_now is_looked Device old between) where
   -- nothing comes next where no job is in hand, so no turn goes by
   rests : (state_of old.desk).hand ≡ None → is_at_rest (state_of old.desk) ≡ true
-  rests none = at_rest waits old.desk.config (state_of old.desk) none (half.half.3 none)
+  rests none = at_rest old.desk.config (state_of old.desk) none (half.half.3 none)
 
   late : is_due (state_of old.desk) ≡ false
   late = by (state_of old.desk).hand refl
@@ -147,7 +146,7 @@ module _ {D : Type 0} (device : D → DeviceTold) (clock : D → Clock) (steps :
           turn = record { entry = turn; begins = begins_late (state_of old.desk) (e ∷ []) late };
           explained = explained device old new (e ∷ []) goes
               (λ id. one_price old.desk.config (state_of old.desk) id e (map told_of old.copies) (map told_of new.copies) (state_of old.desk).hand _ (state_of new.desk).hand
-              (ap (λ (x : State). x.hand) (one_more steps old.desk new.desk e desk))
+              (ap (λ (x : State). x.hand) (one_more old.desk new.desk e desk))
               (let price = (stays id).0 in let few = less id (step old.desk.config (state_of old.desk) e).hand (stays id).1 in omega (arith, price, few))) off;
           answers = answers;
           lowers = lowers;
@@ -189,7 +188,7 @@ module _ {D : Type 0} (device : D → DeviceTold) (clock : D → Clock) (steps :
       (one_off (off_counted (device between.device) (device new.device) (clock between.device) (clock new.device) second.turns (on (is_off (device old.device)) refl)))))
       refl tt
       (off_serves device old new (Off (ops_of (device new.device)) ∷ [])
-      (ap (λ (x : State). x.off) (one_more steps old.desk new.desk (Off (ops_of (device new.device))) (adds turned.Off second behind (Off (ops_of (device new.device))) second.adds.0))))
+      (ap (λ (x : State). x.off) (one_more old.desk new.desk (Off (ops_of (device new.device))) (adds turned.Off second behind (Off (ops_of (device new.device))) second.adds.0))))
     where
       on : (t : Bool) → is_off (device old.device) ≡ t → is_off (device between.device) ≡ false
       on true off = absurd (false_true half.half.2 (power off))

@@ -8,7 +8,6 @@ use Rattle.nvm_core.specs.block_machine.State.{State, Job}
 use Rattle.nvm_core.specs.block_machine.Blocks.{job_block, names_ram}
 use Rattle.nvm_core.specs.block_machine.Results.{Answer}
 use Rattle.nvm_core.specs.block_machine.Next.{Next, Nothing, PickJob, BeginSweep, PickMember, PostMember, EndSweep, next_of}
-use Rattle.nvm_core.specs.block_laws.Laws.{HistoriesStep, NoneWaits}
 use Rattle.nvm_core.specs.ram_blocks.declared.plain_block.PlainBlock.{PlainBlock}
 use Rattle.nvm_core.specs.ram_blocks.Told.{Told, refusals_of, most_of}
 use Rattle.nvm_core.specs.ram_blocks.Plain.{told_of, store_of}
@@ -116,7 +115,7 @@ pub record IsBehind {D : Type 0} (device : D → DeviceTold) (answer : Turned) (
   pub small : (id : ℕ) → most_of (map told_of new.copies) id < last_count
   pub within : (h : List Entry) (e : Entry) → new.desk.entries ≡ h ++ e ∷ [] → IfCopied e (AreWithin new.copies)
 
-module _ {D : Type 0} (device : D → DeviceTold) (steps : HistoriesStep) (waits : NoneWaits) (old new : StackState D (List PlainBlock)) where
+module _ {D : Type 0} (device : D → DeviceTold) (old new : StackState D (List PlainBlock)) where
   -- nothing is added
   quiet : (answer : Turned) → IsFirstHalf device are_told is_now is_looked (Ended answer) old new → IsBehind device answer old new → new.desk ≡ old.desk → is_due (state_of old.desk) ≡ false
       → IsAnswer answer [] (told_by device old) (told_by device new) → Lowers answer (told_by device old) (told_by device new) → IsServing device old new []
@@ -168,7 +167,7 @@ module _ {D : Type 0} (device : D → DeviceTold) (steps : HistoriesStep) (waits
         };
         explained = explained device old new (Pick block picked.kind picked.taken ops ∷ []) (goes_same (device old.device) (device new.device) made one two)
             (λ id. one_price c s id (Pick block picked.kind picked.taken ops) (map told_of old.copies) (map told_of new.copies) s.hand _ (state_of new.desk).hand
-            (ap (λ (x : State). x.hand) (one_more steps old.desk new.desk (Pick block picked.kind picked.taken ops) picked.adds))
+            (ap (λ (x : State). x.hand) (one_more old.desk new.desk (Pick block picked.kind picked.taken ops) picked.adds))
             (let less = pick_keeps (map told_of old.copies) (map told_of new.copies) half.refuses c s id block ops picked.kind picked.taken may within (behind.small block) refused in omega (arith, less)))
             (none_off _ _ (let as_many = unplanned_same (device old.device) (device new.device) one two in omega (arith, as_many)));
         answers = tt;
@@ -195,7 +194,7 @@ module _ {D : Type 0} (device : D → DeviceTold) (steps : HistoriesStep) (waits
         turn = record { entry = tt; begins = begins_by (is_due s) };
         explained = explained device old new (Post post.block post.result post.given post.refused ops ∷ []) (goes_same (device old.device) (device new.device) made one two)
             (λ id. one_price c s id (Post post.block post.result post.given post.refused ops) (map told_of old.copies) (map told_of new.copies) s.hand _ (state_of new.desk).hand
-            (ap (λ (x : State). x.hand) (one_more steps old.desk new.desk (Post post.block post.result post.given post.refused ops) post.adds))
+            (ap (λ (x : State). x.hand) (one_more old.desk new.desk (Post post.block post.result post.given post.refused ops) post.adds))
             (post_keeps (map told_of old.copies) (map told_of new.copies) half.refuses c s id post.block post.refused ops post.result post.given post.on within (behind.small post.block) post.told))
             (none_off _ _ (let as_many = unplanned_same (device old.device) (device new.device) one two in omega (arith, as_many)));
         answers = tt;
@@ -213,7 +212,7 @@ module _ {D : Type 0} (device : D → DeviceTold) (steps : HistoriesStep) (waits
       let off = sym (ap (λ (x : DeskState). (state_of x).off) same) ∙ behind.power half.half.1 in
       quiet turned.Off half behind same (due_off (state_of old.desk) off) off tt (off_serves device old new [] (behind.power half.half.1))
   ended turned.Idle half behind =
-      let rest = at_rest waits old.desk.config (state_of old.desk) half.half.1.hand half.half.1.next in
+      let rest = at_rest old.desk.config (state_of old.desk) half.half.1.hand half.half.1.next in
       quiet turned.Idle half behind half.half.0.0 (due_rest (state_of old.desk) rest) (refl, rest, ap not half.half.1.device) tt
       (rest_serves device old new [] half.half.1.hand (ap (λ (x : DeskState). (state_of x).hand) half.half.0.0 ∙ half.half.1.hand))
   ended turned.Worked half behind = absurd half.half

@@ -9,13 +9,13 @@ use Rattle.nvm_core.specs.block_machine.Sweeps.{member_job, member_request, is_p
 use Rattle.nvm_core.specs.block_machine.Next.{Next, Nothing, PickJob, BeginSweep, PickMember, PostMember, EndSweep, next_of, next_by, next_in, next_in_sweep, next_member}
 use Rattle.nvm_core.specs.block_machine.Legal.{TakesBy, TakesForWrite, MayPick}
 use Rattle.nvm_core.specs.block_machine.Prices.{refused_copies}
-use Rattle.nvm_core.specs.block_laws.Laws.{NoneWaits}
 use Rattle.nvm_core.specs.ram_blocks.Told.{Told, refusals_of}
 use Rattle.nvm_core.specs.nv_desk_copies.Takes.{source_by, source_of, source_next, IsCopied}
 use Rattle.nvm_core.specs.nv_desk_copies.declared.source.Source.{Source}
 use Rattle.nvm_core.specs.nv_desk_copies.declared.source.Source.TheVariants as from
 use Rattle.script_walks.specs.Walk.{is_due, is_at_rest}
 use Rattle.script_walks.specs.Turn.{copies_next, TakesNewest}
+use Rattle.nvm_core.proofs.block_laws.NextLaws.{none_waits}
 
 -- WHAT A PICK TOOK
 
@@ -176,14 +176,14 @@ some_sweep c s sw none = by sw.under_way none
 rest_by : (s : State) → s.hand ≡ None → s.waiting ≡ [] → s.sweep ≡ None → is_at_rest s ≡ true
 rest_by s hand waiting sweep = rw (hand, waiting, sweep) refl
 
-pub at_rest : NoneWaits → (c : Configuration) (s : State) → s.hand ≡ None → next_of c s ≡ Nothing → is_at_rest s ≡ true
-at_rest waits c s hand none = by (next_in c s.waiting) refl s.sweep refl
+pub at_rest : (c : Configuration) (s : State) → s.hand ≡ None → next_of c s ≡ Nothing → is_at_rest s ≡ true
+at_rest c s hand none = by (next_in c s.waiting) refl s.sweep refl
   where
     by : (o : Option Job) → next_in c s.waiting ≡ o → (w : Option Sweep) → s.sweep ≡ w → is_at_rest s ≡ true
     by (Some j) is w sweep = absurd (no (sym (ap (λ (o : Option Job). next_by c s o s.hand s.sweep) is) ∙ none))
       where
         no : PickJob j ≡ Nothing → ⊥
         no e = cc
-    by None is None sweep = rest_by s hand (waits c s.waiting is) sweep
+    by None is None sweep = rest_by s hand (none_waits c s.waiting is) sweep
     by None is (Some sw) sweep =
         absurd (some_sweep c s sw (sym (ap (λ (o : Option Job). next_by c s o s.hand s.sweep) is ∙ ap (λ (h : Option Job). next_by c s None h s.sweep) hand ∙ ap (λ (x : Option Sweep). next_by c s None None x) sweep) ∙ none))

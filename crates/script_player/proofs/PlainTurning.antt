@@ -8,13 +8,13 @@ use Rattle.nvm_core.specs.block_machine.Words.{Entry, Configuration}
 use Rattle.nvm_core.specs.block_machine.State.{State, Job}
 use Rattle.nvm_core.specs.block_machine.Prices.{sum_from, block_price}
 use Rattle.nvm_core.specs.block_machine.Steps.{step, after}
-use Rattle.nvm_core.specs.block_laws.Laws.{HistoriesStep}
 use Rattle.nvm_core.specs.ram_blocks.declared.plain_block.PlainBlock.{PlainBlock}
 use Rattle.nvm_core.specs.ram_blocks.Told.{Told, sizes_of}
 use Rattle.nvm_core.specs.ram_blocks.Plain.{told_of, store_of}
 use Rattle.nvm_core.specs.nv_desk.Desk.{DeskState, state_of}
 use Rattle.promise_run.specs.Run.{unpaid_off}
 use Rattle.nvm_core.specs.Stack.{StackState}
+use Rattle.nvm_core.proofs.block_laws.HistoryLaws.{histories_step}
 use Rattle.script_player.specs.Told.{IsGrown}
 use Rattle.script_player.specs.Calls.{AreExplained, AllTell, MakesOne}
 use Rattle.script_walks.specs.Walk.{is_due, begins_with_pick_or_post}
@@ -50,8 +50,8 @@ pub none_more : (old new : DeskState) → new ≡ old → new ≡ record old { e
 none_more old new same = same ∙ ap (λ (h : List Entry). record old { entries = h }) (sym (append-nil old.entries))
 
 -- the state behind one entry
-pub one_more : HistoriesStep → (old new : DeskState) (e : Entry) → new ≡ record old { entries = old.entries ++ e ∷ [] } → state_of new ≡ step old.config (state_of old) e
-one_more steps old new e adds = ap state_of adds ∙ steps old.config old.entries e
+pub one_more : (old new : DeskState) (e : Entry) → new ≡ record old { entries = old.entries ++ e ∷ [] } → state_of new ≡ step old.config (state_of old) e
+one_more old new e adds = ap state_of adds ∙ histories_step old.config old.entries e
 
 -- HOW IT IS EXPLAINED
 

@@ -3,10 +3,10 @@ use Rattle.std.proofs.Common.{◌≡◌, ◌||◌, ℕ, Bool, true, false, IsTru
 use Rattle.nvm_core.specs.block_machine.Words.{Request, Reply, Entry, Ask}
 use Rattle.nvm_core.specs.block_machine.State.{State, Job}
 use Rattle.nvm_core.specs.block_machine.Steps.{after_from}
-use Rattle.nvm_core.specs.block_laws.Laws.{HistoriesStep, HistoriesGoOn}
 use Rattle.script_walks.specs.Words.{StepKind, AskStep, Restart}
 use Rattle.script_walks.specs.Walk.{is_at_rest}
 use Rattle.promise_run.specs.Completeness.{turns_of, is_drain}
+use Rattle.nvm_core.proofs.block_laws.HistoryLaws.{histories_step}
 use Rattle.script_player.specs.Told.{StackTold, state_of, IsWithin, IsGrown}
 use Rattle.script_player.specs.Calls.{Nears, AddsAsk}
 use Rattle.script_player.specs.Kept.{StaysCalm}
@@ -35,10 +35,10 @@ same_serves kind old new turns no_drain state left most = record {
 }
 
 -- a request
-pub ask_serves : HistoriesStep → (r : Request) (caller : ℕ) (asked : Request) (reply : Reply) (old new : StackTold) → AddsAsk (Ask caller asked reply) old new → ServesJobs (AskStep r) (Ask caller asked reply ∷ []) old new
-ask_serves one r caller asked reply old new adds =
+pub ask_serves : (r : Request) (caller : ℕ) (asked : Request) (reply : Reply) (old new : StackTold) → AddsAsk (Ask caller asked reply) old new → ServesJobs (AskStep r) (Ask caller asked reply ∷ []) old new
+ask_serves r caller asked reply old new adds =
     let hand : (state_of new).hand ≡ (state_of old).hand =
-    ap (λ (t : StackTold). (state_of t).hand) adds.adds ∙ ap (λ (s : State). s.hand) (one old.configuration old.entries (Ask caller asked reply)) ∙ ask_hand old.configuration (state_of old) caller asked reply in
+    ap (λ (t : StackTold). (state_of t).hand) adds.adds ∙ ap (λ (s : State). s.hand) (histories_step old.configuration old.entries (Ask caller asked reply)) ∙ ask_hand old.configuration (state_of old) caller asked reply in
     record {
       nears = λ on. stays_near 0 (Ask caller asked reply ∷ []) old new refl hand (ap (λ (t : StackTold). t.left) adds.adds);
       within = adds.within;
@@ -54,8 +54,8 @@ rest_or_off true off ends on = refl
 rest_or_off false off ends on = absurd (cc (ends, on))
 
 -- a drain where the power stays on ends at rest
-pub at_rest_where_calm : HistoriesGoOn → (old new : StackTold) (es : List Entry) → IsGrown es old new → StaysCalm old new
+pub at_rest_where_calm : (old new : StackTold) (es : List Entry) → IsGrown es old new → StaysCalm old new
     → IsTrue (is_at_rest (after_from old.configuration (state_of old) es) || (after_from old.configuration (state_of old) es).off) → IsTrue (is_at_rest (state_of new))
-at_rest_where_calm go old new es grows calm ends =
-    rest_or_off (is_at_rest (state_of new)) (state_of new).off (subst (λ (s : State). IsTrue (is_at_rest s || s.off)) (sym (state_grown go old new es grows)) ends)
+at_rest_where_calm old new es grows calm ends =
+    rest_or_off (is_at_rest (state_of new)) (state_of new).off (subst (λ (s : State). IsTrue (is_at_rest s || s.off)) (sym (state_grown old new es grows)) ends)
     (power_on new.configuration new.entries calm.entries)

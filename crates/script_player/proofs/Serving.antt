@@ -2,15 +2,13 @@
 use Rattle.std.specs.List.{list_all, list_any}
 use Rattle.std.specs.Option.{is_some}
 use Rattle.std.proofs.Common.{◌≡◌, ◌≤◌, ◌+◌, ◌⊎◌, ℕ, Bool, IsTrue, List, [], ◌++◌, Option, Some, refl, sym, ap, ◌∙◌, subst, inl, inr, arith}
-use Rattle.std.proofs.Math.Nat.{eq-or-lt_of_le}
 use Rattle.std.proofs.lemmas.Bool.{cases_Bool, and_parts, or_left, or_right}
 use Rattle.std.proofs.lemmas.List.Folds.{list_any-append, list_all-append}
-use Rattle.nvm_core.specs.nv_base.Count.{Rose}
 use Rattle.nvm_core.specs.block_machine.Words.{Entry}
 use Rattle.nvm_core.specs.block_machine.State.{State, Job}
 use Rattle.nvm_core.specs.block_machine.Blocks.{job_block}
 use Rattle.nvm_core.specs.block_machine.Steps.{after_from}
-use Rattle.nvm_core.specs.block_laws.Laws.{HistoriesGoOn}
+use Rattle.nvm_core.proofs.memif.Turning.{rose_before, rose_since}
 use Rattle.promise_run.specs.Completeness.{is_calm_entry, ends_job}
 use Rattle.script_player.specs.Told.{StackTold, state_of, IsGrown}
 use Rattle.script_player.specs.Calls.{Nears, Serves}
@@ -20,24 +18,16 @@ use Rattle.script_player.proofs.InHand.{power_on, stays_in_hand}
 
 -- NOTHING FAILS
 
-pub rose_later : (a b d : ℕ) → a ≤ b → Rose b d → Rose a d
-rose_later a b d less (inl rose) = inl (omega (arith, less, rose))
-rose_later a b d less (inr (full, stays)) = elim (eq-or-lt_of_le less) [ inl same ↦ inr (omega (arith, same, full), omega (arith, less, stays)) | inr lower ↦ inl (omega (arith, lower, stays)) ]
-
-rose_first : (a b d : ℕ) → b ≤ d → Rose a b → Rose a d
-rose_first a b d more (inl rose) = inl (omega (arith, rose, more))
-rose_first a b d more (inr (full, stays)) = inr (full, omega (arith, stays, more))
-
 -- what stays calm in all is calm up to a moment, and from it on
 pub calm_until : (old mid new : StackTold) (more : List Entry) → new.entries ≡ mid.entries ++ more → mid.faults ≤ new.faults → StaysCalm old new → StaysCalm old mid
 calm_until old mid new more adds counted calm = record {
-  no_fault = λ rose. calm.no_fault (rose_first old.faults mid.faults new.faults counted rose);
+  no_fault = λ rose. calm.no_fault (rose_before old.faults mid.faults new.faults rose counted);
   entries = (and_parts (list_all is_calm_entry mid.entries) (list_all is_calm_entry more)
       (sym (list_all-append is_calm_entry mid.entries more) ∙ subst (λ (h : List Entry). IsTrue (list_all is_calm_entry h)) adds calm.entries)).0;
 }
 
 pub calm_from : (old mid new : StackTold) → old.faults ≤ mid.faults → StaysCalm old new → StaysCalm mid new
-calm_from old mid new counted calm = record { no_fault = λ rose. calm.no_fault (rose_later old.faults mid.faults new.faults counted rose); entries = calm.entries }
+calm_from old mid new counted calm = record { no_fault = λ rose. calm.no_fault (rose_since old.faults mid.faults new.faults counted rose); entries = calm.entries }
 
 -- TURNS
 
@@ -48,8 +38,8 @@ any_first p es more some = list_any-append p es more ∙ or_left (list_any p es)
 pub any_later : (p : Entry → Bool) (es more : List Entry) → IsTrue (list_any p more) → IsTrue (list_any p (es ++ more))
 any_later p es more some = list_any-append p es more ∙ or_right (list_any p es) (list_any p more) some
 
-nears_more : HistoriesGoOn → (n m : ℕ) (old mid new : StackTold) (es more : List Entry) → IsGrown es old mid → Nears n es old mid → Nears m more mid new → Nears (n + m) (es ++ more) old new
-nears_more go n m old mid new es more grows one two j hand = elim (one j hand) [
+nears_more : (n m : ℕ) (old mid new : StackTold) (es more : List Entry) → IsGrown es old mid → Nears n es old mid → Nears m more mid new → Nears (n + m) (es ++ more) old new
+nears_more n m old mid new es more grows one two j hand = elim (one j hand) [
   | inl ended ↦ inl (any_first (ends_job (job_block j)) es more ended)
   | inr (some, fewer) ↦ elim (cases_Bool (list_any (ends_job (job_block j)) es)) [
     | inl ended ↦ inl (any_first (ends_job (job_block j)) es more ended)
@@ -58,7 +48,7 @@ nears_more go n m old mid new es more grows one two j hand = elim (one j hand) [
 ]
   where
     state : state_of mid ≡ after_from old.configuration (state_of old) es
-    state = state_grown go old mid es grows
+    state = state_grown old mid es grows
 
     goes_on : mid.left + n ≤ old.left → ((k : Job) × ((after_from old.configuration (state_of old) es).hand ≡ Some k) × (job_block k ≡ job_block j))
         → IsTrue (list_any (ends_job (job_block j)) (es ++ more)) ⊎ (IsTrue (is_some (state_of new).hand) × (new.left + (n + m) ≤ old.left))
@@ -67,9 +57,9 @@ nears_more go n m old mid new es more grows one two j hand = elim (one j hand) [
       | inr (still, less) ↦ inr (still, omega (arith, fewer, less))
     ]
 
-pub serves_more : HistoriesGoOn → (n m : ℕ) (old mid new : StackTold) (es more : List Entry) → IsGrown es old mid → Serves n es old mid → Serves m more mid new → Serves (n + m) (es ++ more) old new
-serves_more go n m old mid new es more grows one two = record {
-  nears = nears_more go n m old mid new es more grows one.nears two.nears;
+pub serves_more : (n m : ℕ) (old mid new : StackTold) (es more : List Entry) → IsGrown es old mid → Serves n es old mid → Serves m more mid new → Serves (n + m) (es ++ more) old new
+serves_more n m old mid new es more grows one two = record {
+  nears = nears_more n m old mid new es more grows one.nears two.nears;
   within = λ was. two.within (one.within was);
 }
 

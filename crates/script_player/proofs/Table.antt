@@ -13,7 +13,8 @@ use Rattle.nvm_script.specs.Rules.{length_where_sync, sync_length_of}
 use Rattle.nvm_core.specs.block_machine.Blocks.{desc_of, is_synchronized}
 use Rattle.script_walks.specs.Words.{Step, Store}
 use Rattle.script_walks.specs.Walk.{stores_of, last_store}
-use Rattle.script_walks.specs.StoreLaws.{is_store, LastStoresGrow}
+use Rattle.script_walks.specs.StoreLaws.{is_store}
+use Rattle.script_walks.proofs.Newest.{last_stores_grow}
 use Rattle.script_player.specs.Table.{place_of, store_asked, HasLastStores, HoldsSynchronized}
 
 -- SYNCHRONIZED BLOCKS
@@ -43,10 +44,10 @@ is_within c (suc i) n is = let less = within_by c.blocks i n is in omega (arith,
 
 -- FROM STEP TO STEP
 
-pub same_table : LastStoresGrow → (c : Configuration) (before : List Step) (x : Step) (table : List ℕ) → is_store x.kind ≡ false → HasLastStores c before table → HasLastStores c (before ++ x ∷ []) table
-same_table grow c before x table none has = record {
+pub same_table : (c : Configuration) (before : List Step) (x : Step) (table : List ℕ) → is_store x.kind ≡ false → HasLastStores c before table → HasLastStores c (before ++ x ∷ []) table
+same_table c before x table none has = record {
   size = has.size;
-  numbers = λ caller block few. has.numbers caller block few ∙ ap (λ n. if is_synchronized (desc_of c block).ram then n else 0) (sym ((grow caller block before).0 x none));
+  numbers = λ caller block few. has.numbers caller block few ∙ ap (λ n. if is_synchronized (desc_of c block).ram then n else 0) (sym ((last_stores_grow caller block before).0 x none));
 }
 
 places_apart : (caller block who id : ℕ) → caller ≤ 15 → who ≤ 15 → place_of caller block ≡ place_of who id → (block ≡ id) × (caller ≡ who)
@@ -62,10 +63,10 @@ here_or_not caller block who id few small = elim (cases_Bool (block == id)) [
   | inr other ↦ inr (rw other refl, λ same. let back : (block == id) ≡ true = eq-eqb block id (sym (places_apart caller id who block few small same).0) in absurd (cc (back, other)))
 ]
 
-pub noted_table : LastStoresGrow → (c : Configuration) (before : List Step) (line who block number : ℕ) (content table : List ℕ) → who ≤ 15 → is_synchronized (desc_of c block).ram ≡ true → block < length c.blocks + 1
+pub noted_table : (c : Configuration) (before : List Step) (line who block number : ℕ) (content table : List ℕ) → who ≤ 15 → is_synchronized (desc_of c block).ram ≡ true → block < length c.blocks + 1
     → number ≡ length (stores_of block before) + 1 → HasLastStores c before table
     → HasLastStores c (before ++ record { line = line; caller = who; kind = Store block content } ∷ []) (slice_set table (place_of who block) number)
-noted_table grow c before line who block number content table small sync within is has = record {
+noted_table c before line who block number content table small sync within is has = record {
   size = simp length-set has.size;
   numbers = λ caller id few. by_place caller id few (here_or_not caller block who id few small);
 }
@@ -79,11 +80,11 @@ noted_table grow c before line who block number content table small sync within 
     by_place : (caller id : ℕ) → caller ≤ 15 → ((block ≡ id) × (who ≡ caller)) ⊎ ((((block == id) && (who == caller)) ≡ false) × (place_of caller id ≢ place_of who block))
         → get_or (slice_set table (place_of who block) number) (place_of caller id) 0 ≡ store_asked c after caller id
     by_place caller id few (inl same) =
-        let last : last_store caller id after ≡ length (stores_of id before) + 1 = (grow caller id before).1 line who block content ∙ rw (eq-eqb block id same.0, eq-eqb who caller same.1) refl in
+        let last : last_store caller id after ≡ length (stores_of id before) + 1 = (last_stores_grow caller id before).1 line who block content ∙ rw (eq-eqb block id same.0, eq-eqb who caller same.1) refl in
         ap (λ n. get_or (slice_set table (place_of who block) number) n 0) (ap (λ n. place_of n id) (sym same.1) ∙ ap (place_of who) (sym same.0)) ∙ get_or-set_same table (place_of who block) number 0 inside
         ∙ is ∙ ap (λ n. length (stores_of n before) + 1) same.0 ∙ sym last ∙ sym (rw (subst (λ (n : ℕ). is_synchronized (desc_of c n).ram ≡ true) same.0 sync) refl)
     by_place caller id few (inr other) =
-        let last : last_store caller id after ≡ last_store caller id before = (grow caller id before).1 line who block content ∙ rw other.0 refl in
+        let last : last_store caller id after ≡ last_store caller id before = (last_stores_grow caller id before).1 line who block content ∙ rw other.0 refl in
         get_or-set_other table (place_of who block) (place_of caller id) number 0 other.1 ∙ has.numbers caller id few ∙ ap (λ n. if is_synchronized (desc_of c id).ram then n else 0) (sym last)
 
 -- NOTHING STORED YET

@@ -9,12 +9,12 @@ use Rattle.nvm_core.specs.nvm_laws.declared.turned.Turned.TheVariants as turned
 use Rattle.nvm_core.specs.block_machine.Words.{Entry, Configuration}
 use Rattle.nvm_core.specs.block_machine.State.{State, Job}
 use Rattle.nvm_core.specs.block_machine.Steps.{after, after_from}
-use Rattle.nvm_core.specs.block_laws.Laws.{HistoriesGoOn}
 use Rattle.script_walks.specs.Words.{Step}
 use Rattle.script_walks.specs.Walk.{is_played, is_at_rest, AreTurns}
 use Rattle.script_walks.specs.Turn.{IsTurn}
 use Rattle.script_walks.specs.Stores.{JobsTookStored}
-use Rattle.script_walks.specs.StoreLaws.{KeepsStored, TurnsKeepStored, KeepingGoesOn, TurnsGrow}
+use Rattle.script_walks.specs.StoreLaws.{KeepsStored}
+use Rattle.script_walks.proofs.Turns.{turns_keep_stored, keeping_goes_on, turns_grow}
 use Rattle.script_player.specs.Told.{StackTold, state_of, IsGrown}
 use Rattle.script_player.specs.Calls.{Turns, is_last}
 use Rattle.script_player.specs.Kept.{IsKept, HasTurned, AreMade, MakesTurn, MakesTurns, Drains}
@@ -27,32 +27,32 @@ use Rattle.promise_run.specs.Turns.{Move}
 use Rattle.script_player.proofs.Serving.{calm_until, calm_from, serves_more, none_serves, any_serve, turn_serves}
 
 -- what a turn adds keeps what is kept
-pub turn_kept : HistoriesGoOn → TurnsKeepStored → (before : List Step) (old new : StackTold) (turn : MakesTurn old new) → IsKept before old → HasTurned 1 before old new turn.entries × IsKept before new
-turn_kept go turns before old new turn kept =
-    let keeps = turns old.configuration before (state_of old) old.stores turn.entries kept.stores kept.jobs turn.turn in (
+pub turn_kept : (before : List Step) (old new : StackTold) (turn : MakesTurn old new) → IsKept before old → HasTurned 1 before old new turn.entries × IsKept before new
+turn_kept before old new turn kept =
+    let keeps = turns_keep_stored old.configuration before (state_of old) old.stores turn.entries kept.stores kept.jobs turn.turn in (
       record { grows = turn.grows; counted = turn.counted; explained = turn.explained; keeps = keeps; serves = turn_serves old new turn },
       subst (λ (t : StackTold). IsKept before t) (sym turn.grows) (record {
         ready = kept.ready;
         places = kept.places;
         stores = kept.stores;
-        jobs = subst (λ (s : State). JobsTookStored old.configuration before s) (sym (state_more go old.configuration old.entries turn.entries)) keeps.jobs;
+        jobs = subst (λ (s : State). JobsTookStored old.configuration before s) (sym (state_more old.configuration old.entries turn.entries)) keeps.jobs;
       }),
     )
 
-pub turned_more : HistoriesGoOn → KeepingGoesOn → (n m : ℕ) (before : List Step) (old mid new : StackTold) (es more : List Entry) → HasTurned n before old mid es → HasTurned m before mid new more → HasTurned (n + m) before old new (es ++ more)
-turned_more go on n m before old mid new es more one two = record {
+pub turned_more : (n m : ℕ) (before : List Step) (old mid new : StackTold) (es more : List Entry) → HasTurned n before old mid es → HasTurned m before mid new more → HasTurned (n + m) before old new (es ++ more)
+turned_more n m before old mid new es more one two = record {
   grows = grown_more old mid new es more one.grows two.grows;
   counted = let a = one.counted in let b = two.counted in omega (arith, a, b);
-  explained = explained_more go old.causes.plan old mid new es more one.grows one.explained two.explained;
-  keeps = on old.configuration before (state_of old) es more one.keeps (later one.grows two.keeps);
+  explained = explained_more old.causes.plan old mid new es more one.grows one.explained two.explained;
+  keeps = keeping_goes_on old.configuration before (state_of old) es more one.keeps (later one.grows two.keeps);
   serves = λ calm.
-      serves_more go n m old mid new es more one.grows
+      serves_more n m old mid new es more one.grows
       (one.serves (calm_until old mid new more (ap (λ (t : StackTold). t.entries) two.grows) two.counted calm)) (two.serves (calm_from old mid new one.counted calm));
 }
   where
     later : IsGrown es old mid → KeepsStored mid.configuration before (state_of mid) more → KeepsStored old.configuration before (after_from old.configuration (state_of old) es) more
     later is keeps =
-        subst (λ (s : State). KeepsStored old.configuration before s more) (state_more go old.configuration old.entries es)
+        subst (λ (s : State). KeepsStored old.configuration before s more) (state_more old.configuration old.entries es)
         (subst (λ (t : StackTold). KeepsStored t.configuration before (state_of t) more) is keeps)
 
 pub none_turned : (before : List Step) (t : StackTold) → IsKept before t → HasTurned 0 before t t []
@@ -82,18 +82,18 @@ first_turns c s stores (e ∷ []) turn played = record { played = played; few = 
 first_turns c s stores (e ∷ f ∷ es) turn played = absurd turn.entry
 
 -- a turn behind these entries
-later_turn : HistoriesGoOn → (old mid : StackTold) (es more : List Entry) → IsGrown es old mid → IsTurn mid.configuration (state_of mid) mid.stores more → IsTurn old.configuration (after_from old.configuration (state_of old) es) old.stores more
-later_turn go old mid es more grows turn =
-    subst (λ (s : State). IsTurn old.configuration s old.stores more) (state_more go old.configuration old.entries es)
+later_turn : (old mid : StackTold) (es more : List Entry) → IsGrown es old mid → IsTurn mid.configuration (state_of mid) mid.stores more → IsTurn old.configuration (after_from old.configuration (state_of old) es) old.stores more
+later_turn old mid es more grows turn =
+    subst (λ (s : State). IsTurn old.configuration s old.stores more) (state_more old.configuration old.entries es)
     (subst (λ (t : StackTold). IsTurn t.configuration (state_of t) t.stores more) grows turn)
 
 one_longer : (n : ℕ) (ms : List Move) (m : Move) → length ms ≡ n → length (ms ++ m ∷ []) ≡ suc n
 one_longer n ms m is = let all = length-append ms (m ∷ []) in omega (arith, all, is)
 
-pub one_turn_more : HistoriesGoOn → TurnsKeepStored → KeepingGoesOn → TurnsGrow → (p q r : Payer) (n : ℕ) (before : List Step) (old mid new : StackTold) → MakesTurns p q n before old mid → IsKept before mid → MakesTurn mid new → PaysTurn q r mid new
+pub one_turn_more : (p q r : Payer) (n : ℕ) (before : List Step) (old mid new : StackTold) → MakesTurns p q n before old mid → IsKept before mid → MakesTurn mid new → PaysTurn q r mid new
     → MakesTurns p r (n + 1) before old new × IsKept before new
-one_turn_more go turns on grow p q r zero before old mid new (made, paid) kept turn pays =
-    let (turned, after) = turn_kept go turns before mid new turn kept in
+one_turn_more p q r zero before old mid new (made, paid) kept turn pays =
+    let (turned, after) = turn_kept before mid new turn kept in
     let one = first_turns mid.configuration (state_of mid) mid.stores turn.entries turn.turn turned.keeps.played in
     let here = turn_moved q r mid new turn pays in (
       subst (λ (t : StackTold). MakesTurns p r 1 before t new) made (
@@ -108,21 +108,21 @@ one_turn_more go turns on grow p q r zero before old mid new (made, paid) kept t
             tell = here.tell;
             behind = here.behind;
             chain = here.chain;
-            pays = by_more go p q r mid mid [] (move_to turn.entries new ∷ []) refl refl refl (subst (λ (t : StackTold). PaysBy p q t []) (sym made) paid) here.pays;
+            pays = by_more p q r mid mid [] (move_to turn.entries new ∷ []) refl refl refl (subst (λ (t : StackTold). PaysBy p q t []) (sym made) paid) here.pays;
           },
         ),
       ),
       after,
     )
-one_turn_more go turns on grow p q r (suc n) before old mid new (es, was, are, (ms, many, moved)) kept turn pays =
-    let (turned, after) = turn_kept go turns before mid new turn kept in
-    let more = grow old.configuration (state_of old) old.stores (suc n) es turn.entries are (omega arith) (later_turn go old mid es turn.entries was.grows turn.turn) turned.keeps.played in
+one_turn_more p q r (suc n) before old mid new (es, was, are, (ms, many, moved)) kept turn pays =
+    let (turned, after) = turn_kept before mid new turn kept in
+    let more = turns_grow old.configuration (state_of old) old.stores (suc n) es turn.entries are (omega arith) (later_turn old mid es turn.entries was.grows turn.turn) turned.keeps.played in
     let count : suc n + 1 ≡ suc (suc n) = omega arith in (
       subst (λ (m : ℕ). MakesTurns p r m before old new) (sym count) (
         es ++ turn.entries,
-        subst (λ (m : ℕ). HasTurned m before old new (es ++ turn.entries)) count (turned_more go on (suc n) 1 before old mid new es turn.entries was turned),
+        subst (λ (m : ℕ). HasTurned m before old new (es ++ turn.entries)) count (turned_more (suc n) 1 before old mid new es turn.entries was turned),
         subst (λ (m : ℕ). AreTurns (state_of old) m (es ++ turn.entries)) count more,
-        (ms ++ move_to turn.entries new ∷ [], one_longer (suc n) ms (move_to turn.entries new) many, made_more go p q r old mid new es turn.entries ms (move_to turn.entries new ∷ []) was.grows moved (turn_moved q r mid new turn pays)),
+        (ms ++ move_to turn.entries new ∷ [], one_longer (suc n) ms (move_to turn.entries new) many, made_more p q r old mid new es turn.entries ms (move_to turn.entries new ∷ []) was.grows moved (turn_moved q r mid new turn pays)),
       ),
       after,
     )
@@ -130,9 +130,9 @@ one_turn_more go turns on grow p q r (suc n) before old mid new (es, was, are, (
 -- A DRAIN
 
 -- it ends
-pub drained : HistoriesGoOn → (p q : Payer) (before : List Step) (old new : StackTold) (es : List Entry) (ms : List Move) → HasTurned 0 before old new es → AreMade p q es ms old new → IsTrue (is_at_rest (state_of new) || (state_of new).off) → Drains p q before old new
-drained go p q before old new es ms turned moved ends =
-    (es, turned, record { played = turned.keeps.played; ends = subst (λ (s : State). IsTrue (is_at_rest s || s.off)) (state_grown go old new es turned.grows) ends }, (ms, moved))
+pub drained : (p q : Payer) (before : List Step) (old new : StackTold) (es : List Entry) (ms : List Move) → HasTurned 0 before old new es → AreMade p q es ms old new → IsTrue (is_at_rest (state_of new) || (state_of new).off) → Drains p q before old new
+drained p q before old new es ms turned moved ends =
+    (es, turned, record { played = turned.keeps.played; ends = subst (λ (s : State). IsTrue (is_at_rest s || s.off)) (state_grown old new es turned.grows) ends }, (ms, moved))
 
 none_in : (hand : Option Job) → is_some hand ≡ false → hand ≡ None
 none_in None none = refl
@@ -148,34 +148,34 @@ off_then : (s : State) → s.off ≡ true → IsTrue (is_at_rest s || s.off)
 off_then s off = elim (cases_Bool (is_at_rest s)) [ inl on ↦ rw on refl | inr none ↦ rw (none, off) refl ]
 
 -- the state behind a turn that added nothing
-same_state : HistoriesGoOn → (old new : StackTold) (es : List Entry) → IsGrown es old new → es ≡ [] → state_of new ≡ state_of old
-same_state go old new es grows none = state_grown go old new es grows ∙ ap (after_from old.configuration (state_of old)) none
+same_state : (old new : StackTold) (es : List Entry) → IsGrown es old new → es ≡ [] → state_of new ≡ state_of old
+same_state old new es grows none = state_grown old new es grows ∙ ap (after_from old.configuration (state_of old)) none
 
-pub last_ends : HistoriesGoOn → (a : Turned) (in_hand risen : Bool) (old new : StackTold) → Turns a old new → in_hand ≡ is_some (state_of old).hand → is_last a in_hand risen ≡ true → IsTrue (is_at_rest (state_of new) || (state_of new).off)
-last_ends go turned.Idle in_hand risen old new turn hand last =
-    at_rest_then (state_of new) (subst (λ (s : State). is_at_rest s ≡ true) (sym (same_state go old new turn.entries turn.grows turn.answers.0)) turn.answers.1)
-last_ends go turned.Off in_hand risen old new turn hand last = off_then (state_of new) (ap (λ s. s.off) (state_grown go old new turn.entries turn.grows) ∙ turn.answers)
-last_ends go turned.Worked true risen old new turn hand last = absurd (cc last)
-last_ends go turned.Worked false risen old new turn hand last =
+pub last_ends : (a : Turned) (in_hand risen : Bool) (old new : StackTold) → Turns a old new → in_hand ≡ is_some (state_of old).hand → is_last a in_hand risen ≡ true → IsTrue (is_at_rest (state_of new) || (state_of new).off)
+last_ends turned.Idle in_hand risen old new turn hand last =
+    at_rest_then (state_of new) (subst (λ (s : State). is_at_rest s ≡ true) (sym (same_state old new turn.entries turn.grows turn.answers.0)) turn.answers.1)
+last_ends turned.Off in_hand risen old new turn hand last = off_then (state_of new) (ap (λ s. s.off) (state_grown old new turn.entries turn.grows) ∙ turn.answers)
+last_ends turned.Worked true risen old new turn hand last = absurd (cc last)
+last_ends turned.Worked false risen old new turn hand last =
     let (none, rest) = turn.answers (none_in (state_of old).hand (sym hand)) in
-    at_rest_then (state_of new) (subst (λ (s : State). is_at_rest s ≡ true) (sym (same_state go old new turn.entries turn.grows none)) rest)
-last_ends go turned.Picked in_hand risen old new turn hand last = absurd (cc last)
-last_ends go turned.Posted in_hand risen old new turn hand last = absurd (cc last)
+    at_rest_then (state_of new) (subst (λ (s : State). is_at_rest s ≡ true) (sym (same_state old new turn.entries turn.grows none)) rest)
+last_ends turned.Picked in_hand risen old new turn hand last = absurd (cc last)
+last_ends turned.Posted in_hand risen old new turn hand last = absurd (cc last)
 
 some_hand : (hand : Option Job) → hand ≡ None → true ≡ is_some hand → ⊥
 some_hand None is same = cc
 some_hand (Some j) is same = cc
 
 -- behind it nothing is open at the device, where no fault was counted and the power is on
-pub last_closes : HistoriesGoOn → (a : Turned) (in_hand risen : Bool) (old new : StackTold) → Turns a old new → (risen ≡ true → Rose old.faults new.faults) → is_last a in_hand risen ≡ true → ¬ Rose old.faults new.faults
+pub last_closes : (a : Turned) (in_hand risen : Bool) (old new : StackTold) → Turns a old new → (risen ≡ true → Rose old.faults new.faults) → is_last a in_hand risen ≡ true → ¬ Rose old.faults new.faults
     → (state_of new).off ≡ false → new.busy ≡ false
-last_closes go turned.Idle in_hand risen old new turn count last none on = turn.answers.2
-last_closes go turned.Off in_hand risen old new turn count last none on =
-    let off : (state_of new).off ≡ true = ap (λ s. s.off) (state_grown go old new turn.entries turn.grows) ∙ turn.answers in absurd (cc (off, on))
-last_closes go turned.Worked true risen old new turn count last none on = absurd (cc last)
-last_closes go turned.Worked false risen old new turn count last none on = absurd (none (count last))
-last_closes go turned.Picked in_hand risen old new turn count last none on = absurd (cc last)
-last_closes go turned.Posted in_hand risen old new turn count last none on = absurd (cc last)
+last_closes turned.Idle in_hand risen old new turn count last none on = turn.answers.2
+last_closes turned.Off in_hand risen old new turn count last none on =
+    let off : (state_of new).off ≡ true = ap (λ s. s.off) (state_grown old new turn.entries turn.grows) ∙ turn.answers in absurd (cc (off, on))
+last_closes turned.Worked true risen old new turn count last none on = absurd (cc last)
+last_closes turned.Worked false risen old new turn count last none on = absurd (none (count last))
+last_closes turned.Picked in_hand risen old new turn count last none on = absurd (cc last)
+last_closes turned.Posted in_hand risen old new turn count last none on = absurd (cc last)
 
 pub others_lower : (a : Turned) (in_hand risen : Bool) (old new : StackTold) → Turns a old new → in_hand ≡ is_some (state_of old).hand → (risen ≡ false → Rose old.faults new.faults → ⊥) → is_last a in_hand risen ≡ false → new.work < old.work
 others_lower turned.Idle in_hand risen old new turn hand count last = absurd (cc last)

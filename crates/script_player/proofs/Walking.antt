@@ -11,15 +11,16 @@ use Rattle.nvm_core.specs.block_machine.State.{State}
 use Rattle.nvm_core.specs.block_machine.StartUp.{at_first}
 use Rattle.nvm_core.specs.block_machine.Prices.{sum_from, block_price, prices_in_refusals}
 use Rattle.nvm_core.specs.block_machine.Steps.{after, after_from}
-use Rattle.nvm_core.specs.block_laws.Laws.{HistoriesGoOn}
 use Rattle.script_walks.specs.Words.{Step}
-use Rattle.script_walks.specs.Walk.{IsPiece, IsWalkOf, WalksGrow, joined}
+use Rattle.script_walks.specs.Walk.{IsPiece, IsWalkOf, joined}
 use Rattle.nvm_script.specs.Played.{IsPlayed, ArePlayed}
 use Rattle.script_walks.specs.Stores.{AreNewest, JobsTookStored}
-use Rattle.script_walks.specs.StoreLaws.{FirstAreNewest, StartsKeepStored}
 use Rattle.nvm_core.specs.ram_blocks.Plain.{store_of, plain_blocks_of}
 use Rattle.promise_run.specs.Run.{Played, unpaid_offs, refusals_of, RefusalsExplain}
 use Rattle.promise_run.specs.Completeness.{IsServed}
+use Rattle.script_walks.proofs.Jobs.{starts_keep_stored}
+use Rattle.script_walks.proofs.First.{first_are_newest}
+use Rattle.script_walks.proofs.Walks.{walks_grow}
 use Rattle.script_player.specs.declared.steps.StepFault.{StepFault}
 use Rattle.script_player.specs.declared.steps.StepFault.TheVariants.{Flash, HistoryFull, Memory}
 use Rattle.script_player.specs.Told.{StackTold, state_of, moment_of, IsNoEarlier}
@@ -77,9 +78,9 @@ is_played c steps n x is all = subst (λ (y : Step). IsPlayed c y) (get_or_from_
 -- THE WALK
 
 -- one more step
-pub walks_on : WalksGrow → HistoriesGoOn → (p q r : Payer) (made : List Step) (x : Step) (old mid new : StackTold) → mid.configuration ≡ old.configuration → mid.most ≡ old.most → old.faults ≤ mid.faults → IsWalking p q made old mid
+pub walks_on : (p q r : Payer) (made : List Step) (x : Step) (old mid new : StackTold) → mid.configuration ≡ old.configuration → mid.most ≡ old.most → old.faults ≤ mid.faults → IsWalking p q made old mid
     → IsMade q r made x mid new → cuts_in x.kind ≤ mid.causes.takes → IsWalking p r (made ++ x ∷ []) old new
-walks_on grow go p q r made x old mid new same most counted walking step planned = record {
+walks_on p q r made x old mid new same most counted walking step planned = record {
   marks = walking.marks;
   ops = walking.ops;
   pieces = walking.pieces ++ piece ∷ [];
@@ -87,7 +88,7 @@ walks_on grow go p q r made x old mid new same most counted walking step planned
   grows = adds ∙ ap (λ (es : List Entry). es ++ piece) walking.grows ∙ append_assoc old.entries walking.more piece;
   at = adds ∙ ap (λ (es : List Entry). es ++ piece) walking.at ∙ ap (λ (es : List Entry). first ∷ es) (sym (joined_more walking.pieces piece));
   walk = subst (λ (es : List Entry). IsWalkOf old.configuration (made ++ x ∷ []) (walking.pieces ++ piece ∷ []) (first ∷ es)) (sym (joined_more walking.pieces piece))
-      (grow old.configuration made walking.pieces first (joined walking.pieces) x piece walking.walk
+      (walks_grow old.configuration made walking.pieces first (joined walking.pieces) x piece walking.walk
       (subst (λ (s : State). IsPiece old.configuration made s x piece) state (subst (λ (c : Configuration). IsPiece c made (after c mid.entries) x piece) same is)));
   as_many =
       let a = length-append walking.pieces (piece ∷ []) in
@@ -109,9 +110,9 @@ walks_on grow go p q r made x old mid new same most counted walking step planned
   moves = has_more made x walking.pieces piece step.moves (moment_of old) (moment_of mid) (moment_of new) walking.moves step.moved step.tell step.behind;
   chain = chain_more walking.moves.moves step.moves (shown_of old) (shown_of mid) (shown_of new) walking.chain step.chain;
   pays = subst (λ (ms : List Move). PaysBy p r old ms) (sym (all_more walking.moves.moves step.moves))
-      (by_more go p q r old mid (all_moves walking.moves.moves) step.moves same (all_behind (moment_of old) walking.moves.moves ∙ walking.moves.behind) walked_state walking.pays step.pays);
+      (by_more p q r old mid (all_moves walking.moves.moves) step.moves same (all_behind (moment_of old) walking.moves.moves ∙ walking.moves.behind) walked_state walking.pays step.pays);
   serves = λ calm.
-      serving_more go first made walking.pieces x old mid new walking.as_many same most walking.at step
+      serving_more first made walking.pieces x old mid new walking.as_many same most walking.at step
       (walking.serves (calm_until old mid new piece adds step.counted calm)) (step.serves (calm_from old mid new counted calm));
 }
   where
@@ -126,7 +127,7 @@ walks_on grow go p q r made x old mid new same most counted walking step planned
     walked_state =
         ap (λ (c : Configuration). after c mid.entries) same
         ∙ ap (after old.configuration) (moved_entries (all_moves walking.moves.moves) (shown_of old) (shown_of mid) walking.chain)
-        ∙ state_more go old.configuration old.entries (entries_of (all_moves walking.moves.moves))
+        ∙ state_more old.configuration old.entries (entries_of (all_moves walking.moves.moves))
 
     is : IsPiece mid.configuration made (state_of mid) x piece
     is = step.is
@@ -155,8 +156,8 @@ walks_on grow go p q r made x old mid new same most counted walking step planned
     paid : PaysOffs x.kind (plan_behind None 0 made walking.pieces) (ops_behind 0 (joined walking.pieces)) piece mid new
     paid = explained.offs (plan_behind None 0 made walking.pieces) (ops_behind 0 (joined walking.pieces)) planned few walking.plan_stays
 
-pub has_walked : HistoriesGoOn → (p q r : Payer) (made : List Step) (old mid new : StackTold) → new.entries ≡ mid.entries → mid.faults ≤ new.faults → new.ops ≡ mid.ops → WereCounted 0 mid.causes.unplanned new.causes.unplanned → PaysBy q r mid [] → IsWalking p q made old mid → HasWalked p r made old new
-has_walked go p q r made old mid new same counted operations cuts pays walking = record {
+pub has_walked : (p q r : Payer) (made : List Step) (old mid new : StackTold) → new.entries ≡ mid.entries → mid.faults ≤ new.faults → new.ops ≡ mid.ops → WereCounted 0 mid.causes.unplanned new.causes.unplanned → PaysBy q r mid [] → IsWalking p q made old mid → HasWalked p r made old new
+has_walked p q r made old mid new same counted operations cuts pays walking = record {
   more = walking.more;
   grows = same ∙ walking.grows;
   pieces = walking.pieces;
@@ -169,7 +170,7 @@ has_walked go p q r made old mid new same counted operations cuts pays walking =
       (is_served (Found walking.marks walking.ops) made walking.pieces old mid
       (walking.serves (calm_until old mid new [] (same ∙ sym (append-nil mid.entries)) counted calm)));
   last = moment_of mid;
-  serves = each_posted go (all_moves walking.moves.moves) (shown_of old) (shown_of mid) walking.chain;
+  serves = each_posted (all_moves walking.moves.moves) (shown_of old) (shown_of mid) walking.chain;
   moves = walking.moves;
   operations = sym operations;
   counted = counted;
@@ -221,12 +222,12 @@ fresh_walking p t fresh = record {
 length_mapped : (c : Configuration) → length (map store_of (plain_blocks_of c)) ≡ length c.blocks + 1
 length_mapped c = simp length-map (sym (add-one (length c.blocks)))
 
-pub fresh_kept : FirstAreNewest → StartsKeepStored → (t : StackTold) → IsFresh t → IsKept [] t
-fresh_kept first starts t fresh = record {
+pub fresh_kept : (t : StackTold) → IsFresh t → IsKept [] t
+fresh_kept t fresh = record {
   ready = fresh.ready;
   places = ap length fresh.stores ∙ length_mapped t.configuration;
-  stores = subst (λ (s : List (ℕ × List ℕ)). AreNewest t.configuration [] s) (sym fresh.stores) (first t.configuration);
-  jobs = subst (λ (h : List Entry). JobsTookStored t.configuration [] (after t.configuration h)) (sym fresh.entries) (starts t.configuration [] at_first fresh.marks fresh.ops);
+  stores = subst (λ (s : List (ℕ × List ℕ)). AreNewest t.configuration [] s) (sym fresh.stores) (first_are_newest t.configuration);
+  jobs = subst (λ (h : List Entry). JobsTookStored t.configuration [] (after t.configuration h)) (sym fresh.entries) (starts_keep_stored t.configuration [] at_first fresh.marks fresh.ops);
 }
 
 -- WHAT IS LEFT
@@ -239,30 +240,30 @@ were_left HistoryFull x xs old mid new configuration cap left =
     (subst (λ (n : ℕ). HasNoRoom old.configuration n (after old.configuration mid.entries) x.kind) cap
     (subst (λ (c : Configuration). HasNoRoom c mid.cap (after c mid.entries) x.kind) configuration left.why))
 
-pub was_broken : HistoriesGoOn → (p q r : Payer) (fault : StepFault) (steps : List Step) (n : ℕ) (x : Step) (old mid new : StackTold) → slice_get steps n ≡ Some x → mid.configuration ≡ old.configuration → mid.cap ≡ old.cap
+pub was_broken : (p q r : Payer) (fault : StepFault) (steps : List Step) (n : ℕ) (x : Step) (old mid new : StackTold) → slice_get steps n ≡ Some x → mid.configuration ≡ old.configuration → mid.cap ≡ old.cap
     → IsWalking p q (take n steps) old mid → IsLeft fault x mid new → PaysBy q r mid [] → WasBroken p r fault steps old new
 unfolding has_walked
-was_broken go p q r fault steps n x old mid new is configuration cap walking left pays = record {
+was_broken p q r fault steps n x old mid new is configuration cap walking left pays = record {
   made = take n steps;
   left = drop n steps;
   order = in_two n steps;
-  walked = has_walked go p q r (take n steps) old mid new left.entries left.counted left.operations left.cuts pays walking;
+  walked = has_walked p q r (take n steps) old mid new left.entries left.counted left.operations left.cuts pays walking;
   why = subst (λ (xs : List Step). WereLeft fault xs (moment_of mid) old new) (sym (rest_begins n steps x is)) (were_left fault x (drop (suc n) steps) old mid new configuration cap left);
 }
 
 -- nothing was made for want of memory
-pub none_made : HistoriesGoOn → (p : Payer) (steps : List Step) (t : StackTold) → IsFresh t → WasBroken p p Memory steps t t
-none_made go p steps t fresh = record { made = []; left = steps; order = refl; walked = has_walked go p p p [] t t t refl (omega arith) refl (none_counted t.causes.unplanned) (none_pays p t) (fresh_walking p t fresh); why = tt }
+pub none_made : (p : Payer) (steps : List Step) (t : StackTold) → IsFresh t → WasBroken p p Memory steps t t
+none_made p steps t fresh = record { made = []; left = steps; order = refl; walked = has_walked p p p [] t t t refl (omega arith) refl (none_counted t.causes.unplanned) (none_pays p t) (fresh_walking p t fresh); why = tt }
 
 -- UNDER WAY
 
-pub begin : FirstAreNewest → StartsKeepStored → (p : Payer) (steps : List Step) (blocks : ℕ) (table : List ℕ) (t : StackTold) → IsFresh t → blocks ≡ length t.configuration.blocks → table ≡ replicate (16 * (blocks + 1)) 0 → AreUnderWay p p steps 0 table t t
-begin first starts p steps blocks table t fresh count is = record {
+pub begin : (p : Payer) (steps : List Step) (blocks : ℕ) (table : List ℕ) (t : StackTold) → IsFresh t → blocks ≡ length t.configuration.blocks → table ≡ replicate (16 * (blocks + 1)) 0 → AreUnderWay p p steps 0 table t t
+begin p steps blocks table t fresh count is = record {
   configuration = refl;
   cap = refl;
   most = refl;
   counted = omega arith;
-  kept = fresh_kept first starts t fresh;
+  kept = fresh_kept t fresh;
   table_kept = subst (λ (xs : List ℕ). HasLastStores t.configuration [] xs) (sym (is ∙ ap (λ n. replicate (16 * (n + 1)) 0) count)) (first_table t.configuration);
   walking = fresh_walking p t fresh;
 }
@@ -273,8 +274,8 @@ takes_enough steps i x old mid at all are =
     let more = ap cuts_of (take_one_more i steps x at) ∙ sum_by_push (λ (y : Step). cuts_in y.kind) (take i steps) x in
     let within = sum_by-take-le (λ (y : Step). cuts_in y.kind) steps (i + 1) in omega (arith, more, within, all, are)
 
-pub go_on : WalksGrow → HistoriesGoOn → (p q r : Payer) (steps : List Step) (i : ℕ) (table table' : List ℕ) (old mid new : StackTold) → i < 2 ^ 32 → cuts_of steps ≤ old.causes.takes → AreUnderWay p q steps i table old mid → MakesAt q r steps i table table' mid new → AreUnderWay p r steps (i + 1) table' old new
-go_on grow go p q r steps i table table' old mid new few planned way makes =
+pub go_on : (p q r : Payer) (steps : List Step) (i : ℕ) (table table' : List ℕ) (old mid new : StackTold) → i < 2 ^ 32 → cuts_of steps ≤ old.causes.takes → AreUnderWay p q steps i table old mid → MakesAt q r steps i table table' mid new → AreUnderWay p r steps (i + 1) table' old new
+go_on p q r steps i table table' old mid new few planned way makes =
     let fewer = few_taken i steps in
     let (made, has) = makes.made (take i steps) (omega (arith, fewer, few)) way.kept way.table_kept in
     let more = take_one_more i steps makes.step makes.at in
@@ -286,13 +287,13 @@ go_on grow go p q r steps i table table' old mid new few planned way makes =
       kept = subst (λ (xs : List Step). IsKept xs new) (sym more) made.kept;
       table_kept = subst (λ (xs : List Step). HasLastStores new.configuration xs table') (sym more) (subst (λ (c : Configuration). HasLastStores c (take i steps ++ makes.step ∷ []) table') (sym made.configuration) has);
       walking = subst (λ (xs : List Step). IsWalking p r xs old new) (sym more)
-          (walks_on grow go p q r (take i steps) makes.step old mid new way.configuration way.most way.counted way.walking made (takes_enough steps i makes.step old mid makes.at planned way.walking.takes));
+          (walks_on p q r (take i steps) makes.step old mid new way.configuration way.most way.counted way.walking made (takes_enough steps i makes.step old mid makes.at planned way.walking.takes));
     }
 
 -- all of them
-pub all_made : HistoriesGoOn → (p q : Payer) (steps : List Step) (i : ℕ) (table : List ℕ) (old now : StackTold) → length steps ≤ i → AreUnderWay p q steps i table old now → HasWalked p q steps old now
-all_made go p q steps i table old now all way =
-    subst (λ (xs : List Step). HasWalked p q xs old now) (all_of i steps all) (has_walked go p q q (take i steps) old now now refl (omega arith) refl (none_counted now.causes.unplanned) (none_pays q now) way.walking)
+pub all_made : (p q : Payer) (steps : List Step) (i : ℕ) (table : List ℕ) (old now : StackTold) → length steps ≤ i → AreUnderWay p q steps i table old now → HasWalked p q steps old now
+all_made p q steps i table old now all way =
+    subst (λ (xs : List Step). HasWalked p q xs old now) (all_of i steps all) (has_walked p q q (take i steps) old now now refl (omega arith) refl (none_counted now.causes.unplanned) (none_pays q now) way.walking)
 
-pub some_made : HistoriesGoOn → (p q r : Payer) (fault : StepFault) (steps : List Step) (i : ℕ) (table : List ℕ) (old mid new : StackTold) → AreUnderWay p q steps i table old mid → LeavesAt fault steps i mid new → PaysBy q r mid [] → WasBroken p r fault steps old new
-some_made go p q r fault steps i table old mid new way leaves pays = was_broken go p q r fault steps i leaves.step old mid new leaves.at way.configuration way.cap way.walking leaves.left pays
+pub some_made : (p q r : Payer) (fault : StepFault) (steps : List Step) (i : ℕ) (table : List ℕ) (old mid new : StackTold) → AreUnderWay p q steps i table old mid → LeavesAt fault steps i mid new → PaysBy q r mid [] → WasBroken p r fault steps old new
+some_made p q r fault steps i table old mid new way leaves pays = was_broken p q r fault steps i leaves.step old mid new leaves.at way.configuration way.cap way.walking leaves.left pays

@@ -35,8 +35,8 @@ pub record ServesIn (es : List Entry) (v w : Shown) : Type 0 where
   pub nears : (j : Job) → (state_in v).hand ≡ Some j → IsTrue (list_any (ends_job (job_block j)) es) ⊎ (IsTrue (is_some (state_in w).hand) × (w.left + 1 ≤ v.left))
   pub within : IsWithinTurns v → IsWithinTurns w
 
--- One move: a request changes no moment and leaves the turns, a Pick leaves its job its turns, no turn goes by where something is due, and any
--- turn serves the job in hand where nothing fails.
+-- One move: a request changes no moment and leaves the turns, a Pick leaves its job its turns, no turn goes by where
+-- something is due, and any turn serves the job in hand where nothing fails.
 pub record IsMoved (m : Move) (v w : Shown) : Type 0 where
   pub configuration : w.configuration ≡ v.configuration
   pub most : w.most ≡ v.most

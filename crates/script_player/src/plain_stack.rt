@@ -6,7 +6,6 @@ ghost use Rattle.script_player.specs.PlainTold.{AreWithin, IfCopied};
 
 use crate::PlayedStack;
 use nvm_core::Stack;
-use nvm_core::block_laws::{histories_grow, the_next_job_goes_first};
 use nvm_core::memif::MemDevice;
 use nvm_core::nv_base::{Entry, Reply, Request};
 use nvm_core::nv_desk::AskFault;
@@ -73,7 +72,6 @@ impl<D: MemDevice> PlayedStack for PlainStack<D> {
     ghost payer = { λ s. payer_by D.told D.clock s };
 
     fn ask(&mut self, alloc: Global, caller: u8, request: Request) -> Result<Reply, AskFault> {
-        histories_grow();
         let _device = self.stack.device();
         let reply = self.stack.ask(alloc, caller, request)?;
         let _behind = self.stack.device();
@@ -81,8 +79,6 @@ impl<D: MemDevice> PlayedStack for PlainStack<D> {
     }
 
     fn turn(&mut self) -> Turned {
-        histories_grow();
-        the_next_job_goes_first();
         let _device = self.stack.device();
         let turned = self.stack.turn();
         let _behind = self.stack.device();
@@ -91,7 +87,6 @@ impl<D: MemDevice> PlayedStack for PlainStack<D> {
     }
 
     fn restart(&mut self, alloc: Global) -> FoundAnswer {
-        histories_grow();
         self.stack.restart(alloc)
     }
 

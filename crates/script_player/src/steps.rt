@@ -13,12 +13,10 @@ ghost use Rattle.script_player.specs.Table.{HasLastStores, HoldsSynchronized};
 
 use crate::turns::{drain, make_turns};
 use crate::{LastStores, PlayedStack};
-use nvm_core::block_laws::histories_grow;
 use nvm_core::nv_base::Request;
 use nvm_core::nv_desk::AskFault;
 use nvm_core::nvm_laws::FoundAnswer;
 use nvm_script::{Step, StepKind, StepList};
-use script_walks::{stores_are_newest, turns_keep_what_is_stored, walks_grow};
 use std::alloc::{AllocError, Global};
 
 /// Why a step isn't made: a fault at a start-up, a history that is full, or want of memory.
@@ -58,10 +56,6 @@ pub fn make_steps<S: PlayedStack>(
     ensures counted { (S.told stack.old).faults ≤ (S.told stack.new).faults }
     ensures keeps { (before : Part → PartTold) → S.kept stack.old before → S.kept stack.new before }
 {
-    turns_keep_what_is_stored();
-    stores_are_newest();
-    walks_grow();
-    histories_grow();
     let Ok(mut stores) = LastStores::make(alloc, blocks) else {
         return Err(StepFault::Memory);
     };
@@ -113,9 +107,6 @@ pub fn make_step<S: PlayedStack>(
     ensures owes { OnErr result (PaysBy (S.payer stack.old) (S.payer stack.new) (S.told stack.old) []) }
     ensures keeps { (before : Part → PartTold) → S.kept stack.old before → S.kept stack.new before }
 {
-    turns_keep_what_is_stored();
-    stores_are_newest();
-    histories_grow();
     match &step.kind {
         StepKind::Ask(request) => ask(alloc, step.caller, request, stores, stack),
         StepKind::Store { block, content } => {

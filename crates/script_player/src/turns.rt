@@ -10,9 +10,7 @@ ghost use Rattle.script_player.specs.Kept.{IsKept, MakesTurns, Drains, MakesTurn
 ghost use Rattle.script_player.specs.Paying.{PaysTurn};
 
 use crate::PlayedStack;
-use nvm_core::block_laws::histories_grow;
 use nvm_core::nvm_laws::Turned;
-use script_walks::turns_keep_what_is_stored;
 
 /// Makes so many turns.
 pub fn make_turns<S: PlayedStack>(stack: &mut S, count: u32)
@@ -21,8 +19,6 @@ pub fn make_turns<S: PlayedStack>(stack: &mut S, count: u32)
     ensures turns { (before : List Step) → IsKept before (S.told stack.old) → MakesTurns (S.payer stack.old) (S.payer stack.new) count before (S.told stack.old) (S.told stack.new) × IsKept before (S.told stack.new) }
     ensures keeps { (before : Part → PartTold) → S.kept stack.old before → S.kept stack.new before }
 {
-    turns_keep_what_is_stored();
-    histories_grow();
     for _turn in 0..count {
         stack.turn();
     }
@@ -37,8 +33,6 @@ pub fn drain<S: PlayedStack>(stack: &mut S)
     ensures at_rest { ¬ Rose (S.told stack.old).faults (S.told stack.new).faults → (state_of (S.told stack.new)).off ≡ false → (S.told stack.new).busy ≡ false }
     ensures keeps { (before : Part → PartTold) → S.kept stack.old before → S.kept stack.new before }
 {
-    turns_keep_what_is_stored();
-    histories_grow();
     while !ends_drain(stack) {}
 }
 
@@ -52,7 +46,6 @@ fn ends_drain<S: PlayedStack>(stack: &mut S) -> bool
     ensures goes_on { result ≡ false → (S.told stack.new).work < (S.told stack.old).work }
     ensures keeps { (before : Part → PartTold) → S.kept stack.old before → S.kept stack.new before }
 {
-    histories_grow();
     let in_hand = stack.in_hand();
     let faults = stack.faults();
     let turned = stack.turn();

@@ -35,5 +35,5 @@ ending_played : (c : Configuration) (count : ℕ) → ArePlayed c (ending count)
 ending_played c zero = All-nil (IsPlayed c)
 ending_played c (suc n) = All-cons (IsPlayed c) _ [] (step_played c (suc n) _ tt) (All-nil (IsPlayed c))
 
-pub soak_played : SoakIsPlayed
-soak_played c seed count = All-append (IsPlayed c) (rounds c seed count) (ending count) (rounds_played c seed count) (ending_played c count)
+pub soak_is_played : SoakIsPlayed
+soak_is_played c seed count = All-append (IsPlayed c) (rounds c seed count) (ending count) (rounds_played c seed count) (ending_played c count)

@@ -1,4 +1,4 @@
-// Worked draws and steps, and what all drawn steps have in common.
+// Worked draws and steps.
 ghost use Rattle.std.specs.Prelude.{◌≡◌, [], ◌∷◌, false, true};
 ghost use Rattle.block_config.specs.DemoConfig.{demo_config};
 ghost use Rattle.nv_base.specs.declared.request.Request.TheVariants.{Read};
@@ -6,7 +6,6 @@ ghost use Rattle.nvm_script.specs.declared.step.StepKind.TheVariants.{Ask, Turn,
 ghost use Rattle.script_soak.specs.Draws.{draw};
 ghost use Rattle.script_soak.specs.Soak.{soak, step_at};
 ghost use Rattle.script_soak.specs.Cases.{seven};
-ghost use Rattle.script_soak.specs.Laws.{SoakIsPlayed};
 
 /// What the generator draws.
 pub fn draws_are_drawn()
@@ -25,9 +24,4 @@ pub fn drawn_steps()
     ensures turns { soak demo_config 13 1 ≡ step_at 0 (Turn 151) ∷ step_at 1 Drain ∷ [] }
     ensures a_turn { soak demo_config 1315 1 ≡ step_at 0 (Turn 1) ∷ step_at 1 Drain ∷ [] }
     ensures a_start_up { soak demo_config 71 1 ≡ step_at 0 Restart ∷ step_at 1 Drain ∷ [] }
-{}
-
-/// Each drawn step can be played.
-pub fn soak_is_played()
-    ensures { SoakIsPlayed }
 {}

@@ -9,6 +9,6 @@ mod draws;
 mod rounds;
 mod soak;
 
-pub use cases::{drawn_steps, draws_are_drawn, soak_is_played};
+pub use cases::{drawn_steps, draws_are_drawn};
 pub use draws::Draws;
 pub use soak::soak_steps;

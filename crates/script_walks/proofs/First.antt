@@ -1,10 +1,9 @@
 -- The stores before the first one.
 use Rattle.std.specs.Prelude.{slice_get}
 use Rattle.std.specs.Option.{unwrap_or}
-use Rattle.std.proofs.Common.{◌≡◌, ℕ, zero, suc, true, List, [], ◌∷◌, map, get_or, replicate, refl, sym, ap, ◌∙◌, subst, Some, None}
+use Rattle.std.proofs.Common.{◌≡◌, ℕ, zero, suc, true, List, [], ◌∷◌, map, get_or, replicate, refl, sym, subst}
 use Rattle.block_machine.specs.block_config.declared.block.BlockDesc.{BlockDesc}
 use Rattle.block_machine.specs.block_config.Block.{plain_block}
-use Rattle.block_machine.specs.block_config.Config.{Configuration}
 use Rattle.block_machine.specs.Blocks.{is_synchronized}
 use Rattle.ram_blocks.specs.Plain.{store_of, plain_of}
 use Rattle.script_walks.specs.Stores.{IsNewest}

@@ -1,17 +1,16 @@
 -- The newest store of each block, and the last one of each caller.
 use Rattle.std.specs.Prelude.{slice_get, slice_set, fold, filter_map}
 use Rattle.std.specs.List.{enumerate_from}
-use Rattle.std.specs.Option.{option_map, unwrap_or}
-use Rattle.std.proofs.Common.{◌≡◌, ◌≢◌, ◌==◌, ◌&&◌, ◌<◌, ◌≤◌, ◌+◌, ◌^◌, ◌⊎◌, ℕ, zero, suc, min, Bool, true, false, List, [], ◌∷◌, ◌++◌, length, map, get_or, replicate, refl, sym, ap, ◌∙◌, subst, inl, inr, arith, Option, Some, None, if◌then◌else◌, length-append, append-nil, append_assoc}
+use Rattle.std.specs.Option.{option_map}
+use Rattle.std.proofs.Common.{◌≡◌, ◌≢◌, ◌==◌, ◌≤◌, ◌+◌, ℕ, zero, suc, true, false, List, [], ◌∷◌, ◌++◌, length, get_or, refl, sym, ap, ◌∙◌, subst, inl, inr, arith, Some, if◌then◌else◌, length-append, append-nil}
 use Rattle.std.proofs.lemmas.Bool.{cases_Bool, eqb-true, eq-eqb}
 use Rattle.std.proofs.lemmas.List.Elements.{filter_map-append}
 use Rattle.std.proofs.lemmas.List.Sums.{fold-append}
 use Rattle.std.proofs.Common.{get_or-set_same, get_or-set_other}
 use Rattle.block_machine.specs.Words.{Configuration}
-use Rattle.block_machine.specs.Blocks.{desc_of, is_synchronized}
 use Rattle.script_walks.specs.Words.{Step, StepKind, AskStep, Store, Turn, Drain, Restart, Cut, Refuse, Await}
-use Rattle.script_walks.specs.Walk.{store_by, stores_of, last_store, store_content}
-use Rattle.script_walks.specs.Stores.{IsNewest, AreNewest}
+use Rattle.script_walks.specs.Walk.{store_by, stores_of, store_content}
+use Rattle.script_walks.specs.Stores.{IsNewest}
 use Rattle.script_walks.specs.StoreLaws.{is_store, OthersKeepNewest, StoresAreNewest, StoresAreFew, LastStoresGrow}
 
 -- ONE STEP MORE

@@ -8,18 +8,17 @@ use Rattle.nvm_script.specs.declared.step.Step.{Step}
 use Rattle.nvm_script.specs.declared.step.StepKind.{StepKind}
 use Rattle.nvm_script.specs.declared.step.StepKind.TheVariants.{Await}
 use Rattle.block_machine.specs.Words.{Request, Reply, Entry, Ask, Pick, Wrote, Post, Off, Found, Configuration}
-use Rattle.block_machine.specs.State.{State}
 use Rattle.block_machine.specs.Next.{next_of}
 use Rattle.block_machine.specs.StartUp.{at_first}
-use Rattle.block_machine.specs.Steps.{step, after, after_from}
-use Rattle.script_walks.specs.Walk.{TakesStore, TakesStores, copies_by}
+use Rattle.block_machine.specs.Steps.{step, after}
+use Rattle.script_walks.specs.Walk.{TakesStore, copies_by, StoresGrow}
 use Rattle.script_walks.specs.Callers.{program_of, requests_of, asks_of, is_over, WaitedFor, KeepsAwait, KeepsAwaitBy, IsInOrder, is_found, IsRun, IsNextAsk, RunsGrow}
 
 -- STORES
 
-pub stores_push : (c : Configuration) (steps : List Step) (s : State) (es : List Entry) (e : Entry) → TakesStores c steps s es → TakesStore c steps (copies_by c (next_of c (after_from c s es))) e → TakesStores c steps s (es ++ e ∷ [])
-stores_push c steps s [] e all one = (one, tt)
-stores_push c steps s (x ∷ es) e all one = (all.0, stores_push c steps (step c s x) es e all.1 one)
+pub stores_grow : StoresGrow
+stores_grow c steps s [] e all one = (one, tt)
+stores_grow c steps s (x ∷ es) e all one = (all.0, stores_grow c steps (step c s x) es e all.1 one)
 
 ask_takes : (c : Configuration) (steps : List Step) (copies : Bool) (caller : ℕ) (r : Request) (reply : Reply) → TakesStore c steps copies (Ask caller r reply)
 ask_takes c steps true caller r reply = tt
@@ -154,14 +153,14 @@ driven : (c : Configuration) (steps : List Step) (x : Entry) (h : List Entry) (e
 driven c steps x h e driver none takes run = record {
   one_start = all_push (λ e. not (is_found e)) h e run.one_start (ap not driver);
   order = λ caller. same_order c steps caller (x ∷ h) e (none caller) (run.order caller);
-  stores = stores_push c steps at_first (x ∷ h) e run.stores takes;
+  stores = stores_grow c steps at_first (x ∷ h) e run.stores takes;
 }
 
 pub runs_grow : RunsGrow
 runs_grow c steps x h (Ask who r reply) run follow = record {
   one_start = all_push (λ e. not (is_found e)) h (Ask who r reply) run.one_start refl;
   order = ask_order c steps x h who r reply follow run.order;
-  stores = stores_push c steps at_first (x ∷ h) (Ask who r reply) run.stores (ask_takes c steps (copies_by c (next_of c (after c (x ∷ h)))) who r reply);
+  stores = stores_grow c steps at_first (x ∷ h) (Ask who r reply) run.stores (ask_takes c steps (copies_by c (next_of c (after c (x ∷ h)))) who r reply);
 }
 runs_grow c steps x h (Pick block kind t ops) run follow = driven c steps x h (Pick block kind t ops) refl (λ caller. refl) follow run
 runs_grow c steps x h (Wrote i mark ops) run follow = driven c steps x h (Wrote i mark ops) refl (λ caller. refl) follow run

@@ -1,6 +1,6 @@
 -- The text of a legal history tells it.
 use Rattle.std.proofs.Common.{◌≡◌, ℕ, ◌+◌, Bool, true, false, List, [], ◌∷◌, Option, Some, None, subst, sym}
-use Rattle.nvm_script.specs.Printed.{ArePrinted, HasNoStore, CountsTries, TextsTellHistories}
+use Rattle.nvm_script.specs.Printed.{ArePrinted, HasNoStore, CountsTries}
 use Rattle.block_machine.specs.Words.{Request, Read, Write, Restore, Erase, Invalidate, SetIndex, GetIndex, SetProtection, SetLock, SetRam, PutRam, Status, ReadAll, WriteAll, CancelWriteAll, Reply, JobKind, ReadJob, WriteJob, RestoreJob, EraseJob, InvalidateJob, ReadAllJob, WriteAllJob, Taken, TookNothing, TookContent, TookRefused, TookStale, Entry, Ask, Pick, Wrote, Post, Off, Found, BlockDesc, Configuration}
 use Rattle.block_machine.specs.State.{State, BlockState, Job}
 use Rattle.block_machine.specs.Blocks.{desc_of, block_at, job_block, kind_of}
@@ -9,6 +9,7 @@ use Rattle.block_machine.specs.Sweeps.{member_job}
 use Rattle.block_machine.specs.Steps.{step}
 use Rattle.block_machine.specs.StartUp.{at_first}
 use Rattle.block_machine.specs.Legal.{IsLegalFrom, HasStore, TakesBy, TakesForWrite, IsPick, MayPick}
+use Rattle.nvm_script.proofs.EntryLaws.{texts_tell_histories}
 use Rattle.script_walks.specs.Texts.{AreValues, TextsTellLegalHistories}
 
 -- the tries of a copy of each block
@@ -83,6 +84,6 @@ entries_printed c cap s (Off ops ∷ es) legal values =
 entries_printed c cap s (Found marks ops ∷ es) legal values =
     (record { value = values.0; no_store = tt; each_try = tt }, entries_printed c cap (step c s (Found marks ops)) es legal.1 values.1)
 
-pub texts_tell : TextsTellHistories → TextsTellLegalHistories
-texts_tell tell c cap a b s t legal_a legal_b values_a values_b begins_s begins_t same =
-    tell (copy_tries c) a b s t (entries_printed c cap at_first a legal_a values_a) (entries_printed c cap at_first b legal_b values_b) begins_s begins_t same
+pub texts_tell_legal_histories : TextsTellLegalHistories
+texts_tell_legal_histories c cap a b s t legal_a legal_b values_a values_b begins_s begins_t same =
+    texts_tell_histories (copy_tries c) a b s t (entries_printed c cap at_first a legal_a values_a) (entries_printed c cap at_first b legal_b values_b) begins_s begins_t same

@@ -1,24 +1,25 @@
 -- What a turn's entry takes.
-use Rattle.std.specs.Prelude.{option_to_list, filter}
+use Rattle.std.specs.Prelude.{option_to_list}
 use Rattle.std.specs.List.{list_all}
 use Rattle.std.specs.Option.{is_some}
-use Rattle.std.proofs.Common.{◌≡◌, ◌==◌, ◌&&◌, ◌||◌, ◌<◌, ◌≤◌, ◌+◌, ◌⊎◌, ℕ, suc, not, Bool, true, false, IsTrue, List, [], ◌∷◌, ◌++◌, length, get_or, refl, sym, ap, ◌∙◌, subst, inl, inr, arith, Option, Some, None, if◌then◌else◌, length-append, append_assoc}
+use Rattle.std.proofs.Common.{◌≡◌, ◌==◌, ◌&&◌, ◌||◌, ◌≤◌, ◌+◌, ℕ, not, Bool, true, false, IsTrue, List, [], ◌∷◌, ◌++◌, length, get_or, refl, sym, ◌∙◌, subst, inl, inr, arith, Option, Some, None, if◌then◌else◌, length-append}
 use Rattle.std.proofs.lemmas.Bool.{cases_Bool}
 use Rattle.block_machine.specs.Words.{Request, Read, Write, Restore, Erase, Invalidate, SetIndex, GetIndex, SetProtection, SetLock, SetRam, PutRam, Status, ReadAll, WriteAll, CancelWriteAll, ReqResult, JobKind, ReadJob, WriteJob, RestoreJob, EraseJob, InvalidateJob, ReadAllJob, WriteAllJob, Taken, TookNothing, TookContent, TookRefused, TookStale, Instance, Mark, Entry, Ask, Pick, Wrote, Post, Off, Found, BlockDesc, Configuration}
-use Rattle.block_machine.specs.State.{State, BlockState, Job, Sweep, jobs_of}
+use Rattle.block_machine.specs.State.{State, BlockState, Job, Sweep}
 use Rattle.block_machine.specs.Blocks.{desc_of, block_at, is_synchronized, names_ram, job_block, kind_of, asked_store, asked_block}
 use Rattle.block_machine.specs.Sweeps.{member_job, member_request, is_picked}
-use Rattle.block_machine.specs.Next.{Next, Nothing, PickJob, BeginSweep, PickMember, PostMember, EndSweep, next_of, next_in, next_by, next_in_sweep, next_member}
+use Rattle.block_machine.specs.Next.{Next, Nothing, PickJob, BeginSweep, PickMember, PostMember, EndSweep, next_of, next_in, next_by, next_member}
 use Rattle.block_machine.specs.Steps.{step, after_from, without_job, interrupted, content_after, picked_job, picked, in_hand, with_member, wrote, posted, posted_next}
-use Rattle.block_machine.specs.Legal.{TakesCopy, TakesForWrite, TakesBy, IsPick, MayPick}
+use Rattle.block_machine.specs.Legal.{TakesForWrite, TakesBy, IsPick, MayPick}
 use Rattle.block_laws.specs.Consistent.{Each}
-use Rattle.block_laws.specs.Laws.{HistoriesGoOn, NextIsWaiting}
+use Rattle.block_laws.proofs.HistoryLaws.{histories_go_on}
+use Rattle.block_laws.proofs.NextLaws.{next_is_waiting}
 use Rattle.script_walks.specs.Words.{Step}
-use Rattle.script_walks.specs.Walk.{stores_of, store_content, copies_by, TakesStore, TakesStores, StoresGrow, is_played, is_due, begins_with_pick_or_post, AreTurns}
+use Rattle.script_walks.specs.Walk.{stores_of, store_content, copies_by, TakesStore, TakesStores, is_played, is_due, begins_with_pick_or_post}
 use Rattle.script_walks.specs.Stores.{IsNewest, AreNewest, CopiesOf, IsStored, TookStored, JobsTookStored}
-use Rattle.script_walks.specs.Turn.{copies_next, TakesNewest, MakesPick, IsOfTurn, IsOneOrNone, IsTurn}
-use Rattle.script_walks.specs.StoreLaws.{KeepsStored, TurnsKeepStored, KeepingGoesOn, TurnsGrow}
-use Rattle.script_walks.proofs.Jobs.{each_append, each_right, each_kept, hand_stored, waiting_stored}
+use Rattle.script_walks.specs.Turn.{copies_next, TakesNewest, IsOfTurn, IsOneOrNone}
+use Rattle.script_walks.specs.StoreLaws.{TurnsKeepStored, KeepingGoesOn, TurnsGrow}
+use Rattle.script_walks.proofs.Jobs.{each_right, each_kept, hand_stored, waiting_stored}
 
 -- WHAT IS TAKEN
 
@@ -178,9 +179,9 @@ next_by_job c s None None None j is = cc
 next_by_job c s None (Some h) (Some sw) j is = cc
 next_by_job c s None (Some h) None j is = cc
 
-next_stored : NextIsWaiting → (c : Configuration) (before : List Step) (s : State) (j : Job) → next_of c s ≡ PickJob j → JobsTookStored c before s → TookStored c before j
-next_stored waits c before s j is all =
-    let (front, behind, at) = waits c s.waiting j (next_by_job c s (next_in c s.waiting) s.hand s.sweep j is) in
+next_stored : (c : Configuration) (before : List Step) (s : State) (j : Job) → next_of c s ≡ PickJob j → JobsTookStored c before s → TookStored c before j
+next_stored c before s j is all =
+    let (front, behind, at) = next_is_waiting c s.waiting j (next_by_job c s (next_in c s.waiting) s.hand s.sweep j is) in
     (each_right (TookStored c before) front (j ∷ behind) (subst (λ (jobs : List Job). Each (TookStored c before) jobs) at (waiting_stored (TookStored c before) s.hand s.waiting all))).0
 
 member_stored : (c : Configuration) (before : List Step) (sw : Sweep) (id : ℕ) → TookStored c before (member_job c sw id)
@@ -223,19 +224,19 @@ takes_by c before true block kind TookNothing ops is = tt
 takes_by c before true block kind (TookRefused count) ops is = tt
 takes_by c before true block kind (TookStale wanted got count) ops is = tt
 
-pick_keeps : NextIsWaiting → (c : Configuration) (before : List Step) (s : State) (stores : List (ℕ × List ℕ)) (block : ℕ) (kind : JobKind) (t : Taken) (ops : ℕ) (n : Next) → next_of c s ≡ n → AreNewest c before stores
+pick_keeps : (c : Configuration) (before : List Step) (s : State) (stores : List (ℕ × List ℕ)) (block : ℕ) (kind : JobKind) (t : Taken) (ops : ℕ) (n : Next) → next_of c s ≡ n → AreNewest c before stores
     → JobsTookStored c before s → MayPick c s block kind t n → TakesNewest stores (copies_next c n) block t
     → (is_played (Pick block kind t ops) ≡ true) × TakesStore c before (copies_by c n) (Pick block kind t ops) × JobsTookStored c before (picked c s t n)
 unfolding IsFresh IsTakenStored
-pick_keeps waits c before s stores block kind t ops (PickJob j) is newest all may takes =
-    let took = next_stored waits c before s j is all in
+pick_keeps c before s stores block kind t ops (PickJob j) is newest all may takes =
+    let took = next_stored c before s j is all in
     let (fresh, taken) = job_taken c before s stores j block kind t newest took may takes in (
       fresh_is_played block kind t ops fresh,
       takes_by c before (names_ram j.request && is_synchronized (desc_of c (job_block j)).ram) block kind t ops
           (λ copies. subst (λ (id : ℕ). IsTakenStored c before id t) (sym may.same_block) (taken copies)),
       in_hand_stored c before s j t all took taken,
     )
-pick_keeps waits c before s stores block kind t ops (PickMember sw id) is newest all may takes =
+pick_keeps c before s stores block kind t ops (PickMember sw id) is newest all may takes =
     let took = member_stored c before sw id in
     let (fresh, taken) = job_taken c before s stores (member_job c sw id) block kind t newest took may (subst (λ (b : Bool). TakesNewest stores b block t) (member_copies c sw id) takes) in (
       fresh_is_played block kind t ops fresh,
@@ -243,43 +244,43 @@ pick_keeps waits c before s stores block kind t ops (PickMember sw id) is newest
           (λ copies. subst (λ (n : ℕ). IsTakenStored c before n t) (sym may.same_block) (taken (sym (member_copies c sw id) ∙ copies))),
       in_hand_stored c before (with_member s sw id) (member_job c sw id) t all took taken,
     )
-pick_keeps waits c before s stores block kind t ops (BeginSweep sw) is newest all may takes = (
+pick_keeps c before s stores block kind t ops (BeginSweep sw) is newest all may takes = (
   subst (λ (x : Taken). is_played (Pick block kind x ops) ≡ true) (sym may.takes_nothing) refl,
   tt,
   all,
 )
-pick_keeps waits c before s stores block kind t ops (PostMember sw id) is newest all may takes = absurd may
-pick_keeps waits c before s stores block kind t ops (EndSweep sw) is newest all may takes = absurd may
-pick_keeps waits c before s stores block kind t ops Nothing is newest all may takes = absurd may
+pick_keeps c before s stores block kind t ops (PostMember sw id) is newest all may takes = absurd may
+pick_keeps c before s stores block kind t ops (EndSweep sw) is newest all may takes = absurd may
+pick_keeps c before s stores block kind t ops Nothing is newest all may takes = absurd may
 
-entry_keeps : NextIsWaiting → (c : Configuration) (before : List Step) (s : State) (stores : List (ℕ × List ℕ)) (e : Entry) → AreNewest c before stores → JobsTookStored c before s → IsOfTurn c s stores e → Keeps c before s e
-entry_keeps waits c before s stores (Ask caller r reply) newest all turn = absurd turn
-entry_keeps waits c before s stores (Pick block kind t ops) newest all turn =
-    let (played, takes, jobs) = pick_keeps waits c before s stores block kind t ops (next_of c s) refl newest all turn.may turn.newest in
+entry_keeps : (c : Configuration) (before : List Step) (s : State) (stores : List (ℕ × List ℕ)) (e : Entry) → AreNewest c before stores → JobsTookStored c before s → IsOfTurn c s stores e → Keeps c before s e
+entry_keeps c before s stores (Ask caller r reply) newest all turn = absurd turn
+entry_keeps c before s stores (Pick block kind t ops) newest all turn =
+    let (played, takes, jobs) = pick_keeps c before s stores block kind t ops (next_of c s) refl newest all turn.may turn.newest in
     record { played = played; takes = takes; jobs = jobs }
-entry_keeps waits c before s stores (Wrote i mark ops) newest all turn = record { played = refl; takes = none_taken _; jobs = wrote_stored c before s i mark s.hand refl all }
+entry_keeps c before s stores (Wrote i mark ops) newest all turn = record { played = refl; takes = none_taken _; jobs = wrote_stored c before s i mark s.hand refl all }
   where
     none_taken : (copies : Bool) → TakesStore c before copies (Wrote i mark ops)
     none_taken true = tt
     none_taken false = tt
-entry_keeps waits c before s stores (Post block r given refused ops) newest all turn = record { played = refl; takes = none_taken _; jobs = posted_stored c before s r given s.hand all }
+entry_keeps c before s stores (Post block r given refused ops) newest all turn = record { played = refl; takes = none_taken _; jobs = posted_stored c before s r given s.hand all }
   where
     none_taken : (copies : Bool) → TakesStore c before copies (Post block r given refused ops)
     none_taken true = tt
     none_taken false = tt
-entry_keeps waits c before s stores (Off ops) newest all turn = record { played = refl; takes = none_taken _; jobs = all }
+entry_keeps c before s stores (Off ops) newest all turn = record { played = refl; takes = none_taken _; jobs = all }
   where
     none_taken : (copies : Bool) → TakesStore c before copies (Off ops)
     none_taken true = tt
     none_taken false = tt
-entry_keeps waits c before s stores (Found marks ops) newest all turn = absurd turn
+entry_keeps c before s stores (Found marks ops) newest all turn = absurd turn
 
-pub turns_keep_stored : NextIsWaiting → TurnsKeepStored
-turns_keep_stored waits c before s stores [] newest all turn = record { played = refl; stores = tt; jobs = all }
-turns_keep_stored waits c before s stores (e ∷ []) newest all turn =
-    let keeps = entry_keeps waits c before s stores e newest all turn.entry in
+pub turns_keep_stored : TurnsKeepStored
+turns_keep_stored c before s stores [] newest all turn = record { played = refl; stores = tt; jobs = all }
+turns_keep_stored c before s stores (e ∷ []) newest all turn =
+    let keeps = entry_keeps c before s stores e newest all turn.entry in
     record { played = rw keeps.played refl; stores = (keeps.takes, tt); jobs = keeps.jobs }
-turns_keep_stored waits c before s stores (e ∷ f ∷ es) newest all turn = absurd turn.entry
+turns_keep_stored c before s stores (e ∷ f ∷ es) newest all turn = absurd turn.entry
 
 -- MORE
 
@@ -294,11 +295,11 @@ all_more (e ∷ es) more one two = elim (cases_Bool (is_played e)) [
   | inr off ↦ let no_ : false ≡ true = rw off at one in cc
 ]
 
-pub keeping_goes_on : HistoriesGoOn → KeepingGoesOn
-keeping_goes_on go c before s es more one two = record {
+pub keeping_goes_on : KeepingGoesOn
+keeping_goes_on c before s es more one two = record {
   played = all_more es more one.played two.played;
   stores = takes_more c before s es more one.stores two.stores;
-  jobs = subst (λ (t : State). JobsTookStored c before t) (sym (go c s es more)) two.jobs;
+  jobs = subst (λ (t : State). JobsTookStored c before t) (sym (histories_go_on c s es more)) two.jobs;
 }
 
 few : (es : List Entry) (c : Configuration) (s : State) (stores : List (ℕ × List ℕ)) → IsOneOrNone c s stores es → length es ≤ 1

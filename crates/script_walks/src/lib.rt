@@ -6,18 +6,14 @@
 #![tactic(auto)]
 
 mod cases;
-mod laws;
 mod run_cases;
-mod store_laws;
 mod wrong_cases;
 
 pub use cases::{
     cases_of_order_are_walks, cases_of_ram_are_walks, cases_with_faults_are_walks,
     simple_cases_are_walks,
 };
-pub use laws::{runs_grow, texts_tell_histories, walks_grow};
 pub use run_cases::{runs_keep_the_callers_order, walks_take_stores, wrong_walks_are_refuted};
-pub use store_laws::{stores_are_newest, turns_keep_what_is_stored};
 pub use wrong_cases::{
     near_walks_are_walks, other_pieces_are_refuted, unfinished_runs_are_refuted,
 };

@@ -4,6 +4,7 @@ use Rattle.nv_base.specs.Lengths.{AreLengths}
 use Rattle.fee_image.specs.declared.place.Place.TheVariants.{Unwritten}
 use Rattle.fee_course.proofs.Walks.{left_step, appended_length, copied_length}
 use Rattle.fee_course.specs.Copies.{turns_of, as_copied, as_appended}
+use Rattle.nv_base.proofs.Places.{numbers_are_in_bounds}
 use Rattle.fee_course.proofs.copies.copies_left.Goals as goal
 
 pub turns_of-turns-requires-clause-length : goal.turns_of-turns-requires-clause-length
@@ -11,7 +12,7 @@ turns_of-turns-requires-clause-length c =
     let list = c.as_slice-list.result.now in
     let all : AreLengths 0 list = rw c.as_slice-list.ensures.value c.as_slice-list.ensures.bounds in
     let there = slice_get-get_or list c.loop-i.i _ c.loop-i-test.true in
-    (c.numbers_ascend.ensures.bounds 0 list c.loop-i.i _ all there).3
+    (numbers_are_in_bounds 0 list c.loop-i.i _ all there).3
 
 pub loop-i-preserved : goal.loop-i-preserved
 loop-i-preserved c =

@@ -7,6 +7,8 @@ use Rattle.fee_format.specs.Pages.{blank_page}
 use Rattle.fee_image.specs.LogCases.{numbers}
 use Rattle.fee_image.specs.Log.{Open}
 use Rattle.fee_image.specs.SwitchCases.{sealing}
+use Rattle.fee_image.proofs.Logs.{loaded_logs_hold}
+use Rattle.fee_image.proofs.Soundness.{sound_images_compute}
 use Rattle.fee_image.proofs.switch_cases.sealed_copy.Goals as goal
 
 -- behind the record each bank is blank
@@ -40,24 +42,23 @@ only_first k lt ne = omega (arith, ne)
 pub returns-clause-held : goal.returns-clause-held
 returns-clause-held c =
     let bytes = sealing (pages 1 255) in
-    let load = c.logs_begin.ensures.loaded in
     record {
       size = omega arith;
-      sound = (c.soundness_computes.ensures small bytes).0 refl;
+      sound = (sound_images_compute small bytes).0 refl;
       target = omega arith;
       old = (
         (λ e. omega (arith, e)),
         record {
           bank = omega arith;
           stands = record { head = record { legal = record { format = inr refl; generation = omega arith }; page_is = refl }; gate = refl };
-          holds = load (bank_in small 2 0) numbers bytes Open (omega arith) (omega arith) (inl (refl, refl, λ q low lt. blank_behind 0 q (omega arith) low lt));
+          holds = loaded_logs_hold (bank_in small 2 0) numbers bytes Open (omega arith) (omega arith) (inl (refl, refl, λ q low lt. blank_behind 0 q (omega arith) low lt));
         },
       );
       behind = λ j lt ne other stands here. absurd (here (only_first j lt ne));
       phase = record {
         last = omega arith;
         head = refl;
-        holds = load (bank_in small 2 1) numbers bytes Open (omega arith) (omega arith) (inl (refl, refl, λ q low lt. blank_behind 1 q (omega arith) low lt));
+        holds = loaded_logs_hold (bank_in small 2 1) numbers bytes Open (omega arith) (omega arith) (inl (refl, refl, λ q low lt. blank_behind 1 q (omega arith) low lt));
         whole = λ number length m among. among;
       };
     }

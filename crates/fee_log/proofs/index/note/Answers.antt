@@ -12,7 +12,7 @@ pub returns-then-not-fits : goal.returns-then-not-fits
 returns-then-not-fits c =
     let h : RecHead = record { number = c.args.number.0; kind = c.args.kind; length = c.args.size; count = c.args.count } in
     rw (
-      noted_at c.numbers_ascend.ensures.above 0 c.args.numbers.now c.args.places.now c.args.at h c.in-Some.i (record { 0 = 0 }, 0)
+      noted_at 0 c.args.numbers.now c.args.places.now c.args.at h c.in-Some.i (record { 0 = 0 }, 0)
           c.as_slice-list.ensures.bounds c.requires c.in-Some.ensures.place.within c.in-Some.ensures.place.is,
       ← c.as_slice-list.ensures.value,
       ← c.if-not-fits.ensures c.args.count,
@@ -23,7 +23,7 @@ pub returns : goal.returns
 returns c =
     let h : RecHead = record { number = c.args.number.0; kind = c.args.kind; length = c.args.size; count = c.args.count } in
     rw (
-      noted_at c.numbers_ascend.ensures.above 0 c.args.numbers.now c.args.places.now c.args.at h c.in-Some.i (record { 0 = 0 }, 0)
+      noted_at 0 c.args.numbers.now c.args.places.now c.args.at h c.in-Some.i (record { 0 = 0 }, 0)
           c.as_slice-list.ensures.bounds c.requires c.in-Some.ensures.place.within c.in-Some.ensures.place.is,
       ← c.as_slice-list.ensures.value,
       ← c.if-not-fits.ensures c.args.count,

@@ -7,5 +7,5 @@ returns-in_default c =
 
 pub returns : goal.returns
 returns c =
-    flags_at c.numbers_ascend.ensures.above 0 c.args.numbers.now c.args.flags.now c.args.number.0 c.args.on c.in-Some.i c.len.ensures.bounds
+    flags_at 0 c.args.numbers.now c.args.flags.now c.args.number.0 c.args.on c.in-Some.i c.len.ensures.bounds
     c.requires c.in-Some.ensures.place.within c.in-Some.ensures.place.is

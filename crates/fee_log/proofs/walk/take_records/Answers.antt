@@ -22,7 +22,7 @@ loop-item-preserved c =
       all =
           append_assoc inv.taken (r ∷ []) (records_in c.next.new.self) ∙ ap (λ (rest : List Rec). inv.taken ++ rest) (sym c.in-Some.ensures.steps.0) ∙ inv.all;
       places_are =
-          rw (c.take_record.ensures, inv.places_are) (sym (places_push c.appends_leave_one_more.ensures.last
+          rw (c.take_record.ensures, inv.places_are) (sym (places_push
           c.args.numbers.now inv.taken r c.in-Some.item.committed refl));
     }
 

@@ -10,14 +10,13 @@ returns-in_default-clause-taken c told read =
     let l = layout_of c.args.geometry c.args.banks in
     let two = c.in_default.ensures.two in
     let not = c.in_default.ensures.stands in
-    taken_none c.banks_stand_alone.ensures.heads told.bytes l c.args.bank c.args.bytes.now c.args.first.now c.args.log.now two read not
+    taken_none told.bytes l c.args.bank c.args.bytes.now c.args.first.now c.args.log.now two read not
 
 pub returns-then-comes_first-clause-taken : goal.returns-then-comes_first-clause-taken
 returns-then-comes_first-clause-taken c told read =
     let l = layout_of c.args.geometry c.args.banks in
     let own = c.args.bytes.now in
     let h = c.head-head.result in
-    let heads = c.banks_stand_alone.ensures.heads in
     let two = c.in-Some.ensures.two in
     let stands : StandsAs (own_bank l.page 2 1) own h = rw c.head-head.ensures.head c.in-Some.ensures.stands in
     let first = rw c.if-comes_first.true at (c.comes_first.ensures c.args.bank) in
@@ -25,9 +24,9 @@ returns-then-comes_first-clause-taken c told read =
     let loaded = rw c.move_to.ensures at c.load.ensures.log in
     let size = c.in-Some.ensures.size in
     let low = c.requires.legal.page_low in
-    taken_then heads l c.args.bank own c.args.first.now log h two stands told.bytes c.load.new.self read first
+    taken_then l c.args.bank own c.args.first.now log h two stands told.bytes c.load.new.self read first
     (λ (bytes : List ℕ) is. rw c.head-head.ensures.head
-    (loaded_as c.loads_agree.ensures.loads c.loads_agree.ensures.moves c.banks_stand_alone.ensures.pages c.records_stay.ensures.stay l bytes own c.args.bank c.in-Some.view.head log.geometry log.banks log.numbers c.load.new.self c.in-Some.view
+    (loaded_as l bytes own c.args.bank c.in-Some.view.head log.geometry log.banks log.numbers c.load.new.self c.in-Some.view
     low size is c.in-Some.ensures.view loaded))
 
 pub returns-else-comes_first-clause-taken : goal.returns-else-comes_first-clause-taken
@@ -38,4 +37,4 @@ returns-else-comes_first-clause-taken c told read =
     let two = c.in-Some.ensures.two in
     let stands : StandsAs (own_bank l.page 2 1) own h = rw c.head-head.ensures.head c.in-Some.ensures.stands in
     let first = rw c.if-comes_first.false at (c.comes_first.ensures c.args.bank) in
-    taken_else c.banks_stand_alone.ensures.heads l c.args.bank own c.args.first.now c.args.log.now h two stands told.bytes read first
+    taken_else l c.args.bank own c.args.first.now c.args.log.now h two stands told.bytes read first

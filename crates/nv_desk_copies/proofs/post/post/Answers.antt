@@ -12,7 +12,7 @@ returns-clause-posted g c j hand =
     let same : c.in-Some.job.now ≡ j = same_job c.in-Some.job.now j (c.in-Some.ensures ∙ hand) in
     let lent = c.ended-end.new.staging.bytes in
     let names = rw c.request.ensures at c.names_ram-ram.ensures in
-    posted c.failures_are_explained.ensures c.ends_are_the_machines.ensures d c.post.new.self j c.args.answer c.args.source c.args.content.now c.args.ops _ _
+    posted d c.post.new.self j c.args.answer c.args.source c.args.content.now c.args.ops _ _
     c.block-block.result c.names_ram-ram.result
     (answer_in c.ended-end.result.answer c.ended-end.result.gives lent)
     (answer_in c.hand_over-ending.result.answer c.hand_over-ending.result.gives lent) c.hand_over-ending.result.refused

@@ -5,9 +5,7 @@ use Rattle.nvm_core.proofs.behind_device.second_half.Goals as goal
 
 pub returns-clause-tied : goal.returns-clause-tied
 returns-clause-tied g c =
-    let stay = c.hands_stay.ensures in
-    let go = c.hands_go_on.ensures in
     let legal = subst IsLegalConfig c.config.ensures c.blocks-blocks.ensures.legal in
-    tied_behind c.histories_grow.ensures.steps go.name go.go_on stay.offs stay.devices stay.power c.args.desk.now c.take.new.desk
+    tied_behind c.args.desk.now c.take.new.desk
     c.args.hand.now c.take.new.hand c.requires.0 (g.D.MemDevice.told c.args.device.now) legal c.args.turned c.requires.1
     (c.take.ensures.adds c.requires.0 c.requires.1) (c.take.ensures.hand c.requires.0 c.requires.1)

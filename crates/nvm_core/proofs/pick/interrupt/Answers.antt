@@ -1,4 +1,5 @@
 use Rattle.std.proofs.Common.{None}
+use Rattle.nvm_laws.proofs.Starting.{cancels_keep}
 use Rattle.nvm_core.proofs.TyingBefore.{held_in}
 use Rattle.nvm_core.proofs.WorkingBefore.{cancel_leaves}
 use Rattle.nvm_core.proofs.Interrupting.{not_urgent, interrupts}
@@ -13,10 +14,10 @@ cancel-requires g c =
 pub pick-requires-clause-may : goal.pick-requires-clause-may
 pick-requires-clause-may g c =
     let told = g.D.MemDevice.told c.args.device.now in
-    interrupts c.args.front.now.desk c.args.hand.now told _ _ _ c.requires.tied c.requires.held.on c.requires.may c.cancel.ensures.cancels
+    interrupts c.args.front.now.desk c.args.hand.now told _ _ _ c.requires.tied c.requires.held.on c.requires.may c.cancel.ensures
 
 pub returns-clause-device : goal.returns-clause-device
-returns-clause-device g c = cancel_leaves _ _ _ _ c.cancel.ensures.cancels
+returns-clause-device g c = cancel_leaves _ _ _ _ c.cancel.ensures
 
 pub returns-clause-keeps : goal.returns-clause-keeps
-returns-clause-keeps g c before kept = c.pick.ensures.keeps None before (c.cancel.ensures.keeps c.args.front.now.desk c.args.hand.now before kept)
+returns-clause-keeps g c before kept = c.pick.ensures.keeps None before (cancels_keep (g.D.MemDevice.told c.args.device.now) (g.D.MemDevice.clock c.args.device.now) _ _ c.cancel.ensures c.args.front.now.desk c.args.hand.now before kept)

@@ -2,6 +2,9 @@ use Rattle.std.proofs.Common.{◌∙◌, Some, None, ap, refl}
 use Rattle.nvm_laws.specs.block_machine.Words.{Post}
 use Rattle.nvm_laws.specs.block_machine.Blocks.{desc_of, job_block}
 use Rattle.nvm_laws.specs.nv_desk.Desk.{state_of}
+use Rattle.nvm_laws.proofs.job_progress.Powering.{jobs_keep_power, posts_leave_none, finished_are_closed}
+use Rattle.nvm_laws.proofs.Posting.{posts_keep}
+use Rattle.nvm_laws.proofs.Working.{entries_lower_work}
 use Rattle.nvm_core.proofs.TyingBefore.{drives, held_in, tied_behind}
 use Rattle.nvm_core.proofs.LoweringBefore.{within, post_left}
 use Rattle.nvm_core.proofs.Posting.{whole_given, hand_posted, hand_posts, note_posted}
@@ -26,7 +29,7 @@ returns-clause-posts g c =
     let held = c.requires.finished in
     let tied = c.requires.tied in
     let is = held_in _ desk c.args.hand.now told tied held in
-    hand_posts c.hands_end.ensures.explained desk c.post.new.self.desk held.held told c.ops.result _ _ _ _ _ _ c.ops.ensures is
+    hand_posts desk c.post.new.self.desk held.held told c.ops.result _ _ _ _ _ _ c.ops.ensures is
     (drives (state_of desk) c.ops.result tied.started held.on (rw c.ops.ensures tied.later))
     (c.end_of-answer.ensures held.held held.is held.end) c.take_data.ensures (c.post.ensures.posted is.job is.hand) c.args.hand.now held.is
 
@@ -38,8 +41,8 @@ returns-clause-keeps g c =
     let tied = c.requires.tied in
     let is = held_in _ desk c.args.hand.now told tied held in
     let end = c.end_of-answer.ensures held.held held.is held.end in
-    let keeps = c.posts_keep.ensures.in_hand desk c.post.new.self.desk held.held is.job _ _ _ _ c.post.result is.hand is end
-    (hand_posted c.hands_end.ensures.explained desk c.post.new.self.desk held.held told c.ops.result _ _ _ _ _ c.post.result c.ops.ensures is
+    let keeps = posts_keep told (g.D.MemDevice.clock c.args.device.now) desk c.post.new.self.desk held.held is.job _ _ _ _ c.post.result is.hand is end
+    (hand_posted desk c.post.new.self.desk held.held told c.ops.result _ _ _ _ _ c.post.result c.ops.ensures is
     (drives (state_of desk) c.ops.result tied.started held.on (rw c.ops.ensures tied.later)) end c.take_data.ensures (c.post.ensures.posted is.job is.hand)) in
     rw held.is keeps
 
@@ -51,11 +54,10 @@ returns-clause-tied g c =
     let held = c.requires.finished in
     let is = held_in _ desk c.args.hand.now told tied held in
     let posted = c.post.ensures.posted is.job is.hand in
-    let stay = c.hands_stay.ensures in
     let e = Post (job_block is.job) c.post.result.result posted.given posted.refused c.ops.result in
-    tied_behind c.histories_grow.ensures.steps desk c.post.new.self.desk e told posted.adds None
-    (stay.power desk.config (state_of desk) e refl) (ap Some c.ops.ensures) tied.up tied.numbers tied.started held.on
-    (stay.posts desk.config (state_of desk) e tt, stay.closed desk.config (state_of desk) held.held told is held.end)
+    tied_behind desk c.post.new.self.desk e told posted.adds None
+    (jobs_keep_power desk.config (state_of desk) e refl) (ap Some c.ops.ensures) tied.up tied.numbers tied.started held.on
+    (posts_leave_none desk.config (state_of desk) e tt, finished_are_closed desk.config (state_of desk) held.held told is held.end)
 
 pub returns-clause-unread : goal.returns-clause-unread
 returns-clause-unread g c =
@@ -73,7 +75,7 @@ returns-clause-lowers g c =
     let is = held_in _ desk c.args.hand.now told c.requires.tied held in
     let posted = c.post.ensures.posted is.job is.hand in
     let e = Post (job_block is.job) c.post.result.result posted.given posted.refused c.ops.result in
-    c.stack_works.ensures.entries told desk c.post.new.self.desk e c.args.hand.now None c.left-left.ensures.order posted.adds
+    entries_lower_work told (g.D.MemDevice.clock c.args.device.now) told desk c.post.new.self.desk e c.args.hand.now None c.left-left.ensures.order posted.adds
     (within c.post.new.self.desk _ _ c.history.ensures.entries c.history.ensures.cap c.len-count.ensures.within) tt
 
 pub returns-clause-left : goal.returns-clause-left

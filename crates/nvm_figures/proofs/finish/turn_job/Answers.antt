@@ -7,4 +7,4 @@ begin_next-requires-clause-index g c = placed_at _ _ _ (step_is _ _ _ c.requires
 pub returns-clause-turned : goal.returns-clause-turned
 returns-clause-turned g c =
     let ready = begins_ready _ _ _ _ _ _ _ _ _ (step_is _ _ _ c.requires.step) c.requires.tries c.requires.works c.in_ok-begin_next.ensures in
-    turns_job _ c.programs_count_their_failures.ensures.counted _ _ _ _ _ _ _ _ c.requires.tries ready c.go_on.ensures
+    turns_job _ _ _ _ _ _ _ _ _ c.requires.tries ready c.go_on.ensures

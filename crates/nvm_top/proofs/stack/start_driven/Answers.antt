@@ -6,6 +6,7 @@ use Rattle.nvm_flash.specs.Made.{IsOrigin}
 use Rattle.script_player.specs.PlainTold.{told_by}
 use Rattle.nvm_flash.specs.ram_blocks.declared.plain_block.PlainBlock.{PlainBlock}
 use Rattle.nvm_flash.specs.nvm_core.Stack.{StackState}
+use Rattle.nvm_flash.proofs.fee_image.Soundness.{sound_images_compute}
 use Rattle.nvm_top.specs.Machine.{IsStarted, one_part}
 use Rattle.nvm_top.proofs.Driven.{started, kept_up, tells_slots, stops_by}
 use Rattle.nvm_top.proofs.stack.start_driven.Goals as goal
@@ -13,13 +14,13 @@ use Rattle.nvm_top.proofs.stack.start_driven.Goals as goal
 pub returns-in-Ok-begin-clause-started : goal.returns-in-Ok-begin-clause-started
 returns-in-Ok-begin-clause-started g c =
     subst (λ (m : StackState Device (List PlainBlock)). IsStarted c.args.config c.args.cuts (part_at g.O.Origin.entry) (told_by told_of m)) (sym c.over.ensures)
-    (started c.args.config (g.F.Flash.told c.args.flash) c.args.cuts g.O.Origin.making g.O.Origin.entry c.in-Ok.stack c.in-Ok-begin.stack c.requires c.in-Ok.ensures.made c.in-Ok-begin.ensures.started)
+    (started c.args.config (g.F.Flash.told c.args.flash) c.args.cuts g.O.Origin.making g.O.Origin.entry c.in-Ok.stack c.in-Ok-begin.stack c.geometry-geometry.ensures.legal c.requires c.in-Ok.ensures.made c.in-Ok-begin.ensures.started)
 
 pub returns-in-Ok-begin-clause-kept : goal.returns-in-Ok-begin-clause-kept
 returns-in-Ok-begin-clause-kept g c = λ well.
     kept_up (one_part (part_at g.O.Origin.entry)) c.in-Ok.stack c.in-Ok-begin.stack c.over.result c.over.ensures c.in-Ok-begin.ensures.started
     (c.in-Ok-begin.ensures.kept c.args.config (g.F.Flash.told c.args.flash) c.args.cuts (ap (λ s. s.desk.config) c.in-Ok.ensures.made.only) c.geometry-geometry.ensures.legal c.requires
-    (tells_slots c.soundness_computes.ensures c.args.config (g.F.Flash.told c.args.flash) c.args.cuts g.O.Origin.making g.O.Origin.entry c.in-Ok.stack.device c.requires c.in-Ok.ensures.made.device well))
+    (tells_slots sound_images_compute c.args.config (g.F.Flash.told c.args.flash) c.args.cuts g.O.Origin.making g.O.Origin.entry c.in-Ok.stack.device c.requires c.in-Ok.ensures.made.device well))
 
 pub returns-in-Err-begin-clause-stopped : goal.returns-in-Err-begin-clause-stopped
 returns-in-Err-begin-clause-stopped g c =

@@ -1,12 +1,13 @@
+use Rattle.fee_image.proofs.Soundness.{sound_images_compute}
 use Rattle.promise_run.proofs.LostWrite as law
 use Rattle.promise_run.proofs.WrongMarks.{lost_count_breaks, lost_write_breaks}
 use Rattle.promise_run.proofs.cases.a_lost_write_breaks_it.Goals as goal
 
 pub returns-clause-breaks : goal.returns-clause-breaks
-returns-clause-breaks c = lost_write_breaks c.soundness_computes.ensures
+returns-clause-breaks c = lost_write_breaks sound_images_compute
 
 pub returns-clause-counts : goal.returns-clause-counts
-returns-clause-counts c = lost_count_breaks c.soundness_computes.ensures
+returns-clause-counts c = lost_count_breaks sound_images_compute
 
 pub returns-clause-order : goal.returns-clause-order
 returns-clause-order c = law.keeps_order
@@ -15,7 +16,7 @@ pub returns-clause-found : goal.returns-clause-found
 returns-clause-found c = law.start_ups_find
 
 pub returns-clause-at_exit : goal.returns-clause-at_exit
-returns-clause-at_exit c = λ started few. law.exit_keeps c.soundness_computes.ensures
+returns-clause-at_exit c = λ started few. law.exit_keeps sound_images_compute
 
 pub returns-clause-block_machine : goal.returns-clause-block_machine
 returns-clause-block_machine c = law.is_legal

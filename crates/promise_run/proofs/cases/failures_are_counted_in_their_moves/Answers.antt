@@ -1,3 +1,4 @@
+use Rattle.fee_image.proofs.Soundness.{sound_images_compute}
 use Rattle.promise_run.proofs.Failing.{counts_own, not_late, mended_kept, not_posted_on_credit, not_on_credit, not_untold}
 use Rattle.promise_run.proofs.cases.failures_are_counted_in_their_moves.Goals as goal
 
@@ -17,4 +18,4 @@ pub returns-clause-mended : goal.returns-clause-mended
 returns-clause-mended c = mended_kept
 
 pub returns-clause-posts_on_credit : goal.returns-clause-posts_on_credit
-returns-clause-posts_on_credit c = not_posted_on_credit c.soundness_computes.ensures
+returns-clause-posts_on_credit c = not_posted_on_credit sound_images_compute

@@ -21,7 +21,7 @@ loop-i-preserved c = elim c.match-entry.branch [
       let at : slice_get (take c.args.count c.args.history.now.entries) c.loop-i.i ≡ Some e =
       taken_at c.args.history.now.entries c.args.count c.loop-i.i e c.loop-i-test.true w.in-Some.ensures in
       rw (w.seen-is, add-one)
-      (scanned c.what_is_found_is_settled.ensures.changes c.what_is_found_is_settled.ensures.each c.jobs_are_pending.ensures.places c.args.config.now cap
+      (scanned c.args.config.now cap
       (take c.args.count c.args.history.now.entries) c.loop-i.i e c.args.instance c.args.mark.now c.loop-i.seen w.see.new.self c.blocks-blocks.ensures.legal
       c.requires.configured at legal (c.loop-i.invariant cap legal) w.see.ensures)
   | in_default w ↦ absurd (omega (arith, c.requires.count))

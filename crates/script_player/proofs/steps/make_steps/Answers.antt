@@ -6,11 +6,11 @@ use Rattle.script_player.proofs.Walking.{none_made, begin, go_on, all_made, some
 use Rattle.script_player.proofs.steps.make_steps.Goals as goal
 
 pub returns-in_default-clause-some : goal.returns-in_default-clause-some
-returns-in_default-clause-some g c = none_made c.histories_grow.ensures.goes_on (g.S.PlayedStack.payer c.args.stack.now) c.args.steps.now (g.S.PlayedStack.told c.args.stack.now) c.requires.fresh
+returns-in_default-clause-some g c = none_made (g.S.PlayedStack.payer c.args.stack.now) c.args.steps.now (g.S.PlayedStack.told c.args.stack.now) c.requires.fresh
 
 pub loop-i-init : goal.loop-i-init
 loop-i-init g c = record {
-  way = begin c.stores_are_newest.ensures.first c.turns_keep_what_is_stored.ensures.starts (g.S.PlayedStack.payer c.args.stack.now) c.args.steps.now c.args.blocks c.in-Ok.stores (g.S.PlayedStack.told c.args.stack.now) c.requires.fresh c.requires.blocks c.in-Ok.ensures;
+  way = begin (g.S.PlayedStack.payer c.args.stack.now) c.args.steps.now c.args.blocks c.in-Ok.stores (g.S.PlayedStack.told c.args.stack.now) c.requires.fresh c.requires.blocks c.in-Ok.ensures;
   keeps = λ before kept. kept;
 }
 
@@ -28,14 +28,14 @@ pub loop-i-preserved : goal.loop-i-preserved
 loop-i-preserved g c =
     let few : c.loop-i.i < 2 ^ 32 = omega arith in
     record {
-      way = go_on c.walks_grow.ensures c.histories_grow.ensures.goes_on (g.S.PlayedStack.payer c.args.stack.now) (g.S.PlayedStack.payer c.loop-i.stack) (g.S.PlayedStack.payer c.make_next.new.stack) c.args.steps.now c.loop-i.i c.loop-i.stores c.make_next.new.stores (g.S.PlayedStack.told c.args.stack.now) (g.S.PlayedStack.told c.loop-i.stack) (g.S.PlayedStack.told c.make_next.new.stack) few c.requires.planned c.loop-i.invariant.way c.in_default-make_next.ensures.made;
+      way = go_on (g.S.PlayedStack.payer c.args.stack.now) (g.S.PlayedStack.payer c.loop-i.stack) (g.S.PlayedStack.payer c.make_next.new.stack) c.args.steps.now c.loop-i.i c.loop-i.stores c.make_next.new.stores (g.S.PlayedStack.told c.args.stack.now) (g.S.PlayedStack.told c.loop-i.stack) (g.S.PlayedStack.told c.make_next.new.stack) few c.requires.planned c.loop-i.invariant.way c.in_default-make_next.ensures.made;
       keeps = λ before kept. c.make_next.ensures.keeps before (c.loop-i.invariant.keeps before kept);
     }
 
 pub returns-in-Err-clause-some : goal.returns-in-Err-clause-some
 returns-in-Err-clause-some g c =
-    some_made c.histories_grow.ensures.goes_on (g.S.PlayedStack.payer c.args.stack.now) (g.S.PlayedStack.payer c.loop-i.stack) (g.S.PlayedStack.payer c.make_next.new.stack) c.in-Err.fault c.args.steps.now c.loop-i.i c.loop-i.stores (g.S.PlayedStack.told c.args.stack.now) (g.S.PlayedStack.told c.loop-i.stack) (g.S.PlayedStack.told c.make_next.new.stack) c.loop-i.invariant.way c.in-Err.ensures.left c.in-Err.ensures.owes
+    some_made (g.S.PlayedStack.payer c.args.stack.now) (g.S.PlayedStack.payer c.loop-i.stack) (g.S.PlayedStack.payer c.make_next.new.stack) c.in-Err.fault c.args.steps.now c.loop-i.i c.loop-i.stores (g.S.PlayedStack.told c.args.stack.now) (g.S.PlayedStack.told c.loop-i.stack) (g.S.PlayedStack.told c.make_next.new.stack) c.loop-i.invariant.way c.in-Err.ensures.left c.in-Err.ensures.owes
 
 pub returns-clause-all : goal.returns-clause-all
 returns-clause-all g c =
-    all_made c.histories_grow.ensures.goes_on (g.S.PlayedStack.payer c.args.stack.now) (g.S.PlayedStack.payer c.loop-i.stack) c.args.steps.now c.loop-i.i c.loop-i.stores (g.S.PlayedStack.told c.args.stack.now) (g.S.PlayedStack.told c.loop-i.stack) (omega (arith, c.loop-i-test.false, c.len-i-end.ensures)) c.loop-i.invariant.way
+    all_made (g.S.PlayedStack.payer c.args.stack.now) (g.S.PlayedStack.payer c.loop-i.stack) c.args.steps.now c.loop-i.i c.loop-i.stores (g.S.PlayedStack.told c.args.stack.now) (g.S.PlayedStack.told c.loop-i.stack) (omega (arith, c.loop-i-test.false, c.len-i-end.ensures)) c.loop-i.invariant.way

@@ -1,7 +1,7 @@
 use Rattle.std.proofs.Common.{[], ◌∷◌, ◌++◌, arith}
+use Rattle.nvm_core.proofs.memif.Turning.{rose_since}
 use Rattle.script_player.proofs.Grown.{ready_grown}
 use Rattle.script_player.proofs.Moves.{none_moved, made_more, move_to, turn_moved}
-use Rattle.script_player.proofs.Serving.{rose_later}
 use Rattle.script_player.proofs.Turned.{turn_kept, turned_more, none_turned, any_turned, drained}
 use Rattle.script_player.proofs.turns.drain.Goals as goal
 
@@ -16,13 +16,13 @@ loop-preserved g c =
       counted = let more = was.counted in let here = c.ends_drain.ensures.turn.counted in omega (arith, more, here);
       kept = λ before kept.
           let (es, turned, (ms, moved), now) = was.kept before kept in
-          let (one, then_kept) = turn_kept c.histories_grow.ensures.goes_on c.turns_keep_what_is_stored.ensures.turn before (g.S.PlayedStack.told c.loop.stack) (g.S.PlayedStack.told c.ends_drain.new.stack) c.ends_drain.ensures.turn now in (
+          let (one, then_kept) = turn_kept before (g.S.PlayedStack.told c.loop.stack) (g.S.PlayedStack.told c.ends_drain.new.stack) c.ends_drain.ensures.turn now in (
             es ++ c.ends_drain.ensures.turn.entries,
-            turned_more c.histories_grow.ensures.goes_on c.turns_keep_what_is_stored.ensures.goes_on 0 0 before (g.S.PlayedStack.told c.args.stack.now) (g.S.PlayedStack.told c.loop.stack) (g.S.PlayedStack.told c.ends_drain.new.stack) es c.ends_drain.ensures.turn.entries turned
+            turned_more 0 0 before (g.S.PlayedStack.told c.args.stack.now) (g.S.PlayedStack.told c.loop.stack) (g.S.PlayedStack.told c.ends_drain.new.stack) es c.ends_drain.ensures.turn.entries turned
                 (any_turned 1 before (g.S.PlayedStack.told c.loop.stack) (g.S.PlayedStack.told c.ends_drain.new.stack) c.ends_drain.ensures.turn.entries one),
             (
               ms ++ move_to c.ends_drain.ensures.turn.entries (g.S.PlayedStack.told c.ends_drain.new.stack) ∷ [],
-              made_more c.histories_grow.ensures.goes_on (g.S.PlayedStack.payer c.args.stack.now) (g.S.PlayedStack.payer c.loop.stack) (g.S.PlayedStack.payer c.ends_drain.new.stack) (g.S.PlayedStack.told c.args.stack.now) (g.S.PlayedStack.told c.loop.stack) (g.S.PlayedStack.told c.ends_drain.new.stack) es c.ends_drain.ensures.turn.entries ms (move_to c.ends_drain.ensures.turn.entries (g.S.PlayedStack.told c.ends_drain.new.stack) ∷ []) turned.grows moved
+              made_more (g.S.PlayedStack.payer c.args.stack.now) (g.S.PlayedStack.payer c.loop.stack) (g.S.PlayedStack.payer c.ends_drain.new.stack) (g.S.PlayedStack.told c.args.stack.now) (g.S.PlayedStack.told c.loop.stack) (g.S.PlayedStack.told c.ends_drain.new.stack) es c.ends_drain.ensures.turn.entries ms (move_to c.ends_drain.ensures.turn.entries (g.S.PlayedStack.told c.ends_drain.new.stack) ∷ []) turned.grows moved
                   (turn_moved (g.S.PlayedStack.payer c.loop.stack) (g.S.PlayedStack.payer c.ends_drain.new.stack) (g.S.PlayedStack.told c.loop.stack) (g.S.PlayedStack.told c.ends_drain.new.stack) c.ends_drain.ensures.turn c.ends_drain.ensures.pays),
             ),
             then_kept,
@@ -37,16 +37,16 @@ returns-clause-ready g c =
 pub returns-clause-at_rest : goal.returns-clause-at_rest
 returns-clause-at_rest g c none on =
     c.ends_drain.ensures.at_rest c.loop-test.false
-    (λ rose. none (rose_later (g.S.PlayedStack.told c.args.stack.now).faults (g.S.PlayedStack.told c.loop.stack).faults (g.S.PlayedStack.told c.ends_drain.new.stack).faults c.loop.invariant.counted rose)) on
+    (λ rose. none (rose_since (g.S.PlayedStack.told c.args.stack.now).faults (g.S.PlayedStack.told c.loop.stack).faults (g.S.PlayedStack.told c.ends_drain.new.stack).faults c.loop.invariant.counted rose)) on
 
 pub returns-clause-drains : goal.returns-clause-drains
 returns-clause-drains g c before kept =
     let (es, turned, (ms, moved), now) = c.loop.invariant.kept before kept in
-    let (one, then_kept) = turn_kept c.histories_grow.ensures.goes_on c.turns_keep_what_is_stored.ensures.turn before (g.S.PlayedStack.told c.loop.stack) (g.S.PlayedStack.told c.ends_drain.new.stack) c.ends_drain.ensures.turn now in
-    let all = turned_more c.histories_grow.ensures.goes_on c.turns_keep_what_is_stored.ensures.goes_on 0 0 before (g.S.PlayedStack.told c.args.stack.now) (g.S.PlayedStack.told c.loop.stack) (g.S.PlayedStack.told c.ends_drain.new.stack) es c.ends_drain.ensures.turn.entries turned
+    let (one, then_kept) = turn_kept before (g.S.PlayedStack.told c.loop.stack) (g.S.PlayedStack.told c.ends_drain.new.stack) c.ends_drain.ensures.turn now in
+    let all = turned_more 0 0 before (g.S.PlayedStack.told c.args.stack.now) (g.S.PlayedStack.told c.loop.stack) (g.S.PlayedStack.told c.ends_drain.new.stack) es c.ends_drain.ensures.turn.entries turned
     (any_turned 1 before (g.S.PlayedStack.told c.loop.stack) (g.S.PlayedStack.told c.ends_drain.new.stack) c.ends_drain.ensures.turn.entries one) in (
-      drained c.histories_grow.ensures.goes_on (g.S.PlayedStack.payer c.args.stack.now) (g.S.PlayedStack.payer c.ends_drain.new.stack) before (g.S.PlayedStack.told c.args.stack.now) (g.S.PlayedStack.told c.ends_drain.new.stack) (es ++ c.ends_drain.ensures.turn.entries) (ms ++ move_to c.ends_drain.ensures.turn.entries (g.S.PlayedStack.told c.ends_drain.new.stack) ∷ []) all
-          (made_more c.histories_grow.ensures.goes_on (g.S.PlayedStack.payer c.args.stack.now) (g.S.PlayedStack.payer c.loop.stack) (g.S.PlayedStack.payer c.ends_drain.new.stack) (g.S.PlayedStack.told c.args.stack.now) (g.S.PlayedStack.told c.loop.stack) (g.S.PlayedStack.told c.ends_drain.new.stack) es c.ends_drain.ensures.turn.entries ms (move_to c.ends_drain.ensures.turn.entries (g.S.PlayedStack.told c.ends_drain.new.stack) ∷ []) turned.grows moved
+      drained (g.S.PlayedStack.payer c.args.stack.now) (g.S.PlayedStack.payer c.ends_drain.new.stack) before (g.S.PlayedStack.told c.args.stack.now) (g.S.PlayedStack.told c.ends_drain.new.stack) (es ++ c.ends_drain.ensures.turn.entries) (ms ++ move_to c.ends_drain.ensures.turn.entries (g.S.PlayedStack.told c.ends_drain.new.stack) ∷ []) all
+          (made_more (g.S.PlayedStack.payer c.args.stack.now) (g.S.PlayedStack.payer c.loop.stack) (g.S.PlayedStack.payer c.ends_drain.new.stack) (g.S.PlayedStack.told c.args.stack.now) (g.S.PlayedStack.told c.loop.stack) (g.S.PlayedStack.told c.ends_drain.new.stack) es c.ends_drain.ensures.turn.entries ms (move_to c.ends_drain.ensures.turn.entries (g.S.PlayedStack.told c.ends_drain.new.stack) ∷ []) turned.grows moved
           (turn_moved (g.S.PlayedStack.payer c.loop.stack) (g.S.PlayedStack.payer c.ends_drain.new.stack) (g.S.PlayedStack.told c.loop.stack) (g.S.PlayedStack.told c.ends_drain.new.stack) c.ends_drain.ensures.turn c.ends_drain.ensures.pays)) (c.ends_drain.ensures.ends c.loop-test.false),
       then_kept,
     )

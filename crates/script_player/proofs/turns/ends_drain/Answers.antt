@@ -8,7 +8,7 @@ returns-clause-turn g c = made_turn c.turn-turned.result (g.S.PlayedStack.told c
 
 pub returns-clause-ends : goal.returns-clause-ends
 returns-clause-ends g c last =
-    last_ends c.histories_grow.ensures.goes_on c.turn-turned.result c.in_hand-in_hand.result c.has_risen.result (g.S.PlayedStack.told c.args.stack.now) (g.S.PlayedStack.told c.turn-turned.new.self) c.turn-turned.ensures.turns
+    last_ends c.turn-turned.result c.in_hand-in_hand.result c.has_risen.result (g.S.PlayedStack.told c.args.stack.now) (g.S.PlayedStack.told c.turn-turned.new.self) c.turn-turned.ensures.turns
     c.in_hand-in_hand.ensures (sym c.is_last.ensures ∙ last)
 
 pub returns-clause-goes_on : goal.returns-clause-goes_on
@@ -19,7 +19,7 @@ returns-clause-goes_on g c last =
 
 pub returns-clause-at_rest : goal.returns-clause-at_rest
 returns-clause-at_rest g c last =
-    last_closes c.histories_grow.ensures.goes_on c.turn-turned.result c.in_hand-in_hand.result c.has_risen.result (g.S.PlayedStack.told c.args.stack.now) (g.S.PlayedStack.told c.turn-turned.new.self) c.turn-turned.ensures.turns
+    last_closes c.turn-turned.result c.in_hand-in_hand.result c.has_risen.result (g.S.PlayedStack.told c.args.stack.now) (g.S.PlayedStack.told c.turn-turned.new.self) c.turn-turned.ensures.turns
     (λ risen. subst (λ (n : ℕ). Rose n (g.S.PlayedStack.told c.turn-turned.new.self).faults) c.faults-faults.ensures (subst (λ (n : ℕ). Rose c.faults-faults.result n) c.faults.ensures
     (c.has_risen.ensures.rose risen (subst (λ (n : ℕ). n ≤ c.faults.result) (sym c.faults-faults.ensures) (subst (λ (n : ℕ). (g.S.PlayedStack.told c.args.stack.now).faults ≤ n) (sym c.faults.ensures) c.turn-turned.ensures.turns.counted)))))
     (sym c.is_last.ensures ∙ last)

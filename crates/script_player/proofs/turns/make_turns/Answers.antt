@@ -15,7 +15,7 @@ loop-turn-preserved g c =
       ready = ready_grown (g.S.PlayedStack.told c.loop-turn.stack) (g.S.PlayedStack.told c.turn.new.self) c.turn.ensures.turns.entries c.turn.ensures.turns.grows was.ready;
       turns = λ before kept.
           let (made, now) = was.turns before kept in
-          one_turn_more c.histories_grow.ensures.goes_on c.turns_keep_what_is_stored.ensures.turn c.turns_keep_what_is_stored.ensures.goes_on c.turns_keep_what_is_stored.ensures.grow (g.S.PlayedStack.payer c.args.stack.now) (g.S.PlayedStack.payer c.loop-turn.stack) (g.S.PlayedStack.payer c.turn.new.self) c.loop-turn._turn before (g.S.PlayedStack.told c.args.stack.now) (g.S.PlayedStack.told c.loop-turn.stack) (g.S.PlayedStack.told c.turn.new.self) made now
+          one_turn_more (g.S.PlayedStack.payer c.args.stack.now) (g.S.PlayedStack.payer c.loop-turn.stack) (g.S.PlayedStack.payer c.turn.new.self) c.loop-turn._turn before (g.S.PlayedStack.told c.args.stack.now) (g.S.PlayedStack.told c.loop-turn.stack) (g.S.PlayedStack.told c.turn.new.self) made now
           (made_turn c.turn.result (g.S.PlayedStack.told c.loop-turn.stack) (g.S.PlayedStack.told c.turn.new.self) c.turn.ensures.turns) c.turn.ensures.pays;
       keeps = λ before kept. c.turn.ensures.keeps before (was.keeps before kept);
     }

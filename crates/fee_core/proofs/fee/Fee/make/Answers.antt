@@ -7,6 +7,8 @@ use Rattle.promise_device.specs.Making.{Making}
 use Rattle.fee_laws.specs.Inside.{Parts, fixed_in}
 use Rattle.nv_base.specs.Geometry.{sectors_of_bank}
 use Rattle.fee_course.specs.Course.{most_turns}
+use Rattle.fee_laws.proofs.FollowCalled.{unstarted_follows}
+use Rattle.fee_laws.proofs.Making.{new_is_sound}
 use Rattle.fee_core.specs.Whole.{Sound}
 use Rattle.fee_core.proofs.Telling.{all_first}
 use Rattle.fee_core.proofs.fee.Fee.make.Goals as goal
@@ -20,8 +22,8 @@ invariant_of-result g c =
     let idle : IsIdle c.attach.new.self = record { job = ap (λ (f : FlsState). f.job) done.ok; attached = ap (λ (f : FlsState). f.attached) done.ok } in
     let s : Parts = record { fls = c.attach.new.self; banks = c.in-Ok.banks; content = c.in-Ok.content; job = None; last = JobOk; given = 0; started = false; faults = 0; worn = None; operations = [] } in
     let m : Making = record { geometry = c.args.geometry; banks = c.args.banks; numbers = c.args.numbers.now; reserve = c.args.reserve } in
-    let law = c.devices_are_made.ensures.made m _ s (record { legal = c.requires.legal; space = c.requires.space; attached = at; banks = c.in-Ok.ensures.banks; geometry = geometry; idle = idle; room = c.in-Ok.ensures.content }) in
-    subst (Sound g.O.Origin.making g.O.Origin.entry) (sym c.unstarted.ensures) (rw (c.requires.making, c.requires.entry, c.in-Ok.ensures.numbers) (record { parts = law.0; follows = c.starts_follow.ensures.unstarted s refl }))
+    let law = new_is_sound m _ s (record { legal = c.requires.legal; space = c.requires.space; attached = at; banks = c.in-Ok.ensures.banks; geometry = geometry; idle = idle; room = c.in-Ok.ensures.content }) in
+    subst (Sound g.O.Origin.making g.O.Origin.entry) (sym c.unstarted.ensures) (rw (c.requires.making, c.requires.entry, c.in-Ok.ensures.numbers) (record { parts = law.0; follows = unstarted_follows s refl }))
 
 pub returns-clause-parts : goal.returns-clause-parts
 returns-clause-parts g c n =

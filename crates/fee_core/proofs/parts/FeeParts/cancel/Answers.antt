@@ -19,8 +19,8 @@ returns-clause-sound g c =
     let was = (subst (Sound m entry) back c.requires.sound).parts in
     let calm = subst (λ (w : Whole). is_urgent (told_in m entry w).stand ≡ false) back c.requires.urgent in
     record {
-      parts = (ends c.jobs_cancel.ensures.job m entry s i.numbers i.reserve i.ops i.off was c.active-active.ensures.state (c.is_none.ensures ∙ ap not c.if-is_none.false) calm c.give_up.new.banks c.give_up.ensures).0;
-      follows = given_follows c.calls_follow.ensures.given_up s c.active-active.ensures.log (subst (Sound m entry) back c.requires.sound).follows c.give_up.new.banks c.give_up.ensures;
+      parts = (ends m entry s i.numbers i.reserve i.ops i.off was c.active-active.ensures.state (c.is_none.ensures ∙ ap not c.if-is_none.false) calm c.give_up.new.banks c.give_up.ensures).0;
+      follows = given_follows s c.active-active.ensures.log (subst (Sound m entry) back c.requires.sound).follows c.give_up.new.banks c.give_up.ensures;
     }
 
 pub returns-clause-cancels : goal.returns-clause-cancels
@@ -34,4 +34,4 @@ returns-clause-cancels g c =
     let calm = subst (λ (w : Whole). is_urgent (told_in m entry w).stand ≡ false) back c.requires.urgent in
     let u = canceled c.give_up.new.banks s in
     subst (λ (w : Whole). Cancels (told_in m entry w) (clock_in m entry w) (told_at m entry u) (clock_at m entry u)) c.self.view_is
-    (ends c.jobs_cancel.ensures.job m entry s i.numbers i.reserve i.ops i.off was c.active-active.ensures.state (c.is_none.ensures ∙ ap not c.if-is_none.false) calm c.give_up.new.banks c.give_up.ensures).1
+    (ends m entry s i.numbers i.reserve i.ops i.off was c.active-active.ensures.state (c.is_none.ensures ∙ ap not c.if-is_none.false) calm c.give_up.new.banks c.give_up.ensures).1

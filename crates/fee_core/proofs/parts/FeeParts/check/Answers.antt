@@ -5,9 +5,10 @@ use Rattle.nv_base.specs.declared.instance.DeviceNumber.{DeviceNumber}
 use Rattle.memif.specs.declared.answer.DeviceRefusal.TheVariants.{BadNumber, BadLength}
 use Rattle.memif.specs.Told.{length_of}
 use Rattle.memif.specs.Calls.{refusal_of}
+use Rattle.fee_told.proofs.Figures.{length_few}
 use Rattle.fee_laws.specs.Inside.{Parts}
 use Rattle.fee_core.specs.Whole.{Whole, Sound, told_in}
-use Rattle.fee_core.proofs.Looking.{length_at, length_none, few_at, refusal_at}
+use Rattle.fee_core.proofs.Looking.{length_at, length_none, refusal_at}
 use Rattle.fee_core.proofs.parts.FeeParts.check.Goals as goal
 
 pub returns-in_default-clause-refusal : goal.returns-in_default-clause-refusal
@@ -72,7 +73,7 @@ returns-in_default-length-clause-few g c =
     let n = c.args.number.0 in
     let at : length_of i.numbers n ≡ Some (get_or i.numbers c.in-Some.place (record { 0 = 0 }, 0)).1 = length_at i.numbers n c.in-Some.place (record { 0 = 0 }, 0) (sym c.in-Some.ensures.value) in
     let size = ap (λ (ns : List (DeviceNumber × ℕ)). length_of ns n) (sym was.numbers) ∙ at in
-    rw c.as_slice.ensures.value (few_at 0 m.numbers n _ was.made_for.space.lengths size)
+    rw c.as_slice.ensures.value (length_few 0 m.numbers n _ was.made_for.space.lengths size)
 
 pub returns-in_default-length-2-clause-refusal : goal.returns-in_default-length-2-clause-refusal
 returns-in_default-length-2-clause-refusal g c =
@@ -109,4 +110,4 @@ returns-in_default-length-2-clause-few g c =
     let n = c.args.number.0 in
     let at : length_of i.numbers n ≡ Some (get_or i.numbers c.in-Some.place (record { 0 = 0 }, 0)).1 = length_at i.numbers n c.in-Some.place (record { 0 = 0 }, 0) (sym c.in-Some.ensures.value) in
     let size = ap (λ (ns : List (DeviceNumber × ℕ)). length_of ns n) (sym was.numbers) ∙ at in
-    rw c.as_slice.ensures.value (few_at 0 m.numbers n _ was.made_for.space.lengths size)
+    rw c.as_slice.ensures.value (length_few 0 m.numbers n _ was.made_for.space.lengths size)

@@ -4,6 +4,7 @@ use Rattle.memif.specs.declared.answer.JobResult.TheVariants.{JobOk}
 use Rattle.memif.specs.Told.{Figures, Ended, most_of}
 use Rattle.fee_course.specs.Course.{most_turns}
 use Rattle.fee_told.specs.Figures.{Work}
+use Rattle.fee_told.proofs.Figures.{left_fits}
 use Rattle.fee_laws.specs.Work.{pages_of_op}
 use Rattle.fee_core.specs.Whole.{Sound}
 use Rattle.fee_core.proofs.Looking.{figure_at, most_is, one_is}
@@ -37,7 +38,7 @@ overflow_add-result-in_default g c =
     let switch : c.most_turns-switch.result ≡ own = counted ∙ (λ k. most_turns (of k).page (sectors_of_bank (was.made_for.banks_geometry k) (was.made_for.shared k)) (was.numbers k)) in
     let legal = subst IsLegal was.made_for.banks_geometry c.geometry-geometry.ensures.state.legal in
     let w : Work = record { pages = 0; owed = false; switch = own } in
-    let few = c.left_is_bounded.ensures.fits m.geometry.page (sectors_of_bank m.geometry m.banks) m.reserve m.numbers (Ended JobOk []) w legal.page_high (let high = legal.sectors_high in omega arith) was.made_for.space.lengths (record { job = tt; few = omega arith }) in
+    let few = left_fits m.geometry.page (sectors_of_bank m.geometry m.banks) m.reserve m.numbers (Ended JobOk []) w legal.page_high (let high = legal.sectors_high in omega arith) was.made_for.space.lengths (record { job = tt; few = omega arith }) in
     omega (arith, switch, few)
 
 pub returns-in_default : goal.returns-in_default

@@ -4,6 +4,8 @@ use Rattle.memif.specs.Calls.{Opens, ClockStays}
 use Rattle.fee_laws.specs.Inside.{Parts, mark_of}
 use Rattle.fee_laws.specs.CallLaws.{MayOpen, IsPromised}
 use Rattle.fee_laws.specs.Parts.{opened}
+use Rattle.fee_laws.proofs.FollowCalled.{same_follow}
+use Rattle.fee_laws.proofs.Opened.{jobs_open}
 use Rattle.fee_core.specs.Whole.{Whole, Sound, told_in, clock_in}
 use Rattle.fee_core.proofs.Looking.{mark_at}
 use Rattle.fee_core.proofs.Standing.{same_beside}
@@ -31,8 +33,8 @@ returns-clause-sound g c =
     let shut = ap (λ (w : Whole). w.parts.job) c.self.view_is ∙ c.requires.shut in
     let follows = (subst (Sound m entry) back c.requires.sound).follows in
     record {
-      parts = (c.jobs_open.ensures m entry s i.numbers i.reserve i.ops i.off c.args.job c.put.new.self was may).0;
-      follows = c.calls_follow.ensures.same s (opened c.args.job c.put.new.self s) (same_beside m entry s i.numbers i.reserve i.ops i.off was started shut c.args.job c.put.new.self) follows;
+      parts = (jobs_open m entry s i.numbers i.reserve i.ops i.off c.args.job c.put.new.self was may).0;
+      follows = same_follow s (opened c.args.job c.put.new.self s) (same_beside m entry s i.numbers i.reserve i.ops i.off was started shut c.args.job c.put.new.self) follows;
     }
 
 pub returns-clause-opens : goal.returns-clause-opens
@@ -52,7 +54,7 @@ returns-clause-opens g c =
       room = c.put.ensures.room;
       promised = subst (λ (w : Whole). IsPromised m w.parts.banks c.args.job) back c.requires.promised;
     } in
-    let o = (c.jobs_open.ensures m entry s i.numbers i.reserve i.ops i.off c.args.job c.put.new.self was may).1 in
+    let o = (jobs_open m entry s i.numbers i.reserve i.ops i.off c.args.job c.put.new.self was may).1 in
     let u = opened c.args.job c.put.new.self s in
     let mark = mark_at c.args.job.op c.args.job.length c.put.new.self c.args.content.now c.put.ensures.front c.requires.content in
     let marked = subst (λ (x : Option Mark). Opens (record { number = c.args.job.number.0; mark = x; urgent = c.args.job.urgent }) (told_at m entry s) (told_at m entry u)) mark o in
@@ -76,4 +78,4 @@ returns-clause-stays g c =
       promised = subst (λ (w : Whole). IsPromised m w.parts.banks c.args.job) back c.requires.promised;
     } in
     let u = opened c.args.job c.put.new.self s in
-    subst (λ (w : Whole). ClockStays (clock_in m entry w) (told_at m entry u) (clock_at m entry u)) c.self.view_is (c.jobs_open.ensures m entry s i.numbers i.reserve i.ops i.off c.args.job c.put.new.self was may).2
+    subst (λ (w : Whole). ClockStays (clock_in m entry w) (told_at m entry u) (clock_at m entry u)) c.self.view_is (jobs_open m entry s i.numbers i.reserve i.ops i.off c.args.job c.put.new.self was may).2

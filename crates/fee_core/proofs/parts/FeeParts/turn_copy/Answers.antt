@@ -10,6 +10,7 @@ use Rattle.fee_switch.specs.Copy.{IsBankStep}
 use Rattle.fee_laws.specs.Switches.{IsBehind, failed_with}
 use Rattle.memif.specs.declared.answer.DeviceTurn.TheVariants as turn
 use Rattle.fee_laws.specs.Inside.{Parts}
+use Rattle.fee_laws.proofs.FollowCalled.{failed_follow}
 use Rattle.fee_core.specs.Whole.{Whole, Sound, TurnedTo}
 use Rattle.fee_core.proofs.Standing.{is_on, turned_to}
 use Rattle.fee_core.proofs.Stepping.{IsCalled, not_worn, may_step, failed_is, stepped_failed}
@@ -57,7 +58,7 @@ step-step-requires-clause-ready g c =
     let started = ap (λ (x : Whole). x.parts.started) c.self.view_is ∙ c.requires.started in
     let on = ap (λ (x : Whole). x.off) c.self.view_is ∙ c.requires.on in
     let up = is_on m entry s i.numbers i.reserve i.ops i.off was started on c.active-active.ensures.state c.active-active.ensures.log in
-    may_step m entry s i.numbers i.reserve i.ops up c.steps_keep_room.ensures.ready
+    may_step m entry s i.numbers i.reserve i.ops up
 
 pub returns-in-Failed : goal.returns-in-Failed
 returns-in-Failed g c =
@@ -82,9 +83,9 @@ returns-in-Failed g c =
     let made : IsBankStep s.banks (Copy None) s.fls.flash c.step-step.result b f.flash = subst (λ (o : Option Course). IfSome o (λ x. IsBankStep s.banks x s.fls.flash c.step-step.result b f.flash)) at c.step-step.ensures.step in
     let u : Parts = record s { fls = f; banks = b } in
     let answer = failed_is (Copy None) made.answer (sym made.is ∙ c.in-Failed.is) in
-    let turned = not_copied m entry s i.numbers i.reserve i.ops c.steps_keep_room.ensures.ready f called c.step-step.result b made reads c.contents_begin.ensures.fail answer in
+    let turned = not_copied m entry s i.numbers i.reserve i.ops f called c.step-step.result b made reads answer in
     let t = failed_with s.job (record u { faults = next_count s.faults }) in
-    let follows = c.calls_follow.ensures.failed (record u { faults = next_count s.faults }) s.job (copy_follows m entry s i.numbers i.reserve i.ops c.steps_keep_room.ensures.ready f called c.step-step.result b made reads c.turns_follow.ensures.copy c.active-behind.ensures.state Failed answer safe.follows) in
+    let follows = failed_follow (record u { faults = next_count s.faults }) s.job (copy_follows m entry s i.numbers i.reserve i.ops f called c.step-step.result b made reads c.active-behind.ensures.state Failed answer safe.follows) in
     let failed = subst (λ (v : Whole). TurnedTo m entry turn.Worked w v) (sym c.fail.ensures) (turned_to m entry turn.Worked w t t i.ops i.ops false i.off refl refl on turned follows) in
     subst (λ (x : Whole). TurnedTo m entry turn.Worked x c.fail.new.self) c.self.view_is failed
 
@@ -110,8 +111,8 @@ returns-in_default g c =
     let called : IsCalled m entry s i.numbers i.reserve i.ops (Copy None) f = record { on = up; course = at; copies = c.active-active.ensures.copies; bytes = c.active-active.ensures.bytes; idle = idle; behind = behind; driver = c.status.ensures.state; only = c.step-step.ensures.same } in
     let made : IsBankStep s.banks (Copy None) s.fls.flash c.step-step.result b f.flash = subst (λ (o : Option Course). IfSome o (λ x. IsBankStep s.banks x s.fls.flash c.step-step.result b f.flash)) at c.step-step.ensures.step in
     let u : Parts = record s { fls = f; banks = b } in
-    let done = copy_done m entry s i.numbers i.reserve i.ops c.steps_keep_room.ensures.ready f called c.step-step.result b made reads (λ e. c.in_default.not-Failed (made.is ∙ stepped_failed (Copy None) made.answer e)) in
-    let turned = copied m entry s i.numbers i.reserve i.ops c.steps_keep_room.ensures.ready f called c.step-step.result b made reads c.contents_begin.ensures.read c.active-behind.ensures.state done in
-    let follows = copy_follows m entry s i.numbers i.reserve i.ops c.steps_keep_room.ensures.ready f called c.step-step.result b made reads c.turns_follow.ensures.copy c.active-behind.ensures.state Done done safe.follows in
+    let done = copy_done m entry s i.numbers i.reserve i.ops f called c.step-step.result b made reads (λ e. c.in_default.not-Failed (made.is ∙ stepped_failed (Copy None) made.answer e)) in
+    let turned = copied m entry s i.numbers i.reserve i.ops f called c.step-step.result b made reads c.active-behind.ensures.state done in
+    let follows = copy_follows m entry s i.numbers i.reserve i.ops f called c.step-step.result b made reads c.active-behind.ensures.state Done done safe.follows in
     let v : Whole = record { parts = u; numbers = i.numbers; reserve = i.reserve; ops = i.ops; off = i.off } in
     subst (λ (x : Whole). TurnedTo m entry turn.Worked x v) c.self.view_is (turned_to m entry turn.Worked w u u i.ops i.ops false i.off refl refl on (turned) follows)

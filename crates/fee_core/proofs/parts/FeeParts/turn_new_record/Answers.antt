@@ -8,6 +8,9 @@ use Rattle.fee_laws.specs.Inside.{Parts, IsSound}
 use Rattle.fee_laws.specs.Record.{head_of}
 use Rattle.fee_laws.specs.Begins.{Begun}
 use Rattle.fee_laws.specs.Follows.{Follows}
+use Rattle.fee_laws.proofs.BegunSound.{records_begin}
+use Rattle.fee_laws.proofs.FollowCalled.{begun_follows}
+use Rattle.fee_laws.proofs.Lifting.{begun_turns}
 use Rattle.fee_core.specs.Beginning.{begins_now}
 use Rattle.fee_core.specs.Whole.{Whole, Sound, TurnedTo}
 use Rattle.fee_core.proofs.Begun.{may_begin, has_room_for, begun_work}
@@ -116,10 +119,10 @@ turn_record-requires-clause-sound g c =
     let head : c.head_next-head.result ≡ head_of i.banks.log j = c.head_next-head.ensures.head ∙ (λ k. head_next (c.in-Some.ensures.1 k) j.number.0 (c.kind_of-kind.ensures k) j.length) in
     let same : b ≡ append_begun i.banks (head_of i.banks.log j) = c.append_start.ensures ∙ ap (append_begun i.banks) head in
     let u : Parts = record s { banks = b } in
-    let begun = subst (λ (x : BanksState). Begun m entry s (record s { banks = x }) i.numbers i.reserve i.ops) (sym same) (c.turns_begin.ensures.record_of m entry s i.numbers i.reserve i.ops j up may) in
+    let begun = subst (λ (x : BanksState). Begun m entry s (record s { banks = x }) i.numbers i.reserve i.ops) (sym same) (records_begin m entry s i.numbers i.reserve i.ops j up may) in
     record {
       parts = subst (λ (x : Bool). IsSound m entry u i.numbers i.reserve i.ops x) (sym on) begun.sound;
-      follows = subst (λ (x : BanksState). Follows (record s { banks = x })) (sym same) (c.calls_follow.ensures.begin m entry s i.numbers i.reserve i.ops j up may safe.follows);
+      follows = subst (λ (x : BanksState). Follows (record s { banks = x })) (sym same) (begun_follows m entry s i.numbers i.reserve i.ops j up may safe.follows);
     }
 
 pub turn_record-requires-clause-work : goal.turn_record-requires-clause-work
@@ -143,7 +146,7 @@ turn_record-requires-clause-work g c =
     let head : c.head_next-head.result ≡ head_of i.banks.log j = c.head_next-head.ensures.head ∙ (λ k. head_next (c.in-Some.ensures.1 k) j.number.0 (c.kind_of-kind.ensures k) j.length) in
     let same : b ≡ append_begun i.banks (head_of i.banks.log j) = c.append_start.ensures ∙ ap (append_begun i.banks) head in
     let u : Parts = record s { banks = b } in
-    let begun = subst (λ (x : BanksState). Begun m entry s (record s { banks = x }) i.numbers i.reserve i.ops) (sym same) (c.turns_begin.ensures.record_of m entry s i.numbers i.reserve i.ops j up may) in
+    let begun = subst (λ (x : BanksState). Begun m entry s (record s { banks = x }) i.numbers i.reserve i.ops) (sym same) (records_begin m entry s i.numbers i.reserve i.ops j up may) in
     subst (λ (x : BanksState). IsSome (work_in x.log.tail)) (sym same) (begun_work i.banks.log.tail (head_of i.banks.log j))
 
 pub returns : goal.returns
@@ -167,9 +170,9 @@ returns g c =
     let head : c.head_next-head.result ≡ head_of i.banks.log j = c.head_next-head.ensures.head ∙ (λ k. head_next (c.in-Some.ensures.1 k) j.number.0 (c.kind_of-kind.ensures k) j.length) in
     let same : b ≡ append_begun i.banks (head_of i.banks.log j) = c.append_start.ensures ∙ ap (append_begun i.banks) head in
     let u : Parts = record s { banks = b } in
-    let begun = subst (λ (x : BanksState). Begun m entry s (record s { banks = x }) i.numbers i.reserve i.ops) (sym same) (c.turns_begin.ensures.record_of m entry s i.numbers i.reserve i.ops j up may) in
+    let begun = subst (λ (x : BanksState). Begun m entry s (record s { banks = x }) i.numbers i.reserve i.ops) (sym same) (records_begin m entry s i.numbers i.reserve i.ops j up may) in
     let w : Whole = record { parts = s; numbers = i.numbers; reserve = i.reserve; ops = i.ops; off = i.off } in
     let v = c.turn_record.new.self in
     let turned = c.turn_record.ensures in
-    let whole : TurnedTo m entry c.turn_record.result w v = record { turns = c.turns_begin.ensures.turns c.turn_record.result m entry s u v.parts begun.told turned.turns; sound = turned.sound } in
+    let whole : TurnedTo m entry c.turn_record.result w v = record { turns = begun_turns c.turn_record.result m entry s u v.parts begun.told turned.turns; sound = turned.sound } in
     subst (λ (x : Whole). TurnedTo m entry c.turn_record.result x v) c.self.view_is whole

@@ -9,8 +9,12 @@ use Rattle.fee_laws.specs.Work.{fits_in}
 use Rattle.fee_laws.specs.Begins.{Begun, MaySwitch}
 use Rattle.fee_laws.specs.Switches.{IsBehind}
 use Rattle.fee_laws.specs.Follows.{Follows}
+use Rattle.fee_laws.proofs.FollowCalled.{switching_follows}
+use Rattle.fee_laws.proofs.Lifting.{begun_turns}
+use Rattle.fee_laws.proofs.SwitchBegun.{switches_begin}
+use Rattle.fee_laws.proofs.WornFull.{never_begins}
 use Rattle.fee_core.specs.Whole.{Whole, Sound, TurnedTo}
-use Rattle.fee_core.proofs.Begun.{configured, waits_behind}
+use Rattle.fee_core.proofs.Begun.{configured}
 use Rattle.fee_core.proofs.Standing.{is_on}
 use Rattle.fee_core.proofs.parts.FeeParts.turn_new_switch.Goals as goal
 
@@ -37,10 +41,10 @@ turn_switch-requires-clause-sound g c =
     let fresh = ap (λ (x : Whole). x.parts.worn) c.self.view_is ∙ c.requires.fresh in
     let may : MaySwitch m s j = record { job = job; writes = c.requires.writes; idle = idle; shut = shut; configured = configured m entry s i.numbers i.reserve i.ops up j job c.requires.writes idle; full = full; fresh = fresh; worn = is.0 } in
     let u : Parts = record s { banks = b } in
-    let begun = subst (λ (x : BanksState). Begun m entry s (record s { banks = x }) i.numbers i.reserve i.ops) (sym is.1) (c.turns_begin.ensures.switch m entry s i.numbers i.reserve i.ops j up may) in
+    let begun = subst (λ (x : BanksState). Begun m entry s (record s { banks = x }) i.numbers i.reserve i.ops) (sym is.1) (switches_begin m entry s i.numbers i.reserve i.ops j up may) in
     record {
       parts = subst (λ (x : Bool). IsSound m entry u i.numbers i.reserve i.ops x) (sym on) begun.sound;
-      follows = subst (λ (x : BanksState). Follows (record s { banks = x })) (sym is.1) (c.calls_follow.ensures.switch m entry s i.numbers i.reserve i.ops j up may safe.follows);
+      follows = subst (λ (x : BanksState). Follows (record s { banks = x })) (sym is.1) (switching_follows m entry s i.numbers i.reserve i.ops j up may safe.follows);
     }
 
 pub turn_switch-requires-clause-course : goal.turn_switch-requires-clause-course
@@ -66,7 +70,7 @@ turn_switch-requires-clause-course g c =
     let fresh = ap (λ (x : Whole). x.parts.worn) c.self.view_is ∙ c.requires.fresh in
     let may : MaySwitch m s j = record { job = job; writes = c.requires.writes; idle = idle; shut = shut; configured = configured m entry s i.numbers i.reserve i.ops up j job c.requires.writes idle; full = full; fresh = fresh; worn = is.0 } in
     let u : Parts = record s { banks = b } in
-    let begun = subst (λ (x : BanksState). Begun m entry s (record s { banks = x }) i.numbers i.reserve i.ops) (sym is.1) (c.turns_begin.ensures.switch m entry s i.numbers i.reserve i.ops j up may) in
+    let begun = subst (λ (x : BanksState). Begun m entry s (record s { banks = x }) i.numbers i.reserve i.ops) (sym is.1) (switches_begin m entry s i.numbers i.reserve i.ops j up may) in
     ap (λ (x : BanksState). is_some x.course) is.1
 
 pub turn_switch-requires-clause-idle : goal.turn_switch-requires-clause-idle
@@ -92,7 +96,7 @@ turn_switch-requires-clause-idle g c =
     let fresh = ap (λ (x : Whole). x.parts.worn) c.self.view_is ∙ c.requires.fresh in
     let may : MaySwitch m s j = record { job = job; writes = c.requires.writes; idle = idle; shut = shut; configured = configured m entry s i.numbers i.reserve i.ops up j job c.requires.writes idle; full = full; fresh = fresh; worn = is.0 } in
     let u : Parts = record s { banks = b } in
-    let begun = subst (λ (x : BanksState). Begun m entry s (record s { banks = x }) i.numbers i.reserve i.ops) (sym is.1) (c.turns_begin.ensures.switch m entry s i.numbers i.reserve i.ops j up may) in
+    let begun = subst (λ (x : BanksState). Begun m entry s (record s { banks = x }) i.numbers i.reserve i.ops) (sym is.1) (switches_begin m entry s i.numbers i.reserve i.ops j up may) in
     ap (λ (x : BanksState). work_in x.log.tail) is.1 ∙ idle
 
 pub turn_switch-requires-clause-behind : goal.turn_switch-requires-clause-behind
@@ -118,9 +122,9 @@ turn_switch-requires-clause-behind g c =
     let fresh = ap (λ (x : Whole). x.parts.worn) c.self.view_is ∙ c.requires.fresh in
     let may : MaySwitch m s j = record { job = job; writes = c.requires.writes; idle = idle; shut = shut; configured = configured m entry s i.numbers i.reserve i.ops up j job c.requires.writes idle; full = full; fresh = fresh; worn = is.0 } in
     let u : Parts = record s { banks = b } in
-    let begun = subst (λ (x : BanksState). Begun m entry s (record s { banks = x }) i.numbers i.reserve i.ops) (sym is.1) (c.turns_begin.ensures.switch m entry s i.numbers i.reserve i.ops j up may) in
+    let begun = subst (λ (x : BanksState). Begun m entry s (record s { banks = x }) i.numbers i.reserve i.ops) (sym is.1) (switches_begin m entry s i.numbers i.reserve i.ops j up may) in
     let again = begun_again i.banks (Erase 0) in
-    let waits : IsBehind again j = (c.requires.writes, waits_behind m.reserve again j full) in
+    let waits : IsBehind again j = (c.requires.writes, never_begins m.reserve again j full) in
     subst (λ (o : Option FeeJob). IfSome o (IsBehind b)) (sym job) (subst (λ (x : BanksState). IsBehind x j) (sym is.1) waits)
 
 pub returns-in-Begun : goal.returns-in-Begun
@@ -146,10 +150,10 @@ returns-in-Begun g c =
     let fresh = ap (λ (x : Whole). x.parts.worn) c.self.view_is ∙ c.requires.fresh in
     let may : MaySwitch m s j = record { job = job; writes = c.requires.writes; idle = idle; shut = shut; configured = configured m entry s i.numbers i.reserve i.ops up j job c.requires.writes idle; full = full; fresh = fresh; worn = is.0 } in
     let u : Parts = record s { banks = b } in
-    let begun = subst (λ (x : BanksState). Begun m entry s (record s { banks = x }) i.numbers i.reserve i.ops) (sym is.1) (c.turns_begin.ensures.switch m entry s i.numbers i.reserve i.ops j up may) in
+    let begun = subst (λ (x : BanksState). Begun m entry s (record s { banks = x }) i.numbers i.reserve i.ops) (sym is.1) (switches_begin m entry s i.numbers i.reserve i.ops j up may) in
     let v = c.turn_switch.new.self in
     let turned = c.turn_switch.ensures in
-    let whole : TurnedTo m entry c.turn_switch.result w v = record { turns = c.turns_begin.ensures.turns c.turn_switch.result m entry s u v.parts begun.told turned.turns; sound = turned.sound } in
+    let whole : TurnedTo m entry c.turn_switch.result w v = record { turns = begun_turns c.turn_switch.result m entry s u v.parts begun.told turned.turns; sound = turned.sound } in
     subst (λ (x : Whole). TurnedTo m entry c.turn_switch.result x v) c.self.view_is whole
 
 pub turn_worn-requires-clause-sound : goal.turn_worn-requires-clause-sound

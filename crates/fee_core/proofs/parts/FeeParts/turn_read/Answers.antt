@@ -11,6 +11,8 @@ use Rattle.fee_log.specs.Index.{place_in}
 use Rattle.fee_log.specs.Log.{LogState}
 use Rattle.fee_laws.specs.Turn.{ended_as}
 use Rattle.fee_laws.specs.Reads.{IsReading, IsErasedAt}
+use Rattle.fee_laws.proofs.FollowCalled.{reads_follow}
+use Rattle.fee_laws.proofs.Read.{contents_are_read, marks_are_read, reads_fail}
 use Rattle.fee_core.proofs.Reading.{read_some, read_within, read_failed, asked_for}
 use Rattle.fee_core.proofs.Standing.{power, is_on, turned_to, job_is, job_few}
 use Rattle.memif.specs.declared.answer.DeviceTurn.TheVariants as turn
@@ -83,7 +85,7 @@ returns-in_default g c =
     let u : Parts = ended_as BlockInconsistent s in
     let follows = safe.follows in
     let v : Whole = record { parts = u; numbers = i.numbers; reserve = i.reserve; ops = i.ops; off = i.off } in
-    subst (λ (x : Whole). TurnedTo m entry turn.Worked x v) c.self.view_is (turned_to m entry turn.Worked w u u i.ops i.ops false i.off refl refl on ((c.reads_turn.ensures.mark m entry s i.numbers i.reserve i.ops j reading).1 (inl none)) follows)
+    subst (λ (x : Whole). TurnedTo m entry turn.Worked x v) c.self.view_is (turned_to m entry turn.Worked w u u i.ops i.ops false i.off refl refl on ((marks_are_read m entry s i.numbers i.reserve i.ops j reading).1 (inl none)) follows)
 
 pub returns-in-Invalid : goal.returns-in-Invalid
 returns-in-Invalid g c =
@@ -106,7 +108,7 @@ returns-in-Invalid g c =
     let u : Parts = ended_as BlockInvalid s in
     let follows = safe.follows in
     let v : Whole = record { parts = u; numbers = i.numbers; reserve = i.reserve; ops = i.ops; off = i.off } in
-    subst (λ (x : Whole). TurnedTo m entry turn.Worked x v) c.self.view_is (turned_to m entry turn.Worked w u u i.ops i.ops false i.off refl refl on ((c.reads_turn.ensures.mark m entry s i.numbers i.reserve i.ops j reading).0 log.0 c.in-Invalid.count place) follows)
+    subst (λ (x : Whole). TurnedTo m entry turn.Worked x v) c.self.view_is (turned_to m entry turn.Worked w u u i.ops i.ops false i.off refl refl on ((marks_are_read m entry s i.numbers i.reserve i.ops j reading).0 log.0 c.in-Invalid.count place) follows)
 
 pub returns-in-Erased : goal.returns-in-Erased
 returns-in-Erased g c =
@@ -129,7 +131,7 @@ returns-in-Erased g c =
     let u : Parts = ended_as BlockInconsistent s in
     let follows = safe.follows in
     let v : Whole = record { parts = u; numbers = i.numbers; reserve = i.reserve; ops = i.ops; off = i.off } in
-    subst (λ (x : Whole). TurnedTo m entry turn.Worked x v) c.self.view_is (turned_to m entry turn.Worked w u u i.ops i.ops false i.off refl refl on ((c.reads_turn.ensures.mark m entry s i.numbers i.reserve i.ops j reading).1 (inr (subst IsErasedAt (sym place) c.in-Erased.is))) follows)
+    subst (λ (x : Whole). TurnedTo m entry turn.Worked x v) c.self.view_is (turned_to m entry turn.Worked w u u i.ops i.ops false i.off refl refl on ((marks_are_read m entry s i.numbers i.reserve i.ops j reading).1 (inr (subst IsErasedAt (sym place) c.in-Erased.is))) follows)
 
 pub returns-in-Done : goal.returns-in-Done
 returns-in-Done g c =
@@ -154,9 +156,9 @@ returns-in-Done g c =
     let e = c.in-Done.ensures in
     let asked = asked_for s j c.in-Content.at c.in-Content.count content Done f c.in-Some.log.now log.0 log.1 place e.read e.same e.room in
     let u : Parts = record s { fls = f; content = content; job = None; last = JobOk; given = j.length } in
-    let follows = c.calls_follow.ensures.read m entry s i.numbers i.reserve i.ops j c.in-Content.at c.in-Content.count content Done f reading asked safe.follows in
+    let follows = reads_follow m entry s i.numbers i.reserve i.ops j c.in-Content.at c.in-Content.count content Done f reading asked safe.follows in
     let v : Whole = record { parts = u; numbers = i.numbers; reserve = i.reserve; ops = i.ops; off = i.off } in
-    subst (λ (x : Whole). TurnedTo m entry turn.Worked x v) c.self.view_is (turned_to m entry turn.Worked w u u i.ops i.ops false i.off refl refl on (c.reads_turn.ensures.content m entry s i.numbers i.reserve i.ops j c.in-Content.at c.in-Content.count content f reading asked) follows)
+    subst (λ (x : Whole). TurnedTo m entry turn.Worked x v) c.self.view_is (turned_to m entry turn.Worked w u u i.ops i.ops false i.off refl refl on (contents_are_read m entry s i.numbers i.reserve i.ops j c.in-Content.at c.in-Content.count content f reading asked) follows)
 
 pub returns-in_default-answer : goal.returns-in_default-answer
 returns-in_default-answer g c =
@@ -188,6 +190,6 @@ returns-in_default-answer g c =
     let u : Parts = record (ended_as JobFailed s) { fls = f; content = content; faults = c.saturating_add-self-inside.result } in
     let t : Parts = ended_as JobFailed (record s { fls = f; content = content; faults = next_count s.faults }) in
     let same : u ≡ t = (λ k. record u { faults = counted k }) in
-    let follows = c.calls_follow.ensures.read m entry s i.numbers i.reserve i.ops j c.in-Content.at c.in-Content.count content Failed f reading asked safe.follows in
+    let follows = reads_follow m entry s i.numbers i.reserve i.ops j c.in-Content.at c.in-Content.count content Failed f reading asked safe.follows in
     let v : Whole = record { parts = u; numbers = i.numbers; reserve = i.reserve; ops = i.ops; off = i.off } in
-    subst (λ (x : Whole). TurnedTo m entry turn.Worked x v) c.self.view_is (turned_to m entry turn.Worked w t u i.ops i.ops false i.off same refl on (c.reads_turn.ensures.fail m entry s i.numbers i.reserve i.ops j c.in-Content.at c.in-Content.count content f reading asked) follows)
+    subst (λ (x : Whole). TurnedTo m entry turn.Worked x v) c.self.view_is (turned_to m entry turn.Worked w t u i.ops i.ops false i.off same refl on (reads_fail m entry s i.numbers i.reserve i.ops j c.in-Content.at c.in-Content.count content f reading asked) follows)

@@ -8,6 +8,11 @@ use Rattle.fee_log.specs.Log.{work_in}
 use Rattle.fee_log.specs.Step.{commits}
 use Rattle.fee_laws.specs.Appends.{after_page}
 use Rattle.fee_laws.specs.Turn.{ended_as}
+use Rattle.fee_laws.proofs.Committed.{appends_commit}
+use Rattle.fee_laws.proofs.Cut.{appends_are_cut}
+use Rattle.fee_laws.proofs.Failed.{appends_fail}
+use Rattle.fee_laws.proofs.FollowTurned.{pages_follow}
+use Rattle.fee_laws.proofs.GoneOn.{appends_go_on}
 use Rattle.fee_core.proofs.Appending.{appending, paged}
 use Rattle.fee_core.proofs.Standing.{is_on, turned_to, job_few}
 use Rattle.memif.specs.declared.answer.DeviceTurn.TheVariants as turn
@@ -53,9 +58,9 @@ returns-in-More g c =
     let same = paged m entry s i.numbers i.reserve i.ops up j job work Done f c.status.ensures.state e.step e.page e.same b list e.after e.listed faults refl in
     let u : Parts = record s { fls = f; banks = b; operations = list; faults = faults } in
     let ops : c.saturating_add-self-inside.result ≡ next_count i.ops = c.saturating_add-self-inside.ensures in
-    let follows = c.turns_follow.ensures.page m entry s i.numbers i.reserve i.ops Done f step safe.follows in
+    let follows = pages_follow m entry s i.numbers i.reserve i.ops Done f step safe.follows in
     let v : Whole = record { parts = u; numbers = i.numbers; reserve = i.reserve; ops = c.saturating_add-self-inside.result; off = i.off } in
-    subst (λ (x : Whole). TurnedTo m entry turn.Worked x v) c.self.view_is (turned_to m entry turn.Worked w (after_page Done f s) u (next_count i.ops) c.saturating_add-self-inside.result false i.off same ops on (c.records_turn.ensures.more m entry s i.numbers i.reserve i.ops f step (subst (λ (x : Geometry). commits x.page i.banks.log.tail ≡ false) c.active-active.ensures.state.log.shape e.last)) follows)
+    subst (λ (x : Whole). TurnedTo m entry turn.Worked x v) c.self.view_is (turned_to m entry turn.Worked w (after_page Done f s) u (next_count i.ops) c.saturating_add-self-inside.result false i.off same ops on (appends_go_on m entry s i.numbers i.reserve i.ops f step (subst (λ (x : Geometry). commits x.page i.banks.log.tail ≡ false) c.active-active.ensures.state.log.shape e.last)) follows)
 
 pub returns-in-Committed : goal.returns-in-Committed
 returns-in-Committed g c =
@@ -82,9 +87,9 @@ returns-in-Committed g c =
     let same = paged m entry s i.numbers i.reserve i.ops up j job work Done f c.status.ensures.state e.step e.page e.same b list e.after e.listed faults refl in
     let u : Parts = record s { fls = f; banks = b; operations = list; faults = faults } in
     let ops : c.saturating_add-self-inside.result ≡ next_count i.ops = c.saturating_add-self-inside.ensures in
-    let follows = c.turns_follow.ensures.page m entry s i.numbers i.reserve i.ops Done f step safe.follows in
+    let follows = pages_follow m entry s i.numbers i.reserve i.ops Done f step safe.follows in
     let v : Whole = record { parts = (ended_as JobOk u); numbers = i.numbers; reserve = i.reserve; ops = c.saturating_add-self-inside.result; off = i.off } in
-    subst (λ (x : Whole). TurnedTo m entry turn.Worked x v) c.self.view_is (turned_to m entry turn.Worked w (ended_as JobOk (after_page Done f s)) (ended_as JobOk u) (next_count i.ops) c.saturating_add-self-inside.result false i.off (ap (λ (x : Parts). ended_as JobOk x) same) ops on (c.records_turn.ensures.commit m entry s i.numbers i.reserve i.ops f step (subst (λ (x : Geometry). commits x.page i.banks.log.tail ≡ true) c.active-active.ensures.state.log.shape e.last)) follows)
+    subst (λ (x : Whole). TurnedTo m entry turn.Worked x v) c.self.view_is (turned_to m entry turn.Worked w (ended_as JobOk (after_page Done f s)) (ended_as JobOk u) (next_count i.ops) c.saturating_add-self-inside.result false i.off (ap (λ (x : Parts). ended_as JobOk x) same) ops on (appends_commit m entry s i.numbers i.reserve i.ops f step (subst (λ (x : Geometry). commits x.page i.banks.log.tail ≡ true) c.active-active.ensures.state.log.shape e.last)) follows)
 
 pub returns-in-Failed : goal.returns-in-Failed
 returns-in-Failed g c =
@@ -111,9 +116,9 @@ returns-in-Failed g c =
     let same = paged m entry s i.numbers i.reserve i.ops up j job work Failed f c.status.ensures.state e.step e.page e.same b list e.after e.listed faults c.saturating_add-self-inside-in-Failed.ensures in
     let u : Parts = record s { fls = f; banks = b; operations = list; faults = faults } in
     let ops : c.saturating_add-self-inside.result ≡ next_count i.ops = c.saturating_add-self-inside.ensures in
-    let follows = c.turns_follow.ensures.page m entry s i.numbers i.reserve i.ops Failed f step safe.follows in
+    let follows = pages_follow m entry s i.numbers i.reserve i.ops Failed f step safe.follows in
     let v : Whole = record { parts = (ended_as JobFailed u); numbers = i.numbers; reserve = i.reserve; ops = c.saturating_add-self-inside.result; off = i.off } in
-    subst (λ (x : Whole). TurnedTo m entry turn.Worked x v) c.self.view_is (turned_to m entry turn.Worked w (ended_as JobFailed (after_page Failed f s)) (ended_as JobFailed u) (next_count i.ops) c.saturating_add-self-inside.result false i.off (ap (λ (x : Parts). ended_as JobFailed x) same) ops on (c.records_turn.ensures.fail m entry s i.numbers i.reserve i.ops f step) follows)
+    subst (λ (x : Whole). TurnedTo m entry turn.Worked x v) c.self.view_is (turned_to m entry turn.Worked w (ended_as JobFailed (after_page Failed f s)) (ended_as JobFailed u) (next_count i.ops) c.saturating_add-self-inside.result false i.off (ap (λ (x : Parts). ended_as JobFailed x) same) ops on (appends_fail m entry s i.numbers i.reserve i.ops f step) follows)
 
 pub returns-in-Off : goal.returns-in-Off
 returns-in-Off g c =
@@ -140,6 +145,6 @@ returns-in-Off g c =
     let same = paged m entry s i.numbers i.reserve i.ops up j job work Off f c.status.ensures.state e.step e.page e.same b list e.after e.listed faults refl in
     let u : Parts = record s { fls = f; banks = b; operations = list; faults = faults } in
     let ops : c.saturating_add-self-inside.result ≡ next_count i.ops = c.saturating_add-self-inside.ensures in
-    let follows = c.turns_follow.ensures.page m entry s i.numbers i.reserve i.ops Off f step safe.follows in
+    let follows = pages_follow m entry s i.numbers i.reserve i.ops Off f step safe.follows in
     let v : Whole = record { parts = u; numbers = i.numbers; reserve = i.reserve; ops = c.saturating_add-self-inside.result; off = true } in
-    subst (λ (x : Whole). TurnedTo m entry turn.Off x v) c.self.view_is (turned_to m entry turn.Off w (after_page Off f s) u (next_count i.ops) c.saturating_add-self-inside.result true true same ops refl (c.records_turn.ensures.cut m entry s i.numbers i.reserve i.ops f step) follows)
+    subst (λ (x : Whole). TurnedTo m entry turn.Off x v) c.self.view_is (turned_to m entry turn.Off w (after_page Off f s) u (next_count i.ops) c.saturating_add-self-inside.result true true same ops refl (appends_are_cut m entry s i.numbers i.reserve i.ops f step) follows)

@@ -9,6 +9,7 @@ use Rattle.fee_switch.specs.Copy.{IsBankStep}
 use Rattle.fee_laws.specs.Switches.{IsBehind, failed_with}
 use Rattle.memif.specs.declared.answer.DeviceTurn.TheVariants as turn
 use Rattle.fee_laws.specs.Inside.{Parts}
+use Rattle.fee_laws.proofs.FollowCalled.{failed_follow}
 use Rattle.fee_core.specs.Whole.{Whole, Sound, TurnedTo}
 use Rattle.fee_core.proofs.Standing.{is_on, turned_to, some_at}
 use Rattle.fee_core.proofs.Stepping.{IsCalled, not_worn, may_step, done_more, done_ended, failed_is, off_is, goes_on, fails, is_cut, follows_on}
@@ -41,7 +42,7 @@ change_target-step-requires-clause-ready g c =
     let started = ap (λ (x : Whole). x.parts.started) c.self.view_is ∙ c.requires.started in
     let on = ap (λ (x : Whole). x.off) c.self.view_is ∙ c.requires.on in
     let up = is_on m entry s i.numbers i.reserve i.ops i.off was started on c.active-active.ensures.state c.active-active.ensures.log in
-    may_step m entry s i.numbers i.reserve i.ops up c.steps_keep_room.ensures.ready
+    may_step m entry s i.numbers i.reserve i.ops up
 
 pub returns-in-More : goal.returns-in-More
 returns-in-More g c =
@@ -68,9 +69,9 @@ returns-in-More g c =
     let ops : c.saturating_add-self-inside.result ≡ next_count i.ops = c.saturating_add-self-inside.ensures in
     let list = c.change_target-step.new.operations.items in
     let answer = done_more at.0 made.answer (sym made.is ∙ c.in-More.is) in
-    let turned = goes_on m entry s i.numbers i.reserve i.ops c.steps_keep_room.ensures.ready at.0 f called c.change_target-step.result b made reads list c.change_target-step.ensures.listed c.switches_turn.ensures.more c.marks_begin.ensures.more answer in
+    let turned = goes_on m entry s i.numbers i.reserve i.ops at.0 f called c.change_target-step.result b made reads list c.change_target-step.ensures.listed answer in
     let u : Parts = record s { fls = f; banks = b; operations = list } in
-    let follows = follows_on m entry s i.numbers i.reserve i.ops c.steps_keep_room.ensures.ready at.0 f called c.change_target-step.result b made reads list c.change_target-step.ensures.listed c.turns_follow.ensures.step Done answer safe.follows in
+    let follows = follows_on m entry s i.numbers i.reserve i.ops at.0 f called c.change_target-step.result b made reads list c.change_target-step.ensures.listed Done answer safe.follows in
     let v : Whole = record { parts = u; numbers = i.numbers; reserve = i.reserve; ops = c.saturating_add-self-inside.result; off = i.off } in
     subst (λ (x : Whole). TurnedTo m entry turn.Worked x v) c.self.view_is (turned_to m entry turn.Worked w u u (next_count i.ops) c.saturating_add-self-inside.result false i.off refl ops on (turned) follows)
 
@@ -99,9 +100,9 @@ returns-in-Ended g c =
     let ops : c.saturating_add-self-inside.result ≡ next_count i.ops = c.saturating_add-self-inside.ensures in
     let list = c.change_target-step.new.operations.items in
     let answer = done_ended at.0 made.answer (sym made.is ∙ c.in-Ended.is) in
-    let turned = goes_on m entry s i.numbers i.reserve i.ops c.steps_keep_room.ensures.ready at.0 f called c.change_target-step.result b made reads list c.change_target-step.ensures.listed c.switches_turn.ensures.more c.marks_begin.ensures.more answer in
+    let turned = goes_on m entry s i.numbers i.reserve i.ops at.0 f called c.change_target-step.result b made reads list c.change_target-step.ensures.listed answer in
     let u : Parts = record s { fls = f; banks = b; operations = list } in
-    let follows = follows_on m entry s i.numbers i.reserve i.ops c.steps_keep_room.ensures.ready at.0 f called c.change_target-step.result b made reads list c.change_target-step.ensures.listed c.turns_follow.ensures.step Done answer safe.follows in
+    let follows = follows_on m entry s i.numbers i.reserve i.ops at.0 f called c.change_target-step.result b made reads list c.change_target-step.ensures.listed Done answer safe.follows in
     let v : Whole = record { parts = u; numbers = i.numbers; reserve = i.reserve; ops = c.saturating_add-self-inside.result; off = i.off } in
     subst (λ (x : Whole). TurnedTo m entry turn.Worked x v) c.self.view_is (turned_to m entry turn.Worked w u u (next_count i.ops) c.saturating_add-self-inside.result false i.off refl ops on (turned) follows)
 
@@ -130,10 +131,10 @@ returns-in-Failed g c =
     let ops : c.saturating_add-self-inside.result ≡ next_count i.ops = c.saturating_add-self-inside.ensures in
     let list = c.change_target-step.new.operations.items in
     let answer = failed_is at.0 made.answer (sym made.is ∙ c.in-Failed.is) in
-    let turned = fails m entry s i.numbers i.reserve i.ops c.steps_keep_room.ensures.ready at.0 f called c.change_target-step.result b made reads list c.change_target-step.ensures.listed c.switches_turn.ensures.fail c.marks_begin.ensures.fail answer in
+    let turned = fails m entry s i.numbers i.reserve i.ops at.0 f called c.change_target-step.result b made reads list c.change_target-step.ensures.listed answer in
     let u : Parts = record s { fls = f; banks = b; operations = list } in
     let t = failed_with s.job (record u { faults = next_count s.faults }) in
-    let follows = c.calls_follow.ensures.failed (record u { faults = next_count s.faults }) s.job (follows_on m entry s i.numbers i.reserve i.ops c.steps_keep_room.ensures.ready at.0 f called c.change_target-step.result b made reads list c.change_target-step.ensures.listed c.turns_follow.ensures.step Failed answer safe.follows) in
+    let follows = failed_follow (record u { faults = next_count s.faults }) s.job (follows_on m entry s i.numbers i.reserve i.ops at.0 f called c.change_target-step.result b made reads list c.change_target-step.ensures.listed Failed answer safe.follows) in
     let failed = subst (λ (v : Whole). TurnedTo m entry turn.Worked w v) (sym c.fail.ensures) (turned_to m entry turn.Worked w t t (next_count i.ops) c.saturating_add-self-inside.result false i.off refl ops on turned follows) in
     subst (λ (x : Whole). TurnedTo m entry turn.Worked x c.fail.new.self) c.self.view_is failed
 
@@ -162,8 +163,8 @@ returns-in-Off g c =
     let ops : c.saturating_add-self-inside.result ≡ next_count i.ops = c.saturating_add-self-inside.ensures in
     let list = c.change_target-step.new.operations.items in
     let answer = off_is at.0 made.answer (sym made.is ∙ c.in-Off.is) in
-    let turned = is_cut m entry s i.numbers i.reserve i.ops c.steps_keep_room.ensures.ready at.0 f called c.change_target-step.result b made reads list c.change_target-step.ensures.listed c.switches_turn.ensures.cut c.marks_begin.ensures.cut answer in
+    let turned = is_cut m entry s i.numbers i.reserve i.ops at.0 f called c.change_target-step.result b made reads list c.change_target-step.ensures.listed answer in
     let u : Parts = record s { fls = f; banks = b; operations = list } in
-    let follows = follows_on m entry s i.numbers i.reserve i.ops c.steps_keep_room.ensures.ready at.0 f called c.change_target-step.result b made reads list c.change_target-step.ensures.listed c.turns_follow.ensures.step Off answer safe.follows in
+    let follows = follows_on m entry s i.numbers i.reserve i.ops at.0 f called c.change_target-step.result b made reads list c.change_target-step.ensures.listed Off answer safe.follows in
     let v : Whole = record { parts = u; numbers = i.numbers; reserve = i.reserve; ops = c.saturating_add-self-inside.result; off = true } in
     subst (λ (x : Whole). TurnedTo m entry turn.Off x v) c.self.view_is (turned_to m entry turn.Off w u u (next_count i.ops) c.saturating_add-self-inside.result true true refl ops refl (turned) follows)

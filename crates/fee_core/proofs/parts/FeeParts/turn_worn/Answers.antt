@@ -8,6 +8,8 @@ use Rattle.fee_laws.specs.Inside.{Parts}
 use Rattle.fee_laws.specs.Work.{fits_in}
 use Rattle.fee_laws.specs.Turn.{ended_as}
 use Rattle.fee_laws.specs.Worn.{IsWornNow, worn_with}
+use Rattle.fee_laws.proofs.FollowCalled.{room_is_known}
+use Rattle.fee_laws.proofs.WornTurn.{wears_out}
 use Rattle.fee_core.specs.Whole.{Whole, Sound, TurnedTo}
 use Rattle.fee_core.proofs.Standing.{is_on, turned_to}
 use Rattle.fee_core.proofs.parts.FeeParts.turn_worn.Goals as goal
@@ -31,10 +33,10 @@ returns g c =
     let shut = ap (λ (x : Whole). x.parts.banks.course) c.self.view_is ∙ c.requires.shut in
     let full : fits_in m.reserve i.banks j ≡ false = subst (λ (n : ℕ). fits_in n i.banks j ≡ false) was.reserve (ap (λ (x : Whole). fits_in x.reserve x.parts.banks j) c.self.view_is ∙ c.requires.full) in
     let worn = subst (λ (x : Whole). IsSome x.parts.worn ⊎ (is_worn_out x.parts.banks.active ≡ true)) back c.requires.worn in
-    let knows = c.room_is_known.ensures m entry s i.numbers i.reserve i.ops up idle shut safe.follows in
+    let knows = room_is_known m entry s i.numbers i.reserve i.ops up idle shut safe.follows in
     let now : IsWornNow m entry s j = record { job = job; writes = c.requires.writes; idle = idle; shut = shut; full = full; worn = worn; bytes = knows } in
     let u : Parts = record (ended_as JobFailed s) { worn = Some c.unwrap_or.result } in
     let same : u ≡ worn_with i.ops s = (λ k. record (ended_as JobFailed s) { worn = Some (c.unwrap_or.ensures k) }) in
     let follows = safe.follows in
     let v : Whole = record { parts = u; numbers = i.numbers; reserve = i.reserve; ops = i.ops; off = i.off } in
-    subst (λ (x : Whole). TurnedTo m entry turn.Worked x v) c.self.view_is (turned_to m entry turn.Worked w (worn_with i.ops s) u i.ops i.ops false i.off same refl on (c.wears_out.ensures m entry s i.numbers i.reserve i.ops j up now) follows)
+    subst (λ (x : Whole). TurnedTo m entry turn.Worked x v) c.self.view_is (turned_to m entry turn.Worked w (worn_with i.ops s) u i.ops i.ops false i.off same refl on (wears_out m entry s i.numbers i.reserve i.ops j up now) follows)

@@ -2,6 +2,7 @@ use Rattle.std.proofs.Common.{ℕ, Some, ◌∙◌, ap}
 use Rattle.std.proofs.lemmas.Option.{slice_get-get_or}
 use Rattle.nv_base.specs.declared.instance.DeviceNumber.{DeviceNumber}
 use Rattle.fee_log.proofs.Within.{within_length, index_within}
+use Rattle.nv_base.proofs.Places.{numbers_have_places}
 use Rattle.fee_log.proofs.log.Log.find.Goals as goal
 
 pub place_of-requires : goal.place_of-requires
@@ -14,5 +15,5 @@ returns-clause-within c =
     (λ length has.
     let x : DeviceNumber × ℕ = (c.args.number, length) in
     let at = slice_get-get_or s.numbers has.0 x has.1 ∙ ap Some has.2 in
-    rw (c.numbers_ascend.ensures.places 0 s.numbers has.0 x c.self.invariant.numbers at)
+    rw (numbers_have_places 0 s.numbers has.0 x c.self.invariant.numbers at)
     (index_within s.geometry.page s.end s.numbers s.places.items has.0 x c.self.invariant.places at))

@@ -19,5 +19,5 @@ invariant_of-self c =
       c.head.ensures.head,
       end.end,
     )
-    (loaded_sound c.records_compute.ensures.logs c.logs_begin.ensures.loaded _ c.args.view.now c.tail_seen-self-inside.result c.self.invariant
+    (loaded_sound _ c.args.view.now c.tail_seen-self-inside.result c.self.invariant
     c.head.ensures.view r.view c.tail_seen-self-inside.ensures (rw end.end at end.low) (rw end.end at end.high))

@@ -7,4 +7,4 @@ returns-clause-agrees c waiting held agrees new taken =
     let below = rw (← c.self.view_is) at c.requires.known in
     let room = has_room c.args.config.now _ waiting held c.args.job c.waiting_of-waiting.result.immediate h (new_apart waiting held c.args.job new) below in
     let added = c.add-added.ensures.added (c.add-added.ensures.room.1 room) in
-    rw (c.put.ensures, c.accept.ensures, c.reserved.ensures, added, c.waiting_of-waiting.ensures) (accepted c.queues_follow_the_machine.ensures.added c.args.config.now _ waiting held c.args.job h new taken below)
+    rw (c.put.ensures, c.accept.ensures, c.reserved.ensures, added, c.waiting_of-waiting.ensures) (accepted c.args.config.now _ waiting held c.args.job h new taken below)

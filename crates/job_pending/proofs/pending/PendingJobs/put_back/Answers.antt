@@ -10,4 +10,4 @@ returns-clause-agrees c waiting held agrees =
     let room = has_room c.args.config.now _ waiting _ c.in-Some.job c.waiting_of-waiting.result.immediate a a.hand_apart.apart a.hand_apart.place in
     let added = c.put_back-added.ensures.put_back (c.put_back-added.ensures.room.1 room) in
     rw (is, c.put.ensures, c.take.ensures.after, added, c.reserved.ensures, c.wait_again.ensures, c.waiting_of-waiting.ensures)
-    (waits_again c.queues_follow_the_machine.ensures.put_back c.args.config.now _ waiting c.in-Some.job a)
+    (waits_again c.args.config.now _ waiting c.in-Some.job a)

@@ -5,7 +5,10 @@ use Rattle.block_machine.specs.State.{Job}
 use Rattle.block_machine.specs.Blocks.{asked_block, job_block, rank_of}
 use Rattle.block_machine.specs.Reply.{needed}
 use Rattle.block_machine.specs.Steps.{after}
-use Rattle.nv_desk.proofs.Asks.{job_accepted, room_of}
+use Rattle.block_laws.proofs.ConsistentSteps.{allowed_steps_stay_consistent}
+use Rattle.block_laws.proofs.HistoryLaws.{entries_are_counted}
+use Rattle.block_laws.proofs.NextLaws.{fitting_has_room}
+use Rattle.nv_desk.proofs.Asks.{job_accepted}
 use Rattle.nv_desk.proofs.Jobs.{new_job, few_entries, few_unpicked, has_place, job_is, job_agrees, job_reserves, job_sound, no_sweep}
 use Rattle.nv_desk.proofs.Entries.{pushed, entry_kept, memory_kept}
 use Rattle.nv_desk.proofs.desk.Desk.accept_job.Goals as goal
@@ -68,22 +71,22 @@ invariant_of-self-2 c =
     let value = c.reserved.ensures.value d.config s c.self.invariant.agrees in
     let passed = job_accepted d.config d.history.cap s c.args.request c.requires.kind allowed.replies in
     let count = c.len.ensures.count ∙ ap (λ (h : Listed). length h.entries) c.take_memory.ensures.same
-    ∙ sym (c.histories_grow.ensures.counted d.config d.history.entries) in
+    ∙ sym (entries_are_counted d.config d.history.entries) in
     let job = job_is d.config s.count c.len.result c.needed-needed.result c.args.request c.in_ok-asked_for.asked_for c.accepted-job.result c.accepted-job.ensures count c.in_ok-asked_for.ensures need in
     let e = Ask c.args.caller c.args.request Accepted in
-    let room = room_of d.config d.history.cap s (1 + needed d.config c.args.request) passed.room in
+    let room = (fitting_has_room d.config d.history.cap s (1 + needed d.config c.args.request)).0 passed.room in
     let new = new_job d.config d.history.cap s c.args.request c.accepted-job.result c.self.invariant.sound passed (ap job_block job)
     (ap (λ (j : Job). j.number) job) in
     let none = no_sweep d.config s c.self.invariant.sound.consistent passed.alone in
-    entry_kept c.histories_grow.ensures.steps d c.add.new.self c.accept.new.self c.take_memory.new.rooms e
+    entry_kept d c.add.new.self c.accept.new.self c.take_memory.new.rooms e
     (c.reserved.result + c.needed-needed.result) c.self.invariant
     (pushed d.history c.take_memory.new.history c.add.new.self e
     (c.reserved.result + c.needed-needed.result) c.take_memory.ensures.same c.in_ok-take_memory.ensures.entries c.add.ensures)
     (job_agrees d.config c.accept.new.self s c.args.request c.accepted-job.result c.requires.kind job
     (c.accept.ensures s c.self.invariant.agrees new (ap (λ (j : Job). j.taken) job) none))
     (job_sound d.config d.history.cap s c.args.caller c.args.request c.self.invariant.sound
-    (c.legal_states_are_consistent.ensures.steps d.config d.history.cap s e c.self.invariant.sound.consistent allowed) c.requires.kind allowed.started passed)
+    (allowed_steps_stay_consistent d.config d.history.cap s e c.self.invariant.sound.consistent allowed) c.requires.kind allowed.started passed)
     (omega (arith, job_reserves d.config s c.args.request c.requires.kind, value, need))
-    (omega (arith, room, value, need, c.histories_grow.ensures.counted d.config d.history.entries))
+    (omega (arith, room, value, need, entries_are_counted d.config d.history.entries))
     c.in_ok-take_memory.ensures.contents
     (omega (arith, c.take_memory.ensures.longest))

@@ -3,8 +3,11 @@ use Rattle.block_machine.specs.nv_base.History.{Listed}
 use Rattle.block_machine.specs.Words.{Ask, Accepted}
 use Rattle.block_machine.specs.Reply.{needed}
 use Rattle.block_machine.specs.Steps.{after}
+use Rattle.block_laws.proofs.ConsistentSteps.{allowed_steps_stay_consistent}
+use Rattle.block_laws.proofs.HistoryLaws.{entries_are_counted}
+use Rattle.block_laws.proofs.NextLaws.{fitting_has_room}
 use Rattle.nv_desk.specs.Desk.{sweep_request}
-use Rattle.nv_desk.proofs.Asks.{sweep_accepted, room_of}
+use Rattle.nv_desk.proofs.Asks.{sweep_accepted}
 use Rattle.nv_desk.proofs.Requests.{needed_sweep, sweep_agrees, sweep_reserves, sweep_sound}
 use Rattle.nv_desk.proofs.Entries.{pushed, entry_kept, memory_kept}
 use Rattle.nv_desk.proofs.desk.Desk.accept_sweep.Goals as goal
@@ -22,10 +25,10 @@ invariant_of-self-2 c =
     let value = c.reserved.ensures.value d.config s c.self.invariant.agrees in
     let passed = sweep_accepted d.config d.history.cap s c.args.writes allowed.replies in
     let count = c.len.ensures.count ∙ ap (λ (h : Listed). length h.entries) c.take_memory.ensures.same
-    ∙ sym (c.histories_grow.ensures.counted d.config d.history.entries) in
+    ∙ sym (entries_are_counted d.config d.history.entries) in
     let e = Ask c.args.caller (sweep_request c.args.writes) Accepted in
-    let room = room_of d.config d.history.cap s (1 + needed d.config (sweep_request c.args.writes)) passed.room in
-    entry_kept c.histories_grow.ensures.steps d c.add.new.self c.begin_sweep.new.self c.take_memory.new.rooms e
+    let room = (fitting_has_room d.config d.history.cap s (1 + needed d.config (sweep_request c.args.writes))).0 passed.room in
+    entry_kept d c.add.new.self c.begin_sweep.new.self c.take_memory.new.rooms e
     (c.reserved.result + c.needed-needed.result) c.self.invariant
     (pushed d.history c.take_memory.new.history c.add.new.self e
     (c.reserved.result + c.needed-needed.result) c.take_memory.ensures.same c.in_ok-take_memory.ensures.entries
@@ -33,8 +36,8 @@ invariant_of-self-2 c =
     (sweep_agrees d.config c.begin_sweep.new.self s c.args.writes
     (c.begin_sweep.ensures d.config s c.self.invariant.agrees (sym count) (need ∙ needed_sweep d.config c.args.writes)))
     (sweep_sound d.config s c.args.caller c.args.writes c.self.invariant.sound
-    (c.legal_states_are_consistent.ensures.steps d.config d.history.cap s e c.self.invariant.sound.consistent allowed))
+    (allowed_steps_stay_consistent d.config d.history.cap s e c.self.invariant.sound.consistent allowed))
     (omega (arith, sweep_reserves d.config d.history.cap s c.args.writes c.self.invariant.sound passed, value, need))
-    (omega (arith, room, value, need, c.histories_grow.ensures.counted d.config d.history.entries))
+    (omega (arith, room, value, need, entries_are_counted d.config d.history.entries))
     c.in_ok-take_memory.ensures.contents
     (omega (arith, c.take_memory.ensures.longest))

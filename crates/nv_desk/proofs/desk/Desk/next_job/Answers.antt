@@ -5,4 +5,4 @@ use Rattle.nv_desk.proofs.desk.Desk.next_job.Goals as goal
 pub returns-clause-pending : goal.returns-clause-pending
 returns-clause-pending c =
     let d = c.self.inside in
-    rw (← c.self.view_is) (next_pending c.the_next_job_goes_first.ensures.waits d.config (after d.config d.history.entries) c.self.invariant.sound)
+    rw (← c.self.view_is) (next_pending d.config (after d.config d.history.entries) c.self.invariant.sound)

@@ -4,6 +4,7 @@ use Rattle.block_machine.specs.Blocks.{desc_of, job_block, kind_of}
 use Rattle.block_machine.specs.Steps.{after}
 use Rattle.block_machine.specs.Next.{next_in}
 use Rattle.job_pending.specs.Took.{taken_with}
+use Rattle.block_laws.proofs.HistoryLaws.{entries_are_counted}
 use Rattle.nv_desk.specs.Desk.{DeskState, state_of}
 use Rattle.nv_desk.specs.Picks.{took_of}
 use Rattle.nv_desk.proofs.Contents.{ram_is_whole, job_takes, copied_fits}
@@ -15,7 +16,7 @@ pub taken_of-taken-requires-clause-some : goal.taken_of-taken-requires-clause-so
 taken_of-taken-requires-clause-some c =
     let d = c.self.inside in
     let may = rw (← c.self.view_is) at c.requires in
-    let has = has_room c.driver_laws.ensures d (Pick (job_block may.job) (kind_of may.job)
+    let has = has_room d (Pick (job_block may.job) (kind_of may.job)
     (taken_with may.job.content (took_of c.args.take c.args.lent.now)) c.args.ops) c.self.invariant may.allowed refl in
     omega (arith, has.rooms, c.took_by-took.ensures.count)
 
@@ -25,7 +26,7 @@ taken_of-taken-requires-clause-own c =
     let s = after d.config d.history.entries in
     let may = rw (← c.self.view_is) at c.requires in
     let same = some_is c.in-Some.next.now may.job (c.in-Some.ensures d.config s.waiting s.hand c.self.invariant.agrees.jobs ∙ may.is) in
-    let r = ready c.the_next_job_goes_first.ensures.waits d.config s may.job c.self.invariant.sound may.is in
+    let r = ready d.config s may.job c.self.invariant.sound may.is in
     rw (same, c.took_by-took.ensures.longest) (content_within d.rooms.longest (desc_of d.config (job_block may.job)).length may.job.content
     (c.self.invariant.longest (job_block may.job)) r.pending.content)
 
@@ -34,8 +35,8 @@ taken_of-taken-requires-clause-copied c =
     let d = c.self.inside in
     let s = after d.config d.history.entries in
     let may = rw (← c.self.view_is) at c.requires in
-    let r = ready c.the_next_job_goes_first.ensures.waits d.config s may.job c.self.invariant.sound may.is in
-    let ram = ram_is_whole c.rooms_have_lengths.ensures d.config d.kept s c.self.invariant.agrees c.self.invariant.sound may.allowed.0.started c.fills_its_rooms.ensures in
+    let r = ready d.config s may.job c.self.invariant.sound may.is in
+    let ram = ram_is_whole d.config d.kept s c.self.invariant.agrees c.self.invariant.sound may.allowed.0.started c.fills_its_rooms.ensures in
     let whole = job_takes d.config d.history.cap s may.job (taken_with may.job.content (took_of c.args.take c.args.lent.now)) c.args.ops ram may.is r.pending may.allowed in
     rw (c.took_by-took.ensures.took, c.took_by-took.ensures.longest) (copied_fits (desc_of d.config (job_block may.job)).length d.rooms.longest may.job.content
     (took_of c.args.take c.args.lent.now) (c.self.invariant.longest (job_block may.job)) whole)
@@ -44,7 +45,7 @@ pub took_by-took-requires-clause-some : goal.took_by-took-requires-clause-some
 took_by-took-requires-clause-some c =
     let d = c.self.inside in
     let may = rw (← c.self.view_is) at c.requires in
-    let has = has_room c.driver_laws.ensures d (Pick (job_block may.job) (kind_of may.job)
+    let has = has_room d (Pick (job_block may.job) (kind_of may.job)
     (taken_with may.job.content (took_of c.args.take c.args.lent.now)) c.args.ops) c.self.invariant may.allowed refl in
     omega (arith, has.rooms)
 
@@ -53,8 +54,8 @@ took_by-took-requires-clause-copied c =
     let d = c.self.inside in
     let s = after d.config d.history.entries in
     let may = rw (← c.self.view_is) at c.requires in
-    let r = ready c.the_next_job_goes_first.ensures.waits d.config s may.job c.self.invariant.sound may.is in
-    let ram = ram_is_whole c.rooms_have_lengths.ensures d.config d.kept s c.self.invariant.agrees c.self.invariant.sound may.allowed.0.started c.fills_its_rooms.ensures in
+    let r = ready d.config s may.job c.self.invariant.sound may.is in
+    let ram = ram_is_whole d.config d.kept s c.self.invariant.agrees c.self.invariant.sound may.allowed.0.started c.fills_its_rooms.ensures in
     let whole = job_takes d.config d.history.cap s may.job (taken_with may.job.content (took_of c.args.take c.args.lent.now)) c.args.ops ram may.is r.pending may.allowed in
     copied_fits (desc_of d.config (job_block may.job)).length d.rooms.longest may.job.content (took_of c.args.take c.args.lent.now)
     (c.self.invariant.longest (job_block may.job)) whole
@@ -64,22 +65,22 @@ pick-requires c =
     let d = c.self.inside in
     let s = after d.config d.history.entries in
     let may = rw (← c.self.view_is) at c.requires in
-    let r = ready c.the_next_job_goes_first.ensures.waits d.config s may.job c.self.invariant.sound may.is in
+    let r = ready d.config s may.job c.self.invariant.sound may.is in
     pick_room d.config s d.kept.jobs may.job _ d.history.cap c.self.invariant.agrees.jobs r
-    (c.driver_laws.ensures.counted d.config d.history.entries) c.self.invariant.fits c.self.invariant.within
+    (entries_are_counted d.config d.history.entries) c.self.invariant.fits c.self.invariant.within
 
 pub add-requires-clause-below : goal.add-requires-clause-below
 add-requires-clause-below c =
     let d = c.self.inside in
     let may = rw (← c.self.view_is) at c.requires in
-    (has_room c.driver_laws.ensures d (Pick (job_block may.job) (kind_of may.job)
+    (has_room d (Pick (job_block may.job) (kind_of may.job)
     (taken_with may.job.content (took_of c.args.take c.args.lent.now)) c.args.ops) c.self.invariant may.allowed refl).below
 
 pub add-requires-clause-room : goal.add-requires-clause-room
 add-requires-clause-room c =
     let d = c.self.inside in
     let may = rw (← c.self.view_is) at c.requires in
-    (has_room c.driver_laws.ensures d (Pick (job_block may.job) (kind_of may.job)
+    (has_room d (Pick (job_block may.job) (kind_of may.job)
     (taken_with may.job.content (took_of c.args.take c.args.lent.now)) c.args.ops) c.self.invariant may.allowed refl).room
 
 pub invariant_of-self : goal.invariant_of-self
@@ -89,12 +90,12 @@ invariant_of-self c =
     let may = rw (← c.self.view_is) at c.requires in
     let e = Pick (job_block may.job) (kind_of may.job) (taken_with may.job.content (took_of c.args.take c.args.lent.now)) c.args.ops in
     let same = some_is c.in-Some.next.now may.job (c.in-Some.ensures d.config s.waiting s.hand c.self.invariant.agrees.jobs ∙ may.is) in
-    let r = ready c.the_next_job_goes_first.ensures.waits d.config s may.job c.self.invariant.sound may.is in
-    let ram = ram_is_whole c.rooms_have_lengths.ensures d.config d.kept s c.self.invariant.agrees c.self.invariant.sound may.allowed.0.started c.fills_its_rooms.ensures in
+    let r = ready d.config s may.job c.self.invariant.sound may.is in
+    let ram = ram_is_whole d.config d.kept s c.self.invariant.agrees c.self.invariant.sound may.allowed.0.started c.fills_its_rooms.ensures in
     let whole = job_takes d.config d.history.cap s may.job (taken_with may.job.content (took_of c.args.take c.args.lent.now)) c.args.ops ram may.is r.pending may.allowed in
-    driver_kept c.driver_laws.ensures d c.add.new.self c.pick.new.self c.taken_of-taken.new.rooms e c.self.invariant
-    (has_room c.driver_laws.ensures d e c.self.invariant may.allowed refl)
-    (picked_sound c.driver_laws.ensures d.config d.history.cap s may.job (job_block may.job)
+    driver_kept d c.add.new.self c.pick.new.self c.taken_of-taken.new.rooms e c.self.invariant
+    (has_room d e c.self.invariant may.allowed refl)
+    (picked_sound d.config d.history.cap s may.job (job_block may.job)
     (kind_of may.job) (took_of c.args.take c.args.lent.now) c.args.ops c.self.invariant.sound may.is r may.allowed whole)
     (rw (c.block-block.ensures, c.kind-job.ensures, c.taken_of-taken.ensures.taken, c.took_by-took.ensures.took, same) at c.add.ensures)
     (pick_step d.config c.pick.new.self s may.job (job_block may.job) (kind_of may.job)

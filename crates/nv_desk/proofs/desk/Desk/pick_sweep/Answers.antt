@@ -13,14 +13,14 @@ add-requires-clause-below c =
     let d = c.self.inside in
     let s = after d.config d.history.entries in
     let may = rw (← c.self.view_is) at c.requires in
-    (has_room c.driver_laws.ensures d (Pick 0 (sweep_kind may.sweep.writes) TookNothing c.args.ops) c.self.invariant (may_begin d.config d.history.cap s may.sweep c.args.ops may.is may.driving) refl).below
+    (has_room d (Pick 0 (sweep_kind may.sweep.writes) TookNothing c.args.ops) c.self.invariant (may_begin d.config d.history.cap s may.sweep c.args.ops may.is may.driving) refl).below
 
 pub add-requires-clause-room : goal.add-requires-clause-room
 add-requires-clause-room c =
     let d = c.self.inside in
     let s = after d.config d.history.entries in
     let may = rw (← c.self.view_is) at c.requires in
-    (has_room c.driver_laws.ensures d (Pick 0 (sweep_kind may.sweep.writes) TookNothing c.args.ops) c.self.invariant (may_begin d.config d.history.cap s may.sweep c.args.ops may.is may.driving) refl).room
+    (has_room d (Pick 0 (sweep_kind may.sweep.writes) TookNothing c.args.ops) c.self.invariant (may_begin d.config d.history.cap s may.sweep c.args.ops may.is may.driving) refl).room
 
 pub invariant_of-self : goal.invariant_of-self
 invariant_of-self c =
@@ -29,10 +29,10 @@ invariant_of-self c =
     let may = rw (← c.self.view_is) at c.requires in
     let e = Pick 0 (sweep_kind may.sweep.writes) TookNothing c.args.ops in
     let allowed = may_begin d.config d.history.cap s may.sweep c.args.ops may.is may.driving in
-    let b = begins c.the_next_job_goes_first.ensures.none d.config s may.sweep may.is in
+    let b = begins d.config s may.sweep may.is in
     let kind = c.sweep_kind-job.ensures d.config may.sweep (kept_sweep d.config d.kept.sweep s may.sweep b.sweep c.self.invariant.agrees.sweep) in
-    driver_kept c.driver_laws.ensures d c.add.new.self c.pick_sweep.new.self d.rooms e c.self.invariant (has_room c.driver_laws.ensures d e c.self.invariant allowed refl)
-    (begun_sound c.driver_laws.ensures d.config d.history.cap s may.sweep c.args.ops c.self.invariant.sound may.is allowed)
+    driver_kept d c.add.new.self c.pick_sweep.new.self d.rooms e c.self.invariant (has_room d e c.self.invariant allowed refl)
+    (begun_sound d.config d.history.cap s may.sweep c.args.ops c.self.invariant.sound may.is allowed)
     (rw kind at c.add.ensures)
     (begun_step d.config c.pick_sweep.new.self s may.sweep c.args.ops may.is (c.pick_sweep.ensures d.config s may.sweep c.self.invariant.agrees b.waiting b.hand b.sweep b.before))
     (omega arith) refl
@@ -42,6 +42,6 @@ returns c sw next =
     let d = c.self.inside in
     let s = after d.config d.history.entries in
     let on : next_of d.config s ≡ BeginSweep sw = subst (λ (x : DeskState). next_of x.config (state_of x) ≡ BeginSweep sw) (sym c.self.view_is) next in
-    let b = begins c.the_next_job_goes_first.ensures.none d.config s sw on in
+    let b = begins d.config s sw on in
     let kind = c.sweep_kind-job.ensures d.config sw (kept_sweep d.config d.kept.sweep s sw b.sweep c.self.invariant.agrees.sweep) in
     rw (← c.self.view_is, c.add.ensures, kind) refl

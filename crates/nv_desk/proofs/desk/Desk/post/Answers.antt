@@ -36,7 +36,7 @@ end-requires c =
     in_hand (λ h. (names_ram h.request && keeps_ram d.config (job_block h)) ≡ true
     → IfSome (option_copied c.args.given) (λ x. length x ≡ get_or d.kept.blocks.rooms
     (job_block h) 0)) d.kept.jobs.hand s.hand h.job c.self.invariant.agrees.jobs.hand h.is
-    (given_to_ram c.rooms_have_lengths.ensures d.config s d.kept.blocks.rooms (option_copied c.args.given) h.job c.self.invariant.agrees.rooms h.is may.whole)
+    (given_to_ram d.config s d.kept.blocks.rooms (option_copied c.args.given) h.job c.self.invariant.agrees.rooms h.is may.whole)
 
 pub add-requires-clause-below : goal.add-requires-clause-below
 add-requires-clause-below c =
@@ -69,7 +69,7 @@ invariant_of-self c =
     let h = holds s may.hand in
     let block : c.block_in_hand-block.result ≡ block_now s = c.block_in_hand-block.ensures
     ∙ ap (λ (o : Option Job). option_map_or job_block o 0) c.self.invariant.agrees.jobs.hand in
-    driver_kept c.driver_laws.ensures d c.add.new.self c.end.new.self c.content_of-bytes.new.rooms e c.self.invariant
+    driver_kept d c.add.new.self c.end.new.self c.content_of-bytes.new.rooms e c.self.invariant
     (room_for d e c.self.invariant (post_fewer d.config s (block_now s) c.args.refused c.args.ops c.args.answer
     (option_copied c.args.given) h.job h.is c.self.invariant.sound.consistent))
     (sound_post d.config s (block_now s) c.args.refused c.args.ops c.args.answer

@@ -12,7 +12,7 @@ invariant_of-self c =
     let e = Found c.args.marks c.args.ops in
     let fits = rw (← c.self.view_is) at c.requires.fits in
     let room = c.self.invariant.place (rw (← c.self.view_is) at c.requires.prepared) in
-    entry_kept c.histories_grow.ensures.steps d c.add.new.self c.start_up.new.self d.rooms e 1 c.self.invariant
+    entry_kept d c.add.new.self c.start_up.new.self d.rooms e 1 c.self.invariant
     (pushed d.history d.history c.add.new.self e 1 refl (omega (arith, room.0)) c.add.ensures)
     (c.start_up.ensures s c.self.invariant.agrees)
     (sound_found d.config s c.args.marks c.args.ops)

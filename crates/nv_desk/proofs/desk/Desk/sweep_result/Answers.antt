@@ -10,5 +10,5 @@ returns c sw next =
     let d = c.self.inside in
     let s = after d.config d.history.entries in
     let on : next_of d.config s ≡ EndSweep sw = subst (λ (x : DeskState). next_of x.config (state_of x) ≡ EndSweep sw) (sym c.self.view_is) next in
-    let x = ends c.the_next_job_goes_first.ensures.none d.config s sw on in
+    let x = ends d.config s sw on in
     c.result_of.ensures sw (rw x.next at (c.next_step.ensures.next s sw c.self.invariant.agrees x.sweep x.under_way))

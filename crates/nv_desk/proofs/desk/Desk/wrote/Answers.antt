@@ -3,6 +3,7 @@ use Rattle.std.specs.Option.{option_and_then}
 use Rattle.block_machine.specs.Words.{Wrote, Erased}
 use Rattle.block_machine.specs.Blocks.{mark_of}
 use Rattle.block_machine.specs.Steps.{after}
+use Rattle.block_laws.proofs.ConsistentSteps.{allowed_steps_stay_consistent}
 use Rattle.nv_desk.specs.Driver.{mark_now}
 use Rattle.nv_desk.proofs.Drivers.{has_room, driver_kept, writes, few_records, content_fits, in_hand, wrote_step}
 use Rattle.nv_desk.proofs.SoundDriver.{sound_wrote}
@@ -12,7 +13,7 @@ pub mark_in_hand-mark-requires-clause-some : goal.mark_in_hand-mark-requires-cla
 mark_in_hand-mark-requires-clause-some c =
     let d = c.self.inside in
     let may = rw (← c.self.view_is) at c.requires in
-    let has = has_room c.driver_laws.ensures d (Wrote c.args.instance
+    let has = has_room d (Wrote c.args.instance
     (mark_now (after d.config d.history.entries)) c.args.ops) c.self.invariant may.allowed refl in
     omega (arith, has.rooms)
 
@@ -38,13 +39,13 @@ pub add-requires-clause-below : goal.add-requires-clause-below
 add-requires-clause-below c =
     let d = c.self.inside in
     let may = rw (← c.self.view_is) at c.requires in
-    (has_room c.driver_laws.ensures d (Wrote c.args.instance (mark_now (after d.config d.history.entries)) c.args.ops) c.self.invariant may.allowed refl).below
+    (has_room d (Wrote c.args.instance (mark_now (after d.config d.history.entries)) c.args.ops) c.self.invariant may.allowed refl).below
 
 pub add-requires-clause-room : goal.add-requires-clause-room
 add-requires-clause-room c =
     let d = c.self.inside in
     let may = rw (← c.self.view_is) at c.requires in
-    (has_room c.driver_laws.ensures d (Wrote c.args.instance (mark_now (after d.config d.history.entries)) c.args.ops) c.self.invariant may.allowed refl).room
+    (has_room d (Wrote c.args.instance (mark_now (after d.config d.history.entries)) c.args.ops) c.self.invariant may.allowed refl).room
 
 pub invariant_of-self : goal.invariant_of-self
 invariant_of-self c =
@@ -55,10 +56,10 @@ invariant_of-self c =
     let w = writes d.config s c.args.instance (mark_now s) may.allowed.1 in
     let mark : c.mark_in_hand-mark.result ≡ mark_now s = c.mark_in_hand-mark.ensures.mark
     ∙ ap (λ o. unwrap_or (option_and_then mark_of o) Erased) c.self.invariant.agrees.jobs.hand in
-    driver_kept c.driver_laws.ensures d c.add.new.self c.wrote.new.self c.mark_in_hand-mark.new.rooms e c.self.invariant
-    (has_room c.driver_laws.ensures d e c.self.invariant may.allowed refl)
+    driver_kept d c.add.new.self c.wrote.new.self c.mark_in_hand-mark.new.rooms e c.self.invariant
+    (has_room d e c.self.invariant may.allowed refl)
     (sound_wrote d.config s c.args.instance (mark_now s) c.args.ops c.self.invariant.sound
-    (c.driver_laws.ensures.consistent d.config d.history.cap s e c.self.invariant.sound.consistent may.allowed))
+    (allowed_steps_stay_consistent d.config d.history.cap s e c.self.invariant.sound.consistent may.allowed))
     (rw mark at c.add.ensures)
     (wrote_step d.config c.wrote.new.self s c.args.instance (mark_now s) c.args.ops w.job w.is
     (c.wrote.ensures d.config s w.job c.args.instance (mark_now s) c.self.invariant.agrees w.is refl))

@@ -24,6 +24,5 @@ pub returns-in-Ok-clause-found : goal.returns-in-Ok-clause-found
 returns-in-Ok-clause-found g c = finds g c
 
 pub returns-in-Ok-clause-keeps : goal.returns-in-Ok-clause-keeps
-returns-in-Ok-clause-keeps g c = finds_keep c.histories_grow.ensures.counted c.what_is_found_is_settled.ensures.later
-    (g.D.MemDevice.told c.args.device.now) (g.D.MemDevice.clock c.args.device.now) (g.D.MemDevice.told c.find_all-answer.new.device)
-    (g.D.MemDevice.clock c.find_all-answer.new.device) c.listed.result c.the_machine_is_behind.ensures c.in-Ok.ensures.keeps (finds g c)
+returns-in-Ok-clause-keeps g c = finds_keep (g.D.MemDevice.told c.args.device.now) (g.D.MemDevice.clock c.args.device.now) (g.D.MemDevice.told c.find_all-answer.new.device)
+    (g.D.MemDevice.clock c.find_all-answer.new.device) c.listed.result c.in-Ok.ensures.keeps (finds g c)

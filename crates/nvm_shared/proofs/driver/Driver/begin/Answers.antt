@@ -7,6 +7,7 @@ use Rattle.nvm_core.specs.nvm_laws.Ties.{IsTied}
 use Rattle.nvm_core.specs.nvm_laws.Keeps.{StackKeeps, StaysKept}
 use Rattle.nvm_core.specs.nvm_laws.declared.turned.Act.{Act}
 use Rattle.nvm_core.specs.nvm_laws.DueLaws.{NextIsPending}
+use Rattle.nvm_core.proofs.nvm_laws.DueHalves.{first_halves_serve}
 use Rattle.nvm_shared.specs.Behind.{HandIsPending}
 use Rattle.nvm_core.specs.nvm_laws.Work.{program_in_hand}
 use Rattle.nvm_core.specs.Lowers.{HalfLeft}
@@ -38,7 +39,7 @@ first_half-act-requires-clause-tied g c =
     subst (λ (s : DriverState g.row.D.Denot g.row.C.Denot). Drives told clocks copies t.tells (desk_with t v.seen) s) (sym c.self.view_is) c.requires.drives in
     let enters : Enters t v u x = record { own = c.requires.own.root; root = e.root; seen = e.seen; starts = e.starts; agree = e.agree; mark = c.requires.mark; open_now = e.open; kin = e.same; written = c.len-number.ensures.written } in
     let b : Behind t v.seen x inside.hand d clock =
-    behind c.histories_are_written.ensures.rests c.open_are_asks.ensures t v u x inside.hand d clock c.asks_stand_behind.ensures enters drives.pending drives.tied in
+    behind t v u x inside.hand d clock enters drives.pending drives.tied in
     b.stands.tied
 
 pub first_half-act-requires-clause-fits : goal.first_half-act-requires-clause-fits
@@ -58,7 +59,7 @@ first_half-act-requires-clause-fits g c =
     subst (λ (s : DriverState g.row.D.Denot g.row.C.Denot). Drives told clocks copies t.tells (desk_with t v.seen) s) (sym c.self.view_is) c.requires.drives in
     let enters : Enters t v u x = record { own = c.requires.own.root; root = e.root; seen = e.seen; starts = e.starts; agree = e.agree; mark = c.requires.mark; open_now = e.open; kin = e.same; written = c.len-number.ensures.written } in
     let b : Behind t v.seen x inside.hand d clock =
-    behind c.histories_are_written.ensures.rests c.open_are_asks.ensures t v u x inside.hand d clock c.asks_stand_behind.ensures enters drives.pending drives.tied in
+    behind t v u x inside.hand d clock enters drives.pending drives.tied in
     fits_behind t v.seen x inside.hand d clock b drives.kept
 
 pub leave-requires-clause-adds : goal.leave-requires-clause-adds
@@ -78,7 +79,7 @@ leave-requires-clause-adds g c =
     subst (λ (s : DriverState g.row.D.Denot g.row.C.Denot). Drives told clocks copies t.tells (desk_with t v.seen) s) (sym c.self.view_is) c.requires.drives in
     let enters : Enters t v u x = record { own = c.requires.own.root; root = e.root; seen = e.seen; starts = e.starts; agree = e.agree; mark = c.requires.mark; open_now = e.open; kin = e.same; written = c.len-number.ensures.written } in
     let b : Behind t v.seen x inside.hand d clock =
-    behind c.histories_are_written.ensures.rests c.open_are_asks.ensures t v u x inside.hand d clock c.asks_stand_behind.ensures enters drives.pending drives.tied in
+    behind t v u x inside.hand d clock enters drives.pending drives.tied in
     let half = c.first_half-act.ensures in
     let new = c.first_half-act.new in
     let writes : Writes x.tells x.desk new.self.desk = half_writes x.tells c.first_half-act.result _ _ x.desk new.self.desk _ _ _ half.half.half (fits_behind t v.seen x inside.hand d clock b drives.kept) in
@@ -101,7 +102,7 @@ returns g c =
     subst (λ (s : DriverState g.row.D.Denot g.row.C.Denot). Drives told clocks copies t.tells (desk_with t v.seen) s) (sym c.self.view_is) c.requires.drives in
     let enters : Enters t v u x = record { own = c.requires.own.root; root = e.root; seen = e.seen; starts = e.starts; agree = e.agree; mark = c.requires.mark; open_now = e.open; kin = e.same; written = c.len-number.ensures.written } in
     let b : Behind t v.seen x inside.hand d clock =
-    behind c.histories_are_written.ensures.rests c.open_are_asks.ensures t v u x inside.hand d clock c.asks_stand_behind.ensures enters drives.pending drives.tied in
+    behind t v u x inside.hand d clock enters drives.pending drives.tied in
     let half = c.first_half-act.ensures in
     let new = c.first_half-act.new in
     let writes : Writes x.tells x.desk new.self.desk = half_writes x.tells c.first_half-act.result _ _ x.desk new.self.desk _ _ _ half.half.half (fits_behind t v.seen x inside.hand d clock b drives.kept) in
@@ -120,9 +121,9 @@ returns g c =
       are = b.are;
       half = subst (λ (y : DeskState). IsFirstHalf told copies is looked c.first_half-act.result (stack_with y inside.hand inside.device inside.copies) (stack_with (desk_with t w.seen) new.hand new.device new.copies)) b.desk
           (subst (λ (y : DeskState). IsFirstHalf told copies is looked c.first_half-act.result (stack_with x.desk inside.hand inside.device inside.copies) (stack_with y new.hand new.device new.copies)) desk first);
-      served = begins_served c.asks_keep_due.ensures.requests (desk_with t v.seen) b.asks x.desk new.self.desk (desk_with t w.seen) inside.hand new.hand d (told new.device) c.first_half-act.result
+      served = begins_served (desk_with t v.seen) b.asks x.desk new.self.desk (desk_with t w.seen) inside.hand new.hand d (told new.device) c.first_half-act.result
           b.desk desk b.replied drives.next
-          (λ number turns due. c.halves_bring_nearer.ensures.first c.first_half-act.result x.desk new.self.desk _ _ inside.hand new.hand d number turns (λ picked. c.left-left.ensures.order)
+          (λ number turns due. first_halves_serve (told new.device) clock_new c.first_half-act.result x.desk new.self.desk _ _ inside.hand new.hand d number turns (λ picked. c.left-left.ensures.order)
           (half_adds c.first_half-act.result _ _ x.desk new.self.desk _ _ _ first.half) first.at_device half.first b.stands.tied first.tied due);
     }) in
     record {

@@ -15,7 +15,9 @@ use Rattle.nvm_core.specs.BehindDevice.{IsBehindTurn, TurnsDevice, asked_by}
 use Rattle.nvm_core.proofs.TurnedBehind.{asked_is, has_turned}
 use Rattle.nvm_core.specs.Due.{now_of}
 use Rattle.nvm_core.proofs.Serving.{nearer_by}
-use Rattle.nvm_core.proofs.Working.{work_lowers}
+use Rattle.nvm_core.proofs.Working.{turned_works}
+use Rattle.nvm_core.proofs.nvm_laws.Working.{hands_are_small}
+use Rattle.nvm_core.proofs.nvm_laws.DueAsking.{requests_keep_due_in_hand}
 use Rattle.nvm_shared.specs.Behind.{HandIsPending}
 use Rattle.nvm_shared.specs.Locked.{desk_with}
 use Rattle.nvm_shared.specs.Driving.{DriverState, MayEnd, stack_of}
@@ -44,7 +46,7 @@ second_half-answer-requires g c =
     let hand : inside.hand ≡ s.hand = ap (λ (z : DriverState g.row.D.Denot g.row.C.Denot). z.hand) may.turned.only in
     let enters : Enters t v u x = record { own = c.requires.own.root; root = e.root; seen = e.seen; starts = e.starts; agree = e.agree; mark = c.requires.mark; open_now = e.open; kin = e.same; written = c.len-number.ensures.written } in
     let b : Behind t v.seen x s.hand old clock =
-    behind c.histories_are_written.ensures.rests c.open_are_asks.ensures t v u x s.hand old clock may.turned.stand enters may.drives.pending may.drives.tied in
+    behind t v u x s.hand old clock enters may.drives.pending may.drives.tied in
     let turned : IsBehindTurn c.args.turned x.desk inside.hand old now =
     record { tied = subst (λ (h : Option HandState). IsTied x.desk h old) (sym hand) b.stands.tied; on = b.stands.power ∙ may.on; turned = has_turned c.args.turned old clock now (clocks inside.device) may.turned.turns } in
     (old, turned)
@@ -69,7 +71,7 @@ leave-requires-clause-adds g c =
     let hand : inside.hand ≡ s.hand = ap (λ (z : DriverState g.row.D.Denot g.row.C.Denot). z.hand) may.turned.only in
     let enters : Enters t v u x = record { own = c.requires.own.root; root = e.root; seen = e.seen; starts = e.starts; agree = e.agree; mark = c.requires.mark; open_now = e.open; kin = e.same; written = c.len-number.ensures.written } in
     let b : Behind t v.seen x s.hand old clock =
-    behind c.histories_are_written.ensures.rests c.open_are_asks.ensures t v u x s.hand old clock may.turned.stand enters may.drives.pending may.drives.tied in
+    behind t v u x s.hand old clock enters may.drives.pending may.drives.tied in
     let turned : IsBehindTurn c.args.turned x.desk inside.hand old now =
     record { tied = subst (λ (h : Option HandState). IsTied x.desk h old) (sym hand) b.stands.tied; on = b.stands.power ∙ may.on; turned = has_turned c.args.turned old clock now (clocks inside.device) may.turned.turns } in
     let half = c.second_half-answer.ensures in
@@ -98,7 +100,7 @@ returns-clause-learns g c =
     let hand : inside.hand ≡ s.hand = ap (λ (z : DriverState g.row.D.Denot g.row.C.Denot). z.hand) may.turned.only in
     let enters : Enters t v u x = record { own = c.requires.own.root; root = e.root; seen = e.seen; starts = e.starts; agree = e.agree; mark = c.requires.mark; open_now = e.open; kin = e.same; written = c.len-number.ensures.written } in
     let b : Behind t v.seen x s.hand old clock =
-    behind c.histories_are_written.ensures.rests c.open_are_asks.ensures t v u x s.hand old clock may.turned.stand enters may.drives.pending may.drives.tied in
+    behind t v u x s.hand old clock enters may.drives.pending may.drives.tied in
     let turned : IsBehindTurn c.args.turned x.desk inside.hand old now =
     record { tied = subst (λ (h : Option HandState). IsTied x.desk h old) (sym hand) b.stands.tied; on = b.stands.power ∙ may.on; turned = has_turned c.args.turned old clock now (clocks inside.device) may.turned.turns } in
     let half = c.second_half-answer.ensures in
@@ -107,13 +109,6 @@ returns-clause-learns g c =
     let writes : Writes x.tells x.desk new.self.desk = adds_writes x.tells _ x.desk new.self.desk adds (entry_driven c.args.turned old.stand now.stand (ops_of now)) in
     let w = knows c.leave.new.pass in
     let l = left t v u w x new.self x.tells enters (record { same = c.leave.ensures.same; more = c.leave.ensures.more }) writes in
-    let desk : new.self.desk ≡ desk_with t w.seen = desk_behind t x new.self w.seen b.terms half.terms l.seen in
-    let clock_new = clocks inside.device in
-    let by : new.hand ≡ hand_by old.stand now.stand s.hand = half.hand old turned ∙ ap (hand_by old.stand now.stand) hand in
-    let keeps : StaysKept (desk_with t v.seen) s.hand old clock (desk_with t w.seen) new.hand now clock_new =
-    subst (λ (y : DeskState). StaysKept (desk_with t v.seen) s.hand old clock y new.hand now clock_new) desk
-    (subst (λ (h : Option HandState). StaysKept (desk_with t v.seen) s.hand old clock new.self.desk h now clock_new) (sym by)
-    (λ before kept. may.turned.keeps x.desk new.self.desk s.hand b.stands.tied.up b.stands.tied.paired adds before (b.stands.kept before kept))) in
     l.learns
 
 pub returns-clause-own : goal.returns-clause-own
@@ -136,7 +131,7 @@ returns-clause-own g c =
     let hand : inside.hand ≡ s.hand = ap (λ (z : DriverState g.row.D.Denot g.row.C.Denot). z.hand) may.turned.only in
     let enters : Enters t v u x = record { own = c.requires.own.root; root = e.root; seen = e.seen; starts = e.starts; agree = e.agree; mark = c.requires.mark; open_now = e.open; kin = e.same; written = c.len-number.ensures.written } in
     let b : Behind t v.seen x s.hand old clock =
-    behind c.histories_are_written.ensures.rests c.open_are_asks.ensures t v u x s.hand old clock may.turned.stand enters may.drives.pending may.drives.tied in
+    behind t v u x s.hand old clock enters may.drives.pending may.drives.tied in
     let turned : IsBehindTurn c.args.turned x.desk inside.hand old now =
     record { tied = subst (λ (h : Option HandState). IsTied x.desk h old) (sym hand) b.stands.tied; on = b.stands.power ∙ may.on; turned = has_turned c.args.turned old clock now (clocks inside.device) may.turned.turns } in
     let half = c.second_half-answer.ensures in
@@ -145,13 +140,6 @@ returns-clause-own g c =
     let writes : Writes x.tells x.desk new.self.desk = adds_writes x.tells _ x.desk new.self.desk adds (entry_driven c.args.turned old.stand now.stand (ops_of now)) in
     let w = knows c.leave.new.pass in
     let l = left t v u w x new.self x.tells enters (record { same = c.leave.ensures.same; more = c.leave.ensures.more }) writes in
-    let desk : new.self.desk ≡ desk_with t w.seen = desk_behind t x new.self w.seen b.terms half.terms l.seen in
-    let clock_new = clocks inside.device in
-    let by : new.hand ≡ hand_by old.stand now.stand s.hand = half.hand old turned ∙ ap (hand_by old.stand now.stand) hand in
-    let keeps : StaysKept (desk_with t v.seen) s.hand old clock (desk_with t w.seen) new.hand now clock_new =
-    subst (λ (y : DeskState). StaysKept (desk_with t v.seen) s.hand old clock y new.hand now clock_new) desk
-    (subst (λ (h : Option HandState). StaysKept (desk_with t v.seen) s.hand old clock new.self.desk h now clock_new) (sym by)
-    (λ before kept. may.turned.keeps x.desk new.self.desk s.hand b.stands.tied.up b.stands.tied.paired adds before (b.stands.kept before kept))) in
     record { own = c.leave.ensures.own; outside = c.leave.ensures.outside; root = l.root ∙ c.requires.own.root }
 
 pub returns-clause-drives : goal.returns-clause-drives
@@ -174,7 +162,7 @@ returns-clause-drives g c =
     let hand : inside.hand ≡ s.hand = ap (λ (z : DriverState g.row.D.Denot g.row.C.Denot). z.hand) may.turned.only in
     let enters : Enters t v u x = record { own = c.requires.own.root; root = e.root; seen = e.seen; starts = e.starts; agree = e.agree; mark = c.requires.mark; open_now = e.open; kin = e.same; written = c.len-number.ensures.written } in
     let b : Behind t v.seen x s.hand old clock =
-    behind c.histories_are_written.ensures.rests c.open_are_asks.ensures t v u x s.hand old clock may.turned.stand enters may.drives.pending may.drives.tied in
+    behind t v u x s.hand old clock enters may.drives.pending may.drives.tied in
     let turned : IsBehindTurn c.args.turned x.desk inside.hand old now =
     record { tied = subst (λ (h : Option HandState). IsTied x.desk h old) (sym hand) b.stands.tied; on = b.stands.power ∙ may.on; turned = has_turned c.args.turned old clock now (clocks inside.device) may.turned.turns } in
     let half = c.second_half-answer.ensures in
@@ -217,7 +205,7 @@ returns-clause-ends g c = λ s may'.
     let hand : inside.hand ≡ s.hand = ap (λ (z : DriverState g.row.D.Denot g.row.C.Denot). z.hand) may.turned.only in
     let enters : Enters t v u x = record { own = c.requires.own.root; root = e.root; seen = e.seen; starts = e.starts; agree = e.agree; mark = c.requires.mark; open_now = e.open; kin = e.same; written = c.len-number.ensures.written } in
     let b : Behind t v.seen x s.hand old clock =
-    behind c.histories_are_written.ensures.rests c.open_are_asks.ensures t v u x s.hand old clock may.turned.stand enters may.drives.pending may.drives.tied in
+    behind t v u x s.hand old clock enters may.drives.pending may.drives.tied in
     let turned : IsBehindTurn c.args.turned x.desk inside.hand old now =
     record { tied = subst (λ (h : Option HandState). IsTied x.desk h old) (sym hand) b.stands.tied; on = b.stands.power ∙ may.on; turned = has_turned c.args.turned old clock now (clocks inside.device) may.turned.turns } in
     let half = c.second_half-answer.ensures in
@@ -248,16 +236,16 @@ returns-clause-ends g c = λ s may'.
       keeps = keeps;
       lowers = λ worked started.
           let len = c.len-len.ensures in
-          let small = c.hands_are_small.ensures new.self.desk.config (state_of new.self.desk) new.hand now len.legal half.tied.paired in
+          let small = hands_are_small new.self.desk.config (state_of new.self.desk) new.hand now len.legal half.tied.paired in
           lowers_behind (desk_with t v.seen) b.asks x.desk new.self.desk (desk_with t w.seen) s.hand new.hand old now b.desk desk
-          (work_lowers c.second_half-answer.result x.desk new.self.desk s.hand new.hand old clock now clock_new turns
-          c.turns_keep_figures.ensures.drain c.stack_works.ensures.entries started b.stands.tied.paired asked by
+          (turned_works c.second_half-answer.result x.desk new.self.desk s.hand new.hand old clock now clock_new turns
+          started b.stands.tied.paired asked by
           len.within small worked);
       nearer = λ number left started open_now faultless on due.
           subst (λ (y : DeskState). IsNearer number left (now_of told (stack_of y (record { device = inside.device; copies = inside.copies; hand = new.hand })))) desk
-          (nearer_by c.histories_grow.ensures.steps number left old x.desk new.self.desk s.hand new.hand old now clock clock_new c.halves_bring_nearer.ensures.second b.stands.tied started open_now by refl faultless
+          (nearer_by number left old x.desk new.self.desk s.hand new.hand old now clock clock_new b.stands.tied started open_now by refl faultless
           (subst (λ (y : DeskState). (state_of y).off ≡ false) (sym desk) on)
-          (subst (λ (y : DeskState). IsDueInHand number left (record { desk = y; hand = s.hand; device = old })) (sym b.desk) (c.asks_keep_due.ensures.in_hand (desk_with t v.seen) s.hand old b.asks number left b.replied due))
+          (subst (λ (y : DeskState). IsDueInHand number left (record { desk = y; hand = s.hand; device = old })) (sym b.desk) (requests_keep_due_in_hand (desk_with t v.seen) s.hand old b.asks number left b.replied due))
           c.second_half-answer.result turns asked);
     }
 

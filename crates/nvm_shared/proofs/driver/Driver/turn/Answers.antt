@@ -6,8 +6,6 @@ use Rattle.nvm_core.specs.nvm_device_laws.Cuts.{CutsInATurnKeep}
 use Rattle.turn_gate.specs.Pass.{knows}
 use Rattle.nvm_core.specs.nv_desk.Desk.{DeskState, state_of}
 use Rattle.nvm_shared.specs.Locked.{desk_with}
-use Rattle.nvm_shared.specs.Driving.{DriverState}
-use Rattle.nvm_core.specs.nvm_figures.Laws.{TurnsLower}
 use Rattle.nvm_shared.specs.Behind.{with_more}
 use Rattle.nvm_core.proofs.Leaving.{ended_takes, turn_takes}
 use Rattle.nvm_core.proofs.Lowering.{device_lowers, ended_lowers, leaves_counts}
@@ -45,7 +43,6 @@ pub returns-in-Device-clause-left : goal.returns-in-Device-clause-left
 returns-in-Device-clause-left g c =
     let told = g.D.MemDevice.told in
     let clocks = g.D.MemDevice.clock in
-    let lower = subst (λ (s : DriverState g.row.D.Denot g.row.C.Denot). TurnsLower (told s.device) (clocks s.device)) c.self.view_is c.turns_keep_figures.ensures.lower in
     let desk = desk_with c.args.shared.now.terms (knows c.args.pass.now).seen in
     let desk_between = desk_with c.args.shared.now.terms (knows c.begin.new.pass).seen in
     let desk_new = desk_with c.args.shared.now.terms (knows c.finish-answer.new.pass).seen in
@@ -53,7 +50,7 @@ returns-in-Device-clause-left g c =
     let ends = c.finish-answer.ensures.ends c.begin.new.self
     (record { drives = c.in-Device.ensures.drives; on = ap (λ (x : DeskState). (state_of x).off) half.half.0.0 ∙ half.half.2; turned = c.device_turn-turned.ensures.turns }) in
     turn_takes told (stack_of desk c.args.self.now) (stack_of desk_new c.finish-answer.new.self) (stack_of desk_between c.begin.new.self) (clocks c.begin.new.self.device) (clocks c.finish-answer.new.self.device) half.at_device c.in-Device.ensures.left
-    (leaves_counts (told c.args.self.now.device) (told c.begin.new.self.device) half.device) lower ends.hand c.finish-answer.result ends.turns
+    (leaves_counts (told c.args.self.now.device) (told c.begin.new.self.device) half.device) ends.hand c.finish-answer.result ends.turns
 
 pub returns-in-Ended-clause-learns : goal.returns-in-Ended-clause-learns
 returns-in-Ended-clause-learns g c = half_learns (knows c.args.pass.now) (knows c.begin.new.pass) c.in-Ended.ensures.learns

@@ -11,7 +11,7 @@ pub invariant_of-self : goal.invariant_of-self
 invariant_of-self g c =
     let inside = c.self.inside in
     let ends = c.first_half.ensures in
-    locked_on c.histories_are_written.ensures.on inside.tells.tells inside.front.desk c.first_half.new.front.desk inside.front.staging c.first_half.new.front.staging
+    locked_on inside.tells.tells inside.front.desk c.first_half.new.front.desk inside.front.staging c.first_half.new.front.staging
     (half_writes inside.tells.tells c.first_half.result _ _ inside.front.desk c.first_half.new.front.desk _ _ _ ends.half
     (λ told. subst (λ (l : LockedState). HandFits l.desk.config (state_of l.desk) c.args.hand.now (g.D.MemDevice.told c.args.device.now)) (sym c.self.view_is) (c.requires.fits (ap (λ (l : LockedState). l.tells) (sym c.self.view_is) ∙ told))))
     ends.room ends.tied.started c.self.invariant

@@ -12,7 +12,7 @@ invariant_of-self g c =
     let now = g.D.MemDevice.told c.args.device.now in
     let behind' : IsBehindTurn c.args.turned inside.front.desk c.args.hand.now old now =
     subst (λ (l : LockedState). IsBehindTurn c.args.turned l.desk c.args.hand.now old now) (sym c.self.view_is) behind in
-    locked_on c.histories_are_written.ensures.on inside.tells.tells inside.front.desk c.second_half.new.desk inside.front.staging inside.front.staging
+    locked_on inside.tells.tells inside.front.desk c.second_half.new.desk inside.front.staging inside.front.staging
     (adds_writes inside.tells.tells _ inside.front.desk c.second_half.new.desk (c.second_half.ensures.adds old behind') (entry_driven c.args.turned old.stand now.stand (ops_of now)))
     refl c.second_half.ensures.tied.started c.self.invariant
 

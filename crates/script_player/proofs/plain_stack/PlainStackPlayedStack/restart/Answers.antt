@@ -1,5 +1,5 @@
 use Rattle.std.specs.Prelude.{IsSome}
-use Rattle.std.proofs.Common.{◌≡◌, ℕ, Bool, true, false, List, Option, Some, None, refl, sym, ap, subst, inl}
+use Rattle.std.proofs.Common.{rules, ◌≡◌, ℕ, Bool, true, false, List, Option, Some, None, refl, sym, ap, subst, inl}
 use Rattle.nvm_core.specs.nv_base.declared.instance.DeviceNumber.{DeviceNumber}
 use Rattle.nvm_core.specs.memif.Told.{DeviceTold, Slot, Part, PartTold}
 use Rattle.nvm_core.specs.memif.Clock.{Clock}
@@ -17,6 +17,8 @@ use Rattle.nvm_core.specs.nvm_laws.declared.turned.FoundAnswer.{FoundAnswer}
 use Rattle.nvm_core.specs.nvm_laws.declared.turned.FoundAnswer.TheVariants as found
 use Rattle.nvm_core.specs.Stack.{StackState}
 use Rattle.nvm_core.specs.StartUps.{KeepsDown, Restarts, StartsKeep}
+use Rattle.nvm_core.specs.block_laws.Laws.{EntriesAreCounted, HistoriesGoOn, HistoriesStep, SumsGrow}
+use Rattle.nvm_core.proofs.block_laws.HistoryLaws.{entries_are_counted, histories_go_on, histories_step, sums_grow}
 use Rattle.script_player.specs.Paying.{PaysNothing}
 use Rattle.script_player.specs.PlainTold.{told_by}
 use Rattle.script_player.specs.PlainKept.{IsKept}
@@ -89,3 +91,11 @@ returns-clause-pays g c =
     (nothing_paid told clock s new
     (λ before kept. restart_keeps told clock before s new (c.restart.ensures.down before) kept c.restart.result c.restart.ensures.restarts c.restart.ensures.keeps)
     c.restart.ensures.lasts (restart_ops told clock s new c.restart.result c.restart.ensures.restarts) (restart_owes told clock s new c.restart.result c.restart.ensures.restarts))
+
+pub returns-clause-restarts : goal.returns-clause-restarts
+returns-clause-restarts g c =
+    let steps : HistoriesStep = histories_step in
+    let goes_on : HistoriesGoOn = histories_go_on in
+    let counted : EntriesAreCounted = entries_are_counted in
+    let prices : SumsGrow = sums_grow in
+    search rules

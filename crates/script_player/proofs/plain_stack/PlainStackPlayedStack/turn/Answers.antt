@@ -34,9 +34,9 @@ returns-clause-turns g c =
     } in
     subst (λ (s : StackState g.row.D.Denot (List PlainBlock)). Turns c.turn-turned.result (told_by told s) (told_by told new)) c.self.view_is
     (elim c.turn-turned.ensures.turns [
-      | inl half ↦ ended told c.histories_grow.ensures.steps c.the_next_job_goes_first.ensures.none old new c.turn-turned.result half
+      | inl half ↦ ended told old new c.turn-turned.result half
           (behind half.ready (few_copied c.self.inside.asked old.copies new.copies half.refuses c.self.invariant))
-      | inr more ↦ behind_device told g.D.MemDevice.clock c.histories_grow.ensures.steps c.the_next_job_goes_first.ensures.none old more.0 new more.1 (c.device-device.ensures.power ready) c.turn-turned.result more.2
+      | inr more ↦ behind_device told g.D.MemDevice.clock old more.0 new more.1 (c.device-device.ensures.power ready) c.turn-turned.result more.2
           (behind (more.2.ready ∙ more.1.ready)
           (subst (λ (bs : List PlainBlock). (id : ℕ) → most_of (map told_of bs) id < last_count) (sym more.2.copies) (few_copied c.self.inside.asked old.copies more.0.copies more.1.refuses c.self.invariant)))
     ])

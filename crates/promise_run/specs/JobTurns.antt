@@ -1,0 +1,45 @@
+-- How many turns a job takes at most, where nothing fails: a number of the configuration and the job.
+use Rattle.std.specs.Prelude.{ℕ, ◌+◌, ◌*◌, sum_by}
+use Rattle.std.specs.Option.{option_map_or}
+use Rattle.block_machine.specs.nv_base.Geometry.{sectors_of_bank}
+use Rattle.block_machine.specs.nv_base.Marks.{number_of}
+use Rattle.block_machine.specs.nv_base.Pages.{record_pages_of}
+use Rattle.block_machine.specs.block_config.Banks.{bank_count}
+use Rattle.block_machine.specs.block_config.Lengths.{lengths_of}
+use Rattle.block_machine.specs.block_config.Sizes.{measures_of}
+use Rattle.block_machine.specs.Words.{JobKind, ReadJob, WriteJob, EraseJob, InvalidateJob, Configuration, Instance}
+use Rattle.block_machine.specs.State.{State, Job}
+use Rattle.block_machine.specs.Blocks.{desc_of, indices_of, job_block, kind_of}
+use Rattle.block_machine.specs.Prices.{device_tries}
+use Rattle.memif.specs.Told.{length_of}
+
+-- A switch of banks erases each sector of a bank, reads each instance and programs its record by pages, makes way for one more
+-- record, and programs a head and a gate.
+abbrev pub switch_at_most : Configuration → ℕ
+switch_at_most c =
+    let m = measures_of c.geometry.page c.blocks in
+    sectors_of_bank c.geometry bank_count + m.instances + m.all + m.greatest + 2
+
+-- a record of so many bytes: its pages, the gate that is owed before it, and a switch
+abbrev pub record_at_most : Configuration → ℕ → ℕ
+record_at_most c length = record_pages_of length c.geometry.page + 1 + switch_at_most c
+
+-- One try of a job of this kind on an instance of so many bytes: a read takes one turn, an erase and an invalidation program a
+-- record without bytes, and a restore does nothing at the device.
+abbrev pub try_at_most : Configuration → JobKind → ℕ → ℕ
+try_at_most c ReadJob length = 1
+try_at_most c WriteJob length = record_at_most c length
+try_at_most c EraseJob length = record_at_most c 0
+try_at_most c InvalidateJob length = record_at_most c 0
+try_at_most c kind length = 0
+
+-- on this instance, if it is configured
+abbrev pub try_on : Configuration → JobKind → Instance → ℕ
+try_on c kind i = option_map_or (try_at_most c kind) (length_of (lengths_of c) (number_of i)) 0
+
+-- a job in hand: a switch that goes on, each try on each of its instances, and its Post
+abbrev pub job_turns : Configuration → State → Job → ℕ
+job_turns c s j =
+    switch_at_most c
+    + device_tries (desc_of c (job_block j)) (kind_of j) * sum_by (λ index. try_on c (kind_of j) (record { block = job_block j; index = index })) (indices_of c s (job_block j))
+    + 1
