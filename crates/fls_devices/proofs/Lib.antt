@@ -1,5 +1,9 @@
 mod Cuts
-pub mod HaveParts
-pub mod Merging
-pub mod Parts
-pub mod Steps
+mod Enlargements
+mod FileOperations
+mod FileSteps
+mod HaveParts
+mod Merging
+mod Mixtures
+mod Parts
+mod Steps

@@ -1,18 +1,40 @@
--- A flash in an image file.
-use Rattle.std.specs.Prelude.{ℕ, Bool, false, None}
+-- A flash in a file of bytes.
+use Rattle.std.specs.Prelude.{◌≡◌, ℕ, Bool, false, if◌then◌else◌, List, [], Option, Some, option_map}
 use Rattle.nv_base.specs.declared.geometry.Geometry.{Geometry}
 use Rattle.nv_base.specs.Plan.{no_planning}
-use Rattle.fls_model.specs.Told.{Told}
+use Rattle.fls_model.specs.Op.{Op, MayLeave}
+use Rattle.fls_model.specs.Told.{Told, ToldBytes, Change, IfBothTold, bytes_now}
+use Rattle.fls_devices.specs.ByteFile.{FileBytes}
 
--- what is told of it, and whether the file was opened
+-- what is told of it, whether the file was opened, and what a power cut leaves, where the file tells its bytes
 pub record InFile : Type 0 where
   pub told : Told
   pub opened : Bool
+  pub kept : Option (List ℕ)
 
--- no bytes and no changes are told, no cut ever stands, and no plan is taken
-abbrev pub told_in_file : Geometry → ℕ → ℕ → Told
-told_in_file g ops faults = record { geometry = g; bytes = None; ops = ops; faults = faults; cuts = 0; off = false; planning = no_planning }
+-- the flash's bytes. A file whose enlargement was broken off, and that could not be cut back, is a flash of none yet.
+abbrev pub bytes_of : Bool → FileBytes → List ℕ
+bytes_of torn f = if torn then [] else f.now
 
--- not attached yet
-abbrev pub in_file : Bool → InFile
-in_file opened = record { told = told_in_file (record { page = 0; sector = 0; sectors = 0 }) 0 0; opened = opened }
+abbrev pub told_bytes : Bool → List Change → Option FileBytes → Option ToldBytes
+told_bytes torn changes held = option_map (λ f. record { now = bytes_of torn f; changes = Some changes }) held
+
+-- no cut ever stands, and no plan is taken
+abbrev pub told_in_file : Geometry → ℕ → ℕ → Option ToldBytes → Told
+told_in_file g ops faults bytes = record { geometry = g; bytes = bytes; ops = ops; faults = faults; cuts = 0; off = false; planning = no_planning }
+
+-- over a file, not attached yet
+abbrev pub in_file : Bool → Option FileBytes → InFile
+in_file opened held = record {
+  told = told_in_file (record { page = 0; sector = 0; sectors = 0 }) 0 0 (told_bytes false [] held);
+  opened = opened;
+  kept = option_map (λ f. f.disk) held;
+}
+
+-- what a power cut leaves is what reads give
+abbrev pub IsSynced : InFile → Type 0
+IsSynced m = m.kept ≡ bytes_now m.told
+
+-- whatever its answer, a power cut behind an operation leaves what it may leave of the bytes before it
+abbrev pub LeavesOnDisk : Op → InFile → InFile → Type 0
+LeavesOnDisk op old new = IsSynced old → IfBothTold (bytes_now old.told) new.kept (MayLeave op)

@@ -1,186 +1,315 @@
 // A flash in an image file.
-ghost use Rattle.std.specs.Prelude.{◌≤◌, length};
+ghost use Rattle.std.specs.Prelude.{◌≡◌, ◌≢◌, ◌⊎◌, ◌≤◌, ◌+◌, ◌*◌, ◌↔◌, IsTrue, IsSome, IfSome, is_some, true, false, length, min, replicate};
+ghost use Rattle.nv_base.specs.Count.{next_count, Rose};
+ghost use Rattle.nv_base.specs.Geometry.{IsLegal, size_of};
+ghost use Rattle.fls_model.specs.Bytes.{AreBytes, and_bytes, piece};
+ghost use Rattle.fls_model.specs.Told.{IfBothTold};
+ghost use Rattle.fls_model.specs.Op.{Program, Erase};
+ghost use Rattle.fls_devices.specs.ByteFile.{held_by};
+ghost use Rattle.fls_devices.specs.FileFlash.{bytes_of};
+ghost use Rattle.fls_devices.specs.FileFlashInside.{Stores, Operates, Fills};
 
-use fls_model::{AttachFault, Flash, FlashAnswer};
-use nv_base::Geometry;
+use crate::ByteFile;
+use crate::asked::Asked;
+use crate::system_file::open_apart;
+use fls_model::{AttachFault, Call, Flash, FlashAnswer, program_call};
+use nv_base::{Geometry, Trace};
 use std::alloc::Global;
-use std::fs::{OpenFile, OpenOptions};
-use std::io;
-use std::io::{Read, Seek, SeekFrom, Write};
 use std::marker::Model;
 use std::rt::Files;
 
 /// A flash in an image file, whose bytes are those of the file. Every changing operation is written and synced before
-/// its answer. It tells no bytes and no changes, takes no plans, is never off, and counts as a fault each access that
-/// the system failed. What the file gives and takes is trusted.
+/// its answer Done: a program is one read, one write and one sync of the file, an erase one write and one sync. It tells its bytes and
+/// changes where the file tells its own, takes no plans, is never off, and counts as a fault each call of the file that failed.
 #[derive(Drop)]
-pub struct FileFlash<T: Drop> {
+pub struct FileFlash<T: ByteFile + Drop> {
     file: Option<T>,
+    // an enlargement was broken off and could not be cut back
+    torn: bool,
     geometry: Geometry,
+    // the bytes of an erased sector, from the attach on
+    blank: Option<Vec<u8>>,
+    // the changing operations since the attach
+    asked: Trace<Asked<T>>,
     ops: u64,
     faults: u64,
 }
 
-impl<T: Drop> Model for FileFlash<T> {
-    ghost use Rattle.std.specs.Prelude.{is_some};
-    ghost use Rattle.fls_devices.specs.FileFlash.{InFile, told_in_file};
+impl<T: ByteFile + Drop> Model for FileFlash<T> {
+    ghost use Rattle.std.specs.Prelude.{◌≡◌, is_some, option_map, IfSome, replicate};
+    ghost use Rattle.fls_devices.specs.ByteFile.{held_by};
+    ghost use Rattle.fls_devices.specs.FileFlash.{InFile, told_in_file, told_bytes};
+    ghost use Rattle.fls_devices.specs.FileFlashInside.{IsHeld, changes_of};
 
     ghost Value = { InFile };
 
-    ghost view = { λ f. record { told = told_in_file f.geometry f.ops f.faults; opened = is_some f.file } };
+    ghost view = { λ f. record { told = told_in_file f.geometry f.ops f.faults (told_bytes f.torn (changes_of f.geometry f.asked.items) (held_by T.held f.file)); opened = is_some f.file; kept = option_map (λ b. b.disk) (held_by T.held f.file) } };
+
+    ghost invariant = { λ f. IfSome (held_by T.held f.file) (IsHeld f.geometry f.torn) × IfSome f.blank (λ b. b.items ≡ replicate f.geometry.sector 255) };
 }
 
-fn read_at<T: Read + Seek>(file: &mut T, address: u64, into: &mut [u8]) -> io::Result<()> {
-    file.seek(SeekFrom::Start(address))?;
-    file.read_exact(into)
+// Tells proofs that bytes are below 256.
+fn below_256(bytes: &[u8])
+    ensures { AreBytes bytes.now }
+{}
+
+// Clears the bits that are zero in `page`.
+fn clear_bits(bytes: &mut [u8], page: &[u8])
+    requires { length bytes.old ≡ length page.now }
+    ensures { bytes.new ≡ and_bytes bytes.old page.now }
+{
+    for i in 0..page.len() {
+        bytes[i] = bytes[i] & page[i];
+    }
 }
 
-fn write_at<T: Write + Seek + OpenFile>(
-    file: &mut T,
-    address: u64,
-    bytes: &[u8],
-) -> io::Result<()> {
-    file.seek(SeekFrom::Start(address))?;
-    file.write_all(bytes)?;
-    file.flush()?;
-    file.sync_data()
+// Writes and syncs bytes.
+fn is_stored<T: ByteFile>(file: &mut T, address: u64, bytes: &[u8]) -> bool
+    ensures { IfBothTold (T.held file.old) (T.held file.new) (Stores address bytes.now result) }
+{
+    file.write_at(address, bytes).is_ok() && file.sync().is_ok()
 }
 
-// Clears bits of a page of the file.
-fn program_at<T: Read + Write + Seek + OpenFile>(
-    file: &mut T,
-    address: u64,
-    page: &[u8],
-) -> io::Result<()>
+fn reads<T: ByteFile>(file: &mut T, address: u64, into: &mut [u8]) -> bool
+    ensures same { T.held file.new ≡ T.held file.old }
+    ensures done { result ≡ true → IfSome (T.held file.new) (λ f. into.new ≡ piece address (length into.old) f.now) }
+{
+    file.read_at(address, into).is_ok()
+}
+
+// Clears bits of a page.
+fn program_page<T: ByteFile>(file: &mut T, address: u64, page: &[u8]) -> bool
     requires { length page.now ≤ 256 }
+    ensures { IfBothTold (T.held file.old) (T.held file.new) (λ f g. AreBytes f.now → address + length page.now ≤ length f.now → Operates (Program address page.now) result f g) }
 {
     let mut buffer = [0; 256];
     let bytes = &mut buffer[..page.len()];
-    read_at(file, address, bytes)?;
-    for i in 0..bytes.len().min(page.len()) {
-        bytes[i] = bytes[i] & page[i];
+    if !reads(file, address, bytes) {
+        return false;
     }
-    write_at(file, address, bytes)
+    clear_bits(bytes, page);
+    below_256(bytes);
+    is_stored(file, address, bytes)
 }
 
-// Writes so many blank bytes into the file.
-fn blank_at<T: Write + Seek + OpenFile>(file: &mut T, address: u64, count: u64) -> io::Result<()> {
-    let blank = [255; 256];
-    file.seek(SeekFrom::Start(address))?;
-    for _ in 0..count / 256 {
-        file.write_all(&blank)?;
-    }
-    write_rest(file, &blank[..(count % 256) as usize])
-}
-
-fn write_rest<T: Write + OpenFile>(file: &mut T, bytes: &[u8]) -> io::Result<()> {
-    file.write_all(bytes)?;
-    file.flush()?;
-    file.sync_all()
-}
-
-fn is_programmed<T: Read + Write + Seek + OpenFile>(
-    file: &mut Option<T>,
-    address: u64,
-    page: &[u8],
-) -> bool
+fn is_programmed<T: ByteFile>(file: &mut Option<T>, address: u64, page: &[u8]) -> bool
     requires { length page.now ≤ 256 }
+    ensures done { IfBothTold (held_by T.held file.old) (held_by T.held file.new) (λ f g. AreBytes f.now → address + length page.now ≤ length f.now → Operates (Program address page.now) result f g) }
+    ensures opened { is_some file.new ≡ is_some file.old }
 {
     match file {
-        Some(file) => program_at(file, address, page).is_ok(),
+        Some(file) => program_page(file, address, page),
         None => false,
     }
 }
 
-fn is_blanked<T: Write + Seek + OpenFile>(file: &mut Option<T>, address: u64, count: u64) -> bool {
+fn is_blanked<T: ByteFile>(
+    file: &mut Option<T>,
+    address: u64,
+    blank: &Option<Vec<u8>>,
+    count: u32,
+) -> bool
+    requires { IfSome blank.now (λ b. b.items ≡ replicate count 255) }
+    ensures done { IfBothTold (held_by T.held file.old) (held_by T.held file.new) (λ f g. AreBytes f.now → address + count ≤ length f.now → Operates (Erase address count) result f g) }
+    ensures opened { is_some file.new ≡ is_some file.old }
+{
+    let Some(file) = file else {
+        return false;
+    };
+    let Some(blank) = blank else {
+        return false;
+    };
+    is_stored(file, address, blank)
+}
+
+fn is_read<T: ByteFile>(file: &mut Option<T>, address: u64, into: &mut [u8]) -> bool
+    ensures same { held_by T.held file.new ≡ held_by T.held file.old }
+    ensures done { result ≡ true → IfSome (held_by T.held file.new) (λ f. into.new ≡ piece address (length into.old) f.now) }
+    ensures opened { is_some file.new ≡ is_some file.old }
+{
     match file {
-        Some(file) => blank_at(file, address, count).is_ok(),
+        Some(file) => reads(file, address, into),
         None => false,
     }
 }
 
-// The size of the file in bytes, behind its enlargement where it had none.
-fn size_or_enlarged<T: Write + Seek + OpenFile>(file: &mut T, size: u64) -> io::Result<u64> {
-    let found = file.seek(SeekFrom::End(0))?;
-    if found != 0 {
-        return Ok(found);
+// The size of the flash in bytes, where the file could be asked for it.
+fn found_size<T: ByteFile>(file: &mut Option<T>, torn: bool) -> Option<u64>
+    ensures same { held_by T.held file.new ≡ held_by T.held file.old }
+    ensures size { IfSome result (λ n. IfSome (held_by T.held file.new) (λ f. n ≡ length (bytes_of torn f))) }
+    ensures bytes { IfSome result (λ n. IfSome (held_by T.held file.new) (λ f. AreBytes f.now)) }
+    ensures opened { is_some file.new ≡ is_some file.old }
+    ensures closed { is_some file.old ≡ false → is_some result ≡ false }
+{
+    let found = match file {
+        Some(file) => file.size().ok(),
+        None => None,
+    };
+    match found {
+        Some(_) if torn => Some(0),
+        found => found,
     }
-    blank_at(file, 0, size)?;
-    Ok(size)
 }
 
-impl<T: Read + Write + Seek + OpenFile + Drop> FileFlash<T> {
-    ghost use Rattle.std.specs.Prelude.{◌≡◌, ◌⊎◌, ◌≢◌, ◌↔◌, IsTrue, true, false};
-    ghost use Rattle.fls_model.specs.Op.{Op};
-    ghost use Rattle.fls_model.specs.Step.{IsStep};
+// Whether it is neither that of a flash of no bytes nor the geometry's.
+fn is_wrong(found: u64, geometry: Geometry) -> bool
+    requires { IsLegal geometry }
+    ensures wrong { result ≡ true → (found ≢ 0) × (found ≢ size_of geometry) }
+    ensures right { result ≡ false → (found ≡ 0) ⊎ (found ≡ size_of geometry) }
+{
+    found != 0 && found != u64::from(geometry.size())
+}
+
+// Fills a file with so many erased sectors, each of which it writes at once, and syncs it.
+fn is_enlarged<T: ByteFile>(file: &mut T, blank: &[u8], sector: u32, sectors: u32) -> bool
+    requires { blank.now ≡ replicate sector 255 }
+    ensures { IfBothTold (T.held file.old) (T.held file.new) (λ f g. result ≡ true → (g.now ≡ replicate (sectors * sector) 255) × (g.disk ≡ g.now)) }
+{
+    if file.clear().is_err() {
+        return false;
+    }
+    for i in 0..sectors {
+        if file.write_at(i as u64 * sector as u64, blank).is_err() {
+            return false;
+        }
+    }
+    file.sync().is_ok()
+}
+
+// Brings the flash that was found to the disk, one of no bytes as a blank one.
+fn fill<T: ByteFile>(
+    file: &mut T,
+    torn: &mut bool,
+    found: u64,
+    blank: &[u8],
+    geometry: Geometry,
+) -> bool
+    requires blank { blank.now ≡ replicate geometry.sector 255 }
+    requires found { IfSome (T.held file.old) (λ f. found ≡ length (bytes_of torn.old f)) }
+    ensures { IfBothTold (T.held file.old) (T.held file.new) (Fills (size_of geometry) torn.old torn.new result) }
+{
+    if found != 0 {
+        return file.sync().is_ok();
+    }
+    if is_enlarged(file, blank, geometry.sector, geometry.sectors) {
+        *torn = false;
+        return true;
+    }
+    *torn = file.clear().is_err();
+    false
+}
+
+fn is_filled<T: ByteFile>(
+    file: &mut Option<T>,
+    torn: &mut bool,
+    found: u64,
+    blank: &[u8],
+    geometry: Geometry,
+) -> bool
+    requires blank { blank.now ≡ replicate geometry.sector 255 }
+    requires found { IfSome (held_by T.held file.old) (λ f. found ≡ length (bytes_of torn.old f)) }
+    ensures filled { IfBothTold (held_by T.held file.old) (held_by T.held file.new) (Fills (size_of geometry) torn.old torn.new result) }
+    ensures opened { is_some file.new ≡ is_some file.old }
+{
+    match file {
+        Some(file) => fill(file, torn, found, blank, geometry),
+        None => false,
+    }
+}
+
+// A changing operation was asked for. Counts a fault where it wasn't done.
+fn count(done: bool, ops: &mut u64, faults: &mut u64) -> FlashAnswer
+    ensures ops { ops.new ≡ next_count ops.old }
+    ensures done { done ≡ true → (result ≡ FlashAnswer.Done) × (faults.new ≡ faults.old) }
+    ensures failed { done ≡ false → (result ≡ FlashAnswer.Failed) × Rose faults.old faults.new }
+{
+    *ops = ops.saturating_add(1);
+    if done {
+        return FlashAnswer::Done;
+    }
+    *faults = faults.saturating_add(1);
+    FlashAnswer::Failed
+}
+
+impl<T: ByteFile + Drop> FileFlash<T> {
+    ghost use Rattle.std.specs.Prelude.{◌≡◌, ◌⊎◌, None, Some, Option};
+    ghost use Rattle.fls_devices.specs.ByteFile.{FileBytes};
     ghost use Rattle.fls_devices.specs.FileFlash.{in_file};
 
-    /// Opens an image file for reading and writing, and makes it where it is absent. Where that fails, each `attach`
-    /// does.
-    pub fn make<R: Files<File = T>>(rt: &R, path: &str) -> FileFlash<T>
-        ensures { (result ≡ in_file true) ⊎ (result ≡ in_file false) }
+    fn with(file: Option<T>) -> FileFlash<T>
+        ensures { result ≡ in_file (is_some file) (held_by T.held file) }
     {
-        let opened = OpenOptions::new()
-            .read(true)
-            .write(true)
-            .create(true)
-            .open(rt, path);
         FileFlash {
-            file: opened.ok(),
+            file,
+            torn: false,
             geometry: Geometry {
                 page: 0,
                 sector: 0,
                 sectors: 0,
             },
+            blank: None,
+            asked: Trace::new(),
             ops: 0,
             faults: 0,
         }
     }
 
-    // A changing operation was asked for. Counts a fault where it wasn't done.
-    fn count(&mut self, done: bool) -> FlashAnswer
-        ensures done { (result ≡ FlashAnswer.Done) ↔ IsTrue done }
-        ensures step { (op : Op) → IsStep op self.old.told result self.new.told }
-        ensures never_off { result ≢ FlashAnswer.Off }
+    /// Over a file.
+    pub fn over(file: T) -> FileFlash<T>
+        ensures { result ≡ in_file true (T.held file) }
     {
-        self.ops = self.ops.saturating_add(1);
-        if done {
-            return FlashAnswer::Done;
+        FileFlash::with(Some(file))
+    }
+
+    /// Opens an image file for reading and writing, and makes it where it is absent. Where that fails, each `attach`
+    /// does.
+    pub fn make<R: Files<File = T>>(rt: &R, path: &str) -> FileFlash<T>
+        ensures { (held : Option FileBytes) × ((result ≡ in_file true held) ⊎ (result ≡ in_file false None)) }
+    {
+        match open_apart(rt, path, true, true) {
+            Ok(file) => FileFlash::with(Some(file)),
+            Err(_) => FileFlash::with(None),
         }
-        self.faults = self.faults.saturating_add(1);
-        FlashAnswer::Failed
     }
 }
 
-impl<T: Read + Write + Seek + OpenFile + Drop> Flash for FileFlash<T> {
-    ghost use Rattle.std.specs.Prelude.{◌≡◌, ◌≢◌, length, false, Err};
+impl<T: ByteFile + Drop> Flash for FileFlash<T> {
+    ghost use Rattle.std.specs.Prelude.{◌≡◌, ◌≢◌, length, false, Err, OnOk};
     ghost use Rattle.nv_base.specs.Geometry.{IsLegal};
     ghost use Rattle.fls_model.specs.Told.{armed, powered, HasRange, HasPage, HasSector};
     ghost use Rattle.fls_model.specs.Step.{IsStep, programs, erases};
     ghost use Rattle.fls_model.specs.Read.{IsRead};
     ghost use Rattle.fls_model.specs.Attach.{IsAttach};
+    ghost use Rattle.fls_devices.specs.FileFlash.{IsSynced, LeavesOnDisk};
 
     ghost told = { λ f. f.told };
 
-    fn attach(&mut self, _alloc: Global, geometry: Geometry) -> Result<(), AttachFault>
+    /// Attaches it at this geometry. A file of no bytes is filled with 0xFF, a sector a write; one of the geometry's size stays as
+    /// it is. Behind Ok all of it is on the disk. An enlargement that fails cuts the file back to no bytes.
+    fn attach(&mut self, alloc: Global, geometry: Geometry) -> Result<(), AttachFault>
         requires { IsLegal geometry }
         ensures attach { IsAttach geometry self.old.told result self.new.told }
+        ensures synced { OnOk result (IsSynced self.new) }
         ensures closed { self.old.opened ≡ false → result ≡ Err AttachFault.Failed }
         ensures opened { self.new.opened ≡ self.old.opened }
     {
-        let size = u64::from(geometry.size());
-        let found = match &mut self.file {
-            Some(file) => size_or_enlarged(file, size).ok(),
-            None => None,
-        };
-        let Some(found) = found else {
+        let Some(found) = found_size(&mut self.file, self.torn) else {
             self.faults = self.faults.saturating_add(1);
             return Err(AttachFault::Failed);
         };
-        if found != size {
+        if is_wrong(found, geometry) {
             return Err(AttachFault::WrongSize { found });
         }
+        let Ok(blank) = vec![in alloc; 255u8; geometry.sector as usize] else {
+            return Err(AttachFault::Memory);
+        };
+        if !is_filled(&mut self.file, &mut self.torn, found, &blank, geometry) {
+            self.faults = self.faults.saturating_add(1);
+            return Err(AttachFault::Failed);
+        }
         self.geometry = geometry;
+        self.blank = Some(blank);
+        self.asked = Trace::new();
         Ok(())
     }
 
@@ -203,11 +332,7 @@ impl<T: Read + Write + Seek + OpenFile + Drop> Flash for FileFlash<T> {
         ensures read { IsRead address self.old.told into.old result into.new self.new.told }
         ensures never_off { result ≢ FlashAnswer.Off }
     {
-        let done = match &mut self.file {
-            Some(file) => read_at(file, address as u64, into).is_ok(),
-            None => false,
-        };
-        if done {
+        if is_read(&mut self.file, address as u64, into) {
             return FlashAnswer::Done;
         }
         self.faults = self.faults.saturating_add(1);
@@ -217,19 +342,40 @@ impl<T: Read + Write + Seek + OpenFile + Drop> Flash for FileFlash<T> {
     fn program(&mut self, address: u32, page: &[u8]) -> FlashAnswer
         requires { HasPage self.old.told address (length page.now) }
         ensures step { IsStep (programs address page.now) self.old.told result self.new.told }
+        ensures synced { result ≡ FlashAnswer.Done → IsSynced self.new }
+        ensures on_disk { LeavesOnDisk (programs address page.now) self.old self.new }
         ensures never_off { result ≢ FlashAnswer.Off }
     {
+        let before = Trace::new().with(&self.file);
         let done = is_programmed(&mut self.file, address as u64, page);
-        self.count(done)
+        let answer = count(done, &mut self.ops, &mut self.faults);
+        let call = program_call(address, page);
+        self.asked = self.asked.with(&Asked {
+            call,
+            before,
+            answer,
+        });
+        answer
     }
 
     fn erase(&mut self, sector: u32) -> FlashAnswer
         requires { HasSector self.old.told sector }
         ensures step { IsStep (erases self.old.told.geometry sector) self.old.told result self.new.told }
+        ensures synced { result ≡ FlashAnswer.Done → IsSynced self.new }
+        ensures on_disk { LeavesOnDisk (erases self.old.told.geometry sector) self.old self.new }
         ensures never_off { result ≢ FlashAnswer.Off }
     {
-        let length = self.geometry.sector as u64;
-        let done = is_blanked(&mut self.file, sector as u64 * length, length);
-        self.count(done)
+        let before = Trace::new().with(&self.file);
+        let length = self.geometry.sector;
+        let address = sector as u64 * length as u64;
+        let done = is_blanked(&mut self.file, address, &self.blank, length);
+        let answer = count(done, &mut self.ops, &mut self.faults);
+        let call = Call::Sector { sector };
+        self.asked = self.asked.with(&Asked {
+            call,
+            before,
+            answer,
+        });
+        answer
     }
 }

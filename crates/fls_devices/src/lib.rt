@@ -3,14 +3,21 @@
 //! inner flash tells its own. What a flash is stands in `fls_model`.
 #![tactic(auto)]
 
+mod asked;
+mod byte_file;
 mod cutter;
 mod fault_script;
 mod file_flash;
 mod journal;
+mod memory_file;
 mod overlay;
 mod part;
 mod since;
+mod system_file;
 
+pub use byte_file::ByteFile;
 pub use cutter::Cutter;
 pub use fault_script::FaultScript;
 pub use file_flash::FileFlash;
+pub use memory_file::{MemFile, mem_file};
+pub use system_file::ImageFile;

@@ -2,12 +2,12 @@
 //! else is the commands'.
 #![tactic(auto)]
 
-use fls_devices::FileFlash;
+use fls_devices::{FileFlash, ImageFile};
 use fls_model::mem_flash;
 use nv_streams::{StdSink, StdSource};
 use nvm_top::{Status, command};
-use nvm_words::image_path;
-use std::alloc::AllocError;
+use nvm_words::{CommandKind, command_of, image_path};
+use std::alloc::{AllocError, Global};
 use std::process::ExitCode;
 use std::{env, io};
 
@@ -25,6 +25,27 @@ fn words(rt: &HostRuntime) -> io::Result<Vec<String>> {
     Ok(words)
 }
 
+/// The image file of these words, which `dump` reads and the others change.
+fn image<'a>(
+    rt: &'a HostRuntime,
+    path: &'a str,
+    beside: &'a str,
+    words: &[String],
+) -> ImageFile<'a, HostRuntime> {
+    match command_of(rt.alloc(), words) {
+        Ok(Some(CommandKind::Dump)) => ImageFile::to_read(rt, path),
+        _ => ImageFile::to_change(rt, path, beside),
+    }
+}
+
+/// The name under which an image file is made.
+fn beside(alloc: Global, path: &str) -> Result<String, AllocError> {
+    let mut name = String::new(alloc);
+    name.push_str(path)?;
+    name.push_str(".new")?;
+    Ok(name)
+}
+
 fn main(rt: HostRuntime) -> ExitCode {
     let alloc = rt.alloc();
     let Ok(words) = words(&rt) else {
@@ -36,10 +57,13 @@ fn main(rt: HostRuntime) -> ExitCode {
         return ExitCode::from(Status::Memory.code());
     };
     let status = match path {
-        Some(path) => {
-            let flash = FileFlash::make(&rt, path);
-            command(&rt, alloc, &words, &mut input, &mut output, flash).0
-        }
+        Some(path) => match beside(alloc, path) {
+            Ok(beside) => {
+                let flash = FileFlash::over(image(&rt, path, beside.as_str(), &words));
+                command(&rt, alloc, &words, &mut input, &mut output, flash).0
+            }
+            Err(_) => Status::Memory,
+        },
         None => match mem_flash(alloc, &[], 0) {
             Ok(flash) => command(&rt, alloc, &words, &mut input, &mut output, flash).0,
             Err(_) => Status::Memory,

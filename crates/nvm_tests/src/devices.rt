@@ -1,5 +1,5 @@
 // A flash in a file.
-use fls_devices::FileFlash;
+use fls_devices::{ByteFile, FileFlash, ImageFile, mem_file};
 use fls_model::{AttachFault, Flash};
 use nvm_laws::nv_base::Geometry;
 use std::alloc::Global;
@@ -74,4 +74,42 @@ fn an_image_file_of_another_size(rt: HostRuntime) {
 fn an_image_file_in_no_folder(rt: HostRuntime) {
     let failed = change_file(&rt, "no_such_folder/x.img");
     assert!(rt; matches!(failed, Err(AttachFault::Failed)));
+}
+
+// Whether a flash over a file in memory gives the page that was programmed.
+fn is_kept_in_memory(alloc: Global) -> bool {
+    let Ok(file) = mem_file(alloc, &[]) else {
+        return false;
+    };
+    let mut flash = FileFlash::over(file);
+    let mut page = [0; 16];
+    let changed = change_twice(alloc, &mut flash);
+    let read = erase_and_read(alloc, &mut flash, &mut page);
+    changed.is_ok() && read.is_ok() && page == [0x0c; 16]
+}
+
+#[test]
+fn keeps_an_image_in_memory(rt: HostRuntime) {
+    assert!(rt; is_kept_in_memory(rt.alloc()));
+}
+
+const LATE: &str = "fls_devices_late.img";
+
+const BESIDE: &str = "fls_devices_late.img.new";
+
+// Whether an absent file is made by the attach, and by nothing before it, with no other file left; and whether it isn't made to
+// be read.
+fn is_made_late(rt: &HostRuntime) -> bool {
+    let mut read = FileFlash::over(ImageFile::to_read(rt, LATE));
+    let failed = read.attach(rt.alloc(), SMALLEST).is_err();
+    let mut flash = FileFlash::over(ImageFile::to_change(rt, LATE, BESIDE));
+    let absent = fs::metadata(rt, LATE).is_err();
+    let changed = change_twice(rt.alloc(), &mut flash).is_ok();
+    failed && absent && changed && fs::metadata(rt, BESIDE).is_err()
+}
+
+#[test]
+fn an_image_file_is_made_at_its_attach(rt: HostRuntime) {
+    let _ = fs::remove_file(&rt, LATE);
+    assert!(rt; is_made_late(&rt) && fs::remove_file(&rt, LATE).is_ok());
 }
