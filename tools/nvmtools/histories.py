@@ -1,0 +1,129 @@
+"""The lines of a history, as docs/SCRIPT.md has them ('What you read'), and which marks may stand then (docs/MODEL.md, 'What it
+is')."""
+import re
+from collections import namedtuple
+
+RESULTS = ("done", "FAILED", "pending", "never written, no defaults", "passed over", "invalidated", "canceled",
+           "ONE COPY OF TWO", "defaults given")
+# results that aren't what was asked for
+BAD_RESULTS = (1, 3, 5, 7)
+REFUSALS = ("", "no such block", "the power is off", "no such request of this block", "no such dataset", "wrong length",
+            "no RAM", "no defaults", "not immediate", "written once", "a request for all blocks is pending",
+            "a job of this block is pending", "locked", "protected", "a ROM dataset", "nothing to cancel", "the queue is full",
+            "the history is full")
+WRITES = ("write", "invalidate", "erase")
+
+# an entry: its line, its first word, its other words, and the operations of its line, if it has them
+Entry = namedtuple("Entry", "line kind words ops")
+
+
+def entries(lines):
+    """The entries of a history, without its last line."""
+    found = []
+    for line in lines:
+        if line.startswith("end "):
+            continue
+        ops = re.search(r" ops (\d+)$", line)
+        text = line[:ops.start()] if ops else line
+        kind, _, rest = text.partition(" ")
+        found.append(Entry(line, kind, rest.split(), int(ops[1]) if ops else None))
+    return found
+
+
+def block_of(entry):
+    """The block that an entry is about, 0 for a request on all blocks, or None."""
+    if entry.kind in ("pick", "post"):
+        return int(entry.words[0])
+    if entry.kind == "wrote":
+        return int(entry.words[0].split(".")[0])
+    if entry.kind == "ask":
+        return int(entry.words[2]) if entry.words[2].isdigit() else 0
+    return None
+
+
+def refused(entry):
+    """The number of a request's refusal, or None."""
+    return int(entry.words[-1]) if entry.kind == "ask" and entry.words[-2] == "refused" else None
+
+
+def result(entry):
+    """The result of a job that ended, or None."""
+    return int(entry.words[1]) if entry.kind == "post" else None
+
+
+def mark_in(words):
+    """A mark at the beginning of some words, and how many they are; Erased is None."""
+    if words[0] == "data":
+        return words[1], 2
+    return (None if words[0] == "erased" else words[0]), 1
+
+
+def found_marks(entry):
+    """What a start-up found, by instance."""
+    words, marks = entry.words[1:], {}
+    while words:
+        mark, count = mark_in(words[1:])
+        marks[words[0]] = mark
+        words = words[1 + count:]
+    return marks
+
+
+def in_words(unit, entry):
+    """An entry as a sentence."""
+    words = entry.words
+    if entry.kind == "ask":
+        asked, _, reply = " ".join(words[1:]).partition(" -> ")
+        number = int(reply.split()[-1]) if " " in reply else 0
+        says = {"ok": "accepted", "refused": f"REFUSED: {REFUSALS[number] if number < len(REFUSALS) else number}",
+                "status": f"status: {RESULTS[number] if number < len(RESULTS) else number}",
+                "index": f"index {number}"}[reply.split()[0]]
+        return f"caller {words[0]} asks: {asked}: {says}"
+    if entry.kind == "pick":
+        return f"{unit.called(int(words[0]))}: {' '.join(words[1:])} is taken in hand"
+    if entry.kind == "wrote":
+        return f"instance {words[0]} is stored: {' '.join(words[1:])}"
+    if entry.kind == "post":
+        ended = f"{unit.called(int(words[0]))}: ended, {RESULTS[int(words[1])]}"
+        return f"{ended}: {' '.join(words[2:])}" if words[2:] else ended
+    if entry.kind == "off":
+        return "THE POWER IS OFF"
+    marks = ", ".join(f"{instance} {mark}" for instance, mark in found_marks(entry).items())
+    return f"a start-up finds {words[0]} marks" + (f": {marks}" if marks else "")
+
+
+class Marks:
+    """Which marks may stand in each instance: the settled one, and its doubts. Instances that aren't named hold nothing."""
+
+    def __init__(self, unit):
+        self.unit, self.settled, self.doubts, self.index = unit, {}, {}, {}
+
+    def add(self, entry):
+        if entry.kind == "found":
+            self.settled, self.doubts, self.index = found_marks(entry), {}, {}
+        elif entry.kind == "ask" and entry.words[1] == "setindex" and entry.words[-1] == "ok":
+            self.index[entry.words[2]] = int(entry.words[3])
+        elif entry.kind == "wrote":
+            self.settled[entry.words[0]] = mark_in(entry.words[1:])[0]
+            self.doubts.pop(entry.words[0], None)
+        elif entry.kind == "pick" and entry.words[1] in WRITES and entry.words[2:3] not in (["refused"], ["stale"]):
+            mark = entry.words[2] if entry.words[1] == "write" else "invalid" if entry.words[1] == "invalidate" else None
+            for instance in self.instances(entry.words[0]):
+                self.doubts.setdefault(instance, []).append(mark)
+
+    def instances(self, block):
+        """The instances that a write of a block works on."""
+        first = self.index.get(block, 0)
+        return [f"{block}.{first + copy}" for copy in range(self.unit.copies(int(block)))]
+
+    def wrong(self, found):
+        """The instances in which a start-up found a mark that may not stand there."""
+        every = {*found, *self.settled, *self.doubts}
+        return sorted(it for it in every if found.get(it) != self.settled.get(it)
+                      and found.get(it) not in self.doubts.get(it, []))
+
+
+def marks_behind(unit, lines):
+    marks = Marks(unit)
+    for entry in entries(lines):
+        marks.add(entry)
+    return marks
