@@ -10,8 +10,8 @@ use crate::{Config, ConfigFault, demo};
 use serde_json::Value;
 use std::alloc::Global;
 
-/// Reads a configuration from its line: `@demo`, or a JSON object. `Broken` comes exactly where the line breaks a
-/// rule, with the first broken rule by number, and within a rule with the first block.
+/// Reads a configuration from its line: `@demo`, or a JSON object. `Broken` comes only where the line breaks a rule, with
+/// the first broken rule by number, and within a rule with the first block.
 pub fn read(alloc: Global, line: &[u8]) -> Result<Config, ConfigFault>
     ensures ok { IfOk result (λ c. meaning_of line.now ≡ Ok c) }
     ensures err { IfErr result (λ fault. (fault ≡ ConfigFault.Memory) ⊎ (meaning_of line.now ≡ Err fault)) }

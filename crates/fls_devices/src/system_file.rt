@@ -2,7 +2,7 @@
 ghost use Rattle.std.specs.Prelude.{None};
 
 use crate::ByteFile;
-use std::fs::{File, OpenFile, OpenOptions};
+use std::fs::{File, OpenFile, OpenOptions, symlink_metadata};
 use std::io;
 use std::io::ErrorKind;
 use std::os::unix::fs::FileExt;
@@ -70,8 +70,9 @@ fn sync_folder<R: Files>(rt: &R, path: &str) -> io::Result<()> {
 }
 
 /// An image file that is opened by the first call of `size`, so what ends before its flash is attached makes none. Where it is to
-/// be changed and is absent, or has no bytes, it is made under another name, and gets its own with its first sync: so under its
-/// own name it is whole, whenever the program ends. Its folder's entry of it is synced then too.
+/// be changed and nothing has its path, it is made under another name, and gets its own with its first sync: so under its own name
+/// it is whole, whenever the program ends. Its folder's entry of it is synced then too. What has its path is filled in its place,
+/// so that no device, link or empty file is replaced.
 #[derive(Drop)]
 pub struct ImageFile<'a, R: Files> {
     rt: &'a R,
@@ -123,17 +124,18 @@ where
             return Ok(());
         };
         match open_apart(self.rt, self.path, true, false) {
-            Ok(mut file) => {
-                if file.size()? != 0 {
-                    self.file = Some(file);
-                    return Ok(());
-                }
-            }
             Err(error) if error.kind() == ErrorKind::NotFound => {}
-            Err(error) => return Err(error),
+            opened => {
+                self.file = Some(opened?);
+                return Ok(());
+            }
         }
-        self.file = Some(make_apart(self.rt, beside)?);
-        self.unnamed = true;
+        self.unnamed = symlink_metadata(self.rt, self.path).is_err();
+        self.file = Some(if self.unnamed {
+            make_apart(self.rt, beside)?
+        } else {
+            open_apart(self.rt, self.path, true, true)?
+        });
         Ok(())
     }
 

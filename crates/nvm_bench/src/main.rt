@@ -7,9 +7,9 @@ use fls_model::mem_flash;
 use nv_streams::{StdSink, StdSource};
 use nvm_top::{Status, command};
 use nvm_words::{CommandKind, command_of, image_path};
-use std::alloc::AllocError;
+use std::alloc::{AllocError, Global};
 use std::process::ExitCode;
-use std::{env, fs, io};
+use std::{env, io};
 
 /// The words after the program's name; no words, which are of no command, where one of them isn't UTF-8.
 fn words(rt: &HostRuntime) -> io::Result<Vec<String>> {
@@ -38,14 +38,11 @@ fn image<'a>(
     }
 }
 
-/// The name under which an image file is made: another one until it is whole where nothing has its path, and else its own, so
-/// that no device, link or empty file that stands there is replaced.
-fn beside(rt: &HostRuntime, path: &str) -> Result<String, AllocError> {
-    let mut name = String::new(rt.alloc());
+/// The name under which an image file is made, where nothing has its path, until it is whole.
+fn beside(alloc: Global, path: &str) -> Result<String, AllocError> {
+    let mut name = String::new(alloc);
     name.push_str(path)?;
-    if fs::symlink_metadata(rt, path).is_err() {
-        name.push_str(".new")?;
-    }
+    name.push_str(".new")?;
     Ok(name)
 }
 
@@ -60,7 +57,7 @@ fn main(rt: HostRuntime) -> ExitCode {
         return ExitCode::from(Status::Memory.code());
     };
     let status = match path {
-        Some(path) => match beside(&rt, path) {
+        Some(path) => match beside(alloc, path) {
             Ok(beside) => {
                 let flash = FileFlash::over(image(&rt, path, beside.as_str(), &words));
                 command(&rt, alloc, &words, &mut input, &mut output, flash).0
