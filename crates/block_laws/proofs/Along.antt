@@ -1,6 +1,6 @@
 -- What each allowed entry keeps, a legal history keeps; and what an Ask leaves.
 use Rattle.std.proofs.Common.{◌≡◌, ℕ, List, [], ◌∷◌, Option, Some, None, refl}
-use Rattle.block_machine.specs.Words.{Entry, Configuration, Request, SetIndex, SetProtection, SetLock, SetRam, PutRam, ReadAll, WriteAll, CancelWriteAll, Reply, Accepted, Refused, StatusIs, IndexIs, JobKind}
+use Rattle.block_machine.specs.Words.{Entry, Configuration, Request, SetIndex, Reply, Accepted, JobKind}
 use Rattle.block_machine.specs.State.{State}
 use Rattle.block_machine.specs.Blocks.{job_kind}
 use Rattle.block_machine.specs.Steps.{step, after_from, changed, accepted_by, asked}
@@ -10,27 +10,18 @@ pub kept_along : (c : Configuration) (cap : ℕ) (P : State → Type 0) → ((s 
 kept_along c cap P keeps s [] legal holds = holds
 kept_along c cap P keeps s (e ∷ es) legal holds = kept_along c cap P keeps (step c s e) es legal.1 (keeps s e legal.0 holds)
 
--- a start-up stands still, and the job in hand is the same
+-- a start-up, the job in hand and the power stay
 abbrev pub Leaves : State → State → Type 0
-Leaves s t = (t.started ≡ s.started) × (t.hand ≡ s.hand)
+Leaves s t = (t.started ≡ s.started) × (t.hand ≡ s.hand) × (t.off ≡ s.off)
 
 changed_leaves : (c : Configuration) (s : State) (r : Request) → Leaves s (changed c s r)
-changed_leaves c s (SetIndex block index) = (refl, refl)
-changed_leaves c s (SetProtection block on) = (refl, refl)
-changed_leaves c s (SetLock block on) = (refl, refl)
-changed_leaves c s (SetRam block on) = (refl, refl)
-changed_leaves c s (PutRam block content) = (refl, refl)
-changed_leaves c s ReadAll = (refl, refl)
-changed_leaves c s WriteAll = (refl, refl)
-changed_leaves c s CancelWriteAll = (refl, refl)
-changed_leaves c s r = (refl, refl)
+changed_leaves c s (SetIndex block index) = (refl, refl, refl)
+changed_leaves c s r = (refl, refl, refl)
 
 accepted_leaves : (c : Configuration) (s : State) (r : Request) (kind : Option JobKind) → Leaves s (accepted_by c s r kind)
-accepted_leaves c s r (Some kind) = (refl, refl)
+accepted_leaves c s r (Some kind) = (refl, refl, refl)
 accepted_leaves c s r None = changed_leaves c s r
 
 pub asked_leaves : (c : Configuration) (s : State) (r : Request) (reply : Reply) → Leaves s (asked c s r reply)
 asked_leaves c s r Accepted = accepted_leaves c s r (job_kind r)
-asked_leaves c s r (Refused x) = (refl, refl)
-asked_leaves c s r (StatusIs x) = (refl, refl)
-asked_leaves c s r (IndexIs x) = (refl, refl)
+asked_leaves c s r reply = (refl, refl, refl)

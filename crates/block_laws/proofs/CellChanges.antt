@@ -1,5 +1,5 @@
 -- The cell of an instance behind each entry.
-use Rattle.std.specs.Prelude.{slice_set, get_or, cond}
+use Rattle.std.specs.Prelude.{cond}
 use Rattle.std.specs.Option.{option_map_or, option_and_then}
 use Rattle.std.proofs.Common.{◌≡◌, ℕ, zero, suc, ◌==◌, ◌&&◌, Bool, true, false, if◌then◌else◌, List, [], ◌∷◌, map, Contains, refl, sym, ap, ◌∙◌, subst, inl, inr, arith, Option, Some, None, is_some}
 use Rattle.std.proofs.lemmas.Bool.{cases_Bool}
@@ -9,13 +9,14 @@ use Rattle.block_machine.specs.nv_base.declared.instance.DeviceNumber.{DeviceNum
 use Rattle.block_machine.specs.block_config.Lengths.{lengths_of}
 use Rattle.block_machine.specs.Words.{Pending, Instance, Mark, JobKind, Taken, Entry, Ask, Pick, Wrote, Post, Off, Found, Configuration}
 use Rattle.block_machine.specs.State.{State, BlockState, InstanceState, Job}
-use Rattle.block_machine.specs.Blocks.{block_at, no_block, desc_of, is_in, indices_by, indices_of, same_instance, instance_at, job_block, mark_of}
+use Rattle.block_machine.specs.Blocks.{block_at, desc_of, is_in, indices_by, indices_of, same_instance, instance_at, job_block, mark_of}
 use Rattle.block_machine.specs.Sweeps.{member_job}
 use Rattle.block_machine.specs.Next.{Next, Nothing, PickJob, BeginSweep, PickMember, PostMember, EndSweep, next_of}
 use Rattle.block_machine.specs.StartUp.{found_instance}
 use Rattle.block_machine.specs.Steps.{step, with_doubt, settled_in, with_member, picked_job, picked, wrote}
 use Rattle.block_machine.specs.Legal.{MayPick, MayWrite, IsAllowed}
 use Rattle.block_laws.specs.Laws.{is_found, cell_by, CellsChange, FoundCells, FoundIsSettled}
+use Rattle.block_laws.proofs.BlockFields.{field_kept}
 use Rattle.block_laws.proofs.HistoryLaws.{asks_are_local}
 use Rattle.block_laws.proofs.ConsistentSteps.{idle}
 use Rattle.block_laws.proofs.MarkCells.{at_instance, same_is, same_from}
@@ -70,13 +71,6 @@ settled_cell i w mark xs x is =
 
 -- PICK
 
-index_kept : (bs : List BlockState) (id : ℕ) (b : BlockState) (n : ℕ) → b.index ≡ (get_or bs id no_block).index → (get_or (slice_set bs id b) n no_block).index ≡ (get_or bs n no_block).index
-index_kept [] id b n same = refl
-index_kept (x ∷ bs) zero b zero same = same
-index_kept (x ∷ bs) zero b (suc n) same = refl
-index_kept (x ∷ bs) (suc id) b zero same = refl
-index_kept (x ∷ bs) (suc id) b (suc n) same = index_kept bs id b n same
-
 abbrev Changed : Configuration → State → Instance → InstanceState → ℕ → Option Mark → Option InstanceState
 Changed c s i x block o = Some (record x { cell = option_map_or (λ mark. if (i.block == block) && is_in (indices_of c s block) i.index then doubted mark x.cell else x.cell) o x.cell })
 
@@ -92,7 +86,7 @@ picked_cell c s i x block kind t (PickJob j) next may is =
 picked_cell c s i x block kind t (PickMember sw id) next may is =
     let j = member_job c sw id in
     let after = picked_job t (if is_some s.hand then 2 else 0) j in
-    let same : (block_at (with_member s sw id) (job_block j)).index ≡ (block_at s (job_block j)).index = index_kept s.blocks id (record (block_at s id) { status = Pending }) (job_block j) refl in
+    let same : (block_at (with_member s sw id) (job_block j)).index ≡ (block_at s (job_block j)).index = field_kept (λ (x : BlockState). x.index) s.blocks id (record (block_at s id) { status = Pending }) (job_block j) refl in
     subst (λ (n : ℕ). at_instance i (picked c s t (PickMember sw id)).instances ≡ Changed c s i x n (mark_of after)) (sym may.same_block)
     (subst (λ (k : ℕ). at_instance i (picked c s t (PickMember sw id)).instances
     ≡ Some (record x { cell = option_map_or (λ mark. if (i.block == job_block j) && is_in (indices_by (desc_of c (job_block j)).kind (desc_of c (job_block j)).nv k) i.index then doubted mark x.cell else x.cell) (mark_of after) x.cell })) same

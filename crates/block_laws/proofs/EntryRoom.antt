@@ -2,7 +2,7 @@
 use Rattle.std.specs.Prelude.{Contains, option_to_list}
 use Rattle.std.specs.Option.{option_map_or}
 use Rattle.std.proofs.Common.{◌≡◌, ℕ, ◌+◌, ◌-◌, ◌<◌, ◌≤◌, ◌&&◌, not, Bool, true, false, if◌then◌else◌, List, [], ◌∷◌, ◌++◌, drop, length, refl, sym, ap, ◌∙◌, subst, arith, Option, Some, None, IfSome, IsTrue, option_map, sum_by}
-use Rattle.std.proofs.lemmas.Bool.{true≢false}
+use Rattle.std.proofs.lemmas.Bool.{true≢false, not-false}
 use Rattle.std.proofs.lemmas.List.Sums.{sum_by-append, sum_by-cons}
 use Rattle.block_machine.specs.Words.{ReqResult, Instance, Mark, Request, Read, Write, Restore, Erase, Invalidate, SetIndex, SetProtection, SetLock, SetRam, PutRam, Status, GetIndex, ReadAll, WriteAll, CancelWriteAll, Reply, Accepted, Refused, StatusIs, IndexIs, MultiPending, HistoryFull, JobKind, Taken, Entry, Ask, Pick, Wrote, Post, Off, Found, Configuration}
 use Rattle.block_machine.specs.State.{State, Job, Sweep, jobs_of}
@@ -192,12 +192,8 @@ driver_entries_are_reserved c cap s (Found marks ops) h allowed uses = cc
 
 -- ASKS
 
-not_false : (b : Bool) → not b ≡ false → b ≡ true
-not_false true e = refl
-not_false false e = cc
-
 passed_room : (c : Configuration) (cap : ℕ) (s : State) (r : Request) → reply_of c cap s r ≡ Accepted → Contains (tested r) HistoryFull → holds c cap s HistoryFull r ≡ not (fits c cap s (1 + needed c r)) → s.count + reserved_entries c s + (1 + needed c r) ≤ cap
-passed_room c cap s r is has same = (fitting_has_room c cap s (1 + needed c r)).0 (not_false (fits c cap s (1 + needed c r)) (sym same ∙ accepted_pass c cap s r HistoryFull is has))
+passed_room c cap s r is has same = (fitting_has_room c cap s (1 + needed c r)).0 (not-false (fits c cap s (1 + needed c r)) (sym same ∙ accepted_pass c cap s r HistoryFull is has))
 
 -- an accepted request has room for its entry and for those that it needs
 room_for : (c : Configuration) (cap : ℕ) (s : State) (r : Request) → reply_of c cap s r ≡ Accepted → IsTrue (fits c cap s 1) → s.count + reserved_entries c s + (1 + needed c r) ≤ cap

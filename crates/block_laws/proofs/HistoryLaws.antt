@@ -1,6 +1,7 @@
 -- How histories grow, and what a request changes.
 use Rattle.std.specs.List.{list_any}
-use Rattle.std.proofs.Common.{◌≡◌, ◌≢◌, ℕ, ◌+◌, Bool, true, false, ◌||◌, List, [], ◌∷◌, ◌++◌, length, refl, ap, arith, Option, Some, None}
+use Rattle.std.proofs.Common.{◌≡◌, ◌≢◌, ℕ, ◌+◌, Bool, true, false, List, [], ◌∷◌, ◌++◌, length, refl, ap, arith, Option, Some, None}
+use Rattle.std.proofs.lemmas.Bool.{or_right}
 use Rattle.std.proofs.lemmas.List.{get_or-set_other}
 use Rattle.block_machine.specs.Words.{Pending, Request, SetIndex, SetProtection, SetLock, SetRam, PutRam, ReadAll, WriteAll, Accepted, Refused, StatusIs, IndexIs, Entry, Configuration, JobKind}
 use Rattle.block_machine.specs.State.{State, BlockState}
@@ -78,13 +79,9 @@ any_late : (k : ℕ) (h : List Entry) (e : Entry) → is_driver_until k e ≡ fa
 any_late k [] e late = rw late refl
 any_late k (x ∷ h) e late = rw (any_late k h e late) refl
 
-or_true : (b : Bool) → (b || true) ≡ true
-or_true true = refl
-or_true false = refl
-
 any_early : (k : ℕ) (h : List Entry) (e : Entry) → is_driver_until k e ≡ true → list_any (is_driver_until k) (h ++ e ∷ []) ≡ true
 any_early k [] e early = rw early refl
-any_early k (x ∷ h) e early = rw (any_early k h e early) (or_true (is_driver_until k x))
+any_early k (x ∷ h) e early = rw (any_early k h e early) (or_right (is_driver_until k x) true refl)
 
 pub late_entries_are_cut_off : LateEntriesAreCutOff
 late_entries_are_cut_off k [] e late = rw late refl
@@ -92,7 +89,7 @@ late_entries_are_cut_off k (x ∷ h) e late = rw (any_late k h e late, late_entr
 
 pub early_entries_are_kept : EarlyEntriesAreKept
 early_entries_are_kept k [] e early = rw early refl
-early_entries_are_kept k (x ∷ h) e early = rw (any_early k h e early, or_true (is_driver_until k x), early_entries_are_kept k h e early) refl
+early_entries_are_kept k (x ∷ h) e early = rw (any_early k h e early, or_right (is_driver_until k x) true refl, early_entries_are_kept k h e early) refl
 
 beginning_by : (k : ℕ) (x : Entry) (h : List Entry) (b : Bool) → list_any (is_driver_until k) (x ∷ h) ≡ b → ((more : List Entry) × (h ≡ up_to k h ++ more)) → (more : List Entry) × (x ∷ h ≡ up_to k (x ∷ h) ++ more)
 beginning_by k x h true is rest = rw is (rest.0, ap (λ es. x ∷ es) rest.1)

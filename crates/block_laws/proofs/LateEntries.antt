@@ -1,7 +1,7 @@
 -- Entries that come after the last operation change no mark.
 use Rattle.std.specs.List.{list_any}
-use Rattle.std.proofs.Common.{◌≡◌, ℕ, ◌<◌, ◌≤◌, ◌||◌, nat_le, Bool, true, false, List, [], ◌∷◌, refl, sym, ◌∙◌, subst, ◌⊎◌, inl, inr, arith}
-use Rattle.std.proofs.lemmas.Bool.{cases_Bool}
+use Rattle.std.proofs.Common.{◌≡◌, ℕ, ◌<◌, ◌≤◌, nat_le, false, List, [], ◌∷◌, refl, sym, ◌∙◌, subst, ◌⊎◌, inl, inr, arith}
+use Rattle.std.proofs.lemmas.Bool.{cases_Bool, or_parts}
 use Rattle.std.proofs.lemmas.Bool.Decides.{nat_tests}
 use Rattle.block_machine.specs.Words.{Entry, Ask, Pick, Wrote, Post, Off, Found, Configuration}
 use Rattle.block_machine.specs.State.{State, InstanceState}
@@ -11,10 +11,6 @@ use Rattle.block_machine.specs.History.{is_driver_until, up_to, MayStandIn}
 use Rattle.block_laws.specs.Laws.{AllowedStandNow, InstancesStandNow}
 use Rattle.block_laws.proofs.HistoryLaws.{asks_are_local}
 use Rattle.block_laws.proofs.MarkCells.{at_instance}
-
-neither : (p q : Bool) → (p || q) ≡ false → (p ≡ false) × (q ≡ false)
-neither true q is = cc
-neither false q is = (refl, is)
 
 late_ops : (ops k : ℕ) → nat_le ops k ≡ false → k < ops
 late_ops ops k is = grind (arith, nat_tests)
@@ -38,7 +34,7 @@ late_on k s t u first (inr more) = inr more
 late_by : (c : Configuration) (k : ℕ) (s : State) (es : List Entry) → list_any (is_driver_until k) es ≡ false → IsLate k s (after_from c s es)
 late_by c k s [] late = inl (refl, refl)
 late_by c k s (e ∷ es) late =
-    let (one, rest) = neither (is_driver_until k e) (list_any (is_driver_until k) es) late in
+    let (one, rest) = or_parts (is_driver_until k e) (list_any (is_driver_until k) es) late in
     late_on k s (step c s e) (after_from c (step c s e) es) (late_one c k s e one) (late_by c k (step c s e) es rest)
 
 up_to_same : (c : Configuration) (k : ℕ) (s : State) (es : List Entry) → (after_from c s es).ops ≤ k → (after_from c s (up_to k es)).instances ≡ (after_from c s es).instances

@@ -2,6 +2,9 @@ pub mod FailedSets
 pub mod HistoryLaws
 pub mod NextLaws
 pub mod JobLists
+pub mod BlockFields
+pub mod InstanceIndices
+pub mod InstanceNumbers
 pub mod Consistency
 pub mod NextFacts
 pub mod ConsistentSteps

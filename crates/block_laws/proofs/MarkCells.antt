@@ -1,7 +1,7 @@
 -- Cells of instances under Pick, Wrote, Post and Found.
 use Rattle.std.specs.Prelude.{get_or, find, cond}
 use Rattle.std.proofs.Common.{◌≡◌, ℕ, zero, suc, ◌==◌, ◌&&◌, ◌||◌, Bool, true, false, List, [], ◌∷◌, ◌++◌, map, Contains, refl, sym, ap, ◌∙◌, subst, ◌⊎◌, inl, inr, arith, Option, Some, None}
-use Rattle.std.proofs.lemmas.Bool.{cases_Bool, eq-eqb}
+use Rattle.std.proofs.lemmas.Bool.{and_parts, cases_Bool, eq-eqb, or_parts}
 use Rattle.std.proofs.lemmas.Bool.Decides.{nat_tests}
 use Rattle.std.proofs.lemmas.List.Elements.{Contains-append_right, Contains-append_cases}
 use Rattle.std.proofs.lemmas.List.Folds.{list_any-append}
@@ -60,11 +60,6 @@ both : (p q : Bool) → p ≡ true → q ≡ true → (p && q) ≡ false → ⊥
 both true true a b no_ = cc
 both true false a b no_ = cc
 both false q a b no_ = cc
-
-parts : (p q : Bool) → (p && q) ≡ true → (p ≡ true) × (q ≡ true)
-parts true true is = (refl, refl)
-parts true false is = cc
-parts false q is = cc
 
 pub some_mark : (x y : Mark) → Some x ≡ Some y → x ≡ y
 some_mark x y e = cc
@@ -126,7 +121,7 @@ doubt_here i m id indices mark x on same (inr has) = elim (Contains-append_cases
   | inl before ↦ inl (inr before)
   | inr (k, within, is) ↦
       let (b, n) = same_parts i x.instance same in
-      let (eb, en) = parts (x.instance.block == id) (is_in indices x.instance.index) on in
+      let (eb, en) = and_parts (x.instance.block == id) (is_in indices x.instance.index) on in
       let first : k ≡ 0 = omega (arith, within) in
       let at : mark ≡ m = rw first at is in
       inr (ap Some at, b ∙ grind (arith, nat_tests, eb), rw n en)
@@ -166,12 +161,8 @@ either false q is = inr is
 last_in : (w n : ℕ) → is_in (w ∷ []) n ≡ true → w ≡ n
 last_in w n is = grind (arith, nat_tests)
 
-neither : (p q : Bool) → (p || q) ≡ false → (p ≡ false) × (q ≡ false)
-neither true q is = cc
-neither false q is = (refl, is)
-
 not_written : (ws : List ℕ) (w n : ℕ) → is_in (ws ++ w ∷ []) n ≡ false → (is_in ws n ≡ false) × (is_in (w ∷ []) n ≡ false)
-not_written ws w n is = neither (is_in ws n) (is_in (w ∷ []) n) (sym (list_any-append (λ k. k == n) ws (w ∷ [])) ∙ is)
+not_written ws w n is = or_parts (is_in ws n) (is_in (w ∷ []) n) (sym (list_any-append (λ k. k == n) ws (w ∷ [])) ∙ is)
 
 wrote_fits : (c : Configuration) (bs : List BlockState) (j : Job) (w : Instance) (mark : Mark) (e : ℕ) (x : InstanceState) → Writes c bs j w mark → FitsJob c bs j x → same_instance w x.instance ≡ false → FitsJob c bs (record j { reserved = e; written = j.written ++ w.index ∷ [] }) x
 wrote_fits c bs j w mark e x writes fits off = record {

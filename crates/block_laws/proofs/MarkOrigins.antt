@@ -1,6 +1,6 @@
 -- Where the marks come from that may stand after a legal history, and how old they are.
 use Rattle.std.specs.Prelude.{slice_get}
-use Rattle.std.proofs.Common.{◌≡◌, ℕ, ◌+◌, ◌<◌, true, List, [], ◌∷◌, ◌++◌, length, Contains, refl, sym, ap, ◌∙◌, subst, ◌⊎◌, inl, inr, arith, append_assoc, length-append, Option, Some, None, IfSome, IsTrue, is_some, if◌then◌else◌}
+use Rattle.std.proofs.Common.{◌≡◌, ℕ, ◌+◌, ◌<◌, true, false, List, [], ◌∷◌, ◌++◌, length, Contains, refl, sym, ap, ◌∙◌, subst, ◌⊎◌, inl, inr, arith, append_assoc, length-append, Option, Some, None, IfSome, IsTrue, is_some, if◌then◌else◌}
 use Rattle.std.proofs.lemmas.List.{get_or_at}
 use Rattle.std.proofs.lemmas.Option.{slice_get-get_or}
 use Rattle.block_machine.specs.block_config.Lengths.{lengths_of}
@@ -15,7 +15,7 @@ use Rattle.block_machine.specs.Legal.{IsPost, MayPick, MayWrite, MayPost, IsAllo
 use Rattle.block_machine.specs.History.{MayStandIn}
 use Rattle.block_machine.specs.Accepted.{AtOne, AsksFor, IsAskOf, HasTaken, Takes, Brings, Tells, Acknowledges, IsTakenIn, IsNotOlderFrom}
 use Rattle.block_laws.specs.Consistent.{IsJobInHand}
-use Rattle.block_laws.specs.Laws.{MarksAreBrought, MarksAreNotOlder}
+use Rattle.block_laws.specs.Laws.{is_found, MarksAreBrought, MarksAreNotOlder}
 use Rattle.block_laws.proofs.Along.{asked_leaves}
 use Rattle.block_laws.proofs.HistoryLaws.{asks_are_local}
 use Rattle.block_laws.proofs.ConsistentSteps.{at_first_consistent}
@@ -54,6 +54,13 @@ starts c cap s (Wrote i mark ops) allowed = wrote_stays s i mark s.hand ∙ allo
 starts c cap s (Post block r given refused ops) allowed = (posted_stays c s r given s.hand).0 ∙ allowed.0.started
 starts c cap s (Off ops) allowed = allowed.started
 starts c cap s (Found marks ops) allowed = refl
+
+-- and stands before each but a start-up's own
+pub stood : (c : Configuration) (cap : ℕ) (s : State) (e : Entry) → IsAllowed c cap s e → is_found e ≡ false → IsTrue s.started
+stood c cap s (Ask caller r reply) allowed found = allowed.started
+stood c cap s (Off ops) allowed found = allowed.started
+stood c cap s (Found marks ops) allowed found = cc
+stood c cap s e allowed found = allowed.0.started
 
 ask_of : (h : List Entry) (j : Job) (i : Instance) (m : Mark) → HasAsk h j.number j.request j.content → i.block ≡ job_block j → mark_of j ≡ Some m → IsAskOf h j.number i.block m
 ask_of h j i m (request, (caller, stands), suits) block takes = record { caller = caller; request = request; stands = stands; asks = subst (λ (id : ℕ). AsksFor request id m) (sym block) (asks_for request j.request j.content m suits takes) }

@@ -6,7 +6,7 @@ use Rattle.std.proofs.Common.{◌≡◌, ℕ, suc, ◌==◌, ◌&&◌, not, Bool
 use Rattle.std.proofs.lemmas.Bool.{cases_Bool}
 use Rattle.std.proofs.lemmas.Slice.Eq.{bytes_eq-Decides}
 use Rattle.block_machine.specs.nv_base.Result.{code_of}
-use Rattle.block_machine.specs.Words.{ReqResult, Fine, NotOk, Pending, IntegrityFailed, BlockSkipped, Invalidated, Canceled, RedundancyFailed, Restored, Mark, Content, Invalid, Erased, JobKind, ReadJob, WriteJob, RestoreJob, EraseJob, InvalidateJob, ReadAllJob, WriteAllJob, Outcome, WroteMark, ReadContent, FoundErased, FoundInvalid, GivenFrom, FromDevice, Configuration}
+use Rattle.block_machine.specs.Words.{ReqResult, Fine, NotOk, Pending, IntegrityFailed, Canceled, RedundancyFailed, Mark, Content, Invalid, Erased, JobKind, ReadJob, WriteJob, RestoreJob, EraseJob, InvalidateJob, ReadAllJob, WriteAllJob, Outcome, WroteMark, ReadContent, FoundErased, FoundInvalid, GivenFrom, FromDevice, Configuration}
 use Rattle.block_machine.specs.State.{State, Job}
 use Rattle.block_machine.specs.Blocks.{is_pending, desc_of, is_in, indices_of, settled_at, job_block, kind_of}
 use Rattle.block_machine.specs.Sweeps.{is_done}
@@ -72,22 +72,8 @@ result_ends false true id a ends = checked_ends id a ends
 
 same_code : (x r : ReqResult) → (code_of x == code_of r) ≡ true → is_pending x ≡ false → is_pending r ≡ false
 same_code Pending r same ends = cc
-same_code Fine Pending same ends = cc
-same_code NotOk Pending same ends = cc
-same_code IntegrityFailed Pending same ends = cc
-same_code BlockSkipped Pending same ends = cc
-same_code Invalidated Pending same ends = cc
-same_code Canceled Pending same ends = cc
-same_code RedundancyFailed Pending same ends = cc
-same_code Restored Pending same ends = cc
-same_code x Fine same ends = refl
-same_code x NotOk same ends = refl
-same_code x IntegrityFailed same ends = refl
-same_code x BlockSkipped same ends = refl
-same_code x Invalidated same ends = refl
-same_code x Canceled same ends = refl
-same_code x RedundancyFailed same ends = refl
-same_code x Restored same ends = refl
+same_code x Pending same ends = cc
+same_code x r same ends = refl
 
 -- POSTS
 
@@ -212,13 +198,7 @@ same_done Fine r same done = refl
 same_done RedundancyFailed r same done = refl
 same_done x Fine same done = cc
 same_done x RedundancyFailed same done = cc
-same_done x NotOk same done = cc
-same_done x Pending same done = cc
-same_done x IntegrityFailed same done = cc
-same_done x BlockSkipped same done = cc
-same_done x Invalidated same done = cc
-same_done x Canceled same done = cc
-same_done x Restored same done = cc
+same_done x r same done = cc
 
 checked_done : (id : Option (List ℕ)) (a : Answer) → is_done (checked_id id a).0 ≡ true → checked_id id a ≡ a
 checked_done id a done = elim (cases_Bool (option_eq bytes_eq a.1 id)) [

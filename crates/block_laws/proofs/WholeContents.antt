@@ -3,8 +3,8 @@ use Rattle.std.specs.Prelude.{slice_set, get_or, slice_get, find, cond, unwrap_o
 use Rattle.std.specs.List.{enumerate_from, list_all}
 use Rattle.std.specs.Option.{option_eq, option_and_then}
 use Rattle.std.specs.Str.{bytes_eq}
-use Rattle.std.proofs.Common.{◌≡◌, ℕ, zero, suc, ◌==◌, ◌+◌, ◌-◌, ◌&&◌, ◌||◌, not, Bool, true, false, if◌then◌else◌, List, [], ◌∷◌, drop, length, map, filter, refl, sym, ap, ◌∙◌, subst, inl, inr, arith, Option, Some, None, IfSome, is_some}
-use Rattle.std.proofs.lemmas.Bool.{cases_Bool, eq-eqb}
+use Rattle.std.proofs.Common.{◌≡◌, ℕ, zero, suc, ◌==◌, ◌+◌, ◌-◌, ◌&&◌, not, Bool, true, false, if◌then◌else◌, List, [], ◌∷◌, drop, length, map, filter, refl, sym, ap, ◌∙◌, subst, inl, inr, arith, Option, Some, None, IfSome, is_some}
+use Rattle.std.proofs.lemmas.Bool.{cases_Bool, eq-eqb, or_right}
 use Rattle.std.proofs.lemmas.Bool.Decides.{nat_tests}
 use Rattle.std.proofs.lemmas.List.{length-replicate}
 use Rattle.std.proofs.lemmas.List.Elements.{Contains-append_cases}
@@ -141,17 +141,13 @@ started_ram c marks n [] k keeps = refl
 started_ram c marks n (b ∷ bs) zero keeps = let same : n + 0 ≡ n = omega arith in let on : keeps_ram c n ≡ true = rw same at keeps in rw on (length-replicate b.length 0)
 started_ram c marks n (b ∷ bs) (suc k) keeps = let same : n + suc k ≡ n + 1 + k = omega arith in started_ram c marks (n + 1) bs k (rw same at keeps)
 
-or_one : (p q : Bool) → q ≡ true → (p || q) ≡ true
-or_one true q is = refl
-or_one false q is = is
-
 ram_kind : (ram : RamKind) → has_no_ram ram ≡ false → is_synchronized ram ≡ false → is_permanent ram ≡ true
 ram_kind NoRamBlock some plain = cc
 ram_kind Permanent some plain = refl
 ram_kind Sync some plain = cc
 
 pub takes_ram : (c : Configuration) (id : ℕ) → has_no_ram (desc_of c id).ram ≡ false → MayTakeRam c id
-takes_ram c id some plain = or_one (id == 1) (is_permanent (desc_of c id).ram) (ram_kind (desc_of c id).ram some plain)
+takes_ram c id some plain = or_right (id == 1) (is_permanent (desc_of c id).ram) (ram_kind (desc_of c id).ram some plain)
 
 -- PICK
 

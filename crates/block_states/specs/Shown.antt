@@ -2,18 +2,12 @@
 use Rattle.std.specs.Prelude.{ℕ, Bool, List, [], ◌∷◌, map, length, if◌then◌else◌}
 use Rattle.ram_blocks.specs.declared.kept.RamBlock.{RamBlock}
 use Rattle.block_machine.specs.State.{BlockState}
+use Rattle.block_machine.specs.Blocks.{no_block}
 use Rattle.block_states.specs.declared.facts.BlockFacts.{BlockFacts}
+use Rattle.block_states.specs.States.{with_facts, with_flags}
 
 abbrev pub state_of : BlockFacts → RamBlock → BlockState
-state_of f r = record {
-  status = f.status;
-  index = f.index;
-  locked = f.locked;
-  protected = f.protected;
-  ram = r.content;
-  valid = r.flags.valid;
-  changed = r.flags.changed;
-}
+state_of f r = with_flags r.flags (with_facts f (record no_block { ram = r.content }))
 
 -- by id
 abbrev pub states_of : List BlockFacts → List RamBlock → List BlockState

@@ -110,31 +110,19 @@ impl BlockStates {
     }
 
     /// Locks a block, or unlocks it.
-    pub fn set_locked(&mut self, id: u16, on: bool)
-        ensures { self.new ≡ changed_at id (λ b. record b { locked = on }) self.old }
+    pub fn set_locked(&mut self, id: u16, locked: bool)
+        ensures { self.new ≡ changed_at id (λ b. record b { locked = locked }) self.old }
     {
         let facts = self.facts(id);
-        self.set_facts(
-            id,
-            BlockFacts {
-                locked: on,
-                ..facts
-            },
-        );
+        self.set_facts(id, BlockFacts { locked, ..facts });
     }
 
     /// Protects a block, or ends its protection.
-    pub fn set_protected(&mut self, id: u16, on: bool)
-        ensures { self.new ≡ changed_at id (λ b. record b { protected = on }) self.old }
+    pub fn set_protected(&mut self, id: u16, protected: bool)
+        ensures { self.new ≡ changed_at id (λ b. record b { protected = protected }) self.old }
     {
         let facts = self.facts(id);
-        self.set_facts(
-            id,
-            BlockFacts {
-                protected: on,
-                ..facts
-            },
-        );
+        self.set_facts(id, BlockFacts { protected, ..facts });
     }
 
     /// Says whether the RAM of a block is valid and changed.

@@ -1,7 +1,6 @@
 -- The next page of the open job's record, from what its call answers.
 use Rattle.std.specs.Prelude.{IfSome, IsSome, take}
 use Rattle.std.proofs.Common.{◌≡◌, ◌++◌, ◌∷◌, [], ℕ, Bool, true, false, List, Option, Some, None, sym, ap, ◌∙◌, subst}
-use Rattle.nv_base.specs.declared.instance.DeviceNumber.{DeviceNumber}
 use Rattle.fls_model.specs.declared.flash.FlashAnswer.{FlashAnswer}
 use Rattle.fls_model.specs.Op.{Op}
 use Rattle.fls_model.specs.Step.{IsStep, OffOrAsked, IsAsked}
@@ -10,15 +9,20 @@ use Rattle.fls_jobs.specs.State.{FlsState, IsDriverState}
 use Rattle.fls_jobs.specs.CallOf.{closed_as}
 use Rattle.fee_format.specs.declared.rec_head.RecHead.{RecHead}
 use Rattle.fee_log.specs.Log.{work_in}
-use Rattle.fee_log.specs.Step.{IsPageOf, due_bytes, op_of, after_step}
+use Rattle.fee_log.specs.Step.{IsPageOf, due_bytes, op_of}
 use Rattle.fee_switch.specs.Banks.{BanksState}
 use Rattle.promise_device.specs.Making.{Making}
 use Rattle.fee_told.specs.Clock.{change_of}
 use Rattle.fee_laws.specs.declared.job.FeeJob.{FeeJob}
 use Rattle.fee_laws.specs.Inside.{Parts, IsAtWork, body_of}
 use Rattle.fee_laws.specs.Record.{IsInWork, head_of}
-use Rattle.fee_laws.specs.Turn.{IsOn, Drives}
+use Rattle.fee_laws.specs.Turn.{Drives}
 use Rattle.fee_laws.specs.Appends.{IsAppending, work_body, after_page}
+use Rattle.fee_laws.specs.Follows.{Follows}
+use Rattle.fee_laws.proofs.FollowTurned.{pages_follow}
+use Rattle.fee_core.specs.Operations.{IsProgrammed}
+use Rattle.fee_core.specs.Whole.{Whole}
+use Rattle.fee_core.proofs.Standing.{Stands}
 
 -- THE RECORD IN WORK
 work_of : (b : BanksState) (job : Option FeeJob) (j : FeeJob) (o : Option RecHead) → job ≡ Some j → IfSome o (IsInWork b job) → IsSome o → o ≡ Some (head_of b.log j)
@@ -30,43 +34,54 @@ pub asked_on : (off : Bool) (op : Op) (s : Told) (answer : FlashAnswer) (t : Tol
 asked_on true op s answer t on is = cc on
 asked_on false op s answer t on is = is
 
-module _ (m : Making) (entry : Told) (s : Parts) (listed : List (DeviceNumber × ℕ)) (kept count : ℕ) (on : IsOn m entry s listed kept count) (j : FeeJob) (job : s.job ≡ Some j) (work : IsSome (work_in s.banks.log.tail)) where
+-- THE PAGE
+-- it was asked for, and the parts behind it follow the bytes
+pub record IsPaged (m : Making) (entry : Told) (w : Whole) (answer : FlashAnswer) (f : FlsState) (b : BanksState) (operations : List Change) : Type 0 where
+  pub step : IsAppending m entry w.parts w.numbers w.reserve w.ops answer f
+  pub same : (faults : ℕ) → faults ≡ (after_page answer f w.parts).faults → record w.parts { fls = f; banks = b; operations = operations; faults = faults } ≡ after_page answer f w.parts
+  pub follows : Follows (after_page answer f w.parts)
+
+module _ {m : Making} {entry : Told} {w v : Whole} (at : Stands m entry w v) {j : FeeJob} (job : v.parts.job ≡ Some j) (work : IsSome (work_in v.parts.banks.log.tail)) {answer : FlashAnswer} {f : FlsState} {b : BanksState} {operations : List Change}
+    (driver : IsDriverState f) (is : IsProgrammed w.parts.fls w.parts.banks w.parts.operations (take j.length w.parts.content) answer f b operations) where
+  abbrev s : Parts
+  s = w.parts
+
   works : IsAtWork m s
-  works = on.sound.works on.started
+  works = at.on.sound.works at.on.started
+
+  work' : IsSome (work_in s.banks.log.tail)
+  work' = subst (λ (x : Whole). IsSome (work_in x.parts.banks.log.tail)) (sym at.shown) work
 
   head_is : work_in s.banks.log.tail ≡ Some (head_of s.banks.log j)
-  head_is = work_of s.banks s.job j (work_in s.banks.log.tail) job works.work work
-
-  power : s.fls.flash.off ≡ false
-  power = sym (on.sound.off on.started)
+  head_is = work_of s.banks s.job j (work_in s.banks.log.tail) (ap (λ (x : Whole). x.parts.job) at.shown ∙ job) works.work work'
 
   body_is : work_body s ≡ take j.length s.content
   body_is = ap (λ (o : Option RecHead). body_of o s.content) head_is
 
-  module _ (answer : FlashAnswer) (f : FlsState) (driver : IsDriverState f) (step : IsStep (op_of s.banks.log (take j.length s.content)) s.fls.flash answer f.flash) (page : IsPageOf s.banks.geometry.page (due_bytes s.banks.log (take j.length s.content))) (same : f ≡ record s.fls { flash = f.flash; result = closed_as answer }) where
-    result_is : f.result ≡ closed_as answer
-    result_is = ap (λ (x : FlsState). x.result) same
+  result_is : f.result ≡ closed_as answer
+  result_is = ap (λ (x : FlsState). x.result) is.same
 
-    drives : Drives s.fls f
-    drives = record {
-      counted = (asked_on s.fls.flash.off (op_of s.banks.log (take j.length s.content)) s.fls.flash answer f.flash power step).counted;
-      only = same ∙ (λ i. record s.fls { flash = f.flash; result = sym result_is i });
-      state = driver;
-    }
+  drives : Drives s.fls f
+  drives = record {
+    counted = (asked_on s.fls.flash.off (op_of s.banks.log (take j.length s.content)) s.fls.flash answer f.flash (sym (at.on.sound.off at.on.started)) is.step).counted;
+    only = is.same ∙ (λ i. record s.fls { flash = f.flash; result = sym result_is i });
+    state = driver;
+  }
 
-    pub appending : IsAppending m entry s listed kept count answer f
-    appending = record {
-      on = on;
-      work = work;
-      drives = drives;
-      step = subst (λ (body : List ℕ). IsStep (op_of s.banks.log body) s.fls.flash answer f.flash) (sym body_is) step;
-      page = subst (λ (body : List ℕ). IsPageOf s.banks.geometry.page (due_bytes s.banks.log body)) (sym body_is) page;
-    }
+  appending : IsAppending m entry s w.numbers w.reserve w.ops answer f
+  appending = record {
+    on = at.on;
+    work = work';
+    drives = drives;
+    step = subst (λ (body : List ℕ). IsStep (op_of s.banks.log body) s.fls.flash answer f.flash) (sym body_is) is.step;
+    page = subst (λ (body : List ℕ). IsPageOf s.banks.geometry.page (due_bytes s.banks.log body)) (sym body_is) is.page;
+  }
 
-    -- with these banks and this list of operations
-    pub paged : (b : BanksState) (operations : List Change) → b ≡ record s.banks { log = after_step s.banks.log answer }
-        → operations ≡ s.operations ++ change_of (op_of s.banks.log (take j.length s.content)) s.fls.flash answer ∷ []
-        → (faults : ℕ) → faults ≡ (after_page answer f s).faults → record s { fls = f; banks = b; operations = operations; faults = faults } ≡ after_page answer f s
-    paged b operations banks list faults count =
-        let listed = list ∙ ap (λ (body : List ℕ). s.operations ++ change_of (op_of s.banks.log body) s.fls.flash answer ∷ []) (sym body_is) in
-        λ i. record s { fls = f; banks = banks i; operations = listed i; faults = count i }
+  pub paged : IsPaged m entry w answer f b operations
+  paged =
+      let listed = is.listed ∙ ap (λ (body : List ℕ). s.operations ++ change_of (op_of s.banks.log body) s.fls.flash answer ∷ []) (sym body_is) in
+      record {
+        step = appending;
+        same = λ faults count. (λ i. record s { fls = f; banks = is.after i; operations = listed i; faults = count i });
+        follows = pages_follow m entry s w.numbers w.reserve w.ops answer f appending at.up.sound.follows;
+      }

@@ -1,30 +1,44 @@
--- What a turn begins in memory for the open job: its record, or a switch.
-use Rattle.std.specs.Prelude.{◌&&◌, is_some, if◌then◌else◌, IsSome}
-use Rattle.std.proofs.Common.{◌≡◌, ◌≢◌, ◌≤◌, ◌+◌, ℕ, Bool, true, false, List, Option, Some, None, refl, sym, ap, subst, arith}
+-- What a turn begins in memory for the open job: its record, or a switch; and the job's end where none can.
+use Rattle.std.specs.Prelude.{◌&&◌, is_some, if◌then◌else◌, IfSome, IsSome, unwrap_or}
+use Rattle.std.proofs.Common.{◌≡◌, ◌⊎◌, ◌≤◌, ◌+◌, ℕ, Bool, true, false, List, Option, Some, None, refl, sym, ap, ◌∙◌, subst, arith}
 use Rattle.std.proofs.lemmas.Bool.{leb-true}
 use Rattle.nv_base.specs.Pages.{record_pages_of}
 use Rattle.nv_base.specs.declared.instance.DeviceNumber.{DeviceNumber}
 use Rattle.nv_base.specs.declared.job.DeviceOp.{DeviceOp}
-use Rattle.nv_base.specs.declared.job.DeviceOp.TheVariants.{Read, Write}
+use Rattle.nv_base.specs.declared.job.DeviceOp.TheVariants.{Write}
+use Rattle.memif.specs.declared.answer.DeviceTurn.{DeviceTurn}
+use Rattle.memif.specs.declared.answer.DeviceTurn.TheVariants as turn
+use Rattle.memif.specs.declared.answer.JobResult.TheVariants.{JobFailed}
 use Rattle.fls_model.specs.Told.{Told}
 use Rattle.fee_format.specs.declared.rec_head.RecHead.{RecHead}
 use Rattle.fee_log.specs.declared.tail.Tail.{Tail}
 use Rattle.fee_log.specs.declared.tail.Tail.TheVariants.{Open, Writes, Owes, Closed}
-use Rattle.fee_log.specs.Log.{IsFor, work_in, free_in, tail_begun}
+use Rattle.fee_log.specs.Log.{LogState, IsFor, work_in, free_in, head_next, tail_begun}
 use Rattle.fee_course.specs.declared.course.Course.{Course}
 use Rattle.fee_course.specs.declared.course.Course.TheVariants.{Erase, Copy, Head, Gate}
-use Rattle.fee_switch.specs.Banks.{BanksState, TakesRecord}
+use Rattle.fee_switch.specs.Banks.{BanksState, TakesRecord, append_begun, begun_again, is_worn_out}
 use Rattle.fee_switch_laws.specs.Space.{free_pages, has_room}
 use Rattle.promise_device.specs.Making.{Making}
 use Rattle.fee_laws.specs.declared.job.FeeJob.{FeeJob}
-use Rattle.fee_laws.specs.Inside.{Parts, IsActiveOf}
+use Rattle.fee_laws.specs.Inside.{Parts, IsSound, IsActiveOf}
 use Rattle.fee_laws.specs.Record.{IsJobOf, kind_of, head_of}
 use Rattle.fee_laws.specs.Work.{fits_in, is_waiting, pages_of_op, takes_append}
-use Rattle.fee_laws.specs.Turn.{IsOn}
-use Rattle.fee_laws.specs.Begins.{MayBegin}
+use Rattle.fee_laws.specs.Turn.{ended_as}
+use Rattle.fee_laws.specs.Switches.{IsBehind}
+use Rattle.fee_laws.specs.Begins.{Begun, MayBegin, MaySwitch}
+use Rattle.fee_laws.specs.Follows.{Follows}
+use Rattle.fee_laws.specs.Worn.{IsWornNow}
+use Rattle.fee_laws.proofs.BegunSound.{records_begin}
+use Rattle.fee_laws.proofs.FollowCalled.{begun_follows, room_is_known, switching_follows}
+use Rattle.fee_laws.proofs.Lifting.{begun_turns}
+use Rattle.fee_laws.proofs.SwitchBegun.{switches_begin}
 use Rattle.fee_laws.proofs.SwitchEnded.{pages_for}
+use Rattle.fee_laws.proofs.WornFull.{never_begins}
+use Rattle.fee_laws.proofs.WornTurn.{wears_out}
 use Rattle.fee_core.specs.Beginning.{begins_beside, begins_now}
-use Rattle.fee_core.proofs.Standing.{job_is, for_job, next_counted}
+use Rattle.fee_core.specs.Turning.{IsUp, Waits}
+use Rattle.fee_core.specs.Whole.{Whole, TurnedTo}
+use Rattle.fee_core.proofs.Standing.{Stands, turned_from, job_is, for_job, next_counted}
 
 -- TESTS
 pub all_four : (a b c d : Bool) → a && b && c && d ≡ true → (a ≡ true) × (b ≡ true) × (c ≡ true) × (d ≡ true)
@@ -61,18 +75,6 @@ begin_by m b j (Some c) at is begins =
       room = urgent_fits j.urgent (pages_of_op b.geometry.page j.op j.length) m.reserve (free_pages b) four.1 four.3;
     }
 
-module _ (m : Making) (entry : Told) (s : Parts) (listed : List (DeviceNumber × ℕ)) (kept count : ℕ) (on : IsOn m entry s listed kept count) (j : FeeJob) (job : s.job ≡ Some j) (writes : j.op ≢ Read) (idle : work_in s.banks.log.tail ≡ None) where
-  is : IsJobOf m.numbers j
-  is = job_is m entry s listed kept count false on.sound on.started j job
-
-  pub configured : IsFor s.banks.log.numbers (head_of s.banks.log j)
-  configured = subst (λ (ns : List (DeviceNumber × ℕ)). IsFor ns (head_of s.banks.log j)) (sym on.sound.made_for.numbers) (for_job m.numbers j.op j (head_of s.banks.log j).count refl writes is (next_counted s.banks.log j on.log))
-
-  pub may_begin : begins_now kept s.banks j ≡ true → MayBegin m s j
-  may_begin begins =
-      let has = begin_by m s.banks j s.banks.course refl is (subst (λ (n : ℕ). begins_now n s.banks j ≡ true) on.sound.reserve begins) in
-      record { job = job; writes = writes; idle = idle; taken = has.taken; beside = has.beside; configured = configured; room = has.room }
-
 -- ITS ROOM
 room_by : (u some : Bool) (pages reserve free : ℕ) → 1 ≤ pages → has_room u pages reserve (if some then free else 0) ≡ true → (some ≡ true) × (pages ≤ free)
 room_by true true pages reserve free more is = (refl, leb-true pages free is)
@@ -101,10 +103,94 @@ begun_work (Writes head done) h = refl
 begun_work (Owes owed next) h = refl
 begun_work Closed h = refl
 
--- A SWITCH BEGINS
--- a job whose record has no room waits behind it
-not_next : (a u w : Bool) (pages reserve free : ℕ) → has_room u pages reserve free ≡ false → a && u && w && has_room u pages 0 free ≡ false
-not_next false u w pages reserve free full = refl
-not_next true false w pages reserve free full = refl
-not_next true true false pages reserve free full = refl
-not_next true true true pages reserve free full = full
+-- THE JOB THAT WAITS
+-- with this head its record may be appended
+pub record CanAppend (b : BanksState) (h : RecHead) : Type 0 where
+  pub active : is_some b.active ≡ true
+  pub taken : TakesRecord h.kind b.course
+  pub configured : IsFor b.log.numbers h
+  pub room : record_pages_of h.length b.geometry.page ≤ free_in b.log
+
+-- it was begun with these banks
+pub record IsBegun (m : Making) (entry : Told) (w : Whole) (b : BanksState) : Type 0 where
+  pub begun : Begun m entry w.parts (record w.parts { banks = b }) w.numbers w.reserve w.ops
+  pub follows : Follows (record w.parts { banks = b })
+
+module _ {m : Making} {entry : Told} {w v : Whole} (at : Stands m entry w v) {j : FeeJob} (waits : Waits v j) where
+  abbrev s : Parts
+  s = w.parts
+
+  pub waits_here : Waits w j
+  waits_here = subst (λ (x : Whole). Waits x j) (sym at.shown) waits
+
+  is : IsJobOf m.numbers j
+  is = job_is at.on waits_here.job
+
+  configured : IsFor s.banks.log.numbers (head_of s.banks.log j)
+  configured = subst (λ (ns : List (DeviceNumber × ℕ)). IsFor ns (head_of s.banks.log j)) (sym at.on.sound.made_for.numbers) (for_job m.numbers j.op j (head_of s.banks.log j).count refl waits.writes is (next_counted s.banks.log j at.on.log))
+
+  -- its record
+  module _ (begins : begins_now v.reserve v.parts.banks j ≡ true) where
+    may_begin : MayBegin m s j
+    may_begin =
+        let here = subst (λ (x : Whole). begins_now x.reserve x.parts.banks j ≡ true) (sym at.shown) begins in
+        let has = begin_by m s.banks j s.banks.course refl is (subst (λ (n : ℕ). begins_now n s.banks j ≡ true) at.on.sound.reserve here) in
+        record { job = waits_here.job; writes = waits.writes; idle = waits_here.idle; taken = has.taken; beside = has.beside; configured = configured; room = has.room }
+
+    can_begin : CanAppend s.banks (head_of s.banks.log j)
+    can_begin = (let has = has_room_for m s j (at.on.sound.works at.on.started).active is may_begin in record { active = has.active; taken = may_begin.taken; configured = configured; room = has.room })
+
+    module _ {log : LogState} (same : log ≡ s.banks.log) {kind : ℕ} (kind_is : kind ≡ kind_of j.op) {h : RecHead} (made : h ≡ head_next log j.number.0 kind j.length) where
+      head_is : h ≡ head_of s.banks.log j
+      head_is = made ∙ (λ k. head_next (same k) j.number.0 (kind_is k) j.length)
+
+      pub can_append : CanAppend s.banks h
+      can_append = subst (CanAppend s.banks) (sym head_is) can_begin
+
+      pub record_begun : (b : BanksState) → b ≡ append_begun s.banks h → IsBegun m entry w b
+      record_begun b is =
+          subst (IsBegun m entry w) (sym (is ∙ ap (append_begun s.banks) head_is))
+          (record { begun = records_begin m entry s w.numbers w.reserve w.ops j at.on may_begin; follows = begun_follows m entry s w.numbers w.reserve w.ops j at.on may_begin at.up.sound.follows })
+
+  -- its record has no room: a switch
+  module _ (shut : v.parts.banks.course ≡ None) (full : fits_in v.reserve v.parts.banks j ≡ false) where
+    shut_here : s.banks.course ≡ None
+    shut_here = ap (λ (x : Whole). x.parts.banks.course) at.shown ∙ shut
+
+    full_here : fits_in m.reserve s.banks j ≡ false
+    full_here = subst (λ (n : ℕ). fits_in n s.banks j ≡ false) at.on.sound.reserve (ap (λ (x : Whole). fits_in x.reserve x.parts.banks j) at.shown ∙ full)
+
+    pub switch_begun : v.parts.worn ≡ None → is_worn_out s.banks.active ≡ false → (b : BanksState) → b ≡ begun_again s.banks (Erase 0) → IsBegun m entry w b
+    switch_begun fresh worn b same =
+        let fresh' = ap (λ (x : Whole). x.parts.worn) at.shown ∙ fresh in
+        let may : MaySwitch m s j = record { job = waits_here.job; writes = waits.writes; idle = waits_here.idle; shut = shut_here; configured = configured; full = full_here; fresh = fresh'; worn = worn } in
+        subst (IsBegun m entry w) (sym same)
+        (record { begun = switches_begin m entry s w.numbers w.reserve w.ops j at.on may; follows = switching_follows m entry s w.numbers w.reserve w.ops j at.on may at.up.sound.follows })
+
+    -- behind which the job waits
+    pub waits_behind : (b : BanksState) → b ≡ begun_again s.banks (Erase 0) → IfSome s.job (IsBehind b)
+    waits_behind b same =
+        let again = begun_again s.banks (Erase 0) in
+        let behind : IsBehind again j = (waits.writes, never_begins m.reserve again j full_here) in
+        subst (λ (o : Option FeeJob). IfSome o (IsBehind b)) (sym waits_here.job) (subst (λ (x : BanksState). IsBehind x j) (sym same) behind)
+
+    -- or, where none can, the end of the job
+    pub worn_turned : IsSome v.parts.worn ⊎ (is_worn_out v.parts.banks.active ≡ true) → (count : ℕ) → count ≡ unwrap_or s.worn w.ops → TurnedTo m entry turn.Worked v (record w { parts = record (ended_as JobFailed s) { worn = Some count } })
+    worn_turned worn count is =
+        let worn' = subst (λ (x : Whole). IsSome x.parts.worn ⊎ (is_worn_out x.parts.banks.active ≡ true)) (sym at.shown) worn in
+        let knows = room_is_known m entry s w.numbers w.reserve w.ops at.on waits_here.idle shut_here at.up.sound.follows in
+        let now : IsWornNow m entry s j = record { job = waits_here.job; writes = waits.writes; idle = waits_here.idle; shut = shut_here; full = full_here; worn = worn'; bytes = knows } in
+        turned_from at (ap (λ (n : ℕ). record (ended_as JobFailed s) { worn = Some n }) is) refl at.up.on (wears_out m entry s w.numbers w.reserve w.ops j at.on now) at.up.sound.follows
+
+module _ {m : Making} {entry : Told} {w v : Whole} (at : Stands m entry w v) {b : BanksState} (is : IsBegun m entry w b) where
+  pub begun_up : IsUp m entry (record w { parts = record w.parts { banks = b } })
+  begun_up = record {
+    sound = record { parts = subst (λ (x : Bool). IsSound m entry (record w.parts { banks = b }) w.numbers w.reserve w.ops x) (sym at.up.on) is.begun.sound; follows = is.follows };
+    started = at.up.started;
+    on = at.up.on;
+  }
+
+  -- a turn of what was begun is one of what was before
+  pub begun_turned : {answer : DeviceTurn} {u : Whole} → TurnedTo m entry answer (record w { parts = record w.parts { banks = b } }) u → TurnedTo m entry answer v u
+  begun_turned {answer} {u} turned =
+      subst (λ (x : Whole). TurnedTo m entry answer x u) at.shown (record { turns = begun_turns answer m entry w.parts (record w.parts { banks = b }) u.parts is.begun.told turned.turns; sound = turned.sound })

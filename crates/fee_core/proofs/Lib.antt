@@ -4,6 +4,8 @@ mod Canceling
 mod Copying
 mod Leaving
 mod Looking
+mod Opening
+mod Planning
 mod Reading
 mod Settled
 mod Standing

@@ -1,12 +1,15 @@
 -- The read of the open job's number, from what its calls answer.
 use Rattle.std.specs.Prelude.{Contains, IsSome, length, take}
-use Rattle.std.proofs.Common.{◌≡◌, ◌<◌, ◌≤◌, ◌+◌, ◌==◌, ℕ, Bool, true, false, if◌then◌else◌, List, [], ◌∷◌, Some, refl, sym, ap, ◌∙◌, subst, arith}
+use Rattle.std.proofs.Common.{◌≡◌, ◌<◌, ◌≤◌, ◌+◌, ◌==◌, ℕ, Bool, true, false, if◌then◌else◌, List, [], ◌∷◌, Some, None, refl, sym, ap, ◌∙◌, subst, arith}
+use Rattle.nv_base.specs.Count.{next_count}
 use Rattle.nv_base.specs.Geometry.{address_of_page}
 use Rattle.nv_base.specs.Lengths.{AreLengths}
 use Rattle.nv_base.specs.Pages.{record_pages_of}
 use Rattle.nv_base.specs.declared.instance.DeviceNumber.{DeviceNumber}
 use Rattle.nv_base.specs.declared.job.DeviceOp.{DeviceOp}
 use Rattle.nv_base.specs.declared.job.DeviceOp.TheVariants.{Read}
+use Rattle.memif.specs.declared.answer.DeviceTurn.TheVariants as turn
+use Rattle.memif.specs.declared.answer.JobResult.TheVariants.{JobOk, JobFailed}
 use Rattle.memif.specs.Told.{length_of}
 use Rattle.fls_model.specs.declared.flash.FlashAnswer.{FlashAnswer}
 use Rattle.fls_model.specs.declared.flash.FlashAnswer.TheVariants.{Done, Failed, Off}
@@ -17,12 +20,19 @@ use Rattle.fls_jobs.specs.CallOf.{closed_as}
 use Rattle.fee_image.specs.declared.place.Place.{Place}
 use Rattle.fee_image.specs.declared.place.Place.TheVariants.{Content}
 use Rattle.fee_image.specs.Places.{IsWithin}
+use Rattle.fee_log.specs.Index.{place_in}
 use Rattle.fee_log.specs.Log.{LogState}
+use Rattle.promise_device.specs.Making.{Making}
 use Rattle.fee_laws.specs.declared.job.FeeJob.{FeeJob}
 use Rattle.fee_laws.specs.Inside.{Parts}
 use Rattle.fee_laws.specs.Record.{IsJobOf, IsLengthOf}
-use Rattle.fee_laws.specs.Reads.{IsAsked, place_now}
+use Rattle.fee_laws.specs.Turn.{ended_as}
+use Rattle.fee_laws.specs.Reads.{IsAsked, IsReading}
+use Rattle.fee_laws.proofs.FollowCalled.{reads_follow}
+use Rattle.fee_laws.proofs.Read.{contents_are_read, reads_fail}
 use Rattle.fee_laws.proofs.SwitchEnded.{is_listed}
+use Rattle.fee_core.specs.Whole.{Whole, TurnedTo}
+use Rattle.fee_core.proofs.Standing.{Stands, turned_from}
 
 -- THE CONTENT
 size_is : (numbers : List (DeviceNumber × ℕ)) (j : FeeJob) (is : IsJobOf numbers j) → j.op ≡ Read → j.length ≡ is.length
@@ -50,19 +60,39 @@ read_within numbers log j at writes place is op same within content =
 
 -- THE ANSWER
 -- while the power is on a read that isn't done failed
-pub read_failed : (address : ℕ) (s : Told) (before : List ℕ) (answer : FlashAnswer) (into : List ℕ) (t : Told) → s.off ≡ false → (answer ≡ Done → ⊥) → IsRead address s before answer into t → answer ≡ Failed
+read_failed : (address : ℕ) (s : Told) (before : List ℕ) (answer : FlashAnswer) (into : List ℕ) (t : Told) → s.off ≡ false → (answer ≡ Done → ⊥) → IsRead address s before answer into t → answer ≡ Failed
 read_failed address s before Done into t on never is = absurd (never refl)
 read_failed address s before Failed into t on never is = refl
 read_failed address s before Off into t on never is = (let off = is.2 in cc (on, off))
 
-pub asked_for : (s : Parts) (j : FeeJob) (at writes : ℕ) (content : List ℕ) (answer : FlashAnswer) (f : FlsState) (log : LogState)
-    → IsSome s.banks.active → log ≡ s.banks.log → place_now s j ≡ Content at writes
-    → IsRead (address_of_page log.geometry log.banks log.bank (at + 2)) s.fls.flash (take j.length s.content) answer (take j.length content) f.flash
-    → f ≡ record s.fls { flash = f.flash; result = closed_as answer } → length content ≡ 4096 → IsAsked s j at writes content answer f
-asked_for s j at writes content answer f log active same place read only room = record {
-  place = place;
-  active = active;
-  only = only ∙ (λ i. record s.fls { flash = f.flash; result = sym (ap (λ (x : FlsState). x.result) only) i });
-  read = subst (λ (l : LogState). IsRead (address_of_page l.geometry l.banks l.bank (at + 2)) s.fls.flash (take j.length s.content) answer (take j.length content) f.flash) same read;
-  room = room;
-}
+-- THE TURN
+module _ {m : Making} {entry : Told} {w v : Whole} (at : Stands m entry w v) {j : FeeJob} (job : v.parts.job ≡ Some j) (op : j.op ≡ Read) where
+  abbrev s : Parts
+  s = w.parts
+
+  pub reading : IsReading m entry s w.numbers w.reserve w.ops j
+  reading = record { on = at.on; job = ap (λ (x : Whole). x.parts.job) at.shown ∙ job; op = op }
+
+  module _ (q writes : ℕ) (content : List ℕ) (answer : FlashAnswer) (f : FlsState) where
+    pub asked_for : (log : LogState) → IsSome s.banks.active → log ≡ s.banks.log → place_in log.numbers log.places j.number.0 ≡ Content q writes
+        → IsRead (address_of_page log.geometry log.banks log.bank (q + 2)) s.fls.flash (take j.length s.content) answer (take j.length content) f.flash
+        → f ≡ record s.fls { flash = f.flash; result = closed_as answer } → length content ≡ 4096 → IsAsked s j q writes content answer f
+    asked_for log active same place read only room = record {
+      place = ap (λ (l : LogState). place_in l.numbers l.places j.number.0) (sym same) ∙ place;
+      active = active;
+      only = only ∙ (λ i. record s.fls { flash = f.flash; result = sym (ap (λ (x : FlsState). x.result) only) i });
+      read = subst (λ (l : LogState). IsRead (address_of_page l.geometry l.banks l.bank (q + 2)) s.fls.flash (take j.length s.content) answer (take j.length content) f.flash) same read;
+      room = room;
+    }
+
+    pub content_read : IsAsked s j q writes content answer f → answer ≡ Done → TurnedTo m entry turn.Worked v (record w { parts = record s { fls = f; content = content; job = None; last = JobOk; given = j.length } })
+    content_read asked e =
+        let done = subst (λ (a : FlashAnswer). IsAsked s j q writes content a f) e asked in
+        turned_from at refl refl at.up.on (contents_are_read m entry s w.numbers w.reserve w.ops j q writes content f reading done) (reads_follow m entry s w.numbers w.reserve w.ops j q writes content Done f reading done at.up.sound.follows)
+
+    pub read_fails : IsAsked s j q writes content answer f → (answer ≡ Done → ⊥) → (faults : ℕ) → faults ≡ next_count s.faults → TurnedTo m entry turn.Worked v (record w { parts = ended_as JobFailed (record s { fls = f; content = content; faults = faults }) })
+    read_fails asked never faults counted =
+        let off = sym (at.on.sound.off at.on.started) in
+        let failed = subst (λ (a : FlashAnswer). IsAsked s j q writes content a f) (read_failed _ s.fls.flash (take j.length s.content) answer (take j.length content) f.flash off never asked.read) asked in
+        turned_from at (ap (λ (n : ℕ). ended_as JobFailed (record s { fls = f; content = content; faults = n })) counted) refl at.up.on
+        (reads_fail m entry s w.numbers w.reserve w.ops j q writes content f reading failed) (reads_follow m entry s w.numbers w.reserve w.ops j q writes content Failed f reading failed at.up.sound.follows)

@@ -21,9 +21,10 @@ use Rattle.fee_told.specs.Slots.{slots_held, slots_found, held_all, settled_in, 
 use Rattle.fee_told.specs.Device.{tells, slots_told}
 use Rattle.fls_model.specs.Told.{bytes_now}
 use Rattle.fee_switch_laws.specs.Shown.{old_shown}
-use Rattle.fee_log.specs.Log.{work_in}
+use Rattle.fee_log.specs.Log.{LogState, work_in}
 use Rattle.fee_laws.specs.Inside.{Parts, device_of, memory_of, body_of}
 use Rattle.fee_laws.proofs.Marks.{none_at, settled_of}
+use Rattle.fee_core.specs.Whole.{Whole, Sound}
 
 -- of a place
 abbrev pub kind_at : Place → PlainMark
@@ -57,7 +58,7 @@ place_by : (b : Bank) (bytes : List ℕ) (size : ℕ) (place : Place) (places : 
 place_by b bytes size place places o y true rest = kind_same b bytes size place
 place_by b bytes size place places o y false rest = ap kind_at (later_place place places o) ∙ rest
 
-pub kind_shown : (b : Bank) (bytes : List ℕ) (ns : List (DeviceNumber × ℕ)) (places : List Place) (n : ℕ) → kind_at (place_in ns places n) ≡ kind_of (at_number never_written ns (held_all b bytes ns places) n).mark
+kind_shown : (b : Bank) (bytes : List ℕ) (ns : List (DeviceNumber × ℕ)) (places : List Place) (n : ℕ) → kind_at (place_in ns places n) ≡ kind_of (at_number never_written ns (held_all b bytes ns places) n).mark
 kind_shown b bytes [] places n = refl
 kind_shown b bytes (x ∷ xs) [] n = ap kind_at (none_at (place_of (x ∷ xs) n))
 kind_shown b bytes (x ∷ xs) (place ∷ places) n = place_by b bytes x.1 place places (place_of xs n) (at_number never_written xs (held_all b bytes xs places) n) (x.0.0 == n) (kind_shown b bytes xs places n)
@@ -66,13 +67,13 @@ erased_by : (m : Held) (t : Bool) → m ≡ never_written → (if t then never_w
 erased_by m true e = refl
 erased_by m false e = e
 
-pub none_held : (ns : List (DeviceNumber × ℕ)) (n : ℕ) → at_number never_written ns (map (λ x. never_written) ns) n ≡ never_written
+none_held : (ns : List (DeviceNumber × ℕ)) (n : ℕ) → at_number never_written ns (map (λ x. never_written) ns) n ≡ never_written
 none_held [] n = refl
 none_held (x ∷ xs) n = erased_by (at_number never_written xs (map (λ y. never_written) xs) n) (x.0.0 == n) (none_held xs n)
 
 -- WHERE IT IS TOLD
 -- the place of a number; without an active bank it was never written
-abbrev pub place_now : Parts → Option ActiveBank → ℕ → Place
+abbrev place_now : Parts → Option ActiveBank → ℕ → Place
 place_now s None n = Unwritten
 place_now s (Some a) n = place_in s.banks.log.numbers s.banks.log.places n
 
@@ -98,13 +99,31 @@ module _ (m : Making) (entry : Told) (s : Parts) (numbers : s.banks.log.numbers 
   kind_told true false o on = cc on
   kind_told false started o on = tt
 
-  pub kind_is : s.started ≡ true → IfSome (slots_told (device_of m entry s)) (λ slots. kind_at (place_now s s.banks.active n) ≡ kind_of (slot_at m.numbers slots n).settled.mark)
+  kind_is : s.started ≡ true → IfSome (slots_told (device_of m entry s)) (λ slots. kind_at (place_now s s.banks.active n) ≡ kind_of (slot_at m.numbers slots n).settled.mark)
   kind_is on = kind_told (tells (device_of m entry s)) s.started (bytes_now s.fls.flash) on
 
-pub place_is : (s : Parts) (active : Option ActiveBank) (n : ℕ) → is_some active ≡ true → place_now s active n ≡ place_in s.banks.log.numbers s.banks.log.places n
+place_is : (s : Parts) (active : Option ActiveBank) (n : ℕ) → is_some active ≡ true → place_now s active n ≡ place_in s.banks.log.numbers s.banks.log.places n
 place_is s None n is = cc is
 place_is s (Some a) n is = refl
 
-pub kinds_told : (o : Option (List Slot)) (started : Bool) (kind : List Slot → PlainMark) (k x : PlainMark) → (started ≡ true → IfSome o (λ slots. k ≡ kind slots)) → x ≡ k → IfSome o (λ slots. started ≡ true → x ≡ kind slots)
+kinds_told : (o : Option (List Slot)) (started : Bool) (kind : List Slot → PlainMark) (k x : PlainMark) → (started ≡ true → IfSome o (λ slots. k ≡ kind slots)) → x ≡ k → IfSome o (λ slots. started ≡ true → x ≡ kind slots)
 kinds_told None started kind k x is same = tt
 kinds_told (Some slots) started kind k x is same = λ on. same ∙ is on
+
+module _ {m : Making} {entry : Told} {w v : Whole} (shown : w ≡ v) (sound : Sound m entry v) (n : ℕ) where
+  abbrev IsKindOf : Whole → PlainMark → Type 0
+  IsKindOf x kind = IfSome (slots_told (device_of m entry x.parts)) (λ slots. x.parts.started ≡ true → kind ≡ kind_of (slot_at m.numbers slots n).settled.mark)
+
+  kind_known : (kind : PlainMark) → kind ≡ kind_at (place_now w.parts w.parts.banks.active n) → IsKindOf v kind
+  kind_known kind is =
+      let safe = subst (Sound m entry) (sym shown) sound in
+      subst (λ (x : Whole). IsKindOf x kind) shown
+      (kinds_told (slots_told (device_of m entry w.parts)) w.parts.started (λ slots. kind_of (slot_at m.numbers slots n).settled.mark) (kind_at (place_now w.parts w.parts.banks.active n)) kind (kind_is m entry w.parts safe.parts.made_for.numbers n) is)
+
+  pub kind_none : w.parts.banks.active ≡ None → IsKindOf v plain.Erased
+  kind_none none = kind_known plain.Erased (ap (λ (o : Option ActiveBank). kind_at (place_now w.parts o n)) (sym none))
+
+  pub kind_found : (log : LogState) → is_some w.parts.banks.active ≡ true → log ≡ w.parts.banks.log → (place : Place) → place ≡ place_in log.numbers log.places n → (kind : PlainMark) → kind ≡ kind_at place → IsKindOf v kind
+  kind_found log active same place found kind is =
+      let here = found ∙ ap (λ (l : LogState). place_in l.numbers l.places n) same ∙ sym (place_is w.parts w.parts.banks.active n active) in
+      kind_known kind (is ∙ ap kind_at here)

@@ -1,19 +1,19 @@
 -- What a turn that does something begins with, and the open job of a started device.
 use Rattle.std.specs.Prelude.{is_some, IfSome, slice_get}
-use Rattle.std.proofs.Common.{◌≡◌, ◌≢◌, inl, inr, ◌≤◌, ◌<◌, ◌^◌, ◌==◌, ◌++◌, ℕ, zero, suc, Bool, true, false, List, [], ◌∷◌, Option, Some, None, refl, sym, ap, ◌∙◌, subst, arith}
+use Rattle.std.proofs.Common.{◌≡◌, ◌≢◌, inl, inr, ◌≤◌, ◌<◌, ◌^◌, ◌++◌, ℕ, zero, suc, Bool, true, false, List, [], ◌∷◌, Option, Some, None, refl, sym, ap, ◌∙◌, subst, arith}
 use Rattle.nv_base.specs.declared.instance.DeviceNumber.{DeviceNumber}
 use Rattle.nv_base.specs.Lengths.{place_of}
 use Rattle.nv_base.specs.declared.job.DeviceOp.{DeviceOp}
 use Rattle.nv_base.specs.declared.job.DeviceOp.TheVariants.{Read, Write, Invalidate, Erase}
 use Rattle.memif.specs.declared.answer.DeviceTurn.{DeviceTurn}
+use Rattle.memif.specs.declared.answer.DeviceTurn.TheVariants as turn
 use Rattle.fls_model.specs.Told.{Told, Change}
 use Rattle.fee_image.specs.declared.place.Place.{Place}
 use Rattle.fee_image.specs.declared.place.Place.TheVariants.{Unwritten}
 use Rattle.fee_image.specs.Places.{count_at}
 use Rattle.fee_log.specs.Index.{at_index, or_else, AreCounted}
 use Rattle.fee_log.specs.Log.{LogState, IsLogState, IsFor, work_in}
-use Rattle.fee_course.specs.declared.course.Course.{Course}
-use Rattle.fee_switch.specs.Banks.{IsBanksState}
+use Rattle.fee_switch.specs.Banks.{BanksState, IsBanksState}
 use Rattle.promise_device.specs.Making.{Making}
 use Rattle.fee_told.proofs.Figures.{length_few as few_at}
 use Rattle.fee_laws.specs.declared.job.FeeJob.{FeeJob}
@@ -24,16 +24,41 @@ use Rattle.fee_laws.specs.Parts.{opened}
 use Rattle.fee_laws.specs.Follows.{Follows}
 use Rattle.fee_laws.specs.FollowLaws.{IsSameBeside}
 use Rattle.fee_laws.proofs.CallsBehind.{no_work}
+use Rattle.fee_laws.proofs.Resting.{off_turns}
 use Rattle.fee_laws.proofs.SwitchEnded.{is_listed}
-use Rattle.fee_core.specs.Whole.{Whole, TurnedTo}
+use Rattle.fee_core.specs.Turning.{IsUp}
+use Rattle.fee_core.specs.Whole.{Whole, Sound, TurnedTo}
 
--- WHERE IT STANDS
-module _ (m : Making) (entry : Told) (s : Parts) (listed : List (DeviceNumber × ℕ)) (kept count : ℕ) (is_off : Bool) (sound : IsSound m entry s listed kept count is_off) (started : s.started ≡ true) (on : is_off ≡ false) where
-  pub power : s.fls.flash.off ≡ false
-  power = sym (sound.off started) ∙ on
+-- A DEVICE THAT IS UP
+-- as its fields show it, w, of what is known, v
+pub record Stands (m : Making) (entry : Told) (w v : Whole) : Type 0 where
+  pub shown : w ≡ v
+  pub up : IsUp m entry w
+  pub on : IsOn m entry w.parts w.numbers w.reserve w.ops
 
-  pub is_on : IsBanksState s.banks → IsLogState s.banks.log → IsOn m entry s listed kept count
-  is_on banks log = record { sound = subst (λ (x : Bool). IsSound m entry s listed kept count x) on sound; started = started; banks = banks; log = log }
+module _ {m : Making} {entry : Told} {w v : Whole} where
+  pub stands : w ≡ v → IsUp m entry v → IsBanksState w.parts.banks → IsLogState w.parts.banks.log → Stands m entry w v
+  stands shown up banks log =
+      let here = subst (IsUp m entry) (sym shown) up in
+      let sound = subst (λ (x : Bool). IsSound m entry w.parts w.numbers w.reserve w.ops x) here.on here.sound.parts in
+      record { shown = shown; up = here; on = record { sound = sound; started = here.started; banks = banks; log = log } }
+
+  -- it turned to these parts, with the counts that the code has
+  module _ (at : Stands m entry w v) {answer : DeviceTurn} {t u : Parts} {count ops : ℕ} {off is_off : Bool} where
+    pub turned_from : u ≡ t → ops ≡ count → is_off ≡ off → Turned m entry answer w.parts t w.numbers w.reserve count off → Follows t
+        → TurnedTo m entry answer v (record { parts = u; numbers = w.numbers; reserve = w.reserve; ops = ops; off = is_off })
+    turned_from same counted power turned follows =
+        let end : record w { parts = u; ops = ops; off = is_off } ≡ record w { parts = t; ops = count; off = off } = (λ k. record w { parts = same k; ops = counted k; off = power k }) in
+        subst (λ (x : Whole). TurnedTo m entry answer x (record w { parts = u; ops = ops; off = is_off })) at.shown
+        (subst (λ (x : Whole). TurnedTo m entry answer w x) (sym end) (record { turns = turned.turns; sound = record { parts = turned.sound; follows = follows } }))
+
+-- and to what is the same
+pub turned_same : {m : Making} {entry : Told} {answer : DeviceTurn} {v x y : Whole} → y ≡ x → TurnedTo m entry answer v x → TurnedTo m entry answer v y
+turned_same {m} {entry} {answer} {v} same turned = subst (TurnedTo m entry answer v) (sym same) turned
+
+-- with the same banks it shows the same
+pub with_banks : {w v : Whole} {b : BanksState} → w ≡ v → b ≡ w.parts.banks → record w { parts = record w.parts { banks = b } } ≡ v
+with_banks {w} shown same = (λ k. record w { parts = record w.parts { banks = same k } }) ∙ shown
 
 -- something is open in a started device alone
 started_by : (b : Bool) → (b ≡ false → ⊥) → b ≡ true
@@ -45,11 +70,8 @@ none_more [] = refl
 none_more (x ∷ xs) = ap (λ (ys : List Change). x ∷ ys) (none_more xs)
 
 module _ (m : Making) (entry : Told) (s : Parts) (listed : List (DeviceNumber × ℕ)) (kept count : ℕ) (is_off : Bool) (sound : IsSound m entry s listed kept count is_off) where
-  pub job_started : (j : FeeJob) → s.job ≡ Some j → s.started ≡ true
+  job_started : (j : FeeJob) → s.job ≡ Some j → s.started ≡ true
   job_started j job = started_by s.started (λ e. (let none = (sound.rests e).job in cc (none, job)))
-
-  pub switch_started : is_some s.banks.course ≡ true → s.started ≡ true
-  switch_started some = started_by s.started (λ e. (let none = ap (λ (o : Option Course). is_some o) (sound.rests e).course in cc (none, some)))
 
   -- without a job no record is in work
   pub idle_shut : s.started ≡ true → s.job ≡ None → work_in s.banks.log.tail ≡ None
@@ -72,15 +94,12 @@ pub some_at : {A : Type 0} (o : Option A) → is_some o ≡ true → (x : A) × 
 some_at None some = cc some
 some_at (Some x) some = (x, refl)
 
--- WHAT IT TURNED TO
--- with the counts and the parts that the code has
-pub turned_to : (m : Making) (entry : Told) (answer : DeviceTurn) (w : Whole) (t u : Parts) (count ops : ℕ) (off is_off : Bool) → u ≡ t → ops ≡ count → is_off ≡ off
-    → Turned m entry answer w.parts t w.numbers w.reserve count off → Follows t → TurnedTo m entry answer w (record { parts = u; numbers = w.numbers; reserve = w.reserve; ops = ops; off = is_off })
-turned_to m entry answer w t u count ops off is_off same counted power turned follows =
-    subst (λ (x : Parts). TurnedTo m entry answer w (record { parts = x; numbers = w.numbers; reserve = w.reserve; ops = ops; off = is_off })) (sym same)
-    (subst (λ (n : ℕ). TurnedTo m entry answer w (record { parts = t; numbers = w.numbers; reserve = w.reserve; ops = n; off = is_off })) (sym counted)
-    (subst (λ (x : Bool). TurnedTo m entry answer w (record { parts = t; numbers = w.numbers; reserve = w.reserve; ops = count; off = x })) (sym power)
-    (record { turns = turned.turns; sound = record { parts = turned.sound; follows = follows } })))
+-- with a job open, while its power is off, it is as it was
+pub off_turned : {m : Making} {entry : Told} {v : Whole} → Sound m entry v → v.off ≡ true → (j : FeeJob) → v.parts.job ≡ Some j → TurnedTo m entry turn.Off v v
+off_turned {m} {entry} {v} sound off j job =
+    let started = job_started m entry v.parts v.numbers v.reserve v.ops v.off sound.parts j job in
+    let parts = subst (λ (x : Bool). IsSound m entry v.parts v.numbers v.reserve v.ops x) off sound.parts in
+    record { turns = off_turns m entry v.parts v.numbers v.reserve v.ops parts started (inl (ap (λ (o : Option FeeJob). is_some o) job)); sound = sound }
 
 -- THE OPEN JOB
 length_few : (op : DeviceOp) (length of : ℕ) → IsLengthOf op length of → of ≤ 4096 → length ≤ 4096
@@ -89,13 +108,12 @@ length_few Write length of fits few = omega (arith, fits)
 length_few Invalidate length of fits few = omega (arith, fits)
 length_few Erase length of fits few = omega (arith, fits)
 
-pub job_is : (m : Making) (entry : Told) (s : Parts) (listed : List (DeviceNumber × ℕ)) (kept count : ℕ) (is_off : Bool) → IsSound m entry s listed kept count is_off → s.started ≡ true → (j : FeeJob) → s.job ≡ Some j → IsJobOf m.numbers j
-job_is m entry s listed kept count is_off sound started j job = subst (λ (o : Option FeeJob). IfSome o (IsJobOf m.numbers)) job (sound.works started).job
+module _ {m : Making} {entry : Told} {s : Parts} {listed : List (DeviceNumber × ℕ)} {kept count : ℕ} (on : IsOn m entry s listed kept count) {j : FeeJob} (job : s.job ≡ Some j) where
+  pub job_is : IsJobOf m.numbers j
+  job_is = subst (λ (o : Option FeeJob). IfSome o (IsJobOf m.numbers)) job (on.sound.works on.started).job
 
-pub job_few : (m : Making) (entry : Told) (s : Parts) (listed : List (DeviceNumber × ℕ)) (kept count : ℕ) (is_off : Bool) → IsSound m entry s listed kept count is_off → s.started ≡ true → (j : FeeJob) → s.job ≡ Some j → j.length ≤ 4096
-job_few m entry s listed kept count is_off sound started j job =
-    let of = job_is m entry s listed kept count is_off sound started j job in
-    length_few j.op j.length of.length of.fits (few_at 0 m.numbers j.number.0 of.length sound.made_for.space.lengths of.configured)
+  pub job_few : j.length ≤ 4096
+  job_few = length_few j.op j.length job_is.length job_is.fits (few_at 0 m.numbers j.number.0 job_is.length on.sound.made_for.space.lengths job_is.configured)
 
 -- the count of its record fits
 counted_at : (ps : List Place) (i : ℕ) → AreCounted ps → count_at (or_else Unwritten (slice_get ps i)) < 2 ^ 32

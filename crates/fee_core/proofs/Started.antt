@@ -1,9 +1,9 @@
 -- A start-up, from what its calls answer.
 use Rattle.std.specs.Prelude.{IfSome}
-use Rattle.std.proofs.Common.{◌≡◌, ℕ, Bool, true, false, List, Option, Some, None, Ok, Err, refl, sym, ap, ◌∙◌, subst}
+use Rattle.std.proofs.Common.{◌≡◌, ℕ, Bool, true, false, List, Option, Some, None, Result, Ok, Err, refl, sym, ap, ◌∙◌, subst}
 use Rattle.nv_base.specs.Count.{Rose, next_count}
-use Rattle.nv_base.specs.declared.instance.DeviceNumber.{DeviceNumber}
 use Rattle.memif.specs.declared.answer.JobResult.TheVariants.{JobOk}
+use Rattle.memif.specs.declared.answer.StartFault.{StartFault}
 use Rattle.memif.specs.declared.answer.StartFault.TheVariants.{Fault}
 use Rattle.memif.specs.Told.{DeviceTold}
 use Rattle.memif.specs.Clock.{Clock}
@@ -27,8 +27,9 @@ use Rattle.fee_switch_laws.specs.Shown.{layout_in}
 use Rattle.fee_laws.specs.Follows.{Follows}
 use Rattle.fee_laws.specs.FollowLaws.{ClosesActive}
 use Rattle.fee_laws.specs.CallLaws.{AreOf, AreReady}
-use Rattle.fee_laws.proofs.FollowCalled.{starts_follow}
+use Rattle.fee_laws.proofs.FollowCalled.{starts_follow, unstarted_follows}
 use Rattle.fee_laws.proofs.Starting.{starts_are_ready, starts_fail}
+use Rattle.fee_core.specs.Whole.{Whole, Sound, told_in, clock_in}
 
 -- what is told of parts
 abbrev pub told_at : Making → Told → Parts → DeviceTold
@@ -47,7 +48,7 @@ failed_driver old p f is same flash =
     same ∙ (λ i. record p { flash = flash i; result = f.result }) ∙ ap (λ (x : FlsState). record x { flash = record x.flash { faults = f.flash.faults }; result = f.result }) is
 
 -- the parts with this driver and these banks, and nothing open
-abbrev pub resting : Parts → FlsState → BanksState → Bool → ℕ → Parts
+abbrev resting : Parts → FlsState → BanksState → Bool → ℕ → Parts
 resting s f b ready faults = record s { fls = f; banks = b; job = None; last = JobOk; given = 0; started = ready; faults = faults }
 
 -- what the banks are where they are ready
@@ -80,42 +81,55 @@ closes_in : (o : Option ToldBytes) (b : BanksState) → IfSome o (λ x. LoadsAct
 closes_in None b loads = tt
 closes_in (Some x) b loads = closes_at x.now b b.active loads
 
-module _ (m : Making) (entry : Told) (s : Parts) (listed : List (DeviceNumber × ℕ)) (kept count : ℕ) (is_off : Bool) (sound : IsSound m entry s listed kept count is_off) (p f : FlsState) (b : BanksState) (is : p ≡ record s.fls { flash = powered s.fls.flash }) (same : f ≡ record p { flash = f.flash; result = f.result }) (closed : b.course ≡ None) (state : IsBanksState b) (of : IsSameFlash s.banks b) where
+-- as its fields show it, w, of what is known, v
+module _ {m : Making} {entry : Told} {w v : Whole} (shown : w ≡ v) (sound : Sound m entry v) {p f : FlsState} {b : BanksState} (is : p ≡ record w.parts.fls { flash = powered w.parts.fls.flash }) (same : f ≡ record p { flash = f.flash; result = f.result }) (closed : b.course ≡ None) (state : IsBanksState b) (of : IsSameFlash w.parts.banks b) where
+  abbrev s : Parts
+  s = w.parts
+
+  parts : IsSound m entry s w.numbers w.reserve w.ops w.off
+  parts = (subst (Sound m entry) (sym shown) sound).parts
+
   are : AreOf m b
   are = record {
-    geometry = of.geometry ∙ sound.made_for.banks_geometry;
-    shared = of.banks ∙ sound.made_for.shared;
-    numbers = of.numbers ∙ sound.made_for.numbers;
+    geometry = of.geometry ∙ parts.made_for.banks_geometry;
+    shared = of.banks ∙ parts.made_for.shared;
+    numbers = of.numbers ∙ parts.made_for.numbers;
     closed = closed;
     state = state;
   }
 
-  abbrev pub Starts : Parts → Type 0
-  Starts t = IsSound m entry t listed kept count false
-      × StartsUp (Ok tt) (told_of (device_of m entry s)) (clock_of (device_of m entry s)) (told_of (device_of m entry t)) (clock_of (device_of m entry t))
+  abbrev pub Starts : Result (Unit {0}) StartFault → Parts → Type 0
+  Starts answer t = Sound m entry (record w { parts = t; off = false }) × StartsUp answer (told_in m entry v) (clock_in m entry v) (told_at m entry t) (clock_at m entry t)
 
-  abbrev pub Fails : Parts → Type 0
-  Fails t = IsSound m entry t listed kept count false
-      × StartsUp (Err Fault) (told_of (device_of m entry s)) (clock_of (device_of m entry s)) (told_of (device_of m entry t)) (clock_of (device_of m entry t))
-
-  pub ready_ends : IsLoaded s.banks b → f.flash ≡ p.flash → IfSome p.flash.bytes (λ x. FindsActive x.now b) → IfSome p.flash.bytes (λ x. LoadsActive x.now b) → Starts (resting s f b true s.faults)
-  ready_ends loaded flash finds loads =
-      let finds' = subst (λ (x : FlsState). IfSome x.flash.bytes (λ y. FindsActive y.now b)) is finds in
-      let loads' = subst (λ (x : FlsState). IfSome x.flash.bytes (λ y. LoadsActive y.now b)) is loads in
-      subst (λ (x : FlsState). Starts (resting s x b true s.faults)) (sym (ready_driver s.fls p f is same flash))
-      (starts_are_ready m entry s listed kept count is_off b f.result sound are (record { ready = are_ready s.banks b of loaded; finds = finds'; loads = loads' }))
+  starts : (answer : Result (Unit {0}) StartFault) (t : Parts) → IsSound m entry t w.numbers w.reserve w.ops false × StartsUp answer (told_at m entry s) (clock_at m entry s) (told_at m entry t) (clock_at m entry t) → Follows t → Starts answer t
+  starts answer t is follows = (record { parts = is.0; follows = follows }, subst (λ (x : Whole). StartsUp answer (told_in m entry x) (clock_in m entry x) (told_at m entry t) (clock_at m entry t)) shown is.1)
 
   -- they are as the bytes show them
-  pub ready_follows : f.flash ≡ p.flash → IfSome p.flash.bytes (λ x. FindsActive x.now b) → IfSome p.flash.bytes (λ x. LoadsActive x.now b) → Follows (resting s f b true s.faults)
+  ready_follows : f.flash ≡ p.flash → IfSome p.flash.bytes (λ x. FindsActive x.now b) → IfSome p.flash.bytes (λ x. LoadsActive x.now b) → Follows (resting s f b true s.faults)
   ready_follows flash finds loads =
       let here : f.flash.bytes ≡ s.fls.flash.bytes = ap (λ (x : Told). x.bytes) flash ∙ ap (λ (x : FlsState). x.flash.bytes) is in
-      let bytes = subst (λ (o : Option ToldBytes). IfSome o (λ x. AreBytesOf b.geometry x.now)) (sym here) (subst (λ (g : Geometry). IfSome s.fls.flash.bytes (λ x. AreBytesOf g x.now)) (sym are.geometry) sound.made_for.bytes) in
+      let bytes = subst (λ (o : Option ToldBytes). IfSome o (λ x. AreBytesOf b.geometry x.now)) (sym here) (subst (λ (g : Geometry). IfSome s.fls.flash.bytes (λ x. AreBytesOf g x.now)) (sym are.geometry) parts.made_for.bytes) in
       let finds' = subst (λ (x : Told). IfSome x.bytes (λ y. FindsActive y.now b)) (sym flash) finds in
       let loads' = subst (λ (x : Told). IfSome x.bytes (λ y. LoadsActive y.now b)) (sym flash) loads in
       starts_follow (resting s f b true s.faults) (record { state = state; shut = closed; bytes = bytes; finds = finds'; loads = loads'; closes = closes_in f.flash.bytes b loads' })
 
-  pub failed_ends : f.flash ≡ record p.flash { faults = f.flash.faults } → Rose p.flash.faults f.flash.faults → Fails (resting s f b false (next_count s.faults))
-  failed_ends flash rose =
+  pub ready_ends : IsLoaded s.banks b → f.flash ≡ p.flash → IfSome p.flash.bytes (λ x. FindsActive x.now b) → IfSome p.flash.bytes (λ x. LoadsActive x.now b) → Starts (Ok tt) (resting s f b true s.faults)
+  ready_ends loaded flash finds loads =
+      let finds' = subst (λ (x : FlsState). IfSome x.flash.bytes (λ y. FindsActive y.now b)) is finds in
+      let loads' = subst (λ (x : FlsState). IfSome x.flash.bytes (λ y. LoadsActive y.now b)) is loads in
+      let ready = starts_are_ready m entry s w.numbers w.reserve w.ops w.off b f.result parts are (record { ready = are_ready s.banks b of loaded; finds = finds'; loads = loads' }) in
+      let driver = sym (ready_driver s.fls p f is same flash) in
+      starts (Ok tt) (resting s f b true s.faults)
+      (subst (λ (x : FlsState). (let t = resting s x b true s.faults in IsSound m entry t w.numbers w.reserve w.ops false × StartsUp (Ok tt) (told_at m entry s) (clock_at m entry s) (told_at m entry t) (clock_at m entry t))) driver ready)
+      (ready_follows flash finds loads)
+
+  pub failed_ends : f.flash ≡ record p.flash { faults = f.flash.faults } → Rose p.flash.faults f.flash.faults → {faults : ℕ} → faults ≡ next_count s.faults → Starts (Err Fault) (resting s f b false faults)
+  failed_ends flash rose {faults} counted =
       let rose' = subst (λ (x : FlsState). Rose x.flash.faults f.flash.faults) is rose in
-      subst (λ (x : FlsState). Fails (resting s x b false (next_count s.faults))) (sym (failed_driver s.fls p f is same flash))
-      (starts_fail m entry s listed kept count is_off b f.result f.flash.faults sound are rose')
+      let failed = starts_fail m entry s w.numbers w.reserve w.ops w.off b f.result f.flash.faults parts are rose' in
+      let driver = sym (failed_driver s.fls p f is same flash) in
+      let t = resting s f b false (next_count s.faults) in
+      subst (λ (n : ℕ). Starts (Err Fault) (resting s f b false n)) (sym counted)
+      (starts (Err Fault) t
+      (subst (λ (x : FlsState). (let t = resting s x b false (next_count s.faults) in IsSound m entry t w.numbers w.reserve w.ops false × StartsUp (Err Fault) (told_at m entry s) (clock_at m entry s) (told_at m entry t) (clock_at m entry t))) driver failed)
+      (unstarted_follows t refl))

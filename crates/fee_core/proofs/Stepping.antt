@@ -2,10 +2,11 @@
 use Rattle.std.specs.Prelude.{is_some, take, IfSome, IsSome}
 use Rattle.std.specs.List.{All}
 use Rattle.std.specs.Option.{ForSome}
-use Rattle.std.proofs.Common.{◌≡◌, inl, ◌<◌, ◌+◌, ◌++◌, ℕ, true, false, List, [], ◌∷◌, Option, Some, None, refl, sym, ap, ◌∙◌, subst, arith}
+use Rattle.std.proofs.Common.{◌≡◌, ◌⊎◌, inl, inr, ◌<◌, ◌+◌, ◌++◌, ℕ, Bool, true, false, List, [], ◌∷◌, Option, Some, None, refl, sym, ap, ◌∙◌, subst, arith}
 use Rattle.nv_base.specs.Count.{next_count}
 use Rattle.nv_base.specs.Geometry.{address_of_page}
 use Rattle.nv_base.specs.declared.instance.DeviceNumber.{DeviceNumber}
+use Rattle.memif.specs.declared.answer.DeviceTurn.{DeviceTurn}
 use Rattle.memif.specs.declared.answer.DeviceTurn.TheVariants as turn
 use Rattle.fls_model.specs.declared.flash.FlashAnswer.{FlashAnswer}
 use Rattle.fls_model.specs.declared.flash.FlashAnswer.TheVariants.{Done, Failed, Off}
@@ -31,21 +32,24 @@ use Rattle.fee_told.specs.Clock.{change_of}
 use Rattle.fee_told.specs.Runs.{counts_fault}
 use Rattle.fee_laws.specs.Inside.{Parts, HasSwitch}
 use Rattle.fee_laws.specs.Turn.{IsOn, IsCounted, Turned, operated}
-use Rattle.fee_laws.specs.Switches.{IsBehind, IsStepping, step_op, failed_with}
+use Rattle.fee_laws.specs.Switches.{IsBehind, IsStepping, IsWithin, step_op, failed_with}
 use Rattle.fee_laws.specs.Follows.{Follows}
+use Rattle.fee_laws.proofs.FollowCalled.{failed_follow}
 use Rattle.fee_laws.proofs.FollowTurned.{steps_follow}
 use Rattle.fee_laws.proofs.SwitchMark.{marks_are_cut, marks_fail, marks_go_on}
 use Rattle.fee_laws.proofs.SwitchTurns.{switches_are_cut, switches_fail, switches_go_on}
 use Rattle.fee_core.specs.Asked.{switch_op_of}
-use Rattle.fee_core.specs.Operations.{answer_to}
+use Rattle.fee_core.specs.Operations.{ChangesTarget, answer_to}
+use Rattle.fee_core.specs.Whole.{Whole}
 use Rattle.fee_core.proofs.Appending.{asked_on}
+use Rattle.fee_core.proofs.Standing.{Stands, some_at}
 
 -- WHAT THE STEP ASKS FOR
 worn_by : (b : BanksState) (o : Option Course) → is_some o ≡ true → HasSwitch b o → is_worn_out b.active ≡ false
 worn_by b None some has = cc some
 worn_by b (Some c) some has = has.0
 
-module _ (m : Making) (entry : Told) (s : Parts) (listed : List (DeviceNumber × ℕ)) (kept count : ℕ) (on : IsOn m entry s listed kept count) where
+module _ {m : Making} {entry : Told} {s : Parts} {listed : List (DeviceNumber × ℕ)} {kept count : ℕ} (on : IsOn m entry s listed kept count) where
   pub not_worn : is_some s.banks.course ≡ true → is_worn_out s.banks.active ≡ false
   not_worn some = worn_by s.banks s.banks.course some (on.sound.works on.started).switch
 
@@ -53,45 +57,18 @@ module _ (m : Making) (entry : Told) (s : Parts) (listed : List (DeviceNumber ×
   may_step = steps_may_be_made m.reserve s.banks on.banks on.log (on.sound.room on.started (sym (on.sound.off on.started)))
 
 -- ITS ANSWER
--- by what it came to
-pub done_more : (c : Course) (answer : FlashAnswer) → step_of c answer ≡ step.More → answer ≡ Done
-done_more c Done is = refl
-done_more c Failed is = cc is
-done_more c Off is = cc is
-
-pub done_ended : (c : Course) (answer : FlashAnswer) → step_of c answer ≡ step.Ended → answer ≡ Done
-done_ended c Done is = refl
-done_ended c Failed is = cc is
-done_ended c Off is = cc is
-
--- the last one too
-step_done_not : (c : Course) (x : BankStep) → step_of c Done ≡ x → (x ≡ step.Failed → ⊥) × (x ≡ step.Off → ⊥)
-step_done_not (Erase n) x is = (λ e. cc (is, e), λ e. cc (is, e))
-step_done_not (Copy w) x is = (λ e. cc (is, e), λ e. cc (is, e))
-step_done_not Head x is = (λ e. cc (is, e), λ e. cc (is, e))
-step_done_not (Gate failed) x is = (λ e. cc (is, e), λ e. cc (is, e))
-
-pub failed_is : (c : Course) (answer : FlashAnswer) → step_of c answer ≡ step.Failed → answer ≡ Failed
-failed_is c Done is = absurd ((step_done_not c step.Failed is).0 refl)
-failed_is c Failed is = refl
-failed_is c Off is = cc is
-
-pub off_is : (c : Course) (answer : FlashAnswer) → step_of c answer ≡ step.Off → answer ≡ Off
-off_is c Done is = absurd ((step_done_not c step.Off is).1 refl)
-off_is c Failed is = cc is
-off_is c Off is = refl
-
-pub stepped_failed : (c : Course) (answer : FlashAnswer) → answer ≡ Failed → step_of c answer ≡ step.Failed
-stepped_failed c answer is = ap (step_of c) is
-
 -- the flash's answer is the one that is listed
-answer_same : (c : Course) (answer : FlashAnswer) → answer_to (step_of c answer) ≡ answer
+pub answer_same : (c : Course) (answer : FlashAnswer) → answer_to (step_of c answer) ≡ answer
 answer_same (Erase n) Done = refl
 answer_same (Copy w) Done = refl
 answer_same Head Done = refl
 answer_same (Gate failed) Done = refl
 answer_same c Failed = refl
 answer_same c Off = refl
+
+pub done_answer : {x : BankStep} → (x ≡ step.More) ⊎ (x ≡ step.Ended) → answer_to x ≡ Done
+done_answer (inl more) = ap answer_to more
+done_answer (inr ended) = ap answer_to ended
 
 -- CUTS ARE COUNTED
 same_counted : (s t : Told) → t.planning.unplanned ≡ s.planning.unplanned → t.cuts ≡ s.cuts → IsCounted s t
@@ -123,103 +100,103 @@ made_counted b Head s answer t s' on can is = (asked_on s.off (step_op b Head) s
 made_counted b (Gate failed) s answer t s' on can is = (asked_on s.off (step_op b (Gate failed)) s answer s' on is.0).counted
 
 -- THE STEP
--- before it, and its call
-pub record IsCalled (m : Making) (entry : Told) (s : Parts) (listed : List (DeviceNumber × ℕ)) (kept count : ℕ) (c : Course) (f : FlsState) : Type 0 where
-  pub on : IsOn m entry s listed kept count
-  pub course : s.banks.course ≡ Some c
-  pub copies : IsLogState s.banks.copies
-  pub bytes : All (λ x. x < 256) s.banks.buffer
-  pub idle : work_in s.banks.log.tail ≡ None
-  pub behind : IfSome s.job (IsBehind s.banks)
-  pub driver : IsDriverState f
-  pub only : f ≡ record s.fls { flash = f.flash; result = f.result }
-
-module _ (m : Making) (entry : Told) (s : Parts) (listed : List (DeviceNumber × ℕ)) (kept count : ℕ) (c : Course) (f : FlsState) (is : IsCalled m entry s listed kept count c f) (result : BankStep) (b : BanksState) (made : IsBankStep s.banks c s.fls.flash result b f.flash) where
-  can : CanGoOn s.banks c
-  can = subst (λ (o : Option Course). IfSome o (CanGoOn s.banks)) is.course (may_step m entry s listed kept count is.on)
-
-  -- with this answer
-  pub stepping : (a : FlashAnswer) → made.answer ≡ a → IsStepping m entry s listed kept count c made.made a f
-  stepping a same = record {
-    on = is.on;
-    course = is.course;
-    copies = is.copies;
-    bytes = is.bytes;
-    idle = is.idle;
-    behind = is.behind;
-    drives = record {
-      counted = made_counted s.banks c s.fls.flash made.answer made.made f.flash (sym (is.on.sound.off is.on.started)) can made.makes;
-      only = is.only;
-      state = is.driver;
-    };
-    makes = subst (λ (x : FlashAnswer). MakesNext s.banks c s.fls.flash x made.made f.flash) same made.makes;
-  }
-
-  after : (a : FlashAnswer) → made.answer ≡ a → b ≡ after_answer made.made c a
-  after a same = made.after ∙ ap (after_answer made.made c) same
-
-  -- the parts behind it, with these operations
-  pub stepped : (a : FlashAnswer) → made.answer ≡ a → (operations : List Change) → operations ≡ s.operations ++ change_of (switch_op_of s.banks s.banks.course) s.fls.flash (answer_to result) ∷ []
-      → record s { fls = f; banks = b; operations = operations; faults = counts_fault a s.faults } ≡ operated (step_op s.banks c) a f (after_answer made.made c a) s
-  stepped a same operations list =
-      let answered : answer_to result ≡ a = ap answer_to made.is ∙ answer_same c made.answer ∙ same in
-      let listed' = list ∙ (λ i. s.operations ++ change_of (switch_op_of s.banks (is.course i)) s.fls.flash (answered i) ∷ []) in
-      λ i. record s { fls = f; banks = after a same i; operations = listed' i; faults = counts_fault a s.faults }
+module _ {m : Making} {entry : Told} {w v : Whole} (at : Stands m entry w v) {c : Course} {f : FlsState} {result : BankStep} {b : BanksState} (made : IsBankStep w.parts.banks c w.parts.fls.flash result b f.flash) where
+  pub stepping : w.parts.banks.course ≡ Some c → IsLogState w.parts.banks.copies → All (λ x. x < 256) w.parts.banks.buffer → work_in v.parts.banks.log.tail ≡ None → IfSome v.parts.job (IsBehind v.parts.banks)
+      → IsDriverState f → f ≡ record w.parts.fls { flash = f.flash; result = f.result } → IsStepping m entry w.parts w.numbers w.reserve w.ops c made.made made.answer f
+  stepping course copies bytes idle behind driver only =
+      let can = subst (λ (o : Option Course). IfSome o (CanGoOn w.parts.banks)) course (may_step at.on) in
+      let counted = made_counted w.parts.banks c w.parts.fls.flash made.answer made.made f.flash (sym (at.on.sound.off at.on.started)) can made.makes in
+      let idle' = ap (λ (x : Whole). work_in x.parts.banks.log.tail) at.shown ∙ idle in
+      let behind' = subst (λ (x : Whole). IfSome x.parts.job (IsBehind x.parts.banks)) (sym at.shown) behind in
+      record { on = at.on; course = course; copies = copies; bytes = bytes; idle = idle'; behind = behind'; drives = record { counted = counted; only = only; state = driver }; makes = made.makes }
 
 -- AN OPERATION
-go_by : (m : Making) (entry : Told) (s : Parts) (listed : List (DeviceNumber × ℕ)) (kept count : ℕ) (c : Course) (made : BanksState) (f : FlsState)
-    → IsStepping m entry s listed kept count c made Done f → reads_next s.banks.log (Some c) ≡ false
-    → Turned m entry turn.Worked s (operated (step_op s.banks c) Done f (after_answer made c Done) s) listed kept (next_count count) false
-go_by m entry s listed kept count (Erase n) made f is reads = switches_go_on m entry s listed kept count (Erase n) made f is tt
-go_by m entry s listed kept count (Copy None) made f is reads = marks_go_on m entry s listed kept count made f is reads
-go_by m entry s listed kept count (Copy (Some w)) made f is reads = switches_go_on m entry s listed kept count (Copy (Some w)) made f is tt
-go_by m entry s listed kept count Head made f is reads = switches_go_on m entry s listed kept count Head made f is tt
-go_by m entry s listed kept count (Gate failed) made f is reads = switches_go_on m entry s listed kept count (Gate failed) made f is tt
+-- of a course that is the first step of a copy, or any other
+by_course : (P : Course → Type 0) → P (Copy None) → ((c : Course) → IsWithin c → P c) → (c : Course) → P c
+by_course P first within (Erase n) = within (Erase n) tt
+by_course P first within (Copy None) = first
+by_course P first within (Copy (Some w)) = within (Copy (Some w)) tt
+by_course P first within Head = within Head tt
+by_course P first within (Gate failed) = within (Gate failed) tt
 
-fail_by : (m : Making) (entry : Told) (s : Parts) (listed : List (DeviceNumber × ℕ)) (kept count : ℕ) (c : Course) (made : BanksState) (f : FlsState)
-    → IsStepping m entry s listed kept count c made Failed f → reads_next s.banks.log (Some c) ≡ false
-    → Turned m entry turn.Worked s (failed_with s.job (operated (step_op s.banks c) Failed f (after_answer made c Failed) s)) listed kept (next_count count) false
-fail_by m entry s listed kept count (Erase n) made f is reads = switches_fail m entry s listed kept count (Erase n) made f is tt
-fail_by m entry s listed kept count (Copy None) made f is reads = marks_fail m entry s listed kept count made f is reads
-fail_by m entry s listed kept count (Copy (Some w)) made f is reads = switches_fail m entry s listed kept count (Copy (Some w)) made f is tt
-fail_by m entry s listed kept count Head made f is reads = switches_fail m entry s listed kept count Head made f is tt
-fail_by m entry s listed kept count (Gate failed) made f is reads = switches_fail m entry s listed kept count (Gate failed) made f is tt
+-- the next one of the open switch was made, and came to this
+pub record IsTarget (m : Making) (entry : Told) (w : Whole) (result : BankStep) (f : FlsState) (b : BanksState) (operations : List Change) : Type 0 where
+  pub course : Course
+  pub made : IsBankStep w.parts.banks course w.parts.fls.flash result b f.flash
+  pub steps : IsStepping m entry w.parts w.numbers w.reserve w.ops course made.made made.answer f
+  pub reads : reads_next w.parts.banks.log (Some course) ≡ false
+  pub listed : operations ≡ w.parts.operations ++ change_of (step_op w.parts.banks course) w.parts.fls.flash made.answer ∷ []
 
-cut_by : (m : Making) (entry : Told) (s : Parts) (listed : List (DeviceNumber × ℕ)) (kept count : ℕ) (c : Course) (made : BanksState) (f : FlsState)
-    → IsStepping m entry s listed kept count c made Off f → reads_next s.banks.log (Some c) ≡ false
-    → Turned m entry turn.Off s (operated (step_op s.banks c) Off f (after_answer made c Off) s) listed kept (next_count count) true
-cut_by m entry s listed kept count (Erase n) made f is reads = switches_are_cut m entry s listed kept count (Erase n) made f is tt
-cut_by m entry s listed kept count (Copy None) made f is reads = marks_are_cut m entry s listed kept count made f is reads
-cut_by m entry s listed kept count (Copy (Some w)) made f is reads = switches_are_cut m entry s listed kept count (Copy (Some w)) made f is tt
-cut_by m entry s listed kept count Head made f is reads = switches_are_cut m entry s listed kept count Head made f is tt
-cut_by m entry s listed kept count (Gate failed) made f is reads = switches_are_cut m entry s listed kept count (Gate failed) made f is tt
+module _ {m : Making} {entry : Told} {w v : Whole} (at : Stands m entry w v) (some : is_some v.parts.banks.course ≡ true) (reads : reads_next v.parts.banks.log v.parts.banks.course ≡ false) {f : FlsState} {result : BankStep} {b : BanksState} {operations : List Change}
+    (is : ChangesTarget w.parts.fls w.parts.banks w.parts.operations result f b operations) where
+  pub target : IsLogState w.parts.banks.copies → All (λ x. x < 256) w.parts.banks.buffer → work_in v.parts.banks.log.tail ≡ None → IfSome v.parts.job (IsBehind v.parts.banks) → IsDriverState f → IsTarget m entry w result f b operations
+  target copies bytes idle behind driver =
+      let c = some_at w.parts.banks.course (ap (λ (x : Whole). is_some x.parts.banks.course) at.shown ∙ some) in
+      let made = subst (λ (o : Option Course). IfSome o (λ x. IsBankStep w.parts.banks x w.parts.fls.flash result b f.flash)) c.1 is.step in
+      let here = ap (λ (x : Whole). reads_next x.parts.banks.log x.parts.banks.course) at.shown ∙ reads in
+      let answered : answer_to result ≡ made.answer = ap answer_to made.is ∙ answer_same c.0 made.answer in
+      record {
+        course = c.0;
+        made = made;
+        steps = stepping at made c.1 copies bytes idle behind driver is.same;
+        reads = subst (λ (o : Option Course). reads_next w.parts.banks.log o ≡ false) c.1 here;
+        listed = is.listed ∙ (λ i. w.parts.operations ++ change_of (switch_op_of w.parts.banks (c.1 i)) w.parts.fls.flash (answered i) ∷ []);
+      }
 
-module _ (m : Making) (entry : Told) (s : Parts) (listed : List (DeviceNumber × ℕ)) (kept count : ℕ) (c : Course) (f : FlsState) (is : IsCalled m entry s listed kept count c f) (result : BankStep) (b : BanksState) (made : IsBankStep s.banks c s.fls.flash result b f.flash)
-    (reads : reads_next s.banks.log s.banks.course ≡ false) (operations : List Change) (list : operations ≡ s.operations ++ change_of (switch_op_of s.banks s.banks.course) s.fls.flash (answer_to result) ∷ []) where
+module _ {m : Making} {entry : Told} {w : Whole} {result : BankStep} {f : FlsState} {b : BanksState} {operations : List Change} (is : IsTarget m entry w result f b operations) where
+  abbrev s : Parts
+  s = w.parts
+
+  -- the parts behind it, and the turn to them
   abbrev next : FlashAnswer → Parts
   next a = record s { fls = f; banks = b; operations = operations; faults = counts_fault a s.faults }
 
-  reads' : reads_next s.banks.log (Some c) ≡ false
-  reads' = subst (λ (o : Option Course). reads_next s.banks.log o ≡ false) is.course reads
+  abbrev after : FlashAnswer → Course → BanksState → Parts
+  after a c made = operated (step_op s.banks c) a f (after_answer made c a) s
 
-  same : (a : FlashAnswer) → made.answer ≡ a → operated (step_op s.banks c) a f (after_answer made.made c a) s ≡ next a
-  same a e = sym (stepped m entry s listed kept count c f is result b made a e operations list)
+  abbrev To : DeviceTurn → Parts → Bool → Type 0
+  To answer t off = Turned m entry answer s t w.numbers w.reserve (next_count w.ops) off
 
-  steps : (a : FlashAnswer) → made.answer ≡ a → IsStepping m entry s listed kept count c made.made a f
-  steps a e = stepping m entry s listed kept count c f is result b made a e
+  abbrev Steps : FlashAnswer → Course → BanksState → Type 0
+  Steps a c made = IsStepping m entry s w.numbers w.reserve w.ops c made a f
 
-  pub goes_on : made.answer ≡ Done → Turned m entry turn.Worked s (next Done) listed kept (next_count count) false
-  goes_on e =
-      subst (λ (x : Parts). Turned m entry turn.Worked s x listed kept (next_count count) false) (same Done e) (go_by m entry s listed kept count c made.made f (steps Done e) reads')
+  answer_is : (a : FlashAnswer) → answer_to result ≡ a → is.made.answer ≡ a
+  answer_is a e = sym (ap answer_to is.made.is ∙ answer_same is.course is.made.answer) ∙ e
 
-  pub fails : made.answer ≡ Failed → Turned m entry turn.Worked s (failed_with s.job (next Failed)) listed kept (next_count count) false
-  fails e =
-      subst (λ (x : Parts). Turned m entry turn.Worked s (failed_with s.job x) listed kept (next_count count) false) (same Failed e) (fail_by m entry s listed kept count c made.made f (steps Failed e) reads')
+  steps : (a : FlashAnswer) → answer_to result ≡ a → Steps a is.course is.made.made
+  steps a e = subst (λ (x : FlashAnswer). Steps x is.course is.made.made) (answer_is a e) is.steps
 
-  pub is_cut : made.answer ≡ Off → Turned m entry turn.Off s (next Off) listed kept (next_count count) true
-  is_cut e =
-      subst (λ (x : Parts). Turned m entry turn.Off s x listed kept (next_count count) true) (same Off e) (cut_by m entry s listed kept count c made.made f (steps Off e) reads')
+  same : (a : FlashAnswer) → answer_to result ≡ a → after a is.course is.made.made ≡ next a
+  same a e =
+      let answer = answer_is a e in
+      let listed = is.listed ∙ ap (λ (x : FlashAnswer). s.operations ++ change_of (step_op s.banks is.course) s.fls.flash x ∷ []) answer in
+      let banks = is.made.after ∙ ap (after_answer is.made.made is.course) answer in
+      sym (λ i. record s { fls = f; banks = banks i; operations = listed i; faults = counts_fault a s.faults })
+
+  ended_by : (a : FlashAnswer) (Ends : Parts → Type 0) → ((made : BanksState) → Steps a (Copy None) made → reads_next s.banks.log (Some (Copy None)) ≡ false → Ends (after a (Copy None) made))
+      → ((c : Course) → IsWithin c → (made : BanksState) → Steps a c made → Ends (after a c made)) → answer_to result ≡ a → Ends (next a)
+  ended_by a Ends first within e =
+      subst Ends (same a e)
+      (by_course (λ c. (made : BanksState) → Steps a c made → reads_next s.banks.log (Some c) ≡ false → Ends (after a c made)) first (λ c is made steps reads. within c is made steps) is.course is.made.made (steps a e) is.reads)
+
+  pub goes_on : answer_to result ≡ Done → To turn.Worked (next Done) false
+  goes_on =
+      ended_by Done (λ t. To turn.Worked t false) (λ made steps reads. marks_go_on m entry s w.numbers w.reserve w.ops made f steps reads)
+      (λ c within made steps. switches_go_on m entry s w.numbers w.reserve w.ops c made f steps within)
+
+  pub fails : answer_to result ≡ Failed → To turn.Worked (failed_with s.job (next Failed)) false
+  fails =
+      ended_by Failed (λ t. To turn.Worked (failed_with s.job t) false) (λ made steps reads. marks_fail m entry s w.numbers w.reserve w.ops made f steps reads)
+      (λ c within made steps. switches_fail m entry s w.numbers w.reserve w.ops c made f steps within)
+
+  pub is_cut : answer_to result ≡ Off → To turn.Off (next Off) true
+  is_cut =
+      ended_by Off (λ t. To turn.Off t true) (λ made steps reads. marks_are_cut m entry s w.numbers w.reserve w.ops made f steps reads)
+      (λ c within made steps. switches_are_cut m entry s w.numbers w.reserve w.ops c made f steps within)
 
   -- and its banks follow the bytes
-  pub follows_on : (a : FlashAnswer) → made.answer ≡ a → Follows s → Follows (next a)
-  follows_on a e was = subst Follows (same a e) (steps_follow m entry s listed kept count c made.made a f (steps a e) reads' was)
+  pub follows_on : (a : FlashAnswer) → answer_to result ≡ a → Follows s → Follows (next a)
+  follows_on a e was = subst Follows (same a e) (steps_follow m entry s w.numbers w.reserve w.ops is.course is.made.made a f (steps a e) is.reads was)
+
+  pub failed_follows : answer_to result ≡ Failed → Follows s → Follows (failed_with s.job (next Failed))
+  failed_follows e was = failed_follow (next Failed) s.job (follows_on Failed e was)

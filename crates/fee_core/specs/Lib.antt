@@ -2,6 +2,7 @@ pub mod Asked
 pub mod Beginning
 pub mod Operations
 pub mod Origin
+pub mod Turning
 pub mod Whole
 pub mod Tells
 pub use Rattle.nv_base.specs as nv_base

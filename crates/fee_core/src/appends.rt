@@ -1,10 +1,10 @@
 // The turns of the open job's record.
-ghost use Rattle.std.specs.Prelude.{◌≡◌, ◌≢◌, true, false, None, Some, IsSome};
-ghost use Rattle.nv_base.specs.declared.job.DeviceOp.TheVariants.{Read};
+ghost use Rattle.std.specs.Prelude.{◌≡◌, true, Some, IsSome};
 ghost use Rattle.fee_log.specs.Log.{work_in};
 ghost use Rattle.fee_laws.specs.Record.{kind_of};
 ghost use Rattle.fee_core.specs.Beginning.{begins_now};
-ghost use Rattle.fee_core.specs.Whole.{Sound, TurnedTo};
+ghost use Rattle.fee_core.specs.Turning.{IsUp, Waits};
+ghost use Rattle.fee_core.specs.Whole.{TurnedTo};
 
 use crate::Origin;
 use crate::operations::program_record;
@@ -30,9 +30,7 @@ fn kind_of(op: DeviceOp) -> u8
 impl<F: Flash, O: Origin> FeeParts<F, O> {
     // The next page of the open job's record, or a gate that is owed before it.
     pub(crate) fn turn_record(&mut self, job: FeeJob) -> DeviceTurn
-        requires sound { Sound O.making O.entry self.old }
-        requires started { self.old.parts.started ≡ true }
-        requires on { self.old.off ≡ false }
+        requires up { IsUp O.making O.entry self.old }
         requires job { self.old.parts.job ≡ Some job }
         requires work { IsSome (work_in self.old.parts.banks.log.tail) }
         ensures { TurnedTo O.making O.entry result self.old self.new }
@@ -71,12 +69,8 @@ impl<F: Flash, O: Origin> FeeParts<F, O> {
 
     // The open job's record begins, in memory alone, and then its first page, or the gate that is owed before it.
     pub(crate) fn turn_new_record(&mut self, job: FeeJob) -> DeviceTurn
-        requires sound { Sound O.making O.entry self.old }
-        requires started { self.old.parts.started ≡ true }
-        requires on { self.old.off ≡ false }
-        requires job { self.old.parts.job ≡ Some job }
-        requires writes { job.op ≢ Read }
-        requires idle { work_in self.old.parts.banks.log.tail ≡ None }
+        requires up { IsUp O.making O.entry self.old }
+        requires waits { Waits self.old job }
         requires begins { begins_now self.old.reserve self.old.parts.banks job ≡ true }
         ensures { TurnedTo O.making O.entry result self.old self.new }
     {

@@ -1,7 +1,8 @@
 // The turn of a read.
-ghost use Rattle.std.specs.Prelude.{◌≡◌, true, false, Some};
+ghost use Rattle.std.specs.Prelude.{◌≡◌, Some};
 ghost use Rattle.nv_base.specs.declared.job.DeviceOp.TheVariants.{Read};
-ghost use Rattle.fee_core.specs.Whole.{Sound, TurnedTo};
+ghost use Rattle.fee_core.specs.Turning.{IsUp};
+ghost use Rattle.fee_core.specs.Whole.{TurnedTo};
 
 use crate::Origin;
 use crate::parts::FeeParts;
@@ -13,9 +14,7 @@ use memif::{DeviceTurn, JobResult};
 impl<F: Flash, O: Origin> FeeParts<F, O> {
     // A read ends in its turn: a content takes one flash read, a mark without content none.
     pub(crate) fn turn_read(&mut self, job: FeeJob) -> DeviceTurn
-        requires sound { Sound O.making O.entry self.old }
-        requires started { self.old.parts.started ≡ true }
-        requires on { self.old.off ≡ false }
+        requires up { IsUp O.making O.entry self.old }
         requires job { self.old.parts.job ≡ Some job }
         requires op { job.op ≡ Read }
         ensures { TurnedTo O.making O.entry result self.old self.new }

@@ -1,12 +1,12 @@
 // The turns of a switch.
-ghost use Rattle.std.specs.Prelude.{◌≡◌, ◌≢◌, ◌⊎◌, true, false, is_some, None, Some, IfSome, IsSome};
+ghost use Rattle.std.specs.Prelude.{◌≡◌, ◌⊎◌, true, false, is_some, None, IfSome, IsSome};
 ghost use Rattle.nv_base.specs.Count.{next_count};
-ghost use Rattle.nv_base.specs.declared.job.DeviceOp.TheVariants.{Read};
 ghost use Rattle.fee_log.specs.Log.{work_in};
 ghost use Rattle.fee_switch.specs.Banks.{is_worn_out, reads_next};
 ghost use Rattle.fee_laws.specs.Work.{fits_in};
 ghost use Rattle.fee_laws.specs.Switches.{IsBehind, failed_with};
-ghost use Rattle.fee_core.specs.Whole.{Sound, TurnedTo};
+ghost use Rattle.fee_core.specs.Turning.{IsUp, Waits};
+ghost use Rattle.fee_core.specs.Whole.{TurnedTo};
 
 use crate::Origin;
 use crate::operations::change_target;
@@ -31,9 +31,7 @@ impl<F: Flash, O: Origin> FeeParts<F, O> {
 
     // The read of the content that is copied next.
     fn turn_copy(&mut self) -> DeviceTurn
-        requires sound { Sound O.making O.entry self.old }
-        requires started { self.old.parts.started ≡ true }
-        requires on { self.old.off ≡ false }
+        requires up { IsUp O.making O.entry self.old }
         requires idle { work_in self.old.parts.banks.log.tail ≡ None }
         requires behind { IfSome self.old.parts.job (IsBehind self.old.parts.banks) }
         requires reads { reads_next self.old.parts.banks.log self.old.parts.banks.course ≡ true }
@@ -54,9 +52,7 @@ impl<F: Flash, O: Origin> FeeParts<F, O> {
 
     // The next changing operation of the switch.
     fn turn_target(&mut self) -> DeviceTurn
-        requires sound { Sound O.making O.entry self.old }
-        requires started { self.old.parts.started ≡ true }
-        requires on { self.old.off ≡ false }
+        requires up { IsUp O.making O.entry self.old }
         requires course { is_some self.old.parts.banks.course ≡ true }
         requires idle { work_in self.old.parts.banks.log.tail ≡ None }
         requires behind { IfSome self.old.parts.job (IsBehind self.old.parts.banks) }
@@ -73,8 +69,7 @@ impl<F: Flash, O: Origin> FeeParts<F, O> {
         self.fls.status();
         self.ops = self.ops.saturating_add(1);
         match step {
-            BankStep::More => DeviceTurn::Worked,
-            BankStep::Ended => DeviceTurn::Worked,
+            BankStep::More | BankStep::Ended => DeviceTurn::Worked,
             BankStep::Failed => {
                 self.fail();
                 DeviceTurn::Worked
@@ -88,9 +83,7 @@ impl<F: Flash, O: Origin> FeeParts<F, O> {
 
     // The next step of the open switch, behind which a job waits, if one is open.
     pub(crate) fn turn_switch(&mut self) -> DeviceTurn
-        requires sound { Sound O.making O.entry self.old }
-        requires started { self.old.parts.started ≡ true }
-        requires on { self.old.off ≡ false }
+        requires up { IsUp O.making O.entry self.old }
         requires course { is_some self.old.parts.banks.course ≡ true }
         requires idle { work_in self.old.parts.banks.log.tail ≡ None }
         requires behind { IfSome self.old.parts.job (IsBehind self.old.parts.banks) }
@@ -105,12 +98,8 @@ impl<F: Flash, O: Origin> FeeParts<F, O> {
 
     // The job that waits for room ends with a failure, and the device is worn out from now on.
     pub(crate) fn turn_worn(&mut self, job: FeeJob) -> DeviceTurn
-        requires sound { Sound O.making O.entry self.old }
-        requires started { self.old.parts.started ≡ true }
-        requires on { self.old.off ≡ false }
-        requires job { self.old.parts.job ≡ Some job }
-        requires writes { job.op ≢ Read }
-        requires idle { work_in self.old.parts.banks.log.tail ≡ None }
+        requires up { IsUp O.making O.entry self.old }
+        requires waits { Waits self.old job }
         requires shut { self.old.parts.banks.course ≡ None }
         requires full { fits_in self.old.reserve self.old.parts.banks job ≡ false }
         requires worn { IsSome self.old.parts.worn ⊎ (is_worn_out self.old.parts.banks.active ≡ true) }
@@ -127,12 +116,8 @@ impl<F: Flash, O: Origin> FeeParts<F, O> {
     // A switch begins for the open job, whose record has no room, in memory alone, and then its first erase; behind the last
     // generation none can.
     pub(crate) fn turn_new_switch(&mut self, job: FeeJob) -> DeviceTurn
-        requires sound { Sound O.making O.entry self.old }
-        requires started { self.old.parts.started ≡ true }
-        requires on { self.old.off ≡ false }
-        requires job { self.old.parts.job ≡ Some job }
-        requires writes { job.op ≢ Read }
-        requires idle { work_in self.old.parts.banks.log.tail ≡ None }
+        requires up { IsUp O.making O.entry self.old }
+        requires waits { Waits self.old job }
         requires shut { self.old.parts.banks.course ≡ None }
         requires full { fits_in self.old.reserve self.old.parts.banks job ≡ false }
         requires fresh { self.old.parts.worn ≡ None }

@@ -1,7 +1,7 @@
 // The turns of a device.
-ghost use Rattle.std.specs.Prelude.{◌≡◌, ◌≢◌, true, false, None, Some};
+ghost use Rattle.std.specs.Prelude.{◌≡◌, ◌≢◌, false, None, Some};
 ghost use Rattle.nv_base.specs.declared.job.DeviceOp.TheVariants.{Read};
-ghost use Rattle.fee_log.specs.Log.{work_in};
+ghost use Rattle.fee_core.specs.Turning.{IsUp, Waits};
 ghost use Rattle.fee_core.specs.Whole.{Sound, TurnedTo};
 
 use crate::Origin;
@@ -58,9 +58,7 @@ impl<F: Flash, O: Origin> FeeParts<F, O> {
 
     // A turn of a job that has a record, which is in work or waits.
     fn turn_writing(&mut self, job: FeeJob) -> DeviceTurn
-        requires sound { Sound O.making O.entry self.old }
-        requires started { self.old.parts.started ≡ true }
-        requires on { self.old.off ≡ false }
+        requires up { IsUp O.making O.entry self.old }
         requires job { self.old.parts.job ≡ Some job }
         requires writes { job.op ≢ Read }
         ensures { TurnedTo O.making O.entry result self.old self.new }
@@ -74,12 +72,8 @@ impl<F: Flash, O: Origin> FeeParts<F, O> {
 
     // A turn of a job whose record waits: it begins where it may, and else a switch comes first.
     fn turn_waiting(&mut self, job: FeeJob) -> DeviceTurn
-        requires sound { Sound O.making O.entry self.old }
-        requires started { self.old.parts.started ≡ true }
-        requires on { self.old.off ≡ false }
-        requires job { self.old.parts.job ≡ Some job }
-        requires writes { job.op ≢ Read }
-        requires idle { work_in self.old.parts.banks.log.tail ≡ None }
+        requires up { IsUp O.making O.entry self.old }
+        requires waits { Waits self.old job }
         ensures { TurnedTo O.making O.entry result self.old self.new }
     {
         if begins_now(&self.banks, job, self.reserve) {

@@ -1,6 +1,6 @@
 -- A bank of an image in bytes of its own.
 use Rattle.std.proofs.Common.{inl, inr, true≢false, ◌≡◌, ◌≤◌, ◌<◌, ◌+◌, ◌-◌, ◌&&◌, ◌↔◌, ℕ, zero, suc, Bool, true, false, IsTrue, List, Option, Some, None, MatchOption, option_map, refl, sym, ap, subst, ◌∙◌, arith}
-use Rattle.std.proofs.lemmas.Bool.{cases_lt}
+use Rattle.std.proofs.lemmas.Bool.{cases_lt, and_from}
 use Rattle.fee_format.specs.BankHead.{IsBankHead}
 use Rattle.fee_format.specs.Gate.{IsGate}
 use Rattle.std.proofs.lemmas.Slice.Eq.{bytes_eq-Decides}
@@ -17,30 +17,23 @@ use Rattle.fee_image.proofs.Banks.{heads_compute}
 use Rattle.fee_image.proofs.Reading.{records_stay, slices_agree}
 
 -- THE TAIL
-and_true : (a b : Bool) → a ≡ true → b ≡ true → (a && b) ≡ true
-and_true a b ea eb = rw (ea, eb) refl
-
-first_true : (a b : Bool) → (a && b) ≡ true → a ≡ true
-first_true true b e = refl
-first_true false b e = e
-
-second_true : (a b : Bool) → (a && b) ≡ true → b ≡ true
-second_true true b e = e
-second_true false b e = absurd (true≢false (sym e))
+both_true : (a b : Bool) → (a && b) ≡ true → (a ≡ true) × (b ≡ true)
+both_true true b e = (refl, e)
+both_true false b e = absurd (true≢false (sym e))
 
 blank_at : (b : Bank) (bytes : List ℕ) (q n : ℕ) → are_blank b bytes q n ≡ true → (i : ℕ) → q ≤ i → i < q + n → page_of b bytes i ≡ blank_page b.page
 blank_at b bytes q zero e i low high = absurd (omega arith)
 blank_at b bytes q (suc n) e i low high = elim (cases_lt q i) [
-  | inl later ↦ blank_at b bytes (suc q) n (second_true _ _ e) i later (omega arith)
+  | inl later ↦ blank_at b bytes (suc q) n (both_true _ _ e).1 i later (omega arith)
   | inr here ↦
       let same : q ≡ i = omega arith in
-      subst (λ (j : ℕ). page_of b bytes j ≡ blank_page b.page) same ((bytes_eq-Decides (page_of b bytes q) (blank_page b.page)).0 (first_true _ _ e))
+      subst (λ (j : ℕ). page_of b bytes j ≡ blank_page b.page) same ((bytes_eq-Decides (page_of b bytes q) (blank_page b.page)).0 (both_true _ _ e).0)
 ]
 
 blank_all : (b : Bank) (bytes : List ℕ) (q n : ℕ) → ((i : ℕ) → q ≤ i → i < q + n → page_of b bytes i ≡ blank_page b.page) → are_blank b bytes q n ≡ true
 blank_all b bytes q zero all = refl
 blank_all b bytes q (suc n) all =
-    and_true _ _ ((bytes_eq-Decides (page_of b bytes q) (blank_page b.page)).1 (all q (omega arith) (omega arith))) (blank_all b bytes (suc q) n (λ i low high. all i (omega arith) (omega arith)))
+    and_from _ _ ((bytes_eq-Decides (page_of b bytes q) (blank_page b.page)).1 (all q (omega arith) (omega arith))) (blank_all b bytes (suc q) n (λ i low high. all i (omega arith) (omega arith)))
 
 -- two tests of one fact agree
 pub same_test : {P : Type 0} (a b : Bool) → (IsTrue a ↔ P) → (P ↔ IsTrue b) → a ≡ b

@@ -4,9 +4,10 @@ use Rattle.std.specs.Int.{w32, to_be_bytes, from_be_bytes, byte_at}
 use Rattle.std.specs.Int.Bits.{and_self}
 use Rattle.std.proofs.Common.{◌≡◌, ◌⊎◌, inl, inr, ◌↔◌, ◌<◌, ◌≤◌, ◌^◌, ℕ, zero, suc, ◌-◌, Bool, true, false, IsTrue, List, [], ◌∷◌, length, drop, replicate, Option, Some, None, refl, sym, ap, ◌∙◌, subst, arith}
 use Rattle.std.proofs.lemmas.Bool.{false≢true}
-use Rattle.std.proofs.lemmas.Nat.{and_le_r, and_le_l, and_comm, and_assoc, and-not, be_bytes_4}
+use Rattle.std.proofs.lemmas.Nat.{and_le_r, and_comm, and_assoc, and-not, be_bytes_4}
 use Rattle.std.proofs.lemmas.Option.{none-some}
 use Rattle.fls_model.specs.Bytes.{Grown}
+use Rattle.fls_model.proofs.Within.{and_full}
 use Rattle.fee_format.specs.declared.bank_head.BankHead.{BankHead}
 use Rattle.fee_format.specs.BankHead.{IsLegalBankHead, IsBankHead, IsNoBankHead, bank_head_page, bank_head_of}
 use Rattle.fee_format.specs.SoundHead.{IsSoundHead, GrowsNoBankHead, IsSomeBankHead, is_part, is_apart, are_bytes, may_grow_as, may_grow, grows_bank_head}
@@ -28,14 +29,11 @@ grows_apart x y v small small2 up down =
     let all : bit_and x y ≡ bit_and x (bit_and v y) = ap (λ (n : ℕ). bit_and n y) (sym up) ∙ and_assoc y x v in
     all ∙ ap (bit_and x) none ∙ (let z : bit_and x 0 ≡ 0 = omega (arith, and_le_r x 0) in z)
 
-full : (x : ℕ) → x < 256 → bit_and x 255 ≡ x
-full x small = apart_grows 0 x (omega arith) small (let z : bit_and 0 x ≡ 0 = omega (arith, and_le_l 0 x) in z)
-
 rest_grows : (xs : List ℕ) → IsTrue (are_bytes xs) → Grown xs (replicate (length xs) 255)
 rest_grows [] t = tt
 rest_grows (x ∷ xs) t =
     let all = (both (nat_lt x 256) (are_bytes xs) (x < 256) (IsTrue (are_bytes xs)) (lt_is x 256) (λ a. a, λ a. a)).0 t in
-    (full x all.0, λ lt. omega arith, rest_grows xs all.1)
+    (and_full x all.0, λ lt. omega arith, rest_grows xs all.1)
 
 grown_rest : (xs : List ℕ) → Grown xs (replicate (length xs) 255) → IsTrue (are_bytes xs)
 grown_rest [] grown = refl

@@ -7,7 +7,7 @@ use Rattle.fee_image.specs.Image.{Layout, bank_in}
 use Rattle.fee_image.specs.May.{May, IsAmong, IsWider}
 use Rattle.fee_image.specs.Banks.{Old, NoBank, OldBank, Phase, Idle, Erasing, Copying, Sealing, Banks, HoldsOld, HoldsPhase}
 use Rattle.fee_image.specs.Doubts.{shown_of, doubting_banks, HasMarks, HasCopies, BanksTighten, OldBanksShow}
-use Rattle.fee_image.specs.BankLaws.{SealsWithin, BanksWiden}
+use Rattle.fee_image.specs.BankLaws.{TakesAppends, SealsWithin, BanksWiden}
 use Rattle.fee_image.proofs.Logs.{logs_tighten, logs_widen, first_among, later_among}
 
 -- MORE
@@ -31,6 +31,13 @@ banks_widen l numbers bytes s may copied h wide more within = record {
   behind = h.behind;
   phase = phase_widens l numbers bytes s may copied s.phase more within h.phase;
 }
+
+-- a phase that takes appends isn't the last one
+pub takes_within : (phase : Phase) (copied may : May) → TakesAppends phase → SealsWithin phase copied may
+takes_within Idle copied may takes = tt
+takes_within (Erasing n) copied may takes = tt
+takes_within (Copying log) copied may takes = tt
+takes_within (Sealing log) copied may takes = absurd takes
 
 -- ENOUGH
 module _ (l : Layout) (numbers : List (DeviceNumber × ℕ)) (bytes : List ℕ) (more : May) where

@@ -17,6 +17,7 @@ use Rattle.fee_laws.proofs.Making.{shown_as}
 use Rattle.fee_laws.specs.Parts.{with_plan}
 use Rattle.fee_laws.proofs.CallOrder.{finds_on}
 use Rattle.fee_laws.specs.CallLaws.{PlansAreSound}
+use Rattle.fee_laws.proofs.MadeFor.{still_made}
 
 same_cuts : (b : Bool) (p q : Planning) → q.unplanned ≡ p.unplanned → (if b then q else p).unplanned ≡ p.unplanned
 same_cuts true p q e = e
@@ -57,18 +58,7 @@ module _ (m : Making) (entry : Told) (s : Parts) (nth keep : ℕ) where
   plan_keeps listed kept count is_off is =
       let was = is.made_for in
       record {
-        made_for = record {
-          geometry = was.geometry;
-          idle = record { job = was.idle.job; attached = was.idle.attached };
-          banks_geometry = was.banks_geometry;
-          shared = was.shared;
-          numbers = was.numbers;
-          space = was.space;
-          bytes = was.bytes;
-          room = was.room;
-          given = was.given;
-          ended = was.ended;
-        };
+        made_for = still_made m s (with_plan nth keep s) was refl was.bytes (record { geometry = refl; banks = refl; numbers = refl }) was.room was.given was.ended;
         device = arm_keeps is.device;
         rests = λ started. record { job = (is.rests started).job; course = (is.rests started).course };
         works = λ started. (let w = is.works started in record { active = w.active; job = w.job; work = w.work; ready = w.ready; switch = w.switch });

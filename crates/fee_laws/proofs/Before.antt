@@ -18,6 +18,7 @@ use Rattle.fee_told.specs.Device.{Device, tells}
 use Rattle.fee_told.specs.Whole.{HoldsBanks}
 use Rattle.fee_laws.specs.Inside.{Parts, device_of, memory_of, HoldsBehind}
 use Rattle.fee_laws.specs.Turn.{IsOn}
+use Rattle.fee_laws.proofs.MadeFor.{legal_made}
 
 -- BYTES
 pub told_at : (o : Option ToldBytes) (P : List ℕ → Type 0) (bytes : List ℕ) → option_map (λ (b : ToldBytes). b.now) o ≡ Some bytes → IfSome (option_map (λ (b : ToldBytes). b.now) o) P → P bytes
@@ -61,7 +62,7 @@ module _ (m : Making) (entry : Told) (s : Parts) (listed : List (DeviceNumber ×
   power = sym (on.sound.off on.started)
 
   pub shape : IsLegal m.geometry
-  shape = subst IsLegal on.sound.made_for.banks_geometry on.banks.legal
+  shape = legal_made m s on.sound.made_for on.banks
 
   pub shared : HasBanks m.geometry m.banks
   shared = subst (λ (g : Geometry). HasBanks g m.banks) on.sound.made_for.banks_geometry (subst (HasBanks s.banks.geometry) on.sound.made_for.shared on.banks.shared)

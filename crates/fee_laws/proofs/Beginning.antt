@@ -11,7 +11,7 @@ use Rattle.nv_base.proofs.Places.{numbers_have_places}
 use Rattle.memif.specs.Told.{length_of, Slot, Stand, Open as StandOpen, Ended as StandEnded, is_open}
 use Rattle.fls_model.specs.Told.{Told}
 use Rattle.fee_format.specs.declared.rec_head.RecHead.{RecHead}
-use Rattle.fee_image.specs.Image.{Layout, bank_in}
+use Rattle.fee_image.specs.Image.{bank_in}
 use Rattle.fee_image.specs.RecordList.{pages_of_head}
 use Rattle.fee_image.specs.Log.{Log, Open as LogOpen, Writes as LogWrites}
 use Rattle.fee_image.specs.May.{May}
@@ -27,7 +27,7 @@ use Rattle.fee_log.proofs.Within.{within_length}
 use Rattle.fee_course.proofs.Turns.{appends_add}
 use Rattle.fee_switch.specs.declared.active.ActiveBank.{ActiveBank}
 use Rattle.fee_course.specs.declared.course.Course.{Course}
-use Rattle.fee_course.specs.Course.{appended_to, turns_left, most_turns}
+use Rattle.fee_course.specs.Course.{appended_to, turns_left}
 use Rattle.fee_switch.specs.Banks.{TakesRecord, appended_at, index_of, left_of, left_with}
 use Rattle.fee_switch_laws.specs.Shown.{old_shown}
 use Rattle.fee_switch_laws.specs.KeepsRoom.{KeepsRoom}
@@ -39,14 +39,11 @@ use Rattle.promise_device.specs.Making.{Making, banks_of}
 use Rattle.fee_told.specs.Slots.{Memory, IsWorkOf, slots_found}
 use Rattle.fee_told.specs.SlotLaws.{IsHeld, SamePlaces}
 use Rattle.fee_told.specs.Device.{Device, tells, told_of, slots_in}
-use Rattle.fee_told.specs.Clock.{MakesNone, clock_of}
-use Rattle.fee_told.specs.Runs.{HasRun}
+use Rattle.fee_told.specs.Clock.{clock_of}
 use Rattle.memif.specs.Clock.{SameClock}
 use Rattle.fee_told.specs.Kept.{with_log}
-use Rattle.fee_told.proofs.Kept.{same_places}
 use Rattle.fee_told.proofs.Appends.{records_begin}
 use Rattle.fee_told.proofs.Clocks.{clocks_stay}
-use Rattle.fee_told.proofs.Making.{runs_stay}
 use Rattle.fee_told.proofs.Steps.{places_tell}
 use Rattle.fee_laws.specs.declared.job.FeeJob.{FeeJob}
 use Rattle.fee_laws.specs.Inside.{Parts, body_of, device_of, memory_of, stand_of, IsActiveOf, IsAtWork, HasSwitch, HoldsBehind}
@@ -54,12 +51,12 @@ use Rattle.fee_laws.specs.Record.{head_of, IsJobOf}
 use Rattle.fee_laws.specs.Work.{pages_of_op, pages_of_job, pages_free, work_of, is_waiting, begins_next, fits_in, claimed, seal_turns, switch_turns, turns_before, turns_beside, takes_append, is_urgent_job, is_promised}
 use Rattle.nv_base.specs.declared.mark.Mark.{Mark}
 use Rattle.fee_told.specs.Figures.{Work, turns_of, turns_owed, left_of as turns_told, ready_of, wait_of}
-use Rattle.fee_told.specs.FigureLaws.{IsWork, IsOfJob}
+use Rattle.fee_told.specs.FigureLaws.{IsWork}
 use Rattle.fee_laws.proofs.Figures.{switch_is, free_is}
-use Rattle.fee_laws.proofs.Appended.{has_switch, flags_clear, few_left, of_job}
+use Rattle.fee_laws.proofs.Appended.{has_switch, flags_clear, open_work}
 use Rattle.fee_laws.specs.Turn.{IsOn}
 use Rattle.fee_laws.specs.Begins.{HasBegun, MayBegin, begun_with}
-use Rattle.fee_laws.proofs.Before.{lengths, legal, some, copied, held_at, each_told, log_geometry, log_banks, power}
+use Rattle.fee_laws.proofs.Before.{lengths, legal, some, copied, held_at, log_geometry, log_banks, power}
 use Rattle.fee_laws.proofs.Order.{tells_by}
 use Rattle.fee_laws.proofs.Heads.{IsAmong, among, mark_is, legal_head}
 use Rattle.fee_laws.proofs.Marks.{counted_by}
@@ -69,6 +66,7 @@ use Rattle.fee_laws.proofs.GoneOn.{no_seal}
 use Rattle.fee_laws.proofs.Shown.{few_by, pages_by}
 use Rattle.fee_laws.proofs.Raising.{writes_pages}
 use Rattle.fee_laws.proofs.FollowLifts.{some_of}
+use Rattle.fee_laws.proofs.BehindNone.{AsksNone, makes_none, held_behind}
 
 -- a bank is active where pages are free
 is_active : (o : Option ActiveBank) (n : ℕ) → 1 ≤ (if is_some o then n else 0) → IsSome o
@@ -97,9 +95,6 @@ module _ (m : Making) (entry : Told) (s : Parts) (listed : List (DeviceNumber ×
 
   abbrev pub r : RecHead
   r = head_of s.banks.log j
-
-  abbrev l : Layout
-  l = banks_of m
 
   abbrev d : Device
   d = device_of m entry s
@@ -154,9 +149,6 @@ module _ (m : Making) (entry : Told) (s : Parts) (listed : List (DeviceNumber ×
   work_is = begun_work s.banks.log.tail r ready
 
   -- MEMORY
-  abbrev mem : Memory
-  mem = memory_of s
-
   abbrev was : Log
   was = log_of s.banks.log []
 
@@ -166,16 +158,16 @@ module _ (m : Making) (entry : Told) (s : Parts) (listed : List (DeviceNumber ×
   none_body : body_of (work_in s.banks.log.tail) s.content ≡ []
   none_body = ap (λ (o : Option RecHead). body_of o s.content) may.idle
 
-  old_is : mem.old ≡ OldBank a.bank a.head was
+  old_is : (memory_of s).old ≡ OldBank a.bank a.head was
   old_is = (λ i. old_shown (active_is i) s.banks.log (none_body i))
 
   abbrev target_body : List ℕ
   target_body = body_of (work_in s.banks.copies.tail) s.banks.buffer
 
-  phase_is : (memory_of t).phase ≡ mem.phase
+  phase_is : (memory_of t).phase ≡ (memory_of s).phase
   phase_is = appended_phase place s.banks.course s.banks t.banks.log t.banks.course target_body
 
-  pub taking : TakesAppends mem.phase
+  pub taking : TakesAppends (memory_of s).phase
   taking = takes r.kind s.banks.course s.banks target_body may.taken
 
   few : j.length ≤ length s.content
@@ -188,14 +180,14 @@ module _ (m : Making) (entry : Told) (s : Parts) (listed : List (DeviceNumber ×
   log_owed : (owed : RecHead) → s.banks.log.tail ≡ Owes owed None → log_of t.banks.log (body_of (work_in t.banks.log.tail) s.content) ≡ was
   log_owed owed at = (λ i. log_of (record s.banks.log { tail = tail_begun (at i) r; flags = t.banks.log.flags }) (body_of (work_in (tail_begun (at i) r)) s.content)) ∙ ap (λ (x : Tail). log_of (record s.banks.log { tail = x }) []) (sym at)
 
-  memory_is : (x : Log) → log_of t.banks.log (body_of (work_in t.banks.log.tail) s.content) ≡ x → memory_of t ≡ with_log mem a.bank a.head x mem.stand
-  memory_is x same = (λ i. record { old = old_shown (active_is i) t.banks.log (body_of (work_in t.banks.log.tail) s.content); target = s.banks.target; phase = phase_is i; stand = mem.stand }) ∙ (λ i. record { old = OldBank a.bank a.head (same i); target = s.banks.target; phase = mem.phase; stand = mem.stand })
+  memory_is : (x : Log) → log_of t.banks.log (body_of (work_in t.banks.log.tail) s.content) ≡ x → memory_of t ≡ with_log (memory_of s) a.bank a.head x (memory_of s).stand
+  memory_is x same = (λ i. record { old = old_shown (active_is i) t.banks.log (body_of (work_in t.banks.log.tail) s.content); target = s.banks.target; phase = phase_is i; stand = (memory_of s).stand }) ∙ (λ i. record { old = OldBank a.bank a.head (same i); target = s.banks.target; phase = (memory_of s).phase; stand = (memory_of s).stand })
 
-  same_is : with_log mem a.bank a.head was mem.stand ≡ mem
-  same_is = λ i. record { old = sym old_is i; target = s.banks.target; phase = mem.phase; stand = mem.stand }
+  same_is : with_log (memory_of s) a.bank a.head was (memory_of s).stand ≡ (memory_of s)
+  same_is = λ i. record { old = sym old_is i; target = s.banks.target; phase = (memory_of s).phase; stand = (memory_of s).stand }
 
   -- THE BYTES
-  record_at : s.banks.log.tail ≡ Open → IsRecord (bank_in l a.head.format a.bank) was.end r body
+  record_at : s.banks.log.tail ≡ Open → IsRecord (bank_in (banks_of m) a.head.format a.bank) was.end r body
   record_at at =
       let free = log_free in
       let is : free_in s.banks.log ≡ pages_in s.banks.log - (s.banks.log.end + 0) = ap (λ (x : Tail). free_behind s.banks.log.geometry.page (pages_in s.banks.log) s.banks.log.end x) at in
@@ -209,20 +201,20 @@ module _ (m : Making) (entry : Told) (s : Parts) (listed : List (DeviceNumber ×
         room = subst (λ (g : Geometry). s.banks.log.end + pages_of_head g.page r ≤ pages_of_bank m.geometry m.banks) on.sound.made_for.banks_geometry three;
       }
 
-  work_of_job : IsWorkOf m.numbers s.banks.log.places mem.stand (LogWrites r body 0)
+  work_of_job : IsWorkOf m.numbers s.banks.log.places (memory_of s).stand (LogWrites r body 0)
   work_of_job = subst (λ (o : Option FeeJob). IsWorkOf m.numbers s.banks.log.places (stand_of s.content o s.last s.given) (LogWrites r body 0)) (sym may.job) (refl, mark_is j.op j.number.0 j.length r.count s.content may.writes, counted_by s.banks.log.numbers m.numbers s.banks.log.places j.number.0 on.sound.made_for.numbers)
 
-  pub held_by : (tl : Tail) → s.banks.log.tail ≡ tl → Ready tl → (bytes : List ℕ) (more : May) → IsHeld l m.numbers bytes mem more → IsHeld l m.numbers bytes (memory_of t) more
+  pub held_by : (tl : Tail) → s.banks.log.tail ≡ tl → Ready tl → (bytes : List ℕ) (more : May) → IsHeld (banks_of m) m.numbers bytes (memory_of s) more → IsHeld (banks_of m) m.numbers bytes (memory_of t) more
   held_by Open at opens bytes more held =
       let tail : was.tail ≡ LogOpen = ap (λ (x : Tail). tail_with x []) at in
-      let kept' = records_begin l m.numbers bytes mem more a.bank a.head was r body (record { lengths = lengths m entry s listed kept count on; legal = legal m entry s listed kept count on; held = held; bank = old_is; takes = taking }) tail (record_at at) work_of_job in
-      subst (λ (x : Memory). IsHeld l m.numbers bytes x more) (sym (memory_is (log_begun was r body) (log_open at))) kept'.held
-  held_by (Owes owed None) at (owes _) bytes more held = subst (λ (x : Memory). IsHeld l m.numbers bytes x more) (sym (memory_is was (log_owed owed at) ∙ same_is)) held
+      let kept' = records_begin (banks_of m) m.numbers bytes (memory_of s) more a.bank a.head was r body (record { lengths = lengths m entry s listed kept count on; legal = legal m entry s listed kept count on; held = held; bank = old_is; takes = taking }) tail (record_at at) work_of_job in
+      subst (λ (x : Memory). IsHeld (banks_of m) m.numbers bytes x more) (sym (memory_is (log_begun was r body) (log_open at))) kept'.held
+  held_by (Owes owed None) at (owes _) bytes more held = subst (λ (x : Memory). IsHeld (banks_of m) m.numbers bytes x more) (sym (memory_is was (log_owed owed at) ∙ same_is)) held
   held_by (Writes _ _) at x bytes more held = elim x [ ]
   held_by (Owes _ (Some _)) at x bytes more held = elim x [ ]
   held_by Closed at x bytes more held = elim x [ ]
 
-  pub places_by : (tl : Tail) → s.banks.log.tail ≡ tl → Ready tl → SamePlaces mem.old (memory_of t).old
+  pub places_by : (tl : Tail) → s.banks.log.tail ≡ tl → Ready tl → SamePlaces (memory_of s).old (memory_of t).old
   places_by Open at opens = subst (λ (o : Old). SamePlaces o (memory_of t).old) (sym old_is) (subst (λ (o : Old). SamePlaces (OldBank a.bank a.head was) o) (sym (ap (λ (x : Memory). x.old) (memory_is (log_begun was r body) (log_open at)))) (refl, refl, refl))
   places_by (Owes owed None) at (owes _) = subst (λ (o : Old). SamePlaces o (memory_of t).old) (sym old_is) (subst (λ (o : Old). SamePlaces (OldBank a.bank a.head was) o) (sym (ap (λ (x : Memory). x.old) (memory_is was (log_owed owed at)))) (refl, refl, refl))
   places_by (Writes _ _) at x = elim x [ ]
@@ -230,37 +222,19 @@ module _ (m : Making) (entry : Told) (s : Parts) (listed : List (DeviceNumber ×
   places_by Closed at x = elim x [ ]
 
   slots_are : (x : List ℕ) → slots_in e x ≡ slots_in d x
-  slots_are x = ap (λ (z : List Slot). if s.started then z else slots_found l m.numbers x) (places_tell l m.numbers x mem (memory_of t) (places_by s.banks.log.tail refl ready) refl)
+  slots_are x = ap (λ (z : List Slot). if s.started then z else slots_found (banks_of m) m.numbers x) (places_tell (banks_of m) m.numbers x (memory_of s) (memory_of t) (places_by s.banks.log.tail refl ready) refl)
 
   pub same_slots : (told_of e).slots ≡ (told_of d).slots
   same_slots = tells_by (tells d) s.fls.flash.bytes (slots_in e) (slots_in d) slots_are
 
-  none : MakesNone d e
-  none = record { making = refl; entry = refl; operations = refl; bytes = refl }
-
-  pub run_on : HasRun e
-  run_on = runs_stay d e on.sound.device.run (record { none = none; bytes = refl; counts = (refl, refl); flash_faults = omega arith; faults = on.sound.device.run.faults; cuts = on.sound.device.run.cuts; worn = λ since worn. inl worn })
+  pub none : AsksNone m entry s t
+  none = record { only = refl; more = omega arith; counted = inl refl; worn = λ since worn. inl worn }
 
   pub same_clock : SameClock (clock_of d) (clock_of e)
-  same_clock = clocks_stay d e none refl
+  same_clock = clocks_stay d e (makes_none m entry s listed kept count on t none) refl
 
   pub behind : HoldsBehind e
-  behind = record {
-    behind = memory_of t;
-    copied = copied m entry s listed kept count on;
-    banks = record {
-      started = on.started;
-      alike = run_on.alike;
-      legal = legal m entry s listed kept count on;
-      some = some m entry s listed kept count on;
-      held = λ told. each_told s.fls.flash.bytes (λ (x : List ℕ). IsHeld l m.numbers x (memory_of t) (copied m entry s listed kept count on)) (λ bytes at.
-          held_by s.banks.log.tail refl ready bytes (copied m entry s listed kept count on) (held_at m entry s listed kept count on bytes at told));
-    };
-    places = same_places (memory_of t).old;
-    stand = refl;
-    on = λ power. refl;
-    idle = inl refl;
-  }
+  behind = held_behind m entry s listed kept count on t none (copied m entry s listed kept count on) (λ bytes at told. held_by s.banks.log.tail refl ready bytes (copied m entry s listed kept count on) (held_at m entry s listed kept count on bytes at told))
 
   -- THE SWITCH
   pub room_on : KeepsRoom m.reserve t.banks
@@ -350,17 +324,8 @@ module _ (m : Making) (entry : Told) (s : Parts) (listed : List (DeviceNumber ×
 
   pub work_then : IsWork m.geometry.page (sectors_of_bank m.geometry m.banks) m.numbers m.reserve (stand_of s.content s.job s.last s.given) v
   work_then =
-      let geo = on.sound.made_for.banks_geometry in
-      let few' = few_left t.banks switch_on in
-      let fits = subst (λ (g : Geometry). left_of t.banks ≤ most_turns g.page (sectors_of_bank g s.banks.banks) ns) geo few' in
-      let fits2 = subst (λ (n : ℕ). left_of t.banks ≤ most_turns m.geometry.page (sectors_of_bank m.geometry n) ns) on.sound.made_for.shared fits in
-      let fits3 = subst (λ (x : List (DeviceNumber × ℕ)). left_of t.banks ≤ most_turns m.geometry.page (sectors_of_bank m.geometry m.banks) x) on.sound.made_for.numbers fits2 in
-      record {
-        job = subst (λ (o : Option FeeJob). IsOfJob m.geometry.page m.numbers (stand_of s.content o s.last s.given) v) (sym may.job)
-            (of_job m.geometry.page m.numbers s.content j s.last s.given v job_of
-            (subst (λ (g : Geometry). v.pages ≤ pages_of_op g.page j.op j.length) geo (let one = pages_then in let two = wanted in omega (arith, one, two))));
-        few = subst (λ (n : ℕ). n ≤ most_turns m.geometry.page (sectors_of_bank m.geometry m.banks) m.numbers) (sym switch_then) fits3;
-      }
+      open_work m s j t.banks v may.job job_of (record { geometry = on.sound.made_for.banks_geometry; shared = on.sound.made_for.shared; numbers = on.sound.made_for.numbers }) switch_on
+      (let one = pages_then in let two = wanted in omega (arith, one, two)) switch_then
 
   -- free pages
   free_then : pages_free t.banks s.job ≡ free_pages s.banks - pages_of_op p j.op j.length

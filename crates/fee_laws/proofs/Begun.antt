@@ -27,35 +27,29 @@ ready_by p pages end (Owes owed None) idle free = owes owed
 ready_by p pages end (Owes owed (Some h)) idle free = absurd (cc idle)
 ready_by p pages end Closed idle free = absurd (omega (arith, free))
 
+-- what holds of an open tail, and of one that owes a gate alone
+pub by_ready : (P : Tail → Type 0) → P Open → ((owed : RecHead) → P (Owes owed None)) → (t : Tail) → Ready t → P t
+by_ready P at_open at_owes Open opens = at_open
+by_ready P at_open at_owes (Owes owed None) (owes _) = at_owes owed
+by_ready P at_open at_owes (Writes _ _) x = elim x [ ]
+by_ready P at_open at_owes (Owes _ (Some _)) x = elim x [ ]
+by_ready P at_open at_owes Closed x = elim x [ ]
+
 -- it takes its own pages of the free ones
 pub free_less : (p pages end : ℕ) (t : Tail) (h : RecHead) → Ready t → free_behind p pages end (tail_begun t h) ≡ free_behind p pages end t - pages_of_head p h
-free_less p pages end Open h opens = let goal : pages - (end + pages_of_head p h) ≡ pages - (end + 0) - pages_of_head p h = omega arith in goal
-free_less p pages end (Owes owed None) h (owes _) =
-    let goal : pages - (end + (pages_of_head p owed + pages_of_head p h)) ≡ pages - (end + (pages_of_head p owed + 0)) - pages_of_head p h = omega arith in goal
-free_less p pages end (Writes _ _) h x = elim x [ ]
-free_less p pages end (Owes _ (Some _)) h x = elim x [ ]
-free_less p pages end Closed h x = elim x [ ]
+free_less p pages end t h ready =
+    by_ready (λ (x : Tail). free_behind p pages end (tail_begun x h) ≡ free_behind p pages end x - pages_of_head p h)
+    (let goal : pages - (end + pages_of_head p h) ≡ pages - (end + 0) - pages_of_head p h = omega arith in goal)
+    (λ owed. (let goal : pages - (end + (pages_of_head p owed + pages_of_head p h)) ≡ pages - (end + (pages_of_head p owed + 0)) - pages_of_head p h = omega arith in goal)) t ready
 
 pub begun_work : (t : Tail) (h : RecHead) → Ready t → work_in (tail_begun t h) ≡ Some h
-begun_work Open h opens = refl
-begun_work (Owes owed None) h (owes _) = refl
-begun_work (Writes _ _) h x = elim x [ ]
-begun_work (Owes _ (Some _)) h x = elim x [ ]
-begun_work Closed h x = elim x [ ]
+begun_work t h ready = by_ready (λ (x : Tail). work_in (tail_begun x h) ≡ Some h) refl (λ owed. refl) t ready
 
 pub begun_owed : (t : Tail) (h : RecHead) → Ready t → is_owed (tail_begun t h) ≡ is_owed t
-begun_owed Open h opens = refl
-begun_owed (Owes owed None) h (owes _) = refl
-begun_owed (Writes _ _) h x = elim x [ ]
-begun_owed (Owes _ (Some _)) h x = elim x [ ]
-begun_owed Closed h x = elim x [ ]
+begun_owed t h ready = by_ready (λ (x : Tail). is_owed (tail_begun x h) ≡ is_owed x) refl (λ owed. refl) t ready
 
 pub begun_pages : (p wanted : ℕ) (t : Tail) (h : RecHead) → pages_of_head p h ≡ wanted → Ready t → pages_left p wanted (tail_begun t h) ≡ wanted
-begun_pages p wanted Open h same opens = let goal : pages_of_head p h - 0 ≡ wanted = omega (arith, same) in goal
-begun_pages p wanted (Owes owed None) h same (owes _) = refl
-begun_pages p wanted (Writes _ _) h same x = elim x [ ]
-begun_pages p wanted (Owes _ (Some _)) h same x = elim x [ ]
-begun_pages p wanted Closed h same x = elim x [ ]
+begun_pages p wanted t h same ready = by_ready (λ (x : Tail). pages_left p wanted (tail_begun x h) ≡ wanted) (let goal : pages_of_head p h - 0 ≡ wanted = omega (arith, same) in goal) (λ owed. refl) t ready
 
 -- ROOM
 pub room_is : (u : Bool) (pages reserve free : ℕ) → has_room u pages reserve free ≡ true → pages ≤ free
@@ -63,8 +57,4 @@ room_is true pages reserve free room = omega (arith, leb-true pages free room)
 room_is false pages reserve free room = omega (arith, leb-true (pages + reserve) free room)
 
 pub ready_pages : (p wanted : ℕ) (t : Tail) → Ready t → pages_left p wanted t ≡ wanted
-ready_pages p wanted Open opens = refl
-ready_pages p wanted (Owes owed None) (owes _) = refl
-ready_pages p wanted (Writes _ _) x = elim x [ ]
-ready_pages p wanted (Owes _ (Some _)) x = elim x [ ]
-ready_pages p wanted Closed x = elim x [ ]
+ready_pages p wanted t ready = by_ready (λ (x : Tail). pages_left p wanted x ≡ wanted) refl (λ owed. refl) t ready

@@ -23,12 +23,12 @@ use Rattle.fee_laws.specs.Inside.{Parts, memory_of, flags_in, IsActiveOf, IsAtWo
 use Rattle.fee_laws.specs.Record.{IsInWork, IsReady}
 use Rattle.fee_laws.specs.Turn.{IsOn}
 use Rattle.fee_laws.specs.Begins.{MayBegin, RecordsBegin}
-use Rattle.fee_laws.proofs.Before.{shape, lengths, each_now, now_at}
-use Rattle.fee_laws.proofs.Order.{behind_finds, in_order}
-use Rattle.fee_laws.proofs.Beside.{appended_again, appended_some, clear_again, flags_cleared, clears_copying, appended_copying}
+use Rattle.fee_laws.proofs.Before.{each_now, now_at}
+use Rattle.fee_laws.proofs.Beside.{appended_again, appended_some, clear_again, flags_set, clears_copying, appended_copying}
 use Rattle.fee_laws.proofs.Begun.{no_course}
 use Rattle.fee_laws.proofs.GoesOn.{each_some}
-use Rattle.fee_laws.proofs.Beginning.{t, r, e, ready, active_is, formats, was_at_work, work_is, active, taken_then, taking, held_by, places_by, room_on, switch_on, run_on, behind, work_then, has_begun}
+use Rattle.fee_laws.proofs.Beginning.{t, r, ready, active_is, formats, was_at_work, work_is, active, taken_then, taking, held_by, places_by, room_on, switch_on, none, behind, work_then, has_begun}
+use Rattle.fee_laws.proofs.BehindNone.{sound as sound_behind}
 
 module _ (m : Making) (entry : Told) (s : Parts) (listed : List (DeviceNumber × ℕ)) (kept count : ℕ) (j : FeeJob) (on : IsOn m entry s listed kept count) (may : MayBegin m s j) where
   abbrev begun : Parts
@@ -55,7 +55,7 @@ module _ (m : Making) (entry : Told) (s : Parts) (listed : List (DeviceNumber ×
   flags_then bytes =
       let settled = same_settled (banks_of m) m.numbers bytes (memory_of s).old (memory_of begun).old (places_by m entry s listed kept count j on may s.banks.log.tail refl (ready m entry s listed kept count j on may)) in
       (λ i. flags_of m.numbers s.banks.log.places (with_flag (on.sound.made_for.numbers i) s.banks.log.flags j.number.0 false) (settled i))
-      ∙ flags_cleared m.numbers s.banks.log.places s.banks.log.flags (settled_in (banks_of m) m.numbers bytes (memory_of s).old) j.number.0
+      ∙ flags_set m.numbers s.banks.log.places s.banks.log.flags (settled_in (banks_of m) m.numbers bytes (memory_of s).old) j.number.0 false
 
   held_then : (bytes : List ℕ) → IsHeld (banks_of m) m.numbers bytes (memory_of s) (copied_of (flags_in m s bytes)) → IsHeld (banks_of m) m.numbers bytes (memory_of begun) (copied_of (flags_in m begun bytes))
   held_then bytes held =
@@ -92,39 +92,15 @@ module _ (m : Making) (entry : Told) (s : Parts) (listed : List (DeviceNumber ×
   }
 
   pub sound : IsSound m entry begun listed kept count false
-  sound =
-      let made = on.sound.made_for in
-      record {
-        made_for = record {
-          geometry = made.geometry;
-          idle = record { job = made.idle.job; attached = made.idle.attached };
-          banks_geometry = made.banks_geometry;
-          shared = made.shared;
-          numbers = made.numbers;
-          space = made.space;
-          bytes = made.bytes;
-          room = made.room;
-          given = made.given;
-          ended = made.ended;
-        };
-        device = record {
-          run = run_on m entry s listed kept count j on may;
-          held = λ started. behind m entry s listed kept count j on may;
-          order = in_order m entry begun (shape m entry s listed kept count on) (lengths m entry s listed kept count on) (work_then m entry s listed kept count j on may)
-              (behind_finds (e m entry s listed kept count j on may) on.started (behind m entry s listed kept count j on may));
-          faults = on.sound.device.faults;
-        };
-        rests = λ stopped. (let h = on.started in absurd (cc (h, stopped)));
-        works = λ started. at_work_on;
-        room = λ started on'. room_on m entry s listed kept count j on may;
-        copies = copies;
-        cuts = on.sound.cuts;
-        worn = λ since worn. record { passed = (on.sound.worn since worn).passed; shut = ap (appended_at place) (on.sound.worn since worn).shut ∙ no_course place };
-        numbers = on.sound.numbers;
-        reserve = on.sound.reserve;
-        ops = on.sound.ops;
-        off = on.sound.off;
-      }
+  sound = sound_behind m entry s listed kept count on begun (none m entry s listed kept count j on may) (record {
+    ends = record { same = record { geometry = refl; banks = refl; numbers = refl }; room = on.sound.made_for.room; given_few = on.sound.made_for.given; ended = on.sound.made_for.ended };
+    behind = behind m entry s listed kept count j on may;
+    work = work_then m entry s listed kept count j on may;
+    at_work = at_work_on;
+    room = room_on m entry s listed kept count j on may;
+    copies = copies;
+    worn = λ since worn. record { passed = (on.sound.worn since worn).passed; shut = ap (appended_at place) (on.sound.worn since worn).shut ∙ no_course place };
+  })
 
 pub records_begin : RecordsBegin
 records_begin m entry s listed kept count j on may = record { told = has_begun m entry s listed kept count j on may; sound = sound m entry s listed kept count j on may }

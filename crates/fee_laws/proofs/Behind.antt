@@ -1,6 +1,6 @@
 -- A device behind a changing operation.
-use Rattle.std.specs.Prelude.{IfSome, IsTrue, min, length}
-use Rattle.std.proofs.Common.{◌≡◌, ◌≢◌, inl, ◌≤◌, ◌++◌, ◌∷◌, ℕ, Bool, false, List, [], Option, Some, None, refl, ap, ◌∙◌, subst, arith}
+use Rattle.std.specs.Prelude.{IfSome, IsTrue, min, length, if◌then◌else◌}
+use Rattle.std.proofs.Common.{◌≡◌, ◌≢◌, inl, inr, ◌≤◌, ◌++◌, ◌∷◌, ℕ, Bool, true, false, List, [], Option, Some, None, refl, sym, ap, ◌∙◌, subst, arith}
 use Rattle.std.proofs.Math.ListN.{length-append}
 use Rattle.nv_base.specs.Count.{next_count, last_count}
 use Rattle.nv_base.specs.Geometry.{sectors_of_bank}
@@ -8,6 +8,8 @@ use Rattle.nv_base.specs.declared.geometry.Geometry.{Geometry}
 use Rattle.nv_base.specs.declared.instance.DeviceNumber.{DeviceNumber}
 use Rattle.memif.specs.declared.answer.JobResult.{JobResult}
 use Rattle.memif.specs.declared.answer.JobResult.TheVariants.{JobPending}
+use Rattle.memif.specs.Told.{Slot, Stand, slot_at}
+use Rattle.memif.specs.Marks.{Keeps, KeepsAll}
 use Rattle.memif.specs.Calls.{InOrder}
 use Rattle.fls_model.specs.declared.flash.FlashAnswer.{FlashAnswer}
 use Rattle.fls_model.specs.Attach.{AreBytesOf}
@@ -16,7 +18,12 @@ use Rattle.fls_model.specs.Step.{IsAsked}
 use Rattle.fls_model.specs.Told.{Told, Change, bytes_now}
 use Rattle.fee_image.specs.May.{May}
 use Rattle.promise_device.specs.Making.{Making, banks_of}
-use Rattle.fee_told.specs.SlotLaws.{IsHeld}
+use Rattle.fee_told.specs.Slots.{Memory, HasJob, slots_held, slots_found}
+use Rattle.fee_told.specs.SlotLaws.{IsHeld, SamePlaces}
+use Rattle.fee_told.specs.Tells.{AreTold, was as slot_was}
+use Rattle.fee_told.specs.Whole.{HoldsBanks}
+use Rattle.fee_told.proofs.Steps.{places_tell}
+use Rattle.fee_told.proofs.Tells.{tells_keep}
 use Rattle.fee_told.specs.Device.{tells}
 use Rattle.fls_jobs.specs.Start.{IsIdle}
 use Rattle.fls_jobs.specs.State.{FlsState}
@@ -34,11 +41,15 @@ use Rattle.fee_laws.specs.Turn.{IsOn, Drives}
 use Rattle.fee_laws.proofs.Before.{shape, lengths, legal, some_told, each_told}
 use Rattle.fee_laws.proofs.Order.{behind_finds, in_order}
 use Rattle.fee_laws.proofs.Operation.{cuts, next_length, few_faults}
+use Rattle.fee_laws.proofs.MadeFor.{still_made}
 
 later : (n : ℕ) (xs : List Change) (x : Change) → n ≤ min (length xs) last_count → n ≤ min (length (xs ++ x ∷ [])) last_count
 later n xs x few = let h = length-append xs (x ∷ []) in omega (arith, h)
 
 module _ (m : Making) (entry : Told) (s : Parts) (listed : List (DeviceNumber × ℕ)) (kept count : ℕ) (on : IsOn m entry s listed kept count) (op : Op) (answer : FlashAnswer) (f : FlsState) (drives : Drives s.fls f) (asked : IsAsked op s.fls.flash answer f.flash) (b : BanksState) (job : Option FeeJob) (last : JobResult) (given : ℕ) where
+  abbrev d : Device
+  d = device_of m entry s
+
   abbrev pub t : Parts
   t = record s { fls = f; banks = b; job = job; last = last; given = given; faults = counts_fault answer s.faults; operations = s.operations ++ change_of op s.fls.flash answer ∷ [] }
 
@@ -61,36 +72,35 @@ module _ (m : Making) (entry : Told) (s : Parts) (listed : List (DeviceNumber ×
     pub given_few : given ≤ 4096
 
   made_for : Ends → IsMadeFor m t
-  made_for is = record {
-    geometry = geometry;
-    idle = idle;
-    banks_geometry = is.same.geometry ∙ on.sound.made_for.banks_geometry;
-    shared = is.same.banks ∙ on.sound.made_for.shared;
-    numbers = is.same.numbers ∙ on.sound.made_for.numbers;
-    space = on.sound.made_for.space;
-    bytes = bytes;
-    room = on.sound.made_for.room;
-    given = is.given_few;
-    ended = is.ended;
-  }
+  made_for is = still_made m s t on.sound.made_for drives.only bytes is.same on.sound.made_for.room is.given_few is.ended
 
   -- the bytes hold its banks
-  pub held_behind : HasRun e → (more : May) → ((new : List ℕ) → bytes_now f.flash ≡ Some new → IsTrue (tells e) → IsHeld (banks_of m) m.numbers new (memory_of t) more) → HoldsBehind e
-  held_behind run more held = record {
-    behind = memory_of t;
-    copied = more;
-    banks = record {
-      started = on.started;
-      alike = run.alike;
-      legal = legal m entry s listed kept count on;
-      some = some_told m.geometry f.flash.bytes (shape m entry s listed kept count on) bytes;
-      held = λ told. each_told f.flash.bytes (λ (x : List ℕ). IsHeld (banks_of m) m.numbers x (memory_of t) more) (λ new at. held new at told);
-    };
-    places = same_places (memory_of t).old;
-    stand = refl;
-    on = λ power. refl;
-    idle = inl refl;
+  holds : HasRun e → (x : Memory) (more : May) → ((new : List ℕ) → bytes_now f.flash ≡ Some new → IsTrue (tells e) → IsHeld (banks_of m) m.numbers new x more) → HoldsBanks (record e { memory = x }) more
+  holds run x more held = record {
+    started = on.started;
+    alike = run.alike;
+    legal = legal m entry s listed kept count on;
+    some = some_told m.geometry f.flash.bytes (shape m entry s listed kept count on) bytes;
+    held = λ told. each_told f.flash.bytes (λ (y : List ℕ). IsHeld (banks_of m) m.numbers y x more) (λ new at. held new at told);
   }
+
+  pub held_behind : HasRun e → (more : May) → ((new : List ℕ) → bytes_now f.flash ≡ Some new → IsTrue (tells e) → IsHeld (banks_of m) m.numbers new (memory_of t) more) → HoldsBehind e
+  held_behind run more held = record { behind = memory_of t; copied = more; banks = holds run (memory_of t) more held; places = same_places (memory_of t).old; stand = refl; on = λ power. refl; idle = inl refl }
+
+  -- or what a cut left, with the same places and the same job, which any job fits
+  pub held_torn : HasRun e → f.flash.off ≡ true → (torn : Memory) → SamePlaces torn.old (memory_of t).old → torn.stand ≡ (memory_of t).stand → ((stand : Stand) → HasJob m.numbers stand torn.old)
+      → (more : May) → ((new : List ℕ) → bytes_now f.flash ≡ Some new → IsTrue (tells e) → IsHeld (banks_of m) m.numbers new torn more) → HoldsBehind e
+  held_torn run off torn places stands fits more held = record { behind = torn; copied = more; banks = holds run torn more held; places = places; stand = stands; on = λ power. cc (off, power); idle = inr fits }
+
+  pub torn_keeps : HasRun e → (torn : Memory) → SamePlaces torn.old (memory_of t).old → torn.stand ≡ (memory_of t).stand
+      → ((old new : List ℕ) → AreTold d e old new → (n : ℕ) → Keeps (slot_at m.numbers (slots_held (banks_of m) m.numbers old (memory_of s)) n) (slot_at m.numbers (slots_held (banks_of m) m.numbers new torn) n)) → KeepsAll (told_of d) (told_of e)
+  torn_keeps run torn places stands keeps = tells_keep d e (record { making = refl; entry = refl; old = on.sound.device.run.alike; new = run.alike }) (λ old new told n.
+      (let path = slots_at new (memory_of t) ∙ places_tell (banks_of m) m.numbers new torn (memory_of t) places (sym stands) in
+      subst (λ (x : List Slot). Keeps (slot_at m.numbers x n) (slot_was e new n)) (sym (slots_at old (memory_of s)))
+      (subst (λ (x : List Slot). Keeps (slot_at m.numbers (slots_held (banks_of m) m.numbers old (memory_of s)) n) (slot_at m.numbers x n)) (sym path) (keeps old new told n))))
+    where
+      slots_at : (x : List ℕ) (o : Memory) → (if s.started then slots_held (banks_of m) m.numbers x o else slots_found (banks_of m) m.numbers x) ≡ slots_held (banks_of m) m.numbers x o
+      slots_at x o = ap (λ (y : Bool). if y then slots_held (banks_of m) m.numbers x o else slots_found (banks_of m) m.numbers x) on.started
 
   -- what is known of it
   pub record Facts : Type 0 where

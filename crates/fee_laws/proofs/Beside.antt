@@ -20,6 +20,7 @@ use Rattle.fee_switch_laws.specs.Flags.{IsOpenFor}
 use Rattle.fee_switch_laws.specs.Shown.{phase_shown}
 use Rattle.fee_laws.specs.Copied.{flags_of, IsCopyIn, IsCopying}
 use Rattle.fee_laws.specs.Work.{takes_append}
+use Rattle.fee_image.specs.Copies.{at_number as flag_at_number}
 
 -- THE COURSE
 -- it changes no phase
@@ -99,18 +100,20 @@ clear_again [] flags number = refl
 clear_again (x ∷ xs) [] number = refl
 clear_again (x ∷ xs) (c ∷ cs) number = λ i. clear_one (x.0.0 == number) c i ∷ clear_again xs cs number i
 
-one_cleared : (x : DeviceNumber × ℕ) (w c b : Bool) (y : Held)
-    → record { number = x.0.0; length = x.1; copied = if b then false else c; written = w; settled = y } ≡ (let f : Flag = record { number = x.0.0; length = x.1; copied = c; written = w; settled = y } in if b then record f { copied = false } else f)
-one_cleared x w c true y = refl
-one_cleared x w c false y = refl
+one_set : (x : DeviceNumber × ℕ) (w c b on : Bool) (y : Held)
+    → record { number = x.0.0; length = x.1; copied = if b then on else c; written = w; settled = y } ≡ (let f : Flag = record { number = x.0.0; length = x.1; copied = c; written = w; settled = y } in if b then record f { copied = on } else f)
+one_set x w c true on y = refl
+one_set x w c false on y = refl
 
-pub flags_cleared : (ns : List (DeviceNumber × ℕ)) (ps : List Place) (flags : List Bool) (held : List Held) (number : ℕ) → flags_of ns ps (with_flag ns flags number false) held ≡ cleared number (flags_of ns ps flags held)
-flags_cleared [] ps flags held number = refl
-flags_cleared (x ∷ xs) [] [] held number = refl
-flags_cleared (x ∷ xs) [] (c ∷ cs) held number = refl
-flags_cleared (x ∷ xs) (p ∷ ps) [] held number = refl
-flags_cleared (x ∷ xs) (p ∷ ps) (c ∷ cs) [] number = refl
-flags_cleared (x ∷ xs) (p ∷ ps) (c ∷ cs) (y ∷ ys) number = λ i. one_cleared x (is_written p) c (x.0.0 == number) y i ∷ flags_cleared xs ps cs ys number i
+-- of one number
+pub flags_set : (ns : List (DeviceNumber × ℕ)) (ps : List Place) (flags : List Bool) (held : List Held) (number : ℕ) (on : Bool)
+    → flags_of ns ps (with_flag ns flags number on) held ≡ flag_at_number number (λ f. record f { copied = on }) (flags_of ns ps flags held)
+flags_set [] ps flags held number on = refl
+flags_set (x ∷ xs) [] [] held number on = refl
+flags_set (x ∷ xs) [] (c ∷ cs) held number on = refl
+flags_set (x ∷ xs) (p ∷ ps) [] held number on = refl
+flags_set (x ∷ xs) (p ∷ ps) (c ∷ cs) [] number on = refl
+flags_set (x ∷ xs) (p ∷ ps) (c ∷ cs) (y ∷ ys) number on = λ i. one_set x (is_written p) c (x.0.0 == number) on y i ∷ flags_set xs ps cs ys number on i
 
 -- the flag of a number is the one at its place
 flags_above : (number low : ℕ) (ns : List (DeviceNumber × ℕ)) (cs : List Bool) → AreLengths low ns → number ≤ low → with_flag ns cs number false ≡ cs

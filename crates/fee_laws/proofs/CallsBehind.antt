@@ -1,5 +1,5 @@
 -- A change in memory alone: what is told then.
-use Rattle.std.specs.Prelude.{IfSome, option_map}
+use Rattle.std.specs.Prelude.{IfSome, IsTrue, option_map}
 use Rattle.std.proofs.Common.{◌≡◌, ℕ, Bool, true, false, if◌then◌else◌, List, Option, Some, None, refl, sym, ap, arith, inl}
 use Rattle.nv_base.specs.declared.instance.DeviceNumber.{DeviceNumber}
 use Rattle.memif.specs.declared.answer.JobResult.{JobResult}
@@ -24,6 +24,9 @@ use Rattle.fee_laws.specs.declared.job.FeeJob.{FeeJob}
 use Rattle.fee_laws.specs.Inside.{Parts, device_of, body_of, HoldsBehind}
 use Rattle.fee_laws.specs.Record.{IsInWork}
 use Rattle.fee_laws.proofs.CallOrder.{finds_on}
+use Rattle.fee_told.specs.Whole.{HoldsBanks}
+use Rattle.fee_laws.proofs.Before.{each_told}
+use Rattle.fee_told.specs.SlotLaws.{IsHeld}
 
 -- NO RECORD IN WORK
 pub no_work : (b : BanksState) (job : Option FeeJob) (o : Option RecHead) → job ≡ None → IfSome o (IsInWork b job) → o ≡ None
@@ -81,3 +84,15 @@ pub run_stays : (m : Making) (entry : Told) (s : Parts) (b : BanksState) (conten
 run_stays m entry s b content job last given run =
     runs_stay (device_of m entry s) (device_of m entry (record s { banks = b; content = content; job = job; last = last; given = given })) run
     (record { none = record { making = refl; entry = refl; operations = refl; bytes = refl }; bytes = refl; counts = (refl, refl); flash_faults = omega arith; faults = run.faults; cuts = run.cuts; worn = λ since e. inl e })
+
+-- the bytes hold another memory's banks, where they are those that it has then
+pub holds_still : (m : Making) (entry : Told) (s : Parts) (b : BanksState) (content : List ℕ) (job : Option FeeJob) (last : JobResult) (given : ℕ) (h : HoldsBehind (device_of m entry s)) → s.started ≡ true → (x : Memory)
+    → ((bytes : List ℕ) → bytes_now s.fls.flash ≡ Some bytes → IsTrue (tells (device_of m entry s)) → IsHeld (banks_of m) m.numbers bytes x h.copied)
+    → HoldsBanks (record (device_of m entry (record s { banks = b; content = content; job = job; last = last; given = given })) { memory = x }) h.copied
+holds_still m entry s b content job last given h started x held = record {
+  started = started;
+  alike = h.banks.alike;
+  legal = h.banks.legal;
+  some = h.banks.some;
+  held = λ told. each_told s.fls.flash.bytes (λ (y : List ℕ). IsHeld (banks_of m) m.numbers y x h.copied) (λ bytes at. held bytes at told);
+}

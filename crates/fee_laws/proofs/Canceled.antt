@@ -20,8 +20,9 @@ use Rattle.fee_laws.specs.declared.job.FeeJob.{FeeJob}
 use Rattle.fee_laws.specs.Inside.{Parts, device_of, memory_of, stand_of, IsSound}
 use Rattle.fee_laws.specs.CallLaws.{MayCancel, JobsCancel, NoneCancels}
 use Rattle.fee_laws.specs.Parts.{canceled, without_work}
-use Rattle.fee_laws.proofs.Ending.{Ends, ended_sound, ended_as, ended_stays, shape as idle_shape, ends as idle_ends}
-use Rattle.fee_laws.proofs.Stopping.{places as record_places, shape as record_shape, ends as record_ends}
+use Rattle.fee_laws.proofs.Ending.{Ends, ended_sound, ended_as, ended_stays, ends as idle_ends}
+use Rattle.fee_laws.proofs.Stopping.{places as record_places, ends as record_ends}
+use Rattle.fee_laws.proofs.MadeFor.{legal_made}
 
 started_by : (started : Bool) (job : Option FeeJob) (j : FeeJob) → (started ≡ false → job ≡ None) → job ≡ Some j → started ≡ true
 started_by true job j rests is = refl
@@ -63,11 +64,11 @@ module _ (m : Making) (entry : Told) (s : Parts) (listed : List (DeviceNumber ×
 
   ended_by : (work : Bool) → is_some (work_in s.banks.log.tail) ≡ work → Ended (canceled (if work then record s.banks { log = given_up s.banks.log } else s.banks) s)
   ended_by true is =
-      ended (record s.banks { log = given_up s.banks.log }) (record_places m entry s listed kept count is_off sound started may.banks j may.job may.calm is) (record_shape m entry s listed kept count is_off sound started may.banks j may.job may.calm is)
+      ended (record s.banks { log = given_up s.banks.log }) (record_places m entry s listed kept count is_off sound started may.banks j may.job may.calm is) (legal_made m s sound.made_for may.banks)
       (record_ends m entry s listed kept count is_off sound started may.banks j may.job may.calm is)
   ended_by false is =
       let idle = none_by (work_in s.banks.log.tail) is in
-      ended s.banks (same_places (memory_of s).old) (idle_shape m entry s listed kept count is_off sound started may.banks j may.job may.calm idle) (idle_ends m entry s listed kept count is_off sound started may.banks j may.job may.calm idle)
+      ended s.banks (same_places (memory_of s).old) (legal_made m s sound.made_for may.banks) (idle_ends m entry s listed kept count is_off sound started may.banks j may.job may.calm idle)
 
   cancels : Ended (canceled (without_work s.banks) s)
   cancels = ended_by (is_some (work_in s.banks.log.tail)) refl

@@ -5,7 +5,6 @@ use Rattle.nv_base.specs.declared.instance.DeviceNumber.{DeviceNumber}
 use Rattle.memif.specs.Told.{Slot, Stand, Open, Ended, slot_at}
 use Rattle.memif.specs.Marks.{Keeps, KeepsAll}
 use Rattle.fls_model.specs.Told.{Told, bytes_now}
-use Rattle.fee_image.specs.Image.{Layout}
 use Rattle.fee_image.specs.declared.place.Place.{Place}
 use Rattle.fee_image.specs.Banks.{Old, NoBank, OldBank}
 use Rattle.fee_switch.specs.declared.active.ActiveBank.{ActiveBank}
@@ -26,7 +25,9 @@ use Rattle.fee_told.proofs.Tells.{tells_keep}
 use Rattle.fee_laws.specs.Inside.{Parts, device_of, memory_of, HoldsBehind, IsSound}
 use Rattle.fee_laws.specs.Parts.{canceled}
 use Rattle.fee_laws.proofs.Starting.{same_bytes}
-use Rattle.fee_laws.proofs.Before.{each_told, told_at}
+use Rattle.fee_laws.proofs.Before.{told_at}
+use Rattle.memif.specs.declared.answer.JobResult.TheVariants.{JobCanceled}
+use Rattle.fee_laws.proofs.CallsBehind.{holds_still}
 
 -- WITHOUT A RECORD IN WORK
 -- any job may end or open
@@ -56,65 +57,53 @@ places_on (OldBank k h log) (OldBank i g next) (OldBank j f last) p q = (q.0 ∙
 -- WHAT IS TOLD OF THE NUMBERS
 -- with any banks of the same places
 module _ (m : Making) (entry : Told) (s : Parts) (listed : List (DeviceNumber × ℕ)) (kept count : ℕ) (is_off : Bool) (sound : IsSound m entry s listed kept count is_off) (started : s.started ≡ true) (b : BanksState) (places : SamePlaces (memory_of s).old (memory_of (canceled b s)).old) where
-  abbrev u : Parts
-  u = canceled b s
-
   abbrev d : Device
   d = device_of m entry s
 
   abbrev t : Device
-  t = device_of m entry u
-
-  abbrev l : Layout
-  l = banks_of m
+  t = device_of m entry (canceled b s)
 
   abbrev st : Stand
-  st = (memory_of u).stand
+  st = (memory_of (canceled b s)).stand
 
   abbrev pub h : HoldsBehind d
   h = sound.device.held started
 
-  chain : SamePlaces h.behind.old (memory_of u).old
-  chain = places_on h.behind.old (memory_of s).old (memory_of u).old h.places places
+  chain : SamePlaces h.behind.old (memory_of (canceled b s)).old
+  chain = places_on h.behind.old (memory_of s).old (memory_of (canceled b s)).old h.places places
 
   abbrev behind : Memory
   behind = record h.behind { stand = st }
 
-  pub held_at : (bytes : List ℕ) → bytes_now s.fls.flash ≡ Some bytes → IsTrue (tells d) → IsHeld l m.numbers bytes h.behind h.copied
-  held_at bytes at told = told_at s.fls.flash.bytes (λ (x : List ℕ). IsHeld l m.numbers x h.behind h.copied) bytes at (h.banks.held told)
+  pub held_at : (bytes : List ℕ) → bytes_now s.fls.flash ≡ Some bytes → IsTrue (tells d) → IsHeld (banks_of m) m.numbers bytes h.behind h.copied
+  held_at bytes at told = told_at s.fls.flash.bytes (λ (x : List ℕ). IsHeld (banks_of m) m.numbers x h.behind h.copied) bytes at (h.banks.held told)
 
   keeps_at : (bytes : List ℕ) → bytes_now s.fls.flash ≡ Some bytes → IsTrue (tells d) → (n : ℕ)
-      → Keeps (slot_at m.numbers (slots_held l m.numbers bytes (memory_of s)) n) (slot_at m.numbers (slots_held l m.numbers bytes (memory_of u)) n)
+      → Keeps (slot_at m.numbers (slots_held (banks_of m) m.numbers bytes (memory_of s)) n) (slot_at m.numbers (slots_held (banks_of m) m.numbers bytes (memory_of (canceled b s))) n)
   keeps_at bytes at told n =
-      let k = jobs_keep l m.numbers bytes h.behind behind h.copied (held_at bytes at told) (same_places h.behind.old) (inr refl) n in
-      let before = sym (places_tell l m.numbers bytes h.behind (memory_of s) h.places (sym h.stand)) in
-      let after = sym (places_tell l m.numbers bytes behind (memory_of u) chain refl) in
-      subst (λ (slots : List Slot). Keeps (slot_at m.numbers (slots_held l m.numbers bytes (memory_of s)) n) (slot_at m.numbers slots n)) after
-      (subst (λ (slots : List Slot). Keeps (slot_at m.numbers slots n) (slot_at m.numbers (slots_held l m.numbers bytes behind) n)) before k)
+      let k = jobs_keep (banks_of m) m.numbers bytes h.behind behind h.copied (held_at bytes at told) (same_places h.behind.old) (inr refl) n in
+      let before = sym (places_tell (banks_of m) m.numbers bytes h.behind (memory_of s) h.places (sym h.stand)) in
+      let after = sym (places_tell (banks_of m) m.numbers bytes behind (memory_of (canceled b s)) chain refl) in
+      subst (λ (slots : List Slot). Keeps (slot_at m.numbers (slots_held (banks_of m) m.numbers bytes (memory_of s)) n) (slot_at m.numbers slots n)) after
+      (subst (λ (slots : List Slot). Keeps (slot_at m.numbers slots n) (slot_at m.numbers (slots_held (banks_of m) m.numbers bytes behind) n)) before k)
 
   pub keeps_all : KeepsAll (told_of d) (told_of t)
   keeps_all = tells_keep d t (record { making = refl; entry = refl; old = sound.device.run.alike; new = sound.device.run.alike }) (λ old new told n.
       subst (λ (x : List ℕ). Keeps (was d old n) (was t x n)) (same_bytes (bytes_now s.fls.flash) old new told.1 told.2)
       (subst (λ (x : Bool). Keeps
-      (slot_at m.numbers (if x then slots_held l m.numbers old (memory_of s) else slots_found l m.numbers old) n)
-      (slot_at m.numbers (if x then slots_held l m.numbers old (memory_of u) else slots_found l m.numbers old) n)) (sym started) (keeps_at old told.1 told.0 n)))
+      (slot_at m.numbers (if x then slots_held (banks_of m) m.numbers old (memory_of s) else slots_found (banks_of m) m.numbers old) n)
+      (slot_at m.numbers (if x then slots_held (banks_of m) m.numbers old (memory_of (canceled b s)) else slots_found (banks_of m) m.numbers old) n)) (sym started) (keeps_at old told.1 told.0 n)))
 
   -- the bytes hold it where any job fits what is behind
-  module _ (fits : (stand : Stand) → HasJob m.numbers stand h.behind.old) (on : s.fls.flash.off ≡ false → behind ≡ memory_of u) where
-    holds_at : (bytes : List ℕ) → bytes_now s.fls.flash ≡ Some bytes → IsTrue (tells d) → IsHeld l m.numbers bytes behind h.copied
-    holds_at bytes at told = jobs_change l m.numbers bytes h.behind h.copied st (record { lengths = sound.made_for.space.lengths; legal = h.banks.legal; held = held_at bytes at told }) (fits st)
+  module _ (fits : (stand : Stand) → HasJob m.numbers stand h.behind.old) (on : s.fls.flash.off ≡ false → behind ≡ memory_of (canceled b s)) where
+    holds_at : (bytes : List ℕ) → bytes_now s.fls.flash ≡ Some bytes → IsTrue (tells d) → IsHeld (banks_of m) m.numbers bytes behind h.copied
+    holds_at bytes at told = jobs_change (banks_of m) m.numbers bytes h.behind h.copied st (record { lengths = sound.made_for.space.lengths; legal = h.banks.legal; held = held_at bytes at told }) (fits st)
 
     pub behind_it : HoldsBehind t
     behind_it = record {
       behind = behind;
       copied = h.copied;
-      banks = record {
-        started = started;
-        alike = h.banks.alike;
-        legal = h.banks.legal;
-        some = h.banks.some;
-        held = λ told. each_told s.fls.flash.bytes (λ (x : List ℕ). IsHeld l m.numbers x behind h.copied) (λ bytes at. holds_at bytes at told);
-      };
+      banks = holds_still m entry s b s.content None JobCanceled 0 h started behind holds_at;
       places = chain;
       stand = refl;
       on = on;

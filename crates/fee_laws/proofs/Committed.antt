@@ -1,5 +1,5 @@
 -- The turn in which a record is committed.
-use Rattle.std.specs.Prelude.{IfSome, IsTrue, ◌&&◌, not, is_none, is_some, nat_le, take, length, slice_get, if◌then◌else◌}
+use Rattle.std.specs.Prelude.{IfSome, IsTrue, is_some, nat_le, take, length, slice_get, if◌then◌else◌}
 use Rattle.std.proofs.Common.{◌≡◌, ◌≢◌, inl, ◌≤◌, ◌<◌, ◌+◌, ◌-◌, ℕ, Bool, true, false, List, [], Option, Some, None, refl, sym, ap, ◌∙◌, subst, arith}
 use Rattle.nv_base.specs.Count.{next_count}
 use Rattle.nv_base.specs.Geometry.{sectors_of_bank}
@@ -12,9 +12,9 @@ use Rattle.nv_base.specs.Lengths.{place_of}
 use Rattle.nv_base.proofs.Places.{numbers_have_places}
 use Rattle.memif.specs.declared.answer.DeviceTurn.TheVariants as turn
 use Rattle.memif.specs.declared.answer.JobResult.TheVariants.{JobOk}
-use Rattle.memif.specs.Told.{First, Held, Job, Stand, Open, Ended, at_number, held_next, more_writes, never_written, is_open, length_of}
+use Rattle.memif.specs.Told.{First, Held, Job, Stand, Open, Ended, at_number, held_next, more_writes, never_written, length_of}
 use Rattle.memif.specs.Marks.{Settles}
-use Rattle.memif.specs.Calls.{Works, IsOf, JobTurns, EndsAs, Nearer, TurnsReady, is_read, urgent_first}
+use Rattle.memif.specs.Calls.{JobTurns, EndsAs, Nearer, TurnsReady, urgent_first}
 use Rattle.fls_model.specs.declared.flash.FlashAnswer.TheVariants.{Done}
 use Rattle.fls_model.specs.Told.{Told, bytes_now}
 use Rattle.fls_jobs.specs.State.{FlsState}
@@ -41,12 +41,11 @@ use Rattle.fee_log.proofs.Within.{within_length}
 use Rattle.fee_course.specs.declared.course.Copying.{Copying}
 use Rattle.fee_course.specs.declared.course.Course.{Course}
 use Rattle.fee_course.specs.declared.course.Course.TheVariants as course
-use Rattle.fee_course.specs.Course.{turns_left as switch_turns_left, most_turns}
+use Rattle.fee_course.specs.Course.{turns_left as switch_turns_left}
 use Rattle.fee_course.proofs.Turns.{appends_end}
 use Rattle.fee_switch.specs.Banks.{BanksState, TakesRecord, appended_at, index_of, left_of, left_with}
-use Rattle.fee_switch_laws.specs.KeepsRoom.{KeepsRoom, IsRoomy}
+use Rattle.fee_switch_laws.specs.KeepsRoom.{IsRoomy}
 use Rattle.fee_switch_laws.specs.Space.{free_pages}
-use Rattle.fee_switch_laws.proofs.RoomAppends.{pages_keep_room}
 use Rattle.fee_switch_laws.proofs.Appends.{takes}
 use Rattle.promise_device.specs.Making.{Making}
 use Rattle.fee_told.specs.Slots.{Memory, settled_in, job_leaves, writes_of}
@@ -55,32 +54,31 @@ use Rattle.fee_told.specs.Device.{Device, told_of}
 use Rattle.fee_told.specs.Clock.{clock_of}
 use Rattle.fee_told.specs.Appends.{IsCommitted}
 use Rattle.fee_told.specs.Figures.{Work, Waits, left_of as turns_left, ready_of, wait_of}
-use Rattle.fee_told.specs.FigureLaws.{IsWork}
 use Rattle.fee_told.proofs.Appends.{appends_commit as told_appends_commit}
 use Rattle.fee_told.proofs.Kept.{copies_widen}
 use Rattle.fee_told.proofs.Whole.{commits_are_told}
 use Rattle.fee_laws.specs.declared.job.FeeJob.{FeeJob}
 use Rattle.fee_laws.specs.Copied.{flags_of, IsCopying}
-use Rattle.fee_laws.specs.Inside.{Parts, device_of, memory_of, body_of, flags_in, mark_of, stand_of, fixed_in, IsActiveOf, IsAtWork, HasSwitch, HoldsBehind, ShowsCopies, TellsCopies}
+use Rattle.fee_laws.specs.Inside.{Parts, device_of, memory_of, body_of, flags_in, mark_of, stand_of, fixed_in, HoldsBehind, ShowsCopies, TellsCopies}
 use Rattle.fee_laws.specs.Record.{IsInWork, IsLengthOf}
 use Rattle.fee_laws.specs.Work.{work_of, switch_turns, pages_of_job, pages_left, waits_of, turns_before, seal_turns, is_urgent_job, pages_free}
 use Rattle.fee_laws.specs.Turn.{Turned, ended_as}
 use Rattle.fee_laws.specs.Appends.{IsAppending, work_op, after_page, AppendsCommit}
 use Rattle.fee_laws.proofs.Before.{power, log_geometry, copied, held_at, each_now, now_at}
-use Rattle.fee_laws.proofs.Beside.{content_beside, flags_cleared, named}
+use Rattle.fee_laws.proofs.Beside.{content_beside, flags_set, named}
 use Rattle.fee_laws.proofs.Noted.{noted_set}
 use Rattle.fee_laws.proofs.Settled.{flags_settled, notes, settles_one, settled_count, settled_many, noted_many, settles_in, sets_none}
-use Rattle.fee_laws.proofs.Order.{first_of, urgent_is}
-use Rattle.fee_laws.proofs.Operation.{part_works, ticks, left, before_told, started}
-use Rattle.fee_laws.proofs.Behind.{Facts, held_behind, order, sound}
+use Rattle.fee_laws.proofs.Order.{urgent_is}
+use Rattle.fee_laws.proofs.Operation.{left, before_told, started}
+use Rattle.fee_laws.proofs.Behind.{Facts, held_behind}
+use Rattle.fee_laws.proofs.Turning.{worked}
 use Rattle.fee_laws.proofs.Tails.{tailed, shown, page_commits, free_on}
 use Rattle.fee_laws.proofs.Figures.{free_is, switch_is}
 use Rattle.fee_laws.proofs.Heads.{head_fits}
-use Rattle.fee_laws.proofs.Page.{in_work, h, work_is, a, active_is, old_is, formats, at_work, body, log, appending, stands}
-use Rattle.fee_laws.proofs.Shown.{after_is, counted, j, open_is, mark as its_mark, head_is, writes, job_of, content_fits}
-use Rattle.fee_laws.proofs.Appended.{has_switch, flags_clear, few_left}
+use Rattle.fee_laws.proofs.Page.{in_work, h, work_is, a, old_is, body, log, appending, stands}
+use Rattle.fee_laws.proofs.Shown.{after_is, counted, j, open_is, mark as its_mark, head_is, writes, job_of, content_fits, something, no_read}
 use Rattle.fee_laws.proofs.GoneOn.{if_else, no_seal}
-use Rattle.fee_laws.proofs.Left.{l, asked, keeps, run_on}
+use Rattle.fee_laws.proofs.Left.{l, asked, keeps, run_on, facts_ended}
 
 -- a record is committed by its last page alone
 pub record Last (log : LogState) : Type 0 where
@@ -113,11 +111,8 @@ wait_is : (w : Waits) (v : ℕ) → w.urgent ≡ true → wait_of w ≡ Some v �
 wait_is w v urgent wait = wait_by w.urgent w.promised w.before w.pages v urgent wait
 
 module _ (m : Making) (entry : Told) (s : Parts) (listed : List (DeviceNumber × ℕ)) (kept count : ℕ) (f : FlsState) (is : IsAppending m entry s listed kept count Done f) (last : commits s.banks.geometry.page s.banks.log.tail ≡ true) where
-  abbrev then_log : LogState
-  then_log = after_step s.banks.log Done
-
   abbrev b : BanksState
-  b = record s.banks { log = then_log }
+  b = record s.banks { log = after_step s.banks.log Done }
 
   abbrev t : Parts
   t = ended_as JobOk (after_page Done f s)
@@ -127,9 +122,6 @@ module _ (m : Making) (entry : Told) (s : Parts) (listed : List (DeviceNumber ×
 
   abbrev e : Device
   e = device_of m entry t
-
-  abbrev ended : Stand
-  ended = Ended JobOk []
 
   abbrev layout : Layout
   layout = l m entry s listed kept count Done f is
@@ -150,10 +142,10 @@ module _ (m : Making) (entry : Told) (s : Parts) (listed : List (DeviceNumber ×
   head_same = let one = work_is m entry s listed kept count is.on is.work in let two = ap work_in at_last.tail in cc (one, two)
 
   -- behind it the log is open
-  tail_open : then_log.tail ≡ TailOpen
+  tail_open : b.log.tail ≡ TailOpen
   tail_open = subst (λ (x : Tail). (after_step (tailed s.banks.log x) Done).tail ≡ TailOpen) (sym at_last.tail) (page_commits s.banks.log at_last.head at_last.done s.content at_last.is).tail
 
-  shown_is : shown then_log s.content ≡ log_done layout.page m.numbers was
+  shown_is : shown b.log s.content ≡ log_done layout.page m.numbers was
   shown_is =
       subst (λ (x : Tail). shown (after_step (tailed s.banks.log x) Done) s.content ≡ log_done s.banks.log.geometry.page s.banks.log.numbers (shown (tailed s.banks.log x) s.content)) (sym at_last.tail) (page_commits s.banks.log at_last.head at_last.done s.content at_last.is).shown_as
       ∙ (λ i. log_done (log_geometry m entry s listed kept count is.on i).page (is.on.sound.made_for.numbers i) was)
@@ -185,8 +177,8 @@ module _ (m : Making) (entry : Told) (s : Parts) (listed : List (DeviceNumber ×
   committed old new at_old at_new more held =
       let both = left m entry s listed kept count is.on (work_op s) Done f is.drives (asked m entry s listed kept count Done f is) old new at_old at_new in
       subst (λ (x : Memory). IsCommitted layout m.numbers old new (memory_of s) x more r content)
-      (sym (after_is m entry s listed kept count is.on is.work then_log (log_done layout.page m.numbers was) ended shown_is))
-      (told_appends_commit layout m.numbers old new (memory_of s) more (a m entry s listed kept count is.on is.work).bank (a m entry s listed kept count is.on is.work).head was r content at_last.done size ended
+      (sym (after_is m entry s listed kept count is.on is.work b.log (log_done layout.page m.numbers was) (Ended JobOk []) shown_is))
+      (told_appends_commit layout m.numbers old new (memory_of s) more (a m entry s listed kept count is.on is.work).bank (a m entry s listed kept count is.on is.work).head was r content at_last.done size (Ended JobOk [])
       (appending m entry s listed kept count is.on is.work is.page.size old more held new both.0)
       (stands m entry s listed kept count is.on is.work is.page.size (content_fits m entry s listed kept count is.on is.work) is.page old more held new both.1)
       was_tail last_log configured fits_it refl)
@@ -237,7 +229,7 @@ module _ (m : Making) (entry : Told) (s : Parts) (listed : List (DeviceNumber ×
   place_is : place_of ns number ≡ Some stands_at.0
   place_is = numbers_have_places 0 ns stands_at.0 (record { 0 = number }, size) is.on.log.numbers stands_at.1
 
-  places_then : then_log.places ≡ noted ns s.banks.log.places s.banks.log.end r
+  places_then : b.log.places ≡ noted ns s.banks.log.places s.banks.log.end r
   places_then =
       subst (λ (x : Tail). (after_step (tailed s.banks.log x) Done).places ≡ noted ns s.banks.log.places s.banks.log.end at_last.head) (sym at_last.tail) (page_commits s.banks.log at_last.head at_last.done s.content at_last.is).places
       ∙ ap (noted ns s.banks.log.places s.banks.log.end) (sym head_same)
@@ -261,7 +253,7 @@ module _ (m : Making) (entry : Told) (s : Parts) (listed : List (DeviceNumber ×
   same_left : left_of b ≡ left_of s.banks
   same_left = same_left_by s.banks.course refl
 
-  places_here : then_log.places ≡ noted m.numbers s.banks.log.places s.banks.log.end r
+  places_here : b.log.places ≡ noted m.numbers s.banks.log.places s.banks.log.end r
   places_here = places_then ∙ ap (λ (x : List (DeviceNumber × ℕ)). noted x s.banks.log.places s.banks.log.end r) is.on.sound.made_for.numbers
 
   -- what it settles counts one more than what was settled
@@ -277,19 +269,19 @@ module _ (m : Making) (entry : Told) (s : Parts) (listed : List (DeviceNumber ×
   flags_are : (old new : List ℕ) (showing : May) → IsCommitted layout m.numbers old new (memory_of s) (memory_of t) showing r content → flags_in m t new ≡ settled_at number settled (flags_in m s old)
   flags_are old new showing done_so =
       let many : length s.banks.log.places ≡ length m.numbers = places_many_are ∙ ap (λ (x : List (DeviceNumber × ℕ)). length x) is.on.sound.made_for.numbers in
-      let many_then : length then_log.places ≡ length m.numbers = ap (λ (x : List Place). length x) places_then ∙ noted_many ns s.banks.log.places s.banks.log.end r ∙ many in
+      let many_then : length b.log.places ≡ length m.numbers = ap (λ (x : List Place). length x) places_then ∙ noted_many ns s.banks.log.places s.banks.log.end r ∙ many in
       let next = (settled_in layout m.numbers new (memory_of t).old) in
       (λ i. flags_of m.numbers (places_here i) s.banks.log.flags next)
       ∙ flags_settled 0 r s.banks.log.end settled m.numbers s.banks.log.places s.banks.log.flags (settled_in layout m.numbers old (memory_of s).old) next is.on.sound.made_for.space.lengths
       (notes 0 r size m.numbers is.on.sound.made_for.space.lengths configured fits_it)
       (settled_many layout m.numbers old s.banks.active s.banks.log (body_of (work_in s.banks.log.tail) s.content) many)
-      (settled_many layout m.numbers new s.banks.active then_log (body_of (work_in then_log.tail) s.content) many_then)
+      (settled_many layout m.numbers new s.banks.active b.log (body_of (work_in b.log.tail) s.content) many_then)
       (settles_one number settled.mark settled (shown_of layout old (memory_of s).old) (shown_of layout new (memory_of t).old) (job_leaves (memory_of s).stand) (job_leaves (memory_of t).stand) m.numbers
       (settled_in layout m.numbers old (memory_of s).old) next (next_is old) done_so.settles)
 
   clear_is : (old : List ℕ) → cleared number (flags_in m s old) ≡ flags_in m s old
   clear_is old =
-      sym (flags_cleared m.numbers s.banks.log.places s.banks.log.flags (settled_in layout m.numbers old (memory_of s).old) number)
+      sym (flags_set m.numbers s.banks.log.places s.banks.log.flags (settled_in layout m.numbers old (memory_of s).old) number false)
       ∙ ap (λ (x : List Bool). flags_of m.numbers s.banks.log.places x (settled_in layout m.numbers old (memory_of s).old)) (ap (λ (x : List (DeviceNumber × ℕ)). with_flag x s.banks.log.flags number false) (sym is.on.sound.made_for.numbers) ∙ its.clear)
 
   wide_is : (c : Course) → s.banks.course ≡ Some c → (old : List ℕ) → IsWider (copied_of (flags_in m s old)) (copied_of (settled_at number settled (flags_in m s old)))
@@ -337,46 +329,11 @@ module _ (m : Making) (entry : Told) (s : Parts) (listed : List (DeviceNumber ×
       shows_by before.0 new before.1 at s.banks.course refl (now_at s.fls.flash.bytes (λ (x : List ℕ). IfSome s.banks.course (λ c. ShowsCopies m s c x)) before.0 before.1 (is.on.sound.copies (power m entry s listed kept count is.on) told'))))
 
   -- THE PARTS
-  room_on : KeepsRoom m.reserve b
-  room_on = pages_keep_room m.reserve s.banks Done (is.on.sound.room is.on.started (power m entry s listed kept count is.on)) is.work
-
-  was_at_work : IsAtWork m s
-  was_at_work = at_work m entry s listed kept count is.on is.work
-
-  switch_on : HasSwitch b b.course
-  switch_on = has_switch m.reserve b b.course (λ none. flags_clear s.banks s.banks.course was_at_work.switch none) room_on.switch
-
-  at_work_on : IsAtWork m t
-  at_work_on = record {
-    active = subst (IsActiveOf b) (sym (active_is m entry s listed kept count is.on is.work)) (formats m entry s listed kept count is.on is.work);
-    job = tt;
-    work = subst (λ (x : Tail). IfSome (work_in x) (IsInWork b None)) (sym tail_open) tt;
-    ready = tt;
-    switch = switch_on;
-  }
-
   switch_then : switch_turns m.reserve b None b.course ≡ left_of b
   switch_then = left_alone b m.reserve b.course refl
 
-  work_then : IsWork m.geometry.page (sectors_of_bank m.geometry m.banks) m.numbers m.reserve ended (work_of m.reserve b None)
-  work_then =
-      let few = few_left b switch_on in
-      let fits1 = subst (λ (g : Geometry). left_of b ≤ most_turns g.page (sectors_of_bank g s.banks.banks) ns) is.on.sound.made_for.banks_geometry few in
-      let fits2 = subst (λ (n : ℕ). left_of b ≤ most_turns m.geometry.page (sectors_of_bank m.geometry n) ns) is.on.sound.made_for.shared fits1 in
-      let fits3 = subst (λ (x : List (DeviceNumber × ℕ)). left_of b ≤ most_turns m.geometry.page (sectors_of_bank m.geometry m.banks) x) is.on.sound.made_for.numbers fits2 in
-      record { job = tt; few = subst (λ (n : ℕ). n ≤ most_turns m.geometry.page (sectors_of_bank m.geometry m.banks) m.numbers) (sym switch_then) fits3 }
-
   facts : Facts m entry s listed kept count is.on (work_op s) Done f is.drives (asked m entry s listed kept count Done f is) b None JobOk 0
-  facts = record {
-    ends = record { same = record { geometry = refl; banks = refl; numbers = refl }; ended = λ same. cc; given_few = omega arith };
-    run = run_on m entry s listed kept count Done f is None JobOk 0;
-    behind = behind;
-    work = work_then;
-    at_work = at_work_on;
-    shut = λ since worn. (is.on.sound.worn since worn).shut;
-    room = λ on. room_on;
-    copies = copies;
-  }
+  facts = facts_ended m entry s listed kept count Done f is JobOk (λ same. cc) (ap work_in tail_open) refl refl refl behind copies
 
   -- THE TURN
   abbrev at : Option FeeJob → Stand
@@ -387,9 +344,6 @@ module _ (m : Making) (entry : Told) (s : Parts) (listed : List (DeviceNumber ×
 
   mark_at : asks.mark ≡ Some (held_written r content).mark
   mark_at = its_mark m entry s listed kept count is.on is.work
-
-  is_none_of : is_none asks.mark ≡ false
-  is_none_of = ap (λ (o : Option Mark). is_none o) mark_at
 
   ends : EndsAs asks.mark asks.number JobOk [] (told_of d) (told_of e)
   ends = subst (λ (o : Option Mark). EndsAs o asks.number JobOk [] (told_of d) (told_of e)) (sym mark_at)
@@ -428,41 +382,26 @@ module _ (m : Making) (entry : Told) (s : Parts) (listed : List (DeviceNumber ×
   urgent_job : urgent_first (fixed_in m) (at s.job) ≡ true → is_urgent_job s.job ≡ true
   urgent_job = subst (λ (o : Option FeeJob). urgent_first (fixed_in m) (at o) ≡ true → is_urgent_job o ≡ true) (sym job_at) (λ is_urgent. sym (urgent_is m asks) ∙ is_urgent)
 
-  before_none : turns_before then_log.tail (seal_turns s.banks.course) ≡ 0
+  before_none : turns_before b.log.tail (seal_turns s.banks.course) ≡ 0
   before_none = (λ i. turns_before (tail_open i) (no_seal r.kind s.banks.course its.taken i))
 
   readies : TurnsReady (told_of d) (told_of e)
   readies calm = if_else (urgent_first (fixed_in m) (at s.job)) (Nearer (told_of d) (told_of e)) ((told_of d).ready ≤ (told_of e).ready)
       (λ is_urgent v wait. (
         ready_same,
-        (turns_before then_log.tail (seal_turns s.banks.course), refl, (let none = before_none in let one = one_page in let is_v = wait_is waits v (urgent_job is_urgent) wait in omega (arith, none, one, is_v))),
+        (turns_before b.log.tail (seal_turns s.banks.course), refl, (let none = before_none in let one = one_page in let is_v = wait_is waits v (urgent_job is_urgent) wait in omega (arith, none, one, is_v))),
         λ given same. cc,
       ))
       (λ calm'. ready_same)
 
-  works : Works First (told_of d) (told_of e) (clock_of e)
-  works = record {
-    only = refl;
-    up = is.on.started;
-    of = subst (λ (o : Option FeeJob). IsOf First (fixed_in m) (at o)) (sym job_at) (tt, sym (first_of m asks.number));
-    part = part_works m entry s listed kept count is.on (work_op s) Done f is.drives (asked m entry s listed kept count Done f is) (keeps m entry s listed kept count Done f is) b None JobOk 0 (λ off. cc);
-    job = subst (λ (o : Option FeeJob). JobTurns First (at o) ended (told_of d) (told_of e) (clock_of e)) (sym job_at) (ends, λ failed. cc);
-    read = subst (λ (o : Option FeeJob). is_read (at o) ≡ true → ((told_of e).ops ≡ (told_of d).ops) × ((told_of e).slots ≡ (told_of d).slots)) (sym job_at) (λ read. (let none = is_none_of in absurd (cc (read, none))));
+  pub commits_so : Turned m entry turn.Worked s t listed kept (next_count count) false
+  commits_so = worked m entry s listed kept count is.on (work_op s) Done f is.drives (asked m entry s listed kept count Done f is) b None JobOk 0 (keeps m entry s listed kept count Done f is) (λ off. cc off) refl (asked m entry s listed kept count Done f is).cause.2 facts (record {
+    something = something m entry s listed kept count is.on is.work;
+    no_read = no_read m entry s listed kept count is.on is.work;
+    job_turns = subst (λ (o : Option FeeJob). JobTurns First (at o) (Ended JobOk []) (told_of d) (told_of e) (clock_of e)) (sym job_at) (ends, λ failed. cc);
     nearer = inl falls_at;
     ready = readies;
-  }
-
-  pub commits_so : Turned m entry turn.Worked s t listed kept (next_count count) false
-  commits_so = record {
-    turns = (
-      (
-        subst (λ (o : Option FeeJob). not (is_open (at o)) && not (told_of d).switching ≡ false) (sym job_at) refl,
-        (First, works, ticks m entry s listed kept count is.on (work_op s) Done f is.drives (asked m entry s listed kept count Done f is) (keeps m entry s listed kept count Done f is) b None JobOk 0),
-      ),
-      order m entry s listed kept count is.on (work_op s) Done f is.drives (asked m entry s listed kept count Done f is) b None JobOk 0 facts,
-    );
-    sound = sound m entry s listed kept count is.on (work_op s) Done f is.drives (asked m entry s listed kept count Done f is) b None JobOk 0 facts false (sym (asked m entry s listed kept count Done f is).cause.2);
-  }
+  })
 
 pub appends_commit : AppendsCommit
 appends_commit m entry s listed kept count f is last = commits_so m entry s listed kept count f is last

@@ -1,55 +1,48 @@
 -- A job that was canceled: what holds then, and what the cancel did.
 use Rattle.std.specs.Prelude.{IfSome, nat_le}
-use Rattle.std.proofs.Common.{◌≡◌, inl, inr, ◌≤◌, ◌<◌, ◌-◌, ℕ, Bool, true, false, if◌then◌else◌, List, Option, Some, None, refl, sym, ap, ◌∙◌, subst, arith}
+use Rattle.std.proofs.Common.{◌≡◌, inl, inr, ◌≤◌, ◌<◌, ℕ, Bool, true, false, List, Option, Some, None, refl, sym, ap, subst, arith}
 use Rattle.nv_base.specs.Geometry.{IsLegal, sectors_of_bank}
 use Rattle.nv_base.specs.declared.instance.DeviceNumber.{DeviceNumber}
 use Rattle.memif.specs.Told.{Stand}
 use Rattle.memif.specs.Calls.{InOrder, ClockStays, IsCanceled}
 use Rattle.fls_model.specs.Told.{Told, ToldBytes}
-use Rattle.fee_format.specs.declared.rec_head.RecHead.{RecHead}
 use Rattle.fee_image.specs.Copies.{copied_of}
 use Rattle.fee_log.specs.Log.{work_in}
 use Rattle.fee_course.specs.declared.course.Course.{Course}
 use Rattle.fee_course.specs.Course.{most_turns}
 use Rattle.fee_switch.specs.Banks.{BanksState, IsBanksState}
-use Rattle.fee_switch_laws.specs.Space.{free_pages}
 use Rattle.fee_switch_laws.specs.KeepsRoom.{KeepsRoom}
 use Rattle.promise_device.specs.Making.{Making, banks_of}
 use Rattle.fee_told.specs.Slots.{Memory, HasJob}
 use Rattle.fee_told.specs.SlotLaws.{SamePlaces}
 use Rattle.fee_told.specs.Device.{Device, told_of}
 use Rattle.fee_told.specs.Clock.{clock_of}
-use Rattle.fee_told.specs.Figures.{left_of, ready_of}
+use Rattle.fee_told.specs.Figures.{left_of}
 use Rattle.fee_told.proofs.Kept.{same_places}
 use Rattle.fee_told.proofs.Clocks.{clocks_stay}
 use Rattle.fee_told.proofs.Jobs.{jobs_change}
 use Rattle.fee_laws.specs.declared.job.FeeJob.{FeeJob}
 use Rattle.fee_laws.specs.Inside.{Parts, device_of, memory_of, stand_of, fixed_in, HoldsBehind, IsMadeFor, IsAtWork, IsSound, ShowsCopies, TellsCopies, flags_in}
-use Rattle.fee_laws.specs.Record.{IsJobOf, IsInWork}
-use Rattle.fee_laws.specs.Work.{work_of, seal_turns, pages_free, claimed, takes_append, is_waiting, fits_in, turns_before, pages_of_op}
+use Rattle.fee_laws.specs.Record.{IsJobOf}
+use Rattle.fee_laws.specs.Work.{work_of, seal_turns, pages_free, turns_before}
 use Rattle.fee_laws.specs.Parts.{canceled}
 use Rattle.fee_laws.proofs.CallsBehind.{finds_now, run_stays}
 use Rattle.fee_laws.proofs.Canceling.{keeps_all, behind_it, idle_job}
 use Rattle.fee_laws.proofs.Making.{shown_as}
-use Rattle.fee_laws.proofs.Opening.{own_small, each_some}
+use Rattle.fee_laws.proofs.Opened.{own_small, each_some}
 use Rattle.fee_laws.proofs.CallOrder.{few_before, ready_kept}
-use Rattle.fee_laws.proofs.Raising.{adds, base_few, none_of}
-
-pub no_record : (b : BanksState) (o : Option RecHead) → o ≡ None → IfSome o (IsInWork b None)
-no_record b None idle = tt
-no_record b (Some h) idle = cc idle
+use Rattle.fee_laws.proofs.Raising.{adds, base_few, ready_calm}
+use Rattle.fee_laws.proofs.Appended.{idle_at_work}
+use Rattle.fee_laws.proofs.MadeFor.{still_made, legal_made}
 
 -- THE CALL
 -- with banks of the same places, where what is behind them is known
 module _ (m : Making) (entry : Told) (s : Parts) (listed : List (DeviceNumber × ℕ)) (kept count : ℕ) (is_off : Bool) (sound : IsSound m entry s listed kept count is_off) (started : s.started ≡ true) (b : BanksState) (places : SamePlaces (memory_of s).old (memory_of (canceled b s)).old) (legal : IsLegal m.geometry) where
-  abbrev u : Parts
-  u = canceled b s
-
   abbrev d : Device
   d = device_of m entry s
 
   abbrev t : Device
-  t = device_of m entry u
+  t = device_of m entry (canceled b s)
 
   own_is : (fixed_in m).own ≤ 20000000
   own_is = own_small m.numbers m.geometry m.banks m.reserve legal sound.made_for.space
@@ -61,23 +54,23 @@ module _ (m : Making) (entry : Told) (s : Parts) (listed : List (DeviceNumber ×
     ready = ready_kept m.reserve (pages_free b None) (nat_le 1 (seal_turns b.course));
     wait = λ calm. (turns_before b.log.tail (seal_turns b.course), refl, few_before b.log.tail b.course);
     second = λ one. refl;
-    now = finds_now m entry u behind;
+    now = finds_now m entry (canceled b s) behind;
   }
 
   -- what it needs beside
   pub record Ends : Type 0 where
     pub behind : HoldsBehind t
-    pub made_for : IsMadeFor m u
-    pub works : IsAtWork m u
+    pub made_for : IsMadeFor m (canceled b s)
+    pub works : IsAtWork m (canceled b s)
     pub room : s.fls.flash.off ≡ false → KeepsRoom m.reserve b
-    pub copies : TellsCopies m entry u
+    pub copies : TellsCopies m entry (canceled b s)
     pub shut : s.banks.course ≡ None → b.course ≡ None
     pub switching : (told_of t).switching ≡ (told_of d).switching
     pub few : t.left ≤ (fixed_in m).own
     pub left : t.left ≤ d.left
     pub ready : d.ready ≤ t.ready
 
-  pub ended_sound : Ends → IsSound m entry u listed kept count is_off
+  pub ended_sound : Ends → IsSound m entry (canceled b s) listed kept count is_off
   ended_sound e = record {
     made_for = e.made_for;
     device = record { run = run_stays m entry s b s.content None _ 0 sound.device.run; held = λ on. e.behind; order = order e.behind e.few; faults = sound.device.faults };
@@ -101,20 +94,14 @@ module _ (m : Making) (entry : Told) (s : Parts) (listed : List (DeviceNumber ×
 
 -- WITHOUT A RECORD IN WORK
 module _ (m : Making) (entry : Told) (s : Parts) (listed : List (DeviceNumber × ℕ)) (kept count : ℕ) (is_off : Bool) (sound : IsSound m entry s listed kept count is_off) (started : s.started ≡ true) (state : IsBanksState s.banks) (j : FeeJob) (job : s.job ≡ Some j) (calm : j.urgent ≡ false) (idle : work_in s.banks.log.tail ≡ None) where
-  abbrev v : Parts
-  v = canceled s.banks s
-
   abbrev f : Device
-  f = device_of m entry v
+  f = device_of m entry (canceled s.banks s)
 
   abbrev g : Device
   g = device_of m entry s
 
   works : IsAtWork m s
   works = sound.works started
-
-  pub shape : IsLegal m.geometry
-  shape = subst IsLegal sound.made_for.banks_geometry state.legal
 
   abbrev h : HoldsBehind g
   h = sound.device.held started
@@ -126,7 +113,7 @@ module _ (m : Making) (entry : Told) (s : Parts) (listed : List (DeviceNumber ×
   ]
 
   behind : HoldsBehind f
-  behind = behind_it m entry s listed kept count is_off sound started s.banks (same_places (memory_of s).old) fits (λ on. ap (λ (x : Memory). record x { stand = (memory_of v).stand }) (h.on on))
+  behind = behind_it m entry s listed kept count is_off sound started s.banks (same_places (memory_of s).old) fits (λ on. ap (λ (x : Memory). record x { stand = (memory_of (canceled s.banks s)).stand }) (h.on on))
 
   of : IsJobOf m.numbers j
   of = subst (λ (o : Option FeeJob). IfSome o (IsJobOf m.numbers)) job works.job
@@ -153,27 +140,23 @@ module _ (m : Making) (entry : Told) (s : Parts) (listed : List (DeviceNumber ×
       omega (arith, left_was, is)
 
   ready : g.ready ≤ f.ready
-  ready =
-      let claims : claimed s.banks (Some j) ≡ 0 = ap (λ (x : Bool). if x then pages_of_op s.banks.geometry.page j.op j.length else 0) (none_of (takes_append s.banks.course) j.urgent (is_waiting s.banks j) (fits_in 0 s.banks j) calm) in
-      let was : g.ready ≡ ready_of m.reserve (nat_le 1 (seal_turns s.banks.course)) (free_pages s.banks - 0) =
-      ap (λ (o : Option FeeJob). ready_of m.reserve (nat_le 1 (seal_turns s.banks.course)) (pages_free s.banks o)) job ∙ ap (λ (k : ℕ). ready_of m.reserve (nat_le 1 (seal_turns s.banks.course)) (free_pages s.banks - k)) claims in
-      omega (arith, was)
+  ready = let was = ready_calm m.reserve s.banks s.job j job calm in omega (arith, was)
 
-  shows : (x : ToldBytes) (c : Course) → ShowsCopies m s c x.now → ShowsCopies m v c x.now
+  shows : (x : ToldBytes) (c : Course) → ShowsCopies m s c x.now → ShowsCopies m (canceled s.banks s) c x.now
   shows x c was = record {
-    held = jobs_change (banks_of m) m.numbers x.now (memory_of s) (copied_of (flags_in m s x.now)) (memory_of v).stand (record { lengths = sound.made_for.space.lengths; legal = h.banks.legal; held = was.held }) (idle_job m.numbers (memory_of v).stand s.banks.active s.banks.log _ idle);
+    held = jobs_change (banks_of m) m.numbers x.now (memory_of s) (copied_of (flags_in m s x.now)) (memory_of (canceled s.banks s)).stand (record { lengths = sound.made_for.space.lengths; legal = h.banks.legal; held = was.held }) (idle_job m.numbers (memory_of (canceled s.banks s)).stand s.banks.active s.banks.log _ idle);
     copy = was.copy;
   }
 
-  pub ends : Ends m entry s listed kept count is_off sound started s.banks (same_places (memory_of s).old) shape
+  pub ends : Ends m entry s listed kept count is_off sound started s.banks (same_places (memory_of s).old) (legal_made m s sound.made_for state)
   ends =
       let was = sound.made_for in
       record {
         behind = behind;
-        made_for = record { geometry = was.geometry; idle = was.idle; banks_geometry = was.banks_geometry; shared = was.shared; numbers = was.numbers; space = was.space; bytes = was.bytes; room = was.room; given = omega arith; ended = λ e. cc e };
-        works = record { active = works.active; job = tt; work = no_record s.banks (work_in s.banks.log.tail) idle; ready = tt; switch = works.switch };
+        made_for = still_made m s (canceled s.banks s) was refl was.bytes (record { geometry = refl; banks = refl; numbers = refl }) was.room (omega arith) (λ e. cc e);
+        works = idle_at_work m (canceled s.banks s) idle works.active tt tt works.switch;
         room = λ on. sound.room started on;
-        copies = λ on told. shown_as s.fls.flash.bytes s.banks.course (λ x c. ShowsCopies m s c x.now) (λ x c. ShowsCopies m v c x.now) shows (sound.copies on told);
+        copies = λ on told. shown_as s.fls.flash.bytes s.banks.course (λ x c. ShowsCopies m s c x.now) (λ x c. ShowsCopies m (canceled s.banks s) c x.now) shows (sound.copies on told);
         shut = λ e. e;
         switching = refl;
         few = few;

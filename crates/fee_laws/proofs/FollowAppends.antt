@@ -22,7 +22,7 @@ use Rattle.fee_switch.specs.declared.active.ActiveBank.{ActiveBank}
 use Rattle.fee_switch.specs.Banks.{BanksState, IsBanksState, IsLogOf}
 use Rattle.fee_laws.specs.Inside.{body_of}
 use Rattle.fee_laws.specs.Follows.{anything, IsClosedFor, FollowsLog, FollowsBytes}
-use Rattle.fee_laws.proofs.FollowPages.{SameOthers, others_stay, page_stays}
+use Rattle.fee_image.proofs.Frames.{SameOthers, others_stay, page_stays}
 use Rattle.fee_laws.proofs.FollowStates.{any_content, any_marks}
 use Rattle.fee_laws.proofs.FollowSteps.{work_after, done_open}
 use Rattle.fee_laws.proofs.FollowBanks.{failed_last, SameFronts, legal, fronts_of, banks_stay, with_log}

@@ -21,7 +21,7 @@ use Rattle.fee_switch_laws.specs.Shown.{layout_in}
 use Rattle.promise_device.specs.Bridge.{has_failed, is_failed}
 use Rattle.fee_laws.specs.Inside.{body_of}
 use Rattle.fee_laws.specs.Follows.{anything, FollowsLog, StandsFirst, FollowsCopies, FollowsTarget, FollowsBanks}
-use Rattle.fee_laws.proofs.FollowPages.{SamePages}
+use Rattle.fee_image.proofs.Frames.{SamePages}
 use Rattle.fee_laws.proofs.FollowStates.{SameBody, state_moves, closed_moves}
 
 -- OPERATIONS

@@ -1,12 +1,11 @@
--- The pages that are programmed are whole pages of bytes, which lie in the flash.
+-- The pages that are programmed are whole pages of bytes.
 use Rattle.std.specs.Prelude.{take, drop, replicate, length, ◌||◌, if◌then◌else◌}
 use Rattle.std.specs.List.{All}
 use Rattle.std.specs.Int.{byte_at}
-use Rattle.std.proofs.Common.{◌≡◌, inl, inr, ◌≤◌, ◌<◌, ◌+◌, ◌-◌, ◌*◌, ◌==◌, ℕ, zero, suc, List, [], ◌∷◌, arith}
+use Rattle.std.proofs.Common.{inl, inr, ◌≤◌, ◌<◌, ◌+◌, ◌-◌, ◌*◌, ◌==◌, ℕ, zero, suc, List, ◌∷◌, arith}
 use Rattle.std.proofs.lemmas.Bool.{cond_both}
 use Rattle.std.proofs.lemmas.List.Elements.{All-take, All-drop, All-append, All-replicate}
 use Rattle.std.proofs.Math.ListN.{length-replicate, length-append, length-take}
-use Rattle.std.proofs.Math.Nat.{mul-le-mul_right, mul_comm}
 use Rattle.fee_format.specs.declared.rec_head.RecHead.{RecHead}
 use Rattle.fee_format.specs.BankHead.{bank_head_page}
 use Rattle.fee_format.specs.Formats.{new_format}
@@ -14,9 +13,8 @@ use Rattle.fee_format.specs.RecHead.{IsLegalRecHead, rec_head_page}
 use Rattle.fee_format.specs.Pages.{gate_page, body_pages_of}
 use Rattle.fee_format.specs.RecordPages.{filled, body_page, record_page}
 use Rattle.fee_format.proofs.Torn.{byte_small}
-use Rattle.fee_image.specs.Bank.{place_of_page}
-use Rattle.fee_image.specs.Image.{Layout, bank_in}
 use Rattle.fee_log.specs.Step.{IsPageOf}
+use Rattle.fee_switch.proofs.Targets.{head_small}
 
 abbrev Small : ℕ → Type 0
 Small x = x < 256
@@ -78,40 +76,5 @@ record_page_is p h payload k low legal all =
     (λ e'. filled_is p (take p (drop ((k - 2) * p) payload)) (few_taken p (drop ((k - 2) * p) payload)) (All-take Small p (drop ((k - 2) * p) payload) (All-drop Small ((k - 2) * p) payload all))))
 
 -- A BANK'S HEAD
-abbrev Each : List ℕ → Type 0
-Each [] = Unit {0}
-Each (x ∷ xs) = (x < 256) × Each xs
-
-all_each : (xs : List ℕ) → Each xs → All Small xs
-all_each [] each k d lt = absurd (omega arith)
-all_each (x ∷ xs) each zero d lt = each.0
-all_each (x ∷ xs) each (suc k) d lt = all_each xs each.1 k d (omega arith)
-
-blank_each : (n : ℕ) → Each (replicate n 255)
-blank_each zero = tt
-blank_each (suc n) = (omega arith, blank_each n)
-
-turned : (x : ℕ) → 255 - x < 256
-turned x = omega arith
-
 pub bank_head_is : (p g : ℕ) → 16 ≤ p → IsPageOf p (bank_head_page p (record { format = new_format; generation = g }))
-bank_head_is p g low = record {
-  size = omega (arith, length-replicate {A = ℕ} (p - 12) 255);
-  bytes =
-      (let rest : Each ((255 - byte_at 3 g) ∷ (255 - byte_at 2 g) ∷ (255 - byte_at 1 g) ∷ (255 - byte_at 0 g) ∷ replicate (p - 12) 255) = (turned (byte_at 3 g), (turned (byte_at 2 g), (turned (byte_at 1 g), (turned (byte_at 0 g), blank_each (p - 12))))) in
-      all_each (bank_head_page p (record { format = new_format; generation = g })) (omega arith, (omega arith, (byte_small 3 g, (byte_small 2 g, (byte_small 1 g, (byte_small 0 g, (omega arith, (omega arith, rest)))))))));
-}
-
--- PLACES
--- a page of a bank lies in the bytes
-pub page_inside : (l : Layout) (bytes : List ℕ) (k q : ℕ) → l.pages * l.page * l.banks ≤ length bytes → k < l.banks → q < l.pages → place_of_page (bank_in l 1 k) q + l.page ≤ length bytes
-page_inside l bytes k q size low lt =
-    let p = l.page in
-    let B = l.pages in
-    let one = mul-le-mul_right p (let t : suc q ≤ B = omega arith in t) in
-    let two = mul-le-mul_right (B * p) (let t : suc k ≤ l.banks = omega arith in t) in
-    let turn : B * p * l.banks ≡ l.banks * (B * p) = mul_comm (B * p) l.banks in
-    let a : suc q * p ≡ q * p + p = omega arith in
-    let b : suc k * (B * p) ≡ k * (B * p) + B * p = omega arith in
-    let c : (k * B + q) * p ≡ k * (B * p) + q * p = grind arith in
-    omega (arith, size, one, two, turn, a, b, c)
+bank_head_is p g low = record { size = omega (arith, length-replicate {A = ℕ} (p - 12) 255); bytes = head_small p g }

@@ -34,7 +34,8 @@ use Rattle.fee_laws.proofs.FollowBanks.{failed_more}
 use Rattle.fee_laws.proofs.FollowBegins.{MayBeginIn, each, record_begins, record_given, switch_begins}
 use Rattle.fee_laws.proofs.FollowStarts.{found_follows}
 use Rattle.fee_laws.proofs.FollowKnown.{knows}
-use Rattle.fee_laws.proofs.FollowLifts.{now_at, each_now, power, memory_follows, read_bytes}
+use Rattle.fee_laws.proofs.FollowLifts.{memory_follows, read_bytes}
+use Rattle.fee_laws.proofs.Before.{now_at, each_now, power}
 use Rattle.fee_laws.proofs.Begun.{room_is}
 
 -- WHAT IS KNOWN

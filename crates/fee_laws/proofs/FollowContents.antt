@@ -14,7 +14,7 @@ use Rattle.fee_switch.specs.Copy.{begun_where}
 use Rattle.fee_laws.specs.Inside.{body_of}
 use Rattle.fee_laws.specs.Follows.{FollowsBytes, FollowsTarget, FollowsBanks}
 use Rattle.fee_switch_laws.specs.Shown.{layout_in}
-use Rattle.fee_laws.proofs.FollowPages.{SameOthers}
+use Rattle.fee_image.proofs.Frames.{SameOthers}
 use Rattle.fee_laws.proofs.FollowTargets.{builds, again}
 use Rattle.fee_laws.proofs.FollowCopies.{begun_course, begun_holds}
 use Rattle.fee_laws.proofs.FollowMarked.{MayCopy}

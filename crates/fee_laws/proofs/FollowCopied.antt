@@ -20,7 +20,7 @@ use Rattle.fee_switch.specs.Banks.{BanksState, IsBanksState, flagged_by, advance
 use Rattle.fee_laws.specs.Inside.{body_of}
 use Rattle.fee_laws.specs.Follows.{FollowsBytes, FollowsTarget}
 use Rattle.fee_switch_laws.specs.Shown.{layout_in}
-use Rattle.fee_laws.proofs.FollowPages.{SameOthers}
+use Rattle.fee_image.proofs.Frames.{SameOthers}
 use Rattle.fee_laws.proofs.FollowTargets.{was, builds, again}
 use Rattle.fee_laws.proofs.FollowCopies.{page_small, apart, long, page_goes_on, flagged_is, paged}
 

@@ -33,7 +33,7 @@ use Rattle.fee_switch_laws.specs.Shown.{layout_in}
 use Rattle.fee_switch_laws.proofs.RoomAppends.{work_begun}
 use Rattle.fee_laws.specs.Inside.{body_of}
 use Rattle.fee_laws.specs.Follows.{anything, FollowsBytes}
-use Rattle.fee_laws.proofs.FollowPages.{SameOthers}
+use Rattle.fee_image.proofs.Frames.{SameOthers}
 use Rattle.fee_laws.proofs.FollowBytes.{record_page_is}
 use Rattle.fee_laws.proofs.FollowAppends.{others, front, state_after}
 use Rattle.fee_laws.proofs.FollowTargets.{settled_target}

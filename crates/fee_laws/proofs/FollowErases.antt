@@ -20,7 +20,8 @@ use Rattle.fee_switch.specs.Banks.{BanksState, IsBanksState, target_at, advanced
 use Rattle.fee_switch_laws.specs.Shown.{layout_in}
 use Rattle.fee_laws.specs.Inside.{body_of}
 use Rattle.fee_laws.specs.Follows.{anything, FollowsCopies, FollowsTarget, FollowsBytes}
-use Rattle.fee_laws.proofs.FollowPages.{SameOthers, erased_others, erased_blank, still_blank}
+use Rattle.fee_image.proofs.Erases.{erased_others, erased_blank, still_blank}
+use Rattle.fee_image.proofs.Frames.{SameOthers}
 use Rattle.fee_laws.proofs.FollowBanks.{legal}
 use Rattle.fee_laws.proofs.FollowTargets.{was, builds, settled_target}
 

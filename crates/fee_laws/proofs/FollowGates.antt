@@ -20,12 +20,12 @@ use Rattle.fee_course.specs.declared.course.Course.TheVariants.{Gate}
 use Rattle.fee_switch.specs.declared.target.Stage.TheVariants as stage
 use Rattle.fee_switch.specs.Target.{op_at}
 use Rattle.fee_switch.specs.Banks.{BanksState, IsBanksState, target_at, next_generation, is_worn_out, fallen_back, ended}
+use Rattle.fee_switch.proofs.Targets.{page_inside}
 use Rattle.fee_switch_laws.specs.Shown.{layout_in}
 use Rattle.fee_laws.specs.Inside.{body_of}
 use Rattle.fee_laws.specs.Follows.{anything, ComesBehind, StandsFirst, target_head, FollowsCopies, FollowsTarget, FollowsBytes}
-use Rattle.fee_laws.proofs.FollowPages.{SameOthers, others_stay, page_stays}
+use Rattle.fee_image.proofs.Frames.{SameOthers, others_stay, page_stays}
 use Rattle.fee_laws.proofs.FollowStates.{any_content}
-use Rattle.fee_laws.proofs.FollowBytes.{page_inside}
 use Rattle.fee_laws.proofs.FollowBanks.{legal, copies_stay}
 use Rattle.fee_laws.proofs.FollowTargets.{was, first, builds}
 

@@ -10,10 +10,11 @@ use Rattle.fee_course.specs.declared.course.Course.TheVariants.{Head, Gate}
 use Rattle.fee_switch.specs.declared.target.Stage.TheVariants as stage
 use Rattle.fee_switch.specs.Target.{op_at}
 use Rattle.fee_switch.specs.Banks.{BanksState, IsBanksState, target_at, next_generation, advanced, fallen_back}
+use Rattle.fee_switch.proofs.Targets.{page_inside}
 use Rattle.fee_switch_laws.specs.Shown.{layout_in}
 use Rattle.fee_laws.specs.Follows.{target_head, FollowsTarget, FollowsBytes}
-use Rattle.fee_laws.proofs.FollowPages.{SameOthers, others_stay, page_stays}
-use Rattle.fee_laws.proofs.FollowBytes.{bank_head_is, page_inside}
+use Rattle.fee_image.proofs.Frames.{SameOthers, others_stay, page_stays}
+use Rattle.fee_laws.proofs.FollowBytes.{bank_head_is}
 use Rattle.fee_laws.proofs.FollowBanks.{legal, copies_stay}
 use Rattle.fee_laws.proofs.FollowTargets.{was, builds, again}
 

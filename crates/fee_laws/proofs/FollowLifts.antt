@@ -1,5 +1,5 @@
 -- From the banks and the bytes to a device.
-use Rattle.std.specs.Prelude.{IfSome, IsSome, option_map}
+use Rattle.std.specs.Prelude.{IfSome, IsSome}
 use Rattle.std.proofs.Common.{◌≡◌, ◌≤◌, ◌*◌, ◌++◌, ◌∷◌, ℕ, Bool, true, false, List, [], length, Option, Some, None, refl, sym, ap, subst}
 use Rattle.nv_base.specs.declared.geometry.Geometry.{Geometry}
 use Rattle.nv_base.specs.declared.instance.DeviceNumber.{DeviceNumber}
@@ -8,8 +8,8 @@ use Rattle.fls_model.specs.declared.flash.FlashAnswer.TheVariants.{Done, Failed,
 use Rattle.fls_model.specs.Attach.{AreBytesOf}
 use Rattle.fls_model.specs.Op.{Op, MayLeave}
 use Rattle.fls_model.specs.Read.{IsRead}
-use Rattle.fls_model.specs.Step.{IsStep, IsAsked, IsChanged, OffOrAsked, Leaves, HasCause}
-use Rattle.fls_model.specs.Told.{Told, ToldBytes, IfBothTold}
+use Rattle.fls_model.specs.Step.{IsStep, IsAsked, OffOrAsked, Leaves, HasCause}
+use Rattle.fls_model.specs.Told.{Told, ToldBytes, bytes_now}
 use Rattle.fls_jobs.specs.State.{FlsState}
 use Rattle.fee_switch.specs.Banks.{BanksState}
 use Rattle.fee_switch_laws.specs.Shown.{layout_in}
@@ -18,32 +18,9 @@ use Rattle.fee_told.specs.Clock.{change_of}
 use Rattle.fee_laws.specs.Inside.{Parts}
 use Rattle.fee_laws.specs.Turn.{IsOn, operated}
 use Rattle.fee_laws.specs.Follows.{FollowsBytes, Follows}
+use Rattle.fee_laws.proofs.Before.{each_now, now_at}
 use Rattle.fee_laws.proofs.FollowStarts.{wide}
-
--- BYTES
-abbrev now_of : Option ToldBytes → Option (List ℕ)
-now_of o = option_map (λ (b : ToldBytes). b.now) o
-
-pub now_at : (o : Option ToldBytes) (P : List ℕ → Type 0) (bytes : List ℕ) → now_of o ≡ Some bytes → IfSome o (λ b. P b.now) → P bytes
-now_at None P bytes is holds = cc is
-now_at (Some b) P bytes is holds = subst P (cc is) holds
-
-pub each_now : (o : Option ToldBytes) (P : List ℕ → Type 0) → ((bytes : List ℕ) → now_of o ≡ Some bytes → P bytes) → IfSome o (λ b. P b.now)
-each_now None P holds = tt
-each_now (Some b) P holds = holds b.now refl
-
-both_left : (x y : Option ToldBytes) (op : Op) (answer : FlashAnswer) (old new : List ℕ) → now_of x ≡ Some old → now_of y ≡ Some new → IfBothTold x y (IsChanged op answer) → MayLeave op old new × Leaves op answer old new
-both_left None y op answer old new a b both = cc a
-both_left (Some x) None op answer old new a b both = cc b
-both_left (Some x) (Some y) op answer old new a b both =
-    let h : x.now ≡ old = cc a in
-    let k : y.now ≡ new = cc b in
-    subst (λ (o : List ℕ). MayLeave op o new × Leaves op answer o new) h (subst (λ (n : List ℕ). MayLeave op x.now n × Leaves op answer x.now n) k (both.within, both.bytes))
-
-before_told : (x y : Option ToldBytes) (op : Op) (answer : FlashAnswer) (new : List ℕ) → IfBothTold x y (IsChanged op answer) → now_of y ≡ Some new → (old : List ℕ) × (now_of x ≡ Some old)
-before_told None None op answer new both at = cc at
-before_told None (Some y) op answer new both at = absurd both
-before_told (Some x) y op answer new both at = (x.now, refl)
+use Rattle.fee_laws.proofs.Operation.{both_left, before_told}
 
 -- AN OPERATION
 not_off : (answer : FlashAnswer) (s t : Told) → HasCause answer s t → t.off ≡ false → answer ≡ Off → ⊥
@@ -53,7 +30,7 @@ not_off Off s t cause on off = (let h = cause.2 in cc (h, on))
 
 -- done or failed, where the banks behind it follow the bytes that it left; that the power went off leaves nothing to know
 pub operation_follows : (s : Parts) (f : FlsState) (b : BanksState) (op listed : Op) (answer : FlashAnswer) → s.started ≡ true → s.fls.flash.off ≡ false → IsStep op s.fls.flash answer f.flash
-    → ((answer ≡ Off → ⊥) → (old new : List ℕ) → now_of s.fls.flash.bytes ≡ Some old → MayLeave op old new → Leaves op answer old new → FollowsBytes s.banks s.content s.operations old
+    → ((answer ≡ Off → ⊥) → (old new : List ℕ) → bytes_now s.fls.flash ≡ Some old → MayLeave op old new → Leaves op answer old new → FollowsBytes s.banks s.content s.operations old
     → FollowsBytes b s.content (s.operations ++ change_of listed s.fls.flash answer ∷ []) new)
     → Follows s → Follows (operated listed answer f b s)
 operation_follows s f b op listed answer started power step goes follows = λ started' on.
@@ -78,7 +55,7 @@ read_off address s t before into Off read power off = (let h = read.2 in cc (h, 
 -- IN MEMORY
 -- other banks, which follow the same bytes
 pub memory_follows : (s : Parts) (f : FlsState) (b : BanksState) (content : List ℕ) → s.started ≡ true → s.fls.flash.off ≡ false → f.flash.bytes ≡ s.fls.flash.bytes
-    → ((bytes : List ℕ) → now_of s.fls.flash.bytes ≡ Some bytes → FollowsBytes s.banks s.content s.operations bytes → FollowsBytes b content s.operations bytes)
+    → ((bytes : List ℕ) → bytes_now s.fls.flash ≡ Some bytes → FollowsBytes s.banks s.content s.operations bytes → FollowsBytes b content s.operations bytes)
     → Follows s → Follows (record s { fls = f; banks = b; content = content })
 memory_follows s f b content started power same goes follows = λ started' on.
     subst (λ (o : Option ToldBytes). IfSome o (λ x. FollowsBytes b content s.operations x.now)) (sym same)
@@ -90,11 +67,8 @@ some_of None some = cc some
 some_of (Some x) some = (x, refl)
 
 module _ (m : Making) (entry : Told) (s : Parts) (listed : List (DeviceNumber × ℕ)) (kept count : ℕ) (on : IsOn m entry s listed kept count) where
-  pub power : s.fls.flash.off ≡ false
-  power = sym (on.sound.off on.started)
-
-  pub are_bytes : (bytes : List ℕ) → now_of s.fls.flash.bytes ≡ Some bytes → AreBytesOf s.banks.geometry bytes
+  pub are_bytes : (bytes : List ℕ) → bytes_now s.fls.flash ≡ Some bytes → AreBytesOf s.banks.geometry bytes
   are_bytes bytes at = subst (λ (g : Geometry). AreBytesOf g bytes) (sym on.sound.made_for.banks_geometry) (now_at s.fls.flash.bytes (AreBytesOf m.geometry) bytes at on.sound.made_for.bytes)
 
-  pub all_pages : (bytes : List ℕ) → now_of s.fls.flash.bytes ≡ Some bytes → (layout_in s.banks).pages * (layout_in s.banks).page * s.banks.banks ≤ length bytes
+  pub all_pages : (bytes : List ℕ) → bytes_now s.fls.flash ≡ Some bytes → (layout_in s.banks).pages * (layout_in s.banks).page * s.banks.banks ≤ length bytes
   all_pages bytes at = wide s.banks on.banks bytes (are_bytes bytes at)

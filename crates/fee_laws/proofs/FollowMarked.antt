@@ -20,7 +20,7 @@ use Rattle.fee_switch_laws.proofs.RoomAppends.{work_begun}
 use Rattle.fee_laws.specs.Inside.{body_of}
 use Rattle.fee_laws.specs.Follows.{FollowsBytes, FollowsTarget, FollowsBanks}
 use Rattle.fee_switch_laws.specs.Shown.{layout_in}
-use Rattle.fee_laws.proofs.FollowPages.{SameOthers}
+use Rattle.fee_image.proofs.Frames.{SameOthers}
 use Rattle.fee_laws.proofs.FollowTargets.{builds, again}
 use Rattle.fee_laws.proofs.FollowCopies.{page_small, apart, page_goes_on, begun_course, begun_tail, begun_holds, begun_state}
 

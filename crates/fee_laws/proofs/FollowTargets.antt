@@ -16,7 +16,7 @@ use Rattle.fee_switch.specs.Banks.{BanksState, IsBanksState}
 use Rattle.fee_switch_laws.specs.Shown.{layout_in}
 use Rattle.fee_laws.specs.Inside.{body_of}
 use Rattle.fee_laws.specs.Follows.{FollowsLog, StandsFirst, FollowsTarget, FollowsBanks, FollowsBytes}
-use Rattle.fee_laws.proofs.FollowPages.{SameOthers}
+use Rattle.fee_image.proofs.Frames.{SameOthers}
 use Rattle.fee_laws.proofs.FollowBanks.{fronts_of, first_stays, same_body, log_stays}
 use Rattle.fee_laws.proofs.FollowBegins.{active_flagged}
 

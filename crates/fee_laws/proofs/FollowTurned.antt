@@ -45,7 +45,8 @@ use Rattle.fee_laws.proofs.FollowGates.{gate_fails, gate_stands}
 use Rattle.fee_laws.proofs.FollowCopied.{page_copied}
 use Rattle.fee_laws.proofs.FollowMarked.{MayCopy, mark_copied}
 use Rattle.fee_laws.proofs.FollowContents.{content_copied}
-use Rattle.fee_laws.proofs.FollowLifts.{some_of, power, all_pages, operation_follows, memory_follows, read_bytes, read_off}
+use Rattle.fee_laws.proofs.FollowLifts.{some_of, all_pages, operation_follows, memory_follows, read_bytes, read_off}
+use Rattle.fee_laws.proofs.Before.{power}
 
 -- A PAGE OF A RECORD
 pub pages_follow : PagesFollow

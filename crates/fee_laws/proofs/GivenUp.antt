@@ -35,28 +35,22 @@ given_by p end places tail.Closed body after = refl
 pub given_log : (lg : LogState) (body after : List ℕ) → log_of (given_up lg) after ≡ log_given_up lg.geometry.page (log_of lg body)
 given_log lg body after = given_by lg.geometry.page lg.end lg.places lg.tail body after
 
-none_by : (p end : ℕ) (places : List Place) (t : Tail) → let old : Log = record { end = end; tail = tail_with t []; places = places } in work_in (tail_without (given_up_with p old (tail_with t [])).tail) ≡ None
-none_by p end places tail.Open = refl
-none_by p end places (tail.Writes h zero) = refl
-none_by p end places (tail.Writes h (suc zero)) = refl
-none_by p end places (tail.Writes h (suc (suc done))) = refl
-none_by p end places (tail.Owes h next) = refl
-none_by p end places tail.Closed = refl
+-- no record is in work then, and no place moved
+given_parts : (p end : ℕ) (places : List Place) (t : Tail) → let old : Log = record { end = end; tail = tail_with t []; places = places } in
+    let new = given_up_with p old (tail_with t []) in (work_in (tail_without new.tail) ≡ None) × (new.places ≡ places)
+given_parts p end places tail.Open = (refl, refl)
+given_parts p end places (tail.Writes h zero) = (refl, refl)
+given_parts p end places (tail.Writes h (suc zero)) = (refl, refl)
+given_parts p end places (tail.Writes h (suc (suc done))) = (refl, refl)
+given_parts p end places (tail.Owes h next) = (refl, refl)
+given_parts p end places tail.Closed = (refl, refl)
 
 pub none_left : (lg : LogState) → work_in (given_up lg).tail ≡ None
-none_left lg = none_by lg.geometry.page lg.end lg.places lg.tail
-
-places_by : (p end : ℕ) (places : List Place) (t : Tail) → let old : Log = record { end = end; tail = tail_with t []; places = places } in (given_up_with p old (tail_with t [])).places ≡ places
-places_by p end places tail.Open = refl
-places_by p end places (tail.Writes h zero) = refl
-places_by p end places (tail.Writes h (suc zero)) = refl
-places_by p end places (tail.Writes h (suc (suc done))) = refl
-places_by p end places (tail.Owes h next) = refl
-places_by p end places tail.Closed = refl
+none_left lg = (given_parts lg.geometry.page lg.end lg.places lg.tail).0
 
 pub places_left : (active : Option ActiveBank) (lg : LogState) (body after : List ℕ) → SamePlaces (old_shown active lg body) (old_shown active (given_up lg) after)
 places_left None lg body after = tt
-places_left (Some a) lg body after = (refl, refl, places_by lg.geometry.page lg.end lg.places lg.tail)
+places_left (Some a) lg body after = (refl, refl, (given_parts lg.geometry.page lg.end lg.places lg.tail).1)
 
 free_by : (p pages end : ℕ) (places : List Place) (t : Tail) → let old : Log = record { end = end; tail = tail_with t []; places = places } in
     let new = given_up_with p old (tail_with t []) in free_behind p pages end t ≤ free_behind p pages new.end (tail_without new.tail)

@@ -1,38 +1,32 @@
 -- A page is done, and the record goes on.
 use Rattle.std.specs.Prelude.{IfSome, IsSome, is_some}
-use Rattle.std.proofs.Common.{◌≡◌, ◌≤◌, ◌<◌, ◌+◌, ℕ, Bool, false, List, Option, Some, None, refl, sym, ap, ◌∙◌, subst, arith}
+use Rattle.std.proofs.Common.{◌≡◌, ◌≤◌, ◌<◌, ◌+◌, ℕ, false, List, Option, Some, None, refl, sym, ap, ◌∙◌, subst, arith}
 use Rattle.nv_base.specs.Geometry.{sectors_of_bank}
 use Rattle.nv_base.specs.declared.geometry.Geometry.{Geometry}
 use Rattle.nv_base.specs.declared.instance.DeviceNumber.{DeviceNumber}
 use Rattle.fls_model.specs.declared.flash.FlashAnswer.TheVariants.{Done}
-use Rattle.fls_model.specs.Step.{IsAsked, OffOrAsked}
 use Rattle.fls_model.specs.Told.{Told}
 use Rattle.fls_jobs.specs.State.{FlsState}
 use Rattle.fee_format.specs.declared.rec_head.RecHead.{RecHead}
 use Rattle.fee_log.specs.Log.{work_in}
 use Rattle.fee_log.specs.Step.{after_step, commits}
 use Rattle.fee_image.specs.RecordList.{pages_of_head}
-use Rattle.fee_course.specs.Course.{most_turns}
 use Rattle.fee_switch_laws.proofs.RoomAppends.{pages_keep_room}
 use Rattle.fee_told.specs.Figures.{Work, turns_owed}
-use Rattle.fee_told.specs.FigureLaws.{IsWork, IsOfJob}
+use Rattle.fee_told.specs.FigureLaws.{IsWork}
 use Rattle.fee_switch.specs.Banks.{BanksState, left_of}
 use Rattle.fee_switch_laws.specs.KeepsRoom.{KeepsRoom}
 use Rattle.promise_device.specs.Making.{Making}
-use Rattle.fee_told.specs.Device.{Device}
-use Rattle.fee_told.specs.Runs.{HasRun, KeepsWorn}
-use Rattle.fee_told.specs.Whole.{CutsKeep}
 use Rattle.fee_laws.specs.declared.job.FeeJob.{FeeJob}
-use Rattle.fee_laws.specs.Inside.{Parts, device_of, stand_of, HasSwitch, IsActiveOf, IsAtWork}
+use Rattle.fee_laws.specs.Inside.{Parts, stand_of, HasSwitch, IsActiveOf, IsAtWork}
 use Rattle.fee_laws.specs.Work.{work_of, pages_of_job, pages_of_op, pages_left, is_owed}
 use Rattle.fee_laws.specs.Record.{IsInWork, IsReady}
-use Rattle.fee_laws.specs.Appends.{IsAppending, work_op, after_page}
+use Rattle.fee_laws.specs.Appends.{IsAppending, after_page}
 use Rattle.fee_laws.proofs.Before.{power}
-use Rattle.fee_laws.proofs.Operation.{run, worn_by}
 use Rattle.fee_laws.proofs.Tails.{GoesOn, goes_on}
 use Rattle.fee_laws.proofs.Heads.{same_head}
-use Rattle.fee_laws.proofs.Page.{h, work_is, in_work, active_is, formats, at_work, cut_keeps, keeps_last}
-use Rattle.fee_laws.proofs.Appended.{has_switch, flags_clear, few_left, pages_few, of_job}
+use Rattle.fee_laws.proofs.Page.{h, work_is, in_work, active_is, formats, at_work}
+use Rattle.fee_laws.proofs.Appended.{has_switch, flags_clear, pages_few, open_work}
 use Rattle.fee_laws.proofs.Figures.{switch_is, same_turns, pages_fall}
 use Rattle.fee_laws.proofs.Shown.{j, open_is, pages, job_of}
 
@@ -42,29 +36,11 @@ each_some None P all = tt
 each_some (Some x) P all = all x
 
 module _ (m : Making) (entry : Told) (s : Parts) (listed : List (DeviceNumber × ℕ)) (kept count : ℕ) (f : FlsState) (is : IsAppending m entry s listed kept count Done f) (goes : commits s.banks.geometry.page s.banks.log.tail ≡ false) where
-  pub asked : IsAsked (work_op s) s.fls.flash Done f.flash
-  asked = subst (λ (b : Bool). OffOrAsked b (work_op s) s.fls.flash Done f.flash) (power m entry s listed kept count is.on) is.step
-
-  pub keeps : CutsKeep (work_op s) (device_of m entry s)
-  keeps = cut_keeps m entry s listed kept count is.on is.work is.page.size
-
   abbrev pub b : BanksState
   b = record s.banks { log = after_step s.banks.log Done }
 
   abbrev pub t : Parts
   t = after_page Done f s
-
-  abbrev d : Device
-  d = device_of m entry s
-
-  abbrev e : Device
-  e = device_of m entry t
-
-  stays_worn : KeepsWorn (work_op s) d e
-  stays_worn = worn_by m entry s listed kept count is.on (work_op s) Done f is.drives asked keeps b s.job s.last s.given refl (keeps_last m entry s listed kept count is.on is.work is.page.size)
-
-  pub run_on : HasRun e
-  run_on = run m entry s listed kept count is.on (work_op s) Done f is.drives asked keeps b s.job s.last s.given stays_worn
 
   pub going : GoesOn s.banks.log s.banks.log.tail
   going = goes_on s.banks.log s.banks.log.tail is.work (ap (λ (g : Geometry). commits g.page s.banks.log.tail) is.on.banks.log.shape ∙ goes)
@@ -145,14 +121,5 @@ module _ (m : Making) (entry : Told) (s : Parts) (listed : List (DeviceNumber ×
 
   pub work_then : IsWork m.geometry.page (sectors_of_bank m.geometry m.banks) m.numbers m.reserve (stand_of s.content s.job s.last s.given) v
   work_then =
-      let geo = is.on.sound.made_for.banks_geometry in
-      let few = few_left b switch_on in
-      let fits = subst (λ (g : Geometry). left_of b ≤ most_turns g.page (sectors_of_bank g s.banks.banks) s.banks.log.numbers) geo few in
-      let fits2 = subst (λ (n : ℕ). left_of b ≤ most_turns m.geometry.page (sectors_of_bank m.geometry n) s.banks.log.numbers) is.on.sound.made_for.shared fits in
-      let fits3 = subst (λ (ns : List (DeviceNumber × ℕ)). left_of b ≤ most_turns m.geometry.page (sectors_of_bank m.geometry m.banks) ns) is.on.sound.made_for.numbers fits2 in
-      record {
-        job = subst (λ (o : Option FeeJob). IsOfJob m.geometry.page m.numbers (stand_of s.content o s.last s.given) v) (sym job_is)
-            (of_job m.geometry.page m.numbers s.content jb s.last s.given v (job_of m entry s listed kept count is.on is.work)
-            (subst (λ (g : Geometry). v.pages ≤ pages_of_op g.page jb.op jb.length) geo pages_then));
-        few = subst (λ (n : ℕ). n ≤ most_turns m.geometry.page (sectors_of_bank m.geometry m.banks) m.numbers) (sym switch_then) fits3;
-      }
+      open_work m s jb b v job_is (job_of m entry s listed kept count is.on is.work) (record { geometry = is.on.sound.made_for.banks_geometry; shared = is.on.sound.made_for.shared; numbers = is.on.sound.made_for.numbers }) switch_on
+      pages_then switch_then

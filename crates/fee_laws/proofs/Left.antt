@@ -1,8 +1,9 @@
 -- What a page leaves that moves no place.
 use Rattle.std.specs.Prelude.{IfSome}
-use Rattle.std.proofs.Common.{◌≡◌, ℕ, Bool, List, Option, Some, None, refl, sym, subst}
+use Rattle.std.proofs.Common.{◌≡◌, ◌≢◌, ℕ, Bool, List, [], Option, Some, None, refl, sym, ap, ◌∙◌, subst, arith}
 use Rattle.nv_base.specs.declared.instance.DeviceNumber.{DeviceNumber}
 use Rattle.memif.specs.declared.answer.JobResult.{JobResult}
+use Rattle.memif.specs.declared.answer.JobResult.TheVariants.{JobPending}
 use Rattle.memif.specs.Marks.{KeepsAll}
 use Rattle.fls_model.specs.declared.flash.FlashAnswer.{FlashAnswer}
 use Rattle.fls_model.specs.Op.{MayLeave}
@@ -12,9 +13,13 @@ use Rattle.fls_jobs.specs.State.{FlsState}
 use Rattle.fee_image.specs.Image.{Layout}
 use Rattle.fee_image.specs.May.{May}
 use Rattle.fee_image.specs.Copies.{Flag, copied_of}
+use Rattle.fee_log.specs.Index.{clear_flags}
 use Rattle.fee_log.specs.Log.{work_in}
 use Rattle.fee_log.specs.Step.{after_step}
 use Rattle.fee_course.specs.declared.course.Course.{Course}
+use Rattle.fee_switch.specs.Banks.{BanksState}
+use Rattle.fee_switch_laws.specs.KeepsRoom.{KeepsRoom}
+use Rattle.fee_switch_laws.proofs.RoomAppends.{pages_keep_room}
 use Rattle.promise_device.specs.Making.{Making, banks_of}
 use Rattle.fee_told.specs.SlotLaws.{IsHeld}
 use Rattle.fee_told.specs.Device.{Device, told_of}
@@ -24,12 +29,13 @@ use Rattle.fee_told.specs.Whole.{CutsKeep}
 use Rattle.fee_told.proofs.Whole.{kept_is_told}
 use Rattle.fee_laws.specs.declared.job.FeeJob.{FeeJob}
 use Rattle.fee_laws.specs.Copied.{flags_of, IsCopying}
-use Rattle.fee_laws.specs.Inside.{Parts, device_of, memory_of, stand_of, flags_in, ShowsCopies, HoldsBehind, TellsCopies}
+use Rattle.fee_laws.specs.Inside.{Parts, device_of, memory_of, stand_of, flags_in, IsActiveOf, IsAtWork, HasSwitch, ShowsCopies, HoldsBehind, TellsCopies}
 use Rattle.fee_laws.specs.Appends.{IsAppending, work_op, after_page}
+use Rattle.fee_laws.proofs.Appended.{has_switch, flags_clear, resting_work, idle_at_work}
 use Rattle.fee_laws.proofs.Before.{power, copied, held_at, now_at, each_now}
 use Rattle.fee_laws.proofs.Operation.{left, before_told, run, worn_by, started}
-use Rattle.fee_laws.proofs.Behind.{held_behind}
-use Rattle.fee_laws.proofs.Page.{cut_keeps, keeps_last}
+use Rattle.fee_laws.proofs.Behind.{Facts, held_behind}
+use Rattle.fee_laws.proofs.Page.{active_is, at_work, cut_keeps, formats, keeps_last}
 use Rattle.fee_laws.proofs.Copies.{settled_stays}
 
 module _ (m : Making) (entry : Told) (s : Parts) (listed : List (DeviceNumber × ℕ)) (kept count : ℕ) (answer : FlashAnswer) (f : FlsState) (is : IsAppending m entry s listed kept count answer f) where
@@ -41,6 +47,9 @@ module _ (m : Making) (entry : Told) (s : Parts) (listed : List (DeviceNumber ×
 
   pub keeps : CutsKeep (work_op s) (device_of m entry s)
   keeps = cut_keeps m entry s listed kept count is.on is.work is.page.size
+
+  abbrev b : BanksState
+  b = record s.banks { log = after_step s.banks.log answer }
 
   module _ (job : Option FeeJob) (last : JobResult) (given : ℕ) where
     abbrev pub t : Parts
@@ -101,3 +110,29 @@ module _ (m : Making) (entry : Told) (s : Parts) (listed : List (DeviceNumber ×
       copies on told = each_now f.flash.bytes (λ (x : List ℕ). IfSome s.banks.course (λ c. ShowsCopies m t c x)) (λ new at.
           (let before = before_told s.fls.flash.bytes f.flash.bytes (work_op s) answer new asked.bytes at in
           shows_by before.0 new before.1 at s.banks.course (now_at s.fls.flash.bytes (λ (x : List ℕ). IfSome s.banks.course (λ c. ShowsCopies m s c x)) before.0 before.1 (is.on.sound.copies (power m entry s listed kept count is.on) told))))
+
+  -- the job ends with it, where no record is in work then
+  module _ (last : JobResult) (ended : last ≢ JobPending) (idle : work_in b.log.tail ≡ None) (flags : b.log.flags ≡ s.banks.log.flags) (numbers : b.log.numbers ≡ s.banks.log.numbers) (format : b.log.format ≡ s.banks.log.format) where
+    was_at_work : IsAtWork m s
+    was_at_work = at_work m entry s listed kept count is.on is.work
+
+    room_then : KeepsRoom m.reserve b
+    room_then = pages_keep_room m.reserve s.banks answer (is.on.sound.room is.on.started (power m entry s listed kept count is.on)) is.work
+
+    switch_then : HasSwitch b b.course
+    switch_then = has_switch m.reserve b b.course (λ none. flags ∙ flags_clear s.banks s.banks.course was_at_work.switch none ∙ ap clear_flags (sym numbers)) room_then.switch
+
+    active_then : IsActiveOf b b.active
+    active_then = subst (IsActiveOf b) (sym (active_is m entry s listed kept count is.on is.work)) (format ∙ formats m entry s listed kept count is.on is.work)
+
+    pub facts_ended : HoldsBehind (device_of m entry (t None last 0)) → TellsCopies m entry (t None last 0) → Facts m entry s listed kept count is.on (work_op s) answer f is.drives asked b None last 0
+    facts_ended held copied' = record {
+      ends = record { same = record { geometry = refl; banks = refl; numbers = numbers }; ended = ended; given_few = omega arith };
+      run = run_on None last 0;
+      behind = held;
+      work = resting_work m b last [] (record { geometry = is.on.sound.made_for.banks_geometry; shared = is.on.sound.made_for.shared; numbers = numbers ∙ is.on.sound.made_for.numbers }) switch_then;
+      at_work = idle_at_work m (t None last 0) idle active_then tt tt switch_then;
+      shut = λ since worn. (is.on.sound.worn since worn).shut;
+      room = λ on. room_then;
+      copies = copied';
+    }

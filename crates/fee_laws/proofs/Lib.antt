@@ -7,7 +7,6 @@ mod Ending
 mod GivenUp
 pub mod Making
 pub mod Opened
-mod Opening
 mod CallOrder
 mod Raising
 pub mod Starting
@@ -17,6 +16,9 @@ mod Before
 mod Order
 mod Operation
 mod Behind
+mod MadeFor
+mod BehindNone
+mod Turning
 mod Heads
 mod Kept
 mod Page
@@ -71,7 +73,6 @@ pub mod WornFull
 mod WornShown
 mod WornKnown
 pub mod WornTurn
-mod FollowPages
 mod FollowStates
 mod FollowSteps
 mod FollowBytes

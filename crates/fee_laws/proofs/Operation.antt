@@ -81,7 +81,7 @@ failure_counted Failed n few failed = rose_next n few
 failure_counted Off n few failed = cc
 
 -- BYTES
-both_left : (x y : Option ToldBytes) (op : Op) (answer : FlashAnswer) (old new : List ℕ) → option_map (λ (b : ToldBytes). b.now) x ≡ Some old → option_map (λ (b : ToldBytes). b.now) y ≡ Some new
+pub both_left : (x y : Option ToldBytes) (op : Op) (answer : FlashAnswer) (old new : List ℕ) → option_map (λ (b : ToldBytes). b.now) x ≡ Some old → option_map (λ (b : ToldBytes). b.now) y ≡ Some new
     → IfBothTold x y (IsChanged op answer) → MayLeave op old new × Leaves op answer old new
 both_left None y op answer old new a b both = cc a
 both_left (Some x) None op answer old new a b both = cc b

@@ -6,7 +6,8 @@ use Rattle.nv_base.specs.Geometry.{IsLegal, sectors_of_bank}
 use Rattle.nv_base.specs.Lengths.{AreLengths}
 use Rattle.nv_base.specs.declared.instance.DeviceNumber.{DeviceNumber}
 use Rattle.memif.specs.Told.{DeviceTold, Part, First, Figures, Fixed, Job, Stand, Open, Slot, figures_at, at_number, no_figures}
-use Rattle.memif.specs.Calls.{InOrder, urgent_first, is_first}
+use Rattle.memif.specs.declared.answer.JobResult.{JobResult}
+use Rattle.memif.specs.Calls.{InOrder, IsOf, urgent_first, is_first}
 use Rattle.memif.specs.Clock.{FindsNow, ArePossible}
 use Rattle.fls_model.specs.Told.{Told, ToldBytes}
 use Rattle.fee_log.specs.declared.tail.Tail.{Tail}
@@ -42,6 +43,11 @@ urgent_is m j = ap (λ (p : Part). j.urgent && is_first p) (first_of m j.number)
     by_test : (b : Bool) → b && true ≡ b
     by_test true = refl
     by_test false = refl
+
+-- any job of the device is of the first part
+pub is_of_first : (m : Making) (content : List ℕ) (o : Option FeeJob) (last : JobResult) (given : ℕ) → IsOf First (fixed_in m) (stand_of content o last given)
+is_of_first m content None last given = tt
+is_of_first m content (Some j) last given = (tt, sym (first_of m j.number.0))
 
 -- BEFORE AN URGENT WRITE
 owed_one : (t : Tail) → turns_owed (is_owed t) ≤ 1

@@ -1,6 +1,6 @@
 -- By how much the start of a job raises the turns that are left.
 use Rattle.std.specs.Prelude.{◌&&◌, not, nat_le, is_some}
-use Rattle.std.proofs.Common.{◌≡◌, ◌≤◌, ◌<◌, ◌+◌, ℕ, Bool, true, false, if◌then◌else◌, List, Option, Some, None, refl, ap, arith}
+use Rattle.std.proofs.Common.{◌≡◌, ◌≤◌, ◌<◌, ◌+◌, ◌-◌, ℕ, Bool, true, false, if◌then◌else◌, List, Option, Some, None, refl, ap, ◌∙◌, arith}
 use Rattle.nv_base.specs.Geometry.{sectors_of_bank}
 use Rattle.nv_base.specs.Pages.{record_pages_of}
 use Rattle.nv_base.specs.declared.job.DeviceOp.{DeviceOp}
@@ -16,12 +16,13 @@ use Rattle.fee_course.specs.declared.course.Course.TheVariants as course
 use Rattle.fee_course.specs.Course.{most_turns}
 use Rattle.fee_course.proofs.Turns.{turns_are_few}
 use Rattle.fee_switch.specs.Banks.{BanksState, begun_again, left_of as switch_left, left_with, index_of}
-use Rattle.fee_told.specs.Figures.{Work, fixed_for, left_of, turns_of, FitsMark}
+use Rattle.fee_switch_laws.specs.Space.{free_pages}
+use Rattle.fee_told.specs.Figures.{Work, fixed_for, ready_of, left_of, turns_of, FitsMark}
 use Rattle.fee_told.proofs.Figures.{starts_raise}
 use Rattle.fee_laws.specs.declared.job.FeeJob.{FeeJob}
 use Rattle.fee_laws.specs.Inside.{HasSwitch, mark_of}
 use Rattle.fee_laws.specs.Record.{IsJobOf, IsLengthOf}
-use Rattle.fee_laws.specs.Work.{work_of, pages_of_op, pages_left, switch_turns, begins_next, needs_switch, turns_beside, is_waiting, fits_in}
+use Rattle.fee_laws.specs.Work.{work_of, claimed, pages_free, seal_turns, takes_append, pages_of_op, pages_left, switch_turns, begins_next, needs_switch, turns_beside, is_waiting, fits_in}
 use Rattle.fee_laws.proofs.Bounds.{copy_among}
 use Rattle.fee_laws.proofs.SwitchFigures.{no_mark}
 
@@ -48,9 +49,16 @@ second_of true true c d e = refl
 second_of true false c d e = cc
 second_of false b c d e = cc
 
-pub none_of : (a b c d : Bool) → b ≡ false → a && b && c && d ≡ false
+none_of : (a b c d : Bool) → b ≡ false → a && b && c && d ≡ false
 none_of true b c d e = rw e refl
 none_of false b c d e = refl
+
+-- a job that isn't urgent claims no pages
+pub ready_calm : (reserve : ℕ) (b : BanksState) (job : Option FeeJob) (j : FeeJob) → job ≡ Some j → j.urgent ≡ false
+    → ready_of reserve (nat_le 1 (seal_turns b.course)) (pages_free b job) ≡ ready_of reserve (nat_le 1 (seal_turns b.course)) (free_pages b - 0)
+ready_calm reserve b job j is calm =
+    let none : claimed b (Some j) ≡ 0 = ap (λ (x : Bool). if x then pages_of_op b.geometry.page j.op j.length else 0) (none_of (takes_append b.course) j.urgent (is_waiting b j) (fits_in 0 b j) calm) in
+    ap (λ (o : Option FeeJob). ready_of reserve (nat_le 1 (seal_turns b.course)) (pages_free b o)) is ∙ ap (λ (k : ℕ). ready_of reserve (nat_le 1 (seal_turns b.course)) (free_pages b - k)) none
 
 pub writes_pages : (p : ℕ) (op : DeviceOp) (length of : ℕ) → op ≡ Write → IsLengthOf op length of → pages_of_op p op length ≡ record_pages_of of p
 writes_pages p Read length of is fits = cc

@@ -1,11 +1,13 @@
 -- What a device has in memory behind a page.
-use Rattle.std.specs.Prelude.{IfSome, IsSome, length, take}
-use Rattle.std.proofs.Common.{◌≡◌, ◌≢◌, ◌≤◌, ℕ, List, Option, Some, None, refl, sym, ap, ◌∙◌, subst, arith}
+use Rattle.std.specs.Prelude.{IfSome, IsSome, length, take, ◌&&◌, not, is_none}
+use Rattle.std.proofs.Common.{◌≡◌, ◌≢◌, ◌≤◌, ℕ, false, List, Option, Some, None, refl, sym, ap, ◌∙◌, subst, arith}
 use Rattle.nv_base.specs.declared.instance.DeviceNumber.{DeviceNumber}
 use Rattle.nv_base.specs.declared.job.DeviceOp.{DeviceOp}
 use Rattle.nv_base.specs.declared.job.DeviceOp.TheVariants.{Read, Write, Invalidate, Erase}
 use Rattle.nv_base.specs.Pages.{record_pages_of}
-use Rattle.memif.specs.Told.{more_writes, Stand}
+use Rattle.nv_base.specs.declared.mark.Mark.{Mark}
+use Rattle.memif.specs.Told.{more_writes, Stand, is_open, nothing_open}
+use Rattle.memif.specs.Calls.{is_read}
 use Rattle.fls_model.specs.Told.{Told}
 use Rattle.fee_format.specs.declared.rec_head.RecHead.{RecHead}
 use Rattle.fee_image.specs.RecordList.{pages_of_head}
@@ -19,10 +21,11 @@ use Rattle.fee_switch_laws.specs.Shown.{old_shown, phase_shown}
 use Rattle.fee_log.specs.Log.{work_in}
 use Rattle.promise_device.specs.Making.{Making}
 use Rattle.fee_told.specs.Slots.{Memory, writes_of, IsWorkOf}
+use Rattle.fee_told.specs.Device.{told_of}
 use Rattle.fee_told.specs.Kept.{with_log}
 use Rattle.fee_image.specs.May.{held_written}
 use Rattle.fee_laws.specs.declared.job.FeeJob.{FeeJob}
-use Rattle.fee_laws.specs.Inside.{Parts, body_of, mark_of, stand_of}
+use Rattle.fee_laws.specs.Inside.{Parts, body_of, device_of, mark_of, stand_of}
 use Rattle.fee_laws.specs.Record.{IsJobOf, IsLengthOf, head_of}
 use Rattle.fee_laws.specs.Work.{pages_of_op}
 use Rattle.fee_laws.specs.Turn.{IsOn}
@@ -108,6 +111,15 @@ module _ (m : Making) (entry : Told) (s : Parts) (listed : List (DeviceNumber ×
   mark =
       mark_is j.op j.number.0 j.length (head_of s.banks.log j).count s.content writes
       ∙ (λ i. Some (held_written (sym head_is i) (sym body_is i)).mark)
+
+  abbrev at : Option FeeJob → Stand
+  at o = stand_of s.content o s.last s.given
+
+  pub something : nothing_open (told_of (device_of m entry s)) ≡ false
+  something = subst (λ (o : Option FeeJob). not (is_open (at o)) && not (told_of (device_of m entry s)).switching ≡ false) (sym open_is) refl
+
+  pub no_read : is_read (at s.job) ≡ false
+  no_read = subst (λ (o : Option FeeJob). is_read (at o) ≡ false) (sym open_is) (ap (λ (o : Option Mark). is_none o) mark)
 
   -- and counts one more than its number has
   pub counted : (h m entry s listed kept count on work).count ≡ more_writes 1 (writes_of m.numbers s.banks.log.places (h m entry s listed kept count on work).number)

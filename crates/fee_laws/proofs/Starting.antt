@@ -1,7 +1,7 @@
 -- A start-up.
 use Rattle.std.specs.Prelude.{IfSome, IsTrue, ◌&&◌}
 use Rattle.std.proofs.Common.{◌≡◌, ◌⊎◌, inl, inr, ◌≤◌, ◌<◌, ◌+◌, ◌*◌, ℕ, Bool, true, false, if◌then◌else◌, List, [], ◌∷◌, length, Option, Some, None, Ok, Err, refl, sym, ap, ◌∙◌, subst, arith}
-use Rattle.nv_base.specs.Count.{Rose, next_count, last_count, WereCounted}
+use Rattle.nv_base.specs.Count.{Rose, next_count, last_count}
 use Rattle.nv_base.specs.Geometry.{IsLegal, HasBanks, size_of}
 use Rattle.nv_base.specs.Lengths.{AreLengths}
 use Rattle.nv_base.specs.Plan.{dropped}
@@ -64,21 +64,8 @@ use Rattle.fee_laws.proofs.Making.{none_shows}
 use Rattle.fee_laws.proofs.CallOrder.{at_rest, nothing_left}
 use Rattle.fee_laws.proofs.Before.{each_told, now_at, some_told, told_at}
 use Rattle.fee_laws.proofs.Operation.{rose_next}
-
--- COUNTS
-abbrev pub Counted : ℕ → ℕ → ℕ → ℕ → Type 0
-Counted a b own own' = (own' ≡ own) ⊎ ((own' ≡ next_count own) × Rose a b)
-
-were_counted : (entry a b own own' : ℕ) → a ≤ b → Counted a b own own' → WereCounted own entry a → WereCounted own' entry b
-were_counted entry a b own own' more (inl same) (inl fits) = inl (omega arith)
-were_counted entry a b own own' more (inl same) (inr big) = inr (omega arith)
-were_counted entry a b own own' more (inr (is, inl less)) (inl fits) = inl (omega arith)
-were_counted entry a b own own' more (inr (is, inl less)) (inr big) = inr (omega arith)
-were_counted entry a b own own' more (inr (is, inr (big, le))) fits = inr (omega arith)
-
-few_counted : (a b own own' : ℕ) → own ≤ last_count → Counted a b own own' → own' ≤ last_count
-few_counted a b own own' few (inl same) = omega arith
-few_counted a b own own' few (inr (is, rose)) = omega arith
+use Rattle.fee_laws.proofs.BehindNone.{Counted, were_counted, few_counted}
+use Rattle.fee_laws.proofs.MadeFor.{still_made}
 
 -- BYTES
 sound_in : (m : Making) (bytes : List ℕ) → 0 < length bytes → IsSoundFlash m bytes → IsSoundImage (banks_of m) bytes
@@ -239,18 +226,7 @@ module _ (m : Making) (entry : Told) (s : Parts) (made : IsMadeFor m s) (is : Is
 
   pub sound_as : (t.started ≡ true → HoldsBehind t) → (ready ≡ true → AreReady b) → FindsNow (told_of t) (clock_of t) → (listed : List (DeviceNumber × ℕ)) (kept count : ℕ) (is_off : Bool) → IsSound m entry s listed kept count is_off → IsSound m entry u listed kept count false
   sound_as held rdy now listed kept count is_off sound = record {
-    made_for = record {
-      geometry = made.geometry;
-      idle = record { job = made.idle.job; attached = made.idle.attached };
-      banks_geometry = are.geometry;
-      shared = are.shared;
-      numbers = are.numbers;
-      space = made.space;
-      bytes = made.bytes;
-      room = made.room;
-      given = omega arith;
-      ended = λ e. cc e;
-    };
+    made_for = still_made m s u made refl made.bytes (record { geometry = are.geometry ∙ sym made.banks_geometry; banks = are.shared ∙ sym made.shared; numbers = are.numbers ∙ sym made.numbers }) made.room (omega arith) (λ e. cc e);
     device = record { run = run; held = held; order = at_rest m entry u are.closed now; faults = few_counted s.fls.flash.faults flash_faults s.faults faults is.faults counted };
     rests = λ unstarted. record { job = refl; course = are.closed };
     works = λ started. at_work b are.closed (rdy started);

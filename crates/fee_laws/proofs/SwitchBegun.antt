@@ -2,13 +2,10 @@
 use Rattle.std.specs.Prelude.{IfSome, ◌&&◌, not, is_some, nat_le, if◌then◌else◌}
 use Rattle.std.proofs.Common.{◌≡◌, inl, inr, ◌≤◌, ◌<◌, ◌+◌, ◌*◌, ℕ, Bool, true, false, List, Option, Some, None, refl, sym, ap, ◌∙◌, subst, arith}
 use Rattle.std.proofs.lemmas.Bool.{le-leb}
-use Rattle.nv_base.specs.Geometry.{sectors_of_bank, pages_of_sector}
-use Rattle.nv_base.specs.declared.geometry.Geometry.{Geometry}
+use Rattle.nv_base.specs.Geometry.{pages_of_sector}
 use Rattle.nv_base.specs.declared.instance.DeviceNumber.{DeviceNumber}
 use Rattle.memif.specs.Told.{Slot, is_open}
 use Rattle.fls_model.specs.Told.{Told}
-use Rattle.fee_format.specs.declared.rec_head.RecHead.{RecHead}
-use Rattle.fee_image.specs.Image.{Layout}
 use Rattle.fee_image.specs.RecordList.{pages_of_head}
 use Rattle.fee_image.specs.May.{May}
 use Rattle.fee_image.specs.Banks.{Old, Idle, Erasing}
@@ -19,7 +16,6 @@ use Rattle.fee_log.specs.Log.{LogState, work_in}
 use Rattle.fee_switch.specs.declared.active.ActiveBank.{ActiveBank}
 use Rattle.fee_course.specs.declared.course.Course.{Course}
 use Rattle.fee_course.specs.declared.course.Course.TheVariants.{Erase}
-use Rattle.fee_course.specs.Course.{most_turns}
 use Rattle.fee_switch.specs.Banks.{BanksState, begun_again, left_of}
 use Rattle.fee_switch_laws.specs.Shown.{old_shown, phase_shown}
 use Rattle.fee_switch_laws.specs.KeepsRoom.{KeepsRoom}
@@ -29,27 +25,25 @@ use Rattle.promise_device.specs.Making.{Making, banks_of}
 use Rattle.fee_told.specs.Slots.{Memory, slots_found}
 use Rattle.fee_told.specs.SlotLaws.{IsHeld, SamePlaces}
 use Rattle.fee_told.specs.Device.{Device, tells, told_of, slots_in}
-use Rattle.fee_told.specs.Clock.{MakesNone, clock_of}
-use Rattle.fee_told.specs.Runs.{HasRun}
+use Rattle.fee_told.specs.Clock.{clock_of}
 use Rattle.fee_told.specs.Figures.{Work, ready_of, wait_of}
-use Rattle.fee_told.specs.FigureLaws.{IsWork, IsOfJob}
 use Rattle.fee_told.proofs.Kept.{same_places}
 use Rattle.fee_told.proofs.Clocks.{clocks_stay}
-use Rattle.fee_told.proofs.Making.{runs_stay}
 use Rattle.fee_told.proofs.Steps.{places_tell}
 use Rattle.fee_told.proofs.Switches.{switches_begin as told_switches_begin}
 use Rattle.fee_laws.specs.declared.job.FeeJob.{FeeJob}
 use Rattle.fee_laws.specs.Inside.{Parts, body_of, device_of, memory_of, stand_of, flags_in, HoldsBehind, HasSwitch, IsActiveOf, IsAtWork, ShowsCopies, TellsCopies, IsSound}
-use Rattle.fee_laws.specs.Record.{head_of, IsJobOf, IsInWork, IsReady}
+use Rattle.fee_laws.specs.Record.{head_of, IsJobOf, IsReady}
 use Rattle.fee_laws.specs.Work.{work_of, pages_of_op, pages_of_job, pages_free, claimed, begins_next, takes_append, is_waiting, fits_in, needs_switch, switch_turns, turns_beside, seal_turns, turns_before, is_urgent_job, is_promised}
 use Rattle.fee_laws.specs.Turn.{IsOn}
 use Rattle.fee_laws.specs.Begins.{HasBegun, MaySwitch, switching_with, SwitchesBegin}
-use Rattle.fee_laws.proofs.Before.{power, shape, lengths, legal, some, copied, held_at, each_now, each_told}
-use Rattle.fee_laws.proofs.Order.{tells_by, behind_finds, in_order}
-use Rattle.fee_laws.proofs.Appended.{few_left, pages_few, of_job}
+use Rattle.fee_laws.proofs.Before.{power, lengths, legal, copied, held_at, each_now}
+use Rattle.fee_laws.proofs.Order.{tells_by}
+use Rattle.fee_laws.proofs.Appended.{IsShaped, pages_few, open_work, idle_at_work}
 use Rattle.fee_laws.proofs.Beginning.{left_less, and_four'}
 use Rattle.fee_laws.proofs.Shown.{pages_by}
 use Rattle.fee_laws.proofs.SwitchShown.{flags_hidden}
+use Rattle.fee_laws.proofs.BehindNone.{AsksNone, makes_none, held_behind, sound as sound_behind}
 
 active_on : (o : Option ActiveBank) (s : BanksState) → IsActiveOf s o → IsActiveOf (begun_again s (Erase 0)) o
 active_on None s is = λ i. record (is i) { flags = clear_flags s.log.numbers }
@@ -80,9 +74,6 @@ module _ (m : Making) (entry : Told) (s : Parts) (listed : List (DeviceNumber ×
   abbrev t : Parts
   t = switching_with s
 
-  abbrev l : Layout
-  l = banks_of m
-
   abbrev d : Device
   d = device_of m entry s
 
@@ -92,9 +83,6 @@ module _ (m : Making) (entry : Told) (s : Parts) (listed : List (DeviceNumber ×
   abbrev p : ℕ
   p = s.banks.geometry.page
 
-  abbrev mem : Memory
-  mem = memory_of s
-
   at_work : IsAtWork m s
   at_work = on.sound.works on.started
 
@@ -102,55 +90,38 @@ module _ (m : Making) (entry : Told) (s : Parts) (listed : List (DeviceNumber ×
   job_of = subst (λ (o : Option FeeJob). IfSome o (IsJobOf m.numbers)) may.job at_work.job
 
   -- MEMORY
-  old_same : (memory_of t).old ≡ mem.old
+  old_same : (memory_of t).old ≡ (memory_of s).old
   old_same = flags_hidden s.banks.active s.banks.log (clear_flags s.banks.log.numbers) (body_of (work_in s.banks.log.tail) s.content)
 
-  mem_is : memory_of t ≡ record mem { target = s.banks.target; phase = Erasing 0 }
-  mem_is = λ i. record { old = old_same i; target = s.banks.target; phase = Erasing (no_pages (pages_of_sector s.banks.geometry) i); stand = mem.stand }
+  mem_is : memory_of t ≡ record (memory_of s) { target = s.banks.target; phase = Erasing 0 }
+  mem_is = λ i. record { old = old_same i; target = s.banks.target; phase = Erasing (no_pages (pages_of_sector s.banks.geometry) i); stand = (memory_of s).stand }
 
   target_in : s.banks.target < m.banks
   target_in = let less = on.banks.target in let same = on.sound.made_for.shared in omega (arith, less, same)
 
-  held_then : (bytes : List ℕ) (wide more : May) → IsHeld l m.numbers bytes mem wide → IsHeld l m.numbers bytes (memory_of t) more
-  held_then bytes wide more held = subst (λ (x : Memory). IsHeld l m.numbers bytes x more) (sym mem_is)
-      (told_switches_begin l m.numbers bytes mem wide more s.banks.target (record { lengths = lengths m entry s listed kept count on; legal = legal m entry s listed kept count on; held = held })
+  held_then : (bytes : List ℕ) (wide more : May) → IsHeld (banks_of m) m.numbers bytes (memory_of s) wide → IsHeld (banks_of m) m.numbers bytes (memory_of t) more
+  held_then bytes wide more held = subst (λ (x : Memory). IsHeld (banks_of m) m.numbers bytes x more) (sym mem_is)
+      (told_switches_begin (banks_of m) m.numbers bytes (memory_of s) wide more s.banks.target (record { lengths = lengths m entry s listed kept count on; legal = legal m entry s listed kept count on; held = held })
       (idle_phase s.banks.course s.banks (body_of (work_in s.banks.copies.tail) s.banks.buffer) may.shut) target_in
       (other_by s.banks.active s.banks.log (body_of (work_in s.banks.log.tail) s.content) s.banks.target on.banks.active)).held
 
-  places : SamePlaces mem.old (memory_of t).old
-  places = subst (λ (o : Old). SamePlaces mem.old o) (sym old_same) (same_places mem.old)
+  places : SamePlaces (memory_of s).old (memory_of t).old
+  places = subst (λ (o : Old). SamePlaces (memory_of s).old o) (sym old_same) (same_places (memory_of s).old)
 
   slots_are : (x : List ℕ) → slots_in e x ≡ slots_in d x
-  slots_are x = ap (λ (z : List Slot). if s.started then z else slots_found l m.numbers x) (places_tell l m.numbers x mem (memory_of t) places refl)
+  slots_are x = ap (λ (z : List Slot). if s.started then z else slots_found (banks_of m) m.numbers x) (places_tell (banks_of m) m.numbers x (memory_of s) (memory_of t) places refl)
 
   same_slots : (told_of e).slots ≡ (told_of d).slots
   same_slots = tells_by (tells d) s.fls.flash.bytes (slots_in e) (slots_in d) slots_are
 
-  none : MakesNone d e
-  none = record { making = refl; entry = refl; operations = refl; bytes = refl }
-
-  run_on : HasRun e
-  run_on = runs_stay d e on.sound.device.run (record { none = none; bytes = refl; counts = (refl, refl); flash_faults = omega arith; faults = on.sound.device.run.faults; cuts = on.sound.device.run.cuts; worn = λ since worn. inl worn })
+  none : AsksNone m entry s t
+  none = record { only = refl; more = omega arith; counted = inl refl; worn = λ since worn. inl worn }
 
   abbrev more : May
   more = copied m entry s listed kept count on
 
   behind : HoldsBehind e
-  behind = record {
-    behind = memory_of t;
-    copied = more;
-    banks = record {
-      started = on.started;
-      alike = run_on.alike;
-      legal = legal m entry s listed kept count on;
-      some = some m entry s listed kept count on;
-      held = λ told. each_told s.fls.flash.bytes (λ (x : List ℕ). IsHeld l m.numbers x (memory_of t) more) (λ bytes at. held_then bytes more more (held_at m entry s listed kept count on bytes at told));
-    };
-    places = same_places (memory_of t).old;
-    stand = refl;
-    on = λ power. refl;
-    idle = inl refl;
-  }
+  behind = held_behind m entry s listed kept count on t none more (λ bytes at told. held_then bytes more more (held_at m entry s listed kept count on bytes at told))
 
   copies : TellsCopies m entry t
   copies on' told = each_now s.fls.flash.bytes (λ (x : List ℕ). ShowsCopies m t (Erase 0) x) (λ bytes at.
@@ -188,13 +159,7 @@ module _ (m : Making) (entry : Told) (s : Parts) (listed : List (DeviceNumber ×
       elim (was promised may.idle) [ inl begins ↦ (let no' = none_before in absurd (cc (begins, no'))) | inr seal ↦ (let shut = seal_is s.banks.course may.shut in absurd (omega (arith, seal, shut))) ]
 
   at_work_on : IsAtWork m t
-  at_work_on = record {
-    active = active_on s.banks.active s.banks at_work.active;
-    job = at_work.job;
-    work = subst (λ (o : Option RecHead). IfSome o (IsInWork t.banks s.job)) (sym may.idle) tt;
-    ready = subst (λ (o : Option FeeJob). IfSome o (IsReady t.banks)) (sym may.job) ready_so;
-    switch = switch_on;
-  }
+  at_work_on = idle_at_work m t may.idle (active_on s.banks.active s.banks at_work.active) at_work.job (subst (λ (o : Option FeeJob). IfSome o (IsReady t.banks)) (sym may.job) ready_so) switch_on
 
   -- THE FIGURES
   abbrev v : Work
@@ -230,19 +195,8 @@ module _ (m : Making) (entry : Told) (s : Parts) (listed : List (DeviceNumber ×
   pages_now : v.pages ≤ pages_of_op p j.op j.length
   pages_now = subst (λ (n : ℕ). v.pages ≤ n) wanted (pages_few p (pages_of_job p s.job) s.banks.log.tail (λ r some'. (let idle = may.idle in absurd (cc (idle, some')))))
 
-  work_then : IsWork m.geometry.page (sectors_of_bank m.geometry m.banks) m.numbers m.reserve (stand_of s.content s.job s.last s.given) v
-  work_then =
-      let geo = on.sound.made_for.banks_geometry in
-      let few = few_left t.banks switch_on in
-      let fits = subst (λ (g : Geometry). left_of t.banks ≤ most_turns g.page (sectors_of_bank g s.banks.banks) s.banks.log.numbers) geo few in
-      let fits2 = subst (λ (n : ℕ). left_of t.banks ≤ most_turns m.geometry.page (sectors_of_bank m.geometry n) s.banks.log.numbers) on.sound.made_for.shared fits in
-      let fits3 = subst (λ (ns : List (DeviceNumber × ℕ)). left_of t.banks ≤ most_turns m.geometry.page (sectors_of_bank m.geometry m.banks) ns) on.sound.made_for.numbers fits2 in
-      let is = switch_same ∙ switch_was in
-      record {
-        job = subst (λ (o : Option FeeJob). IsOfJob m.geometry.page m.numbers (stand_of s.content o s.last s.given) v) (sym may.job)
-            (of_job m.geometry.page m.numbers s.content j s.last s.given v job_of (subst (λ (g : Geometry). v.pages ≤ pages_of_op g.page j.op j.length) geo pages_now));
-        few = omega (arith, fits3, is);
-      }
+  shaped : IsShaped m t.banks
+  shaped = record { geometry = on.sound.made_for.banks_geometry; shared = on.sound.made_for.shared; numbers = on.sound.made_for.numbers }
 
   claims : (b : BanksState) → begins_next b j ≡ false → claimed b s.job ≡ 0
   claims b none' = ap (claimed b) may.job ∙ ap (λ (x : Bool). if x then pages_of_op b.geometry.page j.op j.length else 0) none'
@@ -265,42 +219,19 @@ module _ (m : Making) (entry : Told) (s : Parts) (listed : List (DeviceNumber ×
     left = left_few;
     job = subst (λ (o : Option FeeJob). is_open (stand_of s.content o s.last s.given) ≡ true) (sym may.job) refl;
     on = (power m entry s listed kept count on, refl);
-    same = clocks_stay d e none refl;
+    same = clocks_stay d e (makes_none m entry s listed kept count on t none) refl;
   }
 
   pub sound : IsSound m entry t listed kept count false
-  sound =
-      let made = on.sound.made_for in
-      record {
-        made_for = record {
-          geometry = made.geometry;
-          idle = record { job = made.idle.job; attached = made.idle.attached };
-          banks_geometry = made.banks_geometry;
-          shared = made.shared;
-          numbers = made.numbers;
-          space = made.space;
-          bytes = made.bytes;
-          room = made.room;
-          given = made.given;
-          ended = made.ended;
-        };
-        device = record {
-          run = run_on;
-          held = λ started. behind;
-          order = in_order m entry t (shape m entry s listed kept count on) (lengths m entry s listed kept count on) work_then (behind_finds e on.started behind);
-          faults = on.sound.device.faults;
-        };
-        rests = λ stopped. (let h = on.started in absurd (cc (h, stopped)));
-        works = λ started. at_work_on;
-        room = λ started on'. room_on;
-        copies = copies;
-        cuts = on.sound.cuts;
-        worn = λ since worn. (let fresh = may.fresh in absurd (cc (fresh, worn)));
-        numbers = on.sound.numbers;
-        reserve = on.sound.reserve;
-        ops = on.sound.ops;
-        off = on.sound.off;
-      }
+  sound = sound_behind m entry s listed kept count on t none (record {
+    ends = record { same = record { geometry = refl; banks = refl; numbers = refl }; room = on.sound.made_for.room; given_few = on.sound.made_for.given; ended = on.sound.made_for.ended };
+    behind = behind;
+    work = open_work m s j t.banks v may.job job_of shaped switch_on pages_now (switch_same ∙ switch_was);
+    at_work = at_work_on;
+    room = room_on;
+    copies = copies;
+    worn = λ since worn. (let fresh = may.fresh in absurd (cc (fresh, worn)));
+  })
 
 pub switches_begin : SwitchesBegin
 switches_begin m entry s listed kept count j on may = record { told = has_begun m entry s listed kept count j on may; sound = sound m entry s listed kept count j on may }

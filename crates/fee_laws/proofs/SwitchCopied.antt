@@ -2,11 +2,9 @@
 use Rattle.std.specs.Prelude.{length}
 use Rattle.std.proofs.Common.{◌≡◌, inl, inr, ◌<◌, ◌+◌, ◌-◌, ◌==◌, ℕ, Bool, true, false, if◌then◌else◌, List, [], ◌∷◌, Option, Some, None, refl, sym, ap, ◌∙◌, subst, arith}
 use Rattle.std.proofs.lemmas.Bool.{cond_both, eqb-true}
-use Rattle.nv_base.specs.Count.{next_count}
 use Rattle.nv_base.specs.declared.geometry.Geometry.{Geometry}
 use Rattle.nv_base.specs.declared.instance.DeviceNumber.{DeviceNumber}
 use Rattle.nv_base.specs.Held.{Held}
-use Rattle.memif.specs.declared.answer.DeviceTurn.TheVariants as turn
 use Rattle.fls_model.specs.declared.flash.FlashAnswer.{FlashAnswer}
 use Rattle.fls_model.specs.declared.flash.FlashAnswer.TheVariants.{Done, Failed, Off}
 use Rattle.fls_model.specs.Op.{Op, MayLeave}
@@ -19,7 +17,6 @@ use Rattle.fee_image.specs.Log.{Log}
 use Rattle.fee_image.specs.May.{May}
 use Rattle.fee_image.specs.Banks.{Phase, Copying}
 use Rattle.fee_image.specs.Copies.{Flag, copied_of}
-use Rattle.fee_format.specs.Formats.{new_format}
 use Rattle.fee_image.proofs.Copies.{marking_holds}
 use Rattle.fee_log.specs.Log.{LogState, log_of, work_in}
 use Rattle.fee_course.specs.declared.course.Course.{Course}
@@ -34,8 +31,7 @@ use Rattle.fee_told.specs.Kept.{IsKept}
 use Rattle.fee_told.proofs.Kept.{copies_widen}
 use Rattle.fee_laws.specs.Copied.{flags_of, IsCopying}
 use Rattle.fee_laws.specs.Inside.{Parts, memory_of, body_of, flags_in, ShowsCopies}
-use Rattle.fee_laws.specs.Turn.{operated, Turned}
-use Rattle.fee_laws.specs.Switches.{IsStepping, step_op}
+use Rattle.fee_laws.specs.Switches.{IsStepping, step_op, StepTurned}
 use Rattle.fee_laws.proofs.SwitchShown.{settled_copying, roomy}
 use Rattle.std.specs.List.{All}
 use Rattle.std.specs.Prelude.{◌&&◌}
@@ -64,7 +60,7 @@ use Rattle.fee_course.specs.Course.{flag_due, page_done}
 use Rattle.fee_switch_laws.specs.Flags.{CopiesOrNot}
 use Rattle.fee_switch.specs.Banks.{flagged_by, flagged_at}
 use Rattle.fee_switch_laws.specs.KeepsRoom.{IsOpenCopy, IsTargetLog}
-use Rattle.fee_laws.specs.Switches.{failed_with, copy_op_of}
+use Rattle.fee_laws.specs.Switches.{copy_op_of}
 use Rattle.fee_laws.proofs.Tails.{tailed, shown, page_goes_on, page_commits}
 use Rattle.fee_image.specs.Banks.{Old}
 use Rattle.fee_switch_laws.specs.Shown.{old_shown}
@@ -72,8 +68,9 @@ use Rattle.fee_laws.proofs.SwitchNearer.{Seals}
 use Rattle.fee_laws.proofs.SwitchKinds.{done_by}
 use Rattle.fee_laws.proofs.SwitchShown.{flags_hidden}
 use Rattle.fee_laws.proofs.SwitchPage.{settled_same, torn, cutting, page_failed, page_cut}
-use Rattle.fee_laws.proofs.SwitchCopy.{L, q, page, op_of_is, size, inside, not_gate, done_kept, flags_marked, open_any}
+use Rattle.fee_laws.proofs.SwitchCopy.{L, q, page, op_of_is, size, inside, not_gate, done_kept, IsOver, copies_over, open_any}
 use Rattle.fee_laws.proofs.Figures.{and_false}
+use Rattle.fee_laws.proofs.Beside.{flags_set}
 
 -- ITS LAST PAGE
 pub last_is : (done pages total : ℕ) → done + pages ≡ total → (done + 1 == total) ≡ (pages == 1)
@@ -111,7 +108,7 @@ flag_set log i n true at = ap (flagged_at log) at
 flag_set log i n false at = refl
 
 flags_if : (ns : List (DeviceNumber × ℕ)) (ps : List Place) (flags : List Bool) (held : List Held) (number : ℕ) (b : Bool) → flags_of ns ps (if b then with_flag ns flags number true else flags) held ≡ marked_if b number (flags_of ns ps flags held)
-flags_if ns ps flags held number true = flags_marked ns ps flags held number
+flags_if ns ps flags held number true = flags_set ns ps flags held number true
 flags_if ns ps flags held number false = refl
 
 page_phase : (ns : List (DeviceNumber × ℕ)) (ps : List Place) (cs : List Bool) (w : InWork) (b : BanksState) (x : List ℕ) → phase_at (page_done ns ps cs w) b x ≡ Copying (log_of b.copies x)
@@ -155,20 +152,8 @@ module _ (m : Making) (entry : Told) (s : Parts) (listed : List (DeviceNumber ×
   body_is : body ≡ take h.length s.banks.buffer
   body_is = ap (λ (o : Option RecHead). body_of o s.banks.buffer) work
 
-  pub geo : k.geometry ≡ m.geometry
-  geo = is.on.banks.copies.shape ∙ is.on.sound.made_for.banks_geometry
-
-  pub banks_are : k.banks ≡ m.banks
-  banks_are = is.on.banks.copies.shared ∙ is.on.sound.made_for.shared
-
-  pub bank : k.bank ≡ s.banks.target
-  bank = is.on.banks.target_log
-
-  pub format : k.format ≡ new_format
-  format = target.format
-
-  pub numbers : k.numbers ≡ m.numbers
-  numbers = is.on.banks.numbers ∙ is.on.sound.made_for.numbers
+  pub over : IsOver m s k
+  over = copies_over m s is.on.sound.made_for is.on.banks target.format
 
   pub small : All (λ x. x < 256) body
   small = subst (All (λ (x : ℕ). x < 256)) (sym body_is) (All-take (λ (x : ℕ). x < 256) h.length s.banks.buffer is.bytes)
@@ -179,8 +164,8 @@ module _ (m : Making) (entry : Told) (s : Parts) (listed : List (DeviceNumber ×
   op_body : op ≡ op_of k body
   op_body = ap (copy_op_of s.banks) work ∙ ap (op_of k) (sym body_is)
 
-  pub op_is : op ≡ program_of l s.banks.target (q m entry s listed kept count c made answer f is k body h done tail is.copies geo banks_are bank format numbers small) (page m entry s listed kept count c made answer f is k body h done tail is.copies geo banks_are bank format numbers small)
-  op_is = op_body ∙ op_of_is m entry s listed kept count c made answer f is k body h done tail is.copies geo banks_are bank format numbers small
+  pub op_is : op ≡ program_of l s.banks.target (q m entry s listed kept count c made answer f is k body h done tail is.copies over small) (page m entry s listed kept count c made answer f is k body h done tail is.copies over small)
+  op_is = op_body ∙ op_of_is m entry s listed kept count c made answer f is k body h done tail is.copies over small
 
   pub step : IsStep op s.fls.flash answer f.flash
   step = subst (λ (o : Op). IsStep o s.fls.flash answer f.flash) (sym (ap (copy_op_of s.banks) work)) (is.makes.0 h work)
@@ -190,7 +175,7 @@ module _ (m : Making) (entry : Told) (s : Parts) (listed : List (DeviceNumber ×
 
   -- WHERE IT IS DONE
   abbrev N : Log
-  N = log_done l.page m.numbers (L m entry s listed kept count c made answer f is k body h done tail is.copies geo banks_are bank format numbers small)
+  N = log_done l.page m.numbers (L m entry s listed kept count c made answer f is k body h done tail is.copies over small)
 
   pages_at : (p : ℕ) → p ≡ s.banks.geometry.page → done + w.pages ≡ pages_of_head p h
   pages_at p same = subst (λ (x : ℕ). done + w.pages ≡ pages_of_head x h) (sym same) here.pages
@@ -205,7 +190,7 @@ module _ (m : Making) (entry : Told) (s : Parts) (listed : List (DeviceNumber ×
   shown_is : shown (after_step k Done) s.banks.buffer ≡ N
   shown_is =
       subst (λ (t : Tail). shown (after_step (tailed k t) Done) s.banks.buffer ≡ log_done k.geometry.page k.numbers (shown (tailed k t) s.banks.buffer)) (sym tail) (shown_by (is_last k.geometry.page h done) refl)
-      ∙ (λ i. log_done (geo i).page (numbers i) (log_of k body))
+      ∙ (λ i. log_done (over.geometry i).page (over.numbers i) (log_of k body))
 
   abbrev pub set : LogState
   set = flagged_by s.banks.log (flag_due c)
@@ -251,9 +236,9 @@ module _ (m : Making) (entry : Told) (s : Parts) (listed : List (DeviceNumber ×
 
   flags_then : (old new : List ℕ) → ShowsCopies m s c old → MayLeave op old new → fs' new ≡ marked_if sets_now h.number (fs old)
   flags_then old new shows leaves =
-      let settled' = settled_same m entry s listed kept count c made answer f is op step (q m entry s listed kept count c made answer f is k body h done tail is.copies geo banks_are bank format numbers small)
-      (page m entry s listed kept count c made answer f is k body h done tail is.copies geo banks_are bank format numbers small) op_is (size m entry s listed kept count c made answer f is k body h done tail is.copies geo banks_are bank format numbers small)
-      (inside m entry s listed kept count c made answer f is k body h done tail is.copies geo banks_are bank format numbers small) old new (copied_of (fs old)) shows.held leaves in
+      let settled' = settled_same m entry s listed kept count c made answer f is op step (q m entry s listed kept count c made answer f is k body h done tail is.copies over small)
+      (page m entry s listed kept count c made answer f is k body h done tail is.copies over small) op_is (size m entry s listed kept count c made answer f is k body h done tail is.copies over small)
+      (inside m entry s listed kept count c made answer f is k body h done tail is.copies over small) old new (copied_of (fs old)) shows.held leaves in
       let held = settled_in l m.numbers old mem.old in
       let same : settled_in l m.numbers new old' ≡ held = ap (settled_in l m.numbers new) old_is ∙ settled' in
       let set_flags : set.flags ≡ (if sets_now then with_flag m.numbers s.banks.log.flags h.number true else s.banks.log.flags) =
@@ -272,7 +257,7 @@ module _ (m : Making) (entry : Told) (s : Parts) (listed : List (DeviceNumber ×
   kept_then old new shows leaves left =
       let cop = copied_of (fs old) in
       let held' = subst (λ (x : Phase). IsHeld l m.numbers old (record mem { phase = x }) cop) phase shows.held in
-      let first = done_kept m entry s listed kept count c made answer f is k body h done tail is.copies geo banks_are bank format numbers small old new cop held'
+      let first = done_kept m entry s listed kept count c made answer f is k body h done tail is.copies over small old new cop held'
       (subst (λ (o : Op). MayLeave o old new) op_body leaves) (subst (λ (o : Op). Leaves o Done old new) op_body left) in
       let held_if = subst (λ (x : May). IsHeld l m.numbers new (record mem { phase = Copying N }) x) (may_is cop) first.held in
       let copies = subst (λ (x : List ℕ). CopiesOrNot w.sets h x (fs old)) (sym body_is) (copy_was old shows).0 in
@@ -307,29 +292,29 @@ module _ (m : Making) (entry : Told) (s : Parts) (listed : List (DeviceNumber ×
 
   module _ (answer : FlashAnswer) (is : IsStepping m entry s listed kept count (Copy (Some w)) made answer f) where
     abbrev q' : ℕ
-    q' = q m entry s listed kept count at made answer f is (k m entry s listed kept count w made answer f is) (body m entry s listed kept count w made answer f is) (h m entry s listed kept count w made answer f is) (done m entry s listed kept count w made answer f is) (tail m entry s listed kept count w made answer f is) is.copies (geo m entry s listed kept count w made answer f is) (banks_are m entry s listed kept count w made answer f is) (bank m entry s listed kept count w made answer f is) (format m entry s listed kept count w made answer f is) (numbers m entry s listed kept count w made answer f is) (small m entry s listed kept count w made answer f is)
+    q' = q m entry s listed kept count at made answer f is (k m entry s listed kept count w made answer f is) (body m entry s listed kept count w made answer f is) (h m entry s listed kept count w made answer f is) (done m entry s listed kept count w made answer f is) (tail m entry s listed kept count w made answer f is) is.copies (over m entry s listed kept count w made answer f is) (small m entry s listed kept count w made answer f is)
 
     abbrev page' : List ℕ
-    page' = page m entry s listed kept count at made answer f is (k m entry s listed kept count w made answer f is) (body m entry s listed kept count w made answer f is) (h m entry s listed kept count w made answer f is) (done m entry s listed kept count w made answer f is) (tail m entry s listed kept count w made answer f is) is.copies (geo m entry s listed kept count w made answer f is) (banks_are m entry s listed kept count w made answer f is) (bank m entry s listed kept count w made answer f is) (format m entry s listed kept count w made answer f is) (numbers m entry s listed kept count w made answer f is) (small m entry s listed kept count w made answer f is)
+    page' = page m entry s listed kept count at made answer f is (k m entry s listed kept count w made answer f is) (body m entry s listed kept count w made answer f is) (h m entry s listed kept count w made answer f is) (done m entry s listed kept count w made answer f is) (tail m entry s listed kept count w made answer f is) is.copies (over m entry s listed kept count w made answer f is) (small m entry s listed kept count w made answer f is)
 
     size' : length page' ≡ m.geometry.page
-    size' = size m entry s listed kept count at made answer f is (k m entry s listed kept count w made answer f is) (body m entry s listed kept count w made answer f is) (h m entry s listed kept count w made answer f is) (done m entry s listed kept count w made answer f is) (tail m entry s listed kept count w made answer f is) is.copies (geo m entry s listed kept count w made answer f is) (banks_are m entry s listed kept count w made answer f is) (bank m entry s listed kept count w made answer f is) (format m entry s listed kept count w made answer f is) (numbers m entry s listed kept count w made answer f is) (small m entry s listed kept count w made answer f is)
+    size' = size m entry s listed kept count at made answer f is (k m entry s listed kept count w made answer f is) (body m entry s listed kept count w made answer f is) (h m entry s listed kept count w made answer f is) (done m entry s listed kept count w made answer f is) (tail m entry s listed kept count w made answer f is) is.copies (over m entry s listed kept count w made answer f is) (small m entry s listed kept count w made answer f is)
 
     inside' : q' < (banks_of m).pages
-    inside' = inside m entry s listed kept count at made answer f is (k m entry s listed kept count w made answer f is) (body m entry s listed kept count w made answer f is) (h m entry s listed kept count w made answer f is) (done m entry s listed kept count w made answer f is) (tail m entry s listed kept count w made answer f is) is.copies (geo m entry s listed kept count w made answer f is) (banks_are m entry s listed kept count w made answer f is) (bank m entry s listed kept count w made answer f is) (format m entry s listed kept count w made answer f is) (numbers m entry s listed kept count w made answer f is) (small m entry s listed kept count w made answer f is)
+    inside' = inside m entry s listed kept count at made answer f is (k m entry s listed kept count w made answer f is) (body m entry s listed kept count w made answer f is) (h m entry s listed kept count w made answer f is) (done m entry s listed kept count w made answer f is) (tail m entry s listed kept count w made answer f is) is.copies (over m entry s listed kept count w made answer f is) (small m entry s listed kept count w made answer f is)
 
     not_gate' : q' ≡ 1 → ⊥
-    not_gate' = not_gate m entry s listed kept count at made answer f is (k m entry s listed kept count w made answer f is) (body m entry s listed kept count w made answer f is) (h m entry s listed kept count w made answer f is) (done m entry s listed kept count w made answer f is) (tail m entry s listed kept count w made answer f is) is.copies (geo m entry s listed kept count w made answer f is) (banks_are m entry s listed kept count w made answer f is) (bank m entry s listed kept count w made answer f is) (format m entry s listed kept count w made answer f is) (numbers m entry s listed kept count w made answer f is) (small m entry s listed kept count w made answer f is)
+    not_gate' = not_gate m entry s listed kept count at made answer f is (k m entry s listed kept count w made answer f is) (body m entry s listed kept count w made answer f is) (h m entry s listed kept count w made answer f is) (done m entry s listed kept count w made answer f is) (tail m entry s listed kept count w made answer f is) is.copies (over m entry s listed kept count w made answer f is) (small m entry s listed kept count w made answer f is)
 
     abbrev log' : Log
     log' = log_of (k m entry s listed kept count w made answer f is) (body m entry s listed kept count w made answer f is)
 
-  pub copy_failed : IsStepping m entry s listed kept count at made Failed f → Turned m entry turn.Worked s (failed_with s.job (operated (step_op s.banks at) Failed f (after_answer made at Failed) s)) listed kept (next_count count) false
+  pub copy_failed : IsStepping m entry s listed kept count at made Failed f → StepTurned Failed m entry s listed kept count at made f
   copy_failed is =
       page_failed m entry s listed kept count at made f (step_op s.banks at) (q' Failed is) (page' Failed is) (op_is m entry s listed kept count w made Failed f is) (size' Failed is) (inside' Failed is) (log' Failed is)
       (phase m entry s listed kept count w made Failed f is) (not_gate' Failed is) is (step m entry s listed kept count w made Failed f is) (λ i. after_answer (sym is.makes.1 i) at Failed)
 
-  pub copy_cut : IsStepping m entry s listed kept count at made Off f → Turned m entry turn.Off s (operated (step_op s.banks at) Off f (after_answer made at Off) s) listed kept (next_count count) true
+  pub copy_cut : IsStepping m entry s listed kept count at made Off f → StepTurned Off m entry s listed kept count at made f
   copy_cut is =
       page_cut m entry s listed kept count at made f (step_op s.banks at) (q' Off is) (page' Off is) (op_is m entry s listed kept count w made Off f is) (size' Off is) (inside' Off is) (log' Off is)
       (phase m entry s listed kept count w made Off f is) (not_gate' Off is) is (step m entry s listed kept count w made Off f is) s.banks.copies (sym is.makes.1)
@@ -342,7 +327,7 @@ module _ (m : Making) (entry : Told) (s : Parts) (listed : List (DeviceNumber ×
   seals : (is : IsStepping m entry s listed kept count at made Done f) → Seals at (next m entry s listed kept count w made Done f is)
   seals is = record { takes = λ more. refl; nearer = λ some'. absurd (omega arith) }
 
-  pub copy_done : IsStepping m entry s listed kept count at made Done f → Turned m entry turn.Worked s (operated (step_op s.banks at) Done f (after_answer made at Done) s) listed kept (next_count count) false
+  pub copy_done : IsStepping m entry s listed kept count at made Done f → StepTurned Done m entry s listed kept count at made f
   copy_done is =
       done_by m entry s listed kept count at made f is tt (step_op s.banks at) (step m entry s listed kept count w made Done f is)
       (torn m entry s listed kept count at made Done f is (step_op s.banks at) (step m entry s listed kept count w made Done f is) (q' Done is) (page' Done is) (op_is m entry s listed kept count w made Done f is) (size' Done is) (inside' Done is) (log' Done is) (phase m entry s listed kept count w made Done f is) (not_gate' Done is))

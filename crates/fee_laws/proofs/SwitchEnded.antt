@@ -7,9 +7,9 @@ use Rattle.nv_base.specs.Geometry.{sectors_of_bank}
 use Rattle.nv_base.specs.declared.instance.DeviceNumber.{DeviceNumber}
 use Rattle.memif.specs.declared.answer.DeviceTurn.TheVariants as turn
 use Rattle.memif.specs.declared.answer.JobResult.TheVariants.{JobFailed}
-use Rattle.memif.specs.Told.{First, Job, Stand, Open, Ended, is_open}
+use Rattle.memif.specs.Told.{Job, Stand, Open, Ended}
 use Rattle.memif.specs.Marks.{KeepsAll}
-use Rattle.memif.specs.Calls.{Works, IsOf, JobTurns, Nearer, TurnsReady, is_read, urgent_first}
+use Rattle.memif.specs.Calls.{Nearer, TurnsReady, urgent_first}
 use Rattle.fls_model.specs.declared.flash.FlashAnswer.TheVariants.{Done}
 use Rattle.fls_model.specs.Op.{Op}
 use Rattle.fls_model.specs.Step.{IsStep}
@@ -25,11 +25,10 @@ use Rattle.fee_format.specs.declared.rec_head.RecHead.{RecHead}
 use Rattle.nv_base.specs.declared.job.DeviceOp.TheVariants.{Read}
 use Rattle.fee_switch_laws.specs.KeepsRoom.{KeepsRoom}
 use Rattle.fee_switch_laws.specs.Space.{free_pages}
-use Rattle.fee_switch_laws.specs.Shown.{phase_shown}
 use Rattle.fee_switch_laws.proofs.RoomSteps.{records_have_room, steps_keep_room, switches_make_room}
 use Rattle.promise_device.specs.Making.{Making, banks_of}
 use Rattle.fee_told.specs.Slots.{Memory}
-use Rattle.fee_told.specs.Device.{Device, told_of, is_switching}
+use Rattle.fee_told.specs.Device.{Device, told_of}
 use Rattle.fee_told.specs.Clock.{clock_of}
 use Rattle.fee_told.specs.Figures.{Work, turns_owed, wait_of}
 use Rattle.fee_told.specs.FigureLaws.{IsWork}
@@ -38,15 +37,15 @@ use Rattle.fee_told.proofs.Switches.{gates_end}
 use Rattle.fee_told.proofs.Whole.{kept_is_told}
 use Rattle.fee_laws.specs.declared.job.FeeJob.{FeeJob}
 use Rattle.fee_laws.specs.Inside.{Parts, body_of, device_of, mark_of, stand_of, fixed_in, IsAtWork}
-use Rattle.fee_laws.specs.Record.{IsInWork, IsReady, IsJobOf}
+use Rattle.fee_laws.specs.Record.{IsReady, IsJobOf}
 use Rattle.fee_laws.specs.Work.{work_of, waits_of, pages_free, begins_next, seal_turns, switch_turns, turns_before, is_owed}
 use Rattle.fee_laws.specs.Turn.{Turned, operated}
-use Rattle.fee_laws.specs.Switches.{IsStepping, IsBehind}
+use Rattle.fee_laws.specs.Switches.{IsStepping, IsBehind, StepTurned}
 use Rattle.fee_laws.proofs.Before.{power}
-use Rattle.fee_laws.proofs.Order.{first_of, urgent_is}
-use Rattle.fee_laws.proofs.Operation.{part_works, ticks}
-use Rattle.fee_laws.proofs.Behind.{Facts, order, sound}
-use Rattle.fee_laws.proofs.SwitchFigures.{NoneBegins, switch_none, no_mark, has_mark}
+use Rattle.fee_laws.proofs.Order.{urgent_is}
+use Rattle.fee_laws.proofs.Behind.{Facts}
+use Rattle.fee_laws.proofs.Turning.{worked}
+use Rattle.fee_laws.proofs.SwitchFigures.{NoneBegins, switch_none, no_mark}
 use Rattle.std.specs.Prelude.{Contains, length}
 use Rattle.std.proofs.Common.{◌==◌, ◌∷◌}
 use Rattle.std.proofs.lemmas.Bool.{cond_both, eqb-true, eqb-false}
@@ -90,11 +89,12 @@ use Rattle.fee_laws.specs.Switches.{step_op}
 use Rattle.fee_laws.proofs.Operation.{run, left, before_told, started}
 use Rattle.fee_laws.proofs.Behind.{held_behind}
 use Rattle.fee_laws.proofs.Switching.{asked, not_worn, keeps, shows, may_in}
-use Rattle.fee_laws.proofs.SwitchNearer.{nothing_by, switching_by, each_job, both_jobs}
+use Rattle.fee_laws.proofs.SwitchNearer.{switch_is_open, all_write, no_read, turns_keep, each_job, both_jobs}
 use Rattle.fee_laws.proofs.SwitchShown.{roomy, standing}
 use Rattle.fee_laws.proofs.SwitchHead.{next_is}
 use Rattle.fee_laws.proofs.SwitchGate.{op, log, phase, step, page_leaves, cutting, stood as gate_stood}
 use Rattle.fee_laws.proofs.GoneOn.{if_else}
+use Rattle.fee_laws.proofs.Appended.{idle_at_work}
 
 -- THE NEXT TARGET
 pub target_other : (target banks : ℕ) → target < banks → 2 ≤ banks → let next = if target + 1 == banks then 0 else target + 1 in (next < banks) × (next ≡ target → ⊥)
@@ -149,9 +149,6 @@ module _ (m : Making) (entry : Told) (s : Parts) (listed : List (DeviceNumber ×
   abbrev c : Course
   c = Gate doubtful
 
-  abbrev mem : Memory
-  mem = memory_of s
-
   abbrev l : Layout
   l = banks_of m
 
@@ -165,7 +162,7 @@ module _ (m : Making) (entry : Told) (s : Parts) (listed : List (DeviceNumber ×
   asks = asked m entry s listed kept count c made Done f is o stepped
 
   keep : CutsKeep o (device_of m entry s)
-  keep = keeps m entry s listed kept count c made Done f is o stepped mem (cutting m entry s listed kept count doubtful made f Done is)
+  keep = keeps m entry s listed kept count c made Done f is o stepped (memory_of s) (cutting m entry s listed kept count doubtful made f Done is)
 
   abbrev pub b : BanksState
   b = ended s.banks
@@ -204,7 +201,7 @@ module _ (m : Making) (entry : Told) (s : Parts) (listed : List (DeviceNumber ×
       (subst (λ (n : ℕ). next < n) is.on.sound.made_for.shared ok.0, ok.1)
 
   abbrev then' : Memory
-  then' = record { old = OldBank s.banks.target (next_head mem.old) was; target = next; phase = Idle; stand = mem.stand }
+  then' = record { old = OldBank s.banks.target (next_head (memory_of s).old) was; target = next; phase = Idle; stand = (memory_of s).stand }
 
   log_path : log_of s.banks.copies (body_of (work_in s.banks.copies.tail) s.content) ≡ was
   log_path =
@@ -217,16 +214,16 @@ module _ (m : Making) (entry : Told) (s : Parts) (listed : List (DeviceNumber ×
     old = OldBank s.banks.target (record { format = new_format; generation = sym (next_is s.banks.active s.banks.log (body_of (work_in s.banks.log.tail) s.content)) i }) (sym log_path i);
     target = next;
     phase = Idle;
-    stand = mem.stand;
+    stand = (memory_of s).stand;
   }
 
-  kept_at : (old new : List ℕ) → bytes_now s.fls.flash ≡ Some old → bytes_now f.flash ≡ Some new → IsTrue (tells d) → IsKept l m.numbers old new mem (memory_of t) (copied_of (flags_in m s old))
+  kept_at : (old new : List ℕ) → bytes_now s.fls.flash ≡ Some old → bytes_now f.flash ≡ Some new → IsTrue (tells d) → IsKept l m.numbers old new (memory_of s) (memory_of t) (copied_of (flags_in m s old))
   kept_at old new at_old at_new told =
       let both = left m entry s listed kept count is.on o Done f is.drives asks old new at_old at_new in
       let cop = copied_of (flags_in m s old) in
       let sh = shows m entry s listed kept count c made Done f is o stepped old at_old told in
-      subst (λ (x : Memory). IsKept l m.numbers old new mem x cop) memory_is
-      (gates_end l m.numbers old new mem cop was next (standing m entry s listed kept count c made Done f is old cop sh.held) (phase m entry s listed kept count doubtful made f Done is) open'
+      subst (λ (x : Memory). IsKept l m.numbers old new (memory_of s) x cop) memory_is
+      (gates_end l m.numbers old new (memory_of s) cop was next (standing m entry s listed kept count c made Done f is old cop sh.held) (phase m entry s listed kept count doubtful made f Done is) open'
       (page_leaves m entry s listed kept count doubtful made f Done is old new both.0) (gate_stood m entry s listed kept count doubtful made f Done is old new sh both.0 both.1) next_ok.0 next_ok.1)
 
   abbrev more : May
@@ -243,7 +240,7 @@ module _ (m : Making) (entry : Told) (s : Parts) (listed : List (DeviceNumber ×
 
   keeping : KeepsAll (told_of d) (told_of e)
   keeping = kept_is_told d e more (started m entry s listed kept count is.on o Done f is.drives asks keep b s.job s.last s.given run_then)
-      (λ old new told. subst (λ (x : May). IsKept l m.numbers old new mem (memory_of t) x) (sym (more_is old told.1)) (kept_at old new told.1 told.2 told.0))
+      (λ old new told. subst (λ (x : May). IsKept l m.numbers old new (memory_of s) (memory_of t) x) (sym (more_is old told.1)) (kept_at old new told.1 told.2 told.0))
 
   -- THE ROOM
   was_room : KeepsRoom m.reserve s.banks
@@ -259,7 +256,7 @@ module _ (m : Making) (entry : Told) (s : Parts) (listed : List (DeviceNumber ×
   was_at_work = is.on.sound.works is.on.started
 
   writes : IfSome s.job (λ j. j.op ≢ Read)
-  writes = each_job (IsBehind s.banks) (λ j. j.op ≢ Read) s.job (λ j x. x.0) is.behind
+  writes = all_write s.banks s.job is.behind
 
   numbers : b.log.numbers ≡ m.numbers
   numbers = is.on.banks.numbers ∙ is.on.sound.made_for.numbers
@@ -384,13 +381,7 @@ module _ (m : Making) (entry : Told) (s : Parts) (listed : List (DeviceNumber ×
       }
 
   at_work_then : IsAtWork m t
-  at_work_then = record {
-    active = behind_switch.format;
-    job = was_at_work.job;
-    work = subst (λ (x : Option RecHead). IfSome x (IsInWork b s.job)) (sym idle_then) tt;
-    ready = both_jobs (IsJobOf m.numbers) (λ j. j.op ≢ Read) (IsReady b) s.job ready_by was_at_work.job writes;
-    switch = behind_switch.clear;
-  }
+  at_work_then = idle_at_work m t idle_then behind_switch.format was_at_work.job (both_jobs (IsJobOf m.numbers) (λ j. j.op ≢ Read) (IsReady b) s.job ready_by was_at_work.job writes) behind_switch.clear
 
   facts : Facts m entry s listed kept count is.on o Done f is.drives asks b s.job s.last s.given
   facts = record {
@@ -429,43 +420,14 @@ module _ (m : Making) (entry : Told) (s : Parts) (listed : List (DeviceNumber ×
       (λ urgent x wait. (let near = urgent_by s.job was_at_work.ready none_before urgent x wait in (ready_on, near.0, near.1)))
       (λ calm'. ready_on)
 
-  of_by : (o' : Option FeeJob) → IsOf First (fixed_in m) (at o')
-  of_by None = tt
-  of_by (Some j) = (tt, sym (first_of m j.number.0))
-
-  turns_by : (o' : Option FeeJob) → KeepsAll (told_of d) (told_of e) → (told_of e).left < (told_of d).left → JobTurns First (at o') (at o') (told_of d) (told_of e) (clock_of e)
-  turns_by None keeps' less = (refl, keeps')
-  turns_by (Some j) keeps' less = (refl, keeps', less)
-
-  no_read : (o' : Option FeeJob) → IfSome o' (λ j. j.op ≢ Read) → is_read (at o') ≡ false
-  no_read None w' = refl
-  no_read (Some j) w' = has_mark j.op (take j.length s.content) w'
-
-  works : Works First (told_of d) (told_of e) (clock_of e)
-  works = record {
-    only = refl;
-    up = is.on.started;
-    of = of_by s.job;
-    part = part_works m entry s listed kept count is.on o Done f is.drives asks keep b s.job s.last s.given (λ off. cc off);
-    job = turns_by s.job keeping falls;
-    read = λ read. (let none = no_read s.job writes in absurd (let z : true ≡ false = sym read ∙ none in cc z));
+  ended_now : Turned m entry turn.Worked s t listed kept (next_count count) false
+  ended_now = worked m entry s listed kept count is.on o Done f is.drives asks b s.job s.last s.given keep (λ off. cc off) refl asks.cause.2 facts (record {
+    something = switch_is_open m entry s c is.on.started is.course;
+    no_read = no_read s.content s.job s.last s.given writes;
+    job_turns = turns_keep s.content s.job s.last s.given (told_of d) (told_of e) (clock_of e) keeping falls;
     nearer = inl falls;
     ready = readies;
-  }
+  })
 
-  switching : (told_of d).switching ≡ true
-  switching =
-      let body = body_of (work_in s.banks.copies.tail) s.banks.buffer in
-      (λ i. is.on.started i && is_switching (phase_shown (is.course i) s.banks body)) ∙ switching_by c s.banks body
-
-  ended_now : Turned m entry turn.Worked s t listed kept (next_count count) false
-  ended_now = record {
-    turns = (
-      (nothing_by (is_open (at s.job)) (told_of d).switching switching, (First, works, ticks m entry s listed kept count is.on o Done f is.drives asks keep b s.job s.last s.given)),
-      order m entry s listed kept count is.on o Done f is.drives asks b s.job s.last s.given facts,
-    );
-    sound = sound m entry s listed kept count is.on o Done f is.drives asks b s.job s.last s.given facts false (sym asks.cause.2);
-  }
-
-  pub gate_done : Turned m entry turn.Worked s (operated (step_op s.banks c) Done f (after_answer made c Done) s) listed kept (next_count count) false
+  pub gate_done : StepTurned Done m entry s listed kept count c made f
   gate_done = subst (λ (x : BanksState). Turned m entry turn.Worked s (operated (step_op s.banks c) Done f x s) listed kept (next_count count) false) b_is ended_now

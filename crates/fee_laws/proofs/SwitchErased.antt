@@ -1,8 +1,6 @@
 -- The turns of an erase of the target, done, failed and cut.
-use Rattle.std.proofs.Common.{◌≡◌, ℕ, true, false, List, Some, None, refl, sym, ◌∙◌, subst, arith}
-use Rattle.nv_base.specs.Count.{next_count}
+use Rattle.std.proofs.Common.{◌≡◌, ℕ, List, Some, None, refl, sym, ◌∙◌, subst, arith}
 use Rattle.nv_base.specs.declared.instance.DeviceNumber.{DeviceNumber}
-use Rattle.memif.specs.declared.answer.DeviceTurn.TheVariants as turn
 use Rattle.fls_model.specs.declared.flash.FlashAnswer.TheVariants.{Done, Failed, Off}
 use Rattle.fls_model.specs.Told.{Told}
 use Rattle.fls_jobs.specs.State.{FlsState}
@@ -10,14 +8,13 @@ use Rattle.fee_image.specs.Copies.{copied_of}
 use Rattle.fee_log.specs.Log.{work_in}
 use Rattle.fee_course.specs.declared.course.Course.{Course}
 use Rattle.fee_course.specs.declared.course.Course.TheVariants.{Erase}
-use Rattle.fee_switch.specs.Banks.{BanksState, after_answer}
+use Rattle.fee_switch.specs.Banks.{BanksState}
 use Rattle.fee_switch_laws.specs.Shown.{phase_shown}
 use Rattle.promise_device.specs.Making.{Making, banks_of}
 use Rattle.fee_told.specs.Slots.{Memory}
 use Rattle.fee_told.specs.Kept.{IsKept}
 use Rattle.fee_laws.specs.Inside.{Parts, memory_of, body_of, flags_in, stand_of}
-use Rattle.fee_laws.specs.Turn.{operated, Turned}
-use Rattle.fee_laws.specs.Switches.{IsStepping, step_op, failed_with}
+use Rattle.fee_laws.specs.Switches.{IsStepping, step_op, StepTurned}
 use Rattle.fee_laws.proofs.SwitchFailed.{last_by, given_by, stand_goes}
 use Rattle.fee_laws.proofs.SwitchErase.{step, cutting, next, b_is, went, again_is, failed, target}
 use Rattle.fee_laws.proofs.SwitchKinds.{done_by, failed_by, cut_by}
@@ -26,14 +23,14 @@ module _ (m : Making) (entry : Told) (s : Parts) (listed : List (DeviceNumber ×
   abbrev c : Course
   c = Erase n
 
-  pub erase_done : IsStepping m entry s listed kept count c made Done f → Turned m entry turn.Worked s (operated (step_op s.banks c) Done f (after_answer made c Done) s) listed kept (next_count count) false
+  pub erase_done : IsStepping m entry s listed kept count c made Done f → StepTurned Done m entry s listed kept count c made f
   erase_done is =
       done_by m entry s listed kept count c made f is tt (step_op s.banks c) (step m entry s listed kept count n made Done f is) (memory_of s) (cutting m entry s listed kept count n made Done f is)
       (next m entry s listed kept count n made Done f is) s.banks.log.flags s.banks.copies (b_is m entry s listed kept count n made Done f is)
       (record { takes = λ more. refl; nearer = λ some. absurd (omega arith) })
       (λ old new shows leaves left. (let both = went m entry s listed kept count n made Done f is old new shows leaves left in record { kept_all = both.0; copying = both.1 }))
 
-  pub erase_failed : IsStepping m entry s listed kept count c made Failed f → Turned m entry turn.Worked s (failed_with s.job (operated (step_op s.banks c) Failed f (after_answer made c Failed) s)) listed kept (next_count count) false
+  pub erase_failed : IsStepping m entry s listed kept count c made Failed f → StepTurned Failed m entry s listed kept count c made f
   erase_failed is =
       let empty = target m entry s listed kept count n made Failed f is in
       let body = body_of (work_in s.banks.copies.tail) s.banks.buffer in
@@ -48,7 +45,7 @@ module _ (m : Making) (entry : Told) (s : Parts) (listed : List (DeviceNumber ×
         copying = tt;
       }))
 
-  pub erase_cut : IsStepping m entry s listed kept count c made Off f → Turned m entry turn.Off s (operated (step_op s.banks c) Off f (after_answer made c Off) s) listed kept (next_count count) true
+  pub erase_cut : IsStepping m entry s listed kept count c made Off f → StepTurned Off m entry s listed kept count c made f
   erase_cut is =
       cut_by m entry s listed kept count c made f is (step_op s.banks c) (step m entry s listed kept count n made Off f is) (memory_of s) (cutting m entry s listed kept count n made Off f is)
       s.banks.copies (sym is.makes.1) refl refl

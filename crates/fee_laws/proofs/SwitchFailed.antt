@@ -1,49 +1,45 @@
 -- The turn in which a step of a switch fails, and a job that waits with it.
-use Rattle.std.specs.Prelude.{IfSome, ◌&&◌, take}
-use Rattle.std.proofs.Common.{◌≡◌, ◌≢◌, inl, inr, ◌≤◌, ℕ, Bool, true, false, List, [], Option, Some, None, refl, sym, ◌∙◌, subst, arith}
+use Rattle.std.specs.Prelude.{IfSome, take}
+use Rattle.std.proofs.Common.{◌≡◌, ◌≢◌, inl, inr, ◌≤◌, ℕ, Bool, false, List, Option, Some, None, refl, arith}
 use Rattle.nv_base.specs.Count.{next_count}
 use Rattle.nv_base.specs.declared.instance.DeviceNumber.{DeviceNumber}
 use Rattle.memif.specs.declared.answer.DeviceTurn.TheVariants as turn
 use Rattle.memif.specs.declared.answer.JobResult.{JobResult}
 use Rattle.memif.specs.declared.answer.JobResult.TheVariants.{JobFailed}
-use Rattle.memif.specs.Told.{First, Stand, DeviceTold, is_open}
+use Rattle.memif.specs.Told.{First, DeviceTold}
 use Rattle.memif.specs.Clock.{Clock}
 use Rattle.memif.specs.Marks.{KeepsAll}
-use Rattle.memif.specs.Calls.{Works, JobTurns}
+use Rattle.memif.specs.Calls.{JobTurns}
 use Rattle.fls_model.specs.Op.{Op}
 use Rattle.fls_model.specs.Step.{IsStep}
 use Rattle.fls_model.specs.Told.{Told}
 use Rattle.fls_jobs.specs.State.{FlsState}
-use Rattle.fee_log.specs.Log.{LogState, work_in}
+use Rattle.fee_log.specs.Log.{LogState}
 use Rattle.fee_course.specs.declared.course.Course.{Course}
 use Rattle.fee_switch.specs.Banks.{BanksState}
-use Rattle.fee_format.specs.declared.rec_head.RecHead.{RecHead}
 use Rattle.nv_base.specs.declared.job.DeviceOp.TheVariants.{Read}
 use Rattle.fee_switch_laws.specs.KeepsRoom.{KeepsRoom}
-use Rattle.fee_switch_laws.specs.Shown.{phase_shown}
 use Rattle.promise_device.specs.Making.{Making}
 use Rattle.fee_told.specs.Slots.{Memory}
-use Rattle.fee_told.specs.Device.{Device, told_of, is_switching}
+use Rattle.fee_told.specs.Device.{told_of}
 use Rattle.fee_told.specs.Clock.{clock_of}
 use Rattle.fee_laws.specs.declared.job.FeeJob.{FeeJob}
-use Rattle.fee_laws.specs.Inside.{Parts, body_of, device_of, mark_of, stand_of, IsActiveOf, IsAtWork, HasSwitch}
-use Rattle.fee_laws.specs.Record.{IsInWork}
+use Rattle.fee_laws.specs.Inside.{Parts, device_of, stand_of, IsActiveOf, HasSwitch}
 use Rattle.fee_laws.specs.Turn.{Turned, operated}
-use Rattle.fee_laws.specs.Switches.{IsStepping, IsBehind}
-use Rattle.fee_laws.proofs.Operation.{part_works, ticks}
-use Rattle.fee_laws.proofs.Behind.{Facts, order, sound}
-use Rattle.fee_laws.proofs.SwitchFigures.{IsShaped, work_none}
+use Rattle.fee_laws.specs.Switches.{IsStepping}
+use Rattle.fee_laws.proofs.Operation.{rose_next}
+use Rattle.fee_laws.proofs.Behind.{Facts}
+use Rattle.fee_laws.proofs.Turning.{fails_as, worked}
+use Rattle.fee_laws.proofs.Appended.{idle_at_work}
+use Rattle.fee_laws.proofs.SwitchFigures.{work_none}
 use Rattle.fee_laws.proofs.Switching.{asked, not_worn, Cutting, keeps, run_on, Showing, behind, keeps_all, copies}
 use Rattle.nv_base.specs.Count.{Rose}
-use Rattle.nv_base.specs.declared.job.DeviceOp.{DeviceOp}
-use Rattle.nv_base.specs.declared.job.DeviceOp.TheVariants.{Write, Invalidate, Erase}
 use Rattle.memif.specs.declared.answer.JobResult.TheVariants.{JobPending}
-use Rattle.memif.specs.Calls.{EndsAs}
 use Rattle.fls_model.specs.declared.flash.FlashAnswer.TheVariants.{Failed}
 use Rattle.fee_told.specs.SlotLaws.{GoesOn}
 use Rattle.fee_laws.specs.Switches.{failed_with}
 use Rattle.fee_laws.proofs.Operation.{rose_next}
-use Rattle.fee_laws.proofs.SwitchNearer.{nothing_by, switching_by, each_job, is_of_first, no_read}
+use Rattle.fee_laws.proofs.SwitchNearer.{switch_is_open, all_write, no_read}
 
 -- THE JOB THAT WAITED
 abbrev pub last_by : Option FeeJob → JobResult → JobResult
@@ -71,13 +67,6 @@ pub stand_goes : (content : List ℕ) (o : Option FeeJob) (last : JobResult) (gi
 stand_goes content None last given = inl refl
 stand_goes content (Some j) last given = inr refl
 
--- a job that waited ends with a failure
-fails_as : (op : DeviceOp) (content : List ℕ) (number : ℕ) (old new : DeviceTold) → op ≢ Read → KeepsAll old new → EndsAs (mark_of op content) number JobFailed [] old new
-fails_as Read content number old new writes all = absurd (writes refl)
-fails_as Write content number old new writes all = (all, refl)
-fails_as Invalidate content number old new writes all = (all, refl)
-fails_as Erase content number old new writes all = (all, refl)
-
 pub turns_fail : (content : List ℕ) (o : Option FeeJob) (last : JobResult) (given : ℕ) (old new : DeviceTold) (clock : Clock) → IfSome o (λ j. j.op ≢ Read) → KeepsAll old new → Rose old.first.faults new.first.faults
     → JobTurns First (stand_of content o last given) (stand_of content None (last_by o last) (given_by o given)) old new clock
 turns_fail content None last given old new clock writes all rose = (refl, all)
@@ -87,9 +76,6 @@ module _ (m : Making) (entry : Told) (s : Parts) (listed : List (DeviceNumber ×
   abbrev pub b : BanksState
   b = record s.banks { course = Some c'; log = record s.banks.log { flags = flags }; copies = log }
 
-  abbrev d : Device
-  d = device_of m entry s
-
   abbrev pub last : JobResult
   last = last_by s.job s.last
 
@@ -98,9 +84,6 @@ module _ (m : Making) (entry : Told) (s : Parts) (listed : List (DeviceNumber ×
 
   abbrev pub t : Parts
   t = record (operated op Failed f b s) { job = None; last = last; given = given }
-
-  abbrev e : Device
-  e = device_of m entry t
 
   -- what its kind shows
   pub record Falls : Type 0 where
@@ -112,65 +95,31 @@ module _ (m : Making) (entry : Told) (s : Parts) (listed : List (DeviceNumber ×
     switch_then : HasSwitch b b.course
     switch_then = (falls.room.switch.worn, falls.room.switch.going)
 
-    at_work_then : IsAtWork m t
-    at_work_then = record {
-      active = falls.active;
-      job = tt;
-      work = subst (λ (o : Option RecHead). IfSome o (IsInWork b None)) (sym is.idle) tt;
-      ready = tt;
-      switch = switch_then;
-    }
-
-    shape : IsShaped m b
-    shape = record { geometry = is.on.sound.made_for.banks_geometry; shared = is.on.sound.made_for.shared; numbers = is.on.sound.made_for.numbers }
-
     facts : Facts m entry s listed kept count is.on op Failed f is.drives (asked m entry s listed kept count c made Failed f is op step) b None last given
     facts = record {
       ends = record { same = record { geometry = refl; banks = refl; numbers = refl }; ended = last_ends s.job s.last is.on.sound.made_for.ended; given_few = given_few s.job s.given is.on.sound.made_for.given };
       run = run_on m entry s listed kept count c made Failed f is op step torn cutting b c' refl None last given;
       behind = behind m entry s listed kept count c made Failed f is op step torn cutting b c' refl None last given falls.showing;
-      work = work_none m s.content b None last given c' shape refl is.idle switch_then tt tt;
-      at_work = at_work_then;
+      work = work_none m s.content b None last given c' (record { geometry = is.on.sound.made_for.banks_geometry; shared = is.on.sound.made_for.shared; numbers = is.on.sound.made_for.numbers }) refl is.idle switch_then tt tt;
+      at_work = idle_at_work m t is.idle falls.active tt tt switch_then;
       shut = λ since worn. absurd (not_worn m entry s listed kept count c made Failed f is op step since worn);
       room = λ power. falls.room;
       copies = copies m entry s listed kept count c made Failed f is op step torn cutting b c' refl None last given falls.showing;
     }
 
-    keeping : KeepsAll (told_of d) (told_of e)
-    keeping = keeps_all m entry s listed kept count c made Failed f is op step torn cutting b c' refl None last given falls.showing
-
-    rose : Rose (told_of d).first.faults (told_of e).first.faults
+    rose : Rose s.faults (next_count s.faults)
     rose = rose_next s.faults is.on.sound.device.faults
 
-    -- THE TURN
-    abbrev at : Option FeeJob → Stand
-    at o = stand_of s.content o s.last s.given
-
     writes : IfSome s.job (λ j. j.op ≢ Read)
-    writes = each_job (IsBehind s.banks) (λ j. j.op ≢ Read) s.job (λ j x. x.0) is.behind
-
-    works : Works First (told_of d) (told_of e) (clock_of e)
-    works = record {
-      only = refl;
-      up = is.on.started;
-      of = is_of_first m s.content s.job s.last s.given;
-      part = part_works m entry s listed kept count is.on op Failed f is.drives (asked m entry s listed kept count c made Failed f is op step) (keeps m entry s listed kept count c made Failed f is op step torn cutting) b None last given (λ off. cc off);
-      job = turns_fail s.content s.job s.last s.given (told_of d) (told_of e) (clock_of e) writes keeping rose;
-      read = λ read. (let none = no_read s.content s.job s.last s.given writes in absurd (let z : true ≡ false = sym read ∙ none in cc z));
-      nearer = inr rose;
-      ready = λ calm. absurd (calm.faults rose);
-    }
-
-    switching : (told_of d).switching ≡ true
-    switching =
-        let body = body_of (work_in s.banks.copies.tail) s.banks.buffer in
-        (λ i. is.on.started i && is_switching (phase_shown (is.course i) s.banks body)) ∙ switching_by c s.banks body
+    writes = all_write s.banks s.job is.behind
 
     pub failed : Turned m entry turn.Worked s t listed kept (next_count count) false
-    failed = record {
-      turns = (
-        (nothing_by (is_open (at s.job)) (told_of d).switching switching, (First, works, ticks m entry s listed kept count is.on op Failed f is.drives (asked m entry s listed kept count c made Failed f is op step) (keeps m entry s listed kept count c made Failed f is op step torn cutting) b None last given)),
-        order m entry s listed kept count is.on op Failed f is.drives (asked m entry s listed kept count c made Failed f is op step) b None last given facts,
-      );
-      sound = sound m entry s listed kept count is.on op Failed f is.drives (asked m entry s listed kept count c made Failed f is op step) b None last given facts false (sym (asked m entry s listed kept count c made Failed f is op step).cause.2);
-    }
+    failed =
+        let asks = asked m entry s listed kept count c made Failed f is op step in
+        worked m entry s listed kept count is.on op Failed f is.drives asks b None last given (keeps m entry s listed kept count c made Failed f is op step torn cutting) (λ off. cc off) refl asks.cause.2 facts (record {
+          something = switch_is_open m entry s c is.on.started is.course;
+          no_read = no_read s.content s.job s.last s.given writes;
+          job_turns = turns_fail s.content s.job s.last s.given (told_of (device_of m entry s)) (told_of (device_of m entry t)) (clock_of (device_of m entry t)) writes (keeps_all m entry s listed kept count c made Failed f is op step torn cutting b c' refl None last given falls.showing) rose;
+          nearer = inr rose;
+          ready = λ calm. absurd (calm.faults rose);
+        })

@@ -20,7 +20,7 @@ use Rattle.fee_laws.specs.declared.job.FeeJob.{FeeJob}
 use Rattle.fee_laws.specs.Inside.{mark_of, stand_of, HasSwitch}
 use Rattle.fee_laws.specs.Record.{IsJobOf}
 use Rattle.fee_laws.specs.Work.{work_of, pages_of_op, pages_of_job, pages_left, pages_free, claimed, turns_beside, switch_turns, begins_next, takes_append, is_waiting, fits_in}
-use Rattle.fee_laws.proofs.Appended.{few_left, pages_few, of_job}
+use Rattle.fee_laws.proofs.Appended.{IsShaped, few_shaped, pages_few, of_job}
 
 -- A JOB THAT WAITS
 -- it doesn't begin later where no more appends are taken
@@ -56,26 +56,16 @@ pub job_part : (p : ℕ) (numbers : List (DeviceNumber × ℕ)) (content : List 
 job_part p numbers content None last given w is few = tt
 job_part p numbers content (Some j) last given w is few = of_job p numbers content j last given w is few
 
--- of banks of this shape
-pub record IsShaped (m : Making) (b : BanksState) : Type 0 where
-  pub geometry : b.geometry ≡ m.geometry
-  pub shared : b.banks ≡ m.banks
-  pub numbers : b.log.numbers ≡ m.numbers
-
 pub work_none : (m : Making) (content : List ℕ) (b : BanksState) (job : Option FeeJob) (last : JobResult) (given : ℕ) (c : Course) → IsShaped m b → b.course ≡ Some c → work_in b.log.tail ≡ None → HasSwitch b b.course
     → NoneBegins b job → IfSome job (IsJobOf m.numbers)
     → IsWork m.geometry.page (sectors_of_bank m.geometry m.banks) m.numbers m.reserve (stand_of content job last given) (work_of m.reserve b job)
 work_none m content b job last given c shape at idle has none is =
-    let most = few_left b has in
-    let one = subst (λ (g : Geometry). left_of b ≤ most_turns g.page (sectors_of_bank g b.banks) b.log.numbers) shape.geometry most in
-    let two = subst (λ (n : ℕ). left_of b ≤ most_turns m.geometry.page (sectors_of_bank m.geometry n) b.log.numbers) shape.shared one in
-    let three = subst (λ (ns : List (DeviceNumber × ℕ)). left_of b ≤ most_turns m.geometry.page (sectors_of_bank m.geometry m.banks) ns) shape.numbers two in
     let same : switch_turns m.reserve b job b.course ≡ left_of b = ap (switch_turns m.reserve b job) at ∙ switch_none m.reserve b job c none in
     let pages = pages_few b.geometry.page (pages_of_job b.geometry.page job) b.log.tail (λ r some. cc (idle, some)) in
     record {
       job = job_part m.geometry.page m.numbers content job last given (work_of m.reserve b job) is
           (subst (λ (g : Geometry). pages_left b.geometry.page (pages_of_job b.geometry.page job) b.log.tail ≤ pages_of_job g.page job) shape.geometry pages);
-      few = subst (λ (n : ℕ). n ≤ most_turns m.geometry.page (sectors_of_bank m.geometry m.banks) m.numbers) (sym same) three;
+      few = subst (λ (n : ℕ). n ≤ most_turns m.geometry.page (sectors_of_bank m.geometry m.banks) m.numbers) (sym same) (few_shaped m b shape has);
     }
 
 -- LEFT

@@ -20,7 +20,7 @@ use Rattle.fee_switch.specs.Banks.{BanksState}
 use Rattle.fee_switch_laws.specs.Shown.{phase_shown}
 use Rattle.fee_switch_laws.proofs.RoomReady.{steps_may_be_made}
 use Rattle.promise_device.specs.Making.{Making, banks_of}
-use Rattle.fee_told.specs.Slots.{Memory, banks_with, may_told, settled_in}
+use Rattle.fee_told.specs.Slots.{banks_with, may_told, settled_in}
 use Rattle.fee_told.specs.SlotLaws.{IsHeld}
 use Rattle.fee_laws.specs.Copied.{flags_of}
 use Rattle.fee_laws.specs.Inside.{Parts, memory_of, body_of, flags_in}
@@ -52,7 +52,7 @@ use Rattle.fee_course.specs.declared.course.Course.TheVariants.{Copy}
 use Rattle.fee_switch.specs.Copy.{head_at, CanCopy, CanGoOn}
 use Rattle.fee_switch_laws.specs.KeepsRoom.{IsTargetLog}
 use Rattle.fee_laws.proofs.Before.{power}
-use Rattle.fee_laws.proofs.SwitchCopy.{open_any, both_true}
+use Rattle.fee_laws.proofs.SwitchCopy.{IsOver, copies_over, open_any, both_true}
 use Rattle.fee_laws.proofs.SwitchNext.{Named, FoundIn, found_in, found_open}
 
 -- ITS NUMBER
@@ -95,9 +95,6 @@ flags_many (x ∷ xs) (c ∷ cs) n on = ap suc (flags_many xs cs n on)
 module _ (m : Making) (entry : Told) (s : Parts) (listed : List (DeviceNumber × ℕ)) (kept count : ℕ) (made : BanksState) (answer : FlashAnswer) (f : FlsState) (is : IsStepping m entry s listed kept count (Copy None) made answer f) where
   abbrev c : Course
   c = Copy None
-
-  abbrev mem : Memory
-  mem = memory_of s
 
   abbrev l : Layout
   l = banks_of m
@@ -162,22 +159,13 @@ module _ (m : Making) (entry : Told) (s : Parts) (listed : List (DeviceNumber ×
     tail = subst (IsTail k0.geometry.page (pages_in k0) k0.end) (sym tail) (legal_head, some_pages, fits_in);
   }
 
-  pub geo : k0.geometry ≡ m.geometry
-  geo = is.on.banks.copies.shape ∙ is.on.sound.made_for.banks_geometry
-
-  pub banks_are : k0.banks ≡ m.banks
-  banks_are = is.on.banks.copies.shared ∙ is.on.sound.made_for.shared
-
-  pub bank : k0.bank ≡ s.banks.target
-  bank = is.on.banks.target_log
-
-  pub numbers : k0.numbers ≡ m.numbers
-  numbers = is.on.banks.numbers ∙ is.on.sound.made_for.numbers
+  pub over : IsOver m s k
+  over = let o = copies_over m s is.on.sound.made_for is.on.banks format in record { geometry = o.geometry; banks = o.banks; bank = o.bank; format = o.format; numbers = o.numbers }
 
   abbrev body0 : List ℕ
   body0 = body_of (work_in k0.tail) s.banks.buffer
 
-  phase : mem.phase ≡ Copying (log_of k0 body0)
+  phase : (memory_of s).phase ≡ Copying (log_of k0 body0)
   phase = ap (λ (o : Option Course). phase_shown o s.banks body0) is.course
 
   -- what is known of its number where bytes are told
@@ -187,25 +175,25 @@ module _ (m : Making) (entry : Told) (s : Parts) (listed : List (DeviceNumber ×
   pub is_open : (old : List ℕ) → IsOpenFor h.number (flags_in m s old)
   is_open old =
       let x = found old in
-      let a = found_open (bank_in l x.active.head.format x.active.bank) old source.place source.length number.0 (flags_of s.banks.log.numbers s.banks.log.places s.banks.log.flags (settled_in l s.banks.log.numbers old mem.old)) x.flags_in in
+      let a = found_open (bank_in l x.active.head.format x.active.bank) old source.place source.length number.0 (flags_of s.banks.log.numbers s.banks.log.places s.banks.log.flags (settled_in l s.banks.log.numbers old (memory_of s).old)) x.flags_in in
       subst (λ (n : ℕ). IsOpenFor n (flags_in m s old)) (sym (number_at source.place number.0 source.length))
-      (subst (λ (ns : List (DeviceNumber × ℕ)). IsOpenFor number.0 (flags_of ns s.banks.log.places s.banks.log.flags (settled_in l ns old mem.old))) is.on.sound.made_for.numbers a)
+      (subst (λ (ns : List (DeviceNumber × ℕ)). IsOpenFor number.0 (flags_of ns s.banks.log.places s.banks.log.flags (settled_in l ns old (memory_of s).old))) is.on.sound.made_for.numbers a)
 
   -- with it in work
-  pub begun_held : (old body : List ℕ) → length body ≡ h.length → IsHeld l m.numbers old mem (copied_of (flags_in m s old)) → IsHeld l m.numbers old (record mem { phase = Copying (log_of k body) }) (copied_of (flags_in m s old))
+  pub begun_held : (old body : List ℕ) → length body ≡ h.length → IsHeld l m.numbers old (memory_of s) (copied_of (flags_in m s old)) → IsHeld l m.numbers old (record (memory_of s) { phase = Copying (log_of k body) }) (copied_of (flags_in m s old))
   begun_held old body size held =
       let cop = copied_of (flags_in m s old) in
-      let may = may_told l m.numbers old mem in
-      let phased = subst (λ (x : Phase). HoldsPhase l m.numbers old (banks_with mem may cop) x) phase held.banks.phase in
-      let path : bank_in l new_format s.banks.target ≡ bank_of k0 = λ i. bank_in (layout_of (sym geo i) (sym banks_are i)) (sym format i) (sym bank i) in
-      let was = subst (λ (b : Bank). HoldsLog b k0.numbers old cop (log_of k0 body0)) path (subst (λ (ns : List (DeviceNumber × ℕ)). HoldsLog (bank_in l new_format s.banks.target) ns old cop (log_of k0 body0)) (sym numbers) phased.holds) in
-      let size_path : l.pages * l.page * l.banks ≡ pages_in k0 * k0.geometry.page * k0.banks = λ i. pages_of_bank (sym geo i) (sym banks_are i) * (sym geo i).page * sym banks_are i in
+      let may = may_told l m.numbers old (memory_of s) in
+      let phased = subst (λ (x : Phase). HoldsPhase l m.numbers old (banks_with (memory_of s) may cop) x) phase held.banks.phase in
+      let path : bank_in l new_format s.banks.target ≡ bank_of k0 = λ i. bank_in (layout_of (sym over.geometry i) (sym over.banks i)) (sym over.format i) (sym over.bank i) in
+      let was = subst (λ (b : Bank). HoldsLog b k0.numbers old cop (log_of k0 body0)) path (subst (λ (ns : List (DeviceNumber × ℕ)). HoldsLog (bank_in l new_format s.banks.target) ns old cop (log_of k0 body0)) (sym over.numbers) phased.holds) in
+      let size_path : l.pages * l.page * l.banks ≡ pages_in k0 * k0.geometry.page * k0.banks = λ i. pages_of_bank (sym over.geometry i) (sym over.banks i) * (sym over.geometry i).page * sym over.banks i in
       let was_state : HoldsState k0 body0 old cop = record { size = subst (λ (n : ℕ). n ≤ length old) size_path held.banks.size; holds = was; follows = subst (λ (t : Tail). MayFollow cop t body0) (sym target.work) tt } in
       let commit : MayCommit cop h body = λ n size' fit. subst (λ (x : ℕ). IsAmong (cop x size') (held_written h body)) (eqb-true h.number n (both_true (h.number == n) (if h.kind == 1 then h.length == size' else true) fit)) (open_any h.number (flags_in m s old) size' (held_written h body) (is_open old)) in
       let now = begins_hold k0 h body0 body old cop is.copies was_state can.can.idle can.can.configured room size commit in
-      let holds = subst (λ (ns : List (DeviceNumber × ℕ)). HoldsLog (bank_in l new_format s.banks.target) ns old cop (log_of k body)) numbers (subst (λ (b : Bank). HoldsLog b k0.numbers old cop (log_of k body)) (sym path) now.holds) in
+      let holds = subst (λ (ns : List (DeviceNumber × ℕ)). HoldsLog (bank_in l new_format s.banks.target) ns old cop (log_of k body)) over.numbers (subst (λ (b : Bank). HoldsLog b k0.numbers old cop (log_of k body)) (sym path) now.holds) in
       record {
-        banks = copies_change l m.numbers old (banks_with mem may cop) (log_of k0 body0) (log_of k body) cop held.banks phase holds;
+        banks = copies_change l m.numbers old (banks_with (memory_of s) may cop) (log_of k0 body0) (log_of k body) cop held.banks phase holds;
         job = held.job;
         seal = tt;
       }

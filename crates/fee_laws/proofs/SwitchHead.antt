@@ -1,9 +1,7 @@
 -- The turns of the target's head.
 use Rattle.std.specs.Prelude.{length}
 use Rattle.std.proofs.Common.{◌≡◌, inl, inr, ◌≤◌, ◌<◌, ◌+◌, ◌-◌, ℕ, true, false, List, Option, Some, None, refl, sym, ap, subst, arith}
-use Rattle.nv_base.specs.Count.{next_count}
 use Rattle.nv_base.specs.declared.instance.DeviceNumber.{DeviceNumber}
-use Rattle.memif.specs.declared.answer.DeviceTurn.TheVariants as turn
 use Rattle.fls_model.specs.declared.flash.FlashAnswer.{FlashAnswer}
 use Rattle.fls_model.specs.declared.flash.FlashAnswer.TheVariants.{Done, Failed, Off}
 use Rattle.fls_model.specs.Op.{Op, MayLeave}
@@ -27,8 +25,7 @@ use Rattle.fee_told.proofs.Held.{copies_are_told}
 use Rattle.fee_told.proofs.Switches.{heads_go_on}
 use Rattle.fee_laws.specs.Copied.{flags_of}
 use Rattle.fee_laws.specs.Inside.{Parts, memory_of, body_of, flags_in, ShowsCopies}
-use Rattle.fee_laws.specs.Turn.{operated, Turned}
-use Rattle.fee_laws.specs.Switches.{IsStepping, step_op}
+use Rattle.fee_laws.specs.Switches.{IsStepping, step_op, StepTurned}
 use Rattle.fee_laws.proofs.Before.{shape, legal}
 use Rattle.fee_laws.proofs.SwitchShown.{roomy, standing}
 use Rattle.std.proofs.Math.ListN.{length-replicate}
@@ -47,7 +44,6 @@ use Rattle.fee_switch.specs.Banks.{next_generation, is_worn_out}
 use Rattle.fee_switch_laws.specs.Shown.{Bodies, HoldsBanks, banks_shown, layout_in, old_shown}
 use Rattle.fee_image.specs.Image.{image_page}
 use Rattle.fee_told.specs.Slots.{AreCopied}
-use Rattle.fee_laws.specs.Switches.{failed_with}
 use Rattle.fee_laws.proofs.SwitchKinds.{done_by}
 use Rattle.fee_laws.proofs.SwitchWhole.{are_copied}
 use Rattle.fee_laws.proofs.SwitchPage.{settled_same, leaves_page, torn, cutting, page_failed, page_cut}
@@ -136,16 +132,16 @@ module _ (m : Making) (entry : Told) (s : Parts) (listed : List (DeviceNumber ×
         let then_holds = heads_stand s.banks bodies old new may cop is.on.banks is.course few (copies_are_told l m.numbers old mem cop cop shows.held (whole old)) holds leaves left in
         subst (λ (x : Layout). image_page x new s.banks.target 0 ≡ bank_head_page x.page (next_head mem.old)) layout_is then_holds.phase.head
 
-  pub head_failed : IsStepping m entry s listed kept count Head made Failed f → Turned m entry turn.Worked s (failed_with s.job (operated (step_op s.banks Head) Failed f (after_answer made Head Failed) s)) listed kept (next_count count) false
+  pub head_failed : IsStepping m entry s listed kept count Head made Failed f → StepTurned Failed m entry s listed kept count Head made f
   head_failed is =
       page_failed m entry s listed kept count Head made f op 0 page (op_at Failed is) (size Failed is) (inside Failed is) log (phase Failed is) (not_gate Failed is) is (step Failed is)
       (λ i. after_answer (sym is.makes.1 i) Head Failed)
 
-  pub head_cut : IsStepping m entry s listed kept count Head made Off f → Turned m entry turn.Off s (operated (step_op s.banks Head) Off f (after_answer made Head Off) s) listed kept (next_count count) true
+  pub head_cut : IsStepping m entry s listed kept count Head made Off f → StepTurned Off m entry s listed kept count Head made f
   head_cut is =
       page_cut m entry s listed kept count Head made f op 0 page (op_at Off is) (size Off is) (inside Off is) log (phase Off is) (not_gate Off is) is (step Off is) s.banks.copies (sym is.makes.1)
 
-  pub head_done : IsStepping m entry s listed kept count Head made Done f → Turned m entry turn.Worked s (operated (step_op s.banks Head) Done f (after_answer made Head Done) s) listed kept (next_count count) false
+  pub head_done : IsStepping m entry s listed kept count Head made Done f → StepTurned Done m entry s listed kept count Head made f
   head_done is =
       done_by m entry s listed kept count Head made f is tt op (step Done is) (torn m entry s listed kept count Head made Done f is op (step Done is) 0 page (op_at Done is) (size Done is) (inside Done is) log (phase Done is) (not_gate Done is))
       (cutting m entry s listed kept count Head made Done f is op (step Done is) 0 page (op_at Done is) (size Done is) (inside Done is) log (phase Done is) (not_gate Done is))

@@ -16,7 +16,6 @@ use Rattle.fee_image.specs.Log.{Log}
 use Rattle.fee_image.specs.May.{May}
 use Rattle.fee_image.specs.Banks.{Phase, Copying}
 use Rattle.fee_image.specs.Copies.{Flag, Each, copied_of}
-use Rattle.fee_format.specs.Formats.{new_format}
 use Rattle.fee_image.specs.Bank.{Bank}
 use Rattle.fee_log.specs.Log.{LogState, log_of, work_in}
 use Rattle.fee_course.specs.declared.course.Course.{Course}
@@ -58,13 +57,13 @@ use Rattle.fee_course.specs.Course.{begun as course_begun}
 use Rattle.fee_switch.specs.Banks.{reads_next, reads_place, reads_source}
 use Rattle.fee_switch.specs.Copy.{BeginsAt}
 use Rattle.fee_image.specs.Copies.{Copies}
-use Rattle.fee_laws.specs.Switches.{mark_op_of, mark_op_for, MarksGoOn, MarksFail, MarksAreCut}
+use Rattle.fee_laws.specs.Switches.{mark_op_of, mark_op_for, MarksTurn}
 use Rattle.fee_laws.proofs.Tails.{tailed, shown, page_goes_on}
 use Rattle.fee_laws.proofs.SwitchKinds.{done_by}
 use Rattle.fee_laws.proofs.SwitchPage.{settled_same, torn, cutting, page_failed, page_cut}
-use Rattle.fee_laws.proofs.SwitchCopy.{q, page, op_of_is, size, inside, not_gate, done_kept}
+use Rattle.fee_laws.proofs.SwitchCopy.{IsOver, q, page, op_of_is, size, inside, not_gate, done_kept}
 use Rattle.fee_laws.proofs.SwitchNext.{found_copies}
-use Rattle.fee_laws.proofs.SwitchFirst.{can, source, number, h, k, tail, state, geo, banks_are, bank, format, numbers, found, is_open, begun_held}
+use Rattle.fee_laws.proofs.SwitchFirst.{can, source, number, h, k, tail, state, over, found, is_open, begun_held}
 use Rattle.fee_laws.proofs.FollowTurned.{mark_length}
 
 slice_is : (ns : List (DeviceNumber × ℕ)) (i : ℕ) (n : DeviceNumber) (size : ℕ) → i < length ns → Named ns i n size → slice_get ns i ≡ Some (n, size)
@@ -163,20 +162,8 @@ module _ (m : Making) (entry : Told) (s : Parts) (listed : List (DeviceNumber ×
     step = subst (λ (o : Op). IsStep o s.fls.flash answer f.flash)
         (sym (ap (mark_op_of s.banks) next_is.first ∙ ap (mark_op_for s.banks.copies src.place) (slice_is s.banks.log.numbers src.index num src.length next_is.inside next_is.named))) begins.0
 
-    abbrev g : log_k.geometry ≡ m.geometry
-    g = geo m entry s listed kept count made answer f is
-
-    abbrev w2 : log_k.banks ≡ m.banks
-    w2 = banks_are m entry s listed kept count made answer f is
-
-    abbrev bk : log_k.bank ≡ s.banks.target
-    bk = bank m entry s listed kept count made answer f is
-
-    abbrev fm : log_k.format ≡ new_format
-    fm = format m entry s listed kept count made answer f is
-
-    abbrev nb : log_k.numbers ≡ m.numbers
-    nb = numbers m entry s listed kept count made answer f is
+    abbrev on : IsOver m s log_k
+    on = over m entry s listed kept count made answer f is
 
     abbrev st : IsLogState log_k
     st = state m entry s listed kept count made answer f is
@@ -188,22 +175,22 @@ module _ (m : Making) (entry : Told) (s : Parts) (listed : List (DeviceNumber ×
     mem = memory_of s
 
     abbrev q' : ℕ
-    q' = q m entry s listed kept count c made answer f is log_k body head 0 tail_k st g w2 bk fm nb small
+    q' = q m entry s listed kept count c made answer f is log_k body head 0 tail_k st on small
 
     abbrev page' : List ℕ
-    page' = page m entry s listed kept count c made answer f is log_k body head 0 tail_k st g w2 bk fm nb small
+    page' = page m entry s listed kept count c made answer f is log_k body head 0 tail_k st on small
 
     op_is : op ≡ program_of l s.banks.target q' page'
-    op_is = op_body ∙ op_of_is m entry s listed kept count c made answer f is log_k body head 0 tail_k st g w2 bk fm nb small
+    op_is = op_body ∙ op_of_is m entry s listed kept count c made answer f is log_k body head 0 tail_k st on small
 
     size' : length page' ≡ m.geometry.page
-    size' = size m entry s listed kept count c made answer f is log_k body head 0 tail_k st g w2 bk fm nb small
+    size' = size m entry s listed kept count c made answer f is log_k body head 0 tail_k st on small
 
     inside' : q' < l.pages
-    inside' = inside m entry s listed kept count c made answer f is log_k body head 0 tail_k st g w2 bk fm nb small
+    inside' = inside m entry s listed kept count c made answer f is log_k body head 0 tail_k st on small
 
     not_gate' : q' ≡ 1 → ⊥
-    not_gate' = not_gate m entry s listed kept count c made answer f is log_k body head 0 tail_k st g w2 bk fm nb small
+    not_gate' = not_gate m entry s listed kept count c made answer f is log_k body head 0 tail_k st on small
 
     abbrev log0 : Log
     log0 = log_of s.banks.copies (body_of (work_in s.banks.copies.tail) s.banks.buffer)
@@ -218,7 +205,7 @@ module _ (m : Making) (entry : Told) (s : Parts) (listed : List (DeviceNumber ×
     shown_is : shown (after_step log_k Done) s.banks.buffer ≡ log_done l.page m.numbers (log_of log_k body)
     shown_is =
         subst (λ (t : Tail). shown (after_step (tailed log_k t) Done) s.banks.buffer ≡ log_done log_k.geometry.page log_k.numbers (shown (tailed log_k t) s.banks.buffer)) (sym tail_k) (page_goes_on log_k head 0 s.banks.buffer not_last).shown_as
-        ∙ (λ i. log_done (g i).page (nb i) (log_of log_k body))
+        ∙ (λ i. log_done (on.geometry i).page (on.numbers i) (log_of log_k body))
 
     work_on : work_in (after_step log_k Done).tail ≡ Some head
     work_on = subst (λ (t : Tail). work_in (after_step (tailed log_k t) Done).tail ≡ Some head) (sym tail_k) (ap work_in (page_goes_on log_k head 0 s.banks.buffer not_last).tail)
@@ -247,13 +234,13 @@ module _ (m : Making) (entry : Told) (s : Parts) (listed : List (DeviceNumber ×
     may_is : (may : May) → may_done l.page may (log_of log_k body) ≡ may
     may_is may =
         ap (λ (t : Tail). may_done l.page may (record { end = log_k.end; tail = tail_with t body; places = log_k.places })) tail_k
-        ∙ ap (λ (x : Bool). if x then settling may head body else may) (ap (λ (y : Geometry). is_last y.page head 0) (sym g) ∙ not_last)
+        ∙ ap (λ (x : Bool). if x then settling may head body else may) (ap (λ (y : Geometry). is_last y.page head 0) (sym on.geometry) ∙ not_last)
 
     kept_then : (old new : List ℕ) → ShowsCopies m s c old → MayLeave op old new → Leaves op Done old new → IsKept l m.numbers old new mem (record mem { phase = phase_at next b body' }) (copied_of (flags_in m s new))
     kept_then old new shows leaves left =
         let cop = copied_of (flags_in m s old) in
         let held' = begun_held m entry s listed kept count made answer f is old body size_is shows.held in
-        let first = done_kept m entry s listed kept count c made answer f is log_k body head 0 tail_k st g w2 bk fm nb small old new cop held'
+        let first = done_kept m entry s listed kept count c made answer f is log_k body head 0 tail_k st on small old new cop held'
         (subst (λ (o : Op). MayLeave o old new) op_body leaves) (subst (λ (o : Op). Leaves o Done old new) op_body left) in
         let held = subst (λ (x : May). IsHeld l m.numbers new (record mem { phase = Copying (log_done l.page m.numbers (log_of log_k body)) }) x) (may_is cop) first.held in
         let both : IsKept l m.numbers old new mem (record mem { phase = Copying (log_done l.page m.numbers (log_of log_k body)) }) cop = record { held = held; keeps = first.keeps } in
@@ -274,21 +261,21 @@ module _ (m : Making) (entry : Told) (s : Parts) (listed : List (DeviceNumber ×
         (subst (λ (o : Option RecHead). IsCopying begun_course o s.banks.buffer (flags_in m s new)) (sym work_on) (copies_it new, is_open m entry s listed kept count made answer f is new))
 
 -- THE TURNS
-pub marks_fail : MarksFail
+pub marks_fail : MarksTurn Failed
 marks_fail m entry s listed kept count made f is changes =
     page_failed m entry s listed kept count (Copy None) made f (step_op s.banks (Copy None)) (q' m entry s listed kept count made Failed f is changes) (page' m entry s listed kept count made Failed f is changes)
     (op_is m entry s listed kept count made Failed f is changes) (size' m entry s listed kept count made Failed f is changes) (inside' m entry s listed kept count made Failed f is changes)
     (log0 m entry s listed kept count made Failed f is changes) (phase0 m entry s listed kept count made Failed f is changes) (not_gate' m entry s listed kept count made Failed f is changes) is
     (step m entry s listed kept count made Failed f is changes) (λ i. after_answer (sym (made_is m entry s listed kept count made Failed f is changes) i) (Copy None) Failed)
 
-pub marks_are_cut : MarksAreCut
+pub marks_are_cut : MarksTurn Off
 marks_are_cut m entry s listed kept count made f is changes =
     page_cut m entry s listed kept count (Copy None) made f (step_op s.banks (Copy None)) (q' m entry s listed kept count made Off f is changes) (page' m entry s listed kept count made Off f is changes)
     (op_is m entry s listed kept count made Off f is changes) (size' m entry s listed kept count made Off f is changes) (inside' m entry s listed kept count made Off f is changes)
     (log0 m entry s listed kept count made Off f is changes) (phase0 m entry s listed kept count made Off f is changes) (not_gate' m entry s listed kept count made Off f is changes) is
     (step m entry s listed kept count made Off f is changes) (log_k m entry s listed kept count made Off f is) (sym (made_is m entry s listed kept count made Off f is changes))
 
-pub marks_go_on : MarksGoOn
+pub marks_go_on : MarksTurn Done
 marks_go_on m entry s listed kept count made f is changes =
     done_by m entry s listed kept count (Copy None) made f is tt (step_op s.banks (Copy None)) (step m entry s listed kept count made Done f is changes)
     (torn m entry s listed kept count (Copy None) made Done f is (step_op s.banks (Copy None)) (step m entry s listed kept count made Done f is changes) (q' m entry s listed kept count made Done f is changes) (page' m entry s listed kept count made Done f is changes) (op_is m entry s listed kept count made Done f is changes) (size' m entry s listed kept count made Done f is changes) (inside' m entry s listed kept count made Done f is changes) (log0 m entry s listed kept count made Done f is changes) (phase0 m entry s listed kept count made Done f is changes) (not_gate' m entry s listed kept count made Done f is changes))

@@ -6,10 +6,12 @@ use Rattle.std.proofs.lemmas.Bool.Decides.{leb_tells}
 use Rattle.nv_base.specs.declared.job.DeviceOp.TheVariants.{Read}
 use Rattle.memif.specs.declared.answer.JobResult.{JobResult}
 use Rattle.memif.specs.declared.answer.JobResult.TheVariants.{JobFailed}
-use Rattle.memif.specs.Told.{First, Job, Stand, Ended, DeviceTold}
+use Rattle.memif.specs.Told.{First, Job, Stand, Ended, DeviceTold, is_open, nothing_open}
 use Rattle.memif.specs.Clock.{Clock}
 use Rattle.memif.specs.Marks.{KeepsAll}
-use Rattle.memif.specs.Calls.{IsOf, JobTurns, is_read, urgent_first}
+use Rattle.memif.specs.Calls.{JobTurns, Nearer, TurnsReady, is_read, urgent_first}
+use Rattle.fls_model.specs.Told.{Told, Change}
+use Rattle.fls_jobs.specs.State.{FlsState}
 use Rattle.fee_log.specs.declared.tail.Tail.{Tail}
 use Rattle.fee_log.specs.Log.{LogState, work_in}
 use Rattle.fee_course.specs.declared.course.Course.{Course}
@@ -17,16 +19,17 @@ use Rattle.fee_course.specs.declared.course.Course.TheVariants as course
 use Rattle.fee_switch.specs.Banks.{BanksState, left_of}
 use Rattle.fee_switch_laws.specs.Shown.{phase_shown}
 use Rattle.promise_device.specs.Making.{Making}
-use Rattle.fee_told.specs.Device.{is_switching}
+use Rattle.fee_told.specs.Device.{told_of, is_switching}
 use Rattle.fee_told.specs.Figures.{Work, Waits, turns_owed, wait_of, ready_of, left_of as left_in}
 use Rattle.fee_told.proofs.Figures.{ready_stays, urgent_nears}
 use Rattle.fee_laws.specs.declared.job.FeeJob.{FeeJob}
-use Rattle.fee_laws.specs.Inside.{Parts, mark_of, stand_of, fixed_in}
+use Rattle.fee_laws.specs.Inside.{Parts, body_of, device_of, memory_of, mark_of, stand_of, fixed_in}
 use Rattle.fee_laws.specs.Record.{IsReady}
 use Rattle.fee_laws.specs.Work.{work_of, waits_of, pages_free, begins_next, takes_append, seal_turns, switch_turns, turns_before, is_owed}
 use Rattle.fee_laws.specs.Switches.{IsBehind}
-use Rattle.fee_laws.proofs.Order.{first_of, urgent_is}
+use Rattle.fee_laws.proofs.Order.{urgent_is}
 use Rattle.fee_laws.proofs.SwitchFigures.{NoneBegins, still_behind, free_none, switch_none, has_mark, left_falls}
+use Rattle.fee_laws.proofs.GoneOn.{if_else}
 
 -- SMALL
 -- where a switch is open something is
@@ -39,6 +42,12 @@ switching_by (course.Erase n) b body = refl
 switching_by (course.Copy w) b body = refl
 switching_by course.Head b body = refl
 switching_by (course.Gate failed) b body = refl
+
+-- a switch is open
+pub switch_is_open : (m : Making) (entry : Told) (s : Parts) (c : Course) → s.started ≡ true → s.banks.course ≡ Some c → nothing_open (told_of (device_of m entry s)) ≡ false
+switch_is_open m entry s c started course =
+    let body = body_of (work_in s.banks.copies.tail) s.banks.buffer in
+    nothing_by (is_open (memory_of s).stand) (s.started && is_switching (memory_of s).phase) ((λ i. started i && is_switching (phase_shown (course i) s.banks body)) ∙ switching_by c s.banks body)
 
 -- each job, if any
 pub each_job : (P Q : FeeJob → Type 0) (o : Option FeeJob) → ((j : FeeJob) → P j → Q j) → IfSome o P → IfSome o Q
@@ -65,10 +74,6 @@ pub before_by : (t : Tail) (n : ℕ) → 1 ≤ n → turns_before t n ≡ n
 before_by t n some = ap (λ (b : Bool). if b then n else turns_owed (is_owed t)) (le_true n some)
 
 -- the turns of an open job
-pub is_of_first : (m : Making) (content : List ℕ) (o : Option FeeJob) (last : JobResult) (given : ℕ) → IsOf First (fixed_in m) (stand_of content o last given)
-is_of_first m content None last given = tt
-is_of_first m content (Some j) last given = (tt, sym (first_of m j.number.0))
-
 pub no_read : (content : List ℕ) (o : Option FeeJob) (last : JobResult) (given : ℕ) → IfSome o (λ j. j.op ≢ Read) → is_read (stand_of content o last given) ≡ false
 no_read content None last given writes = refl
 no_read content (Some j) last given writes = has_mark j.op (take j.length content) writes
@@ -77,6 +82,10 @@ pub turns_keep : (content : List ℕ) (o : Option FeeJob) (last : JobResult) (gi
     → JobTurns First (stand_of content o last given) (stand_of content o last given) old new clock
 turns_keep content None last given old new clock keeps less = (refl, keeps)
 turns_keep content (Some j) last given old new clock keeps less = (refl, keeps, less)
+
+-- a job that waits behind a switch is no read
+pub all_write : (b : BanksState) (o : Option FeeJob) → IfSome o (IsBehind b) → IfSome o (λ j. j.op ≢ Read)
+all_write b o behind = each_job (IsBehind b) (λ j. j.op ≢ Read) o (λ j x. x.0) behind
 
 -- THE STEP
 module _ (m : Making) (s : Parts) (c c' : Course) (flags : List Bool) (log : LogState) (buffer : List ℕ) (course_is : s.banks.course ≡ Some c) (idle : work_in s.banks.log.tail ≡ None) (behind_is : IfSome s.job (IsBehind s.banks)) (was_ready : IfSome s.job (IsReady s.banks)) (seals : Seals c c') where
@@ -120,9 +129,6 @@ module _ (m : Making) (s : Parts) (c c' : Course) (flags : List Bool) (log : Log
   none_then : NoneBegins b s.job
   none_then = each_job (IsBehind s.banks) (λ j. begins_next b j ≡ false) s.job (λ j x. still_behind s.banks c' flags log j takes_on x.1) behind_is
 
-  all_write : IfSome s.job (λ j. j.op ≢ Read)
-  all_write = each_job (IsBehind s.banks) (λ j. j.op ≢ Read) s.job (λ j x. x.0) behind_is
-
   ready_by : (j : FeeJob) → IsReady s.banks j → begins_next s.banks j ≡ false → IsReady b j
   ready_by j was none promised alone = elim (was promised alone) [
     | inl begins ↦ absurd (let x : true ≡ false = sym begins ∙ none in cc x)
@@ -164,10 +170,10 @@ module _ (m : Making) (s : Parts) (c c' : Course) (flags : List Bool) (log : Log
 
   pub is_nearer : left_of b < left_of s.banks → IsNearer
   is_nearer lower = record {
-    writes = all_write;
+    writes = all_write s.banks s.job behind_is;
     none = none_then;
     ready = both_jobs (IsReady s.banks) (λ j. begins_next s.banks j ≡ false) (IsReady b) s.job ready_by was_ready none_before;
-    falls = left_falls s.content s.job s.last s.given w v all_write refl refl (omega (arith, switch_was, switch_now, lower));
+    falls = left_falls s.content s.job s.last s.given w v (all_write s.banks s.job behind_is) refl refl (omega (arith, switch_was, switch_now, lower));
     stays = ready_stays m.reserve (pages_free s.banks s.job) (pages_free b s.job) (nat_le 1 n) (nat_le 1 (seal_turns (Some c')))
         (elim (cases_lt 0 n) [
           | inl some ↦ inl (le_true (seal_turns (Some c')) (seals_then (omega arith)).1)
@@ -175,3 +181,19 @@ module _ (m : Making) (s : Parts) (c c' : Course) (flags : List Bool) (log : Log
         ]);
     urgent = λ urgent x wait. urgent_by s.job was_ready none_before urgent x wait;
   }
+
+  -- so is its turn, whatever its call changed beside
+  module _ (entry : Told) (f : FlsState) (faults : ℕ) (operations : List Change) (near : IsNearer) where
+    abbrev old : DeviceTold
+    old = told_of (device_of m entry s)
+
+    abbrev new : DeviceTold
+    new = told_of (device_of m entry (record s { fls = f; banks = b; faults = faults; operations = operations }))
+
+    pub job_goes_on : (clock : Clock) → KeepsAll old new → JobTurns First old.stand new.stand old new clock
+    job_goes_on clock keeps = turns_keep s.content s.job s.last s.given old new clock keeps near.falls
+
+    pub readies : TurnsReady old new
+    readies calm = if_else (urgent_first old.fixed old.stand) (Nearer old new) (old.ready ≤ new.ready)
+        (λ urgent x wait. (let it = near.urgent urgent x wait in (near.stays, it.0, it.1)))
+        (λ calm'. near.stays)

@@ -6,7 +6,6 @@ use Rattle.std.proofs.lemmas.Bool.{eqb-true}
 use Rattle.std.proofs.Math.Seq.{drop-length}
 use Rattle.nv_base.specs.Count.{last_count}
 use Rattle.nv_base.specs.Pages.{record_pages_of}
-use Rattle.nv_base.specs.Geometry.{sectors_of_bank}
 use Rattle.nv_base.specs.declared.geometry.Geometry.{Geometry}
 use Rattle.nv_base.specs.declared.instance.DeviceNumber.{DeviceNumber}
 use Rattle.nv_base.specs.declared.mark.Mark.{Mark}
@@ -14,11 +13,10 @@ use Rattle.memif.specs.declared.answer.DeviceTurn.TheVariants as turn
 use Rattle.memif.specs.declared.answer.JobResult.TheVariants.{JobFailed}
 use Rattle.memif.specs.Told.{First, Job, Stand, Ended, is_open}
 use Rattle.memif.specs.Marks.{KeepsAll}
-use Rattle.memif.specs.Calls.{Works, IsOf, JobTurns, EndsAs, MayFail, Nearer, is_read, urgent_first}
+use Rattle.memif.specs.Calls.{JobTurns, EndsAs, MayFail, Nearer, is_read, urgent_first}
 use Rattle.fls_model.specs.Told.{Told, ToldBytes, Change, bytes_now}
 use Rattle.fee_format.specs.declared.bank_head.BankHead.{BankHead}
-use Rattle.fee_format.specs.declared.rec_head.RecHead.{RecHead}
-use Rattle.fee_image.specs.Image.{Layout, active_of}
+use Rattle.fee_image.specs.Image.{active_of}
 use Rattle.fee_image.specs.May.{May}
 use Rattle.fee_log.specs.Log.{work_in}
 use Rattle.fee_switch.specs.declared.active.ActiveBank.{ActiveBank}
@@ -29,29 +27,26 @@ use Rattle.fee_switch_laws.specs.Space.{free_pages}
 use Rattle.promise_device.specs.Making.{Making, banks_of}
 use Rattle.promise_device.specs.Bridge.{has_failed, is_program, wanted_pages}
 use Rattle.promise_device.specs.Image.{HasNoRoomFor, IsOfLastGeneration}
-use Rattle.fee_told.specs.Slots.{Memory, HasJob}
+use Rattle.fee_told.specs.Slots.{HasJob}
 use Rattle.fee_told.specs.SlotLaws.{IsHeld}
 use Rattle.fee_told.specs.Device.{Device, tells, told_of, ops_in}
-use Rattle.fee_told.specs.Clock.{MakesNone, clock_of}
+use Rattle.fee_told.specs.Clock.{clock_of}
 use Rattle.fee_told.specs.Runs.{HasRun, IsWornSince}
 use Rattle.fee_told.specs.Kept.{IsKept}
 use Rattle.fee_told.specs.Figures.{left_of as turns_left, ready_of, turns_of, wait_of}
-use Rattle.fee_told.specs.FigureLaws.{IsWork}
 use Rattle.fee_told.proofs.Kept.{same_places}
-use Rattle.fee_told.proofs.Clocks.{clocks_pass, worn_now}
+use Rattle.fee_told.proofs.Clocks.{worn_now}
 use Rattle.fee_told.proofs.Jobs.{jobs_change}
-use Rattle.fee_told.proofs.Making.{runs_stay}
-use Rattle.fee_told.proofs.Parts.{parts_read}
 use Rattle.fee_told.proofs.Steps.{jobs_keep}
 use Rattle.fee_told.proofs.Whole.{kept_is_told}
 use Rattle.fee_laws.specs.declared.job.FeeJob.{FeeJob}
-use Rattle.fee_laws.specs.Inside.{Parts, body_of, device_of, memory_of, mark_of, stand_of, fixed_in, HoldsBehind, IsAtWork, IsWorn, ShowsCopies, IsSound}
-use Rattle.fee_laws.specs.Record.{IsInWork, IsJobOf, IsReady}
+use Rattle.fee_laws.specs.Inside.{Parts, body_of, device_of, memory_of, mark_of, stand_of, fixed_in, HoldsBehind, IsAtWork, IsWorn, ShowsCopies}
+use Rattle.fee_laws.specs.Record.{IsJobOf, IsReady}
 use Rattle.fee_laws.specs.Work.{work_of, waits_of, switch_turns, begins_next, claimed, pages_free, pages_left, pages_of_job, pages_of_op, seal_turns}
 use Rattle.fee_laws.specs.Turn.{IsOn, Turned}
 use Rattle.fee_laws.specs.Worn.{IsWornNow, KnowsRoom, ShowsRoom, WearsOut, worn_with}
-use Rattle.fee_laws.proofs.Before.{power, shape, lengths, legal, some, copied, held_at, each_told, each_now, told_at, now_at}
-use Rattle.fee_laws.proofs.Order.{first_of, urgent_is, behind_finds, in_order}
+use Rattle.fee_laws.proofs.Before.{power, shape, lengths, legal, copied, held_at, each_told, each_now, told_at, now_at}
+use Rattle.fee_laws.proofs.Order.{urgent_is}
 use Rattle.fee_laws.proofs.Reading.{has_none}
 use Rattle.fee_laws.proofs.GoneOn.{if_else}
 use Rattle.fee_laws.proofs.SwitchFigures.{has_mark}
@@ -61,6 +56,8 @@ use Rattle.fee_laws.proofs.SwitchBegun.{seal_is}
 use Rattle.fee_laws.proofs.CallOrder.{nothing_left as rests_none}
 use Rattle.fee_laws.proofs.Raising.{left_wanted}
 use Rattle.fee_laws.proofs.FollowLifts.{some_of}
+use Rattle.fee_laws.proofs.Appended.{IsShaped, resting_work, idle_at_work}
+use Rattle.fee_laws.proofs.BehindNone.{AsksNone, Facts, run, held_behind, worked}
 
 no_copies : (m : Making) (t : Parts) (x : List ℕ) (c : Option Course) → c ≡ None → IfSome c (λ y. ShowsCopies m t y x)
 no_copies m t x None e = tt
@@ -110,18 +107,6 @@ module _ (m : Making) (entry : Told) (s : Parts) (listed : List (DeviceNumber ×
   abbrev e : Device
   e = device_of m entry t
 
-  abbrev l : Layout
-  l = banks_of m
-
-  abbrev p : ℕ
-  p = s.banks.geometry.page
-
-  abbrev mem : Memory
-  mem = memory_of s
-
-  abbrev ended : Stand
-  ended = Ended JobFailed []
-
   at_work : IsAtWork m s
   at_work = on.sound.works on.started
 
@@ -164,10 +149,10 @@ module _ (m : Making) (entry : Told) (s : Parts) (listed : List (DeviceNumber ×
   some_is x at = cc at
 
   -- ROOM
-  page_is : p ≡ m.geometry.page
+  page_is : s.banks.geometry.page ≡ m.geometry.page
   page_is = ap (λ (g : Geometry). g.page) on.sound.made_for.banks_geometry
 
-  some_page : 0 < p
+  some_page : 0 < s.banks.geometry.page
   some_page = let low = (shape m entry s listed kept count on).page_low in let same = page_is in omega (arith, low, same)
 
   wanted_is : wanted_pages m j.number.0 ≡ record_pages_of job_of.length m.geometry.page + m.reserve
@@ -175,8 +160,8 @@ module _ (m : Making) (entry : Told) (s : Parts) (listed : List (DeviceNumber ×
 
   few_free : free_pages s.banks + 1 ≤ wanted_pages m j.number.0
   few_free =
-      let less = lacks j.urgent (pages_of_op p j.op j.length) m.reserve (free_pages s.banks) is.full in
-      let fits = subst (λ (n : ℕ). pages_of_op p j.op j.length ≤ record_pages_of job_of.length n) page_is (op_few p j.op j.length job_of.length some_page job_of.fits) in
+      let less = lacks j.urgent (pages_of_op s.banks.geometry.page j.op j.length) m.reserve (free_pages s.banks) is.full in
+      let fits = subst (λ (n : ℕ). pages_of_op s.banks.geometry.page j.op j.length ≤ record_pages_of job_of.length n) page_is (op_few s.banks.geometry.page j.op j.length job_of.length some_page job_of.fits) in
       let same = wanted_is in
       omega (arith, less, fits, same)
 
@@ -197,33 +182,25 @@ module _ (m : Making) (entry : Told) (s : Parts) (listed : List (DeviceNumber ×
   is_worn = worn_now e since j.number.0 refl few_now room_now
 
   -- BEHIND IT
-  none : MakesNone d e
-  none = record { making = refl; entry = refl; operations = refl; bytes = refl }
+  asks_none : AsksNone m entry s t
+  asks_none = record { only = refl; more = omega arith; counted = inl refl; worn = λ x at. inr (subst (IsWornSince e) (some_is x at) (worn_since s.worn refl)) }
 
   run_on : HasRun e
-  run_on = runs_stay d e on.sound.device.run (record {
-    none = none;
-    bytes = refl;
-    counts = (refl, refl);
-    flash_faults = omega arith;
-    faults = on.sound.device.run.faults;
-    cuts = on.sound.device.run.cuts;
-    worn = λ x at. inr (subst (IsWornSince e) (some_is x at) (worn_since s.worn refl));
-  })
+  run_on = run m entry s listed kept count on t asks_none
 
-  has_job : HasJob m.numbers ended mem.old
+  has_job : HasJob m.numbers (Ended JobFailed []) (memory_of s).old
   has_job = has_none m.numbers s.banks.active s.banks.log s.banks.log.tail (body_of (work_in s.banks.log.tail) s.content) [] JobFailed is.idle
 
-  held_then : (bytes : List ℕ) (wide : May) → IsHeld l m.numbers bytes mem wide → IsHeld l m.numbers bytes (memory_of t) wide
-  held_then bytes wide held = jobs_change l m.numbers bytes mem wide ended (record { lengths = lengths m entry s listed kept count on; legal = legal m entry s listed kept count on; held = held }) has_job
+  held_then : (bytes : List ℕ) (wide : May) → IsHeld (banks_of m) m.numbers bytes (memory_of s) wide → IsHeld (banks_of m) m.numbers bytes (memory_of t) wide
+  held_then bytes wide held = jobs_change (banks_of m) m.numbers bytes (memory_of s) wide (Ended JobFailed []) (record { lengths = lengths m entry s listed kept count on; legal = legal m entry s listed kept count on; held = held }) has_job
 
   abbrev more : May
   more = copied m entry s listed kept count on
 
-  kept_at : (bytes : List ℕ) → bytes_now s.fls.flash ≡ Some bytes → IsTrue (tells d) → IsKept l m.numbers bytes bytes mem (memory_of t) more
+  kept_at : (bytes : List ℕ) → bytes_now s.fls.flash ≡ Some bytes → IsTrue (tells d) → IsKept (banks_of m) m.numbers bytes bytes (memory_of s) (memory_of t) more
   kept_at bytes at told =
       let held = held_at m entry s listed kept count on bytes at told in
-      record { held = held_then bytes more held; keeps = jobs_keep l m.numbers bytes mem (memory_of t) more held (same_places mem.old) (inr refl) }
+      record { held = held_then bytes more held; keeps = jobs_keep (banks_of m) m.numbers bytes (memory_of s) (memory_of t) more held (same_places (memory_of s).old) (inr refl) }
 
   same_bytes : (old new : List ℕ) → bytes_now s.fls.flash ≡ Some old → bytes_now s.fls.flash ≡ Some new → old ≡ new
   same_bytes old new a b = cc (a, b)
@@ -231,71 +208,28 @@ module _ (m : Making) (entry : Told) (s : Parts) (listed : List (DeviceNumber ×
   keeps_all : KeepsAll (told_of d) (told_of e)
   keeps_all = kept_is_told d e more
       (record { same = record { making = refl; entry = refl; old = on.sound.device.run.alike; new = run_on.alike }; old = on.started; new = on.started })
-      (λ old new told. subst (λ (x : List ℕ). IsKept l m.numbers old x mem (memory_of t) more) (same_bytes old new told.1 told.2) (kept_at old told.1 told.0))
+      (λ old new told. subst (λ (x : List ℕ). IsKept (banks_of m) m.numbers old x (memory_of s) (memory_of t) more) (same_bytes old new told.1 told.2) (kept_at old told.1 told.0))
 
   behind : HoldsBehind e
-  behind = record {
-    behind = memory_of t;
-    copied = more;
-    banks = record {
-      started = on.started;
-      alike = run_on.alike;
-      legal = legal m entry s listed kept count on;
-      some = some m entry s listed kept count on;
-      held = λ told. each_told s.fls.flash.bytes (λ (x : List ℕ). IsHeld l m.numbers x (memory_of t) more) (λ bytes at. (kept_at bytes at told).held);
-    };
-    places = same_places (memory_of t).old;
-    stand = refl;
-    on = λ power. refl;
-    idle = inl refl;
-  }
+  behind = held_behind m entry s listed kept count on t asks_none more (λ bytes at told. (kept_at bytes at told).held)
 
   -- THE PARTS
   no_switch : switch_turns m.reserve s.banks None s.banks.course ≡ 0
   no_switch = rests_none m.reserve s.banks s.banks.course is.shut
 
-  work_then : IsWork m.geometry.page (sectors_of_bank m.geometry m.banks) m.numbers m.reserve ended (work_of m.reserve s.banks None)
-  work_then = record { job = tt; few = let h = no_switch in omega (arith, h) }
+  shaped : IsShaped m s.banks
+  shaped = record { geometry = on.sound.made_for.banks_geometry; shared = on.sound.made_for.shared; numbers = on.sound.made_for.numbers }
 
-  sound : IsSound m entry t listed kept count false
-  sound =
-      let made = on.sound.made_for in
-      record {
-        made_for = record {
-          geometry = made.geometry;
-          idle = record { job = made.idle.job; attached = made.idle.attached };
-          banks_geometry = made.banks_geometry;
-          shared = made.shared;
-          numbers = made.numbers;
-          space = made.space;
-          bytes = made.bytes;
-          room = made.room;
-          given = omega arith;
-          ended = λ same. cc;
-        };
-        device = record {
-          run = run_on;
-          held = λ started. behind;
-          order = in_order m entry t (shape m entry s listed kept count on) (lengths m entry s listed kept count on) work_then (behind_finds e on.started behind);
-          faults = on.sound.device.faults;
-        };
-        rests = λ stopped. (let h = on.started in absurd (cc (h, stopped)));
-        works = λ started. record {
-          active = at_work.active;
-          job = tt;
-          work = subst (λ (o : Option RecHead). IfSome o (IsInWork s.banks None)) (sym is.idle) tt;
-          ready = tt;
-          switch = at_work.switch;
-        };
-        room = λ started on'. on.sound.room started on';
-        copies = λ on' told. each_now s.fls.flash.bytes (λ (x : List ℕ). IfSome s.banks.course (λ y. ShowsCopies m t y x)) (λ bytes at. no_copies m t bytes s.banks.course is.shut);
-        cuts = on.sound.cuts;
-        worn = λ x at. subst (IsWorn t) (some_is x at) (record { passed = few_now; shut = is.shut });
-        numbers = on.sound.numbers;
-        reserve = on.sound.reserve;
-        ops = on.sound.ops;
-        off = on.sound.off;
-      }
+  facts : Facts m entry s listed kept count on t asks_none
+  facts = record {
+    ends = record { same = record { geometry = refl; banks = refl; numbers = refl }; room = on.sound.made_for.room; given_few = omega arith; ended = λ same. cc };
+    behind = behind;
+    work = resting_work m s.banks JobFailed [] shaped at_work.switch;
+    at_work = idle_at_work m t is.idle at_work.active tt tt at_work.switch;
+    room = on.sound.room on.started (power m entry s listed kept count on);
+    copies = λ on' told. each_now s.fls.flash.bytes (λ (x : List ℕ). IfSome s.banks.course (λ y. ShowsCopies m t y x)) (λ bytes at. no_copies m t bytes s.banks.course is.shut);
+    worn = λ x at. subst (IsWorn t) (some_is x at) (record { passed = few_now; shut = is.shut });
+  }
 
   -- THE TURN
   abbrev at : Option FeeJob → Stand
@@ -314,7 +248,7 @@ module _ (m : Making) (entry : Told) (s : Parts) (listed : List (DeviceNumber ×
   none_begins = never_begins m.reserve s.banks j is.full
 
   none_claimed : claimed s.banks s.job ≡ 0
-  none_claimed = ap (claimed s.banks) is.job ∙ ap (λ (b : Bool). if b then pages_of_op p j.op j.length else 0) none_begins
+  none_claimed = ap (claimed s.banks) is.job ∙ ap (λ (b : Bool). if b then pages_of_op s.banks.geometry.page j.op j.length else 0) none_begins
 
   ready_same : (told_of d).ready ≤ (told_of e).ready
   ready_same =
@@ -339,14 +273,14 @@ module _ (m : Making) (entry : Told) (s : Parts) (listed : List (DeviceNumber ×
       let promised = not_promised j.promised refl in
       ap (λ (o : Option FeeJob). wait_of (waits_of s.banks o)) is.job ∙ (λ i. wait_of (record (waits_of s.banks (Some j)) { urgent = is_urgent i; promised = promised i }))
 
-  pages_whole : pages_left p (pages_of_job p s.job) s.banks.log.tail ≡ pages_of_op p j.op j.length
-  pages_whole = left_wanted p (pages_of_job p s.job) s.banks.log.tail is.idle ∙ ap (pages_of_job p) is.job
+  pages_whole : pages_left s.banks.geometry.page (pages_of_job s.banks.geometry.page s.job) s.banks.log.tail ≡ pages_of_op s.banks.geometry.page j.op j.length
+  pages_whole = left_wanted s.banks.geometry.page (pages_of_job s.banks.geometry.page s.job) s.banks.log.tail is.idle ∙ ap (pages_of_job s.banks.geometry.page) is.job
 
   falls : (told_of e).left < (told_of d).left
   falls =
       let zero = no_switch in
       let whole = pages_whole in
-      let many = op_some p j.op j.length is.writes in
+      let many = op_some s.banks.geometry.page j.op j.length is.writes in
       let w = work_of m.reserve s.banks s.job in
       subst (λ (o : Option FeeJob). switch_turns m.reserve s.banks None s.banks.course < turns_left (at o) (work_of m.reserve s.banks s.job)) (sym is.job)
       (subst (λ (o : Option Mark). switch_turns m.reserve s.banks None s.banks.course < turns_of o (work_of m.reserve s.banks s.job) + switch_turns m.reserve s.banks s.job s.banks.course) (sym mark.1) (omega (arith, zero, whole, many)))
@@ -357,29 +291,15 @@ module _ (m : Making) (entry : Told) (s : Parts) (listed : List (DeviceNumber ×
   may_fail : MayFail First asks (told_of d) (told_of e) (clock_of e)
   may_fail = inr (λ none. (let x = mark.1 in cc (x, none)), is_worn)
 
-  works : Works First (told_of d) (told_of e) (clock_of e)
-  works = record {
-    only = refl;
-    up = on.started;
-    of = subst (λ (o : Option FeeJob). IsOf First (fixed_in m) (at o)) (sym is.job) (tt, sym (first_of m j.number.0));
-    part = parts_read d e (record { flash = refl; operations = refl; more = omega arith; faults = inl refl; small = on.sound.device.faults }) (power m entry s listed kept count on);
-    job = subst (λ (o : Option FeeJob). JobTurns First (at o) ended (told_of d) (told_of e) (clock_of e)) (sym is.job) (ends, λ failed. may_fail);
+  pub worn_out : Turned m entry turn.Worked s t listed kept count false
+  worn_out = worked m entry s listed kept count on t asks_none facts (record {
+    something = subst (λ (o : Option FeeJob). not (is_open (at o)) && not (told_of d).switching ≡ false) (sym is.job) refl;
+    job_turns = subst (λ (o : Option FeeJob). JobTurns First (at o) (Ended JobFailed []) (told_of d) (told_of e) (clock_of e)) (sym is.job) (ends, λ failed. may_fail);
     read = subst (λ (o : Option FeeJob). is_read (at o) ≡ true → ((told_of e).ops ≡ (told_of d).ops) × ((told_of e).slots ≡ (told_of d).slots)) (sym is.job) (λ read. (let none = has_none' in absurd (cc (read, none))));
     nearer = inl falls;
     ready = λ calm. if_else (urgent_first (fixed_in m) (at s.job)) (Nearer (told_of d) (told_of e)) ((told_of d).ready ≤ (told_of e).ready) (λ urgent v wait. (let none = waits_none urgent in absurd (cc (wait, none)))) (λ calm'. ready_same);
-  }
-
-  pub worn_out : Turned m entry turn.Worked s t listed kept count false
-  worn_out = record {
-    turns = (
-      (
-        subst (λ (o : Option FeeJob). not (is_open (at o)) && not (told_of d).switching ≡ false) (sym is.job) refl,
-        (First, works, clocks_pass turn.Worked d e none (worn_either s.worn refl)),
-      ),
-      sound.device.order,
-    );
-    sound = sound;
-  }
+    worn = worn_either s.worn refl;
+  })
 
 pub wears_out : WearsOut
 wears_out m entry s listed kept count j on is = worn_out m entry s listed kept count j on is

@@ -81,51 +81,28 @@ abbrev pub failed_with : Option FeeJob → Parts → Parts
 failed_with None s = s
 failed_with (Some j) s = ended_as JobFailed s
 
+-- what a turn in which it had this answer comes to: the switch goes on, or ends with its gate, it failed, or the power went off
+abbrev pub StepTurned : FlashAnswer → Making → Told → Parts → List (DeviceNumber × ℕ) → ℕ → ℕ → Course → BanksState → FlsState → Type 0
+StepTurned Done m entry s listed kept count c made f = Turned m entry turn.Worked s (operated (step_op s.banks c) Done f (after_answer made c Done) s) listed kept (next_count count) false
+StepTurned Failed m entry s listed kept count c made f = Turned m entry turn.Worked s (failed_with s.job (operated (step_op s.banks c) Failed f (after_answer made c Failed) s)) listed kept (next_count count) false
+StepTurned Off m entry s listed kept count c made f = Turned m entry turn.Off s (operated (step_op s.banks c) Off f (after_answer made c Off) s) listed kept (next_count count) true
+
 -- AN ERASE, A PAGE OF THE COPY IN WORK, THE HEAD, THE GATE
 -- any step but the first one of a copy
 abbrev pub IsWithin : Course → Type 0
 IsWithin (Copy None) = ⊥
 IsWithin _ = Unit {0}
 
--- it is done: the switch goes on, or ends with its gate
-abbrev pub SwitchesGoOn : Type 0
-SwitchesGoOn =
+abbrev pub SwitchesTurn : FlashAnswer → Type 0
+SwitchesTurn answer =
     (m : Making) (entry : Told) (s : Parts) (listed : List (DeviceNumber × ℕ)) (kept count : ℕ) (c : Course) (made : BanksState) (f : FlsState)
-    → IsStepping m entry s listed kept count c made Done f → IsWithin c
-    → Turned m entry turn.Worked s (operated (step_op s.banks c) Done f (after_answer made c Done) s) listed kept (next_count count) false
-
--- it failed
-abbrev pub SwitchesFail : Type 0
-SwitchesFail =
-    (m : Making) (entry : Told) (s : Parts) (listed : List (DeviceNumber × ℕ)) (kept count : ℕ) (c : Course) (made : BanksState) (f : FlsState)
-    → IsStepping m entry s listed kept count c made Failed f → IsWithin c
-    → Turned m entry turn.Worked s (failed_with s.job (operated (step_op s.banks c) Failed f (after_answer made c Failed) s)) listed kept (next_count count) false
-
--- the power went off
-abbrev pub SwitchesAreCut : Type 0
-SwitchesAreCut =
-    (m : Making) (entry : Told) (s : Parts) (listed : List (DeviceNumber × ℕ)) (kept count : ℕ) (c : Course) (made : BanksState) (f : FlsState)
-    → IsStepping m entry s listed kept count c made Off f → IsWithin c
-    → Turned m entry turn.Off s (operated (step_op s.banks c) Off f (after_answer made c Off) s) listed kept (next_count count) true
+    → IsStepping m entry s listed kept count c made answer f → IsWithin c → StepTurned answer m entry s listed kept count c made f
 
 -- THE HEADER OF A MARK'S COPY
-abbrev pub MarksGoOn : Type 0
-MarksGoOn =
+abbrev pub MarksTurn : FlashAnswer → Type 0
+MarksTurn answer =
     (m : Making) (entry : Told) (s : Parts) (listed : List (DeviceNumber × ℕ)) (kept count : ℕ) (made : BanksState) (f : FlsState)
-    → IsStepping m entry s listed kept count (Copy None) made Done f → reads_next s.banks.log (Some (Copy None)) ≡ false
-    → Turned m entry turn.Worked s (operated (step_op s.banks (Copy None)) Done f (after_answer made (Copy None) Done) s) listed kept (next_count count) false
-
-abbrev pub MarksFail : Type 0
-MarksFail =
-    (m : Making) (entry : Told) (s : Parts) (listed : List (DeviceNumber × ℕ)) (kept count : ℕ) (made : BanksState) (f : FlsState)
-    → IsStepping m entry s listed kept count (Copy None) made Failed f → reads_next s.banks.log (Some (Copy None)) ≡ false
-    → Turned m entry turn.Worked s (failed_with s.job (operated (step_op s.banks (Copy None)) Failed f (after_answer made (Copy None) Failed) s)) listed kept (next_count count) false
-
-abbrev pub MarksAreCut : Type 0
-MarksAreCut =
-    (m : Making) (entry : Told) (s : Parts) (listed : List (DeviceNumber × ℕ)) (kept count : ℕ) (made : BanksState) (f : FlsState)
-    → IsStepping m entry s listed kept count (Copy None) made Off f → reads_next s.banks.log (Some (Copy None)) ≡ false
-    → Turned m entry turn.Off s (operated (step_op s.banks (Copy None)) Off f (after_answer made (Copy None) Off) s) listed kept (next_count count) true
+    → IsStepping m entry s listed kept count (Copy None) made answer f → reads_next s.banks.log (Some (Copy None)) ≡ false → StepTurned answer m entry s listed kept count (Copy None) made f
 
 -- A READ
 -- the content that is copied next was read, to the buffer's front

@@ -55,7 +55,7 @@ noted_none (n ∷ ns) (place ∷ places) at h none =
     (ap (λ (l : List Place). place ∷ l) (noted_none ns places at h (λ k d lt. none (suc k) d (omega arith))))
 
 -- a record of the number at an index changes its place, where it fits
-pub noted_at : (low : ℕ) (ns : List (DeviceNumber × ℕ)) (places : List Place) (at : ℕ) (h : RecHead) (i : ℕ) (d : DeviceNumber × ℕ)
+noted_at : (low : ℕ) (ns : List (DeviceNumber × ℕ)) (places : List Place) (at : ℕ) (h : RecHead) (i : ℕ) (d : DeviceNumber × ℕ)
     → AreLengths low ns → length places ≡ length ns → i < length ns
     → ((n : DeviceNumber × ℕ) → (get_or ns i n).0.0 ≡ h.number)
     → noted ns places at h ≡ (if fits (get_or ns i d).0.0 (get_or ns i d).1 h then set places i (place_at at h) else places)
@@ -71,6 +71,13 @@ noted_at low (n ∷ ns) (place ∷ places) at h (suc i) d all each lt is =
           places at h i d all.4 (omega arith) (omega arith) is,
     )
     (cons_pick (fits (get_or ns i d).0.0 (get_or ns i d).1 h) place (set places i (place_at at h)) places)
+
+-- by what was found of them
+pub noted_by : (ns list : List (DeviceNumber × ℕ)) (places : List Place) (at : ℕ) (h : RecHead) (i : ℕ) (ok : Bool)
+    → AreLengths 0 ns → length places ≡ length ns → i < length ns → ((n : DeviceNumber × ℕ) → (get_or ns i n).0.0 ≡ h.number)
+    → list ≡ ns → (let d : DeviceNumber × ℕ = (record { 0 = 0 }, 0) in ok ≡ fits (get_or list i d).0.0 (get_or list i d).1 h)
+    → noted ns places at h ≡ (if ok then set places i (place_at at h) else places)
+noted_by ns list places at h i ok all each lt is same fit = rw (fit, same) (noted_at 0 ns places at h i (record { 0 = 0 }, 0) all each lt is)
 
 -- FLAGS
 pub flags_none : (ns : List (DeviceNumber × ℕ)) (flags : List Bool) (number : ℕ) (on : Bool)

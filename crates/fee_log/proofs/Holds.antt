@@ -83,33 +83,25 @@ begins_hold s head before body bytes may sound holds idle is room size commit =
     record { size = holds.size; holds = both.0; follows = both.1 }
 
 -- A RECORD IS GIVEN UP
+-- no record waits then, so that no content counts
 module _ (s : LogState) where
-  given_same : (tail : Tail) (body after : List ℕ)
-      → log_of (given_up (record s { tail = tail })) body ≡ log_of (given_up (record s { tail = tail })) after
-  given_same Open body after = refl
-  given_same (Writes h zero) body after = refl
-  given_same (Writes h (suc zero)) body after = refl
-  given_same (Writes h (suc (suc k))) body after = refl
-  given_same (Owes h next) body after = refl
-  given_same Closed body after = refl
-
-  given_waits : (tail : Tail) (may : May) (body : List ℕ)
-      → MayFollow may (given_up (record s { tail = tail })).tail body
-  given_waits Open may body = tt
-  given_waits (Writes h zero) may body = tt
-  given_waits (Writes h (suc zero)) may body = tt
-  given_waits (Writes h (suc (suc k))) may body = tt
-  given_waits (Owes h next) may body = tt
-  given_waits Closed may body = tt
+  given : (tail : Tail) (may : May) (body after : List ℕ)
+      → let up = given_up (record s { tail = tail }) in (log_of up body ≡ log_of up after) × MayFollow may up.tail after
+  given Open may body after = (refl, tt)
+  given (Writes h zero) may body after = (refl, tt)
+  given (Writes h (suc zero)) may body after = (refl, tt)
+  given (Writes h (suc (suc k))) may body after = (refl, tt)
+  given (Owes h next) may body after = (refl, tt)
+  given Closed may body after = (refl, tt)
 
 pub given_up_holds : GivenUpHolds
 given_up_holds s body after bytes may sound holds = record {
   size = holds.size;
   holds =
       subst (λ (l : Log). HoldsLog (bank_of s) s.numbers bytes may l)
-      (sym (given_up_follows s body) ∙ given_same s s.tail body after)
+      (sym (given_up_follows s body) ∙ (given s s.tail may body after).0)
       (logs_given_up (bank_of s) s.numbers bytes may (log_of s body) sound.geometry.page_low holds.holds);
-  follows = given_waits s s.tail may after;
+  follows = (given s s.tail may body after).1;
 }
 
 pub flags_hold : FlagsHold

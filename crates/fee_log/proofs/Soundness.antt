@@ -12,11 +12,12 @@ use Rattle.fee_format.specs.RecHead.{IsLegalRecHead}
 use Rattle.fee_image.specs.RecordList.{pages_of_head, records_of, end_of}
 use Rattle.fee_view.specs.View.{View, IsView, bank_of as viewed_bank}
 use Rattle.fee_image.specs.Log.{Closed as LogClosed}
+use Rattle.fee_image.specs.declared.place.Place.{Place}
 use Rattle.fee_image.specs.May.{exactly}
 use Rattle.fee_image.specs.Places.{noted, places_of}
 use Rattle.fee_log.specs.declared.tail.Tail.{Tail}
 use Rattle.fee_log.specs.declared.tail.Tail.TheVariants.{Open, Writes, Owes, Closed}
-use Rattle.fee_log.specs.Index.{clear_flags, AreWithin}
+use Rattle.fee_log.specs.Index.{clear_flags, AreCounted, AreWithin}
 use Rattle.fee_log.specs.Log.{LogState, IsLogState, HasFormat, IsTail, IsTailSeen, IsViewOf, IsFor, pages_in, free_in, free_behind, work_in, tail_begun, begun, erased_state}
 use Rattle.fee_log.proofs.Counts.{erased_counted, loaded_counted, noted_counted}
 use Rattle.fee_log.proofs.Changes.{clear_length, flag_length}
@@ -36,65 +37,50 @@ writes_format s h k sound is = subst (HasFormat s.format) is sound.format
 owes_format : (s : LogState) (h : RecHead) (next : Option RecHead) → IsLogState s → s.tail ≡ Owes h next → s.format ≡ new_format
 owes_format s h next sound is = subst (HasFormat s.format) is sound.format
 
+-- the records reach further, whatever comes next
+moved_sound : (s : LogState) (places : List Place) (end : ℕ) (tail : Tail) → IsLogState s → HasFormat s.format tail → AreWithin s.geometry.page end s.numbers places → AreCounted places
+    → s.end ≤ end → end ≤ pages_in s → IsTail s.geometry.page (pages_in s) end tail → IsLogState (record s { places = places; end = end; tail = tail })
+moved_sound s places end tail sound format within counted more high is = record {
+  geometry = sound.geometry;
+  shared = sound.shared;
+  bank = sound.bank;
+  format = format;
+  numbers = sound.numbers;
+  places = within;
+  counts = counted;
+  flags = sound.flags;
+  end_low = omega (arith, sound.end_low, more);
+  end_high = high;
+  tail = is;
+}
+
 -- the next record goes behind one that was in work
 pub behind_sound : (s : LogState) (h : RecHead) (k : ℕ) → IsLogState s → s.tail ≡ Writes h k
     → IsLogState (record s { end = s.end + pages_of_head s.geometry.page h; tail = Open })
 behind_sound s h k sound is =
+    let end = s.end + pages_of_head s.geometry.page h in
     let tail = tail_sound s (Writes h k) sound is in
-    record {
-      geometry = sound.geometry;
-      shared = sound.shared;
-      bank = sound.bank;
-      format = writes_format s h k sound is;
-      numbers = sound.numbers;
-      places =
-          further s.geometry.page s.end (s.end + pages_of_head s.geometry.page h) s.numbers s.places (omega arith) sound.places;
-      counts = sound.counts;
-      flags = sound.flags;
-      end_low = omega (arith, sound.end_low);
-      end_high = tail.2;
-      tail = tt;
-    }
+    moved_sound s s.places end Open sound (writes_format s h k sound is)
+    (further s.geometry.page s.end end s.numbers s.places (omega arith) sound.places) sound.counts (omega arith) tail.2 tt
 
 -- which is its number's last one
 pub committed_sound : (s : LogState) (h : RecHead) (k : ℕ) → IsLogState s → s.tail ≡ Writes h k
     → IsLogState (record s { end = s.end + pages_of_head s.geometry.page h; tail = Open; places = noted s.numbers s.places s.end h })
 committed_sound s h k sound is =
+    let end = s.end + pages_of_head s.geometry.page h in
     let tail = tail_sound s (Writes h k) sound is in
-    record {
-      geometry = sound.geometry;
-      shared = sound.shared;
-      bank = sound.bank;
-      format = writes_format s h k sound is;
-      numbers = sound.numbers;
-      places =
-          noted_within s.geometry.page s.end (s.end + pages_of_head s.geometry.page h) s.numbers s.places h sound.end_low (omega arith) sound.places;
-      counts = noted_counted s.numbers s.places s.end h tail.0.count sound.counts;
-      flags = sound.flags;
-      end_low = omega (arith, sound.end_low);
-      end_high = tail.2;
-      tail = tt;
-    }
+    moved_sound s (noted s.numbers s.places s.end h) end Open sound (writes_format s h k sound is)
+    (noted_within s.geometry.page s.end end s.numbers s.places h sound.end_low (omega arith) sound.places)
+    (noted_counted s.numbers s.places s.end h tail.0.count sound.counts) (omega arith) tail.2 tt
 
 -- a record that waited for an owed gate begins
 pub followed_sound : (s : LogState) (h next : RecHead) → IsLogState s → s.tail ≡ Owes h (Some next)
     → IsLogState (record s { end = s.end + pages_of_head s.geometry.page h; tail = Writes next 0 })
 followed_sound s h next sound is =
+    let end = s.end + pages_of_head s.geometry.page h in
     let tail = tail_sound s (Owes h (Some next)) sound is in
-    record {
-      geometry = sound.geometry;
-      shared = sound.shared;
-      bank = sound.bank;
-      format = owes_format s h (Some next) sound is;
-      numbers = sound.numbers;
-      places =
-          further s.geometry.page s.end (s.end + pages_of_head s.geometry.page h) s.numbers s.places (omega arith) sound.places;
-      counts = sound.counts;
-      flags = sound.flags;
-      end_low = omega (arith, sound.end_low);
-      end_high = omega (arith, tail.0);
-      tail = (tail.1, omega arith, omega (arith, tail.0));
-    }
+    moved_sound s s.places end (Writes next 0) sound (owes_format s h (Some next) sound is)
+    (further s.geometry.page s.end end s.numbers s.places (omega arith) sound.places) sound.counts (omega arith) (omega (arith, tail.0)) (tail.1, omega arith, omega (arith, tail.0))
 
 -- A RECORD BEGINS
 -- a record of a configured number has a legal header

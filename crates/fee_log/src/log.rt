@@ -43,32 +43,13 @@ pub struct Log {
 
 impl Model for Log {
     ghost use Rattle.fee_log.specs.Log.{LogState, IsLogState};
+    ghost use Rattle.fee_log.specs.Inside.{shown};
 
     ghost Value = { LogState };
 
-    ghost view = { λ l. record {
-      geometry = l.geometry;
-      banks = l.banks;
-      bank = l.bank;
-      format = l.format;
-      numbers = l.numbers;
-      places = l.places.items;
-      flags = l.flags.items;
-      end = l.end;
-      tail = l.tail;
-    } };
+    ghost view = { shown };
 
-    ghost invariant = { λ l. IsLogState (record {
-      geometry = l.geometry;
-      banks = l.banks;
-      bank = l.bank;
-      format = l.format;
-      numbers = l.numbers;
-      places = l.places.items;
-      flags = l.flags.items;
-      end = l.end;
-      tail = l.tail;
-    }) };
+    ghost invariant = { λ l. IsLogState (shown l) };
 }
 
 impl Log {

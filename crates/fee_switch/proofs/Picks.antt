@@ -11,17 +11,18 @@ use Rattle.fee_switch.specs.Copy.{CanBegin, IsNext, CanCopy}
 same_source : (a b : Source) (o : Option Source) → o ≡ Some a → o ≡ Some b → a ≡ b
 same_source a b o e f = cc
 
-module _ (s : BanksState) (can : CanCopy s) (source : Source) (ns : List (DeviceNumber × ℕ)) (ps : List Place) (cs : List Bool) (found : Some source ≡ next_copy ns ps cs) (a : ns ≡ s.log.numbers) (b : ps ≡ s.log.places) (c : cs ≡ s.log.flags) where
-  pub is_source : can.source ≡ source
-  is_source = same_source can.source source (next_copy ns ps cs) (rw (a, b, c) can.next.first) (sym found)
+-- with the lists of the banks as they show
+module _ (s t : BanksState) (can : CanCopy s) (is : t ≡ s) (source : Source) (ns : List (DeviceNumber × ℕ)) (ps : List Place) (cs : List Bool) (found : Some source ≡ next_copy ns ps cs) (a : ns ≡ t.log.numbers) (b : ps ≡ t.log.places) (c : cs ≡ t.log.flags) where
+  is_source : can.source ≡ source
+  is_source = same_source can.source source (next_copy ns ps cs) (rw (a, b, c, is) can.next.first) (sym found)
 
   pub is_inside : source.index < length ns
-  is_inside = rw (a, ← is_source) can.next.inside
+  is_inside = rw (a, is, ← is_source) can.next.inside
 
   pub picked : (x d : DeviceNumber × ℕ) → x ≡ slice_index_or ns source.index d → IsNext s source x.0 × CanBegin s x.0 source
-  picked x d is =
+  picked x d at =
       let named = can.next.named d in
-      let here : x ≡ slice_index_or s.log.numbers can.source.index d = rw (← a, is_source) is in
+      let here : x ≡ slice_index_or s.log.numbers can.source.index d = rw (← is, ← a, is_source) at in
       let number : can.number ≡ x.0 = ap (λ (y : DeviceNumber × ℕ). y.0) (sym named ∙ sym here) in (
         subst (λ (n : DeviceNumber). IsNext s source n) number (subst (λ (y : Source). IsNext s y can.number) is_source can.next),
         subst (λ (n : DeviceNumber). CanBegin s n source) number (subst (λ (y : Source). CanBegin s can.number y) is_source can.can),

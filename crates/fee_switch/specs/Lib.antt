@@ -5,3 +5,4 @@ pub mod Target
 pub mod Active
 pub mod StartLaws
 pub mod Reading
+pub mod Inside

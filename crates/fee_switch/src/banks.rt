@@ -1,18 +1,16 @@
 // The banks of a flash.
-ghost use Rattle.std.specs.Prelude.{◌≡◌, ◌<◌, ◌≤◌, true, false, None, IfOk, MatchOption, option_map, is_some};
-ghost use Rattle.nv_base.specs.Geometry.{IsLegal, HasBanks, sectors_of_bank};
-ghost use Rattle.fls_jobs.specs.Start.{IsIdle};
-ghost use Rattle.fee_switch.specs.Banks.{IsBanksState, IsMade, phase_of};
-ghost use Rattle.std.specs.Prelude.{IsSome, Some, length};
+ghost use Rattle.std.specs.Prelude.{◌≡◌, ◌<◌, ◌≤◌, true, false, None, Some, IsSome, IfOk, MatchOption, option_map, is_some, length};
 ghost use Rattle.std.specs.List.{All};
 ghost use Rattle.std.specs.Option.{ForSome};
+ghost use Rattle.nv_base.specs.Geometry.{IsLegal, HasBanks, sectors_of_bank};
 ghost use Rattle.nv_base.specs.Pages.{record_pages_of};
 ghost use Rattle.fls_model.specs.Step.{IsStep};
 ghost use Rattle.fls_jobs.specs.CallOf.{closed_as};
+ghost use Rattle.fls_jobs.specs.Start.{IsIdle};
 ghost use Rattle.fee_log.specs.Index.{clear_flags};
 ghost use Rattle.fee_log.specs.Log.{IsLogState, IsFor, work_in, free_in, begun};
 ghost use Rattle.fee_log.specs.Step.{IsPageOf, IsStepAt, due_bytes, op_of, answer_of, after_step, given_up};
-ghost use Rattle.fee_switch.specs.Banks.{TakesRecord, left_of, is_worn_out, reads_place, reads_next, begun_again, append_begun};
+ghost use Rattle.fee_switch.specs.Banks.{IsBanksState, IsMade, TakesRecord, phase_of, left_of, is_worn_out, reads_place, reads_next, begun_again, append_begun};
 
 use crate::due::reads_place;
 use crate::phase::phase_of;
@@ -42,30 +40,13 @@ pub struct Banks {
 
 impl Model for Banks {
     ghost use Rattle.fee_switch.specs.Banks.{BanksState, IsBanksState};
+    ghost use Rattle.fee_switch.specs.Inside.{shown};
 
     ghost Value = { BanksState };
 
-    ghost view = { λ b. record {
-      geometry = b.geometry;
-      banks = b.banks;
-      active = b.active;
-      target = b.target;
-      course = b.course;
-      log = b.log;
-      copies = b.copies;
-      buffer = b.buffer.items;
-    } };
+    ghost view = { shown };
 
-    ghost invariant = { λ b. IsBanksState (record {
-      geometry = b.geometry;
-      banks = b.banks;
-      active = b.active;
-      target = b.target;
-      course = b.course;
-      log = b.log;
-      copies = b.copies;
-      buffer = b.buffer.items;
-    }) };
+    ghost invariant = { λ b. IsBanksState (shown b) };
 }
 
 impl Banks {

@@ -8,12 +8,12 @@ ghost use Rattle.fls_model.specs.Step.{IsStep};
 ghost use Rattle.fls_jobs.specs.CallOf.{closed_as};
 ghost use Rattle.fls_jobs.specs.Start.{IsIdle};
 ghost use Rattle.fee_log.specs.Log.{IsFor, work_in, free_in, begun};
-ghost use Rattle.fee_log.specs.Step.{op_of, after_step, answer_of};
+ghost use Rattle.fee_log.specs.Step.{op_of, after_step};
 ghost use Rattle.fee_switch.specs.Copy.{begun_where, head_at};
 
 use fee_format::RecHead;
 use fee_image::Place;
-use fee_log::{Log, LogStep};
+use fee_log::Log;
 use fls_jobs::Fls;
 use fls_model::{Flash, FlashAnswer};
 use nv_base::DeviceNumber;
@@ -33,17 +33,6 @@ pub(crate) fn head_at(place: Place, number: DeviceNumber, size: u16) -> RecHead
         kind,
         length,
         count,
-    }
-}
-
-// The flash's answer to a step of a log.
-fn answer_of(step: LogStep) -> FlashAnswer
-    ensures { result ≡ answer_of step }
-{
-    match step {
-        LogStep::More | LogStep::Committed => FlashAnswer::Done,
-        LogStep::Failed => FlashAnswer::Failed,
-        LogStep::Off => FlashAnswer::Off,
     }
 }
 
@@ -92,7 +81,7 @@ pub(crate) fn begin_mark<F: Flash>(fls: &mut Fls<F>, copies: &mut Log, head: Rec
     ensures same { fls.new ≡ record fls.old { flash = fls.new.flash; result = closed_as result } }
 {
     copies.append_start(head);
-    answer_of(copies.step(fls, &[]))
+    copies.step(fls, &[]).answer()
 }
 
 /// Programs the next page of the copy in work, whose content stands at the front of the buffer.
@@ -108,5 +97,7 @@ pub(crate) fn copy_page<F: Flash>(fls: &mut Fls<F>, copies: &mut Log, buffer: &[
     let Some(head) = copies.work() else {
         unreachable!();
     };
-    answer_of(copies.step(fls, &buffer[..usize::from(head.length)]))
+    copies
+        .step(fls, &buffer[..usize::from(head.length)])
+        .answer()
 }

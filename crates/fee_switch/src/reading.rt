@@ -1,8 +1,7 @@
 // Reading a bank.
 ghost use Rattle.std.specs.Prelude.{◌≡◌, ◌<◌, ◌+◌, length};
-ghost use Rattle.nv_base.specs.Geometry.{IsLegal, HasBanks, sectors_of_bank, size_of_bank};
-ghost use Rattle.fls_jobs.specs.Start.{IsIdle};
-ghost use Rattle.fee_switch.specs.Reading.{IsPartRead, IsAnswered, IsBankRead};
+ghost use Rattle.nv_base.specs.Geometry.{sectors_of_bank, size_of_bank};
+ghost use Rattle.fee_switch.specs.Reading.{IsShared, IsPartRead, IsAnswered, IsBankRead};
 
 use fls_jobs::Fls;
 use fls_model::{Flash, FlashAnswer};
@@ -17,10 +16,7 @@ fn read_sector<F: Flash>(
     sector: u32,
     into: &mut [u8],
 ) -> FlashAnswer
-    requires legal { IsLegal geometry }
-    requires geometry { fls.old.geometry ≡ geometry }
-    requires idle { IsIdle fls.old }
-    requires shared { HasBanks geometry banks }
+    requires flash { IsShared fls.old geometry banks }
     requires bank { bank < banks }
     requires sector { sector < sectors_of_bank geometry banks }
     requires size { length into.old ≡ size_of_bank geometry banks }
@@ -45,10 +41,7 @@ pub fn read_bank<F: Flash>(
     bank: u32,
     into: &mut [u8],
 ) -> FlashAnswer
-    requires legal { IsLegal geometry }
-    requires idle { IsIdle fls.old }
-    requires geometry { fls.old.geometry ≡ geometry }
-    requires shared { HasBanks geometry banks }
+    requires flash { IsShared fls.old geometry banks }
     requires bank { bank < banks }
     requires size { length into.old ≡ size_of_bank geometry banks }
     ensures read { IsBankRead geometry banks bank fls.old.flash result into.new fls.new.flash }

@@ -7,7 +7,7 @@ ghost use Rattle.fee_image.specs.Image.{layout_of, bank_in};
 ghost use Rattle.fee_image.specs.Laws.{bank_bytes};
 ghost use Rattle.fee_image.specs.RecordList.{StandsAs, StandsNot};
 ghost use Rattle.fee_view.specs.View.{own_bank};
-ghost use Rattle.fee_switch.specs.Reading.{IsAnswered};
+ghost use Rattle.fee_switch.specs.Reading.{IsShared, IsAnswered};
 ghost use Rattle.fee_switch.specs.Start.{AreTaken, TakesNext, IsLogAt, IsSameShape};
 ghost use Rattle.fee_switch.specs.Banks.{IsSameFlash, IsStartOf, target_after, FindsActive, LoadsActive};
 ghost use Rattle.fee_log.specs.Index.{clear_flags};
@@ -66,40 +66,7 @@ fn take_bytes(
     }
 }
 
-// Reads a bank, and loads the log from it where it comes before the banks that were read.
-fn take_bank<F: Flash>(
-    fls: &mut Fls<F>,
-    geometry: Geometry,
-    banks: u32,
-    bank: u32,
-    first: &mut Option<ActiveBank>,
-    log: &mut Log,
-    buffer: &mut [u8],
-) -> FlashAnswer
-    requires legal { IsLegal geometry }
-    requires geometry { fls.old.geometry ≡ geometry }
-    requires idle { IsIdle fls.old }
-    requires shared { HasBanks geometry banks }
-    requires bank { bank < banks }
-    requires size { length buffer.old ≡ size_of_bank geometry banks }
-    requires log_geometry { log.old.geometry ≡ geometry }
-    requires log_banks { log.old.banks ≡ banks }
-    ensures taken { result ≡ FlashAnswer.Done → TakesNext fls.old.flash (layout_of geometry banks) bank first.old log.old first.new log.new }
-    ensures answer { IsAnswered fls.old.flash result fls.new.flash }
-    ensures same { fls.new ≡ record fls.old { flash = fls.new.flash; result = fls.new.result } }
-    ensures place { IsLogAt banks first.old log.old → IsLogAt banks first.new log.new }
-    ensures shape { IsSameShape log.old log.new }
-    ensures size { length buffer.new ≡ length buffer.old }
-{
-    match read_bank(fls, geometry, banks, bank, buffer) {
-        FlashAnswer::Done => {}
-        answer => return answer,
-    }
-    take_bytes(geometry, banks, bank, buffer, first, log);
-    FlashAnswer::Done
-}
-
-/// Reads all banks, one after another, and loads the log from the active one.
+// Reads all banks, one after another, and loads the log from the active one.
 fn take_banks<F: Flash>(
     fls: &mut Fls<F>,
     geometry: Geometry,
@@ -108,10 +75,7 @@ fn take_banks<F: Flash>(
     log: &mut Log,
     buffer: &mut [u8],
 ) -> FlashAnswer
-    requires legal { IsLegal geometry }
-    requires geometry { fls.old.geometry ≡ geometry }
-    requires idle { IsIdle fls.old }
-    requires shared { HasBanks geometry banks }
+    requires flash { IsShared fls.old geometry banks }
     requires none { first.old ≡ None }
     requires size { length buffer.old ≡ size_of_bank geometry banks }
     requires log_geometry { log.old.geometry ≡ geometry }
@@ -124,8 +88,8 @@ fn take_banks<F: Flash>(
     ensures size { length buffer.new ≡ length buffer.old }
 {
     for bank in 0..banks {
-        match take_bank(fls, geometry, banks, bank, first, log, buffer) {
-            FlashAnswer::Done => {}
+        match read_bank(fls, geometry, banks, bank, buffer) {
+            FlashAnswer::Done => take_bytes(geometry, banks, bank, buffer, first, log),
             answer => return answer,
         }
     }

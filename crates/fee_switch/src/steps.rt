@@ -1,10 +1,9 @@
 // The steps of a switch, from the active bank to its target.
-ghost use Rattle.std.specs.Prelude.{◌≡◌, ◌<◌, true, false, None, IfSome, is_some};
+ghost use Rattle.std.specs.Prelude.{◌≡◌, ◌<◌, true, false, None, Some, IfSome, is_some, length};
 ghost use Rattle.nv_base.specs.Geometry.{sectors_of_bank};
-ghost use Rattle.fls_jobs.specs.Start.{IsIdle};
-ghost use Rattle.std.specs.Prelude.{Some, length};
 ghost use Rattle.fls_model.specs.Step.{IsStep};
 ghost use Rattle.fls_jobs.specs.CallOf.{closed_as};
+ghost use Rattle.fls_jobs.specs.Start.{IsIdle};
 ghost use Rattle.fee_log.specs.Index.{clear_flags};
 ghost use Rattle.fee_log.specs.Log.{work_in};
 ghost use Rattle.fee_course.specs.Course.{IsShort};

@@ -1,7 +1,7 @@
 // The steps of a switch's target that aren't copies.
 ghost use Rattle.std.specs.Prelude.{◌≡◌, ◌<◌, ◌≤◌, ◌+◌, ◌*◌, length, take};
 ghost use Rattle.std.specs.List.{All};
-ghost use Rattle.nv_base.specs.Geometry.{IsLegal, HasBanks, address_of_page, pages_of_bank, sectors_of_bank};
+ghost use Rattle.nv_base.specs.Geometry.{address_of_page, pages_of_bank, sectors_of_bank};
 ghost use Rattle.fls_model.specs.Step.{IsStep, programs};
 ghost use Rattle.fls_model.specs.Told.{HasPage, HasSector};
 ghost use Rattle.fls_jobs.specs.CallOf.{closed_as};
@@ -58,63 +58,45 @@ fn fill_gate(size: usize, buffer: &mut [u8])
     write_gate(&mut buffer[..size]);
 }
 
-// Programs a page of the bank.
-fn program_page<F: Flash>(
-    fls: &mut Fls<F>,
-    geometry: Geometry,
-    banks: u32,
-    bank: u32,
-    page: u32,
-    bytes: &[u8],
-) -> FlashAnswer
-    requires legal { IsLegal geometry }
-    requires shared { HasBanks geometry banks }
-    requires bank { bank < banks }
-    requires page { page < pages_of_bank geometry banks }
-    requires size { length bytes.now ≡ geometry.page }
-    requires idle { IsIdle fls.old }
-    requires geometry { fls.old.geometry ≡ geometry }
-    ensures step { IsStep (programs (address_of_page geometry banks bank page) bytes.now) fls.old.flash result fls.new.flash }
-    ensures same { fls.new ≡ record fls.old { flash = fls.new.flash; result = closed_as result } }
-{
-    fls.status();
-    fls.program_page(geometry.page_address(banks, bank, page), bytes)
-}
-
-// The number of a sector of the bank among those of the flash.
-fn flash_sector(geometry: Geometry, banks: u32, bank: u32, sector: u32) -> u32
-    requires legal { IsLegal geometry }
-    requires shared { HasBanks geometry banks }
-    requires bank { bank < banks }
-    requires sector { sector < sectors_of_bank geometry banks }
-    ensures value { result ≡ bank * sectors_of_bank geometry banks + sector }
-    ensures inside { result < geometry.sectors }
-{
-    bank * geometry.bank_sectors(banks) + sector
-}
-
-// Erases a sector of the bank.
-fn erase_sector<F: Flash>(
-    fls: &mut Fls<F>,
-    geometry: Geometry,
-    banks: u32,
-    bank: u32,
-    sector: u32,
-) -> FlashAnswer
-    requires legal { IsLegal geometry }
-    requires shared { HasBanks geometry banks }
-    requires bank { bank < banks }
-    requires sector { sector < sectors_of_bank geometry banks }
-    requires idle { IsIdle fls.old }
-    requires geometry { fls.old.geometry ≡ geometry }
-    ensures step { IsStep (erase_of geometry banks bank sector) fls.old.flash result fls.new.flash }
-    ensures same { fls.new ≡ record fls.old { flash = fls.new.flash; result = closed_as result } }
-{
-    fls.status();
-    fls.erase_sector(flash_sector(geometry, banks, bank, sector))
-}
-
 impl Target {
+    // Programs a page of the bank.
+    fn program_page<F: Flash>(&self, fls: &mut Fls<F>, page: u32, bytes: &[u8]) -> FlashAnswer
+        requires target { IsTarget self.now }
+        requires page { page < pages_of_bank self.now.geometry self.now.banks }
+        requires size { length bytes.now ≡ self.now.geometry.page }
+        requires idle { IsIdle fls.old }
+        requires geometry { fls.old.geometry ≡ self.now.geometry }
+        ensures step { IsStep (programs (address_of_page self.now.geometry self.now.banks self.now.bank page) bytes.now) fls.old.flash result fls.new.flash }
+        ensures same { fls.new ≡ record fls.old { flash = fls.new.flash; result = closed_as result } }
+    {
+        fls.status();
+        let address = self.geometry.page_address(self.banks, self.bank, page);
+        fls.program_page(address, bytes)
+    }
+
+    // The number of a sector of the bank among those of the flash.
+    fn flash_sector(&self, sector: u32) -> u32
+        requires target { IsTarget self.now }
+        requires sector { sector < sectors_of_bank self.now.geometry self.now.banks }
+        ensures value { result ≡ self.now.bank * sectors_of_bank self.now.geometry self.now.banks + sector }
+        ensures inside { result < self.now.geometry.sectors }
+    {
+        self.bank * self.geometry.bank_sectors(self.banks) + sector
+    }
+
+    // Erases a sector of the bank.
+    fn erase_sector<F: Flash>(&self, fls: &mut Fls<F>, sector: u32) -> FlashAnswer
+        requires target { IsTarget self.now }
+        requires sector { sector < sectors_of_bank self.now.geometry self.now.banks }
+        requires idle { IsIdle fls.old }
+        requires geometry { fls.old.geometry ≡ self.now.geometry }
+        ensures step { IsStep (erase_of self.now.geometry self.now.banks self.now.bank sector) fls.old.flash result fls.new.flash }
+        ensures same { fls.new ≡ record fls.old { flash = fls.new.flash; result = closed_as result } }
+    {
+        fls.status();
+        fls.erase_sector(self.flash_sector(sector))
+    }
+
     fn call<F: Flash>(&self, fls: &mut Fls<F>) -> FlashAnswer
         requires target { IsTarget self.now }
         requires idle { IsIdle fls.old }
@@ -127,28 +109,14 @@ impl Target {
         let pages = self.geometry.bank_pages(self.banks);
         prove!(4 <= pages);
         match self.stage {
-            Stage::Erase { done } => erase_sector(fls, self.geometry, self.banks, self.bank, done),
+            Stage::Erase { done } => self.erase_sector(fls, done),
             Stage::Head => {
                 fill_head(self.generation, size, &mut buffer);
-                program_page(
-                    fls,
-                    self.geometry,
-                    self.banks,
-                    self.bank,
-                    0,
-                    &buffer[..size],
-                )
+                self.program_page(fls, 0, &buffer[..size])
             }
             Stage::Gate => {
                 fill_gate(size, &mut buffer);
-                program_page(
-                    fls,
-                    self.geometry,
-                    self.banks,
-                    self.bank,
-                    1,
-                    &buffer[..size],
-                )
+                self.program_page(fls, 1, &buffer[..size])
             }
         }
     }

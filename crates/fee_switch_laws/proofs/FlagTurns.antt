@@ -11,10 +11,10 @@ use Rattle.fee_image.specs.Image.{Layout, IsLegalLayout, bank_in, image_page}
 use Rattle.fee_image.specs.Log.{Tail, Open, Writes, Owes, Closed, Log}
 use Rattle.fee_image.specs.May.{May, IsAmong, IsWider, held_written, settling}
 use Rattle.fee_image.specs.Step.{IsRecord, IsDue, is_last, page_due, bytes_due, log_begun, log_done, may_with, may_done}
-use Rattle.fee_image.specs.Banks.{OldBank, Phase, Idle, Erasing, Copying, Sealing, Banks, Holds, HoldsOld, HoldsPhase, IsCopying}
+use Rattle.fee_image.specs.Banks.{OldBank, Erasing, Copying, Banks, Holds, HoldsOld, HoldsPhase, IsCopying}
 use Rattle.fee_image.specs.Copies.{Flag, shown_by, is_done, copied_of, cleared, settled_at, marked, Each}
-use Rattle.fee_image.specs.BankLaws.{program_of, TakesAppends, SealsWithin}
-use Rattle.fee_image.proofs.Doubts.{banks_widen}
+use Rattle.fee_image.specs.BankLaws.{program_of}
+use Rattle.fee_image.proofs.Doubts.{banks_widen, takes_within}
 use Rattle.fee_image.proofs.Logs.{records_begin as image_records_begin}
 use Rattle.fee_image.proofs.Pages.{appends_done, copies_done}
 use Rattle.fee_image.proofs.Seals.{copies_change, copies_fail as image_copies_fail, old_logs_change}
@@ -106,15 +106,9 @@ failed_copies_hold l ns old new page s q log fs legal holds phase size lt other 
     (reflagged l ns new (flagged s fs) 0 (copied_of (all_clear fs)) (image_copies_fail l ns old new page (flagged s fs) q log legal holds phase size lt other leaves), clear_flags fs)
 
 -- APPENDS
-pub within_by : (phase : Phase) (copied may : May) → TakesAppends phase → SealsWithin phase copied may
-within_by Idle copied may takes = tt
-within_by (Erasing n) copied may takes = tt
-within_by (Copying log) copied may takes = tt
-within_by (Sealing log) copied may takes = absurd takes
-
 pub flags_may_clear : FlagsMayClear
 flags_may_clear l ns bytes s number fs holds takes =
-    banks_widen l ns bytes (flagged s fs) s.may (copied_of (cleared number fs)) holds (λ number' length m among. among) (clearing_widens fs number) (within_by s.phase (copied_of (cleared number fs)) s.may takes)
+    banks_widen l ns bytes (flagged s fs) s.may (copied_of (cleared number fs)) holds (λ number' length m among. among) (clearing_widens fs number) (takes_within s.phase (copied_of (cleared number fs)) s.may takes)
 
 pub appends_may_begin : AppendsMayBegin
 appends_may_begin l ns bytes s k h log head body fs holds old takes idle is commit =
@@ -138,7 +132,7 @@ appended_pages_hold l ns old new s k h log fs legal holds is takes appends due s
     let after = appends_done l ns old new (flagged s fs) k h log legal holds is takes due size leaves stands in
     let flags = flags_appended l.page log.tail fs in
     banks_widen l ns new (record s { old = OldBank k h (log_done l.page ns log); may = may_done l.page s.may log; copied = copied_of fs }) (may_done l.page s.may log) (copied_of flags)
-    after (λ number length m among. among) (appended_wide l.page log.tail fs appends) (within_by s.phase (copied_of flags) (may_done l.page s.may log) takes)
+    after (λ number length m among. among) (appended_wide l.page log.tail fs appends) (takes_within s.phase (copied_of flags) (may_done l.page s.may log) takes)
 
 -- all sectors are erased, and no flag is set
 pub copies_start : CopiesStart

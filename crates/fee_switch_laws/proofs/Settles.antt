@@ -8,7 +8,7 @@ use Rattle.fee_image.specs.Places.{noted}
 use Rattle.fee_image.specs.Step.{is_last, log_behind}
 use Rattle.fee_image.specs.Copies.{Flag, copied_of, settled_at}
 use Rattle.fee_image.specs.BankLaws.{TakesAppends}
-use Rattle.fee_image.proofs.Doubts.{banks_widen}
+use Rattle.fee_image.proofs.Doubts.{banks_widen, takes_within}
 use Rattle.fee_log.specs.declared.tail.Tail.{Tail}
 use Rattle.fee_log.specs.declared.tail.Tail.TheVariants.{Open, Writes, Owes, Closed}
 use Rattle.fee_log.specs.Laws.{may_after}
@@ -20,7 +20,7 @@ use Rattle.fee_switch_laws.specs.Appends.{AppendsSettle, FitsFlags}
 use Rattle.fee_switch_laws.specs.Shown.{layout_in, phase_shown, banks_shown}
 use Rattle.fee_switch_laws.proofs.Appends.{other_log, appends_go_on}
 use Rattle.fee_switch_laws.proofs.Flags.{are_settled, is_placed}
-use Rattle.fee_switch_laws.proofs.FlagTurns.{appended_wide, within_by}
+use Rattle.fee_switch_laws.proofs.FlagTurns.{appended_wide}
 
 -- the flags are those of the places behind a page that is done
 after_flags : (s : LogState) (tail : Tail) (body : List ℕ) (fs : List Flag) → AreFlagsOf s.numbers s.places s.flags fs → FitsFlags (tail_with tail body) fs
@@ -48,7 +48,7 @@ appends_settle s bodies old new may fs a is active taking now append fit follows
     record {
       banks =
           banks_widen (layout_in s) s.log.numbers new (banks_shown t bodies may' (copied_of fs)) may' copied g.banks (λ number length m among. among) (appended_wide s.geometry.page tail fs append)
-          (within_by (phase_shown t.course t bodies.copy) copied may' taken);
+          (takes_within (phase_shown t.course t bodies.copy) copied may' taken);
       flags =
           subst (λ (g : Geometry). AreFlagsOf t.log.numbers t.log.places t.log.flags (flags_appended g.page tail fs)) is.log.shape
           (after_flags s.log s.log.tail bodies.append fs holds.flags fit);

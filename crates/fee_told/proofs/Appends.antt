@@ -13,7 +13,7 @@ use Rattle.fee_image.specs.May.{May, settling}
 use Rattle.fee_image.specs.Places.{noted}
 use Rattle.fee_image.specs.Step.{IsDue, is_last, page_due, bytes_due, log_begun, log_done, done_with, log_failed, failed_with, log_given_up, given_up_with, log_behind, may_with, may_done}
 use Rattle.fee_image.specs.Banks.{Old, OldBank, Holds}
-use Rattle.fee_image.proofs.Doubts.{banks_widen}
+use Rattle.fee_image.proofs.Doubts.{banks_widen, takes_within}
 use Rattle.fee_image.proofs.Logs.{records_begin as image_records_begin}
 use Rattle.fee_image.proofs.Pages.{appends_done, appends_fail as image_appends_fail}
 use Rattle.fee_image.proofs.Seals.{old_logs_change}
@@ -22,7 +22,7 @@ use Rattle.fee_told.specs.Slots.{Memory, banks_with, writes_of, writes_in, IsWor
 use Rattle.fee_told.specs.SlotLaws.{SamePlaces, IsBehindLog, GoesOn}
 use Rattle.fee_told.specs.Kept.{IsKept, with_log}
 use Rattle.fee_told.specs.Appends.{TakesRecord, RecordsBegin, RecordsGiveUp, IsAppending, AppendsFail, commits, AppendsGoOn, IsCommitted, AppendsCommit}
-use Rattle.fee_told.proofs.Kept.{takes_copied, takes_within, none_open, none_closed, old_of, kept_by, kept_memory}
+use Rattle.fee_told.proofs.Kept.{takes_copied, none_open, none_closed, old_of, kept_by, kept_memory}
 use Rattle.fee_told.proofs.Held.{held_anew}
 use Rattle.fee_told.proofs.Places.{commits_keep_others, programs_keep_settled}
 use Rattle.fee_told.proofs.Steps.{steps_settle}

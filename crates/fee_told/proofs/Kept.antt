@@ -10,8 +10,8 @@ use Rattle.fee_image.specs.declared.place.Place.{Place}
 use Rattle.fee_image.specs.Log.{Open, Closed, Log}
 use Rattle.fee_image.specs.May.{May}
 use Rattle.fee_image.specs.Banks.{Old, NoBank, OldBank, Phase, Idle, Erasing, Copying, Sealing, Holds, HoldsOld, HoldsBank}
-use Rattle.fee_image.specs.BankLaws.{SealsWithin, TakesAppends}
-use Rattle.fee_image.proofs.Doubts.{banks_widen}
+use Rattle.fee_image.specs.BankLaws.{TakesAppends}
+use Rattle.fee_image.proofs.Doubts.{banks_widen, takes_within}
 use Rattle.fee_told.specs.Slots.{Memory, banks_with, IsWorkOf, HasJob, settled_in, slots_held, may_told, IsCopied}
 use Rattle.fee_told.specs.SlotLaws.{IsHeld, SamePlaces, GoesOn}
 use Rattle.fee_told.specs.Kept.{IsKept, KeptIsFound, CopiesWiden}
@@ -33,12 +33,6 @@ takes_copied l numbers bytes Idle old copied takes = tt
 takes_copied l numbers bytes (Erasing n) old copied takes = tt
 takes_copied l numbers bytes (Copying log) old copied takes = tt
 takes_copied l numbers bytes (Sealing log) old copied takes = absurd takes
-
-pub takes_within : (phase : Phase) (copied may : May) → TakesAppends phase → SealsWithin phase copied may
-takes_within Idle copied may takes = tt
-takes_within (Erasing n) copied may takes = tt
-takes_within (Copying log) copied may takes = tt
-takes_within (Sealing log) copied may takes = absurd takes
 
 pub none_open : (ns : List (DeviceNumber × ℕ)) (ps : List Place) (stand : Stand) → IsWorkOf ns ps stand Open
 none_open ns ps (OpenJob j) = tt

@@ -46,19 +46,24 @@ alone_keeps settled settled' shown shown' more more' same is fewer =
 pair_is : (now before : Held) → now.count ≡ more_writes 1 before.count → now ≡ held_next now.mark before
 pair_is now before p = λ i. record { mark = now.mark; count = p i }
 
+-- A NUMBER'S SLOT
+abbrev slot_in : Layout → List (DeviceNumber × ℕ) → List ℕ → Memory → ℕ → Slot
+slot_in l numbers bytes m n = slot_at numbers (slots_held l numbers bytes m) n
+
+slot_told : (l : Layout) (numbers : List (DeviceNumber × ℕ)) (bytes : List ℕ) (m : Memory) (copied : May) → IsHeld l numbers bytes m copied → (n size : ℕ) → length_of numbers n ≡ Some size
+    → slot_in l numbers bytes m n ≡ slot_of (settled_at l numbers bytes m.old n) (shown_of l bytes m.old n size) (left_on (settled_at l numbers bytes m.old n) (job_leaves m.stand n))
+slot_told l numbers bytes m copied is_held n size is = held_slot l numbers bytes m (may_told l numbers bytes m) n size is_held.banks.old is
+
+none_keeps : (l : Layout) (numbers : List (DeviceNumber × ℕ)) (old new : List ℕ) (m t : Memory) (n : ℕ) → length_of numbers n ≡ None → Keeps (slot_in l numbers old m n) (slot_in l numbers new t n)
+none_keeps l numbers old new m t n is = keeps_slots (slot_in l numbers old m n) (slot_in l numbers new t n) no_slot no_slot (slot_none numbers (slots_held l numbers old m) n is) (slot_none numbers (slots_held l numbers new t) n is) (keeps_same no_slot)
+
 -- COMMITS
 module _ (l : Layout) (numbers : List (DeviceNumber × ℕ)) (old new : List ℕ) (m t : Memory) (before copied : May) (is_held : IsHeld l numbers old m before) where
   abbrev was : ℕ → Slot
-  was n = slot_at numbers (slots_held l numbers old m) n
+  was = slot_in l numbers old m
 
   abbrev now : ℕ → Slot
-  now n = slot_at numbers (slots_held l numbers new t) n
-
-  was_slot : (n size : ℕ) → length_of numbers n ≡ Some size → was n ≡ slot_of (settled_at l numbers old m.old n) (shown_of l old m.old n size) (left_on (settled_at l numbers old m.old n) (job_leaves m.stand n))
-  was_slot n size is = held_slot l numbers old m (may_told l numbers old m) n size is_held.banks.old is
-
-  none_keep : (n : ℕ) → length_of numbers n ≡ None → Keeps (was n) (now n)
-  none_keep n is = keeps_slots (was n) (now n) no_slot no_slot (slot_none numbers (slots_held l numbers old m) n is) (slot_none numbers (slots_held l numbers new t) n is) (keeps_same no_slot)
+  now = slot_in l numbers new t
 
   module _ (may : May) (holds : Holds l numbers new (banks_with t may copied)) where
     now_slot : (n size : ℕ) → length_of numbers n ≡ Some size → now n ≡ slot_of (settled_at l numbers new t.old n) (shown_of l new t.old n size) (left_on (settled_at l numbers new t.old n) (job_leaves t.stand n))
@@ -71,10 +76,10 @@ module _ (l : Layout) (numbers : List (DeviceNumber × ℕ)) (old new : List ℕ
     now_shown n size = old_banks_show l numbers new (banks_with t may copied) holds n size
 
     seal_keeps : AreCopied l numbers old m.old may → GoesOn m.stand t.stand → (n : ℕ) (o : Option ℕ) → length_of numbers n ≡ o → Keeps (was n) (now n)
-    seal_keeps only goes n None is = none_keep n is
+    seal_keeps only goes n None is = none_keeps l numbers old new m t n is
     seal_keeps only goes n (Some size) is =
         let same = only n size _ is (now_settled n size is) in
-        keeps_slots (was n) (now n) _ _ (was_slot n size is) (now_slot n size is)
+        keeps_slots (was n) (now n) _ _ (slot_told l numbers old m before is_held n size is) (now_slot n size is)
         (alone_keeps (settled_at l numbers old m.old n) (settled_at l numbers new t.old n) (shown_of l old m.old n size) (shown_of l new t.old n size)
         (left_on (settled_at l numbers old m.old n) (job_leaves m.stand n)) (left_on (settled_at l numbers new t.old n) (job_leaves t.stand n))
         same (only n size _ is (now_shown n size))
@@ -94,7 +99,7 @@ module _ (l : Layout) (numbers : List (DeviceNumber × ℕ)) (old new : List ℕ
         now_slot after holds n size is
         ∙ ap (λ (x : Held). slot_of x (shown_of l new t.old n size) (left_on x (job_leaves t.stand n))) settled
         ∙ clear_slot (held_written h body) (shown_of l new t.old n size) (job_leaves t.stand n) shown (leaves_none t.stand n shut) in
-        let before : (was n).settled ≡ settled_at l numbers old m.old n = ap (λ (x : Slot). x.settled) (was_slot n size is) in
+        let before : (was n).settled ≡ settled_at l numbers old m.old n = ap (λ (x : Slot). x.settled) (slot_told l numbers old m before is_held n size is) in
         record {
           settled = ap (λ (x : Slot). x.settled) clear ∙ next ∙ ap (held_next (held_written h body).mark) (sym before);
           doubts = ap (λ (x : Slot). x.doubts) clear;
@@ -104,12 +109,12 @@ module _ (l : Layout) (numbers : List (DeviceNumber × ℕ)) (old new : List ℕ
     unfit n size other = rw other refl
 
     others_keep : (n : ℕ) (o : Option ℕ) → length_of numbers n ≡ o → (h.number == n) ≡ false → settled_at l numbers new t.old n ≡ settled_at l numbers old m.old n → Keeps (was n) (now n)
-    others_keep n None is other same = none_keep n is
+    others_keep n None is other same = none_keeps l numbers old new m t n is
     others_keep n (Some size) is other same =
         let shown = possible_from numbers (slots_held l numbers old m) n size (shown_of l new t.old n size) is (subst (λ (o : Option (List Held)). IsAmong o (shown_of l new t.old n size)) (unfit n size other) (now_shown after holds n size)) in
-        keeps_slots (was n) (now n) _ _ (was_slot n size is) (now_slot after holds n size is ∙ ap (λ (x : Held). slot_of x (shown_of l new t.old n size) (left_on x (job_leaves t.stand n))) same)
+        keeps_slots (was n) (now n) _ _ (slot_told l numbers old m before is_held n size is) (now_slot after holds n size is ∙ ap (λ (x : Held). slot_of x (shown_of l new t.old n size) (left_on x (job_leaves t.stand n))) same)
         (keeps_one (settled_at l numbers old m.old n) (shown_of l old m.old n size) (shown_of l new t.old n size) (left_on (settled_at l numbers old m.old n) (job_leaves m.stand n)) (left_on (settled_at l numbers old m.old n) (job_leaves t.stand n))
-        (subst (λ (s : Slot). IsPossible s (shown_of l new t.old n size)) (was_slot n size is) shown) (λ x has. leaves_fewer m.stand t.stand n (settled_at l numbers old m.old n) x (inr shut) has))
+        (subst (λ (s : Slot). IsPossible s (shown_of l new t.old n size)) (slot_told l numbers old m before is_held n size is) shown) (λ x has. leaves_fewer m.stand t.stand n (settled_at l numbers old m.old n) x (inr shut) has))
 
     one_settles : (size : ℕ) → length_of numbers h.number ≡ Some size → IsTrue (fits h.number size h) → h.count ≡ more_writes 1 (writes_in numbers m.old h.number) → ((n : ℕ) → (n ≡ h.number → ⊥) → settled_at l numbers new t.old n ≡ settled_at l numbers old m.old n)
         → (n : ℕ) (c : Bool) → (n == h.number) ≡ c → IfElse c (SettlesAs (held_written h body).mark (was n) (now n)) (Keeps (was n) (now n))
@@ -142,27 +147,18 @@ same_shown l bytes (OldBank k h log) NoBank n size same = absurd same
 same_shown l bytes (OldBank k h log) (OldBank j i next) n size (bank, head, places) = λ x. shown_of l bytes (OldBank (bank x) (head x) log) n size
 
 module _ (l : Layout) (numbers : List (DeviceNumber × ℕ)) (bytes : List ℕ) (m t : Memory) (copied : May) (is_held : IsHeld l numbers bytes m copied) (same : SamePlaces m.old t.old) where
-  abbrev first : ℕ → Slot
-  first n = slot_at numbers (slots_held l numbers bytes m) n
-
-  abbrev later : ℕ → Slot
-  later n = slot_at numbers (slots_held l numbers bytes t) n
-
-  first_slot : (n size : ℕ) → length_of numbers n ≡ Some size → first n ≡ slot_of (settled_at l numbers bytes m.old n) (shown_of l bytes m.old n size) (left_on (settled_at l numbers bytes m.old n) (job_leaves m.stand n))
-  first_slot n size is = held_slot l numbers bytes m (may_told l numbers bytes m) n size is_held.banks.old is
-
   later_slots : slots_held l numbers bytes t ≡ slots_with (shown_of l bytes m.old) (job_leaves t.stand) numbers (settled_in l numbers bytes m.old)
   later_slots = λ i. slots_with (λ n size. same_shown l bytes m.old t.old n size same i) (job_leaves t.stand) numbers (same_settled l numbers bytes m.old t.old same i)
 
-  later_slot : (n size : ℕ) → length_of numbers n ≡ Some size → later n ≡ slot_of (settled_at l numbers bytes m.old n) (shown_of l bytes m.old n size) (left_on (settled_at l numbers bytes m.old n) (job_leaves t.stand n))
+  later_slot : (n size : ℕ) → length_of numbers n ≡ Some size → slot_in l numbers bytes t n ≡ slot_of (settled_at l numbers bytes m.old n) (shown_of l bytes m.old n size) (left_on (settled_at l numbers bytes m.old n) (job_leaves t.stand n))
   later_slot n size is =
       ap (λ (s : List Slot). slot_at numbers s n) later_slots
       ∙ slot_is (shown_of l bytes m.old) (job_leaves t.stand) numbers (settled_in l numbers bytes m.old) n size (settled_long l numbers bytes m.target m.old (may_told l numbers bytes m) is_held.banks.old) is
 
-  pub memory_keeps : ((n : ℕ) (x h : Held) → Contains (left_on x (job_leaves t.stand n)) h → Contains (left_on x (job_leaves m.stand n)) h) → (n : ℕ) (o : Option ℕ) → length_of numbers n ≡ o → Keeps (first n) (later n)
-  memory_keeps fewer n None is = keeps_slots (first n) (later n) no_slot no_slot (slot_none numbers (slots_held l numbers bytes m) n is) (slot_none numbers (slots_held l numbers bytes t) n is) (keeps_same no_slot)
+  pub memory_keeps : ((n : ℕ) (x h : Held) → Contains (left_on x (job_leaves t.stand n)) h → Contains (left_on x (job_leaves m.stand n)) h) → (n : ℕ) (o : Option ℕ) → length_of numbers n ≡ o → Keeps (slot_in l numbers bytes m n) (slot_in l numbers bytes t n)
+  memory_keeps fewer n None is = none_keeps l numbers bytes bytes m t n is
   memory_keeps fewer n (Some size) is =
-      keeps_slots (first n) (later n) _ _ (first_slot n size is) (later_slot n size is)
+      keeps_slots _ _ _ _ (slot_told l numbers bytes m copied is_held n size is) (later_slot n size is)
       (keeps_one (settled_at l numbers bytes m.old n) (shown_of l bytes m.old n size) (shown_of l bytes m.old n size) (left_on (settled_at l numbers bytes m.old n) (job_leaves m.stand n)) (left_on (settled_at l numbers bytes m.old n) (job_leaves t.stand n))
       (shown_possible (settled_at l numbers bytes m.old n) (shown_of l bytes m.old n size) (left_on (settled_at l numbers bytes m.old n) (job_leaves m.stand n))) (fewer n (settled_at l numbers bytes m.old n)))
 
@@ -171,10 +167,10 @@ module _ (l : Layout) (numbers : List (DeviceNumber × ℕ)) (bytes : List ℕ) 
     leaves_nothing : (n : ℕ) → job_leaves m.stand n ≡ []
     leaves_nothing n = leaves_none m.stand n shut
 
-    other_keeps : (n : ℕ) (o : Option ℕ) → length_of numbers n ≡ o → job_leaves t.stand n ≡ [] → Keeps (first n) (later n)
-    other_keeps n None is none = keeps_slots (first n) (later n) no_slot no_slot (slot_none numbers (slots_held l numbers bytes m) n is) (slot_none numbers (slots_held l numbers bytes t) n is) (keeps_same no_slot)
+    other_keeps : (n : ℕ) (o : Option ℕ) → length_of numbers n ≡ o → job_leaves t.stand n ≡ [] → Keeps (slot_in l numbers bytes m n) (slot_in l numbers bytes t n)
+    other_keeps n None is none = none_keeps l numbers bytes bytes m t n is
     other_keeps n (Some size) is none =
-        keeps_slots (first n) (later n) _ _ (first_slot n size is) (later_slot n size is)
+        keeps_slots _ _ _ _ (slot_told l numbers bytes m copied is_held n size is) (later_slot n size is)
         (keeps_one (settled_at l numbers bytes m.old n) (shown_of l bytes m.old n size) (shown_of l bytes m.old n size) (left_on (settled_at l numbers bytes m.old n) (job_leaves m.stand n)) (left_on (settled_at l numbers bytes m.old n) (job_leaves t.stand n))
         (shown_possible (settled_at l numbers bytes m.old n) (shown_of l bytes m.old n size) (left_on (settled_at l numbers bytes m.old n) (job_leaves m.stand n)))
         (λ h has. absurd (has_none h (subst (λ (ms : List Mark). Contains (left_on (settled_at l numbers bytes m.old n) ms) h) none has))))
@@ -199,19 +195,19 @@ module _ (l : Layout) (numbers : List (DeviceNumber × ℕ)) (bytes : List ℕ) 
     leaves_read n true c is = leaves_at n None is c
     leaves_read n false c is = leaves_other n c
 
-    mark_opens : (mark : Mark) (size n : ℕ) (c : Bool) → j.mark ≡ Some mark → length_of numbers j.number ≡ Some size → (n == j.number) ≡ c → IfElse c (Doubts mark (first n) (later n)) (Keeps (first n) (later n))
+    mark_opens : (mark : Mark) (size n : ℕ) (c : Bool) → j.mark ≡ Some mark → length_of numbers j.number ≡ Some size → (n == j.number) ≡ c → IfElse c (Doubts mark (slot_in l numbers bytes m n) (slot_in l numbers bytes t n)) (Keeps (slot_in l numbers bytes m n) (slot_in l numbers bytes t n))
     mark_opens mark size n true is has c =
         let name = eqb-true n j.number c in
         let size_is = ap (length_of numbers) name ∙ has in
-        let was : first n ≡ slot_of (settled_at l numbers bytes m.old n) (shown_of l bytes m.old n size) [] = first_slot n size size_is ∙ ap (λ (ms : List Mark). slot_of (settled_at l numbers bytes m.old n) (shown_of l bytes m.old n size) (left_on (settled_at l numbers bytes m.old n) ms)) (leaves_nothing n) in
-        subst (λ (s : Slot). Doubts mark s (later n)) (sym was)
+        let was : slot_in l numbers bytes m n ≡ slot_of (settled_at l numbers bytes m.old n) (shown_of l bytes m.old n size) [] = slot_told l numbers bytes m copied is_held n size size_is ∙ ap (λ (ms : List Mark). slot_of (settled_at l numbers bytes m.old n) (shown_of l bytes m.old n size) (left_on (settled_at l numbers bytes m.old n) ms)) (leaves_nothing n) in
+        subst (λ (s : Slot). Doubts mark s (slot_in l numbers bytes t n)) (sym was)
         (subst (Doubts mark (slot_of (settled_at l numbers bytes m.old n) (shown_of l bytes m.old n size) [])) (sym (later_slot n size size_is))
         (doubts_slots mark (settled_at l numbers bytes m.old n) (shown_of l bytes m.old n size) (job_leaves t.stand n) (leaves_at n (Some mark) is (eq-eqb j.number n (sym name)))))
     mark_opens mark size n false is has c =
         let differs = eqb-false n j.number c in
         other_keeps n (length_of numbers n) refl (leaves_other n (elim (cases_Bool (j.number == n)) [ inl e ↦ absurd (differs (sym (eqb-true j.number n e))) | inr e ↦ e ]))
 
-    pub job_opens : (size n : ℕ) (o : Option Mark) → j.mark ≡ o → length_of numbers j.number ≡ Some size → Opened j n (first n) (later n) o
+    pub job_opens : (size n : ℕ) (o : Option Mark) → j.mark ≡ o → length_of numbers j.number ≡ Some size → Opened j n (slot_in l numbers bytes m n) (slot_in l numbers bytes t n) o
     job_opens size n None is has = other_keeps n (length_of numbers n) refl (leaves_read n (j.number == n) refl is)
     job_opens size n (Some mark) is has = mark_opens mark size n (n == j.number) is has refl
 

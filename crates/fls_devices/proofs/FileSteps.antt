@@ -3,7 +3,7 @@ use Rattle.std.proofs.Common.{◌≡◌, ◌<◌, ◌≤◌, ℕ, suc, ◌+◌, 
 use Rattle.std.specs.Prelude.{option_map}
 use Rattle.std.proofs.lemmas.List.{map-append}
 use Rattle.std.proofs.Math.Nat.{mul_comm, mul-le-mul_right}
-use Rattle.nv_base.specs.Count.{Rose, next_count}
+use Rattle.nv_base.specs.Count.{next_count}
 use Rattle.nv_base.specs.Geometry.{size_of}
 use Rattle.nv_base.specs.Plan.{no_planning}
 use Rattle.nv_base.specs.declared.geometry.Geometry.{Geometry}
@@ -13,14 +13,14 @@ use Rattle.fls_model.specs.Bytes.{AreBytes}
 use Rattle.fls_model.specs.Call.{op_of, IsInside}
 use Rattle.fls_model.specs.Op.{Op, MayLeave}
 use Rattle.fls_model.specs.Plan.{PlanGoes}
-use Rattle.fls_model.specs.Step.{IsStep, IsChanged, Leaves, HasCause}
-use Rattle.fls_model.specs.Told.{IfBothTold, Change, ToldBytes}
+use Rattle.fls_model.specs.Step.{IsStep, IsChanged, Leaves, HasCause, programs, erases}
+use Rattle.fls_model.specs.Told.{Told, IfBothTold, Change, ToldBytes, HasPage, HasSector}
 use Rattle.fls_model.specs.declared.call.Call.{Call}
 use Rattle.fls_model.specs.declared.flash.FlashAnswer.{FlashAnswer}
 use Rattle.fls_model.specs.declared.flash.FlashAnswer.TheVariants.{Done, Failed}
 use Rattle.fls_devices.specs.ByteFile.{FileBytes}
-use Rattle.fls_devices.specs.FileFlash.{told_in_file, told_bytes, bytes_of}
-use Rattle.fls_devices.specs.FileFlashInside.{Operates, IsHeld, AskedOf, first_now, changes_of}
+use Rattle.fls_devices.specs.FileFlash.{told_in_file, told_bytes, in_file_of, bytes_of, LeavesOnDisk}
+use Rattle.fls_devices.specs.FileFlashInside.{Operates, Answers, IsHeld, AskedOf, first_now, changes_of}
 
 -- an operation within a flash that is attached
 pub record Holds (g : Geometry) (torn : Bool) (op : Op) (ok : Bool) (f f' : FileBytes) : Type 0 where
@@ -32,7 +32,7 @@ pub record Holds (g : Geometry) (torn : Bool) (op : Op) (ok : Bool) (f f' : File
 inside_of : (op : Op) (m n : ℕ) → n ≡ m → IsInside op m → IsInside op n
 inside_of op m n is inside = subst (λ (k : ℕ). IsInside op k) (sym is) inside
 
-pub attached_holds : (g : Geometry) (torn : Bool) (op : Op) (ok : Bool) (h h' : Option FileBytes)
+attached_holds : (g : Geometry) (torn : Bool) (op : Op) (ok : Bool) (h h' : Option FileBytes)
     → IfSome h (IsHeld g torn) → ((g.page ≡ 0) × (g.sectors ≡ 0) → ⊥) → IsInside op (size_of g) → IfBothTold h h' (λ f f'. AreBytes f.now → IsInside op (length f.now) → Operates op ok f f')
     → IfBothTold h h' (Holds g torn op ok)
 attached_holds g torn op ok None None held attached inside operates = tt
@@ -43,12 +43,22 @@ attached_holds g torn op ok (Some f) (Some f') held attached inside operates = e
   | inr is ↦ record { whole = is.0; bytes = is.2; some = is.1; operates = operates is.2.bytes (inside_of op (size_of g) (length f.now) is.2.size inside) }
 ]
 
--- a sector lies in the flash
-pub sector_inside : (g : Geometry) (sector : ℕ) → sector < g.sectors → sector * g.sector + g.sector ≤ size_of g
-sector_inside g sector lt =
+-- of a page of the flash
+pub program_holds : (t : Told) (g : Geometry) (torn : Bool) (address : ℕ) (page : List ℕ) (ok : Bool) (h h' : Option FileBytes)
+    → g ≡ t.geometry → HasPage t address (length page) → IfSome h (IsHeld g torn) → IfBothTold h h' (λ f f'. AreBytes f.now → address + length page ≤ length f.now → Operates (programs address page) ok f f')
+    → IfBothTold h h' (Holds g torn (programs address page) ok)
+program_holds t g torn address page ok h h' is has held operates =
+    attached_holds g torn (programs address page) ok h h' held (λ none. omega (arith, none.0, ap (λ (k : Geometry). k.page) is, has.attached)) (rw is has.inside) operates
+
+-- of a sector of the flash
+pub erase_holds : (t : Told) (g : Geometry) (torn : Bool) (sector : ℕ) (ok : Bool) (h h' : Option FileBytes)
+    → g ≡ t.geometry → HasSector t sector → IfSome h (IsHeld g torn) → IfBothTold h h' (λ f f'. AreBytes f.now → sector * g.sector + g.sector ≤ length f.now → Operates (erases g sector) ok f f')
+    → IfBothTold h h' (Holds g torn (erases g sector) ok)
+erase_holds t g torn sector ok h h' is has held operates =
+    let lt : sector < g.sectors = omega (arith, ap (λ (k : Geometry). k.sectors) is, has.inside) in
     let most : suc sector * g.sector ≤ g.sectors * g.sector = mul-le-mul_right g.sector (let s : suc sector ≤ g.sectors = lt in s) in
     let next : suc sector * g.sector ≡ sector * g.sector + g.sector = omega arith in
-    omega (arith, most, next, mul_comm g.sectors g.sector)
+    attached_holds g torn (erases g sector) ok h h' held (λ none. omega (arith, none.1, lt)) (omega (arith, most, next, mul_comm g.sectors g.sector)) operates
 
 -- its fields afterwards
 pub still_held : (g : Geometry) (torn : Bool) (op : Op) (ok : Bool) (h h' : Option FileBytes) → IfBothTold h h' (Holds g torn op ok) → IfSome h' (IsHeld g torn)
@@ -60,11 +70,7 @@ still_held g torn op ok (Some f) (Some f') holds =
     inr (holds.whole, omega (arith, holds.some, are.size, holds.bytes.size), are)
 
 -- by its answer
-pub record Answers (ok : Bool) (faults faults' : ℕ) (answer : FlashAnswer) : Type 0 where
-  pub done : ok ≡ true → (answer ≡ Done) × (faults' ≡ faults)
-  pub failed : ok ≡ false → (answer ≡ Failed) × Rose faults faults'
-
-pub answers_done : (ok : Bool) (faults faults' : ℕ) (answer : FlashAnswer) → Answers ok faults faults' answer → answer ≡ Done → ok ≡ true
+answers_done : (ok : Bool) (faults faults' : ℕ) (answer : FlashAnswer) → Answers ok faults faults' answer → answer ≡ Done → ok ≡ true
 answers_done true faults faults' answer answers is = refl
 answers_done false faults faults' answer answers is = let no_ : Done ≡ Failed = sym is ∙ (answers.failed refl).0 in cc
 
@@ -111,7 +117,7 @@ stepped g op torn ok call before answer asked asked' ops ops' faults faults' h h
 }
 
 -- what is on the disk
-pub synced_then : (g : Geometry) (op : Op) (torn ok : Bool) (cs : List Change) (h h' : Option FileBytes) → ok ≡ true → IfBothTold h h' (Holds g torn op ok) → option_map (λ f. f.disk) h' ≡ option_map (λ b. b.now) (told_bytes torn cs h')
+synced_then : (g : Geometry) (op : Op) (torn ok : Bool) (cs : List Change) (h h' : Option FileBytes) → ok ≡ true → IfBothTold h h' (Holds g torn op ok) → option_map (λ f. f.disk) h' ≡ option_map (λ b. b.now) (told_bytes torn cs h')
 synced_then g op torn ok cs None None done holds = refl
 synced_then g op torn ok cs None (Some f') done holds = absurd holds
 synced_then g op torn ok cs (Some f) None done holds = refl
@@ -121,7 +127,7 @@ abbrev some_of : Option (List ℕ) → List ℕ
 some_of None = []
 some_of (Some l) = l
 
-pub left_on_disk : (g : Geometry) (op : Op) (torn ok : Bool) (cs : List Change) (h h' : Option FileBytes) → IfBothTold h h' (Holds g torn op ok)
+left_on_disk : (g : Geometry) (op : Op) (torn ok : Bool) (cs : List Change) (h h' : Option FileBytes) → IfBothTold h h' (Holds g torn op ok)
     → option_map (λ f. f.disk) h ≡ option_map (λ b. b.now) (told_bytes torn cs h) → IfBothTold (option_map (λ b. b.now) (told_bytes torn cs h)) (option_map (λ f. f.disk) h') (MayLeave op)
 left_on_disk g op torn ok cs None None holds is = tt
 left_on_disk g op torn ok cs None (Some f') holds is = absurd holds
@@ -129,3 +135,10 @@ left_on_disk g op torn ok cs (Some f) None holds is = absurd holds
 left_on_disk g op torn ok cs (Some f) (Some f') holds is =
     let now : bytes_of torn f ≡ f.now = ap (λ (t : Bool). bytes_of t f) holds.whole in
     subst (λ (l : List ℕ). MayLeave op l f'.disk) (sym now) (holds.operates.disk (ap some_of is ∙ now))
+
+pub on_disk : (g : Geometry) (op : Op) (torn ok : Bool) (answer : FlashAnswer) (cs cs' : List Change) (opened opened' : Bool) (ops ops' faults faults' : ℕ) (h h' : Option FileBytes)
+    → IfBothTold h h' (Holds g torn op ok) → Answers ok faults faults' answer → LeavesOnDisk op (in_file_of g ops faults torn cs opened h) answer (in_file_of g ops' faults' torn cs' opened' h')
+on_disk g op torn ok answer cs cs' opened opened' ops ops' faults faults' h h' holds answers = record {
+  synced = λ is. synced_then g op torn ok cs' h h' (answers_done ok faults faults' answer answers is) holds;
+  kept = left_on_disk g op torn ok cs h h' holds;
+}

@@ -27,8 +27,7 @@ mixed_old (x ∷ xs) (y ∷ ys) is = (inl refl, mixed_old xs ys (omega arith))
 
 -- mixed again with the new ones
 pub mixed_again : (xs ys zs ws : List ℕ) → Mixed xs ys zs → Mixed zs ys ws → Mixed xs ys ws
-mixed_again [] [] [] [] mixed again = tt
-mixed_again [] [] [] (w ∷ ws) mixed again = absurd again
+mixed_again [] [] [] ws mixed again = again
 mixed_again [] [] (z ∷ zs) ws mixed again = absurd mixed
 mixed_again [] (y ∷ ys) zs ws mixed again = absurd mixed
 mixed_again (x ∷ xs) [] zs ws mixed again = absurd mixed
@@ -39,23 +38,15 @@ mixed_again (x ∷ xs) (y ∷ ys) (z ∷ zs) (w ∷ ws) mixed again = (
   mixed_again xs ys zs ws mixed.1 again.1,
 )
 
-mixed_take : (n : ℕ) (xs ys zs : List ℕ) → Mixed xs ys zs → Mixed (take n xs) (take n ys) (take n zs)
-mixed_take zero xs ys zs mixed = tt
-mixed_take (suc n) [] [] [] mixed = tt
-mixed_take (suc n) [] [] (z ∷ zs) mixed = absurd mixed
-mixed_take (suc n) [] (y ∷ ys) zs mixed = absurd mixed
-mixed_take (suc n) (x ∷ xs) [] zs mixed = absurd mixed
-mixed_take (suc n) (x ∷ xs) (y ∷ ys) [] mixed = absurd mixed
-mixed_take (suc n) (x ∷ xs) (y ∷ ys) (z ∷ zs) mixed = (mixed.0, mixed_take n xs ys zs mixed.1)
-
-mixed_drop : (n : ℕ) (xs ys zs : List ℕ) → Mixed xs ys zs → Mixed (drop n xs) (drop n ys) (drop n zs)
-mixed_drop zero xs ys zs mixed = mixed
-mixed_drop (suc n) [] [] [] mixed = tt
-mixed_drop (suc n) [] [] (z ∷ zs) mixed = absurd mixed
-mixed_drop (suc n) [] (y ∷ ys) zs mixed = absurd mixed
-mixed_drop (suc n) (x ∷ xs) [] zs mixed = absurd mixed
-mixed_drop (suc n) (x ∷ xs) (y ∷ ys) [] mixed = absurd mixed
-mixed_drop (suc n) (x ∷ xs) (y ∷ ys) (z ∷ zs) mixed = mixed_drop n xs ys zs mixed.1
+-- before a place, and from it on
+mixed_parts : (n : ℕ) (xs ys zs : List ℕ) → Mixed xs ys zs → Mixed (take n xs) (take n ys) (take n zs) × Mixed (drop n xs) (drop n ys) (drop n zs)
+mixed_parts zero xs ys zs mixed = (tt, mixed)
+mixed_parts (suc n) [] [] [] mixed = (tt, tt)
+mixed_parts (suc n) [] [] (z ∷ zs) mixed = absurd mixed
+mixed_parts (suc n) [] (y ∷ ys) zs mixed = absurd mixed
+mixed_parts (suc n) (x ∷ xs) [] zs mixed = absurd mixed
+mixed_parts (suc n) (x ∷ xs) (y ∷ ys) [] mixed = absurd mixed
+mixed_parts (suc n) (x ∷ xs) (y ∷ ys) (z ∷ zs) mixed = let rest = mixed_parts n xs ys zs mixed.1 in ((mixed.0, rest.0), rest.1)
 
 -- where both are alike
 mixed_same : (xs zs : List ℕ) → Mixed xs xs zs → zs ≡ xs
@@ -69,8 +60,8 @@ mixed_same (x ∷ xs) (z ∷ zs) mixed =
 mixed_outside : (a n : ℕ) (xs ys zs : List ℕ) → SameOutside a n xs ys → Mixed xs ys zs → SameOutside a n xs zs
 mixed_outside a n xs ys zs same mixed = record {
   size = mixed_length xs ys zs mixed;
-  front = mixed_same (take a xs) (take a zs) (subst (λ (l : List ℕ). Mixed (take a xs) l (take a zs)) same.front (mixed_take a xs ys zs mixed));
-  back = mixed_same (drop (a + n) xs) (drop (a + n) zs) (subst (λ (l : List ℕ). Mixed (drop (a + n) xs) l (drop (a + n) zs)) same.back (mixed_drop (a + n) xs ys zs mixed));
+  front = mixed_same (take a xs) (take a zs) (subst (λ (l : List ℕ). Mixed (take a xs) l (take a zs)) same.front (mixed_parts a xs ys zs mixed).0);
+  back = mixed_same (drop (a + n) xs) (drop (a + n) zs) (subst (λ (l : List ℕ). Mixed (drop (a + n) xs) l (drop (a + n) zs)) same.back (mixed_parts (a + n) xs ys zs mixed).1);
 }
 
 mixed_bytes : (xs ys zs : List ℕ) → Mixed xs ys zs → AreBytes xs → AreBytes ys → AreBytes zs
@@ -98,5 +89,5 @@ pub mixed_within : (op : Op) (old new some : List ℕ) → MayLeave op old new �
 mixed_within (Program a page) old new some may mixed = (mixed_outside a (length page) old new some may.0 mixed, λ bytes. mixed_bytes old new some mixed bytes (may.1 bytes))
 mixed_within (Erase a n) old new some may mixed = (
   mixed_outside a n old new some may.0 mixed,
-  mixed_grown (piece a n old) (piece a n new) (piece a n some) may.1 (mixed_take n (drop a old) (drop a new) (drop a some) (mixed_drop a old new some mixed)),
+  mixed_grown (piece a n old) (piece a n new) (piece a n some) may.1 (mixed_parts n (drop a old) (drop a new) (drop a some) (mixed_parts a old new some mixed).1).0,
 )

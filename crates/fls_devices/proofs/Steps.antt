@@ -143,7 +143,7 @@ pub on_step : (op : Op) (s : Told) (a : FlashAnswer) (t : Told) → s.off ≡ fa
 on_step op s a t on step = subst (λ (off : Bool). OffOrAsked off op s a t) on step
 
 -- an operation that was handed on
-pub asked_pass : (op : Op) (o : Overlaid) (a : FlashAnswer) (i : Told) (j : Journaled) → IsOverlaid o → IsAsked op o.inner a i → Passes o.journal j → IsAskedOver op o a (record o { inner = i; off = off_of a; journal = j })
+asked_pass : (op : Op) (o : Overlaid) (a : FlashAnswer) (i : Told) (j : Journaled) → IsOverlaid o → IsAsked op o.inner a i → Passes o.journal j → IsAskedOver op o a (record o { inner = i; off = off_of a; journal = j })
 asked_pass op o a i j kept asked passes = λ p q goes counts. record {
   geometry = asked.geometry;
   ops = ops_pass o.withheld o.inner.ops i.ops asked.ops;
@@ -238,10 +238,17 @@ kept_reached h keep op a o i e j kept asked is since true_is adds = record {
 }
 
 -- by an operation that was handed on
-pub kept_pass : (op : Op) (a : FlashAnswer) (o : Overlaid) (i : Told) (j : Journaled) → IsOverlaid o → IsAsked op o.inner a i → Passes o.journal j → IsOverlaid (record o { inner = i; off = off_of a; journal = j })
+kept_pass : (op : Op) (a : FlashAnswer) (o : Overlaid) (i : Told) (j : Journaled) → IsOverlaid o → IsAsked op o.inner a i → Passes o.journal j → IsOverlaid (record o { inner = i; off = off_of a; journal = j })
 kept_pass op a o i j kept asked passes = record {
   power = power_passed a o.inner i asked.cause;
   fits = fits_passed op a o.journal j o.inner.bytes i.bytes passes asked.bytes kept.fits;
   parts = rw (asked.geometry, passes.events)
       (told_parts_pass o.inner.geometry op a o.journal.events o.journal.since o.inner.bytes i.bytes asked.bytes kept.fits kept.parts);
 }
+
+-- so of an operation that was asked for while no cut stood
+pub passed : (op : Op) (o : Overlaid) (a : FlashAnswer) (i : Told) (j : Journaled) → IsOverlaid o → o.off ≡ false → IsStep op o.inner a i → Passes o.journal j
+    → let n : Overlaid = record o { inner = i; off = off_of a; journal = j } in IsAskedOver op o a n × IsOverlaid n
+passed op o a i j kept on step passes =
+    let asked = on_step op o.inner a i (kept.power on) step in
+    (asked_pass op o a i j kept asked passes, kept_pass op a o i j kept asked passes)

@@ -4,6 +4,8 @@ use Rattle.nv_base.specs.declared.geometry.Geometry.{Geometry}
 use Rattle.nv_base.specs.Plan.{no_planning}
 use Rattle.fls_model.specs.Op.{Op, MayLeave}
 use Rattle.fls_model.specs.Told.{Told, ToldBytes, Change, IfBothTold, bytes_now}
+use Rattle.fls_model.specs.declared.flash.FlashAnswer.{FlashAnswer}
+use Rattle.fls_model.specs.declared.flash.FlashAnswer.TheVariants.{Done}
 use Rattle.fls_devices.specs.ByteFile.{FileBytes}
 
 -- what is told of it, whether the file was opened, and what a power cut leaves, where the file tells its bytes
@@ -23,18 +25,24 @@ told_bytes torn changes held = option_map (λ f. record { now = bytes_of torn f;
 abbrev pub told_in_file : Geometry → ℕ → ℕ → Option ToldBytes → Told
 told_in_file g ops faults bytes = record { geometry = g; bytes = bytes; ops = ops; faults = faults; cuts = 0; off = false; planning = no_planning }
 
--- over a file, not attached yet
-abbrev pub in_file : Bool → Option FileBytes → InFile
-in_file opened held = record {
-  told = told_in_file (record { page = 0; sector = 0; sectors = 0 }) 0 0 (told_bytes false [] held);
+-- its fields and its file
+abbrev pub in_file_of : Geometry → ℕ → ℕ → Bool → List Change → Bool → Option FileBytes → InFile
+in_file_of g ops faults torn changes opened held = record {
+  told = told_in_file g ops faults (told_bytes torn changes held);
   opened = opened;
   kept = option_map (λ f. f.disk) held;
 }
+
+-- over a file, not attached yet
+abbrev pub in_file : Bool → Option FileBytes → InFile
+in_file opened held = in_file_of (record { page = 0; sector = 0; sectors = 0 }) 0 0 false [] opened held
 
 -- what a power cut leaves is what reads give
 abbrev pub IsSynced : InFile → Type 0
 IsSynced m = m.kept ≡ bytes_now m.told
 
--- whatever its answer, a power cut behind an operation leaves what it may leave of the bytes before it
-abbrev pub LeavesOnDisk : Op → InFile → InFile → Type 0
-LeavesOnDisk op old new = IsSynced old → IfBothTold (bytes_now old.told) new.kept (MayLeave op)
+-- what is answered Done outlives a power cut; whatever its answer, a power cut behind an operation leaves what it may
+-- leave of the bytes before it
+pub record LeavesOnDisk (op : Op) (old : InFile) (answer : FlashAnswer) (new : InFile) : Type 0 where
+  pub synced : answer ≡ Done → IsSynced new
+  pub kept : IsSynced old → IfBothTold (bytes_now old.told) new.kept (MayLeave op)

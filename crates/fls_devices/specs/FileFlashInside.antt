@@ -1,5 +1,6 @@
 -- The file of a flash, and its fields.
 use Rattle.std.specs.Prelude.{◌≡◌, ◌⊎◌, ◌<◌, ◌+◌, ◌≤◌, ℕ, Bool, true, false, List, [], ◌∷◌, length, map, Option, Some, None}
+use Rattle.nv_base.specs.Count.{Rose}
 use Rattle.nv_base.specs.declared.geometry.Geometry.{Geometry}
 use Rattle.fls_model.specs.Attach.{AreBytesOf, enlarged}
 use Rattle.fls_model.specs.Bytes.{spliced}
@@ -8,6 +9,7 @@ use Rattle.fls_model.specs.Op.{Op, after_op, MayLeave}
 use Rattle.fls_model.specs.Told.{Change}
 use Rattle.fls_model.specs.declared.call.Call.{Call}
 use Rattle.fls_model.specs.declared.flash.FlashAnswer.{FlashAnswer}
+use Rattle.fls_model.specs.declared.flash.FlashAnswer.TheVariants.{Done, Failed}
 use Rattle.fls_devices.specs.ByteFile.{FileBytes, Mixed}
 use Rattle.fls_devices.specs.FileFlash.{bytes_of}
 
@@ -39,6 +41,11 @@ pub record Operates (op : Op) (ok : Bool) (old new : FileBytes) : Type 0 where
   pub done : ok ≡ true → new.now ≡ after_op op old.now
   pub synced : ok ≡ true → new.disk ≡ new.now
   pub disk : old.disk ≡ old.now → MayLeave op old.now new.disk
+
+-- the answer to an operation, with a fault counted where it wasn't done
+pub record Answers (ok : Bool) (faults faults_new : ℕ) (answer : FlashAnswer) : Type 0 where
+  pub done : ok ≡ true → (answer ≡ Done) × (faults_new ≡ faults)
+  pub failed : ok ≡ false → (answer ≡ Failed) × Rose faults faults_new
 
 -- it has as many bytes as a flash of so many, and they are on the disk; where that failed the flash's bytes are as they were
 pub record Fills (size : ℕ) (torn torn_new ok : Bool) (old new : FileBytes) : Type 0 where

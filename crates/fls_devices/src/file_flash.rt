@@ -1,13 +1,13 @@
 // A flash in an image file.
 ghost use Rattle.std.specs.Prelude.{◌≡◌, ◌≢◌, ◌⊎◌, ◌≤◌, ◌+◌, ◌*◌, ◌↔◌, IsTrue, IsSome, IfSome, is_some, true, false, length, min, replicate};
-ghost use Rattle.nv_base.specs.Count.{next_count, Rose};
+ghost use Rattle.nv_base.specs.Count.{next_count};
 ghost use Rattle.nv_base.specs.Geometry.{IsLegal, size_of};
 ghost use Rattle.fls_model.specs.Bytes.{AreBytes, and_bytes, piece};
 ghost use Rattle.fls_model.specs.Told.{IfBothTold};
 ghost use Rattle.fls_model.specs.Op.{Program, Erase};
 ghost use Rattle.fls_devices.specs.ByteFile.{held_by};
 ghost use Rattle.fls_devices.specs.FileFlash.{bytes_of};
-ghost use Rattle.fls_devices.specs.FileFlashInside.{Stores, Operates, Fills};
+ghost use Rattle.fls_devices.specs.FileFlashInside.{Stores, Operates, Answers, Fills};
 
 use crate::ByteFile;
 use crate::asked::Asked;
@@ -36,14 +36,14 @@ pub struct FileFlash<T: ByteFile + Drop> {
 }
 
 impl<T: ByteFile + Drop> Model for FileFlash<T> {
-    ghost use Rattle.std.specs.Prelude.{◌≡◌, is_some, option_map, IfSome, replicate};
+    ghost use Rattle.std.specs.Prelude.{◌≡◌, is_some, IfSome, replicate};
     ghost use Rattle.fls_devices.specs.ByteFile.{held_by};
-    ghost use Rattle.fls_devices.specs.FileFlash.{InFile, told_in_file, told_bytes};
+    ghost use Rattle.fls_devices.specs.FileFlash.{InFile, in_file_of};
     ghost use Rattle.fls_devices.specs.FileFlashInside.{IsHeld, changes_of};
 
     ghost Value = { InFile };
 
-    ghost view = { λ f. record { told = told_in_file f.geometry f.ops f.faults (told_bytes f.torn (changes_of f.geometry f.asked.items) (held_by T.held f.file)); opened = is_some f.file; kept = option_map (λ b. b.disk) (held_by T.held f.file) } };
+    ghost view = { λ f. in_file_of f.geometry f.ops f.faults f.torn (changes_of f.geometry f.asked.items) (is_some f.file) (held_by T.held f.file) };
 
     ghost invariant = { λ f. IfSome (held_by T.held f.file) (IsHeld f.geometry f.torn) × IfSome f.blank (λ b. b.items ≡ replicate f.geometry.sector 255) };
 }
@@ -177,28 +177,6 @@ fn is_enlarged<T: ByteFile>(file: &mut T, blank: &[u8], sector: u32, sectors: u3
 }
 
 // Brings the flash that was found to the disk, one of no bytes as a blank one.
-fn fill<T: ByteFile>(
-    file: &mut T,
-    torn: &mut bool,
-    found: u64,
-    blank: &[u8],
-    geometry: Geometry,
-) -> bool
-    requires blank { blank.now ≡ replicate geometry.sector 255 }
-    requires found { IfSome (T.held file.old) (λ f. found ≡ length (bytes_of torn.old f)) }
-    ensures { IfBothTold (T.held file.old) (T.held file.new) (Fills (size_of geometry) torn.old torn.new result) }
-{
-    if found != 0 {
-        return file.sync().is_ok();
-    }
-    if is_enlarged(file, blank, geometry.sector, geometry.sectors) {
-        *torn = false;
-        return true;
-    }
-    *torn = file.clear().is_err();
-    false
-}
-
 fn is_filled<T: ByteFile>(
     file: &mut Option<T>,
     torn: &mut bool,
@@ -211,17 +189,24 @@ fn is_filled<T: ByteFile>(
     ensures filled { IfBothTold (held_by T.held file.old) (held_by T.held file.new) (Fills (size_of geometry) torn.old torn.new result) }
     ensures opened { is_some file.new ≡ is_some file.old }
 {
-    match file {
-        Some(file) => fill(file, torn, found, blank, geometry),
-        None => false,
+    let Some(file) = file else {
+        return false;
+    };
+    if found != 0 {
+        return file.sync().is_ok();
     }
+    if is_enlarged(file, blank, geometry.sector, geometry.sectors) {
+        *torn = false;
+        return true;
+    }
+    *torn = file.clear().is_err();
+    false
 }
 
 // A changing operation was asked for. Counts a fault where it wasn't done.
 fn count(done: bool, ops: &mut u64, faults: &mut u64) -> FlashAnswer
     ensures ops { ops.new ≡ next_count ops.old }
-    ensures done { done ≡ true → (result ≡ FlashAnswer.Done) × (faults.new ≡ faults.old) }
-    ensures failed { done ≡ false → (result ≡ FlashAnswer.Failed) × Rose faults.old faults.new }
+    ensures answers { Answers done faults.old faults.new result }
 {
     *ops = ops.saturating_add(1);
     if done {
@@ -342,8 +327,7 @@ impl<T: ByteFile + Drop> Flash for FileFlash<T> {
     fn program(&mut self, address: u32, page: &[u8]) -> FlashAnswer
         requires { HasPage self.old.told address (length page.now) }
         ensures step { IsStep (programs address page.now) self.old.told result self.new.told }
-        ensures synced { result ≡ FlashAnswer.Done → IsSynced self.new }
-        ensures on_disk { LeavesOnDisk (programs address page.now) self.old self.new }
+        ensures on_disk { LeavesOnDisk (programs address page.now) self.old result self.new }
         ensures never_off { result ≢ FlashAnswer.Off }
     {
         let before = Trace::new().with(&self.file);
@@ -361,8 +345,7 @@ impl<T: ByteFile + Drop> Flash for FileFlash<T> {
     fn erase(&mut self, sector: u32) -> FlashAnswer
         requires { HasSector self.old.told sector }
         ensures step { IsStep (erases self.old.told.geometry sector) self.old.told result self.new.told }
-        ensures synced { result ≡ FlashAnswer.Done → IsSynced self.new }
-        ensures on_disk { LeavesOnDisk (erases self.old.told.geometry sector) self.old self.new }
+        ensures on_disk { LeavesOnDisk (erases self.old.told.geometry sector) self.old result self.new }
         ensures never_off { result ≢ FlashAnswer.Off }
     {
         let before = Trace::new().with(&self.file);

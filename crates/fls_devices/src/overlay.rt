@@ -9,7 +9,7 @@ ghost use Rattle.fls_model.specs.Step.{CountsUnplanned, programs, erases};
 ghost use Rattle.fls_model.specs.Read.{IsRead};
 ghost use Rattle.fls_model.specs.Attach.{IsAttach};
 ghost use Rattle.fls_model.specs.Call.{op_of};
-ghost use Rattle.fls_devices.specs.Overlay.{told_over, overlaid, IsOverlaid, IsPassed, IsWithheld, IsPartDone, IsHarmed, IsAskedOver, JournalAfter};
+ghost use Rattle.fls_devices.specs.Overlay.{told_over, overlaid, IsOverlaid, IsPassed, IsWithheld, IsHarmed, IsAskedOver, JournalAfter};
 
 use crate::journal::Journal;
 use crate::part::{Harm, count_cut, count_fault, harmed_answer, is_off, kept_part};
@@ -166,43 +166,6 @@ impl<F: Flash> Overlay<F> {
         answer
     }
 
-    // Cuts or fails a program of which the first bytes are done.
-    fn program_part(&mut self, harm: Harm, keep: u32, address: u32, page: &[u8]) -> FlashAnswer
-        requires on { self.old.off ≡ false }
-        requires room { 0 < self.old.journal.room }
-        requires page { HasPage self.old.inner address (length page.now) }
-        ensures step { IsAskedOver (programs address page.now) self.old result self.new }
-        ensures counted { CountsUnplanned self.old.inner self.new.inner }
-        ensures part { IsPartDone harm keep (programs address page.now) self.old result self.new }
-    {
-        let part = kept_part(page, keep);
-        let inner = self.inner.program(address, &part[..page.len()]);
-        let answer = harmed_answer(harm, inner);
-        self.journal.add(program_call(address, page), true, answer);
-        self.cuts = count_cut(harm, self.cuts);
-        self.faults = count_fault(harm, self.faults);
-        self.off = is_off(answer);
-        answer
-    }
-
-    // Cuts or fails an erase that is done.
-    fn erase_part(&mut self, harm: Harm, keep: u32, sector: u32) -> FlashAnswer
-        requires on { self.old.off ≡ false }
-        requires room { 0 < self.old.journal.room }
-        requires sector { HasSector self.old.inner sector }
-        ensures step { IsAskedOver (erases self.old.inner.geometry sector) self.old result self.new }
-        ensures counted { CountsUnplanned self.old.inner self.new.inner }
-        ensures part { IsPartDone harm keep (erases self.old.inner.geometry sector) self.old result self.new }
-    {
-        let inner = self.inner.erase(sector);
-        let answer = harmed_answer(harm, inner);
-        self.journal.add(Call::Sector { sector }, true, answer);
-        self.cuts = count_cut(harm, self.cuts);
-        self.faults = count_fault(harm, self.faults);
-        self.off = is_off(answer);
-        answer
-    }
-
     // Cuts or fails a program of which the first `keep` bytes are done.
     pub fn harm_program(&mut self, harm: Harm, keep: u32, address: u32, page: &[u8]) -> FlashAnswer
         requires on { self.old.off ≡ false }
@@ -215,7 +178,14 @@ impl<F: Flash> Overlay<F> {
         if keep == 0 {
             return self.withhold(harm, program_call(address, page));
         }
-        self.program_part(harm, keep, address, page)
+        let part = kept_part(page, keep);
+        let inner = self.inner.program(address, &part[..page.len()]);
+        let answer = harmed_answer(harm, inner);
+        self.journal.add(program_call(address, page), true, answer);
+        self.cuts = count_cut(harm, self.cuts);
+        self.faults = count_fault(harm, self.faults);
+        self.off = is_off(answer);
+        answer
     }
 
     // Cuts or fails an erase, which is done where `keep` isn't 0.
@@ -230,6 +200,12 @@ impl<F: Flash> Overlay<F> {
         if keep == 0 {
             return self.withhold(harm, Call::Sector { sector });
         }
-        self.erase_part(harm, keep, sector)
+        let inner = self.inner.erase(sector);
+        let answer = harmed_answer(harm, inner);
+        self.journal.add(Call::Sector { sector }, true, answer);
+        self.cuts = count_cut(harm, self.cuts);
+        self.faults = count_fault(harm, self.faults);
+        self.off = is_off(answer);
+        answer
     }
 }

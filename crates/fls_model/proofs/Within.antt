@@ -22,7 +22,7 @@ piece_spliced a n old mid is le =
     let at : length (take a old) ≡ a = length-take-le a old (omega arith) in
     rw append_assoc (ap (λ (l : List ℕ). take n l) (drop_at (take a old) (mid ++ drop (a + length mid) old) a at) ∙ take_at mid (drop (a + length mid) old) n is)
 
-and_full : (x : ℕ) → x < 256 → bit_and x 255 ≡ x
+pub and_full : (x : ℕ) → x < 256 → bit_and x 255 ≡ x
 and_full x lt = and_numeral x 254 refl ∙ mod-eq_of_lt lt
 
 -- all bits set

@@ -2,11 +2,11 @@
 use Rattle.std.specs.Prelude.{Contains, nat_lt, filter, not, slice_get}
 use Rattle.std.specs.List.{list_any}
 use Rattle.std.proofs.Common.{◌≡◌, ◌≢◌, ℕ, zero, suc, ◌+◌, ◌*◌, ◌≤◌, ◌<◌, ◌&&◌, inl, inr, Bool, true, false, if◌then◌else◌, List, [], ◌∷◌, ◌++◌, length, map, refl, sym, ap, subst, Option, Some, None, arith}
-use Rattle.std.proofs.lemmas.Bool.{eq-eqb, ltb-true, ltb-false}
+use Rattle.std.proofs.lemmas.Bool.{and_parts, eq-eqb, ltb-true, ltb-false}
 use Rattle.std.proofs.lemmas.List.Elements.{Contains-append_left, Contains-append_right}
 use Rattle.std.proofs.Math.Nat.{mul-le-mul_right}
 use Rattle.block_machine.specs.nv_base.declared.job.Outcome.TheVariants.{First}
-use Rattle.block_machine.specs.Words.{JobKind, ReadJob, WriteJob, EraseJob, InvalidateJob, Outcome}
+use Rattle.block_machine.specs.Words.{JobKind, ReadJob, WriteJob, RestoreJob, EraseJob, InvalidateJob, Outcome}
 use Rattle.block_machine.specs.State.{Job}
 use Rattle.block_machine.specs.Blocks.{is_in}
 use Rattle.block_machine.specs.Results.{Own, own_indices, sets_of, unwritten, open_sets, took_none}
@@ -35,6 +35,12 @@ failed_in [] os = (zero, omega arith, refl)
 failed_in (i ∷ is) [] = none_in (i ∷ is)
 failed_in (i ∷ is) (o ∷ os) = failed_by (is_failed o) i is (failed_of is os) (failed_in is os)
 
+-- where a job got no content none need have failed
+pub open_none : (o : Own) (j : Job) (kind : JobKind) → took_none j.taken ≡ true → Contains (open_sets o j kind) []
+open_none o j ReadJob none = none_in (own_indices o)
+open_none o j RestoreJob none = (0, omega arith, refl)
+open_none o j kind none = (0, omega arith, ap (λ (t : Bool). if t then [] else unwritten o j) none)
+
 -- TRIES
 length_by : (t : Bool) (i n : ℕ) (failed more : List ℕ) → length more ≤ length failed + n
     → length (if t then i ∷ more else more) ≤ length (if t then i ∷ failed else failed) + n
@@ -52,10 +58,6 @@ one_more (i ∷ []) [] o = one_by (is_failed o) i
 one_more (i ∷ j ∷ is) [] o = one_by (is_failed o) i
 one_more (i ∷ is) (x ∷ os) o = length_by (is_failed x) i (if is_failed o then 1 else 0) (failed_of is os) (failed_of is (os ++ o ∷ [])) (one_more is os o)
 
-both_true : (a b : Bool) → (a && b) ≡ true → (a ≡ true) × (b ≡ true)
-both_true true b e = (refl, e)
-both_true false b e = cc
-
 more_tries : (r f a b : ℕ) → r ≤ f → b ≤ a + 1 → (r + 1) * b + 0 ≤ (r + 1) * a + f + 1
 more_tries r f a b le few = let times = mul-le-mul_right (r + 1) few in omega (arith, le, times)
 
@@ -71,7 +73,7 @@ again_by : (p : Program) (o : Outcome) (again : Bool) → is_again o p.failures 
     → let q = if again then record p { failures = p.failures + 1 } else record p { done = p.done ++ o ∷ []; failures = 0 } in
     (q.failures ≤ p.retries) × (failed_tries q ≤ failed_tries p + (if is_failed o then 1 else 0))
 again_by p o true e le =
-    let both = both_true (is_failed o) (nat_lt p.failures p.retries) e in
+    let both = and_parts (is_failed o) (nat_lt p.failures p.retries) e in
     rw both.0 (let less : p.failures < p.retries = ltb-true p.failures p.retries both.1 in omega (arith, less), omega arith)
 again_by p o false e le = (
   omega arith,

@@ -1,8 +1,8 @@
 -- What a program gives.
-use Rattle.std.proofs.Common.{◌≡◌, ◌≢◌, ℕ, ◌+◌, ◌-◌, ◌||◌, Bool, true, false, if◌then◌else◌, List, [], ◌∷◌, ◌++◌, length, replicate, slice_get, refl, sym, subst, Option, Some, None}
+use Rattle.std.proofs.Common.{◌≡◌, ◌≢◌, ℕ, ◌+◌, ◌-◌, Bool, true, false, if◌then◌else◌, List, [], ◌∷◌, ◌++◌, length, replicate, slice_get, refl, sym, subst, Option, Some, None}
 use Rattle.std.specs.List.{list_any}
 use Rattle.block_machine.specs.nv_base.declared.job.Outcome.TheVariants.{First}
-use Rattle.std.proofs.lemmas.Bool.{ne_eqb, eq-eqb}
+use Rattle.std.proofs.lemmas.Bool.{ne_eqb, eq-eqb, or_parts}
 use Rattle.block_machine.specs.Words.{Mark, Content, Invalid, Erased, JobKind, ReadJob, Outcome, ReadContent, FoundErased, FoundInvalid, Failed, FromDevice}
 use Rattle.block_machine.specs.ResultTable.{table}
 use Rattle.block_machine.specs.Results.{outcome_of, device_content}
@@ -70,20 +70,12 @@ gives_the_last_read o p same works fit over needed from =
     subst (λ is. device_content o.marks (failed_of is p.done) ≡ last_content o.marks (length p.done)) same
     (by_marks p.kind p.defaults o.marks p.done (subst Works (sym same) works) fit (rw (← same) at over) needed (rw (← same) at from))
 
-or_first : (a b : Bool) → (a || b) ≡ false → a ≡ false
-or_first true b e = cc
-or_first false b e = refl
-
-or_second : (a b : Bool) → (a || b) ≡ false → b ≡ false
-or_second true b e = cc
-or_second false b e = e
-
 further : (kind : JobKind) (done : List Outcome) (o : Outcome) → list_any (settles kind) done ≡ false → GoesOnlyAsNeeded kind (done ++ o ∷ [])
 further kind [] o e = tt
-further kind (x ∷ []) o e = (or_first (settles kind x) false e, tt)
+further kind (x ∷ []) o e = ((or_parts (settles kind x) false e).0, tt)
 further kind (x ∷ y ∷ ys) o e =
     let rest = list_any (settles kind) (y ∷ ys) in
-    (or_first (settles kind x) rest e, further kind (y ∷ ys) o (or_second (settles kind x) rest e))
+    ((or_parts (settles kind x) rest e).0, further kind (y ∷ ys) o (or_parts (settles kind x) rest e).1)
 
 tried_by : (p : Program) (o : Outcome) (again : Bool) → GoesOnlyAsNeeded p.kind p.done → list_any (settles p.kind) p.done ≡ false
     → GoesOnlyAsNeeded p.kind (if again then record p { failures = p.failures + 1 } else record p { done = p.done ++ o ∷ []; failures = 0 }).done

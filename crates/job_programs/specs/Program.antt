@@ -10,6 +10,7 @@ use Rattle.block_machine.specs.block_config.declared.block.BlockDesc.{BlockDesc}
 use Rattle.block_machine.specs.Words.{ReqResult, JobKind, ReadJob, WriteJob, EraseJob, InvalidateJob, Outcome, ReadContent, FoundInvalid, Failed, GivenFrom}
 use Rattle.block_machine.specs.Blocks.{indices_by}
 use Rattle.block_machine.specs.ResultTable.{table}
+use Rattle.job_programs.specs.declared.program_job.ProgramJob.{ProgramJob}
 
 pub record Program : Type 0 where
   pub block : ℕ
@@ -24,6 +25,18 @@ pub record Program : Type 0 where
   pub done : List Outcome
   -- the failed tries of the one that isn't
   pub failures : ℕ
+
+-- what is done of a job: its instances, the outcomes so far, and the failed tries of the operation that it is at
+abbrev pub program_at : ProgramJob → List ℕ → List Outcome → ℕ → Program
+program_at j indices done failures = record {
+  block = j.block;
+  kind = j.kind;
+  defaults = j.defaults;
+  indices = indices;
+  retries = j.retries;
+  done = done;
+  failures = failures;
+}
 
 -- THE JOB
 

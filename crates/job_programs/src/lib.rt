@@ -5,7 +5,9 @@
 #![tactic(auto)]
 
 mod job;
+mod program_job;
 mod table;
 
-pub use job::{is_again, operation, retries, settles, works};
+pub use job::{is_again, settles, works};
+pub use program_job::ProgramJob;
 pub use table::{end_of_none, end_of_one, end_of_two};

@@ -1,35 +1,24 @@
 -- The hand behind an outcome.
-use Rattle.std.proofs.Common.{◌≡◌, ◌≢◌, ℕ, ◌+◌, ◌≤◌, Bool, true, false, if◌then◌else◌, List, [], ◌∷◌, ◌++◌, length, is_some, Option, Some, refl, sym, ap, ◌∙◌, subst, arith}
+use Rattle.std.proofs.Common.{◌≡◌, ◌≢◌, ℕ, ◌+◌, ◌≤◌, Bool, true, false, if◌then◌else◌, List, [], ◌∷◌, ◌++◌, length, is_some, Some, refl, sym, ap, ◌∙◌, subst, arith}
 use Rattle.block_machine.specs.nv_base.declared.job.Outcome.TheVariants.{First}
 use Rattle.memif.specs.declared.answer.JobResult.TheVariants.{JobOk}
 use Rattle.memif.specs.Told.{DeviceTold, Stand, Ended, is_open}
-use Rattle.block_machine.specs.Words.{ReadJob, Outcome, WroteMark, ReadContent, FoundErased, FoundInvalid, Failed, Configuration}
+use Rattle.block_machine.specs.Words.{ReadJob, Outcome, ReadContent, Configuration}
 use Rattle.block_machine.specs.State.{State, Job, BlockState}
 use Rattle.block_machine.specs.Blocks.{desc_of, block_at, job_block, kind_of}
 use Rattle.block_machine.specs.Results.{took_none}
 use Rattle.job_programs.specs.Program as program
-use Rattle.job_programs.specs.Program.{Program, program_of, next_in, step_of, is_again, tried, after_by}
+use Rattle.job_programs.specs.Program.{Program, program_of, next_in, step_of, is_again, tried}
 use Rattle.job_programs.specs.Laws.{Works}
 use Rattle.job_programs.specs.Failures.{served_of}
 use Rattle.job_programs.proofs.Failures.{tries_are_counted}
+use Rattle.job_programs.proofs.Outcomes.{after_is}
 use Rattle.job_programs.proofs.Gives.{programs_go_as_needed}
 use Rattle.job_programs.proofs.Worked.{programs_work}
 use Rattle.job_progress.specs.Hand.{HandState, ended}
 use Rattle.job_progress.specs.JobInHand.{GivesWhole, IsWorking, IsInHand, program_for}
 use Rattle.job_progress.proofs.Given.{gives_done}
 use Rattle.job_progress.proofs.Going.{next_of_done, tried_is}
-
--- an outcome of an operation isn't the one before the first
-pub after_is : (p : Program) (o : Outcome) (index : ℕ) → next_in p ≡ Some index → o ≢ First → program.after p o ≡ tried p o
-after_is p o index at other = ap (λ (n : Option ℕ). after_by p n o) at ∙ by o other
-  where
-    by : (o : Outcome) → o ≢ First → after_by p (Some index) o ≡ tried p o
-    by First other = absurd (other refl)
-    by WroteMark other = refl
-    by ReadContent other = refl
-    by FoundErased other = refl
-    by FoundInvalid other = refl
-    by Failed other = refl
 
 -- the program of a job whose block and request stayed
 pub same_at : (c : Configuration) (s t : State) (j : Job) → block_at t (job_block j) ≡ block_at s (job_block j) → program_for c t j ≡ program_for c s j

@@ -1,40 +1,26 @@
 -- The end of a job in hand.
 use Rattle.std.specs.Prelude.{unwrap_or}
 use Rattle.std.specs.List.{Contains}
-use Rattle.std.proofs.Common.{◌≡◌, ◌≢◌, ℕ, Bool, true, false, if◌then◌else◌, List, [], ◌∷◌, map, is_some, IsSome, Option, Some, None, refl, sym, ap, ◌∙◌, subst, arith}
-use Rattle.std.proofs.lemmas.List.Elements.{Contains-append_left}
+use Rattle.std.proofs.Common.{◌≡◌, ◌≢◌, ℕ, Bool, true, false, List, [], is_some, IsSome, Option, Some, None, refl, sym, ap, ◌∙◌, subst, arith}
 use Rattle.block_machine.specs.nv_base.declared.job.JobStep.TheVariants as step
 use Rattle.memif.specs.declared.answer.JobResult.TheVariants.{JobOk}
 use Rattle.memif.specs.Told.{DeviceTold, Stand, Ended, given_by, IfElse}
-use Rattle.block_machine.specs.Words.{ReqResult, Fine, GivenFrom, FromDevice, FromDefaults, JobKind, ReadJob, WriteJob, RestoreJob, EraseJob, InvalidateJob, ReadAllJob, WriteAllJob, Configuration, Request, Read, Write, Restore, Erase, Invalidate, SetIndex, GetIndex, SetProtection, SetLock, SetRam, PutRam, Status, ReadAll, WriteAll, CancelWriteAll}
+use Rattle.block_machine.specs.Words.{ReqResult, Fine, GivenFrom, FromDevice, FromDefaults, Mark, JobKind, ReadJob, WriteJob, RestoreJob, Configuration, Request, Restore}
 use Rattle.block_machine.specs.State.{State, Job}
 use Rattle.block_machine.specs.Blocks.{desc_of, block_at, job_block, job_kind, kind_of, mark_by}
 use Rattle.block_machine.specs.ResultTable.{table}
-use Rattle.block_machine.specs.Results.{Own, own_of, own_indices, outcomes_of, open_sets, sets_of, unwritten, took_none}
+use Rattle.block_machine.specs.Results.{own_of, own_indices, outcomes_of, open_sets, took_none}
 use Rattle.job_programs.specs.Program.{Program, works, retries_of, next_in, step_by, step_of, outcomes_in}
 use Rattle.job_programs.specs.Laws.{Works, failed_of}
 use Rattle.job_programs.proofs.Ends.{ends_by_the_machine}
-use Rattle.job_programs.proofs.Failures.{failed_are_open}
+use Rattle.job_programs.proofs.Failures.{failed_are_open, open_none}
+use Rattle.job_programs.proofs.Outcomes.{reads_if}
 use Rattle.job_programs.proofs.Gives.{gives_the_last_read}
 use Rattle.job_programs.proofs.Worked.{programs_work, programs_work_on_their_own}
 use Rattle.nvm_device_laws.specs.Tries.{IsProgramOf}
 use Rattle.job_progress.specs.Hand.{HandState}
 use Rattle.job_progress.specs.JobInHand.{GivesWhole, IsFruitless, IsInHand, FitsMarks}
 use Rattle.job_progress.specs.Fits.{IsExplained, EndsAreExplained, EndsAreOfPrograms}
-
--- where nothing failed that is one of the open sets, of a job that can't fail at the device
-none_in : (xs : List ℕ) → Contains (sets_of xs) []
-none_in [] = (0, omega arith, refl)
-none_in (x ∷ xs) = Contains-append_left (sets_of xs) (map (λ (ys : List ℕ). x ∷ ys) (sets_of xs)) [] (none_in xs)
-
-open_none : (o : Own) (j : Job) (kind : JobKind) → took_none j.taken ≡ true → Contains (open_sets o j kind) []
-open_none o j ReadJob none = none_in (own_indices o)
-open_none o j RestoreJob none = (0, omega arith, refl)
-open_none o j WriteJob none = (0, omega arith, ap (λ (t : Bool). if t then [] else unwritten o j) none)
-open_none o j EraseJob none = (0, omega arith, ap (λ (t : Bool). if t then [] else unwritten o j) none)
-open_none o j InvalidateJob none = (0, omega arith, ap (λ (t : Bool). if t then [] else unwritten o j) none)
-open_none o j ReadAllJob none = (0, omega arith, ap (λ (t : Bool). if t then [] else unwritten o j) none)
-open_none o j WriteAllJob none = (0, omega arith, ap (λ (t : Bool). if t then [] else unwritten o j) none)
 
 -- the end of a program
 end_is : (p : Program) (n : Option ℕ) (r : ReqResult) (source : GivenFrom) → step_by p n ≡ step.Ended r source
@@ -46,14 +32,11 @@ end_is p None r source is =
     (refl, rw (first, second) refl)
 
 writes_mark : (kind : JobKind) (content : Option (List ℕ × ℕ)) → works kind ≡ true → kind ≢ ReadJob → (kind ≡ WriteJob → IsSome content) → IsSome (mark_by kind content)
-writes_mark ReadJob content on writes has = absurd (writes refl)
-writes_mark WriteJob (Some x) on writes has = refl
-writes_mark WriteJob None on writes has = let some = has refl in cc
-writes_mark RestoreJob content on writes has = cc
-writes_mark EraseJob content on writes has = refl
-writes_mark InvalidateJob content on writes has = refl
-writes_mark ReadAllJob content on writes has = cc
-writes_mark WriteAllJob content on writes has = cc
+writes_mark kind content on writes has = by (mark_by kind content) refl
+  where
+    by : (mark : Option Mark) → mark_by kind content ≡ mark → IsSome mark
+    by (Some m) is = refl
+    by None is = absurd (writes (reads_if kind content on has is))
 
 module _ (c : Configuration) (s : State) (h : HandState) (d : DeviceTold) (r : ReqResult) (source : GivenFrom) (is : IsInHand c s h d)
     (fits : FitsMarks c s is.job h d.stand) (over : h.step ≡ step.Ended r source) where
@@ -142,20 +125,7 @@ module _ (c : Configuration) (s : State) (h : HandState) (d : DeviceTold) (r : R
 -- a job that doesn't work on the device is a restore
 pub kind_by : (r : Request) → works (unwrap_or (job_kind r) ReadJob) ≡ false → unwrap_or (job_kind r) ReadJob ≡ RestoreJob
 kind_by (Restore block ram) off = refl
-kind_by (Read block ram) off = cc
-kind_by (Write block content store) off = cc
-kind_by (Erase block) off = cc
-kind_by (Invalidate block) off = cc
-kind_by (SetIndex block index) off = cc
-kind_by (GetIndex block) off = cc
-kind_by (SetProtection block on) off = cc
-kind_by (SetLock block on) off = cc
-kind_by (SetRam block on) off = cc
-kind_by (PutRam block content) off = cc
-kind_by (Status block) off = cc
-kind_by ReadAll off = cc
-kind_by WriteAll off = cc
-kind_by CancelWriteAll off = cc
+kind_by r off = cc
 
 by_cases : (c : Configuration) (s : State) (h : HandState) (d : DeviceTold) (r : ReqResult) (source : GivenFrom) (is : IsInHand c s h d)
     → FitsMarks c s is.job h d.stand → h.step ≡ step.Ended r source → (t u : Bool) → took_none is.job.taken ≡ t → works (kind_of is.job) ≡ u

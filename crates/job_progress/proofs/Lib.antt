@@ -1,6 +1,7 @@
 pub mod Beginning
 pub mod Given
 pub mod Going
+pub mod AtOperation
 pub mod Ended
 pub mod Writing
 pub mod Asking

@@ -21,6 +21,20 @@ struct PlainJob {
     urgent: bool,
 }
 
+impl PlainJob {
+    // A mark was taken, and isn't urgent.
+    fn of(number: DeviceNumber, place: usize) -> PlainJob
+        ensures { result ≡ record { number = number; place = place; reads = false; urgent = false } }
+    {
+        PlainJob {
+            number,
+            place,
+            reads: false,
+            urgent: false,
+        }
+    }
+}
+
 /// A device in memory: the plain program of the contract. It tells its marks, each operation takes one turn, and it has
 /// no fault and no power cut. Contracts see what is told of it.
 #[derive(Drop)]
@@ -107,12 +121,7 @@ impl PlainStore {
     {
         let place = self.check(number, None)?;
         mark(&mut self.kept, place, kind);
-        self.job = Some(PlainJob {
-            number,
-            place,
-            reads: false,
-            urgent: false,
-        });
+        self.job = Some(PlainJob::of(number, place));
         self.given = None;
         Ok(())
     }
@@ -141,10 +150,8 @@ impl MemDevice for PlainStore {
     fn start_read(&mut self, number: DeviceNumber, length: u16) -> Result<(), DeviceRefusal> {
         let place = self.check(number, Some(usize::from(length)))?;
         self.job = Some(PlainJob {
-            number,
-            place,
             reads: true,
-            urgent: false,
+            ..PlainJob::of(number, place)
         });
         self.given = None;
         Ok(())
@@ -159,10 +166,8 @@ impl MemDevice for PlainStore {
         let place = self.check(number, Some(content.len()))?;
         stage(&mut self.kept, place, content);
         self.job = Some(PlainJob {
-            number,
-            place,
-            reads: false,
             urgent,
+            ..PlainJob::of(number, place)
         });
         self.given = None;
         Ok(())

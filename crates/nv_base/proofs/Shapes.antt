@@ -10,16 +10,21 @@ use Rattle.nv_base.specs.Geometry.{IsLegal, HasBanks, BanksFill, PagesLieInside,
 pub parts : (n d : ℕ) → n % d ≡ 0 → n ≡ n / d * d
 parts n d whole = omega (arith, div-add-mod n d, mul_comm d (n / d), whole)
 
--- pages of a bank: those of its sectors
-pub pages_product : (g : Geometry) (banks : ℕ) → IsLegal g → HasBanks g banks → pages_of_bank g banks ≡ pages_of_sector g * sectors_of_bank g banks
-pages_product g banks legal has =
+-- the bytes of the flash are those of the pages of its banks' sectors
+size_in_pages : (g : Geometry) (banks : ℕ) → IsLegal g → HasBanks g banks → g.sector * g.sectors ≡ pages_of_sector g * sectors_of_bank g banks * g.page * banks
+size_in_pages g banks legal has =
     let k = pages_of_sector g in
     let m = sectors_of_bank g banks in
     let sector : g.sector ≡ k * g.page = parts g.sector g.page legal.whole_pages in
     let sectors : g.sectors ≡ m * banks = parts g.sectors banks has.whole in
-    let size : g.sector * g.sectors ≡ k * m * g.page * banks = ap (λ (x : ℕ). x * g.sectors) sector ∙ ap (λ (x : ℕ). k * g.page * x) sectors ∙ (let e : k * g.page * (m * banks) ≡ k * m * g.page * banks = grind arith in e) in
-    let one : g.sector * g.sectors / banks ≡ k * m * g.page = ap (λ (x : ℕ). x / banks) size ∙ mul-div_cancel (k * m * g.page) (omega (arith, has.low)) in
-    ap (λ (x : ℕ). x / g.page) one ∙ mul-div_cancel (k * m) (omega (arith, legal.page_low))
+    ap (λ (x : ℕ). x * g.sectors) sector ∙ ap (λ (x : ℕ). k * g.page * x) sectors ∙ (let e : k * g.page * (m * banks) ≡ k * m * g.page * banks = grind arith in e)
+
+-- pages of a bank: those of its sectors
+pub pages_product : (g : Geometry) (banks : ℕ) → IsLegal g → HasBanks g banks → pages_of_bank g banks ≡ pages_of_sector g * sectors_of_bank g banks
+pages_product g banks legal has =
+    let pages = pages_of_sector g * sectors_of_bank g banks in
+    let one : g.sector * g.sectors / banks ≡ pages * g.page = ap (λ (x : ℕ). x / banks) (size_in_pages g banks legal has) ∙ mul-div_cancel (pages * g.page) (omega (arith, has.low)) in
+    ap (λ (x : ℕ). x / g.page) one ∙ mul-div_cancel pages (omega (arith, legal.page_low))
 
 -- a bank has four pages at least: those of one sector
 pub four_pages : (g : Geometry) (banks : ℕ) → IsLegal g → HasBanks g banks → (4 ≤ pages_of_sector g) × (1 ≤ sectors_of_bank g banks) × (4 ≤ pages_of_bank g banks)
@@ -35,12 +40,7 @@ four_pages g banks legal has =
 
 pub banks_fill : BanksFill
 banks_fill g banks legal has =
-    let k = pages_of_sector g in
-    let m = sectors_of_bank g banks in
-    let sector : g.sector ≡ k * g.page = parts g.sector g.page legal.whole_pages in
-    let sectors : g.sectors ≡ m * banks = parts g.sectors banks has.whole in
-    let size : g.sector * g.sectors ≡ k * m * g.page * banks = ap (λ (x : ℕ). x * g.sectors) sector ∙ ap (λ (x : ℕ). k * g.page * x) sectors ∙ (let e : k * g.page * (m * banks) ≡ k * m * g.page * banks = grind arith in e) in
-    (ap (λ (x : ℕ). x * g.page * banks) (pages_product g banks legal has) ∙ sym size, (four_pages g banks legal has).2)
+    (ap (λ (x : ℕ). x * g.page * banks) (pages_product g banks legal has) ∙ sym (size_in_pages g banks legal has), (four_pages g banks legal has).2)
 
 -- the bytes of a bank are those of its pages
 pub size_is : (g : Geometry) (banks : ℕ) → IsLegal g → HasBanks g banks → size_of_bank g banks ≡ pages_of_bank g banks * g.page

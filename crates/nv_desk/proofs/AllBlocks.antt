@@ -1,22 +1,26 @@
 -- A request on all blocks is picked.
-use Rattle.std.proofs.Common.{◌≡◌, ℕ, ◌+◌, Bool, true, false, List, [], ◌∷◌, refl, sym, subst, Option, Some, None, if◌then◌else◌, ap, ◌∙◌}
-use Rattle.block_machine.specs.Words.{Configuration, Pick, TookNothing, Post}
+use Rattle.std.proofs.Common.{◌≡◌, ℕ, ◌+◌, Bool, true, false, List, [], ◌∷◌, refl, sym, subst, Option, Some, None, if◌then◌else◌, ap, ◌∙◌, arith}
+use Rattle.block_machine.specs.nv_base.History.{Listed}
+use Rattle.block_machine.specs.Words.{Configuration, JobKind, Pick, TookNothing, Post}
 use Rattle.block_machine.specs.State.{State, Job, Sweep}
 use Rattle.block_machine.specs.Blocks.{desc_of, block_at}
 use Rattle.block_machine.specs.Sweeps.{is_picked, sweep_result}
 use Rattle.block_machine.specs.Next.{Next, BeginSweep, PickMember, PostMember, EndSweep, next_in, next_by, next_of, next_member, next_in_sweep}
-use Rattle.block_machine.specs.Steps.{changed_by, step, posted, posted_next, with_status}
+use Rattle.block_machine.specs.Steps.{after, changed_by, step, posted, posted_next, with_status}
 use Rattle.block_machine.specs.Legal.{IsAllowed, IsDriving, MayPost, MayPostNext}
 use Rattle.block_laws.specs.Consistent.{IsConsistent}
-use Rattle.block_laws.proofs.ConsistentSteps.{allowed_steps_stay_consistent}
 use Rattle.block_laws.proofs.NextLaws.{none_waits}
 use Rattle.std.proofs.lemmas.List.{length-set}
 use Rattle.nv_desk_state.specs.declared.sweep.PendingSweep.{PendingSweep}
 use Rattle.nv_desk_state.specs.declared.kept.Kept.{Kept}
-use Rattle.nv_desk.specs.AllBlocks.{sweep_kind}
+use Rattle.nv_desk.specs.declared.desk.Desk.TheInside.{Inside}
+use Rattle.nv_desk.specs.AllBlocks.{MayBegin, MayFinish, sweep_kind}
+use Rattle.nv_desk.specs.Desk.{IsKept, shown}
+use Rattle.nv_desk.specs.Rooms.{with_entry}
 use Rattle.nv_desk_state.specs.Kept.{Agrees}
 use Rattle.nv_desk_state.specs.Pending.{AreSweeps}
 use Rattle.nv_desk.specs.Sound.{IsSound}
+use Rattle.nv_desk.proofs.Drivers.{HasRoom, has_room, allowed_kept}
 use Rattle.nv_desk.proofs.Sound.{sound_same}
 
 -- no job is pending, and the request wasn't picked yet
@@ -51,19 +55,39 @@ begins c s sw is =
     let b = begins_by c s sw (next_in c s.waiting) s.hand s.sweep is in
     record { waiting = none_waits c s.waiting b.0; hand = b.1; sweep = b.2; before = b.3 }
 
-pub may_begin : (c : Configuration) (cap : ℕ) (s : State) (sw : Sweep) (ops : ℕ) → next_of c s ≡ BeginSweep sw → IsDriving s ops → IsAllowed c cap s (Pick 0 (sweep_kind sw.writes) TookNothing ops)
+may_begin : (c : Configuration) (cap : ℕ) (s : State) (sw : Sweep) (ops : ℕ) → next_of c s ≡ BeginSweep sw → IsDriving s ops → IsAllowed c cap s (Pick 0 (sweep_kind sw.writes) TookNothing ops)
 may_begin c cap s sw ops is driving = (driving, rw is (record { all_blocks = refl; same_kind = refl; takes_nothing = refl }))
 
-pub begun_step : (c : Configuration) (k : Kept) (s : State) (sw : Sweep) (ops : ℕ) → next_of c s ≡ BeginSweep sw → Agrees c k (record s { sweep = Some (record sw { under_way = true }) }) → Agrees c k (changed_by c s (Pick 0 (sweep_kind sw.writes) TookNothing ops))
+begun_step : (c : Configuration) (k : Kept) (s : State) (sw : Sweep) (ops : ℕ) → next_of c s ≡ BeginSweep sw → Agrees c k (record s { sweep = Some (record sw { under_way = true }) }) → Agrees c k (changed_by c s (Pick 0 (sweep_kind sw.writes) TookNothing ops))
 begun_step c k s sw ops is h = rw is h
 
-pub begun_sound : (c : Configuration) (cap : ℕ) (s : State) (sw : Sweep) (ops : ℕ) → IsSound c s → next_of c s ≡ BeginSweep sw → IsAllowed c cap s (Pick 0 (sweep_kind sw.writes) TookNothing ops) → IsSound c (step c s (Pick 0 (sweep_kind sw.writes) TookNothing ops))
-begun_sound c cap s sw ops sound is allowed =
-    let consistent = allowed_steps_stay_consistent c cap s (Pick 0 (sweep_kind sw.writes) TookNothing ops) sound.consistent allowed in
+begun_sound : (c : Configuration) (s : State) (sw : Sweep) (ops : ℕ) → IsSound c s → next_of c s ≡ BeginSweep sw
+    → IsConsistent c (step c s (Pick 0 (sweep_kind sw.writes) TookNothing ops)) → IsSound c (step c s (Pick 0 (sweep_kind sw.writes) TookNothing ops))
+begun_sound c s sw ops sound is consistent =
     rw is (sound_same c s (record s { sweep = Some (record sw { under_way = true }); count = s.count + 1; ops = ops }) sound (rw is at consistent) refl refl refl)
 
 pub kept_sweep : (c : Configuration) (p : Option PendingSweep) (s : State) (sw : Sweep) → s.sweep ≡ Some sw → AreSweeps c p s.sweep → AreSweeps c p (Some sw)
 kept_sweep c p s sw is h = subst (AreSweeps c p) is h
+
+pub room_to_begin : (d : Inside) (ops : ℕ) → IsKept d → (may : MayBegin (shown d) ops) → HasRoom d (Pick 0 (sweep_kind may.sweep.writes) TookNothing ops)
+room_to_begin d ops is may = has_room d (Pick 0 (sweep_kind may.sweep.writes) TookNothing ops) is
+    (may_begin d.config d.history.cap (after d.config d.history.entries) may.sweep ops may.is may.driving) refl
+
+-- what is kept stands behind it
+pub begun_kept : (d : Inside) (h : Listed) (k : Kept) (kind : JobKind) (ops : ℕ) → IsKept d → (may : MayBegin (shown d) ops)
+    → (AreSweeps d.config d.kept.sweep (Some may.sweep) → kind ≡ sweep_kind may.sweep.writes)
+    → h ≡ with_entry d.history (Pick 0 kind TookNothing ops)
+    → (Begins (after d.config d.history.entries) may.sweep
+    → Agrees d.config k (record (after d.config d.history.entries) { sweep = Some (record may.sweep { under_way = true }) }))
+    → IsKept (record d { history = h; kept = k })
+begun_kept d h k kind ops is may kind_is added agrees =
+    let s = after d.config d.history.entries in
+    let b = begins d.config s may.sweep may.is in
+    let same = kind_is (kept_sweep d.config d.kept.sweep s may.sweep b.sweep is.agrees.sweep) in
+    allowed_kept d h k d.rooms (Pick 0 (sweep_kind may.sweep.writes) TookNothing ops) is
+    (may_begin d.config d.history.cap s may.sweep ops may.is may.driving) refl
+    (begun_sound d.config s may.sweep ops is.sound may.is) (rw same at added)
+    (begun_step d.config k s may.sweep ops may.is (agrees b)) (omega arith) refl
 
 -- THE END OF A SWEEP
 
@@ -118,13 +142,32 @@ ends c s sw is =
     let b = ends_by c s sw (next_in c s.waiting) s.hand s.sweep is in
     record { waiting = none_waits c s.waiting b.0; hand = b.1; sweep = b.2; under_way = b.3; next = b.4 }
 
-pub may_finish : (c : Configuration) (cap : ℕ) (s : State) (sw : Sweep) (ops : ℕ) → s.hand ≡ None → next_of c s ≡ EndSweep sw → IsDriving s ops → IsAllowed c cap s (Post 0 (sweep_result sw) None 0 ops)
+may_finish : (c : Configuration) (cap : ℕ) (s : State) (sw : Sweep) (ops : ℕ) → s.hand ≡ None → next_of c s ≡ EndSweep sw → IsDriving s ops → IsAllowed c cap s (Post 0 (sweep_result sw) None 0 ops)
 may_finish c cap s sw ops hand is driving = (driving, subst (λ (o : Option Job). MayPost c s 0 (sweep_result sw, None) 0 o) (sym hand) (may_by c s sw (next_of c s) is))
 
-pub finished_step : (c : Configuration) (k : Kept) (s : State) (sw : Sweep) (ops : ℕ) → s.hand ≡ None → next_of c s ≡ EndSweep sw → Agrees c k (posted_next c s (sweep_result sw) None (EndSweep sw)) → Agrees c k (changed_by c s (Post 0 (sweep_result sw) None 0 ops))
+finished_step : (c : Configuration) (k : Kept) (s : State) (sw : Sweep) (ops : ℕ) → s.hand ≡ None → next_of c s ≡ EndSweep sw → Agrees c k (posted_next c s (sweep_result sw) None (EndSweep sw)) → Agrees c k (changed_by c s (Post 0 (sweep_result sw) None 0 ops))
 finished_step c k s sw ops hand is h = subst (λ (o : Option Job). Agrees c k (posted c s (sweep_result sw) None o)) (sym hand) (finished_by c k s sw (next_of c s) is h)
 
-pub finished_sound : (c : Configuration) (cap : ℕ) (s : State) (sw : Sweep) (ops : ℕ) → IsSound c s → Ends c s sw → next_of c s ≡ EndSweep sw → IsAllowed c cap s (Post 0 (sweep_result sw) None 0 ops) → IsSound c (step c s (Post 0 (sweep_result sw) None 0 ops))
-finished_sound c cap s sw ops sound x is allowed =
-    let consistent = allowed_steps_stay_consistent c cap s (Post 0 (sweep_result sw) None 0 ops) sound.consistent allowed in
-    end_sound c s sw ops s.hand x.hand x.waiting (next_of c s) is sound consistent refl refl
+finished_sound : (c : Configuration) (s : State) (sw : Sweep) (ops : ℕ) → IsSound c s → Ends c s sw → next_of c s ≡ EndSweep sw
+    → IsConsistent c (step c s (Post 0 (sweep_result sw) None 0 ops)) → IsSound c (step c s (Post 0 (sweep_result sw) None 0 ops))
+finished_sound c s sw ops sound x is consistent = end_sound c s sw ops s.hand x.hand x.waiting (next_of c s) is sound consistent refl refl
+
+pub room_to_finish : (d : Inside) (ops : ℕ) → IsKept d → (may : MayFinish (shown d) ops) → HasRoom d (Post 0 (sweep_result may.sweep) None 0 ops)
+room_to_finish d ops is may =
+    let s = after d.config d.history.entries in
+    has_room d (Post 0 (sweep_result may.sweep) None 0 ops) is
+    (may_finish d.config d.history.cap s may.sweep ops (ends d.config s may.sweep may.is).hand may.is may.driving) refl
+
+-- what is kept stands behind it
+pub ended_kept : (d : Inside) (h : Listed) (k : Kept) (ops : ℕ) → IsKept d → (may : MayFinish (shown d) ops)
+    → h ≡ with_entry d.history (Post 0 (sweep_result may.sweep) None 0 ops)
+    → (Ends d.config (after d.config d.history.entries) may.sweep
+    → Agrees d.config k (posted_next d.config (after d.config d.history.entries) (sweep_result may.sweep) None (EndSweep may.sweep)))
+    → IsKept (record d { history = h; kept = k })
+ended_kept d h k ops is may added agrees =
+    let s = after d.config d.history.entries in
+    let x = ends d.config s may.sweep may.is in
+    allowed_kept d h k d.rooms (Post 0 (sweep_result may.sweep) None 0 ops) is
+    (may_finish d.config d.history.cap s may.sweep ops x.hand may.is may.driving) refl
+    (finished_sound d.config s may.sweep ops is.sound x may.is) added
+    (finished_step d.config k s may.sweep ops x.hand may.is (agrees x)) (omega arith) refl

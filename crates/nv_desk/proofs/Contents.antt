@@ -31,15 +31,18 @@ use Rattle.nv_desk_state.specs.Pending.{AreSweeps, IsAtMember}
 use Rattle.nv_desk.specs.Sound.{HasRam, IsPendingJob, IsSound}
 use Rattle.nv_desk.specs.Picks.{copied_in}
 use Rattle.nv_desk.proofs.Asks.{has_ram}
-use Rattle.nv_desk.proofs.Sound.{each_end}
+use Rattle.block_laws.proofs.JobLists.{each_push}
 
 -- THE RAM THAT THE MANAGER KEEPS
 abbrev pub RamIsWhole : Configuration → State → Type 0
 RamIsWhole c s = (id : ℕ) → keeps_ram c id ≡ true → length (block_at s id).ram ≡ (desc_of c id).length
 
 -- as it fills the rooms that are kept for it
+abbrev pub FillsRooms : Kept → Type 0
+FillsRooms k = 0 < length k.blocks.states → (id : ℕ) → length (state_at k.blocks.states id).ram ≡ get_or k.blocks.rooms id 0
+
 pub ram_is_whole : (c : Configuration) (k : Kept) (s : State) → Agrees c k s → IsSound c s → IsTrue s.started
-    → (0 < length k.blocks.states → (id : ℕ) → length (state_at k.blocks.states id).ram ≡ get_or k.blocks.rooms id 0) → RamIsWhole c s
+    → FillsRooms k → RamIsWhole c s
 ram_is_whole c k s agrees sound on fills id keeps =
     let same : length k.blocks.states ≡ length s.blocks = ap length agrees.blocks in
     let places = sound.places on in
@@ -135,8 +138,8 @@ ids_have c passed legal = all_written c (passed + 2) (drop (passed + 1) c.blocks
     (λ k. dropped (passed + 1) k c.blocks ∙ ap (block_of c) (let e : suc (passed + 1 + k) ≡ passed + 2 + k = omega arith in e))
 
 members_have : (c : Configuration) (place : Place) → IsLegalConfig c → Each (HasRam c) (members_at c true place)
-members_have c (Behind passed) legal = each_end (HasRam c) (ids_from c true passed) 1 (ids_have c passed legal) refl
-members_have c First legal = (refl, each_end (HasRam c) (ids_from c true 0) 1 (ids_have c 0 legal) refl)
+members_have c (Behind passed) legal = each_push (HasRam c) (ids_from c true passed) 1 (ids_have c passed legal) refl
+members_have c First legal = (refl, each_push (HasRam c) (ids_from c true 0) 1 (ids_have c 0 legal) refl)
 members_have c Over legal = tt
 
 member_has : (c : Configuration) (o : Option PendingSweep) (sw : Sweep) (id : ℕ) (rest : List ℕ) → IsLegalConfig c → AreSweeps c o (Some sw)

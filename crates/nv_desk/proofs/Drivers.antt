@@ -1,7 +1,8 @@
 -- One entry more of the driver.
 use Rattle.std.specs.Option.{option_map_or}
+use Rattle.std.proofs.lemmas.Bool.{and_parts}
 use Rattle.std.proofs.lemmas.List.Sums.{sum_by-cons}
-use Rattle.std.proofs.Common.{◌≢◌, option_map, ◌&&◌, Bool, false, sym, ◌∙◌, get_or, ◌≡◌, ◌≤◌, ◌<◌, ℕ, ◌+◌, ◌-◌, true, List, [], ◌∷◌, ◌++◌, length, refl, ap, arith, subst, Option, Some, None, IfSome, IsSome, option_to_list}
+use Rattle.std.proofs.Common.{◌≢◌, option_map, ◌&&◌, Bool, false, sym, ◌∙◌, get_or, ◌≡◌, ◌≤◌, ◌<◌, ℕ, ◌+◌, true, List, ◌++◌, length, refl, ap, arith, subst, Option, Some, None, IfSome, IsSome, option_to_list}
 use Rattle.block_machine.specs.nv_base.History.{Listed}
 use Rattle.block_machine.specs.block_config.Block.{record_count}
 use Rattle.block_machine.specs.block_config.declared.block.BlockKind.{BlockKind}
@@ -15,24 +16,24 @@ use Rattle.block_machine.specs.Steps.{after, changed_by, step, wrote, posted}
 use Rattle.block_machine.specs.Legal.{IsAllowed, MayWrite, IsWrote}
 use Rattle.block_laws.specs.Laws.{uses_reserved}
 use Rattle.block_laws.specs.Consistent.{Each, IsConsistent, IsJobInHand}
+use Rattle.block_laws.proofs.ConsistentSteps.{allowed_steps_stay_consistent}
 use Rattle.block_laws.proofs.EntryRoom.{driver_entries_are_reserved}
 use Rattle.block_states.specs.States.{rooms_of}
 use Rattle.block_states.proofs.Started.{rooms_have_lengths}
 use Rattle.nv_desk.specs.declared.desk.Desk.TheInside.{Inside}
 use Rattle.nv_desk_state.specs.declared.kept.Kept.{Kept}
-use Rattle.nv_desk.specs.Rooms.{Roomy}
+use Rattle.nv_desk.specs.Rooms.{Roomy, HasPlace, CanPost, with_entry}
 use Rattle.nv_desk_state.specs.Kept.{Agrees}
 use Rattle.nv_desk.specs.Sound.{IsPendingJob, IsSound}
-use Rattle.nv_desk.specs.Desk.{IsKept}
-use Rattle.nv_desk.specs.Driver.{block_now}
+use Rattle.nv_desk.specs.Desk.{IsKept, shown}
+use Rattle.nv_desk.specs.Driver.{MayAdd, MayEnd, block_now, mark_now}
 use Rattle.nv_desk.proofs.Entries.{entry_kept}
 use Rattle.job_pending.specs.Pending.{Pending, Agree, IsHeld, IsOther, StandsApart}
-use Rattle.nv_desk.proofs.Sound.{each_map}
+use Rattle.block_laws.proofs.JobLists.{each_more}
 
 -- there is room for the entry, and for two contents with it
 pub record HasRoom (d : Inside) (e : Entry) : Type 0 where
-  pub below : length d.history.entries < d.history.cap
-  pub room : 0 < d.history.reserved
+  pub place : HasPlace d.history
   pub rooms : 2 ≤ d.rooms.count
   pub fewer : reserved_entries d.config (changed_by d.config (after d.config d.history.entries) e) + 1 ≤ reserved_entries d.config
       (after d.config d.history.entries)
@@ -40,8 +41,7 @@ pub record HasRoom (d : Inside) (e : Entry) : Type 0 where
 pub room_for : (d : Inside) (e : Entry) → IsKept d → reserved_entries d.config
     (changed_by d.config (after d.config d.history.entries) e) < reserved_entries d.config (after d.config d.history.entries) → HasRoom d e
 room_for d e is less = record {
-  below = omega (arith, is.fits, less);
-  room = omega (arith, is.memory, less);
+  place = record { below = omega (arith, is.fits, less); room = omega (arith, is.memory, less) };
   rooms = omega (arith, is.rooms, less);
   fewer = omega (arith, less);
 }
@@ -53,8 +53,7 @@ has_room d e is allowed uses = room_for d e is (driver_entries_are_reserved d.co
 -- what is kept stands behind it
 pub driver_kept : (d : Inside) (h : Listed) (k : Kept) (r : Roomy) (e : Entry) → IsKept d → HasRoom d e
     → IsSound d.config (step d.config (after d.config d.history.entries) e)
-    → h ≡ record d.history { entries = d.history.entries ++ e ∷ []; reserved = d.history.reserved - 1 }
-    → Agrees d.config k (changed_by d.config (after d.config d.history.entries) e)
+    → h ≡ with_entry d.history e → Agrees d.config k (changed_by d.config (after d.config d.history.entries) e)
     → d.rooms.count ≤ r.count + 2 → r.longest ≡ d.rooms.longest
     → IsKept (record d { history = h; kept = k; rooms = r })
 driver_kept d h k r e is has sound added agrees count longest =
@@ -63,6 +62,31 @@ driver_kept d h k r e is has sound added agrees count longest =
     entry_kept d h k r e left is
     (record { entries = ap (λ (x : Listed). x.entries) added; cap = ap (λ (x : Listed). x.cap) added; memory = omega (arith, reserved, has.fewer, is.memory) })
     agrees sound (omega arith) (omega (arith, has.fewer, is.fits)) (omega (arith, has.fewer, is.rooms, count)) (omega (arith, longest))
+
+-- so it does behind one that the machine allows
+pub allowed_kept : (d : Inside) (h : Listed) (k : Kept) (r : Roomy) (e : Entry) → IsKept d
+    → IsAllowed d.config d.history.cap (after d.config d.history.entries) e → uses_reserved e ≡ true
+    → (IsConsistent d.config (step d.config (after d.config d.history.entries) e) → IsSound d.config (step d.config (after d.config d.history.entries) e))
+    → h ≡ with_entry d.history e → Agrees d.config k (changed_by d.config (after d.config d.history.entries) e)
+    → d.rooms.count ≤ r.count + 2 → r.longest ≡ d.rooms.longest
+    → IsKept (record d { history = h; kept = k; rooms = r })
+allowed_kept d h k r e is allowed uses sound added agrees count longest = driver_kept d h k r e is (has_room d e is allowed uses)
+    (sound (allowed_steps_stay_consistent d.config d.history.cap (after d.config d.history.entries) e is.sound.consistent allowed))
+    added agrees count longest
+
+given_fits : (c : Configuration) (n id : ℕ) (given : Option (List ℕ)) → IfSome given (λ x. length x ≡ (desc_of c id).length)
+    → ((id : ℕ) → (desc_of c id).length ≤ n) → IfSome given (λ x. length x ≤ n)
+given_fits c n id None whole most = tt
+given_fits c n id (Some x) whole most = omega (arith, whole, most id)
+
+-- there is room for a Post that gives nothing or a content of its block's length
+pub can_post : (d : Inside) (e : Entry) (id : ℕ) (given : Option (List ℕ)) → IsKept d → HasRoom d e
+    → IfSome given (λ x. length x ≡ (desc_of d.config id).length) → CanPost d.history d.rooms given
+can_post d e id given is has whole = record {
+  place = has.place;
+  some = omega (arith, has.rooms);
+  fits = given_fits d.config d.rooms.longest id given whole is.longest;
+}
 
 -- THE JOB IN HAND
 
@@ -76,8 +100,16 @@ writes_by : (c : Configuration) (s : State) (i : Instance) (mark : Mark) (o : Op
 writes_by c s i mark None is may = absurd may
 writes_by c s i mark (Some j) is may = record { job = j; is = is; wrote = may }
 
-pub writes : (c : Configuration) (s : State) (i : Instance) (mark : Mark) → MayWrite c s i mark s.hand → Writes c s i mark
+writes : (c : Configuration) (s : State) (i : Instance) (mark : Mark) → MayWrite c s i mark s.hand → Writes c s i mark
 writes c s i mark may = writes_by c s i mark s.hand refl may
+
+pub writing : (d : Inside) (i : Instance) (ops : ℕ) → MayAdd (shown d) (Wrote i (mark_now (after d.config d.history.entries)) ops)
+    → Writes d.config (after d.config d.history.entries) i (mark_now (after d.config d.history.entries))
+writing d i ops may = let s = after d.config d.history.entries in writes d.config s i (mark_now s) may.allowed.1
+
+pub room_to_write : (d : Inside) (i : Instance) (ops : ℕ) → IsKept d → MayAdd (shown d) (Wrote i (mark_now (after d.config d.history.entries)) ops)
+    → HasRoom d (Wrote i (mark_now (after d.config d.history.entries)) ops)
+room_to_write d i ops is may = has_room d (Wrote i (mark_now (after d.config d.history.entries)) ops) is may.allowed refl
 
 two_records : (k : BlockKind) → record_count k ≤ 2
 two_records Native = omega arith
@@ -132,28 +164,29 @@ holds_by s (Some j) is some = record { job = j; is = is }
 pub holds : (s : State) → IsSome s.hand → Holds s
 holds s some = holds_by s s.hand refl some
 
-pub given_fits : (c : Configuration) (n id : ℕ) (given : Option (List ℕ)) → IfSome given (λ x. length x ≡ (desc_of c id).length)
-    → ((id : ℕ) → (desc_of c id).length ≤ n) → IfSome given (λ x. length x ≤ n)
-given_fits c n id None whole most = tt
-given_fits c n id (Some x) whole most = omega (arith, whole, most id)
-
-both_true : (a b : Bool) → (a && b) ≡ true → b ≡ true
-both_true true b e = e
-both_true false b e = cc
-
 pub in_room : (rooms : List ℕ) (n id : ℕ) (given : Option (List ℕ)) → IfSome given (λ x. length x ≡ n) → get_or rooms id 0 ≡ n
     → IfSome given (λ x. length x ≡ get_or rooms id 0)
 in_room rooms n id None whole is = tt
 in_room rooms n id (Some x) whole is = whole ∙ sym is
 
 -- a content that RAM is given has the length of that
-pub given_to_ram : (c : Configuration) (s : State) (rooms : List ℕ) (given : Option (List ℕ)) (j : Job)
+given_to_ram : (c : Configuration) (s : State) (rooms : List ℕ) (given : Option (List ℕ)) (j : Job)
     → rooms ≡ rooms_of c → s.hand ≡ Some j → IfSome given (λ x. length x ≡ (desc_of c (block_now s)).length)
     → (names_ram j.request && keeps_ram c (job_block j)) ≡ true → IfSome given (λ x. length x ≡ get_or rooms (job_block j) 0)
 given_to_ram c s rooms given j is hand whole kept =
     let own = subst (λ (n : ℕ). IfSome given (λ x. length x ≡ (desc_of c n).length)) (ap (λ (o : Option Job). option_map_or job_block o 0) hand) whole in
     in_room rooms (desc_of c (job_block j)).length (job_block j) given own
-    (rw is (rooms_have_lengths c (job_block j) (both_true (names_ram j.request) (keeps_ram c (job_block j)) kept)))
+    (rw is (rooms_have_lengths c (job_block j) (and_parts (names_ram j.request) (keeps_ram c (job_block j)) kept).1))
+
+pub end_fits : (d : Inside) (given : Option (List ℕ)) → IsKept d → MayEnd (shown d) given
+    → IfSome d.kept.jobs.hand (λ h. (names_ram h.request && keeps_ram d.config (job_block h)) ≡ true
+    → IfSome given (λ x. length x ≡ get_or d.kept.blocks.rooms (job_block h) 0))
+end_fits d given is may =
+    let s = after d.config d.history.entries in
+    let h = holds s may.hand in
+    in_hand (λ h. (names_ram h.request && keeps_ram d.config (job_block h)) ≡ true
+    → IfSome given (λ x. length x ≡ get_or d.kept.blocks.rooms (job_block h) 0)) d.kept.jobs.hand s.hand h.job is.agrees.jobs.hand h.is
+    (given_to_ram d.config s d.kept.blocks.rooms given h.job is.agrees.rooms h.is may.whole)
 
 -- an ended job leaves all entries that were reserved for it
 same_entries : (c : Configuration) (id : ℕ) (r : ReqResult) (sw : Sweep) (b : Bool) → sw.under_way ≡ b
@@ -177,9 +210,16 @@ pub post_fewer : (c : Configuration) (s : State) (block refused ops : ℕ) (r : 
     → s.hand ≡ Some j → IsConsistent c s → reserved_entries c (changed_by c s (Post block r given refused ops)) < reserved_entries c s
 post_fewer c s block refused ops r given j is h = rw is (fewer_at c s r given j is (subst (λ (o : Option Job). IfSome o (IsJobInHand c s)) is h.hand))
 
+pub room_to_end : (d : Inside) (r : ReqResult) (given : Option (List ℕ)) (refused ops : ℕ) → IsKept d → MayEnd (shown d) given
+    → HasRoom d (Post (block_now (after d.config d.history.entries)) r given refused ops)
+room_to_end d r given refused ops is may =
+    let s = after d.config d.history.entries in
+    let h = holds s may.hand in
+    room_for d (Post (block_now s) r given refused ops) is (post_fewer d.config s (block_now s) refused ops r given h.job h.is is.sound.consistent)
+
 -- the other jobs are on other blocks
 pub others_of : (j : Job) (waiting : List Job) → StandsApart j waiting → Each (λ x. job_block x ≢ job_block j) waiting
-others_of j waiting apart = each_map (λ x. IsOther x j) (λ x. job_block x ≢ job_block j) waiting (λ x h. h.block) apart
+others_of j waiting apart = each_more (λ x. IsOther x j) (λ x. job_block x ≢ job_block j) waiting (λ x h. h.block) apart
 
 held_by : (n : ℕ) (waiting : List Job) (o : Option Job) (j : Job) → o ≡ Some j → IfSome o (IsHeld n waiting) → StandsApart j waiting
 held_by n waiting None j is h = cc

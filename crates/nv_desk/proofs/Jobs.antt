@@ -5,18 +5,21 @@ use Rattle.block_machine.specs.Words.{Configuration, Pending, Ask, Request, Writ
 use Rattle.block_machine.specs.State.{State, Job, Sweep, jobs_of}
 use Rattle.block_machine.specs.Blocks.{asked_block, asked_content, job_block, job_kind, names_ram, is_pending, rank_of, status_of}
 use Rattle.block_machine.specs.Reply.{reserved_entries, needed}
-use Rattle.block_machine.specs.Steps.{step, accepted, accepted_by, job_at, with_status}
+use Rattle.block_machine.specs.Steps.{after, step, accepted, accepted_by, job_at, with_status}
+use Rattle.block_machine.specs.Legal.{IsAsk}
 use Rattle.block_laws.specs.Consistent.{Each, IsConsistent, IsWaitingJob, IsJobInHand, IsPendingSweep}
 use Rattle.block_laws.proofs.NextLaws.{fitting_has_room}
 use Rattle.job_pending.specs.declared.unpicked.Unpicked.{Unpicked}
 use Rattle.job_pending.specs.Unpicked.{unpicked_in}
 use Rattle.job_pending.specs.Pending.{IsNew, reserved_by}
+use Rattle.nv_desk.specs.declared.desk.Desk.TheInside.{Inside}
 use Rattle.nv_desk.specs.Asks.{IsJobAccepted}
+use Rattle.nv_desk.specs.Desk.{IsKept}
 use Rattle.nv_desk_state.specs.Kept.{Agrees}
 use Rattle.nv_desk.specs.Sound.{IsPendingJob, IsSound}
 use Rattle.nv_desk.proofs.Sound.{sound_job}
 use Rattle.nv_desk_state.specs.declared.kept.Kept.{Kept}
-use Rattle.nv_desk.proofs.Asks.{known_of}
+use Rattle.nv_desk.proofs.Asks.{known_of, job_accepted}
 
 each_at : {X : Type 0} (P : X → Type 0) (xs : List X) (x : X) (k : ℕ) → k < length xs → get_or xs k x ≡ x → Each P xs → P x
 each_at P [] x k below is each = absurd (omega arith)
@@ -62,10 +65,22 @@ waiting_reserves : (c : Configuration) (s : State) → reserved_by s.waiting ≤
 waiting_reserves c s = let d = sum_by-append (λ (j : Job). j.reserved) (option_to_list s.hand) s.waiting in omega (arith, d)
 
 -- the entries fit into a number
-pub few_entries : (c : Configuration) (cap : ℕ) (s : State) (r : Request) → cap < 2 ^ 32 → IsJobAccepted c cap s r
-    → (reserved_entries c s + needed c r + 1 < 2 ^ 32) × (reserved_by s.waiting + needed c r < 2 ^ 32)
-few_entries c cap s r within passed = let room = (fitting_has_room c cap s (1 + needed c r)).0 passed.room in
-    (omega (arith, room, within), omega (arith, room, within, waiting_reserves c s))
+pub few_entries : (d : Inside) (caller : ℕ) (r : Request) (reserved more : ℕ) → IsKept d → is_some (job_kind r) ≡ true
+    → IsAsk d.config d.history.cap (after d.config d.history.entries) caller r Accepted → more ≡ needed d.config r
+    → reserved ≡ reserved_entries d.config (after d.config d.history.entries) → reserved + more + 1 < 2 ^ 32
+few_entries d caller r reserved more is kind allowed need value =
+    let s = after d.config d.history.entries in
+    let passed = job_accepted d.config d.history.cap s r kind allowed.replies in
+    let room = (fitting_has_room d.config d.history.cap s (1 + needed d.config r)).0 passed.room in
+    omega (arith, room, is.within, need, value)
+
+-- and so do those of the jobs that wait
+pub few_reserved : (d : Inside) (caller : ℕ) (r : Request) (more : ℕ) → IsKept d → is_some (job_kind r) ≡ true
+    → IsAsk d.config d.history.cap (after d.config d.history.entries) caller r Accepted → more ≡ needed d.config r
+    → d.kept.jobs.reserved + more < 2 ^ 32
+few_reserved d caller r more is kind allowed need =
+    let few = few_entries d caller r _ more is kind allowed need refl in
+    omega (arith, few, is.agrees.jobs.reserved, waiting_reserves d.config (after d.config d.history.entries))
 
 -- its block has a place
 pub has_place : (c : Configuration) (cap : ℕ) (s : State) (k : Kept) (r : Request) (j : Job) → IsJobAccepted c cap s r → Agrees c k s

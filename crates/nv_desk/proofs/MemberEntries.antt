@@ -1,15 +1,14 @@
 -- A member of a request on all blocks is picked, or posted without a Pick.
-use Rattle.std.proofs.Common.{◌≡◌, ◌≤◌, ◌<◌, ℕ, ◌+◌, Bool, true, false, List, [], ◌∷◌, length, get_or, refl, sym, subst, Option, Some, None, IfSome, if◌then◌else◌, ap, ◌∙◌, arith}
+use Rattle.std.proofs.Common.{◌≡◌, ◌≤◌, ◌<◌, ℕ, ◌+◌, Bool, true, false, List, [], ◌∷◌, length, get_or, refl, sym, subst, Option, Some, None, IfSome, IsTrue, if◌then◌else◌, ap, ◌∙◌, arith}
 use Rattle.std.proofs.lemmas.List.{length-set}
+use Rattle.block_machine.specs.block_config.Rules.{IsLegalConfig}
 use Rattle.block_machine.specs.Words.{Configuration, ReqResult, Pick, Post, JobKind, Pending}
 use Rattle.block_machine.specs.State.{State, Job, Sweep}
 use Rattle.block_machine.specs.Blocks.{desc_of, block_at, is_pending, keeps_ram, status_of}
 use Rattle.block_machine.specs.Sweeps.{is_picked, member_job, member_kind}
 use Rattle.block_machine.specs.Next.{Next, BeginSweep, PickMember, PostMember, next_in, next_by, next_of, next_member, next_in_sweep}
-use Rattle.block_machine.specs.Steps.{changed_by, step, posted, posted_next, content_after, in_hand, with_member, ended}
-use Rattle.block_machine.specs.Legal.{IsAllowed}
+use Rattle.block_machine.specs.Steps.{after, changed_by, step, posted, posted_next, content_after, in_hand, with_member, ended}
 use Rattle.block_laws.specs.Consistent.{IsConsistent}
-use Rattle.block_laws.proofs.ConsistentSteps.{allowed_steps_stay_consistent}
 use Rattle.block_laws.proofs.NextLaws.{none_waits}
 use Rattle.block_states.specs.States.{rooms_of}
 use Rattle.block_states.proofs.Started.{rooms_have_lengths}
@@ -18,9 +17,13 @@ use Rattle.job_pending.specs.Took.{taken_with}
 use Rattle.nv_desk_state.specs.declared.kept.Kept.{Kept}
 use Rattle.nv_desk_state.specs.Kept.{Agrees}
 use Rattle.nv_desk_state.specs.Pending.{IsAtMember}
+use Rattle.nv_desk.specs.declared.desk.Desk.TheInside.{Inside}
 use Rattle.nv_desk.specs.Sound.{HasRam, IsSound}
-use Rattle.nv_desk.proofs.Drivers.{in_room}
-use Rattle.nv_desk.proofs.Contents.{block_is, writes_is}
+use Rattle.nv_desk.specs.Desk.{IsKept, shown}
+use Rattle.nv_desk.specs.Picks.{CanTake}
+use Rattle.nv_desk.specs.Members.{MayPickMember}
+use Rattle.nv_desk.proofs.Drivers.{HasRoom, has_room, in_room}
+use Rattle.nv_desk.proofs.Contents.{FillsRooms, block_is, copied_fits, member_ram_is, member_takes, ram_is_whole, writes_is}
 use Rattle.nv_desk.proofs.Sound.{now}
 
 -- WHICH MEMBER
@@ -84,6 +87,32 @@ next_at c s sw id n x is = sym (ap (λ (ws : List Job). next_by c s (next_in c w
 
 -- A PICK
 
+-- what it finds: room for its entry and for copies, RAM to write from, and a content of its block's length
+pub record MemberPick (d : Inside) (took : Took) (ops : ℕ) (sw : Sweep) (id : ℕ) : Type 0 where
+  pub room : HasRoom d (Pick id (member_kind sw.writes) (taken_with None took) ops)
+  pub member : IsAtMember (after d.config d.history.entries) sw id
+  pub ram : sw.writes ≡ true → HasRam d.config id
+  pub whole : IfSome (content_after None (taken_with None took)) (λ x. length x.0 ≡ (desc_of d.config id).length)
+  pub takes : CanTake d.rooms None took
+
+pub member_pick : (d : Inside) (took : Took) (ops : ℕ) → IsKept d → IsLegalConfig d.config → FillsRooms d.kept
+    → (may : MayPickMember (shown d) took ops) → MemberPick d took ops may.sweep may.id
+member_pick d took ops is legal fills may =
+    let s = after d.config d.history.entries in
+    let kind = member_kind may.sweep.writes in
+    let x = at_picked d.config s may.sweep may.id may.is in
+    let has = has_room d (Pick may.id kind (taken_with None took) ops) is may.allowed refl in
+    let ram = ram_is_whole d.config d.kept s is.agrees is.sound may.allowed.0.started fills in
+    let some = member_ram_is d.config d.kept s may.sweep may.id legal is.agrees x in
+    let whole = member_takes d.config d.history.cap s may.sweep may.id kind (taken_with None took) ops ram may.is some may.allowed in
+    record {
+      room = has;
+      member = x;
+      ram = some;
+      whole = whole;
+      takes = record { rooms = has.rooms; own = tt; copied = copied_fits (desc_of d.config may.id).length d.rooms.longest None took (is.longest may.id) whole };
+    }
+
 held_sound : (c : Configuration) (s : State) (sw : Sweep) (id : ℕ) (t : Took) (count ops : ℕ)
     → let new : State = record (in_hand c (with_member s sw id) (member_job c sw id) (taken_with None t)) { count = count; ops = ops } in
     IsSound c s → IsConsistent c new → s.waiting ≡ [] → s.hand ≡ None → id < length s.blocks
@@ -104,15 +133,12 @@ held_sound c s sw id t count ops sound consistent waiting hand below ram whole =
       );
     }
 
-pub member_sound : (c : Configuration) (cap : ℕ) (s : State) (sw : Sweep) (id : ℕ) (kind : JobKind) (t : Took) (ops : ℕ)
-    → IsSound c s → IsAtMember s sw id → next_of c s ≡ PickMember sw id → id ≤ length c.blocks
-    → IsAllowed c cap s (Pick id kind (taken_with None t) ops) → (sw.writes ≡ true → HasRam c id)
+pub member_sound : (c : Configuration) (s : State) (sw : Sweep) (id : ℕ) (kind : JobKind) (t : Took) (ops : ℕ)
+    → IsSound c s → IsAtMember s sw id → next_of c s ≡ PickMember sw id → id ≤ length c.blocks → IsTrue s.started → (sw.writes ≡ true → HasRam c id)
     → IfSome (content_after None (taken_with None t)) (λ x. length x.0 ≡ (desc_of c id).length)
-    → IsSound c (step c s (Pick id kind (taken_with None t) ops))
-member_sound c cap s sw id kind t ops sound x is known allowed ram whole =
-    let consistent = allowed_steps_stay_consistent c cap s (Pick id kind (taken_with None t) ops) sound.consistent allowed in
-    rw is (held_sound c s sw id t (s.count + 1) ops sound (rw is at consistent) x.waiting x.hand
-    (omega (arith, known, sound.places allowed.0.started)) ram whole)
+    → IsConsistent c (step c s (Pick id kind (taken_with None t) ops)) → IsSound c (step c s (Pick id kind (taken_with None t) ops))
+member_sound c s sw id kind t ops sound x is known on ram whole consistent =
+    rw is (held_sound c s sw id t (s.count + 1) ops sound (rw is at consistent) x.waiting x.hand (omega (arith, known, sound.places on)) ram whole)
 
 pub member_step : (c : Configuration) (k : Kept) (s : State) (sw : Sweep) (id : ℕ) (kind : JobKind) (t : Took) (ops : ℕ) → next_of c s ≡ PickMember sw id
     → Agrees c k (in_hand c (with_member s sw id) (member_job c sw id) (taken_with None t)) → Agrees c k (changed_by c s (Pick id kind (taken_with None t) ops))
@@ -143,11 +169,10 @@ ended_sound c s sw id r given ops sound x is consistent =
       jobs = rw (changed, x.hand, x.waiting) tt;
     }
 
-pub posted_sound : (c : Configuration) (cap : ℕ) (s : State) (sw : Sweep) (id : ℕ) (r : ReqResult) (given : Option (List ℕ)) (refused ops : ℕ)
-    → IsSound c s → IsAtMember s sw id → next_of c s ≡ PostMember sw id → IsAllowed c cap s (Post id r given refused ops)
+pub posted_sound : (c : Configuration) (s : State) (sw : Sweep) (id : ℕ) (r : ReqResult) (given : Option (List ℕ)) (refused ops : ℕ)
+    → IsSound c s → IsAtMember s sw id → next_of c s ≡ PostMember sw id → IsConsistent c (step c s (Post id r given refused ops))
     → IsSound c (step c s (Post id r given refused ops))
-posted_sound c cap s sw id r given refused ops sound x is allowed = ended_sound c s sw id r given ops sound x is
-    (allowed_steps_stay_consistent c cap s (Post id r given refused ops) sound.consistent allowed)
+posted_sound c s sw id r given refused ops sound x is consistent = ended_sound c s sw id r given ops sound x is consistent
 
 -- a content that RAM is given has the length of that
 pub member_given : (c : Configuration) (rooms : List ℕ) (id : ℕ) (given : Option (List ℕ)) → rooms ≡ rooms_of c

@@ -3,13 +3,12 @@ use Rattle.std.proofs.Common.{◌≡◌, ◌≢◌, ◌≤◌, ◌<◌, ℕ, ◌
 use Rattle.std.proofs.lemmas.List.Sums.{sum_by-cons}
 use Rattle.block_machine.specs.Words.{Configuration, JobKind, Taken, Pick}
 use Rattle.block_machine.specs.State.{State, Job}
-use Rattle.block_machine.specs.Blocks.{desc_of, job_block}
+use Rattle.block_machine.specs.Blocks.{desc_of, job_block, kind_of}
 use Rattle.block_machine.specs.Next.{PickJob, next_in, next_of}
 use Rattle.block_machine.specs.Reply.{reserved_entries}
 use Rattle.block_machine.specs.Steps.{after, step, changed_by, in_hand, content_after}
-use Rattle.block_machine.specs.Legal.{IsAllowed, MayInterrupt}
-use Rattle.block_laws.specs.Consistent.{Each, IsWaitingJob, IsJobInHand}
-use Rattle.block_laws.proofs.ConsistentSteps.{allowed_steps_stay_consistent}
+use Rattle.block_machine.specs.Legal.{MayInterrupt}
+use Rattle.block_laws.specs.Consistent.{Each, IsConsistent, IsWaitingJob, IsJobInHand}
 use Rattle.block_laws.proofs.NextLaws.{next_is_waiting}
 use Rattle.job_pending.specs.declared.took.Took.{Took}
 use Rattle.job_pending.specs.Took.{taken_with}
@@ -17,8 +16,11 @@ use Rattle.job_pending.specs.Pending.{Pending, Agree}
 use Rattle.nv_desk_state.specs.declared.kept.Kept.{Kept}
 use Rattle.nv_desk_state.specs.Kept.{Agrees}
 use Rattle.nv_desk.specs.Sound.{IsPendingJob, IsSound}
-use Rattle.nv_desk.specs.Desk.{DeskState, state_of}
-use Rattle.nv_desk.specs.Picks.{IsInterruption}
+use Rattle.nv_desk.specs.declared.desk.Desk.TheInside.{Inside}
+use Rattle.nv_desk.specs.Desk.{DeskState, IsKept, shown, state_of}
+use Rattle.nv_desk.specs.Picks.{CanTake, IsInterruption, MayPickNext}
+use Rattle.nv_desk.proofs.Contents.{FillsRooms, copied_fits, job_takes, ram_is_whole}
+use Rattle.nv_desk.proofs.Drivers.{HasRoom, has_room}
 use Rattle.nv_desk.proofs.SoundDriver.{sound_pick}
 
 -- what holds of all holds of one
@@ -90,20 +92,45 @@ pub pick_step : (c : Configuration) (k : Kept) (s : State) (j : Job) (block : �
     → next_in c s.waiting ≡ Some j → Agrees c k (in_hand c s j t) → Agrees c k (changed_by c s (Pick block kind t ops))
 pick_step c k s j block kind t ops next h = rw (next_is c s j next) h
 
-pub picked_sound : (c : Configuration) (cap : ℕ) (s : State) (j : Job) (block : ℕ) (kind : JobKind) (t : Took) (ops : ℕ)
+pub picked_sound : (c : Configuration) (s : State) (j : Job) (block : ℕ) (kind : JobKind) (t : Took) (ops : ℕ)
     → IsSound c s → next_in c s.waiting ≡ Some j → IsReady c s j
-    → IsAllowed c cap s (Pick block kind (taken_with j.content t) ops)
     → IfSome (content_after j.content (taken_with j.content t)) (λ x. length x.0 ≡ (desc_of c (job_block j)).length)
-    → IsSound c (step c s (Pick block kind (taken_with j.content t) ops))
-picked_sound c cap s j block kind t ops sound next r allowed whole =
+    → IsConsistent c (step c s (Pick block kind (taken_with j.content t) ops)) → IsSound c (step c s (Pick block kind (taken_with j.content t) ops))
+picked_sound c s j block kind t ops sound next r whole consistent =
     let e = next_is c s j next in
-    let consistent = allowed_steps_stay_consistent c cap s (Pick block kind (taken_with j.content t) ops) sound.consistent allowed in
     rw e (sound_pick c s j (taken_with j.content t) (s.count + 1) ops sound (rw e at consistent) r.pending whole)
 
 -- bytes that fill a block have room
-pub content_within : (n m : ℕ) (o : Option (List ℕ × ℕ)) → m ≤ n → IfSome o (λ x. length x.0 ≡ m) → IfSome o (λ x. length x.0 ≤ n)
+content_within : (n m : ℕ) (o : Option (List ℕ × ℕ)) → m ≤ n → IfSome o (λ x. length x.0 ≡ m) → IfSome o (λ x. length x.0 ≤ n)
 content_within n m None less fits = tt
 content_within n m (Some x) less fits = omega (arith, less, fits)
+
+-- what the Pick finds: room for its entry and for copies, what is known of the job, and a content of its block's length
+pub record JobPick (d : Inside) (took : Took) (ops : ℕ) (j : Job) : Type 0 where
+  pub room : HasRoom d (Pick (job_block j) (kind_of j) (taken_with j.content took) ops)
+  pub ready : IsReady d.config (after d.config d.history.entries) j
+  pub whole : IfSome (content_after j.content (taken_with j.content took)) (λ x. length x.0 ≡ (desc_of d.config (job_block j)).length)
+  pub takes : CanTake d.rooms j.content took
+
+pub job_pick : (d : Inside) (took : Took) (ops : ℕ) → IsKept d → FillsRooms d.kept → (may : MayPickNext (shown d) took ops) → JobPick d took ops may.job
+job_pick d took ops is fills may =
+    let s = after d.config d.history.entries in
+    let j = may.job in
+    let n = (desc_of d.config (job_block j)).length in
+    let r = ready d.config s j is.sound may.is in
+    let has = has_room d (Pick (job_block j) (kind_of j) (taken_with j.content took) ops) is may.allowed refl in
+    let ram = ram_is_whole d.config d.kept s is.agrees is.sound may.allowed.0.started fills in
+    let whole = job_takes d.config d.history.cap s j (taken_with j.content took) ops ram may.is r.pending may.allowed in
+    record {
+      room = has;
+      ready = r;
+      whole = whole;
+      takes = record {
+        rooms = has.rooms;
+        own = content_within d.rooms.longest n j.content (is.longest (job_block j)) r.pending.content;
+        copied = copied_fits n d.rooms.longest j.content took (is.longest (job_block j)) whole;
+      };
+    }
 
 pub some_is : (x y : Job) → Some x ≡ Some y → x ≡ y
 some_is x y e = cc

@@ -6,24 +6,18 @@ use Rattle.block_machine.specs.State.{State, BlockState, Job, jobs_of}
 use Rattle.block_machine.specs.Blocks.{no_block, desc_of, block_at, job_block, kind_of, status_of, is_pending}
 use Rattle.block_machine.specs.Steps.{accepted, with_status}
 use Rattle.block_laws.specs.Consistent.{Each, IsConsistent}
+use Rattle.block_laws.proofs.BlockFields.{field_kept}
+use Rattle.block_laws.proofs.JobLists.{each_more, each_push}
 use Rattle.nv_desk_state.specs.Kept.{IsChange}
 use Rattle.nv_desk.specs.Sound.{HasRam, IsPendingJob, IsSound}
 
 -- LISTS
 
-pub each_map : {X : Type 0} (P Q : X → Type 0) (xs : List X) → ((x : X) → P x → Q x) → Each P xs → Each Q xs
-each_map P Q [] step each = tt
-each_map P Q (x ∷ xs) step each = (step x each.0, each_map P Q xs step each.1)
-
-pub each_end : {X : Type 0} (P : X → Type 0) (xs : List X) (y : X) → Each P xs → P y → Each P (xs ++ y ∷ [])
-each_end P [] y each last = (last, tt)
-each_end P (x ∷ xs) y each last = (each.0, each_end P xs y each.1 last)
-
 -- behind the job in hand
 each_behind : {X : Type 0} (P : X → Type 0) (o : Option X) (xs : List X) (y : X) → Each P (option_to_list o ++ xs) → P y
     → Each P (option_to_list o ++ (xs ++ y ∷ []))
-each_behind P None xs y each last = each_end P xs y each last
-each_behind P (Some x) xs y each last = (each.0, each_end P xs y each.1 last)
+each_behind P None xs y each last = each_push P xs y each last
+each_behind P (Some x) xs y each last = (each.0, each_push P xs y each.1 last)
 
 -- STATUSES
 
@@ -42,15 +36,6 @@ now [] id below = absurd (omega arith)
 now (b ∷ bs) zero below = refl
 now (b ∷ bs) (suc id) below = now bs id (omega arith)
 
--- and a change of anything else leaves each status
-same : (bs : List BlockState) (id k : ℕ) (b : BlockState) → b.status ≡ (get_or bs id no_block).status
-    → (get_or (slice_set bs id b) k no_block).status ≡ (get_or bs k no_block).status
-same [] id k b is = refl
-same (x ∷ bs) zero zero b is = is
-same (x ∷ bs) zero (suc k) b is = refl
-same (x ∷ bs) (suc id) zero b is = refl
-same (x ∷ bs) (suc id) (suc k) b is = same bs id k b is
-
 -- REQUESTS
 
 pub sound_job : (c : Configuration) (s : State) (id count ops : ℕ) (j : Job)
@@ -63,7 +48,7 @@ sound_job c s id count ops j sound consistent is below content ram = let new : S
       consistent = consistent;
       places = λ started. length-set s.blocks id (record (block_at s id) { status = Pending }) ∙ sound.places started;
       jobs = each_behind (IsPendingJob c new) s.hand s.waiting j
-          (each_map (IsPendingJob c s) (IsPendingJob c new) (jobs_of s)
+          (each_more (IsPendingJob c s) (IsPendingJob c new) (jobs_of s)
           (λ x h. record { pending = still s.blocks id (job_block x) h.pending; content = h.content; ram = h.ram }) sound.jobs)
           (record { pending = subst (λ k. is_pending (status_of new k) ≡ true) (sym is) (now s.blocks id below); content = content; ram = ram });
     }
@@ -73,7 +58,7 @@ pub sound_pending : (c : Configuration) (s new : State) → IsSound c s → IsCo
 sound_pending c s new sound consistent started blocks jobs = record {
   consistent = consistent;
   places = λ on. ap length blocks ∙ length-set s.blocks 0 (record (block_at s 0) { status = Pending }) ∙ sound.places (rw started at on);
-  jobs = rw jobs (each_map (IsPendingJob c s) (IsPendingJob c new) (jobs_of s)
+  jobs = rw jobs (each_more (IsPendingJob c s) (IsPendingJob c new) (jobs_of s)
       (λ x h. record { pending = rw blocks (still s.blocks 0 (job_block x) h.pending); content = h.content; ram = h.ram }) sound.jobs);
 }
 
@@ -83,9 +68,9 @@ sound_block : (c : Configuration) (s new : State) (id : ℕ) (b : BlockState) �
 sound_block c s new id b sound consistent started blocks is jobs = record {
   consistent = consistent;
   places = λ on. ap length blocks ∙ length-set s.blocks id b ∙ sound.places (rw started at on);
-  jobs = rw jobs (each_map (IsPendingJob c s) (IsPendingJob c new) (jobs_of s)
+  jobs = rw jobs (each_more (IsPendingJob c s) (IsPendingJob c new) (jobs_of s)
       (λ x h. record {
-        pending = rw blocks (ap is_pending (same s.blocks id (job_block x) b is) ∙ h.pending);
+        pending = rw blocks (ap is_pending (field_kept (λ (y : BlockState). y.status) s.blocks id b (job_block x) is) ∙ h.pending);
         content = h.content;
         ram = h.ram;
       }) sound.jobs);
@@ -97,7 +82,7 @@ pub sound_same : (c : Configuration) (s new : State) → IsSound c s → IsConsi
 sound_same c s new sound consistent started blocks jobs = record {
   consistent = consistent;
   places = λ on. ap length blocks ∙ sound.places (rw started at on);
-  jobs = rw jobs (each_map (IsPendingJob c s) (IsPendingJob c new) (jobs_of s)
+  jobs = rw jobs (each_more (IsPendingJob c s) (IsPendingJob c new) (jobs_of s)
       (λ x h. record { pending = rw blocks h.pending; content = h.content; ram = h.ram }) sound.jobs);
 }
 

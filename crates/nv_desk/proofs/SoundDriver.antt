@@ -10,7 +10,8 @@ use Rattle.block_machine.specs.StartUp.{started_block}
 use Rattle.block_machine.specs.Steps.{step, wrote, posted, in_hand, content_after, interrupted, without_job, ended}
 use Rattle.block_laws.specs.Consistent.{Each, IsConsistent, IsWaitingJob, IsJobInHand, IsPendingSweep}
 use Rattle.nv_desk.specs.Sound.{IsPendingJob, IsSound}
-use Rattle.nv_desk.proofs.Sound.{each_map, sound_same}
+use Rattle.block_laws.proofs.JobLists.{each_more}
+use Rattle.nv_desk.proofs.Sound.{sound_same}
 
 each_both : {X : Type 0} (P Q R : X → Type 0) (xs : List X) → ((x : X) → P x → Q x → R x) → Each P xs → Each Q xs → Each R xs
 each_both P Q R [] step ps qs = tt
@@ -36,7 +37,7 @@ wrote_by c s i mark count ops (Some j) is sound consistent =
       places = sound.places;
       jobs = (
         record { pending = jobs.0.pending; content = jobs.0.content; ram = jobs.0.ram },
-        each_map (IsPendingJob c s) (IsPendingJob c new) s.waiting (λ x h. carried c s new x refl h) jobs.1,
+        each_more (IsPendingJob c s) (IsPendingJob c new) s.waiting (λ x h. carried c s new x refl h) jobs.1,
       );
     }
 
@@ -56,11 +57,11 @@ without P n (j ∷ js) each = by_test P n j js (not (j.number == n)) each.0 (wit
 
 waits_again : (c : Configuration) (s new : State) (o : Option Job) (js : List Job) → new.blocks ≡ s.blocks
     → Each (IsPendingJob c s) (option_to_list o) → Each (IsPendingJob c s) js → Each (IsPendingJob c new) (interrupted o js)
-waits_again c s new None js same hand each = each_map (IsPendingJob c s) (IsPendingJob c new) js
+waits_again c s new None js same hand each = each_more (IsPendingJob c s) (IsPendingJob c new) js
     (λ x h. carried c s new x (ap (λ (bs : List BlockState). (get_or bs (job_block x) no_block).status) same) h) each
 waits_again c s new (Some h) js same hand each = (
   record { pending = ap (λ (bs : List BlockState). is_pending (get_or bs (job_block h) no_block).status) same ∙ hand.0.pending; content = hand.0.content; ram = hand.0.ram },
-  each_map (IsPendingJob c s) (IsPendingJob c new) js (λ x h. carried c s new x
+  each_more (IsPendingJob c s) (IsPendingJob c new) js (λ x h. carried c s new x
       (ap (λ (bs : List BlockState). (get_or bs (job_block x) no_block).status) same) h) each,
 )
 
@@ -124,7 +125,7 @@ ended_by c s r given ops j is sound apart =
     record {
       consistent = record {
         blocks = λ on. omega (arith, size, sound.consistent.blocks on);
-        waiting = each_map (IsWaitingJob c s.count) (IsWaitingJob c (s.count + 1)) s.waiting (λ x h. more_entries c s.count x h) sound.consistent.waiting;
+        waiting = each_more (IsWaitingJob c s.count) (IsWaitingJob c (s.count + 1)) s.waiting (λ x h. more_entries c s.count x h) sound.consistent.waiting;
         apart = sound.consistent.apart;
         hand = tt;
         sweep = sweep_by s new (job_block j) r s.sweep refl (rest 0 (λ e. held.named (sym e))) sound.consistent.sweep;

@@ -1,5 +1,6 @@
 -- What a Pick may take.
-use Rattle.std.specs.Prelude.{◌≡◌, ℕ, List, Option, Some, None}
+use Rattle.std.specs.Prelude.{◌≡◌, ◌≤◌, ℕ, List, length, IfSome, Option, Some, None}
+use Rattle.std.specs.Option.{option_and_then}
 use Rattle.block_machine.specs.Words.{Pick}
 use Rattle.block_machine.specs.State.{Job}
 use Rattle.block_machine.specs.Blocks.{job_block, kind_of}
@@ -9,6 +10,7 @@ use Rattle.job_pending.specs.declared.took.Took.{Took}
 use Rattle.job_pending.specs.declared.took.Took.TheVariants as took
 use Rattle.job_pending.specs.Took.{taken_with}
 use Rattle.nv_desk.specs.Desk.{DeskState, state_of}
+use Rattle.nv_desk.specs.Rooms.{Roomy}
 use Rattle.nv_desk.specs.declared.pick.Take.{Take}
 use Rattle.nv_desk.specs.declared.pick.Take.TheVariants as take
 
@@ -24,6 +26,16 @@ took_of (take.Stale asked got count) lent = took.Stale asked got count
 abbrev pub copied_in : Took → Option (List ℕ)
 copied_in (took.Copied x) = Some x.bytes
 copied_in t = None
+
+-- the content that a job has already, if there is a job
+abbrev pub content_in : Option Job → Option (List ℕ × ℕ)
+content_in job = option_and_then (λ j. j.content) job
+
+-- there is room for what a Pick takes, once for the job and once for the history
+pub record CanTake (r : Roomy) (content : Option (List ℕ × ℕ)) (took : Took) : Type 0 where
+  pub rooms : 2 ≤ r.count
+  pub own : IfSome content (λ x. length x.0 ≤ r.longest)
+  pub copied : IfSome (copied_in took) (λ x. length x ≤ r.longest)
 
 -- a job waits, and it may be picked now with this
 pub record MayPickNext (d : DeskState) (took : Took) (ops : ℕ) : Type 0 where

@@ -35,6 +35,7 @@ impl From<AllocError> for AskFault {
 
 impl Desk {
     // Adds the entry of a request that changes nothing.
+    #[tactic(auto, using(crate::proofs::Entries::memory_kept))]
     fn note(
         &mut self,
         alloc: Global,
@@ -58,6 +59,7 @@ impl Desk {
     }
 
     // Accepts a request that makes a job.
+    #[tactic(auto, using(crate::proofs::Entries::memory_kept))]
     fn accept_job(&mut self, alloc: Global, caller: u8, request: Request) -> Result<(), AllocError>
         requires kind { is_some (job_kind request) ≡ true }
         requires allowed { IsAllowed self.old.config self.old.cap (state_of self.old) (Entry.Ask caller request Reply.Accepted) }
@@ -71,15 +73,12 @@ impl Desk {
         take_memory(alloc, &mut self.history, &mut self.rooms, reserved)?;
         let job = Job::accepted(self.history.len(), asked_for, needed);
         self.kept.accept(&self.config, job);
-        self.history.add(Entry::Ask {
-            caller,
-            request,
-            reply: Reply::Accepted,
-        });
+        self.history.add(acceptance(caller, request));
         Ok(())
     }
 
     // Accepts a request that changes a block at once, or cancels a WriteAll.
+    #[tactic(auto, using(crate::proofs::Entries::memory_kept))]
     fn accept_change(
         &mut self,
         alloc: Global,
@@ -94,15 +93,12 @@ impl Desk {
         let reserved = self.kept.reserved() as u32;
         take_memory(alloc, &mut self.history, &mut self.rooms, reserved)?;
         self.kept.change(&request);
-        self.history.add(Entry::Ask {
-            caller,
-            request,
-            reply: Reply::Accepted,
-        });
+        self.history.add(acceptance(caller, request));
         Ok(())
     }
 
     // Accepts a WriteAll, or else a ReadAll.
+    #[tactic(auto, using(crate::proofs::Entries::memory_kept))]
     fn accept_sweep(&mut self, alloc: Global, caller: u8, writes: bool) -> Result<(), AllocError>
         requires { IsAllowed self.old.config self.old.cap (state_of self.old) (Entry.Ask caller (sweep_request writes) Reply.Accepted) }
         ensures ok { OnOk result (self.new ≡ record self.old { entries = self.old.entries ++ Entry.Ask caller (sweep_request writes) Reply.Accepted ∷ [] }) }
@@ -113,11 +109,7 @@ impl Desk {
         let reserved = self.kept.reserved() as u32 + needed;
         take_memory(alloc, &mut self.history, &mut self.rooms, reserved)?;
         self.kept.begin_sweep(self.history.len(), writes, needed);
-        self.history.add(Entry::Ask {
-            caller,
-            request,
-            reply: Reply::Accepted,
-        });
+        self.history.add(acceptance(caller, request));
         Ok(())
     }
 
@@ -184,6 +176,16 @@ impl Desk {
                 Ok(reply)
             }
         }
+    }
+}
+
+fn acceptance(caller: u8, request: Request) -> Entry
+    ensures { result ≡ Entry.Ask caller request Reply.Accepted }
+{
+    Entry::Ask {
+        caller,
+        request,
+        reply: Reply::Accepted,
     }
 }
 

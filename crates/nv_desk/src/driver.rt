@@ -6,10 +6,12 @@ ghost use Rattle.block_machine.specs.Legal.{IsDriving};
 ghost use Rattle.block_machine.specs.nv_base.declared.mark.Mark.TheVariants as Mark;
 ghost use Rattle.nv_desk.specs.Desk.{state_of};
 ghost use Rattle.nv_desk.specs.Driver.{MayAdd, MayEnd, block_now, mark_now};
+ghost use Rattle.nv_desk.specs.Rooms.{CanPost, with_entry};
 
 use crate::Desk;
+use crate::memory::add;
 use crate::rooms::Rooms;
-use block_machine::nv_base::{Bytes, Entry, Instance, JobKind, Mark, ReqResult};
+use block_machine::nv_base::{Bytes, Entry, History, Instance, JobKind, Mark, ReqResult};
 use job_pending::PendingJobs;
 
 impl Desk {
@@ -19,7 +21,7 @@ impl Desk {
         ensures { self.new ≡ record self.old { entries = self.old.entries ++ Entry.Off ops ∷ [] } }
     {
         self.kept.go_off();
-        self.history.add(Entry::Off { ops });
+        add(&mut self.history, Entry::Off { ops });
     }
 
     /// The job in hand wrote its mark to an instance. It takes no memory.
@@ -29,11 +31,14 @@ impl Desk {
     {
         let mark = mark_in_hand(&self.kept.jobs, &mut self.rooms);
         self.kept.wrote(instance.index);
-        self.history.add(Entry::Wrote {
-            instance,
-            mark,
-            ops,
-        });
+        add(
+            &mut self.history,
+            Entry::Wrote {
+                instance,
+                mark,
+                ops,
+            },
+        );
     }
 
     /// The job in hand ends with this result, and gives a content of its block's length or nothing. `refused` counts the
@@ -46,16 +51,38 @@ impl Desk {
         } }
     {
         let block = block_in_hand(&self.kept.jobs);
-        let bytes = content_of(given, &mut self.rooms);
         self.kept.end(&self.config, answer, given);
-        self.history.add(Entry::Post {
+        let (history, rooms) = (&mut self.history, &mut self.rooms);
+        add_post(history, rooms, block, answer, given, refused, ops);
+    }
+}
+
+/// Adds a Post, with what it gives as bytes of its own.
+pub fn add_post(
+    history: &mut History,
+    rooms: &mut Rooms,
+    block: u16,
+    answer: ReqResult,
+    given: Option<&[u8]>,
+    refused: u8,
+    ops: u64,
+)
+    requires { CanPost history.old rooms.old (option_copied given) }
+    ensures added { history.new ≡ with_entry history.old (Entry.Post block answer (option_copied given.entry) refused ops) }
+    ensures longest { rooms.new.longest ≡ rooms.old.longest }
+    ensures count { rooms.old.count ≤ rooms.new.count + 1 }
+{
+    let given = content_of(given, rooms);
+    add(
+        history,
+        Entry::Post {
             block,
             result: answer,
-            given: bytes,
+            given,
             refused,
             ops,
-        });
-    }
+        },
+    );
 }
 
 // The block of the job in hand, or 0.
@@ -68,8 +95,8 @@ fn block_in_hand(jobs: &PendingJobs) -> u16
     }
 }
 
-/// A content as bytes of their own.
-pub fn content_of(given: Option<&[u8]>, rooms: &mut Rooms) -> Option<Bytes>
+// A content as bytes of their own.
+fn content_of(given: Option<&[u8]>, rooms: &mut Rooms) -> Option<Bytes>
     requires some { 0 < rooms.old.count }
     requires fits { IfSome (option_copied given) (λ x. length x ≤ rooms.old.longest) }
     ensures content { result ≡ option_copied given.entry }

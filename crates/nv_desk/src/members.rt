@@ -1,22 +1,24 @@
 // The members of a request on all blocks.
-ghost use Rattle.std.specs.Prelude.{◌≡◌, ◌++◌, ◌∷◌, ℕ, [], Some, None, option_copied};
+ghost use Rattle.std.specs.Prelude.{◌≡◌, ◌<◌, ◌++◌, ◌∷◌, ℕ, [], length, Some, None, option_copied};
 ghost use Rattle.block_machine.specs.Words.{Configuration};
-ghost use Rattle.block_machine.specs.State.{Sweep as MachineSweep};
+ghost use Rattle.block_machine.specs.State.{State, Sweep as MachineSweep};
 ghost use Rattle.block_machine.specs.Sweeps.{member_kind};
 ghost use Rattle.block_machine.specs.Next.{next_of, PickMember, PostMember};
 ghost use Rattle.multi_jobs.specs.Laws.{IsNext};
 ghost use Rattle.job_pending.specs.Took.{taken_with};
+ghost use Rattle.nv_desk_state.specs.Kept.{Agrees};
 ghost use Rattle.nv_desk_state.specs.Pending.{AreSweeps};
 ghost use Rattle.nv_desk.specs.Desk.{state_of};
 ghost use Rattle.nv_desk.specs.Members.{MayPickMember, MayPostMember};
 ghost use Rattle.nv_desk.specs.Picks.{took_of};
 
 use crate::Desk;
-use crate::driver::content_of;
-use crate::pick::{Take, copy_of, took_by};
+use crate::driver::add_post;
+use crate::pick::{Take, add_pick, takes};
+use block_machine::block_config::Config;
 use block_machine::nv_base::{Entry, JobKind, ReqResult};
 use multi_jobs::SweepStep;
-use nv_desk_state::PendingSweep;
+use nv_desk_state::{Kept, PendingSweep};
 
 impl Desk {
     /// The next member comes in hand with what it takes of a content that is lent. It takes no memory.
@@ -29,17 +31,11 @@ impl Desk {
     {
         self.kept.blocks.fills_its_rooms();
         let _sizes = self.config.queue_sizes();
-        let block = block_of(self.kept.next_step(&self.config));
+        let block = next_member(&self.kept, &self.config);
         let job = member_kind(&self.kept.sweep);
-        let took = took_by(take, lent, &mut self.rooms);
-        let taken = copy_of(&took, &mut self.rooms);
+        let (took, taken) = takes(take, lent, None, &mut self.rooms);
         self.kept.pick_member(&self.config, block, took);
-        self.history.add(Entry::Pick {
-            block,
-            job,
-            taken,
-            ops,
-        });
+        add_pick(&mut self.history, block, job, taken, ops);
     }
 
     /// The next member is posted without a Pick, with this result, and gives a content of its block's length or nothing.
@@ -51,20 +47,22 @@ impl Desk {
               entries = self.old.entries ++ Entry.Post id answer (option_copied given.entry) refused ops ∷ [];
             } }
     {
-        let block = block_of(self.kept.next_step(&self.config));
-        let bytes = content_of(given, &mut self.rooms);
+        let block = next_member(&self.kept, &self.config);
         self.kept.post_member(&self.config, block, answer, given);
-        self.history.add(Entry::Post {
-            block,
-            result: answer,
-            given: bytes,
-            refused,
-            ops,
-        });
+        let (history, rooms) = (&mut self.history, &mut self.rooms);
+        add_post(history, rooms, block, answer, given, refused, ops);
     }
 }
 
-// The member that comes next, or 0 where the sweep ends.
+// The member that comes next, picked or posted without a Pick.
+fn next_member(kept: &Kept, config: &Config) -> u16
+    ensures picked { (s : State) (sw : MachineSweep) (id : ℕ) → Agrees config.now kept.now s → next_of config.now s ≡ PickMember sw id → (result ≡ id) × (id < length kept.now.jobs.slots) }
+    ensures posted { (s : State) (sw : MachineSweep) (id : ℕ) → Agrees config.now kept.now s → next_of config.now s ≡ PostMember sw id → result ≡ id }
+{
+    block_of(kept.next_step(config))
+}
+
+// The member that a step is at, or 0 where the sweep ends.
 fn block_of(step: SweepStep) -> u16
     ensures picked { (sw : MachineSweep) (id : ℕ) → IsNext step sw (PickMember sw id) → result ≡ id }
     ensures posted { (sw : MachineSweep) (id : ℕ) → IsNext step sw (PostMember sw id) → result ≡ id }

@@ -1,8 +1,9 @@
 // Memory for entries that come later.
 ghost use Rattle.std.specs.Prelude.{◌≡◌, ◌≤◌, ◌<◌, ◌^◌, ◌+◌, ◌*◌, OnOk};
+ghost use Rattle.nv_desk.specs.Rooms.{HasPlace, with_entry};
 
 use crate::rooms::Rooms;
-use block_machine::nv_base::History;
+use block_machine::nv_base::{Entry, History};
 use std::alloc::{AllocError, Global};
 
 /// Takes the memory of one entry now, of so many that are reserved, and of two contents with each of those. What was taken
@@ -24,4 +25,12 @@ pub fn take_memory(
     history.reserve(reserved + 1)?;
     rooms.provide(alloc, 2 * u64::from(reserved))?;
     Ok(())
+}
+
+/// Adds an entry that memory was taken for.
+pub fn add(history: &mut History, entry: Entry)
+    requires { HasPlace history.old }
+    ensures { history.new ≡ with_entry history.old entry }
+{
+    history.add(entry);
 }

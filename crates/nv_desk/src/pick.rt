@@ -1,15 +1,17 @@
 // The Pick of a job.
-ghost use Rattle.std.specs.Prelude.{◌≡◌, ◌≤◌, ◌<◌, ◌+◌, ◌++◌, ◌∷◌, [], length, Some, None, IfSome};
+ghost use Rattle.std.specs.Prelude.{◌≡◌, ◌≤◌, ◌<◌, ◌+◌, ◌++◌, ◌∷◌, [], length, Some, None, IfSome, option_copied};
 ghost use Rattle.block_machine.specs.State.{Job as MachineJob};
 ghost use Rattle.block_machine.specs.Blocks.{job_block, kind_of};
 ghost use Rattle.block_machine.specs.Next.{next_in};
 ghost use Rattle.job_pending.specs.Took.{taken_with};
 ghost use Rattle.nv_desk.specs.Desk.{state_of};
-ghost use Rattle.nv_desk.specs.Picks.{MayPickNext, copied_in, took_of};
+ghost use Rattle.nv_desk.specs.Picks.{MayPickNext, CanTake, content_in, copied_in, took_of};
+ghost use Rattle.nv_desk.specs.Rooms.{HasPlace, with_entry};
 
 use crate::Desk;
+use crate::memory::add;
 use crate::rooms::Rooms;
-use block_machine::nv_base::{Entry, Taken};
+use block_machine::nv_base::{Entry, History, JobKind, Taken};
 use job_pending::{Job, Staged, Took};
 
 /// What a job takes of a content that is lent to the desk: nothing, as it isn't a write; the content that the job has
@@ -41,20 +43,46 @@ impl Desk {
         };
         let block = next.block();
         let job = next.kind();
-        let took = took_by(take, lent, &mut self.rooms);
-        let taken = taken_of(next, &took, &mut self.rooms);
+        let (took, taken) = takes(take, lent, Some(next), &mut self.rooms);
         self.kept.pick(&self.config, took);
-        self.history.add(Entry::Pick {
+        add_pick(&mut self.history, block, job, taken, ops);
+    }
+}
+
+/// Adds a Pick.
+pub fn add_pick(history: &mut History, block: u16, job: JobKind, taken: Taken, ops: u64)
+    requires { HasPlace history.old }
+    ensures { history.new ≡ with_entry history.old (Entry.Pick block job taken ops) }
+{
+    add(
+        history,
+        Entry::Pick {
             block,
             job,
             taken,
             ops,
-        });
-    }
+        },
+    );
 }
 
-/// What a job takes, with a copy of what is lent.
-pub fn took_by(take: Take, lent: &[u8], rooms: &mut Rooms) -> Took
+/// What the Pick of a job, or of none that has a content of its own, takes: with a copy of what is lent, and the same as bytes for the history.
+pub fn takes(take: Take, lent: &[u8], job: Option<&Job>, rooms: &mut Rooms) -> (Took, Taken)
+    requires { CanTake rooms.old (content_in (option_copied job)) (took_of take lent.now) }
+    ensures took { result.0 ≡ took_of take lent.now }
+    ensures taken { result.1 ≡ taken_with (content_in (option_copied job.entry)) (took_of take lent.now) }
+    ensures longest { rooms.new.longest ≡ rooms.old.longest }
+    ensures count { rooms.old.count ≤ rooms.new.count + 2 }
+{
+    let took = took_by(take, lent, rooms);
+    let taken = match job {
+        Some(job) => taken_of(job, &took, rooms),
+        None => copy_of(&took, rooms),
+    };
+    (took, taken)
+}
+
+// What a job takes, with a copy of what is lent.
+fn took_by(take: Take, lent: &[u8], rooms: &mut Rooms) -> Took
     requires some { 0 < rooms.old.count }
     requires copied { IfSome (copied_in (took_of take lent.now)) (λ x. length x ≤ rooms.old.longest) }
     ensures took { result ≡ took_of take lent.now }
@@ -96,8 +124,8 @@ fn taken_of(job: &Job, took: &Took, rooms: &mut Rooms) -> Taken
     }
 }
 
-/// What a job takes that has no content of its own, as bytes of their own.
-pub fn copy_of(took: &Took, rooms: &mut Rooms) -> Taken
+// What a job takes that has no content of its own, as bytes of their own.
+fn copy_of(took: &Took, rooms: &mut Rooms) -> Taken
     requires some { 0 < rooms.old.count }
     requires copied { IfSome (copied_in took.now) (λ x. length x ≤ rooms.old.longest) }
     ensures taken { result ≡ taken_with None took.now }

@@ -10,7 +10,7 @@ ghost use Rattle.nv_desk.specs.Picks.{IsInterruption};
 ghost use Rattle.nv_desk.specs.Sound.{IsPendingJob};
 
 use crate::Desk;
-use crate::all_blocks::result_of;
+use crate::all_blocks::end_result;
 use block_machine::block_config::Config;
 use block_machine::nv_base::ReqResult;
 use job_pending::Job;
@@ -97,6 +97,6 @@ impl Desk {
     pub fn sweep_result(&self) -> ReqResult
         ensures { (sw : MachineSweep) → next_of self.now.config (state_of self.now) ≡ EndSweep sw → result ≡ sweep_result sw }
     {
-        result_of(self.kept.next_step(&self.config))
+        end_result(&self.kept, &self.config)
     }
 }

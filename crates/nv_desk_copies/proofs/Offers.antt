@@ -1,7 +1,7 @@
 -- Where a job gives something though operations failed, it also would if none had.
 use Rattle.std.proofs.Common.{◌≡◌, ℕ, Bool, true, false, List, [], ◌∷◌, is_some, if◌then◌else◌, refl, Option, Some, None}
 use Rattle.std.specs.Str.{bytes_eq}
-use Rattle.block_machine.specs.Words.{ReqResult, NotOk, Restored, Mark, Content, Invalid, Erased, JobKind, ReadJob, WriteJob, RestoreJob, EraseJob, InvalidateJob, ReadAllJob, WriteAllJob, BlockDesc}
+use Rattle.block_machine.specs.Words.{ReqResult, NotOk, Restored, Mark, Content, Invalid, Erased, JobKind, ReadJob, BlockDesc}
 use Rattle.block_machine.specs.State.{BlockState, Job}
 use Rattle.block_machine.specs.Blocks.{kind_of}
 use Rattle.block_machine.specs.ResultTable.{table}
@@ -32,12 +32,7 @@ table_offers : (d : BlockDesc) (b : BlockState) (marks : List (ℕ × Mark)) (ki
     Gives (with_content o failed (table defaults kind (outcomes_of kind marks failed)))
     → Gives (with_content o [] (table defaults kind (outcomes_of kind marks [])))
 table_offers d b marks ReadJob failed defaults h = read_offers d b marks failed defaults h
-table_offers d b marks RestoreJob failed defaults h = h
-table_offers d b marks WriteJob failed defaults h = h
-table_offers d b marks EraseJob failed defaults h = h
-table_offers d b marks InvalidateJob failed defaults h = h
-table_offers d b marks ReadAllJob failed defaults h = h
-table_offers d b marks WriteAllJob failed defaults h = h
+table_offers d b marks kind failed defaults h = h
 
 some_by : (r : ReqResult) (y x : List ℕ) (t : Bool) → Gives (if t then (r, Some y) else (Restored, Some x))
 some_by r y x true = refl

@@ -1,8 +1,8 @@
 -- A Post, by the machine.
 use Rattle.std.proofs.Common.{◌≡◌, ◌⊎◌, ℕ, ◌+◌, ◌==◌, ◌&&◌, Bool, true, false, List, [], ◌∷◌, ◌++◌, is_some, inl, inr, refl, sym, ap, ◌∙◌, subst, if◌then◌else◌, Option, Some, None, IsSome}
 use Rattle.std.specs.Option.{option_map_or}
-use Rattle.std.proofs.lemmas.Bool.{eqb-true}
-use Rattle.block_machine.specs.Words.{ReqResult, JobKind, ReadJob, WriteJob, RestoreJob, EraseJob, InvalidateJob, ReadAllJob, WriteAllJob, NotOk, GivenFrom, FromDevice, BlockDesc, Configuration, Post}
+use Rattle.std.proofs.lemmas.Bool.{and_parts, eqb-true}
+use Rattle.block_machine.specs.Words.{ReqResult, JobKind, ReadJob, NotOk, GivenFrom, FromDevice, BlockDesc, Configuration, Post}
 use Rattle.block_machine.specs.State.{State, Job, Sweep}
 use Rattle.block_machine.specs.Blocks.{desc_of, block_at, is_synchronized, job_block, kind_of, names_ram}
 use Rattle.block_machine.specs.ResultTable.{table}
@@ -16,11 +16,6 @@ use Rattle.block_laws.proofs.FailedSets.{failed_sets_are_least}
 use Rattle.nv_desk_copies.specs.Posts.{IsProgramEnd, IsEndOf, IsPosted, EndsAreTheMachines, given_from, answer_of, goes_over, IsHandedOver}
 use Rattle.nv_desk_copies.proofs.Offers.{offers}
 use Rattle.nv_desk_copies.proofs.Taking.{posts_of}
-
-both_by : (a b : Bool) → (a && b) ≡ true → (a ≡ true) × (b ≡ true)
-both_by true true h = (refl, refl)
-both_by true false h = cc
-both_by false b h = cc
 
 -- WHAT A JOB ENDS WITH
 
@@ -51,7 +46,7 @@ posts_by : (d : BlockDesc) (ram : Bool) (offered : Option (List ℕ)) (Keeps : A
 posts_by d ram offered Keeps ended posted refused block before after false is keeps so h = inl (h.1, subst Keeps (sym h.0) keeps)
 posts_by d ram offered Keeps ended posted refused block before after true is keeps so (inl h) = inl (h.1, subst Keeps (sym h.0) keeps)
 posts_by d ram offered Keeps ended posted refused block before after true is keeps so (inr h) =
-    let (synchronized, something) = both_by (ram && is_synchronized d.ram) (is_some ended.1) is in
+    let (synchronized, something) = and_parts (ram && is_synchronized d.ram) (is_some ended.1) is in
     inr (record { synchronized = synchronized; something = so something; fails = h.0; each_try = h.1 })
 
 pub job_posts : (c : Configuration) (cap : ℕ) (s : State) (j : Job) (r : ReqResult) (source : GivenFrom)
@@ -95,18 +90,9 @@ member_posts c cap s sw id posted refused ops before after driving is over =
 
 -- THE JOB IN HAND
 
-by_id : (member is : Bool) → (member && is) ≡ true → is ≡ true
-by_id true is h = h
-by_id false is h = cc
-
 checks_by : (j : Job) (kind : JobKind) → checks_id j kind ≡ true → (job_block j == 1) ≡ true
-checks_by j ReadJob h = by_id j.member (job_block j == 1) h
-checks_by j WriteJob h = cc
-checks_by j RestoreJob h = cc
-checks_by j EraseJob h = cc
-checks_by j InvalidateJob h = cc
-checks_by j ReadAllJob h = cc
-checks_by j WriteAllJob h = cc
+checks_by j ReadJob h = (and_parts j.member (job_block j == 1) h).1
+checks_by j kind h = cc
 
 pub checked_answer : (c : Configuration) (s : State) (j : Job) (r : ReqResult) (source : GivenFrom) (content : List ℕ) (given : Option (List ℕ)) (is : Answer)
     → took_none j.taken ≡ false → checks_id j (kind_of j) ≡ true

@@ -14,6 +14,7 @@ use Rattle.nv_desk.specs.Picks.{took_of}
 use Rattle.nv_desk.specs.Members.{MayPickMember}
 use Rattle.nv_desk.specs.AllBlocks.{sweep_kind}
 use Rattle.ram_blocks.specs.Told.{Told}
+use Rattle.nv_desk.proofs.MemberEntries.{at_picked, at_posted}
 use Rattle.nv_desk_copies.specs.Takes.{source_by, source_of, source_next, IsTakenFrom, IsCopied, IsCopySource}
 use Rattle.nv_desk_copies.specs.Picks.{IsPicked}
 
@@ -45,12 +46,7 @@ takes_by : (d : BlockDesc) (b : BlockState) (j : Job) (kind : JobKind) (t : Take
     → IsTakenFrom d b (source_by kind j.content (is_synchronized d.ram) (asked_store j.request)) t lent
     → TakesBy d b j kind (taken_with j.content (took_of t lent))
 takes_by d b j WriteJob t lent h = for_write d b j j.content (is_synchronized d.ram) t lent h
-takes_by d b j ReadJob t lent h = rw h refl
-takes_by d b j RestoreJob t lent h = rw h refl
-takes_by d b j EraseJob t lent h = rw h refl
-takes_by d b j InvalidateJob t lent h = rw h refl
-takes_by d b j ReadAllJob t lent h = rw h refl
-takes_by d b j WriteAllJob t lent h = rw h refl
+takes_by d b j kind t lent h = rw h refl
 
 -- A JOB
 
@@ -113,40 +109,12 @@ member_copies c sw id h =
 
 -- WHAT COMES NEXT
 
-chosen : (x sw : Sweep) (k id : ℕ) (b t : Bool) → (if b then PickMember x k else PostMember x k) ≡ (if t then PickMember sw id else PostMember sw id) → x ≡ sw
-chosen x sw k id true true e = cc
-chosen x sw k id false false e = cc
-chosen x sw k id true false e = cc
-chosen x sw k id false true e = cc
-
-listed : (c : Configuration) (s : State) (x sw : Sweep) (ids : List ℕ) (id : ℕ) (t : Bool)
-    → next_member c s x ids ≡ (if t then PickMember sw id else PostMember sw id) → x ≡ sw
-listed c s x sw [] id true e = cc
-listed c s x sw [] id false e = cc
-listed c s x sw (k ∷ ids) id t e = chosen x sw k id (is_picked (desc_of c k) (block_at s k) x k) t e
-
-in_sweep : (c : Configuration) (s : State) (x sw : Sweep) (id : ℕ) (ids : List ℕ) (t on : Bool)
-    → (if on then next_member c s x ids else BeginSweep x) ≡ (if t then PickMember sw id else PostMember sw id) → x ≡ sw
-in_sweep c s x sw id ids true false e = cc
-in_sweep c s x sw id ids false false e = cc
-in_sweep c s x sw id ids t true e = listed c s x sw ids id t e
-
-sweep_by : (c : Configuration) (s : State) (sw : Sweep) (id : ℕ) (t : Bool) (o h : Option Job) (w : Option Sweep)
-    → next_by c s o h w ≡ (if t then PickMember sw id else PostMember sw id) → (h ≡ None) × (w ≡ Some sw)
-sweep_by c s sw id true (Some j) h w e = cc
-sweep_by c s sw id false (Some j) h w e = cc
-sweep_by c s sw id true None (Some j) w e = cc
-sweep_by c s sw id false None (Some j) w e = cc
-sweep_by c s sw id true None None None e = cc
-sweep_by c s sw id false None None None e = cc
-sweep_by c s sw id t None None (Some x) e = (refl, ap Some (in_sweep c s x sw id (if x.canceled then [] else x.left) t x.under_way e))
-
 -- the sweep of a member that is picked, or posted without a Pick
 pub picks_of : (c : Configuration) (s : State) (sw : Sweep) (id : ℕ) → next_of c s ≡ PickMember sw id → s.sweep ≡ Some sw
-picks_of c s sw id e = (sweep_by c s sw id true (next_in c s.waiting) s.hand s.sweep e).1
+picks_of c s sw id e = (at_picked c s sw id e).sweep
 
 pub posts_of : (c : Configuration) (s : State) (sw : Sweep) (id : ℕ) → next_of c s ≡ PostMember sw id → (s.hand ≡ None) × (s.sweep ≡ Some sw)
-posts_of c s sw id e = sweep_by c s sw id false (next_in c s.waiting) s.hand s.sweep e
+posts_of c s sw id e = let at = at_posted c s sw id e in (at.hand, at.sweep)
 
 no_member : (x : Sweep) (j : Job) (k : ℕ) (b : Bool) → (if b then PickMember x k else PostMember x k) ≡ PickJob j → ⊥
 no_member x j k true e = cc

@@ -3,8 +3,8 @@ use Rattle.std.specs.Prelude.{◌≡◌, ◌⊎◌, ◌≤◌, ℕ, List, Bool, 
 use Rattle.std.specs.Option.{option_and_then}
 use Rattle.block_machine.specs.Words.{Configuration, Entry, Post}
 use Rattle.block_machine.specs.Blocks.{desc_of, is_synchronized}
-use Rattle.ram_blocks.specs.Told.{Told, IsSynchronized}
-use Rattle.ram_blocks.specs.Tries.{OnlyCounts}
+use Rattle.ram_blocks.specs.Told.{Told, IsSynchronized, sizes_of}
+use Rattle.ram_blocks.specs.Tries.{OnlyCounts, OnlyRefuses}
 
 -- memory for one content: its bytes at most, and the content that stands there
 pub record StagingState : Type 0 where
@@ -26,6 +26,14 @@ AreSynchronized c told = (id : ℕ) → is_synchronized (desc_of c id).ram ≡ t
 -- nothing is told otherwise, but that copies of this block were refused
 abbrev pub OnlyRefusals : (block : ℕ) → (old new : List Told) → Type 0
 OnlyRefusals block old new = (new ≡ old) ⊎ OnlyCounts block old new
+
+-- Whatever is copied, these stay: which blocks are synchronized, how many of their copies may be refused, and that no such
+-- count falls; the stores that there were; and what the application's side is over.
+pub record CopiesStay {C : Type 0} (told : C → List Told) (is_store : C → ℕ → ℕ → List ℕ → Type 0) (over : C → C → Type 0) (old new : C) : Type 0 where
+  pub sizes : sizes_of (told new) ≡ sizes_of (told old)
+  pub refuses : OnlyRefuses (told old) (told new)
+  pub stores_stay : (b n : ℕ) (x : List ℕ) → is_store old b n x → is_store new b n x
+  pub stays_over : (first : C) → over first old → over first new
 
 -- READS THAT WERE NOT TAKEN
 

@@ -1,12 +1,11 @@
 // The front.
-ghost use Rattle.std.specs.Prelude.{◌≡◌, ℕ, List, [], length, get_or, slice_set, IfOk, Some, None, option_copied};
+ghost use Rattle.std.specs.Prelude.{◌≡◌, ℕ, [], length, get_or, slice_set, IfOk, Some, None, option_copied};
 ghost use Rattle.block_machine.specs.State.{Job as MachineJob};
 ghost use Rattle.block_machine.specs.Blocks.{job_block, names_ram};
 ghost use Rattle.block_machine.specs.Next.{next_of};
-ghost use Rattle.ram_blocks.specs.Told.{sizes_of};
-ghost use Rattle.ram_blocks.specs.Tries.{OthersStay, OnlyRefuses};
+ghost use Rattle.ram_blocks.specs.Tries.{OthersStay};
 ghost use Rattle.nv_desk.specs.Desk.{state_of};
-ghost use Rattle.nv_desk_copies.specs.Front.{StagesAll, AreSynchronized, OnlyRefusals, given_at};
+ghost use Rattle.nv_desk_copies.specs.Front.{StagesAll, AreSynchronized, CopiesStay, OnlyRefusals, given_at};
 ghost use Rattle.nv_desk_copies.specs.Takes.{source_next, IsCopied};
 ghost use Rattle.nv_desk_copies.specs.Picks.{MayPickNow, AnswersNext, block_in};
 ghost use Rattle.nv_desk_copies.specs.Posts.{MayPostNow, MayPostSkipped, IsEndOf, IsPosted, IsPostedNext, answer_of, noted};
@@ -60,11 +59,8 @@ impl Front {
         ensures room { self.new.staging.room ≡ self.old.staging.room }
         ensures unread { self.new.unread ≡ self.old.unread }
         ensures counts { OnlyRefusals (block_in result) (C.told copies.old) (C.told copies.new) }
-        ensures sizes { sizes_of (C.told copies.new) ≡ sizes_of (C.told copies.old) }
-        ensures refuses { OnlyRefuses (C.told copies.old) (C.told copies.new) }
+        ensures stays { CopiesStay C.told C.is_store C.over copies.old copies.new }
         ensures synchronized { AreSynchronized self.old.desk.config (C.told copies.new) }
-        ensures stores_stay { (b n : ℕ) (x : List ℕ) → C.is_store copies.old b n x → C.is_store copies.new b n x }
-        ensures stays_over { (first : C) → C.over first copies.old → C.over first copies.new }
     {
         pick(&mut self.desk, &mut self.staging, ops, copies)
     }
@@ -90,11 +86,8 @@ impl Front {
             → self.new.unread ≡ noted j (answer_of self.old.desk.config (state_of self.old.desk) j answer source content.now).1 (length self.old.desk.entries) self.old.unread }
         ensures room { self.new.staging.room ≡ self.old.staging.room }
         ensures others { OthersStay result.block (C.told copies.old) (C.told copies.new) }
-        ensures sizes { sizes_of (C.told copies.new) ≡ sizes_of (C.told copies.old) }
-        ensures refuses { OnlyRefuses (C.told copies.old) (C.told copies.new) }
+        ensures stays { CopiesStay C.told C.is_store C.over copies.old copies.new }
         ensures synchronized { AreSynchronized self.old.desk.config (C.told copies.new) }
-        ensures stores_stay { (b n : ℕ) (x : List ℕ) → C.is_store copies.old b n x → C.is_store copies.new b n x }
-        ensures stays_over { (first : C) → C.over first copies.old → C.over first copies.new }
     {
         let number = self.desk.history().len();
         let ended = post(
@@ -122,11 +115,8 @@ impl Front {
         ensures room { self.new.staging.room ≡ self.old.staging.room }
         ensures unread { self.new.unread ≡ self.old.unread }
         ensures others { OthersStay result.block (C.told copies.old) (C.told copies.new) }
-        ensures sizes { sizes_of (C.told copies.new) ≡ sizes_of (C.told copies.old) }
-        ensures refuses { OnlyRefuses (C.told copies.old) (C.told copies.new) }
+        ensures stays { CopiesStay C.told C.is_store C.over copies.old copies.new }
         ensures synchronized { AreSynchronized self.old.desk.config (C.told copies.new) }
-        ensures stores_stay { (b n : ℕ) (x : List ℕ) → C.is_store copies.old b n x → C.is_store copies.new b n x }
-        ensures stays_over { (first : C) → C.over first copies.old → C.over first copies.new }
     {
         post_skipped(&mut self.desk, &mut self.staging, ops, copies)
     }

@@ -1,9 +1,8 @@
 // What a Post gives to synchronized RAM.
-ghost use Rattle.std.specs.Prelude.{◌≡◌, ◌+◌, ℕ, List, length, true, IfSome};
+ghost use Rattle.std.specs.Prelude.{◌≡◌, ◌+◌, length, true, IfSome};
 ghost use Rattle.block_machine.specs.Blocks.{desc_of, is_synchronized};
-ghost use Rattle.ram_blocks.specs.Told.{sizes_of};
-ghost use Rattle.ram_blocks.specs.Tries.{OthersStay, OnlyRefuses};
-ghost use Rattle.nv_desk_copies.specs.Front.{AreSynchronized};
+ghost use Rattle.ram_blocks.specs.Tries.{OthersStay};
+ghost use Rattle.nv_desk_copies.specs.Front.{AreSynchronized, CopiesStay};
 ghost use Rattle.nv_desk_copies.specs.Posts.{answer_in, goes_over, IsHandedOver};
 
 use crate::Staging;
@@ -29,6 +28,7 @@ pub struct Ending {
 }
 
 /// Hands what a job gives over to the application, where it goes to synchronized RAM.
+#[tactic(auto, using(crate::proofs::Sizes::nothing_copied))]
 pub fn hand_over<C: SyncCalls>(
     config: &Config,
     staging: &Staging,
@@ -44,10 +44,7 @@ pub fn hand_over<C: SyncCalls>(
         result.refused ((desc_of config.now block).repeats + 1) block (C.told copies.old) (C.told copies.new) }
     ensures whole { IfSome (answer_in result.answer result.gives staging.now.bytes).1 (λ x. length x ≡ (desc_of config.now block).length) }
     ensures others { OthersStay block (C.told copies.old) (C.told copies.new) }
-    ensures sizes { sizes_of (C.told copies.new) ≡ sizes_of (C.told copies.old) }
-    ensures refuses { OnlyRefuses (C.told copies.old) (C.told copies.new) }
-    ensures stores_stay { (b n : ℕ) (x : List ℕ) → C.is_store copies.old b n x → C.is_store copies.new b n x }
-    ensures stays_over { (first : C) → C.over first copies.old → C.over first copies.new }
+    ensures stays { CopiesStay C.told C.is_store C.over copies.old copies.new }
 {
     if ram && is_synchronized(config, block) && end.gives {
         return copied_in(config, staging, block, end.answer, copies);
@@ -73,10 +70,7 @@ fn copied_in<C: SyncCalls>(
     ensures over { IsHandedOver true (answer_in answer true staging.now.bytes) (answer_in result.answer result.gives staging.now.bytes)
         result.refused ((desc_of config.now block).repeats + 1) block (C.told copies.old) (C.told copies.new) }
     ensures others { OthersStay block (C.told copies.old) (C.told copies.new) }
-    ensures sizes { sizes_of (C.told copies.new) ≡ sizes_of (C.told copies.old) }
-    ensures refuses { OnlyRefuses (C.told copies.old) (C.told copies.new) }
-    ensures stores_stay { (b n : ℕ) (x : List ℕ) → C.is_store copies.old b n x → C.is_store copies.new b n x }
-    ensures stays_over { (first : C) → C.over first copies.old → C.over first copies.new }
+    ensures stays { CopiesStay C.told C.is_store C.over copies.old copies.new }
 {
     let count = tries(config, block);
     if copy_in(copies, block, u16::from(count), staging.bytes()) {

@@ -4,12 +4,10 @@ ghost use Rattle.block_machine.specs.State.{BlockState, Job as MachineJob, Sweep
 ghost use Rattle.block_machine.specs.Blocks.{desc_of, block_at, is_synchronized, job_block};
 ghost use Rattle.block_machine.specs.Sweeps.{member_job};
 ghost use Rattle.block_machine.specs.Next.{next_in, next_of, PickMember};
-ghost use Rattle.ram_blocks.specs.Told.{sizes_of};
-ghost use Rattle.ram_blocks.specs.Tries.{OnlyRefuses};
 ghost use Rattle.job_pending.specs.Took.{taken_with};
 ghost use Rattle.nv_desk.specs.Desk.{state_of};
 ghost use Rattle.nv_desk.specs.Picks.{took_of};
-ghost use Rattle.nv_desk_copies.specs.Front.{StagesAll, AreSynchronized, OnlyRefusals};
+ghost use Rattle.nv_desk_copies.specs.Front.{StagesAll, AreSynchronized, CopiesStay, OnlyRefusals};
 ghost use Rattle.nv_desk_copies.specs.declared.source.Source.TheVariants as from;
 ghost use Rattle.nv_desk_copies.specs.Takes.{source_of, source_next, IsTakenFrom, IsCopied, IsCopySource};
 ghost use Rattle.nv_desk_copies.specs.Picks.{MayPickNow, MayPickJob, IsAtPick, IsPicked, AnswersNext, block_in};
@@ -32,6 +30,7 @@ pub enum PickAnswer {
 }
 
 /// Picks what comes next.
+#[tactic(auto, using(crate::proofs::Sizes::nothing_copied))]
 pub fn pick<C: SyncCalls>(
     desk: &mut Desk,
     staging: &mut Staging,
@@ -44,10 +43,7 @@ pub fn pick<C: SyncCalls>(
     ensures next { AnswersNext result (λ block t. IsCopied (λ n x. C.is_store copies.new block n x × C.looked copies.old copies.new block n) block (C.told copies.old) (C.told copies.new) (source_next desk.old.config (next_of desk.old.config (state_of desk.old))) t) ops desk.old desk.new }
     ensures room { staging.new.room ≡ staging.old.room }
     ensures counts { OnlyRefusals (block_in result) (C.told copies.old) (C.told copies.new) }
-    ensures sizes { sizes_of (C.told copies.new) ≡ sizes_of (C.told copies.old) }
-    ensures refuses { OnlyRefuses (C.told copies.old) (C.told copies.new) }
-    ensures stores_stay { (b n : ℕ) (x : List ℕ) → C.is_store copies.old b n x → C.is_store copies.new b n x }
-    ensures stays_over { (first : C) → C.over first copies.old → C.over first copies.new }
+    ensures stays { CopiesStay C.told C.is_store C.over copies.old copies.new }
 {
     match desk.next() {
         NextEntry::PickJob { block } => {
@@ -69,6 +65,7 @@ pub fn pick<C: SyncCalls>(
 }
 
 // Picks the next job.
+#[tactic(auto, using(crate::proofs::Sizes::nothing_copied))]
 fn pick_job<C: SyncCalls>(desk: &mut Desk, staging: &mut Staging, ops: u64, copies: &mut C)
     requires may { MayPickJob desk.old ops }
     requires staging { StagesAll desk.old.config staging.old }
@@ -77,10 +74,7 @@ fn pick_job<C: SyncCalls>(desk: &mut Desk, staging: &mut Staging, ops: u64, copi
         → IsPicked (λ t. IsCopied (λ n x. C.is_store copies.new (job_block j) n x × C.looked copies.old copies.new (job_block j) n) (job_block j) (C.told copies.old) (C.told copies.new) (source_of desk.old.config j) t) (job_block j) ops desk.old desk.new }
     ensures room { staging.new.room ≡ staging.old.room }
     ensures counts { (j : MachineJob) → next_in desk.old.config (state_of desk.old).waiting ≡ Some j → OnlyRefusals (job_block j) (C.told copies.old) (C.told copies.new) }
-    ensures sizes { sizes_of (C.told copies.new) ≡ sizes_of (C.told copies.old) }
-    ensures refuses { OnlyRefuses (C.told copies.old) (C.told copies.new) }
-    ensures stores_stay { (b n : ℕ) (x : List ℕ) → C.is_store copies.old b n x → C.is_store copies.new b n x }
-    ensures stays_over { (first : C) → C.over first copies.old → C.over first copies.new }
+    ensures stays { CopiesStay C.told C.is_store C.over copies.old copies.new }
 {
     let Some(job) = desk.next_job() else {
         return;
@@ -106,10 +100,7 @@ fn pick_member<C: SyncCalls>(
         → IsPicked (λ t. IsCopied (λ n x. C.is_store copies.new block n x × C.looked copies.old copies.new block n) block (C.told copies.old) (C.told copies.new) (source_of desk.old.config (member_job desk.old.config sw block)) t) block ops desk.old desk.new }
     ensures room { staging.new.room ≡ staging.old.room }
     ensures counts { OnlyRefusals block (C.told copies.old) (C.told copies.new) }
-    ensures sizes { sizes_of (C.told copies.new) ≡ sizes_of (C.told copies.old) }
-    ensures refuses { OnlyRefuses (C.told copies.old) (C.told copies.new) }
-    ensures stores_stay { (b n : ℕ) (x : List ℕ) → C.is_store copies.old b n x → C.is_store copies.new b n x }
-    ensures stays_over { (first : C) → C.over first copies.old → C.over first copies.new }
+    ensures stays { CopiesStay C.told C.is_store C.over copies.old copies.new }
 {
     let source = source_of_member(desk.config(), block, desk.sweep_writes());
     let take = stage(desk, staging, block, source, copies);
@@ -134,6 +125,7 @@ fn source_of_member(config: &Config, block: u16, writes: bool) -> Source
 }
 
 // What the Pick of a block takes from a source. A copy is staged.
+#[tactic(auto, using(crate::proofs::Sizes::nothing_copied))]
 fn stage<C: SyncCalls>(
     desk: &Desk,
     staging: &mut Staging,
@@ -148,10 +140,7 @@ fn stage<C: SyncCalls>(
     ensures copied { (content : Option (List ℕ × ℕ)) → IsCopied (λ n x. C.is_store copies.new block n x × C.looked copies.old copies.new block n) block (C.told copies.old) (C.told copies.new) source (taken_with content (took_of result staging.new.bytes)) }
     ensures room { staging.new.room ≡ staging.old.room }
     ensures counts { OnlyRefusals block (C.told copies.old) (C.told copies.new) }
-    ensures sizes { sizes_of (C.told copies.new) ≡ sizes_of (C.told copies.old) }
-    ensures refuses { OnlyRefuses (C.told copies.old) (C.told copies.new) }
-    ensures stores_stay { (b n : ℕ) (x : List ℕ) → C.is_store copies.old b n x → C.is_store copies.new b n x }
-    ensures stays_over { (first : C) → C.over first copies.old → C.over first copies.new }
+    ensures stays { CopiesStay C.told C.is_store C.over copies.old copies.new }
 {
     match source {
         Source::Nothing => Take::Nothing,
@@ -179,10 +168,7 @@ fn stage_copy<C: SyncCalls>(
     ensures copied { (content : Option (List ℕ × ℕ)) → IsCopied (λ n x. C.is_store copies.new block n x × C.looked copies.old copies.new block n) block (C.told copies.old) (C.told copies.new) (from.Copy asked) (taken_with content (took_of result staging.new.bytes)) }
     ensures room { staging.new.room ≡ staging.old.room }
     ensures counts { OnlyRefusals block (C.told copies.old) (C.told copies.new) }
-    ensures sizes { sizes_of (C.told copies.new) ≡ sizes_of (C.told copies.old) }
-    ensures refuses { OnlyRefuses (C.told copies.old) (C.told copies.new) }
-    ensures stores_stay { (b n : ℕ) (x : List ℕ) → C.is_store copies.old b n x → C.is_store copies.new b n x }
-    ensures stays_over { (first : C) → C.over first copies.old → C.over first copies.new }
+    ensures stays { CopiesStay C.told C.is_store C.over copies.old copies.new }
 {
     let count = tries(config, block);
     let bytes = usize::from(length(config, block));

@@ -5,10 +5,9 @@ ghost use Rattle.block_machine.specs.Blocks.{desc_of, job_block, kind_of, names_
 ghost use Rattle.block_machine.specs.Results.{took_none, checks_id, checked_id};
 ghost use Rattle.block_machine.specs.nv_base.declared.job.GivenFrom.TheVariants as GivenFrom;
 ghost use Rattle.job_pending.specs.Took.{taken_last};
-ghost use Rattle.ram_blocks.specs.Told.{sizes_of};
-ghost use Rattle.ram_blocks.specs.Tries.{OthersStay, OnlyRefuses};
+ghost use Rattle.ram_blocks.specs.Tries.{OthersStay};
 ghost use Rattle.nv_desk.specs.Desk.{state_of};
-ghost use Rattle.nv_desk_copies.specs.Front.{StagesAll, AreSynchronized};
+ghost use Rattle.nv_desk_copies.specs.Front.{StagesAll, AreSynchronized, CopiesStay};
 ghost use Rattle.nv_desk_copies.specs.Posts.{MayPostNow, IsEndOf, IsPosted, answer_in, answer_of, is_read, reads_own};
 
 use crate::Staging;
@@ -35,6 +34,7 @@ pub struct Done {
 }
 
 /// Posts the job in hand, whose program ended with this result and source.
+#[tactic(auto, using(crate::proofs::Sizes::nothing_copied))]
 pub fn post<C: SyncCalls>(
     desk: &mut Desk,
     staging: &mut Staging,
@@ -52,10 +52,7 @@ pub fn post<C: SyncCalls>(
     ensures reads { (j : MachineJob) → (state_of desk.old).hand ≡ Some j → result.reads ≡ reads_own j (answer_of desk.old.config (state_of desk.old) j answer source content.now).1 }
     ensures room { staging.new.room ≡ staging.old.room }
     ensures others { OthersStay result.posted.block (C.told copies.old) (C.told copies.new) }
-    ensures sizes { sizes_of (C.told copies.new) ≡ sizes_of (C.told copies.old) }
-    ensures refuses { OnlyRefuses (C.told copies.old) (C.told copies.new) }
-    ensures stores_stay { (b n : ℕ) (x : List ℕ) → C.is_store copies.old b n x → C.is_store copies.new b n x }
-    ensures stays_over { (first : C) → C.over first copies.old → C.over first copies.new }
+    ensures stays { CopiesStay C.told C.is_store C.over copies.old copies.new }
 {
     let Some(job) = desk.hand() else {
         return not_posted(answer);

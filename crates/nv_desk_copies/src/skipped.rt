@@ -1,16 +1,15 @@
 // Posts without a Pick.
-ghost use Rattle.std.specs.Prelude.{◌≡◌, ℕ, List, Some, None, true, false, length, IfSome};
+ghost use Rattle.std.specs.Prelude.{◌≡◌, List, Some, None, true, false, length, IfSome};
 ghost use Rattle.block_machine.specs.State.{Sweep as MachineSweep};
 ghost use Rattle.block_machine.specs.Blocks.{desc_of};
 ghost use Rattle.block_machine.specs.Results.{own_of, unpicked_result};
 ghost use Rattle.block_machine.specs.Sweeps.{sweep_result};
 ghost use Rattle.block_machine.specs.Next.{next_of, PostMember, EndSweep};
 ghost use Rattle.ram_blocks.specs.Told.{Told};
-ghost use Rattle.ram_blocks.specs.Told.{sizes_of};
-ghost use Rattle.ram_blocks.specs.Tries.{OthersStay, OnlyRefuses};
+ghost use Rattle.ram_blocks.specs.Tries.{OthersStay};
 ghost use Rattle.nv_desk.specs.Desk.{state_of};
 ghost use Rattle.nv_desk.specs.AllBlocks.{MayFinish};
-ghost use Rattle.nv_desk_copies.specs.Front.{StagesAll, AreSynchronized};
+ghost use Rattle.nv_desk_copies.specs.Front.{StagesAll, AreSynchronized, CopiesStay};
 ghost use Rattle.nv_desk_copies.specs.Posts.{MayPostSkipped, IsAtPost, IsPosted, IsPostedNext, answer_in};
 
 use crate::Staging;
@@ -23,6 +22,7 @@ use nv_desk_state::NextEntry;
 use ram_blocks::SyncCalls;
 
 /// The Post that comes without a Pick: of a member of a request on all blocks, or of id 0.
+#[tactic(auto, using(crate::proofs::Sizes::nothing_copied))]
 pub fn post_skipped<C: SyncCalls>(
     desk: &mut Desk,
     staging: &mut Staging,
@@ -35,10 +35,7 @@ pub fn post_skipped<C: SyncCalls>(
     ensures posted { IsPostedNext (next_of desk.old.config (state_of desk.old)) ops desk.old desk.new (C.told copies.old) (C.told copies.new) result }
     ensures room { staging.new.room ≡ staging.old.room }
     ensures others { OthersStay result.block (C.told copies.old) (C.told copies.new) }
-    ensures sizes { sizes_of (C.told copies.new) ≡ sizes_of (C.told copies.old) }
-    ensures refuses { OnlyRefuses (C.told copies.old) (C.told copies.new) }
-    ensures stores_stay { (b n : ℕ) (x : List ℕ) → C.is_store copies.old b n x → C.is_store copies.new b n x }
-    ensures stays_over { (first : C) → C.over first copies.old → C.over first copies.new }
+    ensures stays { CopiesStay C.told C.is_store C.over copies.old copies.new }
 {
     match desk.next() {
         NextEntry::PostMember { block } => post_member(desk, staging, block, ops, copies),
@@ -80,10 +77,7 @@ fn post_member<C: SyncCalls>(
     ensures block { result.block ≡ block }
     ensures room { staging.new.room ≡ staging.old.room }
     ensures others { OthersStay block (C.told copies.old) (C.told copies.new) }
-    ensures sizes { sizes_of (C.told copies.new) ≡ sizes_of (C.told copies.old) }
-    ensures refuses { OnlyRefuses (C.told copies.old) (C.told copies.new) }
-    ensures stores_stay { (b n : ℕ) (x : List ℕ) → C.is_store copies.old b n x → C.is_store copies.new b n x }
-    ensures stays_over { (first : C) → C.over first copies.old → C.over first copies.new }
+    ensures stays { CopiesStay C.told C.is_store C.over copies.old copies.new }
 {
     let end = unpicked(desk, staging, block);
     let end = hand_over(desk.config(), staging, block, true, end, copies);

@@ -1,10 +1,10 @@
 // Memory for one content.
-ghost use Rattle.std.specs.Prelude.{◌≡◌, ◌≤◌, ℕ, List, length, take, IfOk, option_copied};
+ghost use Rattle.std.specs.Prelude.{◌≡◌, ◌≤◌, length, take, IfOk, option_copied};
 ghost use Rattle.std.specs.Option.{option_eq};
 ghost use Rattle.std.specs.Str.{bytes_eq};
-ghost use Rattle.ram_blocks.specs.Told.{IsSynchronized, sizes_of};
-ghost use Rattle.ram_blocks.specs.Tries.{IsOfStore, IsTried, OnlyCounts, OnlyRefuses};
-ghost use Rattle.nv_desk_copies.specs.Front.{given_if};
+ghost use Rattle.ram_blocks.specs.Told.{IsSynchronized};
+ghost use Rattle.ram_blocks.specs.Tries.{IsOfStore, IsTried, OnlyCounts};
+ghost use Rattle.nv_desk_copies.specs.Front.{CopiesStay, given_if};
 
 use ram_blocks::{SyncCalls, Tried, copy_out};
 use std::alloc::{AllocError, Global};
@@ -91,10 +91,7 @@ impl Staging {
         ensures tried { IsTried result block asked tries (C.told copies.old) (C.told copies.new) }
         ensures store { IsOfStore result self.new.bytes (λ n x. C.is_store copies.new block n x × C.looked copies.old copies.new block n) }
         ensures counts { OnlyCounts block (C.told copies.old) (C.told copies.new) }
-        ensures sizes { sizes_of (C.told copies.new) ≡ sizes_of (C.told copies.old) }
-        ensures refuses { OnlyRefuses (C.told copies.old) (C.told copies.new) }
-        ensures stores_stay { (b n : ℕ) (x : List ℕ) → C.is_store copies.old b n x → C.is_store copies.new b n x }
-        ensures stays_over { (first : C) → C.over first copies.old → C.over first copies.new }
+        ensures stays { CopiesStay C.told C.is_store C.over copies.old copies.new }
     {
         self.used = count;
         copy_to(&mut self.buffer, copies, block, count, asked, tries)
@@ -125,10 +122,7 @@ fn copy_to<C: SyncCalls>(
     ensures tried { IsTried result block asked tries (C.told copies.old) (C.told copies.new) }
     ensures store { IsOfStore result (take count buffer.new) (λ n x. C.is_store copies.new block n x × C.looked copies.old copies.new block n) }
     ensures counts { OnlyCounts block (C.told copies.old) (C.told copies.new) }
-    ensures sizes { sizes_of (C.told copies.new) ≡ sizes_of (C.told copies.old) }
-    ensures refuses { OnlyRefuses (C.told copies.old) (C.told copies.new) }
-    ensures stores_stay { (b n : ℕ) (x : List ℕ) → C.is_store copies.old b n x → C.is_store copies.new b n x }
-    ensures stays_over { (first : C) → C.over first copies.old → C.over first copies.new }
+    ensures stays { CopiesStay C.told C.is_store C.over copies.old copies.new }
 {
     let (front, _) = buffer.split_at_mut(count);
     copy_out(copies, block, asked, tries, front)

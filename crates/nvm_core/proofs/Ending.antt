@@ -1,24 +1,24 @@
 -- The end of an operation of the job in hand.
-use Rattle.std.specs.Prelude.{◌&&◌, not, slice_get, unwrap_or, ◌%◌, ◌*◌}
-use Rattle.std.specs.List.{list_any}
+use Rattle.std.specs.Prelude.{◌&&◌, not, unwrap_or, ◌%◌, ◌*◌}
 use Rattle.std.specs.Option.{option_and_then}
-use Rattle.std.proofs.Common.{◌≡◌, ◌≢◌, ◌⊎◌, inl, inr, ℕ, ◌+◌, ◌≤◌, Bool, true, false, if◌then◌else◌, List, [], length, IsSome, Option, Some, None, refl, sym, ap, ◌∙◌, subst, arith}
+use Rattle.std.proofs.Common.{◌≡◌, ◌≢◌, ◌⊎◌, inl, inr, ℕ, ◌+◌, ◌≤◌, Bool, true, false, List, Option, Some, None, refl, sym, ap, ◌∙◌, subst, arith}
 use Rattle.nvm_laws.specs.nv_base.Marks.{number_of, instance_of}
 use Rattle.nvm_laws.specs.nv_base.declared.instance.Instance.{Instance}
 use Rattle.nvm_laws.specs.nv_base.declared.job.DeviceOp.{DeviceOp}
 use Rattle.nvm_laws.specs.memif.declared.answer.JobResult.{JobResult}
-use Rattle.nvm_laws.specs.memif.declared.answer.JobResult.TheVariants.{JobOk, JobFailed, JobPending, JobCanceled, BlockInconsistent, BlockInvalid}
+use Rattle.nvm_laws.specs.memif.declared.answer.JobResult.TheVariants.{JobOk}
 use Rattle.nvm_laws.specs.memif.Told.{DeviceTold, Stand, Open, Ended, is_open, op_of, ops_of, result_of, IfElse}
-use Rattle.nvm_laws.specs.block_machine.Words.{Mark, Erased, JobKind, ReadJob, WriteJob, RestoreJob, EraseJob, InvalidateJob, ReadAllJob, WriteAllJob, Outcome, ReadContent, FoundErased, FoundInvalid, WroteMark, Failed, Entry, Wrote, Configuration}
+use Rattle.nvm_laws.specs.block_machine.Words.{Mark, Erased, Outcome, WroteMark, Entry, Wrote, Configuration}
 use Rattle.nvm_laws.specs.block_machine.State.{State, Job}
-use Rattle.nvm_laws.specs.block_machine.Blocks.{desc_of, block_at, indices_by, job_block, kind_of, mark_of, mark_by}
+use Rattle.nvm_laws.specs.block_machine.Blocks.{kind_of, mark_of}
 use Rattle.nvm_laws.specs.block_machine.Results.{took_none}
-use Rattle.nvm_laws.specs.job_programs.Program.{Program, works, operation, settles, next_in}
+use Rattle.nvm_laws.specs.block_machine.Legal.{IsAllowed}
+use Rattle.nvm_laws.specs.job_programs.Program.{operation, next_in}
 use Rattle.nvm_laws.specs.nvm_device_laws.Outcomes.{outcome_by}
 use Rattle.nvm_laws.specs.nvm_device_laws.Turn.{settled_by}
 use Rattle.nvm_laws.specs.nv_desk.Driver.{mark_now}
 use Rattle.nvm_laws.specs.job_progress.Hand.{HandState, ended}
-use Rattle.nvm_laws.specs.job_progress.JobInHand.{IsAt, IsInHand, job_for, program_for}
+use Rattle.nvm_laws.specs.job_progress.JobInHand.{IsAt, IsInHand, job_for}
 use Rattle.nvm_laws.specs.job_progress.Goes.{Names}
 use Rattle.nvm_laws.specs.nv_desk.Desk.{DeskState, state_of}
 use Rattle.nvm_laws.specs.block_config.Rules.{IsLegalConfig}
@@ -26,8 +26,8 @@ use Rattle.nvm_laws.specs.Halves.{Adds}
 use Rattle.nvm_laws.proofs.job_progress.Going.{steps_name}
 use Rattle.nvm_laws.proofs.job_progress.Writing.{writes_are_allowed, same_block, same_index}
 use Rattle.nvm_core.specs.BehindDevice.{IsAtWork}
+use Rattle.nvm_core.proofs.Starting.{op_by, works_on}
 use Rattle.nvm_laws.specs.nv_base.declared.job.JobStep.TheVariants as step
-use Rattle.nvm_laws.specs.nv_base.declared.job.Outcome.TheVariants.{First}
 use Rattle.nvm_laws.specs.Turns.{AddsBy, hand_by}
 
 -- WHERE IT STANDS
@@ -66,27 +66,6 @@ pub over : (c : Configuration) (s : State) (h : HandState) (old new : DeviceTold
 over c s h old new is ended = over_by c is.job h h.started old.stand new.stand is.at ended
 
 -- THE OPERATION
--- what works on an instance works on the device
-next_at : (t : Bool) (p : Program) (index : ℕ) → list_any (settles p.kind) p.done ≡ t → (if t then None else slice_get p.indices (length p.done)) ≡ Some index
-    → slice_get p.indices (length p.done) ≡ Some index
-next_at true p index is next = cc
-next_at false p index is next = next
-
-works_at : (t : Bool) (xs : List ℕ) (n index : ℕ) → slice_get (if t then xs else []) n ≡ Some index → t ≡ true
-works_at true xs n index has = refl
-works_at false xs n index has = cc
-
--- its mark is that of its operation
-op_by : (kind : JobKind) (content : Option (List ℕ × ℕ)) → works kind ≡ true → (kind ≡ WriteJob → IsSome content) → op_of (mark_by kind content) ≡ operation kind
-op_by ReadJob content on has = refl
-op_by WriteJob (Some x) on has = refl
-op_by WriteJob None on has = let some = has refl in cc
-op_by RestoreJob content on has = cc
-op_by EraseJob content on has = refl
-op_by InvalidateJob content on has = refl
-op_by ReadAllJob content on has = cc
-op_by WriteAllJob content on has = cc
-
 job_is : (s : State) (j k : Job) → s.hand ≡ Some j → s.hand ≡ Some k → k ≡ j
 job_is s j k one other = cc
 
@@ -94,16 +73,11 @@ module _ (c : Configuration) (s : State) (h : HandState) (old : DeviceTold) (op 
   pub same_job : names.job ≡ is.job
   same_job = job_is s is.job names.job is.hand names.hand
 
-  job_works : works (kind_of is.job) ≡ true
-  job_works =
-      let has : slice_get h.program.indices (length h.program.done) ≡ Some names.index = next_at (list_any (settles h.program.kind) h.program.done) h.program names.index refl names.next in
-      let same : h.program.indices ≡ (program_for c s is.job).indices = ap (λ (q : Program). q.indices) is.working.is in
-      works_at (works (kind_of is.job)) (indices_by (desc_of c (job_block is.job)).kind (desc_of c (job_block is.job)).nv (block_at s (job_block is.job)).index)
-      (length h.program.done) names.index (subst (λ (xs : List ℕ). slice_get xs (length h.program.done) ≡ Some names.index) same has)
-
+  -- its mark is that of its operation
   pub op_is : op_of (mark_of is.job) ≡ op
   op_is =
-      op_by (kind_of is.job) is.job.content job_works (λ writes. is.working.content writes (ap (λ (j : Job). took_none j.taken) (sym same_job) ∙ names.content)) ∙ sym (names.op_is ∙ ap (λ (j : Job). operation (kind_of j)) same_job)
+      op_by (kind_of is.job) is.job.content (works_on c s is.job h.program names.index is.working names.next)
+      (λ writes. is.working.content writes (ap (λ (j : Job). took_none j.taken) (sym same_job) ∙ names.content)) ∙ sym (names.op_is ∙ ap (λ (j : Job). operation (kind_of j)) same_job)
 
 -- THE ENTRY
 -- a Wrote of the mark where it was written
@@ -111,33 +85,15 @@ wrote_by_outcome : (number ops : ℕ) (urgent : Bool) (mark : Option Mark) (r : 
     → settled_by (Open (record { number = number; mark = mark; urgent = urgent })) (Ended r given) ops
     ≡ Some (Wrote (instance_of (record { 0 = number })) (unwrap_or mark Erased) ops)
 wrote_by_outcome number ops urgent (Some m) JobOk given is = refl
-wrote_by_outcome number ops urgent (Some m) JobFailed given is = cc
-wrote_by_outcome number ops urgent (Some m) JobPending given is = cc
-wrote_by_outcome number ops urgent (Some m) JobCanceled given is = cc
-wrote_by_outcome number ops urgent (Some m) BlockInconsistent given is = cc
-wrote_by_outcome number ops urgent (Some m) BlockInvalid given is = cc
 wrote_by_outcome number ops urgent None JobOk given is = cc
-wrote_by_outcome number ops urgent None JobFailed given is = cc
-wrote_by_outcome number ops urgent None JobPending given is = cc
-wrote_by_outcome number ops urgent None JobCanceled given is = cc
-wrote_by_outcome number ops urgent None BlockInconsistent given is = cc
-wrote_by_outcome number ops urgent None BlockInvalid given is = cc
+wrote_by_outcome number ops urgent mark r given is = cc
 
 -- and none else
 none_by_outcome : (number ops : ℕ) (urgent : Bool) (mark : Option Mark) (r : JobResult) (given : List ℕ) → outcome_by mark r ≢ WroteMark
     → settled_by (Open (record { number = number; mark = mark; urgent = urgent })) (Ended r given) ops ≡ None
 none_by_outcome number ops urgent (Some m) JobOk given isnt = absurd (isnt refl)
-none_by_outcome number ops urgent (Some m) JobFailed given isnt = refl
-none_by_outcome number ops urgent (Some m) JobPending given isnt = refl
-none_by_outcome number ops urgent (Some m) JobCanceled given isnt = refl
-none_by_outcome number ops urgent (Some m) BlockInconsistent given isnt = refl
-none_by_outcome number ops urgent (Some m) BlockInvalid given isnt = refl
 none_by_outcome number ops urgent None JobOk given isnt = refl
-none_by_outcome number ops urgent None JobFailed given isnt = refl
-none_by_outcome number ops urgent None JobPending given isnt = refl
-none_by_outcome number ops urgent None JobCanceled given isnt = refl
-none_by_outcome number ops urgent None BlockInconsistent given isnt = refl
-none_by_outcome number ops urgent None BlockInvalid given isnt = refl
+none_by_outcome number ops urgent mark r given isnt = refl
 
 instance_is : (b n : ℕ) (i : Instance) → n ≤ 63 → i.block ≡ b → i.index ≡ n → instance_of (record { 0 = number_of (record { block = b; index = n }) }) ≡ i
 instance_is b n i small block index =
@@ -184,10 +140,12 @@ pub record Ends (s : State) (h : HandState) (old new : Stand) (i : Instance) (ou
   pub none : (ops : ℕ) → outcome ≢ WroteMark → settled_by old new ops ≡ None
   pub hand : Some (ended outcome h) ≡ hand_by old new (Some h)
 
-pub ends : (c : Configuration) (s : State) (h : HandState) (old new : DeviceTold) (op : DeviceOp) (i : Instance) (outcome : Outcome) (came : JobResult)
-    → IsLegalConfig c → IsInHand c s h old → (h.started && not (is_open new.stand)) ≡ true → h.step ≡ step.Device op i
-    → ((mark : Option Mark) → op_of mark ≡ op → outcome ≡ outcome_by mark came) → came ≡ result_of new.stand → Ends s h old.stand new.stand i outcome
-ends c s h old new op i outcome came legal is ended at outcomes came_is =
+pub ends : (desk : DeskState) (h : HandState) (old new : DeviceTold) (op : DeviceOp) (i : Instance) (outcome : Outcome) (came : JobResult)
+    → IsLegalConfig desk.config → IsInHand desk.config (state_of desk) h old → (h.started && not (is_open new.stand)) ≡ true → h.step ≡ step.Device op i
+    → ((mark : Option Mark) → op_of mark ≡ op → outcome ≡ outcome_by mark came) → came ≡ result_of new.stand → Ends (state_of desk) h old.stand new.stand i outcome
+ends desk h old new op i outcome came legal is ended at outcomes came_is =
+    let c = desk.config in
+    let s = state_of desk in
     let named = steps_name c s h old op i legal is at in
     let over_now = over c s h old new is ended in
     let mark = op_is c s h old op i is named in
@@ -199,21 +157,20 @@ ends c s h old new op i outcome came legal is ended at outcomes came_is =
 
 -- the desk behind it
 wrote_or_not : (o : Outcome) → (o ≡ WroteMark) ⊎ (o ≢ WroteMark)
-wrote_or_not First = inr (λ is. cc)
-wrote_or_not ReadContent = inr (λ is. cc)
-wrote_or_not FoundErased = inr (λ is. cc)
-wrote_or_not FoundInvalid = inr (λ is. cc)
 wrote_or_not WroteMark = inl refl
-wrote_or_not Failed = inr (λ is. cc)
+wrote_or_not o = inr (λ is. cc)
+
+-- a Wrote of it is allowed
+pub may_write : (desk : DeskState) (h : HandState) (old d : DeviceTold) (i : Instance) (outcome : Outcome) → IsLegalConfig desk.config → IsAtWork desk h old d
+    → Ends (state_of desk) h old.stand d.stand i outcome → outcome ≡ WroteMark → IsAllowed desk.config desk.cap (state_of desk) (Wrote i (mark_now (state_of desk)) (ops_of d))
+may_write desk h old d i outcome legal work ends wrote =
+    writes_are_allowed desk.config desk.cap (state_of desk) h old d (Wrote i (mark_now (state_of desk)) (ops_of d)) (ops_of d) legal work.in_hand work.driving (ends.wrote (ops_of d) wrote)
 
 pub adds_by : (desk new : DeskState) (h : HandState) (old d : DeviceTold) (i : Instance) (outcome : Outcome) → IsLegalConfig desk.config
     → IsAtWork desk h old d → Ends (state_of desk) h old.stand d.stand i outcome
     → (outcome ≡ WroteMark → Adds (Wrote i (mark_now (state_of desk)) (ops_of d)) desk new) → (outcome ≢ WroteMark → new ≡ desk)
     → AddsBy (settled_by old.stand d.stand (ops_of d)) desk new
 adds_by desk new h old d i outcome legal work ends wrote other = elim (wrote_or_not outcome) [
-  | inl is ↦
-      let entry = ends.wrote (ops_of d) is in
-      subst (λ (e : Option Entry). AddsBy e desk new) (sym entry)
-      (wrote is, writes_are_allowed desk.config desk.cap (state_of desk) h old d (Wrote i (mark_now (state_of desk)) (ops_of d)) (ops_of d) legal work.in_hand work.driving entry)
+  | inl is ↦ subst (λ (e : Option Entry). AddsBy e desk new) (sym (ends.wrote (ops_of d) is)) (wrote is, may_write desk h old d i outcome legal work ends is)
   | inr isnt ↦ subst (λ (e : Option Entry). AddsBy e desk new) (sym (ends.none (ops_of d) isnt)) (other isnt)
 ]

@@ -2,7 +2,7 @@
 use Rattle.std.specs.Prelude.{IfSome, min, option_map}
 use Rattle.std.specs.List.{Contains}
 use Rattle.std.specs.Option.{option_map_or}
-use Rattle.std.proofs.Common.{◌≡◌, ◌<◌, ◌≤◌, ◌+◌, ◌⊎◌, ℕ, zero, suc, Bool, true, false, if◌then◌else◌, List, [], ◌∷◌, ◌++◌, length, Option, Some, None, refl, sym, ap, ◌∙◌, subst, inl, inr, arith, length-append}
+use Rattle.std.proofs.Common.{◌≡◌, ◌<◌, ◌≤◌, ◌+◌, ◌⊎◌, ℕ, zero, suc, Bool, true, if◌then◌else◌, List, [], ◌∷◌, ◌++◌, length, Option, Some, None, refl, sym, ap, ◌∙◌, subst, inl, inr, arith, length-append}
 use Rattle.std.proofs.lemmas.Bool.Decides.{leb_tells}
 use Rattle.nvm_laws.specs.nv_base.Count.{last_count, WereCounted}
 use Rattle.nvm_laws.specs.memif.declared.answer.DeviceTurn.TheVariants as turn
@@ -32,7 +32,7 @@ use Rattle.nvm_laws.specs.nv_desk_copies.Posts.{IsPostedNext}
 use Rattle.nvm_laws.specs.nv_desk_copies.declared.post.Posted.{Posted}
 use Rattle.nvm_laws.specs.job_progress.Hand.{HandState}
 use Rattle.nvm_laws.specs.job_progress.JobInHand.{IsInHand, IsPaired}
-use Rattle.nvm_laws.specs.job_progress.Begins.{hand_by as begun_by, hand_for}
+use Rattle.nvm_laws.specs.job_progress.Begins.{hand_for}
 use Rattle.nvm_laws.specs.Keeps.{StackKeeps, StaysKept}
 use Rattle.nvm_laws.specs.Halves.{IsHalf, AddsPost}
 use Rattle.nvm_laws.specs.Turns.{hand_by, AddsBy}
@@ -42,6 +42,7 @@ use Rattle.nvm_laws.specs.declared.turned.Act.TheVariants.{Ended}
 use Rattle.nvm_laws.specs.AtDevice.{AtDevice, GoesOn}
 use Rattle.nvm_laws.proofs.Turning.{off_stand, hand_same}
 use Rattle.nvm_laws.proofs.Operations.{same_job}
+use Rattle.nvm_laws.proofs.Picking.{done_is, failures_are}
 use Rattle.nvm_core.specs.OperationStart.{LeavesDevice}
 use Rattle.nvm_core.specs.BehindDevice.{TurnsDevice, asked_by}
 use Rattle.nvm_core.specs.Paying.{counted_of, TriesSince, OwesSince, PaysSince, worn_so_far}
@@ -253,18 +254,10 @@ module _ (since now : ℕ) (old new : DeskState) (worn : Worn) (less : since ≤
   none_paid same e is = absurd (no_longer old.entries e (ap (λ (x : DeskState). x.entries) (sym same) ∙ is))
 
 -- THE PICK
-begun_done : (c : Configuration) (s : State) (j : Job) (t : Bool) → (begun_by t c s j).program.done ≡ []
-begun_done c s j true = refl
-begun_done c s j false = refl
-
-begun_failures : (c : Configuration) (s : State) (j : Job) (t : Bool) → (begun_by t c s j).program.failures ≡ 0
-begun_failures c s j true = refl
-begun_failures c s j false = refl
-
 begun : (c : Configuration) (s : State) (o : Option Job) (since : ℕ) (d : DeviceTold) (clock : Clock) → since ≤ faults_of d → OwesSince since (option_map (hand_for c s) o) d clock
 begun c s None since d clock less = (less, tt)
 begun c s (Some j) since d clock less =
-    (less, none_since clock.worn since (counted_of d) (hand_for c s j).program less (begun_done c s j (took_none j.taken)) (begun_failures c s j (took_none j.taken)))
+    (less, none_since clock.worn since (counted_of d) (hand_for c s j).program less (done_is c s j (took_none j.taken)) (failures_are c s j (took_none j.taken)))
 
 -- A TURN THAT IS ITS FIRST HALF
 module _ (since : ℕ) (old new : DeskState) (hand hand_new : Option HandState) (d d_new : DeviceTold) (clock clock_new : Clock) (leaves : LeavesDevice d d_new) (same : SameClock clock clock_new)

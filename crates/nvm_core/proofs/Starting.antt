@@ -9,7 +9,7 @@ use Rattle.nvm_laws.specs.nv_base.declared.job.DeviceOp.{DeviceOp}
 use Rattle.nvm_laws.specs.nv_base.declared.job.DeviceOp.TheVariants as op
 use Rattle.nvm_laws.specs.nv_base.declared.request.Request.TheVariants as req
 use Rattle.nvm_laws.specs.memif.Told as device
-use Rattle.nvm_laws.specs.block_machine.Words.{Mark, Content, Invalid, Erased, BlockDesc, JobKind, ReadJob, WriteJob, RestoreJob, EraseJob, InvalidateJob, ReadAllJob, WriteAllJob, Request, Configuration}
+use Rattle.nvm_laws.specs.block_machine.Words.{Mark, Content, Invalid, Erased, JobKind, ReadJob, WriteJob, RestoreJob, EraseJob, InvalidateJob, ReadAllJob, WriteAllJob, Request, Configuration}
 use Rattle.nvm_laws.specs.block_machine.State.{State, Job}
 use Rattle.nvm_laws.specs.block_machine.Blocks.{desc_of, block_at, indices_by, job_block, job_kind, kind_of, mark_of, mark_by, rank_of, is_immediate}
 use Rattle.nvm_laws.specs.job_programs.Program.{Program, works, operation, settles, next_in}
@@ -22,79 +22,39 @@ use Rattle.nvm_laws.specs.job_progress.JobInHand.{IsWorking, job_for}
 use Rattle.nvm_laws.specs.job_progress.Goes.{Names}
 
 -- a job with an operation works on the device
-none_in : (kind : JobKind) (d : BlockDesc) (at n : ℕ) (t : Bool) (index : ℕ)
-    → (if t then None else slice_get (if works kind then indices_by d.kind d.nv at else []) n) ≡ Some index → works kind ≡ true
-none_in ReadJob d at n t index is = refl
-none_in WriteJob d at n t index is = refl
-none_in EraseJob d at n t index is = refl
-none_in InvalidateJob d at n t index is = refl
-none_in RestoreJob d at n true index is = cc
-none_in RestoreJob d at n false index is = cc
-none_in ReadAllJob d at n true index is = cc
-none_in ReadAllJob d at n false index is = cc
-none_in WriteAllJob d at n true index is = cc
-none_in WriteAllJob d at n false index is = cc
+works_at : (t on : Bool) (xs : List ℕ) (n index : ℕ) → (if t then None else slice_get (if on then xs else []) n) ≡ Some index → on ≡ true
+works_at t true xs n index is = refl
+works_at true false xs n index is = cc
+works_at false false xs n index is = cc
 
-works_on : (c : Configuration) (s : State) (j : Job) (p : Program) (index : ℕ) → IsWorking c s j p → next_in p ≡ Some index → works (kind_of j) ≡ true
-works_on c s j p index is next = none_in (kind_of j) (desc_of c (job_block j)) (block_at s (job_block j)).index (length p.done)
-    (list_any (settles (kind_of j)) p.done) index (ap next_in (sym is.is) ∙ next)
+pub works_on : (c : Configuration) (s : State) (j : Job) (p : Program) (index : ℕ) → IsWorking c s j p → next_in p ≡ Some index → works (kind_of j) ≡ true
+works_on c s j p index is next =
+    let d = desc_of c (job_block j) in
+    works_at (list_any (settles (kind_of j)) p.done) (works (kind_of j)) (indices_by d.kind d.nv (block_at s (job_block j)).index) (length p.done) index (ap next_in (sym is.is) ∙ next)
 
 -- only a write is urgent
 urgent_by : (c : Configuration) (r : Request) (member : Bool) (kind : JobKind) → kind ≡ unwrap_or (job_kind r) ReadJob → (kind ≡ WriteJob → ⊥)
     → (if member then false else is_immediate c r) ≡ false
 urgent_by c r true kind is other = refl
-urgent_by c (req.Read block ram) false kind is other = refl
 urgent_by c (req.Write block content store) false kind is other = absurd (other is)
-urgent_by c (req.Restore block ram) false kind is other = refl
-urgent_by c (req.Erase block) false kind is other = refl
-urgent_by c (req.Invalidate block) false kind is other = refl
-urgent_by c (req.SetIndex block index) false kind is other = refl
-urgent_by c (req.GetIndex block) false kind is other = refl
-urgent_by c (req.SetProtection block on) false kind is other = refl
-urgent_by c (req.SetLock block on) false kind is other = refl
-urgent_by c (req.SetRam block on) false kind is other = refl
-urgent_by c (req.PutRam block content) false kind is other = refl
-urgent_by c (req.Status block) false kind is other = refl
-urgent_by c req.ReadAll false kind is other = refl
-urgent_by c req.WriteAll false kind is other = refl
-urgent_by c req.CancelWriteAll false kind is other = refl
+urgent_by c r false kind is other = refl
 
 -- the kind of a job by its operation
 reads_by : (kind : JobKind) → op.Read ≡ operation kind → kind ≡ ReadJob
 reads_by ReadJob is = refl
-reads_by WriteJob is = cc
-reads_by RestoreJob is = cc
-reads_by EraseJob is = cc
-reads_by InvalidateJob is = cc
-reads_by ReadAllJob is = cc
-reads_by WriteAllJob is = cc
+reads_by kind is = cc
 
 erases_by : (kind : JobKind) → op.Erase ≡ operation kind → kind ≡ EraseJob
-erases_by ReadJob is = cc
-erases_by WriteJob is = cc
-erases_by RestoreJob is = cc
 erases_by EraseJob is = refl
-erases_by InvalidateJob is = cc
-erases_by ReadAllJob is = cc
-erases_by WriteAllJob is = cc
+erases_by kind is = cc
 
 invalidates_by : (kind : JobKind) → op.Invalidate ≡ operation kind → kind ≡ InvalidateJob
-invalidates_by ReadJob is = cc
-invalidates_by WriteJob is = cc
-invalidates_by RestoreJob is = cc
-invalidates_by EraseJob is = cc
 invalidates_by InvalidateJob is = refl
-invalidates_by ReadAllJob is = cc
-invalidates_by WriteAllJob is = cc
+invalidates_by kind is = cc
 
 writes_by : (kind : JobKind) → works kind ≡ true → op.Write ≡ operation kind → kind ≡ WriteJob
-writes_by ReadJob works is = cc
 writes_by WriteJob works is = refl
-writes_by RestoreJob works is = cc
-writes_by EraseJob works is = cc
-writes_by InvalidateJob works is = cc
-writes_by ReadAllJob works is = cc
-writes_by WriteAllJob works is = cc
+writes_by kind works is = cc
 
 -- THE DEVICE'S JOB
 same_job : (a b : device.Job) → a.number ≡ b.number → a.mark ≡ b.mark → a.urgent ≡ b.urgent → a ≡ b
@@ -102,6 +62,10 @@ same_job a b number mark urgent =
     ap (λ (n : ℕ). record { number = n; mark = a.mark; urgent = a.urgent }) number
     ∙ ap (λ (m : Option Mark). record { number = b.number; mark = m; urgent = a.urgent }) mark
     ∙ ap (λ (u : Bool). record { number = b.number; mark = b.mark; urgent = u }) urgent
+
+-- one that isn't urgent
+abbrev job_on : ℕ → Option Mark → device.Job
+job_on n mark = record { number = n; mark = mark; urgent = false }
 
 some_content : (o : Option (List ℕ × ℕ)) → IsSome o → (x : List ℕ × ℕ) × (o ≡ Some x)
 some_content (Some x) is = (x, refl)
@@ -115,26 +79,21 @@ module _ (desk : DeskState) (h : HandState) (o : DeviceOp) (i : Instance) (names
   number = let block : i.block ≡ h.program.block = names.block ∙ sym names.same_block in
       is ∙ ap (λ (b : ℕ). number_of (record { block = b; index = i.index })) block ∙ ap (λ (k : ℕ). number_of (record { block = h.program.block; index = k })) names.index_is
 
+  -- a job that isn't a write isn't urgent, and its mark is that of its kind
+  job_is : (kind : JobKind) → kind_of names.job ≡ kind → (kind ≡ WriteJob → ⊥)
+      → job_on n (mark_by kind names.job.content) ≡ job_for desk.config names.job h.program names.index
+  job_is kind is other =
+      same_job (job_on n (mark_by kind names.job.content)) (job_for desk.config names.job h.program names.index) number (ap (λ (k : JobKind). mark_by k names.job.content) (sym is))
+      (sym (urgent_by desk.config names.job.request names.job.member kind (sym is) other))
+
   pub read_job : o ≡ op.Read → (size : ℕ) → (read_wish n size).job ≡ job_for desk.config names.job h.program names.index
-  read_job at size =
-      let j = names.job in
-      let kind : ReadJob ≡ kind_of j = sym (reads_by (kind_of j) (sym at ∙ names.op_is)) in
-      same_job (read_wish n size).job (job_for desk.config j h.program names.index) number (rw (← kind) refl)
-      (sym (urgent_by desk.config j.request j.member ReadJob kind (λ write. cc)))
+  read_job at size = job_is ReadJob (reads_by (kind_of names.job) (sym at ∙ names.op_is)) (λ write. cc)
 
   pub erase_job : o ≡ op.Erase → (mark_wish n Erased).job ≡ job_for desk.config names.job h.program names.index
-  erase_job at =
-      let j = names.job in
-      let kind : EraseJob ≡ kind_of j = sym (erases_by (kind_of j) (sym at ∙ names.op_is)) in
-      same_job (mark_wish n Erased).job (job_for desk.config j h.program names.index) number (rw (← kind) refl)
-      (sym (urgent_by desk.config j.request j.member EraseJob kind (λ write. cc)))
+  erase_job at = job_is EraseJob (erases_by (kind_of names.job) (sym at ∙ names.op_is)) (λ write. cc)
 
   pub invalidate_job : o ≡ op.Invalidate → (mark_wish n Invalid).job ≡ job_for desk.config names.job h.program names.index
-  invalidate_job at =
-      let j = names.job in
-      let kind : InvalidateJob ≡ kind_of j = sym (invalidates_by (kind_of j) (sym at ∙ names.op_is)) in
-      same_job (mark_wish n Invalid).job (job_for desk.config j h.program names.index) number (rw (← kind) refl)
-      (sym (urgent_by desk.config j.request j.member InvalidateJob kind (λ write. cc)))
+  invalidate_job at = job_is InvalidateJob (invalidates_by (kind_of names.job) (sym at ∙ names.op_is)) (λ write. cc)
 
   pub write_job : o ≡ op.Write → IsWorking desk.config (state_of desk) names.job h.program
       → (x : List ℕ × ℕ) × (names.job.content ≡ Some x) × ((write_wish n x.0 (rank_of desk.config names.job).immediate).job ≡ job_for desk.config names.job h.program names.index)
@@ -145,15 +104,13 @@ module _ (desk : DeskState) (h : HandState) (o : DeviceOp) (i : Instance) (names
       (x, has, same_job (write_wish n x.0 (rank_of desk.config j).immediate).job (job_for desk.config j h.program names.index) number (mark_in j x kind has) refl)
 
 -- it is the operation that the program is at
-op_by : (kind : JobKind) (content : Option (List ℕ × ℕ)) → works kind ≡ true → (kind ≡ WriteJob → IsSome content) → device.op_of (mark_by kind content) ≡ operation kind
-op_by ReadJob content works has = refl
+pub op_by : (kind : JobKind) (content : Option (List ℕ × ℕ)) → works kind ≡ true → (kind ≡ WriteJob → IsSome content) → device.op_of (mark_by kind content) ≡ operation kind
 op_by WriteJob (Some x) works has = refl
 op_by WriteJob None works has = let none : IsSome {T = List ℕ × ℕ} None = has refl in cc
-op_by EraseJob content works has = refl
-op_by InvalidateJob content works has = refl
 op_by RestoreJob content works has = cc
 op_by ReadAllJob content works has = cc
 op_by WriteAllJob content works has = cc
+op_by kind content works has = refl
 
 pub operation_is : (c : Configuration) (s : State) (j : Job) (p : Program) (index : ℕ) → IsWorking c s j p → next_in p ≡ Some index → took_none j.taken ≡ false
     → IsOperation p index (job_for c j p index)

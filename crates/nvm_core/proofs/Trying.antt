@@ -1,16 +1,15 @@
 -- The failed tries of the job in hand, since a count of faults.
 use Rattle.std.specs.Prelude.{min}
-use Rattle.std.proofs.Common.{◌≡◌, ◌≢◌, ◌<◌, ◌≤◌, ◌+◌, ◌⊎◌, ℕ, Bool, true, false, List, [], Option, Some, None, refl, sym, ap, ◌∙◌, subst, inl, inr, arith}
+use Rattle.std.proofs.Common.{◌≡◌, ◌≢◌, ◌<◌, ◌≤◌, ◌+◌, ◌⊎◌, ℕ, Bool, true, false, List, [], Option, Some, None, sym, ap, ◌∙◌, subst, inl, inr, arith}
 use Rattle.std.proofs.lemmas.Bool.Decides.{leb_tells}
 use Rattle.nvm_laws.specs.nv_base.Count.{Rose, WereCounted}
-use Rattle.nvm_laws.specs.nv_base.declared.mark.Mark.{Mark}
 use Rattle.nvm_laws.specs.memif.declared.answer.JobResult.{JobResult}
-use Rattle.nvm_laws.specs.memif.declared.answer.JobResult.TheVariants.{JobOk, JobFailed, BlockInconsistent, BlockInvalid}
+use Rattle.nvm_laws.specs.memif.declared.answer.JobResult.TheVariants.{JobFailed}
 use Rattle.nvm_laws.specs.memif.Told as device
-use Rattle.nvm_laws.specs.memif.Told.{DeviceTold, Part, Open, IfElse, is_open, length_of, faults_of}
+use Rattle.nvm_laws.specs.memif.Told.{DeviceTold, Part, Open, IfElse, is_open, faults_of}
 use Rattle.nvm_laws.specs.memif.Clock.{Clock}
-use Rattle.nvm_laws.specs.memif.Calls.{Works, EndsAs, Gives, MayFail}
-use Rattle.nvm_laws.specs.block_machine.Words.{JobKind, ReadJob, WriteJob, RestoreJob, EraseJob, InvalidateJob, ReadAllJob, WriteAllJob, Configuration}
+use Rattle.nvm_laws.specs.memif.Calls.{Works, EndsAs, MayFail}
+use Rattle.nvm_laws.specs.block_machine.Words.{JobKind, ReadJob, Configuration}
 use Rattle.nvm_laws.specs.block_machine.State.{State, Job}
 use Rattle.nvm_laws.specs.block_machine.Blocks.{kind_of, mark_by}
 use Rattle.nvm_laws.specs.promise_blocks.Payment.{Worn, every_block}
@@ -23,7 +22,8 @@ use Rattle.nvm_laws.specs.nvm_device_laws.Tries.{Counted, IsWornOut, AreTriesPai
 use Rattle.nvm_laws.proofs.nvm_device_laws.PaidTries.{no_tries, tries_stay, tries_go_on}
 use Rattle.nvm_laws.specs.job_progress.Hand.{HandState, ended}
 use Rattle.nvm_laws.specs.job_progress.JobInHand.{IsAt, IsInHand, job_for}
-use Rattle.nvm_laws.proofs.nvm_device_laws.DeviceTries.{after_is, some_outcome}
+use Rattle.nvm_laws.proofs.job_programs.Outcomes.{after_is}
+use Rattle.nvm_laws.proofs.nvm_device_laws.DeviceTries.{failed_job, some_outcome}
 use Rattle.nvm_core.specs.Paying.{counted_of, TriesSince, OwesSince}
 use Rattle.nvm_core.proofs.Working.{rose_of}
 
@@ -73,31 +73,6 @@ turned_sum : (l a b u v : ℕ) → (min (b + a) l < min (v + u) l) ⊎ ((l ≤ m
 turned_sum l a b u v (inl rose) = inl (omega (arith, rose))
 turned_sum l a b u v (inr (full, up)) = inr (omega (arith, full), omega (arith, up))
 
--- A FAILED TRY
--- is a failed job
-failed_read : (r : JobResult) (n : Option ℕ) (given : List ℕ) → Gives r n given → is_failed (outcome_by None r) ≡ true → r ≡ JobFailed
-failed_read JobOk n given gives failed = cc
-failed_read JobFailed n given gives failed = refl
-failed_read BlockInconsistent n given gives failed = cc
-failed_read BlockInvalid n given gives failed = cc
-failed_read r None given gives failed = absurd gives
-failed_read r (Some n) given gives failed = absurd gives
-
-failed_job : (mark : Option Mark) (number : ℕ) (r : JobResult) (given : List ℕ) (old new : DeviceTold) → EndsAs mark number r given old new → is_failed (outcome_by mark r) ≡ true → r ≡ JobFailed
-failed_job None number r given old new ends failed = failed_read r (length_of old.fixed.numbers number) given ends.1 failed
-failed_job (Some mark) number JobOk given old new ends failed = cc
-failed_job (Some mark) number JobFailed given old new ends failed = refl
-failed_job (Some mark) number r given old new ends failed = absurd ends.0
-
-no_mark : (kind : JobKind) (content : Option (List ℕ × ℕ)) → kind ≡ ReadJob → mark_by kind content ≡ None
-no_mark ReadJob content is = refl
-no_mark WriteJob content is = cc
-no_mark RestoreJob content is = cc
-no_mark EraseJob content is = cc
-no_mark InvalidateJob content is = cc
-no_mark ReadAllJob content is = cc
-no_mark WriteAllJob content is = cc
-
 same_open : (a b : device.Job) → Open a ≡ Open b → a ≡ b
 same_open a b is = cc is
 
@@ -129,7 +104,7 @@ module _ (c : Configuration) (since : ℕ) (old : DeviceTold) (clock : Clock) (n
     writes : job.mark ≢ None → h.program.kind ≢ ReadJob
     writes some reads =
         let kind : h.program.kind ≡ kind_of is.job = ap (λ (q : Program). q.kind) is.working.is in
-        some (ap (λ (j : device.Job). j.mark) asked ∙ no_mark (kind_of is.job) is.job.content (sym kind ∙ reads))
+        some (ap (λ (j : device.Job). j.mark) asked ∙ ap (λ (k : JobKind). mark_by k is.job.content) (sym kind ∙ reads))
 
     cause : is_failed (outcome_by job.mark r) ≡ true → Rose (faults_of old) (faults_of new) ⊎ IsWornOut clock_new.worn new.ops h.program at.index
     cause failed = elim (fails (failed_job job.mark job.number r given old new ends failed)) [

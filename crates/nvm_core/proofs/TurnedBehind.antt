@@ -1,15 +1,15 @@
 -- A turn of the device, without what its clock tells.
 use Rattle.std.specs.Prelude.{◌||◌}
-use Rattle.std.proofs.Common.{◌≡◌, ℕ, Bool, true, false, List, Option, Some, None, refl, sym, ap, subst, inl, inr, arith}
+use Rattle.std.proofs.Common.{◌≡◌, ℕ, Bool, true, false, List, Option, Some, None, refl, sym, ap, ◌∙◌, subst, inl, inr, arith}
 use Rattle.nvm_laws.specs.nv_base.declared.mark.Mark.{Mark}
-use Rattle.nvm_laws.specs.memif.Told.{DeviceTold, Part, First, Second, part_at, Stand, Open, Ended, is_off, length_of}
+use Rattle.nvm_laws.specs.memif.Told.{DeviceTold, Part, PartTold, First, Second, part_at, with_part, Stand, Open, Ended, is_off, length_of}
 use Rattle.nvm_laws.specs.memif.Clock.{Clock}
 use Rattle.nvm_laws.specs.memif.Calls.{EndsAs, IsCut, JobTurns, Turns, Works}
 use Rattle.nvm_laws.specs.memif.declared.answer.DeviceTurn.{DeviceTurn}
 use Rattle.nvm_laws.specs.memif.declared.answer.DeviceTurn.TheVariants as turn
 use Rattle.nvm_laws.specs.memif.declared.answer.JobResult.{JobResult}
 use Rattle.nvm_laws.specs.Turns.{entry_by}
-use Rattle.nvm_core.specs.BehindDevice.{GivesBy, StandTurns, HasTurned, answer_by, asked_by}
+use Rattle.nvm_core.specs.BehindDevice.{GivesBy, StandTurns, HasTurned, TurnsDevice, answer_by, asked_by}
 
 -- it is off where a part is
 off_by : (p : Part) (d : DeviceTold) → (part_at p d).off ≡ true → is_off d ≡ true
@@ -30,36 +30,28 @@ stand_by p (Open j) (Open j') old new clock is = is.0
 stand_by p (Open j) (Ended r given) old new clock is = gives j.mark j.number r given old new is.0
 stand_by p (Ended r given) n old new clock is = is.0
 
+-- what a part's turn leaves of the device
+rest_stays : (p : Part) (part : PartTold) (d : DeviceTold) → ((with_part p part d).fixed ≡ d.fixed) × ((with_part p part d).started ≡ d.started) × ((with_part p part d).stand ≡ d.stand)
+rest_stays First part d = (refl, refl, refl)
+rest_stays Second part d = (refl, refl, refl)
+
 worked : (p : Part) (old new : DeviceTold) (clock : Clock) → Works p old new clock → HasTurned turn.Worked old new
-worked First old new clock is =
-    record {
-      fixed = ap (λ (x : DeviceTold). x.fixed) is.only;
-      started = ap (λ (x : DeviceTold). x.started) is.only;
+worked p old new clock is =
+    let rest = rest_stays p (part_at p new) old in record {
+      fixed = ap (λ (x : DeviceTold). x.fixed) is.only ∙ rest.0;
+      started = ap (λ (x : DeviceTold). x.started) is.only ∙ rest.1;
       later = is.part.later;
-      stand = stand_by First old.stand new.stand old new clock is.job;
-    }
-worked Second old new clock is =
-    record {
-      fixed = ap (λ (x : DeviceTold). x.fixed) is.only;
-      started = ap (λ (x : DeviceTold). x.started) is.only;
-      later = is.part.later;
-      stand = stand_by Second old.stand new.stand old new clock is.job;
+      stand = stand_by p old.stand new.stand old new clock is.job;
     }
 
 cut : (p : Part) (old new : DeviceTold) → IsCut p old new → HasTurned turn.Off old new
-cut First old new is =
-    let off : new.first.off ≡ true = ap (λ x. x.off) is.part.only in record {
-      fixed = ap (λ (x : DeviceTold). x.fixed) is.only;
-      started = ap (λ (x : DeviceTold). x.started) is.only;
+cut p old new is =
+    let rest = rest_stays p (part_at p new) old in
+    let off : (part_at p new).off ≡ true = ap (λ (x : PartTold). x.off) is.part.only in record {
+      fixed = ap (λ (x : DeviceTold). x.fixed) is.only ∙ rest.0;
+      started = ap (λ (x : DeviceTold). x.started) is.only ∙ rest.1;
       later = is.part.later;
-      stand = (ap (λ (x : DeviceTold). x.stand) is.only, off_by First new off);
-    }
-cut Second old new is =
-    let off : new.second.off ≡ true = ap (λ x. x.off) is.part.only in record {
-      fixed = ap (λ (x : DeviceTold). x.fixed) is.only;
-      started = ap (λ (x : DeviceTold). x.started) is.only;
-      later = is.part.later;
-      stand = (ap (λ (x : DeviceTold). x.stand) is.only, off_by Second new off);
+      stand = (ap (λ (x : DeviceTold). x.stand) is.only ∙ rest.2, off_by p new off);
     }
 
 stood : (p : Part) (old new : DeviceTold) → (part_at p old).off ≡ true → new ≡ old → HasTurned turn.Off old new
@@ -81,3 +73,10 @@ pub asked_is : (answer : DeviceTurn) (old new : Stand) (ops : ℕ) → asked_by 
 asked_is turn.Idle old new ops = refl
 asked_is turn.Worked old new ops = refl
 asked_is turn.Off old new ops = refl
+
+-- the stack's answer is the device's
+pub turns_device : (answer : DeviceTurn) (old : DeviceTold) (clock : Clock) (new : DeviceTold) (clock_new : Clock) → Turns answer old clock new clock_new
+    → TurnsDevice (answer_by answer) old clock new clock_new
+turns_device turn.Idle old clock new clock_new is = is
+turns_device turn.Worked old clock new clock_new is = is
+turns_device turn.Off old clock new clock_new is = is

@@ -19,7 +19,8 @@ use Rattle.nvm_laws.specs.declared.turned.Turned.{Turned}
 use Rattle.nvm_laws.specs.declared.turned.Turned.TheVariants as turned
 use Rattle.nvm_laws.specs.declared.turned.Act.{Act}
 use Rattle.nvm_laws.specs.declared.turned.Act.TheVariants.{Ended, Device}
-use Rattle.nvm_core.specs.Stack.{IsStack, IsRoom, PowersOff}
+use Rattle.nvm_core.specs.Stack.{StackState, IsStack, IsRoom, PowersOff}
+use Rattle.nvm_core.specs.Turns.{IsFirstHalf}
 
 -- the configuration stays
 next_config : (n : Next) (ops : ℕ) (old new : DeskState) (before after : List Told) (posted : Posted) → IsPostedNext n ops old new before after posted → new.config ≡ old.config
@@ -41,6 +42,24 @@ half_config (Ended turned.Posted) Holds Fits old new before after d is = elim is
 half_config (Ended turned.Idle) Holds Fits old new before after d is = ap (λ (x : DeskState). x.config) is.0.0
 half_config (Ended turned.Worked) Holds Fits old new before after d is = absurd is
 half_config Device Holds Fits old new before after d is = ap (λ (x : DeskState). x.config) is.0.0
+
+-- so it is of a stack, whatever it has besides
+pub half_of : {D C : Type 0} (told : D → DeviceTold) (copies : C → List Told) (is_store : C → ℕ → ℕ → List ℕ → Type 0) (looked : C → C → ℕ → ℕ → Type 0) (act : Act) (old new : StackState D C) (ready has_room : Bool)
+    → IsFirstHalf told copies is_store looked act old new
+    → IsFirstHalf told copies is_store looked act (record old { ready = ready; has_room = has_room }) (record new { ready = ready; has_room = has_room })
+half_of told copies is_store looked act old new ready has_room is = record {
+  half = is.half;
+  device = is.device;
+  started = is.started;
+  at_device = is.at_device;
+  lowers = is.lowers;
+  tied = is.tied;
+  sizes = is.sizes;
+  refuses = is.refuses;
+  stores_stay = is.stores_stay;
+  ready = refl;
+  has_room = refl;
+}
 
 -- it doesn't work at the device
 pub never_worked : (answer : Turned) (Holds : ℕ → Taken → Type 0) (Fits : Type 0) (old new : DeskState) (before after : List Told) (d : DeviceTold)

@@ -10,7 +10,7 @@ use Rattle.nvm_laws.specs.memif.Told.{DeviceTold, Stand, Open, Ended, is_open, i
 use Rattle.nvm_laws.specs.memif.declared.answer.DeviceTurn.{DeviceTurn}
 use Rattle.nvm_laws.specs.memif.declared.answer.DeviceTurn.TheVariants as turn
 use Rattle.nvm_laws.specs.memif.declared.answer.JobResult.{JobResult}
-use Rattle.nvm_laws.specs.memif.declared.answer.JobResult.TheVariants.{JobOk, JobFailed, JobPending, JobCanceled, BlockInconsistent, BlockInvalid}
+use Rattle.nvm_laws.specs.memif.declared.answer.JobResult.TheVariants.{JobOk}
 use Rattle.nvm_laws.specs.block_config.Lengths.{lengths_of}
 use Rattle.nvm_laws.specs.block_config.Rules.{IsLegalConfig}
 use Rattle.nvm_laws.specs.block_machine.Words.{Entry, Off, Configuration}
@@ -34,7 +34,7 @@ use Rattle.nvm_laws.proofs.job_progress.Powering.{jobs_keep_power}
 use Rattle.nvm_laws.proofs.job_progress.Going.{steps_name}
 use Rattle.nvm_laws.proofs.job_progress.Writing.{hands_go_on, same_block}
 use Rattle.nvm_core.specs.BehindDevice.{GivesBy, IsBehindTurn, StandTurns}
-use Rattle.nvm_found.proofs.BlockLengths.{own_length}
+use Rattle.nvm_laws.proofs.block_laws.InstanceNumbers.{own_length}
 
 -- THE LENGTH
 some_is : (n m : ℕ) → Some n ≡ Some m → n ≡ m
@@ -65,12 +65,7 @@ whole_by : (c : Configuration) (n : ℕ) (l : Option ℕ) (mark : Option Mark) (
     → GivesBy mark r l given → ReadsWhole (desc_of c (n / 64)).length mark r given
 whole_by c n (Some size) None JobOk given legal is gives = gives ∙ own c n size legal is
 whole_by c n None None JobOk given legal is gives = absurd gives
-whole_by c n l None JobFailed given legal is gives = tt
-whole_by c n l None JobPending given legal is gives = tt
-whole_by c n l None JobCanceled given legal is gives = tt
-whole_by c n l None BlockInconsistent given legal is gives = tt
-whole_by c n l None BlockInvalid given legal is gives = tt
-whole_by c n l (Some mark) r given legal is gives = tt
+whole_by c n l mark r given legal is gives = tt
 
 -- THE OPEN JOB
 -- it is the next operation of the job in hand

@@ -16,6 +16,7 @@ use Rattle.nvm_laws.specs.nv_desk.Desk.{DeskState, state_of}
 use Rattle.nvm_laws.specs.job_progress.Hand.{HandState}
 use Rattle.nvm_laws.specs.job_progress.JobInHand.{IsInHand}
 use Rattle.nvm_laws.specs.Ties.{IsTied}
+use Rattle.nvm_laws.specs.Turns.{AddsBy, entry_by, hand_by}
 use Rattle.nvm_laws.specs.declared.turned.Turned.{Turned}
 use Rattle.nvm_laws.specs.declared.turned.Turned.TheVariants as turned
 
@@ -61,6 +62,13 @@ abbrev pub answer_by : DeviceTurn → Turned
 answer_by turn.Idle = turned.Idle
 answer_by turn.Worked = turned.Worked
 answer_by turn.Off = turned.Off
+
+-- What the second half makes of it, wherever the turn began: the stack's answer, the entry that it asks for, and the job in hand,
+-- which goes on.
+pub record TakesTurn (turned : DeviceTurn) (answer : Turned) (desk desk_new : DeskState) (hand hand_new : Option HandState) (now : DeviceTold) : Type 0 where
+  pub answers : answer ≡ answer_by turned
+  pub adds : (old : DeviceTold) → IsBehindTurn turned desk hand old now → AddsBy (entry_by turned old.stand now.stand (device.ops_of now)) desk desk_new
+  pub goes : (old : DeviceTold) → IsBehindTurn turned desk hand old now → hand_new ≡ hand_by old.stand now.stand hand
 
 -- the entry that a turn asks for, by the stack's answer: an Off where the power is off, or the Wrote of a mark that was settled
 abbrev pub asked_by : Turned → Stand → Stand → ℕ → Option Entry

@@ -1,22 +1,16 @@
 // The first half of a turn: all but the device's turn.
-ghost use Rattle.std.specs.Prelude.{◌≡◌, ℕ, List, IfSome, true};
+ghost use Rattle.std.specs.Prelude.{◌≡◌, true};
 ghost use Rattle.nvm_laws.specs.memif.Clock.{SameClock};
-ghost use Rattle.nvm_laws.specs.block_machine.Next.{next_of};
-ghost use Rattle.nvm_laws.specs.ram_blocks.Told.{sizes_of};
-ghost use Rattle.nvm_laws.specs.ram_blocks.Tries.{OnlyRefuses};
 ghost use Rattle.nvm_laws.specs.nv_desk.Desk.{state_of};
 ghost use Rattle.nvm_laws.specs.nv_desk.Picks.{IsInterruption};
-ghost use Rattle.nvm_laws.specs.nv_desk_copies.Front.{StagesAll, AreSynchronized};
-ghost use Rattle.nvm_laws.specs.nv_desk_copies.Takes.{source_next, IsCopied};
-ghost use Rattle.nvm_laws.specs.job_progress.JobInHand.{HandFits};
-ghost use Rattle.nvm_laws.specs.Work.{program_in_hand, stack_work};
-ghost use Rattle.nvm_laws.specs.AtDevice.{AtDevice};
+ghost use Rattle.nvm_laws.specs.nv_desk_copies.Front.{StagesAll, AreSynchronized, CopiesStay};
+ghost use Rattle.nvm_laws.specs.Work.{program_in_hand};
 ghost use Rattle.nvm_laws.specs.Ties.{IsTied};
 ghost use Rattle.nvm_laws.specs.Keeps.{StaysKept};
-ghost use Rattle.nvm_laws.specs.Halves.{IsHalf};
-ghost use Rattle.nvm_core.specs.Lowers.{HalfLeft, HalfLowers};
+ghost use Rattle.nvm_core.specs.Stack.{stack_with};
+ghost use Rattle.nvm_core.specs.Turns.{IsFirstHalf};
+ghost use Rattle.nvm_core.specs.Lowers.{HalfLeft};
 ghost use Rattle.nvm_core.specs.Reads.{NotesReads};
-ghost use Rattle.nvm_core.specs.OperationStart.{LeavesDevice};
 
 use crate::choice::{Case, case_of};
 use crate::pick::{interrupt, pick};
@@ -41,25 +35,16 @@ pub fn first_half<D: MemDevice, C: SyncCalls>(
     requires tied { IsTied front.old.desk hand.old (D.told device.old) }
     requires staging { StagesAll front.old.desk.config front.old.staging }
     requires synchronized { AreSynchronized front.old.desk.config (C.told copies.old) }
-    ensures half { IsHalf result (λ block t. IsCopied (λ n x. C.is_store copies.new block n x × C.looked copies.old copies.new block n) block (C.told copies.old) (C.told copies.new) (source_next front.old.desk.config (next_of front.old.desk.config (state_of front.old.desk))) t)
-        (HandFits front.old.desk.config (state_of front.old.desk) hand.old (D.told device.old)) front.old.desk front.new.desk (C.told copies.old) (C.told copies.new) (D.told device.new) }
-    ensures tied { IsTied front.new.desk hand.new (D.told device.new) }
-    ensures started { result ≡ Act.Device → IfSome hand.new (λ h. h.started ≡ true) }
+    ensures half { IsFirstHalf D.told C.told C.is_store C.looked result (stack_with front.old.desk hand.old device.old copies.old) (stack_with front.new.desk hand.new device.new copies.new) }
     ensures first { result ≡ Act.Device → ¬ IsInterruption front.old.desk }
     ensures off { result ≡ Act.Ended Turned.Off → (state_of front.old.desk).off ≡ true }
-    ensures device { LeavesDevice (D.told device.old) (D.told device.new) }
     ensures clock { SameClock (D.clock device.old) (D.clock device.new) }
     ensures unread { NotesReads front.old.desk front.new.desk front.old.unread front.new.unread }
     ensures room { front.new.staging.room ≡ front.old.staging.room }
-    ensures sizes { sizes_of (C.told copies.new) ≡ sizes_of (C.told copies.old) }
-    ensures refuses { OnlyRefuses (C.told copies.old) (C.told copies.new) }
     ensures synchronized { AreSynchronized front.old.desk.config (C.told copies.new) }
-    ensures stores_stay { (b n : ℕ) (x : List ℕ) → C.is_store copies.old b n x → C.is_store copies.new b n x }
-    ensures stays_over { (first : C) → C.over first copies.old → C.over first copies.new }
+    ensures stays { CopiesStay C.told C.is_store C.over copies.old copies.new }
     ensures keeps { StaysKept front.old.desk hand.old (D.told device.old) (D.clock device.old) front.new.desk hand.new (D.told device.new) (D.clock device.new) }
-    ensures lowers { HalfLowers result (stack_work front.old.desk hand.old (D.told device.old)) (stack_work front.new.desk hand.new (D.told device.new)) }
     ensures left { HalfLeft result (program_in_hand hand.old) (D.told device.old) (program_in_hand hand.new) (D.told device.new) }
-    ensures at_device { AtDevice result hand.old (D.told device.old) front.new.desk hand.new (D.told device.new) }
 {
     match case_of(&front.desk, hand) {
         Case::Off => Act::Ended(Turned::Off),

@@ -1,11 +1,11 @@
 // The second half of a turn.
-ghost use Rattle.std.specs.Prelude.{◌≡◌, false};
+ghost use Rattle.std.specs.Prelude.{◌≡◌};
 ghost use Rattle.nvm_laws.specs.memif.Told.{DeviceTold, ops_of};
 ghost use Rattle.nvm_laws.specs.memif.declared.answer.DeviceTurn.TheVariants as turn;
 ghost use Rattle.nvm_laws.specs.nvm_device_laws.Turn.{settled_by};
 ghost use Rattle.nvm_laws.specs.Ties.{IsTied};
-ghost use Rattle.nvm_laws.specs.Turns.{AddsBy, entry_by, hand_by};
-ghost use Rattle.nvm_core.specs.BehindDevice.{IsBehindTurn, answer_by};
+ghost use Rattle.nvm_laws.specs.Turns.{AddsBy, hand_by};
+ghost use Rattle.nvm_core.specs.BehindDevice.{IsBehindTurn, TakesTurn};
 
 use crate::operation_end::end_operation;
 use nvm_laws::Turned;
@@ -22,11 +22,7 @@ pub fn second_half<D: MemDevice>(
     turned: DeviceTurn,
 ) -> Turned
     requires { (old : DeviceTold) × IsBehindTurn turned desk.old hand.old old (D.told device.now) }
-    ensures answer { result ≡ answer_by turned }
-    ensures adds { (old : DeviceTold) → IsBehindTurn turned desk.old hand.old old (D.told device.now)
-        → AddsBy (entry_by turned old.stand (D.told device.now).stand (ops_of (D.told device.now))) desk.old desk.new }
-    ensures hand { (old : DeviceTold) → IsBehindTurn turned desk.old hand.old old (D.told device.now)
-        → hand.new ≡ hand_by old.stand (D.told device.now).stand hand.old }
+    ensures takes { TakesTurn turned result desk.old desk.new hand.old hand.new (D.told device.now) }
     ensures tied { IsTied desk.new hand.new (D.told device.now) }
 {
     let _blocks = desk.config().blocks();
@@ -41,11 +37,7 @@ fn take<D: MemDevice>(
     turned: DeviceTurn,
 ) -> Turned
     requires { (old : DeviceTold) × IsBehindTurn turned desk.old hand.old old (D.told device.now) }
-    ensures answer { result ≡ answer_by turned }
-    ensures adds { (old : DeviceTold) → IsBehindTurn turned desk.old hand.old old (D.told device.now)
-        → AddsBy (entry_by turned old.stand (D.told device.now).stand (ops_of (D.told device.now))) desk.old desk.new }
-    ensures hand { (old : DeviceTold) → IsBehindTurn turned desk.old hand.old old (D.told device.now)
-        → hand.new ≡ hand_by old.stand (D.told device.now).stand hand.old }
+    ensures { TakesTurn turned result desk.old desk.new hand.old hand.new (D.told device.now) }
 {
     match turned {
         DeviceTurn::Off => {

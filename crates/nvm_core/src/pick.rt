@@ -1,16 +1,14 @@
 // The Picks of a turn.
-ghost use Rattle.std.specs.Prelude.{◌≡◌, ◌<◌, ℕ, List, Option, false};
+ghost use Rattle.std.specs.Prelude.{◌≡◌, ◌<◌, Option, false};
 ghost use Rattle.nvm_laws.specs.memif.Told.{DeviceTold, IfElse, is_open, ops_of};
 ghost use Rattle.nvm_laws.specs.memif.Clock.{SameClock};
 ghost use Rattle.nvm_laws.specs.memif.Calls.{IsCanceled};
 ghost use Rattle.nvm_laws.specs.block_machine.Blocks.{job_block, kind_of};
 ghost use Rattle.nvm_laws.specs.block_machine.Results.{took_none};
 ghost use Rattle.nvm_laws.specs.block_machine.Next.{next_of};
-ghost use Rattle.nvm_laws.specs.ram_blocks.Told.{sizes_of};
-ghost use Rattle.nvm_laws.specs.ram_blocks.Tries.{OnlyRefuses};
 ghost use Rattle.nvm_laws.specs.nv_desk.Desk.{state_of};
 ghost use Rattle.nvm_laws.specs.nv_desk.Picks.{IsInterruption};
-ghost use Rattle.nvm_laws.specs.nv_desk_copies.Front.{StagesAll, AreSynchronized};
+ghost use Rattle.nvm_laws.specs.nv_desk_copies.Front.{StagesAll, AreSynchronized, CopiesStay};
 ghost use Rattle.nvm_laws.specs.nv_desk_copies.Takes.{source_next, IsCopied};
 ghost use Rattle.nvm_laws.specs.job_progress.Hand.{HandState};
 ghost use Rattle.nvm_laws.specs.Work.{program_in_hand, stack_work};
@@ -48,13 +46,10 @@ pub(crate) fn interrupt<D: MemDevice, C: SyncCalls>(
     ensures tied { IsTied front.new.desk hand.new (D.told device.new) }
     ensures unread { NotesReads front.old.desk front.new.desk front.old.unread front.new.unread }
     ensures room { front.new.staging.room ≡ front.old.staging.room }
-    ensures sizes { sizes_of (C.told copies.new) ≡ sizes_of (C.told copies.old) }
-    ensures refuses { OnlyRefuses (C.told copies.old) (C.told copies.new) }
     ensures synchronized { AreSynchronized front.old.desk.config (C.told copies.new) }
+    ensures stays { CopiesStay C.told C.is_store C.over copies.old copies.new }
     ensures device { LeavesDevice (D.told device.old) (D.told device.new) }
     ensures clock { SameClock (D.clock device.old) (D.clock device.new) }
-    ensures stores_stay { (b n : ℕ) (x : List ℕ) → C.is_store copies.old b n x → C.is_store copies.new b n x }
-    ensures stays_over { (first : C) → C.over first copies.old → C.over first copies.new }
     ensures keeps { StaysKept front.old.desk hand.old (D.told device.old) (D.clock device.old) front.new.desk hand.new (D.told device.new) (D.clock device.new) }
     ensures lowers { stack_work front.new.desk hand.new (D.told device.new) < stack_work front.old.desk hand.old (D.told device.old) }
     ensures left { IsWithinMost (program_in_hand hand.new) (D.told device.new) }
@@ -80,11 +75,8 @@ pub(crate) fn pick<D: MemDevice, C: SyncCalls>(
     ensures tied { IsTied front.new.desk hand.new (D.told device.now) }
     ensures unread { NotesReads front.old.desk front.new.desk front.old.unread front.new.unread }
     ensures room { front.new.staging.room ≡ front.old.staging.room }
-    ensures sizes { sizes_of (C.told copies.new) ≡ sizes_of (C.told copies.old) }
-    ensures refuses { OnlyRefuses (C.told copies.old) (C.told copies.new) }
     ensures synchronized { AreSynchronized front.old.desk.config (C.told copies.new) }
-    ensures stores_stay { (b n : ℕ) (x : List ℕ) → C.is_store copies.old b n x → C.is_store copies.new b n x }
-    ensures stays_over { (first : C) → C.over first copies.old → C.over first copies.new }
+    ensures stays { CopiesStay C.told C.is_store C.over copies.old copies.new }
     ensures keeps { (held : Option HandState) → StaysKept front.old.desk held (D.told device.now) (D.clock device.now) front.new.desk hand.new (D.told device.now) (D.clock device.now) }
     ensures lowers { (held : Option HandState) (old : DeviceTold) → stack_work front.new.desk hand.new (D.told device.now) < stack_work front.old.desk held old }
     ensures left { IsWithinMost (program_in_hand hand.new) (D.told device.now) }

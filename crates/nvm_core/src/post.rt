@@ -1,11 +1,9 @@
 // The Posts of a turn.
-ghost use Rattle.std.specs.Prelude.{◌≡◌, ◌≤◌, ◌<◌, ◌+◌, ℕ, List, Some, None, true};
+ghost use Rattle.std.specs.Prelude.{◌≡◌, ◌≤◌, ◌<◌, ◌+◌, Some, None, true};
 ghost use Rattle.nvm_laws.specs.nv_base.declared.job.JobStep.TheVariants as step;
 ghost use Rattle.nvm_laws.specs.memif.Told.{ops_of};
-ghost use Rattle.nvm_laws.specs.ram_blocks.Told.{sizes_of};
-ghost use Rattle.nvm_laws.specs.ram_blocks.Tries.{OnlyRefuses};
 ghost use Rattle.nvm_laws.specs.nv_desk.Desk.{state_of};
-ghost use Rattle.nvm_laws.specs.nv_desk_copies.Front.{StagesAll, AreSynchronized};
+ghost use Rattle.nvm_laws.specs.nv_desk_copies.Front.{StagesAll, AreSynchronized, CopiesStay};
 ghost use Rattle.nvm_laws.specs.job_progress.Hand.{HandState, is_finished};
 ghost use Rattle.nvm_laws.specs.job_progress.JobInHand.{HandFits};
 ghost use Rattle.nvm_laws.specs.nvm_figures.Left.{stack_left};
@@ -39,11 +37,8 @@ pub(crate) fn post<D: MemDevice, C: SyncCalls>(
     ensures tied { IsTied front.new.desk hand.new (D.told device.now) }
     ensures unread { NotesReads front.old.desk front.new.desk front.old.unread front.new.unread }
     ensures room { front.new.staging.room ≡ front.old.staging.room }
-    ensures sizes { sizes_of (C.told copies.new) ≡ sizes_of (C.told copies.old) }
-    ensures refuses { OnlyRefuses (C.told copies.old) (C.told copies.new) }
     ensures synchronized { AreSynchronized front.old.desk.config (C.told copies.new) }
-    ensures stores_stay { (b n : ℕ) (x : List ℕ) → C.is_store copies.old b n x → C.is_store copies.new b n x }
-    ensures stays_over { (first : C) → C.over first copies.old → C.over first copies.new }
+    ensures stays { CopiesStay C.told C.is_store C.over copies.old copies.new }
     ensures keeps { StaysKept front.old.desk hand.old (D.told device.now) (D.clock device.now) front.new.desk hand.new (D.told device.now) (D.clock device.now) }
     ensures lowers { stack_work front.new.desk hand.new (D.told device.now) < stack_work front.old.desk hand.old (D.told device.now) }
     ensures left { stack_left (program_in_hand hand.new) (D.told device.now) + posts_left (program_in_hand hand.old) ≤ stack_left (program_in_hand hand.old) (D.told device.now) }
@@ -84,11 +79,8 @@ pub(crate) fn skip<D: MemDevice, C: SyncCalls>(
     ensures tied { IsTied front.new.desk hand.now (D.told device.now) }
     ensures unread { NotesReads front.old.desk front.new.desk front.old.unread front.new.unread }
     ensures room { front.new.staging.room ≡ front.old.staging.room }
-    ensures sizes { sizes_of (C.told copies.new) ≡ sizes_of (C.told copies.old) }
-    ensures refuses { OnlyRefuses (C.told copies.old) (C.told copies.new) }
     ensures synchronized { AreSynchronized front.old.desk.config (C.told copies.new) }
-    ensures stores_stay { (b n : ℕ) (x : List ℕ) → C.is_store copies.old b n x → C.is_store copies.new b n x }
-    ensures stays_over { (first : C) → C.over first copies.old → C.over first copies.new }
+    ensures stays { CopiesStay C.told C.is_store C.over copies.old copies.new }
     ensures keeps { StaysKept front.old.desk hand.now (D.told device.now) (D.clock device.now) front.new.desk hand.now (D.told device.now) (D.clock device.now) }
     ensures lowers { stack_work front.new.desk hand.now (D.told device.now) < stack_work front.old.desk hand.now (D.told device.now) }
     ensures left { stack_left (program_in_hand hand.now) (D.told device.now) + posts_left (program_in_hand hand.now) ≤ stack_left (program_in_hand hand.now) (D.told device.now) }

@@ -46,12 +46,10 @@ begins_kept d clock c cap before same is fresh = record {
 
 -- ENTRIES
 plain_settles : (e : Entry) → is_plain e ≡ true → pairs.settles_none e ≡ true
-plain_settles (Ask caller r reply) plain = refl
-plain_settles (Pick block kind t ops) plain = refl
 plain_settles (Wrote i mark ops) plain = cc
-plain_settles (Post block r given refused ops) plain = refl
 plain_settles (Off ops) plain = cc
 plain_settles (Found marks ops) plain = cc
+plain_settles e plain = refl
 
 no_found : (e : Entry) (marks : List (Instance × Mark)) (ops : ℕ) → is_plain e ≡ true → e ≡ Found marks ops → ⊥
 no_found e marks ops plain is = let not_plain : is_plain (Found marks ops) ≡ true = subst (λ (x : Entry). is_plain x ≡ true) is plain in cc

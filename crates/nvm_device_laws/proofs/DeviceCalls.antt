@@ -19,7 +19,7 @@ use Rattle.memif.specs.Told as device
 use Rattle.memif.specs.Told.{DeviceTold, PartTold, Slot, Held, Part, First, Second, Stand, Job, Open, Ended, is_open, slot_at, length_of, plans, armed, part_at}
 use Rattle.memif.specs.Marks.{Keeps as KeepsSlot, KeepsAll, Settles, IfTold}
 use Rattle.memif.specs.Clock.{Clock, SameClock, After, ArePossible, Ticks}
-use Rattle.memif.specs.Calls.{Wish, Accepts, Arms, Cancels, Opens, IsCanceled, ClockStays, StartsUp, Turns, Works, IsCut, JobTurns, EndsAs, is_read, refusal_of, length_refusal}
+use Rattle.memif.specs.Calls.{Wish, Accepts, Arms, Cancels, Opens, IsCanceled, ClockStays, StartsUp, Turns, PartTurns, Works, IsCut, JobTurns, EndsAs, is_read, refusal_of, length_refusal}
 use Rattle.block_machine.specs.Words.{Instance, Mark, Entry, Wrote, Off, Found, Configuration}
 use Rattle.block_machine.specs.StartUp.{listed_mark}
 use Rattle.block_machine.specs.Steps.{step, after}
@@ -30,7 +30,7 @@ use Rattle.nvm_device_laws.specs.Pairing.{Allows, Agrees, Pairs, IsStaged, IsFor
 use Rattle.nvm_device_laws.specs.Turn.{Keeps, Stays, StartsStay, StaysWith, StaysBy, settled_by, TurnsKeep, ListsSettled, down, StartUpsKeep}
 use Rattle.nvm_device_laws.proofs.Pairings as pairs
 use Rattle.nvm_device_laws.proofs.Writes.{due_plain, found_plain, due_wrote, due_other, found_wrote, due_found, found_found}
-use Rattle.nvm_device_laws.proofs.Pushed.{Goes, base_called, begins_push, begins_with, off_before, off_now}
+use Rattle.nvm_device_laws.proofs.Pushed.{FindsPossible, Goes, base_called, begins_push, begins_with, off_before, off_now}
 use Rattle.nvm_device_laws.proofs.Called.{call_keeps, call_with, still}
 
 -- each slot keeps what it is
@@ -65,10 +65,10 @@ listed_at l x held = listed_mark l (instance_of x.0) ≡ (held x.0.0).mark
 pub up_for : (c : Configuration) (d : DeviceTold) → IsFor c (down d) → IsFor c d
 up_for c d is = record { rules = is.rules; numbers = is.numbers; parts = is.parts }
 
--- what a call does as far as a history looks isn't changed by that
-pub goes_from : {old : DeviceTold} {clock : Clock} {new : DeviceTold} {clock_new : Clock} → Goes old clock new clock_new
-    → Goes (down old) clock new clock_new
-goes_from goes = record {
+-- what a call does as far as a history looks doesn't depend on whether the device counts as started
+pub goes_with : (a b : Bool) {old : DeviceTold} {clock : Clock} {new : DeviceTold} {clock_new : Clock} → Goes old clock new clock_new
+    → Goes (record old { started = a }) clock (record new { started = b }) clock_new
+goes_with a b goes = record {
   fixed = goes.fixed;
   ops = goes.ops;
   few = goes.few;
@@ -81,15 +81,13 @@ goes_from goes = record {
 module _ (old : DeviceTold) (clock : Clock) (new : DeviceTold) (clock_new : Clock) where
   -- nothing changed
   pub goes_same : new ≡ old → SameClock clock clock_new
-      → ((held : ℕ → Held) → clock_new.may_find (After new.ops) held
-      → ArePossible new new.slots held) → Goes old clock new clock_new
+      → FindsPossible new clock_new → Goes old clock new clock_new
   goes_same same clocks finds = still old clock new clock_new (ap (λ (d : DeviceTold). d.fixed) same)
       (ap (λ (d : DeviceTold). d.ops) same)
       (λ p. let f = ap (λ (d : DeviceTold). (part_at p d).faults) same in omega (arith, f)) clocks finds
 
   stays_same : new ≡ old → SameClock clock clock_new
-      → ((held : ℕ → Held) → clock_new.may_find (After new.ops) held
-      → ArePossible new new.slots held) → Stays old clock new clock_new
+      → FindsPossible new clock_new → Stays old clock new clock_new
   stays_same same clocks finds c cap h before started keeps =
       let slots : new.slots ≡ old.slots = ap (λ (d : DeviceTold). d.slots) same in
       call_keeps c cap h before old clock new clock_new keeps (goes_same same clocks finds)
@@ -194,7 +192,7 @@ module _ (old : DeviceTold) (clock : Clock) (new : DeviceTold) (clock_new : Cloc
       → StartUpsKeep answer old clock new clock_new
   start_up_keeps (Err fault) up = λ c cap h before keeps.
       call_keeps c cap h before (down old) clock new clock_new keeps
-      (goes_from (goes_up (Err fault) up))
+      (goes_with false new.started (goes_up (Err fault) up))
       (inr (up_ops (Err fault) up)) (λ k off. (up.clock_stays.same.off_in k).0 off)
       (λ has. pairs.allows_come c (after c h) (count_due h keeps.base) old.fixed.numbers old.slots new.slots up.marks (keeps.marks has))
       (λ has on. absurd (not_both new.started up.comes_to.0 on))
@@ -216,7 +214,7 @@ module _ (old : DeviceTold) (clock : Clock) (new : DeviceTold) (clock_new : Cloc
       subst (λ (f : device.Fixed). ArePossible (record old { fixed = f }) new.slots held) fixed
       (goes.finds held (subst (λ (k : ℕ). clock_new.may_find (After k) held) moment finds)) in
       pairs.possible_settled c old marks held old.slots new.slots up.comes_to.3 possible listed in
-      call_with c cap h before (down old) clock new clock_new keeps (goes_from goes) e
+      call_with c cap h before (down old) clock new clock_new keeps (goes_with false new.started goes) e
       (inr (up_ops (Ok u) up)) refl allowed (λ of s. refl)
       (begins_with h marks (device.ops_of new)
       first keeps.over.begins)
@@ -280,31 +278,24 @@ module _ (old : DeviceTold) (clock : Clock) (new : DeviceTold) (clock_new : Cloc
   started_cut First cut = ap (λ (d : DeviceTold). d.started) (sym cut.only)
   started_cut Second cut = ap (λ (d : DeviceTold). d.started) (sym cut.only)
 
-  pub goes_worked : (p : Part) → Works p old new clock_new → Ticks p turn.Worked old clock new clock_new
-      → ((held : ℕ → Held) → clock_new.may_find (After new.ops) held
-      → ArePossible new new.slots held) → Goes old clock new clock_new
-  goes_worked p works ticks finds = record {
-    fixed = fixed_worked p works;
-    ops = works.part.later;
-    few = λ small. elim works.part.one [ inl same ↦ omega (arith, same, small) | inr one ↦ omega (arith, one) ];
-    faults = faults_worked p works;
+  goes_turned : {off : Bool} {answer : DeviceTurn} (p : Part) → new.fixed ≡ old.fixed → PartTurns off old.ops new.ops (part_at p old) (part_at p new)
+      → ((q : Part) → (part_at q old).faults ≤ (part_at q new).faults) → Ticks p answer old clock new clock_new → FindsPossible new clock_new
+      → Goes old clock new clock_new
+  goes_turned p fixed part faults ticks finds = record {
+    fixed = fixed;
+    ops = part.later;
+    few = λ small. elim part.one [ inl same ↦ omega (arith, same, small) | inr one ↦ omega (arith, one) ];
+    faults = faults;
     past = ticks.past;
     cut = ticks.cut;
     finds = finds;
   }
 
-  pub goes_cut : (p : Part) → IsCut p old new → Ticks p turn.Off old clock new clock_new
-      → ((held : ℕ → Held) → clock_new.may_find (After new.ops) held
-      → ArePossible new new.slots held) → Goes old clock new clock_new
-  goes_cut p cut ticks finds = record {
-    fixed = fixed_cut p cut;
-    ops = cut.part.later;
-    few = λ small. elim cut.part.one [ inl same ↦ omega (arith, same, small) | inr one ↦ omega (arith, one) ];
-    faults = faults_cut p cut;
-    past = ticks.past;
-    cut = ticks.cut;
-    finds = finds;
-  }
+  pub goes_worked : (p : Part) → Works p old new clock_new → Ticks p turn.Worked old clock new clock_new → FindsPossible new clock_new → Goes old clock new clock_new
+  goes_worked p works ticks finds = goes_turned p (fixed_worked p works) works.part (faults_worked p works) ticks finds
+
+  pub goes_cut : (p : Part) → IsCut p old new → Ticks p turn.Off old clock new clock_new → FindsPossible new clock_new → Goes old clock new clock_new
+  goes_cut p cut ticks finds = goes_turned p (fixed_cut p cut) cut.part (faults_cut p cut) ticks finds
 
   pub stays_off : (p : Part) → Ticks p turn.Worked old clock new clock_new → (k : ℕ) → clock_new.off_in k → clock.off_in k
   stays_off p ticks k off = elim (ticks.off k off) [ inl before ↦ before.0 | inr none ↦ absurd none ]
@@ -316,7 +307,7 @@ module _ (old : DeviceTold) (clock : Clock) (new : DeviceTold) (clock_new : Cloc
   no_found_off n m marks is = cc
 
   module _ (p : Part) (works : Works p old new clock_new) (ticks : Ticks p turn.Worked old clock new clock_new)
-      (finds : (held : ℕ → Held) → clock_new.may_find (After new.ops) held → ArePossible new new.slots held) where
+      (finds : FindsPossible new clock_new) where
     started_before : new.started ≡ true → old.started ≡ true
     started_before up = started_worked p works ∙ up
 
@@ -370,7 +361,7 @@ module _ (old : DeviceTold) (clock : Clock) (new : DeviceTold) (clock_new : Cloc
     worked (Ended r given) b turns same = keeps_on turns.1
 
   by_part : (p : Part) → Works p old new clock_new → Ticks p turn.Worked old clock new clock_new
-      → ((held : ℕ → Held) → clock_new.may_find (After new.ops) held → ArePossible new new.slots held)
+      → FindsPossible new clock_new
       → StaysBy (settled_by old.stand new.stand (device.ops_of new)) old clock new clock_new
   by_part p works ticks finds = worked p works ticks finds old.stand new.stand works.job (λ is. (works.read is).1)
 
@@ -403,7 +394,7 @@ module _ (old : DeviceTold) (clock : Clock) (new : DeviceTold) (clock_new : Cloc
       (pairs.agrees_keep c (after c h) (count_due h keeps.base) old.fixed.numbers old.slots new.slots marks (keeps.settled started (up on)))))
 
   cut_with : (p : Part) → IsCut p old new → Ticks p turn.Off old clock new clock_new
-      → ((held : ℕ → Held) → clock_new.may_find (After new.ops) held → ArePossible new new.slots held)
+      → FindsPossible new clock_new
       → StaysWith (Off (device.ops_of new)) old clock new clock_new
   cut_with p cut ticks finds c cap h before started allowed keeps =
       off_with c cap h before started allowed keeps (goes_cut p cut ticks finds)

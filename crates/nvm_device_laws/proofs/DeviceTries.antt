@@ -6,22 +6,24 @@ use Rattle.memif.specs.declared.answer.DeviceRefusal.{DeviceRefusal}
 use Rattle.memif.specs.declared.answer.DeviceTurn.{DeviceTurn}
 use Rattle.memif.specs.declared.answer.DeviceTurn.TheVariants as turn
 use Rattle.memif.specs.declared.answer.JobResult.{JobResult}
-use Rattle.memif.specs.declared.answer.JobResult.TheVariants.{JobOk, JobFailed, JobPending, JobCanceled, BlockInconsistent, BlockInvalid}
-use Rattle.memif.specs.Told.{DeviceTold, Fixed, Part, First, Second, Stand, Job, Open, Ended, part_at, part_of, part_of_block, figures_at, length_of, PartTold}
+use Rattle.memif.specs.declared.answer.JobResult.TheVariants.{JobOk, JobFailed, BlockInconsistent, BlockInvalid}
+use Rattle.memif.specs.Told.{DeviceTold, Fixed, Part, Job, Open, Ended, part_at, part_of, part_of_block, figures_at, length_of, PartTold}
 use Rattle.memif.specs.Clock.{Clock}
-use Rattle.memif.specs.Calls.{Wish, Accepts, Cancels, Arms, Turns, Works, IsCut, IsOf, JobTurns, EndsAs, Gives, Writes, MayFail}
+use Rattle.memif.specs.Calls.{Wish, Accepts, Cancels, Arms, Turns, EndsAs, Gives, MayFail}
 use Rattle.block_machine.specs.Words.{Mark, Outcome, WroteMark, ReadContent, FoundErased, FoundInvalid, Failed, Entry}
 use Rattle.block_machine.specs.Words.{Configuration}
 use Rattle.job_programs.specs.Program as program
-use Rattle.job_programs.specs.Program.{Program, next_in, is_failed, is_again, tried, after_by}
+use Rattle.job_programs.specs.Program.{Program, next_in, is_failed, is_again, after_by}
 use Rattle.block_machine.specs.nv_base.Count.{Rose}
 use Rattle.promise_blocks.specs.OverDevice.{is_of}
 use Rattle.promise_blocks.specs.Payment.{Worn}
 use Rattle.nvm_device_laws.specs.Turn.{Keeps}
 use Rattle.nvm_device_laws.specs.Outcomes.{outcome_by}
 use Rattle.nvm_device_laws.specs.Tries.{AreTriesPaid, TriesArePaidAt, TriesArePaid, TriesStay, TriesGoOn, counted_at, counted_from}
+use Rattle.job_programs.proofs.Outcomes.{after_is}
 use Rattle.nvm_device_laws.proofs.Pushed.{Goes}
 use Rattle.nvm_device_laws.proofs.DeviceCalls as calls
+use Rattle.nvm_device_laws.proofs.FittingOutcomes.{ending}
 use Rattle.nvm_device_laws.proofs.PaidTries.{tries_stay, tries_go_on}
 
 -- at the part of a program, which is the same behind each call
@@ -37,18 +39,6 @@ stays_by old clock new clock_new c cap h before p keeps goes paid =
     paid_at old.fixed new.fixed c clock_new.worn before new h p goes.fixed
     (tries_stay (is_of q old.fixed) c clock.worn clock_new.worn (counted_from (before q)) (counted_at q old) (counted_at q new) h goes.ops (goes.faults q) goes.past.worn
     keeps.over.counted p paid)
-
--- an outcome of an operation isn't the one before the first
-pub after_is : (p : Program) (o : Outcome) (index : ℕ) → next_in p ≡ Some index → o ≢ NoOutcome → program.after p o ≡ tried p o
-after_is p o index at other = ap (λ (n : Option ℕ). after_by p n o) at ∙ by o other
-  where
-    by : (o : Outcome) → o ≢ NoOutcome → after_by p (Some index) o ≡ tried p o
-    by NoOutcome other = absurd (other refl)
-    by WroteMark other = refl
-    by ReadContent other = refl
-    by FoundErased other = refl
-    by FoundInvalid other = refl
-    by Failed other = refl
 
 -- an outcome leaves the block of a program
 block_by : (again : Bool) (p : Program) (o : Outcome) → p.block ≡ (if again then record p { failures = p.failures + 1 } else record p { done = p.done ++ o ∷ []; failures = 0 }).block
@@ -69,35 +59,27 @@ block_after p o = by (next_in p) o
 
 pub some_outcome : (mark : Option Mark) (r : JobResult) → outcome_by mark r ≢ NoOutcome
 some_outcome None JobOk is = cc
-some_outcome None BlockInvalid is = cc
-some_outcome None BlockInconsistent is = cc
+some_outcome None r is = cc
 some_outcome (Some mark) JobOk is = cc
-some_outcome None JobFailed is = cc
-some_outcome None JobPending is = cc
-some_outcome None JobCanceled is = cc
 some_outcome (Some mark) r is = cc
 
+-- a failed outcome is a failed job
+failed_read : (r : JobResult) (n : Option ℕ) (given : List ℕ) → Gives r n given → is_failed (outcome_by None r) ≡ true → r ≡ JobFailed
+failed_read JobOk n given gives failed = cc
+failed_read JobFailed n given gives failed = refl
+failed_read BlockInconsistent n given gives failed = cc
+failed_read BlockInvalid n given gives failed = cc
+failed_read r None given gives failed = absurd gives
+failed_read r (Some n) given gives failed = absurd gives
+
+pub failed_job : (mark : Option Mark) (number : ℕ) (r : JobResult) (given : List ℕ) (old new : DeviceTold) → EndsAs mark number r given old new
+    → is_failed (outcome_by mark r) ≡ true → r ≡ JobFailed
+failed_job None number r given old new ends failed = failed_read r (length_of old.fixed.numbers number) given ends.1 failed
+failed_job (Some mark) number JobOk given old new ends failed = cc
+failed_job (Some mark) number JobFailed given old new ends failed = refl
+failed_job (Some mark) number r given old new ends failed = absurd ends.0
+
 module _ (old : DeviceTold) (clock : Clock) (new : DeviceTold) (clock_new : Clock) where
-  -- a failed outcome is a failed job
-  failed_read : (r : JobResult) (n : Option ℕ) (given : List ℕ) → Gives r n given → is_failed (outcome_by None r) ≡ true → r ≡ JobFailed
-  failed_read JobOk n given gives failed = cc
-  failed_read JobFailed n given gives failed = refl
-  failed_read BlockInconsistent n given gives failed = cc
-  failed_read BlockInvalid n given gives failed = cc
-  failed_read r None given gives failed = absurd gives
-  failed_read r (Some n) given gives failed = absurd gives
-
-  failed_write : (mark : Mark) (number : ℕ) (r : JobResult) → Writes r number mark old new
-      → is_failed (outcome_by (Some mark) r) ≡ true → r ≡ JobFailed
-  failed_write mark number JobOk writes failed = cc
-  failed_write mark number JobFailed writes failed = refl
-  failed_write mark number r writes failed = absurd writes
-
-  failed_job : (mark : Option Mark) (number : ℕ) (r : JobResult) (given : List ℕ) → EndsAs mark number r given old new
-      → is_failed (outcome_by mark r) ≡ true → r ≡ JobFailed
-  failed_job None number r given ends failed = failed_read r (length_of old.fixed.numbers number) given ends.1 failed
-  failed_job (Some mark) number r given ends failed = failed_write mark number r ends.0 failed
-
   -- what each call does
   turn_goes : (answer : DeviceTurn) → Turns answer old clock new clock_new → Goes old clock new clock_new
   turn_goes turn.Idle turns = calls.goes_same old clock new clock_new turns.0.1 turns.0.2 (λ held. turns.1.now held)
@@ -137,31 +119,11 @@ module _ (old : DeviceTold) (clock : Clock) (new : DeviceTold) (clock_new : Cloc
   abbrev EndsOwn : Job → JobResult → List ℕ → Type 0
   EndsOwn j r given = EndsAs j.mark j.number r given old new × (r ≡ JobFailed → MayFail (part_of old.fixed j) j old new clock_new)
 
-  ends_by : (p : Part) (j : Job) (r : JobResult) (given : List ℕ) → Works p old new clock_new
-      → old.stand ≡ Open j → new.stand ≡ Ended r given → EndsOwn j r given
-  ends_by p j r given works was is =
-      let of : IsOf p old.fixed (Open j) = subst (λ (a : Stand). IsOf p old.fixed a) was works.of in
-      let ends : JobTurns p (Open j) (Ended r given) old new clock_new =
-      subst (λ (b : Stand). JobTurns p (Open j) b old new clock_new) is
-      (subst (λ (a : Stand). JobTurns p a new.stand old new clock_new) was works.job) in
-      (ends.0, λ failed. subst (λ (q : Part). MayFail q j old new clock_new) of.1 (ends.1 failed))
-
-  not_ended : (j : Job) (r : JobResult) (given : List ℕ) → Open j ≡ Ended r given → ⊥
-  not_ended j r given is = cc
-
-  cut_stand : (p : Part) → IsCut p old new → new.stand ≡ old.stand
-  cut_stand First cut = ap (λ (d : DeviceTold). d.stand) cut.only
-  cut_stand Second cut = ap (λ (d : DeviceTold). d.stand) cut.only
-
   ends_own : (answer : DeviceTurn) (j : Job) (r : JobResult) (given : List ℕ)
       → Turns answer old clock new clock_new → old.stand ≡ Open j → new.stand ≡ Ended r given → EndsOwn j r given
-  ends_own turn.Idle j r given turns was is = absurd
-      (not_ended j r given (sym was ∙ sym (ap (λ (d : DeviceTold). d.stand) turns.0.1) ∙ is))
-  ends_own turn.Worked j r given turns was is = ends_by turns.0.1.0 j r given turns.0.1.1 was is
-  ends_own turn.Off j r given turns was is = elim turns.0.1.1 [
-    | inl still_off ↦ absurd (not_ended j r given (sym was ∙ sym (ap (λ (d : DeviceTold). d.stand) still_off.2) ∙ is))
-    | inr cut ↦ absurd (not_ended j r given (sym was ∙ sym (cut_stand turns.0.1.0 cut.0) ∙ is))
-  ]
+  ends_own answer j r given turns was is =
+      let (p, of, ends) = ending old clock new clock_new answer j r given turns was is in
+      (ends.0, λ failed. subst (λ (q : Part). MayFail q j old new clock_new) of.1 (ends.1 failed))
 
   pub turn_goes_on : (answer : DeviceTurn) → Turns answer old clock new clock_new
       → TriesGoOn old clock new clock_new
@@ -176,7 +138,7 @@ module _ (old : DeviceTold) (clock : Clock) (new : DeviceTold) (clock_new : Cloc
       (tries_go_on (is_of q old.fixed) c clock.worn clock_new.worn (counted_from (before q)) (counted_at q old) (counted_at q new) h goes.ops (goes.faults q)
       goes.past.worn keeps.over.counted p (outcome_by j.mark r) index at
       (after_is p (outcome_by j.mark r) index at (some_outcome j.mark r)) few
-      (λ failed. elim (ends.1 (failed_job j.mark j.number r given ends.0 failed)) [
+      (λ failed. elim (ends.1 (failed_job j.mark j.number r given old new ends.0 failed)) [
         | inl rose ↦ inl (subst (λ (y : Part). Rose (part_at y old).faults (part_at y new).faults) of rose)
         | inr out ↦ inr (
           λ kind. out.0 (reads kind),

@@ -5,9 +5,9 @@ use Rattle.block_machine.specs.nv_base.declared.mark.Mark.{Mark}
 use Rattle.memif.specs.declared.answer.DeviceTurn.{DeviceTurn}
 use Rattle.memif.specs.declared.answer.DeviceTurn.TheVariants as turn
 use Rattle.memif.specs.declared.answer.StartFault.{StartFault}
-use Rattle.memif.specs.Told.{DeviceTold, Held, Part, First, Second, PartTold}
+use Rattle.memif.specs.Told.{DeviceTold, Part, First, Second, PartTold}
 use Rattle.memif.specs.Marks.{KeepsAll, DoubtsAt}
-use Rattle.memif.specs.Clock.{Clock, SameClock, After, ArePossible, Ticks}
+use Rattle.memif.specs.Clock.{Clock, SameClock, Ticks}
 use Rattle.memif.specs.Calls.{Wish, Accepts, StartsUp, Turns, Works, is_read}
 use Rattle.block_machine.specs.Words.{Entry, Configuration}
 use Rattle.block_machine.specs.Steps.{after}
@@ -16,16 +16,17 @@ use Rattle.promise_blocks.specs.OverDevice.{KeepsOver}
 use Rattle.nvm_device_laws.specs.Pairing.{Allows, Pairs}
 use Rattle.nvm_device_laws.specs.Turn.{Keeps, down, StaysDown, ComesDown}
 use Rattle.nvm_device_laws.proofs.Pairings as pairs
-use Rattle.nvm_device_laws.proofs.Pushed.{Goes}
+use Rattle.nvm_device_laws.proofs.Pushed.{FindsPossible, Goes}
 use Rattle.nvm_device_laws.proofs.Called.{call_keeps}
-use Rattle.nvm_device_laws.proofs.DeviceCalls.{keeps_same, goes_same, goes_opened, goes_up, up_ops, goes_worked, stays_off}
+use Rattle.nvm_device_laws.proofs.DeviceCalls.{keeps_same, goes_with, goes_same, goes_opened, goes_up, up_ops, goes_worked, stays_off}
 
 not_both : (b : Bool) → b ≡ false → b ≡ true → ⊥
 not_both b off on = cc
 
--- what a history keeps doesn't look at whether the device is started
-down_over : (c : Configuration) (cap : ℕ) (h : List Entry) (before : Part → PartTold) (d : DeviceTold) (clock : Clock) → KeepsOver c cap h before d clock → KeepsOver c cap h before (down d) clock
-down_over c cap h before d clock over = record {
+-- what a history keeps doesn't depend on whether the device counts as started
+pub over_with : (started : Bool) (c : Configuration) (cap : ℕ) (h : List Entry) (before : Part → PartTold) (d : DeviceTold) (clock : Clock) → KeepsOver c cap h before d clock
+    → KeepsOver c cap h before (record d { started = started }) clock
+over_with started c cap h before d clock over = record {
   cut = over.cut;
   found = over.found;
   counts = over.counts;
@@ -41,25 +42,13 @@ down_over c cap h before d clock over = record {
 pub comes_down : (d : DeviceTold) (clock : Clock) → ComesDown d clock
 comes_down d clock c cap h before keeps = record {
   device = record { rules = keeps.device.rules; numbers = keeps.device.numbers; parts = keeps.device.parts };
-  over = down_over c cap h before d clock keeps.over;
+  over = over_with false c cap h before d clock keeps.over;
   few = keeps.few;
   base = keeps.base;
   based = keeps.based;
   marks = keeps.marks;
   settled = λ has up. absurd (not_both false refl up);
   finds = keeps.finds;
-}
-
-goes_down : {old : DeviceTold} {clock : Clock} {new : DeviceTold} {clock_new : Clock} → Goes old clock new clock_new
-    → Goes (down old) clock (down new) clock_new
-goes_down goes = record {
-  fixed = goes.fixed;
-  ops = goes.ops;
-  few = goes.few;
-  faults = elim [ First ↦ goes.faults First | Second ↦ goes.faults Second ];
-  past = goes.past;
-  cut = goes.cut;
-  finds = goes.finds;
 }
 
 module _ (old : DeviceTold) (clock : Clock) (new : DeviceTold) (clock_new : Clock) where
@@ -69,7 +58,7 @@ module _ (old : DeviceTold) (clock : Clock) (new : DeviceTold) (clock_new : Cloc
       → ((due : ℕ → ℕ) → Pairs Allows c (after c h) due old.fixed.numbers old.slots → Pairs Allows c (after c h) due old.fixed.numbers new.slots)
       → Keeps c cap h before (down old) clock → Keeps c cap h before (down new) clock_new
   stays_down c cap h before goes ops off allows keeps =
-      call_keeps c cap h before (down old) clock (down new) clock_new keeps (goes_down goes) (inr ops) off
+      call_keeps c cap h before (down old) clock (down new) clock_new keeps (goes_with false false goes) (inr ops) off
       (λ has. allows (count_due h keeps.base) (keeps.marks has)) (λ has up. absurd (not_both false refl up))
 
   -- no mark changes
@@ -80,7 +69,7 @@ module _ (old : DeviceTold) (clock : Clock) (new : DeviceTold) (clock_new : Cloc
       (λ due. pairs.allows_keep c (after c h) due old.fixed.numbers old.slots new.slots marks) keeps
 
   same_down : new ≡ old → SameClock clock clock_new
-      → ((held : ℕ → Held) → clock_new.may_find (After new.ops) held → ArePossible new new.slots held)
+      → FindsPossible new clock_new
       → StaysDown old clock new clock_new
   same_down same clocks finds = keeps_down (goes_same old clock new clock_new same clocks finds)
       (ap (λ (d : DeviceTold). d.ops) same) (λ k off. (clocks.off_in k).0 off)
@@ -103,7 +92,7 @@ module _ (old : DeviceTold) (clock : Clock) (new : DeviceTold) (clock_new : Cloc
       (subst (λ (o : Option Mark). DoubtsAt w.job.number o old new) none opens.marks)
 
   worked_down : (p : Part) → Works p old new clock_new → Ticks p turn.Worked old clock new clock_new
-      → ((held : ℕ → Held) → clock_new.may_find (After new.ops) held → ArePossible new new.slots held)
+      → FindsPossible new clock_new
       → is_read old.stand ≡ true → StaysDown old clock new clock_new
   worked_down p works ticks finds read = keeps_down (goes_worked old clock new clock_new p works ticks finds) (works.read read).0
       (stays_off old clock new clock_new p ticks) (keeps_same old.fixed.numbers old.slots new.slots (works.read read).1)

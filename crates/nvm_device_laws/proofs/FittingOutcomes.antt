@@ -1,7 +1,7 @@
 -- What a job of the device comes to fits what is settled.
 use Rattle.std.specs.Prelude.{unwrap_or, option_map}
 use Rattle.std.specs.List.{Contains}
-use Rattle.std.proofs.Common.{◌≡◌, ◌≢◌, ℕ, List, Option, Some, None, refl, sym, ap, ◌∙◌, subst, inl, inr}
+use Rattle.std.proofs.Common.{◌≡◌, ℕ, true, false, List, Option, Some, None, refl, sym, ap, ◌∙◌, subst, inl, inr}
 use Rattle.block_machine.specs.nv_base.declared.instance.DeviceNumber.{DeviceNumber}
 use Rattle.block_machine.specs.nv_base.Marks.{instance_of}
 use Rattle.block_machine.specs.block_config.Lengths.{lengths_of}
@@ -11,15 +11,13 @@ use Rattle.memif.specs.declared.answer.JobResult.{JobResult}
 use Rattle.memif.specs.declared.answer.JobResult.TheVariants.{JobOk, JobFailed, BlockInconsistent, BlockInvalid}
 use Rattle.memif.specs.Told.{DeviceTold, Slot, Part, First, Second, Stand, Job, Open, Ended, slot_at}
 use Rattle.memif.specs.Clock.{Clock}
-use Rattle.memif.specs.Calls.{Reads, ReadsAt, EndsAs, JobTurns, IsCut, Turns}
-use Rattle.block_machine.specs.Words.{Mark, Content, Invalid, Erased, JobKind, ReadJob, WriteJob, RestoreJob, EraseJob}
-use Rattle.block_machine.specs.Words.{InvalidateJob, ReadAllJob, WriteAllJob, Configuration}
+use Rattle.memif.specs.Calls.{Reads, ReadsAt, EndsAs, IsOf, JobTurns, IsCut, Turns}
+use Rattle.block_machine.specs.Words.{Mark, Content, Invalid, Erased, Configuration}
 use Rattle.block_machine.specs.State.{State, InstanceState}
 use Rattle.block_machine.specs.Blocks.{settled_at}
-use Rattle.block_machine.specs.Results.{outcome_of}
-use Rattle.job_programs.specs.Program.{is_failed}
+use Rattle.job_programs.proofs.Outcomes.{no_read_is}
 use Rattle.nvm_device_laws.specs.Pairing.{Agrees, Pairs}
-use Rattle.nvm_device_laws.specs.Outcomes.{outcome_by, FitsSettled, OutcomesFit}
+use Rattle.nvm_device_laws.specs.Outcomes.{FitsSettled, OutcomesFit}
 
 reads_fit : (mark : Mark) (r : JobResult) (given : List ℕ) → Reads mark r given → FitsSettled None mark r given
 reads_fit (Content bytes) JobOk given is = (refl, λ ok. ap Content (sym is))
@@ -27,26 +25,6 @@ reads_fit (Content bytes) JobFailed given is = (refl, λ ok. cc)
 reads_fit Invalid BlockInvalid given is = (refl, λ ok. cc)
 reads_fit Erased BlockInconsistent given is = (refl, λ ok. cc)
 reads_fit mark r given is = absurd is
-
-wrote_fits : (kind : JobKind) (mark settled : Mark) → kind ≢ ReadJob
-    → outcome_of kind settled (is_failed (outcome_by (Some mark) JobOk)) ≡ outcome_by (Some mark) JobOk
-wrote_fits ReadJob mark settled other = absurd (other refl)
-wrote_fits WriteJob mark settled other = refl
-wrote_fits RestoreJob mark settled other = refl
-wrote_fits EraseJob mark settled other = refl
-wrote_fits InvalidateJob mark settled other = refl
-wrote_fits ReadAllJob mark settled other = refl
-wrote_fits WriteAllJob mark settled other = refl
-
-failed_fits : (kind : JobKind) (mark settled : Mark) → kind ≢ ReadJob
-    → outcome_of kind settled (is_failed (outcome_by (Some mark) JobFailed)) ≡ outcome_by (Some mark) JobFailed
-failed_fits ReadJob mark settled other = absurd (other refl)
-failed_fits WriteJob mark settled other = refl
-failed_fits RestoreJob mark settled other = refl
-failed_fits EraseJob mark settled other = refl
-failed_fits InvalidateJob mark settled other = refl
-failed_fits ReadAllJob mark settled other = refl
-failed_fits WriteAllJob mark settled other = refl
 
 -- what is settled in the machine is what the device has
 settled_same : (c : Configuration) (s : State) (due : ℕ → ℕ) (numbers : List (DeviceNumber × ℕ)) (slots : List Slot)
@@ -72,15 +50,13 @@ module _ (old : DeviceTold) (clock : Clock) (new : DeviceTold) (clock_new : Cloc
       → Pairs Agrees c s due old.fixed.numbers old.slots → Contains (lengths_of c) x → x.0.0 ≡ number
       → FitsSettled mark (settled_at s (instance_of x.0)) r given
   ends_fit c s due number None x r given ends pairs has same = read_at c s due old old.slots x number r given pairs has same ends.0
-  ends_fit c s due number (Some mark) x JobOk given ends pairs has same = λ kind other. wrote_fits kind mark
-      (settled_at s (instance_of x.0)) other
-  ends_fit c s due number (Some mark) x JobFailed given ends pairs has same = λ kind other. failed_fits kind mark
-      (settled_at s (instance_of x.0)) other
+  ends_fit c s due number (Some mark) x JobOk given ends pairs has same = λ kind other. no_read_is kind (settled_at s (instance_of x.0)) false other
+  ends_fit c s due number (Some mark) x JobFailed given ends pairs has same = λ kind other. no_read_is kind (settled_at s (instance_of x.0)) true other
   ends_fit c s due number (Some mark) x r given ends pairs has same = absurd ends.0
 
-  -- a turn that ends a job worked on it
+  -- a turn that ends a job worked on it, in its own part
   abbrev pub Ending : Job → JobResult → List ℕ → Type 0
-  Ending j r given = (p : Part) × JobTurns p (Open j) (Ended r given) old new clock_new
+  Ending j r given = (p : Part) × IsOf p old.fixed (Open j) × JobTurns p (Open j) (Ended r given) old new clock_new
 
   not_ended : (j : Job) (r : JobResult) (given : List ℕ) → Open j ≡ Ended r given → ⊥
   not_ended j r given is = cc
@@ -94,6 +70,7 @@ module _ (old : DeviceTold) (clock : Clock) (new : DeviceTold) (clock_new : Cloc
   ending turn.Idle j r given turns was is = absurd (not_ended j r given (sym was ∙ sym (ap (λ (d : DeviceTold). d.stand) turns.0.1) ∙ is))
   ending turn.Worked j r given turns was is = (
     turns.0.1.0,
+    subst (λ (a : Stand). IsOf turns.0.1.0 old.fixed a) was turns.0.1.1.of,
     subst (λ (b : Stand). JobTurns turns.0.1.0 (Open j) b old new clock_new) is
         (subst (λ (a : Stand). JobTurns turns.0.1.0 a new.stand old new clock_new) was turns.0.1.1.job),
   )
@@ -104,5 +81,5 @@ module _ (old : DeviceTold) (clock : Clock) (new : DeviceTold) (clock_new : Cloc
 
   pub outcomes_fit : (answer : DeviceTurn) → Turns answer old clock new clock_new → OutcomesFit old new
   outcomes_fit answer turns c s due j x r given was is pairs has same =
-      let (p, ends) = ending answer j r given turns was is in
+      let (p, of, ends) = ending answer j r given turns was is in
       ends_fit c s due j.number j.mark x r given ends.0 pairs has same

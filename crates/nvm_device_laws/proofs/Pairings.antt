@@ -223,12 +223,8 @@ module _ (c : Configuration) (cap : ℕ) (s : State) (due : ℕ → ℕ) (number
   by_entry P stays n (Found marks ops) plain i cell slot is = cc
 
   no_found : (e : Entry) → settles_none e ≡ true → is_found e ≡ false
-  no_found (Ask caller r reply) plain = refl
-  no_found (Pick block kind t ops) plain = refl
-  no_found (Wrote w mark ops) plain = refl
-  no_found (Post block r given refused ops) plain = refl
-  no_found (Off ops) plain = refl
   no_found (Found marks ops) plain = cc
+  no_found e plain = refl
 
   pairs_entry : (P : ℕ → Cell → Slot → Type 0) → StaysDoubted P → (e : Entry) → settles_none e ≡ true
       → IsAllowed c cap s e → (o : Option (List Slot))

@@ -58,6 +58,10 @@ most_of c cap h before now clock over =
           over.counted;
     }
 
+-- what would be found now is possible with what the device holds
+abbrev pub FindsPossible : DeviceTold → Clock → Type 0
+FindsPossible d clock = (held : ℕ → Held) → clock.may_find (After d.ops) held → ArePossible d d.slots held
+
 -- A CALL
 -- what each call of a device does, as far as a history looks
 pub record Goes (old : DeviceTold) (clock : Clock) (new : DeviceTold) (clock_new : Clock) : Type 0 where
@@ -68,7 +72,7 @@ pub record Goes (old : DeviceTold) (clock : Clock) (new : DeviceTold) (clock_new
   pub past : Past old.ops clock clock_new
   pub cut : (k : ℕ) (held : ℕ → Held) → old.ops ≤ k → k < new.ops → clock_new.may_find (CutIn k) held
       → ArePossible old old.slots held
-  pub finds : (held : ℕ → Held) → clock_new.may_find (After new.ops) held → ArePossible new new.slots held
+  pub finds : FindsPossible new clock_new
 
 pub device_on : (c : Configuration) (old new : DeviceTold) → new.fixed ≡ old.fixed → IsFor c old → IsFor c new
 device_on c old new fixed is = record {

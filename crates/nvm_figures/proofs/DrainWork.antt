@@ -1,14 +1,14 @@
 -- The work of a drain.
-use Rattle.std.specs.Prelude.{nat_le}
 use Rattle.std.specs.List.{list_any}
 use Rattle.std.proofs.Common.{◌≡◌, inl, inr, ℕ, suc, ◌+◌, ◌*◌, ◌^◌, ◌≤◌, ◌<◌, Bool, true, false, if◌then◌else◌, List, [], ◌∷◌, length, drop, refl, ap, Option, Some, None, Ok, arith, length-drop}
 use Rattle.std.proofs.Math.Nat.{mul-le-mul_right}
 use Rattle.memif.specs.Told.{DeviceTold, Part, Stand, Open, Ended, is_open}
 use Rattle.memif.specs.Clock.{Clock}
 use Rattle.memif.specs.Calls.{Wish, AcceptsAs, InOrder, Works, JobTurns}
-use Rattle.block_machine.specs.Words.{BlockDesc, BlockKind, Native, Redundant, Dataset, JobKind, ReadJob}
-use Rattle.block_machine.specs.Blocks.{indices_by}
-use Rattle.job_programs.specs.Program.{Program, settles, works, retries_of}
+use Rattle.block_machine.specs.Words.{BlockDesc, JobKind, ReadJob}
+use Rattle.job_programs.specs.Program.{Program, program_of, settles, retries_of}
+use Rattle.job_programs.specs.Laws.{Works as WorkOn}
+use Rattle.job_programs.proofs.Worked.{programs_work}
 use Rattle.nvm_figures.specs.Left.{ahead, over_tries, over_unstarted}
 use Rattle.nvm_figures.specs.Job.{IsOperation, program_next}
 use Rattle.nvm_figures.specs.Drain.{tries_ahead, hand_work, IsSmall, ProgramsAreSmall, ProgramsStaySmall, EntriesLower, WorkLowers, StartsDontAdd}
@@ -98,21 +98,14 @@ retries_few : (desc : BlockDesc) (kind : JobKind) → desc.reads < 2 ^ 8 → des
 retries_few desc ReadJob reads writes = reads
 retries_few desc kind reads writes = writes
 
-instances_by : (kind : BlockKind) (nv index : ℕ) → length (indices_by kind nv index) ≤ 2
-instances_by Native nv index = omega arith
-instances_by Redundant nv index = omega arith
-instances_by Dataset nv index = by (nat_le nv index)
-  where
-    by : (rom : Bool) → length (if rom then [] else index ∷ []) ≤ 2
-    by true = omega arith
-    by false = omega arith
-
-instances_few : (works : Bool) (kind : BlockKind) (nv index : ℕ) → length (if works then indices_by kind nv index else []) ≤ 2
-instances_few true kind nv index = instances_by kind nv index
-instances_few false kind nv index = omega arith
+few_working : (is : List ℕ) → WorkOn is → length is ≤ 2
+few_working is (inl none) = omega (arith, ap (λ (xs : List ℕ). length xs) none)
+few_working is (inr (inl (x, one))) = omega (arith, ap (λ (xs : List ℕ). length xs) one)
+few_working is (inr (inr both)) = omega (arith, ap (λ (xs : List ℕ). length xs) both)
 
 pub programs_are_small : ProgramsAreSmall
-programs_are_small desc defaults block index kind reads writes = (instances_few (works kind) desc.kind desc.nv index, retries_few desc kind reads writes)
+programs_are_small desc defaults block index kind reads writes =
+    (few_working (program_of desc defaults block index kind).indices (programs_work desc defaults block index kind), retries_few desc kind reads writes)
 
 pub programs_stay_small : ProgramsStaySmall
 programs_stay_small None old new small = tt

@@ -14,14 +14,15 @@ use Rattle.nvm_figures.specs.Left.{ahead, over_unstarted, most_at, left_of_hand}
 use Rattle.nvm_figures.specs.Job.{program_next, hand_next}
 use Rattle.nvm_figures.specs.Laws.{TurnsLower, StartsDontRaise, CancelsDontRaise, PostsLower, PicksAreBounded, JobsAreBounded}
 use Rattle.nvm_figures.proofs.Tries.{over_ahead, next_ahead, unstarted_fresh, start_takes, after_less}
-use Rattle.nvm_figures.proofs.Programs.{never_first, program_same}
+use Rattle.nvm_device_laws.proofs.DeviceTries.{some_outcome}
+use Rattle.nvm_figures.proofs.Programs.{program_same}
 
 -- A TURN
 -- no more is to be started behind it than before
 pub unstarted_less : (q : Part) (count : ℕ → ℕ) (p : Program) (a b : Stand) (old new : DeviceTold) (clock : Clock) → JobTurns q a b old new clock
     → over_unstarted count (program_next p a b) (is_open b) (ahead (program_next p a b)) ≤ over_unstarted count p (is_open a) (ahead p)
 unstarted_less q count p (Open j) (Open k) old new clock turns = omega arith
-unstarted_less q count p (Open j) (Ended r given) old new clock turns = after_less count p _ (never_first j.mark r)
+unstarted_less q count p (Open j) (Ended r given) old new clock turns = after_less count p _ (some_outcome j.mark r)
 unstarted_less q count p (Ended r given) b old new clock turns = rw turns.0 (omega arith)
 
 same_most : (f : Fixed) (p : Program) (a b : Stand) → most_at f (program_next p a b).block (program_next p a b).kind ≡ most_at f p.block p.kind

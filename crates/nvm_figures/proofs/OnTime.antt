@@ -13,7 +13,8 @@ use Rattle.nvm_figures.specs.Left.{ahead}
 use Rattle.nvm_figures.specs.Job.{program_next}
 use Rattle.nvm_figures.specs.Urgent.{pages_of, untaken, pages_ahead, DoesntFail, PicksAreOnTime, TurnsKeepReady, StartsStayOnTime, TurnsStayOnTime, EndsAreOnTime}
 use Rattle.nvm_figures.proofs.Tries.{over_ahead, next_ahead, done_ahead}
-use Rattle.nvm_figures.proofs.Programs.{never_first, program_same}
+use Rattle.nvm_device_laws.proofs.DeviceTries.{some_outcome}
+use Rattle.nvm_figures.proofs.Programs.{program_same}
 use Rattle.nvm_figures.proofs.Figures.{was_closed, opens_stand, opens_fixed, ahead_fresh}
 
 -- AT A PICK
@@ -86,7 +87,7 @@ pages_less q f p (Open j) (Open k) old new clock turns fine = omega arith
 pages_less q f p (Open j) (Ended r given) old new clock turns fine =
     let well = well_by j.mark j.number r given old new turns.0 (λ e. fine given (ap (λ (x : JobResult). Ended x given) e)) in
     let block = (program_same p (Open j) (Ended r given)).block in
-    rw block (elim (done_ahead p (outcome_by j.mark r) (never_first j.mark r) well) [
+    rw block (elim (done_ahead p (outcome_by j.mark r) (some_outcome j.mark r) well) [
       | inl none ↦ rw none (omega arith)
       | inr more ↦ rw more (omega arith)
     ])

@@ -1,23 +1,11 @@
 -- Programs behind an outcome.
-use Rattle.std.proofs.Common.{◌≡◌, ◌≢◌, Bool, true, false, if◌then◌else◌, [], ◌∷◌, ◌++◌, ◌+◌, ℕ, refl, Option, Some, None}
+use Rattle.std.proofs.Common.{◌≡◌, Bool, true, false, if◌then◌else◌, [], ◌∷◌, ◌++◌, ◌+◌, ℕ, refl, Option, Some, None}
 use Rattle.block_machine.specs.nv_base.declared.job.Outcome.TheVariants.{First}
-use Rattle.block_machine.specs.nv_base.declared.mark.Mark.{Mark}
-use Rattle.memif.specs.declared.answer.JobResult.{JobResult}
-use Rattle.memif.specs.declared.answer.JobResult.TheVariants.{JobOk, BlockInconsistent, BlockInvalid}
 use Rattle.memif.specs.Told.{Stand, Open, Ended}
 use Rattle.block_machine.specs.Words.{Outcome}
 use Rattle.job_programs.specs.Program.{Program, is_again, after, after_by, next_in}
 use Rattle.nvm_device_laws.specs.Outcomes.{outcome_by}
 use Rattle.nvm_figures.specs.Job.{IsSameJob, program_next}
-
--- a job of the device comes to an outcome
-pub never_first : (mark : Option Mark) (r : JobResult) → outcome_by mark r ≢ First
-never_first None JobOk e = cc
-never_first None BlockInvalid e = cc
-never_first None BlockInconsistent e = cc
-never_first None r e = cc
-never_first (Some mark) JobOk e = cc
-never_first (Some mark) r e = cc
 
 pub same_job : (p : Program) → IsSameJob p p
 same_job p = record { block = refl; kind = refl; defaults = refl; indices = refl; retries = refl }

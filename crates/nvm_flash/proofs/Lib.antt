@@ -1,7 +1,6 @@
 pub mod Returning
 pub mod Space
 pub mod JobTurns
-pub mod Synchronized
 pub mod CutterRuns
 pub mod CutterSeen
 pub mod CutterUnmade

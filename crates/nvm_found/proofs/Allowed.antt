@@ -26,7 +26,7 @@ use Rattle.block_laws.proofs.HistoryLaws.{entries_are_counted}
 use Rattle.block_laws.proofs.OwnInstances.{found_may_stand}
 use Rattle.nvm_device_laws.proofs.Behind.{is_behind}
 use Rattle.nvm_found.specs.Found.{relisted, HasLength, IsListOf, AreHeld, Finds}
-use Rattle.nvm_found.proofs.BlockLengths.{own_length}
+use Rattle.block_laws.proofs.InstanceNumbers.{own_length}
 
 -- WHAT IT LISTS
 -- the machine's list of what was found

@@ -2,6 +2,5 @@ pub mod Parts
 pub mod Readings
 pub mod Lists
 pub mod PlaceLists
-pub mod BlockLengths
 pub mod Allowed
 pub mod Promise

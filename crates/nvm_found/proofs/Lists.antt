@@ -1,5 +1,5 @@
 -- The list of the marks that were found.
-use Rattle.std.proofs.Common.{◌≡◌, ℕ, ◌/◌, ◌%◌, ◌<◌, ◌≤◌, true, false, List, [], ◌∷◌, map, length, get_or, Option, Some, None, IfSome, zero, suc, refl, sym, ◌∙◌, subst, inl, inr, arith}
+use Rattle.std.proofs.Common.{◌≡◌, ◌≢◌, ℕ, ◌/◌, ◌%◌, ◌<◌, ◌≤◌, true, false, List, [], ◌∷◌, map, length, get_or, Option, Some, None, IfSome, zero, suc, refl, sym, ◌∙◌, subst, inl, inr, arith}
 use Rattle.std.proofs.lemmas.Bool.{cases_Bool}
 use Rattle.std.proofs.lemmas.Bool.Decides.{nat_tests}
 use Rattle.block_machine.specs.nv_base.Lengths.{AreLengths}
@@ -18,22 +18,13 @@ use Rattle.nvm_found.specs.Found.{relisted, HasLength, IsListOf, AreHeld}
 use Rattle.nvm_found.specs.Places.{number_at, AreWhole, mark_by, mark_at, FirstHeldIn, FirstHeld, marks_at}
 
 -- ONE INSTANCE
-other_number : (a b : ℕ) → a < b → same_instance (instance_of (record { 0 = a })) (instance_of (record { 0 = b })) ≡ false
-other_number a b less = elim (cases_Bool (same_instance (instance_of (record { 0 = a })) (instance_of (record { 0 = b })))) [
+other_number : (a b : ℕ) → a ≢ b → same_instance (instance_of (record { 0 = a })) (instance_of (record { 0 = b })) ≡ false
+other_number a b other = elim (cases_Bool (same_instance (instance_of (record { 0 = a })) (instance_of (record { 0 = b })))) [
   | inr off ↦ off
   | inl on ↦
       let blocks : a / 64 ≡ b / 64 = grind (arith, nat_tests) in
       let indices : a % 64 ≡ b % 64 = grind (arith, nat_tests) in
-      absurd (omega (arith, blocks, indices, less))
-]
-
-another_number : (a b : ℕ) → a < b → same_instance (instance_of (record { 0 = b })) (instance_of (record { 0 = a })) ≡ false
-another_number a b less = elim (cases_Bool (same_instance (instance_of (record { 0 = b })) (instance_of (record { 0 = a })))) [
-  | inr off ↦ off
-  | inl on ↦
-      let blocks : b / 64 ≡ a / 64 = grind (arith, nat_tests) in
-      let indices : b % 64 ≡ a % 64 = grind (arith, nat_tests) in
-      absurd (omega (arith, blocks, indices, less))
+      absurd (other (omega (arith, blocks, indices)))
 ]
 
 own_number : (i : Instance) → same_instance i i ≡ true
@@ -57,7 +48,7 @@ other_listed i k Erased marks other = refl
 not_listed : (n low : ℕ) (ps : List Place) → n ≤ low → AreLengths low (map number_at ps) → listed_mark (marks_at ps) (instance_of (record { 0 = n })) ≡ Erased
 not_listed n low [] below ascend = refl
 not_listed n low (p ∷ ps) below ascend =
-    other_listed (instance_of (record { 0 = n })) (instance_of p.number) (mark_at p) (marks_at ps) (other_number n p.number.0 (omega (arith, below, ascend.0)))
+    other_listed (instance_of (record { 0 = n })) (instance_of p.number) (mark_at p) (marks_at ps) (other_number n p.number.0 (λ same. omega (arith, below, ascend.0, same)))
     ∙ not_listed n p.number.0 ps (omega (arith, below, ascend.0)) ascend.4
 
 -- each place's mark is listed
@@ -69,7 +60,7 @@ with_first : (p : Place) (marks : List (Instance × Mark)) (low : ℕ) (qs : Lis
     → AreListed marks qs → AreListed (listed (instance_of p.number) (mark_at p) marks) qs
 with_first p marks low [] below ascend each = tt
 with_first p marks low (q ∷ qs) below ascend each = (
-  other_listed (instance_of q.number) (instance_of p.number) (mark_at p) marks (another_number p.number.0 q.number.0 (omega (arith, below, ascend.0))) ∙ each.0,
+  other_listed (instance_of q.number) (instance_of p.number) (mark_at p) marks (other_number q.number.0 p.number.0 (λ same. omega (arith, below, ascend.0, same))) ∙ each.0,
   with_first p marks q.number.0 qs (omega (arith, below, ascend.0)) ascend.4 each.1,
 )
 

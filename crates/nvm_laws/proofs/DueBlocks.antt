@@ -1,13 +1,14 @@
 -- The data index of a block behind an entry, and the pages of its records.
-use Rattle.std.specs.Prelude.{slice_set, get_or, if◌then◌else◌}
-use Rattle.std.proofs.Common.{◌≡◌, ℕ, zero, suc, Bool, true, false, List, [], ◌∷◌, ◌++◌, Option, Some, refl, ap}
+use Rattle.std.specs.Prelude.{if◌then◌else◌}
+use Rattle.std.proofs.Common.{◌≡◌, ℕ, Bool, true, false, List, [], ◌∷◌, ◌++◌, Option, Some, refl, ap}
 use Rattle.memif.specs.Told.{Fixed}
 use Rattle.block_machine.specs.Words.{ReqResult, Restored, Fine, JobKind, ReadJob, WriteJob, RestoreJob, Taken, Entry, BlockDesc, Configuration}
 use Rattle.block_machine.specs.State.{State, BlockState, Job}
-use Rattle.block_machine.specs.Blocks.{block_at, desc_of, indices_by, indices_of, job_block, keeps_ram, kind_of, names_ram, no_block}
+use Rattle.block_machine.specs.Blocks.{block_at, desc_of, indices_by, indices_of, job_block, keeps_ram, kind_of, names_ram}
 use Rattle.block_machine.specs.Next.{Next, PickJob}
 use Rattle.block_machine.specs.Sweeps.{is_done}
 use Rattle.block_machine.specs.Steps.{flagged, ended, picked, posted, with_status}
+use Rattle.block_laws.proofs.BlockFields.{field_kept}
 use Rattle.nvm_figures.specs.Urgent.{pages_of}
 use Rattle.nv_desk.specs.Desk.{DeskState}
 
@@ -15,17 +16,8 @@ use Rattle.nv_desk.specs.Desk.{DeskState}
 abbrev pub added : Entry → DeskState → DeskState
 added e desk = record desk { entries = desk.entries ++ e ∷ [] }
 
--- another state of a block with its data index
-set_index : (bs : List BlockState) (k id : ℕ) (x : BlockState) → x.index ≡ (get_or bs k no_block).index
-    → (get_or (slice_set bs k x) id no_block).index ≡ (get_or bs id no_block).index
-set_index [] k id x same = refl
-set_index (b ∷ bs) zero zero x same = same
-set_index (b ∷ bs) zero (suc id) x same = refl
-set_index (b ∷ bs) (suc k) zero x same = refl
-set_index (b ∷ bs) (suc k) (suc id) x same = set_index bs k id x same
-
 pub status_index : (s : State) (k id : ℕ) (r : ReqResult) → (block_at (with_status k r s) id).index ≡ (block_at s id).index
-status_index s k id r = set_index s.blocks k id (record (block_at s k) { status = r }) refl
+status_index s k id r = field_kept (λ (b : BlockState). b.index) s.blocks k (record (block_at s k) { status = r }) id refl
 
 -- a Pick leaves the blocks as they were
 pub picked_blocks : (c : Configuration) (s : State) (j : Job) (t : Taken) (n : Next) → n ≡ PickJob j → (picked c s t n).blocks ≡ s.blocks
@@ -53,7 +45,7 @@ pub posted_index : (c : Configuration) (s : State) (j : Job) (held : Option Job)
     → (block_at (posted c s r given held) id).index ≡ (block_at s id).index
 posted_index c s j held r given id is =
     let block = job_block j in
-    rw is (set_index s.blocks block id (ended (desc_of c block) (keeps_ram c block) (kind_of j) (names_ram j.request) r given (block_at s block))
+    rw is (field_kept (λ (b : BlockState). b.index) s.blocks block (ended (desc_of c block) (keeps_ram c block) (kind_of j) (names_ram j.request) r given (block_at s block)) id
     (ended_index (desc_of c block) (keeps_ram c block) (kind_of j) (names_ram j.request) r given (block_at s block)))
 
 pub posted_waits : (c : Configuration) (s : State) (j : Job) (held : Option Job) (r : ReqResult) (given : Option (List ℕ)) → held ≡ Some j

@@ -12,7 +12,8 @@ use Rattle.block_machine.specs.Blocks.{desc_of, indices_by, job_block}
 use Rattle.job_programs.specs.Program.{Program, works}
 use Rattle.job_progress.specs.JobInHand.{program_for}
 use Rattle.nvm_laws.specs.Numbered.{HandsAreNumbered, HasNumber}
-use Rattle.nvm_laws.proofs.Numbers.{few_at, length_is}
+use Rattle.block_laws.proofs.InstanceNumbers.{few_at}
+use Rattle.nvm_laws.proofs.Numbers.{length_is}
 use Rattle.nvm_laws.proofs.Operations.{same_job}
 
 -- a block's instances are below their count

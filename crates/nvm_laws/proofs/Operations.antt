@@ -1,7 +1,7 @@
 -- An operation that the job in hand names, on one of its instances.
 use Rattle.std.specs.Prelude.{slice_get, nat_le, option_to_list, IfSome}
 use Rattle.std.specs.List.{Contains}
-use Rattle.std.proofs.Common.{◌≡◌, ◌≢◌, ℕ, zero, suc, ◌≤◌, ◌<◌, Bool, true, false, if◌then◌else◌, List, [], ◌∷◌, ◌++◌, length, Option, Some, refl, sym, ap, ◌∙◌, subst, arith}
+use Rattle.std.proofs.Common.{◌≡◌, ◌≢◌, ℕ, zero, suc, ◌≤◌, ◌<◌, Bool, true, false, if◌then◌else◌, List, [], ◌∷◌, ◌++◌, length, Option, Some, refl, sym, ◌∙◌, subst, arith}
 use Rattle.std.proofs.lemmas.Bool.{leb-false}
 use Rattle.memif.specs.Told.{DeviceTold}
 use Rattle.block_machine.specs.block_config.Rules.{IsLegalConfig}
@@ -13,12 +13,12 @@ use Rattle.block_machine.specs.Blocks.{desc_of, job_block, kind_of, indices_by, 
 use Rattle.block_machine.specs.Steps.{after}
 use Rattle.block_machine.specs.Legal.{IsLegal}
 use Rattle.block_laws.specs.Consistent.{IsJobInHand}
-use Rattle.job_programs.specs.Program.{Program, works, next_in}
+use Rattle.job_programs.specs.Program.{works, next_in}
 use Rattle.job_progress.specs.Hand.{HandState}
 use Rattle.job_progress.specs.JobInHand.{IsInHand}
 use Rattle.block_laws.proofs.ConsistentSteps.{legal_states_are_consistent}
 use Rattle.block_laws.proofs.JobPlaces.{jobs_are_configured}
-use Rattle.job_progress.proofs.Going.{next_of_done}
+use Rattle.job_progress.proofs.AtOperation.{next_is_own}
 
 -- THE JOB
 pub held : (s : State) (j : Job) → s.hand ≡ Some j → Contains (jobs_of s) j
@@ -36,10 +36,6 @@ is_block c cap h j rules legal hand = (
 )
 
 -- ITS INSTANCE
-works_at : (t : Bool) (xs : List ℕ) (n index : ℕ) → slice_get (if t then xs else []) n ≡ Some index → (t ≡ true) × (slice_get xs n ≡ Some index)
-works_at true xs n index has = (refl, has)
-works_at false xs n index has = cc
-
 stored_if : (t : Bool) (nv at n index : ℕ) → nat_le nv at ≡ t → slice_get (if t then [] else at ∷ []) n ≡ Some index → index < nv
 stored_if true nv at n index is has = cc
 stored_if false nv at zero index is has = let same : at ≡ index = cc in let less = leb-false nv at is in omega (arith, same, less)
@@ -59,8 +55,7 @@ module _ (c : Configuration) (s : State) (h : HandState) (d : DeviceTold) (is : 
   pub own : (works (kind_of j) ≡ true) × (slice_get (indices_of c s (job_block j)) (length h.program.done) ≡ Some index)
   own = subst (λ (k : Job). (works (kind_of k) ≡ true) × (slice_get (indices_of c s (job_block k)) (length h.program.done) ≡ Some index))
       (same_job is.job j s.hand is.hand hand)
-      (works_at (works (kind_of is.job)) (indices_of c s (job_block is.job)) (length h.program.done) index
-      (sym (ap (λ (q : Program). slice_get q.indices (length h.program.done)) is.working.is) ∙ (next_of_done h.program index next).1))
+      (next_is_own c s h d is index next)
 
   pub stored : index < instances_of (desc_of c (job_block j))
   stored = stored_by (desc_of c (job_block j)).kind (desc_of c (job_block j)).nv _ (length h.program.done) index own.1

@@ -2,14 +2,13 @@
 use Rattle.std.specs.Prelude.{unwrap_or}
 use Rattle.std.specs.Option.{option_map_or}
 use Rattle.std.specs.List.{Contains}
-use Rattle.std.proofs.Common.{◌≡◌, ℕ, zero, suc, ◌+◌, ◌*◌, ◌-◌, ◌⊎◌, Bool, true, false, if◌then◌else◌, List, [], ◌∷◌, ◌++◌, length, map, Option, Some, None, refl, sym, ap, ◌∙◌, inl, inr, arith}
-use Rattle.std.proofs.lemmas.List.Elements.{Contains-append_left}
-use Rattle.block_machine.specs.Words.{Entry, Ask, Pick, Wrote, Off, Found, Post, ReqResult, NotOk, JobKind, ReadJob, WriteJob, RestoreJob, EraseJob, InvalidateJob, ReadAllJob, WriteAllJob, Configuration}
+use Rattle.std.proofs.Common.{◌≡◌, ℕ, zero, suc, ◌+◌, ◌*◌, ◌⊎◌, Bool, true, false, if◌then◌else◌, List, [], ◌∷◌, ◌++◌, length, Option, Some, None, refl, sym, ap, ◌∙◌, inl, inr, arith}
+use Rattle.block_machine.specs.Words.{Entry, Ask, Pick, Wrote, Off, Found, Post, ReqResult, NotOk, Configuration}
 use Rattle.block_machine.specs.State.{State, Job}
 use Rattle.block_machine.specs.Blocks.{job_block, kind_of}
 use Rattle.block_machine.specs.StartUp.{at_first}
 use Rattle.block_machine.specs.Steps.{after}
-use Rattle.block_machine.specs.Results.{Answer, Own, own_of, own_indices, result_of, open_sets, sets_of, failed_set, took_none, unwritten}
+use Rattle.block_machine.specs.Results.{Answer, Own, own_of, result_of, open_sets, failed_set, took_none}
 use Rattle.block_machine.specs.Prices.{device_tries, faults_of, price_in_faults}
 use Rattle.promise_blocks.specs.Payment.{Worn, IsPaid, price_for}
 use Rattle.ram_blocks.specs.Told.{Told}
@@ -62,21 +61,6 @@ free_unfailed c s j r given ops hand at answer =
 
     nothing : faults_of (own_of c s (job_block j)) (result_of (own_of c s (job_block j)) j []) j ≡ 0
     nothing = ap (λ (n : ℕ). device_tries (own_of c s (job_block j)).desc (kind_of j) * n) few ∙ omega arith
-
--- OPEN SETS
-none_in : (xs : List ℕ) → Contains (sets_of xs) []
-none_in [] = (0, omega arith, refl)
-none_in (x ∷ xs) = Contains-append_left (sets_of xs) (map (λ (ys : List ℕ). x ∷ ys) (sets_of xs)) [] (none_in xs)
-
--- where a job got no content none need have failed
-pub open_none : (o : Own) (j : Job) (kind : JobKind) → took_none j.taken ≡ true → Contains (open_sets o j kind) []
-open_none o j ReadJob none = none_in (own_indices o)
-open_none o j RestoreJob none = (0, omega arith, refl)
-open_none o j WriteJob none = (0, omega arith, ap (λ (t : Bool). if t then [] else unwritten o j) none)
-open_none o j EraseJob none = (0, omega arith, ap (λ (t : Bool). if t then [] else unwritten o j) none)
-open_none o j InvalidateJob none = (0, omega arith, ap (λ (t : Bool). if t then [] else unwritten o j) none)
-open_none o j ReadAllJob none = (0, omega arith, ap (λ (t : Bool). if t then [] else unwritten o j) none)
-open_none o j WriteAllJob none = (0, omega arith, ap (λ (t : Bool). if t then [] else unwritten o j) none)
 
 -- and its result is 1, whatever failed
 pub none_result : (o : Own) (j : Job) (failed : List ℕ) → took_none j.taken ≡ true → result_of o j failed ≡ (NotOk, None)

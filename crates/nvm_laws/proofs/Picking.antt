@@ -4,7 +4,7 @@ use Rattle.std.proofs.Common.{◌≡◌, ℕ, Bool, true, false, List, [], ◌�
 use Rattle.block_machine.specs.nv_base.declared.job.JobStep.TheVariants as step
 use Rattle.memif.specs.Told.{DeviceTold, Stand, ops_of, Part, part_at, PartTold}
 use Rattle.memif.specs.Clock.{Clock}
-use Rattle.block_machine.specs.Words.{Entry, Pick, JobKind, ReadJob, WriteJob, RestoreJob, EraseJob, InvalidateJob, ReadAllJob, WriteAllJob, ReqResult, FromDevice, Configuration}
+use Rattle.block_machine.specs.Words.{Entry, Pick, JobKind, ReadJob, ReqResult, FromDevice, Configuration}
 use Rattle.block_machine.specs.State.{State, Job}
 use Rattle.block_machine.specs.Results.{took_none}
 use Rattle.block_machine.specs.Steps.{after}
@@ -29,12 +29,7 @@ none_read : (block : ℕ) (kind : JobKind) (defaults : Bool) (indices : List ℕ
     → step_of (record { block = block; kind = kind; defaults = defaults; indices = indices; retries = retries; done = []; failures = 0 }) ≡ step.Ended r FromDevice → ⊥
 none_read block kind defaults (x ∷ xs) retries r is = cc
 none_read block ReadJob defaults [] retries r is = cc
-none_read block WriteJob defaults [] retries r is = cc
-none_read block RestoreJob defaults [] retries r is = cc
-none_read block EraseJob defaults [] retries r is = cc
-none_read block InvalidateJob defaults [] retries r is = cc
-none_read block ReadAllJob defaults [] retries r is = cc
-none_read block WriteAllJob defaults [] retries r is = cc
+none_read block kind defaults [] retries r is = cc
 
 fresh_fits : (c : Configuration) (s : State) (j k : Job) (stand : Stand) (t : Bool) → FitsMarks c s k (hand_by t c s j) stand
 fresh_fits c s j k stand true = record { fit = tt; last = λ r bytes is stands. cc }
@@ -47,11 +42,11 @@ fits_by : (c : Configuration) (s : State) (d : DeviceTold) (o : Option Job) → 
 fits_by c s d None = tt
 fits_by c s d (Some j) = λ k held. fresh_fits c s j k d.stand (took_none j.taken)
 
-done_is : (c : Configuration) (s : State) (j : Job) (t : Bool) → (hand_by t c s j).program.done ≡ []
+pub done_is : (c : Configuration) (s : State) (j : Job) (t : Bool) → (hand_by t c s j).program.done ≡ []
 done_is c s j true = refl
 done_is c s j false = refl
 
-failures_are : (c : Configuration) (s : State) (j : Job) (t : Bool) → (hand_by t c s j).program.failures ≡ 0
+pub failures_are : (c : Configuration) (s : State) (j : Job) (t : Bool) → (hand_by t c s j).program.failures ≡ 0
 failures_are c s j true = refl
 failures_are c s j false = refl
 

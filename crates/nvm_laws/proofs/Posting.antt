@@ -22,6 +22,7 @@ use Rattle.nv_desk_copies.specs.declared.post.Posted.{Posted}
 use Rattle.job_progress.specs.Hand.{HandState}
 use Rattle.job_progress.specs.JobInHand.{HandFits, IsFruitless, IsInHand}
 use Rattle.job_progress.specs.Fits.{IsExplained}
+use Rattle.job_programs.proofs.Failures.{open_none}
 use Rattle.nv_desk_copies.proofs.Posting.{ends_are_the_machines}
 use Rattle.job_progress.proofs.Fitting.{ends_are_explained, ends_are_of_programs, kind_by}
 use Rattle.nvm_device_laws.proofs.Called.{entries_keep}
@@ -30,7 +31,7 @@ use Rattle.nvm_device_laws.proofs.Pushed.{started_push}
 use Rattle.nvm_laws.specs.Keeps.{StackKeeps}
 use Rattle.nvm_laws.specs.Entries.{PostsKeep, SkippedKeep}
 use Rattle.nvm_laws.proofs.Operations.{same_job}
-use Rattle.nvm_laws.proofs.Paying.{pays_free, free_alone, free_refused, free_unfailed, open_none, none_result, only_none, over_by}
+use Rattle.nvm_laws.proofs.Paying.{pays_free, free_alone, free_refused, free_unfailed, none_result, only_none, over_by}
 
 -- a program that ended has no instance next
 none_next : (p : Program) (n : Option ℕ) (r : ReqResult) (source : GivenFrom) → step_by p n ≡ step.Ended r source → n ≡ None

@@ -6,7 +6,7 @@ use Rattle.memif.specs.Told.{DeviceTold, is_open, length_of}
 use Rattle.memif.specs.Calls.{length_refusal, refusal_of}
 use Rattle.memif.specs.declared.answer.DeviceRefusal.TheVariants.{Busy, Uninit}
 use Rattle.block_machine.specs.block_config.Lengths.{lengths_of}
-use Rattle.block_machine.specs.Words.{Mark, Content, Invalid, Erased, JobKind, ReadJob, WriteJob, RestoreJob, EraseJob, InvalidateJob, ReadAllJob, WriteAllJob}
+use Rattle.block_machine.specs.Words.{Mark, Content, Invalid, Erased, JobKind, WriteJob}
 use Rattle.block_machine.specs.Blocks.{desc_of, job_block, kind_of, mark_by, mark_of}
 use Rattle.block_machine.specs.State.{Job}
 use Rattle.nv_desk.specs.Desk.{state_of}
@@ -29,12 +29,7 @@ content_in : (kind : JobKind) (content : Option (List ℕ × ℕ)) (bytes : List
     → (x : List ℕ × ℕ) × (content ≡ Some x) × (x.0 ≡ bytes)
 content_in WriteJob (Some x) bytes is = (x, refl, cc)
 content_in WriteJob None bytes is = cc
-content_in ReadJob content bytes is = cc
-content_in RestoreJob content bytes is = cc
-content_in EraseJob content bytes is = cc
-content_in InvalidateJob content bytes is = cc
-content_in ReadAllJob content bytes is = cc
-content_in WriteAllJob content bytes is = cc
+content_in kind content bytes is = cc
 
 -- a device that is up, with nothing open
 none_holds : (d : DeviceTold) (n : ℕ) (size : Option ℕ) → is_open d.stand ≡ false → d.started ≡ true → length_refusal size (length_of d.fixed.numbers n) ≡ None

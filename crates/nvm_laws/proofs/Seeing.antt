@@ -8,12 +8,13 @@ use Rattle.block_machine.specs.nv_base.declared.job.Outcome.TheVariants.{First}
 use Rattle.memif.specs.declared.answer.JobResult.{JobResult}
 use Rattle.memif.specs.declared.answer.JobResult.TheVariants.{JobOk, JobFailed, JobPending, JobCanceled, BlockInconsistent, BlockInvalid}
 use Rattle.memif.specs.Told.{Stand, Ended}
-use Rattle.block_machine.specs.Words.{Mark, Content, JobKind, ReadJob, WriteJob, RestoreJob, EraseJob, InvalidateJob, ReadAllJob, WriteAllJob, Outcome, WroteMark, ReadContent, FoundErased, FoundInvalid, Failed, ReqResult, FromDevice}
+use Rattle.block_machine.specs.Words.{Mark, Content, JobKind, ReadJob, Outcome, WroteMark, Failed, ReqResult, FromDevice}
 use Rattle.block_machine.specs.ResultTable.{table}
 use Rattle.block_machine.specs.Results.{outcome_of, content_of}
 use Rattle.job_programs.specs.Program as program
-use Rattle.job_programs.specs.Program.{Program, next_in, step_by, step_of, ended_by, outcomes_in, is_failed, is_again, tried, after_by}
+use Rattle.job_programs.specs.Program.{Program, next_in, step_by, step_of, ended_by, outcomes_in, is_failed, is_again}
 use Rattle.job_programs.specs.Laws.{Fit, last_content}
+use Rattle.job_programs.proofs.Outcomes.{after_is, no_read_is}
 use Rattle.nvm_device_laws.specs.Outcomes.{outcome_by}
 
 -- it fits these settled marks, and what the device has read last is the last of them
@@ -24,26 +25,11 @@ Seen marks q stand = Fit q.kind marks q.done
 -- OUTCOMES
 pub reads_or : (kind : JobKind) → (kind ≡ ReadJob) ⊎ (kind ≢ ReadJob)
 reads_or ReadJob = inl refl
-reads_or WriteJob = inr (λ e. cc)
-reads_or RestoreJob = inr (λ e. cc)
-reads_or EraseJob = inr (λ e. cc)
-reads_or InvalidateJob = inr (λ e. cc)
-reads_or ReadAllJob = inr (λ e. cc)
-reads_or WriteAllJob = inr (λ e. cc)
-
--- that of another operation doesn't depend on what is settled
-out_of : (kind : JobKind) (mark : Mark) (failed : Bool) → kind ≢ ReadJob → outcome_of kind mark failed ≡ (if failed then Failed else WroteMark)
-out_of ReadJob mark failed other = absurd (other refl)
-out_of WriteJob mark failed other = refl
-out_of RestoreJob mark failed other = refl
-out_of EraseJob mark failed other = refl
-out_of InvalidateJob mark failed other = refl
-out_of ReadAllJob mark failed other = refl
-out_of WriteAllJob mark failed other = refl
+reads_or kind = inr (λ e. cc)
 
 pub wrote_fits : (kind : JobKind) (mark settled : Mark) (r : JobResult) → kind ≢ ReadJob
     → outcome_of kind settled (is_failed (outcome_by (Some mark) r)) ≡ outcome_by (Some mark) r
-wrote_fits kind mark settled r other = out_of kind settled (is_failed (outcome_by (Some mark) r)) other ∙ by r
+wrote_fits kind mark settled r other = no_read_is kind settled (is_failed (outcome_by (Some mark) r)) other ∙ by r
   where
     by : (r : JobResult) → (if is_failed (outcome_by (Some mark) r) then Failed else WroteMark) ≡ outcome_by (Some mark) r
     by JobOk = refl
@@ -71,7 +57,7 @@ pub fit_other : (kind : JobKind) → kind ≢ ReadJob → (f g : ℕ → Mark) (
 fit_other kind other f g xs [] fit = tt
 fit_other kind other f g [] (o ∷ os) fit = absurd fit
 fit_other kind other f g (x ∷ xs) (o ∷ os) fit = (
-  out_of kind (g x) (is_failed o) other ∙ sym (out_of kind (f x) (is_failed o) other) ∙ fit.0,
+  no_read_is kind (g x) (is_failed o) other ∙ sym (no_read_is kind (f x) (is_failed o) other) ∙ fit.0,
   fit_other kind other f g xs os fit.1,
 )
 
@@ -89,12 +75,7 @@ no_end q None index r at is = cc
 
 none_given : (kind : JobKind) (defaults : Bool) (os : List Outcome) (r : ReqResult) → kind ≢ ReadJob → ended_by (table defaults kind os) ≡ step.Ended r FromDevice → ⊥
 none_given ReadJob defaults os r other is = absurd (other refl)
-none_given WriteJob defaults os r other is = cc
-none_given RestoreJob defaults os r other is = cc
-none_given EraseJob defaults os r other is = cc
-none_given InvalidateJob defaults os r other is = cc
-none_given ReadAllJob defaults os r other is = cc
-none_given WriteAllJob defaults os r other is = cc
+none_given kind defaults os r other is = cc
 
 none_read : (q : Program) (n : Option ℕ) (r : ReqResult) → q.kind ≢ ReadJob → step_by q n ≡ step.Ended r FromDevice → ⊥
 none_read q (Some i) r other is = cc
@@ -113,16 +94,5 @@ module _ (p : Program) (o : Outcome) (index : ℕ) (next : next_in p ≡ Some in
   seen_by true = (fit, λ r bytes is stands. absurd (no_end (record p { failures = p.failures + 1 }) (next_in p) index r next is))
   seen_by false = (fit_push p.kind marks p.done o m fit at fits, done_last (reads_or p.kind))
 
-  after_is : program.after p o ≡ tried p o
-  after_is = ap (λ (n : Option ℕ). after_by p n o) next ∙ by o other
-    where
-      by : (o : Outcome) → o ≢ First → after_by p (Some index) o ≡ tried p o
-      by First differs = absurd (differs refl)
-      by WroteMark differs = refl
-      by ReadContent differs = refl
-      by FoundErased differs = refl
-      by FoundInvalid differs = refl
-      by Failed differs = refl
-
   pub seen_after : Seen marks (program.after p o) stand
-  seen_after = subst (λ (q : Program). Seen marks q stand) (sym after_is) (seen_by (is_again o p.failures p.retries))
+  seen_after = subst (λ (q : Program). Seen marks q stand) (sym (after_is p o index next other)) (seen_by (is_again o p.failures p.retries))

@@ -1,8 +1,7 @@
 -- The start of an operation that the job in hand names, and the calls that drop or leave the job in hand.
-use Rattle.std.specs.Prelude.{slice_get, nat_le, ◌==◌, ◌||◌, if◌then◌else◌}
+use Rattle.std.specs.Prelude.{slice_get, nat_le, if◌then◌else◌}
 use Rattle.std.specs.List.{Contains}
-use Rattle.std.proofs.Common.{◌≡◌, ◌≢◌, ℕ, zero, suc, ◌+◌, ◌*◌, Bool, true, false, List, [], ◌∷◌, length, Option, Some, None, Result, refl, sym, ap, ◌∙◌, subst, arith}
-use Rattle.std.proofs.lemmas.Bool.{eq-eqb}
+use Rattle.std.proofs.Common.{◌≡◌, ◌≢◌, ℕ, ◌+◌, ◌*◌, Bool, true, false, List, [], ◌∷◌, length, Option, Some, None, Result, refl, sym, ap, ◌∙◌, subst, arith}
 use Rattle.block_machine.specs.nv_base.Marks.{instance_of}
 use Rattle.block_machine.specs.nv_base.declared.instance.DeviceNumber.{DeviceNumber}
 use Rattle.block_machine.specs.nv_base.declared.instance.Instance.{Instance}
@@ -26,6 +25,7 @@ use Rattle.nv_desk.specs.Desk.{DeskState, state_of}
 use Rattle.job_progress.specs.Hand.{HandState, with_start}
 use Rattle.job_progress.specs.JobInHand.{HandFits, IsInHand, job_for, program_for}
 use Rattle.job_progress.specs.Goes.{Names}
+use Rattle.block_laws.proofs.InstanceIndices.{is_in_at}
 use Rattle.block_laws.proofs.HandMarks.{marks_in_hand_stand, marks_in_hand_are_doubts}
 use Rattle.nvm_device_laws.proofs.DeviceCalls.{cancel_stays, read_stays, start_stays}
 use Rattle.nvm_device_laws.proofs.DeviceTries.{start_tries}
@@ -39,15 +39,6 @@ instance_in : (c : Configuration) (s : State) (due : ℕ → ℕ) (numbers : Lis
     → (x : DeviceNumber × ℕ) → Contains (lengths_of c) x → (y : InstanceState) × (instance_at s (instance_of x.0) ≡ Some y)
 instance_in c s due numbers None pairs x has = absurd pairs
 instance_in c s due numbers (Some slots) pairs x has = let (y, at, allows) = pairs x has in (y, at)
-
-pub is_in_at : (xs : List ℕ) (n x : ℕ) → slice_get xs n ≡ Some x → is_in xs x ≡ true
-is_in_at [] n x has = cc
-is_in_at (y ∷ ys) zero x has = let same : y ≡ x = cc in rw (eq-eqb y x same) refl
-is_in_at (y ∷ ys) (suc n) x has = rw (is_in_at ys n x has) (or_true (y == x))
-  where
-    or_true : (b : Bool) → (b || true) ≡ true
-    or_true true = refl
-    or_true false = refl
 
 -- it is none of those that the program served before
 unserved_if : (t : Bool) (at index : ℕ) (os : List Outcome) → slice_get (if t then [] else at ∷ []) (length os) ≡ Some index

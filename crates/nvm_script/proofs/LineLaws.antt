@@ -1,5 +1,5 @@
 -- The caller is read exactly where the line names one.
-use Rattle.std.proofs.Common.{◌≡◌, ◌≤◌, ◌<◌, ◌^◌, ◌==◌, ℕ, Bool, true, false, List, [], ◌∷◌, ◌++◌, length, get_or, IfSome, Option, Some, None, refl, sym, ap, ◌∙◌, subst, arith, if◌then◌else◌}
+use Rattle.std.proofs.Common.{◌≡◌, ◌≤◌, ◌<◌, ◌^◌, ◌==◌, ℕ, Bool, true, false, List, [], ◌∷◌, ◌++◌, length, get_or, IfSome, Option, Some, None, refl, sym, ap, ◌∙◌, subst, arith, append-nil, if◌then◌else◌}
 use Rattle.std.proofs.lemmas.Bool.{and_parts, eqb-true, eq-eqb}
 use Rattle.std.proofs.lemmas.Option.{option_and_then_some}
 use Rattle.std.specs.Char.{is_ascii_digit}
@@ -56,24 +56,21 @@ pub called_of-sound : (line : List ℕ) → IsSound (called_of line) line
 unfolding called_of
 called_of-sound line = by_digit line (begins_with_digit line)
 
+-- what a test says of each word, whatever follows it, it says of the text of a step
+joined_tested : (test : List ℕ → Bool) → ((w : Word) (rest : List ℕ) → test (word_text w ++ rest) ≡ false) → (w : Word) (text front : List ℕ) (rest : Option (List ℕ)) → front ≡ word_text w → Joins 32 text front rest → test text ≡ false
+joined_tested test words w text front None e joins = ap test (joins ∙ e ∙ sym (append-nil (word_text w))) ∙ words w []
+joined_tested test words w text front (Some rest) e joins = ap test (joins ∙ ap (λ (l : List ℕ). l ++ 32 ∷ rest) e) ∙ words w (32 ∷ rest)
+
+spelled-tested : (test : List ℕ → Bool) → ((w : Word) (rest : List ℕ) → test (word_text w ++ rest) ≡ false) → (text : List ℕ) (kind : StepKind) → spelled text ≡ Some kind → test text ≡ false
+unfolding spelled
+spelled-tested test words text kind e =
+    option_and_then_some (λ w. with_fields w (cut_at 32 text).1) (word_of (cut_at 32 text).0) kind e (λ w found _.
+    joined_tested test words w text (cut_at 32 text).0 (cut_at 32 text).1 (subst (λ (o : Option Word). IfSome o (λ w. (cut_at 32 text).0 ≡ word_text w)) found (word_of-found (cut_at 32 text).0)) (cut_at-joins 32 text))
+
 -- a step begins with a letter
 word_begins : (w : Word) (rest : List ℕ) → begins_with_digit (word_text w ++ rest) ≡ false
 word_begins Read rest = refl
 word_begins _ rest = refl
-
-word_alone : (w : Word) → begins_with_digit (word_text w) ≡ false
-word_alone Read = refl
-word_alone _ = refl
-
-joined_begins : (w : Word) (text front : List ℕ) (rest : Option (List ℕ)) → front ≡ word_text w → Joins 32 text front rest → begins_with_digit text ≡ false
-joined_begins w text front None e joins = ap begins_with_digit (joins ∙ e) ∙ word_alone w
-joined_begins w text front (Some rest) e joins = ap begins_with_digit (joins ∙ ap (λ (l : List ℕ). l ++ 32 ∷ rest) e) ∙ word_begins w (32 ∷ rest)
-
-pub spelled-begins : (text : List ℕ) (kind : StepKind) → spelled text ≡ Some kind → begins_with_digit text ≡ false
-unfolding spelled
-spelled-begins text kind e =
-    option_and_then_some (λ w. with_fields w (cut_at 32 text).1) (word_of (cut_at 32 text).0) kind e (λ w found _.
-    joined_begins w text (cut_at 32 text).0 (cut_at 32 text).1 (subst (λ (o : Option Word). IfSome o (λ w. (cut_at 32 text).0 ≡ word_text w)) found (word_of-found (cut_at 32 text).0)) (cut_at-joins 32 text))
 
 -- a number begins with a digit
 digits_begin : (ds rest : List ℕ) → list_all is_ascii_digit ds ≡ true → 0 < length ds → begins_with_digit (ds ++ rest) ≡ true
@@ -104,20 +101,6 @@ word_active : (w : Word) (rest : List ℕ) → begins_idle (word_text w ++ rest)
 word_active Read rest = refl
 word_active _ rest = refl
 
-word_alone_active : (w : Word) → begins_idle (word_text w) ≡ false
-word_alone_active Read = refl
-word_alone_active _ = refl
-
-joined_active : (w : Word) (text front : List ℕ) (rest : Option (List ℕ)) → front ≡ word_text w → Joins 32 text front rest → begins_idle text ≡ false
-joined_active w text front None e joins = ap begins_idle (joins ∙ e) ∙ word_alone_active w
-joined_active w text front (Some rest) e joins = ap begins_idle (joins ∙ ap (λ (l : List ℕ). l ++ 32 ∷ rest) e) ∙ word_active w (32 ∷ rest)
-
-spelled-active : (text : List ℕ) (kind : StepKind) → spelled text ≡ Some kind → begins_idle text ≡ false
-unfolding spelled
-spelled-active text kind e =
-    option_and_then_some (λ w. with_fields w (cut_at 32 text).1) (word_of (cut_at 32 text).0) kind e (λ w found _.
-    joined_active w text (cut_at 32 text).0 (cut_at 32 text).1 (subst (λ (o : Option Word). IfSome o (λ w. (cut_at 32 text).0 ≡ word_text w)) found (word_of-found (cut_at 32 text).0)) (cut_at-joins 32 text))
-
 digits_active : (ds rest : List ℕ) → list_all is_ascii_digit ds ≡ true → 0 < length ds → begins_idle (ds ++ rest) ≡ false
 digits_active [] rest digits some = absurd (omega arith)
 digits_active (d ∷ ds) rest digits some = differs d 35 (d == 35) refl (and_parts (is_ascii_digit d) (list_all is_ascii_digit ds) digits).0 refl
@@ -132,7 +115,7 @@ same_pair : (a b : Option ℕ × List ℕ) → Some a ≡ Some b → (a.0 ≡ b.
 same_pair a b e = let p : a ≡ b = cc in (ap (λ (q : Option ℕ × List ℕ). q.0) p, ap (λ (q : Option ℕ × List ℕ). q.1) p)
 
 step_called : (c : Configuration) (mode : Mode) (line : List ℕ) (caller : ℕ) (kind : StepKind) (is : IsStepLine c mode line caller kind) → called_of line ≡ Some (is.0, is.1)
-step_called c mode line caller kind is = called_of-complete is.0 is.1 line is.2 (spelled-begins is.1 (read_as kind) (spelled-complete kind is.1 is.3.0))
+step_called c mode line caller kind is = called_of-complete is.0 is.1 line is.2 (spelled-tested begins_with_digit word_begins is.1 (read_as kind) (spelled-complete kind is.1 is.3.0))
 
 -- how a step's line is read: its caller, its text, and the step
 pub record IsReadSo (c : Configuration) (mode : Mode) (line : List ℕ) (caller : ℕ) (kind : StepKind) : Type 0 where
@@ -150,11 +133,11 @@ IsReadSo-step c mode line caller kind is =
     record {
       called = is.0;
       text = is.1;
-      caller_read = called_of-complete is.0 is.1 line is.2 (spelled-begins is.1 (read_as kind) spells);
+      caller_read = called_of-complete is.0 is.1 line is.2 (spelled-tested begins_with_digit word_begins is.1 (read_as kind) spells);
       text_read = spells;
       settled_so = settled-complete c mode (is_some is.0) kind is.3.1;
       caller_is = is.4;
-      active = called_active is.0 is.1 line is.2 (spelled-active is.1 (read_as kind) spells);
+      active = called_active is.0 is.1 line is.2 (spelled-tested begins_idle word_active is.1 (read_as kind) spells);
     }
 
 -- an idle line is no step

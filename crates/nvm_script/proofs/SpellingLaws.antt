@@ -1,5 +1,5 @@
 -- What is read is spelled so, and what is spelled so is read.
-use Rattle.std.proofs.Common.{◌≡◌, ◌≤◌, ◌<◌, ◌^◌, ◌==◌, ℕ, zero, suc, Bool, true, false, List, ◌∷◌, ◌++◌, IfSome, Option, Some, None, refl, sym, ap, ◌∙◌, arith}
+use Rattle.std.proofs.Common.{◌≡◌, ◌≤◌, ◌<◌, ◌^◌, ◌==◌, ℕ, zero, suc, Bool, true, false, List, ◌∷◌, ◌++◌, IfSome, Option, Some, None, refl, sym, ap, ◌∙◌, arith, rules}
 use Rattle.std.specs.Option.{option_and_then, option_map}
 use Rattle.std.specs.Fmt.{decimal}
 use Rattle.std.proofs.lemmas.Fmt.{decimal_digit}
@@ -34,24 +34,11 @@ map_sound P (Some x) f text has each = each x has
 
 alone_sound : (w : Word) (text : List ℕ) → text ≡ word_text w → IsSound (without_fields w) text
 alone_sound ReadAll text e = e
-alone_sound WriteAll text e = e
-alone_sound Cancel text e = e
-alone_sound Drain text e = e
-alone_sound Restart text e = e
-alone_sound _ text e = tt
+alone_sound _ text e = search rules
 
 block_sound : (w : Word) (block : ℕ) (text : List ℕ) → OfBlock w block text → IsSound (of_block w block) text
-block_sound Read block text is = is
-block_sound ReadRam block text is = is
 block_sound WriteRam block text is = (refl, is)
-block_sound Restore block text is = is
-block_sound RestoreRam block text is = is
-block_sound Erase block text is = is
-block_sound Invalidate block text is = is
-block_sound GetIndex block text is = is
-block_sound Status block text is = is
-block_sound Await block text is = is
-block_sound _ block text is = tt
+block_sound _ block text is = search rules
 
 -- what a number was read from
 abbrev pub IsNumber : ℕ → ℕ → List ℕ → ℕ → Type 0

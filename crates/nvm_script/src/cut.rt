@@ -1,5 +1,5 @@
 // A text before and after a byte.
-ghost use Rattle.std.specs.Prelude.{◌≡◌, ◌==◌, ◌+◌, length, position, option_copied, IfSome};
+ghost use Rattle.std.specs.Prelude.{◌≡◌, ◌==◌, ◌+◌, ◌<◌, ◌≤◌, length, position, option_copied, IfSome};
 ghost use Rattle.nvm_script.specs.Cut.{cut_at};
 
 fn place_of(text: &[u8], at: u8) -> Option<usize>
@@ -18,5 +18,17 @@ pub fn cut(text: &[u8], at: u8) -> (&[u8], Option<&[u8]>)
     match place_of(text, at) {
         Some(place) => (&text[..place], Some(&text[place + 1..])),
         None => (text, None),
+    }
+}
+
+/// How many bytes the first line of a text has, its newline among them.
+pub fn line_length(text: &[u8]) -> usize
+    requires { 0 < length text.now }
+    ensures some { 0 < result }
+    ensures most { result ≤ length text.now }
+{
+    match text.iter().position(|byte| *byte == b'\n') {
+        Some(at) => at + 1,
+        None => text.len(),
     }
 }

@@ -23,6 +23,7 @@ mod values;
 mod word;
 mod words;
 
+pub use cut::line_length;
 pub use lines::{end_text, entry_text};
 pub use played_cases::other_steps_are_not_played;
 pub use script::{Mode, ScriptFault, first_line, read_script};

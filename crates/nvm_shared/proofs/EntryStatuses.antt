@@ -1,5 +1,5 @@
 -- What an entry tells of its block's status.
-use Rattle.std.specs.Prelude.{IsTrue, IfSome, option_to_list, nat_lt}
+use Rattle.std.specs.Prelude.{IfSome, option_to_list, nat_lt}
 use Rattle.std.specs.List.{Contains, enumerate_from}
 use Rattle.std.specs.Option.{option_and_then}
 use Rattle.std.proofs.Common.{◌≡◌, ◌≢◌, ◌⊎◌, inl, inr, ℕ, zero, suc, ◌≤◌, ◌<◌, Bool, true, false, if◌then◌else◌, List, [], ◌∷◌, ◌++◌, length, map, get_or, is_some, Option, Some, None, refl, sym, ap, ◌∙◌, subst, arith, lt-ltb, ne_eqb, eqb}
@@ -20,6 +20,7 @@ use Rattle.nvm_core.specs.block_laws.Laws.{entry_block}
 use Rattle.nvm_core.specs.block_laws.Consistent.{IsConsistent, IsPendingSweep}
 use Rattle.nvm_core.proofs.block_laws.HistoryLaws.{histories_step, beginnings_are_legal}
 use Rattle.nvm_core.proofs.block_laws.Locality.{entries_are_local, entries_give_status}
+use Rattle.nvm_core.proofs.block_laws.MarkOrigins.{stood}
 use Rattle.nvm_core.proofs.block_laws.NextLaws.{next_is_waiting}
 use Rattle.nvm_core.proofs.block_laws.JobBlocks.{jobs_are_pending, places_are_configured}
 use Rattle.nvm_shared.specs.StatusWords.{off_word, told_at, told_by, pending_block, gives_by, gives, is_found}
@@ -89,20 +90,27 @@ module _ (c : Configuration) (s : State) (caller : ℕ) where
   asked cap r (IndexIs index) within low = stays _ _ _ refl refl
 
 -- PICKS
+-- what comes next in a request on all blocks is of a member, or its end
+abbrev IsOfMembers : Next → Type 0
+IsOfMembers (PickMember sw id) = Unit {0}
+IsOfMembers (PostMember sw id) = Unit {0}
+IsOfMembers (EndSweep sw) = Unit {0}
+IsOfMembers n = ⊥
+
+of_member : (c : Configuration) (s : State) (sw : Sweep) (ids : List ℕ) → IsOfMembers (next_member c s sw ids)
+of_member c s sw [] = tt
+of_member c s sw (id ∷ ids) = by (is_picked (desc_of c id) (block_at s id) sw id)
+  where
+    by : (b : Bool) → IsOfMembers (if b then PickMember sw id else PostMember sw id)
+    by true = tt
+    by false = tt
+
 next_job : (c : Configuration) (s : State) (j : Job) (n : Option Job) (hand : Option Job) (sweep : Option Sweep) → next_by c s n hand sweep ≡ PickJob j → n ≡ Some j
 next_job c s j (Some k) hand sweep is = let same : k ≡ j = cc in ap (λ (x : Job). Some x) same
 next_job c s j None None (Some sw) is = absurd (never sw.under_way is)
   where
-    of_member : (ids : List ℕ) → next_member c s sw ids ≡ PickJob j → ⊥
-    of_member [] is = cc
-    of_member (id ∷ ids) is = by (is_picked (desc_of c id) (block_at s id) sw id) is
-      where
-        by : (b : Bool) → (if b then PickMember sw id else PostMember sw id) ≡ PickJob j → ⊥
-        by true is = cc
-        by false is = cc
-
     never : (b : Bool) → (if b then next_member c s sw (if sw.canceled then [] else sw.left) else BeginSweep sw) ≡ PickJob j → ⊥
-    never true is = of_member (if sw.canceled then [] else sw.left) is
+    never true is = subst IsOfMembers is (of_member c s sw (if sw.canceled then [] else sw.left))
     never false is = cc
 next_job c s j None None None is = cc
 next_job c s j None (Some k) sweep is = cc
@@ -111,16 +119,8 @@ next_sweep : (c : Configuration) (s : State) (sw : Sweep) (n : Option Job) (hand
 next_sweep c s sw (Some k) hand sweep is = cc
 next_sweep c s sw None None (Some x) is = by x.under_way is
   where
-    of_member : (ids : List ℕ) → next_member c s x ids ≡ BeginSweep sw → ⊥
-    of_member [] is = cc
-    of_member (id ∷ ids) is = pick (is_picked (desc_of c id) (block_at s id) x id) is
-      where
-        pick : (b : Bool) → (if b then PickMember x id else PostMember x id) ≡ BeginSweep sw → ⊥
-        pick true is = cc
-        pick false is = cc
-
     by : (b : Bool) → (if b then next_member c s x (if x.canceled then [] else x.left) else BeginSweep x) ≡ BeginSweep sw → Some x ≡ Some sw
-    by true is = absurd (of_member (if x.canceled then [] else x.left) is)
+    by true is = absurd (subst IsOfMembers is (of_member c s x (if x.canceled then [] else x.left)))
     by false is = let same : x ≡ sw = cc in ap (λ (y : Sweep). Some y) same
 next_sweep c s sw None None None is = cc
 next_sweep c s sw None (Some k) sweep is = cc
@@ -201,14 +201,6 @@ found_at : (c : Configuration) (s : State) (marks : _) (ops k : ℕ) → code_of
 found_at c s marks ops zero = refl
 found_at c s marks ops (suc k) = found_from c marks (enumerate_from 1 c.blocks) k
 
-begun : (c : Configuration) (cap : ℕ) (s : State) (e : Entry) → is_found e ≡ false → IsAllowed c cap s e → IsTrue s.started
-begun c cap s (Ask caller r reply) is allowed = allowed.started
-begun c cap s (Pick block kind t ops) is allowed = allowed.0.started
-begun c cap s (Wrote i mark ops) is allowed = allowed.0.started
-begun c cap s (Post block r given refused ops) is allowed = allowed.0.started
-begun c cap s (Off ops) is allowed = allowed.started
-begun c cap s (Found marks ops) is allowed = cc
-
 module _ (c : Configuration) (cap : ℕ) (h : List Entry) (legal : IsLegal c cap h) where
   own : (e : Entry) → is_found e ≡ false → IsAllowed c cap (after c h) e → entry_block e < length (after c h).blocks → entry_block e < off_word
       → IsTold (status_of (after c h) (entry_block e)) (status_of (step c (after c h) e) (entry_block e)) (gives e (entry_block e))
@@ -235,7 +227,7 @@ module _ (c : Configuration) (cap : ℕ) (h : List Entry) (legal : IsLegal c cap
       → IsTold (status_of (after c h) block) (status_of (step c (after c h) e) block) (gives e block)
   entry (Found marks ops) block allowed few low = becomes _ _ _ 0 refl (found_at c (after c h) marks ops block)
   entry e block allowed few low =
-      let count = (places_are_configured c cap h legal (begun c cap (after c h) e refl allowed)).0 in each e block refl allowed (omega (arith, count, few)) low
+      let count = (places_are_configured c cap h legal (stood c cap (after c h) e allowed refl)).0 in each e block refl allowed (omega (arith, count, few)) low
 
 pub entries_tell : EntriesTellStatuses
 entries_tell c cap h e block legal few low =

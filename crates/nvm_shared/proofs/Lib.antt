@@ -2,6 +2,7 @@ mod Writing
 mod Leaving
 mod Asking
 mod Turning
+mod Halves
 mod Making
 mod Learning
 mod Serving

@@ -1,7 +1,7 @@
 -- A Pick that found a store too old was shown that store.
 use Rattle.std.proofs.Common.{◌≡◌, ℕ, Bool, true, false, List, [], ◌∷◌, ◌++◌, length, length-append, Option, Some, None, sym, ap, ◌∙◌, subst, arith}
 use Rattle.nvm_core.specs.memif.Told.{DeviceTold}
-use Rattle.nvm_core.specs.block_machine.Words.{JobKind, ReadJob, WriteJob, RestoreJob, EraseJob, InvalidateJob, ReadAllJob, WriteAllJob, Taken, TookNothing, TookStale, BlockDesc, Configuration, Entry, Pick}
+use Rattle.nvm_core.specs.block_machine.Words.{JobKind, WriteJob, Taken, TookNothing, TookStale, BlockDesc, Configuration, Entry, Pick}
 use Rattle.nvm_core.specs.block_machine.State.{State, BlockState, Job}
 use Rattle.nvm_core.specs.block_machine.Blocks.{desc_of, block_at, is_synchronized, job_block, kind_of, asked_store}
 use Rattle.nvm_core.specs.block_machine.Sweeps.{member_job}
@@ -52,12 +52,7 @@ module _ (IsStore : ℕ → List ℕ → Type 0) (block : ℕ) (old new : List T
   by_kind : (d : BlockDesc) (b : BlockState) (j : Job) (kind : JobKind)
       → IsCopied IsStore block old new (source_by kind j.content (is_synchronized d.ram) (asked_store j.request)) stale → TakesBy d b j kind stale → Older
   by_kind d b j WriteJob is takes = for_write d b j j.content (is_synchronized d.ram) (asked_store j.request) is takes
-  by_kind d b j ReadJob is takes = cc
-  by_kind d b j RestoreJob is takes = cc
-  by_kind d b j EraseJob is takes = cc
-  by_kind d b j InvalidateJob is takes = cc
-  by_kind d b j ReadAllJob is takes = cc
-  by_kind d b j WriteAllJob is takes = cc
+  by_kind d b j kind is takes = cc
 
   older : (c : Configuration) (s : State) (kind : JobKind) (n : Next) → IsCopied IsStore block old new (source_next c n) stale → MayPick c s block kind stale n → Older
   older c s kind (PickJob j) is may = by_kind (desc_of c (job_block j)) (block_at s (job_block j)) j (kind_of j) is may.takes

@@ -4,7 +4,7 @@ use Rattle.std.proofs.Common.{◌≡◌, ℕ, Bool, true, false, List, [], ◌�
 use Rattle.std.proofs.lemmas.List.{append-nil}
 use Rattle.nvm_core.specs.memif.Told.{DeviceTold}
 use Rattle.nvm_core.specs.memif.Clock.{Clock}
-use Rattle.nvm_core.specs.block_machine.Words.{Entry, Ask, Request, SetIndex, SetProtection, SetLock, SetRam, PutRam, ReadAll, WriteAll, CancelWriteAll, Reply, Accepted, Refused, StatusIs, IndexIs, JobKind, Configuration}
+use Rattle.nvm_core.specs.block_machine.Words.{Entry, Ask, Request, SetIndex, Reply, Accepted, JobKind, Configuration}
 use Rattle.nvm_core.specs.block_machine.State.{State, BlockState, Job}
 use Rattle.nvm_core.specs.block_machine.Blocks.{job_block, job_kind, status_of, is_pending}
 use Rattle.nvm_core.specs.block_machine.Reply.{reply_of}
@@ -27,40 +27,8 @@ pub record LeavesRest (s t : State) : Type 0 where
   pub hand : t.hand ≡ s.hand
 
 changed_rest : (c : Configuration) (s : State) (r : Request) → LeavesRest s (changed c s r)
-changed_rest c s r = record { started = by_started r; off = by_off r; hand = by_hand r }
-  where
-    by_started : (r : Request) → (changed c s r).started ≡ s.started
-    by_started (SetIndex block index) = refl
-    by_started (SetProtection block on) = refl
-    by_started (SetLock block on) = refl
-    by_started (SetRam block on) = refl
-    by_started (PutRam block content) = refl
-    by_started ReadAll = refl
-    by_started WriteAll = refl
-    by_started CancelWriteAll = refl
-    by_started r = refl
-
-    by_off : (r : Request) → (changed c s r).off ≡ s.off
-    by_off (SetIndex block index) = refl
-    by_off (SetProtection block on) = refl
-    by_off (SetLock block on) = refl
-    by_off (SetRam block on) = refl
-    by_off (PutRam block content) = refl
-    by_off ReadAll = refl
-    by_off WriteAll = refl
-    by_off CancelWriteAll = refl
-    by_off r = refl
-
-    by_hand : (r : Request) → (changed c s r).hand ≡ s.hand
-    by_hand (SetIndex block index) = refl
-    by_hand (SetProtection block on) = refl
-    by_hand (SetLock block on) = refl
-    by_hand (SetRam block on) = refl
-    by_hand (PutRam block content) = refl
-    by_hand ReadAll = refl
-    by_hand WriteAll = refl
-    by_hand CancelWriteAll = refl
-    by_hand r = refl
+changed_rest c s (SetIndex block index) = record { started = refl; off = refl; hand = refl }
+changed_rest c s r = record { started = refl; off = refl; hand = refl }
 
 accepted_rest : (c : Configuration) (s : State) (r : Request) (kind : Option JobKind) → LeavesRest s (accepted_by c s r kind)
 accepted_rest c s r (Some kind) = record { started = refl; off = refl; hand = refl }
@@ -68,9 +36,7 @@ accepted_rest c s r None = changed_rest c s r
 
 asked_rest : (c : Configuration) (s : State) (r : Request) (reply : Reply) → LeavesRest s (asked c s r reply)
 asked_rest c s r Accepted = accepted_rest c s r (job_kind r)
-asked_rest c s r (Refused why) = record { started = refl; off = refl; hand = refl }
-asked_rest c s r (StatusIs status) = record { started = refl; off = refl; hand = refl }
-asked_rest c s r (IndexIs index) = record { started = refl; off = refl; hand = refl }
+asked_rest c s r reply = record { started = refl; off = refl; hand = refl }
 
 -- ONE REQUEST
 module _ (d : DeviceTold) (clock : Clock) where

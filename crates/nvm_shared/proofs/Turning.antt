@@ -2,10 +2,6 @@
 use Rattle.std.proofs.Common.{◌≡◌, inl, inr, ℕ, Bool, true, false, List, [], ◌∷◌, ◌++◌, length, Option, Some, sym, ap, ◌∙◌, subst}
 use Rattle.nvm_core.specs.memif.Told.{DeviceTold, Part, PartTold}
 use Rattle.nvm_core.specs.memif.Clock.{Clock}
-use Rattle.nvm_core.specs.memif.Calls.{Turns}
-use Rattle.nvm_core.specs.memif.declared.answer.DeviceTurn.{DeviceTurn}
-use Rattle.nvm_core.specs.memif.declared.answer.DeviceTurn.TheVariants as turn
-use Rattle.nvm_core.specs.BehindDevice.{TurnsDevice, answer_by}
 use Rattle.nvm_core.specs.block_machine.Words.{Entry, Ask, Configuration}
 use Rattle.nvm_core.specs.block_machine.Steps.{step}
 use Rattle.nvm_core.specs.nvm_laws.DueLaws.{AreReplied}
@@ -151,10 +147,3 @@ module _ (t : Terms) (v u w : V) (x y : LockedState) (tells : Bool) (enters : En
 -- the desk behind it
 pub desk_behind : (t : Terms) (x y : LockedState) (seen : List Entry) → terms_of x ≡ t → terms_of y ≡ terms_of x → seen ≡ y.desk.entries → y.desk ≡ desk_with t seen
 desk_behind t x y seen terms same entries = ap (λ (s : Terms). desk_with s y.desk.entries) (same ∙ terms) ∙ ap (desk_with t) (sym entries)
-
--- the stack's answer is the device's
-pub turns_device : (answer : DeviceTurn) (old : DeviceTold) (clock : Clock) (new : DeviceTold) (clock_new : Clock) → Turns answer old clock new clock_new
-    → TurnsDevice (answer_by answer) old clock new clock_new
-turns_device turn.Idle old clock new clock_new is = is
-turns_device turn.Worked old clock new clock_new is = is
-turns_device turn.Off old clock new clock_new is = is

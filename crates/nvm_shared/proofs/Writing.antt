@@ -1,7 +1,7 @@
 -- What a half of a turn writes.
 use Rattle.std.specs.Prelude.{IsTrue}
 use Rattle.std.proofs.Common.{◌≡◌, ◌⊎◌, inl, inr, ℕ, Bool, true, false, List, Option, Some, None, refl, sym, ap, ◌∙◌, subst}
-use Rattle.nvm_core.specs.memif.Told.{DeviceTold, Stand, Open, Ended as Closed}
+use Rattle.nvm_core.specs.memif.Told.{DeviceTold, Stand, Open, Ended as Closed, ops_of}
 use Rattle.nvm_core.specs.memif.declared.answer.DeviceTurn.{DeviceTurn}
 use Rattle.nvm_core.specs.memif.declared.answer.DeviceTurn.TheVariants as turn
 use Rattle.nvm_core.specs.memif.declared.answer.JobResult.TheVariants.{JobOk}
@@ -17,9 +17,12 @@ use Rattle.nvm_core.specs.nv_desk_copies.Posts.{IsPostedNext}
 use Rattle.nvm_core.specs.nv_desk_copies.declared.post.Posted.{Posted}
 use Rattle.nvm_core.specs.nvm_laws.Halves.{IsHalf, Adds}
 use Rattle.nvm_core.specs.nvm_laws.Turns.{AddsBy, entry_by}
+use Rattle.nvm_core.specs.nvm_laws.declared.turned.Turned.{Turned}
 use Rattle.nvm_core.specs.nvm_laws.declared.turned.Turned.TheVariants as turned
 use Rattle.nvm_core.specs.nvm_laws.declared.turned.Act.{Act}
 use Rattle.nvm_core.specs.nvm_laws.declared.turned.Act.TheVariants.{Ended, Device}
+use Rattle.nvm_core.specs.job_progress.Hand.{HandState}
+use Rattle.nvm_core.specs.BehindDevice.{IsBehindTurn, TakesTurn}
 use Rattle.nvm_shared.specs.Written.{IsWritten, AreWritten}
 use Rattle.nvm_shared.specs.StatusWords.{is_ask, is_found}
 use Rattle.nvm_shared.specs.declared.terms.Terms.{Terms}
@@ -87,14 +90,19 @@ settled_driven : (old new : Stand) (ops : ℕ) → IfDriven (settled_by old new 
 settled_driven (Open j) (Closed JobOk given) ops = wrote_driven j.number j.mark ops
 settled_driven old new ops = tt
 
-pub entry_driven : (answer : DeviceTurn) (old new : Stand) (ops : ℕ) → IfDriven (entry_by answer old new ops)
+entry_driven : (answer : DeviceTurn) (old new : Stand) (ops : ℕ) → IfDriven (entry_by answer old new ops)
 entry_driven turn.Off old new ops = (refl, refl)
 entry_driven turn.Idle old new ops = settled_driven old new ops
 entry_driven turn.Worked old new ops = settled_driven old new ops
 
-pub adds_writes : (tells : Bool) (o : Option Entry) (old new : DeskState) → AddsBy o old new → IfDriven o → Writes tells old new
+adds_writes : (tells : Bool) (o : Option Entry) (old new : DeskState) → AddsBy o old new → IfDriven o → Writes tells old new
 adds_writes tells None old new adds driven = inl adds
 adds_writes tells (Some e) old new adds driven = inr (e, adds.0, written_by tells old.config old.cap (state_of old) e adds.1, driven)
+
+pub turn_writes : (tells : Bool) (turned : DeviceTurn) (answer : Turned) (desk desk_new : DeskState) (hand hand_new : Option HandState) (old now : DeviceTold)
+    → TakesTurn turned answer desk desk_new hand hand_new now → IsBehindTurn turned desk hand old now → Writes tells desk desk_new
+turn_writes tells turned answer desk desk_new hand hand_new old now takes behind =
+    adds_writes tells (entry_by turned old.stand now.stand (ops_of now)) desk desk_new (takes.adds old behind) (entry_driven turned old.stand now.stand (ops_of now))
 
 -- the power stays off
 pub half_off : (act : Act) (Holds : ℕ → Taken → Type 0) (Fits : Type 0) (old new : DeskState) (before after : List Told) (d : DeviceTold)

@@ -23,7 +23,7 @@ use Rattle.nvm_core.specs.nvm_laws.DueCalls.{IsCalmTurn}
 use Rattle.nvm_core.specs.nvm_device_laws.Cuts.{CutsInATurnKeep}
 use Rattle.nvm_core.specs.nvm_laws.Calls.{DeviceTurnsKeep}
 use Rattle.nvm_core.specs.BehindDevice.{TurnsDevice, asked_by}
-use Rattle.nvm_core.specs.Stack.{StackState}
+use Rattle.nvm_core.specs.Stack.{StackState, stack_with}
 use Rattle.nvm_core.specs.Turns.{IsFirstHalf}
 use Rattle.nvm_core.specs.Due.{now_of}
 use Rattle.nvm_core.specs.Work.{LowersWork}
@@ -35,10 +35,11 @@ pub record DriverState (D C : Type 0) : Type 0 where
   pub copies : C
   pub hand : Option HandState
 
--- the parts with a desk are a stack behind its start-up
-abbrev pub stack_with : {D C : Type 0} → DeskState → Option HandState → D → C → StackState D C
-stack_with desk hand device copies = record { desk = desk; hand = hand; device = device; copies = copies; ready = true; has_room = false }
+-- the driver of these parts
+abbrev pub driver_of : {D C : Type 0} → D → C → Option HandState → DriverState D C
+driver_of device copies hand = record { device = device; copies = copies; hand = hand }
 
+-- with a desk it is a stack behind its start-up
 abbrev pub stack_of : {D C : Type 0} → DeskState → DriverState D C → StackState D C
 stack_of desk s = stack_with desk s.hand s.device s.copies
 

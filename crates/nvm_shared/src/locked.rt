@@ -12,21 +12,19 @@ ghost use Rattle.nvm_core.specs.nv_desk.Desk.{state_of};
 ghost use Rattle.nvm_shared.specs.StatusWords.{told_by};
 ghost use Rattle.nvm_shared.specs.Written.{AreWritten};
 ghost use Rattle.nvm_shared.specs.Behind.{HandIsPending};
-ghost use Rattle.nvm_core.specs.memif.Told.{ops_of};
 ghost use Rattle.nvm_core.specs.nv_desk_copies.Front.{AreSynchronized, StagesAll};
 ghost use Rattle.nvm_core.specs.job_progress.JobInHand.{HandFits};
 ghost use Rattle.nvm_core.specs.nvm_laws.Ties.{IsTied};
-ghost use Rattle.nvm_core.specs.nvm_laws.Turns.{AddsBy, entry_by, hand_by};
 ghost use Rattle.nvm_core.specs.nvm_laws.Keeps.{StaysKept};
 ghost use Rattle.nvm_core.specs.block_config.Rules.{IsLegalConfig};
 ghost use Rattle.nvm_core.specs.nv_desk.Picks.{IsInterruption};
 ghost use Rattle.nvm_core.specs.nvm_laws.DueLaws.{NextIsPending};
 ghost use Rattle.nvm_core.specs.nvm_laws.Work.{program_in_hand};
 ghost use Rattle.nvm_core.specs.Lowers.{HalfLeft};
-ghost use Rattle.nvm_core.specs.BehindDevice.{IsBehindTurn, answer_by};
+ghost use Rattle.nvm_core.specs.BehindDevice.{IsBehindTurn, TakesTurn};
 ghost use Rattle.nvm_core.specs.Turns.{IsFirstHalf};
 ghost use Rattle.nvm_shared.specs.Locked.{terms_of};
-ghost use Rattle.nvm_shared.specs.Driving.{stack_with};
+ghost use Rattle.nvm_core.specs.Stack.{stack_with};
 
 use crate::telling::{Telling, Tells};
 use crate::terms::Terms;
@@ -180,11 +178,7 @@ impl Locked {
         turned: DeviceTurn,
     ) -> Turned
         requires { (old : DeviceTold) × IsBehindTurn turned self.old.desk hand.old old (D.told device.now) }
-        ensures answer { result ≡ answer_by turned }
-        ensures adds { (old : DeviceTold) → IsBehindTurn turned self.old.desk hand.old old (D.told device.now)
-            → AddsBy (entry_by turned old.stand (D.told device.now).stand (ops_of (D.told device.now))) self.old.desk self.new.desk }
-        ensures hand { (old : DeviceTold) → IsBehindTurn turned self.old.desk hand.old old (D.told device.now)
-            → hand.new ≡ hand_by old.stand (D.told device.now).stand hand.old }
+        ensures takes { TakesTurn turned result self.old.desk self.new.desk hand.old hand.new (D.told device.now) }
         ensures tied { IsTied self.new.desk hand.new (D.told device.now) }
         ensures terms { terms_of self.new ≡ terms_of self.old }
     {

@@ -1,6 +1,6 @@
 // Jobs that are finished over a device in memory.
 use nvm_laws::block_config::{BlockDesc, BlockKind, Config, demo};
-use nvm_laws::memif::{PlainStore, start_up};
+use nvm_laws::memif::{DeviceRefusal, PlainStore, start_up};
 use nvm_laws::nv_base::{DeviceNumber, GivenFrom, JobKind, JobStep, ReqResult, lengths_of};
 use nvm_laws::nvm_figures::{AtWork, Brought, Finish, JobEnd, finish_job, turns_left};
 use plain_blocks::PlainProgram;
@@ -21,7 +21,10 @@ fn make_device(alloc: Global) -> Result<PlainStore, AllocError> {
 }
 
 // Whether a job was done in so many turns.
-fn is_done_in(turns: u64, finished: &Finish) -> bool {
+fn is_done_in(turns: u64, finished: &Result<Finish, DeviceRefusal>) -> bool {
+    let Ok(finished) = finished else {
+        return false;
+    };
     let fine = matches!(
         finished.end,
         JobEnd::Over {
@@ -32,6 +35,18 @@ fn is_done_in(turns: u64, finished: &Finish) -> bool {
     fine && finished.turns == turns
 }
 
+const URGENT: Brought = Brought {
+    length: 4,
+    content: b"abcd",
+    urgent: true,
+};
+
+const CALM: Brought = Brought {
+    length: 2,
+    content: b"ab",
+    urgent: false,
+};
+
 // Whether an urgent write of block 2 of the demo takes one turn.
 #[tactic(auto, using(nvm_laws::proofs::nvm_figures::FinishedJobs::programs_are_placed))]
 fn takes_one(device: &mut PlainStore, desc: &BlockDesc) -> bool {
@@ -39,15 +54,7 @@ fn takes_one(device: &mut PlainStore, desc: &BlockDesc) -> bool {
         return false;
     }
     let mut program = PlainProgram::begin(desc, 2, 0, JobKind::Write);
-    let job = Brought {
-        length: 4,
-        content: b"abcd",
-        urgent: true,
-    };
-    match finish_job(device, &mut program, &job) {
-        Ok(finished) => is_done_in(1, &finished),
-        Err(_) => false,
-    }
+    is_done_in(1, &finish_job(device, &mut program, &URGENT))
 }
 
 // Whether a write of block 1, which is redundant, takes two.
@@ -57,15 +64,7 @@ fn takes_two(device: &mut PlainStore, desc: &BlockDesc) -> bool {
         return false;
     }
     let mut program = RedundantProgram::begin(desc, 1, 0, JobKind::Write);
-    let job = Brought {
-        length: 2,
-        content: b"ab",
-        urgent: false,
-    };
-    match finish_job(device, &mut program, &job) {
-        Ok(finished) => is_done_in(2, &finished),
-        Err(_) => false,
-    }
+    is_done_in(2, &finish_job(device, &mut program, &CALM))
 }
 
 fn take_their_turns(device: &mut PlainStore, config: &Config) -> bool {
@@ -104,14 +103,11 @@ fn has_its_post_left(device: &PlainStore) -> bool {
     turns_left(device, Some(over)) == 1 && turns_left(device, None) == 0
 }
 
-fn is_left(alloc: Global) -> bool {
-    match make_device(alloc) {
-        Ok(device) => has_its_post_left(&device),
-        Err(_) => false,
-    }
+fn is_left(alloc: Global) -> Result<bool, AllocError> {
+    Ok(has_its_post_left(&make_device(alloc)?))
 }
 
 #[test]
 fn a_job_that_is_over_has_its_post_left(rt: HostRuntime) {
-    assert!(rt; is_left(rt.alloc()));
+    assert!(rt; matches!(is_left(rt.alloc()), Ok(true)));
 }

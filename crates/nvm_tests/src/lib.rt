@@ -15,6 +15,8 @@ mod figures;
 #[cfg(test)]
 mod floor;
 #[cfg(test)]
+mod found;
+#[cfg(test)]
 mod lock;
 #[cfg(test)]
 mod mirrors;

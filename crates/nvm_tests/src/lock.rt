@@ -191,8 +191,7 @@ fn workers_of(
     gate: &Gate<Statuses>,
     pass: &mut Pass<Statuses>,
 ) -> Result<Vec<Worker>, AllocError>
-    requires free { IsPassOf gate.now pass.old × IsOutside pass.old }
-    requires parts { (knows pass.old).parts ≡ 2 ^ 64 }
+    requires free { IsFree gate.now (2 ^ 64) pass.old }
     ensures left { IsPassOf gate.now pass.new × IsOutside pass.new }
     ensures workers { IfOk result (λ v. All (λ w. IsFree gate.now 1 w.pass) v.items × (0 < length v.items) × ((knows pass.new).parts + length v.items ≡ 2 ^ 64)) }
 {
@@ -215,8 +214,7 @@ fn join_all(
     requires free { IsPassOf gate.now pass.old × IsOutside pass.old }
     requires workers { All (λ w. IsFree gate.now 1 w.pass) workers.items }
     requires parts { (knows pass.old).parts + length workers.items ≡ 2 ^ 64 }
-    ensures free { IsPassOf gate.now pass.new × IsOutside pass.new }
-    ensures parts { (knows pass.new).parts ≡ 2 ^ 64 }
+    ensures { IsFree gate.now (2 ^ 64) pass.new }
 {
     while let Some(worker) = workers.pop() {
         gate.join(pass, worker.pass);
@@ -224,8 +222,9 @@ fn join_all(
     }
 }
 
+#[tactic(auto, unfolding(turn_gate::specs::Pass::IsFree))]
 fn open(alloc: Global) -> Result<(Gate<Statuses>, Pass<Statuses>), AllocError>
-    ensures free { IfOk result (λ r. IsPassOf r.0 r.1 × IsOutside r.1 × ((knows r.1).parts ≡ 2 ^ 64)) }
+    ensures free { IfOk result (λ r. IsFree r.0 (2 ^ 64) r.1) }
     ensures words { IfOk result (λ r. r.0.words ≡ 4) }
 {
     let Ok(opened) = make(alloc, Statuses::new(alloc)?, WORDS) else {
@@ -241,10 +240,9 @@ fn work_through<R: Threads + Wait + Sync>(
     gate: &Gate<Statuses>,
     pass: &mut Pass<Statuses>,
 ) -> Result<Vec<Told>, AllocError>
-    requires free { IsPassOf gate.now pass.old × IsOutside pass.old }
-    requires parts { (knows pass.old).parts ≡ 2 ^ 64 }
+    requires free { IsFree gate.now (2 ^ 64) pass.old }
     requires words { gate.now.words ≡ 4 }
-    ensures free { IfOk result (λ _. IsPassOf gate.now pass.new × IsOutside pass.new × ((knows pass.new).parts ≡ 2 ^ 64)) }
+    ensures free { IfOk result (λ _. IsFree gate.now (2 ^ 64) pass.new) }
 {
     let mut told = Vec::with_capacity(alloc, PASSES as usize)?;
     let mut workers = workers_of(alloc, gate, pass)?;
@@ -278,6 +276,7 @@ fn is_one_list(value: &Statuses, told: &[Told]) -> bool {
 }
 
 // Whether the gate gives back one list behind the workers.
+#[tactic(auto, unfolding(turn_gate::specs::Pass::IsFree))]
 fn work_beside<R: Threads + Wait + Sync>(rt: &R, alloc: Global) -> Result<bool, AllocError> {
     let (gate, mut pass) = open(alloc)?;
     let told = work_through(rt, alloc, &gate, &mut pass)?;

@@ -2,22 +2,13 @@
 ghost use Rattle.std.specs.Prelude.{◌≡◌, ◌≤◌};
 ghost use Rattle.ram_mirrors.specs.Ends.{IsOwnerOf, IsTakerOf};
 
+use crate::found::{Found, LOOKS};
 use ram_mirrors::{Mirror, Owner, Taker, make};
 use std::alloc::Global;
 use std::thread;
 use std::thread::{Threads, join_mut};
 
 const STORES: u64 = 1_000_000;
-
-const LOOKS: u64 = 400_000_000;
-
-// What a taker found: how often it took, how many pairs were wrong, and the last number.
-#[derive(Copy, Clone, Drop)]
-struct Found {
-    taken: u64,
-    wrong: u64,
-    last: u64,
-}
 
 fn store_all(mirror: &Mirror, owner: &mut Owner)
     requires own { IsOwnerOf mirror.now owner.old }
@@ -29,15 +20,6 @@ fn store_all(mirror: &Mirror, owner: &mut Owner)
     }
 }
 
-// Notes a pair that was taken. It is wrong where its content isn't its number, or its number fell.
-fn note(found: &mut Found, number: u64, content: &[u8]) {
-    found.taken = found.taken.saturating_add(1);
-    if number <= found.last || content != number.to_le_bytes().as_slice() {
-        found.wrong = found.wrong.saturating_add(1);
-    }
-    found.last = number;
-}
-
 // Takes until the last store was taken.
 fn take_all(mirror: &Mirror, taker: &mut Taker, found: &mut Found)
     requires own { IsTakerOf mirror.now taker.old }
@@ -46,7 +28,7 @@ fn take_all(mirror: &Mirror, taker: &mut Taker, found: &mut Found)
     for _ in 0..LOOKS {
         match taker.newest(mirror) {
             None => thread::yield_now(),
-            Some((number, content)) => note(found, number, content),
+            Some((number, content)) => found.note(number, found.last.saturating_add(1), content),
         }
         if found.last == STORES {
             return;
@@ -54,29 +36,9 @@ fn take_all(mirror: &Mirror, taker: &mut Taker, found: &mut Found)
     }
 }
 
-fn exchange<R: Threads>(
-    rt: &R,
-    mirror: &Mirror,
-    owner: &mut Owner,
-    taker: &mut Taker,
-    found: &mut Found,
-)
-    requires owner { IsOwnerOf mirror.now owner.old }
-    requires taker { IsTakerOf mirror.now taker.old }
-    requires size { mirror.now.size ≡ 8 }
-    ensures owner { IsOwnerOf mirror.now owner.new }
-    ensures taker { IsTakerOf mirror.now taker.new }
-{
-    join_mut(
-        rt,
-        &mut || store_all(mirror, owner),
-        &mut || take_all(mirror, taker, found),
-    );
-}
-
 // Whether some stores were taken, none wrong, and the last one at the end.
 fn is_whole(found: &Found) -> bool {
-    found.wrong == 0 && found.last == STORES && 0 < found.taken && found.taken <= STORES
+    found.wrong == 0 && found.last == STORES && 0 < found.count && found.count <= STORES
 }
 
 // Whether the stores were taken whole, and the taker shows the last one.
@@ -87,14 +49,14 @@ fn are_whole<R: Threads>(rt: &R, mirror: &Mirror, owner: &mut Owner, taker: &mut
     ensures owner { IsOwnerOf mirror.now owner.new }
     ensures taker { IsTakerOf mirror.now taker.new }
 {
-    let mut found = Found {
-        taken: 0,
-        wrong: 0,
-        last: 0,
-    };
-    exchange(rt, mirror, owner, taker, &mut found);
+    let mut found = Found::new();
+    join_mut(
+        rt,
+        &mut || store_all(mirror, owner),
+        &mut || take_all(mirror, taker, &mut found),
+    );
     is_whole(&found)
-        && found.taken <= taker.looks()
+        && found.count <= taker.looks()
         && taker.shown() == STORES
         && taker.content() == STORES.to_le_bytes().as_slice()
 }

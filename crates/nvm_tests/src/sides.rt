@@ -2,6 +2,7 @@
 ghost use Rattle.std.specs.Prelude.{◌≡◌};
 ghost use Rattle.ram_mirrors_sync.specs.Blocks.{AreSidesOf, IsSideIn};
 
+use crate::found::{Found, LOOKS};
 use nvm_laws::block_config::read;
 use nvm_laws::ram_blocks::{Copied, SyncCalls};
 use ram_mirrors_sync::{MirrorSync, Mirrors, Side, Sides, close, make};
@@ -13,16 +14,6 @@ const BLOCKS: &str =
     "{\"id\":1,\"page\":16,\"sector\":256,\"sectors\":8,\"standard\":8,\"immediate\":4,\"blocks\":[{\"length\":8,\"ram\":\"sync\"},{\"length\":3}]}";
 
 const STORES: u64 = 100_000;
-
-const LOOKS: u64 = 400_000_000;
-
-// What the driver found: how many copies it made, how many were wrong, and the last store.
-#[derive(Copy, Clone, Drop)]
-struct Found {
-    copies: u64,
-    wrong: u64,
-    last: u64,
-}
 
 fn store_all(mirrors: &Mirrors, side: &mut Side)
     requires own { IsSideIn mirrors.now side.old }
@@ -36,20 +27,11 @@ fn store_all(mirrors: &Mirrors, side: &mut Side)
     }
 }
 
-// Notes a copy. It is wrong where its content isn't its number, or its number fell.
-fn note(found: &mut Found, number: u64, content: [u8; 8]) {
-    found.copies = found.copies.saturating_add(1);
-    if number < found.last || content != number.to_le_bytes() {
-        found.wrong = found.wrong.saturating_add(1);
-    }
-    found.last = number;
-}
-
 fn copy_once(sync: &mut MirrorSync, found: &mut Found) {
     let mut into = [0; 8];
     if sync.bytes(2) == Some(8) {
         match sync.copy_out(2, &mut into) {
-            Copied::Got { number } => note(found, number, into),
+            Copied::Got { number } => found.note(number, found.last, &into),
             Copied::Refused => found.wrong = found.wrong.saturating_add(1),
         }
     }
@@ -64,24 +46,6 @@ fn copy_all(sync: &mut MirrorSync, found: &mut Found) {
         }
         thread::yield_now();
     }
-}
-
-fn exchange<R: Threads>(
-    rt: &R,
-    mirrors: &Mirrors,
-    side: &mut Side,
-    sync: &mut MirrorSync,
-    found: &mut Found,
-)
-    requires own { IsSideIn mirrors.now side.old }
-    ensures own { IsSideIn mirrors.now side.new }
-    ensures block { side.new.block ≡ side.old.block }
-{
-    join_mut(
-        rt,
-        &mut || store_all(mirrors, side),
-        &mut || copy_all(sync, found),
-    );
 }
 
 // Whether a content that the driver hands over comes to the application once.
@@ -104,13 +68,13 @@ fn are_copied<R: Threads>(rt: &R, mirrors: &Mirrors, side: &mut Side, sync: &mut
     requires own { IsSideIn mirrors.now side.old }
     ensures own { IsSideIn mirrors.now side.new }
 {
-    let mut found = Found {
-        copies: 0,
-        wrong: 0,
-        last: 0,
-    };
-    exchange(rt, mirrors, side, sync, &mut found);
-    found.wrong == 0 && found.last == STORES && 0 < found.copies
+    let mut found = Found::new();
+    join_mut(
+        rt,
+        &mut || store_all(mirrors, side),
+        &mut || copy_all(sync, &mut found),
+    );
+    found.wrong == 0 && found.last == STORES && 0 < found.count
 }
 
 fn over_mirrors<R: Threads>(rt: &R, alloc: Global) -> bool {

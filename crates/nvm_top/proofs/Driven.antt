@@ -1,6 +1,6 @@
 -- The stack over a flash: what it is behind its first start-up, and what its flash comes back with.
-use Rattle.std.specs.Prelude.{IfSome, IfOk, IsSome, slice_get, option_map, unwrap_or, replicate, min, ◌-◌}
-use Rattle.std.proofs.Common.{◌≡◌, ◌≢◌, ◌<◌, ◌≤◌, ◌+◌, ◌*◌, ◌⊎◌, ◌==◌, ℕ, zero, suc, Bool, true, false, IsTrue, List, [], ◌∷◌, ◌++◌, Option, Some, None, Result, Ok, Err, length, map, if◌then◌else◌, refl, sym, ap, ◌∙◌, subst, inl, inr, arith}
+use Rattle.std.specs.Prelude.{IfSome, IfOk, IsSome, slice_get, option_map, min, ◌-◌}
+use Rattle.std.proofs.Common.{◌≡◌, ◌≢◌, ◌<◌, ◌≤◌, ◌+◌, ◌*◌, ◌⊎◌, ℕ, Bool, true, false, IsTrue, List, [], ◌∷◌, ◌++◌, Option, Some, None, Result, Ok, Err, length, map, refl, sym, ap, ◌∙◌, subst, inl, inr, arith}
 use Rattle.std.proofs.lemmas.Bool.{cases_Bool}
 use Rattle.std.proofs.lemmas.Bool.Decides.{leb_tells}
 use Rattle.std.proofs.Math.Nat.{eq-or-lt_of_le}
@@ -15,7 +15,6 @@ use Rattle.nvm_flash.specs.block_machine.State.{State, Job}
 use Rattle.nvm_flash.specs.block_machine.Steps.{after}
 use Rattle.nvm_flash.specs.memif.Told.{Part, PartTold, DeviceTold, Fixed, First, Second, ops_of, faults_of, figures_at, part_at as at_part}
 use Rattle.nvm_flash.specs.memif.Calls.{InOrder}
-use Rattle.nvm_flash.specs.memif.Clock.{Clock}
 use Rattle.nvm_flash.specs.fls_model.Told.{Told, ToldBytes, Change, IfBothTold, bytes_now}
 use Rattle.nvm_flash.specs.fls_devices.Cutter.{cutting, told_cutting}
 use Rattle.nvm_flash.specs.fee_image.Laws.{SoundImagesCompute}
@@ -29,9 +28,7 @@ use Rattle.nvm_flash.specs.fee_core.Tells.{told_clock}
 use Rattle.nvm_flash.specs.fee_laws.Made.{IsMadeOf, part_at}
 use Rattle.nvm_flash.specs.ram_blocks.declared.plain_block.PlainBlock.{PlainBlock}
 use Rattle.nvm_flash.specs.ram_blocks.Told.{most_of, refusals_of}
-use Rattle.nvm_flash.specs.ram_blocks.Plain.{told_of as sync_told, store_of, plain_of, plain_blocks_of, fresh_block, no_plain}
-use Rattle.nvm_flash.specs.block_config.declared.block.BlockDesc.{BlockDesc}
-use Rattle.nvm_flash.specs.block_machine.Blocks.{is_synchronized}
+use Rattle.nvm_flash.specs.ram_blocks.Plain.{told_of as sync_told, store_of, plain_blocks_of}
 use Rattle.nvm_flash.specs.nv_desk.Desk.{DeskState, state_of}
 use Rattle.nvm_flash.specs.job_progress.Hand.{HandState}
 use Rattle.nvm_flash.specs.promise_blocks.OverDevice.{KeepsOver}
@@ -51,6 +48,8 @@ use Rattle.nvm_flash.specs.job_progress.JobInHand.{program_for}
 use Rattle.nvm_flash.specs.nvm_figures.Left.{most_turns}
 use Rattle.nvm_flash.specs.Turns.{fixed_by}
 use Rattle.nvm_flash.proofs.JobTurns.{job_turns_are_figures}
+use Rattle.nvm_flash.proofs.ram_blocks.FreshCopies.{none_refused}
+use Rattle.nvm_flash.proofs.nvm_device_laws.DownCalls.{over_with}
 use Rattle.nvm_flash.proofs.promise_device.FlashRun.{seen_more}
 use Rattle.nvm_flash.specs.Made.{IsOrigin, IsMadeStack, AreOfFirst, ComesBack, IsBack}
 use Rattle.nvm_flash.specs.promise_device.Bridge.{IsWornOut}
@@ -147,29 +146,6 @@ tells_slots sounds c inner cuts making entry d origin made well =
 no_plan : (n : ℕ) (p : PartTold) → p.planning.plan ≡ None → plan_of n p ≡ None
 no_plan n p none = elim (cases_Bool p.off) [ inl off ↦ rw off refl | inr on ↦ rw (on, none) refl ]
 
-quiet : (p : PlainBlock) → p.refusals ≡ 0 → p.asked ≡ 0 → (most_of (sync_told p ∷ []) 0 - refusals_of (sync_told p ∷ []) 0) ≡ 0
-quiet p refused asked = elim (cases_Bool (length p.content == 0)) [ inl empty ↦ rw empty refl | inr full ↦ rw full (omega (arith, refused, asked)) ]
-
-none_told : (d : BlockDesc) → (most_of (sync_told (plain_of d) ∷ []) 0 - refusals_of (sync_told (plain_of d) ∷ []) 0) ≡ 0
-none_told d = quiet (plain_of d) (by_kind (is_synchronized d.ram)) (asked_by (is_synchronized d.ram))
-  where
-    by_kind : (b : Bool) → (if b then fresh_block (unwrap_or d.defaults (replicate d.length 0)) else no_plain).refusals ≡ 0
-    by_kind true = refl
-    by_kind false = refl
-
-    asked_by : (b : Bool) → (if b then fresh_block (unwrap_or d.defaults (replicate d.length 0)) else no_plain).asked ≡ 0
-    asked_by true = refl
-    asked_by false = refl
-
-none_at : (bs : List BlockDesc) (i : ℕ) → (most_of (map sync_told (map plain_of bs)) i - refusals_of (map sync_told (map plain_of bs)) i) ≡ 0
-none_at [] i = refl
-none_at (b ∷ bs) zero = none_told b
-none_at (b ∷ bs) (suc i) = none_at bs i
-
-none_refused : (c : Configuration) (id : ℕ) → (most_of (map sync_told (plain_blocks_of c)) id - refusals_of (map sync_told (plain_blocks_of c)) id) ≡ 0
-none_refused c zero = refl
-none_refused c (suc i) = none_at c.blocks i
-
 pub started : (c : Configuration) (inner : Told) (cuts : ℕ) (making : Making) (entry : Told) (m s : StackState Device (List PlainBlock)) → IsLegalConfig c → IsOrigin c inner cuts making entry → IsMadeStack c making entry m → StartsUp told_of m s → IsStarted c cuts (part_at entry) (told_by told_of s)
 started c inner cuts making entry m s legal origin made starts = record {
   configuration = config;
@@ -229,23 +205,9 @@ kept_up before m s t same starts keeps = let kept = is_kept before m s t same st
 
 -- ITS END
 
--- what a history keeps doesn't look at whether the device is started
-up_over : (c : Configuration) (most : ℕ) (h : List Entry) (before : Part → PartTold) (d : DeviceTold) (clock : Clock) → KeepsOver c most h before (down d) clock → KeepsOver c most h before d clock
-up_over c most h before d clock over = record {
-  cut = over.cut;
-  found = over.found;
-  counts = over.counts;
-  at_end = over.at_end;
-  legal = over.legal;
-  paid = elim [ First ↦ over.paid First | Second ↦ over.paid Second ];
-  begins = over.begins;
-  counted = over.counted;
-  off = over.off;
-}
-
 over_of : (b : Bool) (before : Part → PartTold) (desk : DeskState) (hand : Option HandState) (d : Device) → IsKept b before desk hand (told_of d) (told_clock d) → KeepsOver desk.config desk.cap desk.entries before (told_of d) (told_clock d)
 over_of true before desk hand d keeps = keeps.keeps.over
-over_of false before desk hand d keeps = up_over desk.config desk.cap desk.entries before (told_of d) (told_clock d) keeps.keeps.over
+over_of false before desk hand d keeps = over_with (told_of d).started desk.config desk.cap desk.entries before (down (told_of d)) (told_clock d) keeps.keeps.over
 
 -- what the device told of its operations, by the clock that it tells
 told_bridge : (m : Making) (inner exit : Told) (operations : List Change) (before : PartTold) (d : Device) → Bridges m true (record { entry = inner; exit = exit; operations = operations }) before (told_of d) (clock_of d)

@@ -4,7 +4,7 @@ use Rattle.nvm_flash.specs.nv_base.Count.{Rose}
 use Rattle.nvm_top.specs.declared.status.Status.{Status}
 use Rattle.nvm_top.specs.declared.status.Status.TheVariants as status
 use Rattle.nvm_top.specs.declared.stop.Stop.{Stop}
-use Rattle.nvm_top.specs.declared.stop.Stop.TheVariants.{BadWords, BadConfig, BadScript, ReadFault, TooLong, Unbuilt, Memory}
+use Rattle.nvm_top.specs.declared.stop.Stop.TheVariants.{WrongSize, FlashFault}
 use Rattle.nvm_top.specs.Stop.{status_of}
 use Rattle.nvm_top.specs.Output.{IsReport}
 use Rattle.nvm_top.specs.Reading.{IsEarly}
@@ -22,28 +22,21 @@ report-by P meant x one two three (inr (inl e)) = subst P (sym e) two
 report-by P meant x one two three (inr (inr e)) = subst P (sym e) three
 
 -- what stops a call before its flash is attached isn't of the flash
-early-flash_at : (stop : Stop) → IsEarly stop → status_of stop ≡ status.FlashFault → ⊥
-early-flash_at BadWords early e = cc
-early-flash_at (BadConfig rule block) early e = cc
-early-flash_at (BadScript line) early e = cc
-early-flash_at ReadFault early e = cc
-early-flash_at TooLong early e = cc
-early-flash_at (Unbuilt line) early e = cc
-early-flash_at Memory early e = cc
-early-flash_at _ early e = absurd early
+abbrev IsOfFlash : Status → Type 0
+IsOfFlash status.FlashFault = Unit {0}
+IsOfFlash status.WrongSize = Unit {0}
+IsOfFlash _ = ⊥
 
-early-size_at : (stop : Stop) → IsEarly stop → status_of stop ≡ status.WrongSize → ⊥
-early-size_at BadWords early e = cc
-early-size_at (BadConfig rule block) early e = cc
-early-size_at (BadScript line) early e = cc
-early-size_at ReadFault early e = cc
-early-size_at TooLong early e = cc
-early-size_at (Unbuilt line) early e = cc
-early-size_at Memory early e = cc
-early-size_at _ early e = absurd early
+early_apart : (stop : Stop) → IsEarly stop → IsOfFlash (status_of stop) → ⊥
+early_apart FlashFault early is = early
+early_apart (WrongSize found need) early is = early
+early_apart _ early is = is
+
+early_at : (stop : Stop) (x : Status) → IsEarly stop → IsReport (status_of stop) x → IsOfFlash x → ⊥
+early_at stop x early reports = report-by (λ y. IsOfFlash y → ⊥) (status_of stop) x (early_apart stop early) (λ is. is) (λ is. is) reports
 
 pub early-flash : (stop : Stop) (x : Status) → IsEarly stop → IsReport (status_of stop) x → x ≡ status.FlashFault → ⊥
-early-flash stop x early reports = report-by (λ y. y ≡ status.FlashFault → ⊥) (status_of stop) x (early-flash_at stop early) (λ e. cc) (λ e. cc) reports
+early-flash stop x early reports e = early_at stop x early reports (subst IsOfFlash (sym e) tt)
 
 pub early-size : (stop : Stop) (x : Status) → IsEarly stop → IsReport (status_of stop) x → x ≡ status.WrongSize → ⊥
-early-size stop x early reports = report-by (λ y. y ≡ status.WrongSize → ⊥) (status_of stop) x (early-size_at stop early) (λ e. cc) (λ e. cc) reports
+early-size stop x early reports e = early_at stop x early reports (subst IsOfFlash (sym e) tt)

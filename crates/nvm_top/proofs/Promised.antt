@@ -40,12 +40,14 @@ use Rattle.script_player.specs.declared.steps.StepFault.{StepFault}
 use Rattle.script_player.specs.declared.steps.StepFault.TheVariants as fault
 use Rattle.nvm_top.specs.declared.status.Status.{Status}
 use Rattle.nvm_top.specs.declared.status.Status.TheVariants as status
+use Rattle.nvm_top.specs.declared.runs.RunText.{RunText}
+use Rattle.nvm_top.specs.declared.runs.RunText.TheVariants.{History, Summary}
 use Rattle.nvm_top.specs.declared.stop.Stop.{Stop}
 use Rattle.nvm_top.specs.declared.stop.Stop.TheVariants as stop
 use Rattle.nvm_top.specs.Machine.{IsStarted, StartsWell, StopsAtStart, Vouches}
 use Rattle.nvm_top.specs.Machine.{run_of}
 use Rattle.nvm_top.specs.Output.{Writes, IsReport}
-use Rattle.nvm_top.specs.Promised.{played_call, HasRun, RunsAs, WritesText, HasPromise, KeepsPromise, soak_text, SoakEnds}
+use Rattle.nvm_top.specs.Promised.{played_call, HasRun, RunsAs, WritesText, HasPromise, KeepsPromise, EndsIn, text_in, line_in, soak_text, SoakEnds}
 use Rattle.nvm_top.specs.Runs as ends
 use Rattle.nvm_top.specs.Stop.{status_of, line_of, IsStop}
 use Rattle.nvm_top.proofs.PlayLemmas.{Rose-after, report-by}
@@ -177,7 +179,7 @@ early_by c steps entry exit _ x w w' text line Tells telling none flash memory s
 
 -- `PLAY` AND `SOAK`
 
-pub play_tells : (input : Option (List ℕ)) (entry exit : Told) (w w' : Option (List ℕ)) → Telling entry exit w w' history_text last_line (λ x r. Ends (played_call input x entry exit w w') r r.end)
+play_tells : (input : Option (List ℕ)) (entry exit : Told) (w w' : Option (List ℕ)) → Telling entry exit w w' history_text last_line (λ x r. Ends (played_call input x entry exit w w') r r.end)
 play_tells input entry exit w w' = record {
   good = good;
   failed = failed;
@@ -196,7 +198,7 @@ play_tells input entry exit w w' = record {
     failed c h operations course HistoryFull is = inr (refl, is)
     failed c h operations course Memory is = (is, inr refl)
 
-pub soak_tells : (input : Option (List ℕ)) (entry exit : Told) (w w' : Option (List ℕ)) → Telling entry exit w w' (λ h. []) soak_text (λ x r. SoakEnds (played_call input x entry exit w w') r r.end)
+soak_tells : (input : Option (List ℕ)) (entry exit : Told) (w w' : Option (List ℕ)) → Telling entry exit w w' (λ h. []) soak_text (λ x r. SoakEnds (played_call input x entry exit w w') r r.end)
 soak_tells input entry exit w w' = record { good = good; failed = failed; wanting = λ c h operations course part. (part, inl refl) }
   where
     good : (c : Configuration) (h : List Entry) (operations : List Change) (course : Course) (end : End) → Appends w w' (soak_text end h) → SoakEnds (played_call input (status_at end) entry exit w w') (run_of c h entry exit operations course end) end
@@ -211,15 +213,12 @@ soak_tells input entry exit w w' = record { good = good; failed = failed; wantin
     failed c h operations course HistoryFull is = inr (refl, is)
     failed c h operations course Memory is = (is, inr refl)
 
-pub early_runs : (c : Configuration) (steps : List Step) (entry exit : Told) (why : Stop) (x : Status) (w w' input : Option (List ℕ)) → StopsAtStart c entry exit why → Writes (IsStop why) w w' x
-    → RunsAs x (HasRun c steps (λ r. Ends (played_call input x entry exit w w') r r.end) entry exit) entry exit
-early_runs c steps entry exit why x w w' input stops is =
+pub early_in : (text : RunText) (c : Configuration) (steps : List Step) (entry exit : Told) (why : Stop) (x : Status) (w w' input : Option (List ℕ)) → StopsAtStart c entry exit why → Writes (IsStop why) w w' x
+    → RunsAs x (HasRun c steps (λ r. EndsIn text (played_call input x entry exit w w') r r.end) entry exit) entry exit
+early_in History c steps entry exit why x w w' input stops is =
     early_by c steps entry exit why x w w' history_text last_line (λ y r. Ends (played_call input y entry exit w w') r r.end) (play_tells input entry exit w w') refl refl refl stops
     (text_alone (IsStop why) (status_of why) (line_of why) w w' x (λ y l at. at) is)
-
-pub early_soaks : (c : Configuration) (steps : List Step) (entry exit : Told) (why : Stop) (x : Status) (w w' input : Option (List ℕ)) → StopsAtStart c entry exit why → Writes (IsStop why) w w' x
-    → RunsAs x (HasRun c steps (λ r. SoakEnds (played_call input x entry exit w w') r r.end) entry exit) entry exit
-early_soaks c steps entry exit why x w w' input stops is =
+early_in Summary c steps entry exit why x w w' input stops is =
     early_by c steps entry exit why x w w' (λ h. []) soak_text (λ y r. SoakEnds (played_call input y entry exit w w') r r.end) (soak_tells input entry exit w w') refl refl refl stops
     (text_alone (IsStop why) (status_of why) (line_of why) w w' x (λ y l at. at) is)
 
@@ -395,40 +394,33 @@ soaked_text (Err fault.Flash) h w w' x is = is
 soaked_text (Err fault.HistoryFull) h w w' x is = is
 soaked_text (Err fault.Memory) h w w' x is = is
 
-pub play_runs : (Kept : Type 0) (p q : Payer) (c : Configuration) (cuts : ℕ) (all : List Step) (before : PartTold) (old t : StackTold) (entry exit : Told) (x : Status) (w w' input : Option (List ℕ)) (result : Result (Unit {0}) StepFault) → IsStarted c cuts before old
-    → OnOk result (HasWalked p q all old t) → IfErr result (λ why. WasBroken p q why all old t) → t.configuration ≡ old.configuration → (StartsWell c entry → Kept) → (StartsWell c entry → p.owes old.faults) → Vouches Kept q before t entry exit
-    → WritesText (ends.status_of_run (ends.run_of result)) (history_text t.entries) (ends.line_of_run (ends.run_of result) t.entries) w w' x
-    → RunsAs x (HasRun c all (λ r. Ends (played_call input x entry exit w w') r r.end) entry exit) entry exit
-play_runs Kept p q c cuts all before old t entry exit x w w' input result started walked broken same keeps owes v is =
-    runs_by Kept p q c cuts all before old t entry exit x w w' history_text last_line (λ y r. Ends (played_call input y entry exit w w') r r.end) result (play_tells input entry exit w w') started walked broken same keeps owes v (play_text result t.entries w w' x is)
+-- a run that was written in one of these texts
+in_text : (text : RunText) (result : Result (Unit {0}) StepFault) (h : List Entry) (w w' : Option (List ℕ)) (x : Status) → WritesText (ends.status_of_run (ends.run_of result)) (text_in text h) (ends.line_written text (ends.run_of result) h) w w' x
+    → WritesText (status_at (end_by result)) (text_in text h) (line_in text (end_by result) h) w w' x
+in_text History result h w w' x is = play_text result h w w' x is
+in_text Summary result h w w' x is = soaked_text result h w w' x is
 
--- a summary of the history and the run as they were
-pub soak_ran : (Kept : Type 0) (p q : Payer) (c : Configuration) (cuts : ℕ) (all : List Step) (before : PartTold) (old t : StackTold) (entry exit : Told) (x : Status) (w w' input : Option (List ℕ)) (result : Result (Unit {0}) StepFault) (run : Result (Unit {0}) Stop) (h : List Entry) → IsStarted c cuts before old
-    → OnOk result (HasWalked p q all old t) → IfErr result (λ why. WasBroken p q why all old t) → t.configuration ≡ old.configuration → (StartsWell c entry → Kept) → (StartsWell c entry → p.owes old.faults) → Vouches Kept q before t entry exit → run ≡ ends.run_of result → h ≡ t.entries
-    → Writes (ends.IsSummaryLine run h) w w' x → RunsAs x (HasRun c all (λ r. SoakEnds (played_call input x entry exit w w') r r.end) entry exit) entry exit
-soak_ran Kept p q c cuts all before old t entry exit x w w' input result run h started walked broken same keeps owes v is_run is_history is =
-    let text = text_alone (ends.IsSummaryLine run h) (ends.status_of_run run) (ends.summary_of_run run h) w w' x (λ y l at. at) is in
-    runs_by Kept p q c cuts all before old t entry exit x w w' (λ es. []) soak_text (λ y r. SoakEnds (played_call input y entry exit w w') r r.end) result (soak_tells input entry exit w w') started walked broken same keeps owes v
-    (soaked_text result t.entries w w' x
-    (subst (λ (r : Result (Unit {0}) Stop). WritesText (ends.status_of_run r) [] (ends.summary_of_run r t.entries) w w' x) is_run
-    (subst (λ (es : List Entry). WritesText (ends.status_of_run run) [] (ends.summary_of_run run es) w w' x) is_history text)))
+tells_in : (text : RunText) (input : Option (List ℕ)) (entry exit : Told) (w w' : Option (List ℕ)) → Telling entry exit w w' (text_in text) (line_in text) (λ x r. EndsIn text (played_call input x entry exit w w') r r.end)
+tells_in History input entry exit w w' = play_tells input entry exit w w'
+tells_in Summary input entry exit w w' = soak_tells input entry exit w w'
 
 -- with the history and the run as they were written
-pub play_ran : (Kept : Type 0) (p q : Payer) (c : Configuration) (cuts : ℕ) (all : List Step) (before : PartTold) (old t : StackTold) (entry exit : Told) (x : Status) (w w' input : Option (List ℕ)) (result : Result (Unit {0}) StepFault) (run : Result (Unit {0}) Stop) (h : List Entry) → IsStarted c cuts before old
+pub ran_in : (form : RunText) (Kept : Type 0) (p q : Payer) (c : Configuration) (cuts : ℕ) (all : List Step) (before : PartTold) (old t : StackTold) (entry exit : Told) (x : Status) (w w' input : Option (List ℕ)) (result : Result (Unit {0}) StepFault) (run : Result (Unit {0}) Stop) (h : List Entry) → IsStarted c cuts before old
     → OnOk result (HasWalked p q all old t) → IfErr result (λ why. WasBroken p q why all old t) → t.configuration ≡ old.configuration → (StartsWell c entry → Kept) → (StartsWell c entry → p.owes old.faults) → Vouches Kept q before t entry exit → run ≡ ends.run_of result → h ≡ t.entries
-    → WritesText (ends.status_of_run run) (history_text h) (ends.line_of_run run h) w w' x
-    → RunsAs x (HasRun c all (λ r. Ends (played_call input x entry exit w w') r r.end) entry exit) entry exit
-play_ran Kept p q c cuts all before old t entry exit x w w' input result run h started walked broken same keeps owes v is_run is_history is =
-    play_runs Kept p q c cuts all before old t entry exit x w w' input result started walked broken same keeps owes v
-    (subst (λ (r : Result (Unit {0}) Stop). WritesText (ends.status_of_run r) (history_text t.entries) (ends.line_of_run r t.entries) w w' x) is_run
-    (subst (λ (es : List Entry). WritesText (ends.status_of_run run) (history_text es) (ends.line_of_run run es) w w' x) is_history is))
+    → WritesText (ends.status_of_run run) (text_in form h) (ends.line_written form run h) w w' x
+    → RunsAs x (HasRun c all (λ r. EndsIn form (played_call input x entry exit w w') r r.end) entry exit) entry exit
+ran_in form Kept p q c cuts all before old t entry exit x w w' input result run h started walked broken same keeps owes v is_run is_history is =
+    runs_by Kept p q c cuts all before old t entry exit x w w' (text_in form) (line_in form) (λ y r. EndsIn form (played_call input y entry exit w w') r r.end) result (tells_in form input entry exit w w') started walked broken same keeps owes v
+    (in_text form result t.entries w w' x
+    (subst (λ (r : Result (Unit {0}) Stop). WritesText (ends.status_of_run r) (text_in form t.entries) (ends.line_written form r t.entries) w w' x) is_run
+    (subst (λ (es : List Entry). WritesText (ends.status_of_run run) (text_in form es) (ends.line_written form run es) w w' x) is_history is)))
 
 -- of the configuration and the flash that a machine is made for
-pub moved_run : (c d : Configuration) (all : List Step) (entry from exit : Told) (x : Status) (w w' input : Option (List ℕ)) → c ≡ d → entry ≡ from
-    → RunsAs x (HasRun c all (λ r. Ends (played_call input x entry exit w w') r r.end) entry exit) entry exit → RunsAs x (HasRun d all (λ r. Ends (played_call input x from exit w w') r r.end) from exit) from exit
-moved_run c d all entry from exit x w w' input same begins is =
-    subst (λ (f : Told). RunsAs x (HasRun d all (λ r. Ends (played_call input x f exit w w') r r.end) f exit) f exit) begins
-    (subst (λ (y : Configuration). RunsAs x (HasRun y all (λ r. Ends (played_call input x entry exit w w') r r.end) entry exit) entry exit) same is)
+pub moved_run : (text : RunText) (c d : Configuration) (all : List Step) (entry from exit : Told) (x : Status) (w w' input : Option (List ℕ)) → c ≡ d → entry ≡ from
+    → RunsAs x (HasRun c all (λ r. EndsIn text (played_call input x entry exit w w') r r.end) entry exit) entry exit → RunsAs x (HasRun d all (λ r. EndsIn text (played_call input x from exit w w') r r.end) from exit) from exit
+moved_run text c d all entry from exit x w w' input same begins is =
+    subst (λ (f : Told). RunsAs x (HasRun d all (λ r. EndsIn text (played_call input x f exit w w') r r.end) f exit) f exit) begins
+    (subst (λ (y : Configuration). RunsAs x (HasRun y all (λ r. EndsIn text (played_call input x entry exit w w') r r.end) entry exit) entry exit) same is)
 
 -- OF THE WHOLE CALL
 
@@ -475,10 +467,3 @@ stops_early left _ told w w' early = absurd early
 pub early_keeps : (left : Option (List ℕ)) (why : Stop) (x : Status) (told : Told) (w w' : Option (List ℕ)) → IsEarly why → IsReport (status_of why) x → KeepsPromise x (played_call left x told told w w')
 early_keeps left why x told w w' early reports =
     report-by (λ y. KeepsPromise y (played_call left y told told w w')) (status_of why) x (stops_early left why told w w' early) (inr (alone told)) (inr (alone told)) reports
-
--- the same of `soak`
-pub moved_soak : (c d : Configuration) (all : List Step) (entry from exit : Told) (x : Status) (w w' input : Option (List ℕ)) → c ≡ d → entry ≡ from
-    → RunsAs x (HasRun c all (λ r. SoakEnds (played_call input x entry exit w w') r r.end) entry exit) entry exit → RunsAs x (HasRun d all (λ r. SoakEnds (played_call input x from exit w w') r r.end) from exit) from exit
-moved_soak c d all entry from exit x w w' input same begins is =
-    subst (λ (f : Told). RunsAs x (HasRun d all (λ r. SoakEnds (played_call input x f exit w w') r r.end) f exit) f exit) begins
-    (subst (λ (y : Configuration). RunsAs x (HasRun y all (λ r. SoakEnds (played_call input x entry exit w w') r r.end) entry exit) entry exit) same is)

@@ -1,10 +1,8 @@
 -- The steps and the words of `soak`.
-use Rattle.std.specs.Prelude.{nat_le, nat_lt, IfSome, slice_get, length, ◌*◌, ◌%◌, ◌-◌, ◌==◌}
-use Rattle.std.specs.List.{range_with_len}
+use Rattle.std.specs.Prelude.{nat_le, IfSome, slice_get}
 use Rattle.std.specs.Str.Parse.{digits_value}
-use Rattle.std.proofs.Common.{◌≡◌, ◌≤◌, ◌+◌, ◌&&◌, ℕ, zero, suc, Bool, true, false, List, [], ◌∷◌, map, Option, Some, None, if◌then◌else◌, refl, ap, subst, inl, inr, arith}
+use Rattle.std.proofs.Common.{◌≡◌, ◌≤◌, ◌&&◌, ℕ, Bool, true, false, List, [], ◌∷◌, Option, Some, None, if◌then◌else◌, refl, ap, subst, inl, inr}
 use Rattle.std.proofs.lemmas.Bool.{leb-true}
-use Rattle.std.proofs.lemmas.List.Sums.{sum_by-append, sum_by-cons}
 use Rattle.nvm_flash.specs.nv_base.Decimal.{is_numeral, decimal_number_of}
 use Rattle.nvm_flash.specs.block_config.Config.{Configuration}
 use Rattle.nvm_flash.specs.fls_model.Told.{Told}
@@ -13,13 +11,6 @@ use Rattle.nvm_words.specs.Fields.{Places, places_of}
 use Rattle.nvm_words.specs.declared.words.CommandKind.{CommandKind}
 use Rattle.nvm_words.specs.declared.words.CommandKind.TheVariants.{Play, Run, Dump, Check, Soak}
 use Rattle.nvm_script.specs.declared.step.Step.{Step}
-use Rattle.nvm_script.specs.declared.step.StepKind.{StepKind}
-use Rattle.nvm_script.specs.declared.step.StepKind.TheVariants.{Ask, Turn, Drain, Restart}
-use Rattle.nvm_flash.specs.nv_base.declared.request.Request.TheVariants.{Read}
-use Rattle.script_soak.specs.Draws.{draw}
-use Rattle.script_soak.specs.Rounds.{step_by, step_of_round, write_of}
-use Rattle.script_soak.specs.Soak.{step_at, rounds, ending, soak}
-use Rattle.script_player.specs.Made.{cuts_in, cuts_of}
 use Rattle.nvm_top.specs.declared.status.Status.{Status}
 use Rattle.nvm_top.specs.declared.status.Status.TheVariants as status
 use Rattle.nvm_top.specs.declared.stop.Stop.{Stop}
@@ -35,38 +26,6 @@ use Rattle.nvm_top.specs.Stop.{status_of, line_of, IsStop}
 use Rattle.nvm_top.proofs.Dumps.{Writes-as}
 use Rattle.nvm_top.proofs.PlayLemmas.{report-by}
 use Rattle.nvm_top.proofs.RunLines.{by_stop}
-
--- NO CUT IS DRAWN
-
-by_tests : (p q r s t : Bool) (a b d e f g : StepKind) → cuts_in a ≡ 0 → cuts_in b ≡ 0 → cuts_in d ≡ 0 → cuts_in e ≡ 0 → cuts_in f ≡ 0 → cuts_in g ≡ 0
-    → cuts_in (if p then a else (if q then b else (if r then d else (if s then e else (if t then f else g))))) ≡ 0
-by_tests true q r s t a b d e f g one two three four five six = one
-by_tests false true r s t a b d e f g one two three four five six = two
-by_tests false false true s t a b d e f g one two three four five six = three
-by_tests false false false true t a b d e f g one two three four five six = four
-by_tests false false false false true a b d e f g one two three four five six = five
-by_tests false false false false false a b d e f g one two three four five six = six
-
-no_cut_by : (c : Configuration) (k block value : ℕ) → cuts_in (step_by c k block value) ≡ 0
-no_cut_by c k block value =
-    by_tests (nat_lt k 4) (k == 4) (k == 5) (k == 6) (nat_lt value 16) (write_of c block value) (Ask (Read block false)) (Turn (1 + value)) Drain Restart (Turn 1) refl refl refl refl refl refl
-
-none_in : (f : ℕ → StepKind) → ((r : ℕ) → cuts_in (f r) ≡ 0) → (ns : List ℕ) → cuts_of (map (λ r. step_at r (f r)) ns) ≡ 0
-none_in f none [] = refl
-none_in f none (n ∷ ns) =
-    let more = none_in f none ns in
-    let here = none n in
-    let sum = sum_by-cons (λ (x : Step). cuts_in x.kind) (step_at n (f n)) (map (λ r. step_at r (f r)) ns) in omega (arith, more, here, sum)
-
-none_at_end : (count : ℕ) → cuts_of (ending count) ≡ 0
-none_at_end zero = refl
-none_at_end (suc n) = refl
-
-pub soak_is_uncut : (c : Configuration) (seed count : ℕ) → cuts_of (soak c seed count) ≡ 0
-soak_is_uncut c seed count =
-    let sum = sum_by-append (λ (x : Step). cuts_in x.kind) (rounds c seed count) (ending count) in
-    let drawn = none_in (step_of_round c seed) (λ r. no_cut_by c (draw seed (3 * r + 1) % 8) (2 + draw seed (3 * r + 2) % (length c.blocks - 1)) (draw seed (3 * r + 3) % 256)) (range_with_len 0 count) in
-    let end = none_at_end count in omega (arith, sum, drawn, end)
 
 -- FEW ROUNDS
 

@@ -66,16 +66,21 @@ ChecksBy left status.ReadFault line = line ≡ line_of stop.ReadFault
 ChecksBy left status.Memory line = line ≡ line_of stop.Memory
 ChecksBy left _ line = ⊥
 
--- `play`, with the bytes of its input, where they are told
+-- a command that reads steps, with the bytes of its input, where they are told: what these are to be, and which of their lines
+-- are wrong
+abbrev pub ReadsBy : (List ℕ → Type 0) → (List ℕ → ℕ → Type 0) → Option (List ℕ) → Status → Type 0
+ReadsBy IsGood IsWrong left status.BadConfig = IfSome left (λ bytes. (rule : ℕ) × (block : ℕ) × BreaksRule bytes rule block)
+ReadsBy IsGood IsWrong left status.BadScript = IfSome left (λ bytes. (number : ℕ) × IsWrong bytes number)
+ReadsBy IsGood IsWrong left status.TooLong = IsLonger left input_limit
+ReadsBy IsGood IsWrong left status.ReadFault = Unit {0}
+ReadsBy IsGood IsWrong left status.WriteFault = Unit {0}
+ReadsBy IsGood IsWrong left status.Memory = Unit {0}
+ReadsBy IsGood IsWrong left status.BadWords = ⊥
+ReadsBy IsGood IsWrong left _ = IfSome left IsGood
+
+-- `play`
 abbrev pub PlaysBy : Option (List ℕ) → Status → Type 0
-PlaysBy left status.BadConfig = IfSome left (λ bytes. (rule : ℕ) × (block : ℕ) × BreaksRule bytes rule block)
-PlaysBy left status.BadScript = IfSome left (λ bytes. (number : ℕ) × HasWrongLine bytes number)
-PlaysBy left status.TooLong = IsLonger left input_limit
-PlaysBy left status.ReadFault = Unit {0}
-PlaysBy left status.WriteFault = Unit {0}
-PlaysBy left status.Memory = Unit {0}
-PlaysBy left status.BadWords = ⊥
-PlaysBy left _ = IfSome left HasSteps
+PlaysBy left x = ReadsBy HasSteps HasWrongLine left x
 
 -- `play` where it stops before start-up, with the bytes of its input and of its flash, where they are told, and with
 -- the line that it writes

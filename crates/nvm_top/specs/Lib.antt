@@ -1,3 +1,4 @@
+pub mod Causes
 pub mod Dump
 pub mod Ends
 pub mod Input

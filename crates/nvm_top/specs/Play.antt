@@ -31,17 +31,6 @@ IsAttachStop need bytes _ = ⊥
 abbrev pub WritesSize : ℕ → Option ToldBytes → Option (List ℕ) → Option (List ℕ) → Type 0
 WritesSize need flash written written' = (line : List ℕ) × TellsSize need flash line × Appends written written' line
 
--- the statuses of a call that stops before start-up
-abbrev pub IsBeforeStart : Status → Type 0
-IsBeforeStart status.BadWords = Unit {0}
-IsBeforeStart status.BadConfig = Unit {0}
-IsBeforeStart status.BadScript = Unit {0}
-IsBeforeStart status.ReadFault = Unit {0}
-IsBeforeStart status.TooLong = Unit {0}
-IsBeforeStart status.WrongSize = Unit {0}
-IsBeforeStart status.Unbuilt = Unit {0}
-IsBeforeStart _ = ⊥
-
 -- a flash isn't as large as the configuration's, and is left alone; the output, where it is told, grew by the line that says so
 abbrev pub IsOfWrongSize : Option (List ℕ) → Told → Told → Option (List ℕ) → Option (List ℕ) → Type 0
 IsOfWrongSize left s t written written' =
@@ -56,6 +45,11 @@ IsBeforeAttach status.ReadFault = Unit {0}
 IsBeforeAttach status.TooLong = Unit {0}
 IsBeforeAttach status.Unbuilt = Unit {0}
 IsBeforeAttach _ = ⊥
+
+-- and before start-up
+abbrev pub IsBeforeStart : Status → Type 0
+IsBeforeStart status.WrongSize = Unit {0}
+IsBeforeStart x = IsBeforeAttach x
 
 -- HOW IT ENDS
 -- from the attach of a flash on that is to have so many bytes

@@ -5,6 +5,7 @@ use Rattle.nv_streams.specs.Sink.{AppendsPrefix}
 use Rattle.nvm_flash.specs.block_config.Config.{Configuration}
 use Rattle.nvm_flash.specs.fls_model.Told.{Told}
 use Rattle.nvm_script.specs.declared.script.Mode.TheVariants as mode
+use Rattle.nvm_script.specs.Printed.{history_text}
 use Rattle.nvm_script.specs.Summary.{summary}
 use Rattle.script_walks.specs.Words.{Step}
 use Rattle.nvm_flash.specs.block_machine.Words.{Entry}
@@ -15,9 +16,11 @@ use Rattle.nvm_flash.specs.promise_run.Promise.{Promise, making_of}
 use Rattle.nvm_flash.specs.promise_run.Completeness.{Completeness}
 use Rattle.nvm_flash.specs.promise_run.JobTurns.{job_turns}
 use Rattle.nvm_flash.specs.promise_run.Turns.{HasTurns}
-use Rattle.nvm_flash.specs.promise_run.Call.{Call, IsCourseOf, IsRunOf, status_of_end, last_line}
+use Rattle.nvm_flash.specs.promise_run.Call.{Call, Ends, IsCourseOf, IsRunOf, status_of_end, last_line}
 use Rattle.nvm_top.specs.declared.status.Status.{Status}
 use Rattle.nvm_top.specs.declared.status.Status.TheVariants as status
+use Rattle.nvm_top.specs.declared.runs.RunText.{RunText}
+use Rattle.nvm_top.specs.declared.runs.RunText.TheVariants.{History, Summary}
 use Rattle.nvm_top.specs.Ends.{HasPlayable}
 use Rattle.nvm_top.specs.Status.{code_of_status}
 
@@ -114,3 +117,17 @@ abbrev pub WritesText : Status → List ℕ → List ℕ → Option (List ℕ) �
 WritesText meant text line written written' status.Memory = AppendsPrefix written written' text
 WritesText meant text line written written' status.WriteFault = AppendsPrefix written written' (text ++ line)
 WritesText meant text line written written' x = (x ≡ meant) × Appends written written' (text ++ line)
+
+-- of these entries: their lines, or none before a summary
+abbrev pub text_in : RunText → List Entry → List ℕ
+text_in History = history_text
+text_in Summary = λ h. []
+
+-- and behind them, by the end of a run
+abbrev pub line_in : RunText → End → List Entry → List ℕ
+line_in History = last_line
+line_in Summary = soak_text
+
+abbrev pub EndsIn : RunText → Call → Run → End → Type 0
+EndsIn History = Ends
+EndsIn Summary = SoakEnds

@@ -10,6 +10,8 @@ use Rattle.nvm_top.specs.declared.status.Status.{Status}
 use Rattle.nvm_top.specs.declared.status.Status.TheVariants as status
 use Rattle.nvm_top.specs.declared.stop.Stop.{Stop}
 use Rattle.nvm_top.specs.declared.stop.Stop.TheVariants as stop
+use Rattle.nvm_top.specs.declared.runs.RunText.{RunText}
+use Rattle.nvm_top.specs.declared.runs.RunText.TheVariants.{History, Summary}
 use Rattle.nvm_top.specs.Stop.{status_of, line_of}
 
 -- a command stops where its steps stopped
@@ -45,3 +47,8 @@ summary_of_run (Err why) entries = line_of why
 
 abbrev pub IsSummaryLine : Result (Unit {0}) Stop → List Entry → Status → List ℕ → Type 0
 IsSummaryLine run entries x line = (x ≡ status_of_run run) × (line ≡ summary_of_run run entries)
+
+-- what is written last of a run
+abbrev pub line_written : RunText → Result (Unit {0}) Stop → List Entry → List ℕ
+line_written History run entries = line_of_run run entries
+line_written Summary run entries = summary_of_run run entries

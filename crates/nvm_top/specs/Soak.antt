@@ -5,7 +5,7 @@ use Rattle.nvm_words.specs.declared.words.CommandKind.{CommandKind}
 use Rattle.nvm_words.specs.declared.words.CommandKind.TheVariants.{Soak}
 use Rattle.nvm_script.specs.declared.step.Step.{Step}
 use Rattle.script_soak.specs.Soak.{soak}
-use Rattle.nvm_top.specs.Ends.{HasPlayable, HasWrongLine, BreaksRule, NamesRule}
+use Rattle.nvm_top.specs.Ends.{HasPlayable, HasWrongLine, NamesRule, ReadsBy}
 use Rattle.nvm_top.specs.Input.{IsLonger, input_limit}
 use Rattle.nvm_top.specs.Reading.{IsPlayStop}
 use Rattle.nvm_top.specs.declared.status.Status.{Status}
@@ -42,14 +42,7 @@ IsSoakStop left why = IsPlayStop left why
 
 -- with the bytes of its input, where they are told
 abbrev pub SoaksBy : Option (List ℕ) → Status → Type 0
-SoaksBy left status.BadConfig = IfSome left (λ bytes. (rule : ℕ) × (block : ℕ) × BreaksRule bytes rule block)
-SoaksBy left status.BadScript = IfSome left (λ bytes. (number : ℕ) × HasStepAt bytes number)
-SoaksBy left status.TooLong = IsLonger left input_limit
-SoaksBy left status.ReadFault = Unit {0}
-SoaksBy left status.WriteFault = Unit {0}
-SoaksBy left status.Memory = Unit {0}
-SoaksBy left status.BadWords = ⊥
-SoaksBy left _ = IfSome left HasNoStep
+SoaksBy left x = ReadsBy HasNoStep HasStepAt left x
 
 -- where it stops before its flash is attached, with the line that it writes
 abbrev pub SoakStopsBy : Option (List ℕ) → Status → List ℕ → Type 0

@@ -1,11 +1,9 @@
 // The command `dump`: what an image holds, line by line.
-ghost use Rattle.std.specs.Prelude.{◌≡◌, length, map, string_bytes, true, false};
-ghost use Rattle.std.specs.Io.KnownBytes.{IsAtEnd};
+ghost use Rattle.std.specs.Prelude.{◌≡◌, length};
 ghost use Rattle.nvm_flash.specs.nv_base.Count.{Rose};
 ghost use Rattle.nvm_flash.specs.nv_base.Geometry.{IsLegal, size_of};
-ghost use Rattle.nvm_words.specs.Words.{command_of, is_dump};
+ghost use Rattle.nvm_top.specs.Causes.{HasCauses};
 ghost use Rattle.nvm_top.specs.Dump.{DumpsBy, DumpsFlash, IsDump, KeepsFlash};
-ghost use Rattle.nvm_top.specs.Ends.{IsBadWords};
 ghost use Rattle.nvm_top.specs.Output.{IsReport, Writes};
 ghost use Rattle.nvm_top.specs.Play.{IsBeforeStart};
 
@@ -13,39 +11,12 @@ use crate::Status;
 use crate::configuration::read_configuration;
 use crate::image::read_image;
 use crate::output::{put_lines, report};
-use crate::stop::Stop;
 use fee_dump::dump_text;
 use nv_streams::{Sink, Source};
 use nvm_flash::block_config::BANKS;
 use nvm_flash::fls_model::Flash;
 use nvm_flash::nv_base::Geometry;
-use nvm_words::{CommandKind, command_of};
-use std::alloc::{AllocError, Global};
-
-/// Writes what the flash holds: of each bank its head, its records and its tail, and which bank is active. The flash is
-/// read alone. The lines of the input after the first are read and ignored.
-pub fn dump_command<S: Source, K: Sink, F: Flash>(
-    alloc: Global,
-    words: &[String],
-    input: &mut S,
-    output: &mut K,
-    flash: F,
-) -> (Status, F)
-    ensures bad_words { is_dump (command_of (map string_bytes words.now)) ≡ false → Writes IsBadWords (K.written output.old) (K.written output.new) result.0 }
-    ensures by_input { is_dump (command_of (map string_bytes words.now)) ≡ true → Writes (DumpsBy (S.left input.old) (F.told flash).bytes) (K.written output.old) (K.written output.new) result.0 }
-    ensures read_fault { result.0 ≡ Status.ReadFault → Rose (S.faults input.old) (S.faults input.new) }
-    ensures write_fault { result.0 ≡ Status.WriteFault → Rose (K.faults output.old) (K.faults output.new) }
-    ensures flash_fault { result.0 ≡ Status.FlashFault → Rose (F.told flash).faults (F.told result.1).faults }
-    ensures kept { KeepsFlash (F.told flash) (F.told result.1) }
-    ensures untouched { IsBeforeStart result.0 → F.told result.1 ≡ F.told flash }
-    ensures ended { result.0 ≡ Status.Ok → IsAtEnd (S.left input.new) }
-{
-    match command_of(alloc, words) {
-        Ok(Some(CommandKind::Dump)) => dump(alloc, input, output, flash),
-        Ok(_) => (report(alloc, Stop::BadWords, output), flash),
-        Err(AllocError) => (Status::Memory, flash),
-    }
-}
+use std::alloc::Global;
 
 /// The command behind its words.
 pub(crate) fn dump<S: Source, K: Sink, F: Flash>(
@@ -55,12 +26,10 @@ pub(crate) fn dump<S: Source, K: Sink, F: Flash>(
     flash: F,
 ) -> (Status, F)
     ensures by_input { Writes (DumpsBy (S.left input.old) (F.told flash).bytes) (K.written output.old) (K.written output.new) result.0 }
-    ensures read_fault { result.0 ≡ Status.ReadFault → Rose (S.faults input.old) (S.faults input.new) }
-    ensures write_fault { result.0 ≡ Status.WriteFault → Rose (K.faults output.old) (K.faults output.new) }
+    ensures causes { HasCauses result.0 (S.faults input.old) (S.faults input.new) (K.faults output.old) (K.faults output.new) (S.left input.new) }
     ensures flash_fault { result.0 ≡ Status.FlashFault → Rose (F.told flash).faults (F.told result.1).faults }
     ensures kept { KeepsFlash (F.told flash) (F.told result.1) }
     ensures untouched { IsBeforeStart result.0 → F.told result.1 ≡ F.told flash }
-    ensures ended { result.0 ≡ Status.Ok → IsAtEnd (S.left input.new) }
 {
     match read_configuration(alloc, input) {
         Ok(config) => {

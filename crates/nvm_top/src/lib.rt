@@ -23,9 +23,5 @@ mod stack;
 mod status;
 mod stop;
 
-pub use check::check_command;
-pub use commands::command;
-pub use dump::dump_command;
-pub use play::play_command;
-pub use soak::soak_command;
+pub use commands::{check_command, command, dump_command, play_command, soak_command};
 pub use status::Status;

@@ -1,5 +1,5 @@
 // Writing the lines of the output.
-ghost use Rattle.std.specs.Prelude.{◌≡◌, ◌<◌, ◌≤◌, IfErr, OnOk, length};
+ghost use Rattle.std.specs.Prelude.{◌≡◌, IfErr, OnOk};
 ghost use Rattle.std.specs.Io.KnownBytes.{Appends};
 ghost use Rattle.nvm_flash.specs.nv_base.Count.{Rose};
 ghost use Rattle.nv_streams.specs.Sink.{AppendsPrefix};
@@ -11,7 +11,7 @@ use crate::Status;
 use crate::stop::Stop;
 use nv_streams::{Sink, SinkAnswer};
 use nvm_flash::nv_base::History;
-use nvm_script::{end_text, entry_text};
+use nvm_script::{end_text, entry_text, line_length};
 use std::alloc::{AllocError, Global};
 
 /// Why the output wasn't written: a counted fault, or want of memory.
@@ -53,18 +53,6 @@ pub fn put_line<K: Sink>(output: &mut K, line: &[u8]) -> Result<(), OutputFault>
     match output.put(line) {
         SinkAnswer::Done => Ok(()),
         SinkAnswer::Failed => Err(OutputFault::Failed),
-    }
-}
-
-// The bytes of the first line, its newline among them.
-fn line_length(text: &[u8]) -> usize
-    requires { 0 < length text.now }
-    ensures some { 0 < result }
-    ensures most { result ≤ length text.now }
-{
-    match text.iter().position(|byte| *byte == b'\n') {
-        Some(at) => at + 1,
-        None => text.len(),
     }
 }
 

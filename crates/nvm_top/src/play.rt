@@ -1,63 +1,31 @@
 // The command `play`: the steps of a person over one flash, with their history.
-ghost use Rattle.std.specs.Prelude.{◌≡◌, ℕ, List, length, map, string_bytes, true, false, Option};
-ghost use Rattle.std.specs.Io.KnownBytes.{IsAtEnd};
+ghost use Rattle.std.specs.Prelude.{◌≡◌, ℕ, List, length, Option};
 ghost use Rattle.nvm_flash.specs.nv_base.Count.{Rose};
 ghost use Rattle.nvm_flash.specs.nv_base.Geometry.{size_of};
 ghost use Rattle.nvm_flash.specs.fls_model.Told.{ToldBytes};
 ghost use Rattle.nvm_flash.specs.Made.{IsOrigin};
 ghost use Rattle.nvm_script.specs.Played.{ArePlayed};
-ghost use Rattle.nvm_flash.specs.promise_run.Call.{Ends};
 ghost use Rattle.script_player.specs.Made.{cuts_in, cuts_of};
-ghost use Rattle.nvm_words.specs.Words.{command_of, is_play};
-ghost use Rattle.nvm_top.specs.Ends.{PlaysBy, StopsBy, IsBadWords};
+ghost use Rattle.nvm_top.specs.Causes.{HasCauses};
+ghost use Rattle.nvm_top.specs.Ends.{PlaysBy, StopsBy};
 ghost use Rattle.nvm_top.specs.Machine.{IsKeptFrom, IsStarted, StartsWell, one_part};
 ghost use Rattle.nvm_top.specs.Output.{Writes, Prints};
 ghost use Rattle.nvm_top.specs.Play.{IsBeforeAttach, IsOfWrongSize, IsStepsEnd, IsRunEnd, RunsBy, PrintsBy, WritesSize};
-ghost use Rattle.nvm_top.specs.Promised.{HasRun, RunsAs, KeepsPromise, played_call};
+ghost use Rattle.nvm_top.specs.Promised.{EndsIn, HasRun, RunsAs, KeepsPromise, played_call};
 
 use crate::Status;
 use crate::machine::Machine;
 use crate::output::report;
 use crate::playable::{Playable, read_playable};
-use crate::runs::{stop_of, write_run};
+use crate::runs::{RunText, stop_of, write_text};
 use crate::stack::{Driven, Setting};
-use crate::stop::Stop;
 use nv_streams::{Sink, Source};
 use nvm_flash::fee_core::Origin;
 use nvm_flash::fls_model::Flash;
 use nvm_script::{StepKind, StepList};
-use nvm_words::{CommandKind, command_of};
 use script_player::make_steps;
-use std::alloc::{AllocError, Global};
+use std::alloc::Global;
 use std::marker::Brand;
-
-/// Plays the steps of the input on the flash and writes their history.
-pub fn play_command<S: Source, K: Sink, F: Flash>(
-    alloc: Global,
-    words: &[String],
-    input: &mut S,
-    output: &mut K,
-    flash: F,
-) -> (Status, F)
-    ensures bad_words { is_play (command_of (map string_bytes words.now)) ≡ false → Writes IsBadWords (K.written output.old) (K.written output.new) result.0 }
-    ensures by_input { is_play (command_of (map string_bytes words.now)) ≡ true → PlaysBy (S.left input.old) result.0 }
-    ensures line { IsBeforeAttach result.0 → Writes (StopsBy (S.left input.old) (F.told flash).bytes) (K.written output.old) (K.written output.new) result.0 }
-    ensures print { Prints (PrintsBy (S.left input.old) (F.told flash).bytes) (K.written output.old) (K.written output.new) result.0 }
-    ensures promise { is_play (command_of (map string_bytes words.now)) ≡ true
-        → KeepsPromise result.0 (played_call (S.left input.old) result.0 (F.told flash) (F.told result.1) (K.written output.old) (K.written output.new)) }
-    ensures read_fault { result.0 ≡ Status.ReadFault → Rose (S.faults input.old) (S.faults input.new) }
-    ensures write_fault { result.0 ≡ Status.WriteFault → Rose (K.faults output.old) (K.faults output.new) }
-    ensures flash_fault { result.0 ≡ Status.FlashFault → Rose (F.told flash).faults (F.told result.1).faults }
-    ensures wrong_size { result.0 ≡ Status.WrongSize → IsOfWrongSize (S.left input.old) (F.told flash) (F.told result.1) (K.written output.old) (K.written output.new) }
-    ensures untouched { IsBeforeAttach result.0 → F.told result.1 ≡ F.told flash }
-    ensures ended { result.0 ≡ Status.Ok → IsAtEnd (S.left input.new) }
-{
-    match command_of(alloc, words) {
-        Ok(Some(CommandKind::Play)) => play(alloc, input, output, flash),
-        Ok(_) => (report(alloc, Stop::BadWords, output), flash),
-        Err(AllocError) => (Status::Memory, flash),
-    }
-}
 
 /// The command behind its words.
 pub(crate) fn play<S: Source, K: Sink, F: Flash>(
@@ -70,22 +38,21 @@ pub(crate) fn play<S: Source, K: Sink, F: Flash>(
     ensures line { IsBeforeAttach result.0 → Writes (StopsBy (S.left input.old) (F.told flash).bytes) (K.written output.old) (K.written output.new) result.0 }
     ensures print { Prints (PrintsBy (S.left input.old) (F.told flash).bytes) (K.written output.old) (K.written output.new) result.0 }
     ensures promise { KeepsPromise result.0 (played_call (S.left input.old) result.0 (F.told flash) (F.told result.1) (K.written output.old) (K.written output.new)) }
-    ensures read_fault { result.0 ≡ Status.ReadFault → Rose (S.faults input.old) (S.faults input.new) }
-    ensures write_fault { result.0 ≡ Status.WriteFault → Rose (K.faults output.old) (K.faults output.new) }
+    ensures causes { HasCauses result.0 (S.faults input.old) (S.faults input.new) (K.faults output.old) (K.faults output.new) (S.left input.new) }
     ensures flash_fault { result.0 ≡ Status.FlashFault → Rose (F.told flash).faults (F.told result.1).faults }
     ensures wrong_size { result.0 ≡ Status.WrongSize → IsOfWrongSize (S.left input.old) (F.told flash) (F.told result.1) (K.written output.old) (K.written output.new) }
     ensures untouched { IsBeforeAttach result.0 → F.told result.1 ≡ F.told flash }
-    ensures ended { result.0 ≡ Status.Ok → IsAtEnd (S.left input.new) }
 {
     match read_playable(alloc, input) {
-        Ok(playable) => play_flash(alloc, playable, output, flash),
+        Ok(playable) => play_flash(alloc, RunText::History, playable, output, flash),
         Err(stop) => (report(alloc, stop, output), flash),
     }
 }
 
-// The steps of a person on a flash.
-fn play_flash<K: Sink, F: Flash>(
+/// Plays steps on a flash, and writes their history or its summary.
+pub(crate) fn play_flash<K: Sink, F: Flash>(
     alloc: Global,
+    text: RunText,
     playable: Playable,
     output: &mut K,
     flash: F,
@@ -93,18 +60,19 @@ fn play_flash<K: Sink, F: Flash>(
     requires played { ArePlayed playable.config playable.steps }
     ensures end { IsStepsEnd (size_of playable.config.geometry) (F.told flash) (F.told result.1) result.0 }
     ensures size { result.0 ≡ Status.WrongSize → WritesSize (size_of playable.config.geometry) (F.told flash).bytes (K.written output.old) (K.written output.new) }
-    ensures print { Prints (RunsBy (size_of playable.config.geometry) (F.told flash).bytes) (K.written output.old) (K.written output.new) result.0 }
+    ensures print { text ≡ RunText.History → Prints (RunsBy (size_of playable.config.geometry) (F.told flash).bytes) (K.written output.old) (K.written output.new) result.0 }
     ensures promise { (input : Option (List ℕ))
-        → RunsAs result.0 (HasRun playable.config playable.steps (λ r. Ends (played_call input result.0 (F.told flash) (F.told result.1) (K.written output.old) (K.written output.new)) r r.end) (F.told flash) (F.told result.1))
+        → RunsAs result.0 (HasRun playable.config playable.steps (λ r. EndsIn text (played_call input result.0 (F.told flash) (F.told result.1) (K.written output.old) (K.written output.new)) r r.end) (F.told flash) (F.told result.1))
         (F.told flash) (F.told result.1) }
     ensures write_fault { result.0 ≡ Status.WriteFault → Rose (K.faults output.old) (K.faults output.new) }
 {
-    play_driven::<K, F, Brand>(alloc, playable, output, flash)
+    play_driven::<K, F, Brand>(alloc, text, playable, output, flash)
 }
 
 // As `play_steps`, over the stack of a device.
 fn play_driven<K: Sink, F: Flash, O: Origin + Setting>(
     alloc: Global,
+    text: RunText,
     playable: Playable,
     output: &mut K,
     flash: F,
@@ -113,18 +81,19 @@ fn play_driven<K: Sink, F: Flash, O: Origin + Setting>(
     requires played { ArePlayed playable.config playable.steps }
     ensures end { IsStepsEnd (size_of playable.config.geometry) (F.told flash) (F.told result.1) result.0 }
     ensures size { result.0 ≡ Status.WrongSize → WritesSize (size_of playable.config.geometry) (F.told flash).bytes (K.written output.old) (K.written output.new) }
-    ensures print { Prints (RunsBy (size_of playable.config.geometry) (F.told flash).bytes) (K.written output.old) (K.written output.new) result.0 }
+    ensures print { text ≡ RunText.History → Prints (RunsBy (size_of playable.config.geometry) (F.told flash).bytes) (K.written output.old) (K.written output.new) result.0 }
     ensures promise { (input : Option (List ℕ))
-        → RunsAs result.0 (HasRun playable.config playable.steps (λ r. Ends (played_call input result.0 (F.told flash) (F.told result.1) (K.written output.old) (K.written output.new)) r r.end) (F.told flash) (F.told result.1))
+        → RunsAs result.0 (HasRun playable.config playable.steps (λ r. EndsIn text (played_call input result.0 (F.told flash) (F.told result.1) (K.written output.old) (K.written output.new)) r r.end) (F.told flash) (F.told result.1))
         (F.told flash) (F.told result.1) }
     ensures write_fault { result.0 ≡ Status.WriteFault → Rose (K.faults output.old) (K.faults output.new) }
 {
-    play_steps::<K, F, Driven<F, O>>(alloc, playable, output, flash)
+    play_steps::<K, F, Driven<F, O>>(alloc, text, playable, output, flash)
 }
 
-/// Plays steps on the machine of a configuration over a flash, and writes their history.
+/// Plays steps on the machine of a configuration over a flash, and writes their history or its summary.
 pub fn play_steps<K: Sink, F: Flash, M: Machine<F>>(
     alloc: Global,
+    text: RunText,
     playable: Playable,
     output: &mut K,
     flash: F,
@@ -133,16 +102,16 @@ pub fn play_steps<K: Sink, F: Flash, M: Machine<F>>(
     requires played { ArePlayed playable.config playable.steps }
     ensures end { IsStepsEnd (size_of playable.config.geometry) (F.told flash) (F.told result.1) result.0 }
     ensures size { result.0 ≡ Status.WrongSize → WritesSize (size_of playable.config.geometry) (F.told flash).bytes (K.written output.old) (K.written output.new) }
-    ensures print { Prints (RunsBy (size_of playable.config.geometry) (F.told flash).bytes) (K.written output.old) (K.written output.new) result.0 }
+    ensures print { text ≡ RunText.History → Prints (RunsBy (size_of playable.config.geometry) (F.told flash).bytes) (K.written output.old) (K.written output.new) result.0 }
     ensures promise { (input : Option (List ℕ))
-        → RunsAs result.0 (HasRun playable.config playable.steps (λ r. Ends (played_call input result.0 (F.told flash) (F.told result.1) (K.written output.old) (K.written output.new)) r r.end) (F.told flash) (F.told result.1))
+        → RunsAs result.0 (HasRun playable.config playable.steps (λ r. EndsIn text (played_call input result.0 (F.told flash) (F.told result.1) (K.written output.old) (K.written output.new)) r r.end) (F.told flash) (F.told result.1))
         (F.told flash) (F.told result.1) }
     ensures write_fault { result.0 ≡ Status.WriteFault → Rose (K.faults output.old) (K.faults output.new) }
 {
     let Playable { config, steps } = playable;
     let blocks = config.blocks();
     match M::start(alloc, config, flash, cuts_of(&steps)) {
-        Ok(machine) => play_on(alloc, &steps, blocks, output, machine),
+        Ok(machine) => play_on(alloc, text, &steps, blocks, output, machine),
         Err((stop, flash)) => (report(alloc, stop, output), flash),
     }
 }
@@ -150,6 +119,7 @@ pub fn play_steps<K: Sink, F: Flash, M: Machine<F>>(
 // The steps on a machine behind its first start-up.
 fn play_on<K: Sink, F: Flash, M: Machine<F>>(
     alloc: Global,
+    text: RunText,
     steps: &StepList,
     blocks: u16,
     output: &mut K,
@@ -161,15 +131,15 @@ fn play_on<K: Sink, F: Flash, M: Machine<F>>(
     requires blocks { blocks ≡ length M.made_for.blocks }
     requires played { ArePlayed M.made_for steps.now }
     ensures end { IsRunEnd M.entry.faults (F.told result.1).faults result.0 }
-    ensures print { (need : ℕ) (flash : Option ToldBytes) → Prints (RunsBy need flash) (K.written output.old) (K.written output.new) result.0 }
+    ensures print { text ≡ RunText.History → (need : ℕ) (flash : Option ToldBytes) → Prints (RunsBy need flash) (K.written output.old) (K.written output.new) result.0 }
     ensures promise { (input : Option (List ℕ))
-        → RunsAs result.0 (HasRun M.made_for steps.now (λ r. Ends (played_call input result.0 M.entry (F.told result.1) (K.written output.old) (K.written output.new)) r r.end) M.entry (F.told result.1))
+        → RunsAs result.0 (HasRun M.made_for steps.now (λ r. EndsIn text (played_call input result.0 M.entry (F.told result.1) (K.written output.old) (K.written output.new)) r r.end) M.entry (F.told result.1))
         M.entry (F.told result.1) }
     ensures write_fault { result.0 ≡ Status.WriteFault → Rose (K.faults output.old) (K.faults output.new) }
 {
     let mut machine = machine;
     let run = stop_of(make_steps(alloc, steps, blocks, &mut machine));
-    let status = write_run(alloc, run, machine.history(), output);
+    let status = write_text(alloc, text, run, machine.history(), output);
     (status, machine.into_flash())
 }
 

@@ -4,8 +4,8 @@ ghost use Rattle.nvm_flash.specs.nv_base.Count.{Rose};
 ghost use Rattle.nvm_top.specs.Output.{Writes, Prints};
 ghost use Rattle.nvm_top.specs.Play.{IsRunLine};
 ghost use Rattle.nvm_script.specs.Printed.{history_text};
-ghost use Rattle.nvm_top.specs.Promised.{WritesText};
-ghost use Rattle.nvm_top.specs.Runs.{run_of, status_of_run, line_of_run, IsSummaryLine};
+ghost use Rattle.nvm_top.specs.Promised.{WritesText, text_in};
+ghost use Rattle.nvm_top.specs.Runs.{run_of, status_of_run, line_of_run, line_written, IsSummaryLine};
 
 use crate::Status;
 use crate::output::{put_lines, report, write_end, write_history};
@@ -15,6 +15,13 @@ use nvm_flash::nv_base::History;
 use nvm_script::summary_text;
 use script_player::StepFault;
 use std::alloc::Global;
+
+/// What is written of a run: its history line by line with its last line, or the summary of its history.
+#[derive(Clone, Copy)]
+pub enum RunText {
+    History,
+    Summary,
+}
 
 /// How a run ended, by why its steps stopped.
 pub fn stop_of(run: Result<(), StepFault>) -> Result<(), Stop>
@@ -28,8 +35,8 @@ pub fn stop_of(run: Result<(), StepFault>) -> Result<(), Stop>
     }
 }
 
-/// Writes the history of a run, and then its end or why it stopped.
-pub fn write_run<K: Sink>(
+// Writes the history of a run, and then its end or why it stopped.
+fn write_run<K: Sink>(
     alloc: Global,
     run: Result<(), Stop>,
     history: &History,
@@ -51,8 +58,8 @@ pub fn write_run<K: Sink>(
     }
 }
 
-/// Writes the summary of a run, or why it stopped.
-pub fn write_summary<K: Sink>(
+// Writes the summary of a run, or why it stopped.
+fn write_summary<K: Sink>(
     alloc: Global,
     run: Result<(), Stop>,
     history: &History,
@@ -70,5 +77,23 @@ pub fn write_summary<K: Sink>(
     match put_lines(output, text.as_slice()) {
         Ok(()) => Status::Ok,
         Err(fault) => fault.status(),
+    }
+}
+
+/// Writes a run.
+pub fn write_text<K: Sink>(
+    alloc: Global,
+    text: RunText,
+    run: Result<(), Stop>,
+    history: &History,
+    output: &mut K,
+) -> Status
+    ensures print { text ≡ RunText.History → Prints (IsRunLine run) (K.written output.old) (K.written output.new) result }
+    ensures text { WritesText (status_of_run run) (text_in text history.now.entries) (line_written text run history.now.entries) (K.written output.old) (K.written output.new) result }
+    ensures write_fault { result ≡ Status.WriteFault → Rose (K.faults output.old) (K.faults output.new) }
+{
+    match text {
+        RunText::History => write_run(alloc, run, history, output),
+        RunText::Summary => write_summary(alloc, run, history, output),
     }
 }

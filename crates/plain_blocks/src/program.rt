@@ -6,8 +6,8 @@ ghost use Rattle.plain_blocks.specs.declared.program.PlainProgram.TheInside.{Ins
 ghost use Rattle.plain_blocks.specs.Inside.{shown};
 
 use block_machine::block_config::{BlockDesc, BlockKind};
-use block_machine::nv_base::{Instance, JobKind, JobStep, Outcome};
-use job_programs::{end_of_none, end_of_one, is_again, operation, retries, works};
+use block_machine::nv_base::{JobKind, JobStep, Outcome};
+use job_programs::{ProgramJob, end_of_none, end_of_one, is_again, works};
 use std::marker::Model;
 
 /// Where a job stands: it needs no operation; it is at one, after so many failed tries; or that one is done.
@@ -21,7 +21,7 @@ enum Stand {
 impl Stand {
     // Where the job stands behind an outcome.
     fn behind(self, outcome: Outcome, retries: u8) -> Stand
-        ensures { (p : Inside) → p.stand ≡ self → p.retries ≡ retries → shown (record p { stand = result }) ≡ after (shown p) outcome }
+        ensures { (p : Inside) → p.stand ≡ self → p.job.retries ≡ retries → shown (record p { stand = result }) ≡ after (shown p) outcome }
     {
         match self {
             Stand::At { index, failures } if outcome != Outcome::First => {
@@ -42,10 +42,7 @@ impl Stand {
 /// A job on a native block or a dataset. Contracts see what is done of it.
 #[derive(Drop)]
 pub struct PlainProgram {
-    block: u16,
-    job: JobKind,
-    defaults: bool,
-    retries: u8,
+    job: ProgramJob,
     stand: Stand,
 }
 
@@ -75,10 +72,7 @@ impl PlainProgram {
             }
         };
         PlainProgram {
-            block,
-            job,
-            defaults: desc.defaults.is_some(),
-            retries: retries(desc, job),
+            job: ProgramJob::new(desc, block, job),
             stand,
         }
     }
@@ -88,7 +82,7 @@ impl PlainProgram {
         ensures after { self.new ≡ after self.old outcome }
         ensures step { result ≡ step_of self.new }
     {
-        self.stand = self.stand.behind(outcome, self.retries);
+        self.stand = self.stand.behind(outcome, self.job.retries);
         self.step()
     }
 
@@ -106,7 +100,7 @@ impl PlainProgram {
     pub fn retries(&self) -> u8
         ensures { result ≡ self.now.retries }
     {
-        self.retries
+        self.job.retries
     }
 
     /// On how many instances it works: one, or none where it needs no operation.
@@ -123,16 +117,11 @@ impl PlainProgram {
     fn step(&self) -> JobStep
         ensures { result ≡ step_of self.now }
     {
+        let job = self.job;
         match self.stand {
-            Stand::Needless => end_of_none(self.defaults, self.job),
-            Stand::At { index, .. } => JobStep::Device {
-                op: operation(self.job),
-                instance: Instance {
-                    block: self.block,
-                    index,
-                },
-            },
-            Stand::Done { outcome, .. } => end_of_one(self.defaults, self.job, outcome),
+            Stand::Needless => end_of_none(job.defaults, job.kind),
+            Stand::At { index, .. } => job.operation_on(index),
+            Stand::Done { outcome, .. } => end_of_one(job.defaults, job.kind, outcome),
         }
     }
 }

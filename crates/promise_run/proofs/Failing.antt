@@ -1,6 +1,6 @@
 -- Operations that failed, in their moves.
 use Rattle.std.specs.Prelude.{map, IfSome}
-use Rattle.std.proofs.Common.{◌≡◌, ◌⊎◌, ◌≤◌, ◌<◌, ◌+◌, ℕ, zero, suc, List, [], ◌∷◌, ◌++◌, Option, Some, None, if◌then◌else◌, refl, sym, ap, ◌∙◌, subst, inl, inr, arith, append-nil, append_assoc}
+use Rattle.std.proofs.Common.{◌≡◌, ◌⊎◌, ◌≤◌, ◌<◌, ◌+◌, ℕ, zero, suc, List, [], ◌∷◌, ◌++◌, Option, Some, None, if◌then◌else◌, refl, sym, ap, ◌∙◌, subst, inl, inr, arith, append-nil, append_assoc, rules}
 use Rattle.std.proofs.lemmas.Bool.{cases_lt}
 use Rattle.block_machine.specs.nv_base.Count.{Rose, WereCounted}
 use Rattle.block_machine.specs.nv_base.Entry.{ops_of}
@@ -15,10 +15,10 @@ use Rattle.promise_device.specs.Making.{banks_of}
 use Rattle.promise_device.specs.FlashRun.{HasFailed, StartsSound}
 use Rattle.promise_device.specs.Bridge.{IsWornOut}
 use Rattle.promise_run.specs.Promise.{making_of}
-use Rattle.promise_run.specs.Turns.{Moment, Move, entry_list, entries_of, moment_behind, moment_after, IsTurnMade, AreTurnsMade, AreMovesOf, AreMoves, CountsOwn, CountFailed, IsPaidSince, ArePaidSince, HasTurns, is_picked, all_moves}
+use Rattle.promise_run.specs.Turns.{Moment, Move, entry_list, entries_of, moment_behind, moment_after, AreTurnsMade, AreMovesOf, AreMoves, CountsOwn, CountFailed, IsPaidSince, ArePaidSince, HasTurns, is_picked, all_moves}
 use Rattle.promise_run.specs.Cases.{small, one, blank, picks_one, always, CountsFailed, mended, posts_on_credit, starts_on_credit, untold}
 use Rattle.promise_run.proofs.Counted.{behind_more, all_behind}
-use Rattle.promise_run.proofs.OneByOne.{two_lists, asked_one, asks_step, at_ops, turn_to}
+use Rattle.promise_run.proofs.OneByOne.{two_lists, asked_one, asks_step, at_ops}
 
 -- A FAULT THAT WAS COUNTED
 -- no move takes a fault back
@@ -138,9 +138,6 @@ wrote_five = Wrote (record { block = 2; index = 0 }) (Content one) 5
 abbrev posted_five : Entry
 posted_five = Post 2 Fine None 0 5
 
-made_to : (n m : ℕ) (o : Option Entry) → n ≤ m → m ≤ n + 1 → IfSome o (λ e. ops_of e ≡ Some m) → IsTurnMade (after_fault n) (record { entry = o; behind = after_fault m })
-made_to n m o more one told = record { faults = omega arith; ops = more; one = one; told = told }
-
 -- behind the first operation none fails
 only_first : (k : ℕ) → HasFailed mended.flash k → k ≡ 0
 only_first zero failed = refl
@@ -178,28 +175,7 @@ mended_kept = record {
   last = after_fault 5;
   moves = record {
     moves = (asks_move ∷ []) ∷ (picks_move ∷ behind_pick) ∷ [];
-    are = (
-      refl,
-      (
-        (
-          refl,
-          (
-            turn_to 0 0 (Some picks_one) (omega arith) (omega arith) refl,
-            (
-              record { faults = omega arith; ops = omega arith; one = omega arith; told = tt },
-              (
-                made_to 1 2 None (omega arith) (omega arith) tt,
-                (
-                  made_to 2 3 None (omega arith) (omega arith) tt,
-                  (made_to 3 4 None (omega arith) (omega arith) tt, (made_to 4 5 (Some wrote_five) (omega arith) (omega arith) refl, (made_to 5 5 (Some posted_five) (omega arith) (omega arith) refl, tt))),
-                ),
-              ),
-            ),
-          ),
-        ),
-        tt,
-      ),
-    );
+    are = (refl, ((refl, search rules), tt));
     tell = refl;
     behind = refl;
   };

@@ -1,6 +1,6 @@
 -- Turns, one by one.
 use Rattle.std.specs.Prelude.{map, IfSome}
-use Rattle.std.proofs.Common.{◌≡◌, ◌⊎◌, ◌≤◌, ◌<◌, ◌+◌, ◌-◌, ℕ, zero, suc, IsTrue, List, [], ◌∷◌, ◌++◌, length, Option, Some, None, refl, sym, ap, ◌∙◌, subst, inl, inr, arith, append-nil}
+use Rattle.std.proofs.Common.{◌≡◌, ◌⊎◌, ◌≤◌, ◌<◌, ◌-◌, ℕ, zero, suc, IsTrue, List, [], ◌∷◌, ◌++◌, length, Option, Some, None, refl, sym, ap, ◌∙◌, subst, inl, inr, arith, append-nil, rules}
 use Rattle.block_machine.specs.nv_base.Count.{WereCounted}
 use Rattle.block_machine.specs.nv_base.Entry.{ops_of}
 use Rattle.script_walks.specs.Words.{Step, AskStep, Turn}
@@ -9,7 +9,7 @@ use Rattle.block_machine.specs.Words.{Fine, Content, Write, Accepted, Entry, Ask
 use Rattle.block_machine.specs.State.{State, Job}
 use Rattle.block_machine.specs.Blocks.{job_block}
 use Rattle.block_machine.specs.Steps.{after, after_from}
-use Rattle.promise_run.specs.Turns.{Moment, Move, entry_list, entries_of, moment_behind, moment_after, IsTurnMade, AreTurnsMade, AreMoves, IsPostedWithin, EachMove, ServesTurn, CountsOwn, HasTurns, is_asked, is_found, is_picked, all_moves}
+use Rattle.promise_run.specs.Turns.{Moment, Move, entry_list, entries_of, moment_behind, moment_after, AreTurnsMade, AreMoves, IsPostedWithin, EachMove, ServesTurn, CountsOwn, HasTurns, is_asked, is_found, is_picked, all_moves}
 use Rattle.promise_device.specs.FlashRun.{HasFailed}
 use Rattle.promise_run.specs.Cases.{small, one, picks_one, always, six_turns, lazy, leaps}
 
@@ -66,9 +66,6 @@ no_count n (inr full) = omega (arith, full)
 
 abbrev pub at_ops : ℕ → Moment
 at_ops n = record { faults = 0; ops = n }
-
-pub turn_to : (n m : ℕ) (o : Option Entry) → n ≤ m → m ≤ n + 1 → IfSome o (λ e. ops_of e ≡ Some m) → IsTurnMade (at_ops n) (record { entry = o; behind = at_ops m })
-turn_to n m o more one told = record { faults = omega arith; ops = more; one = one; told = told }
 
 -- a turn that adds nothing
 passes : (id n : ℕ) (ops : ℕ) (ms : List Move) → 1 < n → IsPostedWithin id (n - 1) 0 ms → IsPostedWithin id n 0 (record { entry = None; behind = at_ops ops } ∷ ms)
@@ -135,25 +132,7 @@ six_kept = record {
   last = at_ops 4;
   moves = record {
     moves = (record { entry = Some asked_one; behind = at_ops 0 } ∷ []) ∷ (record { entry = Some picks_one; behind = at_ops 0 } ∷ behind_pick) ∷ [];
-    are = (
-      refl,
-      (
-        (
-          refl,
-          (
-            turn_to 0 0 (Some picks_one) (omega arith) (omega arith) refl,
-            (
-              turn_to 0 1 None (omega arith) (omega arith) tt,
-              (
-                turn_to 1 2 None (omega arith) (omega arith) tt,
-                (turn_to 2 3 None (omega arith) (omega arith) tt, (turn_to 3 4 (Some wrote_one) (omega arith) (omega arith) refl, (turn_to 4 4 (Some posted_one) (omega arith) (omega arith) refl, tt))),
-              ),
-            ),
-          ),
-        ),
-        tt,
-      ),
-    );
+    are = (refl, ((refl, search rules), tt));
     tell = refl;
     behind = refl;
   };

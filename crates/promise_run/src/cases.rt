@@ -82,6 +82,7 @@ pub fn runs_that_are_served()
 /// A write that its sixth turn posts has its turns. Nine turns that pick a job and make no more of it aren't turns of a job
 /// that takes eight at most, and two turns don't make four operations. Two faults of a job's own pay for its failure, and
 /// two before its Pick don't. Where two were counted before it a third pays for a start-up that fails, and the two don't.
+#[tactic(auto, using(crate::proofs::OneByOne::six_kept, crate::proofs::OneByOne::not_lazy, crate::proofs::OneByOne::no_leap))]
 pub fn turns_one_by_one()
     ensures six { HasTurns (always 8) six_turns six_turns.course }
     ensures lazy { HasTurns (always 8) lazy lazy.course → ⊥ }

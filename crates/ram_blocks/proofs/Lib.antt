@@ -1,4 +1,5 @@
 pub mod Cleared
+pub mod FreshCopies
 pub mod Made
 pub mod PlainCopies
 pub mod Trying

@@ -29,43 +29,58 @@ took v n x slot = record v { got = v.got ++ (store_number n, x) ∷ []; taken = 
 abbrev pub Looks : {S : Type 0} → Step S → Me S View → ℕ → Me S View → Type 0
 Looks st m r m' = (n : ℕ) × (m'.1 ≡ m.1) × (m'.0 ≡ looked m.0 n) × (m.0.shown ≤ n) × (m.0.taken ≤ n) × (r < 4 → n ≡ m.0.taken) × (4 ≤ r → m.0.taken < n)
 
+-- an end of the mirror: which seat has it, and which slot is its own
+pub record End : Type 0 where
+  pub seat : ℕ
+  pub slot : ℕ
+
+-- all stores, how many there were at the last take, and the three slots: the one at home, the owner's and the taker's
+pub record Slots : Type 0 where
+  pub log : Contents
+  pub taken : ℕ
+  pub home : ℕ
+  pub owner : End
+  pub taker : End
+  pub home_in : home < 3
+  pub owner_in : owner.slot < 3
+  pub taker_in : taker.slot < 3
+  pub home_owner : home ≢ owner.slot
+  pub home_taker : home ≢ taker.slot
+  pub owner_taker : owner.slot ≢ taker.slot
+
 module _ {S : Type 0} (bytes : S → List ℕ) where
   -- a slot is out with its seat, or at home
   abbrev pub Lies : List (Option S) → ℕ → Bool → Type 0
   Lies homes k true = get_elem? homes k ≡ some none
   Lies homes k false = (y : S) × (get_elem? homes k ≡ some (some y))
 
+  -- what the owner's view knows, and the taker's: all stores or the last take, and its slot
+  abbrev pub FitsOwner : ℕ → Slots → List (Option S) → ℕ → View → Type 0
+  FitsOwner size p homes j v = (j ≡ p.owner.seat) × (v.stores ≡ p.log) × Lies homes p.owner.slot v.owner_out × (v.owner_slot ≡ p.owner.slot) × (v.size ≡ size)
+
+  abbrev pub FitsTaker : ℕ → Slots → List (Option S) → ℕ → View → Type 0
+  FitsTaker size p homes j v = (j ≡ p.taker.seat) × (v.taken ≡ p.taken) × Lies homes p.taker.slot v.taker_out × (v.taker_slot ≡ p.taker.slot) × (v.size ≡ size)
+
   -- what is so of each view v, of the seat j: the stores are the owner's, the takes are the taker's, and each has its slot
-  pub record Fits (size : ℕ) (log : Contents) (taken owner taker owner_id taker_id : ℕ) (homes : List (Option S)) (j : ℕ) (v : View) : Type 0 where
-    pub owns : v.owns ≡ true → (j ≡ owner_id) × (v.stores ≡ log) × Lies homes owner v.owner_out × (v.owner_slot ≡ owner) × (v.size ≡ size)
-    pub takes : v.takes ≡ true → (j ≡ taker_id) × (v.taken ≡ taken) × Lies homes taker v.taker_out × (v.taker_slot ≡ taker) × (v.size ≡ size)
-    pub shown : v.shown ≤ length log
-    pub agrees : AllStored log v.got
+  pub record Fits (size : ℕ) (p : Slots) (homes : List (Option S)) (j : ℕ) (v : View) : Type 0 where
+    pub owns : v.owns ≡ true → FitsOwner size p homes j v
+    pub takes : v.takes ≡ true → FitsTaker size p homes j v
+    pub shown : v.shown ≤ length p.log
+    pub agrees : AllStored p.log v.got
 
   -- the home slot has the newest store, which was not taken yet, or some old one
-  abbrev pub Newest : List ℕ → Contents → ℕ → ℕ → S → Type 0
-  Newest words log taken home y =
-      ((words ≡ home ∷ []) × (taken ≡ length log))
-      ⊎ ((words ≡ (home + 4 + 8 * store_number (length log)) ∷ []) × (taken < length log) × IsLast log (bytes y))
+  abbrev pub Newest : List ℕ → Slots → S → Type 0
+  Newest words p y =
+      ((words ≡ p.home ∷ []) × (p.taken ≡ length p.log))
+      ⊎ ((words ≡ (p.home + 4 + 8 * store_number (length p.log)) ∷ []) × (p.taken < length p.log) × IsLast p.log (bytes y))
 
   -- the rule: the three slots are the one at home, the owner's and the taker's
   pub record Mirrored (size : ℕ) (s : State S View) : Type 0 where
-    pub log : Contents
-    pub taken : ℕ
-    pub home : ℕ
-    pub owner : ℕ
-    pub taker : ℕ
-    pub owner_id : ℕ
-    pub taker_id : ℕ
+    pub slots : Slots
+    pub open slots use *
     pub three : length s.homes ≡ 3
-    pub home_in : home < 3
-    pub owner_in : owner < 3
-    pub taker_in : taker < 3
-    pub home_owner : home ≢ owner
-    pub home_taker : home ≢ taker
-    pub owner_taker : owner ≢ taker
-    pub lies : (y : S) × (get_elem? s.homes home ≡ some (some y)) × (length (bytes y) ≡ size) × Newest s.words log taken home y
-    pub each : (j : ℕ) (v : View) → get_elem? s.views j ≡ some v → Fits size log taken owner taker owner_id taker_id s.homes j v
+    pub lies : (y : S) × (get_elem? s.homes home ≡ some (some y)) × (length (bytes y) ≡ size) × Newest s.words slots y
+    pub each : (j : ℕ) (v : View) → get_elem? s.views j ≡ some v → Fits size slots s.homes j v
 
   -- the slots of a new mirror: any two, and one of the right length
   abbrev pub IsMade : ℕ → List S → Type 0
@@ -107,11 +122,15 @@ taker_begins v = record v { taker_out = true }
 abbrev pub taker_ends : View → View
 taker_ends v = record v { takes = false; taker_out = false }
 
+-- an end takes its first slot
+abbrev pub Begins : {S : Type 0} → (View → ℕ) → (View → View) → Step S → Me S View → ℕ → Me S View → Type 0
+Begins {S} slot begun st m r m' = (y : S) × (m'.1 ≡ (slot m.0, y) ∷ []) × (m'.0 ≡ begun m.0)
+
 abbrev pub BeginsOwner : {S : Type 0} → Step S → Me S View → ℕ → Me S View → Type 0
-BeginsOwner {S} st m r m' = (y : S) × (m'.1 ≡ (m.0.owner_slot, y) ∷ []) × (m'.0 ≡ owner_begins m.0)
+BeginsOwner st m r m' = Begins (λ v. v.owner_slot) owner_begins st m r m'
 
 abbrev pub BeginsTaker : {S : Type 0} → Step S → Me S View → ℕ → Me S View → Type 0
-BeginsTaker {S} st m r m' = (y : S) × (m'.1 ≡ (m.0.taker_slot, y) ∷ []) × (m'.0 ≡ taker_begins m.0)
+BeginsTaker st m r m' = Begins (λ v. v.taker_slot) taker_begins st m r m'
 
 abbrev pub EndsTaker : {S : Type 0} → Step S → Me S View → ℕ → Me S View → Type 0
 EndsTaker st m r m' = (m'.1 ≡ []) × (m'.0 ≡ taker_ends m.0)

@@ -1,11 +1,11 @@
 -- Mirrors that are made, block by block.
 use Rattle.std.specs.Prelude.{is_some, slice_get, unwrap_or, IfSome, replicate}
-use Rattle.std.proofs.Common.{◌≡◌, ◌⊎◌, inl, inr, ℕ, zero, suc, ◌+◌, ◌<◌, ◌≤◌, true, false, List, [], ◌∷◌, ◌++◌, length, map, get_or, option_map, Option, Some, None, refl, sym, ap, ◌∙◌, subst, arith, length-append}
-use Rattle.std.proofs.lemmas.List.{get_or_append_left, length-replicate}
+use Rattle.std.proofs.Common.{◌≡◌, ℕ, zero, suc, ◌+◌, ◌<◌, ◌≤◌, true, false, List, [], ◌∷◌, ◌++◌, length, map, get_or, option_map, Option, Some, None, refl, sym, ap, ◌∙◌, subst, arith, length-append, lt_of_not-le}
+use Rattle.std.proofs.lemmas.List.{get_or_append_left, get_or_past, length-replicate}
 use Rattle.std.proofs.Math.Seq.{get_or-append_seam}
 use Rattle.std.proofs.Math.ListN.{get_or-map}
 use mathlib.Core.Logic.{dite}
-use native.Mathlib.Decide.{ℕ_discrete}
+use native.Mathlib.Decide.{ℕ_discrete, dec_le}
 use Rattle.block_machine.specs.block_config.declared.block.BlockDesc.{BlockDesc}
 use Rattle.block_machine.specs.block_config.declared.block.BlockKind.{BlockKind}
 use Rattle.block_machine.specs.block_config.declared.block.BlockKind.TheVariants.{Native, Redundant, Dataset}
@@ -15,7 +15,7 @@ use Rattle.block_machine.specs.block_config.Rules.{IsLegalBlock, AreDefaults}
 use Rattle.block_machine.specs.Blocks.{desc_of, is_synchronized}
 use Rattle.ram_blocks.specs.Told.{Synchronized, IsSynchronized}
 use Rattle.ram_mirrors_sync.specs.Ends.{PairValue, EndValue}
-use Rattle.ram_mirrors_sync.specs.Blocks.{SideValue, Pairs, EndList, SideList, pair_at, end_at, side_at, HasEnd, IsSideBy, IsSideIn, AreEndsOf, AreSidesOf, AreIn, IsMade, AreMade, first_of, told_by}
+use Rattle.ram_mirrors_sync.specs.Blocks.{SideValue, Pairs, EndList, SideList, pair_at, end_at, side_at, HasEnd, IsSideBy, IsSideIn, AreEndsOf, AreSidesOf, AreIn, IsMirrored, IsMade, AreMade, first_of, told_by}
 
 -- those of the ids below a number
 pub record AreMadeTo (c : Configuration) (n : ℕ) (ps : Pairs) (es : EndList) (ss : SideList) : Type 0 where
@@ -58,11 +58,6 @@ pub none_yet : (c : Configuration) → AreMadeTo c 0 [] [] []
 none_yet c = record { pairs = refl; ends = refl; sides = refl; each = λ id below. absurd (omega (arith, below)) }
 
 -- ALL OF THEM
-beyond : {A : Type 0} (xs : List (Option A)) (id : ℕ) → length xs ≤ id → get_or xs id None ≡ None
-beyond [] id out = refl
-beyond (x ∷ xs) zero out = absurd (omega (arith, out))
-beyond (x ∷ xs) (suc id) out = beyond xs id (omega (arith, out))
-
 no_desc : (bs : List BlockDesc) (i : ℕ) → length bs ≤ i → slice_get bs i ≡ None
 no_desc [] i out = refl
 no_desc (b ∷ bs) zero out = absurd (omega (arith, out))
@@ -73,77 +68,45 @@ no_block c zero out = absurd (omega (arith, out))
 no_block c (suc i) out = no_desc c.blocks i (omega (arith, out))
 
 pub all_made : (c : Configuration) (n : ℕ) (ps : Pairs) (es : EndList) (ss : SideList) → n ≡ length c.blocks + 1 → AreMadeTo c n ps es ss → AreMade c ps es ss
-all_made c n ps es ss all made id = by (nat_cases id n)
-  where
-    nat_cases : (a b : ℕ) → (a < b) ⊎ (b ≤ a)
-    nat_cases zero zero = inr (omega arith)
-    nat_cases zero (suc b) = inl (omega arith)
-    nat_cases (suc a) zero = inr (omega arith)
-    nat_cases (suc a) (suc b) = elim (nat_cases a b) [
-      | inl less ↦ inl (omega (arith, less))
-      | inr more ↦ inr (omega (arith, more))
-    ]
-
-    by : (id < n) ⊎ (n ≤ id) → IsMade id (block_of c id) (pair_at ps id) (end_at es id) (side_at ss id)
-    by (inl below) = made.each id below
-    by (inr out) = subst (λ (d : Option BlockDesc). IsMade id d (pair_at ps id) (end_at es id) (side_at ss id)) (sym (no_block c id (omega (arith, out, all))))
-        (made_as id None None (pair_at ps id) None (end_at es id) None (side_at ss id)
-        (beyond ps id (omega (arith, out, made.pairs))) (beyond es id (omega (arith, out, made.ends))) (beyond ss id (omega (arith, out, made.sides))) tt)
+all_made c n ps es ss all made id = dite (dec_le n id)
+    (λ out. subst (λ (d : Option BlockDesc). IsMade id d (pair_at ps id) (end_at es id) (side_at ss id)) (sym (no_block c id (omega (arith, out, all))))
+    (made_as id None None (pair_at ps id) None (end_at es id) None (side_at ss id)
+    (get_or_past ps id None (omega (arith, out, made.pairs))) (get_or_past es id None (omega (arith, out, made.ends))) (get_or_past ss id None (omega (arith, out, made.sides))) tt))
+    (λ below. made.each id (lt_of_not-le below))
 
 -- WHAT IS SO OF THEM
-end_by : (id : ℕ) (d : Option BlockDesc) (p : Option PairValue) (e : Option EndValue) (s : Option SideValue) → IsMade id d p e s → HasEnd p e
-end_by id d (Some p) (Some e) (Some s) is = is.end
-end_by id d (Some p) (Some e) None is = absurd is
-end_by id d (Some p) None (Some s) is = absurd is
-end_by id d (Some p) None None is = absurd is
-end_by id d None (Some e) (Some s) is = absurd is
-end_by id d None (Some e) None is = absurd is
-end_by id d None None (Some s) is = absurd is
-end_by id d None None None is = tt
+-- what is so of all three, and of none of them, is so of what is made
+made_cases : (P : Option PairValue → Option EndValue → Option SideValue → Type 0) (id : ℕ) (d : Option BlockDesc) (p : Option PairValue) (e : Option EndValue) (s : Option SideValue) → IsMade id d p e s
+    → ((q : PairValue) (f : EndValue) (t : SideValue) → IsMirrored id d q f t → P (Some q) (Some f) (Some t)) → (IfSome d (λ x. is_synchronized x.ram ≡ false) → P None None None) → P p e s
+made_cases P id d (Some p) (Some e) (Some s) is all none = all p e s is
+made_cases P id d (Some p) (Some e) None is all none = absurd is
+made_cases P id d (Some p) None (Some s) is all none = absurd is
+made_cases P id d (Some p) None None is all none = absurd is
+made_cases P id d None (Some e) (Some s) is all none = absurd is
+made_cases P id d None (Some e) None is all none = absurd is
+made_cases P id d None None (Some s) is all none = absurd is
+made_cases P id d None None None is all none = none is
 
 pub ends_made : (c : Configuration) (ps : Pairs) (es : EndList) (ss : SideList) → AreMade c ps es ss → AreEndsOf ps es
-ends_made c ps es ss made id = end_by id (block_of c id) (pair_at ps id) (end_at es id) (side_at ss id) (made id)
-
-side_by : (ps : Pairs) (id : ℕ) (d : Option BlockDesc) (p : Option PairValue) (e : Option EndValue) (s : Option SideValue) → pair_at ps id ≡ p → IsMade id d p e s
-    → IfSome s (λ x. (x.block ≡ id) × IsSideIn ps x)
-side_by ps id d (Some p) (Some e) (Some s) at is =
-    (is.block, subst (λ (k : ℕ). IsSideBy (pair_at ps k) s) (sym is.block) (subst (λ (o : Option PairValue). IsSideBy o s) (sym at) is.side))
-side_by ps id d (Some p) (Some e) None at is = absurd is
-side_by ps id d (Some p) None (Some s) at is = absurd is
-side_by ps id d (Some p) None None at is = absurd is
-side_by ps id d None (Some e) (Some s) at is = absurd is
-side_by ps id d None (Some e) None at is = absurd is
-side_by ps id d None None (Some s) at is = absurd is
-side_by ps id d None None None at is = tt
+ends_made c ps es ss made id = made_cases (λ p e _. HasEnd p e) id (block_of c id) (pair_at ps id) (end_at es id) (side_at ss id) (made id) (λ p e s is. is.end) (λ _. tt)
 
 pub sides_made : (c : Configuration) (ps : Pairs) (es : EndList) (ss : SideList) → AreMade c ps es ss → AreSidesOf ps ss
-sides_made c ps es ss made id = side_by ps id (block_of c id) (pair_at ps id) (end_at es id) (side_at ss id) refl (made id)
-
-in_by : (id : ℕ) (d : Option BlockDesc) (p : Option PairValue) (e : Option EndValue) (s : Option SideValue) → IsMade id d p e s → is_some s ≡ is_some p
-in_by id d (Some p) (Some e) (Some s) is = refl
-in_by id d (Some p) (Some e) None is = absurd is
-in_by id d (Some p) None (Some s) is = absurd is
-in_by id d (Some p) None None is = absurd is
-in_by id d None (Some e) (Some s) is = absurd is
-in_by id d None (Some e) None is = absurd is
-in_by id d None None (Some s) is = absurd is
-in_by id d None None None is = refl
+sides_made c ps es ss made id = made_cases (λ p _ s. pair_at ps id ≡ p → IfSome s (λ x. (x.block ≡ id) × IsSideIn ps x)) id (block_of c id) (pair_at ps id) (end_at es id) (side_at ss id) (made id)
+    (λ p e s is at. (is.block, subst (λ (k : ℕ). IsSideBy (pair_at ps k) s) (sym is.block) (subst (λ (o : Option PairValue). IsSideBy o s) (sym at) is.side)))
+    (λ _ _. tt) refl
 
 pub all_in : (c : Configuration) (ps : Pairs) (es : EndList) (ss : SideList) → AreMade c ps es ss → AreIn ps ss
-all_in c ps es ss made id = in_by id (block_of c id) (pair_at ps id) (end_at es id) (side_at ss id) (made id)
+all_in c ps es ss made id = made_cases (λ p _ s. is_some s ≡ is_some p) id (block_of c id) (pair_at ps id) (end_at es id) (side_at ss id) (made id) (λ p e s is. refl) (λ _. refl)
+
+not_synchronized : (d : Option BlockDesc) (X : Type 0) → IfSome d (λ x. is_synchronized x.ram ≡ false) → is_synchronized (unwrap_or d (plain_block 0)).ram ≡ true → X
+not_synchronized None X is sync = cc
+not_synchronized (Some d) X is sync = cc
 
 synchronized_by : (id : ℕ) (d : Option BlockDesc) (p : Option PairValue) (e : Option EndValue) (s : Option SideValue) → IsMade id d p e s
     → is_synchronized (unwrap_or d (plain_block 0)).ram ≡ true → option_map (λ (x : Synchronized). x.bytes) (told_by e) ≡ Some (unwrap_or d (plain_block 0)).length
-synchronized_by id d (Some p) (Some e) (Some s) is sync =
-    ap Some is.new.length_up ∙ ap (λ (o : Option BlockDesc). Some (unwrap_or o (plain_block 0)).length) (sym is.is)
-synchronized_by id d (Some p) (Some e) None is sync = absurd is
-synchronized_by id d (Some p) None (Some s) is sync = absurd is
-synchronized_by id d (Some p) None None is sync = absurd is
-synchronized_by id d None (Some e) (Some s) is sync = absurd is
-synchronized_by id d None (Some e) None is sync = absurd is
-synchronized_by id d None None (Some s) is sync = absurd is
-synchronized_by id None None None None is sync = cc
-synchronized_by id (Some d) None None None is sync = cc
+synchronized_by id d p e s is sync = made_cases (λ _ f _. option_map (λ (x : Synchronized). x.bytes) (told_by f) ≡ Some (unwrap_or d (plain_block 0)).length) id d p e s is
+    (λ p e s is. ap Some is.new.length_up ∙ ap (λ (o : Option BlockDesc). Some (unwrap_or o (plain_block 0)).length) (sym is.is))
+    (λ none. not_synchronized d _ none sync)
 
 pub synchronized_made : (c : Configuration) (ps : Pairs) (es : EndList) (ss : SideList) → AreMade c ps es ss
     → (id : ℕ) → is_synchronized (desc_of c id).ram ≡ true → IsSynchronized (map told_by es) id (desc_of c id).length

@@ -15,25 +15,17 @@ told_same [] i end new is same = cc
 told_same (x ∷ xs) zero end new is same = ap (λ (t : Option Synchronized). t ∷ map told_by xs) (ap Some same ∙ ap told_by (sym is))
 told_same (x ∷ xs) (suc i) end new is same = ap (λ (ts : List (Option Synchronized)). told_by x ∷ ts) (told_same xs i end new is same)
 
-pub stores_stay : (xs : EndList) (i : ℕ) (end new : EndValue) → end_at xs i ≡ Some end → ((m : ℕ) (y : List ℕ) → IsTaken end m y → IsTaken new m y)
-    → (b n : ℕ) (x : List ℕ) → IsStore xs b n x → IsStore (slice_set xs i (Some new)) b n x
-stores_stay [] i end new is stay b n x h = cc
-stores_stay (y ∷ ys) zero end new is stay zero n x h = stay n x (subst (λ (o : Option EndValue). IfSome o (λ l. IsTaken l n x)) is h)
-stores_stay (y ∷ ys) zero end new is stay (suc b) n x h = h
-stores_stay (y ∷ ys) (suc i) end new is stay zero n x h = h
-stores_stay (y ∷ ys) (suc i) end new is stay (suc b) n x h = stores_stay ys i end new is stay b n x h
-
 -- what was taken stays so where a content is handed over
 pub in_stores_stay : (old new : EndValue) (n : ℕ) (content : List ℕ) → CopiesEndIn old n content new → (m : ℕ) (y : List ℕ) → IsTaken old m y → IsTaken new m y
 in_stores_stay old new n content is m y taken = subst (λ (e : EndValue). IsTaken e m y) (sym is.stored) taken
 
--- and what is taken now is a store
-pub store_now : (xs : EndList) (i : ℕ) (end new : EndValue) (n : ℕ) (x : List ℕ) → end_at xs i ≡ Some end → IsTaken new n x → IsStore (slice_set xs i (Some new)) i n x
-store_now [] i end new n x is taken = cc
-store_now (y ∷ ys) zero end new n x is taken = taken
-store_now (y ∷ ys) (suc i) end new n x is taken = store_now ys i end new n x is taken
-
 -- WHAT LOOKS SHOWED
+-- what holds of the new end holds at its place
+held_now : (P : EndValue → Type 0) (xs : EndList) (i : ℕ) (end new : EndValue) → end_at xs i ≡ Some end → P new → IfSome (end_at (slice_set xs i (Some new)) i) P
+held_now P [] i end new is now = cc
+held_now P (y ∷ ys) zero end new is now = now
+held_now P (y ∷ ys) (suc i) end new is now = held_now P ys i end new is now
+
 -- what holds of a block's end holds of the one in its place
 held_on : (P : EndValue → Type 0) (xs : EndList) (i : ℕ) (end new : EndValue) → end_at xs i ≡ Some end → (P end → P new)
     → (b : ℕ) → IfSome (end_at xs b) P → IfSome (end_at (slice_set xs i (Some new)) b) P
@@ -87,9 +79,11 @@ out_shows old new n content is =
     )
 
 pub looked_now : (xs : EndList) (i : ℕ) (end new : EndValue) (n : ℕ) → end_at xs i ≡ Some end → HasShown end new n → HasLooked xs (slice_set xs i (Some new)) i n
-looked_now [] i end new n is shown = cc
-looked_now (x ∷ xs) zero end new n is shown = subst (λ (o : Option EndValue). IfSome o (λ l. HasShown l new n)) (sym is) shown
-looked_now (x ∷ xs) (suc i) end new n is shown = looked_now xs i end new n is shown
+looked_now xs i end new n is shown = subst (λ (o : Option EndValue). IfSome o (λ l. IfSome (end_at (slice_set xs i (Some new)) i) (λ m. HasShown l m n))) (sym is) (held_now (λ m. HasShown end m n) xs i end new is shown)
+
+-- what is taken now is a store
+pub store_now : (xs : EndList) (i : ℕ) (end new : EndValue) (n : ℕ) (x : List ℕ) → end_at xs i ≡ Some end → IsTaken new n x → IsStore (slice_set xs i (Some new)) i n x
+store_now xs i end new n x is taken = held_now (λ l. IsTaken l n x) xs i end new is taken
 
 shown_later : (since old new : EndValue) (n : ℕ) → GoesOn old new → HasShown since old n → HasShown since new n
 shown_later since old new n on (i, k, from, at, is) = (i, k, from, on.keeps i k at, is)
@@ -97,16 +91,18 @@ shown_later since old new n on (i, k, from, at, is) = (i, k, from, on.keeps i k 
 shown_earlier : (old new until : EndValue) (n : ℕ) → GoesOn old new → HasShown new until n → HasShown old until n
 shown_earlier old new until n on (i, k, from, at, is) = (i, k, omega (arith, from, on.longer), at, is)
 
-pub looked_later : (xs : EndList) (i : ℕ) (end new : EndValue) → end_at xs i ≡ Some end → GoesOn end new
-    → (since : EndList) (b n : ℕ) → HasLooked since xs b n → HasLooked since (slice_set xs i (Some new)) b n
-looked_later xs i end new is on since b n h =
-    if_some (end_at since b) _ _ (λ l. held_on (λ m. HasShown l m n) xs i end new is (shown_later l end new n on) b) h
+-- what a copy leaves as it was: each store, and what looks showed before it and behind it
+pub record Keeps (old new : EndList) : Type 0 where
+  pub stores : (b n : ℕ) (x : List ℕ) → IsStore old b n x → IsStore new b n x
+  pub later : (since : EndList) (b n : ℕ) → HasLooked since old b n → HasLooked since new b n
+  pub earlier : (until : EndList) (b n : ℕ) → HasLooked new until b n → HasLooked old until b n
 
-pub looked_earlier : (xs : EndList) (i : ℕ) (end new : EndValue) → end_at xs i ≡ Some end → GoesOn end new
-    → (until : EndList) (b n : ℕ) → HasLooked (slice_set xs i (Some new)) until b n → HasLooked xs until b n
-looked_earlier xs i end new is on until b n h =
-    held_back (λ l. IfSome (end_at until b) (λ m. HasShown l m n)) xs i end new is
-    (if_some (end_at until b) _ _ (λ m. shown_earlier end new m n on)) b h
+pub keeps : (xs now : EndList) (i : ℕ) (end new : EndValue) → xs ≡ now → end_at xs i ≡ Some end → ((m : ℕ) (y : List ℕ) → IsTaken end m y → IsTaken new m y) → GoesOn end new → Keeps now (slice_set xs i (Some new))
+keeps xs now i end new same is stay on = subst (λ (l : EndList). Keeps l (slice_set xs i (Some new))) same record {
+  stores = λ b n x. held_on (λ l. IsTaken l n x) xs i end new is (stay n x) b;
+  later = λ since b n. if_some (end_at since b) _ _ (λ l. held_on (λ m. HasShown l m n) xs i end new is (shown_later l end new n on) b);
+  earlier = λ until b n h. held_back (λ l. IfSome (end_at until b) (λ m. HasShown l m n)) xs i end new is (if_some (end_at until b) _ _ (λ m. shown_earlier end new m n on)) b h;
+}
 
 -- the last of contents with one more
 last_more : (xs : Contents) (x last : List ℕ) → last_of (xs ++ x ∷ []) last ≡ x

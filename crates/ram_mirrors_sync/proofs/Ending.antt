@@ -1,8 +1,9 @@
 -- Mirrors that are closed, block by block.
 use Rattle.std.specs.Prelude.{is_some, IfSome}
-use Rattle.std.proofs.Common.{◌≡◌, ◌⊎◌, inl, inr, ℕ, zero, suc, ◌+◌, ◌<◌, ◌≤◌, List, [], ◌∷◌, length, get_or, slice_set, Option, Some, None, refl, sym, ap, ◌∙◌, subst, arith}
+use Rattle.std.proofs.Common.{◌≡◌, ℕ, ◌+◌, ◌<◌, ◌≤◌, List, length, get_or, slice_set, Option, Some, None, refl, sym, ap, ◌∙◌, subst, arith, length-set, get_or-set_other, lt_of_not-le}
+use Rattle.std.proofs.lemmas.List.{get_or_past}
 use mathlib.Core.Logic.{dite}
-use native.Mathlib.Decide.{ℕ_discrete}
+use native.Mathlib.Decide.{ℕ_discrete, dec_le}
 use Rattle.ram_mirrors_sync.specs.Ends.{PairValue, EndValue, IsEndOf}
 use Rattle.ram_mirrors_sync.specs.Blocks.{SideValue, Pairs, EndList, SideList, pair_at, end_at, side_at, HasEnd, IsSideBy, IsSideIn, IsSideOf, AreEndsOf, AreSidesOf, AreIn, IsClosed, AreClosed}
 
@@ -21,25 +22,13 @@ pub record AreClosedTo (n : ℕ) (ps qs : Pairs) (es fs : EndList) (ss ts : Side
 pub none_closed : (ps : Pairs) (es : EndList) (ss : SideList) → AreClosedTo 0 ps ps es es ss ss
 none_closed ps es ss = record { count = refl; closed = λ id below. absurd (omega (arith, below)); pairs = λ id from. refl; ends = λ id from. refl; sides = λ id from. refl }
 
-set_before : {A : Type 0} (xs : List (Option A)) (i j : ℕ) (v : Option A) → i < j → get_or (slice_set xs i v) j None ≡ get_or xs j None
-set_before [] i j v less = refl
-set_before (x ∷ xs) zero zero v less = absurd (omega (arith, less))
-set_before (x ∷ xs) zero (suc j) v less = refl
-set_before (x ∷ xs) (suc i) zero v less = absurd (omega (arith, less))
-set_before (x ∷ xs) (suc i) (suc j) v less = set_before xs i j v (omega (arith, less))
-
-same_count : {A : Type 0} (xs : List A) (i : ℕ) (v : A) → length (slice_set xs i v) ≡ length xs
-same_count [] i v = refl
-same_count (x ∷ xs) zero v = refl
-same_count (x ∷ xs) (suc i) v = ap suc (same_count xs i v)
-
 set_as : {A : Type 0} (xs ys : List (Option A)) (i j : ℕ) → ys ≡ slice_set xs i None → i < j → get_or ys j None ≡ get_or xs j None
-set_as xs ys i j is less = ap (λ l. get_or l j None) is ∙ set_before xs i j None less
+set_as xs ys i j is less = ap (λ l. get_or l j None) is ∙ get_or-set_other xs i j None None (λ same. omega (arith, less, same))
 
 pub one_closed : (n m : ℕ) (ps qs rs : Pairs) (es fs gs : EndList) (ss ts us : SideList) → m ≡ n + 1 → AreClosedTo n ps qs es fs ss ts
     → rs ≡ slice_set qs n None → gs ≡ slice_set fs n None → us ≡ slice_set ts n None → IsClosedAt (end_at es n) (side_at ss n) → AreClosedTo m ps rs es gs ss us
 one_closed n m ps qs rs es fs gs ss ts us next to pairs ends sides now = record {
-  count = ap length pairs ∙ same_count qs n None ∙ to.count;
+  count = ap length pairs ∙ length-set qs n None ∙ to.count;
   closed = λ id below. dite (ℕ_discrete id n) (λ same. subst (λ (k : ℕ). IsClosedAt (end_at es k) (side_at ss k)) (sym same) now) (λ other. to.closed id (omega (arith, below, next, other)));
   pairs = λ id from. set_as qs rs n id pairs (omega (arith, from, next)) ∙ to.pairs id (omega (arith, from, next));
   ends = λ id from. set_as fs gs n id ends (omega (arith, from, next)) ∙ to.ends id (omega (arith, from, next));
@@ -47,29 +36,14 @@ one_closed n m ps qs rs es fs gs ss ts us next to pairs ends sides now = record 
 }
 
 -- ALL OF THEM
-beyond : {A : Type 0} (xs : List (Option A)) (id : ℕ) → length xs ≤ id → get_or xs id None ≡ None
-beyond [] id out = refl
-beyond (x ∷ xs) zero out = absurd (omega (arith, out))
-beyond (x ∷ xs) (suc id) out = beyond xs id (omega (arith, out))
-
 no_end : (p : Option PairValue) (e : Option EndValue) (s : Option SideValue) → p ≡ None → HasEnd p e → IsClosedAt e s
 no_end p None s none has = tt
 no_end p (Some e) s none has = absurd (subst (λ (x : Option PairValue). HasEnd x (Some e)) none has)
 
-less_or : (a b : ℕ) → (a < b) ⊎ (b ≤ a)
-less_or zero zero = inr (omega arith)
-less_or zero (suc b) = inl (omega arith)
-less_or (suc a) zero = inr (omega arith)
-less_or (suc a) (suc b) = elim (less_or a b) [
-  | inl less ↦ inl (omega (arith, less))
-  | inr more ↦ inr (omega (arith, more))
-]
-
 pub all_closed : (n : ℕ) (ps qs : Pairs) (es fs : EndList) (ss ts : SideList) → length qs ≤ n → AreEndsOf ps es → AreClosedTo n ps qs es fs ss ts → AreClosed es ss
-all_closed n ps qs es fs ss ts all are to id = elim (less_or id n) [
-  | inl below ↦ to.closed id below
-  | inr out ↦ no_end (pair_at ps id) (end_at es id) (side_at ss id) (beyond ps id (omega (arith, all, out, to.count))) (are id)
-]
+all_closed n ps qs es fs ss ts all are to id = dite (dec_le n id)
+    (λ out. no_end (pair_at ps id) (end_at es id) (side_at ss id) (get_or_past ps id None (omega (arith, all, out, to.count))) (are id))
+    (λ below. to.closed id (lt_of_not-le below))
 
 -- A BLOCK
 -- the ends and the side belong to the block's mirrors
@@ -94,7 +68,6 @@ none_now None (Some e) (Some s) has all never = absurd has
 
 -- all sides are in where those of as many places are as there are
 pub all_in : (ps : Pairs) (ss : SideList) (n : ℕ) → length ss ≤ n → length ps ≤ n → ((id : ℕ) → id < n → is_some (side_at ss id) ≡ is_some (pair_at ps id)) → AreIn ps ss
-all_in ps ss n sides pairs are id = elim (less_or id n) [
-  | inl below ↦ are id below
-  | inr out ↦ ap is_some (beyond ss id (omega (arith, sides, out))) ∙ sym (ap is_some (beyond ps id (omega (arith, pairs, out))))
-]
+all_in ps ss n sides pairs are id = dite (dec_le n id)
+    (λ out. ap is_some (get_or_past ss id None (omega (arith, sides, out))) ∙ sym (ap is_some (get_or_past ps id None (omega (arith, pairs, out)))))
+    (λ below. are id (lt_of_not-le below))

@@ -1,7 +1,7 @@
 -- The fields of a program.
 use Rattle.std.specs.Prelude.{ℕ, List, [], ◌∷◌}
 use Rattle.block_machine.specs.Words.{Outcome}
-use Rattle.job_programs.specs.Program.{Program}
+use Rattle.job_programs.specs.Program.{Program, program_at}
 use Rattle.redundant_blocks.specs.declared.program.Stand.{Stand}
 use Rattle.redundant_blocks.specs.declared.program.Stand.TheVariants.{Needless, AtFirst, AtSecond, Done}
 use Rattle.redundant_blocks.specs.declared.program.RedundantProgram.TheInside.{Inside}
@@ -21,12 +21,4 @@ failures_at (AtSecond copy_0 failures) = failures
 failures_at stand = 0
 
 abbrev pub shown : Inside → Program
-shown p = record {
-  block = p.block;
-  kind = p.job;
-  defaults = p.defaults;
-  indices = indices_at p.stand;
-  retries = p.retries;
-  done = done_at p.stand;
-  failures = failures_at p.stand;
-}
+shown p = program_at p.job (indices_at p.stand) (done_at p.stand) (failures_at p.stand)

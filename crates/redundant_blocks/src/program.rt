@@ -1,14 +1,13 @@
 // A job on two copies.
 ghost use Rattle.std.specs.Prelude.{◌≡◌, ◌==◌, if◌then◌else◌, [], ◌∷◌, length, is_some};
 ghost use Rattle.block_machine.specs.block_config.declared.block.BlockKind.TheVariants as kind;
-ghost use Rattle.job_programs.specs.Program.{program_of, after, step_of, operation};
-ghost use Rattle.block_machine.specs.nv_base.declared.job.JobStep.TheVariants.{Device};
+ghost use Rattle.job_programs.specs.Program.{program_of, after, step_of};
 ghost use Rattle.redundant_blocks.specs.declared.program.RedundantProgram.TheInside.{Inside};
 ghost use Rattle.redundant_blocks.specs.Inside.{shown};
 
 use block_machine::block_config::BlockDesc;
-use block_machine::nv_base::{Instance, JobKind, JobStep, Outcome};
-use job_programs::{end_of_none, end_of_two, is_again, operation, retries, settles, works};
+use block_machine::nv_base::{JobKind, JobStep, Outcome};
+use job_programs::{ProgramJob, end_of_none, end_of_two, is_again, settles, works};
 use std::marker::Model;
 
 /// Where a job stands: it needs no operation; it is at copy 0, after so many failed tries; copy 0 is done, and it is at
@@ -23,8 +22,8 @@ enum Stand {
 
 impl Stand {
     // Where the job stands behind an outcome.
-    fn behind(self, outcome: Outcome, job: JobKind, retries: u8) -> Stand
-        ensures { (p : Inside) → p.stand ≡ self → p.job ≡ job → p.retries ≡ retries → shown (record p { stand = result }) ≡ after (shown p) outcome }
+    fn behind(self, outcome: Outcome, kind: JobKind, retries: u8) -> Stand
+        ensures { (p : Inside) → p.stand ≡ self → p.job.kind ≡ kind → p.job.retries ≡ retries → shown (record p { stand = result }) ≡ after (shown p) outcome }
     {
         match self {
             Stand::AtFirst { failures } if outcome != Outcome::First => {
@@ -40,7 +39,7 @@ impl Stand {
                 }
             }
             Stand::AtSecond { copy_0, failures }
-                if outcome != Outcome::First && !settles(job, copy_0) => {
+                if outcome != Outcome::First && !settles(kind, copy_0) => {
                 if is_again(outcome, failures, retries) {
                     Stand::AtSecond {
                         copy_0,
@@ -61,10 +60,7 @@ impl Stand {
 /// A job on a redundant block. Contracts see what is done of it.
 #[derive(Drop)]
 pub struct RedundantProgram {
-    block: u16,
-    job: JobKind,
-    defaults: bool,
-    retries: u8,
+    job: ProgramJob,
     stand: Stand,
 }
 
@@ -90,10 +86,7 @@ impl RedundantProgram {
             Stand::Needless
         };
         RedundantProgram {
-            block,
-            job,
-            defaults: desc.defaults.is_some(),
-            retries: retries(desc, job),
+            job: ProgramJob::new(desc, block, job),
             stand,
         }
     }
@@ -103,7 +96,7 @@ impl RedundantProgram {
         ensures after { self.new ≡ after self.old outcome }
         ensures step { result ≡ step_of self.new }
     {
-        self.stand = self.stand.behind(outcome, self.job, self.retries);
+        self.stand = self.stand.behind(outcome, self.job.kind, self.job.retries);
         self.step()
     }
 
@@ -121,7 +114,7 @@ impl RedundantProgram {
     pub fn retries(&self) -> u8
         ensures { result ≡ self.now.retries }
     {
-        self.retries
+        self.job.retries
     }
 
     /// On how many instances it works: both copies, or none where it needs no operation.
@@ -138,28 +131,15 @@ impl RedundantProgram {
     fn step(&self) -> JobStep
         ensures { result ≡ step_of self.now }
     {
+        let job = self.job;
         match self.stand {
-            Stand::Needless => end_of_none(self.defaults, self.job),
-            Stand::AtFirst { .. } => self.operation_on(0),
-            Stand::AtSecond { copy_0, .. } if !settles(self.job, copy_0) => self.operation_on(1),
+            Stand::Needless => end_of_none(job.defaults, job.kind),
+            Stand::AtFirst { .. } => job.operation_on(0),
+            Stand::AtSecond { copy_0, .. } if !settles(job.kind, copy_0) => job.operation_on(1),
             Stand::AtSecond { copy_0, .. } => {
-                end_of_two(self.defaults, self.job, copy_0, Outcome::Failed)
+                end_of_two(job.defaults, job.kind, copy_0, Outcome::Failed)
             }
-            Stand::Done { copy_0, copy_1 } => {
-                end_of_two(self.defaults, self.job, copy_0, copy_1)
-            }
-        }
-    }
-
-    fn operation_on(&self, index: u8) -> JobStep
-        ensures { result ≡ Device (operation self.now.kind) (record { block = self.now.block; index = index }) }
-    {
-        JobStep::Device {
-            op: operation(self.job),
-            instance: Instance {
-                block: self.block,
-                index,
-            },
+            Stand::Done { copy_0, copy_1 } => end_of_two(job.defaults, job.kind, copy_0, copy_1),
         }
     }
 }

@@ -1,7 +1,7 @@
 -- Whether a mark may stand behind an entry.
 use Rattle.std.specs.Option.{option_map_or}
 use Rattle.std.proofs.Common.{◌≡◌, ◌↔◌, ◌<◌, ◌==◌, ◌&&◌, ℕ, Bool, true, false, if◌then◌else◌, List, [], ◌∷◌, length, Contains, refl, sym, ap, ◌∙◌, subst, ◌⊎◌, inl, inr, arith, Option, Some, None, IsTrue, IsSome}
-use Rattle.std.proofs.lemmas.Bool.{eq-eqb}
+use Rattle.std.proofs.lemmas.Bool.{and_parts, eq-eqb}
 use Rattle.std.proofs.lemmas.Bool.Decides.{nat_tests}
 use Rattle.std.proofs.lemmas.List.Elements.{Contains-append_left, Contains-append_right, Contains-append_cases}
 use Rattle.block_machine.specs.nv_base.Cell.{Cell, settled_as, doubted, MayStand}
@@ -18,6 +18,7 @@ use Rattle.block_machine.specs.Legal.{MayPick, IsAllowed}
 use Rattle.block_machine.specs.History.{MayStandIn}
 use Rattle.block_laws.specs.Laws.{is_found, cell_by}
 use Rattle.block_laws.proofs.CellChanges.{found_cells, cells_change}
+use Rattle.block_laws.proofs.MarkOrigins.{stood}
 use Rattle.rows_histories.specs.declared.seen.Seen.{Seen}
 use Rattle.rows_histories.specs.Seen.{mark_taken, IsTaken, StandsBy, index_by, IsSeenBy, IsSeen}
 use Rattle.rows_histories.proofs.Lists.{some_is}
@@ -70,11 +71,6 @@ picked_stands false stands (Some m) mark cell fits = (
   λ h. inl (fits.1 h),
 )
 
-parts : (p q : Bool) → (p && q) ≡ true → (p ≡ true) × (q ≡ true)
-parts true true is = (refl, refl)
-parts true false is = cc
-parts false q is = cc
-
 abbrev IsIn : Configuration → Instance → ℕ → ℕ → Type 0
 IsIn c i index block = IsTrue (is_in (indices_by (desc_of c block).kind (desc_of c block).nv index) i.index)
 
@@ -89,7 +85,7 @@ taken_its c s i index block kind t mark same = (
     h.takes,
   ),
   λ h.
-      let both = parts (i.block == block) (is_in (indices_of c s block) i.index) h.0 in
+      let both = and_parts (i.block == block) (is_in (indices_of c s block) i.index) h.0 in
       let own : i.block ≡ block = grind (arith, nat_tests, both.0) in
       record {
         same_block = own;
@@ -127,14 +123,6 @@ stands_by c cap s i mark old cell (Wrote w written ops) fits same allowed found 
 stands_by c cap s i mark old cell (Post block r given refused ops) fits same allowed found = fits
 stands_by c cap s i mark old cell (Off ops) fits same allowed found = fits
 stands_by c cap s i mark old cell (Found marks ops) fits same allowed found = cc
-
-pub stood : (c : Configuration) (cap : ℕ) (s : State) (e : Entry) → IsAllowed c cap s e → is_found e ≡ false → IsTrue s.started
-stood c cap s (Ask caller r reply) allowed found = allowed.started
-stood c cap s (Pick block kind t ops) allowed found = allowed.0.started
-stood c cap s (Wrote i mark ops) allowed found = allowed.0.started
-stood c cap s (Post block r given refused ops) allowed found = allowed.0.started
-stood c cap s (Off ops) allowed found = allowed.started
-stood c cap s (Found marks ops) allowed found = cc
 
 some_of : (o : Option InstanceState) → IsSome o → (x : InstanceState) × (o ≡ Some x)
 some_of None is = cc

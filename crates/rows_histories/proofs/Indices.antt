@@ -13,16 +13,8 @@ use Rattle.block_machine.specs.Next.{Next, PickMember, PostMember, EndSweep, nex
 use Rattle.block_machine.specs.StartUp.{started_block}
 use Rattle.block_machine.specs.Steps.{step, accepted, asked, picked, wrote, posted, posted_next, ended, flagged}
 use Rattle.block_laws.specs.Laws.{is_found}
+use Rattle.block_laws.proofs.BlockFields.{field_kept}
 use Rattle.rows_histories.specs.Seen.{index_to, index_by}
-
--- a block that changes, but not its index
-kept_index : (bs : List BlockState) (id : ℕ) (b : BlockState) (n : ℕ) → b.index ≡ (get_or bs id no_block).index
-    → (get_or (slice_set bs id b) n no_block).index ≡ (get_or bs n no_block).index
-kept_index [] id b n same = refl
-kept_index (x ∷ bs) zero b zero same = same
-kept_index (x ∷ bs) zero b (suc n) same = refl
-kept_index (x ∷ bs) (suc id) b zero same = refl
-kept_index (x ∷ bs) (suc id) b (suc n) same = kept_index bs id b n same
 
 set_index : (bs : List BlockState) (id n : ℕ) (b : BlockState) → n < length bs
     → (get_or (slice_set bs id b) n no_block).index ≡ (if id == n then b.index else (get_or bs n no_block).index)
@@ -38,20 +30,20 @@ set_index bs id n b within = elim (cases_Bool (id == n)) [
 -- ASK
 accepted_index : (c : Configuration) (s : State) (r : Request) (n : ℕ) → n < length s.blocks
     → (block_at (accepted c s r) n).index ≡ index_to n (block_at s n).index r
-accepted_index c s (Read block ram) n within = kept_index s.blocks block (record (block_at s block) { status = Pending }) n refl
-accepted_index c s (Write block content store) n within = kept_index s.blocks block (record (block_at s block) { status = Pending }) n refl
-accepted_index c s (Restore block ram) n within = kept_index s.blocks block (record (block_at s block) { status = Pending }) n refl
-accepted_index c s (Erase block) n within = kept_index s.blocks block (record (block_at s block) { status = Pending }) n refl
-accepted_index c s (Invalidate block) n within = kept_index s.blocks block (record (block_at s block) { status = Pending }) n refl
+accepted_index c s (Read block ram) n within = field_kept (λ (x : BlockState). x.index) s.blocks block (record (block_at s block) { status = Pending }) n refl
+accepted_index c s (Write block content store) n within = field_kept (λ (x : BlockState). x.index) s.blocks block (record (block_at s block) { status = Pending }) n refl
+accepted_index c s (Restore block ram) n within = field_kept (λ (x : BlockState). x.index) s.blocks block (record (block_at s block) { status = Pending }) n refl
+accepted_index c s (Erase block) n within = field_kept (λ (x : BlockState). x.index) s.blocks block (record (block_at s block) { status = Pending }) n refl
+accepted_index c s (Invalidate block) n within = field_kept (λ (x : BlockState). x.index) s.blocks block (record (block_at s block) { status = Pending }) n refl
 accepted_index c s (SetIndex block to) n within = set_index s.blocks block n (record (block_at s block) { index = to }) within
 accepted_index c s (GetIndex block) n within = refl
-accepted_index c s (SetProtection block on) n within = kept_index s.blocks block (record (block_at s block) { protected = on }) n refl
-accepted_index c s (SetLock block on) n within = kept_index s.blocks block (record (block_at s block) { locked = on }) n refl
-accepted_index c s (SetRam block on) n within = kept_index s.blocks block (record (block_at s block) { valid = on; changed = on }) n refl
-accepted_index c s (PutRam block content) n within = kept_index s.blocks block (record (block_at s block) { ram = content }) n refl
+accepted_index c s (SetProtection block on) n within = field_kept (λ (x : BlockState). x.index) s.blocks block (record (block_at s block) { protected = on }) n refl
+accepted_index c s (SetLock block on) n within = field_kept (λ (x : BlockState). x.index) s.blocks block (record (block_at s block) { locked = on }) n refl
+accepted_index c s (SetRam block on) n within = field_kept (λ (x : BlockState). x.index) s.blocks block (record (block_at s block) { valid = on; changed = on }) n refl
+accepted_index c s (PutRam block content) n within = field_kept (λ (x : BlockState). x.index) s.blocks block (record (block_at s block) { ram = content }) n refl
 accepted_index c s (Status block) n within = refl
-accepted_index c s ReadAll n within = kept_index s.blocks 0 (record (block_at s 0) { status = Pending }) n refl
-accepted_index c s WriteAll n within = kept_index s.blocks 0 (record (block_at s 0) { status = Pending }) n refl
+accepted_index c s ReadAll n within = field_kept (λ (x : BlockState). x.index) s.blocks 0 (record (block_at s 0) { status = Pending }) n refl
+accepted_index c s WriteAll n within = field_kept (λ (x : BlockState). x.index) s.blocks 0 (record (block_at s 0) { status = Pending }) n refl
 accepted_index c s CancelWriteAll n within = refl
 
 asked_index : (c : Configuration) (s : State) (caller : ℕ) (r : Request) (reply : Reply) (n : ℕ) → n < length s.blocks
@@ -63,16 +55,13 @@ asked_index c s caller r (IndexIs x) n within = refl
 
 -- PICK AND POST
 picked_index : (c : Configuration) (s : State) (t : Taken) (next : Next) (n : ℕ) → (block_at (picked c s t next) n).index ≡ (block_at s n).index
-picked_index c s t (PickMember sw id) n = kept_index s.blocks id (record (block_at s id) { status = Pending }) n refl
+picked_index c s t (PickMember sw id) n = field_kept (λ (x : BlockState). x.index) s.blocks id (record (block_at s id) { status = Pending }) n refl
 picked_index c s t next n = refl
 
 flagged_index : (kind : JobKind) (r : ReqResult) (b : BlockState) → (flagged kind r b).index ≡ b.index
 flagged_index ReadJob Restored b = refl
-flagged_index ReadJob r b = refl
 flagged_index RestoreJob Fine b = refl
-flagged_index RestoreJob r b = refl
 flagged_index WriteJob Fine b = refl
-flagged_index WriteJob r b = refl
 flagged_index kind r b = refl
 
 ended_index : (d : BlockDesc) (keeps : Bool) (kind : JobKind) (ram : Bool) (r : ReqResult) (given : Option (List ℕ)) (b : BlockState)
@@ -83,15 +72,15 @@ ended_index d keeps kind false r given b = refl
 next_index : (c : Configuration) (s : State) (r : ReqResult) (given : Option (List ℕ)) (next : Next) (n : ℕ)
     → (block_at (posted_next c s r given next) n).index ≡ (block_at s n).index
 next_index c s r given (PostMember sw id) n =
-    kept_index s.blocks id (ended (desc_of c id) (keeps_ram c id) (member_kind sw.writes) true r given (block_at s id)) n
+    field_kept (λ (x : BlockState). x.index) s.blocks id (ended (desc_of c id) (keeps_ram c id) (member_kind sw.writes) true r given (block_at s id)) n
     (ended_index (desc_of c id) (keeps_ram c id) (member_kind sw.writes) true r given (block_at s id))
-next_index c s r given (EndSweep sw) n = kept_index s.blocks 0 (record (block_at s 0) { status = r }) n refl
+next_index c s r given (EndSweep sw) n = field_kept (λ (x : BlockState). x.index) s.blocks 0 (record (block_at s 0) { status = r }) n refl
 next_index c s r given next n = refl
 
 posted_index : (c : Configuration) (s : State) (r : ReqResult) (given : Option (List ℕ)) (o : Option Job) (n : ℕ)
     → (block_at (posted c s r given o) n).index ≡ (block_at s n).index
 posted_index c s r given (Some j) n =
-    kept_index s.blocks (job_block j) (ended (desc_of c (job_block j)) (keeps_ram c (job_block j)) (kind_of j) (names_ram j.request) r given (block_at s (job_block j))) n
+    field_kept (λ (x : BlockState). x.index) s.blocks (job_block j) (ended (desc_of c (job_block j)) (keeps_ram c (job_block j)) (kind_of j) (names_ram j.request) r given (block_at s (job_block j))) n
     (ended_index (desc_of c (job_block j)) (keeps_ram c (job_block j)) (kind_of j) (names_ram j.request) r given (block_at s (job_block j)))
 posted_index c s r given None n = next_index c s r given (next_of c s) n
 

@@ -13,7 +13,8 @@ use Rattle.rows_histories.specs.declared.seen.Seen.{Seen}
 use Rattle.rows_histories.specs.Instances.{IsConfigured}
 use Rattle.rows_histories.specs.Seen.{IsSeenBy, IsSeen}
 use Rattle.rows_histories.proofs.Walks.{allowed_at, legal_before, after_more}
-use Rattle.rows_histories.proofs.Cells.{stood, seen_more}
+use Rattle.block_laws.proofs.MarkOrigins.{stood}
+use Rattle.rows_histories.proofs.Cells.{seen_more}
 use Rattle.rows_histories.proofs.Numbers.{numbered, is_within}
 
 -- nothing may stand before the first entry

@@ -1,10 +1,11 @@
 // The history of a text.
-ghost use Rattle.std.specs.Prelude.{◌≡◌, ◌≤◌, ◌<◌, IfOk, length, take};
+ghost use Rattle.std.specs.Prelude.{◌≡◌, ◌≤◌, IfOk, length, take};
 ghost use Rattle.nvm_script.specs.Printed.{history_text};
 
 use crate::entries::read_entry;
 use block_machine::block_config::Config;
 use block_machine::nv_base::History;
+use nvm_script::line_length;
 use std::alloc::{AllocError, Global};
 
 // The most entries of a history.
@@ -37,16 +38,4 @@ pub fn read_history(alloc: Global, config: &Config, text: &[u8]) -> Result<Print
         history,
         length: at,
     })
-}
-
-// The bytes of the first line, its newline among them.
-fn line_length(text: &[u8]) -> usize
-    requires { 0 < length text.now }
-    ensures some { 0 < result }
-    ensures most { result ≤ length text.now }
-{
-    match text.iter().position(|byte| *byte == b'\n') {
-        Some(at) => at + 1,
-        None => text.len(),
-    }
 }

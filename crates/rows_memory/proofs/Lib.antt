@@ -1,4 +1,3 @@
-mod Copies
 mod Cuts
 mod Started
 mod Texts

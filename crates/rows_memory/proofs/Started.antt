@@ -13,7 +13,7 @@ use Rattle.nvm_core.specs.Stack.{StackState}
 use Rattle.nvm_core.specs.StartUps.{StartsUp}
 use Rattle.script_player.specs.PlainTold.{told_by, plan_of, untold_of}
 use Rattle.script_player.specs.Made.{IsFresh}
-use Rattle.rows_memory.proofs.Copies.{none_refused}
+use Rattle.nvm_core.proofs.ram_blocks.FreshCopies.{none_refused}
 
 no_plan : (n : ℕ) (p : PartTold) → p.planning.plan ≡ None → plan_of n p ≡ None
 no_plan n p none = elim (cases_Bool p.off) [ inl off ↦ rw off refl | inr on ↦ rw (on, none) refl ]

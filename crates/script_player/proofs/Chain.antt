@@ -14,7 +14,8 @@ use Rattle.promise_run.specs.Completeness.{is_calm_entry, ends_job}
 use Rattle.promise_run.specs.Turns.{Moment, Move, entry_list, is_asked, is_found, is_picked, fails, ends, IsPostedWithin, EachMove, PostsPicked, ServesTurn, all_moves}
 use Rattle.script_player.specs.Chain.{Shown, state_in, IsWithinTurns, IsMoved, AreMoved}
 use Rattle.script_player.proofs.Grown.{state_more}
-use Rattle.script_player.proofs.InHand.{asked_leaves, picked_on, stays_on, stays_in_hand}
+use Rattle.nvm_core.proofs.block_laws.Along.{asked_leaves}
+use Rattle.script_player.proofs.InHand.{picked_on, stays_on, stays_in_hand}
 use Rattle.nvm_core.specs.block_machine.Next.{next_of}
 
 -- CHAINS
@@ -34,7 +35,7 @@ all_more (x ∷ xs) y = ap (λ (ms : List Move). x ++ ms) (all_more xs y) ∙ sy
 -- ENTRIES
 
 asked_stays : (c : Configuration) (s : State) (e : Option Entry) → IsTrue (is_asked e) → ((after_from c s (entry_list e)).hand ≡ s.hand) × ((after_from c s (entry_list e)).off ≡ s.off)
-asked_stays c s (Some (Ask caller r reply)) is = asked_leaves c s r reply
+asked_stays c s (Some (Ask caller r reply)) is = let leaves = asked_leaves c s r reply in (leaves.1, leaves.2)
 asked_stays c s (Some (Pick block kind t ops)) is = absurd (cc is)
 asked_stays c s (Some (Wrote i mark ops)) is = absurd (cc is)
 asked_stays c s (Some (Post block r given refused ops)) is = absurd (cc is)

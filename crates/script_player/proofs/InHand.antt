@@ -4,46 +4,20 @@ use Rattle.std.specs.List.{list_all, list_any}
 use Rattle.std.specs.Option.{is_some, option_to_list}
 use Rattle.std.proofs.Common.{◌≡◌, ◌-◌, ◌==◌, ◌&&◌, ◌⊎◌, ℕ, Bool, true, false, IsTrue, List, [], ◌∷◌, ◌++◌, Option, Some, None, refl, sym, ap, ◌∙◌, subst, inl, inr, arith}
 use Rattle.std.proofs.lemmas.Bool.{and_parts, or_parts, eqb-true}
-use Rattle.nvm_core.specs.block_machine.Words.{ReqResult, Instance, Mark, Request, SetIndex, SetProtection, SetLock, SetRam, PutRam, ReadAll, WriteAll, CancelWriteAll, Reply, Accepted, Refused, StatusIs, IndexIs, JobKind, Taken, Entry, Ask, Pick, Wrote, Post, Off, Found, Configuration}
+use Rattle.nvm_core.specs.block_machine.Words.{ReqResult, Instance, Mark, Request, Reply, Taken, Entry, Ask, Pick, Wrote, Post, Off, Found, Configuration}
 use Rattle.nvm_core.specs.block_machine.State.{State, Job}
 use Rattle.nvm_core.specs.block_machine.StartUp.{at_first}
-use Rattle.nvm_core.specs.block_machine.Blocks.{job_kind, job_block}
+use Rattle.nvm_core.specs.block_machine.Blocks.{job_block}
 use Rattle.nvm_core.specs.block_machine.Next.{Next, PickJob, BeginSweep, PickMember, PostMember, EndSweep, next_of}
-use Rattle.nvm_core.specs.block_machine.Steps.{step, after, after_from, changed, accepted_by, asked, picked, wrote, posted, posted_next}
+use Rattle.nvm_core.specs.block_machine.Steps.{step, after, after_from, picked, wrote, posted, posted_next}
+use Rattle.nvm_core.proofs.block_laws.Along.{Leaves, asked_leaves}
 use Rattle.script_walks.specs.Walk.{is_at_rest}
 use Rattle.promise_run.specs.Completeness.{is_calm_entry, ends_job}
 
--- REQUESTS
-
--- the job in hand and the power stay
-abbrev pub Leaves : State → State → Type 0
-Leaves s t = (t.hand ≡ s.hand) × (t.off ≡ s.off)
-
-changed_leaves : (c : Configuration) (s : State) (r : Request) → Leaves s (changed c s r)
-changed_leaves c s (SetIndex block index) = (refl, refl)
-changed_leaves c s (SetProtection block on) = (refl, refl)
-changed_leaves c s (SetLock block on) = (refl, refl)
-changed_leaves c s (SetRam block on) = (refl, refl)
-changed_leaves c s (PutRam block content) = (refl, refl)
-changed_leaves c s ReadAll = (refl, refl)
-changed_leaves c s WriteAll = (refl, refl)
-changed_leaves c s CancelWriteAll = (refl, refl)
-changed_leaves c s r = (refl, refl)
-
-accepted_leaves : (c : Configuration) (s : State) (r : Request) (kind : Option JobKind) → Leaves s (accepted_by c s r kind)
-accepted_leaves c s r (Some kind) = (refl, refl)
-accepted_leaves c s r None = changed_leaves c s r
-
-pub asked_leaves : (c : Configuration) (s : State) (r : Request) (reply : Reply) → Leaves s (asked c s r reply)
-asked_leaves c s r Accepted = accepted_leaves c s r (job_kind r)
-asked_leaves c s r (Refused x) = (refl, refl)
-asked_leaves c s r (StatusIs x) = (refl, refl)
-asked_leaves c s r (IndexIs x) = (refl, refl)
+-- THE POWER AND THE HAND
 
 pub ask_hand : (c : Configuration) (s : State) (caller : ℕ) (r : Request) (reply : Reply) → (step c s (Ask caller r reply)).hand ≡ s.hand
-ask_hand c s caller r reply = (asked_leaves c s r reply).0
-
--- THE POWER
+ask_hand c s caller r reply = (asked_leaves c s r reply).1
 
 pub picked_on : (c : Configuration) (s : State) (t : Taken) (next : Next) → s.off ≡ false → (picked c s t next).off ≡ false
 picked_on c s t (PickJob j) on = on
@@ -57,16 +31,16 @@ wrote_on s i mark (Some j) on = on
 
 -- a Post without a job in hand leaves the power and the hand
 next_leaves : (c : Configuration) (s : State) (r : ReqResult) (given : Option (List ℕ)) (next : Next) → Leaves s (posted_next c s r given next)
-next_leaves c s r given (PostMember sw id) = (refl, refl)
-next_leaves c s r given (EndSweep sw) = (refl, refl)
-next_leaves c s r given next = (refl, refl)
+next_leaves c s r given (PostMember sw id) = (refl, refl, refl)
+next_leaves c s r given (EndSweep sw) = (refl, refl, refl)
+next_leaves c s r given next = (refl, refl, refl)
 
 posted_on : (c : Configuration) (s : State) (r : ReqResult) (given : Option (List ℕ)) (hand : Option Job) → s.off ≡ false → (posted c s r given hand).off ≡ false
 posted_on c s r given (Some j) on = on
-posted_on c s r given None on = (next_leaves c s r given (next_of c s)).1 ∙ on
+posted_on c s r given None on = (next_leaves c s r given (next_of c s)).2 ∙ on
 
 step_on : (c : Configuration) (s : State) (e : Entry) → s.off ≡ false → is_calm_entry e ≡ true → (step c s e).off ≡ false
-step_on c s (Ask caller r reply) on calm = (asked_leaves c s r reply).1 ∙ on
+step_on c s (Ask caller r reply) on calm = (asked_leaves c s r reply).2 ∙ on
 step_on c s (Pick block kind t ops) on calm = picked_on c s t (next_of c s) on
 step_on c s (Wrote i mark ops) on calm = wrote_on s i mark s.hand on
 step_on c s (Post block r given refused ops) on calm = posted_on c s r given s.hand on
@@ -98,7 +72,7 @@ none_behind : (c : Configuration) (s : State) (e : Entry) (id : ℕ) → s.hand 
 none_behind c s (Ask caller r reply) id none goes = ask_hand c s caller r reply ∙ none
 none_behind c s (Pick block kind t ops) id none goes = absurd (cc goes)
 none_behind c s (Wrote i mark ops) id none goes = ap (λ (o : Option Job). (wrote s i mark o).hand) none ∙ none
-none_behind c s (Post block r given refused ops) id none goes = ap (λ (o : Option Job). (posted c s r given o).hand) none ∙ (next_leaves c s r given (next_of c s)).0 ∙ none
+none_behind c s (Post block r given refused ops) id none goes = ap (λ (o : Option Job). (posted c s r given o).hand) none ∙ (next_leaves c s r given (next_of c s)).1 ∙ none
 none_behind c s (Off ops) id none goes = none
 none_behind c s (Found marks ops) id none goes = refl
 

@@ -1,6 +1,6 @@
 -- Each kind of step is made.
 use Rattle.std.proofs.Common.{◌≡◌, ◌<◌, ◌≤◌, ◌+◌, ◌^◌, ℕ, zero, suc, Bool, true, false, IsTrue, List, [], ◌∷◌, ◌++◌, length, get_or, refl, sym, ap, ◌∙◌, subst, arith, Option, append-nil, length-set}
-use Rattle.std.specs.Prelude.{slice_set, Result, Ok, Err, OnOk, OnErr, IfErr}
+use Rattle.std.specs.Prelude.{slice_set, Result, Ok, Err, OnOk, IfErr}
 use Rattle.std.proofs.Math.Nat.{min-eq_left}
 use Rattle.nvm_core.specs.block_machine.Words.{Instance, Mark, Request, Reply, Entry, Ask, Found, Configuration}
 use Rattle.nvm_core.specs.block_machine.State.{State}
@@ -8,7 +8,7 @@ use Rattle.nvm_core.specs.block_machine.Blocks.{desc_of, is_synchronized}
 use Rattle.nvm_core.specs.block_machine.Next.{next_of}
 use Rattle.nvm_core.specs.block_machine.Steps.{step, after}
 use Rattle.nvm_core.specs.ram_blocks.Copies.{next_number}
-use Rattle.script_walks.specs.Words.{Step, StepKind, AskStep, Store, Turn, Drain, Restart}
+use Rattle.script_walks.specs.Words.{Step, StepKind, AskStep, Store, Turn, Drain, Restart, Cut, Refuse}
 use Rattle.promise_run.specs.Run.{plan_after}
 use Rattle.promise_run.specs.Completeness.{turns_of, is_drain}
 use Rattle.script_walks.specs.Walk.{stores_of, request_after, is_at_rest, copies_by, TakesStore, IsPieceBy}
@@ -21,19 +21,27 @@ use Rattle.script_walks.proofs.Jobs.{steps_keep_stored, asks_keep_stored, starts
 use Rattle.script_player.specs.Told.{StackTold, state_of, moment_of}
 use Rattle.script_player.specs.Calls.{StartsAgain, Arms, Stores, Refuses}
 use Rattle.script_player.specs.Kept.{IsKept, StaysCalm, HasTurned, AreMade, MakesTurns, Drains}
-use Rattle.script_player.specs.Made.{IsMade, IsAsked, IsExplained}
+use Rattle.script_player.specs.Made.{IsMade, Makes, IsAsked, IsExplained}
 use Rattle.promise_run.specs.Turns.{Move, AreMovesOf}
 use Rattle.script_player.proofs.Moves.{move_to, ask_chain, start_chain}
 use Rattle.script_player.specs.Chain.{shown_of}
 use Rattle.script_player.specs.Paying.{Payer, PaysNothing}
 use Rattle.script_player.proofs.Paying.{nothing_pays, ask_pays, found_pays}
-use Rattle.script_player.proofs.Explained.{by_entries, by_restart, by_nothing}
+use Rattle.script_player.proofs.Explained.{by_cut, by_entries, by_nothing, by_refuse, by_restart}
 use Rattle.script_player.proofs.Served.{same_serves, ask_serves, restart_serves, at_rest_where_calm}
 use Rattle.script_player.specs.Table.{HasLastStores}
+use Rattle.script_player.proofs.Table.{same_table}
 
 -- a step of this kind
 pub at_kind : (P : Step → Type 0) (x : Step) (kind : StepKind) → x.kind ≡ kind → P (record { line = x.line; caller = x.caller; kind = kind }) → P x
 at_kind P x kind is at = subst (λ (k : StepKind). P (record { line = x.line; caller = x.caller; kind = k })) (sym is) at
+
+-- a step of this kind that stores nothing is made, and the table stays
+pub step_made : (p q : Payer) (x : Step) (kind : StepKind) (table : List ℕ) (old new : StackTold) → x.kind ≡ kind → is_store kind ≡ false
+    → ((before : List Step) → HasLastStores old.configuration before table → IsKept before old → IsMade p q before (record { line = x.line; caller = x.caller; kind = kind }) old new) → Makes p q x table table old new
+step_made p q x kind table old new is none made =
+    at_kind (λ (y : Step). Makes p q y table table old new) x kind is
+    (λ before few kept has. (made before has kept, same_table old.configuration before (record { line = x.line; caller = x.caller; kind = kind }) table none has))
 
 -- a step that stores nothing keeps what is kept
 pub kept_more : (before : List Step) (x : Step) (t : StackTold) → is_store x.kind ≡ false → IsKept before t → IsKept (before ++ x ∷ []) t
@@ -45,7 +53,7 @@ kept_more before x t none kept = record {
 }
 
 -- a step that adds nothing, and changes the causes at most
-pub nothing_made : (p q : Payer) (before : List Step) (line caller : ℕ) (kind : StepKind) (old new : StackTold) → is_store kind ≡ false → turns_of kind ≡ 0 → is_drain kind ≡ false → AreMovesOf kind (moment_of old) [] → IsPieceBy old.configuration before (state_of old) caller kind []
+nothing_made : (p q : Payer) (before : List Step) (line caller : ℕ) (kind : StepKind) (old new : StackTold) → is_store kind ≡ false → turns_of kind ≡ 0 → is_drain kind ≡ false → AreMovesOf kind (moment_of old) [] → IsPieceBy old.configuration before (state_of old) caller kind []
     → new ≡ record old { causes = new.causes } → IsExplained kind [] old new → PaysNothing p q new → IsKept before old → IsMade p q before (record { line = line; caller = caller; kind = kind }) old new
 nothing_made p q before line caller kind old new none turns no_drain rests is same explained pays kept =
     let x : Step = record { line = line; caller = caller; kind = kind } in
@@ -71,12 +79,20 @@ nothing_made p q before line caller kind old new none turns no_drain rests is sa
     moved : {xs : List Step} → IsKept xs old → IsKept xs (record old { causes = new.causes })
     moved kept = record { ready = kept.ready; places = kept.places; stores = kept.stores; jobs = kept.jobs }
 
--- an arm and a refusal change the causes alone
-pub same_but_plan : {nth : ℕ} (old new : StackTold) → Arms nth old new → new ≡ record old { causes = new.causes }
-same_but_plan old new arms = arms.only ∙ ap (λ x. record old { causes = x }) (sym (ap (λ t. t.causes) arms.only))
+-- a step that adds nothing, where the causes alone change
+causes_made : (p q : Payer) (x : Step) (kind : StepKind) (table : List ℕ) (old new : StackTold) → x.kind ≡ kind → is_store kind ≡ false → turns_of kind ≡ 0 → is_drain kind ≡ false → AreMovesOf kind (moment_of old) []
+    → ((before : List Step) → IsPieceBy old.configuration before (state_of old) x.caller kind []) → new ≡ record old { causes = new.causes } → IsExplained kind [] old new → PaysNothing p q new → Makes p q x table table old new
+causes_made p q x kind table old new is none turns no_drain rests piece same explained pays =
+    step_made p q x kind table old new is none (λ before has kept. nothing_made p q before x.line x.caller kind old new none turns no_drain rests (piece before) same explained pays kept)
 
-pub same_but_refusable : {block count : ℕ} (old new : StackTold) → Refuses block count old new → new ≡ record old { causes = new.causes }
-same_but_refusable old new refuses = refuses.only ∙ ap (λ x. record old { causes = x }) (sym (ap (λ t. t.causes) refuses.only))
+-- an arm, and a refusal
+pub arm_made : (p q : Payer) (x : Step) (nth keep : ℕ) (table : List ℕ) (old new : StackTold) → x.kind ≡ Cut nth keep → Arms nth old new → PaysNothing p q new → Makes p q x table table old new
+arm_made p q x nth keep table old new is arms pays =
+    causes_made p q x (Cut nth keep) table old new is refl refl refl refl (λ before. refl) (arms.only ∙ ap (λ y. record old { causes = y }) (sym (ap (λ t. t.causes) arms.only))) (by_cut nth keep old new arms) pays
+
+pub refuse_made : (p q : Payer) (x : Step) (block count : ℕ) (table : List ℕ) (old new : StackTold) → x.kind ≡ Refuse block count → Refuses block count old new → PaysNothing p q new → Makes p q x table table old new
+refuse_made p q x block count table old new is refuses pays =
+    causes_made p q x (Refuse block count) table old new is refl refl refl refl (λ before. refl) (refuses.only ∙ ap (λ y. record old { causes = y }) (sym (ap (λ t. t.causes) refuses.only))) (by_refuse block count old new refuses) pays
 
 ask_takes : (c : Configuration) (before : List Step) (copies : Bool) (e : Entry) (caller : ℕ) (r : Request) (reply : Reply) → TakesStore c before copies (Ask caller r reply)
 ask_takes c before true e caller r reply = tt
@@ -228,10 +244,6 @@ store_made p q before line caller block number content old new sync within small
 pub on_ok : {X E : Type 0} {P Q : Type 0} (r : Result X E) → OnOk r P → (P → Q) → OnOk r Q
 on_ok (Ok x) has from = from has
 on_ok (Err e) has from = tt
-
-pub on_err : {X E : Type 0} {P : Type 0} (r : Result X E) → P → OnErr r P
-on_err (Ok x) has = tt
-on_err (Err e) has = has
 
 pub if_err : {X E : Type 0} {P Q : E → Type 0} (r : Result X E) → IfErr r P → ((e : E) → P e → Q e) → IfErr r Q
 if_err (Ok x) has from = tt

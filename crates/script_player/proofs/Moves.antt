@@ -16,10 +16,10 @@ use Rattle.script_player.specs.Paying.{Payer, PaysTurn, PaysBy}
 use Rattle.promise_run.proofs.Counted.{behind_more}
 use Rattle.script_player.proofs.Grown.{state_grown}
 use Rattle.script_player.proofs.Paying.{none_pays, by_more}
-use Rattle.script_player.specs.Calls.{AllTell, AddsAsk}
+use Rattle.script_player.specs.Calls.{AllTell, AddsAsk, MakesTurn}
 use Rattle.script_player.specs.Chain.{Shown, shown_of, ServesIn, IsMoved, AreMoved}
 use Rattle.script_player.proofs.Chain.{moved_more, all_more}
-use Rattle.script_player.specs.Kept.{MakesTurn, AreMade}
+use Rattle.script_player.specs.Kept.{AreMade}
 
 -- TURNS
 

@@ -113,18 +113,20 @@ module _ {D : Type 0} (device : D → DeviceTold) (clock : D → Clock) (old bet
         → Turns answer (told_by device old) (told_by device new)
     idle same answers lowers serves =
         let desk = same ∙ same_desk in record {
-          entries = [];
-          grows = grown device old new [] (none_more old.desk new.desk desk) stores ready fixed;
-          counted = behind.counted;
-          operations = makes_one device old new [] goes tt;
-          turn = record { entry = tt; begins = begins_late (state_of old.desk) [] late };
-          explained = explained device old new [] goes
-              (λ id. let few = less id (state_of new.desk).hand (ap (λ (x : DeskState). untold_of id (state_of x).hand) desk) in omega (arith, few))
-              (none_off _ _ goes.unplanned);
+          made = record {
+            entries = [];
+            grows = grown device old new [] (none_more old.desk new.desk desk) stores ready fixed;
+            counted = behind.counted;
+            operations = makes_one device old new [] goes tt;
+            turn = record { entry = tt; begins = begins_late (state_of old.desk) [] late };
+            explained = explained device old new [] goes
+                (λ id. let few = less id (state_of new.desk).hand (ap (λ (x : DeskState). untold_of id (state_of x).hand) desk) in omega (arith, few))
+                (none_off _ _ goes.unplanned);
+            picks = λ picked. absurd (cc picked);
+            serves = serves;
+          };
           answers = answers;
           lowers = lowers;
-          picks = λ picked. absurd (cc picked);
-          serves = serves;
         }
 
     adds : (e : Entry) → new.desk ≡ record between.desk { entries = between.desk.entries ++ e ∷ [] } → new.desk ≡ record old.desk { entries = old.desk.entries ++ e ∷ [] }
@@ -139,19 +141,21 @@ module _ {D : Type 0} (device : D → DeviceTold) (clock : D → Clock) (old bet
         → Turns answer (told_by device old) (told_by device new)
     adds_one e tells no_pick is stays turn off answers lowers serves =
         let desk = adds e is in record {
-          entries = e ∷ [];
-          grows = grown device old new (e ∷ []) desk stores ready fixed;
-          counted = behind.counted;
-          operations = makes_one device old new (e ∷ []) goes (tells, tt);
-          turn = record { entry = turn; begins = begins_late (state_of old.desk) (e ∷ []) late };
-          explained = explained device old new (e ∷ []) goes
-              (λ id. one_price old.desk.config (state_of old.desk) id e (map told_of old.copies) (map told_of new.copies) (state_of old.desk).hand _ (state_of new.desk).hand
-              (ap (λ (x : State). x.hand) (one_more old.desk new.desk e desk))
-              (let price = (stays id).0 in let few = less id (step old.desk.config (state_of old.desk) e).hand (stays id).1 in omega (arith, price, few))) off;
+          made = record {
+            entries = e ∷ [];
+            grows = grown device old new (e ∷ []) desk stores ready fixed;
+            counted = behind.counted;
+            operations = makes_one device old new (e ∷ []) goes (tells, tt);
+            turn = record { entry = turn; begins = begins_late (state_of old.desk) (e ∷ []) late };
+            explained = explained device old new (e ∷ []) goes
+                (λ id. one_price old.desk.config (state_of old.desk) id e (map told_of old.copies) (map told_of new.copies) (state_of old.desk).hand _ (state_of new.desk).hand
+                (ap (λ (x : State). x.hand) (one_more old.desk new.desk e desk))
+                (let price = (stays id).0 in let few = less id (step old.desk.config (state_of old.desk) e).hand (stays id).1 in omega (arith, price, few))) off;
+            picks = λ picked. absurd (no_pick picked);
+            serves = serves;
+          };
           answers = answers;
           lowers = lowers;
-          picks = λ picked. absurd (no_pick picked);
-          serves = serves;
         }
 
   -- the job's Wrote, or nothing

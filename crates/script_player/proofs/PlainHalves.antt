@@ -124,19 +124,21 @@ module _ {D : Type 0} (device : D → DeviceTold) (old new : StackState D (List 
       let made = ap (λ (d : DeviceTold). d.ops) half.device in
       let one = ap (λ (d : DeviceTold). d.first) half.device in
       let two = ap (λ (d : DeviceTold). d.second) half.device in record {
-        entries = [];
-        grows = grown device old new [] (none_more old.desk new.desk same) (same_stores old.copies new.copies half.sizes half.stores_stay) half.ready (ap (λ (d : DeviceTold). d.fixed) half.device);
-        counted = behind.counted;
-        operations = makes_one device old new [] (goes_same (device old.device) (device new.device) made one two) tt;
-        turn = record { entry = tt; begins = begins_late (state_of old.desk) [] due };
-        explained = explained device old new [] (goes_same (device old.device) (device new.device) made one two)
-            (λ id. let less = fewer (map told_of old.copies) (map told_of new.copies) half.refuses id (state_of old.desk).hand (state_of new.desk).hand
-            (let hand = ap (λ (x : DeskState). untold_of id (state_of x).hand) same in omega (arith, hand)) in omega (arith, less))
-            (none_off _ _ (let as_many = unplanned_same (device old.device) (device new.device) one two in omega (arith, as_many)));
+        made = record {
+          entries = [];
+          grows = grown device old new [] (none_more old.desk new.desk same) (same_stores old.copies new.copies half.sizes half.stores_stay) half.ready (ap (λ (d : DeviceTold). d.fixed) half.device);
+          counted = behind.counted;
+          operations = makes_one device old new [] (goes_same (device old.device) (device new.device) made one two) tt;
+          turn = record { entry = tt; begins = begins_late (state_of old.desk) [] due };
+          explained = explained device old new [] (goes_same (device old.device) (device new.device) made one two)
+              (λ id. let less = fewer (map told_of old.copies) (map told_of new.copies) half.refuses id (state_of old.desk).hand (state_of new.desk).hand
+              (let hand = ap (λ (x : DeskState). untold_of id (state_of x).hand) same in omega (arith, hand)) in omega (arith, less))
+              (none_off _ _ (let as_many = unplanned_same (device old.device) (device new.device) one two in omega (arith, as_many)));
+          picks = λ picked. absurd (cc picked);
+          serves = serves;
+        };
         answers = answers;
         lowers = lowers;
-        picks = λ picked. absurd (cc picked);
-        serves = serves;
       }
 
   picks : IsFirstHalf device are_told is_now is_looked (Ended turned.Picked) old new → IsBehind device turned.Picked old new → Turns turned.Picked (told_by device old) (told_by device new)
@@ -153,27 +155,29 @@ module _ {D : Type 0} (device : D → DeviceTold) (old new : StackState D (List 
       let may = picked.allowed.1 in
       let within = behind.within old.desk.entries (Pick block picked.kind picked.taken ops) (ap (λ (x : DeskState). x.entries) picked.adds) in
       let refused = counted (λ n x. is_now new.copies block n x × is_looked old.copies new.copies block n) block (map told_of old.copies) (map told_of new.copies) (half.refuses block).1 c s picked.kind picked.taken (next_of c s) picked.copied may in record {
-        entries = Pick block picked.kind picked.taken ops ∷ [];
-        grows = grown device old new (Pick block picked.kind picked.taken ops ∷ []) picked.adds stores half.ready (ap (λ (d : DeviceTold). d.fixed) half.device);
-        counted = behind.counted;
-        operations = makes_one device old new (Pick block picked.kind picked.taken ops ∷ []) (goes_same (device old.device) (device new.device) made one two) (refl, tt);
-        turn = record {
-          entry = record {
-            may = may;
-            newest = subst (λ (xs : List (ℕ × List ℕ)). TakesNewest xs (copies_next c (next_of c s)) block picked.taken) stores
-                (newest (map store_of new.copies) c s block picked.kind (map told_of old.copies) (map told_of new.copies) picked.taken (next_of c s) (stored_so _ _ block (map told_of old.copies) (map told_of new.copies) (source_next c (next_of c s)) picked.taken (λ n x h. h.0) picked.copied) may);
+        made = record {
+          entries = Pick block picked.kind picked.taken ops ∷ [];
+          grows = grown device old new (Pick block picked.kind picked.taken ops ∷ []) picked.adds stores half.ready (ap (λ (d : DeviceTold). d.fixed) half.device);
+          counted = behind.counted;
+          operations = makes_one device old new (Pick block picked.kind picked.taken ops ∷ []) (goes_same (device old.device) (device new.device) made one two) (refl, tt);
+          turn = record {
+            entry = record {
+              may = may;
+              newest = subst (λ (xs : List (ℕ × List ℕ)). TakesNewest xs (copies_next c (next_of c s)) block picked.taken) stores
+                  (newest (map store_of new.copies) c s block picked.kind (map told_of old.copies) (map told_of new.copies) picked.taken (next_of c s) (stored_so _ _ block (map told_of old.copies) (map told_of new.copies) (source_next c (next_of c s)) picked.taken (λ n x h. h.0) picked.copied) may);
+            };
+            begins = begins_by (is_due s);
           };
-          begins = begins_by (is_due s);
+          explained = explained device old new (Pick block picked.kind picked.taken ops ∷ []) (goes_same (device old.device) (device new.device) made one two)
+              (λ id. one_price c s id (Pick block picked.kind picked.taken ops) (map told_of old.copies) (map told_of new.copies) s.hand _ (state_of new.desk).hand
+              (ap (λ (x : State). x.hand) (one_more old.desk new.desk (Pick block picked.kind picked.taken ops) picked.adds))
+              (let less = pick_keeps (map told_of old.copies) (map told_of new.copies) half.refuses c s id block ops picked.kind picked.taken may within (behind.small block) refused in omega (arith, less)))
+              (none_off _ _ (let as_many = unplanned_same (device old.device) (device new.device) one two in omega (arith, as_many)));
+          picks = λ is. (within_of new.desk.config (state_of new.desk) new.hand (device new.device) behind.tied_behind.paired behind.takes, is_on (state_of old.desk).off picked.allowed.0.on);
+          serves = pick_serves device old new block ops picked.kind picked.taken behind.tied_behind.paired behind.takes;
         };
-        explained = explained device old new (Pick block picked.kind picked.taken ops ∷ []) (goes_same (device old.device) (device new.device) made one two)
-            (λ id. one_price c s id (Pick block picked.kind picked.taken ops) (map told_of old.copies) (map told_of new.copies) s.hand _ (state_of new.desk).hand
-            (ap (λ (x : State). x.hand) (one_more old.desk new.desk (Pick block picked.kind picked.taken ops) picked.adds))
-            (let less = pick_keeps (map told_of old.copies) (map told_of new.copies) half.refuses c s id block ops picked.kind picked.taken may within (behind.small block) refused in omega (arith, less)))
-            (none_off _ _ (let as_many = unplanned_same (device old.device) (device new.device) one two in omega (arith, as_many)));
         answers = tt;
         lowers = behind.lowers;
-        picks = λ is. (within_of new.desk.config (state_of new.desk) new.hand (device new.device) behind.tied_behind.paired behind.takes, is_on (state_of old.desk).off picked.allowed.0.on);
-        serves = pick_serves device old new block ops picked.kind picked.taken behind.tied_behind.paired behind.takes;
       }
 
   posts : IsFirstHalf device are_told is_now is_looked (Ended turned.Posted) old new → IsBehind device turned.Posted old new → Turns turned.Posted (told_by device old) (told_by device new)
@@ -187,21 +191,23 @@ module _ {D : Type 0} (device : D → DeviceTold) (old new : StackState D (List 
       let two = ap (λ (d : DeviceTold). d.second) half.device in
       let stores = same_stores old.copies new.copies half.sizes half.stores_stay in
       let within = behind.within old.desk.entries (Post post.block post.result post.given post.refused ops) (ap (λ (x : DeskState). x.entries) post.adds) in record {
-        entries = Post post.block post.result post.given post.refused ops ∷ [];
-        grows = grown device old new (Post post.block post.result post.given post.refused ops ∷ []) post.adds stores half.ready (ap (λ (d : DeviceTold). d.fixed) half.device);
-        counted = behind.counted;
-        operations = makes_one device old new (Post post.block post.result post.given post.refused ops ∷ []) (goes_same (device old.device) (device new.device) made one two) (refl, tt);
-        turn = record { entry = tt; begins = begins_by (is_due s) };
-        explained = explained device old new (Post post.block post.result post.given post.refused ops ∷ []) (goes_same (device old.device) (device new.device) made one two)
-            (λ id. one_price c s id (Post post.block post.result post.given post.refused ops) (map told_of old.copies) (map told_of new.copies) s.hand _ (state_of new.desk).hand
-            (ap (λ (x : State). x.hand) (one_more old.desk new.desk (Post post.block post.result post.given post.refused ops) post.adds))
-            (post_keeps (map told_of old.copies) (map told_of new.copies) half.refuses c s id post.block post.refused ops post.result post.given post.on within (behind.small post.block) post.told))
-            (none_off _ _ (let as_many = unplanned_same (device old.device) (device new.device) one two in omega (arith, as_many)));
+        made = record {
+          entries = Post post.block post.result post.given post.refused ops ∷ [];
+          grows = grown device old new (Post post.block post.result post.given post.refused ops ∷ []) post.adds stores half.ready (ap (λ (d : DeviceTold). d.fixed) half.device);
+          counted = behind.counted;
+          operations = makes_one device old new (Post post.block post.result post.given post.refused ops ∷ []) (goes_same (device old.device) (device new.device) made one two) (refl, tt);
+          turn = record { entry = tt; begins = begins_by (is_due s) };
+          explained = explained device old new (Post post.block post.result post.given post.refused ops ∷ []) (goes_same (device old.device) (device new.device) made one two)
+              (λ id. one_price c s id (Post post.block post.result post.given post.refused ops) (map told_of old.copies) (map told_of new.copies) s.hand _ (state_of new.desk).hand
+              (ap (λ (x : State). x.hand) (one_more old.desk new.desk (Post post.block post.result post.given post.refused ops) post.adds))
+              (post_keeps (map told_of old.copies) (map told_of new.copies) half.refuses c s id post.block post.refused ops post.result post.given post.on within (behind.small post.block) post.told))
+              (none_off _ _ (let as_many = unplanned_same (device old.device) (device new.device) one two in omega (arith, as_many)));
+          picks = λ picked. absurd (cc picked);
+          serves = post_serves device old new post.block post.refused ops post.result post.given post.on
+              (subst (λ (h : Option HandState). IsPaired new.desk.config (state_of new.desk) h (device new.device)) half.at_device.1 behind.tied_behind.paired).0;
+        };
         answers = tt;
         lowers = behind.lowers;
-        picks = λ picked. absurd (cc picked);
-        serves = post_serves device old new post.block post.refused ops post.result post.given post.on
-            (subst (λ (h : Option HandState). IsPaired new.desk.config (state_of new.desk) h (device new.device)) half.at_device.1 behind.tied_behind.paired).0;
       }
 
   pub ended : (answer : Turned) → IsFirstHalf device are_told is_now is_looked (Ended answer) old new → IsBehind device answer old new → Turns answer (told_by device old) (told_by device new)

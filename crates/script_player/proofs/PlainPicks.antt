@@ -2,7 +2,7 @@
 use Rattle.std.specs.Prelude.{◌&&◌, not, is_some, is_none, if◌then◌else◌}
 use Rattle.std.proofs.Common.{◌≡◌, ◌≤◌, ℕ, Bool, true, false, List, [], ◌∷◌, get_or, Option, Some, None, refl, sym, ap, ◌∙◌, subst, inl, arith}
 use Rattle.nvm_core.specs.nv_base.Count.{WereCounted}
-use Rattle.nvm_core.specs.block_machine.Words.{JobKind, ReadJob, WriteJob, RestoreJob, EraseJob, InvalidateJob, ReadAllJob, WriteAllJob, Taken, TookNothing, TookContent, TookRefused, TookStale, BlockDesc, Configuration}
+use Rattle.nvm_core.specs.block_machine.Words.{JobKind, WriteJob, Taken, TookNothing, TookContent, TookRefused, TookStale, BlockDesc, Configuration}
 use Rattle.nvm_core.specs.block_machine.State.{State, BlockState, Job, Sweep}
 use Rattle.nvm_core.specs.block_machine.Blocks.{desc_of, block_at, is_synchronized, names_ram, job_block, kind_of, asked_store}
 use Rattle.nvm_core.specs.block_machine.Sweeps.{member_job, member_request, is_picked}
@@ -51,12 +51,7 @@ module _ (stores : List (ℕ × List ℕ)) (block : ℕ) (old new : List Told) w
   newest_by d b j kind None false synchronized asked t is takes = tt
   newest_by d b j kind None true false asked t is takes = tt
   newest_by d b j WriteJob None true true asked t is takes = newest_copy asked t is
-  newest_by d b j ReadJob None true true asked t is takes = newest_nothing t takes
-  newest_by d b j RestoreJob None true true asked t is takes = newest_nothing t takes
-  newest_by d b j EraseJob None true true asked t is takes = newest_nothing t takes
-  newest_by d b j InvalidateJob None true true asked t is takes = newest_nothing t takes
-  newest_by d b j ReadAllJob None true true asked t is takes = newest_nothing t takes
-  newest_by d b j WriteAllJob None true true asked t is takes = newest_nothing t takes
+  newest_by d b j _ None true true asked t is takes = newest_nothing t takes
 
   newest_job : (c : Configuration) (s : State) (j : Job) (t : Taken) → IsCopied IsNow block old new (source_of c j) t
       → TakesBy (desc_of c (job_block j)) (block_at s (job_block j)) j (kind_of j) t
@@ -119,12 +114,7 @@ module _ (IsStore : ℕ → List ℕ → Type 0) (block : ℕ) (old new : List T
       → IsCopied IsStore block old new (source_by kind j.content (is_synchronized (desc_of c (job_block j)).ram) (asked_store j.request)) t
       → TakesBy (desc_of c (job_block j)) (block_at s (job_block j)) j kind t → AreCounted t
   job_counted c s j WriteJob t is takes = write_counted (desc_of c (job_block j)) (block_at s (job_block j)) j j.content (is_synchronized (desc_of c (job_block j)).ram) (asked_store j.request) t is takes
-  job_counted c s j ReadJob t is takes = nothing_refused t takes
-  job_counted c s j RestoreJob t is takes = nothing_refused t takes
-  job_counted c s j EraseJob t is takes = nothing_refused t takes
-  job_counted c s j InvalidateJob t is takes = nothing_refused t takes
-  job_counted c s j ReadAllJob t is takes = nothing_refused t takes
-  job_counted c s j WriteAllJob t is takes = nothing_refused t takes
+  job_counted c s j kind t is takes = nothing_refused t takes
 
   pub counted : (c : Configuration) (s : State) (kind : JobKind) (t : Taken) (n : Next) → IsCopied IsStore block old new (source_next c n) t → MayPick c s block kind t n → AreCounted t
   counted c s kind t (PickJob j) is may = job_counted c s j (kind_of j) t is may.takes

@@ -11,8 +11,8 @@ use Rattle.nvm_core.specs.block_machine.Steps.{after_from}
 use Rattle.nvm_core.proofs.memif.Turning.{rose_before, rose_since}
 use Rattle.promise_run.specs.Completeness.{is_calm_entry, ends_job}
 use Rattle.script_player.specs.Told.{StackTold, state_of, IsGrown}
-use Rattle.script_player.specs.Calls.{Nears, Serves}
-use Rattle.script_player.specs.Kept.{StaysCalm, MakesTurn}
+use Rattle.script_player.specs.Calls.{MakesTurn, Nears, Serves}
+use Rattle.script_player.specs.Kept.{StaysCalm}
 use Rattle.script_player.proofs.Grown.{state_grown}
 use Rattle.script_player.proofs.InHand.{power_on, stays_in_hand}
 

@@ -16,8 +16,8 @@ use Rattle.script_walks.specs.Stores.{JobsTookStored}
 use Rattle.script_walks.specs.StoreLaws.{KeepsStored}
 use Rattle.script_walks.proofs.Turns.{turns_keep_stored, keeping_goes_on, turns_grow}
 use Rattle.script_player.specs.Told.{StackTold, state_of, IsGrown}
-use Rattle.script_player.specs.Calls.{Turns, is_last}
-use Rattle.script_player.specs.Kept.{IsKept, HasTurned, AreMade, MakesTurn, MakesTurns, Drains}
+use Rattle.script_player.specs.Calls.{MakesTurn, Turns, is_last}
+use Rattle.script_player.specs.Kept.{IsKept, HasTurned, AreMade, MakesTurns, Drains}
 use Rattle.script_player.proofs.Explained.{explained_more, none_explained}
 use Rattle.script_player.proofs.Grown.{state_more, state_grown, grown_more}
 use Rattle.script_player.proofs.Moves.{made_more, move_to, turn_moved}
@@ -138,9 +138,6 @@ none_in : (hand : Option Job) → is_some hand ≡ false → hand ≡ None
 none_in None none = refl
 none_in (Some j) none = cc
 
-pub made_turn : (a : Turned) (old new : StackTold) → Turns a old new → MakesTurn old new
-made_turn a old new turn = record { entries = turn.entries; grows = turn.grows; counted = turn.counted; operations = turn.operations; picks = turn.picks; turn = turn.turn; explained = turn.explained; serves = turn.serves }
-
 at_rest_then : (s : State) → is_at_rest s ≡ true → IsTrue (is_at_rest s || s.off)
 at_rest_then s rest = rw rest refl
 
@@ -153,12 +150,12 @@ same_state old new es grows none = state_grown old new es grows ∙ ap (after_fr
 
 pub last_ends : (a : Turned) (in_hand risen : Bool) (old new : StackTold) → Turns a old new → in_hand ≡ is_some (state_of old).hand → is_last a in_hand risen ≡ true → IsTrue (is_at_rest (state_of new) || (state_of new).off)
 last_ends turned.Idle in_hand risen old new turn hand last =
-    at_rest_then (state_of new) (subst (λ (s : State). is_at_rest s ≡ true) (sym (same_state old new turn.entries turn.grows turn.answers.0)) turn.answers.1)
-last_ends turned.Off in_hand risen old new turn hand last = off_then (state_of new) (ap (λ s. s.off) (state_grown old new turn.entries turn.grows) ∙ turn.answers)
+    at_rest_then (state_of new) (subst (λ (s : State). is_at_rest s ≡ true) (sym (same_state old new turn.made.entries turn.made.grows turn.answers.0)) turn.answers.1)
+last_ends turned.Off in_hand risen old new turn hand last = off_then (state_of new) (ap (λ s. s.off) (state_grown old new turn.made.entries turn.made.grows) ∙ turn.answers)
 last_ends turned.Worked true risen old new turn hand last = absurd (cc last)
 last_ends turned.Worked false risen old new turn hand last =
     let (none, rest) = turn.answers (none_in (state_of old).hand (sym hand)) in
-    at_rest_then (state_of new) (subst (λ (s : State). is_at_rest s ≡ true) (sym (same_state old new turn.entries turn.grows none)) rest)
+    at_rest_then (state_of new) (subst (λ (s : State). is_at_rest s ≡ true) (sym (same_state old new turn.made.entries turn.made.grows none)) rest)
 last_ends turned.Picked in_hand risen old new turn hand last = absurd (cc last)
 last_ends turned.Posted in_hand risen old new turn hand last = absurd (cc last)
 
@@ -171,7 +168,7 @@ pub last_closes : (a : Turned) (in_hand risen : Bool) (old new : StackTold) → 
     → (state_of new).off ≡ false → new.busy ≡ false
 last_closes turned.Idle in_hand risen old new turn count last none on = turn.answers.2
 last_closes turned.Off in_hand risen old new turn count last none on =
-    let off : (state_of new).off ≡ true = ap (λ s. s.off) (state_grown old new turn.entries turn.grows) ∙ turn.answers in absurd (cc (off, on))
+    let off : (state_of new).off ≡ true = ap (λ s. s.off) (state_grown old new turn.made.entries turn.made.grows) ∙ turn.answers in absurd (cc (off, on))
 last_closes turned.Worked true risen old new turn count last none on = absurd (cc last)
 last_closes turned.Worked false risen old new turn count last none on = absurd (none (count last))
 last_closes turned.Picked in_hand risen old new turn count last none on = absurd (cc last)

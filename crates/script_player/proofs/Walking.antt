@@ -20,6 +20,7 @@ use Rattle.promise_run.specs.Run.{Played, unpaid_offs, refusals_of, RefusalsExpl
 use Rattle.promise_run.specs.Completeness.{IsServed}
 use Rattle.script_walks.proofs.Jobs.{starts_keep_stored}
 use Rattle.script_walks.proofs.First.{first_are_newest}
+use Rattle.script_walks.proofs.RunsGrow.{take_more}
 use Rattle.script_walks.proofs.Walks.{walks_grow}
 use Rattle.script_player.specs.declared.steps.StepFault.{StepFault}
 use Rattle.script_player.specs.declared.steps.StepFault.TheVariants.{Flash, HistoryFull, Memory}
@@ -45,16 +46,8 @@ use Rattle.script_player.proofs.Causes.{plan_more, unpaid_more, ops_in_all, join
 
 -- LISTS
 
-some_same : {X : Type 0} (x y : X) → Some x ≡ Some y → x ≡ y
-some_same x y is = cc
-
-take_suc : {X : Type 0} (n : ℕ) (xs : List X) (x : X) → slice_get xs n ≡ Some x → take (suc n) xs ≡ take n xs ++ x ∷ []
-take_suc n [] x is = cc
-take_suc zero (y ∷ ys) x is = ap (λ z. z ∷ []) (some_same y x is)
-take_suc (suc n) (y ∷ ys) x is = ap (λ zs. y ∷ zs) (take_suc n ys x is)
-
 pub take_one_more : {X : Type 0} (n : ℕ) (xs : List X) (x : X) → slice_get xs n ≡ Some x → take (n + 1) xs ≡ take n xs ++ x ∷ []
-take_one_more n xs x is = ap (λ m. take m xs) (add-one n) ∙ take_suc n xs x is
+take_one_more n xs x is = ap (λ m. take m xs) (add-one n) ∙ take_more n xs x is
 
 pub few_taken : {X : Type 0} (n : ℕ) (xs : List X) → length (take n xs) ≤ n
 few_taken zero xs = omega arith
@@ -68,7 +61,7 @@ in_two (suc n) (x ∷ xs) = ap (λ ys. x ∷ ys) (in_two n xs)
 
 rest_begins : {X : Type 0} (n : ℕ) (xs : List X) (x : X) → slice_get xs n ≡ Some x → drop n xs ≡ x ∷ drop (suc n) xs
 rest_begins n [] x is = cc
-rest_begins zero (y ∷ ys) x is = ap (λ z. z ∷ ys) (some_same y x is)
+rest_begins zero (y ∷ ys) x is = let same : y ≡ x = cc in ap (λ z. z ∷ ys) same
 rest_begins (suc n) (y ∷ ys) x is = rest_begins n ys x is
 
 -- a step of the script can be played

@@ -90,20 +90,24 @@ pub record MakesOne (es : List Entry) (old new : StackTold) : Type 0 where
   pub one : new.ops ≤ old.ops + 1
   pub told : AllTell new.ops es
 
--- A turn adds one entry at most, and makes one changing operation at most. It serves the job in hand, where it counted no
--- fault and the power is on behind it.
-pub record Turns (answer : Turned) (old new : StackTold) : Type 0 where
+-- One turn, whatever it answered: it adds one entry at most, and makes one changing operation at most. It serves the job in
+-- hand, where it counted no fault and the power is on behind it.
+pub record MakesTurn (old new : StackTold) : Type 0 where
   pub entries : List Entry
   pub grows : IsGrown entries old new
   pub counted : old.faults ≤ new.faults
   pub operations : MakesOne entries old new
   pub turn : IsTurn old.configuration (state_of old) old.stores entries
   pub explained : AreExplained old.causes.plan entries old new
-  pub answers : IsAnswer answer entries old new
-  pub lowers : Lowers answer old new
   -- behind a Pick its job has its turns, and the power was on
   pub picks : IsTrue (list_any (λ e. is_picked (Some e)) entries) → IsWithin new × ((state_of old).off ≡ false)
   pub serves : ¬ Rose old.faults new.faults → (state_of new).off ≡ false → Serves 1 entries old new
+
+-- and its answer
+pub record Turns (answer : Turned) (old new : StackTold) : Type 0 where
+  pub made : MakesTurn old new
+  pub answers : IsAnswer answer made.entries old new
+  pub lowers : Lowers answer old new
 
 -- START-UPS
 

@@ -1,17 +1,16 @@
 -- What a stack keeps from step to step.
-use Rattle.std.specs.Prelude.{◌≡◌, ◌+◌, ◌≤◌, ℕ, zero, suc, true, false, IsTrue, List, [], length, Some}
-use Rattle.std.specs.List.{list_all, list_any}
+use Rattle.std.specs.Prelude.{◌≡◌, ◌+◌, ◌≤◌, ℕ, zero, suc, true, IsTrue, List, [], length}
+use Rattle.std.specs.List.{list_all}
 use Rattle.nvm_core.specs.nv_base.Count.{Rose}
 use Rattle.nvm_core.specs.block_machine.Words.{Entry}
 use Rattle.script_walks.specs.Words.{Step}
 use Rattle.script_walks.specs.Walk.{AreTurns, IsDrain}
 use Rattle.script_walks.specs.Stores.{AreNewest, JobsTookStored}
-use Rattle.script_walks.specs.Turn.{IsTurn}
 use Rattle.script_walks.specs.StoreLaws.{KeepsStored}
 use Rattle.promise_run.specs.Completeness.{is_calm_entry}
-use Rattle.promise_run.specs.Turns.{Move, entries_of, moment_behind, AreTurnsMade, is_picked}
-use Rattle.script_player.specs.Told.{StackTold, state_of, moment_of, IsWithin, IsGrown}
-use Rattle.script_player.specs.Calls.{AreExplained, MakesOne, Serves}
+use Rattle.promise_run.specs.Turns.{Move, entries_of, moment_behind, AreTurnsMade}
+use Rattle.script_player.specs.Told.{StackTold, state_of, moment_of, IsGrown}
+use Rattle.script_player.specs.Calls.{AreExplained, Serves}
 use Rattle.script_player.specs.Chain.{shown_of, AreMoved}
 use Rattle.script_player.specs.Paying.{Payer, PaysBy}
 
@@ -53,14 +52,3 @@ MakesTurns p q (suc n) before old new = (es : List Entry) × HasTurned (suc n) b
 abbrev pub Drains : Payer → Payer → List Step → StackTold → StackTold → Type 0
 Drains p q before old new = (es : List Entry) × HasTurned 0 before old new es × IsDrain old.configuration (state_of old) es
     × ((moves : List Move) × AreMade p q es moves old new)
-
--- one turn, whatever it answered
-pub record MakesTurn (old new : StackTold) : Type 0 where
-  pub entries : List Entry
-  pub grows : IsGrown entries old new
-  pub counted : old.faults ≤ new.faults
-  pub operations : MakesOne entries old new
-  pub turn : IsTurn old.configuration (state_of old) old.stores entries
-  pub explained : AreExplained old.causes.plan entries old new
-  pub picks : IsTrue (list_any (λ e. is_picked (Some e)) entries) → IsWithin new × ((state_of old).off ≡ false)
-  pub serves : ¬ Rose old.faults new.faults → (state_of new).off ≡ false → Serves 1 entries old new

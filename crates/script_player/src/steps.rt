@@ -27,17 +27,6 @@ pub enum StepFault {
     Memory,
 }
 
-impl From<AllocError> for StepFault {
-    ghost use Rattle.std.specs.Prelude.{◌≡◌};
-    ghost use Rattle.script_player.specs.declared.steps.StepFault.TheVariants.{Memory};
-
-    ghost from_gives = { λ _ fault. fault ≡ Memory };
-
-    fn from(_error: AllocError) -> StepFault {
-        StepFault::Memory
-    }
-}
-
 /// Makes steps in order on a stack behind its first start-up, whose configuration has so many blocks.
 pub fn make_steps<S: PlayedStack>(
     alloc: Global,
@@ -178,7 +167,10 @@ fn ask<S: PlayedStack>(
     ensures left { IfErr result (λ fault. (line : ℕ) → IsLeft fault (record { line = line; caller = caller; kind = AskStep request.now }) (S.told stack.old) (S.told stack.new)) }
     ensures keeps { (before : Part → PartTold) → S.kept stack.old before → S.kept stack.new before }
 {
-    let request = request_with(copied(request)?, caller, stores);
+    let Ok(request) = copied(request) else {
+        return Err(StepFault::Memory);
+    };
+    let request = request_with(request, caller, stores);
     match stack.ask(alloc, caller, request) {
         Ok(_reply) => Ok(()),
         Err(AskFault::NoRoom) => Err(StepFault::HistoryFull),

@@ -5,8 +5,8 @@ ghost use Rattle.script_walks.specs.Walk.{is_at_rest};
 ghost use Rattle.nvm_core.specs.memif.Told.{Part, PartTold};
 ghost use Rattle.nvm_core.specs.nv_base.Count.{Rose};
 ghost use Rattle.script_player.specs.Told.{state_of};
-ghost use Rattle.script_player.specs.Calls.{is_last};
-ghost use Rattle.script_player.specs.Kept.{IsKept, MakesTurns, Drains, MakesTurn};
+ghost use Rattle.script_player.specs.Calls.{MakesTurn, is_last};
+ghost use Rattle.script_player.specs.Kept.{IsKept, MakesTurns, Drains};
 ghost use Rattle.script_player.specs.Paying.{PaysTurn};
 
 use crate::PlayedStack;

@@ -4,7 +4,7 @@ use Rattle.std.specs.List.{list_all}
 use Rattle.std.specs.Option.{is_some}
 use Rattle.std.proofs.Common.{◌≡◌, ◌==◌, ◌&&◌, ◌||◌, ◌≤◌, ◌+◌, ℕ, not, Bool, true, false, IsTrue, List, [], ◌∷◌, ◌++◌, length, get_or, refl, sym, ◌∙◌, subst, inl, inr, arith, Option, Some, None, if◌then◌else◌, length-append}
 use Rattle.std.proofs.lemmas.Bool.{cases_Bool}
-use Rattle.block_machine.specs.Words.{Request, Read, Write, Restore, Erase, Invalidate, SetIndex, GetIndex, SetProtection, SetLock, SetRam, PutRam, Status, ReadAll, WriteAll, CancelWriteAll, ReqResult, JobKind, ReadJob, WriteJob, RestoreJob, EraseJob, InvalidateJob, ReadAllJob, WriteAllJob, Taken, TookNothing, TookContent, TookRefused, TookStale, Instance, Mark, Entry, Ask, Pick, Wrote, Post, Off, Found, BlockDesc, Configuration}
+use Rattle.block_machine.specs.Words.{Request, Write, ReqResult, JobKind, WriteJob, Taken, TookNothing, TookContent, TookRefused, TookStale, Instance, Mark, Entry, Ask, Pick, Wrote, Post, Off, Found, BlockDesc, Configuration}
 use Rattle.block_machine.specs.State.{State, BlockState, Job, Sweep}
 use Rattle.block_machine.specs.Blocks.{desc_of, block_at, is_synchronized, names_ram, job_block, kind_of, asked_store, asked_block}
 use Rattle.block_machine.specs.Sweeps.{member_job, member_request, is_picked}
@@ -81,30 +81,12 @@ kind_taken : (c : Configuration) (before : List Step) (stores : List (ℕ × Lis
     → TakesNewest stores (not (is_some j.content) && (names && is_synchronized d.ram)) id t → IsFresh t × ((names && is_synchronized d.ram) ≡ true → IsTakenStored c before id t)
 kind_taken c before stores d b j id names WriteJob t newest asked zero stored takes is =
     content_taken c before stores d b j id j.content names (is_synchronized d.ram) t newest asked zero stored takes is
-kind_taken c before stores d b j id names ReadJob t newest asked zero stored takes is = nothing_taken c before id _ t takes
-kind_taken c before stores d b j id names RestoreJob t newest asked zero stored takes is = nothing_taken c before id _ t takes
-kind_taken c before stores d b j id names EraseJob t newest asked zero stored takes is = nothing_taken c before id _ t takes
-kind_taken c before stores d b j id names InvalidateJob t newest asked zero stored takes is = nothing_taken c before id _ t takes
-kind_taken c before stores d b j id names ReadAllJob t newest asked zero stored takes is = nothing_taken c before id _ t takes
-kind_taken c before stores d b j id names WriteAllJob t newest asked zero stored takes is = nothing_taken c before id _ t takes
+kind_taken c before stores d b j id names kind t newest asked zero stored takes is = nothing_taken c before id _ t takes
 
 no_store : (r : Request) → names_ram r ≡ false → asked_store r ≡ 0
 no_store (Write block None store) names = cc
 no_store (Write block (Some content) store) names = refl
-no_store (Read block ram) names = refl
-no_store (Restore block ram) names = refl
-no_store (Erase block) names = refl
-no_store (Invalidate block) names = refl
-no_store (SetIndex block index) names = refl
-no_store (GetIndex block) names = refl
-no_store (SetProtection block on) names = refl
-no_store (SetLock block on) names = refl
-no_store (SetRam block on) names = refl
-no_store (PutRam block content) names = refl
-no_store (Status block) names = refl
-no_store ReadAll names = refl
-no_store WriteAll names = refl
-no_store CancelWriteAll names = refl
+no_store r names = refl
 
 -- the Pick of a job
 job_taken : (c : Configuration) (before : List Step) (s : State) (stores : List (ℕ × List ℕ)) (j : Job) (block : ℕ) (kind : JobKind) (t : Taken) → AreNewest c before stores → TookStored c before j

@@ -14,6 +14,13 @@ abbrev pub total : {A : Type 0} → (A → ℕ) → List A → ℕ
 total f [] = 0
 total f (x ∷ xs) = f x + total f xs
 
+-- what is so of the words, where the history is `log`: the tickets, and each status word
+pub record Posted {E : Type 0} (gives : E → ℕ → Option ℕ) (n : ℕ) (log : List E) (words : List ℕ) : Type 0 where
+  pub wide : length words ≡ n + 2
+  pub below : slice_index words 0 ≤ slice_index words 1
+  pub small : slice_index words 1 < 2 ^ 64
+  pub each_word : (w : ℕ) → w < n → Tells gives log w (slice_index words (w + 2))
+
 module _ {E R : Type 0} (gives : E → ℕ → Option ℕ) (is_open : E → Bool) where
   -- what is so of each pass, where the history is `log`
   pub record Knows (log : List E) (base : R) (serving next j : ℕ) (v : View E R) : Type 0 where
@@ -41,10 +48,8 @@ module _ {V E R : Type 0} (entries : V → List E) (gives : E → ℕ → Option
     pub parts : total (λ (u : View E R). u.parts) s.views ≡ all_parts
     pub covered : (k : ℕ) → 0 < k → k < length log → (j : ℕ) × (u : View E R) × (get_elem? s.views j ≡ maybe.some u) × Has u.own k
     pub one : length s.homes ≡ 1
-    pub wide : length s.words ≡ n + 2
-    pub below : slice_index s.words 0 ≤ slice_index s.words 1
-    pub small : slice_index s.words 1 < 2 ^ 64
-    pub each_word : (w : ℕ) → w < n → Tells gives log w (slice_index s.words (w + 2))
+    pub posted : Posted gives n log s.words
+    pub open posted use *
     pub each : (j : ℕ) (v : View E R) → get_elem? s.views j ≡ maybe.some v → Knows gives is_open log base (slice_index s.words 0) (slice_index s.words 1) j v
     pub apart : (i j : ℕ) (u v : View E R) → get_elem? s.views i ≡ maybe.some u → get_elem? s.views j ≡ maybe.some v → u.waits ≡ true → v.waits ≡ true → u.ticket ≡ v.ticket → i ≡ j
     pub one_mark : (i j : ℕ) (u v : View E R) → get_elem? s.views i ≡ maybe.some u → get_elem? s.views j ≡ maybe.some v → u.mark ≡ true → v.mark ≡ true → i ≡ j

@@ -1,6 +1,6 @@
 use Rattle.std.proofs.Common.{refl}
 use Rattle.fee_format.specs.declared.rec_head.RecHead.{RecHead}
-use Rattle.fee_log.proofs.Changes.{noted_none, noted_at}
+use Rattle.fee_log.proofs.Changes.{noted_none, noted_by}
 use Rattle.fee_log.proofs.index.note.Goals as goal
 
 pub returns-in_default : goal.returns-in_default
@@ -11,22 +11,11 @@ returns-in_default c =
 pub returns-then-not-fits : goal.returns-then-not-fits
 returns-then-not-fits c =
     let h : RecHead = record { number = c.args.number.0; kind = c.args.kind; length = c.args.size; count = c.args.count } in
-    rw (
-      noted_at 0 c.args.numbers.now c.args.places.now c.args.at h c.in-Some.i (record { 0 = 0 }, 0)
-          c.as_slice-list.ensures.bounds c.requires c.in-Some.ensures.place.within c.in-Some.ensures.place.is,
-      ← c.as_slice-list.ensures.value,
-      ← c.if-not-fits.ensures c.args.count,
-    )
-    refl
+    let place = c.in-Some.ensures.place in
+    rw (noted_by c.args.numbers.now _ c.args.places.now c.args.at h c.in-Some.i _ c.as_slice-list.ensures.bounds c.requires place.within place.is c.as_slice-list.ensures.value (c.if-not-fits.ensures c.args.count)) refl
 
 pub returns : goal.returns
 returns c =
     let h : RecHead = record { number = c.args.number.0; kind = c.args.kind; length = c.args.size; count = c.args.count } in
-    rw (
-      noted_at 0 c.args.numbers.now c.args.places.now c.args.at h c.in-Some.i (record { 0 = 0 }, 0)
-          c.as_slice-list.ensures.bounds c.requires c.in-Some.ensures.place.within c.in-Some.ensures.place.is,
-      ← c.as_slice-list.ensures.value,
-      ← c.if-not-fits.ensures c.args.count,
-      c.place_at.ensures h refl refl,
-    )
-    refl
+    let place = c.in-Some.ensures.place in
+    rw (noted_by c.args.numbers.now _ c.args.places.now c.args.at h c.in-Some.i _ c.as_slice-list.ensures.bounds c.requires place.within place.is c.as_slice-list.ensures.value (c.if-not-fits.ensures c.args.count), c.place_at.ensures h refl refl) refl

@@ -8,8 +8,8 @@ pub read_range-requires-clause-range : goal.read_range-requires-clause-range
 read_range-requires-clause-range g c =
     let G = c.args.geometry in
     let N = sectors_of_bank G c.args.banks in
-    let flash = (c.status.ensures.state.attached c.requires.idle.attached).geometry in
-    let same : c.args.fls.now.flash.geometry ≡ G = flash ∙ c.requires.geometry in
+    let flash = (c.status.ensures.state.attached c.requires.flash.idle.attached).geometry in
+    let same : c.args.fls.now.flash.geometry ≡ G = flash ∙ c.requires.flash.geometry in
     let from = c.args.sector * G.sector in
     let few : length (take (from + G.sector - from) (drop from c.args.into.now)) ≤ G.sector = omega (arith, length-take (from + G.sector - from) (drop from c.args.into.now)) in
     let fits = sector_inside c.args.bank c.args.sector c.args.banks N G.sector c.bank_size.result _ (size_of G) c.requires.bank c.requires.sector c.bank_size.ensures.value few c.bank_size.ensures.whole in

@@ -8,4 +8,4 @@ returns-clause-tied g c =
     let legal = subst IsLegalConfig c.config.ensures c.blocks-blocks.ensures.legal in
     tied_behind c.args.desk.now c.take.new.desk
     c.args.hand.now c.take.new.hand c.requires.0 (g.D.MemDevice.told c.args.device.now) legal c.args.turned c.requires.1
-    (c.take.ensures.adds c.requires.0 c.requires.1) (c.take.ensures.hand c.requires.0 c.requires.1)
+    (c.take.ensures.adds c.requires.0 c.requires.1) (c.take.ensures.goes c.requires.0 c.requires.1)

@@ -15,45 +15,29 @@ pick-requires-clause-may g c =
     let may = c.requires.may in
     record { driving = drives (state_of c.args.front.now.desk) c.ops.result may.started may.on (rw c.ops.ensures may.later); free = may.free }
 
-pub returns-clause-picks : goal.returns-clause-picks
-returns-clause-picks g c = picks_next c.pick.result _ c.ops.result _ c.args.front.now.desk c.pick.new.self.desk c.ops.ensures c.requires.may.picks c.pick.ensures.next
-
-pub returns-clause-tied : goal.returns-clause-tied
-returns-clause-tied g c =
+pub returns : goal.returns
+returns g c =
     let told = g.D.MemDevice.told c.args.device.now in
-    picked_tied c.args.front.now.desk
-    c.pick.new.self.desk told c.hand_of.result _ c.requires.may
-    (picks_next c.pick.result _ c.ops.result (ops_of told) c.args.front.now.desk c.pick.new.self.desk c.ops.ensures c.requires.may.picks c.pick.ensures.next)
-    c.hand_of.ensures
-
-pub returns-clause-unread : goal.returns-clause-unread
-returns-clause-unread g c =
-    let told = g.D.MemDevice.told c.args.device.now in
-    let (block, is) = picks_next c.pick.result _ c.ops.result (ops_of told) c.args.front.now.desk c.pick.new.self.desk c.ops.ensures c.requires.may.picks c.pick.ensures.next in
-    c.pick.ensures.unread ∙ notes_no_entry c.args.front.now.desk c.pick.new.self.desk (Pick block is.kind is.taken (ops_of told)) c.args.front.now.unread is.adds refl
-
-pub returns-clause-keeps : goal.returns-clause-keeps
-returns-clause-keeps g c held =
-    let told = g.D.MemDevice.told c.args.device.now in
-    let (block, is) = picks_next c.pick.result _ c.ops.result (ops_of told) c.args.front.now.desk c.pick.new.self.desk c.ops.ensures c.requires.may.picks c.pick.ensures.next in
-    rw c.hand_of.ensures (picks_keep told (g.D.MemDevice.clock c.args.device.now) c.args.front.now.desk c.pick.new.self.desk held block is.kind is.taken is.adds is.allowed)
-
-pub returns-clause-lowers : goal.returns-clause-lowers
-returns-clause-lowers g c held old =
-    let told = g.D.MemDevice.told c.args.device.now in
+    let clock = g.D.MemDevice.clock c.args.device.now in
+    let may = c.requires.may in
     let desk = c.args.front.now.desk in
     let new = c.pick.new.self.desk in
-    let picked = picks_next c.pick.result _ c.ops.result (ops_of told) desk new c.ops.ensures c.requires.may.picks c.pick.ensures.next in
+    let hand = c.hand_of.ensures in
+    let picked = picks_next c.pick.result _ c.ops.result (ops_of told) desk new c.ops.ensures may.picks c.pick.ensures.next in
     let (block, is) = picked in
-    let tied = picked_tied desk new told
-    c.hand_of.result _ c.requires.may picked c.hand_of.ensures in
+    let tied = picked_tied desk new told c.hand_of.result _ may picked hand in
     let legal : IsLegalConfig new.config = rw c.config.ensures at c.blocks-blocks.ensures.legal in
-    entries_lower_work told (g.D.MemDevice.clock c.args.device.now) old desk new (Pick block is.kind is.taken (ops_of told)) held c.hand_of.result c.left-left.ensures.order is.adds
-    (within new _ _ c.history.ensures.entries c.history.ensures.cap c.len-count.ensures.within)
-    (hands_are_small new.config (state_of new) c.hand_of.result told legal tied.paired)
-
-pub returns-clause-left : goal.returns-clause-left
-returns-clause-left g c =
-    let new = c.pick.new.self.desk in
-    rw c.hand_of.ensures (within_most (g.D.MemDevice.told c.args.device.now) (g.D.MemDevice.clock c.args.device.now)
-    c.left-left.ensures.order c.requires.may.closed new.config (state_of new) (state_of new).hand)
+    record {
+      picks = picked;
+      tied = tied;
+      unread = c.pick.ensures.unread ∙ notes_no_entry desk new (Pick block is.kind is.taken (ops_of told)) c.args.front.now.unread is.adds refl;
+      room = c.pick.ensures.room;
+      synchronized = c.pick.ensures.synchronized;
+      stays = c.pick.ensures.stays;
+      keeps = λ held. rw hand (picks_keep told clock desk new held block is.kind is.taken is.adds is.allowed);
+      lowers = λ held old. entries_lower_work told clock old desk new (Pick block is.kind is.taken (ops_of told)) held c.hand_of.result c.left-left.ensures.order is.adds
+          (within new _ _ c.history.ensures.entries c.history.ensures.cap c.len-count.ensures.within)
+          (hands_are_small new.config (state_of new) c.hand_of.result told legal tied.paired);
+      left = rw hand (within_most told clock c.left-left.ensures.order may.closed new.config (state_of new) (state_of new).hand);
+      hand = hand;
+    }

@@ -1,9 +1,9 @@
+use Rattle.nvm_core.proofs.ram_blocks.FreshCopies.{are_synchronized}
 use Rattle.nvm_flash.proofs.Returning.{made_back, made_stack}
-use Rattle.nvm_flash.proofs.Synchronized.{are_the_applications}
 use Rattle.nvm_flash.proofs.stack.make_stack.Goals as goal
 
 pub make-requires-in-Ok-make_device-clause-synchronized : goal.make-requires-in-Ok-make_device-clause-synchronized
-make-requires-in-Ok-make_device-clause-synchronized g c = are_the_applications c.args.config c.in-Ok.copies c.make_device.ensures.legal c.in-Ok.ensures
+make-requires-in-Ok-make_device-clause-synchronized g c = are_synchronized c.args.config c.in-Ok.copies c.make_device.ensures.legal c.in-Ok.ensures
 
 pub returns-in-Err-make-clause-stopped : goal.returns-in-Err-make-clause-stopped
 returns-in-Err-make-clause-stopped g c =

@@ -1,3 +1,4 @@
+use Rattle.std.proofs.Common.{refl}
 use Rattle.nvm_top.proofs.PlayLemmas.{early-flash, early-size}
 use Rattle.nvm_top.proofs.PlayLines.{stopped-print, played-print, size-print, never-early}
 use Rattle.nvm_top.proofs.Promised.{call_keeps, early_keeps}
@@ -20,7 +21,7 @@ returns-in-Ok-clause-promise g c =
     call_keeps _ (g.S.Source.left c.args.input.now) c.play_flash.result.0 c.in-Ok.playable.config c.in-Ok.playable.steps (g.F.Flash.told c.args.flash) (g.F.Flash.told c.play_flash.result.1) _ _ c.in-Ok.ensures.steps c.play_flash.ensures.end (c.play_flash.ensures.promise (g.S.Source.left c.args.input.now))
 
 pub returns-in-Ok-clause-print : goal.returns-in-Ok-clause-print
-returns-in-Ok-clause-print g c = played-print (g.S.Source.left c.args.input.now) (g.F.Flash.told c.args.flash).bytes c.in-Ok.playable.config _ _ _ c.in-Ok.playable.steps c.in-Ok.ensures.steps c.play_flash.ensures.print
+returns-in-Ok-clause-print g c = played-print (g.S.Source.left c.args.input.now) (g.F.Flash.told c.args.flash).bytes c.in-Ok.playable.config _ _ _ c.in-Ok.playable.steps c.in-Ok.ensures.steps (c.play_flash.ensures.print refl)
 
 pub returns-in-Ok-clause-line : goal.returns-in-Ok-clause-line
 returns-in-Ok-clause-line g c = λ early. absurd (never-early _ _ _ c.play_flash.result.0 c.play_flash.ensures.end early)

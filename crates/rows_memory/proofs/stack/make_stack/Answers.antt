@@ -1,4 +1,4 @@
-use Rattle.rows_memory.proofs.Copies.{are_synchronized}
+use Rattle.nvm_core.proofs.ram_blocks.FreshCopies.{are_synchronized}
 use Rattle.rows_memory.proofs.stack.make_stack.Goals as goal
 
 pub make-requires-2-clause-synchronized : goal.make-requires-2-clause-synchronized

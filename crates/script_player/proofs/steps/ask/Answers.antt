@@ -5,21 +5,20 @@ use Rattle.script_walks.specs.Walk.{request_after}
 use Rattle.nvm_script.specs.Played.{CanBePlayed}
 use Rattle.script_player.specs.Calls.{AddsAsk}
 use Rattle.script_player.specs.Made.{IsAsked}
-use Rattle.script_player.proofs.Making.{on_err}
 use Rattle.script_player.proofs.Paying.{none_pays}
 use Rattle.script_player.proofs.steps.ask.Goals as goal
 
-pub returns-in-Ok-clause-asked : goal.returns-in-Ok-clause-asked
-returns-in-Ok-clause-asked g c =
+pub returns-in-Ok-ask-clause-asked : goal.returns-in-Ok-ask-clause-asked
+returns-in-Ok-ask-clause-asked g c =
     let old = g.S.PlayedStack.told c.args.stack.now in
     let new = g.S.PlayedStack.told c.ask.new.self in
     let asked : IsAsked c.args.caller c.args.request.now c.args.stores.now old new = λ before has.
-    let copy = c.in_ok-copied.ensures in
+    let copy = c.in-Ok.ensures in
     let can = subst (λ (r : Request). CanBePlayed old.configuration (kind.Ask r)) (sym copy) c.requires.played in
     let same = c.request_with-request.ensures.after old.configuration before has can ∙ ap (request_after old.configuration before c.args.caller) copy in (
-      c.in-Ok._reply,
-      subst (λ (r : Request). AddsAsk (Ask c.args.caller r c.in-Ok._reply) old new) same c.in-Ok.ensures.asks,
+      c.in-Ok-ask._reply,
+      subst (λ (r : Request). AddsAsk (Ask c.args.caller r c.in-Ok-ask._reply) old new) same c.in-Ok-ask.ensures.asks,
     ) in (asked, c.ask.ensures.pays)
 
-pub returns-in_err-copied-clause-owes : goal.returns-in_err-copied-clause-owes
-returns-in_err-copied-clause-owes g c = on_err c.from_residual.result (none_pays (g.S.PlayedStack.payer c.args.stack.now) (g.S.PlayedStack.told c.args.stack.now))
+pub returns-in_default-clause-owes : goal.returns-in_default-clause-owes
+returns-in_default-clause-owes g c = none_pays (g.S.PlayedStack.payer c.args.stack.now) (g.S.PlayedStack.told c.args.stack.now)

@@ -6,9 +6,8 @@ use Rattle.nvm_script.specs.Played.{CanBePlayed}
 use Rattle.script_player.specs.Calls.{Stores}
 use Rattle.script_player.specs.Made.{Makes, IsLeft}
 use Rattle.script_player.specs.Table.{HasLastStores}
-use Rattle.script_player.proofs.Making.{at_kind, on_ok, if_err, ask_made, restart_made, turns_made, drain_made, nothing_made, same_but_plan, same_but_refusable, store_made, next_store}
-use Rattle.script_player.proofs.Explained.{by_cut, by_refuse}
-use Rattle.script_player.proofs.Table.{same_table, noted_table, is_sync, is_within}
+use Rattle.script_player.proofs.Making.{at_kind, on_ok, if_err, step_made, ask_made, restart_made, turns_made, drain_made, arm_made, refuse_made, store_made, next_store}
+use Rattle.script_player.proofs.Table.{noted_table, is_sync, is_within}
 use Rattle.script_player.proofs.steps.make_step.Goals as goal
 
 pub returns-in-Ask-clause-made : goal.returns-in-Ask-clause-made
@@ -17,12 +16,9 @@ returns-in-Ask-clause-made g c =
     let new = g.S.PlayedStack.told c.ask.new.stack in
     let x = c.args.step.now in
     on_ok c.ask.result c.ask.ensures.asked (λ asked.
-    at_kind (λ (y : Step). Makes (g.S.PlayedStack.payer c.args.stack.now) (g.S.PlayedStack.payer c.ask.new.stack) y c.args.stores.now c.args.stores.now old new) x (kind.Ask c.in-Ask.request) c.in-Ask.is
-    (λ before few kept has. (
-      ask_made (g.S.PlayedStack.payer c.args.stack.now) (g.S.PlayedStack.payer c.ask.new.stack) before x.line x.caller c.in-Ask.request c.args.stores.now old new
-          (subst (λ (k : StepKind). CanBePlayed old.configuration k) c.in-Ask.is c.requires.played.kind) asked.0 asked.1 has kept,
-      same_table old.configuration before (record { line = x.line; caller = x.caller; kind = kind.Ask c.in-Ask.request }) c.args.stores.now refl has,
-    )))
+    step_made (g.S.PlayedStack.payer c.args.stack.now) (g.S.PlayedStack.payer c.ask.new.stack) x (kind.Ask c.in-Ask.request) c.args.stores.now old new c.in-Ask.is refl (λ before has kept.
+    ask_made (g.S.PlayedStack.payer c.args.stack.now) (g.S.PlayedStack.payer c.ask.new.stack) before x.line x.caller c.in-Ask.request c.args.stores.now old new
+    (subst (λ (k : StepKind). CanBePlayed old.configuration k) c.in-Ask.is c.requires.played.kind) asked.0 asked.1 has kept))
 
 pub returns-in-Ask-clause-left : goal.returns-in-Ask-clause-left
 returns-in-Ask-clause-left g c =
@@ -35,36 +31,25 @@ returns-in-Turn-clause-made g c =
     let old = g.S.PlayedStack.told c.args.stack.now in
     let new = g.S.PlayedStack.told c.make_turns.new.stack in
     let x = c.args.step.now in
-    at_kind (λ (y : Step). Makes (g.S.PlayedStack.payer c.args.stack.now) (g.S.PlayedStack.payer c.make_turns.new.stack) y c.args.stores.now c.args.stores.now old new) x (kind.Turn c.in-Turn.count) c.in-Turn.is
-    (λ before few kept has.
-    let (made, now) = c.make_turns.ensures.turns before kept in (
-      turns_made (g.S.PlayedStack.payer c.args.stack.now) (g.S.PlayedStack.payer c.make_turns.new.stack) before x.line x.caller c.in-Turn.count old new (subst (λ (k : StepKind). CanBePlayed old.configuration k) c.in-Turn.is c.requires.played.kind) made now,
-      same_table old.configuration before (record { line = x.line; caller = x.caller; kind = kind.Turn c.in-Turn.count }) c.args.stores.now refl has,
-    ))
+    step_made (g.S.PlayedStack.payer c.args.stack.now) (g.S.PlayedStack.payer c.make_turns.new.stack) x (kind.Turn c.in-Turn.count) c.args.stores.now old new c.in-Turn.is refl (λ before has kept.
+    let (made, now) = c.make_turns.ensures.turns before kept in
+    turns_made (g.S.PlayedStack.payer c.args.stack.now) (g.S.PlayedStack.payer c.make_turns.new.stack) before x.line x.caller c.in-Turn.count old new (subst (λ (k : StepKind). CanBePlayed old.configuration k) c.in-Turn.is c.requires.played.kind) made now)
 
 pub returns-in-Drain-clause-made : goal.returns-in-Drain-clause-made
 returns-in-Drain-clause-made g c =
     let old = g.S.PlayedStack.told c.args.stack.now in
     let new = g.S.PlayedStack.told c.drain.new.stack in
-    let x = c.args.step.now in
-    at_kind (λ (y : Step). Makes (g.S.PlayedStack.payer c.args.stack.now) (g.S.PlayedStack.payer c.drain.new.stack) y c.args.stores.now c.args.stores.now old new) x kind.Drain c.in-Drain.is
-    (λ before few kept has.
-    let (made, now) = c.drain.ensures.drains before kept in (
-      drain_made (g.S.PlayedStack.payer c.args.stack.now) (g.S.PlayedStack.payer c.drain.new.stack) before x.line x.caller old new made now,
-      same_table old.configuration before (record { line = x.line; caller = x.caller; kind = kind.Drain }) c.args.stores.now refl has,
-    ))
+    step_made (g.S.PlayedStack.payer c.args.stack.now) (g.S.PlayedStack.payer c.drain.new.stack) c.args.step.now kind.Drain c.args.stores.now old new c.in-Drain.is refl (λ before has kept.
+    let (made, now) = c.drain.ensures.drains before kept in
+    drain_made (g.S.PlayedStack.payer c.args.stack.now) (g.S.PlayedStack.payer c.drain.new.stack) before c.args.step.now.line c.args.step.now.caller old new made now)
 
 pub returns-in-Restart-clause-made : goal.returns-in-Restart-clause-made
 returns-in-Restart-clause-made g c =
     let old = g.S.PlayedStack.told c.args.stack.now in
     let new = g.S.PlayedStack.told c.restart.new.stack in
-    let x = c.args.step.now in
     on_ok c.restart.result c.restart.ensures.made (λ restarted.
-    at_kind (λ (y : Step). Makes (g.S.PlayedStack.payer c.args.stack.now) (g.S.PlayedStack.payer c.restart.new.stack) y c.args.stores.now c.args.stores.now old new) x kind.Restart c.in-Restart.is
-    (λ before few kept has. (
-      restart_made (g.S.PlayedStack.payer c.args.stack.now) (g.S.PlayedStack.payer c.restart.new.stack) before x.line x.caller old new restarted.0 restarted.1 kept,
-      same_table old.configuration before (record { line = x.line; caller = x.caller; kind = kind.Restart }) c.args.stores.now refl has,
-    )))
+    step_made (g.S.PlayedStack.payer c.args.stack.now) (g.S.PlayedStack.payer c.restart.new.stack) c.args.step.now kind.Restart c.args.stores.now old new c.in-Restart.is refl (λ before has kept.
+    restart_made (g.S.PlayedStack.payer c.args.stack.now) (g.S.PlayedStack.payer c.restart.new.stack) before c.args.step.now.line c.args.step.now.caller old new restarted.0 restarted.1 kept))
 
 pub returns-in-Restart-clause-left : goal.returns-in-Restart-clause-left
 returns-in-Restart-clause-left g c =
@@ -74,25 +59,11 @@ returns-in-Restart-clause-left g c =
 
 pub returns-in-Cut-clause-made : goal.returns-in-Cut-clause-made
 returns-in-Cut-clause-made g c =
-    let old = g.S.PlayedStack.told c.args.stack.now in
-    let new = g.S.PlayedStack.told c.arm.new.self in
-    let x = c.args.step.now in
-    at_kind (λ (y : Step). Makes (g.S.PlayedStack.payer c.args.stack.now) (g.S.PlayedStack.payer c.arm.new.self) y c.args.stores.now c.args.stores.now old new) x (kind.Cut c.in-Cut.nth c.in-Cut.keep) c.in-Cut.is
-    (λ before few kept has. (
-      nothing_made (g.S.PlayedStack.payer c.args.stack.now) (g.S.PlayedStack.payer c.arm.new.self) before x.line x.caller (kind.Cut c.in-Cut.nth c.in-Cut.keep) old new refl refl refl refl refl (same_but_plan old new c.arm.ensures.arms) (by_cut c.in-Cut.nth c.in-Cut.keep old new c.arm.ensures.arms) c.arm.ensures.pays kept,
-      same_table old.configuration before (record { line = x.line; caller = x.caller; kind = kind.Cut c.in-Cut.nth c.in-Cut.keep }) c.args.stores.now refl has,
-    ))
+    arm_made (g.S.PlayedStack.payer c.args.stack.now) (g.S.PlayedStack.payer c.arm.new.self) c.args.step.now c.in-Cut.nth c.in-Cut.keep c.args.stores.now (g.S.PlayedStack.told c.args.stack.now) (g.S.PlayedStack.told c.arm.new.self) c.in-Cut.is c.arm.ensures.arms c.arm.ensures.pays
 
 pub returns-in-Refuse-clause-made : goal.returns-in-Refuse-clause-made
 returns-in-Refuse-clause-made g c =
-    let old = g.S.PlayedStack.told c.args.stack.now in
-    let new = g.S.PlayedStack.told c.refuse.new.self in
-    let x = c.args.step.now in
-    at_kind (λ (y : Step). Makes (g.S.PlayedStack.payer c.args.stack.now) (g.S.PlayedStack.payer c.refuse.new.self) y c.args.stores.now c.args.stores.now old new) x (kind.Refuse c.in-Refuse.block c.in-Refuse.count) c.in-Refuse.is
-    (λ before few kept has. (
-      nothing_made (g.S.PlayedStack.payer c.args.stack.now) (g.S.PlayedStack.payer c.refuse.new.self) before x.line x.caller (kind.Refuse c.in-Refuse.block c.in-Refuse.count) old new refl refl refl refl refl (same_but_refusable old new c.refuse.ensures.refuses) (by_refuse c.in-Refuse.block c.in-Refuse.count old new c.refuse.ensures.refuses) c.refuse.ensures.pays kept,
-      same_table old.configuration before (record { line = x.line; caller = x.caller; kind = kind.Refuse c.in-Refuse.block c.in-Refuse.count }) c.args.stores.now refl has,
-    ))
+    refuse_made (g.S.PlayedStack.payer c.args.stack.now) (g.S.PlayedStack.payer c.refuse.new.self) c.args.step.now c.in-Refuse.block c.in-Refuse.count c.args.stores.now (g.S.PlayedStack.told c.args.stack.now) (g.S.PlayedStack.told c.refuse.new.self) c.in-Refuse.is c.refuse.ensures.refuses c.refuse.ensures.pays
 
 pub returns-in-Store-clause-made : goal.returns-in-Store-clause-made
 returns-in-Store-clause-made g c =

@@ -2,7 +2,7 @@ use Rattle.std.proofs.Common.{◌≡◌, ℕ, refl, subst, arith}
 use Rattle.script_player.specs.Kept.{MakesTurns}
 use Rattle.script_player.proofs.Grown.{ready_grown}
 use Rattle.script_player.proofs.Paying.{none_pays}
-use Rattle.script_player.proofs.Turned.{made_turn, one_turn_more}
+use Rattle.script_player.proofs.Turned.{one_turn_more}
 use Rattle.script_player.proofs.turns.make_turns.Goals as goal
 
 pub loop-turn-init : goal.loop-turn-init
@@ -12,11 +12,11 @@ pub loop-turn-preserved : goal.loop-turn-preserved
 loop-turn-preserved g c =
     let was = c.loop-turn.invariant in
     record {
-      ready = ready_grown (g.S.PlayedStack.told c.loop-turn.stack) (g.S.PlayedStack.told c.turn.new.self) c.turn.ensures.turns.entries c.turn.ensures.turns.grows was.ready;
+      ready = ready_grown (g.S.PlayedStack.told c.loop-turn.stack) (g.S.PlayedStack.told c.turn.new.self) c.turn.ensures.turns.made.entries c.turn.ensures.turns.made.grows was.ready;
       turns = λ before kept.
           let (made, now) = was.turns before kept in
           one_turn_more (g.S.PlayedStack.payer c.args.stack.now) (g.S.PlayedStack.payer c.loop-turn.stack) (g.S.PlayedStack.payer c.turn.new.self) c.loop-turn._turn before (g.S.PlayedStack.told c.args.stack.now) (g.S.PlayedStack.told c.loop-turn.stack) (g.S.PlayedStack.told c.turn.new.self) made now
-          (made_turn c.turn.result (g.S.PlayedStack.told c.loop-turn.stack) (g.S.PlayedStack.told c.turn.new.self) c.turn.ensures.turns) c.turn.ensures.pays;
+          c.turn.ensures.turns.made c.turn.ensures.pays;
       keeps = λ before kept. c.turn.ensures.keeps before (was.keeps before kept);
     }
 

@@ -1,9 +1,15 @@
-use Rattle.std.proofs.Common.{◌≡◌, ◌+◌, true, ◌∷◌, None, length, ap, subst, rules}
-use Rattle.fee_image.specs.RecordList.{records_left}
+use Rattle.std.proofs.Common.{◌≡◌, ◌+◌, ℕ, ◌∷◌, None, length, ap, subst, rules}
+use Rattle.fee_image.specs.RecordList.{Rec, Stands, records_left, pages_of_head}
 use Rattle.fee_view.specs.Record.{Walk, GivesRecord, rec_shown, records_in}
 use Rattle.fee_view.specs.View.{own_bank}
+use Rattle.fee_view.specs.declared.record.Record.{Record}
 use Rattle.fee_image.proofs.Records.{lists_unfold}
 use Rattle.fee_view.proofs.records.RecordsIterator.next.Goals as goal
+
+-- the record that stands where a walk is comes next
+comes_next : (v w : Walk) (more : ℕ) (seen : Rec) (r : Record) → v ≡ w → Stands v.bank v.bytes v.at seen → rec_shown r ≡ seen → more ≡ pages_of_head v.bank.page seen.head
+    → records_in w ≡ rec_shown r ∷ records_left v.bank v.bytes (v.at + more)
+comes_next v w more seen r is stands shown pages = rw (← is, shown, pages) ((lists_unfold v.bank v.bytes v.at).first seen stands)
 
 pub returns-in_err-seen-clause-steps : goal.returns-in_err-seen-clause-steps
 returns-in_err-seen-clause-steps c =
@@ -13,21 +19,11 @@ returns-in_err-seen-clause-steps c =
 
 pub returns-clause-steps : goal.returns-clause-steps
 returns-clause-steps c =
-    let i = c.self.inside in
-    let b = own_bank i.page i.pages i.format in
-    let r = c.record_of-record.result in
-    let next : Walk = record { bytes = i.bytes.now; bank = b; at = i.at + c.pages_of.result } in
-    let is : records_left b i.bytes.now i.at ≡ rec_shown r ∷ records_in next =
-    rw (c.record_of-record.ensures.shown, c.pages_of.ensures) ((lists_unfold b i.bytes.now i.at).first _ c.in_ok-seen.ensures) in
-    subst (λ (w : Walk). (records_in w ≡ rec_shown r ∷ records_in next) × (r.trusted ≡ true)) c.self.view_is (is, c.record_of-record.ensures.trusted)
+    let next = comes_next _ c.args.self.now c.pages_of.result _ c.record_of-record.result c.self.view_is c.in_ok-seen.ensures c.record_of-record.ensures.shown c.pages_of.ensures in
+    (next, c.record_of-record.ensures.trusted)
 
 pub returns-clause-goes : goal.returns-clause-goes
 returns-clause-goes c =
-    let i = c.self.inside in
-    let b = own_bank i.page i.pages i.format in
-    let r = c.record_of-record.result in
-    let next : Walk = record { bytes = i.bytes.now; bank = b; at = i.at + c.pages_of.result } in
-    let is : records_left b i.bytes.now i.at ≡ rec_shown r ∷ records_in next =
-    rw (c.record_of-record.ensures.shown, c.pages_of.ensures) ((lists_unfold b i.bytes.now i.at).first _ c.in_ok-seen.ensures) in
-    let shorter : length (records_in c.args.self.now) ≡ length (rec_shown r ∷ records_in next) = subst (λ (w : Walk). length (records_in w) ≡ length (rec_shown r ∷ records_in next)) c.self.view_is (ap length is) in
+    let next = comes_next _ c.args.self.now c.pages_of.result _ c.record_of-record.result c.self.view_is c.in_ok-seen.ensures c.record_of-record.ensures.shown c.pages_of.ensures in
+    let shorter = ap length next in
     search rules

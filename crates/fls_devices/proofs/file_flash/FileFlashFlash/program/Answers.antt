@@ -1,62 +1,30 @@
-use Rattle.std.proofs.Common.{arith, ◌≡◌, ◌≤◌, ◌+◌, ◌++◌, ◌∷◌, [], List, length, map, sym, subst, ap, ◌∙◌}
-use Rattle.nv_base.specs.Geometry.{size_of}
-use Rattle.nv_base.specs.declared.geometry.Geometry.{Geometry}
-use Rattle.fls_model.specs.Call.{IsInside}
+use Rattle.std.proofs.Common.{◌≡◌, ◌++◌, ◌∷◌, [], List, map, ap, ◌∙◌}
 use Rattle.fls_model.specs.Step.{programs}
 use Rattle.fls_devices.specs.ByteFile.{held_by}
 use Rattle.fls_devices.specs.FileFlash.{InFile}
 use Rattle.fls_devices.specs.FileFlashInside.{first_now, changes_of}
-use Rattle.fls_devices.proofs.FileSteps.{attached_holds, still_held, Answers, answers_done, stepped, synced_then, left_on_disk}
+use Rattle.fls_devices.proofs.FileSteps.{program_holds, still_held, stepped, on_disk}
 use Rattle.fls_devices.proofs.file_flash.FileFlashFlash.program.Goals as goal
 
 pub invariant_of-self : goal.invariant_of-self
 invariant_of-self g c =
     let f = c.self.inside in
-    let op = programs c.args.address c.args.page.now in
     let h = held_by g.T.ByteFile.held f.file in
-    let new = held_by g.T.ByteFile.held c.is_programmed-done.new.file in
-    let geometry : f.geometry ≡ c.args.self.now.told.geometry = ap (λ (m : InFile). m.told.geometry) c.self.view_is in
-    let attached : (f.geometry.page ≡ 0) × (f.geometry.sectors ≡ 0) → ⊥ = λ none. omega (arith, none.0, ap (λ (m : InFile). m.told.geometry.page) c.self.view_is, c.requires.attached) in
-    let inside : IsInside op (size_of f.geometry) = subst (λ (k : Geometry). c.args.address + length c.args.page.now ≤ size_of k) (sym geometry) c.requires.inside in
-    let there = attached_holds f.geometry f.torn op c.is_programmed-done.result h new c.self.invariant.0 attached inside c.is_programmed-done.ensures.done in
-    (still_held f.geometry f.torn op c.is_programmed-done.result h new there, c.self.invariant.1)
+    let there = program_holds c.args.self.now.told f.geometry f.torn c.args.address c.args.page.now c.is_programmed-done.result h (held_by g.T.ByteFile.held c.is_programmed-done.new.file) (ap (λ (m : InFile). m.told.geometry) c.self.view_is) c.requires c.self.invariant.0 c.is_programmed-done.ensures.done in
+    (still_held f.geometry f.torn (programs c.args.address c.args.page.now) c.is_programmed-done.result h (held_by g.T.ByteFile.held c.is_programmed-done.new.file) there, c.self.invariant.1)
 
 pub returns-clause-step : goal.returns-clause-step
 returns-clause-step g c =
     let f = c.self.inside in
-    let op = programs c.args.address c.args.page.now in
     let h = held_by g.T.ByteFile.held f.file in
-    let new = held_by g.T.ByteFile.held c.is_programmed-done.new.file in
-    let geometry : f.geometry ≡ c.args.self.now.told.geometry = ap (λ (m : InFile). m.told.geometry) c.self.view_is in
-    let attached : (f.geometry.page ≡ 0) × (f.geometry.sectors ≡ 0) → ⊥ = λ none. omega (arith, none.0, ap (λ (m : InFile). m.told.geometry.page) c.self.view_is, c.requires.attached) in
-    let inside : IsInside op (size_of f.geometry) = subst (λ (k : Geometry). c.args.address + length c.args.page.now ≤ size_of k) (sym geometry) c.requires.inside in
-    let there = attached_holds f.geometry f.torn op c.is_programmed-done.result h new c.self.invariant.0 attached inside c.is_programmed-done.ensures.done in
-    let answers : Answers c.is_programmed-done.result f.faults c.count-answer.new.faults c.count-answer.result = record { done = c.count-answer.ensures.done; failed = c.count-answer.ensures.failed } in
+    let there = program_holds c.args.self.now.told f.geometry f.torn c.args.address c.args.page.now c.is_programmed-done.result h (held_by g.T.ByteFile.held c.is_programmed-done.new.file) (ap (λ (m : InFile). m.told.geometry) c.self.view_is) c.requires c.self.invariant.0 c.is_programmed-done.ensures.done in
     let same : first_now (map (held_by g.T.ByteFile.held) c.with-before.result.items) ≡ first_now (h ∷ []) = ap (λ (l : List _). first_now (map (held_by g.T.ByteFile.held) l)) (c.with-before.ensures ∙ (λ i. c.new.ensures i ++ f.file ∷ [])) in
-    rw (← c.self.view_is) (stepped f.geometry op f.torn c.is_programmed-done.result c.program_call-call.result (first_now (map (held_by g.T.ByteFile.held) c.with-before.result.items)) c.count-answer.result f.asked.items c.with-self-inside.result.items f.ops c.count-answer.new.ops f.faults c.count-answer.new.faults h new
-    there answers c.count-answer.ensures.ops same c.with-self-inside.ensures (c.program_call-call.ensures.op f.geometry))
-
-pub returns-clause-synced : goal.returns-clause-synced
-returns-clause-synced g c =
-    let f = c.self.inside in
-    let op = programs c.args.address c.args.page.now in
-    let h = held_by g.T.ByteFile.held f.file in
-    let new = held_by g.T.ByteFile.held c.is_programmed-done.new.file in
-    let geometry : f.geometry ≡ c.args.self.now.told.geometry = ap (λ (m : InFile). m.told.geometry) c.self.view_is in
-    let attached : (f.geometry.page ≡ 0) × (f.geometry.sectors ≡ 0) → ⊥ = λ none. omega (arith, none.0, ap (λ (m : InFile). m.told.geometry.page) c.self.view_is, c.requires.attached) in
-    let inside : IsInside op (size_of f.geometry) = subst (λ (k : Geometry). c.args.address + length c.args.page.now ≤ size_of k) (sym geometry) c.requires.inside in
-    let there = attached_holds f.geometry f.torn op c.is_programmed-done.result h new c.self.invariant.0 attached inside c.is_programmed-done.ensures.done in
-    let answers : Answers c.is_programmed-done.result f.faults c.count-answer.new.faults c.count-answer.result = record { done = c.count-answer.ensures.done; failed = c.count-answer.ensures.failed } in
-    λ is. synced_then f.geometry op f.torn c.is_programmed-done.result (changes_of f.geometry c.with-self-inside.result.items) h new (answers_done c.is_programmed-done.result f.faults c.count-answer.new.faults c.count-answer.result answers is) there
+    rw (← c.self.view_is) (stepped f.geometry (programs c.args.address c.args.page.now) f.torn c.is_programmed-done.result c.program_call-call.result (first_now (map (held_by g.T.ByteFile.held) c.with-before.result.items)) c.count-answer.result f.asked.items c.with-self-inside.result.items f.ops c.count-answer.new.ops f.faults c.count-answer.new.faults h (held_by g.T.ByteFile.held c.is_programmed-done.new.file)
+    there c.count-answer.ensures.answers c.count-answer.ensures.ops same c.with-self-inside.ensures (c.program_call-call.ensures.op f.geometry))
 
 pub returns-clause-on_disk : goal.returns-clause-on_disk
 returns-clause-on_disk g c =
     let f = c.self.inside in
-    let op = programs c.args.address c.args.page.now in
     let h = held_by g.T.ByteFile.held f.file in
-    let new = held_by g.T.ByteFile.held c.is_programmed-done.new.file in
-    let geometry : f.geometry ≡ c.args.self.now.told.geometry = ap (λ (m : InFile). m.told.geometry) c.self.view_is in
-    let attached : (f.geometry.page ≡ 0) × (f.geometry.sectors ≡ 0) → ⊥ = λ none. omega (arith, none.0, ap (λ (m : InFile). m.told.geometry.page) c.self.view_is, c.requires.attached) in
-    let inside : IsInside op (size_of f.geometry) = subst (λ (k : Geometry). c.args.address + length c.args.page.now ≤ size_of k) (sym geometry) c.requires.inside in
-    let there = attached_holds f.geometry f.torn op c.is_programmed-done.result h new c.self.invariant.0 attached inside c.is_programmed-done.ensures.done in
-    rw (← c.self.view_is) (λ is. left_on_disk f.geometry op f.torn c.is_programmed-done.result (changes_of f.geometry f.asked.items) h new there is)
+    let there = program_holds c.args.self.now.told f.geometry f.torn c.args.address c.args.page.now c.is_programmed-done.result h (held_by g.T.ByteFile.held c.is_programmed-done.new.file) (ap (λ (m : InFile). m.told.geometry) c.self.view_is) c.requires c.self.invariant.0 c.is_programmed-done.ensures.done in
+    rw (← c.self.view_is) (on_disk f.geometry (programs c.args.address c.args.page.now) f.torn c.is_programmed-done.result c.count-answer.result (changes_of f.geometry f.asked.items) (changes_of f.geometry c.with-self-inside.result.items) _ _ f.ops c.count-answer.new.ops f.faults c.count-answer.new.faults h (held_by g.T.ByteFile.held c.is_programmed-done.new.file) there c.count-answer.ensures.answers)

@@ -1,14 +1,8 @@
-use Rattle.fls_devices.proofs.Steps.{on_step, asked_pass, kept_pass}
+use Rattle.fls_devices.proofs.Steps.{passed}
 use Rattle.fls_devices.proofs.overlay.Overlay.program.Goals as goal
 
 pub returns-clause-step : goal.returns-clause-step
-returns-clause-step g c = λ _.
-    let on = c.self.invariant.power c.if-self.false in
-    rw (← c.self.view_is, c.is_off-self-inside.ensures)
-    (asked_pass _ _ _ _ _ c.self.invariant (on_step _ _ _ _ on c.program-answer.ensures) c.pass.ensures)
+returns-clause-step g c = λ _. rw (← c.self.view_is, c.is_off-self-inside.ensures) (passed _ _ _ _ _ c.self.invariant c.if-self.false c.program-answer.ensures c.pass.ensures).0
 
 pub invariant_of-self : goal.invariant_of-self
-invariant_of-self g c =
-    let on = c.self.invariant.power c.if-self.false in
-    rw c.is_off-self-inside.ensures
-    (kept_pass _ _ _ _ _ c.self.invariant (on_step _ _ _ _ on c.program-answer.ensures) c.pass.ensures)
+invariant_of-self g c = rw c.is_off-self-inside.ensures (passed _ _ _ _ _ c.self.invariant c.if-self.false c.program-answer.ensures c.pass.ensures).1

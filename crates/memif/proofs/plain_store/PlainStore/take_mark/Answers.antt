@@ -1,4 +1,4 @@
-use Rattle.std.proofs.Common.{refl, None, [], get_or}
+use Rattle.std.proofs.Common.{refl, false, None, [], get_or}
 use Rattle.memif.proofs.Plain.{blank}
 use Rattle.memif.proofs.PlainCalls.{within, mark_starts, sound_after, same_mark}
 use Rattle.memif.proofs.plain_store.PlainStore.take_mark.Goals as goal
@@ -9,10 +9,10 @@ mark-requires c = within _ _ _ _ _ _ _ c.self.view_is c.args.number _ None c.sel
 pub invariant_of-self : goal.invariant_of-self
 invariant_of-self c =
     let at = c.in_ok-place.ensures in
-    sound_after _ _ _ _ _ _ _ c.self.view_is c.args.number _ None c.self.invariant at.refusal at.place _ _ _ (c.mark.ensures blank) refl refl
+    rw c.of.ensures (sound_after _ _ _ _ _ _ _ c.self.view_is c.args.number _ None c.self.invariant at.refusal at.place false _ _ (c.mark.ensures blank) refl refl)
 
 pub returns : goal.returns
 returns c =
     let at = c.in_ok-place.ensures in
     let bytes = (get_or c.self.inside.kept.items c.in_ok-place.place blank).next.content in
-    rw (same_mark c.args.kind [] bytes c.requires) (mark_starts _ _ _ _ _ _ _ c.self.view_is c.args.number _ None c.self.invariant at.refusal at.place _ _ _ (c.mark.ensures blank) refl refl)
+    rw (same_mark c.args.kind [] bytes c.requires, c.of.ensures) (mark_starts _ _ _ _ _ _ _ c.self.view_is c.args.number _ None c.self.invariant at.refusal at.place _ _ _ (c.mark.ensures blank) refl refl)

@@ -5,4 +5,4 @@ use Rattle.memif.proofs.plain_store.PlainStoreMemDevice.start_read.Goals as goal
 pub returns : goal.returns
 returns c =
     let none = rw c.from.ensures at c.in_ok-place.ensures.refusal in
-    read_starts _ _ _ _ _ _ _ c.self.view_is c.args.number c.in_ok-place.place (Some c.args.length) c.self.invariant none c.in_ok-place.ensures.place
+    rw c.of.ensures (read_starts _ _ _ _ _ _ _ c.self.view_is c.args.number c.in_ok-place.place (Some c.args.length) c.self.invariant none c.in_ok-place.ensures.place)

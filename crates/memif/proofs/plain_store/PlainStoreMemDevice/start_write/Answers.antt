@@ -17,9 +17,9 @@ pub invariant_of-self : goal.invariant_of-self
 invariant_of-self c =
     let at = c.in_ok-place.ensures in
     let room = fits _ _ _ _ _ _ _ c.self.view_is c.args.number _ (Some (length c.args.content.now)) c.self.invariant at.refusal at.place _ refl blank in
-    sound_after _ _ _ _ _ _ _ c.self.view_is c.args.number _ (Some (length c.args.content.now)) c.self.invariant at.refusal at.place c.args.urgent _ _ (c.stage.ensures blank) refl (sym room)
+    rw c.of.ensures (sound_after _ _ _ _ _ _ _ c.self.view_is c.args.number _ (Some (length c.args.content.now)) c.self.invariant at.refusal at.place c.args.urgent _ _ (c.stage.ensures blank) refl (sym room))
 
 pub returns : goal.returns
 returns c =
     let at = c.in_ok-place.ensures in
-    mark_starts _ _ _ _ _ _ _ c.self.view_is c.args.number _ (Some (length c.args.content.now)) c.self.invariant at.refusal at.place c.args.urgent _ _ (c.stage.ensures blank) refl refl
+    rw c.of.ensures (mark_starts _ _ _ _ _ _ _ c.self.view_is c.args.number _ (Some (length c.args.content.now)) c.self.invariant at.refusal at.place c.args.urgent _ _ (c.stage.ensures blank) refl refl)

@@ -1,37 +1,23 @@
-use Rattle.std.proofs.Common.{◌+◌, ◌∙◌, ap, arith, length, sym}
-use Rattle.block_machine.specs.nv_base.History.{Listed}
+use Rattle.std.proofs.Common.{◌∙◌, ap, arith}
 use Rattle.block_machine.specs.Words.{Ask, Accepted}
 use Rattle.block_machine.specs.State.{Job}
 use Rattle.block_machine.specs.Blocks.{asked_block, job_block, rank_of}
 use Rattle.block_machine.specs.Reply.{needed}
 use Rattle.block_machine.specs.Steps.{after}
-use Rattle.block_laws.proofs.ConsistentSteps.{allowed_steps_stay_consistent}
-use Rattle.block_laws.proofs.HistoryLaws.{entries_are_counted}
-use Rattle.block_laws.proofs.NextLaws.{fitting_has_room}
 use Rattle.nv_desk.proofs.Asks.{job_accepted}
-use Rattle.nv_desk.proofs.Jobs.{new_job, few_entries, few_unpicked, has_place, job_is, job_agrees, job_reserves, job_sound, no_sweep}
-use Rattle.nv_desk.proofs.Entries.{pushed, entry_kept, memory_kept}
+use Rattle.nv_desk.proofs.Jobs.{new_job, few_entries, few_unpicked, few_reserved, has_place, job_is, job_agrees, job_reserves, job_sound, no_sweep}
+use Rattle.nv_desk.proofs.Entries.{ask_kept, counted_still}
 use Rattle.nv_desk.proofs.desk.Desk.accept_job.Goals as goal
 
 pub overflow_add-reserved : goal.overflow_add-reserved
 overflow_add-reserved c =
-    let d = c.self.inside in
-    let s = after d.config d.history.entries in
-    let allowed = rw (← c.self.view_is) at c.requires.allowed in
-    let few = few_entries d.config d.history.cap s c.args.request c.self.invariant.within
-    (job_accepted d.config d.history.cap s c.args.request c.requires.kind allowed.replies) in
-    let need = rw (← c.self.view_is) at c.needed-needed.ensures in
-    omega (arith, few.0, need, c.reserved.ensures.value d.config s c.self.invariant.agrees)
+    let few = few_entries c.self.inside c.args.caller c.args.request _ _ c.self.invariant c.requires.kind (rw (← c.self.view_is) at c.requires.allowed)
+    (rw (← c.self.view_is) at c.needed-needed.ensures) (c.reserved.ensures.value _ _ c.self.invariant.agrees) in
+    omega (arith, few)
 
 pub take_memory-requires : goal.take_memory-requires
-take_memory-requires c =
-    let d = c.self.inside in
-    let s = after d.config d.history.entries in
-    let allowed = rw (← c.self.view_is) at c.requires.allowed in
-    let few = few_entries d.config d.history.cap s c.args.request c.self.invariant.within
-    (job_accepted d.config d.history.cap s c.args.request c.requires.kind allowed.replies) in
-    let need = rw (← c.self.view_is) at c.needed-needed.ensures in
-    omega (arith, few.0, need, c.reserved.ensures.value d.config s c.self.invariant.agrees)
+take_memory-requires c = few_entries c.self.inside c.args.caller c.args.request _ _ c.self.invariant c.requires.kind (rw (← c.self.view_is) at c.requires.allowed)
+    (rw (← c.self.view_is) at c.needed-needed.ensures) (c.reserved.ensures.value _ _ c.self.invariant.agrees)
 
 pub accept-requires-clause-known : goal.accept-requires-clause-known
 accept-requires-clause-known c =
@@ -50,17 +36,9 @@ accept-requires-clause-room c =
 
 pub accept-requires-clause-reserved : goal.accept-requires-clause-reserved
 accept-requires-clause-reserved c =
-    let d = c.self.inside in
-    let s = after d.config d.history.entries in
-    let allowed = rw (← c.self.view_is) at c.requires.allowed in
-    let few = few_entries d.config d.history.cap s c.args.request c.self.invariant.within
-    (job_accepted d.config d.history.cap s c.args.request c.requires.kind allowed.replies) in
-    let need = rw (← c.self.view_is) at c.needed-needed.ensures in
-    omega (arith, few.1, need, c.self.invariant.agrees.jobs.reserved, ap (λ (j : Job). j.reserved) c.accepted-job.ensures)
-
-pub invariant_of-self : goal.invariant_of-self
-invariant_of-self c = memory_kept c.self.inside c.take_memory.new.history c.take_memory.new.rooms c.self.invariant
-    c.take_memory.ensures.same c.take_memory.ensures.stays c.take_memory.ensures.longest c.take_memory.ensures.rooms_stay
+    let few = few_reserved c.self.inside c.args.caller c.args.request _ c.self.invariant c.requires.kind (rw (← c.self.view_is) at c.requires.allowed)
+    (rw (← c.self.view_is) at c.needed-needed.ensures) in
+    omega (arith, few, ap (λ (j : Job). j.reserved) c.accepted-job.ensures)
 
 pub invariant_of-self-2 : goal.invariant_of-self-2
 invariant_of-self-2 c =
@@ -68,25 +46,16 @@ invariant_of-self-2 c =
     let s = after d.config d.history.entries in
     let allowed = rw (← c.self.view_is) at c.requires.allowed in
     let need = rw (← c.self.view_is) at c.needed-needed.ensures in
-    let value = c.reserved.ensures.value d.config s c.self.invariant.agrees in
     let passed = job_accepted d.config d.history.cap s c.args.request c.requires.kind allowed.replies in
-    let count = c.len.ensures.count ∙ ap (λ (h : Listed). length h.entries) c.take_memory.ensures.same
-    ∙ sym (entries_are_counted d.config d.history.entries) in
+    let count = c.len.ensures.count ∙ counted_still d c.take_memory.new.history c.take_memory.ensures.same in
     let job = job_is d.config s.count c.len.result c.needed-needed.result c.args.request c.in_ok-asked_for.asked_for c.accepted-job.result c.accepted-job.ensures count c.in_ok-asked_for.ensures need in
-    let e = Ask c.args.caller c.args.request Accepted in
-    let room = (fitting_has_room d.config d.history.cap s (1 + needed d.config c.args.request)).0 passed.room in
     let new = new_job d.config d.history.cap s c.args.request c.accepted-job.result c.self.invariant.sound passed (ap job_block job)
     (ap (λ (j : Job). j.number) job) in
     let none = no_sweep d.config s c.self.invariant.sound.consistent passed.alone in
-    entry_kept d c.add.new.self c.accept.new.self c.take_memory.new.rooms e
-    (c.reserved.result + c.needed-needed.result) c.self.invariant
-    (pushed d.history c.take_memory.new.history c.add.new.self e
-    (c.reserved.result + c.needed-needed.result) c.take_memory.ensures.same c.in_ok-take_memory.ensures.entries c.add.ensures)
+    ask_kept d _ _ _ _ (Ask c.args.caller c.args.request Accepted) _ (needed d.config c.args.request) c.self.invariant
+    c.take_memory.ensures.same c.in_ok-take_memory.ensures.entries (rw c.acceptance.ensures at c.add.ensures) allowed
     (job_agrees d.config c.accept.new.self s c.args.request c.accepted-job.result c.requires.kind job
     (c.accept.ensures s c.self.invariant.agrees new (ap (λ (j : Job). j.taken) job) none))
-    (job_sound d.config d.history.cap s c.args.caller c.args.request c.self.invariant.sound
-    (allowed_steps_stay_consistent d.config d.history.cap s e c.self.invariant.sound.consistent allowed) c.requires.kind allowed.started passed)
-    (omega (arith, job_reserves d.config s c.args.request c.requires.kind, value, need))
-    (omega (arith, room, value, need, entries_are_counted d.config d.history.entries))
-    c.in_ok-take_memory.ensures.contents
-    (omega (arith, c.take_memory.ensures.longest))
+    (λ consistent. job_sound d.config d.history.cap s c.args.caller c.args.request c.self.invariant.sound consistent c.requires.kind allowed.started passed)
+    (omega (arith, need, c.reserved.ensures.value d.config s c.self.invariant.agrees)) (job_reserves d.config s c.args.request c.requires.kind) passed.room
+    c.in_ok-take_memory.ensures.contents c.take_memory.ensures.longest

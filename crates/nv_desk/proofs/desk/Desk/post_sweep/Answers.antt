@@ -1,49 +1,16 @@
-use Rattle.std.proofs.Common.{◌≡◌, arith, refl, subst, sym, None}
-use Rattle.block_machine.specs.Words.{Post}
-use Rattle.block_machine.specs.Next.{EndSweep, next_of}
-use Rattle.block_machine.specs.Steps.{after}
-use Rattle.block_machine.specs.Sweeps.{sweep_result}
-use Rattle.nv_desk.specs.Desk.{DeskState, state_of}
-use Rattle.nv_desk.proofs.AllBlocks.{ends, may_finish, finished_step, finished_sound}
-use Rattle.nv_desk.proofs.Drivers.{has_room, driver_kept}
+use Rattle.std.proofs.Common.{refl}
+use Rattle.nv_desk.proofs.AllBlocks.{ended_kept, room_to_finish}
 use Rattle.nv_desk.proofs.desk.Desk.post_sweep.Goals as goal
 
-pub add-requires-clause-below : goal.add-requires-clause-below
-add-requires-clause-below c =
-    let d = c.self.inside in
-    let s = after d.config d.history.entries in
-    let may = rw (← c.self.view_is) at c.requires in
-    let x = ends d.config s may.sweep may.is in
-    (has_room d (Post 0 (sweep_result may.sweep) None 0 c.args.ops) c.self.invariant (may_finish d.config d.history.cap s may.sweep c.args.ops x.hand may.is may.driving) refl).below
-
-pub add-requires-clause-room : goal.add-requires-clause-room
-add-requires-clause-room c =
-    let d = c.self.inside in
-    let s = after d.config d.history.entries in
-    let may = rw (← c.self.view_is) at c.requires in
-    let x = ends d.config s may.sweep may.is in
-    (has_room d (Post 0 (sweep_result may.sweep) None 0 c.args.ops) c.self.invariant (may_finish d.config d.history.cap s may.sweep c.args.ops x.hand may.is may.driving) refl).room
+pub add-requires : goal.add-requires
+add-requires c = (room_to_finish c.self.inside c.args.ops c.self.invariant (rw (← c.self.view_is) at c.requires)).place
 
 pub invariant_of-self : goal.invariant_of-self
 invariant_of-self c =
-    let d = c.self.inside in
-    let s = after d.config d.history.entries in
     let may = rw (← c.self.view_is) at c.requires in
-    let e = Post 0 (sweep_result may.sweep) None 0 c.args.ops in
-    let x = ends d.config s may.sweep may.is in
-    let allowed = may_finish d.config d.history.cap s may.sweep c.args.ops x.hand may.is may.driving in
-    let answer : c.result_of-answer.result ≡ sweep_result may.sweep = c.result_of-answer.ensures may.sweep (rw x.next at (c.next_step.ensures.next s may.sweep c.self.invariant.agrees x.sweep x.under_way)) in
-    driver_kept d c.add.new.self c.end_sweep.new.self d.rooms e c.self.invariant (has_room d e c.self.invariant allowed refl)
-    (finished_sound d.config d.history.cap s may.sweep c.args.ops c.self.invariant.sound x may.is allowed)
-    (rw answer at c.add.ensures)
-    (finished_step d.config c.end_sweep.new.self s may.sweep c.args.ops x.hand may.is (rw answer at (c.end_sweep.ensures d.config s may.sweep c.self.invariant.agrees x.hand)))
-    (omega arith) refl
+    let answer = c.end_result-answer.ensures _ may.sweep c.self.invariant.agrees may.is in
+    ended_kept c.self.inside _ _ c.args.ops c.self.invariant may (rw answer at c.add.ensures)
+    (λ x. rw answer at (c.end_sweep.ensures c.self.inside.config _ may.sweep c.self.invariant.agrees x.hand))
 
 pub returns : goal.returns
-returns c sw next =
-    let d = c.self.inside in
-    let s = after d.config d.history.entries in
-    let on : next_of d.config s ≡ EndSweep sw = subst (λ (x : DeskState). next_of x.config (state_of x) ≡ EndSweep sw) (sym c.self.view_is) next in
-    let x = ends d.config s sw on in
-    let answer : c.result_of-answer.result ≡ sweep_result sw = c.result_of-answer.ensures sw (rw x.next at (c.next_step.ensures.next s sw c.self.invariant.agrees x.sweep x.under_way)) in
-    rw (← c.self.view_is, c.add.ensures, answer) refl
+returns c = rw (← c.self.view_is) (λ sw next. rw (c.add.ensures, c.end_result-answer.ensures _ sw c.self.invariant.agrees next) refl)

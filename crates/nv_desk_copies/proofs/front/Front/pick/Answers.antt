@@ -2,4 +2,4 @@ use Rattle.nv_desk_copies.proofs.Sizes.{still_synchronized}
 use Rattle.nv_desk_copies.proofs.front.Front.pick.Goals as goal
 
 pub returns-clause-synchronized : goal.returns-clause-synchronized
-returns-clause-synchronized g c = still_synchronized c.args.self.now.desk.config _ _ c.pick.ensures.sizes c.requires.synchronized
+returns-clause-synchronized g c = still_synchronized c.args.self.now.desk.config _ _ c.pick.ensures.stays.sizes c.requires.synchronized

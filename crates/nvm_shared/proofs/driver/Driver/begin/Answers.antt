@@ -11,79 +11,45 @@ use Rattle.nvm_core.proofs.nvm_laws.DueHalves.{first_halves_serve}
 use Rattle.nvm_shared.specs.Behind.{HandIsPending}
 use Rattle.nvm_core.specs.nvm_laws.Work.{program_in_hand}
 use Rattle.nvm_core.specs.Lowers.{HalfLeft}
+use Rattle.nvm_core.specs.Stack.{stack_with}
 use Rattle.nvm_core.specs.Turns.{IsFirstHalf}
 use Rattle.nvm_core.proofs.TurnsMade.{half_adds}
 use Rattle.nvm_shared.specs.declared.terms.Terms.{Terms}
 use Rattle.nvm_shared.specs.Locked.{desk_with}
-use Rattle.nvm_shared.specs.Driving.{BeginsTurn, DriverState, Drives, stack_with}
-use Rattle.nvm_shared.proofs.Turning.{Behind, Enters, behind, desk_behind, extended, fits_behind, left}
-use Rattle.nvm_shared.proofs.Writing.{Writes, half_writes}
+use Rattle.nvm_shared.specs.Driving.{BeginsTurn, DriverState, driver_of}
+use Rattle.nvm_shared.proofs.Turning.{Enters, desk_behind, extended, left}
+use Rattle.nvm_shared.proofs.Writing.{half_writes}
+use Rattle.nvm_shared.proofs.Halves.{drives, fits, stands}
 use Rattle.nvm_shared.proofs.Serving.{begins_served}
 use Rattle.nvm_shared.proofs.Stale.{stale_shown}
 use Rattle.nvm_shared.proofs.driver.Driver.begin.Goals as goal
 
 pub first_half-act-requires-clause-tied : goal.first_half-act-requires-clause-tied
 first_half-act-requires-clause-tied g c =
-    let told = g.D.MemDevice.told in
-    let clocks = g.D.MemDevice.clock in
-    let copies = g.C.SyncCalls.told in
-    let inside = c.self.inside in
-    let t = c.args.shared.now.terms in
-    let v = knows c.args.pass.now in
-    let u = knows c.enter-value.new.pass in
-    let x = c.enter-value.result in
     let e = c.enter-value.ensures in
-    let d = told inside.device in
-    let clock = clocks inside.device in
-    let drives : Drives told clocks copies t.tells (desk_with t v.seen) (record { device = inside.device; copies = inside.copies; hand = inside.hand }) =
-    subst (λ (s : DriverState g.row.D.Denot g.row.C.Denot). Drives told clocks copies t.tells (desk_with t v.seen) s) (sym c.self.view_is) c.requires.drives in
-    let enters : Enters t v u x = record { own = c.requires.own.root; root = e.root; seen = e.seen; starts = e.starts; agree = e.agree; mark = c.requires.mark; open_now = e.open; kin = e.same; written = c.len-number.ensures.written } in
-    let b : Behind t v.seen x inside.hand d clock =
-    behind t v u x inside.hand d clock enters drives.pending drives.tied in
-    b.stands.tied
+    (stands g.D.MemDevice.told g.D.MemDevice.clock g.C.SyncCalls.told c.args.shared.now.terms (knows c.args.pass.now) (knows c.enter-value.new.pass) c.enter-value.result
+    (record { own = c.requires.own.root; root = e.root; seen = e.seen; starts = e.starts; agree = e.agree; mark = c.requires.mark; open_now = e.open; kin = e.same; written = c.len-number.ensures.written })
+    c.args.self.now (driver_of c.self.inside.device c.self.inside.copies c.self.inside.hand) c.self.view_is c.requires.drives).stands.tied
 
 pub first_half-act-requires-clause-fits : goal.first_half-act-requires-clause-fits
 first_half-act-requires-clause-fits g c =
-    let told = g.D.MemDevice.told in
-    let clocks = g.D.MemDevice.clock in
-    let copies = g.C.SyncCalls.told in
-    let inside = c.self.inside in
-    let t = c.args.shared.now.terms in
-    let v = knows c.args.pass.now in
-    let u = knows c.enter-value.new.pass in
-    let x = c.enter-value.result in
     let e = c.enter-value.ensures in
-    let d = told inside.device in
-    let clock = clocks inside.device in
-    let drives : Drives told clocks copies t.tells (desk_with t v.seen) (record { device = inside.device; copies = inside.copies; hand = inside.hand }) =
-    subst (λ (s : DriverState g.row.D.Denot g.row.C.Denot). Drives told clocks copies t.tells (desk_with t v.seen) s) (sym c.self.view_is) c.requires.drives in
-    let enters : Enters t v u x = record { own = c.requires.own.root; root = e.root; seen = e.seen; starts = e.starts; agree = e.agree; mark = c.requires.mark; open_now = e.open; kin = e.same; written = c.len-number.ensures.written } in
-    let b : Behind t v.seen x inside.hand d clock =
-    behind t v u x inside.hand d clock enters drives.pending drives.tied in
-    fits_behind t v.seen x inside.hand d clock b drives.kept
+    fits g.D.MemDevice.told g.D.MemDevice.clock g.C.SyncCalls.told c.args.shared.now.terms (knows c.args.pass.now) (knows c.enter-value.new.pass) c.enter-value.result
+    (record { own = c.requires.own.root; root = e.root; seen = e.seen; starts = e.starts; agree = e.agree; mark = c.requires.mark; open_now = e.open; kin = e.same; written = c.len-number.ensures.written })
+    c.args.self.now (driver_of c.self.inside.device c.self.inside.copies c.self.inside.hand) c.self.view_is c.requires.drives
 
 pub leave-requires-clause-adds : goal.leave-requires-clause-adds
 leave-requires-clause-adds g c =
-    let told = g.D.MemDevice.told in
-    let clocks = g.D.MemDevice.clock in
-    let copies = g.C.SyncCalls.told in
     let inside = c.self.inside in
     let t = c.args.shared.now.terms in
     let v = knows c.args.pass.now in
     let u = knows c.enter-value.new.pass in
     let x = c.enter-value.result in
     let e = c.enter-value.ensures in
-    let d = told inside.device in
-    let clock = clocks inside.device in
-    let drives : Drives told clocks copies t.tells (desk_with t v.seen) (record { device = inside.device; copies = inside.copies; hand = inside.hand }) =
-    subst (λ (s : DriverState g.row.D.Denot g.row.C.Denot). Drives told clocks copies t.tells (desk_with t v.seen) s) (sym c.self.view_is) c.requires.drives in
     let enters : Enters t v u x = record { own = c.requires.own.root; root = e.root; seen = e.seen; starts = e.starts; agree = e.agree; mark = c.requires.mark; open_now = e.open; kin = e.same; written = c.len-number.ensures.written } in
-    let b : Behind t v.seen x inside.hand d clock =
-    behind t v u x inside.hand d clock enters drives.pending drives.tied in
-    let half = c.first_half-act.ensures in
-    let new = c.first_half-act.new in
-    let writes : Writes x.tells x.desk new.self.desk = half_writes x.tells c.first_half-act.result _ _ x.desk new.self.desk _ _ _ half.half.half (fits_behind t v.seen x inside.hand d clock b drives.kept) in
-    extended t v u x new.self x.tells enters writes
+    let new = c.first_half-act.new.self in
+    extended t v u x new x.tells enters (half_writes x.tells c.first_half-act.result _ _ x.desk new.desk _ _ _ c.first_half-act.ensures.half.half
+    (fits g.D.MemDevice.told g.D.MemDevice.clock g.C.SyncCalls.told t v u x enters c.args.self.now (driver_of inside.device inside.copies inside.hand) c.self.view_is c.requires.drives))
 
 pub returns : goal.returns
 returns g c =
@@ -91,6 +57,7 @@ returns g c =
     let clocks = g.D.MemDevice.clock in
     let copies = g.C.SyncCalls.told in
     let inside = c.self.inside in
+    let now = driver_of inside.device inside.copies inside.hand in
     let t = c.args.shared.now.terms in
     let v = knows c.args.pass.now in
     let u = knows c.enter-value.new.pass in
@@ -98,14 +65,12 @@ returns g c =
     let e = c.enter-value.ensures in
     let d = told inside.device in
     let clock = clocks inside.device in
-    let drives : Drives told clocks copies t.tells (desk_with t v.seen) (record { device = inside.device; copies = inside.copies; hand = inside.hand }) =
-    subst (λ (s : DriverState g.row.D.Denot g.row.C.Denot). Drives told clocks copies t.tells (desk_with t v.seen) s) (sym c.self.view_is) c.requires.drives in
-    let enters : Enters t v u x = record { own = c.requires.own.root; root = e.root; seen = e.seen; starts = e.starts; agree = e.agree; mark = c.requires.mark; open_now = e.open; kin = e.same; written = c.len-number.ensures.written } in
-    let b : Behind t v.seen x inside.hand d clock =
-    behind t v u x inside.hand d clock enters drives.pending drives.tied in
     let half = c.first_half-act.ensures in
     let new = c.first_half-act.new in
-    let writes : Writes x.tells x.desk new.self.desk = half_writes x.tells c.first_half-act.result _ _ x.desk new.self.desk _ _ _ half.half.half (fits_behind t v.seen x inside.hand d clock b drives.kept) in
+    let enters : Enters t v u x = record { own = c.requires.own.root; root = e.root; seen = e.seen; starts = e.starts; agree = e.agree; mark = c.requires.mark; open_now = e.open; kin = e.same; written = c.len-number.ensures.written } in
+    let drive = drives told clocks copies t v u x enters c.args.self.now now c.self.view_is c.requires.drives in
+    let b = stands told clocks copies t v u x enters c.args.self.now now c.self.view_is c.requires.drives in
+    let writes = half_writes x.tells c.first_half-act.result _ _ x.desk new.self.desk _ _ _ half.half.half (fits told clocks copies t v u x enters c.args.self.now now c.self.view_is c.requires.drives) in
     let w = knows c.leave.new.pass in
     let l = left t v u w x new.self x.tells enters (record { same = c.leave.ensures.same; more = c.leave.ensures.more }) writes in
     let desk : new.self.desk ≡ desk_with t w.seen = desk_behind t x new.self w.seen b.terms half.terms l.seen in
@@ -113,7 +78,7 @@ returns g c =
     let is = g.C.SyncCalls.is_store in
     let looked = g.C.SyncCalls.looked in
     let first : IsFirstHalf told copies is looked c.first_half-act.result (stack_with x.desk inside.hand inside.device inside.copies) (stack_with new.self.desk new.hand new.device new.copies) = half.half in
-    let behind_it : DriverState g.row.D.Denot g.row.C.Denot = record { device = new.device; copies = new.copies; hand = new.hand } in
+    let behind_it = driver_of new.device new.copies new.hand in
     let begins : BeginsTurn told copies is looked c.first_half-act.result (desk_with t v.seen) (desk_with t w.seen) c.args.self.now behind_it =
     subst (λ (s : DriverState g.row.D.Denot g.row.C.Denot). BeginsTurn told copies is looked c.first_half-act.result (desk_with t v.seen) (desk_with t w.seen) s behind_it) c.self.view_is
     (record {
@@ -122,7 +87,7 @@ returns g c =
       half = subst (λ (y : DeskState). IsFirstHalf told copies is looked c.first_half-act.result (stack_with y inside.hand inside.device inside.copies) (stack_with (desk_with t w.seen) new.hand new.device new.copies)) b.desk
           (subst (λ (y : DeskState). IsFirstHalf told copies is looked c.first_half-act.result (stack_with x.desk inside.hand inside.device inside.copies) (stack_with y new.hand new.device new.copies)) desk first);
       served = begins_served (desk_with t v.seen) b.asks x.desk new.self.desk (desk_with t w.seen) inside.hand new.hand d (told new.device) c.first_half-act.result
-          b.desk desk b.replied drives.next
+          b.desk desk b.replied drive.next
           (λ number turns due. first_halves_serve (told new.device) clock_new c.first_half-act.result x.desk new.self.desk _ _ inside.hand new.hand d number turns (λ picked. c.left-left.ensures.order)
           (half_adds c.first_half-act.result _ _ x.desk new.self.desk _ _ _ first.half) first.at_device half.first b.stands.tied first.tied due);
     }) in
@@ -136,7 +101,7 @@ returns g c =
         pending = subst (λ (y : DeskState). HandIsPending (state_of y)) desk c.len-len.ensures.pending;
         next = subst (λ (y : DeskState). NextIsPending y.config (state_of y)) desk c.len-len.ensures.next;
         synchronized = subst (λ (s : Terms). AreSynchronized s.config (copies new.copies)) b.terms half.synchronized;
-        kept = λ told_now. let (before, kept) = drives.kept told_now in (before, subst (λ (y : DeskState). StackKeeps before y new.hand (told new.device) clock_new) desk (half.keeps before (b.stands.kept before kept)));
+        kept = λ told_now. let (before, kept) = drive.kept told_now in (before, subst (λ (y : DeskState). StackKeeps before y new.hand (told new.device) clock_new) desk (half.keeps before (b.stands.kept before kept)));
       };
       keeps = subst (λ (s : DriverState g.row.D.Denot g.row.C.Denot). StaysKept (desk_with t v.seen) s.hand (told s.device) (clocks s.device) (desk_with t w.seen) new.hand (told new.device) clock_new) c.self.view_is
           (subst (λ (y : DeskState). StaysKept (desk_with t v.seen) inside.hand d clock y new.hand (told new.device) clock_new) desk

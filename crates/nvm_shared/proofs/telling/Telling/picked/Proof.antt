@@ -3,7 +3,7 @@ use mathlib.Core.Path.{refl}
 use mathlib.Core.List.{[], ◌∷◌}
 use base.Fml.{Fml, ftrue}
 use denote.Signature.{type_at}
-use mir.Val.{Val, vstruct, vcons, vnil}
+use mir.Val.{Val, vstruct, vnil}
 use types.Kit.{‵, raw, ◌$◌, ◌∵◌, !, qed, drop, join, use0, suffices, done}
 use types.Run.{no_more, returns, enter}
 use types.Part.{agg}

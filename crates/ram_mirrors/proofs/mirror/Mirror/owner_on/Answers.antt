@@ -3,13 +3,11 @@ use Rattle.ram_mirrors.specs.declared.view.View.{View}
 use Rattle.ram_mirrors.specs.Ends.{MirrorValue}
 use Rattle.ram_mirrors.specs.Stores.{store_number}
 use Rattle.ram_mirrors.specs.Exchange.{owner_begins}
-use Rattle.ram_mirrors.proofs.Exchanges.{owner_begins_at}
+use Rattle.ram_mirrors.proofs.Exchanges.{owner_begins_at, has_word}
 use Rattle.ram_mirrors.proofs.mirror.Mirror.owner_on.Goals as goal
 
 pub load-requires : goal.load-requires
-load-requires c =
-    let words = c.self.invariant.0 in
-    (c.requires.seat.0 ∙ sym (ap (λ (z : MirrorValue). z.table) c.self.view_is), omega arith, owner_begins_at (λ z. z.items) _ _ _ _ _ c.requires.seat.1 refl refl refl)
+load-requires c = (c.requires.seat.0 ∙ sym (ap (λ (z : MirrorValue). z.table) c.self.view_is), has_word c.self.invariant.0, owner_begins_at (λ z. z.items) _ _ _ _ _ c.requires.seat.1 refl refl refl)
 
 pub invariant_of-result : goal.invariant_of-result
 invariant_of-result c =

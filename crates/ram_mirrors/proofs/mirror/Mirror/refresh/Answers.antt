@@ -1,19 +1,14 @@
 use Rattle.std.proofs.Common.{ℕ, ◌+◌, [], ◌∷◌, ◌++◌, length, ◌%◌, sym, ap, ◌∙◌, arith}
 use Rattle.atomic_table.specs.Table.{rest}
 use Rattle.ram_mirrors.specs.declared.view.View.{View}
-use Rattle.ram_mirrors.specs.Ends.{counted, MirrorValue, TakerValue}
+use Rattle.ram_mirrors.specs.Ends.{counted, TakerValue}
 use Rattle.ram_mirrors.specs.Stores.{store_number}
 use Rattle.ram_mirrors.specs.Exchange.{looked}
-use Rattle.ram_mirrors.proofs.Exchanges.{looks, takes_at, same_value, counted_more}
+use Rattle.ram_mirrors.proofs.Exchanges.{looks, takes_at, same_value, counted_more, has_word, taker_table}
 use Rattle.ram_mirrors.proofs.mirror.Mirror.refresh.Goals as goal
 
 pub load-shown-requires : goal.load-shown-requires
-load-shown-requires c =
-    let words = c.self.invariant.0 in (
-      ap (λ (z : TakerValue). z.table) c.taker.view_is ∙ (c.requires.own.0 ∙ sym (ap (λ (z : MirrorValue). z.table) c.self.view_is)),
-      omega arith,
-      looks (λ z. z.items) _ _ _ c.taker.inside.seat.me.0 c.taker.inside.seat.me.1 c.taker.invariant.0,
-    )
+load-shown-requires c = (taker_table c.taker.view_is c.self.view_is c.requires.own, has_word c.self.invariant.0, looks (λ z. z.items) _ _ _ c.taker.inside.seat.me.0 c.taker.inside.seat.me.1 c.taker.invariant.0)
 
 pub invariant_of-taker : goal.invariant_of-taker
 invariant_of-taker c =
@@ -37,7 +32,7 @@ exchange-empty-requires c =
     let i = c.taker.invariant in
     let e = c.load-shown.ensures in
     let held = e.2.1 ∙ i.5.1 in
-    (e.0 ∙ (ap (λ (z : TakerValue). z.table) c.taker.view_is ∙ (c.requires.own.0 ∙ sym (ap (λ (z : MirrorValue). z.table) c.self.view_is))), (i.5.0, held ∙ ap (λ l. (c.taker.inside.slot, i.5.0) ∷ l) (sym (ap rest held))))
+    (e.0 ∙ taker_table c.taker.view_is c.self.view_is c.requires.own, (i.5.0, held ∙ ap (λ l. (c.taker.inside.slot, i.5.0) ∷ l) (sym (ap rest held))))
 
 pub swap-found-requires : goal.swap-found-requires
 swap-found-requires c =
@@ -46,11 +41,9 @@ swap-found-requires c =
     let e = c.exchange-empty.ensures in
     let k : ℕ = c.taker.inside.slot in
     let b = c.replace-buffer.result in
-    let v = looked c.taker.inside.seat.me.0 l.2.0 in
-    let words = c.self.invariant.0 in
-    let table = ap (λ (z : TakerValue). z.table) c.taker.view_is ∙ (c.requires.own.0 ∙ sym (ap (λ (z : MirrorValue). z.table) c.self.view_is)) in (
-      e.0 ∙ (l.0 ∙ table),
-      omega arith,
+    let v = looked c.taker.inside.seat.me.0 l.2.0 in (
+      e.0 ∙ (l.0 ∙ taker_table c.taker.view_is c.self.view_is c.requires.own),
+      has_word c.self.invariant.0,
       takes_at (λ z. z.items) _ _ _ _ v k b
           (e.3 ∙ (ap (λ m. (m, (k, b) ∷ rest c.load-shown.new.seat.me.1)) l.2.2 ∙ ap (λ r. (v, (k, b) ∷ rest r)) (l.2.1 ∙ i.5.1)))
           i.0 i.1 i.4
@@ -62,7 +55,7 @@ pub exchange-requires : goal.exchange-requires
 exchange-requires c =
     let e = c.swap-found.ensures in
     let got = e.2.2 in
-    (e.0 ∙ (c.exchange-empty.ensures.0 ∙ (c.load-shown.ensures.0 ∙ (ap (λ (z : TakerValue). z.table) c.taker.view_is ∙ (c.requires.own.0 ∙ sym (ap (λ (z : MirrorValue). z.table) c.self.view_is))))), (e.2.1, got ∙ ap (λ l. (c.swap-found.result % 4, e.2.1) ∷ l) (sym (ap rest got))))
+    (e.0 ∙ (c.exchange-empty.ensures.0 ∙ (c.load-shown.ensures.0 ∙ taker_table c.taker.view_is c.self.view_is c.requires.own)), (e.2.1, got ∙ ap (λ l. (c.swap-found.result % 4, e.2.1) ∷ l) (sym (ap rest got))))
 
 pub invariant_of-taker-2 : goal.invariant_of-taker-2
 invariant_of-taker-2 c =

@@ -1,9 +1,9 @@
 use Rattle.std.proofs.Common.{◌≡◌, ℕ, ◌+◌, ◌++◌, [], ◌∷◌, length, ◌*◌, ◌%◌, sym, ap, ◌∙◌, arith}
 use Rattle.atomic_table.specs.Table.{rest}
-use Rattle.ram_mirrors.specs.Ends.{MirrorValue, OwnerValue}
+use Rattle.ram_mirrors.specs.Ends.{OwnerValue}
 use Rattle.ram_mirrors.specs.Stores.{store_number}
 use Rattle.ram_mirrors.specs.Exchange.{carried}
-use Rattle.ram_mirrors.proofs.Exchanges.{stores_at, store_number_more, length_snoc, same_value}
+use Rattle.ram_mirrors.proofs.Exchanges.{stores_at, store_number_more, length_snoc, same_value, has_word, owner_table}
 use Rattle.ram_mirrors.specs.declared.view.View.{View}
 use Rattle.ram_mirrors.proofs.mirror.Mirror.store.Goals as goal
 
@@ -11,7 +11,7 @@ pub exchange-empty-requires : goal.exchange-empty-requires
 exchange-empty-requires c =
     let i = c.owner.invariant in
     let e = i.6.1 in
-    (ap (λ (z : OwnerValue). z.table) c.owner.view_is ∙ (c.requires.own.0 ∙ sym (ap (λ (z : MirrorValue). z.table) c.self.view_is)), (i.6.0, e ∙ ap (λ l. (c.owner.inside.slot, i.6.0) ∷ l) (sym (ap rest e))))
+    (owner_table c.owner.view_is c.self.view_is c.requires.own, (i.6.0, e ∙ ap (λ l. (c.owner.inside.slot, i.6.0) ∷ l) (sym (ap rest e))))
 
 pub swap-found-requires : goal.swap-found-requires
 swap-found-requires c =
@@ -20,11 +20,9 @@ swap-found-requires c =
     let v = c.owner.inside.seat.me.0 in
     let k : ℕ = c.owner.inside.slot in
     let b = c.replace-buffer.result in
-    let table = ap (λ (z : OwnerValue). z.table) c.owner.view_is ∙ (c.requires.own.0 ∙ sym (ap (λ (z : MirrorValue). z.table) c.self.view_is)) in
-    let words = c.self.invariant.0 in
     let is : b.items ≡ c.args.content.now = ap (λ z. z.items) c.replace-buffer.ensures.value ∙ c.fill.ensures in (
-      e.0 ∙ table,
-      omega arith,
+      e.0 ∙ owner_table c.owner.view_is c.self.view_is c.requires.own,
+      has_word c.self.invariant.0,
       stores_at (λ z. z.items) _ _ _ _ v k b _
           (e.3 ∙ ap (λ l. (v, (k, b) ∷ rest l)) i.6.1)
           i.0 i.1 i.5
@@ -34,7 +32,7 @@ swap-found-requires c =
 
 pub exchange-requires : goal.exchange-requires
 exchange-requires c = let e = c.swap-found.ensures in let f = c.exchange-empty.ensures in let got = e.2.1 in
-    (e.0 ∙ (f.0 ∙ (ap (λ (z : OwnerValue). z.table) c.owner.view_is ∙ (c.requires.own.0 ∙ sym (ap (λ (z : MirrorValue). z.table) c.self.view_is)))), (e.2.0, got ∙ ap (λ l. (c.swap-found.result % 4, e.2.0) ∷ l) (sym (ap rest got))))
+    (e.0 ∙ (f.0 ∙ owner_table c.owner.view_is c.self.view_is c.requires.own), (e.2.0, got ∙ ap (λ l. (c.swap-found.result % 4, e.2.0) ∷ l) (sym (ap rest got))))
 
 pub invariant_of-owner : goal.invariant_of-owner
 invariant_of-owner c =

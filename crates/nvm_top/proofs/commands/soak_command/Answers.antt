@@ -1,6 +1,6 @@
 use Rattle.std.proofs.Common.{◌≤◌, map, string_bytes, sym, ap, ◌∙◌, Some, arith}
 use Rattle.nvm_top.proofs.Soaks.{few_rounds}
-use Rattle.nvm_top.proofs.soak.soak_command.Goals as goal
+use Rattle.nvm_top.proofs.commands.soak_command.Goals as goal
 
 pub soak-requires : goal.soak-requires
 soak-requires g c =

@@ -1,7 +1,7 @@
 use Rattle.std.proofs.Common.{◌≡◌, false, refl, ap, ◌∙◌, arith}
 use Rattle.fls_devices.specs.Overlay.{Overlaid}
 use Rattle.fls_devices.proofs.Steps.{on_step, asked_reached, kept_reached}
-use Rattle.fls_devices.proofs.overlay.Overlay.erase_part.Goals as goal
+use Rattle.fls_devices.proofs.overlay.Overlay.harm_erase.Goals as goal
 
 pub invariant_of-self : goal.invariant_of-self
 invariant_of-self g c =

@@ -1,7 +1,7 @@
 use Rattle.std.proofs.Common.{◌≡◌, string_bytes}
 use Rattle.fee_image.specs.Image.{layout_of}
 use Rattle.fee_dump.specs.Dump.{banks_text}
-use Rattle.fee_dump.proofs.text.banks_text.Given as goal
+use Rattle.fee_dump.proofs.text.dump_text.Given as goal
 
 -- the text of the banks so far
 abbrev pub invariant-loop-bank : goal.invariant-loop-bank

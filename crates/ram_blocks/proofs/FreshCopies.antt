@@ -4,17 +4,13 @@ use Rattle.std.proofs.Common.{◌≡◌, ◌≤◌, ◌==◌, ℕ, zero, suc, Bo
 use Rattle.std.proofs.lemmas.Bool.{cases_Bool, eqb-true}
 use Rattle.std.proofs.lemmas.List.{length-replicate}
 use Rattle.std.proofs.lemmas.Option.{get_or_from_slice_get, slice_get_within}
-use Rattle.nvm_core.specs.block_config.declared.block.BlockDesc.{BlockDesc}
-use Rattle.nvm_core.specs.block_config.declared.block.BlockKind.{BlockKind}
-use Rattle.nvm_core.specs.block_config.declared.block.BlockKind.TheVariants.{Native, Redundant, Dataset}
-use Rattle.nvm_core.specs.block_config.Block.{plain_block}
-use Rattle.nvm_core.specs.block_config.Config.{Configuration}
-use Rattle.nvm_core.specs.block_config.Rules.{IsLegalConfig, IsLegalBlock, AreBlocks, AreDefaults}
-use Rattle.nvm_core.specs.block_machine.Blocks.{is_synchronized}
-use Rattle.nvm_core.specs.ram_blocks.Told.{most_of, refusals_of}
-use Rattle.nvm_core.specs.ram_blocks.Plain.{told_of, plain_of, plain_blocks_of, fresh_block, no_plain}
-use Rattle.nvm_core.specs.ram_blocks.declared.plain_block.PlainBlock.{PlainBlock}
-use Rattle.nvm_core.specs.nv_desk_copies.Front.{AreSynchronized}
+use Rattle.block_machine.specs.block_config.Block.{plain_block}
+use Rattle.block_machine.specs.block_config.Rules.{IsLegalConfig, IsLegalBlock, AreBlocks, AreDefaults}
+use Rattle.block_machine.specs.Words.{BlockDesc, BlockKind, Native, Redundant, Dataset, Configuration}
+use Rattle.block_machine.specs.Blocks.{desc_of, is_synchronized}
+use Rattle.ram_blocks.specs.Told.{IsSynchronized, most_of, refusals_of}
+use Rattle.ram_blocks.specs.Plain.{told_of, plain_of, plain_blocks_of, fresh_block, no_plain}
+use Rattle.ram_blocks.specs.declared.plain_block.PlainBlock.{PlainBlock}
 
 -- EACH HAS ITS LENGTH
 
@@ -43,21 +39,21 @@ at_place [] i each sync = cc sync
 at_place (b ∷ bs) zero each sync = each b refl sync
 at_place (b ∷ bs) (suc i) each sync = at_place bs i each sync
 
-some_same : (a b : BlockDesc) → Some a ≡ Some b → a ≡ b
-some_same a b is = cc
-
 each_block : (id : ℕ) (bs : List BlockDesc) → AreBlocks id bs → (i : ℕ) (b : BlockDesc) → slice_get bs i ≡ Some b → is_synchronized b.ram ≡ true → option_map (λ s. s.bytes) (told_of (plain_of b)) ≡ Some b.length
 each_block id [] are i b at sync = absurd are
 each_block id (m ∷ bs) are zero b at sync =
-    let no_ : false ≡ true = ap (λ (x : BlockDesc). is_synchronized x.ram) (sym are.0) ∙ ap (λ (x : BlockDesc). is_synchronized x.ram) (some_same m b at) ∙ sync in absurd (cc no_)
+    let same : m ≡ b = cc in
+    let no_ : false ≡ true = ap (λ (x : BlockDesc). is_synchronized x.ram) (sym are.0) ∙ ap (λ (x : BlockDesc). is_synchronized x.ram) same ∙ sync in absurd (cc no_)
 each_block id (m ∷ bs) are (suc i) b at sync =
     let legal : IsLegalBlock b = subst IsLegalBlock (get_or_from_slice_get bs i b b at) (are.1 i b (slice_get_within bs i b at)) in
     told_synchronized b legal.content.low legal.defaults sync
 
-pub are_synchronized : (c : Configuration) (copies : List PlainBlock) → IsLegalConfig c → copies ≡ plain_blocks_of c → AreSynchronized c (map told_of copies)
-are_synchronized c copies legal is = subst (λ (xs : List PlainBlock). AreSynchronized c (map told_of xs)) (sym is) own
+-- so the synchronized blocks of a configuration are the application's, with their lengths
+pub are_synchronized : (c : Configuration) (copies : List PlainBlock) → IsLegalConfig c → copies ≡ plain_blocks_of c
+    → (id : ℕ) → is_synchronized (desc_of c id).ram ≡ true → IsSynchronized (map told_of copies) id (desc_of c id).length
+are_synchronized c copies legal is id sync = subst (λ (xs : List PlainBlock). IsSynchronized (map told_of xs) id (desc_of c id).length) (sym is) (own id sync)
   where
-    own : AreSynchronized c (map told_of (plain_blocks_of c))
+    own : (id : ℕ) → is_synchronized (desc_of c id).ram ≡ true → IsSynchronized (map told_of (plain_blocks_of c)) id (desc_of c id).length
     own zero sync = cc sync
     own (suc i) sync = at_place c.blocks i (each_block c.id c.blocks legal.blocks_legal i) sync
 
