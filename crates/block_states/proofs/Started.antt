@@ -1,5 +1,5 @@
 -- What a start-up leaves.
-use Rattle.std.proofs.Common.{◌≡◌, ◌<◌, ℕ, zero, suc, ◌+◌, ◌==◌, ◌||◌, Bool, true, false, if◌then◌else◌, List, [], ◌∷◌, map, length, get_or, slice_get, replicate, unwrap_or, refl, sym, ap, ◌∙◌, arith, add-one, Some, take}
+use Rattle.std.proofs.Common.{◌≡◌, ◌<◌, ℕ, zero, suc, ◌+◌, ◌==◌, ◌||◌, ◌&&◌, Bool, true, false, if◌then◌else◌, List, [], ◌∷◌, map, length, get_or, slice_get, replicate, unwrap_or, refl, sym, ap, ◌∙◌, arith, add-one, Some, None, Option, take}
 use Rattle.std.specs.List.{enumerate_from, list_any}
 use Rattle.std.specs.Option.{option_map_or}
 use Rattle.std.proofs.lemmas.List.{length-replicate}
@@ -12,7 +12,7 @@ use Rattle.ram_blocks.specs.declared.kept.RamBlock.{RamBlock}
 use Rattle.ram_blocks.specs.Kept.{zeros, ram_of, no_ram, kept_of}
 use Rattle.block_states.specs.declared.facts.BlockFacts.{BlockFacts}
 use Rattle.block_states.specs.Shown.{state_of, states_of, rooms_in}
-use Rattle.block_states.specs.States.{KeptBlocks, rooms_of, started_blocks, no_facts, started_facts, started_by, RoomsHaveLengths}
+use Rattle.block_states.specs.States.{KeptBlocks, rooms_of, started_blocks, no_facts, started_facts, started_by, written_by, RoomsHaveLengths}
 
 -- the RAM of enumerated blocks
 abbrev rams_from : ℕ → List BlockDesc → List RamBlock
@@ -132,7 +132,27 @@ any_next p (x ∷ xs) zero below = or_false (p x)
 any_next p (x ∷ xs) (suc i) below = ap (λ b. p x || b) (any_next p xs i (omega arith))
     ∙ or_assoc (p x) (list_any p (take i xs)) (option_map_or p (slice_get xs i) false)
 
-pub any_more : {X : Type 0} (p : X → Bool) (xs : List X) (i : ℕ) (so_far here : Bool) → i < length xs → so_far ≡ list_any p (take i xs)
-    → here ≡ option_map_or p (slice_get xs i) false
-    → (so_far || here) ≡ list_any p (take (i + 1) xs)
-any_more p xs i so_far here below before is = rw (add-one i, before, is) (sym (any_next p xs i below))
+or_true : (a : Bool) → (a || true) ≡ true
+or_true true = refl
+or_true false = refl
+
+once_noted : (once here before now protected : Bool) → now ≡ (before || here)
+    → (if once && here then record (record no_facts { protected = if once then before else protected }) { protected = true } else record no_facts { protected = if once then before else protected })
+    ≡ record no_facts { protected = if once then now else protected }
+once_noted false here before now protected is = refl
+once_noted true true before now protected is = ap (λ b. record no_facts { protected = b }) (sym (is ∙ or_true before))
+once_noted true false before now protected is = ap (λ b. record no_facts { protected = b }) (sym (is ∙ or_false before))
+
+-- a block with one mark more
+noted : (here : Bool) (marks : List (Instance × Mark)) (i id : ℕ) (o : Option BlockDesc) (before : BlockFacts) → i < length marks
+    → here ≡ option_map_or (λ x. x.0.block == id) (slice_get marks i) false → before ≡ started_by (take i marks) id o
+    → written_by here o before ≡ started_by (take (suc i) marks) id o
+noted here marks i id None before below is so_far = so_far
+noted here marks i id (Some d) before below is so_far =
+    rw so_far (once_noted d.once here (list_any (λ x. x.0.block == id) (take i marks)) (list_any (λ x. x.0.block == id) (take (suc i) marks)) d.protected
+    (any_next (λ x. x.0.block == id) marks i below ∙ ap (λ b. list_any (λ x. x.0.block == id) (take i marks) || b) (sym is)))
+
+pub note_more : (marks : List (Instance × Mark)) (i id : ℕ) (o : Option BlockDesc) (before : BlockFacts) → i < length marks
+    → before ≡ started_by (take i marks) id o
+    → written_by (option_map_or (λ x. x.0.block == id) (slice_get marks i) false) o before ≡ started_by (take (i + 1) marks) id o
+note_more marks i id o before below so_far = rw (add-one i) (noted _ marks i id o before below refl so_far)

@@ -1,5 +1,5 @@
 -- The states of blocks by id, and how one of them changes.
-use Rattle.std.specs.Prelude.{◌≡◌, ℕ, ◌==◌, true, false, Bool, List, ◌∷◌, map, length, get_or, slice_set, if◌then◌else◌, unwrap_or, Option, Some, None}
+use Rattle.std.specs.Prelude.{◌≡◌, ℕ, ◌==◌, true, false, Bool, List, ◌∷◌, map, length, get_or, slice_set, ◌&&◌, if◌then◌else◌, unwrap_or, Option, Some, None}
 use Rattle.std.specs.List.{list_any, enumerate_from}
 use Rattle.ram_blocks.specs.declared.kept.RamFlags.{RamFlags}
 use Rattle.ram_blocks.specs.Kept.{kept_of}
@@ -61,6 +61,11 @@ started_facts marks id d = record no_facts { protected = if d.once then list_any
 abbrev pub started_by : List (Instance × Mark) → ℕ → Option BlockDesc → BlockFacts
 started_by marks id None = no_facts
 started_by marks id (Some d) = started_facts marks id d
+
+-- with one mark more, which is of this block or not
+abbrev pub written_by : Bool → Option BlockDesc → BlockFacts → BlockFacts
+written_by own None f = f
+written_by own (Some d) f = if d.once && own then record f { protected = true } else f
 
 -- RAM that the manager keeps holds what was given, where something was
 abbrev pub given_to : Bool → Option (List ℕ) → BlockState → BlockState

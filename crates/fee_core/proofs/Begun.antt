@@ -11,6 +11,7 @@ use Rattle.memif.specs.declared.answer.DeviceTurn.TheVariants as turn
 use Rattle.memif.specs.declared.answer.JobResult.TheVariants.{JobFailed}
 use Rattle.fls_model.specs.Told.{Told}
 use Rattle.fee_format.specs.declared.rec_head.RecHead.{RecHead}
+use Rattle.fee_format.specs.declared.rec_head.RecordKind.{RecordKind}
 use Rattle.fee_log.specs.declared.tail.Tail.{Tail}
 use Rattle.fee_log.specs.declared.tail.Tail.TheVariants.{Open, Writes, Owes, Closed}
 use Rattle.fee_log.specs.Log.{LogState, IsFor, work_in, free_in, head_next, tail_begun}
@@ -32,13 +33,13 @@ use Rattle.fee_laws.proofs.BegunSound.{records_begin}
 use Rattle.fee_laws.proofs.FollowCalled.{begun_follows, room_is_known, switching_follows}
 use Rattle.fee_laws.proofs.Lifting.{begun_turns}
 use Rattle.fee_laws.proofs.SwitchBegun.{switches_begin}
-use Rattle.fee_laws.proofs.SwitchEnded.{pages_for}
+use Rattle.fee_laws.proofs.SwitchEnded.{for_job, pages_for}
 use Rattle.fee_laws.proofs.WornFull.{never_begins}
 use Rattle.fee_laws.proofs.WornTurn.{wears_out}
 use Rattle.fee_core.specs.Beginning.{begins_beside, begins_now}
 use Rattle.fee_core.specs.Turning.{IsUp, Waits}
 use Rattle.fee_core.specs.Whole.{Whole, TurnedTo}
-use Rattle.fee_core.proofs.Standing.{Stands, turned_from, job_is, for_job, next_counted}
+use Rattle.fee_core.proofs.Standing.{Stands, turned_from, job_is, next_counted}
 
 -- TESTS
 pub all_four : (a b c d : Bool) → a && b && c && d ≡ true → (a ≡ true) × (b ≡ true) × (c ≡ true) × (d ≡ true)
@@ -127,7 +128,7 @@ module _ {m : Making} {entry : Told} {w v : Whole} (at : Stands m entry w v) {j 
   is = job_is at.on waits_here.job
 
   configured : IsFor s.banks.log.numbers (head_of s.banks.log j)
-  configured = subst (λ (ns : List (DeviceNumber × ℕ)). IsFor ns (head_of s.banks.log j)) (sym at.on.sound.made_for.numbers) (for_job m.numbers j.op j (head_of s.banks.log j).count refl waits.writes is (next_counted s.banks.log j at.on.log))
+  configured = subst (λ (ns : List (DeviceNumber × ℕ)). IsFor ns (head_of s.banks.log j)) (sym at.on.sound.made_for.numbers) (for_job m.numbers j (head_of s.banks.log j).count waits.writes is (next_counted s.banks.log j at.on.log))
 
   -- its record
   module _ (begins : begins_now v.reserve v.parts.banks j ≡ true) where
@@ -140,7 +141,7 @@ module _ {m : Making} {entry : Told} {w v : Whole} (at : Stands m entry w v) {j 
     can_begin : CanAppend s.banks (head_of s.banks.log j)
     can_begin = (let has = has_room_for m s j (at.on.sound.works at.on.started).active is may_begin in record { active = has.active; taken = may_begin.taken; configured = configured; room = has.room })
 
-    module _ {log : LogState} (same : log ≡ s.banks.log) {kind : ℕ} (kind_is : kind ≡ kind_of j.op) {h : RecHead} (made : h ≡ head_next log j.number.0 kind j.length) where
+    module _ {log : LogState} (same : log ≡ s.banks.log) {kind : RecordKind} (kind_is : kind ≡ kind_of j.op) {h : RecHead} (made : h ≡ head_next log j.number.0 kind j.length) where
       head_is : h ≡ head_of s.banks.log j
       head_is = made ∙ (λ k. head_next (same k) j.number.0 (kind_is k) j.length)
 

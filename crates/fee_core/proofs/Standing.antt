@@ -1,6 +1,6 @@
 -- What a turn that does something begins with, and the open job of a started device.
 use Rattle.std.specs.Prelude.{is_some, IfSome, slice_get}
-use Rattle.std.proofs.Common.{◌≡◌, ◌≢◌, inl, inr, ◌≤◌, ◌<◌, ◌^◌, ◌++◌, ℕ, zero, suc, Bool, true, false, List, [], ◌∷◌, Option, Some, None, refl, sym, ap, ◌∙◌, subst, arith}
+use Rattle.std.proofs.Common.{◌≡◌, inl, inr, ◌≤◌, ◌<◌, ◌^◌, ◌++◌, ℕ, zero, suc, Bool, true, false, List, [], ◌∷◌, Option, Some, None, refl, sym, ap, ◌∙◌, subst, arith}
 use Rattle.nv_base.specs.declared.instance.DeviceNumber.{DeviceNumber}
 use Rattle.nv_base.specs.Lengths.{place_of}
 use Rattle.nv_base.specs.declared.job.DeviceOp.{DeviceOp}
@@ -12,20 +12,19 @@ use Rattle.fee_image.specs.declared.place.Place.{Place}
 use Rattle.fee_image.specs.declared.place.Place.TheVariants.{Unwritten}
 use Rattle.fee_image.specs.Places.{count_at}
 use Rattle.fee_log.specs.Index.{at_index, or_else, AreCounted}
-use Rattle.fee_log.specs.Log.{LogState, IsLogState, IsFor, work_in}
+use Rattle.fee_log.specs.Log.{LogState, IsLogState, work_in}
 use Rattle.fee_switch.specs.Banks.{BanksState, IsBanksState}
 use Rattle.promise_device.specs.Making.{Making}
 use Rattle.fee_told.proofs.Figures.{length_few as few_at}
 use Rattle.fee_laws.specs.declared.job.FeeJob.{FeeJob}
 use Rattle.fee_laws.specs.Inside.{Parts, IsSound}
-use Rattle.fee_laws.specs.Record.{IsJobOf, IsLengthOf, kind_of, head_of}
+use Rattle.fee_laws.specs.Record.{IsJobOf, IsLengthOf, head_of}
 use Rattle.fee_laws.specs.Turn.{IsOn, Turned}
 use Rattle.fee_laws.specs.Parts.{opened}
 use Rattle.fee_laws.specs.Follows.{Follows}
 use Rattle.fee_laws.specs.FollowLaws.{IsSameBeside}
 use Rattle.fee_laws.proofs.CallsBehind.{no_work}
 use Rattle.fee_laws.proofs.Resting.{off_turns}
-use Rattle.fee_laws.proofs.SwitchEnded.{is_listed}
 use Rattle.fee_core.specs.Turning.{IsUp}
 use Rattle.fee_core.specs.Whole.{Whole, Sound, TurnedTo}
 
@@ -127,16 +126,3 @@ place_counted ps (Some i) are = counted_at ps i are
 
 pub next_counted : (log : LogState) (j : FeeJob) → IsLogState log → (head_of log j).count < 2 ^ 32
 next_counted log j is = (let few = place_counted log.places (place_of log.numbers j.number.0) is.counts in omega (arith, few))
-
--- its record is for its number, with so many pages
-pub for_job : (numbers : List (DeviceNumber × ℕ)) (op : DeviceOp) (j : FeeJob) (count : ℕ) → j.op ≡ op → op ≢ Read → IsJobOf numbers j → count < 2 ^ 32 → IsFor numbers (record { number = j.number.0; kind = kind_of j.op; length = j.length; count = count })
-for_job numbers Read j count e writes is counted = absurd (writes refl)
-for_job numbers Write j count e writes is counted =
-    let fits = subst (λ (o : DeviceOp). IsLengthOf o j.length is.length) e is.fits in
-    record { length = is.length; configured = is_listed numbers j.number.0 is.length is.configured; kind = inl (ap kind_of e, fits); count = counted }
-for_job numbers Invalidate j count e writes is counted =
-    let fits = subst (λ (o : DeviceOp). IsLengthOf o j.length is.length) e is.fits in
-    record { length = is.length; configured = is_listed numbers j.number.0 is.length is.configured; kind = inr (inl (ap kind_of e), fits); count = counted }
-for_job numbers Erase j count e writes is counted =
-    let fits = subst (λ (o : DeviceOp). IsLengthOf o j.length is.length) e is.fits in
-    record { length = is.length; configured = is_listed numbers j.number.0 is.length is.configured; kind = inr (inr (ap kind_of e), fits); count = counted }

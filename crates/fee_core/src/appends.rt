@@ -9,21 +9,21 @@ ghost use Rattle.fee_core.specs.Whole.{TurnedTo};
 use crate::Origin;
 use crate::operations::program_record;
 use crate::parts::FeeParts;
+use fee_format::RecordKind;
 use fee_laws::FeeJob;
 use fee_log::LogStep;
 use fls_model::Flash;
 use memif::{DeviceTurn, JobResult};
 use nv_base::DeviceOp;
 
-// The kind of an operation's record.
-fn kind_of(op: DeviceOp) -> u8
+// The kind of an operation's record. A read has none, and stands with the erasings.
+fn kind_of(op: DeviceOp) -> RecordKind
     ensures { result ≡ kind_of op }
 {
     match op {
-        DeviceOp::Read => 0,
-        DeviceOp::Write => 1,
-        DeviceOp::Invalidate => 2,
-        DeviceOp::Erase => 3,
+        DeviceOp::Write => RecordKind::Content,
+        DeviceOp::Invalidate => RecordKind::Invalid,
+        DeviceOp::Read | DeviceOp::Erase => RecordKind::Erased,
     }
 }
 

@@ -18,7 +18,8 @@ impl<F: Flash, O: Origin> FeeParts<F, O> {
     /// What the device is at.
     pub fn status(&self) -> MemStatus
         requires { Sound O.making O.entry self.now }
-        ensures { result ≡ status_of (told_in O.making O.entry self.now) }
+        ensures status { result ≡ status_of (told_in O.making O.entry self.now) }
+        ensures order { InOrder (told_in O.making O.entry self.now) (clock_in O.making O.entry self.now) }
     {
         if !self.started {
             MemStatus::Uninit
@@ -130,8 +131,7 @@ impl<F: Flash, O: Origin> FeeParts<F, O> {
     /// The turns that the open work takes at most, where no fault comes.
     pub fn left(&self) -> u64
         requires { Sound O.making O.entry self.now }
-        ensures left { result ≡ (told_in O.making O.entry self.now).left }
-        ensures order { InOrder (told_in O.making O.entry self.now) (clock_in O.making O.entry self.now) }
+        ensures { result ≡ (told_in O.making O.entry self.now).left }
     {
         let Some(job) = self.job else {
             return self.banks.left();

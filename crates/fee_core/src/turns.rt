@@ -1,6 +1,5 @@
 // The turns of a device.
-ghost use Rattle.std.specs.Prelude.{◌≡◌, ◌≢◌, false, None, Some};
-ghost use Rattle.nv_base.specs.declared.job.DeviceOp.TheVariants.{Read};
+ghost use Rattle.std.specs.Prelude.{◌≡◌, None};
 ghost use Rattle.fee_core.specs.Turning.{IsUp, Waits};
 ghost use Rattle.fee_core.specs.Whole.{Sound, TurnedTo};
 
@@ -25,7 +24,11 @@ impl<F: Flash, O: Origin> FeeParts<F, O> {
         if self.off {
             return DeviceTurn::Off;
         }
-        self.turn_job(job)
+        match job.op {
+            DeviceOp::Read => self.turn_read(job),
+            _ if is_appending(&self.banks) => self.turn_record(job),
+            _ => self.turn_waiting(job),
+        }
     }
 
     // A turn without a job: of the open switch, if any.
@@ -41,33 +44,6 @@ impl<F: Flash, O: Origin> FeeParts<F, O> {
             return DeviceTurn::Off;
         }
         self.turn_switch()
-    }
-
-    // A turn of the open job.
-    fn turn_job(&mut self, job: FeeJob) -> DeviceTurn
-        requires sound { Sound O.making O.entry self.old }
-        requires on { self.old.off ≡ false }
-        requires job { self.old.parts.job ≡ Some job }
-        ensures { TurnedTo O.making O.entry result self.old self.new }
-    {
-        match job.op {
-            DeviceOp::Read => self.turn_read(job),
-            _ => self.turn_writing(job),
-        }
-    }
-
-    // A turn of a job that has a record, which is in work or waits.
-    fn turn_writing(&mut self, job: FeeJob) -> DeviceTurn
-        requires up { IsUp O.making O.entry self.old }
-        requires job { self.old.parts.job ≡ Some job }
-        requires writes { job.op ≢ Read }
-        ensures { TurnedTo O.making O.entry result self.old self.new }
-    {
-        if is_appending(&self.banks) {
-            self.turn_record(job)
-        } else {
-            self.turn_waiting(job)
-        }
     }
 
     // A turn of a job whose record waits: it begins where it may, and else a switch comes first.

@@ -6,6 +6,7 @@ use Rattle.std.specs.Str.{bytes_eq}
 use Rattle.fee_format.specs.declared.bank_head.BankHead.{BankHead}
 use Rattle.fee_format.specs.Formats.{new_format}
 use Rattle.fee_format.specs.Pages.{blank_page}
+use Rattle.fee_format.specs.RecHead.{kind_byte}
 use Rattle.fee_image.specs.Bank.{Bank, page_of}
 use Rattle.fee_image.specs.Image.{Layout, bank_in, head_of_bank, active_of}
 use Rattle.fee_image.specs.RecordList.{Rec, records_of, end_of}
@@ -24,7 +25,7 @@ counted_text count commit = codes "count " ++ (decimal count ++ (codes " " ++ co
 
 -- the page of its bank where its header stands, what the header says in the bank's format, and whether its commit gate is open
 abbrev pub record_line : ℕ → Rec → List ℕ
-record_line format r = numbers_line r.at r.head.number r.head.kind r.head.length
+record_line format r = numbers_line r.at r.head.number (kind_byte r.head.kind) r.head.length
     (if format == new_format then counted_text r.head.count (commit_text r.committed) else commit_text r.committed)
 
 -- THE TAIL

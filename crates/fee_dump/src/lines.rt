@@ -3,7 +3,7 @@ ghost use Rattle.std.specs.Prelude.{◌≡◌, IfOk, string_bytes};
 ghost use Rattle.fee_view.specs.Record.{rec_shown};
 ghost use Rattle.fee_dump.specs.Dump.{commit_text, numbers_line as numbers_text, counted_text, record_line as record_text, head_line as head_text, none_line as none_text, tail_line as tail_text, active_line as active_text};
 
-use fee_format::BankHead;
+use fee_format::{BankHead, kind_byte};
 use fee_view::Record;
 use std::alloc::{AllocError, Global};
 
@@ -41,16 +41,17 @@ pub(crate) fn record_line(
     ensures { IfOk result (λ t. string_bytes t ≡ record_text format (rec_shown shown.now)) }
 {
     let commit = commit_word(shown.committed);
+    let kind = kind_byte(shown.kind);
     let length = shown.payload.len();
     if format != 2 {
-        return numbers_line(alloc, shown.at, shown.number, shown.kind, length, commit);
+        return numbers_line(alloc, shown.at, shown.number, kind, length, commit);
     }
     let counted = counted(alloc, shown.count, commit)?;
     numbers_line(
         alloc,
         shown.at,
         shown.number,
-        shown.kind,
+        kind,
         length,
         counted.as_str(),
     )

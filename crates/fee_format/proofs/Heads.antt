@@ -1,13 +1,15 @@
 -- Heads from their bytes.
 use Rattle.std.specs.Prelude.{◌==◌, ◌&&◌, ◌||◌, ◌++◌, nat_lt, take, replicate, ◌-◌, if◌then◌else◌}
-use Rattle.std.proofs.Common.{◌≡◌, ◌⊎◌, ◌↔◌, ◌<◌, ◌^◌, ℕ, Bool, true, false, IsTrue, List, Some, None, refl, sym, ap, ◌∙◌, subst, arith}
+use Rattle.std.proofs.Common.{◌≡◌, ◌↔◌, ◌<◌, ◌^◌, ℕ, Bool, true, false, IsTrue, List, Some, None, refl, sym, ap, ◌∙◌, subst, arith}
 use Rattle.std.specs.Int.{w16, w32, to_be_bytes, from_be_bytes, bytes_high_first}
 use Rattle.std.proofs.lemmas.Bool.{false≢true}
 use Rattle.std.proofs.lemmas.Nat.{from_be_bytes-to_be_bytes_2, from_be_bytes-to_be_bytes_4}
 use Rattle.fee_format.specs.declared.bank_head.BankHead.{BankHead}
 use Rattle.fee_format.specs.declared.rec_head.RecHead.{RecHead}
+use Rattle.fee_format.specs.declared.rec_head.RecordKind.{RecordKind}
+use Rattle.fee_format.specs.declared.rec_head.RecordKind.TheVariants.{Content, Invalid, Erased}
 use Rattle.fee_format.specs.BankHead.{IsLegalBankHead, IsBankHead, bank_head_page, bank_head_in}
-use Rattle.fee_format.specs.RecHead.{IsLegalRecHead, IsRecHead, rec_head_page, rec_head_in, is_legal_rec_head}
+use Rattle.fee_format.specs.RecHead.{IsLengthOfKind, IsLegalRecHead, IsRecHead, kind_byte, kind_in, is_length_of_kind, rec_head_page, rec_head_in, is_legal_rec_head}
 use Rattle.fee_format.specs.Formats.{IsFormat, is_format, new_format, CountIn, IsCountIn, is_count_in}
 use Rattle.fee_format.specs.Pages.{same_bytes}
 use Rattle.fee_format.specs.Laws.{BankHeadsCompute, RecHeadsCompute}
@@ -50,24 +52,34 @@ pub counted_is : (b : Bool) (count : ℕ) → IsTrue (b || (count == 0)) ↔ Cou
 counted_is true count = (λ t. tt, λ is. refl)
 counted_is false count = eq_is count 0
 
+-- a kind is read as it was written
+kind_read : (k : RecordKind) → kind_in (kind_byte k) ≡ k
+kind_read Content = refl
+kind_read Invalid = refl
+kind_read Erased = refl
+
 rec_head_in_is : (format p : ℕ) (h : RecHead) → IsLegalRecHead h → IsCountIn format h.count → rec_head_in format (rec_head_page format p h) ≡ h
 rec_head_in_is format p h legal counted =
     let number : from_be_bytes w16 (to_be_bytes w16 h.number) ≡ h.number = from_be_bytes-to_be_bytes_2 h.number (omega (arith, legal.number_high)) in
     let length : from_be_bytes w16 (to_be_bytes w16 h.length) ≡ h.length = from_be_bytes-to_be_bytes_2 h.length legal.length in
     let count = count_read (format == new_format) h.count (replicate (p - 10) 255) legal.count counted in
-    λ i. record { number = number i; kind = h.kind; length = length i; count = count i }
+    let kind = kind_read h.kind in
+    λ i. record { number = number i; kind = kind i; length = length i; count = count i }
+
+length_is : (k : RecordKind) (length : ℕ) → IsTrue (is_length_of_kind k length) ↔ IsLengthOfKind k length
+length_is Content length = lt_is 0 length
+length_is Invalid length = eq_is length 0
+length_is Erased length = eq_is length 0
 
 legal_is : (h : RecHead) → IsTrue (is_legal_rec_head h) ↔ IsLegalRecHead h
 legal_is h =
     let number = both (nat_lt 0 h.number) (nat_lt h.number 65535) (0 < h.number) (h.number < 65535) (lt_is 0 h.number) (lt_is h.number 65535) in
-    let content = both (h.kind == 1) (nat_lt 0 h.length) (h.kind ≡ 1) (0 < h.length) (eq_is h.kind 1) (lt_is 0 h.length) in
-    let marks = either (h.kind == 2) (h.kind == 3) (h.kind ≡ 2) (h.kind ≡ 3) (eq_is h.kind 2) (eq_is h.kind 3) in
-    let other = both ((h.kind == 2) || (h.kind == 3)) (h.length == 0) ((h.kind ≡ 2) ⊎ (h.kind ≡ 3)) (h.length ≡ 0) marks (eq_is h.length 0) in
-    let kind = either ((h.kind == 1) && nat_lt 0 h.length) (((h.kind == 2) || (h.kind == 3)) && (h.length == 0)) ((h.kind ≡ 1) × (0 < h.length)) (((h.kind ≡ 2) ⊎ (h.kind ≡ 3)) × (h.length ≡ 0)) content other in
-    let rest = both (((h.kind == 1) && nat_lt 0 h.length) || (((h.kind == 2) || (h.kind == 3)) && (h.length == 0))) (nat_lt h.length 65536) (((h.kind ≡ 1) × (0 < h.length)) ⊎ (((h.kind ≡ 2) ⊎ (h.kind ≡ 3)) × (h.length ≡ 0))) (h.length < 65536) kind (lt_is h.length 65536) in
-    let all = both (nat_lt 0 h.number && nat_lt h.number 65535) ((((h.kind == 1) && nat_lt 0 h.length) || (((h.kind == 2) || (h.kind == 3)) && (h.length == 0))) && nat_lt h.length 65536) ((0 < h.number) × (h.number < 65535)) ((((h.kind ≡ 1) × (0 < h.length)) ⊎ (((h.kind ≡ 2) ⊎ (h.kind ≡ 3)) × (h.length ≡ 0))) × (h.length < 65536)) number rest in
-    let with_count = both (nat_lt h.count (2 ^ 32)) ((nat_lt 0 h.number && nat_lt h.number 65535) && ((((h.kind == 1) && nat_lt 0 h.length) || (((h.kind == 2) || (h.kind == 3)) && (h.length == 0))) && nat_lt h.length 65536))
-    (h.count < 2 ^ 32) (((0 < h.number) × (h.number < 65535)) × ((((h.kind ≡ 1) × (0 < h.length)) ⊎ (((h.kind ≡ 2) ⊎ (h.kind ≡ 3)) × (h.length ≡ 0))) × (h.length < 65536)))
+    let has_length = is_length_of_kind h.kind h.length in
+    let HasLength = IsLengthOfKind h.kind h.length in
+    let rest = both has_length (nat_lt h.length 65536) HasLength (h.length < 65536) (length_is h.kind h.length) (lt_is h.length 65536) in
+    let all = both (nat_lt 0 h.number && nat_lt h.number 65535) (has_length && nat_lt h.length 65536) ((0 < h.number) × (h.number < 65535)) (HasLength × (h.length < 65536)) number rest in
+    let with_count = both (nat_lt h.count (2 ^ 32)) ((nat_lt 0 h.number && nat_lt h.number 65535) && (has_length && nat_lt h.length 65536))
+    (h.count < 2 ^ 32) (((0 < h.number) × (h.number < 65535)) × (HasLength × (h.length < 65536)))
     (lt_is h.count (2 ^ 32)) all in (
       λ t. let c = with_count.0 t in let l = c.1 in record { number_low = l.0.0; number_high = l.0.1; kind = l.1.0; length = l.1.1; count = c.0 },
       λ l. with_count.1 (l.count, ((l.number_low, l.number_high), (l.kind, l.length))),

@@ -10,6 +10,10 @@ pub record IsLegalBankHead (h : BankHead) : Type 0 where
   pub format : IsFormat h.format
   pub generation : h.generation < 2 ^ 32
 
+-- the last generation, which no other follows
+abbrev pub last_generation : ℕ
+last_generation = 4294967295
+
 -- the magic byte, the format, and the generation, big-endian
 abbrev pub bank_head_bytes : BankHead → List ℕ
 bank_head_bytes h = 0x42 ∷ h.format ∷ bytes_high_first 4 h.generation

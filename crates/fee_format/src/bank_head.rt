@@ -7,6 +7,9 @@ use crate::formats::is_format;
 use byteorder::{BigEndian, ByteOrder};
 use nv_base::all_are;
 
+/// The last generation of a bank, which no other follows.
+pub const LAST_GENERATION: u32 = 4294967295;
+
 /// The head of a bank: its format, which is 1 or 2, and its generation.
 #[derive(Clone, Copy)]
 pub struct BankHead {

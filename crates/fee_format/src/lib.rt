@@ -12,9 +12,9 @@ mod pages;
 mod rec_head;
 mod sound_head;
 
-pub use bank_head::{BankHead, read_bank_head, write_bank_head};
+pub use bank_head::{BankHead, LAST_GENERATION, read_bank_head, write_bank_head};
 pub use formats::{NEW_FORMAT, OLD_FORMAT};
 pub use gate::{gate_stands, write_gate};
 pub use pages::pages_of;
-pub use rec_head::{RecHead, read_rec_head, write_rec_head};
+pub use rec_head::{RecHead, RecordKind, kind_byte, read_rec_head, write_rec_head};
 pub use sound_head::is_sound_head;

@@ -2,21 +2,50 @@
 ghost use Rattle.std.specs.Prelude.{◌≡◌, ◌≤◌, ◌↔◌, ◌++◌, ◌-◌, length, replicate, IsTrue, MatchOption};
 ghost use Rattle.fee_format.specs.declared.rec_head.RecHead.{RecHead};
 ghost use Rattle.fee_format.specs.Formats.{IsFormat, IsCountIn, count_bytes};
-ghost use Rattle.fee_format.specs.RecHead.{IsLegalRecHead, rec_head_bytes, rec_head_page, IsRecHead, IsNoRecHead, count_in};
+ghost use Rattle.fee_format.specs.RecHead.{IsLegalRecHead, IsLengthOfKind, kind_byte, kind_in, rec_head_bytes, rec_head_page, IsRecHead, IsNoRecHead, count_in};
 
 use crate::formats::NEW_FORMAT;
 use byteorder::{BigEndian, ByteOrder};
 use nv_base::all_are;
 
-/// The header of a record: the device number of its instance, its kind (1 a content, 2 an invalidated instance, 3 an
-/// erased one), the length of its content in bytes, 0 for the kinds 2 and 3, and the count of the writes of its instance,
-/// which format 2 has, and 0 in format 1.
+/// What a record says of its instance: a content, that it is invalidated, or that it is erased.
+#[derive(Clone, Copy, PartialEq, Eq)]
+pub enum RecordKind {
+    Content,
+    Invalid,
+    Erased,
+}
+
+/// The header of a record: the device number of its instance, its kind, the length of its content in bytes, 0 where it
+/// has none, and the count of the writes of its instance, which format 2 has, and 0 in format 1.
 #[derive(Clone, Copy)]
 pub struct RecHead {
     pub number: u16,
-    pub kind: u8,
+    pub kind: RecordKind,
     pub length: u16,
     pub count: u32,
+}
+
+/// The byte of a kind, as a header has it: 1 a content, 2 an invalidated instance, 3 an erased one.
+pub fn kind_byte(kind: RecordKind) -> u8
+    ensures { result ≡ kind_byte kind }
+{
+    match kind {
+        RecordKind::Content => 1,
+        RecordKind::Invalid => 2,
+        RecordKind::Erased => 3,
+    }
+}
+
+// The kind that a byte would be. Of a byte of none the header isn't the written form.
+fn kind_in(byte: u8) -> RecordKind
+    ensures { result ≡ kind_in byte }
+{
+    match byte {
+        1 => RecordKind::Content,
+        2 => RecordKind::Invalid,
+        _ => RecordKind::Erased,
+    }
 }
 
 fn is_counted(format: u8, count: u32) -> bool
@@ -25,13 +54,19 @@ fn is_counted(format: u8, count: u32) -> bool
     format == NEW_FORMAT || count == 0
 }
 
+fn is_length_of_kind(kind: RecordKind, length: u16) -> bool
+    ensures { IsTrue result ↔ IsLengthOfKind kind length }
+{
+    match kind {
+        RecordKind::Content => 0 < length,
+        RecordKind::Invalid | RecordKind::Erased => length == 0,
+    }
+}
+
 fn is_legal(head: RecHead) -> bool
     ensures { IsTrue result ↔ IsLegalRecHead head }
 {
-    0 < head.number
-        && head.number < 65535
-        && ((head.kind == 1 && 0 < head.length)
-            || ((head.kind == 2 || head.kind == 3) && head.length == 0))
+    0 < head.number && head.number < 65535 && is_length_of_kind(head.kind, head.length)
 }
 
 // The four bytes of a count, which are blank in format 1.
@@ -49,7 +84,7 @@ fn bytes_of(head: RecHead, format: u8) -> [u8; 10]
     ensures { result ≡ rec_head_bytes format head }
 {
     let [c3, c2, c1, c0] = count_bytes(format, head.count);
-    let mut bytes = [0x52, head.kind, 0, 0, 0, 0, c3, c2, c1, c0];
+    let mut bytes = [0x52, kind_byte(head.kind), 0, 0, 0, 0, c3, c2, c1, c0];
     BigEndian::write_u16(&mut bytes[2..], head.number);
     BigEndian::write_u16(&mut bytes[4..], head.length);
     bytes
@@ -86,7 +121,7 @@ fn fields_of(page: &[u8], format: u8) -> RecHead
 {
     RecHead {
         number: BigEndian::read_u16(&page[2..]),
-        kind: page[1],
+        kind: kind_in(page[1]),
         length: BigEndian::read_u16(&page[4..]),
         count: count_of(page, format),
     }

@@ -1,5 +1,5 @@
 -- What may be found, as it changes in memory alone.
-use Rattle.std.proofs.Common.{ℕ, List, length}
+use Rattle.std.proofs.Common.{ℕ, List}
 use Rattle.nv_base.specs.declared.instance.DeviceNumber.{DeviceNumber}
 use Rattle.fee_format.specs.Formats.{new_format}
 use Rattle.nv_base.specs.Held.{never_written}

@@ -1,28 +1,31 @@
 -- The places of numbers in a bank.
 use Rattle.std.specs.Prelude.{if◌then◌else◌, ◌==◌}
 use Rattle.std.proofs.Common.{rules, ◌++◌, ◌≡◌, ℕ, zero, suc, ◌<◌, ◌≤◌, ◌+◌, ◌*◌, Bool, true, false, List, [], ◌∷◌, length, take, drop, Option, Some, None, refl, sym, ap, ◌∙◌, subst, arith}
+use Rattle.std.proofs.lemmas.Bool.{and_parts, eqb-true}
 use Rattle.std.proofs.lemmas.Bool.Decides.{nat_tests}
 use Rattle.std.proofs.lemmas.List.{take-take}
 use Rattle.nv_base.specs.declared.instance.DeviceNumber.{DeviceNumber}
-use Rattle.nv_base.specs.declared.mark.Mark.TheVariants.{Content, Invalid, Erased}
+use Rattle.nv_base.specs.declared.mark.Mark.TheVariants.{Content}
 use Rattle.nv_base.specs.Pages.{body_pages_of, record_pages_of}
 use Rattle.fls_model.specs.Bytes.{piece}
 use Rattle.fee_format.specs.declared.rec_head.RecHead.{RecHead}
+use Rattle.fee_format.specs.declared.rec_head.RecordKind.{RecordKind}
+use Rattle.fee_format.specs.declared.rec_head.RecordKind.TheVariants as kind
 use Rattle.fee_image.specs.Bank.{Bank, page_of, place_of_page, pages_from, moved}
-use Rattle.fee_image.specs.Found.{fits, counts, last_from, last_held, held_of, held_shown}
+use Rattle.fee_image.specs.Found.{matches_length, mark_of_kind, fits, counts, last_from, last_held, held_of, held_shown}
 use Rattle.nv_base.specs.Held.{Held}
 use Rattle.fee_image.specs.RecordList.{Rec, Stands, Walks, pages_of_head}
 use Rattle.fee_image.specs.declared.place.Place.{Place}
 use Rattle.fee_image.specs.declared.place.Place.TheVariants.{Content as PlaceContent, Invalid as PlaceInvalid, Erased as PlaceErased, Unwritten}
 use Rattle.fee_image.specs.LogLaws.{PlacesShowLast, EachIsPlaced, PlacesStay}
 use Rattle.fee_image.specs.May.{May, IsAmong, IsWider, settling, held_written}
-use Rattle.fee_image.specs.Places.{place_at, place_shown, held_at, places_of, noted, IsWithin, ArePlaced}
+use Rattle.fee_image.specs.Places.{place_of_kind, place_at, place_shown, held_at, places_of, noted, IsWithin, ArePlaced}
 use Rattle.fee_image.proofs.Bodies.{bodies_have_room}
 use Rattle.fee_image.proofs.Reading.{pages_are_one_range}
 
 -- a content that fits has the number's length
-pub fits_length : (number length : ℕ) (h : RecHead) → fits number length h ≡ true → (h.kind == 1) ≡ true → h.length ≡ length
-fits_length number length h fit kind = grind (arith, nat_tests)
+pub fits_length : (number length : ℕ) (h : RecHead) → fits number length h ≡ true → h.kind ≡ kind.Content → h.length ≡ length
+fits_length number length h fit content = eqb-true h.length length (subst (λ (k : RecordKind). matches_length k h.length length ≡ true) content (and_parts (h.number == number) (matches_length h.kind h.length length) fit).1)
 
 counts_fits : (number length : ℕ) (r : Rec) → counts number length r ≡ true → fits number length r.head ≡ true
 counts_fits number length r is = grind (arith, nat_tests)
@@ -35,18 +38,18 @@ range_pages b bytes q length one =
     sym (ap (take length) (pages_are_one_range b bytes q n) ∙ take-take length (n * b.page) (drop (place_of_page b q) bytes) (bodies_have_room length b.page one))
 
 module _ (b : Bank) (bytes : List ℕ) (one : 1 ≤ b.page) where
-  by_kind : (length at count : ℕ) (payload : List ℕ) (k c : Bool) → (k ≡ true → payload ≡ piece (place_of_page b (at + 2)) length bytes)
-      → held_at b bytes length (if k then PlaceContent at count else (if c then PlaceInvalid count else PlaceErased count)) ≡ (let h : Held = record { mark = if k then Content payload else (if c then Invalid else Erased); count = count } in h)
-  by_kind length at count payload true c is = ap (λ (xs : List ℕ). let h : Held = record { mark = Content xs; count = count } in h) (sym (is refl))
-  by_kind length at count payload false true is = refl
-  by_kind length at count payload false false is = refl
+  by_kind : (length at count : ℕ) (payload : List ℕ) (k : RecordKind) → (k ≡ kind.Content → payload ≡ piece (place_of_page b (at + 2)) length bytes)
+      → held_at b bytes length (place_of_kind k at count) ≡ (let h : Held = record { mark = mark_of_kind k payload; count = count } in h)
+  by_kind length at count payload kind.Content is = ap (λ (xs : List ℕ). let h : Held = record { mark = Content xs; count = count } in h) (sym (is refl))
+  by_kind length at count payload kind.Invalid is = refl
+  by_kind length at count payload kind.Erased is = refl
 
   -- a record that fits shows its mark at its place
   pub shows : (number length q : ℕ) (r : Rec) → fits number length r.head ≡ true → Stands b bytes q r → held_at b bytes length (place_at q r.head) ≡ held_of r
   shows number length q r fit stands =
-      by_kind length q r.head.count r.payload (r.head.kind == 1) (r.head.kind == 2)
-      (λ kind. stands.payload
-      ∙ ap (λ (n : ℕ). take n (pages_from b bytes (q + 2) (body_pages_of n b.page))) (fits_length number length r.head fit kind)
+      by_kind length q r.head.count r.payload r.head.kind
+      (λ content. stands.payload
+      ∙ ap (λ (n : ℕ). take n (pages_from b bytes (q + 2) (body_pages_of n b.page))) (fits_length number length r.head fit content)
       ∙ sym (range_pages b bytes (q + 2) length one))
 
   chosen : (length : ℕ) (c : Bool) (r : Rec) (o : Option Rec) → (c ≡ true → held_at b bytes length (place_at r.at r.head) ≡ held_of r) → held_at b bytes length (place_shown o) ≡ held_shown o → held_at b bytes length (place_shown (if c then Some r else o)) ≡ held_shown (if c then Some r else o)
@@ -71,15 +74,15 @@ further p end later length (PlaceInvalid count) le within = tt
 further p end later length (PlaceErased count) le within = tt
 further p end later length Unwritten le within = tt
 
-kind_within : (p end length at count : ℕ) (k c : Bool) → (k ≡ true → (2 ≤ at) × (at + record_pages_of length p ≤ end)) → IsWithin p end length (if k then PlaceContent at count else (if c then PlaceInvalid count else PlaceErased count))
-kind_within p end length at count true c content = content refl
-kind_within p end length at count false true content = tt
-kind_within p end length at count false false content = tt
+pub kind_within : (p end length at count : ℕ) (k : RecordKind) → (k ≡ kind.Content → (2 ≤ at) × (at + record_pages_of length p ≤ end)) → IsWithin p end length (place_of_kind k at count)
+kind_within p end length at count kind.Content content = content refl
+kind_within p end length at count kind.Invalid content = tt
+kind_within p end length at count kind.Erased content = tt
 
 record_within : (p number length at : ℕ) (h : RecHead) → 2 ≤ at → fits number length h ≡ true → IsWithin p (at + pages_of_head p h) length (place_at at h)
 record_within p number length at h low fit =
-    kind_within p (at + pages_of_head p h) length at h.count (h.kind == 1) (h.kind == 2)
-    (λ kind. (low, (let same : record_pages_of h.length p ≡ record_pages_of length p = ap (λ (n : ℕ). record_pages_of n p) (fits_length number length h fit kind) in omega (arith, same))))
+    kind_within p (at + pages_of_head p h) length at h.count h.kind
+    (λ content. (low, (let same : record_pages_of h.length p ≡ record_pages_of length p = ap (λ (n : ℕ). record_pages_of n p) (fits_length number length h fit content) in omega (arith, same))))
 
 pub pick_within : (p end length : ℕ) (c : Bool) (x y : Place) → (c ≡ true → IsWithin p end length x) → IsWithin p end length y → IsWithin p end length (if c then x else y)
 pick_within p end length true x y this rest = this refl

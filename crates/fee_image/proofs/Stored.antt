@@ -1,17 +1,19 @@
 -- A content that is found has at least one byte.
-use Rattle.std.proofs.Common.{◌≡◌, inl, inr, ℕ, zero, suc, ◌<◌, ◌≤◌, ◌+◌, ◌-◌, ◌*◌, ◌==◌, Bool, true, false, if◌then◌else◌, List, [], ◌∷◌, Option, Some, length, drop, refl, ap, ◌∙◌, arith, length-drop, length-append}
+use Rattle.std.proofs.Common.{◌≡◌, ℕ, zero, suc, ◌<◌, ◌≤◌, ◌+◌, ◌-◌, ◌*◌, Bool, true, false, if◌then◌else◌, List, [], ◌∷◌, Option, Some, length, drop, refl, ap, ◌∙◌, arith, length-drop, length-append}
 use Rattle.std.proofs.Math.Nat.{mul-le-mul_right}
-use Rattle.std.proofs.lemmas.Bool.{and_parts, eqb-true}
+use Rattle.std.proofs.lemmas.Bool.{and_parts}
 use Rattle.std.proofs.lemmas.List.{length-take, length-replicate}
 use Rattle.std.proofs.lemmas.Nat.{le-div}
 use Rattle.nv_base.specs.declared.mark.Mark.{Mark}
 use Rattle.nv_base.specs.declared.mark.Mark.TheVariants.{Content, Invalid, Erased}
 use Rattle.fee_format.specs.declared.rec_head.RecHead.{RecHead}
-use Rattle.fee_format.specs.RecHead.{IsLegalRecHead, rec_head_page}
+use Rattle.fee_format.specs.declared.rec_head.RecordKind.{RecordKind}
+use Rattle.fee_format.specs.declared.rec_head.RecordKind.TheVariants as kind
+use Rattle.fee_format.specs.RecHead.{IsLengthOfKind, IsLegalRecHead, rec_head_page}
 use Rattle.fee_format.specs.Pages.{page_at, body_pages_of}
 use Rattle.fee_image.specs.Bank.{Bank, page_of, pages_from}
 use Rattle.fee_image.specs.RecordList.{Rec, Stands, Walks, pages_of_head}
-use Rattle.fee_image.specs.Found.{counts, fits, last_from, last_held, held_shown}
+use Rattle.fee_image.specs.Found.{mark_of_kind, counts, fits, last_from, last_held, held_shown}
 
 -- a content that isn't empty, or no content
 abbrev pub HasBytes : Mark → Type 0
@@ -44,18 +46,15 @@ payload_some b bytes q r stands committed some =
     let from : 0 < length (pages_from b bytes (q + 2) n) = some_from b bytes (q + 2) n body here in
     rw (stands.payload, length-take r.head.length (pages_from b bytes (q + 2) n)) (omega (arith, from, some))
 
-has_none : (b : Bool) → HasBytes (if b then Invalid else Erased)
-has_none true = tt
-has_none false = tt
-
-kind_some : (r : Rec) (c : Bool) → (r.head.kind == 1) ≡ c → IsLegalRecHead r.head → (0 < r.head.length → 0 < length r.payload) → HasBytes (if c then Content r.payload else (if r.head.kind == 2 then Invalid else Erased))
-kind_some r true kind legal some = some (elim legal.kind [ inl one ↦ one.1 | inr none ↦ absurd (let e : r.head.kind ≡ 1 = eqb-true _ _ kind in elim none.0 [ inl two ↦ omega (arith, e, two) | inr three ↦ omega (arith, e, three) ]) ])
-kind_some r false kind legal some = has_none (r.head.kind == 2)
+kind_some : (k : RecordKind) (size : ℕ) (payload : List ℕ) → IsLengthOfKind k size → (0 < size → 0 < length payload) → HasBytes (mark_of_kind k payload)
+kind_some kind.Content size payload legal some = some legal
+kind_some kind.Invalid size payload legal some = tt
+kind_some kind.Erased size payload legal some = tt
 
 -- the last record that counts has a mark with bytes, or no content
 pick_some : (number size : ℕ) (r : Rec) (o : Option Rec) (c : Bool) → counts number size r ≡ c → IsLegalRecHead r.head → (r.committed ≡ true → 0 < r.head.length → 0 < length r.payload) → HasBytes (held_shown o).mark → HasBytes (held_shown (if c then Some r else o)).mark
 pick_some number size r o false count legal some has = has
-pick_some number size r o true count legal some has = kind_some r (r.head.kind == 1) refl legal (some (and_parts r.committed (fits number size r.head) count).0)
+pick_some number size r o true count legal some has = kind_some r.head.kind r.head.length r.payload legal.kind (some (and_parts r.committed (fits number size r.head) count).0)
 
 last_some : (b : Bank) (bytes : List ℕ) (number size q e : ℕ) (o : Option Rec) (rs : List Rec) → Walks b bytes q rs e → HasBytes (held_shown o).mark → HasBytes (held_shown (last_from number size o rs)).mark
 last_some b bytes number size q e o [] walk has = has

@@ -3,13 +3,21 @@ use Rattle.std.specs.Prelude.{◌≡◌, ◌==◌, ◌&&◌, ℕ, Bool, true, if
 use Rattle.nv_base.specs.declared.mark.Mark.{Mark}
 use Rattle.nv_base.specs.declared.mark.Mark.TheVariants.{Content, Invalid, Erased}
 use Rattle.fee_format.specs.declared.rec_head.RecHead.{RecHead}
+use Rattle.fee_format.specs.declared.rec_head.RecordKind.{RecordKind}
+use Rattle.fee_format.specs.declared.rec_head.RecordKind.TheVariants as kind
 use Rattle.fee_image.specs.Bank.{Bank}
 use Rattle.nv_base.specs.Held.{Held, never_written}
 use Rattle.fee_image.specs.RecordList.{Rec, IsLog, records_of}
 
+-- a length of a record is the number's length, where it is a content
+abbrev pub matches_length : RecordKind → ℕ → ℕ → Bool
+matches_length kind.Content got length = got == length
+matches_length kind.Invalid got length = true
+matches_length kind.Erased got length = true
+
 -- a record header is one of this number, and a content's length is the number's length
 abbrev pub fits : ℕ → ℕ → RecHead → Bool
-fits number length h = (h.number == number) && (if h.kind == 1 then h.length == length else true)
+fits number length h = (h.number == number) && matches_length h.kind h.length length
 
 -- a record counts where it is committed and fits
 abbrev pub counts : ℕ → ℕ → Rec → Bool
@@ -24,8 +32,14 @@ last_from number length last (r ∷ rs) = last_from number length (if counts num
 abbrev pub last_record : ℕ → ℕ → List Rec → Option Rec
 last_record number length records = last_from number length None records
 
+-- the mark of a record of a kind with this content
+abbrev pub mark_of_kind : RecordKind → List ℕ → Mark
+mark_of_kind kind.Content payload = Content payload
+mark_of_kind kind.Invalid payload = Invalid
+mark_of_kind kind.Erased payload = Erased
+
 abbrev pub mark_of : Rec → Mark
-mark_of r = if r.head.kind == 1 then Content r.payload else (if r.head.kind == 2 then Invalid else Erased)
+mark_of r = mark_of_kind r.head.kind r.payload
 
 -- and with its count
 abbrev pub held_of : Rec → Held

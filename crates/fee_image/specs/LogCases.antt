@@ -2,6 +2,7 @@
 use Rattle.std.specs.Prelude.{ℕ, List, [], ◌∷◌}
 use Rattle.nv_base.specs.declared.instance.DeviceNumber.{DeviceNumber}
 use Rattle.fee_format.specs.declared.rec_head.RecHead.{RecHead}
+use Rattle.fee_format.specs.declared.rec_head.RecordKind.TheVariants as kind
 use Rattle.fee_image.specs.Cases.{content_2}
 use Rattle.fee_image.specs.declared.place.Place.TheVariants.{Content, Unwritten}
 use Rattle.fee_image.specs.Log.{Tail, Open, Writes, Log}
@@ -12,7 +13,7 @@ numbers = (record { 0 = 128 }, 4) ∷ (record { 0 = 129 }, 7) ∷ []
 
 -- a content of 4 bytes with number 128
 abbrev pub head_128 : RecHead
-head_128 = record { number = 128; kind = 1; length = 4; count = 2 }
+head_128 = record { number = 128; kind = kind.Content; length = 4; count = 2 }
 
 -- after the first write
 abbrev pub first_log : Tail → Log

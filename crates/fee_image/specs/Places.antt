@@ -1,10 +1,12 @@
 -- Where the last records of the numbers stand, and what is read there.
-use Rattle.std.specs.Prelude.{◌≤◌, ◌+◌, ◌==◌, ℕ, if◌then◌else◌, Bool, true, false, List, [], ◌∷◌, map, Option, Some, None}
+use Rattle.std.specs.Prelude.{◌≤◌, ◌+◌, ℕ, if◌then◌else◌, Bool, true, false, List, [], ◌∷◌, map, Option, Some, None}
 use Rattle.nv_base.specs.declared.instance.DeviceNumber.{DeviceNumber}
 use Rattle.nv_base.specs.declared.mark.Mark.TheVariants.{Content as ContentMark, Invalid as InvalidMark, Erased as ErasedMark}
 use Rattle.nv_base.specs.Pages.{record_pages_of}
 use Rattle.fls_model.specs.Bytes.{piece}
 use Rattle.fee_format.specs.declared.rec_head.RecHead.{RecHead}
+use Rattle.fee_format.specs.declared.rec_head.RecordKind.{RecordKind}
+use Rattle.fee_format.specs.declared.rec_head.RecordKind.TheVariants as kind
 use Rattle.fee_image.specs.Bank.{Bank, place_of_page}
 use Rattle.fee_image.specs.Found.{fits, last_record}
 use Rattle.nv_base.specs.Held.{Held, never_written}
@@ -13,9 +15,14 @@ use Rattle.fee_image.specs.declared.place.Place.{Place}
 use Rattle.fee_image.specs.declared.place.Place.TheVariants.{Content, Invalid, Erased, Unwritten}
 use Rattle.fee_image.specs.May.{May, IsAmong}
 
--- where a record is found whose header stands at a page
+-- where a record of a kind and a count is found whose header stands at a page
+abbrev pub place_of_kind : RecordKind → ℕ → ℕ → Place
+place_of_kind kind.Content at count = Content at count
+place_of_kind kind.Invalid at count = Invalid count
+place_of_kind kind.Erased at count = Erased count
+
 abbrev pub place_at : ℕ → RecHead → Place
-place_at at h = if h.kind == 1 then Content at h.count else (if h.kind == 2 then Invalid h.count else Erased h.count)
+place_at at h = place_of_kind h.kind at h.count
 
 -- there is a record
 abbrev pub is_written : Place → Bool

@@ -4,6 +4,7 @@ ghost use Rattle.nv_base.specs.declared.instance.DeviceNumber.{DeviceNumber};
 ghost use Rattle.nv_base.specs.declared.mark.Mark.TheVariants.{Content, Erased};
 ghost use Rattle.fls_model.specs.Bytes.{Grown};
 ghost use Rattle.fee_format.specs.declared.bank_head.BankHead.{BankHead};
+ghost use Rattle.fee_format.specs.declared.rec_head.RecordKind.TheVariants as kind;
 ghost use Rattle.fee_image.specs.RecordList.{records_of, end_of, IsClosed, IsTailBlank};
 ghost use Rattle.nv_base.specs.Held.{Held};
 ghost use Rattle.fee_image.specs.Image.{head_of_bank, active_of, found_mark, found_held, found_list};
@@ -29,7 +30,7 @@ pub fn counted_writes()
     ensures first { found_held small (after_new (pages 4 0xff)) 128 4 ≡ record { mark = Content content_1; count = 1 } }
     ensures cut { found_held small (after_new (counted_header 2 ++ pages 1 0 ++ body content_2 ++ torn_gate)) 128 4 ≡ record { mark = Content content_1; count = 1 } }
     ensures second { found_held small (after_new (counted_header 2 ++ pages 1 0 ++ body content_2 ++ pages 1 0)) 128 4 ≡ record { mark = Content content_2; count = 2 } }
-    ensures old_header { records_of new_bank (new_head_page ++ pages 1 0 ++ header ++ pages 1 0 ++ body content_1 ++ pages 19 0) ≡ record { at = 2; head = record { number = 128; kind = 1; length = 4; count = 4294967295 }; committed = true; payload = content_1 } ∷ [] }
+    ensures old_header { records_of new_bank (new_head_page ++ pages 1 0 ++ header ++ pages 1 0 ++ body content_1 ++ pages 19 0) ≡ record { at = 2; head = record { number = 128; kind = kind.Content; length = 4; count = 4294967295 }; committed = true; payload = content_1 } ∷ [] }
 {}
 
 /// A second write that was cut at each of its pages leaves the first content, and the second one only once its last

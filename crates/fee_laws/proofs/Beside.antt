@@ -7,6 +7,8 @@ use Rattle.nv_base.specs.declared.instance.DeviceNumber.{DeviceNumber}
 use Rattle.nv_base.proofs.Places.{numbers_are_in_bounds}
 use Rattle.memif.specs.Told.{Held, length_of}
 use Rattle.fee_format.specs.declared.rec_head.RecHead.{RecHead}
+use Rattle.fee_format.specs.declared.rec_head.RecordKind.{RecordKind}
+use Rattle.fee_format.specs.declared.rec_head.RecordKind.TheVariants as kind
 use Rattle.fee_image.specs.declared.place.Place.{Place}
 use Rattle.fee_image.specs.Places.{is_written}
 use Rattle.fee_image.specs.Copies.{Flag, Each, Copies, is_done, cleared}
@@ -54,16 +56,16 @@ appended_again (Some i) (Some (course.Copy (Some w))) = by_test (w.index == i) r
 appended_again (Some i) (Some course.Head) = refl
 appended_again (Some i) (Some (course.Gate failed)) = refl
 
-pub appended_takes : (kind : ℕ) (o : Option ℕ) (c : Option Course) → TakesRecord kind c → TakesRecord kind (appended_at o c)
-appended_takes kind None None taken = taken
-appended_takes kind None (Some c) taken = taken
-appended_takes kind (Some i) None taken = taken
-appended_takes kind (Some i) (Some (course.Erase n)) taken = taken
-appended_takes kind (Some i) (Some (course.Copy None)) taken = taken
-appended_takes kind (Some i) (Some (course.Copy (Some w))) taken =
-    cond_both (w.index == i) (course.Copy (Some (record w { sets = false }))) (course.Copy (Some w)) (λ (c : Course). TakesRecord kind (Some c)) (λ e. taken) (λ e. taken)
-appended_takes kind (Some i) (Some course.Head) taken = taken
-appended_takes kind (Some i) (Some (course.Gate failed)) taken = taken
+pub appended_takes : (k : RecordKind) (o : Option ℕ) (c : Option Course) → TakesRecord k c → TakesRecord k (appended_at o c)
+appended_takes k None None taken = taken
+appended_takes k None (Some c) taken = taken
+appended_takes k (Some i) None taken = taken
+appended_takes k (Some i) (Some (course.Erase n)) taken = taken
+appended_takes k (Some i) (Some (course.Copy None)) taken = taken
+appended_takes k (Some i) (Some (course.Copy (Some w))) taken =
+    cond_both (w.index == i) (course.Copy (Some (record w { sets = false }))) (course.Copy (Some w)) (λ (c : Course). TakesRecord k (Some c)) (λ e. taken) (λ e. taken)
+appended_takes k (Some i) (Some course.Head) taken = taken
+appended_takes k (Some i) (Some (course.Gate failed)) taken = taken
 
 -- one is open exactly where one was
 pub appended_some : (o : Option ℕ) (c : Option Course) → is_some (appended_at o c) ≡ is_some c
@@ -76,19 +78,19 @@ pub appended_none : (o : Option ℕ) (c : Option Course) → appended_at o c ≡
 appended_none o None none = refl
 appended_none o (Some c) none = (let some = appended_some o (Some c) in let shut = ap (λ (x : Option Course). is_some x) none in cc (some, shut))
 
-pub takes_now : (kind : ℕ) (c : Option Course) → TakesRecord kind c → takes_append c ≡ true
-takes_now kind None taken = refl
-takes_now kind (Some (course.Erase n)) taken = refl
-takes_now kind (Some (course.Copy w)) taken = refl
-takes_now kind (Some course.Head) taken = absurd taken
-takes_now kind (Some (course.Gate failed)) taken = absurd taken
+pub takes_now : (k : RecordKind) (c : Option Course) → TakesRecord k c → takes_append c ≡ true
+takes_now k None taken = refl
+takes_now k (Some (course.Erase n)) taken = refl
+takes_now k (Some (course.Copy w)) taken = refl
+takes_now k (Some course.Head) taken = absurd taken
+takes_now k (Some (course.Gate failed)) taken = absurd taken
 
 -- beside a switch a content alone begins
-pub content_beside : (kind : ℕ) (c : Course) → TakesRecord kind (Some c) → kind ≡ 1
-content_beside kind (course.Erase n) taken = taken
-content_beside kind (course.Copy w) taken = taken
-content_beside kind course.Head taken = absurd taken
-content_beside kind (course.Gate failed) taken = absurd taken
+pub content_beside : (k : RecordKind) (c : Course) → TakesRecord k (Some c) → k ≡ kind.Content
+content_beside k (course.Erase n) taken = taken
+content_beside k (course.Copy w) taken = taken
+content_beside k course.Head taken = absurd taken
+content_beside k (course.Gate failed) taken = absurd taken
 
 -- THE FLAGS
 clear_one : (b c : Bool) → (if b then false else (if b then false else c)) ≡ (if b then false else c)

@@ -19,6 +19,7 @@ use Rattle.fls_model.specs.declared.flash.FlashAnswer.TheVariants.{Done}
 use Rattle.fls_model.specs.Told.{Told, bytes_now}
 use Rattle.fls_jobs.specs.State.{FlsState}
 use Rattle.fee_format.specs.declared.rec_head.RecHead.{RecHead}
+use Rattle.fee_format.specs.declared.rec_head.RecordKind.TheVariants as kind
 use Rattle.fee_image.specs.Found.{fits}
 use Rattle.fee_image.specs.Image.{Layout, bank_in}
 use Rattle.fee_image.specs.RecordList.{pages_of_head}
@@ -213,7 +214,7 @@ module _ (m : Making) (entry : Told) (s : Parts) (listed : List (DeviceNumber ×
   is_write : (c : Course) → s.banks.course ≡ Some c → jb.op ≡ Write
   is_write c at = (job_of m entry s listed kept count is.on is.work).urgent (its.beside (ap (λ (o : Option Course). is_some o) at))
 
-  of_kind : (c : Course) → s.banks.course ≡ Some c → r.kind ≡ 1
+  of_kind : (c : Course) → s.banks.course ≡ Some c → r.kind ≡ kind.Content
   of_kind c at = content_beside r.kind c (subst (TakesRecord r.kind) at its.taken)
 
   size_is : (c : Course) → s.banks.course ≡ Some c → r.length ≡ size

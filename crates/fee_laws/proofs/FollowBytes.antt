@@ -2,14 +2,16 @@
 use Rattle.std.specs.Prelude.{take, drop, replicate, length, ◌||◌, if◌then◌else◌}
 use Rattle.std.specs.List.{All}
 use Rattle.std.specs.Int.{byte_at}
-use Rattle.std.proofs.Common.{inl, inr, ◌≤◌, ◌<◌, ◌+◌, ◌-◌, ◌*◌, ◌==◌, ℕ, zero, suc, List, ◌∷◌, arith}
+use Rattle.std.proofs.Common.{◌≤◌, ◌<◌, ◌+◌, ◌-◌, ◌*◌, ◌==◌, ℕ, zero, suc, List, ◌∷◌, arith}
 use Rattle.std.proofs.lemmas.Bool.{cond_both}
 use Rattle.std.proofs.lemmas.List.Elements.{All-take, All-drop, All-append, All-replicate}
 use Rattle.std.proofs.Math.ListN.{length-replicate, length-append, length-take}
 use Rattle.fee_format.specs.declared.rec_head.RecHead.{RecHead}
+use Rattle.fee_format.specs.declared.rec_head.RecordKind.{RecordKind}
+use Rattle.fee_format.specs.declared.rec_head.RecordKind.TheVariants as kind
 use Rattle.fee_format.specs.BankHead.{bank_head_page}
 use Rattle.fee_format.specs.Formats.{new_format}
-use Rattle.fee_format.specs.RecHead.{IsLegalRecHead, rec_head_page}
+use Rattle.fee_format.specs.RecHead.{IsLegalRecHead, kind_byte, rec_head_page}
 use Rattle.fee_format.specs.Pages.{gate_page, body_pages_of}
 use Rattle.fee_format.specs.RecordPages.{filled, body_page, record_page}
 use Rattle.fee_format.proofs.Torn.{byte_small}
@@ -23,11 +25,10 @@ pub all_cons : (x : ℕ) (xs : List ℕ) → x < 256 → All Small xs → All Sm
 all_cons x xs small all zero d lt = small
 all_cons x xs small all (suc k) d lt = all k d (omega arith)
 
-pub kind_small : (h : RecHead) → IsLegalRecHead h → h.kind < 256
-kind_small h legal = elim legal.kind [
-  | inl is ↦ (let e = is.0 in omega (arith, e))
-  | inr is ↦ elim is.0 [ inl e ↦ omega (arith, e) | inr e ↦ omega (arith, e) ]
-]
+kind_small : (k : RecordKind) → kind_byte k < 256
+kind_small kind.Content = omega arith
+kind_small kind.Invalid = omega arith
+kind_small kind.Erased = omega arith
 
 pub head_page : (p : ℕ) (h : RecHead) → 16 ≤ p → IsLegalRecHead h → IsPageOf p (rec_head_page new_format p h)
 head_page p h low legal =
@@ -52,8 +53,8 @@ head_page p h low legal =
           let c = all_cons (byte_at 1 h.length) l0 (byte_small 1 h.length) d in
           let b = all_cons (byte_at 0 h.number) l1 (byte_small 0 h.number) c in
           let a = all_cons (byte_at 1 h.number) n0 (byte_small 1 h.number) b in
-          let k = all_cons h.kind n1 (kind_small h legal) a in
-          all_cons 0x52 (h.kind ∷ n1) (omega arith) k);
+          let k = all_cons (kind_byte h.kind) n1 (kind_small h.kind) a in
+          all_cons 0x52 (kind_byte h.kind ∷ n1) (omega arith) k);
     }
 
 pub gate_is : (p : ℕ) → IsPageOf p (gate_page p)

@@ -14,6 +14,7 @@ use Rattle.nv_base.proofs.Places.{numbers_are_in_bounds}
 use Rattle.fls_model.specs.Attach.{AreBytesOf}
 use Rattle.fls_model.specs.Told.{Told, ToldBytes, Change}
 use Rattle.fee_format.specs.declared.rec_head.RecHead.{RecHead}
+use Rattle.fee_log.proofs.Soundness.{length_within}
 use Rattle.fee_log.specs.Log.{IsFor, work_in, free_in}
 use Rattle.fee_log.specs.Step.{given_up}
 use Rattle.fee_switch.specs.declared.active.ActiveBank.{ActiveBank}
@@ -99,7 +100,7 @@ few_for : (numbers : List (DeviceNumber × ℕ)) (h : RecHead) → AreLengths 0 
 few_for numbers h all is =
     let x : DeviceNumber × ℕ = (record { 0 = h.number }, is.length) in
     let up = numbers_are_in_bounds 0 numbers is.configured.0 x all (slice_get-get_or numbers is.configured.0 x is.configured.1 ∙ ap Some is.configured.2) in
-    elim is.kind as (λ _. h.length ≤ 4096) [ inl content ↦ omega (arith, content.1, up.3) | inr mark ↦ omega (arith, mark.1) ]
+    omega (arith, length_within h.kind h.length is.length is.kind, up.3)
 
 room_by : (o : Option ActiveBank) (pages free : ℕ) → pages ≤ (if is_some o then free else 0) → IfSome o (λ a. pages ≤ free)
 room_by None pages free less = tt

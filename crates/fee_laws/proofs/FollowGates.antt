@@ -8,7 +8,7 @@ use Rattle.fls_model.specs.Op.{MayLeave, after_op}
 use Rattle.fls_model.specs.Told.{Change}
 use Rattle.fee_format.specs.declared.bank_head.BankHead.{BankHead}
 use Rattle.fee_format.specs.Formats.{new_format}
-use Rattle.fee_format.specs.BankHead.{bank_head_page}
+use Rattle.fee_format.specs.BankHead.{bank_head_page, last_generation}
 use Rattle.fee_format.specs.Pages.{gate_page}
 use Rattle.fee_image.specs.Image.{Layout, bank_in, image_page, BankStands, ComesFirst, IsActive}
 use Rattle.fee_image.proofs.Banks.{active_computes, heads_compute}
@@ -34,8 +34,8 @@ next_fits : (o : Option ActiveBank) (l : Layout) (bytes : List ℕ) → IfSome o
 next_fits None l bytes stands worn = omega arith
 next_fits (Some a) l bytes stands worn =
     let few = stands.head.legal.generation in
-    let not_last : a.head.generation ≡ 4294967295 → ⊥ = eqb-false a.head.generation 4294967295 worn in
-    elim (cases_lt a.head.generation 4294967295) [ inl less ↦ omega arith | inr more ↦ absurd (not_last (omega (arith, few))) ]
+    let not_last : a.head.generation ≡ last_generation → ⊥ = eqb-false a.head.generation last_generation worn in
+    elim (cases_lt a.head.generation last_generation) [ inl less ↦ omega arith | inr more ↦ absurd (not_last (omega (arith, few))) ]
 
 -- every other bank is behind it
 newer : (l : Layout) (bytes : List ℕ) (t j : ℕ) (o : Option ActiveBank) (other : BankHead) → IfSome o (λ a. BankStands l bytes a.bank a.head) → ComesBehind o j other → BankStands l bytes j other → ComesFirst t (record { format = 1; generation = next_generation o }) j other

@@ -14,6 +14,7 @@ use Rattle.fls_model.specs.Step.{IsStep, Leaves}
 use Rattle.fls_model.specs.Told.{Told}
 use Rattle.fls_jobs.specs.State.{FlsState}
 use Rattle.fee_format.specs.declared.rec_head.RecHead.{RecHead}
+use Rattle.fee_format.specs.declared.rec_head.RecordKind.TheVariants as kind
 use Rattle.fee_image.specs.declared.place.Place.{Place}
 use Rattle.fee_image.specs.declared.place.Place.TheVariants as place
 use Rattle.fee_log.specs.Log.{work_in, begun, free_in}
@@ -157,7 +158,7 @@ module _ (m : Making) (entry : Told) (s : Parts) (listed : List (DeviceNumber ×
     content_at = is_content src.place (sym (ap reads_source can.next.first) ∙ reads)
 
     abbrev copy : RecHead
-    copy = record { number = num.0; kind = 1; length = src.length; count = content_at.1 }
+    copy = record { number = num.0; kind = kind.Content; length = src.length; count = content_at.1 }
 
     may_content : MayCopy s.banks copy
     may_content = subst (MayCopy s.banks) (ap (λ (p : Place). head_at p num.0 src.length) content_at.2) may_copy

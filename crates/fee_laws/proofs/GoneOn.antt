@@ -12,6 +12,7 @@ use Rattle.fls_model.specs.Told.{Told}
 use Rattle.fls_jobs.specs.State.{FlsState}
 use Rattle.fee_log.specs.Step.{commits}
 use Rattle.fee_course.specs.declared.course.Course.{Course}
+use Rattle.fee_format.specs.declared.rec_head.RecordKind.{RecordKind}
 use Rattle.fee_course.specs.declared.course.Course.TheVariants as course
 use Rattle.fee_switch.specs.Banks.{TakesRecord}
 use Rattle.promise_device.specs.Making.{Making}
@@ -42,7 +43,7 @@ if_else true P Q first second = first refl
 if_else false P Q first second = second refl
 
 -- no target is sealed where an append is taken
-pub no_seal : (kind : ℕ) (c : Option Course) → TakesRecord kind c → seal_turns c ≡ 0
+pub no_seal : (kind : RecordKind) (c : Option Course) → TakesRecord kind c → seal_turns c ≡ 0
 no_seal kind None taken = refl
 no_seal kind (Some (course.Erase n)) taken = refl
 no_seal kind (Some (course.Copy x)) taken = refl

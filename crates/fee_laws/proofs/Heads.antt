@@ -1,6 +1,6 @@
 -- The header of a job's record.
 use Rattle.std.specs.Prelude.{take, IsTrue}
-use Rattle.std.proofs.Common.{◌≡◌, ◌≢◌, inl, inr, ◌≤◌, ◌<◌, ◌^◌, ◌==◌, ℕ, true, List, [], ◌∷◌, Option, Some, refl, subst, arith}
+use Rattle.std.proofs.Common.{◌≡◌, ◌≢◌, ◌≤◌, ◌<◌, ◌^◌, ◌==◌, ℕ, true, List, [], ◌∷◌, Option, Some, refl, subst, arith}
 use Rattle.std.proofs.lemmas.Bool.{cond_both, eqb-true, eq-eqb}
 use Rattle.nv_base.specs.Lengths.{AreLengths}
 use Rattle.nv_base.specs.declared.instance.DeviceNumber.{DeviceNumber}
@@ -48,9 +48,9 @@ pub legal_head : (op : DeviceOp) (number length of count : ℕ) → op ≢ Read 
 legal_head Read number length of count writes is counted fit = absurd (writes refl)
 legal_head Write number length of count writes is counted fit =
     let a = is.some in let b = is.few in
-    record { number_low = is.low_than; number_high = is.high; kind = inl (refl, omega (arith, fit, a)); length = omega (arith, fit, b); count = counted }
-legal_head Invalidate number length of count writes is counted fit = record { number_low = is.low_than; number_high = is.high; kind = inr (inl refl, fit); length = omega (arith, fit); count = counted }
-legal_head Erase number length of count writes is counted fit = record { number_low = is.low_than; number_high = is.high; kind = inr (inr refl, fit); length = omega (arith, fit); count = counted }
+    record { number_low = is.low_than; number_high = is.high; kind = omega (arith, fit, a); length = omega (arith, fit, b); count = counted }
+legal_head Invalidate number length of count writes is counted fit = record { number_low = is.low_than; number_high = is.high; kind = fit; length = omega (arith, fit); count = counted }
+legal_head Erase number length of count writes is counted fit = record { number_low = is.low_than; number_high = is.high; kind = fit; length = omega (arith, fit); count = counted }
 
 eqb_same : (n : ℕ) → (n == n) ≡ true
 eqb_same n = eq-eqb n n refl

@@ -53,11 +53,6 @@ later low number settled x xs m k ms next less is = record {
 }
 
 -- behind a record its number has a place
-kind_is : (a b : Bool) (at count : ℕ) → true ≡ is_written (if a then Content at count else (if b then Invalid count else Erased count))
-kind_is true b at count = refl
-kind_is false true at count = refl
-kind_is false false at count = refl
-
 -- a record that is noted is its number's
 abbrev pub Notes : RecHead → List (DeviceNumber × ℕ) → Type 0
 Notes h [] = Unit {0}

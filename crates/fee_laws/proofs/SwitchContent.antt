@@ -10,6 +10,7 @@ use Rattle.fls_model.specs.declared.flash.FlashAnswer.TheVariants.{Done, Failed}
 use Rattle.fls_model.specs.Told.{Told}
 use Rattle.fls_jobs.specs.State.{FlsState}
 use Rattle.fee_format.specs.declared.rec_head.RecHead.{RecHead}
+use Rattle.fee_format.specs.declared.rec_head.RecordKind.TheVariants as kind
 use Rattle.fee_image.specs.Image.{Layout}
 use Rattle.fee_image.specs.Banks.{Phase, Erasing, Copying}
 use Rattle.fee_image.specs.Copies.{Each, copied_of}
@@ -98,7 +99,7 @@ module _ (m : Making) (entry : Told) (s : Parts) (listed : List (DeviceNumber ×
   at = content.0
 
   abbrev pub copy : RecHead
-  copy = record { number = num.0; kind = 1; length = src.length; count = content.1 }
+  copy = record { number = num.0; kind = kind.Content; length = src.length; count = content.1 }
 
   abbrev head : RecHead
   head = h m entry s listed kept count made answer f is

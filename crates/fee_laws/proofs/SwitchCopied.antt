@@ -36,7 +36,7 @@ use Rattle.fee_laws.proofs.SwitchShown.{settled_copying, roomy}
 use Rattle.std.specs.List.{All}
 use Rattle.std.specs.Prelude.{◌&&◌}
 use Rattle.std.proofs.lemmas.Bool.{cases_Bool}
-use Rattle.fee_image.specs.Found.{fits}
+use Rattle.fee_image.specs.Found.{fits, matches_length}
 use Rattle.fee_image.specs.RecordList.{pages_of_head}
 use Rattle.fee_image.specs.May.{IsAmong, IsWider, held_written, settling}
 use Rattle.fee_image.specs.Step.{log_done, may_done}
@@ -86,7 +86,7 @@ settling_open h body fs open' number length m among =
   where
     by_fit : (b : Bool) → fits number length h ≡ b → IsAmong (if b then Some (held_written h body ∷ []) else copied_of fs number length) m → IsAmong (copied_of fs number length) m
     by_fit false e among' = among'
-    by_fit true e among' = (let same : h.number ≡ number = eqb-true h.number number (both (h.number == number) (if h.kind == 1 then h.length == length else true) e) in subst (λ (n : ℕ). IsAmong (copied_of fs n length) m) same (open_any h.number fs length m open'))
+    by_fit true e among' = (let same : h.number ≡ number = eqb-true h.number number (both (h.number == number) (matches_length h.kind h.length length) e) in subst (λ (n : ℕ). IsAmong (copied_of fs n length) m) same (open_any h.number fs length m open'))
       where
         both : (a b : Bool) → a && b ≡ true → a ≡ true
         both true b e = refl

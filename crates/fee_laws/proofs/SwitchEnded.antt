@@ -1,6 +1,6 @@
 -- The turn in which a switch ends.
 use Rattle.std.specs.Prelude.{IfSome, IsTrue, ◌&&◌, not, nat_le, take, if◌then◌else◌}
-use Rattle.std.proofs.Common.{◌≡◌, ◌≢◌, inl, inr, ◌≤◌, ◌<◌, ◌+◌, ℕ, suc, Bool, true, false, List, [], Option, Some, None, refl, sym, ap, ◌∙◌, subst, arith}
+use Rattle.std.proofs.Common.{◌≡◌, ◌≢◌, inl, inr, ◌≤◌, ◌<◌, ◌^◌, ◌+◌, ℕ, suc, Bool, true, false, List, [], Option, Some, None, refl, sym, ap, ◌∙◌, subst, arith}
 use Rattle.std.proofs.lemmas.Bool.{cases_lt, le-leb}
 use Rattle.nv_base.specs.Count.{next_count}
 use Rattle.nv_base.specs.Geometry.{sectors_of_bank}
@@ -59,7 +59,7 @@ use Rattle.fee_image.specs.May.{May}
 use Rattle.fee_image.specs.Banks.{OldBank, Idle, next_head}
 use Rattle.fee_image.specs.Copies.{copied_of}
 use Rattle.fee_log.specs.declared.tail.Tail.TheVariants.{Open, Writes, Owes, Closed}
-use Rattle.fee_log.specs.Log.{IsFor, log_of, tail_with}
+use Rattle.fee_log.specs.Log.{IsLengthFor, IsFor, log_of, tail_with}
 use Rattle.fee_course.specs.declared.course.Course.TheVariants.{Gate}
 use Rattle.fee_image.specs.Image.{Layout}
 use Rattle.fls_model.specs.Step.{IsAsked}
@@ -114,17 +114,15 @@ is_listed (x ∷ xs) n size is =
     (λ e is'. (0, omega arith, (let at : x.0.0 ≡ n = eqb-true x.0.0 n e in let same : x.1 ≡ size = cc is' in (λ i. (record { 0 = at i }, same i)))))
     (λ e is'. (let later = is_listed xs n size is' in (suc later.0, (let less = later.1 in omega (arith, less)), later.2))) is
 
-for_job : (numbers : List (DeviceNumber × ℕ)) (op : DeviceOp) (j : FeeJob) → j.op ≡ op → op ≢ Read → IsJobOf numbers j → IsFor numbers (head_with j.op j.number.0 j.length 0)
-for_job numbers Read j e writes is = absurd (writes refl)
-for_job numbers Write j e writes is =
-    let fits = subst (λ (o : DeviceOp). IsLengthOf o j.length is.length) e is.fits in
-    record { length = is.length; configured = is_listed numbers j.number.0 is.length is.configured; kind = inl (ap kind_of e, fits); count = omega arith }
-for_job numbers Invalidate j e writes is =
-    let fits = subst (λ (o : DeviceOp). IsLengthOf o j.length is.length) e is.fits in
-    record { length = is.length; configured = is_listed numbers j.number.0 is.length is.configured; kind = inr (inl (ap kind_of e), fits); count = omega arith }
-for_job numbers Erase j e writes is =
-    let fits = subst (λ (o : DeviceOp). IsLengthOf o j.length is.length) e is.fits in
-    record { length = is.length; configured = is_listed numbers j.number.0 is.length is.configured; kind = inr (inr (ap kind_of e), fits); count = omega arith }
+length_for : (op : DeviceOp) (got length : ℕ) → op ≢ Read → IsLengthOf op got length → IsLengthFor (kind_of op) got length
+length_for Read got length writes is = absurd (writes refl)
+length_for Write got length writes is = is
+length_for Invalidate got length writes is = is
+length_for Erase got length writes is = is
+
+pub for_job : (numbers : List (DeviceNumber × ℕ)) (j : FeeJob) (count : ℕ) → j.op ≢ Read → IsJobOf numbers j → count < 2 ^ 32 → IsFor numbers (head_with j.op j.number.0 j.length count)
+for_job numbers j count writes is counted =
+    record { length = is.length; configured = is_listed numbers j.number.0 is.length is.configured; kind = length_for j.op j.length is.length writes is.fits; count = counted }
 
 pub pages_for : (p : ℕ) (op : DeviceOp) (length of : ℕ) → op ≢ Read → IsLengthOf op length of → pages_of_op p op length ≡ record_pages_of length p
 pages_for p Read length of writes fits = absurd (writes refl)
@@ -135,7 +133,7 @@ pages_for p Erase length of writes fits = ap (λ (n : ℕ). record_pages_of n p)
 pub job_fits : (reserve : ℕ) (b : BanksState) (j : FeeJob) → 16 ≤ b.geometry.page → j.op ≢ Read → IsJobOf b.log.numbers j → most_pages b.geometry.page b.log.numbers reserve ≤ free_pages b → fits_in reserve b j ≡ true
 job_fits reserve b j low writes is room =
     ap (λ (n : ℕ). has_room j.urgent n reserve (free_pages b)) (pages_for b.geometry.page j.op j.length is.length writes is.fits)
-    ∙ records_have_room b.geometry.page reserve (free_pages b) b.log.numbers (head_with j.op j.number.0 j.length 0) j.urgent low (for_job b.log.numbers j.op j refl writes is) room
+    ∙ records_have_room b.geometry.page reserve (free_pages b) b.log.numbers (head_with j.op j.number.0 j.length 0) j.urgent low (for_job b.log.numbers j 0 writes is (omega arith)) room
 
 -- so none needs another switch
 pub no_need : (reserve : ℕ) (b : BanksState) (j : FeeJob) → fits_in reserve b j ≡ true → needs_switch reserve b (Some j) ≡ false
@@ -280,7 +278,7 @@ module _ (m : Making) (entry : Told) (s : Parts) (listed : List (DeviceNumber ×
   room_beside : (j : FeeJob) → IsJobOf m.numbers j → j.op ≢ Read → pages_of_op b.geometry.page j.op j.length + m.reserve ≤ free_pages b
   room_beside j is' w' =
       let is'' = subst (λ (ns : List (DeviceNumber × ℕ)). IsJobOf ns j) (sym numbers) is' in
-      let has = records_have_room b.geometry.page m.reserve (free_pages b) b.log.numbers (head_with j.op j.number.0 j.length 0) false low (for_job b.log.numbers j.op j refl w' is'') behind_switch.room in
+      let has = records_have_room b.geometry.page m.reserve (free_pages b) b.log.numbers (head_with j.op j.number.0 j.length 0) false low (for_job b.log.numbers j 0 w' is'' (omega arith)) behind_switch.room in
       let same = pages_for b.geometry.page j.op j.length is'.length w' is'.fits in
       let le = leb-true (record_pages_of j.length b.geometry.page + m.reserve) (free_pages b) has in
       omega (arith, same, le)

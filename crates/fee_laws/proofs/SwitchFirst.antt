@@ -1,6 +1,6 @@
 -- The copy that begins.
 use Rattle.std.specs.Prelude.{IfSome, length}
-use Rattle.std.proofs.Common.{◌≡◌, inl, inr, ◌≤◌, ◌<◌, ◌*◌, ◌^◌, ◌+◌, ◌-◌, ◌==◌, ℕ, Bool, true, false, if◌then◌else◌, List, [], ◌∷◌, Option, None, refl, sym, ap, ◌∙◌, subst, arith}
+use Rattle.std.proofs.Common.{◌≡◌, ◌≤◌, ◌<◌, ◌*◌, ◌^◌, ◌+◌, ◌-◌, ◌==◌, ℕ, Bool, false, List, [], ◌∷◌, Option, None, refl, sym, ap, ◌∙◌, subst, arith}
 use Rattle.std.proofs.lemmas.Bool.{eqb-true}
 use Rattle.nv_base.specs.declared.geometry.Geometry.{Geometry}
 use Rattle.nv_base.specs.declared.instance.DeviceNumber.{DeviceNumber}
@@ -43,6 +43,7 @@ use Rattle.std.proofs.Common.{zero, suc}
 use Rattle.nv_base.specs.Lengths.{AreLengths}
 use Rattle.nv_base.specs.Pages.{record_pages_of}
 use Rattle.fee_format.specs.RecHead.{IsLegalRecHead}
+use Rattle.fee_image.specs.Found.{matches_length}
 use Rattle.fee_image.specs.declared.place.Place.{Place}
 use Rattle.fee_image.specs.declared.place.Place.TheVariants as place
 use Rattle.fee_image.specs.May.{MayCommit}
@@ -76,10 +77,10 @@ bounds_at low (x ∷ xs) (suc i) n size are less named =
     record { low_than = omega (arith, l1, l2); high = later.high; some = later.some; few = later.few }
 
 legal_at : (at : Place) (n size low : ℕ) → Bounds low n size → (head_at at n size).count < 2 ^ 32 → IsLegalRecHead (head_at at n size)
-legal_at (place.Content q count) n size low is counted = (let a = is.low_than in let b = is.some in let c' = is.few in record { number_low = omega (arith, a); number_high = is.high; kind = inl (refl, omega (arith, b)); length = omega (arith, c'); count = counted })
-legal_at (place.Invalid count) n size low is counted = (let a = is.low_than in record { number_low = omega (arith, a); number_high = is.high; kind = inr (inl refl, refl); length = omega arith; count = counted })
-legal_at (place.Erased count) n size low is counted = (let a = is.low_than in record { number_low = omega (arith, a); number_high = is.high; kind = inr (inr refl, refl); length = omega arith; count = counted })
-legal_at place.Unwritten n size low is counted = (let a = is.low_than in record { number_low = omega (arith, a); number_high = is.high; kind = inr (inr refl, refl); length = omega arith; count = counted })
+legal_at (place.Content q count) n size low is counted = (let a = is.low_than in let b = is.some in let c' = is.few in record { number_low = omega (arith, a); number_high = is.high; kind = omega (arith, b); length = omega (arith, c'); count = counted })
+legal_at (place.Invalid count) n size low is counted = (let a = is.low_than in record { number_low = omega (arith, a); number_high = is.high; kind = refl; length = omega arith; count = counted })
+legal_at (place.Erased count) n size low is counted = (let a = is.low_than in record { number_low = omega (arith, a); number_high = is.high; kind = refl; length = omega arith; count = counted })
+legal_at place.Unwritten n size low is counted = (let a = is.low_than in record { number_low = omega (arith, a); number_high = is.high; kind = refl; length = omega arith; count = counted })
 
 number_at : (at : Place) (n size : ℕ) → (head_at at n size).number ≡ n
 number_at (place.Content q count) n size = refl
@@ -189,7 +190,7 @@ module _ (m : Making) (entry : Told) (s : Parts) (listed : List (DeviceNumber ×
       let was = subst (λ (b : Bank). HoldsLog b k0.numbers old cop (log_of k0 body0)) path (subst (λ (ns : List (DeviceNumber × ℕ)). HoldsLog (bank_in l new_format s.banks.target) ns old cop (log_of k0 body0)) (sym over.numbers) phased.holds) in
       let size_path : l.pages * l.page * l.banks ≡ pages_in k0 * k0.geometry.page * k0.banks = λ i. pages_of_bank (sym over.geometry i) (sym over.banks i) * (sym over.geometry i).page * sym over.banks i in
       let was_state : HoldsState k0 body0 old cop = record { size = subst (λ (n : ℕ). n ≤ length old) size_path held.banks.size; holds = was; follows = subst (λ (t : Tail). MayFollow cop t body0) (sym target.work) tt } in
-      let commit : MayCommit cop h body = λ n size' fit. subst (λ (x : ℕ). IsAmong (cop x size') (held_written h body)) (eqb-true h.number n (both_true (h.number == n) (if h.kind == 1 then h.length == size' else true) fit)) (open_any h.number (flags_in m s old) size' (held_written h body) (is_open old)) in
+      let commit : MayCommit cop h body = λ n size' fit. subst (λ (x : ℕ). IsAmong (cop x size') (held_written h body)) (eqb-true h.number n (both_true (h.number == n) (matches_length h.kind h.length size') fit)) (open_any h.number (flags_in m s old) size' (held_written h body) (is_open old)) in
       let now = begins_hold k0 h body0 body old cop is.copies was_state can.can.idle can.can.configured room size commit in
       let holds = subst (λ (ns : List (DeviceNumber × ℕ)). HoldsLog (bank_in l new_format s.banks.target) ns old cop (log_of k body)) over.numbers (subst (λ (b : Bank). HoldsLog b k0.numbers old cop (log_of k body)) (sym path) now.holds) in
       record {

@@ -35,7 +35,7 @@ use Rattle.nv_base.specs.Geometry.{address_of_page}
 use Rattle.fls_model.specs.Step.{programs}
 use Rattle.fee_format.specs.Formats.{new_format}
 use Rattle.fee_format.specs.declared.bank_head.BankHead.{BankHead}
-use Rattle.fee_format.specs.BankHead.{bank_head_page}
+use Rattle.fee_format.specs.BankHead.{bank_head_page, last_generation}
 use Rattle.fee_image.specs.Banks.{Holds, HoldsOld, Sealing, generation_of, next_head}
 use Rattle.fee_image.specs.BankLaws.{program_of}
 use Rattle.fee_switch.specs.declared.active.ActiveBank.{ActiveBank}
@@ -58,8 +58,8 @@ pub next_fits : (l : Layout) (numbers : List (DeviceNumber × ℕ)) (bytes : Lis
 next_fits l numbers bytes target may None log body holds worn = omega arith
 next_fits l numbers bytes target may (Some a) log body holds worn =
     let few = holds.1.stands.head.legal.generation in
-    let not_last : a.head.generation ≡ 4294967295 → ⊥ = eqb-false a.head.generation 4294967295 worn in
-    elim (cases_lt a.head.generation 4294967295) [ inl less ↦ omega arith | inr more ↦ absurd (not_last (omega (arith, few))) ]
+    let not_last : a.head.generation ≡ last_generation → ⊥ = eqb-false a.head.generation last_generation worn in
+    elim (cases_lt a.head.generation last_generation) [ inl less ↦ omega arith | inr more ↦ absurd (not_last (omega (arith, few))) ]
 
 head_size : (p : ℕ) (h : BankHead) → 16 ≤ p → length (bank_head_page p h) ≡ p
 head_size p h more = omega (arith, length-replicate {A = ℕ} (p - 12) 255)

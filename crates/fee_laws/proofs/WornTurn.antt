@@ -16,6 +16,7 @@ use Rattle.memif.specs.Marks.{KeepsAll}
 use Rattle.memif.specs.Calls.{JobTurns, EndsAs, MayFail, Nearer, is_read, urgent_first}
 use Rattle.fls_model.specs.Told.{Told, ToldBytes, Change, bytes_now}
 use Rattle.fee_format.specs.declared.bank_head.BankHead.{BankHead}
+use Rattle.fee_format.specs.BankHead.{last_generation}
 use Rattle.fee_image.specs.Image.{active_of}
 use Rattle.fee_image.specs.May.{May}
 use Rattle.fee_log.specs.Log.{work_in}
@@ -92,7 +93,7 @@ active_some (Some a) x shown = refl
 
 last_shown : (o : Option ActiveBank) (m : Making) (bytes : List ℕ) → is_worn_out o ≡ true → active_shown o ≡ active_of (banks_of m) bytes → IsOfLastGeneration m bytes
 last_shown None m bytes worn shown = cc worn
-last_shown (Some a) m bytes worn shown = (a.bank, a.head, sym shown, eqb-true a.head.generation 4294967295 worn)
+last_shown (Some a) m bytes worn shown = (a.bank, a.head, sym shown, eqb-true a.head.generation last_generation worn)
 
 module _ (m : Making) (entry : Told) (s : Parts) (listed : List (DeviceNumber × ℕ)) (kept count : ℕ) (j : FeeJob) (on : IsOn m entry s listed kept count) (is : IsWornNow m entry s j) where
   abbrev since : ℕ

@@ -5,18 +5,20 @@ use Rattle.nv_base.specs.declared.job.DeviceOp.{DeviceOp}
 use Rattle.nv_base.specs.declared.job.DeviceOp.TheVariants.{Read, Write, Invalidate, Erase}
 use Rattle.memif.specs.Told.{length_of}
 use Rattle.fee_format.specs.declared.rec_head.RecHead.{RecHead}
+use Rattle.fee_format.specs.declared.rec_head.RecordKind.{RecordKind}
+use Rattle.fee_format.specs.declared.rec_head.RecordKind.TheVariants as kind
 use Rattle.fee_log.specs.Index.{with_flag}
 use Rattle.fee_log.specs.Log.{LogState, head_next, work_in}
 use Rattle.fee_switch.specs.Banks.{BanksState, TakesRecord, course_appended}
 use Rattle.fee_laws.specs.declared.job.FeeJob.{FeeJob}
 use Rattle.fee_laws.specs.Work.{begins_next, seal_turns}
 
--- the kind of the record of an operation; a read has none
-abbrev pub kind_of : DeviceOp → ℕ
-kind_of Read = 0
-kind_of Write = 1
-kind_of Invalidate = 2
-kind_of Erase = 3
+-- the kind of the record of an operation; a read has none, and stands with the erasings
+abbrev pub kind_of : DeviceOp → RecordKind
+kind_of Read = kind.Erased
+kind_of Write = kind.Content
+kind_of Invalidate = kind.Invalid
+kind_of Erase = kind.Erased
 
 -- the header of its record, the next one of its number
 abbrev pub head_of : LogState → FeeJob → RecHead

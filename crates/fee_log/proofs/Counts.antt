@@ -1,16 +1,18 @@
 -- How often the numbers were written has room in 32 bits.
-use Rattle.std.specs.Prelude.{if◌then◌else◌, slice_get, ◌^◌, ◌&&◌, ◌==◌}
+use Rattle.std.specs.Prelude.{if◌then◌else◌, slice_get, ◌^◌, ◌&&◌}
 use Rattle.std.proofs.Common.{◌≡◌, ℕ, zero, suc, ◌<◌, ◌+◌, Bool, true, false, List, [], ◌∷◌, Option, Some, None, refl, sym, subst, arith}
 use Rattle.nv_base.specs.Held.{more_writes}
 use Rattle.nv_base.specs.Lengths.{place_of}
 use Rattle.nv_base.specs.declared.instance.DeviceNumber.{DeviceNumber}
 use Rattle.fee_format.specs.declared.rec_head.RecHead.{RecHead}
+use Rattle.fee_format.specs.declared.rec_head.RecordKind.{RecordKind}
+use Rattle.fee_format.specs.declared.rec_head.RecordKind.TheVariants as kind
 use Rattle.fee_image.specs.Bank.{Bank}
 use Rattle.fee_image.specs.Found.{fits, last_from, last_record}
 use Rattle.fee_image.specs.RecordList.{Rec, Walks, pages_of_head, records_of, end_of}
 use Rattle.fee_image.specs.declared.place.Place.{Place}
-use Rattle.fee_image.specs.declared.place.Place.TheVariants.{Content, Invalid, Erased, Unwritten}
-use Rattle.fee_image.specs.Places.{count_at, place_at, place_shown, noted, erased_places, places_of}
+use Rattle.fee_image.specs.declared.place.Place.TheVariants.{Unwritten}
+use Rattle.fee_image.specs.Places.{count_at, place_of_kind, place_at, place_shown, noted, erased_places, places_of}
 use Rattle.fee_log.specs.Index.{AreCounted, at_index, or_else, place_in}
 use Rattle.fee_log.specs.Laws.{PlacesAreCounted, NextIsCounted}
 use Rattle.fee_image.proofs.Records.{logs_compute}
@@ -19,13 +21,13 @@ pub erased_counted : (ns : List (DeviceNumber × ℕ)) → AreCounted (erased_pl
 erased_counted [] = tt
 erased_counted (n ∷ ns) = (omega arith, erased_counted ns)
 
-kind_count : (at count : ℕ) (b c : Bool) → count_at (if b then Content at count else (if c then Invalid count else Erased count)) ≡ count
-kind_count at count true c = refl
-kind_count at count false true = refl
-kind_count at count false false = refl
+kind_count : (k : RecordKind) (at count : ℕ) → count_at (place_of_kind k at count) ≡ count
+kind_count kind.Content at count = refl
+kind_count kind.Invalid at count = refl
+kind_count kind.Erased at count = refl
 
 place_counted : (at : ℕ) (h : RecHead) → h.count < 2 ^ 32 → count_at (place_at at h) < 2 ^ 32
-place_counted at h small = subst (λ (n : ℕ). n < 2 ^ 32) (sym (kind_count at h.count (h.kind == 1) (h.kind == 2))) small
+place_counted at h small = subst (λ (n : ℕ). n < 2 ^ 32) (sym (kind_count h.kind at h.count)) small
 
 pick_counted : (b : Bool) (x y : Place) → count_at x < 2 ^ 32 → count_at y < 2 ^ 32 → count_at (if b then x else y) < 2 ^ 32
 pick_counted true x y one two = one

@@ -1,5 +1,5 @@
 -- What each change of a log keeps.
-use Rattle.std.proofs.Common.{◌≡◌, ℕ, ◌<◌, ◌≤◌, ◌+◌, ◌-◌, false, List, Option, Some, None, inl, inr, refl, ◌∙◌, ap, subst, arith}
+use Rattle.std.proofs.Common.{◌≡◌, ℕ, ◌<◌, ◌≤◌, ◌+◌, ◌-◌, false, List, Option, Some, None, inr, refl, ◌∙◌, ap, subst, arith}
 use Rattle.std.proofs.lemmas.Option.{slice_get-get_or}
 use Rattle.nv_base.specs.declared.instance.DeviceNumber.{DeviceNumber}
 use Rattle.nv_base.specs.declared.geometry.Geometry.{Geometry}
@@ -7,8 +7,10 @@ use Rattle.nv_base.specs.Geometry.{IsLegal, HasBanks, pages_of_bank}
 use Rattle.nv_base.specs.Lengths.{AreLengths}
 use Rattle.nv_base.specs.Pages.{record_pages_of}
 use Rattle.fee_format.specs.declared.rec_head.RecHead.{RecHead}
+use Rattle.fee_format.specs.declared.rec_head.RecordKind.{RecordKind}
+use Rattle.fee_format.specs.declared.rec_head.RecordKind.TheVariants as kind
 use Rattle.fee_format.specs.Formats.{new_format}
-use Rattle.fee_format.specs.RecHead.{IsLegalRecHead}
+use Rattle.fee_format.specs.RecHead.{IsLengthOfKind, IsLegalRecHead}
 use Rattle.fee_image.specs.RecordList.{pages_of_head, records_of, end_of}
 use Rattle.fee_view.specs.View.{View, IsView, bank_of as viewed_bank}
 use Rattle.fee_image.specs.Log.{Closed as LogClosed}
@@ -18,7 +20,7 @@ use Rattle.fee_image.specs.Places.{noted, places_of}
 use Rattle.fee_log.specs.declared.tail.Tail.{Tail}
 use Rattle.fee_log.specs.declared.tail.Tail.TheVariants.{Open, Writes, Owes, Closed}
 use Rattle.fee_log.specs.Index.{clear_flags, AreCounted, AreWithin}
-use Rattle.fee_log.specs.Log.{LogState, IsLogState, HasFormat, IsTail, IsTailSeen, IsViewOf, IsFor, pages_in, free_in, free_behind, work_in, tail_begun, begun, erased_state}
+use Rattle.fee_log.specs.Log.{LogState, IsLogState, HasFormat, IsTail, IsTailSeen, IsViewOf, IsLengthFor, IsFor, pages_in, free_in, free_behind, work_in, tail_begun, begun, erased_state}
 use Rattle.fee_log.proofs.Counts.{erased_counted, loaded_counted, noted_counted}
 use Rattle.fee_log.proofs.Changes.{clear_length, flag_length}
 use Rattle.fee_log.proofs.Within.{erased_within, placed_within, further, noted_within}
@@ -83,23 +85,30 @@ followed_sound s h next sound is =
     (further s.geometry.page s.end end s.numbers s.places (omega arith) sound.places) sound.counts (omega arith) (omega (arith, tail.0)) (tail.1, omega arith, omega (arith, tail.0))
 
 -- A RECORD BEGINS
+-- a record of a kind isn't longer than its number's length, and has one that its kind may have
+pub length_within : (k : RecordKind) (got length : ℕ) → IsLengthFor k got length → got ≤ length
+length_within kind.Content got length is = omega (arith, is)
+length_within kind.Invalid got length is = omega (arith, is)
+length_within kind.Erased got length is = omega (arith, is)
+
+length_of_kind : (k : RecordKind) (got length : ℕ) → 1 ≤ length → IsLengthFor k got length → IsLengthOfKind k got
+length_of_kind kind.Content got length some is = omega (arith, some, is)
+length_of_kind kind.Invalid got length some is = is
+length_of_kind kind.Erased got length some is = is
+
 -- a record of a configured number has a legal header
 pub legal_for : (numbers : List (DeviceNumber × ℕ)) (h : RecHead) → AreLengths 0 numbers → IsFor numbers h
     → IsLegalRecHead h
 legal_for numbers h all is =
     let x : DeviceNumber × ℕ = (record { 0 = h.number }, is.length) in
     let up = numbers_are_in_bounds 0 numbers is.configured.0 x all (slice_get-get_or numbers is.configured.0 x is.configured.1 ∙ ap Some is.configured.2) in
-    elim is.kind as (λ _. IsLegalRecHead h) [
-      | inl content ↦ record {
-        number_low = up.0;
-        number_high = up.1;
-        kind = inl
-            (content.0, omega (arith, content.1, up.2));
-        length = omega (arith, content.1, up.3);
-        count = is.count;
-      }
-      | inr mark ↦ record { number_low = up.0; number_high = up.1; kind = inr mark; length = omega (arith, mark.1); count = is.count }
-    ]
+    record {
+      number_low = up.0;
+      number_high = up.1;
+      kind = length_of_kind h.kind h.length is.length up.2 is.kind;
+      length = omega (arith, length_within h.kind h.length is.length is.kind, up.3);
+      count = is.count;
+    }
 
 begun_tail : (p pages end : ℕ) (tail : Tail) (h : RecHead) → end ≤ pages → IsTail p pages end tail
     → work_in tail ≡ None → record_pages_of h.length p ≤ free_behind p pages end tail → IsLegalRecHead h

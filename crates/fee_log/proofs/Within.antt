@@ -1,17 +1,16 @@
 -- Places among a bank's records.
-use Rattle.std.specs.Prelude.{if◌then◌else◌, ◌==◌}
-use Rattle.std.proofs.Common.{◌≡◌, ℕ, zero, suc, ◌≤◌, ◌+◌, Bool, true, false, List, [], ◌∷◌, length, Some, slice_get, refl, subst, arith}
+use Rattle.std.proofs.Common.{◌≡◌, ℕ, zero, suc, ◌≤◌, ◌+◌, List, [], ◌∷◌, length, Some, slice_get, refl, subst, arith}
 use Rattle.nv_base.specs.declared.instance.DeviceNumber.{DeviceNumber}
 use Rattle.nv_base.specs.Pages.{record_pages_of}
 use Rattle.fee_format.specs.declared.rec_head.RecHead.{RecHead}
 use Rattle.fee_image.specs.Bank.{Bank}
 use Rattle.fee_image.specs.Found.{fits}
 use Rattle.fee_image.specs.declared.place.Place.{Place}
-use Rattle.fee_image.specs.declared.place.Place.TheVariants.{Content, Invalid, Erased, Unwritten}
+use Rattle.fee_image.specs.declared.place.Place.TheVariants.{Unwritten}
 use Rattle.fee_image.specs.May.{May}
 use Rattle.fee_image.specs.Places.{place_at, noted, erased_places, IsWithin, ArePlaced}
 use Rattle.fee_log.specs.Index.{AreWithin, or_else}
-use Rattle.fee_image.proofs.Placed.{fits_length, further as further_place, pick_within}
+use Rattle.fee_image.proofs.Placed.{fits_length, kind_within, further as further_place, pick_within}
 
 pub within_length : (p end : ℕ) (ns : List (DeviceNumber × ℕ)) (places : List Place) → AreWithin p end ns places
     → length places ≡ length ns
@@ -40,12 +39,6 @@ further p end end' (n ∷ ns) [] le all = absurd all
 further p end end' (n ∷ ns) (place ∷ places) le all =
     (further_place p end end' n.1 place le all.0, further p end end' ns places le all.1)
 
-kind_within : (p end length at count : ℕ) (b c : Bool) → (b ≡ true → (2 ≤ at) × (at + record_pages_of length p ≤ end))
-    → IsWithin p end length (if b then Content at count else (if c then Invalid count else Erased count))
-kind_within p end length at count true c content = content refl
-kind_within p end length at count false true content = tt
-kind_within p end length at count false false content = tt
-
 -- a record that is taken in lies among the bank's records
 pub noted_within : (p end end' : ℕ) (ns : List (DeviceNumber × ℕ)) (places : List Place) (h : RecHead) → 2 ≤ end
     → end + record_pages_of h.length p ≤ end' → AreWithin p end ns places
@@ -55,7 +48,7 @@ noted_within p end end' [] (place ∷ places) h low le all = absurd all
 noted_within p end end' (n ∷ ns) [] h low le all = absurd all
 noted_within p end end' (n ∷ ns) (place ∷ places) h low le all = (
   pick_within p end' n.1 (fits n.0.0 n.1 h) (place_at end h) place
-      (λ fit. kind_within p end' n.1 end h.count (h.kind == 1) (h.kind == 2) (λ kind. (low, rw (← fits_length n.0.0 n.1 h fit kind) le)))
+      (λ fit. kind_within p end' n.1 end h.count h.kind (λ content. (low, rw (← fits_length n.0.0 n.1 h fit content) le)))
       (further_place p end end' n.1 place (omega arith) all.0),
   noted_within p end end' ns places h low le all.1,
 )

@@ -8,6 +8,7 @@ use Rattle.fls_model.specs.declared.flash.FlashAnswer.TheVariants.{Done, Off}
 use Rattle.fls_model.specs.Op.{MayLeave}
 use Rattle.fls_model.specs.Step.{Leaves}
 use Rattle.fee_format.specs.declared.rec_head.RecHead.{RecHead}
+use Rattle.fee_format.specs.declared.rec_head.RecordKind.{RecordKind}
 use Rattle.nv_base.specs.Held.{never_written}
 use Rattle.fee_image.specs.Bank.{Bank, page_of, moved}
 use Rattle.fee_image.specs.RecordList.{IsTailBlank}
@@ -110,7 +111,7 @@ abbrev pub PlacesAreCounted : Type 0
 PlacesAreCounted = (s : LogState) (i : ℕ) (place : Place) → IsLogState s → slice_get s.places i ≡ Some place → count_at place < 2 ^ 32
 
 abbrev pub NextIsCounted : Type 0
-NextIsCounted = (s : LogState) (number kind length : ℕ) → IsLogState s → (head_next s number kind length).count < 2 ^ 32
+NextIsCounted = (s : LogState) (number : ℕ) (kind : RecordKind) (length : ℕ) → IsLogState s → (head_next s number kind length).count < 2 ^ 32
 
 -- STEPS
 -- what may be found after an answer: after a record's last page its mark alone

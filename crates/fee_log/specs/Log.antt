@@ -1,11 +1,13 @@
 -- The log of one bank, as contracts see it.
-use Rattle.std.specs.Prelude.{◌≡◌, ◌⊎◌, ◌<◌, ◌≤◌, ◌+◌, ◌-◌, ◌^◌, ℕ, Bool, true, false, List, length, Option, Some, None, Contains, IfSome}
+use Rattle.std.specs.Prelude.{◌≡◌, ◌<◌, ◌≤◌, ◌+◌, ◌-◌, ◌^◌, ℕ, Bool, true, false, List, length, Option, Some, None, Contains, IfSome}
 use Rattle.nv_base.specs.declared.geometry.Geometry.{Geometry}
 use Rattle.nv_base.specs.declared.instance.DeviceNumber.{DeviceNumber}
 use Rattle.nv_base.specs.Geometry.{IsLegal, HasBanks, pages_of_bank}
 use Rattle.nv_base.specs.Lengths.{AreLengths}
 use Rattle.fee_format.specs.Formats.{IsFormat, new_format}
 use Rattle.fee_format.specs.declared.rec_head.RecHead.{RecHead}
+use Rattle.fee_format.specs.declared.rec_head.RecordKind.{RecordKind}
+use Rattle.fee_format.specs.declared.rec_head.RecordKind.TheVariants as kind
 use Rattle.fee_format.specs.RecHead.{IsLegalRecHead}
 use Rattle.fee_image.specs.Bank.{Bank}
 use Rattle.nv_base.specs.Held.{more_writes}
@@ -167,15 +169,21 @@ pub record IsLoaded (v : View) (old new : LogState) : Type 0 where
   }
 
 -- A RECORD TO APPEND
--- the number is configured, with this length; a content has its length, and a mark has none
+-- a content has its number's length, and a mark has none
+abbrev pub IsLengthFor : RecordKind → ℕ → ℕ → Type 0
+IsLengthFor kind.Content got length = got ≡ length
+IsLengthFor kind.Invalid got length = got ≡ 0
+IsLengthFor kind.Erased got length = got ≡ 0
+
+-- the number is configured, with this length
 pub record IsFor (numbers : List (DeviceNumber × ℕ)) (h : RecHead) : Type 0 where
   pub length : ℕ
   pub configured : Contains numbers (record { 0 = h.number }, length)
-  pub kind : ((h.kind ≡ 1) × (h.length ≡ length)) ⊎ (((h.kind ≡ 2) ⊎ (h.kind ≡ 3)) × (h.length ≡ 0))
+  pub kind : IsLengthFor h.kind h.length length
   pub count : h.count < 2 ^ 32
 
 -- the header of the next record of a number
-abbrev pub head_next : LogState → ℕ → ℕ → ℕ → RecHead
+abbrev pub head_next : LogState → ℕ → RecordKind → ℕ → RecHead
 head_next s number kind length = record { number = number; kind = kind; length = length; count = more_writes 1 (count_at (place_in s.numbers s.places number)) }
 
 -- behind an owed gate it waits for that gate

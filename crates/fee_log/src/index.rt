@@ -1,9 +1,10 @@
 // The places and flags by number.
 ghost use Rattle.std.specs.Prelude.{◌≡◌, false, length, IfOk};
-ghost use Rattle.fee_image.specs.Found.{fits};
-ghost use Rattle.fee_image.specs.Places.{place_at, count_at, noted, erased_places};
+ghost use Rattle.fee_image.specs.Found.{fits, matches_length};
+ghost use Rattle.fee_image.specs.Places.{place_of_kind, count_at, noted, erased_places};
 ghost use Rattle.fee_log.specs.Index.{place_in, flag_in, with_flag, clear_flags};
 
+use fee_format::RecordKind;
 use fee_image::Place;
 use nv_base::{DeviceNumber, Lengths};
 use std::alloc::{AllocError, Global};
@@ -74,13 +75,13 @@ pub(crate) fn put_flag(numbers: &Lengths, flags: &mut [bool], number: DeviceNumb
     flags[i] = on;
 }
 
-fn place_at(at: u32, kind: u8, count: u32) -> Place
-    ensures { (h : _) → h.kind ≡ kind → h.count ≡ count → result ≡ place_at at h }
+fn place_of_kind(kind: RecordKind, at: u32, count: u32) -> Place
+    ensures { result ≡ place_of_kind kind at count }
 {
     match kind {
-        1 => Place::Content { at, count },
-        2 => Place::Invalid { count },
-        _ => Place::Erased { count },
+        RecordKind::Content => Place::Content { at, count },
+        RecordKind::Invalid => Place::Invalid { count },
+        RecordKind::Erased => Place::Erased { count },
     }
 }
 
@@ -94,11 +95,20 @@ pub(crate) fn count_at(place: Place) -> u32
     }
 }
 
+fn matches_length(kind: RecordKind, size: usize, length: u16) -> bool
+    ensures { result ≡ matches_length kind size length }
+{
+    match kind {
+        RecordKind::Content => size == usize::from(length),
+        RecordKind::Invalid | RecordKind::Erased => true,
+    }
+}
+
 // Whether a record of this number is one of its length, for a content.
-fn fits(wanted: (DeviceNumber, u16), number: DeviceNumber, kind: u8, size: usize) -> bool
+fn fits(wanted: (DeviceNumber, u16), number: DeviceNumber, kind: RecordKind, size: usize) -> bool
     ensures { (count : _) → result ≡ fits wanted.0.0 wanted.1 (record { number = number.0; kind = kind; length = size; count = count }) }
 {
-    number.0 == wanted.0.0 && (kind != 1 || size == usize::from(wanted.1))
+    number.0 == wanted.0.0 && matches_length(kind, size, wanted.1)
 }
 
 /// Takes a committed record into the places, where it fits a number.
@@ -107,7 +117,7 @@ pub(crate) fn note(
     places: &mut [Place],
     at: u32,
     number: DeviceNumber,
-    kind: u8,
+    kind: RecordKind,
     size: usize,
     count: u32,
 )
@@ -121,5 +131,5 @@ pub(crate) fn note(
     if !fits(list[i], number, kind, size) {
         return;
     }
-    places[i] = place_at(at, kind, count);
+    places[i] = place_of_kind(kind, at, count);
 }

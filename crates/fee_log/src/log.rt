@@ -1,5 +1,5 @@
 // The log of one bank.
-ghost use Rattle.std.specs.Prelude.{◌≡◌, ◌≤◌, ◌<◌, ◌+◌, ℕ, None, Some, Contains, length, IfOk, IsSome, MatchOption};
+ghost use Rattle.std.specs.Prelude.{◌≡◌, ◌≤◌, ◌<◌, ◌+◌, ℕ, None, Some, Contains, length, IfOk, IsSome, MatchOption, take};
 ghost use Rattle.std.specs.Option.{ForSome};
 ghost use Rattle.nv_base.specs.Geometry.{IsLegal, HasBanks, size_of, address_of_page};
 ghost use Rattle.nv_base.specs.Pages.{record_pages_of};
@@ -9,7 +9,7 @@ ghost use Rattle.fls_jobs.specs.Start.{IsIdle};
 ghost use Rattle.fee_image.specs.Places.{IsWithin};
 ghost use Rattle.fee_log.specs.Index.{place_in, flag_in, with_flag, clear_flags};
 ghost use Rattle.fee_log.specs.Log.{IsLogState, IsViewOf, IsLoaded, IsFor, head_next, work_in, is_closed, is_owed, free_in, left_in, pages_in, erased_state, begun};
-ghost use Rattle.fee_log.specs.Step.{IsPageOf, IsStepAt, due_bytes, op_of, answer_of, after_step, given_up};
+ghost use Rattle.fee_log.specs.Step.{IsPageOf, IsStepAt, due_page, due_bytes, op_of, answer_of, after_step, given_up};
 
 use crate::index::{
     clear_all, clear_flags, count_at, erased_places, flag_of, forget, note, place_of, put_flag,
@@ -18,7 +18,7 @@ use crate::page::{fill_gate, fill_page};
 use crate::tail::{tail_begun, tail_seen};
 use crate::walk::take_records;
 use crate::{LogStep, Tail};
-use fee_format::{NEW_FORMAT, RecHead, pages_of};
+use fee_format::{NEW_FORMAT, RecHead, RecordKind, pages_of};
 use fee_image::Place;
 use fee_view::BankView;
 use fls_jobs::Fls;
@@ -243,7 +243,7 @@ impl Log {
     }
 
     /// The header of the next record of a number, which is counted by one more.
-    pub fn head_next(&self, number: DeviceNumber, kind: u8, length: u16) -> RecHead
+    pub fn head_next(&self, number: DeviceNumber, kind: RecordKind, length: u16) -> RecHead
         ensures head { result ≡ head_next self.now number.0 kind length }
         ensures state { IsLogState self.now }
     {
@@ -255,8 +255,8 @@ impl Log {
         }
     }
 
-    /// Begins a record of a configured number: a content (kind 1) of its length, or the mark of an invalidated (2) or
-    /// erased (3) instance, of length 0. Behind an owed gate it waits for that gate. The number's flag is cleared.
+    /// Begins a record of a configured number: a content of its length, or the mark of an invalidated or erased instance,
+    /// of length 0. Behind an owed gate it waits for that gate. The number's flag is cleared.
     pub fn append_start(&mut self, head: RecHead)
         requires idle { work_in self.old.tail ≡ None }
         requires configured { IsFor self.old.numbers head }
@@ -288,38 +288,36 @@ impl Log {
         ensures after { self.new ≡ after_step self.old (answer_of result) }
         ensures same { fls.new ≡ record fls.old { flash = fls.new.flash; result = closed_as (answer_of result) } }
     {
-        let answer = self.program_due(fls, body);
+        let mut buffer = [0; 256];
+        let page = self.fill_due(body, &mut buffer);
+        let address = self.geometry.page_address(self.banks, self.bank, page);
+        fls.status();
+        let answer = fls.program_page(address, &buffer[..self.geometry.page as usize]);
         self.settle(answer)
     }
 
-    // Programs the page that is due.
-    fn program_due<F: Flash>(&self, fls: &mut Fls<F>, body: &[u8]) -> FlashAnswer
+    // Fills the first bytes with the page that is due, and answers which page of the bank it is.
+    fn fill_due(&self, body: &[u8], buffer: &mut [u8]) -> u32
+        requires whole { length buffer.old ≡ 256 }
         requires work { IsSome (work_in self.now.tail) }
         requires body { ForSome (work_in self.now.tail) (λ h. length body.now ≡ h.length) }
-        requires idle { IsIdle fls.old }
-        requires geometry { fls.old.geometry ≡ self.now.geometry }
         ensures state { IsLogState self.now }
-        ensures step { IsStep (op_of self.now body.now) fls.old.flash result fls.new.flash }
-        ensures page { IsPageOf self.now.geometry.page (due_bytes self.now body.now) }
-        ensures same { fls.new ≡ record fls.old { flash = fls.new.flash; result = closed_as result } }
+        ensures page { result ≡ due_page self.now }
+        ensures inside { result < pages_in self.now }
+        ensures bytes { take self.now.geometry.page buffer.new ≡ due_bytes self.now body.now }
+        ensures page_of { IsPageOf self.now.geometry.page (due_bytes self.now body.now) }
     {
-        let mut buffer = [0; 256];
         let size = self.geometry.page as usize;
-        let done = match self.tail {
+        match self.tail {
             Tail::Writes { head, done } => {
-                fill_page(head, body, done, size, &mut buffer);
-                done
+                fill_page(head, body, done, size, buffer);
+                self.end + done
             }
             _ => {
-                fill_gate(size, &mut buffer);
-                1
+                fill_gate(size, buffer);
+                self.end + 1
             }
-        };
-        let address = self
-            .geometry
-            .page_address(self.banks, self.bank, self.end + done);
-        fls.status();
-        fls.program_page(address, &buffer[..size])
+        }
     }
 
     // What an answer leaves of the log.

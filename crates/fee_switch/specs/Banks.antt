@@ -8,8 +8,11 @@ use Rattle.nv_base.specs.Lengths.{place_of}
 use Rattle.fls_model.specs.declared.flash.FlashAnswer.{FlashAnswer}
 use Rattle.fls_model.specs.declared.flash.FlashAnswer.TheVariants.{Done, Failed as FlashFailed, Off}
 use Rattle.fls_model.specs.Told.{Told}
+use Rattle.fee_format.specs.BankHead.{last_generation}
 use Rattle.fee_format.specs.Formats.{new_format}
 use Rattle.fee_format.specs.declared.rec_head.RecHead.{RecHead}
+use Rattle.fee_format.specs.declared.rec_head.RecordKind.{RecordKind}
+use Rattle.fee_format.specs.declared.rec_head.RecordKind.TheVariants as kind
 use Rattle.fee_log.specs.Index.{with_flag, clear_flags}
 use Rattle.fee_log.specs.Log.{LogState, erased_state, work_in, begun}
 use Rattle.fee_switch.specs.declared.active.ActiveBank.{ActiveBank}
@@ -145,7 +148,7 @@ reads_next log course = false
 -- A SWITCH BEGINS
 abbrev pub is_worn_out : Option ActiveBank → Bool
 is_worn_out None = false
-is_worn_out (Some a) = a.head.generation == 4294967295
+is_worn_out (Some a) = a.head.generation == last_generation
 
 -- with no flag set, and an empty log of the target
 abbrev pub begun_again : BanksState → Course → BanksState
@@ -157,11 +160,11 @@ begun_again s course = record s {
 
 -- APPENDS
 -- no switch is open, or one that erases or copies, and then a content alone
-abbrev pub TakesRecord : ℕ → Option Course → Type 0
-TakesRecord kind None = Unit {0}
-TakesRecord kind (Some (Erase done)) = kind ≡ 1
-TakesRecord kind (Some (Copy work)) = kind ≡ 1
-TakesRecord kind (Some _) = ⊥
+abbrev pub TakesRecord : RecordKind → Option Course → Type 0
+TakesRecord k None = Unit {0}
+TakesRecord k (Some (Erase done)) = k ≡ kind.Content
+TakesRecord k (Some (Copy work)) = k ≡ kind.Content
+TakesRecord k (Some _) = ⊥
 
 abbrev pub appended_at : Option ℕ → Option Course → Option Course
 appended_at (Some i) (Some course) = Some (appended_to i course)
@@ -208,10 +211,13 @@ advanced_with s course log = record s {
 abbrev pub advanced : BanksState → Course → BanksState
 advanced s course = advanced_with s course (flagged_by s.log (flag_due course))
 
--- and one that failed: with no flag set, and an empty log of the target; but for the gate, which is made again
+-- and one that failed: where an erase comes, with no flag set, and an empty log of the target
+abbrev pub fallen_to : BanksState → Course → BanksState
+fallen_to s (Erase done) = begun_again s (Erase done)
+fallen_to s course = record s { course = Some course }
+
 abbrev pub fallen_back : BanksState → Course → BanksState
-fallen_back s (Gate failed) = record s { course = Some (Gate true) }
-fallen_back s course = begun_again s (after_failed course)
+fallen_back s course = fallen_to s (after_failed course)
 
 abbrev pub done_at : BanksState → Course → BanksState
 done_at s (Gate failed) = ended s

@@ -10,6 +10,7 @@ use Rattle.fls_model.specs.Told.{Told}
 use Rattle.fls_model.specs.Read.{IsRead}
 use Rattle.fls_model.specs.Step.{IsStep}
 use Rattle.fee_format.specs.declared.rec_head.RecHead.{RecHead}
+use Rattle.fee_format.specs.declared.rec_head.RecordKind.TheVariants as kind
 use Rattle.fee_image.specs.declared.place.Place.{Place}
 use Rattle.fee_image.specs.declared.place.Place.TheVariants.{Content, Invalid, Erased, Unwritten}
 use Rattle.fee_image.specs.Places.{IsWithin}
@@ -32,10 +33,10 @@ begun_where _ log head = log
 
 -- the record that copies what stands at a place, as often written
 abbrev pub head_at : Place → ℕ → ℕ → RecHead
-head_at (Content at count) number length = record { number = number; kind = 1; length = length; count = count }
-head_at (Invalid count) number length = record { number = number; kind = 2; length = 0; count = count }
-head_at (Erased count) number length = record { number = number; kind = 3; length = 0; count = count }
-head_at Unwritten number length = record { number = number; kind = 3; length = 0; count = 0 }
+head_at (Content at count) number length = record { number = number; kind = kind.Content; length = length; count = count }
+head_at (Invalid count) number length = record { number = number; kind = kind.Invalid; length = 0; count = count }
+head_at (Erased count) number length = record { number = number; kind = kind.Erased; length = 0; count = count }
+head_at Unwritten number length = record { number = number; kind = kind.Erased; length = 0; count = 0 }
 
 -- the copy of a number has its content, and has room
 pub record CanBegin (s : BanksState) (number : DeviceNumber) (source : Source) : Type 0 where

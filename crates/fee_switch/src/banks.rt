@@ -16,7 +16,7 @@ use crate::due::reads_place;
 use crate::phase::phase_of;
 use crate::{ActiveBank, BankBegin, Phase};
 use fee_course::{Course, next_copy};
-use fee_format::RecHead;
+use fee_format::{LAST_GENERATION, RecHead};
 use fee_log::{Log, LogStep};
 use fls_jobs::Fls;
 use fls_model::Flash;
@@ -174,7 +174,7 @@ impl Banks {
         ensures begun { result ≡ BankBegin.Begun → (is_worn_out self.old.active ≡ false) × (self.new ≡ begun_again self.old (Course.Erase 0)) }
     {
         if let Some(active) = self.active {
-            if active.head.generation == 4294967295 {
+            if active.head.generation == LAST_GENERATION {
                 return BankBegin::WornOut;
             }
         }

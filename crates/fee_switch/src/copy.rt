@@ -11,7 +11,7 @@ ghost use Rattle.fee_log.specs.Log.{IsFor, work_in, free_in, begun};
 ghost use Rattle.fee_log.specs.Step.{op_of, after_step};
 ghost use Rattle.fee_switch.specs.Copy.{begun_where, head_at};
 
-use fee_format::RecHead;
+use fee_format::{RecHead, RecordKind};
 use fee_image::Place;
 use fee_log::Log;
 use fls_jobs::Fls;
@@ -23,10 +23,10 @@ pub(crate) fn head_at(place: Place, number: DeviceNumber, size: u16) -> RecHead
     ensures { result ≡ head_at place number.0 size }
 {
     let (kind, length, count) = match place {
-        Place::Content { count, .. } => (1, size, count),
-        Place::Invalid { count } => (2, 0, count),
-        Place::Erased { count } => (3, 0, count),
-        Place::Unwritten => (3, 0, 0),
+        Place::Content { count, .. } => (RecordKind::Content, size, count),
+        Place::Invalid { count } => (RecordKind::Invalid, 0, count),
+        Place::Erased { count } => (RecordKind::Erased, 0, count),
+        Place::Unwritten => (RecordKind::Erased, 0, 0),
     };
     RecHead {
         number: number.0,

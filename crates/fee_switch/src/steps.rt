@@ -86,13 +86,15 @@ impl Banks {
         requires short { IsShort (sectors_of_bank self.old.geometry self.old.banks) course }
         ensures { self.new ≡ fallen_back self.old course }
     {
-        if let Course::Gate { .. } = course {
-            self.course = Some(Course::Gate { failed: true });
-            return;
+        let next = course.failed();
+        match next {
+            Course::Erase { .. } => {
+                self.log.clear_flags();
+                self.copies.move_to(self.target);
+                self.course = Some(next);
+            }
+            _ => self.course = Some(next),
         }
-        self.log.clear_flags();
-        self.copies.move_to(self.target);
-        self.course = Some(course.failed());
     }
 
     // What an answer leaves of the banks.

@@ -10,6 +10,7 @@ use Rattle.fls_model.specs.declared.flash.FlashAnswer.TheVariants.{Done, Failed,
 use Rattle.fls_model.specs.Op.{Op, MayLeave}
 use Rattle.fls_model.specs.Step.{Leaves, programs}
 use Rattle.fee_format.specs.declared.rec_head.RecHead.{RecHead}
+use Rattle.fee_format.specs.declared.rec_head.RecordKind.{RecordKind}
 use Rattle.fee_image.specs.Bank.{Bank}
 use Rattle.fee_image.specs.Image.{layout_of, bank_in}
 use Rattle.fee_image.specs.Log.{Log, HoldsLog}
@@ -60,7 +61,7 @@ other_log (Some Head) s log then body = refl
 other_log (Some (Gate failed)) s log then body = refl
 
 -- where a record may begin an append is taken
-pub takes : (kind : ℕ) (course : Option Course) (x : BanksState) (body : List ℕ) → TakesRecord kind course → TakesAppends (phase_shown course x body)
+pub takes : (kind : RecordKind) (course : Option Course) (x : BanksState) (body : List ℕ) → TakesRecord kind course → TakesAppends (phase_shown course x body)
 takes kind None x body open' = tt
 takes kind (Some (Erase n)) x body open' = tt
 takes kind (Some (Copy w)) x body open' = tt

@@ -1,16 +1,14 @@
 -- The first operation of a copy.
-use Rattle.std.proofs.Common.{◌≡◌, ◌≤◌, ◌+◌, ℕ, inl, inr, true, false, List, [], replicate, Option, Some, None, sym, ap, ◌∙◌, refl, subst, arith}
+use Rattle.std.proofs.Common.{◌≡◌, ◌≤◌, ◌+◌, ℕ, true, false, List, [], replicate, Option, Some, None, sym, ap, ◌∙◌, refl, subst, arith}
 use Rattle.std.proofs.lemmas.Bool.{ne_eqb}
 use Rattle.std.proofs.lemmas.List.{length-replicate}
 use Rattle.std.proofs.lemmas.Option.{slice_get-get_or}
 use Rattle.nv_base.specs.declared.instance.DeviceNumber.{DeviceNumber}
 use Rattle.nv_base.specs.Geometry.{pages_of_bank}
 use Rattle.nv_base.specs.Lengths.{AreLengths}
-use Rattle.nv_base.proofs.Places.{numbers_are_in_bounds}
 use Rattle.fls_model.specs.declared.flash.FlashAnswer.TheVariants.{Done, Failed}
 use Rattle.fls_model.specs.Op.{MayLeave, after_op}
 use Rattle.fee_format.specs.declared.rec_head.RecHead.{RecHead}
-use Rattle.fee_format.specs.RecHead.{IsLegalRecHead}
 use Rattle.fee_format.specs.Formats.{new_format}
 use Rattle.fee_image.specs.Image.{IsLegalLayout, bank_in}
 use Rattle.fee_image.specs.RecordList.{pages_of_head}
@@ -26,9 +24,10 @@ use Rattle.fee_image.proofs.Sectors.{layouts_are_legal}
 use Rattle.fee_image.proofs.Shows.{banks_show}
 use Rattle.fee_log.specs.declared.tail.Tail.{Tail}
 use Rattle.fee_log.specs.declared.tail.Tail.TheVariants.{Writes}
-use Rattle.fee_log.specs.Log.{IsFor, free_behind, pages_in, log_of, tail_with, tail_begun, begun}
+use Rattle.fee_log.specs.Log.{free_behind, pages_in, log_of, tail_with, tail_begun, begun}
 use Rattle.fee_log.specs.Step.{op_of, after_step}
 use Rattle.fee_log.proofs.Follows.{begins_open}
+use Rattle.fee_log.proofs.Soundness.{legal_for}
 use Rattle.fee_course.specs.declared.copies.Source.{Source}
 use Rattle.fee_course.specs.declared.course.Course.{Course}
 use Rattle.fee_course.specs.declared.course.Course.TheVariants.{Copy}
@@ -51,16 +50,6 @@ first_stays s body x ns ps cs = split (next_copy ns ps cs)
     split : (o : Option Source) → phase_at (course_begun s.geometry.page o) x body ≡ Copying (log_of x.copies body)
     split None = refl
     split (Some source) = refl
-
--- what a record of a configured number is
-legal_for : (numbers : List (DeviceNumber × ℕ)) (h : RecHead) → AreLengths 0 numbers → IsFor numbers h → IsLegalRecHead h
-legal_for numbers h all is =
-    let x : DeviceNumber × ℕ = (record { 0 = h.number }, is.length) in
-    let up = numbers_are_in_bounds 0 numbers is.configured.0 x all (slice_get-get_or numbers is.configured.0 x is.configured.1 ∙ ap Some is.configured.2) in
-    elim is.kind as (λ _. IsLegalRecHead h) [
-      | inl content ↦ record { number_low = up.0; number_high = up.1; kind = inl (content.0, omega (arith, content.1, up.2)); length = omega (arith, content.1, up.3); count = is.count }
-      | inr mark ↦ record { number_low = up.0; number_high = up.1; kind = inr mark; length = omega (arith, mark.1); count = is.count }
-    ]
 
 module _ (s : BanksState) (bodies : Bodies) (bytes body : List ℕ) (may : May) (fs : List Flag)
     (source : Source) (number : DeviceNumber) (is : IsBanksState s) (target : IsCopyLog s) (begins : IsBeginning s source number body fs) (holds : HoldsFlags s bodies bytes may fs) where

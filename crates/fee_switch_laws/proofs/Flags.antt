@@ -4,10 +4,11 @@ use Rattle.std.proofs.lemmas.Bool.{eqb-false, ne_eqb}
 use Rattle.nv_base.specs.declared.instance.DeviceNumber.{DeviceNumber}
 use Rattle.nv_base.specs.Held.{Held}
 use Rattle.fee_format.specs.declared.rec_head.RecHead.{RecHead}
+use Rattle.fee_format.specs.declared.rec_head.RecordKind.{RecordKind}
+use Rattle.fee_format.specs.declared.rec_head.RecordKind.TheVariants as kind
 use Rattle.fee_image.specs.Found.{fits}
 use Rattle.fee_image.specs.declared.place.Place.{Place}
-use Rattle.fee_image.specs.declared.place.Place.TheVariants.{Content, Invalid, Erased}
-use Rattle.fee_image.specs.Places.{is_written, place_at, noted}
+use Rattle.fee_image.specs.Places.{is_written, place_of_kind, place_at, noted}
 use Rattle.fee_image.specs.Copies.{Flag, Each, at_number, settled_at}
 use Rattle.fee_log.specs.Index.{with_flag, clear_flags}
 use Rattle.fee_switch_laws.specs.Flags.{AreFlagsOf, all_clear}
@@ -73,10 +74,10 @@ are_settled (n ∷ ns) (x ∷ ps) (c ∷ cs) (f ∷ fs) at h m new fit are =
     (g.0, g.1, g.2, g.3, are_settled ns ps cs fs at h m new fit.1 are.4)
 
 -- there is one then
-kind_is : (a b : Bool) (at count : ℕ) → true ≡ is_written (cond a (Content at count) (cond b (Invalid count) (Erased count)))
-kind_is true b at count = refl
-kind_is false true at count = refl
-kind_is false false at count = refl
+kind_is : (k : RecordKind) (at count : ℕ) → true ≡ is_written (place_of_kind k at count)
+kind_is kind.Content at count = refl
+kind_is kind.Invalid at count = refl
+kind_is kind.Erased at count = refl
 
 pub is_placed : (h : RecHead) (at : ℕ) → true ≡ is_written (place_at at h)
-is_placed h at = kind_is (eqb h.kind 1) (eqb h.kind 2) at h.count
+is_placed h at = kind_is h.kind at h.count

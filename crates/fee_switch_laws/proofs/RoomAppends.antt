@@ -10,15 +10,17 @@ use Rattle.nv_base.proofs.Places.{numbers_have_places}
 use Rattle.fls_model.specs.declared.flash.FlashAnswer.{FlashAnswer}
 use Rattle.fls_model.specs.declared.flash.FlashAnswer.TheVariants.{Done, Failed, Off}
 use Rattle.fee_format.specs.declared.rec_head.RecHead.{RecHead}
+use Rattle.fee_format.specs.declared.rec_head.RecordKind.{RecordKind}
+use Rattle.fee_format.specs.declared.rec_head.RecordKind.TheVariants as kind
 use Rattle.fee_image.specs.RecordList.{pages_of_head}
 use Rattle.fee_image.specs.declared.place.Place.{Place}
 use Rattle.fee_image.specs.declared.place.Place.TheVariants.{Content}
-use Rattle.fee_image.specs.Places.{place_at, noted}
+use Rattle.fee_image.specs.Places.{place_of_kind, place_at, noted}
 use Rattle.fee_image.specs.Step.{is_last}
 use Rattle.fee_log.specs.declared.tail.Tail.{Tail}
 use Rattle.fee_log.specs.declared.tail.Tail.TheVariants.{Open, Writes, Owes, Closed}
 use Rattle.fee_log.specs.Index.{with_flag}
-use Rattle.fee_log.specs.Log.{LogState, IsFor, work_in, free_in, free_behind, pages_in, tail_begun, begun}
+use Rattle.fee_log.specs.Log.{LogState, IsLengthFor, IsFor, work_in, free_in, free_behind, pages_in, tail_begun, begun}
 use Rattle.fee_log.specs.Step.{after_step, given_up}
 use Rattle.fee_course.specs.declared.course.Copying.{Copying}
 use Rattle.fee_course.specs.declared.course.Course.{Course}
@@ -42,18 +44,18 @@ record IsStepped (c : LogState) (answer : FlashAnswer) : Type 0 where
   places : List Place
   is : after_step c answer ≡ record c { end = end; tail = tail; places = places }
   free : free_in (record c { end = end; tail = tail; places = places }) ≤ free_in c
-  work : IfSome (work_in tail) (λ h. h.kind ≡ 1)
+  work : IfSome (work_in tail) (λ h. h.kind ≡ kind.Content)
   left : (flags : List Bool) → is_some (next_copy c.numbers c.places flags) ≡ true → is_some (next_copy c.numbers places flags) ≡ true
 
 -- a log that is stepped to this one
 stepped : (c : LogState) (answer : FlashAnswer) (tail : Tail) (end : ℕ) (next : Tail) → after_step (record c { tail = tail }) answer ≡ record c { end = end; tail = next }
-    → free_in (record c { end = end; tail = next }) ≤ free_in (record c { tail = tail }) → IfSome (work_in next) (λ h. h.kind ≡ 1) → IsStepped (record c { tail = tail }) answer
+    → free_in (record c { end = end; tail = next }) ≤ free_in (record c { tail = tail }) → IfSome (work_in next) (λ h. h.kind ≡ kind.Content) → IsStepped (record c { tail = tail }) answer
 stepped c answer tail end next is free work = record { end = end; tail = next; places = c.places; is = is; free = free; work = work; left = λ flags l. l }
 
-pub content_at : (at : ℕ) (h : RecHead) → h.kind ≡ 1 → place_at at h ≡ Content at h.count
-content_at at h content = rw (eq-eqb h.kind 1 content) refl
+pub content_at : (at : ℕ) (h : RecHead) → h.kind ≡ kind.Content → place_at at h ≡ Content at h.count
+content_at at h content = ap (λ (k : RecordKind). place_of_kind k at h.count) content
 
-writes_done : (c : LogState) (h : RecHead) (done : ℕ) (b : Bool) → is_last c.geometry.page h done ≡ b → h.kind ≡ 1 → IsStepped (record c { tail = Writes h done }) Done
+writes_done : (c : LogState) (h : RecHead) (done : ℕ) (b : Bool) → is_last c.geometry.page h done ≡ b → h.kind ≡ kind.Content → IsStepped (record c { tail = Writes h done }) Done
 writes_done c h done true last content = record {
   end = c.end + pages_of_head c.geometry.page h;
   tail = Open;
@@ -69,7 +71,7 @@ writes_failed : (c : LogState) (h : RecHead) (done : ℕ) (b : Bool) → nat_lt 
 writes_failed c h done true early = stepped c Failed (Writes h done) c.end Closed (rw early refl) (omega arith) tt
 writes_failed c h done false early = stepped c Failed (Writes h done) (c.end + pages_of_head c.geometry.page h) Open (rw early refl) (omega arith) tt
 
-step_of : (c : LogState) (tail : Tail) (answer : FlashAnswer) → IfSome (work_in tail) (λ h. h.kind ≡ 1) → IsStepped (record c { tail = tail }) answer
+step_of : (c : LogState) (tail : Tail) (answer : FlashAnswer) → IfSome (work_in tail) (λ h. h.kind ≡ kind.Content) → IsStepped (record c { tail = tail }) answer
 step_of c tail Off work = stepped c Off tail c.end tail refl (omega arith) work
 step_of c Open Done work = stepped c Done Open c.end Open refl (omega arith) tt
 step_of c (Writes h done) Done work = writes_done c h done (is_last c.geometry.page h done) refl work
@@ -108,7 +110,7 @@ module _ (reserve : ℕ) (s : BanksState) (end : ℕ) (tail : Tail) (places : Li
   page_roomy course r free going target work = record { going = going; worn = r.worn; target = target; work = work; few = omega (arith, r.few, free); room = omega (arith, r.room, free) }
 
   page_keeps : (course : Course) → IsRoomy reserve s course → free_pages after ≤ free_pages s → StaysLeft → IsSome (work_in s.log.tail)
-      → IfSome (work_in tail) (λ h. h.kind ≡ 1) → IsRoomy reserve after course
+      → IfSome (work_in tail) (λ h. h.kind ≡ kind.Content) → IsRoomy reserve after course
   page_keeps (Erase n) r free left some work =
       page_roomy (Erase n) r free (record { short = r.going.short; fitting = tt; few = tt }) (record { copies = r.target.copies; clear = r.target.clear }) work
   page_keeps (Copy None) r free left some work =
@@ -126,7 +128,7 @@ module _ (reserve : ℕ) (s : BanksState) (end : ℕ) (tail : Tail) (places : Li
   page_keeps (Gate failed) r free left some work = absurd (none_in_work (work_in s.log.tail) some r.work)
 
 -- in a switch a record in work is a content
-is_content : (course : Course) (o : Option RecHead) → IfSome o (λ h. TakesRecord h.kind (Some course)) → IfSome o (λ h. h.kind ≡ 1)
+is_content : (course : Course) (o : Option RecHead) → IfSome o (λ h. TakesRecord h.kind (Some course)) → IfSome o (λ h. h.kind ≡ kind.Content)
 is_content course None takes = tt
 is_content (Erase n) (Some h) takes = takes
 is_content (Copy w) (Some h) takes = takes
@@ -196,16 +198,12 @@ free_after s h is idle room = split (is_some s.active) room
     split false fits = absurd (omega (arith, fits))
 
 -- a content of a configured number has its length
-content_length : (ns : List (DeviceNumber × ℕ)) (h : RecHead) (for : IsFor ns h) → h.kind ≡ 1 → h.length ≡ for.length
-content_length ns h for content = elim for.kind as (λ _. h.length ≡ for.length) [
-  | inl is ↦ is.1
-  | inr (inl two, empty) ↦ absurd (omega (arith, content, two))
-  | inr (inr three, empty) ↦ absurd (omega (arith, content, three))
-]
+content_length : (ns : List (DeviceNumber × ℕ)) (h : RecHead) (for : IsFor ns h) → h.kind ≡ kind.Content → h.length ≡ for.length
+content_length ns h for content = subst (λ (k : RecordKind). IsLengthFor k h.length for.length) content for.kind
 
 module _ (reserve : ℕ) (s : BanksState) (h : RecHead) (is : IsBanksState s) (space : HasSpace s.log.numbers s.geometry s.banks reserve)
     (idle : work_in s.log.tail ≡ None) (for : IsFor s.log.numbers h) (room : record_pages_of h.length s.geometry.page ≤ free_pages s)
-    (content : h.kind ≡ 1) (i : ℕ) (named : slice_get s.log.numbers i ≡ Some (record { 0 = h.number }, for.length)) where
+    (content : h.kind ≡ kind.Content) (i : ℕ) (named : slice_get s.log.numbers i ≡ Some (record { 0 = h.number }, for.length)) where
   abbrev page : ℕ
   page = s.geometry.page
 
@@ -297,11 +295,11 @@ module _ (reserve : ℕ) (s : BanksState) (h : RecHead) (is : IsBanksState s) (s
   begins_at (Gate failed) r takes = absurd takes
 
 -- the kind that an open switch takes
-takes_content : (course : Course) (kind : ℕ) → TakesRecord kind (Some course) → kind ≡ 1
-takes_content (Erase n) kind takes = takes
-takes_content (Copy w) kind takes = takes
-takes_content Head kind takes = absurd takes
-takes_content (Gate failed) kind takes = absurd takes
+takes_content : (course : Course) (k : RecordKind) → TakesRecord k (Some course) → k ≡ kind.Content
+takes_content (Erase n) k takes = takes
+takes_content (Copy w) k takes = takes
+takes_content Head k takes = absurd takes
+takes_content (Gate failed) k takes = absurd takes
 
 pub records_keep_room : RecordsKeepRoom
 records_keep_room reserve s h is keeps idle takes for room = record { space = keeps.space; switch = at s.course keeps.switch takes }

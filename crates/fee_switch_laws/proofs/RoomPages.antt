@@ -1,5 +1,5 @@
 -- Pages of numbers, and their flags.
-use Rattle.std.proofs.Common.{◌≡◌, ◌≤◌, ◌+◌, ◌-◌, ◌*◌, ◌/◌, ℕ, zero, suc, inl, inr, Bool, true, false, List, [], ◌∷◌, length, set, Some, refl, ap, ◌∙◌, subst, arith}
+use Rattle.std.proofs.Common.{◌≡◌, ◌≤◌, ◌+◌, ◌-◌, ◌*◌, ◌/◌, ℕ, zero, suc, Bool, true, false, List, [], ◌∷◌, length, set, Some, refl, ap, ◌∙◌, subst, arith}
 use Rattle.std.specs.Prelude.{◌==◌, if◌then◌else◌, slice_get}
 use Rattle.std.proofs.lemmas.Bool.{eq-eqb, ne_eqb}
 use Rattle.std.proofs.lemmas.Nat.{div-mul-add}
@@ -9,8 +9,10 @@ use Rattle.nv_base.specs.Lengths.{AreLengths}
 use Rattle.nv_base.specs.Pages.{record_pages_of}
 use Rattle.nv_base.proofs.Places.{numbers_are_in_bounds}
 use Rattle.fee_format.specs.declared.rec_head.RecHead.{RecHead}
+use Rattle.fee_format.specs.declared.rec_head.RecordKind.{RecordKind}
+use Rattle.fee_format.specs.declared.rec_head.RecordKind.TheVariants as kind
 use Rattle.fee_log.specs.Index.{with_flag, clear_flags}
-use Rattle.fee_log.specs.Log.{IsFor}
+use Rattle.fee_log.specs.Log.{IsLengthFor, IsFor}
 use Rattle.fee_course.specs.Copies.{greatest}
 use Rattle.fee_switch_laws.specs.Space.{all_pages}
 use Rattle.fee_switch_laws.specs.KeepsRoom.{uncopied_pages}
@@ -73,12 +75,15 @@ at_number ns h for =
     record { index = for.configured.0; is = slice_get-get_or ns for.configured.0 x for.configured.1 ∙ ap Some for.configured.2 }
 
 pub record_pages : (p : ℕ) (ns : List (DeviceNumber × ℕ)) (h : RecHead) (for : IsFor ns h) → 16 ≤ p → record_pages_of h.length p ≤ record_pages_of for.length p
-record_pages p ns h for low = elim for.kind as (λ _. record_pages_of h.length p ≤ record_pages_of for.length p) [
-  | inl content ↦ let e : record_pages_of h.length p ≡ record_pages_of for.length p = ap (λ (n : ℕ). record_pages_of n p) content.1 in omega (arith, e)
-  | inr mark ↦
-      let e : record_pages_of h.length p ≡ record_pages_of 0 p = ap (λ (n : ℕ). record_pages_of n p) mark.1 in
-      omega (arith, e, mark_pages p for.length low)
-]
+record_pages p ns h for low = few h.kind h.length for.kind
+  where
+    none : (got : ℕ) → got ≡ 0 → record_pages_of got p ≤ record_pages_of for.length p
+    none got is = let e : record_pages_of got p ≡ record_pages_of 0 p = ap (λ (n : ℕ). record_pages_of n p) is in omega (arith, e, mark_pages p for.length low)
+
+    few : (k : RecordKind) (got : ℕ) → IsLengthFor k got for.length → record_pages_of got p ≤ record_pages_of for.length p
+    few kind.Content got is = let e : record_pages_of got p ≡ record_pages_of for.length p = ap (λ (n : ℕ). record_pages_of n p) is in omega (arith, e)
+    few kind.Invalid got is = none got is
+    few kind.Erased got is = none got is
 
 pub few_pages : (p : ℕ) (ns : List (DeviceNumber × ℕ)) (h : RecHead) → IsFor ns h → 16 ≤ p → record_pages_of h.length p ≤ greatest p ns
 few_pages p ns h for low =

@@ -1,5 +1,5 @@
 -- What the next step of a switch asks for.
-use Rattle.std.proofs.Common.{◌≡◌, ◌<◌, ◌≤◌, ◌+◌, ◌-◌, ◌*◌, ◌/◌, ℕ, zero, suc, inl, inr, true, List, [], ◌∷◌, length, Option, Some, None, refl, sym, ap, ◌∙◌, subst, arith}
+use Rattle.std.proofs.Common.{◌≡◌, ◌<◌, ◌≤◌, ◌+◌, ◌-◌, ◌*◌, ◌/◌, ℕ, zero, suc, true, List, [], ◌∷◌, length, Option, Some, None, refl, sym, ap, ◌∙◌, subst, arith}
 use Rattle.std.specs.Prelude.{◌^◌, slice_get, is_some, IfSome}
 use Rattle.std.proofs.lemmas.Option.{slice_get_within, get_or_from_slice_get}
 use Rattle.std.proofs.Math.Nat.{div-add-mod, mul_comm, mul-le-mul_right}
@@ -68,13 +68,13 @@ index_within p end (m ∷ ns) (place ∷ places) (suc i) n x within is at = inde
 for_number : (ns : List (DeviceNumber × ℕ)) (i length' : ℕ) (number : DeviceNumber) (place : Place) → slice_get ns i ≡ Some (number, length') → count_at place < 2 ^ 32
     → IsFor ns (head_at place number.0 length')
 for_number ns i length' number (Content at count) is few =
-    record { length = length'; configured = (i, slice_get_within ns i (number, length') is, get_or_from_slice_get ns i (number, length') (number, length') is); kind = inl (refl, refl); count = few }
+    record { length = length'; configured = (i, slice_get_within ns i (number, length') is, get_or_from_slice_get ns i (number, length') (number, length') is); kind = refl; count = few }
 for_number ns i length' number (Invalid count) is few =
-    record { length = length'; configured = (i, slice_get_within ns i (number, length') is, get_or_from_slice_get ns i (number, length') (number, length') is); kind = inr (inl refl, refl); count = few }
+    record { length = length'; configured = (i, slice_get_within ns i (number, length') is, get_or_from_slice_get ns i (number, length') (number, length') is); kind = refl; count = few }
 for_number ns i length' number (Erased count) is few =
-    record { length = length'; configured = (i, slice_get_within ns i (number, length') is, get_or_from_slice_get ns i (number, length') (number, length') is); kind = inr (inr refl, refl); count = few }
+    record { length = length'; configured = (i, slice_get_within ns i (number, length') is, get_or_from_slice_get ns i (number, length') (number, length') is); kind = refl; count = few }
 for_number ns i length' number Unwritten is few =
-    record { length = length'; configured = (i, slice_get_within ns i (number, length') is, get_or_from_slice_get ns i (number, length') (number, length') is); kind = inr (inr refl, refl); count = few }
+    record { length = length'; configured = (i, slice_get_within ns i (number, length') is, get_or_from_slice_get ns i (number, length') (number, length') is); kind = refl; count = few }
 
 counted_at : (places : List Place) (i : ℕ) (place : Place) → AreCounted places → slice_get places i ≡ Some place → count_at place < 2 ^ 32
 counted_at [] i place all is = cc

@@ -6,16 +6,16 @@ ghost use Rattle.fee_view.specs.View.{own_bank};
 ghost use Rattle.fee_view.specs.Record.{rec_seen, rec_shown};
 
 use crate::page::page_of;
-use fee_format::{RecHead, gate_stands, pages_of, read_rec_head};
+use fee_format::{RecHead, RecordKind, gate_stands, pages_of, read_rec_head};
 
-/// A record as its bank shows it: the page of the bank where its header stands, its number and kind (1 a content, 2 an
-/// invalidated instance, 3 an erased one), its count (0 in format 1), whether it is one of the bank's list, which each item
-/// of it is, whether its commit gate stands open, and its content, a slice of the bank.
+/// A record as its bank shows it: the page of the bank where its header stands, its number and kind, its
+/// count (0 in format 1), whether it is one of the bank's list, which each item of it is, whether its commit gate stands
+/// open, and its content, a slice of the bank.
 #[derive(Clone, Copy)]
 pub struct Record<'a> {
     pub at: u32,
     pub number: u16,
-    pub kind: u8,
+    pub kind: RecordKind,
     pub count: u32,
     pub trusted: bool,
     pub committed: bool,

@@ -51,14 +51,7 @@ pub record IsCallOf (j : FlsJob) (s : Told) (into : List ℕ) (r : Option FlsRes
   pub result_is : r ≡ result_after answer done
 
 -- ONE CALL ALONE
--- a job of one call: a read, a write, or the erase of one sector
-abbrev pub IsOneCall : Option FlsJob → Type 0
-IsOneCall (Some (Read a n)) = Unit {0}
-IsOneCall (Some (Write a page)) = Unit {0}
-IsOneCall (Some (Erase k n)) = n ≡ 1
-IsOneCall _ = ⊥
-
--- what the job came to that was closed behind it
+-- what the driver comes to by its answer, without a job
 abbrev pub closed_as : FlashAnswer → FlsResult
 closed_as Done = JobOk
 closed_as Failed = JobFailed

@@ -25,11 +25,11 @@ use std::marker::Model;
 /// A flash driver that does one job at a time (SWS Flash Driver). It takes no memory but in `attach`.
 #[derive(Drop)]
 pub struct Fls<F: Flash> {
-    flash: F,
+    pub(crate) flash: F,
     geometry: Geometry,
     attached: bool,
     job: Option<FlsJob>,
-    result: FlsResult,
+    pub(crate) result: FlsResult,
 }
 
 impl<F: Flash> Model for Fls<F> {

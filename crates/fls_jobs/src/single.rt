@@ -1,41 +1,27 @@
-// Single calls of the flash: a job that is started, turned once and closed.
-ghost use Rattle.std.specs.Prelude.{◌≡◌, ◌<◌, ◌≤◌, length, None, IfSome};
+// Single calls of the flash, which open no job.
+ghost use Rattle.std.specs.Prelude.{◌≡◌, ◌<◌, ◌≤◌, length};
 ghost use Rattle.fls_model.specs.Told.{HasRange, HasPage, HasSector};
 ghost use Rattle.fls_model.specs.Read.{IsRead};
 ghost use Rattle.fls_model.specs.Step.{IsStep, programs, erases};
-ghost use Rattle.fls_jobs.specs.CallOf.{IsOneCall, Makes, closed_as};
+ghost use Rattle.fls_jobs.specs.CallOf.{closed_as};
 ghost use Rattle.fls_jobs.specs.Start.{IsIdle};
 ghost use Rattle.fls_jobs.specs.State.{IsDriverState};
-ghost use Rattle.fls_jobs.specs.Turn.{TakesInto};
 
-use crate::{Fls, FlsResult, FlsTurn};
+use crate::{Fls, FlsResult};
 use fls_model::{Flash, FlashAnswer};
 
-impl<F: Flash> Fls<F> {
-    // Makes the one turn of a job of one call, and leaves no job open.
-    fn turn_once(&mut self, into: &mut [u8]) -> FlashAnswer
-        requires one { IsOneCall self.old.job }
-        requires into { TakesInto self.old.job (length into.old) }
-        ensures after { IsDriverState self.new }
-        ensures call { IfSome self.old.job (λ j. Makes j self.old.flash into.old result FlsResult.JobOk into.new self.new.flash) }
-        ensures same { self.new ≡ record self.old { flash = self.new.flash; job = None; result = closed_as result } }
-    {
-        match self.turn(into) {
-            FlsTurn::Worked => {
-                self.tell_state();
-                match self.result() {
-                    FlsResult::JobFailed => FlashAnswer::Failed,
-                    _ => FlashAnswer::Done,
-                }
-            }
-            FlsTurn::Off | FlsTurn::Idle => {
-                self.cancel();
-                self.tell_state();
-                FlashAnswer::Off
-            }
-        }
+// What a driver comes to by a single call.
+fn closed_as(answer: FlashAnswer) -> FlsResult
+    ensures { result ≡ closed_as answer }
+{
+    match answer {
+        FlashAnswer::Done => FlsResult::JobOk,
+        FlashAnswer::Failed => FlsResult::JobFailed,
+        FlashAnswer::Off => FlsResult::JobCanceled,
     }
+}
 
+impl<F: Flash> Fls<F> {
     /// Programs a page by one call of the flash, and leaves no job open.
     pub fn program_page(&mut self, address: u32, page: &[u8]) -> FlashAnswer
         requires idle { IsIdle self.old }
@@ -46,10 +32,9 @@ impl<F: Flash> Fls<F> {
         ensures after { IsDriverState self.new }
     {
         self.tell_state();
-        match self.start_write(address, page) {
-            Ok(()) => self.turn_once(&mut []),
-            Err(_) => unreachable!(),
-        }
+        let answer = self.flash.program(address, page);
+        self.result = closed_as(answer);
+        answer
     }
 
     /// Erases a sector, by its number, by one call of the flash, and leaves no job open.
@@ -62,10 +47,9 @@ impl<F: Flash> Fls<F> {
         ensures after { IsDriverState self.new }
     {
         self.tell_state();
-        match self.start_erase(sector, 1) {
-            Ok(()) => self.turn_once(&mut []),
-            Err(_) => unreachable!(),
-        }
+        let answer = self.flash.erase(sector);
+        self.result = closed_as(answer);
+        answer
     }
 
     /// Reads 1 to 65,536 bytes by one call of the flash, and leaves no job open.
@@ -80,9 +64,8 @@ impl<F: Flash> Fls<F> {
         ensures after { IsDriverState self.new }
     {
         self.tell_state();
-        match self.start_read(address, into.len() as u32) {
-            Ok(()) => self.turn_once(into),
-            Err(_) => unreachable!(),
-        }
+        let answer = self.flash.read(address, into);
+        self.result = closed_as(answer);
+        answer
     }
 }

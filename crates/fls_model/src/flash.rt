@@ -8,6 +8,7 @@ ghost use Rattle.fls_model.specs.Attach.{IsAttach};
 
 use nv_base::Geometry;
 use std::alloc::Global;
+use thiserror::Error;
 
 /// The answer of a flash call: done, failed by a counted fault, or not done as the power is off.
 #[derive(Clone, Copy, PartialEq, Eq)]
@@ -19,10 +20,13 @@ pub enum FlashAnswer {
 
 /// Why a flash couldn't be attached: a counted fault, a size in bytes that is neither 0 nor the geometry's, or want
 /// of memory.
-#[derive(Clone, Copy)]
+#[derive(Clone, Copy, Debug, Error)]
 pub enum AttachFault {
+    #[error("the flash counted a fault while it was attached")]
     Failed,
+    #[error("the flash has {found} bytes in place of the geometry's sector times sectors")]
     WrongSize { found: u64 },
+    #[error("there is no memory to attach the flash")]
     Memory,
 }
 

@@ -1,12 +1,11 @@
 // A flash in memory.
 ghost use Rattle.std.specs.Prelude.{◌≡◌, ◌≢◌, ◌≤◌, ◌<◌, ◌+◌, Some, IfOk, IfSome, OnOk, OnErr, length, slice_set};
+ghost use Rattle.nv_base.specs.Count.{next_count};
 ghost use Rattle.nv_base.specs.Geometry.{IsLegal, size_of};
 ghost use Rattle.fls_model.specs.Told.{bytes_now, armed, powered, HasRange, HasPage, HasSector};
-ghost use Rattle.fls_model.specs.Op.{after_op, MayLeave};
 ghost use Rattle.fls_model.specs.Step.{IsStep, programs, erases};
 ghost use Rattle.fls_model.specs.Read.{IsRead};
 ghost use Rattle.fls_model.specs.Attach.{IsAttach, IsAttached, HasSize, enlarged};
-ghost use Rattle.fls_model.specs.Call.{op_of, IsCall, IsInside};
 ghost use Rattle.fls_model.specs.Memory.{in_memory, IsAskedOnce, IsBegun};
 
 use crate::call::{Call, program_call};
@@ -90,32 +89,17 @@ fn enlarge(bytes: &mut Vec<u8>, size: usize) -> Result<(), AllocError>
     Ok(())
 }
 
-fn apply(bytes: &mut Vec<u8>, geometry: Geometry, call: &Call)
-    requires call { IsCall call.now }
-    requires inside { IsInside (op_of geometry call.now) (length bytes.old.items) }
-    ensures done { bytes.new.items ≡ after_op (op_of geometry call.now) bytes.old.items }
-    ensures within { MayLeave (op_of geometry call.now) bytes.old.items bytes.new.items }
-    ensures size { length bytes.new.items ≡ length bytes.old.items }
+// Counts an operation that is asked for, and keeps its call where there is room.
+fn note(calls: &mut Vec<Call>, asked: &mut u64, ops: &mut u64, call: Call)
+    ensures calls { calls.new.items ≡ slice_set calls.old.items asked.old call }
+    ensures asked { asked.new ≡ next_count asked.old }
+    ensures ops { ops.new ≡ next_count ops.old }
 {
-    match call {
-        Call::Page {
-            address,
-            length,
-            page,
-        } => program_range(bytes, *address as usize, &page[..*length as usize]),
-        Call::Sector { sector } => {
-            let length = geometry.sector as usize;
-            erase_range(bytes, *sector as usize * length, length)
-        }
+    if *asked < calls.len() as u64 {
+        calls[*asked as usize] = call;
     }
-}
-
-fn note(calls: &mut Vec<Call>, at: u64, call: Call)
-    ensures { calls.new.items ≡ slice_set calls.old.items at call }
-{
-    if at < calls.len() as u64 {
-        calls[at as usize] = call;
-    }
+    *asked = asked.saturating_add(1);
+    *ops = ops.saturating_add(1);
 }
 
 impl MemFlash {
@@ -148,20 +132,6 @@ impl MemFlash {
         self.calls = calls;
         self.asked = 0;
         Ok(())
-    }
-
-    // Makes a change and keeps its call.
-    fn change(&mut self, call: Call)
-        requires attached { 0 < self.old.told.geometry.page }
-        requires call { IsCall call }
-        requires inside { IsInside (op_of self.old.told.geometry call) (size_of self.old.told.geometry) }
-        ensures step { IsStep (op_of self.old.told.geometry call) self.old.told FlashAnswer.Done self.new.told }
-        ensures asked { IsAskedOnce self.old self.new }
-    {
-        apply(&mut self.bytes, self.geometry, &call);
-        note(&mut self.calls, self.asked, call);
-        self.asked = self.asked.saturating_add(1);
-        self.ops = self.ops.saturating_add(1);
     }
 }
 
@@ -218,8 +188,9 @@ impl Flash for MemFlash {
         ensures done { result ≡ FlashAnswer.Done }
         ensures asked { IsAskedOnce self.old self.new }
     {
-        let _geometry = self.geometry;
-        self.change(program_call(address, page));
+        program_range(&mut self.bytes, address as usize, page);
+        let call = program_call(address, page);
+        note(&mut self.calls, &mut self.asked, &mut self.ops, call);
         FlashAnswer::Done
     }
 
@@ -229,8 +200,10 @@ impl Flash for MemFlash {
         ensures done { result ≡ FlashAnswer.Done }
         ensures asked { IsAskedOnce self.old self.new }
     {
-        let _geometry = self.geometry;
-        self.change(Call::Sector { sector });
+        let length = self.geometry.sector as usize;
+        erase_range(&mut self.bytes, sector as usize * length, length);
+        let call = Call::Sector { sector };
+        note(&mut self.calls, &mut self.asked, &mut self.ops, call);
         FlashAnswer::Done
     }
 }

@@ -2,7 +2,7 @@
 use Rattle.std.specs.Option.{option_or}
 use Rattle.block_machine.specs.State.{Job as MachineJob}
 use Rattle.block_machine.specs.Blocks.{asked_content}
-use Rattle.job_pending.specs.Took.{staged_of, taken_last}
+use Rattle.job_pending.specs.Take.{staged_of, taken_last}
 use Rattle.job_pending.specs.declared.job.Job.TheInside.{Inside}
 
 -- its content is the one that it took, or else the one that its request brought

@@ -1,4 +1,4 @@
-pub mod Took
+pub mod Take
 pub mod Written
 pub mod Job
 pub mod Slots

@@ -4,12 +4,13 @@ ghost use Rattle.std.specs.Option.{option_map_or};
 ghost use Rattle.block_machine.specs.Blocks.{asked_content, job_block, kind_of, is_in};
 ghost use Rattle.block_machine.specs.Sweeps.{member_request};
 ghost use Rattle.block_machine.specs.Steps.{picked_job};
-ghost use Rattle.job_pending.specs.Took.{taken_with, taken_last};
+ghost use Rattle.block_machine.specs.Results.{took_none};
+ghost use Rattle.job_pending.specs.Take.{taken_with, taken_last};
 
 use crate::request::{asked_block, job_kind};
 use crate::written::Written;
-use crate::{LastPick, Staged, Took};
-use block_machine::nv_base::{JobKind, Request};
+use crate::{Staged, Take};
+use block_machine::nv_base::{Bytes, JobKind, Request};
 use std::marker::Model;
 
 /// A job on one block, from its acceptance, or as a member of a request on all blocks from its Pick, to its Post. Contracts
@@ -21,7 +22,7 @@ pub struct Job {
     member: bool,
     staged: Option<Staged>,
     reserved: u32,
-    last: LastPick,
+    last: Option<Take>,
     written: Written,
 }
 
@@ -46,7 +47,7 @@ impl Job {
             member: false,
             staged: None,
             reserved,
-            last: LastPick::Never,
+            last: None,
             written: Written::none(),
         }
     }
@@ -62,7 +63,7 @@ impl Job {
             member: true,
             staged: None,
             reserved,
-            last: LastPick::Never,
+            last: None,
             written: Written::none(),
         }
     }
@@ -135,8 +136,8 @@ impl Job {
         self.reserved
     }
 
-    /// What its last Pick took.
-    pub fn last_pick(&self) -> LastPick
+    /// What its last Pick took, if it was picked.
+    pub fn last_pick(&self) -> Option<Take>
         ensures { taken_last self.now.content result ≡ self.now.taken }
     {
         self.last
@@ -146,7 +147,17 @@ impl Job {
     pub fn was_picked(&self) -> bool
         ensures { result ≡ is_some self.now.taken }
     {
-        !matches!(self.last, LastPick::Never)
+        self.last.is_some()
+    }
+
+    /// Whether its last Pick got no content to write: each copy was refused, or too old.
+    pub fn took_none(&self) -> bool
+        ensures { result ≡ took_none self.now.taken }
+    {
+        matches!(
+            self.last,
+            Some(Take::Refused { .. }) | Some(Take::Stale { .. })
+        )
     }
 
     /// How many instances it wrote since its last Pick.
@@ -163,15 +174,16 @@ impl Job {
         self.written.contains(index)
     }
 
-    /// It is picked, uses one of its entries and hands on so many more.
-    pub fn pick(&mut self, took: Took, handed_on: u32)
-        ensures { self.new ≡ picked_job (taken_with self.old.content took) handed_on self.old }
+    /// It is picked with this, and the copy of what it takes, if one was made; it uses one of its entries and hands on so many
+    /// more.
+    pub fn pick(&mut self, take: Take, copy: Option<Bytes>, handed_on: u32)
+        ensures { self.new ≡ picked_job (taken_with self.old.content (take, copy)) handed_on self.old }
     {
         self.reserved = self.reserved.saturating_sub(1).saturating_sub(handed_on);
         self.written = Written::none();
-        self.last = took.kind();
-        if let Took::Copied(staged) = took {
-            self.staged = Some(staged);
+        self.last = Some(take);
+        if let (Take::Copied { store }, Some(bytes)) = (take, copy) {
+            self.staged = Some(Staged { bytes, store });
         }
     }
 

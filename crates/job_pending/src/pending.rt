@@ -7,7 +7,7 @@ ghost use Rattle.block_machine.specs.Next.{next_in};
 ghost use Rattle.block_machine.specs.Steps.{without_job, picked_job, interrupted};
 ghost use Rattle.block_machine.specs.Reply.{is_queue_full};
 ghost use Rattle.block_machine.specs.Legal.{MayInterrupt};
-ghost use Rattle.job_pending.specs.Took.{taken_with};
+ghost use Rattle.job_pending.specs.Take.{taken_with};
 ghost use Rattle.job_pending.specs.Slots.{slot};
 ghost use Rattle.job_pending.specs.Unpicked.{unpicked_in};
 ghost use Rattle.job_pending.specs.Pending.{Agree, IsNew, IsTakenOut, reserved_in};
@@ -16,8 +16,9 @@ use crate::interrupt::may_interrupt;
 use crate::slots::Slots;
 use crate::unpicked::Unpicked;
 use crate::waiting::{is_immediate, waiting_of};
-use crate::{Job, Took};
+use crate::{Job, Take};
 use block_machine::block_config::Config;
+use block_machine::nv_base::Bytes;
 use job_queues::Queues;
 use std::alloc::{AllocError, Global};
 use std::marker::Model;
@@ -128,29 +129,29 @@ impl PendingJobs {
         self.slots.put(waiting.block, job);
     }
 
-    /// The next job comes in hand with what its Pick takes. One that is in hand is interrupted: it waits again, and gets two
+    /// The next job comes in hand with what its Pick takes, and the copy of that, if one was made. One that is in hand is interrupted: it waits again, and gets two
     /// of its entries. It does nothing where no job waits.
-    pub fn pick(&mut self, config: &Config, took: Took)
+    pub fn pick(&mut self, config: &Config, take: Take, copy: Option<Bytes>)
         requires reserved { IfSome self.old.hand (λ h. self.old.reserved + h.reserved + 2 < 2 ^ 32) }
         ensures places { length self.new.slots ≡ length self.old.slots }
-        ensures agrees { (waiting : List MachineJob) (held : Option MachineJob) (j : MachineJob) → Agree config.now self.old waiting held → next_in config.now waiting ≡ Some j → Agree config.now self.new (interrupted held (without_job j.number waiting)) (Some (picked_job (taken_with j.content took) (if is_some held then 2 else 0) j)) }
+        ensures agrees { (waiting : List MachineJob) (held : Option MachineJob) (j : MachineJob) → Agree config.now self.old waiting held → next_in config.now waiting ≡ Some j → Agree config.now self.new (interrupted held (without_job j.number waiting)) (Some (picked_job (taken_with j.content (take, copy)) (if is_some held then 2 else 0) j)) }
     {
         let Some(mut job) = self.take_out() else {
             return;
         };
         let handed_on = self.put_back(config);
-        job.pick(took, handed_on);
+        job.pick(take, copy, handed_on);
         self.hold(job);
     }
 
     /// A member of a request on all blocks comes in hand with what its Pick takes, where no job is pending.
-    pub fn pick_member(&mut self, job: Job, took: Took)
+    pub fn pick_member(&mut self, job: Job, take: Take, copy: Option<Bytes>)
         requires { job_block job < length self.old.slots }
         ensures places { length self.new.slots ≡ length self.old.slots }
-        ensures agrees { (c : Configuration) → Agree c self.old [] None → Agree c self.new [] (Some (picked_job (taken_with job.content took) 0 job)) }
+        ensures agrees { (c : Configuration) → Agree c self.old [] None → Agree c self.new [] (Some (picked_job (taken_with job.content (take, copy)) 0 job)) }
     {
         let mut job = job;
-        job.pick(took, 0);
+        job.pick(take, copy, 0);
         self.hold(job);
     }
 

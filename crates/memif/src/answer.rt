@@ -2,13 +2,19 @@
 ghost use Rattle.std.specs.Prelude.{◌≡◌};
 ghost use Rattle.memif.specs.Refusal.{number_of_refusal};
 
+use thiserror::Error;
+
 /// Why a job wasn't taken, numbered 1 to 4 in the order of the tests: a job is open, no start-up answered Ok last,
 /// the number isn't configured, the length isn't the number's.
-#[derive(Clone, Copy)]
+#[derive(Clone, Copy, Debug, Error)]
 pub enum DeviceRefusal {
+    #[error("the device has an open job: make turns until it ends, or cancel it")]
     Busy,
+    #[error("the device isn't started: its last start-up has to answer Ok")]
     Uninit,
+    #[error("the number isn't one of those that the device was made for")]
     BadNumber,
+    #[error("the length isn't the one that the device was made for at this number")]
     BadLength,
 }
 
@@ -43,8 +49,9 @@ pub enum DeviceTurn {
 }
 
 /// Why a start-up didn't come to its end: a counted fault.
-#[derive(Clone, Copy)]
+#[derive(Clone, Copy, Debug, Error)]
 pub enum StartFault {
+    #[error("the device counted a fault, so its start-up didn't come to its end")]
     Fault,
 }
 

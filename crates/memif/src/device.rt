@@ -65,9 +65,10 @@ pub trait MemDevice {
     fn mark_kind(&self, number: DeviceNumber) -> Option<PlainMark>
         ensures { IsKind (told self.now) number.0 result };
 
-    /// What the device is at.
+    /// What the device is at. It costs the same whatever is open.
     fn status(&self) -> MemStatus
-        ensures { result ≡ status_of (told self.now) };
+        ensures status { result ≡ status_of (told self.now) }
+        ensures order { InOrder (told self.now) (clock self.now) };
 
     /// What the last job came to, `JobPending` exactly while one is open.
     fn result(&self) -> JobResult
@@ -84,8 +85,7 @@ pub trait MemDevice {
 
     /// The turns that the open work takes at most, where no fault comes.
     fn left(&self) -> u64
-        ensures left { result ≡ (told self.now).left }
-        ensures order { InOrder (told self.now) (clock self.now) };
+        ensures { result ≡ (told self.now).left };
 
     /// By how much a start of an operation on a number raises `left` at most.
     fn most(&self, number: DeviceNumber, op: DeviceOp) -> u64

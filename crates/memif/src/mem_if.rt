@@ -167,7 +167,7 @@ impl<A: MemDevice, B: MemDevice> MemIf<A, B> {
     /// What the device is at.
     pub fn status(&self, device: u8) -> MemStatus
         requires { device < 2 }
-        ensures { OfDevice device (λ d c. result ≡ status_of d) A.told A.clock B.told B.clock self.now }
+        ensures { OfDevice device (λ d c. (result ≡ status_of d) × InOrder d c) A.told A.clock B.told B.clock self.now }
     {
         match device {
             0 => self.first.status(),
@@ -211,7 +211,7 @@ impl<A: MemDevice, B: MemDevice> MemIf<A, B> {
     /// The turns that the device's open work takes at most, where no fault comes.
     pub fn left(&self, device: u8) -> u64
         requires { device < 2 }
-        ensures { OfDevice device (λ d c. (result ≡ d.left) × InOrder d c) A.told A.clock B.told B.clock self.now }
+        ensures { OfDevice device (λ d c. result ≡ d.left) A.told A.clock B.told B.clock self.now }
     {
         match device {
             0 => self.first.left(),

@@ -229,6 +229,7 @@ impl MemDevice for PlainStore {
         }
     }
 
+    #[tactic(auto, using(crate::proofs::PlainCalls::in_order))]
     fn status(&self) -> MemStatus {
         if !self.started {
             MemStatus::Uninit

@@ -117,16 +117,19 @@ impl Sweep {
         if let Some(last) = last {
             self.note(last, same_id);
         }
-        let step = self.step(config, facts);
-        self.take(config);
+        let member = self.peek(config);
+        let step = self.step(config, member, facts);
+        if let Some(block) = member {
+            self.pass(block);
+        }
         step
     }
 
-    /// What comes next, by the facts of the next member. Nothing changes.
-    pub fn step(&self, config: &Config, facts: MemberFacts) -> SweepStep
-        ensures { result ≡ step_of config.now self.now facts }
+    /// What comes next, where this is the next member, if there is one, and these are its facts. Nothing changes.
+    pub fn step(&self, config: &Config, member: Option<u16>, facts: MemberFacts) -> SweepStep
+        ensures { result ≡ step_on config.now self.now facts member }
     {
-        match self.peek(config) {
+        match member {
             Some(block) => self.step_on(config, block, facts),
             None => SweepStep::Ended {
                 result: self.result(),
@@ -134,13 +137,17 @@ impl Sweep {
         }
     }
 
-    /// The next member isn't to come any more.
-    pub fn take(&mut self, config: &Config)
-        ensures { self.new ≡ moved config.now self.old }
+    /// The next member, which is this block, isn't to come any more.
+    pub fn pass(&mut self, block: u16)
+        ensures { self.new ≡ record self.old { place = place_behind self.old.place block } }
     {
-        if let Some(block) = self.peek(config) {
-            self.pass(block);
-        }
+        self.place = match self.place {
+            Place::First => Place::Behind { passed: 0 },
+            _ if block == 1 => Place::Over,
+            _ => Place::Behind {
+                passed: block.saturating_sub(1),
+            },
+        };
     }
 
     /// The result of the last member counts, with whether block 1 gave the configuration id.
@@ -199,17 +206,6 @@ impl Sweep {
         } else {
             block == 1 || self.same || resists(config, block)
         }
-    }
-
-    fn pass(&mut self, block: u16)
-        requires { 1 ≤ block }
-        ensures { self.new ≡ record self.old { place = place_behind self.old.place block } }
-    {
-        self.place = match self.place {
-            Place::First => Place::Behind { passed: 0 },
-            _ if block == 1 => Place::Over,
-            _ => Place::Behind { passed: block - 1 },
-        };
     }
 }
 

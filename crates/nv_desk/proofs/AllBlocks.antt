@@ -1,7 +1,7 @@
 -- A request on all blocks is picked.
 use Rattle.std.proofs.Common.{◌≡◌, ℕ, ◌+◌, Bool, true, false, List, [], ◌∷◌, refl, sym, subst, Option, Some, None, if◌then◌else◌, ap, ◌∙◌, arith}
 use Rattle.block_machine.specs.nv_base.History.{Listed}
-use Rattle.block_machine.specs.Words.{Configuration, JobKind, Pick, TookNothing, Post}
+use Rattle.block_machine.specs.Words.{Configuration, JobKind, ReqResult, Pick, TookNothing, Post}
 use Rattle.block_machine.specs.State.{State, Job, Sweep}
 use Rattle.block_machine.specs.Blocks.{desc_of, block_at}
 use Rattle.block_machine.specs.Sweeps.{is_picked, sweep_result}
@@ -152,19 +152,23 @@ finished_sound : (c : Configuration) (s : State) (sw : Sweep) (ops : ℕ) → Is
     → IsConsistent c (step c s (Post 0 (sweep_result sw) None 0 ops)) → IsSound c (step c s (Post 0 (sweep_result sw) None 0 ops))
 finished_sound c s sw ops sound x is consistent = end_sound c s sw ops s.hand x.hand x.waiting (next_of c s) is sound consistent refl refl
 
-pub room_to_finish : (d : Inside) (ops : ℕ) → IsKept d → (may : MayFinish (shown d) ops) → HasRoom d (Post 0 (sweep_result may.sweep) None 0 ops)
-room_to_finish d ops is may =
+-- one sweep ends
+pub same_sweep : (x y : Sweep) (n : Next) → n ≡ EndSweep x → n ≡ EndSweep y → x ≡ y
+same_sweep x y n a b = cc
+
+pub room_to_finish : (d : Inside) (answer : ReqResult) (ops : ℕ) → IsKept d → (may : MayFinish (shown d) answer ops) → HasRoom d (Post 0 (sweep_result may.sweep) None 0 ops)
+room_to_finish d answer ops is may =
     let s = after d.config d.history.entries in
     has_room d (Post 0 (sweep_result may.sweep) None 0 ops) is
     (may_finish d.config d.history.cap s may.sweep ops (ends d.config s may.sweep may.is).hand may.is may.driving) refl
 
 -- what is kept stands behind it
-pub ended_kept : (d : Inside) (h : Listed) (k : Kept) (ops : ℕ) → IsKept d → (may : MayFinish (shown d) ops)
+pub ended_kept : (d : Inside) (h : Listed) (k : Kept) (answer : ReqResult) (ops : ℕ) → IsKept d → (may : MayFinish (shown d) answer ops)
     → h ≡ with_entry d.history (Post 0 (sweep_result may.sweep) None 0 ops)
     → (Ends d.config (after d.config d.history.entries) may.sweep
     → Agrees d.config k (posted_next d.config (after d.config d.history.entries) (sweep_result may.sweep) None (EndSweep may.sweep)))
     → IsKept (record d { history = h; kept = k })
-ended_kept d h k ops is may added agrees =
+ended_kept d h k answer ops is may added agrees =
     let s = after d.config d.history.entries in
     let x = ends d.config s may.sweep may.is in
     allowed_kept d h k d.rooms (Post 0 (sweep_result may.sweep) None 0 ops) is

@@ -21,9 +21,8 @@ use Rattle.multi_jobs.specs.Members.{ids_from, is_member}
 use Rattle.multi_jobs.specs.Sweep.{members_at}
 use Rattle.multi_jobs.specs.declared.sweep.Place.{Place}
 use Rattle.multi_jobs.specs.declared.sweep.Place.TheVariants.{First, Behind, Over}
-use Rattle.job_pending.specs.declared.took.Took.{Took}
-use Rattle.job_pending.specs.declared.took.Took.TheVariants as took
-use Rattle.job_pending.specs.Took.{taken_with}
+use Rattle.job_pending.specs.declared.take.Take.TheVariants as take
+use Rattle.job_pending.specs.Take.{Took, taken_with}
 use Rattle.nv_desk_state.specs.declared.kept.Kept.{Kept}
 use Rattle.nv_desk_state.specs.declared.sweep.PendingSweep.{PendingSweep}
 use Rattle.nv_desk_state.specs.Kept.{Agrees}
@@ -80,8 +79,12 @@ from_ram c s id whole some plain = whole id (kept_by (keeps_ram c id) (is_synchr
 -- a copy is what it has then
 pub copied_fits : (n m : ℕ) (content : Option (List ℕ × ℕ)) (t : Took) → n ≤ m → IsWhole n (content_after content (taken_with content t))
     → IfSome (copied_in t) (λ x. length x ≤ m)
-copied_fits n m content (took.Copied x) less whole = omega (arith, less, whole)
-copied_fits n m content t less whole = tt
+copied_fits n m content (take.Copied store, Some x) less whole = omega (arith, less, whole)
+copied_fits n m content (take.Copied store, None) less whole = tt
+copied_fits n m content (take.Nothing, copy) less whole = tt
+copied_fits n m content (take.Own, copy) less whole = tt
+copied_fits n m content (take.Refused count, copy) less whole = tt
+copied_fits n m content (take.Stale asked got count, copy) less whole = tt
 
 -- A JOB
 pub job_takes : (c : Configuration) (cap : ℕ) (s : State) (j : Job) (t : Taken) (ops : ℕ) → RamIsWhole c s → next_in c s.waiting ≡ Some j

@@ -12,8 +12,7 @@ use Rattle.block_laws.specs.Consistent.{IsConsistent}
 use Rattle.block_laws.proofs.NextLaws.{none_waits}
 use Rattle.block_states.specs.States.{rooms_of}
 use Rattle.block_states.proofs.Started.{rooms_have_lengths}
-use Rattle.job_pending.specs.declared.took.Took.{Took}
-use Rattle.job_pending.specs.Took.{taken_with}
+use Rattle.job_pending.specs.Take.{Took, taken_with}
 use Rattle.nv_desk_state.specs.declared.kept.Kept.{Kept}
 use Rattle.nv_desk_state.specs.Kept.{Agrees}
 use Rattle.nv_desk_state.specs.Pending.{IsAtMember}
@@ -80,11 +79,6 @@ at_picked c s sw id is = at_member c s sw id true is
 pub at_posted : (c : Configuration) (s : State) (sw : Sweep) (id : ℕ) → next_of c s ≡ PostMember sw id → IsAtMember s sw id
 at_posted c s sw id is = at_member c s sw id false is
 
--- it is what comes next in the sweep
-pub next_at : (c : Configuration) (s : State) (sw : Sweep) (id : ℕ) (n : Next) → IsAtMember s sw id → next_of c s ≡ n → next_in_sweep c s sw ≡ n
-next_at c s sw id n x is = sym (ap (λ (ws : List Job). next_by c s (next_in c ws) s.hand s.sweep) x.waiting
-    ∙ ap (λ (h : Option Job). next_by c s None h s.sweep) x.hand ∙ ap (next_by c s None None) x.sweep) ∙ is
-
 -- A PICK
 
 -- what it finds: room for its entry and for copies, RAM to write from, and a content of its block's length
@@ -95,22 +89,22 @@ pub record MemberPick (d : Inside) (took : Took) (ops : ℕ) (sw : Sweep) (id : 
   pub whole : IfSome (content_after None (taken_with None took)) (λ x. length x.0 ≡ (desc_of d.config id).length)
   pub takes : CanTake d.rooms None took
 
-pub member_pick : (d : Inside) (took : Took) (ops : ℕ) → IsKept d → IsLegalConfig d.config → FillsRooms d.kept
-    → (may : MayPickMember (shown d) took ops) → MemberPick d took ops may.sweep may.id
-member_pick d took ops is legal fills may =
+pub member_pick : (d : Inside) (id : ℕ) (took : Took) (ops : ℕ) → IsKept d → IsLegalConfig d.config → FillsRooms d.kept
+    → (may : MayPickMember (shown d) id took ops) → MemberPick d took ops may.sweep id
+member_pick d id took ops is legal fills may =
     let s = after d.config d.history.entries in
     let kind = member_kind may.sweep.writes in
-    let x = at_picked d.config s may.sweep may.id may.is in
-    let has = has_room d (Pick may.id kind (taken_with None took) ops) is may.allowed refl in
+    let x = at_picked d.config s may.sweep id may.is in
+    let has = has_room d (Pick id kind (taken_with None took) ops) is may.allowed refl in
     let ram = ram_is_whole d.config d.kept s is.agrees is.sound may.allowed.0.started fills in
-    let some = member_ram_is d.config d.kept s may.sweep may.id legal is.agrees x in
-    let whole = member_takes d.config d.history.cap s may.sweep may.id kind (taken_with None took) ops ram may.is some may.allowed in
+    let some = member_ram_is d.config d.kept s may.sweep id legal is.agrees x in
+    let whole = member_takes d.config d.history.cap s may.sweep id kind (taken_with None took) ops ram may.is some may.allowed in
     record {
       room = has;
       member = x;
       ram = some;
       whole = whole;
-      takes = record { rooms = has.rooms; own = tt; copied = copied_fits (desc_of d.config may.id).length d.rooms.longest None took (is.longest may.id) whole };
+      takes = record { rooms = has.rooms; own = tt; copied = copied_fits (desc_of d.config id).length d.rooms.longest None took (is.longest id) whole };
     }
 
 held_sound : (c : Configuration) (s : State) (sw : Sweep) (id : ℕ) (t : Took) (count ops : ℕ)

@@ -1,6 +1,7 @@
 -- The next job is picked.
-use Rattle.std.proofs.Common.{◌≡◌, ◌≢◌, ◌≤◌, ◌<◌, ℕ, ◌+◌, ◌^◌, List, [], ◌∷◌, ◌++◌, length, option_to_list, refl, sym, ◌∙◌, subst, arith, Option, Some, None, IfSome, Bool, IsTrue, ◌↔◌}
+use Rattle.std.proofs.Common.{◌≡◌, ◌≢◌, ◌≤◌, ◌<◌, ℕ, ◌+◌, ◌^◌, List, [], ◌∷◌, ◌++◌, length, option_to_list, refl, sym, ap, ◌∙◌, subst, arith, Option, Some, None, IfSome, Bool, IsTrue, ◌↔◌}
 use Rattle.std.proofs.lemmas.List.Sums.{sum_by-cons}
+use Rattle.block_machine.specs.nv_base.History.{Listed}
 use Rattle.block_machine.specs.Words.{Configuration, JobKind, Taken, Pick}
 use Rattle.block_machine.specs.State.{State, Job}
 use Rattle.block_machine.specs.Blocks.{desc_of, job_block, kind_of}
@@ -10,8 +11,7 @@ use Rattle.block_machine.specs.Steps.{after, step, changed_by, in_hand, content_
 use Rattle.block_machine.specs.Legal.{MayInterrupt}
 use Rattle.block_laws.specs.Consistent.{Each, IsConsistent, IsWaitingJob, IsJobInHand}
 use Rattle.block_laws.proofs.NextLaws.{next_is_waiting}
-use Rattle.job_pending.specs.declared.took.Took.{Took}
-use Rattle.job_pending.specs.Took.{taken_with}
+use Rattle.job_pending.specs.Take.{Took, taken_with}
 use Rattle.job_pending.specs.Pending.{Pending, Agree}
 use Rattle.nv_desk_state.specs.declared.kept.Kept.{Kept}
 use Rattle.nv_desk_state.specs.Kept.{Agrees}
@@ -19,6 +19,7 @@ use Rattle.nv_desk.specs.Sound.{IsPendingJob, IsSound}
 use Rattle.nv_desk.specs.declared.desk.Desk.TheInside.{Inside}
 use Rattle.nv_desk.specs.Desk.{DeskState, IsKept, shown, state_of}
 use Rattle.nv_desk.specs.Picks.{CanTake, IsInterruption, MayPickNext}
+use Rattle.nv_desk.specs.Rooms.{with_entry}
 use Rattle.nv_desk.proofs.Contents.{FillsRooms, copied_fits, job_takes, ram_is_whole}
 use Rattle.nv_desk.proofs.Drivers.{HasRoom, has_room}
 use Rattle.nv_desk.proofs.SoundDriver.{sound_pick}
@@ -131,6 +132,16 @@ job_pick d took ops is fills may =
         copied = copied_fits n d.rooms.longest j.content took (is.longest (job_block j)) whole;
       };
     }
+
+-- its entry, by the job that it is of
+pub entry_of : (h new : Listed) (block : ℕ) (kind : JobKind) (t : Taken) (x j : Job) (took : Took) (ops : ℕ) → block ≡ job_block x → kind ≡ kind_of x
+    → t ≡ taken_with x.content took → x ≡ j → new ≡ with_entry h (Pick block kind t ops)
+    → new ≡ with_entry h (Pick (job_block j) (kind_of j) (taken_with j.content took) ops)
+entry_of h new block kind t x j took ops at is takes same adds =
+    adds ∙ ap (λ (b : ℕ). with_entry h (Pick b kind t ops)) at
+    ∙ ap (λ (k : JobKind). with_entry h (Pick (job_block x) k t ops)) is
+    ∙ ap (λ (u : Taken). with_entry h (Pick (job_block x) (kind_of x) u ops)) takes
+    ∙ ap (λ (y : Job). with_entry h (Pick (job_block y) (kind_of y) (taken_with y.content took) ops)) same
 
 pub some_is : (x y : Job) → Some x ≡ Some y → x ≡ y
 some_is x y e = cc

@@ -1,7 +1,8 @@
 -- When a request on all blocks is picked.
 use Rattle.std.specs.Prelude.{◌≡◌, ℕ, Bool, if◌then◌else◌}
-use Rattle.block_machine.specs.Words.{JobKind, ReadAllJob, WriteAllJob}
+use Rattle.block_machine.specs.Words.{JobKind, ReqResult, ReadAllJob, WriteAllJob}
 use Rattle.block_machine.specs.State.{Sweep}
+use Rattle.block_machine.specs.Sweeps.{sweep_result}
 use Rattle.block_machine.specs.Next.{BeginSweep, EndSweep, next_of}
 use Rattle.block_machine.specs.Legal.{IsDriving}
 use Rattle.nv_desk.specs.Desk.{DeskState, state_of}
@@ -15,8 +16,9 @@ pub record MayBegin (d : DeskState) (ops : ℕ) : Type 0 where
   pub is : next_of d.config (state_of d) ≡ BeginSweep sweep
   pub driving : IsDriving (state_of d) ops
 
--- it ends next
-pub record MayFinish (d : DeskState) (ops : ℕ) : Type 0 where
+-- it ends next, with this result
+pub record MayFinish (d : DeskState) (answer : ReqResult) (ops : ℕ) : Type 0 where
   pub sweep : Sweep
   pub is : next_of d.config (state_of d) ≡ EndSweep sweep
+  pub result_is : answer ≡ sweep_result sweep
   pub driving : IsDriving (state_of d) ops

@@ -1,5 +1,5 @@
 -- What the desk shows, and what it keeps.
-use Rattle.std.specs.Prelude.{◌≡◌, ℕ, ◌+◌, ◌*◌, ◌≤◌, ◌<◌, ◌^◌, true, false, Bool, List, length}
+use Rattle.std.specs.Prelude.{◌≡◌, ℕ, ◌+◌, ◌*◌, ◌≤◌, ◌<◌, ◌^◌, true, false, Bool, List, [], length}
 use Rattle.block_machine.specs.Words.{Configuration, Entry, Request, ReadAll, WriteAll}
 use Rattle.block_machine.specs.State.{State}
 use Rattle.block_machine.specs.Blocks.{desc_of}
@@ -20,6 +20,10 @@ pub record DeskState : Type 0 where
 
 abbrev pub shown : Inside → DeskState
 shown d = record { config = d.config; cap = d.history.cap; entries = d.history.entries; prepared = d.prepared }
+
+-- a desk before its first start-up
+abbrev pub first_desk : Configuration → ℕ → DeskState
+first_desk c cap = record { config = c; cap = cap; entries = []; prepared = 0 }
 
 -- the state of the block machine after its entries
 abbrev pub state_of : DeskState → State

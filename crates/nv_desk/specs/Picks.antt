@@ -6,26 +6,25 @@ use Rattle.block_machine.specs.State.{Job}
 use Rattle.block_machine.specs.Blocks.{job_block, kind_of}
 use Rattle.block_machine.specs.Next.{next_in}
 use Rattle.block_machine.specs.Legal.{IsAllowed, MayInterrupt}
-use Rattle.job_pending.specs.declared.took.Took.{Took}
-use Rattle.job_pending.specs.declared.took.Took.TheVariants as took
-use Rattle.job_pending.specs.Took.{taken_with}
+use Rattle.job_pending.specs.declared.take.Take.{Take}
+use Rattle.job_pending.specs.declared.take.Take.TheVariants as take
+use Rattle.job_pending.specs.Take.{Took, taken_with}
 use Rattle.nv_desk.specs.Desk.{DeskState, state_of}
 use Rattle.nv_desk.specs.Rooms.{Roomy}
-use Rattle.nv_desk.specs.declared.pick.Take.{Take}
-use Rattle.nv_desk.specs.declared.pick.Take.TheVariants as take
+
+-- the copy of a content that is lent, if a job takes one
+abbrev pub copied_of : Take → (lent : List ℕ) → Option (List ℕ)
+copied_of (take.Copied store) lent = Some lent
+copied_of t lent = None
 
 -- what a job takes of a content that is lent
 abbrev pub took_of : Take → (lent : List ℕ) → Took
-took_of take.Nothing lent = took.Nothing
-took_of take.Own lent = took.Own
-took_of (take.Copied store) lent = took.Copied (record { bytes = lent; store = store })
-took_of (take.Refused count) lent = took.Refused count
-took_of (take.Stale asked got count) lent = took.Stale asked got count
+took_of t lent = (t, copied_of t lent)
 
--- the bytes of a copy
+-- the bytes of a copy that is taken
 abbrev pub copied_in : Took → Option (List ℕ)
-copied_in (took.Copied x) = Some x.bytes
-copied_in t = None
+copied_in (take.Copied store, copy) = copy
+copied_in (t, copy) = None
 
 -- the content that a job has already, if there is a job
 abbrev pub content_in : Option Job → Option (List ℕ × ℕ)

@@ -1,23 +1,19 @@
 // The Pick of a request on all blocks.
 ghost use Rattle.std.specs.Prelude.{◌≡◌, ◌++◌, ◌∷◌, [], Some, None};
 ghost use Rattle.block_machine.specs.Words.{Configuration};
-ghost use Rattle.block_machine.specs.State.{State, Sweep as MachineSweep};
+ghost use Rattle.block_machine.specs.State.{Sweep as MachineSweep};
 ghost use Rattle.block_machine.specs.Sweeps.{sweep_result};
 ghost use Rattle.block_machine.specs.Next.{next_of, BeginSweep, EndSweep};
 ghost use Rattle.block_machine.specs.nv_base.declared.entry.Taken.TheVariants as Taken;
-ghost use Rattle.multi_jobs.specs.Laws.{IsNext};
 ghost use Rattle.nv_desk.specs.AllBlocks.{MayBegin, MayFinish, sweep_kind};
 ghost use Rattle.nv_desk.specs.Desk.{state_of};
-ghost use Rattle.nv_desk_state.specs.Kept.{Agrees};
 ghost use Rattle.nv_desk_state.specs.Pending.{AreSweeps};
 
 use crate::Desk;
 use crate::memory::add;
 use crate::pick::add_pick;
-use block_machine::block_config::Config;
 use block_machine::nv_base::{Entry, JobKind, ReqResult, Taken};
-use multi_jobs::SweepStep;
-use nv_desk_state::{Kept, PendingSweep};
+use nv_desk_state::PendingSweep;
 
 impl Desk {
     /// The request on all blocks is picked, and its sweep begins. It takes no memory.
@@ -30,12 +26,11 @@ impl Desk {
         add_pick(&mut self.history, 0, job, Taken::Nothing, ops);
     }
 
-    /// The sweep ends, and block id 0 is posted with its result. It takes no memory.
-    pub fn post_sweep(&mut self, ops: u64)
-        requires { MayFinish self.old ops }
+    /// The sweep ends, and block id 0 is posted with its result, which is this. It takes no memory.
+    pub fn post_sweep(&mut self, answer: ReqResult, ops: u64)
+        requires { MayFinish self.old answer ops }
         ensures { (sw : MachineSweep) → next_of self.old.config (state_of self.old) ≡ EndSweep sw → self.new ≡ record self.old { entries = self.old.entries ++ Entry.Post 0 (sweep_result sw) None 0 ops ∷ [] } }
     {
-        let answer = end_result(&self.kept, &self.config);
         self.kept.end_sweep(answer);
         add(
             &mut self.history,
@@ -47,23 +42,6 @@ impl Desk {
                 ops,
             },
         );
-    }
-}
-
-/// The result with which the sweep ends, where it ends next.
-pub fn end_result(kept: &Kept, config: &Config) -> ReqResult
-    ensures { (s : State) (sw : MachineSweep) → Agrees config.now kept.now s → next_of config.now s ≡ EndSweep sw → result ≡ sweep_result sw }
-{
-    result_of(kept.next_step(config))
-}
-
-// The result with which a step ends a sweep.
-fn result_of(step: SweepStep) -> ReqResult
-    ensures { (sw : MachineSweep) → IsNext step sw (EndSweep sw) → result ≡ sweep_result sw }
-{
-    match step {
-        SweepStep::Ended { result } => result,
-        _ => ReqResult::Fine,
     }
 }
 

@@ -13,13 +13,16 @@ use crate::memory::take_memory;
 use block_machine::nv_base::{Bytes, Entry, Reply, Request};
 use job_pending::Job;
 use std::alloc::{AllocError, Global};
+use thiserror::Error;
 
 /// Why a request gets no reply.
-#[derive(Clone, Copy)]
+#[derive(Clone, Copy, Debug, Error)]
 pub enum AskFault {
     /// Not even its entry fits under the cap.
+    #[error("the history has no room for the request: start a new stack over the same device")]
     NoRoom,
     /// No memory was found.
+    #[error("there is no memory for the request, and nothing changed")]
     Memory,
 }
 

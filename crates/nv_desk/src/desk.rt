@@ -1,5 +1,6 @@
 // The desk.
-ghost use Rattle.std.specs.Prelude.{◌≡◌, [], IfOk};
+ghost use Rattle.std.specs.Prelude.{◌≡◌, IfOk};
+ghost use Rattle.nv_desk.specs.Desk.{first_desk};
 
 use crate::longest::longest_content;
 use crate::memory::take_memory;
@@ -37,7 +38,7 @@ impl Desk {
     /// The desk of a configuration before the first start-up, with a history of at most `cap` entries. It takes the memory of
     /// that start-up's entry, and of an Off behind it.
     pub fn make(alloc: Global, config: Config, cap: u32) -> Result<Desk, AllocError>
-        ensures { IfOk result (λ d. d ≡ record { config = config; cap = cap; entries = []; prepared = 0 }) }
+        ensures { IfOk result (λ d. d ≡ first_desk config cap) }
     {
         let kept = Kept::make(alloc, &config)?;
         let mut rooms = Rooms::new(alloc, longest_content(&config));

@@ -24,4 +24,3 @@ mod told;
 pub use ask::AskFault;
 pub use desk::Desk;
 pub use longest::longest_content;
-pub use pick::Take;

@@ -3,28 +3,16 @@ ghost use Rattle.std.specs.Prelude.{◌≡◌, ◌≤◌, ◌<◌, ◌+◌, ◌+
 ghost use Rattle.block_machine.specs.State.{Job as MachineJob};
 ghost use Rattle.block_machine.specs.Blocks.{job_block, kind_of};
 ghost use Rattle.block_machine.specs.Next.{next_in};
-ghost use Rattle.job_pending.specs.Took.{taken_with};
+ghost use Rattle.job_pending.specs.Take.{content_taken, taken_with};
 ghost use Rattle.nv_desk.specs.Desk.{state_of};
-ghost use Rattle.nv_desk.specs.Picks.{MayPickNext, CanTake, content_in, copied_in, took_of};
+ghost use Rattle.nv_desk.specs.Picks.{MayPickNext, CanTake, content_in, copied_in, copied_of, took_of};
 ghost use Rattle.nv_desk.specs.Rooms.{HasPlace, with_entry};
 
 use crate::Desk;
 use crate::memory::add;
 use crate::rooms::Rooms;
-use block_machine::nv_base::{Entry, History, JobKind, Taken};
-use job_pending::{Job, Staged, Took};
-
-/// What a job takes of a content that is lent to the desk: nothing, as it isn't a write; the content that the job has
-/// already; a copy of the one that is lent, of the store with this number, or of none (0); or no content, as each of `count`
-/// copies was refused, or none was as new as the store `asked` for.
-#[derive(Clone, Copy)]
-pub enum Take {
-    Nothing,
-    Own,
-    Copied { store: u64 },
-    Refused { count: u8 },
-    Stale { asked: u64, got: u64, count: u8 },
-}
+use block_machine::nv_base::{Bytes, Entry, History, JobKind, Taken};
+use job_pending::{Job, Take};
 
 impl Desk {
     /// The next job comes in hand with what it takes of a content that is lent; one that is in hand is interrupted. It takes
@@ -43,8 +31,8 @@ impl Desk {
         };
         let block = next.block();
         let job = next.kind();
-        let (took, taken) = takes(take, lent, Some(next), &mut self.rooms);
-        self.kept.pick(&self.config, took);
+        let (copy, taken) = takes(take, lent, Some(next), &mut self.rooms);
+        self.kept.pick(&self.config, take, copy);
         add_pick(&mut self.history, block, job, taken, ops);
     }
 }
@@ -65,84 +53,76 @@ pub fn add_pick(history: &mut History, block: u16, job: JobKind, taken: Taken, o
     );
 }
 
-/// What the Pick of a job, or of none that has a content of its own, takes: with a copy of what is lent, and the same as bytes for the history.
-pub fn takes(take: Take, lent: &[u8], job: Option<&Job>, rooms: &mut Rooms) -> (Took, Taken)
+/// The copy of what is lent that the Pick of a job takes, or of none that has a content of its own, if it takes one; and what it
+/// takes as bytes for the history.
+pub fn takes(
+    take: Take,
+    lent: &[u8],
+    job: Option<&Job>,
+    rooms: &mut Rooms,
+) -> (Option<Bytes>, Taken)
     requires { CanTake rooms.old (content_in (option_copied job)) (took_of take lent.now) }
-    ensures took { result.0 ≡ took_of take lent.now }
+    ensures copy { result.0 ≡ copied_of take lent.now }
     ensures taken { result.1 ≡ taken_with (content_in (option_copied job.entry)) (took_of take lent.now) }
     ensures longest { rooms.new.longest ≡ rooms.old.longest }
     ensures count { rooms.old.count ≤ rooms.new.count + 2 }
 {
-    let took = took_by(take, lent, rooms);
-    let taken = match job {
-        Some(job) => taken_of(job, &took, rooms),
-        None => copy_of(&took, rooms),
-    };
-    (took, taken)
+    let copy = copy_of(take, lent, rooms);
+    let taken = taken_of(take, lent, job, rooms);
+    (copy, taken)
 }
 
-// What a job takes, with a copy of what is lent.
-fn took_by(take: Take, lent: &[u8], rooms: &mut Rooms) -> Took
+// A copy of what is lent, where it is taken.
+fn copy_of(take: Take, lent: &[u8], rooms: &mut Rooms) -> Option<Bytes>
     requires some { 0 < rooms.old.count }
     requires copied { IfSome (copied_in (took_of take lent.now)) (λ x. length x ≤ rooms.old.longest) }
-    ensures took { result ≡ took_of take lent.now }
+    ensures copy { result ≡ copied_of take lent.now }
     ensures longest { rooms.new.longest ≡ rooms.old.longest }
     ensures count { rooms.old.count ≤ rooms.new.count + 1 }
 {
     match take {
-        Take::Nothing => Took::Nothing,
-        Take::Own => Took::Own,
-        Take::Copied { store } => Took::Copied(Staged {
-            bytes: rooms.fill(lent),
-            store,
-        }),
-        Take::Refused { count } => Took::Refused { count },
-        Take::Stale { asked, got, count } => Took::Stale { asked, got, count },
+        Take::Copied { .. } => Some(rooms.fill(lent)),
+        Take::Nothing | Take::Own | Take::Refused { .. } | Take::Stale { .. } => None,
     }
 }
 
 // What a job takes, as bytes of their own.
-fn taken_of(job: &Job, took: &Took, rooms: &mut Rooms) -> Taken
+fn taken_of(take: Take, lent: &[u8], job: Option<&Job>, rooms: &mut Rooms) -> Taken
     requires some { 0 < rooms.old.count }
-    requires own { IfSome job.now.content (λ x. length x.0 ≤ rooms.old.longest) }
-    requires copied { IfSome (copied_in took.now) (λ x. length x ≤ rooms.old.longest) }
-    ensures taken { result ≡ taken_with job.now.content took.now }
+    requires own { IfSome (content_in (option_copied job)) (λ x. length x.0 ≤ rooms.old.longest) }
+    requires copied { IfSome (copied_in (took_of take lent.now)) (λ x. length x ≤ rooms.old.longest) }
+    ensures taken { result ≡ taken_with (content_in (option_copied job.entry)) (took_of take lent.now) }
     ensures longest { rooms.new.longest ≡ rooms.old.longest }
     ensures count { rooms.old.count ≤ rooms.new.count + 1 }
 {
-    match took {
-        Took::Own => match job.content() {
-            Some(content) => Taken::Content {
-                bytes: rooms.fill(content),
-                store: job.store(),
-            },
-            None => Taken::Nothing,
+    match take {
+        Take::Nothing => Taken::Nothing,
+        Take::Own => own_of(job, rooms),
+        Take::Copied { store } => Taken::Content {
+            bytes: rooms.fill(lent),
+            store,
         },
-        Took::Nothing | Took::Copied(_) | Took::Refused { .. } | Took::Stale { .. } => {
-            copy_of(took, rooms)
-        }
+        Take::Refused { count } => Taken::Refused { count },
+        Take::Stale { asked, got, count } => Taken::Stale { asked, got, count },
     }
 }
 
-// What a job takes that has no content of its own, as bytes of their own.
-fn copy_of(took: &Took, rooms: &mut Rooms) -> Taken
+// The content that a job has already, as bytes of their own.
+fn own_of(job: Option<&Job>, rooms: &mut Rooms) -> Taken
     requires some { 0 < rooms.old.count }
-    requires copied { IfSome (copied_in took.now) (λ x. length x ≤ rooms.old.longest) }
-    ensures taken { result ≡ taken_with None took.now }
+    requires own { IfSome (content_in (option_copied job)) (λ x. length x.0 ≤ rooms.old.longest) }
+    ensures taken { result ≡ content_taken (content_in (option_copied job.entry)) }
     ensures longest { rooms.new.longest ≡ rooms.old.longest }
     ensures count { rooms.old.count ≤ rooms.new.count + 1 }
 {
-    match took {
-        Took::Nothing | Took::Own => Taken::Nothing,
-        Took::Copied(staged) => Taken::Content {
-            bytes: rooms.fill(staged.bytes.as_slice()),
-            store: staged.store,
+    let Some(job) = job else {
+        return Taken::Nothing;
+    };
+    match job.content() {
+        Some(content) => Taken::Content {
+            bytes: rooms.fill(content),
+            store: job.store(),
         },
-        Took::Refused { count } => Taken::Refused { count: *count },
-        Took::Stale { asked, got, count } => Taken::Stale {
-            asked: *asked,
-            got: *got,
-            count: *count,
-        },
+        None => Taken::Nothing,
     }
 }

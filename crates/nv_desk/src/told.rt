@@ -3,16 +3,13 @@ ghost use Rattle.std.specs.Prelude.{◌≡◌, ◌≤◌, ◌↔◌, IfSome, IsT
 ghost use Rattle.std.specs.Option.{option_map_or};
 ghost use Rattle.block_machine.specs.State.{Sweep as MachineSweep};
 ghost use Rattle.block_machine.specs.Blocks.{block_at, desc_of, rank_of};
-ghost use Rattle.block_machine.specs.Next.{next_in, next_of, EndSweep};
-ghost use Rattle.block_machine.specs.Sweeps.{sweep_result};
+ghost use Rattle.block_machine.specs.Next.{next_in};
 ghost use Rattle.nv_desk.specs.Desk.{state_of};
 ghost use Rattle.nv_desk.specs.Picks.{IsInterruption};
 ghost use Rattle.nv_desk.specs.Sound.{IsPendingJob};
 
 use crate::Desk;
-use crate::all_blocks::end_result;
 use block_machine::block_config::Config;
-use block_machine::nv_base::ReqResult;
 use job_pending::Job;
 
 impl Desk {
@@ -91,12 +88,5 @@ impl Desk {
             Some(sweep) => sweep.members.writes(),
             None => false,
         }
-    }
-
-    /// The result with which the request on all blocks ends, where it ends next.
-    pub fn sweep_result(&self) -> ReqResult
-        ensures { (sw : MachineSweep) → next_of self.now.config (state_of self.now) ≡ EndSweep sw → result ≡ sweep_result sw }
-    {
-        end_result(&self.kept, &self.config)
     }
 }

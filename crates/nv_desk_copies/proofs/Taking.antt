@@ -4,11 +4,11 @@ use Rattle.block_machine.specs.Words.{JobKind, ReadJob, WriteJob, RestoreJob, Er
 use Rattle.block_machine.specs.State.{State, BlockState, Job, Sweep}
 use Rattle.block_machine.specs.Blocks.{desc_of, block_at, is_synchronized, asked_block, job_block, kind_of, asked_store}
 use Rattle.block_machine.specs.Sweeps.{is_picked, member_kind, member_request, member_job}
-use Rattle.block_machine.specs.Next.{Next, PickJob, BeginSweep, PickMember, PostMember, next_in, next_by, next_of, next_member}
+use Rattle.block_machine.specs.Next.{Next, Nothing, PickJob, BeginSweep, PickMember, PostMember, EndSweep, next_in, next_by, next_of, next_member}
 use Rattle.block_machine.specs.Legal.{IsDriving, HandIsFree, TakesForWrite, TakesBy, MayPick, IsAllowed}
-use Rattle.job_pending.specs.Took.{taken_with}
-use Rattle.nv_desk.specs.declared.pick.Take.{Take}
-use Rattle.nv_desk.specs.declared.pick.Take.TheVariants as take
+use Rattle.job_pending.specs.Take.{taken_with}
+use Rattle.job_pending.specs.declared.take.Take.{Take}
+use Rattle.job_pending.specs.declared.take.Take.TheVariants as take
 use Rattle.nv_desk.specs.Desk.{DeskState, state_of}
 use Rattle.nv_desk.specs.Picks.{took_of}
 use Rattle.nv_desk.specs.Members.{MayPickMember}
@@ -16,7 +16,7 @@ use Rattle.nv_desk.specs.AllBlocks.{sweep_kind}
 use Rattle.ram_blocks.specs.Told.{Told}
 use Rattle.nv_desk.proofs.MemberEntries.{at_picked, at_posted}
 use Rattle.nv_desk_copies.specs.Takes.{source_by, source_of, source_next, IsTakenFrom, IsCopied, IsCopySource}
-use Rattle.nv_desk_copies.specs.Picks.{IsPicked}
+use Rattle.nv_desk_copies.specs.Picks.{IsPicked, IsPickNext}
 
 -- only a write of synchronized RAM copies
 pub copy_source : (kind : JobKind) (content : Option (List ℕ × ℕ)) (synchronized : Bool) (asked : ℕ)
@@ -92,10 +92,9 @@ member_allowed c cap s sw id t lent ops driving is taken =
 pub may_pick_member : (d : DeskState) (sw : Sweep) (id : ℕ) (t : Take) (lent : List ℕ) (ops : ℕ) → IsDriving (state_of d) ops
     → next_of d.config (state_of d) ≡ PickMember sw id
     → IsTakenFrom (desc_of d.config id) (block_at (state_of d) id) (source_of d.config (member_job d.config sw id)) t lent
-    → MayPickMember d (took_of t lent) ops
+    → MayPickMember d id (took_of t lent) ops
 may_pick_member d sw id t lent ops driving is taken = record {
   sweep = sw;
-  id = id;
   is = is;
   allowed = member_allowed d.config d.cap (state_of d) sw id t lent ops driving is taken;
 }
@@ -136,6 +135,16 @@ job_by c s j None None (Some x) e = absurd (no_job c s j x (if x.canceled then [
 
 pub waits : (c : Configuration) (s : State) (j : Job) → next_of c s ≡ PickJob j → next_in c s.waiting ≡ Some j
 waits c s j e = job_by c s j (next_in c s.waiting) s.hand s.sweep e
+
+-- no Pick comes next where a Post without one does, or nothing
+pub not_posted : (n : Next) (sw : Sweep) (id : ℕ) → n ≡ PostMember sw id → IsPickNext n → ⊥
+not_posted n sw id is picks = subst IsPickNext is picks
+
+pub not_ended : (n : Next) (sw : Sweep) → n ≡ EndSweep sw → IsPickNext n → ⊥
+not_ended n sw is picks = subst IsPickNext is picks
+
+pub not_nothing : (n : Next) → n ≡ Nothing → IsPickNext n → ⊥
+not_nothing n is picks = subst IsPickNext is picks
 
 -- THE PICK
 

@@ -1,22 +1,29 @@
 -- What the front does next.
-use Rattle.std.specs.Prelude.{◌≡◌, ℕ, [], ◌∷◌, ◌++◌, Some}
+use Rattle.std.specs.Prelude.{◌≡◌, ℕ, List, [], ◌∷◌, ◌++◌, Some}
 use Rattle.block_machine.specs.Words.{Configuration, Pick, JobKind, Taken}
 use Rattle.block_machine.specs.State.{State, Job, Sweep}
-use Rattle.block_machine.specs.Next.{Next, PickJob, PickMember, PostMember, EndSweep, next_in, next_of}
-use Rattle.block_machine.specs.Next.{Nothing as NoNext}
+use Rattle.block_machine.specs.Next.{Next, PickJob, BeginSweep, PickMember, next_in, next_of}
 use Rattle.block_machine.specs.Legal.{IsDriving, HandIsFree, IsAllowed}
+use Rattle.ram_blocks.specs.Told.{Told}
 use Rattle.nv_desk.specs.Desk.{DeskState, state_of}
-use Rattle.nv_desk_copies.specs.declared.pick.PickAnswer.{PickAnswer}
-use Rattle.nv_desk_copies.specs.declared.pick.PickAnswer.TheVariants.{Picked, Skipped, Nothing}
+use Rattle.nv_desk_copies.specs.Front.{OnlyRefusals}
 
 -- where a job waits, none is in hand, or that one may be interrupted
 abbrev pub IsFree : Configuration → State → Next → Type 0
 IsFree c s (PickJob j) = HandIsFree c s.hand j
 IsFree c s next = Unit {0}
 
--- the driver works, and what comes next may come now
+-- what comes next is a Pick
+abbrev pub IsPickNext : Next → Type 0
+IsPickNext (PickJob j) = Unit {0}
+IsPickNext (BeginSweep sw) = Unit {0}
+IsPickNext (PickMember sw id) = Unit {0}
+IsPickNext next = ⊥
+
+-- the driver works, and what comes next is a Pick that may come now
 pub record MayPickNow (d : DeskState) (ops : ℕ) : Type 0 where
   pub driving : IsDriving (state_of d) ops
+  pub picks : IsPickNext (next_of d.config (state_of d))
   pub free : IsFree d.config (state_of d) (next_of d.config (state_of d))
 
 -- one Pick more, which the machine allows, and of what it took this holds
@@ -27,22 +34,11 @@ pub record IsPicked (Holds : Taken → Type 0) (block ops : ℕ) (old new : Desk
   pub allowed : IsAllowed old.config old.cap (state_of old) (Pick block kind taken ops)
   pub copied : Holds taken
 
--- a Post without a Pick comes next, of a member or of id 0
-abbrev pub IsSkipped : ℕ → Next → Type 0
-IsSkipped block (PostMember sw id) = block ≡ id
-IsSkipped block (EndSweep sw) = block ≡ 0
-IsSkipped block next = ⊥
-
--- what was done, by what the machine turns to next
-abbrev pub AnswersNext : PickAnswer → (Holds : ℕ → Taken → Type 0) → ℕ → DeskState → DeskState → Type 0
-AnswersNext (Picked block) Holds ops old new = IsPicked (Holds block) block ops old new
-AnswersNext (Skipped block) Holds ops old new = IsSkipped block (next_of old.config (state_of old)) × (new ≡ old)
-AnswersNext Nothing Holds ops old new = (next_of old.config (state_of old) ≡ NoNext) × (new ≡ old)
-
--- the block that was picked, if one was
-abbrev pub block_in : PickAnswer → ℕ
-block_in (Picked block) = block
-block_in answer = 0
+-- the Pick of what comes next, of a block of which alone copies were refused, and of what it took this holds
+pub record PicksNext (Holds : ℕ → Taken → Type 0) (ops : ℕ) (old new : DeskState) (before after : List Told) : Type 0 where
+  pub block : ℕ
+  pub is : IsPicked (Holds block) block ops old new
+  pub counts : OnlyRefusals block before after
 
 -- THE PICK OF A JOB, AND OF A MEMBER
 

@@ -7,8 +7,8 @@ use Rattle.block_machine.specs.Blocks.{desc_of, is_synchronized, job_block, kind
 use Rattle.block_machine.specs.Sweeps.{member_job}
 use Rattle.block_machine.specs.Next.{Next, PickJob, PickMember}
 use Rattle.ram_blocks.specs.Told.{Told, refusals_of}
-use Rattle.nv_desk.specs.declared.pick.Take.{Take}
-use Rattle.nv_desk.specs.declared.pick.Take.TheVariants as take
+use Rattle.job_pending.specs.declared.take.Take.{Take}
+use Rattle.job_pending.specs.declared.take.Take.TheVariants as take
 use Rattle.nv_desk_copies.specs.declared.source.Source.{Source}
 use Rattle.nv_desk_copies.specs.declared.source.Source.TheVariants.{Nothing, Own, Ram, Copy}
 

@@ -4,19 +4,21 @@ ghost use Rattle.block_machine.specs.State.{Job as MachineJob};
 ghost use Rattle.block_machine.specs.Blocks.{job_block, names_ram};
 ghost use Rattle.block_machine.specs.Next.{next_of};
 ghost use Rattle.ram_blocks.specs.Tries.{OthersStay};
+ghost use Rattle.nv_desk_state.specs.Next.{IsNextEntry};
 ghost use Rattle.nv_desk.specs.Desk.{state_of};
-ghost use Rattle.nv_desk_copies.specs.Front.{StagesAll, AreSynchronized, CopiesStay, OnlyRefusals, given_at};
+ghost use Rattle.nv_desk_copies.specs.Front.{StagesAll, AreSynchronized, CopiesStay, given_at};
 ghost use Rattle.nv_desk_copies.specs.Takes.{source_next, IsCopied};
-ghost use Rattle.nv_desk_copies.specs.Picks.{MayPickNow, AnswersNext, block_in};
+ghost use Rattle.nv_desk_copies.specs.Picks.{MayPickNow, PicksNext};
 ghost use Rattle.nv_desk_copies.specs.Posts.{MayPostNow, MayPostSkipped, IsEndOf, IsPosted, IsPostedNext, answer_of, noted};
 
 use crate::pick::pick;
 use crate::post::post;
 use crate::skipped::post_skipped;
-use crate::{PickAnswer, Posted, Staging, Unread};
+use crate::{Posted, Staging, Unread};
 use block_machine::block_config::Config;
 use block_machine::nv_base::{Entry, GivenFrom, ReqResult};
 use nv_desk::{Desk, longest_content};
+use nv_desk_state::NextEntry;
 use ram_blocks::SyncCalls;
 use std::alloc::{AllocError, Global};
 
@@ -48,21 +50,21 @@ impl Front {
         })
     }
 
-    /// Picks what comes next: a job, a member of a request on all blocks, or that request itself. For a write of
+    /// Picks what comes next, which is this entry: a job, a member of a request on all blocks, or that request itself. For a write of
     /// synchronized RAM it copies a store that isn't older than the one that was asked for, in as many tries as are
     /// configured. It takes no memory.
-    pub fn pick<C: SyncCalls>(&mut self, ops: u64, copies: &mut C) -> PickAnswer
+    pub fn pick<C: SyncCalls>(&mut self, next: NextEntry, ops: u64, copies: &mut C)
         requires may { MayPickNow self.old.desk ops }
+        requires next { IsNextEntry next (next_of self.old.desk.config (state_of self.old.desk)) }
         requires staging { StagesAll self.old.desk.config self.old.staging }
         requires synchronized { AreSynchronized self.old.desk.config (C.told copies.old) }
-        ensures next { AnswersNext result (λ block t. IsCopied (λ n x. C.is_store copies.new block n x × C.looked copies.old copies.new block n) block (C.told copies.old) (C.told copies.new) (source_next self.old.desk.config (next_of self.old.desk.config (state_of self.old.desk))) t) ops self.old.desk self.new.desk }
+        ensures picks { PicksNext (λ block t. IsCopied (λ n x. C.is_store copies.new block n x × C.looked copies.old copies.new block n) block (C.told copies.old) (C.told copies.new) (source_next self.old.desk.config (next_of self.old.desk.config (state_of self.old.desk))) t) ops self.old.desk self.new.desk (C.told copies.old) (C.told copies.new) }
         ensures room { self.new.staging.room ≡ self.old.staging.room }
         ensures unread { self.new.unread ≡ self.old.unread }
-        ensures counts { OnlyRefusals (block_in result) (C.told copies.old) (C.told copies.new) }
         ensures stays { CopiesStay C.told C.is_store C.over copies.old copies.new }
         ensures synchronized { AreSynchronized self.old.desk.config (C.told copies.new) }
     {
-        pick(&mut self.desk, &mut self.staging, ops, copies)
+        pick(&mut self.desk, &mut self.staging, next, ops, copies);
     }
 
     /// Posts the job in hand, whose program ended with this result and source. `content` is what the device's last read
@@ -105,10 +107,16 @@ impl Front {
         ended.posted
     }
 
-    /// The Post that comes next without a Pick: of a member of a request on all blocks, or of id 0. Defaults that a member
+    /// The Post without a Pick that comes next, which is this entry: of a member of a request on all blocks, or of id 0. Defaults that a member
     /// gives to synchronized RAM are handed over as by `post`. It takes no memory.
-    pub fn post_skipped<C: SyncCalls>(&mut self, ops: u64, copies: &mut C) -> Posted
+    pub fn post_skipped<C: SyncCalls>(
+        &mut self,
+        next: NextEntry,
+        ops: u64,
+        copies: &mut C,
+    ) -> Posted
         requires may { MayPostSkipped self.old.desk ops }
+        requires next { IsNextEntry next (next_of self.old.desk.config (state_of self.old.desk)) }
         requires staging { StagesAll self.old.desk.config self.old.staging }
         requires synchronized { AreSynchronized self.old.desk.config (C.told copies.old) }
         ensures posted { IsPostedNext (next_of self.old.desk.config (state_of self.old.desk)) ops self.old.desk self.new.desk (C.told copies.old) (C.told copies.new) result }
@@ -118,7 +126,7 @@ impl Front {
         ensures stays { CopiesStay C.told C.is_store C.over copies.old copies.new }
         ensures synchronized { AreSynchronized self.old.desk.config (C.told copies.new) }
     {
-        post_skipped(&mut self.desk, &mut self.staging, ops, copies)
+        post_skipped(&mut self.desk, &mut self.staging, next, ops, copies)
     }
 
     /// Takes what the last read of a block to the caller's own buffer gave: the number of the Post that gave it, once. None

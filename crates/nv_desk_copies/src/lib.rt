@@ -17,7 +17,6 @@ mod staging;
 mod unread;
 
 pub use front::Front;
-pub use pick::PickAnswer;
 pub use post::Posted;
 pub use staging::Staging;
 pub use unread::Unread;

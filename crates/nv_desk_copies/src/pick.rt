@@ -4,63 +4,48 @@ ghost use Rattle.block_machine.specs.State.{BlockState, Job as MachineJob, Sweep
 ghost use Rattle.block_machine.specs.Blocks.{desc_of, block_at, is_synchronized, job_block};
 ghost use Rattle.block_machine.specs.Sweeps.{member_job};
 ghost use Rattle.block_machine.specs.Next.{next_in, next_of, PickMember};
-ghost use Rattle.job_pending.specs.Took.{taken_with};
+ghost use Rattle.job_pending.specs.Take.{taken_with};
+ghost use Rattle.nv_desk_state.specs.Next.{IsNextEntry};
 ghost use Rattle.nv_desk.specs.Desk.{state_of};
 ghost use Rattle.nv_desk.specs.Picks.{took_of};
 ghost use Rattle.nv_desk_copies.specs.Front.{StagesAll, AreSynchronized, CopiesStay, OnlyRefusals};
 ghost use Rattle.nv_desk_copies.specs.declared.source.Source.TheVariants as from;
 ghost use Rattle.nv_desk_copies.specs.Takes.{source_of, source_next, IsTakenFrom, IsCopied, IsCopySource};
-ghost use Rattle.nv_desk_copies.specs.Picks.{MayPickNow, MayPickJob, IsAtPick, IsPicked, AnswersNext, block_in};
+ghost use Rattle.nv_desk_copies.specs.Picks.{MayPickNow, MayPickJob, IsAtPick, IsPicked, PicksNext};
 
 use crate::Staging;
 use crate::source::{Source, source_by, source_of, tries};
 use block_machine::block_config::Config;
 use block_machine::nv_base::JobKind;
-use nv_desk::{Desk, Take};
+use job_pending::Take;
+use nv_desk::Desk;
 use nv_desk_state::{NextEntry, length};
 use ram_blocks::{SyncCalls, Tried};
 
-/// What a Pick came to: this block was picked, 0 for a request on all blocks; a Post without a Pick comes first, of this
-/// member or of 0; or there is nothing to turn to.
-#[derive(Clone, Copy)]
-pub enum PickAnswer {
-    Picked { block: u16 },
-    Skipped { block: u16 },
-    Nothing,
-}
-
-/// Picks what comes next.
+/// Picks what comes next, which is this.
 #[tactic(auto, using(crate::proofs::Sizes::nothing_copied))]
 pub fn pick<C: SyncCalls>(
     desk: &mut Desk,
     staging: &mut Staging,
+    next: NextEntry,
     ops: u64,
     copies: &mut C,
-) -> PickAnswer
+)
     requires may { MayPickNow desk.old ops }
+    requires next { IsNextEntry next (next_of desk.old.config (state_of desk.old)) }
     requires staging { StagesAll desk.old.config staging.old }
     requires synchronized { AreSynchronized desk.old.config (C.told copies.old) }
-    ensures next { AnswersNext result (λ block t. IsCopied (λ n x. C.is_store copies.new block n x × C.looked copies.old copies.new block n) block (C.told copies.old) (C.told copies.new) (source_next desk.old.config (next_of desk.old.config (state_of desk.old))) t) ops desk.old desk.new }
+    ensures picks { PicksNext (λ block t. IsCopied (λ n x. C.is_store copies.new block n x × C.looked copies.old copies.new block n) block (C.told copies.old) (C.told copies.new) (source_next desk.old.config (next_of desk.old.config (state_of desk.old))) t) ops desk.old desk.new (C.told copies.old) (C.told copies.new) }
     ensures room { staging.new.room ≡ staging.old.room }
-    ensures counts { OnlyRefusals (block_in result) (C.told copies.old) (C.told copies.new) }
     ensures stays { CopiesStay C.told C.is_store C.over copies.old copies.new }
 {
-    match desk.next() {
-        NextEntry::PickJob { block } => {
-            pick_job(desk, staging, ops, copies);
-            PickAnswer::Picked { block }
-        }
-        NextEntry::PickMember { block } => {
-            pick_member(desk, staging, block, ops, copies);
-            PickAnswer::Picked { block }
-        }
-        NextEntry::BeginSweep => {
-            desk.pick_sweep(ops);
-            PickAnswer::Picked { block: 0 }
-        }
-        NextEntry::PostMember { block } => PickAnswer::Skipped { block },
-        NextEntry::EndSweep => PickAnswer::Skipped { block: 0 },
-        NextEntry::Nothing => PickAnswer::Nothing,
+    match next {
+        NextEntry::PickJob => pick_job(desk, staging, ops, copies),
+        NextEntry::PickMember { block } => pick_member(desk, staging, block, ops, copies),
+        NextEntry::BeginSweep => desk.pick_sweep(ops),
+        NextEntry::PostMember { .. } => {}
+        NextEntry::EndSweep { .. } => {}
+        NextEntry::Nothing => {}
     }
 }
 
@@ -104,7 +89,7 @@ fn pick_member<C: SyncCalls>(
 {
     let source = source_of_member(desk.config(), block, desk.sweep_writes());
     let take = stage(desk, staging, block, source, copies);
-    desk.pick_member(take, staging.bytes(), ops);
+    desk.pick_member(block, take, staging.bytes(), ops);
 }
 
 // Where the Pick of a member takes its content from.

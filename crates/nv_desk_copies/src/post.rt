@@ -1,10 +1,9 @@
 // Posts of the job in hand.
-ghost use Rattle.std.specs.Prelude.{◌≡◌, ℕ, List, Option, Some, length, IfSome};
+ghost use Rattle.std.specs.Prelude.{◌≡◌, Some, length, IfSome};
 ghost use Rattle.block_machine.specs.State.{Job as MachineJob};
 ghost use Rattle.block_machine.specs.Blocks.{desc_of, job_block, kind_of, names_ram};
-ghost use Rattle.block_machine.specs.Results.{took_none, checks_id, checked_id};
+ghost use Rattle.block_machine.specs.Results.{checks_id, checked_id};
 ghost use Rattle.block_machine.specs.nv_base.declared.job.GivenFrom.TheVariants as GivenFrom;
-ghost use Rattle.job_pending.specs.Took.{taken_last};
 ghost use Rattle.ram_blocks.specs.Tries.{OthersStay};
 ghost use Rattle.nv_desk.specs.Desk.{state_of};
 ghost use Rattle.nv_desk_copies.specs.Front.{StagesAll, AreSynchronized, CopiesStay};
@@ -15,7 +14,7 @@ use crate::given::{defaults_of, stage_given};
 use crate::over::{End, hand_over};
 use block_machine::block_config::Config;
 use block_machine::nv_base::{GivenFrom, JobKind, ReqResult};
-use job_pending::{Job, LastPick, names_ram};
+use job_pending::{Job, names_ram};
 use nv_desk::Desk;
 use ram_blocks::SyncCalls;
 
@@ -111,7 +110,7 @@ fn ended(
     ensures room { staging.new.room ≡ staging.old.room }
 {
     let block = job.block();
-    if took_none(job.last_pick()) {
+    if job.took_none() {
         return End {
             answer: ReqResult::NotOk,
             gives: false,
@@ -129,13 +128,6 @@ fn ended(
         return checked(desk.config(), staging, answer, gives);
     }
     End { answer, gives }
-}
-
-// Whether a Pick got no content to write.
-fn took_none(last: LastPick) -> bool
-    ensures { (content : Option (List ℕ × ℕ)) → result ≡ took_none (taken_last content last) }
-{
-    matches!(last, LastPick::Refused { .. } | LastPick::Stale { .. })
 }
 
 // Whether block 1 is read in a request on all blocks.

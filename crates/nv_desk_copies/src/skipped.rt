@@ -7,6 +7,7 @@ ghost use Rattle.block_machine.specs.Sweeps.{sweep_result};
 ghost use Rattle.block_machine.specs.Next.{next_of, PostMember, EndSweep};
 ghost use Rattle.ram_blocks.specs.Told.{Told};
 ghost use Rattle.ram_blocks.specs.Tries.{OthersStay};
+ghost use Rattle.nv_desk_state.specs.Next.{IsNextEntry};
 ghost use Rattle.nv_desk.specs.Desk.{state_of};
 ghost use Rattle.nv_desk.specs.AllBlocks.{MayFinish};
 ghost use Rattle.nv_desk_copies.specs.Front.{StagesAll, AreSynchronized, CopiesStay};
@@ -21,15 +22,17 @@ use nv_desk::Desk;
 use nv_desk_state::NextEntry;
 use ram_blocks::SyncCalls;
 
-/// The Post that comes without a Pick: of a member of a request on all blocks, or of id 0.
+/// The Post without a Pick that comes next, which is this: of a member of a request on all blocks, or of id 0.
 #[tactic(auto, using(crate::proofs::Sizes::nothing_copied))]
 pub fn post_skipped<C: SyncCalls>(
     desk: &mut Desk,
     staging: &mut Staging,
+    next: NextEntry,
     ops: u64,
     copies: &mut C,
 ) -> Posted
     requires may { MayPostSkipped desk.old ops }
+    requires next { IsNextEntry next (next_of desk.old.config (state_of desk.old)) }
     requires staging { StagesAll desk.old.config staging.old }
     requires synchronized { AreSynchronized desk.old.config (C.told copies.old) }
     ensures posted { IsPostedNext (next_of desk.old.config (state_of desk.old)) ops desk.old desk.new (C.told copies.old) (C.told copies.new) result }
@@ -37,9 +40,9 @@ pub fn post_skipped<C: SyncCalls>(
     ensures others { OthersStay result.block (C.told copies.old) (C.told copies.new) }
     ensures stays { CopiesStay C.told C.is_store C.over copies.old copies.new }
 {
-    match desk.next() {
+    match next {
         NextEntry::PostMember { block } => post_member(desk, staging, block, ops, copies),
-        NextEntry::EndSweep => post_sweep(desk, ops),
+        NextEntry::EndSweep { result } => post_sweep(desk, result, ops),
         _ => Posted {
             block: 0,
             result: ReqResult::Fine,
@@ -48,13 +51,12 @@ pub fn post_skipped<C: SyncCalls>(
 }
 
 // That of id 0.
-fn post_sweep(desk: &mut Desk, ops: u64) -> Posted
-    requires { MayFinish desk.old ops }
+fn post_sweep(desk: &mut Desk, answer: ReqResult, ops: u64) -> Posted
+    requires { MayFinish desk.old answer ops }
     ensures posted { (sw : MachineSweep) (told : List Told) → next_of desk.old.config (state_of desk.old) ≡ EndSweep sw
         → IsPosted (Unit {0}) 0 false (sweep_result sw, None) ops desk.old desk.new told told result }
 {
-    let answer = desk.sweep_result();
-    desk.post_sweep(ops);
+    desk.post_sweep(answer, ops);
     Posted {
         block: 0,
         result: answer,
@@ -81,7 +83,13 @@ fn post_member<C: SyncCalls>(
 {
     let end = unpicked(desk, staging, block);
     let end = hand_over(desk.config(), staging, block, true, end, copies);
-    desk.post_member(end.answer, staging.given(end.gives), end.refused, ops);
+    desk.post_member(
+        block,
+        end.answer,
+        staging.given(end.gives),
+        end.refused,
+        ops,
+    );
     Posted {
         block,
         result: end.answer,

@@ -11,7 +11,7 @@ use Rattle.block_states.specs.States.{KeptBlocks, changed_at}
 use Rattle.job_pending.specs.Pending.{Pending, Agree as AreJobs}
 use Rattle.multi_jobs.specs.declared.sweep.MemberFacts.{MemberFacts}
 use Rattle.multi_jobs.specs.Laws.{Agree, AreFacts, IsNext}
-use Rattle.multi_jobs.specs.Sweep.{SweepState, left_of, next_member, moved, step_of}
+use Rattle.multi_jobs.specs.Sweep.{SweepState, left_of, next_member, moved, place_behind, step_of}
 use Rattle.multi_jobs.proofs.Configured.{members_are_configured}
 use Rattle.multi_jobs.proofs.NextSteps.{step_is_next}
 use Rattle.multi_jobs.proofs.Noted.{members_are_noted}
@@ -32,20 +32,12 @@ canceled_noted c p sw id h = λ r. let a = h r in record {
   left = a.left;
 }
 
-member_next : (c : Configuration) (s : SweepState) (id : ℕ) (rest : List ℕ) → s.canceled ≡ false → left_of c s ≡ id ∷ rest → next_member c s ≡ Some id
+pub member_next : (c : Configuration) (s : SweepState) (id : ℕ) (rest : List ℕ) → s.canceled ≡ false → left_of c s ≡ id ∷ rest → next_member c s ≡ Some id
 member_next c s id rest on left = rw (on, left) refl
 
-pub taken_noted : (c : Configuration) (p : PendingSweep) (sw : Sweep) (id : ℕ) (rest : List ℕ) (n : ℕ) → IsSweep c p sw
-    → sw.canceled ≡ false → sw.left ≡ id ∷ rest
-    → IsNoted c (record p { members = moved c p.members; entries = n }) (record sw { left = drop 1 sw.left }) id
-taken_noted c p sw id rest n h on left = λ r.
-    members_are_noted c p.members (record sw { under_way = true }) id r (is_done r) h.members
-    (member_next c p.members id rest (h.members.canceled ∙ on) (h.members.left ∙ left)) (λ e. refl)
-
--- and the others are left
-pub taken_left : (c : Configuration) (p : PendingSweep) (sw : Sweep) → IsSweep c p sw → sw.canceled ≡ false
+others_left : (c : Configuration) (p : PendingSweep) (sw : Sweep) → IsSweep c p sw → sw.canceled ≡ false
     → Agree c (moved c p.members) (record sw { under_way = true; left = drop 1 sw.left })
-taken_left c p sw h on = record {
+others_left c p sw h on = record {
   under_way = refl;
   writes = h.members.writes;
   canceled = h.members.canceled;
@@ -53,6 +45,28 @@ taken_left c p sw h on = record {
   spoiled = h.members.spoiled;
   left = takes_the_first c p.members (h.members.canceled ∙ on) ∙ ap (drop 1) h.members.left;
 }
+
+-- it is behind that member
+passed : (c : Configuration) (p : PendingSweep) (sw : Sweep) (id : ℕ) (rest : List ℕ) → IsSweep c p sw → sw.canceled ≡ false → sw.left ≡ id ∷ rest
+    → moved c p.members ≡ record p.members { place = place_behind p.members.place id }
+passed c p sw id rest h on left =
+    rw (member_next c p.members id rest (h.members.canceled ∙ on) (h.members.left ∙ left)) refl
+
+pub taken_noted : (c : Configuration) (p : PendingSweep) (sw : Sweep) (id : ℕ) (rest : List ℕ) (n : ℕ) → IsSweep c p sw
+    → sw.canceled ≡ false → sw.left ≡ id ∷ rest
+    → IsNoted c (record p { members = record p.members { place = place_behind p.members.place id }; entries = n })
+    (record sw { left = drop 1 sw.left }) id
+taken_noted c p sw id rest n h on left =
+    subst (λ (m : SweepState). IsNoted c (record p { members = m; entries = n }) (record sw { left = drop 1 sw.left }) id)
+    (passed c p sw id rest h on left) (λ r.
+    members_are_noted c p.members (record sw { under_way = true }) id r (is_done r) h.members
+    (member_next c p.members id rest (h.members.canceled ∙ on) (h.members.left ∙ left)) (λ e. refl))
+
+-- and the others are left
+pub taken_left : (c : Configuration) (p : PendingSweep) (sw : Sweep) (id : ℕ) (rest : List ℕ) → IsSweep c p sw → sw.canceled ≡ false → sw.left ≡ id ∷ rest
+    → Agree c (record p.members { place = place_behind p.members.place id }) (record sw { under_way = true; left = drop 1 sw.left })
+taken_left c p sw id rest h on left =
+    subst (λ (m : SweepState). Agree c m (record sw { under_way = true; left = drop 1 sw.left })) (passed c p sw id rest h on left) (others_left c p sw h on)
 
 -- with the entries that are reserved for them
 pub entries_left : (c : Configuration) (sw : Sweep) (id : ℕ) (rest : List ℕ) (entries n : ℕ) → sw.left ≡ id ∷ rest → entries ≡ sweep_entries c sw

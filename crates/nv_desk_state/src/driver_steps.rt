@@ -7,7 +7,7 @@ ghost use Rattle.block_machine.specs.Sweeps.{after_member};
 ghost use Rattle.block_machine.specs.Next.{next_in};
 ghost use Rattle.block_machine.specs.StartUp.{started_with};
 ghost use Rattle.block_machine.specs.Steps.{in_hand, wrote, posted};
-ghost use Rattle.job_pending.specs.Took.{taken_with};
+ghost use Rattle.job_pending.specs.Take.{taken_with};
 ghost use Rattle.block_states.specs.States.{rooms_of};
 ghost use Rattle.nv_desk_state.specs.Pending.{AreSweeps, IsMember};
 ghost use Rattle.nv_desk_state.specs.Kept.{Agrees};
@@ -15,8 +15,8 @@ ghost use Rattle.nv_desk_state.specs.Kept.{Agrees};
 use crate::kept::Kept;
 use crate::sweep::PendingSweep;
 use block_machine::block_config::Config;
-use block_machine::nv_base::{Marks, ReqResult};
-use job_pending::{Took, names_ram};
+use block_machine::nv_base::{Bytes, Marks, ReqResult};
+use job_pending::{Take, names_ram};
 
 impl Kept {
     /// The power goes off.
@@ -26,13 +26,13 @@ impl Kept {
         self.off = true;
     }
 
-    /// The next job comes in hand; one that is there is interrupted.
-    pub fn pick(&mut self, config: &Config, took: Took)
+    /// The next job comes in hand with what it takes, and the copy of that, if one was made; one that is there is interrupted.
+    pub fn pick(&mut self, config: &Config, take: Take, copy: Option<Bytes>)
         requires { IfSome self.old.jobs.hand (λ h. self.old.jobs.reserved + h.reserved + 2 < 2 ^ 32) }
         ensures { (s : State) (j : MachineJob) → Agrees config.now self.old s → next_in config.now s.waiting ≡ Some j
-            → Agrees config.now self.new (in_hand config.now s j (taken_with j.content took)) }
+            → Agrees config.now self.new (in_hand config.now s j (taken_with j.content (take, copy))) }
     {
-        self.jobs.pick(config, took);
+        self.jobs.pick(config, take, copy);
     }
 
     /// The job in hand wrote an instance.

@@ -8,18 +8,19 @@ ghost use Rattle.nv_desk_state.specs.Next.{IsNextEntry};
 
 use crate::kept::Kept;
 use block_machine::block_config::Config;
+use block_machine::nv_base::ReqResult;
 use multi_jobs::SweepStep;
 
 /// What the manager turns to next: nothing but the job in hand, if there is one; the Pick of a job on a block, of a request
-/// on all blocks, or of its member; or a Post without a Pick, of a member or of block id 0.
+/// on all blocks, or of its member; or a Post without a Pick, of a member or of block id 0 with this result.
 #[derive(Clone, Copy)]
 pub enum NextEntry {
     Nothing,
-    PickJob { block: u16 },
+    PickJob,
     BeginSweep,
     PickMember { block: u16 },
     PostMember { block: u16 },
-    EndSweep,
+    EndSweep { result: ReqResult },
 }
 
 impl Kept {
@@ -28,7 +29,7 @@ impl Kept {
         ensures { (s : State) → Agrees config.now self.now s → IsNextEntry result (next_of config.now s) }
     {
         match self.jobs.next() {
-            Some(job) => NextEntry::PickJob { block: job.block() },
+            Some(_first) => NextEntry::PickJob,
             None => self.next_beside_jobs(config),
         }
     }
@@ -63,6 +64,6 @@ fn entry_of(step: SweepStep) -> NextEntry
         SweepStep::Skip { block } | SweepStep::Defaults { block } => {
             NextEntry::PostMember { block }
         }
-        SweepStep::Ended { .. } => NextEntry::EndSweep,
+        SweepStep::Ended { result } => NextEntry::EndSweep { result },
     }
 }

@@ -24,8 +24,9 @@ impl Kept {
                 result: ReqResult::Fine,
             };
         };
-        let facts = self.member_facts(config, sweep.members.peek(config));
-        sweep.members.step(config, facts)
+        let member = sweep.members.peek(config);
+        let facts = self.member_facts(config, member);
+        sweep.members.step(config, member, facts)
     }
 
     // What decides whether a member is picked, where there is one.

@@ -6,7 +6,6 @@ ghost use Rattle.block_machine.specs.Sweeps.{member_entries, sweep_entries, swee
 ghost use Rattle.block_machine.specs.Reply.{can_cancel};
 ghost use Rattle.nv_desk_state.specs.Pending.{IsSweep, IsNoted};
 
-use block_machine::block_config::Config;
 use block_machine::nv_base::{JobKind, ReqResult};
 use multi_jobs::Sweep;
 
@@ -61,15 +60,15 @@ impl PendingSweep {
         self.entries = self.entries.saturating_sub(1);
     }
 
-    /// Its next member comes in hand, or is posted without a Pick, for which these entries were reserved.
-    pub fn take(&mut self, config: &Config, entries: u32)
-        ensures left { (sw : MachineSweep) (id : ℕ) (rest : List ℕ) → IsSweep config.now self.old sw → sw.canceled ≡ false
-            → sw.left ≡ id ∷ rest → entries ≡ member_entries config.now sw.writes id
-            → IsSweep config.now self.new (record sw { left = drop 1 sw.left }) }
-        ensures noted { (sw : MachineSweep) (id : ℕ) (rest : List ℕ) → IsSweep config.now self.old sw → sw.canceled ≡ false
-            → sw.left ≡ id ∷ rest → IsNoted config.now self.new (record sw { left = drop 1 sw.left }) id }
+    /// Its next member, this block, comes in hand, or is posted without a Pick, for which these entries were reserved.
+    pub fn take(&mut self, block: u16, entries: u32)
+        ensures left { (c : Configuration) (sw : MachineSweep) (rest : List ℕ) → IsSweep c self.old sw → sw.canceled ≡ false
+            → sw.left ≡ block ∷ rest → entries ≡ member_entries c sw.writes block
+            → IsSweep c self.new (record sw { left = drop 1 sw.left }) }
+        ensures noted { (c : Configuration) (sw : MachineSweep) (rest : List ℕ) → IsSweep c self.old sw → sw.canceled ≡ false
+            → sw.left ≡ block ∷ rest → IsNoted c self.new (record sw { left = drop 1 sw.left }) block }
     {
-        self.members.take(config);
+        self.members.pass(block);
         self.entries = self.entries.saturating_sub(entries);
     }
 

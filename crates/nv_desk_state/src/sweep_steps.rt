@@ -6,7 +6,7 @@ ghost use Rattle.block_machine.specs.Blocks.{job_block, keeps_ram};
 ghost use Rattle.block_machine.specs.Sweeps.{member_job};
 ghost use Rattle.block_machine.specs.Next.{PostMember, EndSweep};
 ghost use Rattle.block_machine.specs.Steps.{in_hand, with_member, posted_next};
-ghost use Rattle.job_pending.specs.Took.{taken_with};
+ghost use Rattle.job_pending.specs.Take.{taken_with};
 ghost use Rattle.nv_desk_state.specs.Kept.{Agrees};
 ghost use Rattle.nv_desk_state.specs.Pending.{AreSweeps, IsAtMember, IsTaken};
 
@@ -15,8 +15,8 @@ use crate::kept::Kept;
 use crate::shares::member_entries;
 use crate::sweep::PendingSweep;
 use block_machine::block_config::Config;
-use block_machine::nv_base::ReqResult;
-use job_pending::{Job, Took};
+use block_machine::nv_base::{Bytes, ReqResult};
+use job_pending::{Job, Take};
 
 impl Kept {
     /// The request on all blocks is picked, and its sweep begins.
@@ -29,18 +29,18 @@ impl Kept {
         }
     }
 
-    /// The next member comes in hand.
-    pub fn pick_member(&mut self, config: &Config, block: u16, took: Took)
+    /// The next member, this block, comes in hand with what it takes, and the copy of that, if one was made.
+    pub fn pick_member(&mut self, config: &Config, block: u16, take: Take, copy: Option<Bytes>)
         requires { block < length self.old.jobs.slots }
         ensures { (s : State) (sw : MachineSweep) → Agrees config.now self.old s → IsAtMember s sw block
             → Agrees config.now self.new (in_hand config.now (with_member s sw block) (member_job config.now sw block)
-            (taken_with None took)) }
+            (taken_with None (take, copy))) }
     {
         let Some(job) = take_next(&mut self.sweep, config, block) else {
             return;
         };
         self.blocks.set_status(block, ReqResult::Pending);
-        self.jobs.pick_member(job, took);
+        self.jobs.pick_member(job, take, copy);
     }
 
     /// The next member is posted without a Pick, and gives a content or nothing.
@@ -84,6 +84,6 @@ fn take_next(sweep: &mut Option<PendingSweep>, config: &Config, block: u16) -> O
     };
     let writes = sweep.members.writes();
     let entries = member_entries(config, writes, block);
-    sweep.take(config, entries);
+    sweep.take(block, entries);
     Some(Job::of_member(sweep.number, block, writes, entries))
 }

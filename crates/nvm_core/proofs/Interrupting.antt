@@ -12,13 +12,13 @@ use Rattle.nvm_laws.specs.block_machine.Next.{Next}
 use Rattle.nvm_laws.specs.block_machine.Legal.{HandIsFree}
 use Rattle.nvm_laws.specs.nv_desk.Desk.{DeskState, state_of}
 use Rattle.nvm_laws.specs.nv_desk.Picks.{IsInterruption}
-use Rattle.nvm_laws.specs.nv_desk_copies.Picks.{IsFree}
+use Rattle.nvm_laws.specs.nv_desk_copies.Picks.{IsFree, IsPickNext}
 use Rattle.nvm_laws.specs.job_programs.Program.{Program}
 use Rattle.nvm_laws.specs.job_progress.Hand.{HandState}
 use Rattle.nvm_laws.specs.job_progress.JobInHand.{IsInHand, IsAt}
 use Rattle.nvm_laws.specs.Ties.{IsTied}
 use Rattle.nvm_laws.proofs.DueTurning.{next_is}
-use Rattle.nvm_core.specs.Choice.{IsPickNext, IsPickable}
+use Rattle.nvm_core.specs.Choice.{IsPickable}
 use Rattle.nvm_core.specs.OperationStart.{LeavesDevice}
 use Rattle.nvm_core.proofs.WorkingBefore.{cancel_leaves}
 

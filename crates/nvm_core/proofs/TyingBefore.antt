@@ -1,19 +1,17 @@
 -- The parts of the stack behind an entry.
 use Rattle.std.specs.Prelude.{IsTrue, option_map}
-use Rattle.std.proofs.Common.{◌≡◌, ℕ, ◌≤◌, Bool, true, false, Option, Some, None, refl, sym, ap, ◌∙◌, subst, inl, inr, arith}
+use Rattle.std.proofs.Common.{◌≡◌, ℕ, ◌≤◌, Bool, true, false, List, Option, Some, None, refl, sym, ap, ◌∙◌, subst, inl, inr, arith}
 use Rattle.nvm_laws.specs.nv_base.Entry.{ops_of}
 use Rattle.nvm_laws.specs.memif.Told as device
 use Rattle.nvm_laws.specs.memif.Told.{DeviceTold, is_open}
 use Rattle.nvm_laws.specs.block_config.Lengths.{lengths_of}
 use Rattle.nvm_laws.specs.block_machine.Words.{Entry, Pick, JobKind, Taken, Configuration}
 use Rattle.nvm_laws.specs.block_machine.State.{State, Job}
-use Rattle.nvm_laws.specs.block_machine.Next.{Next, Nothing, PickJob, BeginSweep, PickMember, PostMember, EndSweep, next_of}
+use Rattle.nvm_laws.specs.ram_blocks.Told.{Told}
 use Rattle.nvm_laws.specs.block_machine.Steps.{step}
 use Rattle.nvm_laws.specs.block_machine.Legal.{IsAllowed, IsDriving}
 use Rattle.nvm_laws.specs.nv_desk.Desk.{DeskState, state_of}
-use Rattle.nvm_laws.specs.nv_desk_copies.Picks.{IsPicked, IsSkipped, AnswersNext}
-use Rattle.nvm_laws.specs.nv_desk_copies.declared.pick.PickAnswer.{PickAnswer}
-use Rattle.nvm_laws.specs.nv_desk_copies.declared.pick.PickAnswer.TheVariants as answer
+use Rattle.nvm_laws.specs.nv_desk_copies.Picks.{IsPicked, PicksNext}
 use Rattle.nvm_laws.specs.job_progress.Hand.{HandState}
 use Rattle.nvm_laws.specs.job_progress.JobInHand.{IsInHand, IsPaired}
 use Rattle.nvm_laws.specs.job_progress.Begins.{hand_for}
@@ -24,7 +22,7 @@ use Rattle.nvm_laws.specs.Halves.{Adds, AddsPick}
 use Rattle.nvm_laws.proofs.block_laws.HistoryLaws.{histories_step}
 use Rattle.nvm_laws.proofs.job_progress.Powering.{jobs_keep_power}
 use Rattle.nvm_laws.proofs.job_progress.Beginning.{picks_take_jobs, hands_begin}
-use Rattle.nvm_core.specs.Choice.{HasHand, HasNone, IsPickNext, IsPickable}
+use Rattle.nvm_core.specs.Choice.{HasHand, HasNone, IsPickable}
 use Rattle.nvm_core.specs.declared.choice.Case.{Case}
 
 -- the driver works
@@ -75,20 +73,9 @@ picked_tied desk new d hand Holds may picked begun =
     (sym (begun ∙ hand_is desk new e d is.adds))
     (picked_paired desk.config desk.cap (state_of desk) block (device.ops_of d) is.kind is.taken d is.allowed may.closed))
 
--- where a Pick comes next it is made
-not_skipped : (block : ℕ) (n : Next) → IsPickNext n → IsSkipped block n → ⊥
-not_skipped block (PickJob j) picks skipped = skipped
-not_skipped block (BeginSweep sw) picks skipped = skipped
-not_skipped block (PickMember sw id) picks skipped = skipped
-not_skipped block Nothing picks skipped = picks
-not_skipped block (PostMember sw id) picks skipped = picks
-not_skipped block (EndSweep sw) picks skipped = picks
-
-pub picks_next : (a : PickAnswer) (Holds : ℕ → Taken → Type 0) (ops at : ℕ) (old new : DeskState) → ops ≡ at → IsPickNext (next_of old.config (state_of old))
-    → AnswersNext a Holds ops old new → AddsPick Holds at old new
-picks_next (answer.Picked block) Holds ops at old new same picks is = (block, subst (λ (n : ℕ). IsPicked (Holds block) block n old new) same is)
-picks_next (answer.Skipped block) Holds ops at old new same picks is = absurd (not_skipped block (next_of old.config (state_of old)) picks is.0)
-picks_next answer.Nothing Holds ops at old new same picks is = absurd (subst IsPickNext is.0 picks)
+pub picks_next : (Holds : ℕ → Taken → Type 0) (ops at : ℕ) (old new : DeskState) (before after : List Told) → ops ≡ at
+    → PicksNext Holds ops old new before after → AddsPick Holds at old new
+picks_next Holds ops at old new before after same is = (is.block, subst (λ (n : ℕ). IsPicked (Holds is.block) is.block n old new) same is.is)
 
 -- THE HAND
 pub held_in : (finished : Bool) (desk : DeskState) (hand : Option HandState) (d : DeviceTold) → IsTied desk hand d → (held : HasHand finished desk hand)

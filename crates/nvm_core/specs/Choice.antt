@@ -3,11 +3,12 @@ use Rattle.std.specs.Prelude.{◌≡◌, ◌≤◌, ℕ, Bool, true, false, is_s
 use Rattle.nvm_laws.specs.memif.Told.{DeviceTold, ops_of, is_open}
 use Rattle.nvm_laws.specs.block_config.Lengths.{lengths_of}
 use Rattle.nvm_laws.specs.block_machine.Words.{BlockDesc, JobKind}
-use Rattle.nvm_laws.specs.block_machine.Next.{Next, PickJob, BeginSweep, PickMember, next_of}
+use Rattle.nvm_laws.specs.block_machine.Next.{Next, next_of}
 use Rattle.nvm_laws.specs.block_machine.Next.{Nothing as NoNext}
 use Rattle.nvm_laws.specs.nv_desk.Desk.{DeskState, state_of}
 use Rattle.nvm_laws.specs.nv_desk.Picks.{IsInterruption}
-use Rattle.nvm_laws.specs.nv_desk_copies.Picks.{IsFree}
+use Rattle.nv_desk_state.specs.Next.{IsNextEntry}
+use Rattle.nvm_laws.specs.nv_desk_copies.Picks.{IsFree, IsPickNext}
 use Rattle.nvm_laws.specs.nv_desk_copies.Posts.{IsPostNext}
 use Rattle.nvm_laws.specs.job_progress.Hand.{HandState, is_finished, began, refused}
 use Rattle.nvm_core.specs.declared.choice.Case.{Case}
@@ -22,17 +23,10 @@ pub record HasHand (finished : Bool) (desk : DeskState) (hand : Option HandState
   pub is : hand ≡ Some held
   pub end : is_finished held.step ≡ finished
 
--- what comes next is a Pick
-abbrev pub IsPickNext : Next → Type 0
-IsPickNext (PickJob j) = Unit {0}
-IsPickNext (BeginSweep sw) = Unit {0}
-IsPickNext (PickMember sw id) = Unit {0}
-IsPickNext next = ⊥
-
--- the case by what comes next: a Pick, a Post without a Pick, or nothing
+-- the case by what comes next, with which it is: a Pick, a Post without a Pick, or nothing
 abbrev pub IsNextCase : Case → Next → Type 0
-IsNextCase case.Pick next = IsPickNext next
-IsNextCase case.Skip next = IsPostNext next
+IsNextCase (case.Pick it) next = IsPickNext next × IsNextEntry it next
+IsNextCase (case.Skip it) next = IsPostNext next × IsNextEntry it next
 IsNextCase case.Rest next = next ≡ NoNext
 IsNextCase other next = ⊥
 

@@ -60,12 +60,12 @@ pub fn first_half<D: MemDevice, C: SyncCalls>(
             go_on(&front.desk, hand, device);
             Act::Device
         }
-        Case::Pick => {
-            pick(front, hand, device, copies);
+        Case::Pick { next } => {
+            pick(front, next, hand, device, copies);
             Act::Ended(Turned::Picked)
         }
-        Case::Skip => {
-            skip(front, hand, device, copies);
+        Case::Skip { next } => {
+            skip(front, next, hand, device, copies);
             Act::Ended(Turned::Posted)
         }
         Case::Rest => {

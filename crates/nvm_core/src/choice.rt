@@ -18,10 +18,10 @@ pub(crate) enum Case {
     Interrupt,
     /// The job in hand goes on.
     Work,
-    /// No job is in hand, and a Pick comes next.
-    Pick,
-    /// No job is in hand, and a Post without a Pick comes next.
-    Skip,
+    /// No job is in hand, and this Pick comes next.
+    Pick { next: NextEntry },
+    /// No job is in hand, and this Post without a Pick comes next.
+    Skip { next: NextEntry },
     /// No job is in hand, and nothing comes next.
     Rest,
 }
@@ -49,11 +49,12 @@ pub(crate) fn case_of(desk: &Desk, hand: &Option<Hand>) -> Case
 fn next_case(desk: &Desk) -> Case
     ensures { IsNextCase result (next_of desk.now.config (state_of desk.now)) }
 {
-    match desk.next() {
-        NextEntry::PickJob { .. } | NextEntry::BeginSweep | NextEntry::PickMember { .. } => {
-            Case::Pick
+    let next = desk.next();
+    match next {
+        NextEntry::PickJob | NextEntry::BeginSweep | NextEntry::PickMember { .. } => {
+            Case::Pick { next }
         }
-        NextEntry::PostMember { .. } | NextEntry::EndSweep => Case::Skip,
+        NextEntry::PostMember { .. } | NextEntry::EndSweep { .. } => Case::Skip { next },
         NextEntry::Nothing => Case::Rest,
     }
 }

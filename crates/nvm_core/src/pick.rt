@@ -6,6 +6,7 @@ ghost use Rattle.nvm_laws.specs.memif.Calls.{IsCanceled};
 ghost use Rattle.nvm_laws.specs.block_machine.Blocks.{job_block, kind_of};
 ghost use Rattle.nvm_laws.specs.block_machine.Results.{took_none};
 ghost use Rattle.nvm_laws.specs.block_machine.Next.{next_of};
+ghost use Rattle.nv_desk_state.specs.Next.{IsNextEntry};
 ghost use Rattle.nvm_laws.specs.nv_desk.Desk.{state_of};
 ghost use Rattle.nvm_laws.specs.nv_desk.Picks.{IsInterruption};
 ghost use Rattle.nvm_laws.specs.nv_desk_copies.Front.{StagesAll, AreSynchronized, CopiesStay};
@@ -21,7 +22,8 @@ ghost use Rattle.nvm_core.specs.Lowers.{IsWithinMost};
 ghost use Rattle.nvm_core.specs.Reads.{NotesReads};
 ghost use Rattle.nvm_core.specs.OperationStart.{LeavesDevice};
 
-use job_pending::{Job, LastPick};
+use job_pending::Job;
+use nv_desk_state::NextEntry;
 use nvm_laws::block_config::BlockDesc;
 use nvm_laws::job_progress::Hand;
 use nvm_laws::memif::MemDevice;
@@ -57,17 +59,19 @@ pub(crate) fn interrupt<D: MemDevice, C: SyncCalls>(
     ensures cancels { IfElse (is_open (D.told device.old).stand) (IsCanceled (D.told device.old) (D.told device.new)) (D.told device.new ≡ D.told device.old) }
 {
     device.cancel();
-    pick(front, hand, device, copies);
+    pick(front, NextEntry::PickJob, hand, device, copies);
 }
 
-/// The Pick that comes next, at a device that has no job open.
+/// The Pick that comes next, which is this, at a device that has no job open.
 pub(crate) fn pick<D: MemDevice, C: SyncCalls>(
     front: &mut Front,
+    next: NextEntry,
     hand: &mut Option<Hand>,
     device: &D,
     copies: &mut C,
 )
     requires may { IsPickable front.old.desk (D.told device.now) }
+    requires next { IsNextEntry next (next_of front.old.desk.config (state_of front.old.desk)) }
     requires staging { StagesAll front.old.desk.config front.old.staging }
     requires synchronized { AreSynchronized front.old.desk.config (C.told copies.old) }
     ensures picks { AddsPick (λ block t. IsCopied (λ n x. C.is_store copies.new block n x × C.looked copies.old copies.new block n) block (C.told copies.old) (C.told copies.new) (source_next front.old.desk.config (next_of front.old.desk.config (state_of front.old.desk))) t)
@@ -82,8 +86,8 @@ pub(crate) fn pick<D: MemDevice, C: SyncCalls>(
     ensures left { IsWithinMost (program_in_hand hand.new) (D.told device.now) }
     ensures hand { hand.new ≡ hand_in front.new.desk }
 {
-    let _left = device.left();
-    front.pick(device.ops(), copies);
+    let _status = device.status();
+    front.pick(next, device.ops(), copies);
     *hand = hand_of(&front.desk);
     let _blocks = front.desk.config().blocks();
     let _count = front.desk.history().len();
@@ -102,10 +106,9 @@ fn hand_of(desk: &Desk) -> Option<Hand>
 fn begun(desc: &BlockDesc, job: &Job, index: u8) -> Hand
     ensures { result ≡ begun_by (took_none job.now.taken) desc.now (job_block job.now) index (kind_of job.now) }
 {
-    match job.last_pick() {
-        LastPick::Refused { .. } | LastPick::Stale { .. } => {
-            Hand::refused(desc, job.block(), index, job.kind())
-        }
-        _ => Hand::begin(desc, job.block(), index, job.kind()),
+    if job.took_none() {
+        Hand::refused(desc, job.block(), index, job.kind())
+    } else {
+        Hand::begin(desc, job.block(), index, job.kind())
     }
 }

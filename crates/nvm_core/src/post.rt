@@ -16,6 +16,7 @@ ghost use Rattle.nvm_core.specs.Choice.{HasHand, HasNone};
 ghost use Rattle.nvm_core.specs.Lowers.{posts_left};
 ghost use Rattle.nvm_core.specs.Reads.{NotesReads};
 
+use nv_desk_state::NextEntry;
 use nvm_laws::job_progress::Hand;
 use nvm_laws::memif::MemDevice;
 use nvm_laws::nv_base::{GivenFrom, JobStep, ReqResult};
@@ -44,7 +45,7 @@ pub(crate) fn post<D: MemDevice, C: SyncCalls>(
     ensures left { stack_left (program_in_hand hand.new) (D.told device.now) + posts_left (program_in_hand hand.old) ≤ stack_left (program_in_hand hand.old) (D.told device.now) }
     ensures hand { hand.new ≡ None }
 {
-    let _left = device.left();
+    let _status = device.status();
     let (answer, source) = end_of(hand);
     front.post(answer, source, device.take_data(), device.ops(), copies);
     *hand = None;
@@ -64,15 +65,16 @@ fn end_of(hand: &Option<Hand>) -> (ReqResult, GivenFrom)
     }
 }
 
-/// The Post that comes next without a Pick.
+/// The Post without a Pick that comes next, which is this.
 pub(crate) fn skip<D: MemDevice, C: SyncCalls>(
     front: &mut Front,
+    next: NextEntry,
     hand: &Option<Hand>,
     device: &D,
     copies: &mut C,
 )
     requires tied { IsTied front.old.desk hand.now (D.told device.now) }
-    requires none { HasNone case.Skip front.old.desk hand.now }
+    requires none { HasNone (case.Skip next) front.old.desk hand.now }
     requires staging { StagesAll front.old.desk.config front.old.staging }
     requires synchronized { AreSynchronized front.old.desk.config (C.told copies.old) }
     ensures posts { AddsPost (HandFits front.old.desk.config (state_of front.old.desk) hand.now (D.told device.now)) (ops_of (D.told device.now)) front.old.desk front.new.desk (C.told copies.old) (C.told copies.new) }
@@ -85,7 +87,7 @@ pub(crate) fn skip<D: MemDevice, C: SyncCalls>(
     ensures lowers { stack_work front.new.desk hand.now (D.told device.now) < stack_work front.old.desk hand.now (D.told device.now) }
     ensures left { stack_left (program_in_hand hand.now) (D.told device.now) + posts_left (program_in_hand hand.now) ≤ stack_left (program_in_hand hand.now) (D.told device.now) }
 {
-    let _left = device.left();
-    front.post_skipped(device.ops(), copies);
+    let _status = device.status();
+    front.post_skipped(next, device.ops(), copies);
     let _count = front.desk.history().len();
 }

@@ -35,7 +35,7 @@ impl<D: MemDevice, C: SyncCalls + Drop> Stack<D, C> {
             &mut self.copies,
         ) {
             Act::Ended(turned) => {
-                let _left = self.device.left();
+                let _status = self.device.status();
                 turned
             }
             Act::Device => {

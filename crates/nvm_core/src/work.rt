@@ -70,7 +70,7 @@ fn go_on_with<D: MemDevice>(desk: &Desk, hand: &mut Hand, device: &mut D)
         unreachable!();
     };
     hand.start();
-    let _left = device.left();
+    let _status = device.status();
 }
 
 /// Whether the device, which has no job open, is at work of its own.

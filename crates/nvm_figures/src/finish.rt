@@ -143,7 +143,7 @@ pub fn finish_job<D: MemDevice, P: JobSteps>(
     ensures refused { IfErr result (λ r. Refuses r (wish_of (step_of (P.shown program.new)) job.now.length job.now.content.now job.now.urgent) (D.told device.new)) }
 {
     let mut turns: u64 = 0;
-    let _left = device.left();
+    let _status = device.status();
     let mut step = program.next(Outcome::First);
     loop {
         let (op, instance) = match step {

@@ -21,7 +21,7 @@ use Rattle.fee_core.specs.fee_laws.Made.{IsMadeOf, part_at}
 use Rattle.promise_run.specs.Run.{cap}
 use Rattle.nvm_core.specs.ram_blocks.declared.plain_block.PlainBlock.{PlainBlock}
 use Rattle.nvm_core.specs.ram_blocks.Plain.{plain_blocks_of}
-use Rattle.nvm_core.specs.Stack.{StackState}
+use Rattle.nvm_core.specs.Stack.{StackState, first_stack}
 use Rattle.nvm_core.specs.StartUps.{Starts, FailsToStart}
 use Rattle.nvm_core.specs.nvm_laws.declared.turned.FoundAnswer.{FoundAnswer}
 use Rattle.nvm_core.specs.nvm_laws.declared.turned.FoundAnswer.TheVariants as found
@@ -132,15 +132,15 @@ failed_back c inner cuts making entry exit d e origin made fails back =
 
 -- a stack that was made of such a device
 pub made_stack : (c : Configuration) (making : Making) (entry : Told) (s : StackState Device (List PlainBlock)) (d : Device) (copies : List PlainBlock)
-    → s ≡ record { desk = record { config = c; cap = cap; entries = []; prepared = 0 }; hand = None; device = d; copies = copies; ready = false; has_room = true } → IsMadeOf making entry d → AreOfFirst d → (told_of d).fixed ≡ fixed_by c → copies ≡ plain_blocks_of c
+    → s ≡ first_stack c cap d copies → IsMadeOf making entry d → AreOfFirst d → (told_of d).fixed ≡ fixed_by c → copies ≡ plain_blocks_of c
     → IsMadeStack c making entry s
 made_stack c making entry s d copies same made parts fixed is = record {
   device = subst (λ (x : Device). IsMadeOf making entry x) own made;
   parts = subst AreOfFirst own parts;
   fixed = subst (λ (x : Device). (told_of x).fixed ≡ fixed_by c) own fixed;
   only =
-      subst (λ (x : Device). s ≡ record { desk = record { config = c; cap = cap; entries = []; prepared = 0 }; hand = None; device = x; copies = plain_blocks_of c; ready = false; has_room = true }) own
-      (subst (λ (xs : List PlainBlock). s ≡ record { desk = record { config = c; cap = cap; entries = []; prepared = 0 }; hand = None; device = d; copies = xs; ready = false; has_room = true }) is same);
+      subst (λ (x : Device). s ≡ first_stack c cap x (plain_blocks_of c)) own
+      (subst (λ (xs : List PlainBlock). s ≡ first_stack c cap d xs) is same);
 }
   where
     own : d ≡ s.device

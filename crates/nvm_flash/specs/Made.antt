@@ -1,5 +1,5 @@
 -- A stack over a flash, from its making on.
-use Rattle.std.specs.Prelude.{◌≡◌, ◌≢◌, ◌≤◌, ℕ, false, true, List, [], length, IfSome, None}
+use Rattle.std.specs.Prelude.{◌≡◌, ◌≢◌, ◌≤◌, ℕ, true, List, [], length, IfSome}
 use Rattle.fee_core.specs.nv_base.Count.{Rose}
 use Rattle.fee_core.specs.nv_base.Geometry.{size_of}
 use Rattle.nvm_core.specs.block_config.Config.{Configuration}
@@ -17,7 +17,7 @@ use Rattle.nvm_core.specs.ram_blocks.declared.plain_block.PlainBlock.{PlainBlock
 use Rattle.nvm_core.specs.ram_blocks.Plain.{plain_blocks_of}
 use Rattle.promise_run.specs.Run.{cap, LeavesAlone, LeavesFlash}
 use Rattle.promise_run.specs.Promise.{making_of}
-use Rattle.nvm_core.specs.Stack.{StackState}
+use Rattle.nvm_core.specs.Stack.{StackState, first_stack}
 use Rattle.nvm_flash.specs.Turns.{fixed_by}
 use Rattle.nvm_flash.specs.declared.device.MakeFault.{MakeFault}
 use Rattle.nvm_flash.specs.declared.device.MakeFault.TheVariants.{WrongSize, Flash, Memory}
@@ -63,14 +63,7 @@ pub record IsMadeStack (c : Configuration) (making : Making) (entry : Told) (s :
   pub device : IsMadeOf making entry s.device
   pub parts : AreOfFirst s.device
   pub fixed : (told_of s.device).fixed ≡ fixed_by c
-  pub only : s ≡ record {
-    desk = record { config = c; cap = cap; entries = []; prepared = 0 };
-    hand = None;
-    device = s.device;
-    copies = plain_blocks_of c;
-    ready = false;
-    has_room = true;
-  }
+  pub only : s ≡ first_stack c cap s.device (plain_blocks_of c)
 
 -- why the flash isn't attached
 abbrev pub fault_of : AttachFault → MakeFault

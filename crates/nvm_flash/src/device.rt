@@ -11,12 +11,16 @@ use fee_core::{Fee, Origin};
 use fls_devices::Cutter;
 use nvm_core::block_config::{BANKS, Config};
 use std::alloc::Global;
+use thiserror::Error;
 
 /// Why a stack isn't made or started: its flash has a wrong size in bytes, or failed by a counted fault, or want of memory.
-#[derive(Clone, Copy)]
+#[derive(Clone, Copy, Debug, Error)]
 pub enum MakeFault {
+    #[error("the flash has {found} bytes in place of the configuration's sector times sectors")]
     WrongSize { found: u64 },
+    #[error("the flash counted a fault while the stack was made or started")]
     Flash,
+    #[error("there is no memory for the stack")]
     Memory,
 }
 

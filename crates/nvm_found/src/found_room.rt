@@ -58,7 +58,7 @@ impl FoundRoom {
     {
         let FoundRoom { mut places, marks } = self;
         let answer = find_all(device, &mut places);
-        let _left = device.left();
+        let _status = device.status();
         match answer {
             Ok(()) => Ok(listed(places, marks)),
             Err(_) => Err(FoundRoom { places, marks }),

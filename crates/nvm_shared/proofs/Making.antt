@@ -7,11 +7,11 @@ use Rattle.nvm_core.specs.block_machine.Words.{Entry, Instance, Mark, Configurat
 use Rattle.nvm_core.specs.block_machine.Legal.{IsLegal}
 use Rattle.nvm_core.specs.ram_blocks.Told.{Told}
 use Rattle.nvm_core.specs.nvm_found.Found.{Finds}
-use Rattle.nvm_core.specs.nv_desk.Desk.{DeskState}
+use Rattle.nvm_core.specs.nv_desk.Desk.{DeskState, first_desk}
 use Rattle.nvm_core.specs.job_progress.Hand.{HandState}
 use Rattle.nvm_core.specs.nvm_laws.declared.turned.FoundAnswer.TheVariants as found
 use Rattle.nvm_core.specs.nvm_laws.Keeps.{StackKeeps}
-use Rattle.nvm_core.specs.Stack.{StackState}
+use Rattle.nvm_core.specs.Stack.{StackState, first_stack}
 use Rattle.nvm_core.specs.StartUps.{StartsKeep, StartsUp}
 use Rattle.turn_gate.specs.declared.pass.View.{View}
 use Rattle.turn_gate.specs.Pass.{beginner, knows}
@@ -21,7 +21,7 @@ use Rattle.nvm_shared.specs.Passes.{PassValue, SharedState}
 use Rattle.nvm_shared.specs.Driving.{DriverState, Drives, stack_of}
 use Rattle.nvm_shared.specs.declared.opening.ShareFault.{ShareFault}
 use Rattle.nvm_shared.specs.declared.opening.ShareFault.TheVariants as why
-use Rattle.nvm_shared.specs.Opening.{IsFirst, IsMade, IsShared, TellsAtFirst, WhyNot, first_desk, first_stack, terms_at}
+use Rattle.nvm_shared.specs.Opening.{IsFirst, IsMade, IsShared, TellsAtFirst, WhyNot, terms_at}
 
 pub if_ok : {A E : Type 0} (P Q : A → Type 0) → ((x : A) → P x → Q x) → (o : Result A E) → IfOk o P → IfOk o Q
 if_ok P Q by (Ok x) p = by x p

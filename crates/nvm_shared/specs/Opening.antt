@@ -1,10 +1,10 @@
 -- A shared stack at its beginning and at its end.
-use Rattle.std.specs.Prelude.{◌≡◌, ◌⊎◌, ◌<◌, ℕ, Bool, true, false, List, [], ◌∷◌, None, IsSome}
+use Rattle.std.specs.Prelude.{◌≡◌, ◌⊎◌, ◌<◌, ℕ, Bool, List, [], ◌∷◌, IsSome}
 use Rattle.nvm_core.specs.memif.Told.{DeviceTold, Part, PartTold}
 use Rattle.nvm_core.specs.memif.Clock.{Clock}
 use Rattle.nvm_core.specs.block_machine.Words.{Entry, Instance, Mark, Found, Configuration}
 use Rattle.nvm_core.specs.ram_blocks.Told.{Told}
-use Rattle.nvm_core.specs.nv_desk.Desk.{DeskState, state_of}
+use Rattle.nvm_core.specs.nv_desk.Desk.{DeskState, first_desk, state_of}
 use Rattle.nvm_core.specs.nv_desk_copies.Front.{AreSynchronized}
 use Rattle.nvm_core.specs.nvm_found.Found.{FailsToFind, Finds}
 use Rattle.nvm_core.specs.nvm_laws.Ties.{IsTied}
@@ -20,13 +20,6 @@ use Rattle.nvm_shared.specs.declared.opening.ShareFault.TheVariants as why
 use Rattle.nvm_shared.specs.Locked.{terms_of, desk_with}
 use Rattle.nvm_shared.specs.Passes.{SharedState, PassValue, IsUserOf}
 use Rattle.nvm_shared.specs.Driving.{DriverState, Drives, stack_of}
-
--- a desk before its first start-up
-abbrev pub first_desk : Configuration → ℕ → DeskState
-first_desk c cap = record { config = c; cap = cap; entries = []; prepared = 0 }
-
-abbrev pub first_stack : {D C : Type 0} → Configuration → ℕ → D → C → StackState D C
-first_stack c cap device copies = record { desk = first_desk c cap; hand = None; device = device; copies = copies; ready = false; has_room = true }
 
 -- it tells what it holds, nothing was asked of it, and the promise is kept so far
 abbrev pub TellsAtFirst : Configuration → ℕ → DeviceTold → Clock → Type 0

@@ -78,7 +78,7 @@ impl<D: MemDevice, C: SyncCalls + Drop> Driver<D, C> {
         let mut value = shared.gate.enter(rt, pass);
         let number = value.len();
         let act = value.first_half(&mut self.hand, &mut self.device, &mut self.copies);
-        let _left = self.device.left();
+        let _status = self.device.status();
         let _len = value.len();
         shared.leave(pass, value, number);
         act

@@ -119,7 +119,6 @@ impl Locked {
         ensures legal { IsLegalConfig self.now.desk.config }
     {
         let _desc = self.front.desk.desc_in_hand();
-        let _next = self.front.desk.next_job();
         let _blocks = self.front.desk.config().blocks();
         self.front.desk.history().len()
     }

@@ -7,9 +7,9 @@ ghost use Rattle.nvm_core.specs.nv_desk_copies.Front.{AreSynchronized};
 ghost use Rattle.nvm_core.specs.nv_desk.Desk.{DeskState};
 ghost use Rattle.nvm_core.specs.nvm_laws.declared.turned.FoundAnswer.TheVariants as found;
 ghost use Rattle.nvm_core.specs.nvm_laws.Keeps.{StackKeeps};
-ghost use Rattle.nvm_core.specs.Stack.{StackState};
+ghost use Rattle.nvm_core.specs.Stack.{StackState, first_stack};
 ghost use Rattle.nvm_core.specs.StartUps.{StartsUp};
-ghost use Rattle.nvm_shared.specs.Opening.{IsFirst, IsMade, IsShared, TellsAtFirst, WhyNot, first_stack};
+ghost use Rattle.nvm_shared.specs.Opening.{IsFirst, IsMade, IsShared, TellsAtFirst, WhyNot};
 
 use crate::WORD_COUNT;
 use crate::driver::Driver;
@@ -22,19 +22,23 @@ use nvm_core::nvm_laws::FoundAnswer;
 use nvm_core::ram_blocks::SyncCalls;
 use std::alloc::Global;
 use std::snapshot::Snapshot;
+use thiserror::Error;
 
 // A start-up, and an Off behind it.
 const START_UP_ENTRIES: u32 = 2;
 
 /// Why a stack isn't shared.
-#[derive(Drop)]
+#[derive(Debug, Drop, Error)]
 pub enum ShareFault {
     /// The start-up found a fault of the device.
+    #[error("the device counted a fault, so its start-up didn't come to its end")]
     Fault,
     /// The start-up's entry, and an Off behind it, don't fit under the cap.
+    #[error("the cap of the history has to be at least 2, for the start-up and an Off")]
     NoRoom,
     /// No memory was left: the device is as it was; or it is started, where the lock, which takes the desk behind the start-up,
     /// found none.
+    #[error("there is no memory to share the stack")]
     Memory,
 }
 

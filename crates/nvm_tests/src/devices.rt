@@ -1,6 +1,6 @@
 // A flash in a file.
-use fls_devices::{ByteFile, FileFlash, ImageFile, mem_file};
-use fls_model::{AttachFault, Flash};
+use nvm_flash::fls_devices::{ByteFile, FileFlash, ImageFile, mem_file};
+use nvm_flash::fls_model::{AttachFault, Flash};
 use nvm_laws::nv_base::Geometry;
 use std::alloc::Global;
 use std::fs;

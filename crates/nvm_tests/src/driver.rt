@@ -1,6 +1,6 @@
 // The driver of a flash in memory of the smallest geometry.
 use fls_jobs::{Fls, FlsResult};
-use fls_model::{MemFlash, mem_flash};
+use nvm_flash::fls_model::{MemFlash, mem_flash};
 use nvm_laws::nv_base::Geometry;
 use std::alloc::Global;
 

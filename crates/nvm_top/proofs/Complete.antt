@@ -14,7 +14,7 @@ use Rattle.script_player.specs.Told.{StackTold}
 use Rattle.script_player.specs.Made.{HasWalked}
 use Rattle.script_player.specs.Paying.{Payer}
 use Rattle.nvm_flash.specs.promise_run.JobTurns.{job_turns}
-use Rattle.nvm_top.specs.Machine.{IsStarted, run_of}
+use Rattle.nvm_top.specs.Stack.{IsStarted, run_of}
 use Rattle.nvm_top.proofs.PlayLemmas.{Rose-after}
 
 -- A FLASH FAULT WAS COUNTED

@@ -55,10 +55,8 @@ use Rattle.nvm_flash.specs.Made.{IsOrigin, IsMadeStack, AreOfFirst, ComesBack, I
 use Rattle.nvm_flash.specs.promise_device.Bridge.{IsWornOut}
 use Rattle.nvm_flash.specs.nvm_core.Paying.{counted_of, TriesSince}
 use Rattle.script_player.specs.PlainPaying.{payer_by}
-use Rattle.nvm_top.specs.Machine.{IsKeptFrom, IsStarted, StartsWell, StopsAtStart, Vouches}
-use Rattle.nvm_top.specs.Machine.{run_of, one_part}
+use Rattle.nvm_top.specs.Stack.{IsKeptFrom, IsStarted, StartsWell, StopsAtStart, Vouches, run_of, one_part, stop_of_make}
 use Rattle.nvm_top.specs.Play.{IsWrongSize}
-use Rattle.nvm_top.specs.Stack.{stop_of_make}
 use Rattle.nvm_top.specs.declared.stop.Stop.{Stop}
 
 -- WITHOUT A START-UP

@@ -75,6 +75,18 @@ pub size-print : (left : Option (List ℕ)) (c : Configuration) (steps : List St
     → (x ≡ status.WrongSize → WritesSize (size_of c.geometry) s.bytes w w') → x ≡ status.WrongSize → IsOfWrongSize left s t w w'
 size-print left c steps s t w w' x has end writes is = let ends = subst (λ (y : Status). IsStepsEnd (size_of c.geometry) s t y) is end in (c, has_steps left c steps has, ends.0, ends.1, writes is)
 
+-- steps end as their run does, which has no size to tell
+pub run-ends : (need : ℕ) (s t : Told) (x : Status) → IsRunEnd s.faults t.faults x → IsStepsEnd need s t x
+run-ends need s t status.FlashFault end = end
+run-ends need s t status.Ok end = tt
+run-ends need s t status.HistoryFull end = tt
+run-ends need s t status.WriteFault end = tt
+run-ends need s t status.Memory end = tt
+run-ends need s t _ end = absurd end
+
+pub no-size : (less more : ℕ) (x : Status) → IsRunEnd less more x → x ≡ status.WrongSize → ⊥
+no-size less more x end is = subst (λ (y : Status). IsRunEnd less more y) is end
+
 -- no run ends as a call that stops before
 pub never-early : (need : ℕ) (s t : Told) (x : Status) → IsStepsEnd need s t x → IsBeforeAttach x → ⊥
 never-early need s t status.BadWords end is = end

@@ -1,4 +1,4 @@
--- A run keeps the promise, by the course of its steps and by what the machine vouches for.
+-- A run keeps the promise, by the course of its steps and by what its stack vouches for.
 use Rattle.std.specs.Prelude.{OnOk, IfErr, IfSome, sum_by, take}
 use Rattle.std.specs.List.{Contains}
 use Rattle.std.proofs.Common.{◌≡◌, ◌≤◌, ◌+◌, ◌⊎◌, ℕ, zero, suc, List, [], ◌∷◌, ◌++◌, Option, Some, None, Result, Ok, Err, refl, sym, ap, ◌∙◌, subst, inl, inr, arith, append-nil}
@@ -26,7 +26,7 @@ use Rattle.nvm_script.specs.Script.{IsScript, later_lines}
 use Rattle.nvm_script.specs.declared.script.Mode.TheVariants as mode
 use Rattle.nvm_flash.specs.promise_run.JobTurns.{job_turns}
 use Rattle.nvm_top.specs.Ends.{HasPlayable}
-use Rattle.nvm_top.specs.Play.{IsStepsEnd}
+use Rattle.nvm_top.specs.Play.{IsRunEnd, IsStepsEnd}
 use Rattle.nvm_top.specs.Reading.{IsEarly}
 use Rattle.nvm_flash.specs.promise_run.Turns.{Moment, moment_behind, BeginsAt, EndsBy, ArePaidSince, HasTurns, EachMove, ServesTurn, all_moves}
 use Rattle.nvm_flash.proofs.promise_run.Paid.{since_too}
@@ -44,8 +44,7 @@ use Rattle.nvm_top.specs.declared.runs.RunText.{RunText}
 use Rattle.nvm_top.specs.declared.runs.RunText.TheVariants.{History, Summary}
 use Rattle.nvm_top.specs.declared.stop.Stop.{Stop}
 use Rattle.nvm_top.specs.declared.stop.Stop.TheVariants as stop
-use Rattle.nvm_top.specs.Machine.{IsStarted, StartsWell, StopsAtStart, Vouches}
-use Rattle.nvm_top.specs.Machine.{run_of}
+use Rattle.nvm_top.specs.Stack.{IsStarted, StartsWell, StopsAtStart, Vouches, run_of}
 use Rattle.nvm_top.specs.Output.{Writes, IsReport}
 use Rattle.nvm_top.specs.Promised.{played_call, HasRun, RunsAs, WritesText, HasPromise, KeepsPromise, EndsIn, text_in, line_in, soak_text, SoakEnds}
 use Rattle.nvm_top.specs.Runs as ends
@@ -415,12 +414,31 @@ ran_in form Kept p q c cuts all before old t entry exit x w w' input result run 
     (subst (λ (r : Result (Unit {0}) Stop). WritesText (ends.status_of_run r) (text_in form t.entries) (ends.line_written form r t.entries) w w' x) is_run
     (subst (λ (es : List Entry). WritesText (ends.status_of_run run) (text_in form es) (ends.line_written form run es) w w' x) is_history is)))
 
--- of the configuration and the flash that a machine is made for
-pub moved_run : (text : RunText) (c d : Configuration) (all : List Step) (entry from exit : Told) (x : Status) (w w' input : Option (List ℕ)) → c ≡ d → entry ≡ from
-    → RunsAs x (HasRun c all (λ r. EndsIn text (played_call input x entry exit w w') r r.end) entry exit) entry exit → RunsAs x (HasRun d all (λ r. EndsIn text (played_call input x from exit w w') r r.end) from exit) from exit
-moved_run text c d all entry from exit x w w' input same begins is =
-    subst (λ (f : Told). RunsAs x (HasRun d all (λ r. EndsIn text (played_call input x f exit w w') r r.end) f exit) f exit) begins
-    (subst (λ (y : Configuration). RunsAs x (HasRun y all (λ r. EndsIn text (played_call input x entry exit w w') r r.end) entry exit) entry exit) same is)
+-- HOW IT ENDS
+
+-- a start-up that failed counted a fault
+left_end : (why : StepFault) (left : List Step) (before : PartTold) (last : Moment) (old t : StackTold) (less more : ℕ) → before.faults ≡ 0 → (Rose before.faults t.faults → Rose less more) → WereLeft why left last old t → IsRunEnd less more (status_of (ends.stop_of_fault why))
+left_end fault.Flash (x ∷ xs) before last old t less more none faults is = faults (Rose-after before.faults last.faults t.faults (omega (arith, none)) is.1)
+left_end fault.Flash [] before last old t less more none faults is = absurd is
+left_end fault.HistoryFull left before last old t less more none faults is = tt
+left_end fault.Memory left before last old t less more none faults is = tt
+
+steps_end : (p q : Payer) (result : Result (Unit {0}) StepFault) (all : List Step) (before : PartTold) (old t : StackTold) (less more : ℕ) → before.faults ≡ 0 → (Rose before.faults t.faults → Rose less more) → IfErr result (λ why. WasBroken p q why all old t)
+    → IsRunEnd less more (ends.status_of_run (ends.run_of result))
+steps_end p q (Ok done) all before old t less more none faults broken = tt
+steps_end p q (Err why) all before old t less more none faults broken = left_end why broken.left before broken.walked.last old t less more none faults broken.why
+
+written_end : (less more : ℕ) (meant x : Status) (text line : List ℕ) (w w' : Option (List ℕ)) → IsRunEnd less more meant → WritesText meant text line w w' x → IsRunEnd less more x
+written_end less more meant status.Memory text line w w' end is = tt
+written_end less more meant status.WriteFault text line w w' end is = tt
+written_end less more meant x text line w w' end is = subst (λ (y : Status). IsRunEnd less more y) (sym is.0) end
+
+-- by the run as it was written
+pub ran_to : (Kept : Type 0) (p q r : Payer) (c : Configuration) (cuts : ℕ) (all : List Step) (before : PartTold) (old t : StackTold) (entry exit : Told) (x : Status) (w w' : Option (List ℕ)) (text line : List ℕ) (result : Result (Unit {0}) StepFault) (run : Result (Unit {0}) Stop) → IsStarted c cuts before old
+    → IfErr result (λ why. WasBroken p q why all old t) → Vouches Kept r before t entry exit → run ≡ ends.run_of result → WritesText (ends.status_of_run run) text line w w' x → IsRunEnd entry.faults exit.faults x
+ran_to Kept p q r c cuts all before old t entry exit x w w' text line result run started broken v is_run is =
+    written_end entry.faults exit.faults (ends.status_of_run run) x text line w w'
+    (subst (λ (y : Result (Unit {0}) Stop). IsRunEnd entry.faults exit.faults (ends.status_of_run y)) (sym is_run) (steps_end p q result all before old t entry.faults exit.faults started.none v.faults broken)) is
 
 -- OF THE WHOLE CALL
 

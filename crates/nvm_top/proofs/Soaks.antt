@@ -19,7 +19,7 @@ use Rattle.nvm_top.specs.Ends.{HasPlayable}
 use Rattle.nvm_top.specs.Output.{Writes, IsReport}
 use Rattle.nvm_flash.specs.promise_run.Run.{LeavesAlone}
 use Rattle.nvm_top.specs.Play.{IsStepsEnd}
-use Rattle.nvm_top.specs.Promised.{played_call, HasRun, RunsAs, RunsOrWants, SoakEnds, SoakKeepsPromise}
+use Rattle.nvm_top.specs.Promised.{played_call, HasRun, RunsAs, SoakEnds, SoakKeepsPromise}
 use Rattle.nvm_top.specs.Reading.{IsEarly}
 use Rattle.nvm_top.specs.Soak.{HasStepAt, IsSoakStop, SoakStopsBy}
 use Rattle.nvm_top.specs.Stop.{status_of, line_of, IsStop}
@@ -83,26 +83,23 @@ step_stops (Some bytes) c (y ∷ ys) x at has = inr (c, y, ys, has, ap (λ (s : 
     same_step : (a b : Step) → Some a ≡ Some b → a ≡ b
     same_step a b is = cc
 
--- a run may be, or memory was wanting before it
-pub or_wants : (x : Status) (Has : Type 0) (entry exit : Told) → RunsAs x Has entry exit → RunsOrWants x Has entry exit
-or_wants status.Memory Has entry exit is = inl is
-or_wants status.Ok Has entry exit is = is
-or_wants status.WriteFault Has entry exit is = is
-or_wants status.WrongSize Has entry exit is = is
-or_wants _ Has entry exit is = is
-
 -- a run's promise is the call's
-pub soak_keeps : (need : ℕ) (left : Option (List ℕ)) (x : Status) (c : Configuration) (steps : Configuration → List Step) (entry exit : Told) (w w' : Option (List ℕ)) → IfSome left (λ bytes. HasPlayable bytes c []) → IsStepsEnd need entry exit x
-    → RunsOrWants x (HasRun c (steps c) (λ r. SoakEnds (played_call left x entry exit w w') r r.end) entry exit) entry exit → SoakKeepsPromise x left steps (played_call left x entry exit w w')
-soak_keeps need left status.Ok c steps entry exit w w' has end is = (c, has, is)
-soak_keeps need left status.FlashFault c steps entry exit w w' has end is = (c, has, is)
-soak_keeps need left status.HistoryFull c steps entry exit w w' has end is = (c, has, is)
-soak_keeps need left status.Memory c steps entry exit w w' has end (inl is) = inl (c, has, is)
-soak_keeps need left status.Memory c steps entry exit w w' has end (inr same) = inr same
-soak_keeps need left status.WriteFault c steps entry exit w w' has end (inl is) = inl (c, has, is)
-soak_keeps need left status.WriteFault c steps entry exit w w' has end (inr same) = inr same
-soak_keeps need left status.WrongSize c steps entry exit w w' has end is = is
-soak_keeps need left _ c steps entry exit w w' has end is = absurd end
+soak_runs : (need : ℕ) (left : Option (List ℕ)) (x : Status) (c : Configuration) (steps : Configuration → List Step) (entry exit : Told) (w w' : Option (List ℕ)) → IfSome left (λ bytes. HasPlayable bytes c []) → IsStepsEnd need entry exit x
+    → RunsAs x (HasRun c (steps c) (λ r. SoakEnds (played_call left x entry exit w w') r r.end) entry exit) entry exit → SoakKeepsPromise x left steps (played_call left x entry exit w w')
+soak_runs need left status.Ok c steps entry exit w w' has end is = (c, has, is)
+soak_runs need left status.FlashFault c steps entry exit w w' has end is = (c, has, is)
+soak_runs need left status.HistoryFull c steps entry exit w w' has end is = (c, has, is)
+soak_runs need left status.Memory c steps entry exit w w' has end is = inl (c, has, is)
+soak_runs need left status.WriteFault c steps entry exit w w' has end (inl is) = inl (c, has, is)
+soak_runs need left status.WriteFault c steps entry exit w w' has end (inr same) = inr same
+soak_runs need left status.WrongSize c steps entry exit w w' has end is = is
+soak_runs need left _ c steps entry exit w w' has end is = absurd end
+
+pub soak_keeps : (need : ℕ) (left : Option (List ℕ)) (x : Status) (c : Configuration) (made : List Step) (steps : Configuration → List Step) (entry exit : Told) (w w' : Option (List ℕ)) → IfSome left (λ bytes. HasPlayable bytes c []) → made ≡ steps c → IsStepsEnd need entry exit x
+    → RunsAs x (HasRun c made (λ r. SoakEnds (played_call left x entry exit w w') r r.end) entry exit) entry exit → SoakKeepsPromise x left steps (played_call left x entry exit w w')
+soak_keeps need left x c made steps entry exit w w' has drawn end is =
+    soak_runs need left x c steps entry exit w w' has end
+    (subst (λ (xs : List Step). RunsAs x (HasRun c xs (λ r. SoakEnds (played_call left x entry exit w w') r r.end) entry exit) entry exit) drawn is)
 
 alone : (told : Told) → LeavesAlone told told
 alone told = record { bytes = refl; ops = refl; faults = refl; cuts = refl }

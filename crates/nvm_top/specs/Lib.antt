@@ -9,7 +9,6 @@ pub mod Reading
 pub mod Status
 pub mod Stop
 pub mod Runs
-pub mod Machine
 pub mod Promised
 pub mod Soak
 pub mod Stack

@@ -62,7 +62,7 @@ IsPlayEnd need s t status.WriteFault = Unit {0}
 IsPlayEnd need s t status.Memory = Unit {0}
 IsPlayEnd need s t _ = ⊥
 
--- steps on a machine over it
+-- steps on a stack over it
 abbrev pub IsStepsEnd : ℕ → Told → Told → Status → Type 0
 IsStepsEnd need s t status.FlashFault = Rose s.faults t.faults
 IsStepsEnd need s t status.WrongSize = IsWrongSize need s.bytes × LeavesAlone s t

@@ -78,11 +78,6 @@ RunsAs status.WrongSize Has entry exit = LeavesAlone entry exit
 RunsAs status.WriteFault Has entry exit = Has ⊎ LeavesAlone entry exit
 RunsAs x Has entry exit = Has
 
--- where memory may be wanting before the attach
-abbrev pub RunsOrWants : Status → Type 0 → (entry exit : Told) → Type 0
-RunsOrWants status.Memory Has entry exit = Has ⊎ LeavesAlone entry exit
-RunsOrWants x Has entry exit = RunsAs x Has entry exit
-
 -- `SOAK`
 
 -- its last text: the summary of a run that is over, or the line of one that stops

@@ -12,7 +12,6 @@ mod configuration;
 mod dump;
 mod image;
 mod input;
-mod machine;
 mod measures;
 mod output;
 mod play;

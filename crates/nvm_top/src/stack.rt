@@ -14,68 +14,21 @@ ghost use Rattle.script_player.specs.PlainKept.{IsKept};
 ghost use Rattle.script_player.specs.PlainTold.{told_by};
 ghost use Rattle.script_player.specs.PlainPaying.{payer_by};
 ghost use Rattle.nvm_flash.specs.promise_run.Run.{cap};
-ghost use Rattle.nvm_top.specs.Machine.{IsKeptFrom, IsStarted, StartsWell, StopsAtStart, Vouches, one_part};
-ghost use Rattle.nvm_flash.specs.fee_core.Origin.{no_flash};
-ghost use Rattle.nvm_top.specs.Stack.{no_configuration, stop_of_make};
+ghost use Rattle.nvm_top.specs.Stack.{IsKeptFrom, IsStarted, StartsWell, StopsAtStart, Vouches, one_part, stop_of_make};
 
-use crate::machine::Machine;
 use crate::stop::Stop;
 use nvm_flash::block_config::Config;
 use nvm_flash::fee_core::{Fee, Origin};
 use nvm_flash::fls_devices::Cutter;
 use nvm_flash::fls_model::Flash;
 use nvm_flash::memif::MemDevice;
-use nvm_flash::nv_base::{Geometry, History};
+use nvm_flash::nv_base::Geometry;
 use nvm_flash::{FlashStack, MakeFault, give_back, make_stack, start_stack};
 use script_player::PlainStack;
 use std::alloc::Global;
-use std::marker::Brand;
 
 /// The stack over a flash.
 pub type Driven<F, O> = PlainStack<Fee<Cutter<F>, O>>;
-
-/// What a machine is made of, beside its device's origin: seen by contracts alone.
-pub trait Setting {
-    ghost configuration: { Configuration };
-
-    ghost flash: { Told };
-}
-
-impl Setting for Brand {
-    ghost configuration = { no_configuration };
-
-    ghost flash = { no_flash };
-}
-
-impl<F: Flash, O: Origin + Setting> Machine<F> for Driven<F, O> {
-    ghost use Rattle.nvm_flash.specs.fee_laws.Made.{part_at};
-    ghost use Rattle.nvm_flash.specs.Made.{IsOrigin};
-
-    ghost made_for = { O.configuration };
-
-    ghost entry = { O.flash };
-
-    ghost before = { part_at O.entry };
-
-    ghost may_start = { λ c e n. (O.configuration ≡ c) × (O.flash ≡ e) × IsOrigin c e n O.making O.entry };
-
-    fn start(
-        alloc: Global,
-        config: Config,
-        flash: F,
-        cuts: u32,
-    ) -> Result<Driven<F, O>, (Stop, F)> {
-        start_driven(alloc, config, flash, cuts)
-    }
-
-    fn history(&self) -> &History {
-        self.stack().history()
-    }
-
-    fn into_flash(self) -> F {
-        end_driven(self)
-    }
-}
 
 /// The stack of a configuration over a flash behind its first start-up, with so many power cuts that can be planned.
 pub fn start_driven<F: Flash, O: Origin>(
@@ -116,7 +69,7 @@ fn begin<F: Flash, O: Origin>(stack: FlashStack<F, O>) -> Result<FlashStack<F, O
         → StackKeeps (one_part (part_at O.entry)) s.desk None (told_of s.device) (told_clock s.device)) }
     ensures stopped { IfErr result (λ e. (inner : Told) (cuts : ℕ) → IsOrigin stack.desk.config inner cuts O.making O.entry → ComesBack stack.desk.config e.0 inner (F.told e.1)) }
 {
-    stack.device().left();
+    stack.device().status();
     start_stack(stack)
 }
 

@@ -6,6 +6,7 @@ use Rattle.nv_base.specs.Geometry.{size_of}
 use Rattle.memif.specs.Told.{Held, never_written, length_of}
 use Rattle.fls_model.specs.Attach.{enlarged}
 use Rattle.fee_format.specs.declared.bank_head.BankHead.{BankHead}
+use Rattle.fee_format.specs.BankHead.{last_generation}
 use Rattle.fee_image.specs.RecordList.{IsClosed, end_of}
 use Rattle.fee_image.specs.Image.{Layout, bank_in, active_of, found_held}
 use Rattle.fee_image.specs.Sound.{IsSoundImage}
@@ -34,7 +35,7 @@ IsSoundFlash m image = IsSoundImage (banks_of m) (attached m.geometry image)
 
 -- a bank is active, and has the last generation, so that no switch can follow
 abbrev pub IsOfLastGeneration : Making → List ℕ → Type 0
-IsOfLastGeneration m image = (k : ℕ) × (h : BankHead) × (active_of (banks_of m) image ≡ Some (k, h)) × (h.generation ≡ 4294967295)
+IsOfLastGeneration m image = (k : ℕ) × (h : BankHead) × (active_of (banks_of m) image ≡ Some (k, h)) × (h.generation ≡ last_generation)
 
 -- a bank is active, and has no room for so many pages more
 abbrev pub HasNoRoomFor : ℕ → Making → List ℕ → Type 0

@@ -10,6 +10,7 @@ use Rattle.fls_model.specs.Told.{Told, Change}
 use Rattle.fee_format.specs.Pages.{gate_page}
 use Rattle.fee_format.specs.BankHead.{bank_head_page}
 use Rattle.fee_format.specs.RecHead.{rec_head_page}
+use Rattle.fee_format.specs.declared.rec_head.RecordKind.TheVariants as record_kind
 use Rattle.nvm_script.specs.declared.script.Mode.TheVariants as mode
 use Rattle.script_walks.specs.Words.{StepKind, AskStep, Store, Turn, Drain, Restart, Cut}
 use Rattle.block_machine.specs.Words.{Fine, NotOk, Content, Write, SetLock, Status, Accepted, StatusIs, WriteJob, TookContent, TookStale, Entry, Ask, Pick, Wrote, Post, Off, Found, BlockDesc, Dataset, Sync, Configuration}
@@ -38,7 +39,7 @@ image_of generation pages = bank_head_page 16 (record { format = 2; generation =
 
 -- the committed record of a content with this number
 abbrev pub record_of : ℕ → List ℕ → List ℕ
-record_of number content = rec_head_page 2 16 (record { number = number; kind = 1; length = 4; count = 1 }) ++ gate_page 16 ++ content ++ replicate 12 255 ++ gate_page 16
+record_of number content = rec_head_page 2 16 (record { number = number; kind = record_kind.Content; length = 4; count = 1 }) ++ gate_page 16 ++ content ++ replicate 12 255 ++ gate_page 16
 
 abbrev pub one : List ℕ
 one = 0x11 ∷ 0x22 ∷ 0x33 ∷ 0x44 ∷ []

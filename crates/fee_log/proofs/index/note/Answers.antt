@@ -18,4 +18,4 @@ pub returns : goal.returns
 returns c =
     let h : RecHead = record { number = c.args.number.0; kind = c.args.kind; length = c.args.size; count = c.args.count } in
     let place = c.in-Some.ensures.place in
-    rw (noted_by c.args.numbers.now _ c.args.places.now c.args.at h c.in-Some.i _ c.as_slice-list.ensures.bounds c.requires place.within place.is c.as_slice-list.ensures.value (c.if-not-fits.ensures c.args.count), c.place_at.ensures h refl refl) refl
+    rw (noted_by c.args.numbers.now _ c.args.places.now c.args.at h c.in-Some.i _ c.as_slice-list.ensures.bounds c.requires place.within place.is c.as_slice-list.ensures.value (c.if-not-fits.ensures c.args.count), c.place_of_kind.ensures) refl

@@ -1,6 +1,6 @@
 use Rattle.std.proofs.Common.{sym, None}
 use Rattle.block_machine.specs.Sweeps.{member_kind}
-use Rattle.job_pending.specs.Took.{taken_with}
+use Rattle.job_pending.specs.Take.{taken_with}
 use Rattle.nv_desk.specs.Desk.{state_of}
 use Rattle.nv_desk.specs.Picks.{took_of}
 use Rattle.nv_desk_copies.proofs.Taking.{picks_of, member_copies, may_pick_member, member_allowed}
@@ -31,7 +31,7 @@ returns-clause-picked g c sw is =
     record {
       kind = member_kind sw.writes;
       taken = taken_with None (took_of c.stage-take.result c.stage-take.new.staging.bytes);
-      adds = rw c.bytes.ensures at (c.pick_member.ensures sw c.args.block is);
+      adds = rw c.bytes.ensures at (c.pick_member.ensures sw is);
       allowed = member_allowed d.config d.cap (state_of d) sw c.args.block c.stage-take.result c.stage-take.new.staging.bytes c.args.ops
           c.requires.may.driving is (rw from at c.stage-take.ensures.taken);
       copied = rw from at (c.stage-take.ensures.copied None);

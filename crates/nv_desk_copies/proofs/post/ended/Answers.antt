@@ -9,10 +9,9 @@ pub returns-then-checks_id-clause-answer : goal.returns-then-checks_id-clause-an
 returns-then-checks_id-clause-answer c =
     let d = c.args.desk.now in
     let j = c.args.job.now in
-    let took = rw c.last_pick.ensures at (c.took_none.ensures j.content) in
     checked_answer d.config (state_of d) j c.args.answer c.args.source c.args.content.now
     (given_if c.stage_given-gives.result c.stage_given-gives.new.staging.bytes)
     (answer_in c.checked.result.answer c.checked.result.gives c.checked.new.staging.bytes)
-    (rw c.if-took_none.false at (sym took)) (rw c.if-checks_id.true at (sym c.checks_id.ensures))
+    (rw c.if-took_none.false at (sym c.took_none.ensures)) (rw c.if-checks_id.true at (sym c.checks_id.ensures))
     (rw (c.config.ensures, c.index.ensures, c.block-block.ensures) at c.stage_given-gives.ensures.given)
     (rw c.config-then-checks_id.ensures at c.checked.ensures.answer)

@@ -13,7 +13,6 @@ post_member-requires g c =
     let over = as_ended (desc_of d.config c.args.block) _ _ _ _ _ _ _ ended (rw c.config.ensures at c.hand_over-end.ensures.over) in
     rw c.given.ensures (record {
       sweep = sw;
-      id = c.args.block;
       is = c.requires.may.is;
       allowed = member_posts d.config d.cap (state_of d) sw c.args.block
           (answer_in c.hand_over-end.result.answer c.hand_over-end.result.gives c.unpicked-end.new.staging.bytes) c.hand_over-end.result.refused c.args.ops _ _
@@ -28,4 +27,4 @@ returns-clause-posted g c sw is =
     let over = as_ended (desc_of d.config c.args.block) _ _ _ _ _ _ _ ended (rw c.config.ensures at c.hand_over-end.ensures.over) in
     member_posted d c.post_member.new.self sw c.args.block c.args.ops _ _
     (answer_in c.hand_over-end.result.answer c.hand_over-end.result.gives c.unpicked-end.new.staging.bytes) c.hand_over-end.result.refused
-    c.requires.may.driving is over (rw c.given.ensures at (c.post_member.ensures sw c.args.block is))
+    c.requires.may.driving is over (rw c.given.ensures at (c.post_member.ensures sw is))

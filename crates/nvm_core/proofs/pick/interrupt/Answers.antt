@@ -1,4 +1,6 @@
 use Rattle.std.proofs.Common.{None}
+use Rattle.nvm_laws.specs.nv_desk.Desk.{state_of}
+use Rattle.nvm_laws.proofs.DueTurning.{next_is}
 use Rattle.nvm_laws.proofs.Starting.{cancels_keep}
 use Rattle.nvm_core.proofs.TyingBefore.{held_in}
 use Rattle.nvm_core.proofs.WorkingBefore.{cancel_leaves}
@@ -15,6 +17,12 @@ pub pick-requires-clause-may : goal.pick-requires-clause-may
 pick-requires-clause-may g c =
     let told = g.D.MemDevice.told c.args.device.now in
     interrupts c.args.front.now.desk c.args.hand.now told _ _ _ c.requires.tied c.requires.held.on c.requires.may c.cancel.ensures
+
+pub pick-requires-clause-next : goal.pick-requires-clause-next
+pick-requires-clause-next g c =
+    let desk = c.args.front.now.desk in
+    let may = c.requires.may in
+    (may.next, next_is desk.config (state_of desk) may.next may.first)
 
 pub returns-clause-device : goal.returns-clause-device
 returns-clause-device g c = cancel_leaves _ _ _ _ c.cancel.ensures

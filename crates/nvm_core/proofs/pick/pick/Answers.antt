@@ -13,7 +13,7 @@ use Rattle.nvm_core.proofs.pick.pick.Goals as goal
 pub pick-requires-clause-may : goal.pick-requires-clause-may
 pick-requires-clause-may g c =
     let may = c.requires.may in
-    record { driving = drives (state_of c.args.front.now.desk) c.ops.result may.started may.on (rw c.ops.ensures may.later); free = may.free }
+    record { driving = drives (state_of c.args.front.now.desk) c.ops.result may.started may.on (rw c.ops.ensures may.later); picks = may.picks; free = may.free }
 
 pub returns : goal.returns
 returns g c =
@@ -23,7 +23,7 @@ returns g c =
     let desk = c.args.front.now.desk in
     let new = c.pick.new.self.desk in
     let hand = c.hand_of.ensures in
-    let picked = picks_next c.pick.result _ c.ops.result (ops_of told) desk new c.ops.ensures may.picks c.pick.ensures.next in
+    let picked = picks_next _ c.ops.result (ops_of told) desk new _ _ c.ops.ensures c.pick.ensures.picks in
     let (block, is) = picked in
     let tied = picked_tied desk new told c.hand_of.result _ may picked hand in
     let legal : IsLegalConfig new.config = rw c.config.ensures at c.blocks-blocks.ensures.legal in
@@ -35,9 +35,9 @@ returns g c =
       synchronized = c.pick.ensures.synchronized;
       stays = c.pick.ensures.stays;
       keeps = λ held. rw hand (picks_keep told clock desk new held block is.kind is.taken is.adds is.allowed);
-      lowers = λ held old. entries_lower_work told clock old desk new (Pick block is.kind is.taken (ops_of told)) held c.hand_of.result c.left-left.ensures.order is.adds
+      lowers = λ held old. entries_lower_work told clock old desk new (Pick block is.kind is.taken (ops_of told)) held c.hand_of.result c.status-status.ensures.order is.adds
           (within new _ _ c.history.ensures.entries c.history.ensures.cap c.len-count.ensures.within)
           (hands_are_small new.config (state_of new) c.hand_of.result told legal tied.paired);
-      left = rw hand (within_most told clock c.left-left.ensures.order may.closed new.config (state_of new) (state_of new).hand);
+      left = rw hand (within_most told clock c.status-status.ensures.order may.closed new.config (state_of new) (state_of new).hand);
       hand = hand;
     }

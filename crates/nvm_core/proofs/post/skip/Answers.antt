@@ -15,7 +15,10 @@ pub post_skipped-requires-clause-may : goal.post_skipped-requires-clause-may
 post_skipped-requires-clause-may g c =
     let tied = c.requires.tied in
     let none = c.requires.none in
-    record { driving = drives (state_of c.args.front.now.desk) c.ops.result tied.started none.on (rw c.ops.ensures tied.later); next = none.next }
+    record { driving = drives (state_of c.args.front.now.desk) c.ops.result tied.started none.on (rw c.ops.ensures tied.later); next = none.next.0 }
+
+pub post_skipped-requires-clause-next : goal.post_skipped-requires-clause-next
+post_skipped-requires-clause-next g c = c.requires.none.next.1
 
 pub returns : goal.returns
 returns g c =
@@ -39,7 +42,7 @@ returns g c =
       stays = c.post_skipped.ensures.stays;
       keeps = rw hand (skipped_keep told clock desk new _ _ c.post_skipped.result none.0
           (skip_timed (next_of desk.config (state_of desk)) c.ops.result (ops_of told) desk new _ _ c.post_skipped.result c.ops.ensures posted));
-      lowers = rw hand (entries_lower_work told clock told desk new e None None c.left-left.ensures.order is.adds
+      lowers = rw hand (entries_lower_work told clock told desk new e None None c.status-status.ensures.order is.adds
           (within new _ _ c.history.ensures.entries c.history.ensures.cap c.len-count.ensures.within) tt);
       left = rw hand (omega arith);
     }

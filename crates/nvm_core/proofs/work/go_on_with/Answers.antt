@@ -21,7 +21,7 @@ returns g c =
     let new = c.start_on.new.device in
     let is = goes_on c.args.desk.now c.args.hand.now (g.D.MemDevice.told old) c.in-Device.op c.in-Device.instance (subst IsLegalConfig c.config.ensures c.blocks-blocks.ensures.legal)
     c.requires.paired (sym c.in-Device.ensures) (g.D.MemDevice.told new) c.in-Ok.ensures.started c.start.new.self (g.D.MemDevice.clock old) (g.D.MemDevice.clock new)
-    c.start.ensures c.start_on.ensures.keeps c.left-left.ensures.order c.requires.unfinished in
+    c.start.ensures c.start_on.ensures.keeps c.status-status.ensures.order c.requires.unfinished in
     record {
       «open» = is.opens;
       paired = is.paired;

@@ -23,9 +23,9 @@ loop-step-preserved g c =
 
 pub returns-in-Ended-clause-in_time : goal.returns-in-Ended-clause-in_time
 returns-in-Ended-clause-in_time g c = λ calm.
-    in_time _ _ _ _ _ _ _ c.loop-step.invariant.way _ c.left-left.ensures.order c.requires.idle c.requires.begun calm
+    in_time _ _ _ _ _ _ _ c.loop-step.invariant.way _ c.status-status.ensures.order c.requires.idle c.requires.begun calm
 
 pub returns-in-None-clause-in_time : goal.returns-in-None-clause-in_time
 returns-in-None-clause-in_time g c = λ calm.
     let off = rw c.in-None.is at c.in_ok-next.ensures.turned in
-    in_time _ _ _ _ _ _ _ c.loop-step.invariant.way _ c.left-left.ensures.order c.requires.idle c.requires.begun (calm_before _ _ _ off.2 calm)
+    in_time _ _ _ _ _ _ _ c.loop-step.invariant.way _ c.status-status.ensures.order c.requires.idle c.requires.begun (calm_before _ _ _ off.2 calm)

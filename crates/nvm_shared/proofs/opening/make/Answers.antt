@@ -1,10 +1,10 @@
 use Rattle.std.proofs.Common.{◌≡◌, true, ap, subst}
 use Rattle.nvm_core.specs.block_machine.Legal.{IsLegal}
 use Rattle.nvm_core.specs.nvm_laws.declared.turned.FoundAnswer.TheVariants as found
-use Rattle.nvm_core.specs.Stack.{StackState}
+use Rattle.nvm_core.specs.Stack.{StackState, first_stack}
 use Rattle.nvm_core.specs.StartUps.{StartsKeep, StartsUp}
 use Rattle.nvm_shared.specs.declared.opening.ShareFault.TheVariants as why
-use Rattle.nvm_shared.specs.Opening.{IsMade, IsShared, WhyNot, first_stack}
+use Rattle.nvm_shared.specs.Opening.{IsMade, IsShared, WhyNot}
 use Rattle.nvm_shared.proofs.Making.{if_err, if_ok, legal, made, one, started}
 use Rattle.nvm_shared.proofs.opening.make.Goals as goal
 

@@ -3,8 +3,5 @@ use Rattle.nvm_flash.specs.fls_devices.Cutter.{cutting, told_cutting}
 use Rattle.nvm_flash.specs.promise_run.Promise.{making_of}
 use Rattle.nvm_top.proofs.play.play_flash.Given as goal
 
-abbrev pub ghosts-play_driven-O-Origin : goal.ghosts-play_driven-O-Origin
-ghosts-play_driven-O-Origin g a = record { making = making_of a.playable.config; entry = told_cutting (cutting (g.F.Flash.told a.flash) (cuts_of a.playable.steps)) }
-
-abbrev pub ghosts-play_driven-O-Setting : goal.ghosts-play_driven-O-Setting
-ghosts-play_driven-O-Setting g a = record { configuration = a.playable.config; flash = g.F.Flash.told a.flash }
+abbrev pub ghosts-play_steps : goal.ghosts-play_steps
+ghosts-play_steps g a = record { making = making_of a.playable.config; entry = told_cutting (cutting (g.F.Flash.told a.flash) (cuts_of a.playable.steps)) }

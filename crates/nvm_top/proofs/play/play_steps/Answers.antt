@@ -1,13 +1,49 @@
-use Rattle.nvm_top.proofs.PlayLines.{attach-print}
-use Rattle.nvm_top.proofs.Promised.{early_in, moved_run}
+use Rattle.std.proofs.Common.{◌∙◌, ap, sym, subst}
+use Rattle.nvm_flash.specs.block_config.Config.{Configuration}
+use Rattle.nvm_flash.specs.fee_told.Device.{told_of}
+use Rattle.nvm_flash.specs.fee_core.Tells.{told_clock}
+use Rattle.nvm_flash.specs.fee_laws.Made.{part_at}
+use Rattle.nvm_script.specs.Played.{ArePlayed}
+use Rattle.script_player.specs.PlainKept.{IsKept}
+use Rattle.script_player.specs.PlainPaying.{payer_by}
+use Rattle.script_player.specs.PlainTold.{told_by}
+use Rattle.nvm_top.specs.Promised.{text_in}
+use Rattle.nvm_top.specs.Runs.{line_written}
+use Rattle.nvm_top.specs.Stack.{one_part}
+use Rattle.nvm_top.proofs.PlayLines.{attach-print, no-size, run-ends, steps-print}
+use Rattle.nvm_top.proofs.Promised.{early_in, ran_in, ran_to}
 use Rattle.nvm_top.proofs.play.play_steps.Goals as goal
 
-pub returns-in-Ok-clause-print : goal.returns-in-Ok-clause-print
-returns-in-Ok-clause-print g c is = c.play_on.ensures.print is _ _
+pub make_steps-requires-clause-played : goal.make_steps-requires-clause-played
+make_steps-requires-clause-played g c = subst (λ (x : Configuration). ArePlayed x c.args.playable.steps) (sym c.in-Ok.ensures.started.configuration) c.requires.played
 
 pub returns-in-Ok-clause-promise : goal.returns-in-Ok-clause-promise
 returns-in-Ok-clause-promise g c input =
-    moved_run c.args.text g.M.Machine.made_for c.args.playable.config c.args.playable.steps g.M.Machine.entry (g.F.Flash.told c.args.flash) (g.F.Flash.told c.play_on.result.1) c.play_on.result.0 _ _ input c.in-Ok.ensures.made_for c.in-Ok.ensures.entry (c.play_on.ensures.promise input)
+    let s = c.make_steps.new.stack in
+    let v = c.end_driven.ensures c.args.playable.config (g.F.Flash.told c.args.flash) _ c.requires.origin (c.make_steps.ensures.configuration ∙ c.in-Ok.ensures.started.configuration) (c.make_steps.ensures.most ∙ c.in-Ok.ensures.started.most) in
+    ran_in c.args.text (IsKept s.ready (one_part (part_at g.O.Origin.entry)) s.desk s.hand (told_of s.device) (told_clock s.device)) (payer_by told_of told_clock c.in-Ok.driven) (payer_by told_of told_clock s) c.args.playable.config _ c.args.playable.steps (part_at g.O.Origin.entry) (told_by told_of c.in-Ok.driven) (told_by told_of s)
+    (g.F.Flash.told c.args.flash) (g.F.Flash.told c.end_driven.result) c.write_text-status.result _ _ input c.make_steps.result c.stop_of-run.result c.history.result.now.entries c.in-Ok.ensures.started
+    c.make_steps.ensures.all c.make_steps.ensures.some c.make_steps.ensures.configuration (λ well. c.make_steps.ensures.keeps (one_part (part_at g.O.Origin.entry)) (c.in-Ok.ensures.kept well).0) (λ well. (c.in-Ok.ensures.kept well).1) v c.stop_of-run.ensures
+    (c.history.ensures.entries ∙ ap (λ x. x.desk.entries) c.stack.ensures) c.write_text-status.ensures.text
+
+pub returns-in-Ok-clause-print : goal.returns-in-Ok-clause-print
+returns-in-Ok-clause-print g c is = steps-print _ _ _ _ c.make_steps.result c.stop_of-run.result c.write_text-status.result c.stop_of-run.ensures (c.write_text-status.ensures.print is)
+
+pub returns-in-Ok-clause-end : goal.returns-in-Ok-clause-end
+returns-in-Ok-clause-end g c =
+    let s = c.make_steps.new.stack in
+    let v = c.end_driven.ensures c.args.playable.config (g.F.Flash.told c.args.flash) _ c.requires.origin (c.make_steps.ensures.configuration ∙ c.in-Ok.ensures.started.configuration) (c.make_steps.ensures.most ∙ c.in-Ok.ensures.started.most) in
+    run-ends _ _ _ c.write_text-status.result
+    (ran_to _ _ _ _ c.args.playable.config _ c.args.playable.steps (part_at g.O.Origin.entry) (told_by told_of c.in-Ok.driven) (told_by told_of s) (g.F.Flash.told c.args.flash) (g.F.Flash.told c.end_driven.result) c.write_text-status.result (g.K.Sink.written c.args.output.now) (g.K.Sink.written c.write_text-status.new.output) (text_in c.args.text c.history.result.now.entries) (line_written c.args.text c.stop_of-run.result c.history.result.now.entries) c.make_steps.result c.stop_of-run.result
+    c.in-Ok.ensures.started c.make_steps.ensures.some v c.stop_of-run.ensures c.write_text-status.ensures.text)
+
+pub returns-in-Ok-clause-size : goal.returns-in-Ok-clause-size
+returns-in-Ok-clause-size g c = λ is.
+    let s = c.make_steps.new.stack in
+    let v = c.end_driven.ensures c.args.playable.config (g.F.Flash.told c.args.flash) _ c.requires.origin (c.make_steps.ensures.configuration ∙ c.in-Ok.ensures.started.configuration) (c.make_steps.ensures.most ∙ c.in-Ok.ensures.started.most) in
+    absurd (no-size _ _ c.write_text-status.result
+    (ran_to _ _ _ _ c.args.playable.config _ c.args.playable.steps (part_at g.O.Origin.entry) (told_by told_of c.in-Ok.driven) (told_by told_of s) (g.F.Flash.told c.args.flash) (g.F.Flash.told c.end_driven.result) c.write_text-status.result (g.K.Sink.written c.args.output.now) (g.K.Sink.written c.write_text-status.new.output) (text_in c.args.text c.history.result.now.entries) (line_written c.args.text c.stop_of-run.result c.history.result.now.entries) c.make_steps.result c.stop_of-run.result
+    c.in-Ok.ensures.started c.make_steps.ensures.some v c.stop_of-run.ensures c.write_text-status.ensures.text) is)
 
 pub returns-clause-print : goal.returns-clause-print
 returns-clause-print g c is = attach-print _ _ _ _ c.in-Err.stop _ c.in-Err.ensures.stopped.why c.report.ensures.line

@@ -7,7 +7,7 @@ use Rattle.script_player.specs.PlainTold.{told_by}
 use Rattle.nvm_flash.specs.ram_blocks.declared.plain_block.PlainBlock.{PlainBlock}
 use Rattle.nvm_flash.specs.nvm_core.Stack.{StackState}
 use Rattle.nvm_flash.proofs.fee_image.Soundness.{sound_images_compute}
-use Rattle.nvm_top.specs.Machine.{IsStarted, one_part}
+use Rattle.nvm_top.specs.Stack.{IsStarted, one_part}
 use Rattle.nvm_top.proofs.Driven.{started, kept_up, tells_slots, stops_by}
 use Rattle.nvm_top.proofs.stack.start_driven.Goals as goal
 

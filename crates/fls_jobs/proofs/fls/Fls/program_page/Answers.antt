@@ -1,6 +1,9 @@
-use Rattle.std.proofs.lemmas.Bool.{false≢true}
-use Rattle.fls_jobs.proofs.Taken.{can_program}
+use Rattle.std.proofs.Common.{arith}
+use Rattle.fls_model.proofs.Kept.{steps_keep_bytes}
 use Rattle.fls_jobs.proofs.fls.Fls.program_page.Goals as goal
 
-pub unreachable-requires : goal.unreachable-requires
-unreachable-requires g c = absurd (false≢true (c.in-Err.ensures.accepted (can_program _ _ _ c.tell_state.ensures c.requires.idle c.requires.page)))
+pub invariant_of-self : goal.invariant_of-self
+invariant_of-self g c = grind (arith, steps_keep_bytes)
+
+pub returns-clause-after : goal.returns-clause-after
+returns-clause-after g c = grind (arith, steps_keep_bytes)

@@ -1,8 +1,9 @@
-use Rattle.std.proofs.Common.{◌≡◌, ◌<◌, ◌∙◌, ap, refl, length, Option, is_some, if◌then◌else◌}
+use Rattle.std.proofs.Common.{◌≡◌, ◌<◌, ◌∙◌, ap, refl, sym, subst, length, Option, Some, is_some, if◌then◌else◌}
 use Rattle.block_machine.specs.State.{Job}
 use Rattle.block_machine.specs.Blocks.{job_block}
-use Rattle.block_machine.specs.Steps.{picked_job}
-use Rattle.job_pending.specs.Took.{taken_with}
+use Rattle.block_machine.specs.Steps.{interrupted, picked_job, without_job}
+use Rattle.job_pending.specs.Pending.{Agree}
+use Rattle.job_pending.specs.Take.{Took, taken_with}
 use Rattle.job_pending.proofs.Agreement.{apart_again, picked}
 use Rattle.job_pending.proofs.pending.PendingJobs.pick.Goals as goal
 
@@ -18,5 +19,9 @@ returns-clause-agrees c waiting held j agrees next =
     let n : c.put_back-handed_on.result ≡ (if is_some held then 2 else 0) = c.put_back-handed_on.ensures.more ∙ ap (λ (o : Option Job). if is_some o then 2 else 0) (c.take_out.ensures.hand ∙ agrees.hand) in
     let same : c.in-Some.job ≡ j = cc (c.in-Some.is, t.job) in
     let place : job_block j < length c.put_back-handed_on.new.self.slots = rw (c.put_back-handed_on.ensures.places, c.take_out.ensures.places) t.place in
-    rw (c.hold.ensures, c.pick.ensures, n, same)
-    (picked c.args.config.now _ _ j (picked_job (taken_with j.content c.args.took) (if is_some held then 2 else 0) j) b (apart_again held j _ t.other t.apart) place refl refl refl)
+    let took : Took = (c.args.take, c.args.copy) in
+    let more = if is_some held then 2 else 0 in
+    rw (c.hold.ensures, c.pick.ensures, n)
+    (subst (λ (x : Job). Agree c.args.config.now (record c.put_back-handed_on.new.self { hand = Some (picked_job (taken_with x.content took) more x) })
+    (interrupted held (without_job j.number waiting)) (Some (picked_job (taken_with j.content took) more j))) (sym same)
+    (picked c.args.config.now _ _ j (picked_job (taken_with j.content took) more j) b (apart_again held j _ t.other t.apart) place refl refl refl))

@@ -2,15 +2,15 @@ use Rattle.std.proofs.Common.{◌∙◌, arith, refl}
 use Rattle.block_machine.specs.Words.{Pick}
 use Rattle.block_machine.specs.Blocks.{job_block, kind_of}
 use Rattle.block_machine.specs.Steps.{after}
-use Rattle.job_pending.specs.Took.{taken_with}
+use Rattle.job_pending.specs.Take.{taken_with}
 use Rattle.block_laws.proofs.HistoryLaws.{entries_are_counted}
 use Rattle.nv_desk.specs.Picks.{took_of}
 use Rattle.nv_desk.proofs.Drivers.{allowed_kept}
-use Rattle.nv_desk.proofs.Picks.{job_pick, ready, pick_room, pick_step, picked_sound, some_is}
+use Rattle.nv_desk.proofs.Picks.{entry_of, job_pick, ready, pick_room, pick_step, picked_sound, some_is}
 use Rattle.nv_desk.proofs.desk.Desk.pick_job.Goals as goal
 
-pub takes-took-requires : goal.takes-took-requires
-takes-took-requires c =
+pub takes-copy-requires : goal.takes-copy-requires
+takes-copy-requires c =
     let d = c.self.inside in
     let may = rw (← c.self.view_is) at c.requires in
     rw (some_is c.in-Some.next.now may.job (c.in-Some.ensures d.config _ _ c.self.invariant.agrees.jobs ∙ may.is))
@@ -38,15 +38,15 @@ invariant_of-self c =
     let taken = taken_with may.job.content took in
     allowed_kept d _ _ _ (Pick (job_block may.job) (kind_of may.job) taken c.args.ops) c.self.invariant may.allowed refl
     (picked_sound d.config s may.job (job_block may.job) (kind_of may.job) took c.args.ops c.self.invariant.sound may.is p.ready p.whole)
-    (rw (c.block-block.ensures, c.kind-job.ensures, c.takes-took.ensures.taken, same) at c.add_pick.ensures)
+    (entry_of _ _ _ _ _ c.in-Some.next.now may.job took c.args.ops c.block-block.ensures c.kind-job.ensures c.takes-copy.ensures.taken same c.add_pick.ensures)
     (pick_step d.config c.pick.new.self s may.job (job_block may.job) (kind_of may.job) taken c.args.ops may.is
-    (rw c.takes-took.ensures.took at (c.pick.ensures s may.job c.self.invariant.agrees may.is)))
-    (omega (arith, c.takes-took.ensures.count)) c.takes-took.ensures.longest
+    (rw c.takes-copy.ensures.copy at (c.pick.ensures s may.job c.self.invariant.agrees may.is)))
+    (omega (arith, c.takes-copy.ensures.count)) c.takes-copy.ensures.longest
 
 pub returns : goal.returns
 returns c = rw (← c.self.view_is) (λ j next.
     let same = some_is c.in-Some.next.now j (c.in-Some.ensures c.self.inside.config _ _ c.self.invariant.agrees.jobs ∙ next) in
-    rw (c.add_pick.ensures, c.block-block.ensures, c.kind-job.ensures, c.takes-took.ensures.taken, same) refl)
+    rw (entry_of _ _ _ _ _ c.in-Some.next.now j (took_of c.args.take c.args.lent.now) c.args.ops c.block-block.ensures c.kind-job.ensures c.takes-copy.ensures.taken same c.add_pick.ensures) refl)
 
 pub returns-in_default : goal.returns-in_default
 returns-in_default c = rw (← c.self.view_is) (λ j next.

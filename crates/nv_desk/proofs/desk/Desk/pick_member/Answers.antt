@@ -2,46 +2,49 @@ use Rattle.std.proofs.Common.{arith, refl, None}
 use Rattle.block_machine.specs.Words.{Pick}
 use Rattle.block_machine.specs.Sweeps.{member_kind}
 use Rattle.block_machine.specs.Steps.{after}
-use Rattle.job_pending.specs.Took.{taken_with}
+use Rattle.job_pending.specs.Take.{taken_with}
 use Rattle.nv_desk.specs.Picks.{took_of}
+use Rattle.nv_desk_state.proofs.Members.{member_known}
 use Rattle.nv_desk.proofs.AllBlocks.{kept_sweep}
 use Rattle.nv_desk.proofs.Drivers.{allowed_kept}
 use Rattle.nv_desk.proofs.MemberEntries.{at_picked, member_pick, member_sound, member_step}
 use Rattle.nv_desk.proofs.desk.Desk.pick_member.Goals as goal
 
-pub takes-took-requires : goal.takes-took-requires
-takes-took-requires c = (member_pick c.self.inside _ c.args.ops c.self.invariant c.queue_sizes-sizes.ensures.legal c.fills_its_rooms.ensures (rw (← c.self.view_is) at c.requires)).takes
+pub takes-copy-requires : goal.takes-copy-requires
+takes-copy-requires c = (member_pick c.self.inside c.args.block _ c.args.ops c.self.invariant c.queue_sizes-sizes.ensures.legal c.fills_its_rooms.ensures (rw (← c.self.view_is) at c.requires)).takes
 
 pub pick_member-requires : goal.pick_member-requires
 pick_member-requires c =
+    let d = c.self.inside in
+    let s = after d.config d.history.entries in
     let may = rw (← c.self.view_is) at c.requires in
-    let (block, known) = c.next_member-block.ensures.picked _ may.sweep may.id c.self.invariant.agrees may.is in
-    rw block known
+    member_known d.config d.kept s may.sweep c.args.block (omega (arith, c.queue_sizes-sizes.ensures.legal.blocks_low)) c.self.invariant.agrees
+    (at_picked d.config s may.sweep c.args.block may.is)
 
 pub add_pick-requires : goal.add_pick-requires
-add_pick-requires c = (member_pick c.self.inside _ c.args.ops c.self.invariant c.queue_sizes-sizes.ensures.legal c.fills_its_rooms.ensures (rw (← c.self.view_is) at c.requires)).room.place
+add_pick-requires c = (member_pick c.self.inside c.args.block _ c.args.ops c.self.invariant c.queue_sizes-sizes.ensures.legal c.fills_its_rooms.ensures (rw (← c.self.view_is) at c.requires)).room.place
 
 pub invariant_of-self : goal.invariant_of-self
 invariant_of-self c =
     let d = c.self.inside in
     let s = after d.config d.history.entries in
     let may = rw (← c.self.view_is) at c.requires in
-    let p = member_pick d _ c.args.ops c.self.invariant c.queue_sizes-sizes.ensures.legal c.fills_its_rooms.ensures may in
-    let (block, known) = c.next_member-block.ensures.picked s may.sweep may.id c.self.invariant.agrees may.is in
+    let p = member_pick d c.args.block _ c.args.ops c.self.invariant c.queue_sizes-sizes.ensures.legal c.fills_its_rooms.ensures may in
+    let known = member_known d.config d.kept s may.sweep c.args.block (omega (arith, c.queue_sizes-sizes.ensures.legal.blocks_low)) c.self.invariant.agrees p.member in
     let kind = c.member_kind-job.ensures d.config may.sweep (kept_sweep d.config d.kept.sweep s may.sweep p.member.sweep c.self.invariant.agrees.sweep) in
     let took = took_of c.args.take c.args.lent.now in
-    allowed_kept d _ _ _ (Pick may.id (member_kind may.sweep.writes) (taken_with None took) c.args.ops) c.self.invariant may.allowed refl
-    (member_sound d.config s may.sweep may.id (member_kind may.sweep.writes) took c.args.ops c.self.invariant.sound p.member may.is
+    allowed_kept d _ _ _ (Pick c.args.block (member_kind may.sweep.writes) (taken_with None took) c.args.ops) c.self.invariant may.allowed refl
+    (member_sound d.config s may.sweep c.args.block (member_kind may.sweep.writes) took c.args.ops c.self.invariant.sound p.member may.is
     (omega (arith, known, c.self.invariant.agrees.places)) may.allowed.0.started p.ram p.whole)
-    (rw (block, kind, c.takes-took.ensures.taken) at c.add_pick.ensures)
-    (member_step d.config c.pick_member.new.self s may.sweep may.id (member_kind may.sweep.writes) took c.args.ops may.is
-    (rw (block, c.takes-took.ensures.took) at (c.pick_member.ensures s may.sweep c.self.invariant.agrees (rw block p.member))))
-    (omega (arith, c.takes-took.ensures.count)) c.takes-took.ensures.longest
+    (rw (kind, c.takes-copy.ensures.taken) at c.add_pick.ensures)
+    (member_step d.config c.pick_member.new.self s may.sweep c.args.block (member_kind may.sweep.writes) took c.args.ops may.is
+    (rw c.takes-copy.ensures.copy at (c.pick_member.ensures s may.sweep c.self.invariant.agrees p.member)))
+    (omega (arith, c.takes-copy.ensures.count)) c.takes-copy.ensures.longest
 
 pub returns : goal.returns
-returns c = rw (← c.self.view_is) (λ sw id next.
+returns c = rw (← c.self.view_is) (λ sw next.
     let d = c.self.inside in
     let s = after d.config d.history.entries in
-    let x = at_picked d.config s sw id next in
+    let x = at_picked d.config s sw c.args.block next in
     let kind = c.member_kind-job.ensures d.config sw (kept_sweep d.config d.kept.sweep s sw x.sweep c.self.invariant.agrees.sweep) in
-    rw (c.add_pick.ensures, (c.next_member-block.ensures.picked s sw id c.self.invariant.agrees next).0, kind, c.takes-took.ensures.taken) refl)
+    rw (c.add_pick.ensures, kind, c.takes-copy.ensures.taken) refl)

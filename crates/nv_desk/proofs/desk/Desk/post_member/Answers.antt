@@ -9,15 +9,14 @@ pub post_member-requires : goal.post_member-requires
 post_member-requires c =
     let d = c.self.inside in
     let may = rw (← c.self.view_is) at c.requires in
-    rw (c.next_member-block.ensures.posted _ may.sweep may.id c.self.invariant.agrees may.is)
-    (member_given d.config d.kept.blocks.rooms may.id (option_copied c.args.given) c.self.invariant.agrees.rooms may.whole)
+    member_given d.config d.kept.blocks.rooms c.args.block (option_copied c.args.given) c.self.invariant.agrees.rooms may.whole
 
 pub add_post-requires : goal.add_post-requires
 add_post-requires c =
     let d = c.self.inside in
     let may = rw (← c.self.view_is) at c.requires in
     let given = option_copied c.args.given in
-    can_post d _ may.id given c.self.invariant (has_room d (Post may.id c.args.answer given c.args.refused c.args.ops) c.self.invariant may.allowed refl) may.whole
+    can_post d _ c.args.block given c.self.invariant (has_room d (Post c.args.block c.args.answer given c.args.refused c.args.ops) c.self.invariant may.allowed refl) may.whole
 
 pub invariant_of-self : goal.invariant_of-self
 invariant_of-self c =
@@ -25,15 +24,13 @@ invariant_of-self c =
     let s = after d.config d.history.entries in
     let may = rw (← c.self.view_is) at c.requires in
     let given = option_copied c.args.given in
-    let x = at_posted d.config s may.sweep may.id may.is in
-    let block = c.next_member-block.ensures.posted s may.sweep may.id c.self.invariant.agrees may.is in
-    allowed_kept d _ _ _ (Post may.id c.args.answer given c.args.refused c.args.ops) c.self.invariant may.allowed refl
-    (posted_sound d.config s may.sweep may.id c.args.answer given c.args.refused c.args.ops c.self.invariant.sound x may.is)
-    (rw block at c.add_post.ensures.added)
-    (posted_step d.config c.post_member.new.self s may.sweep may.id c.args.answer given c.args.refused c.args.ops x.hand may.is
-    (rw block at (c.post_member.ensures s may.sweep c.self.invariant.agrees (rw block x))))
+    let x = at_posted d.config s may.sweep c.args.block may.is in
+    allowed_kept d _ _ _ (Post c.args.block c.args.answer given c.args.refused c.args.ops) c.self.invariant may.allowed refl
+    (posted_sound d.config s may.sweep c.args.block c.args.answer given c.args.refused c.args.ops c.self.invariant.sound x may.is)
+    c.add_post.ensures.added
+    (posted_step d.config c.post_member.new.self s may.sweep c.args.block c.args.answer given c.args.refused c.args.ops x.hand may.is
+    (c.post_member.ensures s may.sweep c.self.invariant.agrees x))
     (omega (arith, c.add_post.ensures.count)) c.add_post.ensures.longest
 
 pub returns : goal.returns
-returns c = rw (← c.self.view_is) (λ sw id next.
-    rw (c.add_post.ensures.added, c.next_member-block.ensures.posted _ sw id c.self.invariant.agrees next) refl)
+returns c = rw (← c.self.view_is) (λ sw next. rw c.add_post.ensures.added refl)

@@ -6,8 +6,8 @@ use Rattle.nv_desk_state.proofs.kept.Kept.next_step.Goals as goal
 pub returns-clause-next : goal.returns-clause-next
 returns-clause-next c s sw h some on =
     let is : IsSweep c.args.config.now c.in-Some.sweep sw = rw (c.in-Some.is, some) at h.sweep in
-    rw c.step.ensures (sweep_goes_on c.args.config.now s c.in-Some.sweep sw c.member_facts-facts.result is on
-    (rw c.peek.ensures.next at (c.member_facts-facts.ensures s h)))
+    rw (c.step.ensures, c.peek-member.ensures.next) (sweep_goes_on c.args.config.now s c.in-Some.sweep sw c.member_facts-facts.result is on
+    (rw c.peek-member.ensures.next at (c.member_facts-facts.ensures s h)))
 
 pub returns-clause-known : goal.returns-clause-known
 returns-clause-known c s sw id h x = member_known c.args.config.now c.args.self.now s sw id

@@ -3,13 +3,13 @@ use Rattle.nv_desk_state.proofs.Members.{entries_left, taken_left, taken_noted}
 use Rattle.nv_desk_state.proofs.sweep.PendingSweep.take.Goals as goal
 
 pub returns-clause-left : goal.returns-clause-left
-returns-clause-left c sw id rest h on left entries = record {
+returns-clause-left c config sw rest h on left entries = record {
   number = h.number;
   under_way = h.under_way;
-  entries = c.saturating_sub-self.ensures ∙ entries_left c.args.config.now sw id rest c.args.self.now.entries c.args.entries left h.entries entries;
-  members = rw c.take.ensures (taken_left c.args.config.now c.args.self.now sw h on);
+  entries = c.saturating_sub-self.ensures ∙ entries_left config sw c.args.block rest c.args.self.now.entries c.args.entries left h.entries entries;
+  members = rw c.pass.ensures (taken_left config c.args.self.now sw c.args.block rest h on left);
 }
 
 pub returns-clause-noted : goal.returns-clause-noted
-returns-clause-noted c sw id rest h on left = rw c.take.ensures
-    (taken_noted c.args.config.now c.args.self.now sw id rest 0 h on left)
+returns-clause-noted c config sw rest h on left = rw c.pass.ensures
+    (taken_noted config c.args.self.now sw c.args.block rest 0 h on left)

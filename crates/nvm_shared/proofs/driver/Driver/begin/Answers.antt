@@ -88,7 +88,7 @@ returns g c =
           (subst (λ (y : DeskState). IsFirstHalf told copies is looked c.first_half-act.result (stack_with x.desk inside.hand inside.device inside.copies) (stack_with y new.hand new.device new.copies)) desk first);
       served = begins_served (desk_with t v.seen) b.asks x.desk new.self.desk (desk_with t w.seen) inside.hand new.hand d (told new.device) c.first_half-act.result
           b.desk desk b.replied drive.next
-          (λ number turns due. first_halves_serve (told new.device) clock_new c.first_half-act.result x.desk new.self.desk _ _ inside.hand new.hand d number turns (λ picked. c.left-left.ensures.order)
+          (λ number turns due. first_halves_serve (told new.device) clock_new c.first_half-act.result x.desk new.self.desk _ _ inside.hand new.hand d number turns (λ picked. c.status-status.ensures.order)
           (half_adds c.first_half-act.result _ _ x.desk new.self.desk _ _ _ first.half) first.at_device half.first b.stands.tied first.tied due);
     }) in
     record {

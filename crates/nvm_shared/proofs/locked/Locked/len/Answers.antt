@@ -10,4 +10,4 @@ pub returns-clause-next : goal.returns-clause-next
 returns-clause-next c =
     let desk = c.self.inside.front.desk in
     subst (λ (l : LockedState). NextIsPending l.desk.config (state_of l.desk)) c.self.view_is
-    (next_pending desk.config (state_of desk) (next_in desk.config (state_of desk).waiting) c.next_job-next.ensures.pending)
+    (next_pending desk.config (state_of desk) (next_in desk.config (state_of desk).waiting) c.desc_in_hand-desc.ensures.next)
