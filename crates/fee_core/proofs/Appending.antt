@@ -1,6 +1,6 @@
 -- The next page of the open job's record, from what its call answers.
 use Rattle.std.specs.Prelude.{IfSome, IsSome, take}
-use Rattle.std.proofs.Common.{◌≡◌, ◌++◌, ◌∷◌, [], ℕ, Bool, true, false, List, Option, Some, None, sym, ap, ◌∙◌, subst}
+use Rattle.std.proofs.Common.{◌≡◌, ◌++◌, ◌∷◌, [], ℕ, Bool, true, false, List, Option, Some, None, refl, sym, ap, ◌∙◌, subst}
 use Rattle.fls_model.specs.declared.flash.FlashAnswer.{FlashAnswer}
 use Rattle.fls_model.specs.Op.{Op}
 use Rattle.fls_model.specs.Step.{IsStep, OffOrAsked, IsAsked}
@@ -12,7 +12,7 @@ use Rattle.fee_log.specs.Log.{work_in}
 use Rattle.fee_log.specs.Step.{IsPageOf, due_bytes, op_of}
 use Rattle.fee_switch.specs.Banks.{BanksState}
 use Rattle.promise_device.specs.Making.{Making}
-use Rattle.fee_told.specs.Clock.{change_of}
+use Rattle.fls_told.specs.Clock.{change_of}
 use Rattle.fee_laws.specs.declared.job.FeeJob.{FeeJob}
 use Rattle.fee_laws.specs.Inside.{Parts, IsAtWork, body_of}
 use Rattle.fee_laws.specs.Record.{IsInWork, head_of}
@@ -25,9 +25,9 @@ use Rattle.fee_core.specs.Whole.{Whole}
 use Rattle.fee_core.proofs.Standing.{Stands}
 
 -- THE RECORD IN WORK
-work_of : (b : BanksState) (job : Option FeeJob) (j : FeeJob) (o : Option RecHead) → job ≡ Some j → IfSome o (IsInWork b job) → IsSome o → o ≡ Some (head_of b.log j)
+work_of : (b : BanksState) (job : Option FeeJob) (j : FeeJob) (o : Option RecHead) → job ≡ Some j → IfSome o (IsInWork b job) → IsSome o → (h : RecHead) × (o ≡ Some h) × (h ≡ head_of b.log h.kind j)
 work_of b job j None is work some = cc some
-work_of b job j (Some h) is work some = (let same : work.of ≡ j = cc (work.is_open, is) in ap (λ (x : RecHead). Some x) (work.head ∙ ap (head_of b.log) same))
+work_of b job j (Some h) is work some = (let same : work.of ≡ j = cc (work.is_open, is) in (h, refl, work.head ∙ ap (head_of b.log h.kind) same))
 
 -- while the power is on a step is one that was asked for
 pub asked_on : (off : Bool) (op : Op) (s : Told) (answer : FlashAnswer) (t : Told) → off ≡ false → OffOrAsked off op s answer t → IsAsked op s answer t
@@ -52,11 +52,11 @@ module _ {m : Making} {entry : Told} {w v : Whole} (at : Stands m entry w v) {j 
   work' : IsSome (work_in s.banks.log.tail)
   work' = subst (λ (x : Whole). IsSome (work_in x.parts.banks.log.tail)) (sym at.shown) work
 
-  head_is : work_in s.banks.log.tail ≡ Some (head_of s.banks.log j)
+  head_is : (h : RecHead) × (work_in s.banks.log.tail ≡ Some h) × (h ≡ head_of s.banks.log h.kind j)
   head_is = work_of s.banks s.job j (work_in s.banks.log.tail) (ap (λ (x : Whole). x.parts.job) at.shown ∙ job) works.work work'
 
   body_is : work_body s ≡ take j.length s.content
-  body_is = ap (λ (o : Option RecHead). body_of o s.content) head_is
+  body_is = ap (λ (o : Option RecHead). body_of o s.content) head_is.1 ∙ ap (λ (x : RecHead). take x.length s.content) head_is.2
 
   result_is : f.result ≡ closed_as answer
   result_is = ap (λ (x : FlsState). x.result) is.same

@@ -12,6 +12,7 @@ use Rattle.memif.specs.declared.answer.JobResult.TheVariants.{JobFailed}
 use Rattle.fls_model.specs.Told.{Told}
 use Rattle.fee_format.specs.declared.rec_head.RecHead.{RecHead}
 use Rattle.fee_format.specs.declared.rec_head.RecordKind.{RecordKind}
+use Rattle.fee_format.specs.declared.rec_head.RecordKind.TheVariants as kind
 use Rattle.fee_log.specs.declared.tail.Tail.{Tail}
 use Rattle.fee_log.specs.declared.tail.Tail.TheVariants.{Open, Writes, Owes, Closed}
 use Rattle.fee_log.specs.Log.{LogState, IsFor, work_in, free_in, head_next, tail_begun}
@@ -31,6 +32,7 @@ use Rattle.fee_laws.specs.Follows.{Follows}
 use Rattle.fee_laws.specs.Worn.{IsWornNow}
 use Rattle.fee_laws.proofs.BegunSound.{records_begin}
 use Rattle.fee_laws.proofs.FollowCalled.{begun_follows, room_is_known, switching_follows}
+use Rattle.fee_laws.proofs.Heads.{has_kind, not_read}
 use Rattle.fee_laws.proofs.Lifting.{begun_turns}
 use Rattle.fee_laws.proofs.SwitchBegun.{switches_begin}
 use Rattle.fee_laws.proofs.SwitchEnded.{for_job, pages_for}
@@ -50,28 +52,31 @@ all_four true true false d e = cc e
 all_four true true true false e = cc e
 
 -- AN URGENT RECORD BESIDE A SWITCH
-taken_by : (op : DeviceOp) (c : Course) → op ≡ Write → takes_append (Some c) ≡ true → TakesRecord (kind_of op) (Some c)
-taken_by op (Erase n) is e = ap kind_of is
-taken_by op (Copy w) is e = ap kind_of is
-taken_by op Head is e = cc e
-taken_by op (Gate failed) is e = cc e
+content_by : (op : DeviceOp) (k : RecordKind) → kind_of op ≡ Some k → op ≡ Write → k ≡ kind.Content
+content_by op k writes is = (let content : Some kind.Content ≡ Some k = sym (ap kind_of is) ∙ writes in cc content)
+
+taken_by : (op : DeviceOp) (k : RecordKind) (c : Course) → kind_of op ≡ Some k → op ≡ Write → takes_append (Some c) ≡ true → TakesRecord k (Some c)
+taken_by op k (Erase n) writes is e = content_by op k writes is
+taken_by op k (Copy w) writes is e = content_by op k writes is
+taken_by op k Head writes is e = cc e
+taken_by op k (Gate failed) writes is e = cc e
 
 urgent_fits : (u : Bool) (pages reserve free : ℕ) → u ≡ true → has_room u pages 0 free ≡ true → has_room u pages reserve free ≡ true
 urgent_fits true pages reserve free e is = is
 urgent_fits false pages reserve free e is = cc e
 
 -- what a record that begins has, by the switch
-record HasBegin (m : Making) (b : BanksState) (j : FeeJob) (c : Option Course) : Type 0 where
-  pub taken : TakesRecord (kind_of j.op) c
+record HasBegin (m : Making) (b : BanksState) (j : FeeJob) (kind : RecordKind) (c : Option Course) : Type 0 where
+  pub taken : TakesRecord kind c
   pub beside : is_some c ≡ true → j.urgent ≡ true
   pub room : fits_in m.reserve b j ≡ true
 
-begin_by : (m : Making) (b : BanksState) (j : FeeJob) (c : Option Course) → b.course ≡ c → IsJobOf m.numbers j → begins_beside c m.reserve b j ≡ true → HasBegin m b j c
-begin_by m b j None at is begins = record { taken = tt; beside = λ e. cc e; room = begins }
-begin_by m b j (Some c) at is begins =
+begin_by : (m : Making) (b : BanksState) (j : FeeJob) (kind : RecordKind) (c : Option Course) → kind_of j.op ≡ Some kind → b.course ≡ c → IsJobOf m.numbers j → begins_beside c m.reserve b j ≡ true → HasBegin m b j kind c
+begin_by m b j kind None writes at is begins = record { taken = tt; beside = λ e. cc e; room = begins }
+begin_by m b j kind (Some c) writes at is begins =
     let four = all_four (takes_append b.course) j.urgent (is_waiting b j) (fits_in 0 b j) begins in
     record {
-      taken = taken_by j.op c (is.urgent four.1) (subst (λ (o : Option Course). takes_append o ≡ true) at four.0);
+      taken = taken_by j.op kind c writes (is.urgent four.1) (subst (λ (o : Option Course). takes_append o ≡ true) at four.0);
       beside = λ e. four.1;
       room = urgent_fits j.urgent (pages_of_op b.geometry.page j.op j.length) m.reserve (free_pages b) four.1 four.3;
     }
@@ -92,7 +97,7 @@ pub has_room_for : (m : Making) (s : Parts) (j : FeeJob) → IsActiveOf s.banks 
 has_room_for m s j active is may =
     let b = s.banks in
     let fits : has_room j.urgent (pages_of_op b.geometry.page j.op j.length) m.reserve (free_pages b) ≡ true = may.room in
-    let pages = pages_for b.geometry.page j.op j.length is.length may.writes is.fits in
+    let pages = pages_for b.geometry.page j.op j.length is.length (not_read j.op may.kind may.writes) is.fits in
     let fits' = subst (λ (n : ℕ). has_room j.urgent n m.reserve (free_pages b) ≡ true) pages fits in
     let room = room_by j.urgent (is_some b.active) (record_pages_of j.length b.geometry.page) m.reserve (free_in b.log) (omega arith) fits' in
     record { active = room.0; room = room.1 }
@@ -127,23 +132,25 @@ module _ {m : Making} {entry : Told} {w v : Whole} (at : Stands m entry w v) {j 
   is : IsJobOf m.numbers j
   is = job_is at.on waits_here.job
 
-  configured : IsFor s.banks.log.numbers (head_of s.banks.log j)
-  configured = subst (λ (ns : List (DeviceNumber × ℕ)). IsFor ns (head_of s.banks.log j)) (sym at.on.sound.made_for.numbers) (for_job m.numbers j (head_of s.banks.log j).count waits.writes is (next_counted s.banks.log j at.on.log))
+  configured : (kind : RecordKind) → kind_of j.op ≡ Some kind → IsFor s.banks.log.numbers (head_of s.banks.log kind j)
+  configured kind writes = subst (λ (ns : List (DeviceNumber × ℕ)). IsFor ns (head_of s.banks.log kind j)) (sym at.on.sound.made_for.numbers) (for_job m.numbers j kind (head_of s.banks.log kind j).count writes is (next_counted s.banks.log kind j at.on.log))
 
   -- its record
-  module _ (begins : begins_now v.reserve v.parts.banks j ≡ true) where
-    may_begin : MayBegin m s j
-    may_begin =
+  module _ (begins : begins_now v.reserve v.parts.banks j ≡ true) {kind : RecordKind} (writes : kind_of j.op ≡ Some kind) where
+    has : HasBegin m s.banks j kind s.banks.course
+    has =
         let here = subst (λ (x : Whole). begins_now x.reserve x.parts.banks j ≡ true) (sym at.shown) begins in
-        let has = begin_by m s.banks j s.banks.course refl is (subst (λ (n : ℕ). begins_now n s.banks j ≡ true) at.on.sound.reserve here) in
-        record { job = waits_here.job; writes = waits.writes; idle = waits_here.idle; taken = has.taken; beside = has.beside; configured = configured; room = has.room }
+        begin_by m s.banks j kind s.banks.course writes refl is (subst (λ (n : ℕ). begins_now n s.banks j ≡ true) at.on.sound.reserve here)
 
-    can_begin : CanAppend s.banks (head_of s.banks.log j)
-    can_begin = (let has = has_room_for m s j (at.on.sound.works at.on.started).active is may_begin in record { active = has.active; taken = may_begin.taken; configured = configured; room = has.room })
+    abbrev may_begin : MayBegin m s j
+    may_begin = record { job = waits_here.job; kind = kind; writes = writes; idle = waits_here.idle; taken = has.taken; beside = has.beside; configured = configured kind writes; room = has.room }
 
-    module _ {log : LogState} (same : log ≡ s.banks.log) {kind : RecordKind} (kind_is : kind ≡ kind_of j.op) {h : RecHead} (made : h ≡ head_next log j.number.0 kind j.length) where
-      head_is : h ≡ head_of s.banks.log j
-      head_is = made ∙ (λ k. head_next (same k) j.number.0 (kind_is k) j.length)
+    can_begin : CanAppend s.banks (head_of s.banks.log kind j)
+    can_begin = (let room = has_room_for m s j (at.on.sound.works at.on.started).active is may_begin in record { active = room.active; taken = has.taken; configured = configured kind writes; room = room.room })
+
+    module _ {log : LogState} (same : log ≡ s.banks.log) {h : RecHead} (made : h ≡ head_next log j.number kind j.length) where
+      head_is : h ≡ head_of s.banks.log kind j
+      head_is = made ∙ ap (λ (x : LogState). head_next x j.number kind j.length) same
 
       pub can_append : CanAppend s.banks h
       can_append = subst (CanAppend s.banks) (sym head_is) can_begin
@@ -164,7 +171,8 @@ module _ {m : Making} {entry : Told} {w v : Whole} (at : Stands m entry w v) {j 
     pub switch_begun : v.parts.worn ≡ None → is_worn_out s.banks.active ≡ false → (b : BanksState) → b ≡ begun_again s.banks (Erase 0) → IsBegun m entry w b
     switch_begun fresh worn b same =
         let fresh' = ap (λ (x : Whole). x.parts.worn) at.shown ∙ fresh in
-        let may : MaySwitch m s j = record { job = waits_here.job; writes = waits.writes; idle = waits_here.idle; shut = shut_here; configured = configured; full = full_here; fresh = fresh'; worn = worn } in
+        let k = has_kind j.op waits.writes in
+        let may : MaySwitch m s j = record { job = waits_here.job; kind = k.0; writes = k.1; idle = waits_here.idle; shut = shut_here; configured = configured k.0 k.1; full = full_here; fresh = fresh'; worn = worn } in
         subst (IsBegun m entry w) (sym same)
         (record { begun = switches_begin m entry s w.numbers w.reserve w.ops j at.on may; follows = switching_follows m entry s w.numbers w.reserve w.ops j at.on may at.up.sound.follows })
 

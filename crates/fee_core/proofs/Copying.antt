@@ -4,6 +4,7 @@ use Rattle.std.specs.List.{All}
 use Rattle.std.proofs.Common.{◌≡◌, ◌<◌, ℕ, true, false, Option, Some, None, refl, sym, ap, ◌∙◌, subst}
 use Rattle.nv_base.specs.Count.{next_count}
 use Rattle.nv_base.specs.Geometry.{size_of_bank}
+use Rattle.nv_base.specs.declared.instance.DeviceNumber.{DeviceNumber}
 use Rattle.memif.specs.declared.answer.DeviceTurn.TheVariants as turn
 use Rattle.fls_model.specs.declared.flash.FlashAnswer.{FlashAnswer}
 use Rattle.fls_model.specs.declared.flash.FlashAnswer.TheVariants.{Done, Failed, Off}
@@ -15,9 +16,7 @@ use Rattle.fee_log.specs.Log.{IsLogState, work_in}
 use Rattle.fee_course.specs.declared.copies.Source.{Source}
 use Rattle.fee_course.specs.declared.course.Course.{Course}
 use Rattle.fee_course.specs.declared.course.Course.TheVariants.{Erase, Copy, Head, Gate}
-use Rattle.fee_switch.specs.declared.phase.BankStep.{BankStep}
-use Rattle.fee_switch.specs.declared.phase.BankStep.TheVariants as step
-use Rattle.fee_switch.specs.Banks.{BanksState, IsBanksState, reads_next, reads_source, reads_place, step_of, after_answer}
+use Rattle.fee_switch.specs.Banks.{BanksState, IsBanksState, reads_next, reads_source, reads_place, after_answer}
 use Rattle.fee_switch.specs.Copy.{BeginsAt, IsBankStep}
 use Rattle.promise_device.specs.Making.{Making}
 use Rattle.fee_laws.specs.Inside.{Parts}
@@ -27,10 +26,9 @@ use Rattle.fee_laws.specs.Follows.{Follows}
 use Rattle.fee_laws.proofs.FollowCalled.{failed_follow}
 use Rattle.fee_laws.proofs.FollowTurned.{copies_follow}
 use Rattle.fee_laws.proofs.SwitchContent.{copies_are_not_read, copies_are_read}
-use Rattle.fee_core.specs.Operations.{answer_to}
 use Rattle.fee_core.specs.Whole.{Whole}
 use Rattle.fee_core.proofs.Standing.{Stands}
-use Rattle.fee_core.proofs.Stepping.{answer_same, stepping}
+use Rattle.fee_core.proofs.Stepping.{stepping}
 
 -- a step that reads is the first one of a copy
 pub reads_at : (b : BanksState) (o : Option Course) → reads_next b.log o ≡ true → o ≡ Some (Copy None)
@@ -42,22 +40,22 @@ reads_at b (Some Head) reads = cc reads
 reads_at b (Some (Gate failed)) reads = cc reads
 
 -- while the power is on it isn't cut, and it leaves the shape of the banks
-not_cut : (at : Place) (b : BanksState) (n size : ℕ) (s : Told) (t : BanksState) (s' : Told) → reads_place at ≡ true → s.off ≡ false → BeginsAt at b n size s Off t s' → ⊥
+not_cut : (at : Place) (b : BanksState) (n : DeviceNumber) (size : ℕ) (s : Told) (t : BanksState) (s' : Told) → reads_place at ≡ true → s.off ≡ false → BeginsAt at b n size s Off t s' → ⊥
 not_cut (place.Content q count) b n size s t s' reads on is = (let off = is.0.2 in cc (on, off))
 not_cut (place.Invalid count) b n size s t s' reads on is = cc reads
 not_cut (place.Erased count) b n size s t s' reads on is = cc reads
 not_cut place.Unwritten b n size s t s' reads on is = cc reads
 
-shape_same : (at : Place) (b : BanksState) (n size : ℕ) (s : Told) (answer : FlashAnswer) (t : BanksState) (s' : Told) → BeginsAt at b n size s answer t s' → (t.geometry ≡ b.geometry) × (t.banks ≡ b.banks)
+shape_same : (at : Place) (b : BanksState) (n : DeviceNumber) (size : ℕ) (s : Told) (answer : FlashAnswer) (t : BanksState) (s' : Told) → BeginsAt at b n size s answer t s' → (t.geometry ≡ b.geometry) × (t.banks ≡ b.banks)
 shape_same (place.Content q count) b n size s answer t s' is = (ap (λ (x : BanksState). x.geometry) is.1, ap (λ (x : BanksState). x.banks) is.1)
 shape_same (place.Invalid count) b n size s answer t s' is = (ap (λ (x : BanksState). x.geometry) is.1, ap (λ (x : BanksState). x.banks) is.1)
 shape_same (place.Erased count) b n size s answer t s' is = (ap (λ (x : BanksState). x.geometry) is.1, ap (λ (x : BanksState). x.banks) is.1)
 shape_same place.Unwritten b n size s answer t s' is = (ap (λ (x : BanksState). x.geometry) is.1, ap (λ (x : BanksState). x.banks) is.1)
 
 -- it was made, and came to this
-pub record IsCopied (m : Making) (entry : Told) (w : Whole) (result : BankStep) (f : FlsState) (b : BanksState) : Type 0 where
-  pub made : IsBankStep w.parts.banks (Copy None) w.parts.fls.flash result b f.flash
-  pub steps : IsStepping m entry w.parts w.numbers w.reserve w.ops (Copy None) made.made made.answer f
+pub record IsCopied (m : Making) (entry : Told) (w : Whole) (answer : FlashAnswer) (f : FlsState) (b : BanksState) : Type 0 where
+  pub made : IsBankStep w.parts.banks (Copy None) w.parts.fls.flash answer b f.flash
+  pub steps : IsStepping m entry w.parts w.numbers w.reserve w.ops (Copy None) made.made answer f
   pub reads : reads_next w.parts.banks.log (Some (Copy None)) ≡ true
   pub state : IsBanksState b
 
@@ -68,11 +66,11 @@ module _ {m : Making} {entry : Told} {w v : Whole} (at : Stands m entry w v) (re
   pub copies_next : w.parts.banks.course ≡ Some (Copy None)
   copies_next = reads_at w.parts.banks w.parts.banks.course here
 
-  module _ {f : FlsState} {result : BankStep} {b : BanksState} where
+  module _ {f : FlsState} {answer : FlashAnswer} {b : BanksState} where
     pub copy : IsLogState w.parts.banks.copies → All (λ x. x < 256) w.parts.banks.buffer → work_in v.parts.banks.log.tail ≡ None → IfSome v.parts.job (IsBehind v.parts.banks) → IsDriverState f → f ≡ record w.parts.fls { flash = f.flash; result = f.result }
-        → IfSome w.parts.banks.course (λ c. IsBankStep w.parts.banks c w.parts.fls.flash result b f.flash) → IsBanksState b → IsCopied m entry w result f b
+        → IfSome w.parts.banks.course (λ c. IsBankStep w.parts.banks c w.parts.fls.flash answer b f.flash) → IsBanksState b → IsCopied m entry w answer f b
     copy copies bytes idle behind driver only is state =
-        let made = subst (λ (o : Option Course). IfSome o (λ c. IsBankStep w.parts.banks c w.parts.fls.flash result b f.flash)) copies_next is in
+        let made = subst (λ (o : Option Course). IfSome o (λ c. IsBankStep w.parts.banks c w.parts.fls.flash answer b f.flash)) copies_next is in
         record {
           made = made;
           steps = stepping at made copies_next copies bytes idle behind driver only;
@@ -80,59 +78,56 @@ module _ {m : Making} {entry : Told} {w v : Whole} (at : Stands m entry w v) (re
           state = state;
         }
 
-module _ {m : Making} {entry : Told} {w : Whole} {result : BankStep} {f : FlsState} {b : BanksState} (is : IsCopied m entry w result f b) where
+module _ {m : Making} {entry : Told} {w : Whole} {answer : FlashAnswer} {f : FlsState} {b : BanksState} (is : IsCopied m entry w answer f b) where
   abbrev s : Parts
   s = w.parts
 
-  abbrev made : IsBankStep s.banks (Copy None) s.fls.flash result b f.flash
+  abbrev made : IsBankStep s.banks (Copy None) s.fls.flash answer b f.flash
   made = is.made
 
   place_read : reads_place made.makes.source.place ≡ true
   place_read = subst (λ (o : Option Source). reads_source o ≡ true) made.makes.next.first is.reads
 
-  off_not : made.answer ≡ Off → ⊥
+  off_not : answer ≡ Off → ⊥
   off_not e =
-      not_cut made.makes.source.place s.banks made.makes.number.0 made.makes.source.length s.fls.flash made.made f.flash place_read (sym (is.steps.on.sound.off is.steps.on.started))
-      (subst (λ (x : FlashAnswer). BeginsAt made.makes.source.place s.banks made.makes.number.0 made.makes.source.length s.fls.flash x made.made f.flash) e made.makes.begins)
+      not_cut made.makes.source.place s.banks made.makes.number made.makes.source.length s.fls.flash made.made f.flash place_read (sym (is.steps.on.sound.off is.steps.on.started))
+      (subst (λ (x : FlashAnswer). BeginsAt made.makes.source.place s.banks made.makes.number made.makes.source.length s.fls.flash x made.made f.flash) e made.makes.begins)
 
   done_by : (a : FlashAnswer) → (a ≡ Failed → ⊥) → (a ≡ Off → ⊥) → a ≡ Done
   done_by Done failed off = refl
   done_by Failed failed off = absurd (failed refl)
   done_by Off failed off = absurd (off refl)
 
-  pub copy_done : (result ≡ step.Failed → ⊥) → made.answer ≡ Done
-  copy_done failed = done_by made.answer (λ e. failed (made.is ∙ ap (step_of (Copy None)) e)) off_not
+  pub copy_done : (answer ≡ Failed → ⊥) → answer ≡ Done
+  copy_done failed = done_by answer failed off_not
 
-  pub copy_failed : result ≡ step.Failed → made.answer ≡ Failed
-  copy_failed e = sym (ap answer_to made.is ∙ answer_same (Copy None) made.answer) ∙ ap answer_to e
-
-  after : (a : FlashAnswer) → made.answer ≡ a → after_answer made.made (Copy None) a ≡ b
+  after : (a : FlashAnswer) → answer ≡ a → after_answer made.made (Copy None) a ≡ b
   after a same = sym (made.after ∙ ap (after_answer made.made (Copy None)) same)
 
-  steps : (a : FlashAnswer) → made.answer ≡ a → IsStepping m entry s w.numbers w.reserve w.ops (Copy None) made.made a f
+  steps : (a : FlashAnswer) → answer ≡ a → IsStepping m entry s w.numbers w.reserve w.ops (Copy None) made.made a f
   steps a same = subst (λ (x : FlashAnswer). IsStepping m entry s w.numbers w.reserve w.ops (Copy None) made.made x f) same is.steps
 
   -- its room is the same, as both are of a bank's size
-  room : made.answer ≡ Done → length made.made.buffer ≡ length s.banks.buffer
+  room : answer ≡ Done → length made.made.buffer ≡ length s.banks.buffer
   room done =
-      let shape = shape_same made.makes.source.place s.banks made.makes.number.0 made.makes.source.length s.fls.flash made.answer made.made f.flash made.makes.begins in
+      let shape = shape_same made.makes.source.place s.banks made.makes.number made.makes.source.length s.fls.flash answer made.made f.flash made.makes.begins in
       let behind : length made.made.buffer ≡ size_of_bank made.made.geometry made.made.banks = (subst IsBanksState (sym (after Done done)) is.state).buffer in
       behind ∙ (λ i. size_of_bank (shape.0 i) (shape.1 i)) ∙ sym is.steps.on.banks.buffer
 
-  pub copied : made.answer ≡ Done → Turned m entry turn.Worked s (record s { fls = f; banks = b }) w.numbers w.reserve w.ops false
+  pub copied : answer ≡ Done → Turned m entry turn.Worked s (record s { fls = f; banks = b }) w.numbers w.reserve w.ops false
   copied done =
       subst (λ (x : BanksState). Turned m entry turn.Worked s (record s { fls = f; banks = x }) w.numbers w.reserve w.ops false) (after Done done)
       (copies_are_read m entry s w.numbers w.reserve w.ops made.made f (steps Done done) is.reads (room done))
 
-  pub not_copied : made.answer ≡ Failed → Turned m entry turn.Worked s (failed_with s.job (record s { fls = f; banks = b; faults = next_count s.faults })) w.numbers w.reserve w.ops false
+  pub not_copied : answer ≡ Failed → Turned m entry turn.Worked s (failed_with s.job (record s { fls = f; banks = b; faults = next_count s.faults })) w.numbers w.reserve w.ops false
   not_copied failed =
       subst (λ (x : BanksState). Turned m entry turn.Worked s (failed_with s.job (record s { fls = f; banks = x; faults = next_count s.faults })) w.numbers w.reserve w.ops false) (after Failed failed)
       (copies_are_not_read m entry s w.numbers w.reserve w.ops made.made f (steps Failed failed) is.reads)
 
-  pub copy_follows : (a : FlashAnswer) → made.answer ≡ a → Follows s → Follows (record s { fls = f; banks = b })
+  pub copy_follows : (a : FlashAnswer) → answer ≡ a → Follows s → Follows (record s { fls = f; banks = b })
   copy_follows a same was =
       subst (λ (x : BanksState). Follows (record s { fls = f; banks = x })) (after a same)
       (copies_follow m entry s w.numbers w.reserve w.ops made.made a f (steps a same) is.reads (λ e. room (same ∙ e)) was)
 
-  pub failed_copy_follows : made.answer ≡ Failed → Follows s → Follows (failed_with s.job (record s { fls = f; banks = b; faults = next_count s.faults }))
+  pub failed_copy_follows : answer ≡ Failed → Follows s → Follows (failed_with s.job (record s { fls = f; banks = b; faults = next_count s.faults }))
   failed_copy_follows failed was = failed_follow (record s { fls = f; banks = b; faults = next_count s.faults }) s.job (copy_follows Failed failed was)

@@ -1,6 +1,7 @@
 -- The turns of a record and of a switch.
 use Rattle.std.specs.Prelude.{is_some, IfSome}
 use Rattle.std.proofs.Common.{◌≡◌, ◌+◌, ℕ, true, List, [], ◌∷◌, Option, Some, None, refl, ap, ◌∙◌, subst, arith}
+use Rattle.nv_base.specs.Pages.{record_pages_of}
 use Rattle.nv_base.specs.declared.instance.DeviceNumber.{DeviceNumber}
 use Rattle.fee_format.specs.declared.rec_head.RecHead.{RecHead}
 use Rattle.fee_image.specs.RecordList.{pages_of_head}
@@ -20,12 +21,12 @@ use Rattle.fee_laws.specs.Record.{head_of}
 use Rattle.fee_laws.specs.Work.{pages_left, is_owed}
 
 -- of a record in work
-pub record_left : (p wanted : ℕ) (t : Tail) (log : LogState) (j : FeeJob) → is_some (work_in t) ≡ true → IfSome (work_in t) (λ h. h ≡ head_of log j) → wanted ≡ pages_of_head p (head_of log j)
+pub record_left : (p wanted : ℕ) (t : Tail) (log : LogState) (j : FeeJob) → is_some (work_in t) ≡ true → IfSome (work_in t) (λ h. h ≡ head_of log h.kind j) → wanted ≡ record_pages_of j.length p
     → left_in p t ≡ pages_left p wanted t + turns_owed (is_owed t)
 record_left p wanted Open log j some of is = cc some
 record_left p wanted (Writes head done) log j some of is = omega arith
 record_left p wanted (Owes head None) log j some of is = cc some
-record_left p wanted (Owes head (Some next)) log j some of is = (let same : pages_of_head p next ≡ pages_of_head p (head_of log j) = ap (λ (h : RecHead). pages_of_head p h) of in omega (arith, same, is))
+record_left p wanted (Owes head (Some next)) log j some of is = (let same : pages_of_head p next ≡ record_pages_of j.length p = ap (λ (h : RecHead). pages_of_head p h) of in omega (arith, same, is))
 record_left p wanted Closed log j some of is = cc some
 
 -- of a switch without an active bank

@@ -1,16 +1,14 @@
 -- The read of the open job's number, from what its calls answer.
 use Rattle.std.specs.Prelude.{Contains, IsSome, length, take}
-use Rattle.std.proofs.Common.{◌≡◌, ◌<◌, ◌≤◌, ◌+◌, ◌==◌, ℕ, Bool, true, false, if◌then◌else◌, List, [], ◌∷◌, Some, None, refl, sym, ap, ◌∙◌, subst, arith}
+use Rattle.std.proofs.Common.{◌≡◌, ◌≤◌, ◌+◌, ℕ, false, List, Some, None, refl, sym, ap, ◌∙◌, subst}
 use Rattle.nv_base.specs.Count.{next_count}
 use Rattle.nv_base.specs.Geometry.{address_of_page}
-use Rattle.nv_base.specs.Lengths.{AreLengths}
 use Rattle.nv_base.specs.Pages.{record_pages_of}
 use Rattle.nv_base.specs.declared.instance.DeviceNumber.{DeviceNumber}
 use Rattle.nv_base.specs.declared.job.DeviceOp.{DeviceOp}
 use Rattle.nv_base.specs.declared.job.DeviceOp.TheVariants.{Read}
 use Rattle.memif.specs.declared.answer.DeviceTurn.TheVariants as turn
 use Rattle.memif.specs.declared.answer.JobResult.TheVariants.{JobOk, JobFailed}
-use Rattle.memif.specs.Told.{length_of}
 use Rattle.fls_model.specs.declared.flash.FlashAnswer.{FlashAnswer}
 use Rattle.fls_model.specs.declared.flash.FlashAnswer.TheVariants.{Done, Failed, Off}
 use Rattle.fls_model.specs.Read.{IsRead}
@@ -37,17 +35,6 @@ use Rattle.fee_core.proofs.Standing.{Stands, turned_from}
 -- THE CONTENT
 size_is : (numbers : List (DeviceNumber × ℕ)) (j : FeeJob) (is : IsJobOf numbers j) → j.op ≡ Read → j.length ≡ is.length
 size_is numbers j is op = subst (λ (o : DeviceOp). IsLengthOf o j.length is.length) op is.fits
-
-some_by : (x : DeviceNumber × ℕ) (xs : List (DeviceNumber × ℕ)) (n size : ℕ) → 1 ≤ x.1 → (length_of xs n ≡ Some size → 0 < size) → (b : Bool) → (if b then Some x.1 else length_of xs n) ≡ Some size → 0 < size
-some_by x xs n size some rest true is = (let e : x.1 ≡ size = cc is in omega arith)
-some_by x xs n size some rest false is = rest is
-
-some_at : (low : ℕ) (ns : List (DeviceNumber × ℕ)) (n size : ℕ) → AreLengths low ns → length_of ns n ≡ Some size → 0 < size
-some_at low [] n size are is = cc is
-some_at low (x ∷ xs) n size are is = some_by x xs n size are.2 (λ e. some_at x.0.0 xs n size are.4 e) (x.0.0 == n) is
-
-pub read_some : (numbers : List (DeviceNumber × ℕ)) (j : FeeJob) → AreLengths 0 numbers → IsJobOf numbers j → j.op ≡ Read → 0 < j.length
-read_some numbers j are is op = (let e = size_is numbers j is op in let some = some_at 0 numbers j.number.0 is.length are is.configured in omega (arith, e, some))
 
 -- it lies before the end of its log
 pub read_within : (numbers : List (DeviceNumber × ℕ)) (log : LogState) (j : FeeJob) (at writes : ℕ) (place : Place) → IsJobOf numbers j → j.op ≡ Read → log.numbers ≡ numbers

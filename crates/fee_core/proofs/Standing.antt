@@ -8,12 +8,15 @@ use Rattle.nv_base.specs.declared.job.DeviceOp.TheVariants.{Read, Write, Invalid
 use Rattle.memif.specs.declared.answer.DeviceTurn.{DeviceTurn}
 use Rattle.memif.specs.declared.answer.DeviceTurn.TheVariants as turn
 use Rattle.fls_model.specs.Told.{Told, Change}
+use Rattle.fee_format.specs.declared.rec_head.RecordKind.{RecordKind}
 use Rattle.fee_image.specs.declared.place.Place.{Place}
 use Rattle.fee_image.specs.declared.place.Place.TheVariants.{Unwritten}
 use Rattle.fee_image.specs.Places.{count_at}
 use Rattle.fee_log.specs.Index.{at_index, or_else, AreCounted}
 use Rattle.fee_log.specs.Log.{LogState, IsLogState, work_in}
-use Rattle.fee_switch.specs.Banks.{BanksState, IsBanksState}
+use Rattle.fee_course.specs.declared.course.Course.{Course}
+use Rattle.fee_switch.specs.declared.phase.Phase.TheVariants as phase
+use Rattle.fee_switch.specs.Banks.{BanksState, IsBanksState, phase_of}
 use Rattle.promise_device.specs.Making.{Making}
 use Rattle.fee_told.proofs.Figures.{length_few as few_at}
 use Rattle.fee_laws.specs.declared.job.FeeJob.{FeeJob}
@@ -100,6 +103,17 @@ off_turned {m} {entry} {v} sound off j job =
     let parts = subst (λ (x : Bool). IsSound m entry v.parts v.numbers v.reserve v.ops x) off sound.parts in
     record { turns = off_turns m entry v.parts v.numbers v.reserve v.ops parts started (inl (ap (λ (o : Option FeeJob). is_some o) job)); sound = sound }
 
+-- with a switch open, too
+pub off_beside : {m : Making} {entry : Told} {v : Whole} → Sound m entry v → v.off ≡ true → is_some v.parts.banks.course ≡ true → TurnedTo m entry turn.Off v v
+off_beside {m} {entry} {v} sound off open' =
+    let started = started_by v.parts.started (λ is. (let none : false ≡ true = sym (ap (λ (o : Option Course). is_some o) (sound.parts.rests is).course) ∙ open' in cc none)) in
+    let parts = subst (λ (x : Bool). IsSound m entry v.parts v.numbers v.reserve v.ops x) off sound.parts in
+    record { turns = off_turns m entry v.parts v.numbers v.reserve v.ops parts started (inr open'); sound = sound }
+
+pub phase_open : (o : Option Course) → (phase_of o ≡ phase.None → ⊥) → is_some o ≡ true
+phase_open None shut = absurd (shut refl)
+phase_open (Some c) shut = refl
+
 -- THE OPEN JOB
 length_few : (op : DeviceOp) (length of : ℕ) → IsLengthOf op length of → of ≤ 4096 → length ≤ 4096
 length_few Read length of fits few = omega (arith, fits)
@@ -124,5 +138,5 @@ place_counted : (ps : List Place) (o : Option ℕ) → AreCounted ps → count_a
 place_counted ps None are = omega arith
 place_counted ps (Some i) are = counted_at ps i are
 
-pub next_counted : (log : LogState) (j : FeeJob) → IsLogState log → (head_of log j).count < 2 ^ 32
-next_counted log j is = (let few = place_counted log.places (place_of log.numbers j.number.0) is.counts in omega (arith, few))
+pub next_counted : (log : LogState) (kind : RecordKind) (j : FeeJob) → IsLogState log → (head_of log kind j).count < 2 ^ 32
+next_counted log kind j is = (let few = place_counted log.places (place_of log.numbers j.number.0) is.counts in omega (arith, few))

@@ -19,8 +19,7 @@ use Rattle.fee_log.specs.Log.{LogState, erased_state, work_in, is_closed}
 use Rattle.fee_switch.specs.declared.active.ActiveBank.{ActiveBank}
 use Rattle.fee_switch.specs.Banks.{BanksState, IsBanksState, IsSameFlash, FindsActive, LoadsActive}
 use Rattle.promise_device.specs.Making.{Making}
-use Rattle.fee_told.specs.Device.{told_of}
-use Rattle.fee_told.specs.Clock.{clock_of}
+use Rattle.fee_told.specs.Device.{told_of, clock_of}
 use Rattle.fee_laws.specs.Inside.{Parts, device_of, IsSound, IsActiveOf}
 use Rattle.fee_switch.specs.Start.{IsLoadedAs}
 use Rattle.fee_switch_laws.specs.Shown.{layout_in}

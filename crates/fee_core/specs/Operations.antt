@@ -1,17 +1,14 @@
 -- The changing operations of a device, each listed as it is made.
 use Rattle.std.specs.Prelude.{◌≡◌, ◌++◌, ◌∷◌, [], ℕ, List, IfSome}
 use Rattle.fls_model.specs.declared.flash.FlashAnswer.{FlashAnswer}
-use Rattle.fls_model.specs.declared.flash.FlashAnswer.TheVariants.{Done, Failed, Off}
 use Rattle.fls_model.specs.Step.{IsStep}
 use Rattle.fls_model.specs.Told.{Change}
 use Rattle.fls_jobs.specs.CallOf.{closed_as}
 use Rattle.fls_jobs.specs.State.{FlsState}
 use Rattle.fee_log.specs.Step.{IsPageOf, due_bytes, op_of, after_step}
-use Rattle.fee_switch.specs.declared.phase.BankStep.{BankStep}
-use Rattle.fee_switch.specs.declared.phase.BankStep.TheVariants as step
 use Rattle.fee_switch.specs.Banks.{BanksState}
 use Rattle.fee_switch.specs.Copy.{IsBankStep}
-use Rattle.fee_told.specs.Clock.{change_of}
+use Rattle.fls_told.specs.Clock.{change_of}
 use Rattle.fee_core.specs.Asked.{switch_op_of}
 
 -- the next page of the record in work, whose content has these bytes, was asked for, and this was answered
@@ -22,15 +19,8 @@ pub record IsProgrammed (fls : FlsState) (banks : BanksState) (operations : List
   pub same : f ≡ record fls { flash = f.flash; result = closed_as answer }
   pub listed : list ≡ operations ++ change_of (op_of banks.log body) fls.flash answer ∷ []
 
--- the flash's answer to a step of a switch
-abbrev pub answer_to : BankStep → FlashAnswer
-answer_to step.More = Done
-answer_to step.Ended = Done
-answer_to step.Failed = Failed
-answer_to step.Off = Off
-
--- the next operation of an open switch was made, and its step came to this
-pub record ChangesTarget (fls : FlsState) (banks : BanksState) (operations : List Change) (result : BankStep) (f : FlsState) (b : BanksState) (list : List Change) : Type 0 where
-  pub step : IfSome banks.course (λ c. IsBankStep banks c fls.flash result b f.flash)
+-- the next operation of an open switch was made, and this was answered
+pub record ChangesTarget (fls : FlsState) (banks : BanksState) (operations : List Change) (answer : FlashAnswer) (f : FlsState) (b : BanksState) (list : List Change) : Type 0 where
+  pub step : IfSome banks.course (λ c. IsBankStep banks c fls.flash answer b f.flash)
   pub same : f ≡ record fls { flash = f.flash; result = f.result }
-  pub listed : list ≡ operations ++ change_of (switch_op_of banks banks.course) fls.flash (answer_to result) ∷ []
+  pub listed : list ≡ operations ++ change_of (switch_op_of banks banks.course) fls.flash answer ∷ []

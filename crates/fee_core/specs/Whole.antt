@@ -10,8 +10,7 @@ use Rattle.fls_model.specs.Told.{Told}
 use Rattle.fls_jobs.specs.State.{FlsState}
 use Rattle.fee_switch.specs.Banks.{BanksState}
 use Rattle.promise_device.specs.Making.{Making}
-use Rattle.fee_told.specs.Device.{told_of}
-use Rattle.fee_told.specs.Clock.{clock_of}
+use Rattle.fee_told.specs.Device.{told_of, clock_of}
 use Rattle.fee_laws.specs.Inside.{Parts, device_of, IsSound}
 use Rattle.fee_laws.specs.Follows.{Follows}
 

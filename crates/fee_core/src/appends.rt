@@ -1,5 +1,6 @@
 // The turns of the open job's record.
-ghost use Rattle.std.specs.Prelude.{◌≡◌, true, Some, IsSome};
+ghost use Rattle.std.specs.Prelude.{◌≡◌, ◌≢◌, true, Some, IsSome};
+ghost use Rattle.nv_base.specs.declared.job.DeviceOp.TheVariants.{Read};
 ghost use Rattle.fee_log.specs.Log.{work_in};
 ghost use Rattle.fee_laws.specs.Record.{kind_of};
 ghost use Rattle.fee_core.specs.Beginning.{begins_now};
@@ -16,14 +17,16 @@ use fls_model::Flash;
 use memif::{DeviceTurn, JobResult};
 use nv_base::DeviceOp;
 
-// The kind of an operation's record. A read has none, and stands with the erasings.
+// The kind of an operation's record. A read has none.
 fn kind_of(op: DeviceOp) -> RecordKind
-    ensures { result ≡ kind_of op }
+    requires writes { op ≢ Read }
+    ensures { kind_of op ≡ Some result }
 {
     match op {
+        DeviceOp::Read => unreachable!(),
         DeviceOp::Write => RecordKind::Content,
         DeviceOp::Invalidate => RecordKind::Invalid,
-        DeviceOp::Read | DeviceOp::Erase => RecordKind::Erased,
+        DeviceOp::Erase => RecordKind::Erased,
     }
 }
 

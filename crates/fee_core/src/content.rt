@@ -47,7 +47,6 @@ fn read_front<F: Flash>(
     requires idle { IsIdle fls.old }
     requires geometry { fls.old.geometry ≡ log.now.geometry }
     requires within { at + record_pages_of size log.now.geometry.page ≤ log.now.end }
-    requires some { 0 < size }
     requires room { size ≤ length room.old }
     ensures read { IsRead (address_of_page log.now.geometry log.now.banks log.now.bank (at + 2)) fls.old.flash (take size room.old) result (take size room.new) fls.new.flash }
     ensures whole { length room.new ≡ length room.old }
@@ -92,7 +91,6 @@ impl Content {
         requires idle { IsIdle fls.old }
         requires geometry { fls.old.geometry ≡ log.now.geometry }
         requires within { at + record_pages_of size log.now.geometry.page ≤ log.now.end }
-        requires some { 0 < size }
         requires few { size ≤ 4096 }
         ensures read { IsRead (address_of_page log.now.geometry log.now.banks log.now.bank (at + 2)) fls.old.flash (take size self.old) result (take size self.new) fls.new.flash }
         ensures room { length self.new ≡ 4096 }

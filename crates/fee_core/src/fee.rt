@@ -86,13 +86,12 @@ impl<F: Flash, O: Origin> Fee<F, O> {
     ghost use Rattle.nv_base.specs.Geometry.{IsLegal, HasBanks, sectors_of_bank};
     ghost use Rattle.fls_model.specs.Told.{changes_in};
     ghost use Rattle.fls_model.specs.Attach.{IsAttach};
-    ghost use Rattle.promise_device.specs.Bridge.{Bridges};
+    ghost use Rattle.promise_device.specs.Bridge.{Bridges, reading_of};
     ghost use Rattle.fee_switch_laws.specs.Space.{HasSpace};
     ghost use Rattle.fee_laws.specs.Made.{IsMadeOf, part_at};
     ghost use Rattle.memif.specs.Told.{First, figures_at};
     ghost use Rattle.fee_told.specs.Figures.{fixed_for};
-    ghost use Rattle.fee_told.specs.Device.{told_of};
-    ghost use Rattle.fee_told.specs.Clock.{clock_of};
+    ghost use Rattle.fee_told.specs.Device.{told_of, clock_of};
 
     /// Attaches the flash and takes all memory that the device ever needs; a refusal hands the flash back. The device is of
     /// what was picked, and isn't started. `banks` is how many share the sectors, `reserve` the pages that are kept for urgent
@@ -135,7 +134,7 @@ impl<F: Flash, O: Origin> Fee<F, O> {
         ensures parts { (n : ℕ) → (figures_at (told_of self).fixed n).part ≡ First }
         ensures none { self.operations ≡ [] → ((F.told result).ops ≡ O.entry.ops) × ((F.told result).cuts ≡ O.entry.cuts) }
         ensures changes { IfSome (changes_in (F.told result).bytes) (λ changes. changes ≡ self.operations) }
-        ensures bridge { (cutter : Bool) → Bridges O.making cutter (record { entry = O.entry; exit = F.told result; operations = self.operations }) (part_at O.entry) (told_of self) (clock_of self) }
+        ensures bridge { (cutter : Bool) → Bridges (reading_of O.making) cutter (record { entry = O.entry; exit = F.told result; operations = self.operations }) (part_at O.entry) (told_of self) (clock_of self) }
     {
         let Fee { parts } = self;
         let FeeParts { fls, .. } = parts;

@@ -29,6 +29,7 @@ pub use fee_laws;
 pub use fee_switch_laws;
 pub use fee_told;
 pub use fls_model;
+pub use fls_told;
 pub use memif;
 pub use nv_base;
 pub use origin::Origin;

@@ -6,26 +6,15 @@ ghost use Rattle.fee_log.specs.Log.{work_in};
 ghost use Rattle.fee_log.specs.Step.{IsStepAt, answer_of};
 ghost use Rattle.fee_switch.specs.Banks.{is_worn_out};
 ghost use Rattle.fee_switch.specs.Copy.{CanGoOn};
-ghost use Rattle.fee_core.specs.Operations.{ChangesTarget, IsProgrammed, answer_to};
+ghost use Rattle.fee_core.specs.Operations.{ChangesTarget, IsProgrammed};
 
 use crate::asked::Asked;
 use crate::content::Content;
 use fee_log::LogStep;
-use fee_switch::{BankStep, Banks};
+use fee_switch::Banks;
 use fls_jobs::Fls;
 use fls_model::{Flash, FlashAnswer};
 use nv_base::Trace;
-
-// The flash's answer to a step of a switch.
-fn answer_to(step: BankStep) -> FlashAnswer
-    ensures { result ≡ answer_to step }
-{
-    match step {
-        BankStep::More | BankStep::Ended => FlashAnswer::Done,
-        BankStep::Failed => FlashAnswer::Failed,
-        BankStep::Off => FlashAnswer::Off,
-    }
-}
 
 /// Programs the next page of the record in work, whose content has this size, and lists that operation.
 pub(crate) fn program_record<F: Flash>(
@@ -59,7 +48,7 @@ pub(crate) fn change_target<F: Flash>(
     banks: &mut Banks,
     content: &Content,
     operations: &mut Trace<Asked<F>>,
-) -> BankStep
+) -> FlashAnswer
     requires course { is_some banks.old.course ≡ true }
     requires no_work { work_in banks.old.log.tail ≡ None }
     requires worn { is_worn_out banks.old.active ≡ false }
@@ -71,8 +60,8 @@ pub(crate) fn change_target<F: Flash>(
     let driver = Trace::new().with(fls);
     let before = Trace::new().with(banks);
     let body = Trace::new().with(content);
-    let step = banks.step(fls);
-    let asked = Asked::make(driver, before, body, answer_to(step));
+    let answer = banks.step(fls);
+    let asked = Asked::make(driver, before, body, answer);
     *operations = operations.with(&asked);
-    step
+    answer
 }

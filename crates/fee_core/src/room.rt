@@ -1,6 +1,6 @@
 // The room of records.
 ghost use Rattle.std.specs.Prelude.{◌≡◌, ◌≤◌, ◌<◌, ◌+◌, ◌^◌, nat_le, is_some, Some, None, IfSome};
-ghost use Rattle.fee_image.specs.RecordList.{pages_of_head};
+ghost use Rattle.nv_base.specs.Pages.{record_pages_of};
 ghost use Rattle.fee_log.specs.Index.{clear_flags};
 ghost use Rattle.fee_log.specs.Log.{work_in};
 ghost use Rattle.fee_told.specs.Figures.{ready_of, turns_owed};
@@ -168,8 +168,8 @@ pub(crate) fn switch_turns(banks: &Banks, job: FeeJob, reserve: u32) -> u64
 /// The turns of the pages of a job's record that are left, and of a gate that is owed before it.
 pub(crate) fn record_turns(banks: &Banks, job: FeeJob) -> u64
     requires active { IsActiveOf banks.now banks.now.active }
-    requires work { IfSome (work_in banks.now.log.tail) (λ h. h ≡ head_of banks.now.log job) }
-    requires pages { pages_of_op banks.now.geometry.page job.op job.length ≡ pages_of_head banks.now.geometry.page (head_of banks.now.log job) }
+    requires work { IfSome (work_in banks.now.log.tail) (λ h. h ≡ head_of banks.now.log h.kind job) }
+    requires pages { pages_of_op banks.now.geometry.page job.op job.length ≡ record_pages_of job.length banks.now.geometry.page }
     ensures { result ≡ pages_left banks.now.geometry.page (pages_of_op banks.now.geometry.page job.op job.length) banks.now.log.tail + turns_owed (is_owed banks.now.log.tail) }
 {
     let page = banks.geometry().page;

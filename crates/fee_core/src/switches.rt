@@ -12,8 +12,8 @@ use crate::Origin;
 use crate::operations::change_target;
 use crate::parts::FeeParts;
 use fee_laws::FeeJob;
-use fee_switch::{BankBegin, BankStep};
-use fls_model::Flash;
+use fee_switch::BankBegin;
+use fls_model::{Flash, FlashAnswer};
 use memif::{DeviceTurn, JobResult};
 
 impl<F: Flash, O: Origin> FeeParts<F, O> {
@@ -38,11 +38,11 @@ impl<F: Flash, O: Origin> FeeParts<F, O> {
         ensures { TurnedTo O.making O.entry result self.old self.new }
     {
         let _active = self.banks.active();
-        let step = self.banks.step(&mut self.fls);
+        let answer = self.banks.step(&mut self.fls);
         self.fls.status();
         let _behind = self.banks.active();
-        match step {
-            BankStep::Failed => {
+        match answer {
+            FlashAnswer::Failed => {
                 self.fail();
                 DeviceTurn::Worked
             }
@@ -60,7 +60,7 @@ impl<F: Flash, O: Origin> FeeParts<F, O> {
         ensures { TurnedTo O.making O.entry result self.old self.new }
     {
         let _active = self.banks.active();
-        let step = change_target(
+        let answer = change_target(
             &mut self.fls,
             &mut self.banks,
             &self.content,
@@ -68,13 +68,13 @@ impl<F: Flash, O: Origin> FeeParts<F, O> {
         );
         self.fls.status();
         self.ops = self.ops.saturating_add(1);
-        match step {
-            BankStep::More | BankStep::Ended => DeviceTurn::Worked,
-            BankStep::Failed => {
+        match answer {
+            FlashAnswer::Done => DeviceTurn::Worked,
+            FlashAnswer::Failed => {
                 self.fail();
                 DeviceTurn::Worked
             }
-            BankStep::Off => {
+            FlashAnswer::Off => {
                 self.off = true;
                 DeviceTurn::Off
             }

@@ -25,7 +25,7 @@ counted_text count commit = codes "count " ++ (decimal count ++ (codes " " ++ co
 
 -- the page of its bank where its header stands, what the header says in the bank's format, and whether its commit gate is open
 abbrev pub record_line : ℕ → Rec → List ℕ
-record_line format r = numbers_line r.at r.head.number (kind_byte r.head.kind) r.head.length
+record_line format r = numbers_line r.at r.head.number.0 (kind_byte r.head.kind) r.head.length
     (if format == new_format then counted_text r.head.count (commit_text r.committed) else commit_text r.committed)
 
 -- THE TAIL

@@ -44,13 +44,13 @@ pub(crate) fn record_line(
     let kind = kind_byte(shown.kind);
     let length = shown.payload.len();
     if format != 2 {
-        return numbers_line(alloc, shown.at, shown.number, kind, length, commit);
+        return numbers_line(alloc, shown.at, shown.number.0, kind, length, commit);
     }
     let counted = counted(alloc, shown.count, commit)?;
     numbers_line(
         alloc,
         shown.at,
-        shown.number,
+        shown.number.0,
         kind,
         length,
         counted.as_str(),

@@ -60,11 +60,11 @@ kind_read Erased = refl
 
 rec_head_in_is : (format p : ℕ) (h : RecHead) → IsLegalRecHead h → IsCountIn format h.count → rec_head_in format (rec_head_page format p h) ≡ h
 rec_head_in_is format p h legal counted =
-    let number : from_be_bytes w16 (to_be_bytes w16 h.number) ≡ h.number = from_be_bytes-to_be_bytes_2 h.number (omega (arith, legal.number_high)) in
+    let number : from_be_bytes w16 (to_be_bytes w16 h.number.0) ≡ h.number.0 = from_be_bytes-to_be_bytes_2 h.number.0 (omega (arith, legal.number_high)) in
     let length : from_be_bytes w16 (to_be_bytes w16 h.length) ≡ h.length = from_be_bytes-to_be_bytes_2 h.length legal.length in
     let count = count_read (format == new_format) h.count (replicate (p - 10) 255) legal.count counted in
     let kind = kind_read h.kind in
-    λ i. record { number = number i; kind = kind i; length = length i; count = count i }
+    λ i. record { number = record { 0 = number i }; kind = kind i; length = length i; count = count i }
 
 length_is : (k : RecordKind) (length : ℕ) → IsTrue (is_length_of_kind k length) ↔ IsLengthOfKind k length
 length_is Content length = lt_is 0 length
@@ -73,13 +73,13 @@ length_is Erased length = eq_is length 0
 
 legal_is : (h : RecHead) → IsTrue (is_legal_rec_head h) ↔ IsLegalRecHead h
 legal_is h =
-    let number = both (nat_lt 0 h.number) (nat_lt h.number 65535) (0 < h.number) (h.number < 65535) (lt_is 0 h.number) (lt_is h.number 65535) in
+    let number = both (nat_lt 0 h.number.0) (nat_lt h.number.0 65535) (0 < h.number.0) (h.number.0 < 65535) (lt_is 0 h.number.0) (lt_is h.number.0 65535) in
     let has_length = is_length_of_kind h.kind h.length in
     let HasLength = IsLengthOfKind h.kind h.length in
     let rest = both has_length (nat_lt h.length 65536) HasLength (h.length < 65536) (length_is h.kind h.length) (lt_is h.length 65536) in
-    let all = both (nat_lt 0 h.number && nat_lt h.number 65535) (has_length && nat_lt h.length 65536) ((0 < h.number) × (h.number < 65535)) (HasLength × (h.length < 65536)) number rest in
-    let with_count = both (nat_lt h.count (2 ^ 32)) ((nat_lt 0 h.number && nat_lt h.number 65535) && (has_length && nat_lt h.length 65536))
-    (h.count < 2 ^ 32) (((0 < h.number) × (h.number < 65535)) × (HasLength × (h.length < 65536)))
+    let all = both (nat_lt 0 h.number.0 && nat_lt h.number.0 65535) (has_length && nat_lt h.length 65536) ((0 < h.number.0) × (h.number.0 < 65535)) (HasLength × (h.length < 65536)) number rest in
+    let with_count = both (nat_lt h.count (2 ^ 32)) ((nat_lt 0 h.number.0 && nat_lt h.number.0 65535) && (has_length && nat_lt h.length 65536))
+    (h.count < 2 ^ 32) (((0 < h.number.0) × (h.number.0 < 65535)) × (HasLength × (h.length < 65536)))
     (lt_is h.count (2 ^ 32)) all in (
       λ t. let c = with_count.0 t in let l = c.1 in record { number_low = l.0.0; number_high = l.0.1; kind = l.1.0; length = l.1.1; count = c.0 },
       λ l. with_count.1 (l.count, ((l.number_low, l.number_high), (l.kind, l.length))),

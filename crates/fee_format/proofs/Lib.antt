@@ -1,3 +1,4 @@
+pub mod Guards
 pub mod Heads
 pub mod SoundHeads
 pub mod Tests

@@ -1,15 +1,16 @@
 -- What a torn erase leaves of heads and gates.
-use Rattle.std.specs.Prelude.{bit_and}
+use Rattle.std.specs.Prelude.{bit_and, get_or, drop, replicate}
 use Rattle.std.specs.Int.{w32, byte_at, to_be_bytes, from_be_bytes}
 use Rattle.std.proofs.Common.{◌≡◌, inl, inr, ◌<◌, ◌≤◌, ◌^◌, ℕ, zero, suc, ◌-◌, List, [], ◌∷◌, length, refl, sym, ap, ◌∙◌, subst, arith}
 use Rattle.std.proofs.lemmas.Bool.{cases_Bool, false≢true}
-use Rattle.std.proofs.lemmas.Nat.{and_le_r, and_assoc, from_be_bytes-to_be_bytes_4}
-use Rattle.fls_model.specs.Bytes.{Grown}
+use Rattle.std.proofs.lemmas.Nat.{and_assoc, from_be_bytes-to_be_bytes_4}
+use Rattle.fls_model.specs.Bytes.{Grown, AreBytes}
 use Rattle.fee_format.specs.declared.bank_head.BankHead.{BankHead}
-use Rattle.fee_format.specs.BankHead.{IsLegalBankHead, IsBankHead, bank_head_page}
+use Rattle.fee_format.specs.BankHead.{IsLegalBankHead, IsBankHead, bank_head_bytes, bank_head_page}
 use Rattle.fee_format.specs.Formats.{IsFormat}
 use Rattle.fee_format.specs.Pages.{gate_page, same_bytes}
 use Rattle.fee_format.specs.Laws.{TornPagesKeepSize, TornHeadsAreSame, TornGatesWereGates, TornHeadsStaySound, BeginsBlank, BlankHeadsAreSound}
+use Rattle.fee_format.proofs.Guards.{grown_le, guards_hold}
 use Rattle.fee_format.proofs.Tests.{bytes_are}
 
 -- MORE BITS
@@ -29,9 +30,6 @@ torn_pages_keep_size [] (y ∷ ys) grown = absurd grown
 torn_pages_keep_size (x ∷ xs) [] grown = absurd grown
 torn_pages_keep_size (x ∷ xs) (y ∷ ys) grown = ap suc (torn_pages_keep_size xs ys grown.2)
 
-pub grown_le : (x y : ℕ) → bit_and x y ≡ x → x ≤ y
-grown_le x y is = omega (arith, is, and_le_r x y)
-
 -- both ways there is no change
 pub grown_back : (xs ys : List ℕ) → Grown xs ys → Grown ys xs → xs ≡ ys
 grown_back [] [] one two = refl
@@ -45,10 +43,6 @@ grown_back (x ∷ xs) (y ∷ ys) one two =
 same_32 : (m n : ℕ) → m < 2 ^ 32 → n < 2 ^ 32 → to_be_bytes w32 m ≡ to_be_bytes w32 n → m ≡ n
 same_32 m n low high e = sym (from_be_bytes-to_be_bytes_4 m low) ∙ ap (from_be_bytes w32) e ∙ from_be_bytes-to_be_bytes_4 n high
 
--- a byte beside its complement can't change
-held : (x y : ℕ) → x < 256 → y < 256 → bit_and x y ≡ x → bit_and (255 - x) (255 - y) ≡ 255 - x → x ≡ y
-held x y small small2 up down = omega (arith, grown_le x y up, grown_le (255 - x) (255 - y) down)
-
 pub byte_small : (k n : ℕ) → byte_at k n < 256
 byte_small zero n = omega arith
 byte_small (suc k) n = omega arith
@@ -57,18 +51,21 @@ pub format_small : (n : ℕ) → IsFormat n → n < 256
 format_small n (inl one) = omega (arith, one)
 format_small n (inr two) = omega (arith, two)
 
+small_head : (h : BankHead) → IsLegalBankHead h → AreBytes (bank_head_bytes h)
+small_head h legal zero = omega arith
+small_head h legal (suc zero) = format_small h.format legal.format
+small_head h legal (suc (suc zero)) = byte_small 3 h.generation
+small_head h legal (suc (suc (suc zero))) = byte_small 2 h.generation
+small_head h legal (suc (suc (suc (suc zero)))) = byte_small 1 h.generation
+small_head h legal (suc (suc (suc (suc (suc zero))))) = byte_small 0 h.generation
+small_head h legal (suc (suc (suc (suc (suc (suc k)))))) = omega arith
+
 same_head : (p : ℕ) (h i : BankHead) → IsLegalBankHead h → IsLegalBankHead i → Grown (bank_head_page p h) (bank_head_page p i) → h ≡ i
 same_head p h i one two grown =
-    let from = grown.2.2 in
-    let guard = from.2.2.2.2.2.2 in
-    let byte : (k : ℕ) → bit_and (byte_at k h.generation) (byte_at k i.generation) ≡ byte_at k h.generation → bit_and (255 - byte_at k h.generation) (255 - byte_at k i.generation) ≡ 255 - byte_at k h.generation → byte_at k h.generation ≡ byte_at k i.generation =
-    λ k up down. held (byte_at k h.generation) (byte_at k i.generation) (byte_small k h.generation) (byte_small k i.generation) up down in
-    let b3 = byte 3 from.0 guard.0 in
-    let b2 = byte 2 from.2.0 guard.2.0 in
-    let b1 = byte 1 from.2.2.0 guard.2.2.0 in
-    let b0 = byte 0 from.2.2.2.0 guard.2.2.2.0 in
-    let generation : h.generation ≡ i.generation = same_32 h.generation i.generation one.generation two.generation (λ j. b3 j ∷ b2 j ∷ b1 j ∷ b0 j ∷ []) in
-    let format : h.format ≡ i.format = held h.format i.format (format_small h.format one.format) (format_small i.format two.format) grown.2.0 from.2.2.2.2.2.0 in
+    let bytes : bank_head_bytes h ≡ bank_head_bytes i =
+    guards_hold (bank_head_bytes h) (bank_head_bytes i) (replicate (p - 12) 255) (replicate (p - 12) 255) (small_head h one) (small_head i two) refl grown in
+    let format : h.format ≡ i.format = ap (λ (l : List ℕ). get_or l 1 0) bytes in
+    let generation : h.generation ≡ i.generation = same_32 h.generation i.generation one.generation two.generation (ap (drop 2) bytes) in
     λ j. record { format = format j; generation = generation j }
 
 pub torn_heads_are_same : TornHeadsAreSame

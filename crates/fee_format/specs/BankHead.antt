@@ -1,8 +1,9 @@
 -- The page that a bank begins with.
-use Rattle.std.specs.Prelude.{◌≡◌, ℕ, ◌-◌, ◌<◌, ◌^◌, ◌&&◌, nat_lt, if◌then◌else◌, List, ◌∷◌, ◌++◌, take, drop, get_or, map, replicate, Option, Some, None}
+use Rattle.std.specs.Prelude.{◌≡◌, ℕ, ◌-◌, ◌<◌, ◌^◌, ◌&&◌, nat_lt, if◌then◌else◌, List, ◌∷◌, ◌++◌, take, drop, get_or, replicate, Option, Some, None}
 use Rattle.std.specs.Int.{w32, bytes_high_first, from_be_bytes}
 use Rattle.fee_format.specs.declared.bank_head.BankHead.{BankHead}
 use Rattle.fee_format.specs.Formats.{IsFormat, is_format}
+use Rattle.fee_format.specs.Guard.{guarded}
 use Rattle.fee_format.specs.Pages.{same_bytes}
 
 -- a format, and a generation of 32 bits
@@ -20,7 +21,7 @@ bank_head_bytes h = 0x42 ∷ h.format ∷ bytes_high_first 4 h.generation
 
 -- these bytes and the complements of them
 abbrev pub guarded_bytes : BankHead → List ℕ
-guarded_bytes h = bank_head_bytes h ++ map (λ b. 255 - b) (bank_head_bytes h)
+guarded_bytes h = guarded (bank_head_bytes h)
 
 -- all that, and the rest of the page blank
 abbrev pub bank_head_page : ℕ → BankHead → List ℕ

@@ -1,6 +1,7 @@
 pub mod BankHead
 pub mod Formats
 pub mod Gate
+pub mod Guard
 pub mod Laws
 pub mod Pages
 pub mod RecHead

@@ -15,8 +15,8 @@ IsLengthOfKind Erased length = length ≡ 0
 
 -- a number that is neither 0 nor 65,535; a length of its kind, of 16 bits; and a count of 32 bits
 pub record IsLegalRecHead (h : RecHead) : Type 0 where
-  pub number_low : 0 < h.number
-  pub number_high : h.number < 65535
+  pub number_low : 0 < h.number.0
+  pub number_high : h.number.0 < 65535
   pub kind : IsLengthOfKind h.kind h.length
   pub length : h.length < 65536
   pub count : h.count < 2 ^ 32
@@ -29,7 +29,7 @@ kind_byte Erased = 3
 
 -- the magic byte, the kind, the number, the length and the count, big-endian, and the rest of the page blank
 abbrev pub rec_head_bytes : ℕ → RecHead → List ℕ
-rec_head_bytes format h = 0x52 ∷ kind_byte h.kind ∷ (bytes_high_first 2 h.number ++ bytes_high_first 2 h.length ++ count_bytes format h.count)
+rec_head_bytes format h = 0x52 ∷ kind_byte h.kind ∷ (bytes_high_first 2 h.number.0 ++ bytes_high_first 2 h.length ++ count_bytes format h.count)
 
 abbrev pub rec_head_page : ℕ → ℕ → RecHead → List ℕ
 rec_head_page format p h = rec_head_bytes format h ++ replicate (p - 10) 255
@@ -56,7 +56,7 @@ kind_in byte = if byte == 1 then Content else (if byte == 2 then Invalid else Er
 -- the header that a page would have
 abbrev pub rec_head_in : ℕ → List ℕ → RecHead
 rec_head_in format page =
-    record { number = from_be_bytes w16 (take 2 (drop 2 page)); kind = kind_in (get_or page 1 0); length = from_be_bytes w16 (take 2 (drop 4 page)); count = count_in format page }
+    record { number = record { 0 = from_be_bytes w16 (take 2 (drop 2 page)) }; kind = kind_in (get_or page 1 0); length = from_be_bytes w16 (take 2 (drop 4 page)); count = count_in format page }
 
 abbrev pub is_length_of_kind : RecordKind → ℕ → Bool
 is_length_of_kind Content length = nat_lt 0 length
@@ -65,7 +65,7 @@ is_length_of_kind Erased length = length == 0
 
 abbrev pub is_legal_rec_head : RecHead → Bool
 is_legal_rec_head h =
-    nat_lt h.count (2 ^ 32) && ((nat_lt 0 h.number && nat_lt h.number 65535)
+    nat_lt h.count (2 ^ 32) && ((nat_lt 0 h.number.0 && nat_lt h.number.0 65535)
     && (is_length_of_kind h.kind h.length && nat_lt h.length 65536))
 
 -- the header that a page of p bytes has

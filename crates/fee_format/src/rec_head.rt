@@ -6,7 +6,7 @@ ghost use Rattle.fee_format.specs.RecHead.{IsLegalRecHead, IsLengthOfKind, kind_
 
 use crate::formats::NEW_FORMAT;
 use byteorder::{BigEndian, ByteOrder};
-use nv_base::all_are;
+use nv_base::{DeviceNumber, all_are};
 
 /// What a record says of its instance: a content, that it is invalidated, or that it is erased.
 #[derive(Clone, Copy, PartialEq, Eq)]
@@ -20,7 +20,7 @@ pub enum RecordKind {
 /// has none, and the count of the writes of its instance, which format 2 has, and 0 in format 1.
 #[derive(Clone, Copy)]
 pub struct RecHead {
-    pub number: u16,
+    pub number: DeviceNumber,
     pub kind: RecordKind,
     pub length: u16,
     pub count: u32,
@@ -66,7 +66,7 @@ fn is_length_of_kind(kind: RecordKind, length: u16) -> bool
 fn is_legal(head: RecHead) -> bool
     ensures { IsTrue result ↔ IsLegalRecHead head }
 {
-    0 < head.number && head.number < 65535 && is_length_of_kind(head.kind, head.length)
+    0 < head.number.0 && head.number.0 < 65535 && is_length_of_kind(head.kind, head.length)
 }
 
 // The four bytes of a count, which are blank in format 1.
@@ -85,7 +85,7 @@ fn bytes_of(head: RecHead, format: u8) -> [u8; 10]
 {
     let [c3, c2, c1, c0] = count_bytes(format, head.count);
     let mut bytes = [0x52, kind_byte(head.kind), 0, 0, 0, 0, c3, c2, c1, c0];
-    BigEndian::write_u16(&mut bytes[2..], head.number);
+    BigEndian::write_u16(&mut bytes[2..], head.number.0);
     BigEndian::write_u16(&mut bytes[4..], head.length);
     bytes
 }
@@ -120,7 +120,7 @@ fn fields_of(page: &[u8], format: u8) -> RecHead
     ensures { (h : RecHead) → IsRecHead format (length page.now) page.now h → result ≡ h }
 {
     RecHead {
-        number: BigEndian::read_u16(&page[2..]),
+        number: DeviceNumber(BigEndian::read_u16(&page[2..])),
         kind: kind_in(page[1]),
         length: BigEndian::read_u16(&page[4..]),
         count: count_of(page, format),

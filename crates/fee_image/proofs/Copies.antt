@@ -115,7 +115,7 @@ settling_widens fs number m =
 same_entry : (f : Flag) (a l : ℕ) → ((f.number == a) && (f.length == l)) ≡ true → (f.number ≡ a) × (f.length ≡ l)
 same_entry f a l is = (grind (arith, nat_tests), grind (arith, nat_tests))
 
-other_number : (f : Flag) (h : RecHead) → (f.number == h.number) ≡ false → fits f.number f.length h ≡ false
+other_number : (f : Flag) (h : RecHead) → (f.number == h.number.0) ≡ false → fits f.number f.length h ≡ false
 other_number f h differs = grind (arith, nat_tests)
 
 keeps_marked : (f : Flag) (b : Bool) → ((if b then record f { copied = true } else f).number ≡ f.number) × ((if b then record f { copied = true } else f).length ≡ f.length)
@@ -123,7 +123,7 @@ keeps_marked f true = (refl, refl)
 keeps_marked f false = (refl, refl)
 
 -- of the number's own flag
-marks : (f : Flag) (h : RecHead) (body : List ℕ) (b : Bool) (n : Held) → (f.number == h.number) ≡ b → Copies h body f
+marks : (f : Flag) (h : RecHead) (body : List ℕ) (b : Bool) (n : Held) → (f.number == h.number.0) ≡ b → Copies h body f
     → IsAmong (if fits f.number f.length h then Some (held_written h body ∷ []) else shown (is_done f) (shown_by f)) n
     → IsAmong (shown (is_done (if b then record f { copied = true } else f)) (shown_by (if b then record f { copied = true } else f))) n
 marks f h body true n is copies among =
@@ -135,12 +135,12 @@ marks f h body false n is copies among = subst (λ (c : Bool). IsAmong (if c the
 pub marking_holds : MarkingHolds
 marking_holds [] h body all number length n among = tt
 marking_holds (f ∷ fs) h body all number length n among =
-    let b = f.number == h.number in
+    let b = f.number == h.number.0 in
     let g : Flag = if b then record f { copied = true } else f in
     let c = (f.number == number) && (f.length == length) in
     let keeps = keeps_marked f b in
     let same : ((g.number == number) && (g.length == length)) ≡ c = λ i. (keeps.0 i == number) && (keeps.1 i == length) in
-    let Goal : Bool → Type 0 = λ (d : Bool). IsAmong (if d then shown (is_done g) (shown_by g) else copied_of (marked h.number fs) number length) n in
+    let Goal : Bool → Type 0 = λ (d : Bool). IsAmong (if d then shown (is_done g) (shown_by g) else copied_of (marked h.number.0 fs) number length) n in
     let Given : Bool → Type 0 = λ (d : Bool). IsAmong (if fits number length h then Some (held_written h body ∷ []) else (if d then shown (is_done f) (shown_by f) else copied_of fs number length)) n in
     subst Goal (sym same) (elim (cases_Bool c) [
       | inl t ↦

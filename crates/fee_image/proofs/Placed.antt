@@ -25,7 +25,7 @@ use Rattle.fee_image.proofs.Reading.{pages_are_one_range}
 
 -- a content that fits has the number's length
 pub fits_length : (number length : ℕ) (h : RecHead) → fits number length h ≡ true → h.kind ≡ kind.Content → h.length ≡ length
-fits_length number length h fit content = eqb-true h.length length (subst (λ (k : RecordKind). matches_length k h.length length ≡ true) content (and_parts (h.number == number) (matches_length h.kind h.length length) fit).1)
+fits_length number length h fit content = eqb-true h.length length (subst (λ (k : RecordKind). matches_length k h.length length ≡ true) content (and_parts (h.number.0 == number) (matches_length h.kind h.length length) fit).1)
 
 counts_fits : (number length : ℕ) (r : Rec) → counts number length r ≡ true → fits number length r.head ≡ true
 counts_fits number length r is = grind (arith, nat_tests)

@@ -48,7 +48,7 @@ content_2 = 0x55 ∷ 0x66 ∷ 0x77 ∷ 0x88 ∷ []
 
 -- its record
 abbrev pub record_1 : Rec
-record_1 = record { at = 2; head = record { number = 128; kind = Content; length = 4; count = 0 }; committed = true; payload = content_1 }
+record_1 = record { at = 2; head = record { number = record { 0 = 128 }; kind = Content; length = 4; count = 0 }; committed = true; payload = content_1 }
 
 -- the page 0 of a bank of format 2 and generation 1, and the header of a write with this count
 abbrev pub new_head_page : List ℕ

@@ -74,10 +74,10 @@ SettlingWidens =
 
 -- a record copies the settled mark of its number
 abbrev pub Copies : RecHead → List ℕ → Flag → Type 0
-Copies h body f = IsTrue (f.number == h.number) → IsTrue (fits f.number f.length h) × (f.written ≡ true) × (f.settled ≡ held_written h body)
+Copies h body f = IsTrue (f.number == h.number.0) → IsTrue (fits f.number f.length h) × (f.written ≡ true) × (f.settled ≡ held_written h body)
 
 abbrev pub MarkingHolds : Type 0
-MarkingHolds = (fs : List Flag) (h : RecHead) (body : List ℕ) → Each (Copies h body) fs → IsWider (settling (copied_of fs) h body) (copied_of (marked h.number fs))
+MarkingHolds = (fs : List Flag) (h : RecHead) (body : List ℕ) → Each (Copies h body) fs → IsWider (settling (copied_of fs) h body) (copied_of (marked h.number.0 fs))
 
 -- ROOM
 -- the pages of all numbers whose flag is clear, with a record or not: an urgent write may come

@@ -17,7 +17,7 @@ matches_length kind.Erased got length = true
 
 -- a record header is one of this number, and a content's length is the number's length
 abbrev pub fits : ℕ → ℕ → RecHead → Bool
-fits number length h = (h.number == number) && matches_length h.kind h.length length
+fits number length h = (h.number.0 == number) && matches_length h.kind h.length length
 
 -- a record counts where it is committed and fits
 abbrev pub counts : ℕ → ℕ → Rec → Bool

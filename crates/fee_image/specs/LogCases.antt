@@ -13,7 +13,7 @@ numbers = (record { 0 = 128 }, 4) ∷ (record { 0 = 129 }, 7) ∷ []
 
 -- a content of 4 bytes with number 128
 abbrev pub head_128 : RecHead
-head_128 = record { number = 128; kind = kind.Content; length = 4; count = 2 }
+head_128 = record { number = record { 0 = 128 }; kind = kind.Content; length = 4; count = 2 }
 
 -- after the first write
 abbrev pub first_log : Tail → Log

@@ -30,7 +30,7 @@ pub fn counted_writes()
     ensures first { found_held small (after_new (pages 4 0xff)) 128 4 ≡ record { mark = Content content_1; count = 1 } }
     ensures cut { found_held small (after_new (counted_header 2 ++ pages 1 0 ++ body content_2 ++ torn_gate)) 128 4 ≡ record { mark = Content content_1; count = 1 } }
     ensures second { found_held small (after_new (counted_header 2 ++ pages 1 0 ++ body content_2 ++ pages 1 0)) 128 4 ≡ record { mark = Content content_2; count = 2 } }
-    ensures old_header { records_of new_bank (new_head_page ++ pages 1 0 ++ header ++ pages 1 0 ++ body content_1 ++ pages 19 0) ≡ record { at = 2; head = record { number = 128; kind = kind.Content; length = 4; count = 4294967295 }; committed = true; payload = content_1 } ∷ [] }
+    ensures old_header { records_of new_bank (new_head_page ++ pages 1 0 ++ header ++ pages 1 0 ++ body content_1 ++ pages 19 0) ≡ record { at = 2; head = record { number = record { 0 = 128 }; kind = kind.Content; length = 4; count = 4294967295 }; committed = true; payload = content_1 } ∷ [] }
 {}
 
 /// A second write that was cut at each of its pages leaves the first content, and the second one only once its last

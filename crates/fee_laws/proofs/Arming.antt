@@ -6,12 +6,12 @@ use Rattle.nv_base.specs.Plan.{Planning, planned}
 use Rattle.memif.specs.Calls.{ClockStays}
 use Rattle.fls_model.specs.Told.{Told, armed}
 use Rattle.promise_device.specs.Making.{Making}
-use Rattle.fee_told.specs.Device.{Device, told_of}
-use Rattle.fee_told.specs.Clock.{MakesNone, clock_of}
-use Rattle.fee_told.specs.Runs.{CountsCuts}
+use Rattle.fls_told.specs.Clock.{MakesNone}
+use Rattle.fls_told.specs.Runs.{CountsCuts}
+use Rattle.fls_told.proofs.Clocks.{clocks_stay}
+use Rattle.fls_told.proofs.Making.{runs_stay}
+use Rattle.fee_told.specs.Device.{Device, told_of, clock_of, flash_device}
 use Rattle.nv_base.specs.declared.instance.DeviceNumber.{DeviceNumber}
-use Rattle.fee_told.proofs.Clocks.{clocks_stay}
-use Rattle.fee_told.proofs.Making.{runs_stay}
 use Rattle.fee_laws.specs.Inside.{Parts, device_of, IsDevice, IsSound, ShowsCopies}
 use Rattle.fee_laws.proofs.Making.{shown_as}
 use Rattle.fee_laws.specs.Parts.{with_plan}
@@ -33,22 +33,22 @@ module _ (m : Making) (entry : Told) (s : Parts) (nth keep : ℕ) where
   abbrev t : Device
   t = device_of m entry (with_plan nth keep s)
 
-  none : MakesNone d t
-  none = record { making = refl; entry = refl; operations = refl; bytes = refl }
+  none : MakesNone (flash_device d) (flash_device t)
+  none = record { reading = refl; entry = refl; operations = refl; bytes = refl }
 
   counted : CountsCuts entry d.flash → CountsCuts entry t.flash
   counted cuts n were = cuts n (subst (λ (u : ℕ). WereCounted n entry.planning.unplanned u) (cuts_stay nth keep s.fls.flash.planning) were)
 
   pub arm_keeps : IsDevice d → IsDevice t
   arm_keeps is = record {
-    run = runs_stay d t is.run (record { none = none; bytes = refl; counts = (refl, refl); flash_faults = omega arith; faults = is.run.faults; cuts = counted is.run.cuts; worn = λ since e. inl e });
+    run = runs_stay (flash_device d) (flash_device t) is.run (record { none = none; bytes = refl; counts = (refl, refl); flash_faults = omega arith; faults = is.run.faults; cuts = counted is.run.cuts; worn = λ n since e. inl e });
     held = λ started. (let h = is.held started in record { behind = h.behind; copied = h.copied; banks = record { started = h.banks.started; alike = h.banks.alike; legal = h.banks.legal; some = h.banks.some; held = h.banks.held }; places = h.places; stand = h.stand; on = h.on; idle = h.idle });
-    order = record { bounded = is.order.bounded; fits = is.order.fits; ready = is.order.ready; wait = is.order.wait; second = is.order.second; now = finds_on (told_of d) (told_of t) (clock_of d) (clock_of t) (clocks_stay d t none refl) refl refl refl is.order.now };
+    order = record { bounded = is.order.bounded; fits = is.order.fits; ready = is.order.ready; wait = is.order.wait; second = is.order.second; now = finds_on (told_of d) (told_of t) (clock_of d) (clock_of t) (clocks_stay (flash_device d) (flash_device t) none (λ n. refl)) refl refl refl is.order.now };
     faults = is.faults;
   }
 
   pub arm_stays : IsDevice d → ClockStays (clock_of d) (told_of t) (clock_of t)
-  arm_stays is = record { same = clocks_stay d t none refl; order = (arm_keeps is).order }
+  arm_stays is = record { same = clocks_stay (flash_device d) (flash_device t) none (λ n. refl); order = (arm_keeps is).order }
 
   counts : (s.fls.flash.planning.unplanned + entry.cuts ≤ entry.planning.unplanned + s.fls.flash.cuts) ⊎ (last_count ≤ s.fls.flash.cuts) → ((armed nth keep s.fls.flash).planning.unplanned + entry.cuts ≤ entry.planning.unplanned + s.fls.flash.cuts) ⊎ (last_count ≤ s.fls.flash.cuts)
   counts (inl few) = let same = cuts_stay nth keep s.fls.flash.planning in inl (omega arith)

@@ -38,12 +38,11 @@ use Rattle.fee_switch_laws.proofs.Appends.{takes}
 use Rattle.promise_device.specs.Making.{Making, banks_of}
 use Rattle.fee_told.specs.Slots.{Memory, IsWorkOf, slots_found}
 use Rattle.fee_told.specs.SlotLaws.{IsHeld, SamePlaces}
-use Rattle.fee_told.specs.Device.{Device, tells, told_of, slots_in}
-use Rattle.fee_told.specs.Clock.{clock_of}
+use Rattle.fls_told.proofs.Clocks.{clocks_stay}
+use Rattle.fee_told.specs.Device.{Device, tells, told_of, slots_in, clock_of, flash_device}
 use Rattle.memif.specs.Clock.{SameClock}
 use Rattle.fee_told.specs.Kept.{with_log}
 use Rattle.fee_told.proofs.Appends.{records_begin}
-use Rattle.fee_told.proofs.Clocks.{clocks_stay}
 use Rattle.fee_told.proofs.Steps.{places_tell}
 use Rattle.fee_laws.specs.declared.job.FeeJob.{FeeJob}
 use Rattle.fee_laws.specs.Inside.{Parts, body_of, device_of, memory_of, stand_of, IsActiveOf, IsAtWork, HasSwitch, HoldsBehind}
@@ -91,10 +90,10 @@ and_four' false c d = refl
 
 module _ (m : Making) (entry : Told) (s : Parts) (listed : List (DeviceNumber × ℕ)) (kept count : ℕ) (j : FeeJob) (on : IsOn m entry s listed kept count) (may : MayBegin m s j) where
   abbrev pub t : Parts
-  t = begun_with j s
+  t = begun_with may.kind j s
 
   abbrev pub r : RecHead
-  r = head_of s.banks.log j
+  r = head_of s.banks.log may.kind j
 
   abbrev d : Device
   d = device_of m entry s
@@ -115,7 +114,7 @@ module _ (m : Making) (entry : Told) (s : Parts) (listed : List (DeviceNumber ×
   number = among 0 m.numbers j.number.0 job_of.length (lengths m entry s listed kept count on) job_of.configured
 
   pub pages_are : pages_of_head p r ≡ pages_of_op p j.op j.length
-  pages_are = pages_by p j.op j.number.0 j.length job_of.length r.count may.writes job_of.fits
+  pages_are = pages_by p j.op may.kind j.number j.length job_of.length r.count may.writes job_of.fits
 
   -- it has room
   pub has_free : pages_of_head p r ≤ free_pages s.banks
@@ -140,7 +139,7 @@ module _ (m : Making) (entry : Told) (s : Parts) (listed : List (DeviceNumber ×
   ready = let free = log_free in ready_by s.banks.log.geometry.page (pages_in s.banks.log) s.banks.log.end s.banks.log.tail may.idle (omega (arith, free))
 
   abbrev pub place : Option ℕ
-  place = place_of s.banks.log.numbers r.number
+  place = place_of s.banks.log.numbers r.number.0
 
   pub taken_then : TakesRecord r.kind t.banks.course
   taken_then = appended_takes r.kind place s.banks.course may.taken
@@ -196,13 +195,13 @@ module _ (m : Making) (entry : Told) (s : Parts) (listed : List (DeviceNumber ×
       let three = subst (λ (n : ℕ). s.banks.log.end + pages_of_head p r ≤ pages_of_bank m.geometry n) (log_banks m entry s listed kept count on) two in
       record {
         format = sym formats ∙ subst (HasFormat s.banks.log.format) at on.log.format;
-        legal = legal_head j.op j.number.0 j.length job_of.length r.count may.writes number may.configured.count job_of.fits;
+        legal = legal_head j.op may.kind j.number j.length job_of.length r.count may.writes number may.configured.count job_of.fits;
         size = length-take-le j.length s.content few;
         room = subst (λ (g : Geometry). s.banks.log.end + pages_of_head g.page r ≤ pages_of_bank m.geometry m.banks) on.sound.made_for.banks_geometry three;
       }
 
   work_of_job : IsWorkOf m.numbers s.banks.log.places (memory_of s).stand (LogWrites r body 0)
-  work_of_job = subst (λ (o : Option FeeJob). IsWorkOf m.numbers s.banks.log.places (stand_of s.content o s.last s.given) (LogWrites r body 0)) (sym may.job) (refl, mark_is j.op j.number.0 j.length r.count s.content may.writes, counted_by s.banks.log.numbers m.numbers s.banks.log.places j.number.0 on.sound.made_for.numbers)
+  work_of_job = subst (λ (o : Option FeeJob). IsWorkOf m.numbers s.banks.log.places (stand_of s.content o s.last s.given) (LogWrites r body 0)) (sym may.job) (refl, mark_is j.op may.kind j.number j.length r.count s.content may.writes, counted_by s.banks.log.numbers m.numbers s.banks.log.places j.number.0 on.sound.made_for.numbers)
 
   pub held_by : (tl : Tail) → s.banks.log.tail ≡ tl → Ready tl → (bytes : List ℕ) (more : May) → IsHeld (banks_of m) m.numbers bytes (memory_of s) more → IsHeld (banks_of m) m.numbers bytes (memory_of t) more
   held_by Open at opens bytes more held =
@@ -231,7 +230,7 @@ module _ (m : Making) (entry : Told) (s : Parts) (listed : List (DeviceNumber ×
   none = record { only = refl; more = omega arith; counted = inl refl; worn = λ since worn. inl worn }
 
   pub same_clock : SameClock (clock_of d) (clock_of e)
-  same_clock = clocks_stay d e (makes_none m entry s listed kept count on t none) refl
+  same_clock = clocks_stay (flash_device d) (flash_device e) (makes_none m entry s listed kept count on t none) (λ n. refl)
 
   pub behind : HoldsBehind e
   behind = held_behind m entry s listed kept count on t none (copied m entry s listed kept count on) (λ bytes at told. held_by s.banks.log.tail refl ready bytes (copied m entry s listed kept count on) (held_at m entry s listed kept count on bytes at told))
@@ -242,8 +241,8 @@ module _ (m : Making) (entry : Told) (s : Parts) (listed : List (DeviceNumber ×
 
   flags : t.banks.course ≡ None → t.banks.log.flags ≡ clear_flags t.banks.log.numbers
   flags shut =
-      ap (λ (x : List Bool). with_flag s.banks.log.numbers x r.number false) (flags_clear s.banks s.banks.course was_at_work.switch (appended_none place s.banks.course shut))
-      ∙ clear_flags_stay s.banks.log.numbers r.number
+      ap (λ (x : List Bool). with_flag s.banks.log.numbers x r.number.0 false) (flags_clear s.banks s.banks.course was_at_work.switch (appended_none place s.banks.course shut))
+      ∙ clear_flags_stay s.banks.log.numbers r.number.0
 
   pub switch_on : HasSwitch t.banks t.banks.course
   switch_on = has_switch m.reserve t.banks t.banks.course flags room_on.switch
@@ -285,11 +284,11 @@ module _ (m : Making) (entry : Told) (s : Parts) (listed : List (DeviceNumber ×
   abbrev ns : List (DeviceNumber × ℕ)
   ns = s.banks.log.numbers
 
-  stands : (i : ℕ) × (slice_get ns i ≡ Some (record { 0 = r.number }, job_of.length))
-  stands = named ns r.number job_of.length (subst (λ (x : List (DeviceNumber × ℕ)). length_of x r.number ≡ Some job_of.length) (sym on.sound.made_for.numbers) job_of.configured)
+  stands : (i : ℕ) × (slice_get ns i ≡ Some (r.number, job_of.length))
+  stands = named ns r.number.0 job_of.length (subst (λ (x : List (DeviceNumber × ℕ)). length_of x r.number.0 ≡ Some job_of.length) (sym on.sound.made_for.numbers) job_of.configured)
 
   place_is : place ≡ Some stands.0
-  place_is = numbers_have_places 0 ns stands.0 (record { 0 = r.number }, job_of.length) on.log.numbers stands.1
+  place_is = numbers_have_places 0 ns stands.0 (r.number, job_of.length) on.log.numbers stands.1
 
   -- beside a switch its number is copied again
   abbrev turns : List Bool → Option ℕ → Course → ℕ
@@ -298,11 +297,11 @@ module _ (m : Making) (entry : Told) (s : Parts) (listed : List (DeviceNumber ×
   switch_adds : (c : Course) → s.banks.course ≡ Some c → left_with t.banks (appended_at place (Some c)) ≤ left_of s.banks + turns_beside s.banks s.job
   switch_adds c at =
       let index : index_of ns (work_in t.banks.log.tail) ≡ Some stands.0 = ap (index_of ns) work_is ∙ place_is in
-      let cleared' = flag_at 0 ns s.banks.log.flags stands.0 (record { 0 = r.number }, job_of.length) on.log.numbers stands.1 in
+      let cleared' = flag_at 0 ns s.banks.log.flags stands.0 (r.number, job_of.length) on.log.numbers stands.1 in
       let then_is : left_with t.banks (appended_at place (Some c)) ≡ turns (set s.banks.log.flags stands.0 false) (Some stands.0) (appended_to stands.0 c) =
       ap (λ (k : Option ℕ). left_with t.banks (appended_at k (Some c))) place_is ∙ (λ i. turns (cleared' i) (index i) (appended_to stands.0 c)) in
       let was_is : left_of s.banks ≡ turns s.banks.log.flags None c = ap (left_with s.banks) at ∙ ap (λ (o : Option RecHead). turns s.banks.log.flags (index_of ns o) c) may.idle in
-      let more = appends_add p (sectors_of_bank s.banks.geometry s.banks.banks) stands.0 ns s.banks.log.places s.banks.log.flags c (record { 0 = r.number }, job_of.length) stands.1
+      let more = appends_add p (sectors_of_bank s.banks.geometry s.banks.banks) stands.0 ns s.banks.log.places s.banks.log.flags c (r.number, job_of.length) stands.1
       (within_length s.banks.log.geometry.page s.banks.log.end ns s.banks.log.places on.log.places) on.log.flags in
       let urgent = may.beside (ap (λ (o : Option Course). is_some o) at) in
       let beside : turns_beside s.banks s.job ≡ pages_of_op p j.op j.length + 1 = ap (turns_beside s.banks) may.job ∙ ap (λ (b : Bool). if b then pages_of_op p j.op j.length + 1 else 0) (begins urgent) in

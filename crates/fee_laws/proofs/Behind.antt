@@ -20,18 +20,18 @@ use Rattle.fee_image.specs.May.{May}
 use Rattle.promise_device.specs.Making.{Making, banks_of}
 use Rattle.fee_told.specs.Slots.{Memory, HasJob, slots_held, slots_found}
 use Rattle.fee_told.specs.SlotLaws.{IsHeld, SamePlaces}
-use Rattle.fee_told.specs.Tells.{AreTold, was as slot_was}
+use Rattle.fls_told.specs.Device.{slot_with}
+use Rattle.fls_told.specs.Clock.{change_of}
+use Rattle.fls_told.specs.Runs.{HasRun, counts_fault}
+use Rattle.fls_told.specs.Tells.{AreTold}
+use Rattle.fls_told.proofs.Tells.{tells_keep}
+use Rattle.fee_told.specs.Device.{tells, Device, told_of, clock_of, flash_device}
 use Rattle.fee_told.specs.Whole.{HoldsBanks}
 use Rattle.fee_told.proofs.Steps.{places_tell}
-use Rattle.fee_told.proofs.Tells.{tells_keep}
-use Rattle.fee_told.specs.Device.{tells}
 use Rattle.fls_jobs.specs.Start.{IsIdle}
 use Rattle.fls_jobs.specs.State.{FlsState}
 use Rattle.fee_switch.specs.Banks.{BanksState, IsSameFlash}
 use Rattle.fee_switch_laws.specs.KeepsRoom.{KeepsRoom}
-use Rattle.fee_told.specs.Device.{Device, told_of}
-use Rattle.fee_told.specs.Clock.{clock_of, change_of}
-use Rattle.fee_told.specs.Runs.{HasRun, counts_fault}
 use Rattle.fee_told.specs.FigureLaws.{IsWork}
 use Rattle.fee_told.proofs.Kept.{same_places}
 use Rattle.fee_laws.specs.declared.job.FeeJob.{FeeJob}
@@ -75,7 +75,7 @@ module _ (m : Making) (entry : Told) (s : Parts) (listed : List (DeviceNumber ×
   made_for is = still_made m s t on.sound.made_for drives.only bytes is.same on.sound.made_for.room is.given_few is.ended
 
   -- the bytes hold its banks
-  holds : HasRun e → (x : Memory) (more : May) → ((new : List ℕ) → bytes_now f.flash ≡ Some new → IsTrue (tells e) → IsHeld (banks_of m) m.numbers new x more) → HoldsBanks (record e { memory = x }) more
+  holds : HasRun (flash_device e) → (x : Memory) (more : May) → ((new : List ℕ) → bytes_now f.flash ≡ Some new → IsTrue (tells e) → IsHeld (banks_of m) m.numbers new x more) → HoldsBanks (record e { memory = x }) more
   holds run x more held = record {
     started = on.started;
     alike = run.alike;
@@ -84,19 +84,19 @@ module _ (m : Making) (entry : Told) (s : Parts) (listed : List (DeviceNumber ×
     held = λ told. each_told f.flash.bytes (λ (y : List ℕ). IsHeld (banks_of m) m.numbers y x more) (λ new at. held new at told);
   }
 
-  pub held_behind : HasRun e → (more : May) → ((new : List ℕ) → bytes_now f.flash ≡ Some new → IsTrue (tells e) → IsHeld (banks_of m) m.numbers new (memory_of t) more) → HoldsBehind e
+  pub held_behind : HasRun (flash_device e) → (more : May) → ((new : List ℕ) → bytes_now f.flash ≡ Some new → IsTrue (tells e) → IsHeld (banks_of m) m.numbers new (memory_of t) more) → HoldsBehind e
   held_behind run more held = record { behind = memory_of t; copied = more; banks = holds run (memory_of t) more held; places = same_places (memory_of t).old; stand = refl; on = λ power. refl; idle = inl refl }
 
   -- or what a cut left, with the same places and the same job, which any job fits
-  pub held_torn : HasRun e → f.flash.off ≡ true → (torn : Memory) → SamePlaces torn.old (memory_of t).old → torn.stand ≡ (memory_of t).stand → ((stand : Stand) → HasJob m.numbers stand torn.old)
+  pub held_torn : HasRun (flash_device e) → f.flash.off ≡ true → (torn : Memory) → SamePlaces torn.old (memory_of t).old → torn.stand ≡ (memory_of t).stand → ((stand : Stand) → HasJob m.numbers stand torn.old)
       → (more : May) → ((new : List ℕ) → bytes_now f.flash ≡ Some new → IsTrue (tells e) → IsHeld (banks_of m) m.numbers new torn more) → HoldsBehind e
   held_torn run off torn places stands fits more held = record { behind = torn; copied = more; banks = holds run torn more held; places = places; stand = stands; on = λ power. cc (off, power); idle = inr fits }
 
-  pub torn_keeps : HasRun e → (torn : Memory) → SamePlaces torn.old (memory_of t).old → torn.stand ≡ (memory_of t).stand
-      → ((old new : List ℕ) → AreTold d e old new → (n : ℕ) → Keeps (slot_at m.numbers (slots_held (banks_of m) m.numbers old (memory_of s)) n) (slot_at m.numbers (slots_held (banks_of m) m.numbers new torn) n)) → KeepsAll (told_of d) (told_of e)
-  torn_keeps run torn places stands keeps = tells_keep d e (record { making = refl; entry = refl; old = on.sound.device.run.alike; new = run.alike }) (λ old new told n.
+  pub torn_keeps : HasRun (flash_device e) → (torn : Memory) → SamePlaces torn.old (memory_of t).old → torn.stand ≡ (memory_of t).stand
+      → ((old new : List ℕ) → AreTold (flash_device d) (flash_device e) old new → (n : ℕ) → Keeps (slot_at m.numbers (slots_held (banks_of m) m.numbers old (memory_of s)) n) (slot_at m.numbers (slots_held (banks_of m) m.numbers new torn) n)) → KeepsAll (told_of d) (told_of e)
+  torn_keeps run torn places stands keeps = tells_keep (flash_device d) (flash_device e) (record { reading = refl; numbers = refl; entry = refl; old = on.sound.device.run.alike; new = run.alike }) (λ old new told n.
       (let path = slots_at new (memory_of t) ∙ places_tell (banks_of m) m.numbers new torn (memory_of t) places (sym stands) in
-      subst (λ (x : List Slot). Keeps (slot_at m.numbers x n) (slot_was e new n)) (sym (slots_at old (memory_of s)))
+      subst (λ (x : List Slot). Keeps (slot_at m.numbers x n) (slot_with (flash_device e) new n)) (sym (slots_at old (memory_of s)))
       (subst (λ (x : List Slot). Keeps (slot_at m.numbers (slots_held (banks_of m) m.numbers old (memory_of s)) n) (slot_at m.numbers x n)) (sym path) (keeps old new told n))))
     where
       slots_at : (x : List ℕ) (o : Memory) → (if s.started then slots_held (banks_of m) m.numbers x o else slots_found (banks_of m) m.numbers x) ≡ slots_held (banks_of m) m.numbers x o
@@ -105,7 +105,7 @@ module _ (m : Making) (entry : Told) (s : Parts) (listed : List (DeviceNumber ×
   -- what is known of it
   pub record Facts : Type 0 where
     pub ends : Ends
-    pub run : HasRun e
+    pub run : HasRun (flash_device e)
     pub behind : HoldsBehind e
     pub work : IsWork m.geometry.page (sectors_of_bank m.geometry m.banks) m.numbers m.reserve (stand_of s.content job last given) (work_of m.reserve b job)
     pub at_work : IsAtWork m t

@@ -15,14 +15,15 @@ use Rattle.fee_switch.specs.Banks.{IsSameFlash}
 use Rattle.fee_switch_laws.specs.KeepsRoom.{KeepsRoom}
 use Rattle.promise_device.specs.Making.{Making, banks_of}
 use Rattle.fee_told.specs.SlotLaws.{IsHeld}
-use Rattle.fee_told.specs.Device.{Device, tells, told_of, ops_in, part_of}
-use Rattle.fee_told.specs.Clock.{MakesNone, clock_of}
-use Rattle.fee_told.specs.Runs.{HasRun, IsWornSince, CountsCuts as RunCounts}
+use Rattle.fls_told.specs.Device.{asked_ops, flash_part}
+use Rattle.fls_told.specs.Clock.{MakesNone}
+use Rattle.fls_told.specs.Runs.{HasRun, IsWornSince, CountsCuts as RunCounts}
+use Rattle.fls_told.proofs.Clocks.{clocks_pass}
+use Rattle.fls_told.proofs.Making.{runs_stay}
+use Rattle.fls_told.proofs.Parts.{parts_read}
+use Rattle.fee_told.specs.Device.{Device, tells, told_of, clock_of, flash_device}
 use Rattle.fee_told.specs.FigureLaws.{IsWork}
-use Rattle.fee_told.proofs.Clocks.{clocks_pass}
 use Rattle.fee_told.proofs.Kept.{same_places}
-use Rattle.fee_told.proofs.Making.{runs_stay}
-use Rattle.fee_told.proofs.Parts.{parts_read}
 use Rattle.fee_laws.specs.Inside.{Parts, stand_of, memory_of, device_of, CountsCuts, IsAtWork, IsWorn, HoldsBehind, TellsCopies, IsSound}
 use Rattle.fee_laws.specs.Work.{work_of}
 use Rattle.fee_laws.specs.Turn.{IsOn, Turned}
@@ -52,7 +53,7 @@ pub record AsksNone (m : Making) (entry : Told) (s t : Parts) : Type 0 where
   pub only : t ≡ record s { fls = record s.fls { flash = record s.fls.flash { faults = t.fls.flash.faults }; result = t.fls.result }; banks = t.banks; content = t.content; job = t.job; last = t.last; given = t.given; faults = t.faults; worn = t.worn }
   pub more : s.fls.flash.faults ≤ t.fls.flash.faults
   pub counted : Counted s.fls.flash.faults t.fls.flash.faults s.faults t.faults
-  pub worn : (since : ℕ) → t.worn ≡ Some since → (s.worn ≡ Some since) ⊎ IsWornSince (device_of m entry t) since
+  pub worn : (since : ℕ) → t.worn ≡ Some since → (s.worn ≡ Some since) ⊎ ((n : ℕ) → IsWornSince (flash_device (device_of m entry t)) n since)
 
 module _ (m : Making) (entry : Told) (s : Parts) (listed : List (DeviceNumber × ℕ)) (kept count : ℕ) (on : IsOn m entry s listed kept count) (t : Parts) (none : AsksNone m entry s t) where
   abbrev d : Device
@@ -70,21 +71,21 @@ module _ (m : Making) (entry : Told) (s : Parts) (listed : List (DeviceNumber ×
   bytes : t.fls.flash.bytes ≡ s.fls.flash.bytes
   bytes = ap (λ (x : Told). x.bytes) flash
 
-  pub makes_none : MakesNone d e
-  makes_none = record { making = refl; entry = refl; operations = ap (λ (x : Parts). x.operations) none.only; bytes = ap (λ (x : Told). bytes_now x) flash }
+  pub makes_none : MakesNone (flash_device d) (flash_device e)
+  makes_none = record { reading = refl; entry = refl; operations = ap (λ (x : Parts). x.operations) none.only; bytes = ap (λ (x : Told). bytes_now x) flash }
 
-  part : PartTurns false (ops_in d) (ops_in e) (part_of d) (part_of e)
-  part = parts_read d e (record { flash = flash; operations = makes_none.operations; more = none.more; faults = none.counted; small = on.sound.device.faults }) (power m entry s listed kept count on)
+  part : PartTurns false (asked_ops (flash_device d)) (asked_ops (flash_device e)) (flash_part (flash_device d)) (flash_part (flash_device e))
+  part = parts_read (flash_device d) (flash_device e) (record { flash = flash; operations = makes_none.operations; more = none.more; faults = none.counted; small = on.sound.device.faults }) (power m entry s listed kept count on)
 
-  pub run : HasRun e
-  run = runs_stay d e on.sound.device.run (record {
+  pub run : HasRun (flash_device e)
+  run = runs_stay (flash_device d) (flash_device e) on.sound.device.run (record {
     none = makes_none;
     bytes = bytes;
     counts = (ap (λ (x : Told). x.ops) flash, ap (λ (x : Told). x.cuts) flash);
     flash_faults = none.more;
     faults = were_counted entry.faults s.fls.flash.faults t.fls.flash.faults s.faults t.faults none.more none.counted on.sound.device.run.faults;
     cuts = subst (RunCounts entry) (sym flash) on.sound.device.run.cuts;
-    worn = none.worn;
+    worn = λ n since at. elim (none.worn since at) [ inl was ↦ inl was | inr new ↦ inr (new n) ];
   })
 
   -- the bytes hold its banks
@@ -171,7 +172,7 @@ module _ (m : Making) (entry : Told) (s : Parts) (listed : List (DeviceNumber ×
             nearer = did.nearer;
             ready = did.ready;
           },
-          clocks_pass turn.Worked d e makes_none did.worn,
+          clocks_pass turn.Worked (flash_device d) (flash_device e) makes_none (λ n. did.worn),
         ),
       ),
       (sound is).device.order,

@@ -169,8 +169,8 @@ clears_copies h body n (f ∷ fs) copies = (cond_both (f.number == n) (record f 
 
 clears_in : (sets : Bool) (work : Option RecHead) (buffer : List ℕ) (n : ℕ) (fs : List Flag) → IsCopyIn sets work buffer fs → IsCopyIn sets work buffer (cleared n fs)
 clears_in sets None buffer n fs copy = tt
-clears_in true (Some h) buffer n fs copy = (clears_copies h _ n fs copy.0, clears_open h.number n fs copy.1)
-clears_in false (Some h) buffer n fs copy = (clears_open h.number n fs copy.0, clears_open h.number n fs copy.1)
+clears_in true (Some h) buffer n fs copy = (clears_copies h _ n fs copy.0, clears_open h.number.0 n fs copy.1)
+clears_in false (Some h) buffer n fs copy = (clears_open h.number.0 n fs copy.0, clears_open h.number.0 n fs copy.1)
 
 sets_none : (sets : Bool) (work : Option RecHead) (buffer : List ℕ) (fs : List Flag) → IsCopyIn sets work buffer fs → IsCopyIn false work buffer fs
 sets_none sets None buffer fs copy = tt

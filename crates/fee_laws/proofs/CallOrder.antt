@@ -12,8 +12,7 @@ use Rattle.fee_log.specs.declared.tail.Tail.{Tail}
 use Rattle.fee_log.specs.declared.tail.Tail.TheVariants.{Open, Writes, Owes, Closed}
 use Rattle.fee_switch.specs.Banks.{BanksState}
 use Rattle.promise_device.specs.Making.{Making}
-use Rattle.fee_told.specs.Device.{told_of}
-use Rattle.fee_told.specs.Clock.{clock_of}
+use Rattle.fee_told.specs.Device.{told_of, clock_of}
 use Rattle.fee_told.specs.Figures.{ready_of}
 use Rattle.fee_laws.specs.Inside.{Parts, device_of}
 use Rattle.fee_laws.specs.Work.{switch_turns, seal_turns, pages_free, turns_before}

@@ -13,11 +13,10 @@ use Rattle.fee_image.specs.Banks.{Old, NoBank, OldBank}
 use Rattle.fee_switch.specs.Banks.{BanksState}
 use Rattle.promise_device.specs.Making.{Making, banks_of}
 use Rattle.fee_told.specs.Slots.{Memory, HasJob, IsWorkOf, slots_held, slots_found}
-use Rattle.fee_told.specs.Device.{Device, tells, told_of, slots_told}
-use Rattle.fee_told.specs.Clock.{clock_of}
-use Rattle.fee_told.specs.Runs.{HasRun}
-use Rattle.fee_told.proofs.Clocks.{clocks_stay}
-use Rattle.fee_told.proofs.Making.{runs_stay}
+use Rattle.fls_told.specs.Runs.{HasRun}
+use Rattle.fls_told.proofs.Clocks.{clocks_stay}
+use Rattle.fls_told.proofs.Making.{runs_stay}
+use Rattle.fee_told.specs.Device.{Device, tells, told_of, slots_told, clock_of, flash_device}
 use Rattle.fee_told.proofs.Steps.{places_tell}
 use Rattle.fee_told.proofs.Whole.{held_finds_now}
 use Rattle.fee_laws.specs.declared.job.FeeJob.{FeeJob}
@@ -76,14 +75,14 @@ module _ (m : Making) (entry : Told) (t : Parts) (h : HoldsBehind (device_of m e
   slots_are = told_by (tells d) t.started (bytes_now t.fls.flash)
 
   pub finds_now : FindsNow (told_of d) (clock_of d)
-  finds_now = finds_on (told_of x) (told_of d) (clock_of x) (clock_of d) (clocks_stay x d (record { making = refl; entry = refl; operations = refl; bytes = refl }) refl) refl slots_are refl (held_finds_now x h.copied h.banks)
+  finds_now = finds_on (told_of x) (told_of d) (clock_of x) (clock_of d) (clocks_stay (flash_device x) (flash_device d) (record { reading = refl; entry = refl; operations = refl; bytes = refl }) (λ n. refl)) refl slots_are refl (held_finds_now x h.copied h.banks)
 
 -- a run stays where memory alone changes
 pub run_stays : (m : Making) (entry : Told) (s : Parts) (b : BanksState) (content : List ℕ) (job : Option FeeJob) (last : JobResult) (given : ℕ)
-    → HasRun (device_of m entry s) → HasRun (device_of m entry (record s { banks = b; content = content; job = job; last = last; given = given }))
+    → HasRun (flash_device (device_of m entry s)) → HasRun (flash_device (device_of m entry (record s { banks = b; content = content; job = job; last = last; given = given })))
 run_stays m entry s b content job last given run =
-    runs_stay (device_of m entry s) (device_of m entry (record s { banks = b; content = content; job = job; last = last; given = given })) run
-    (record { none = record { making = refl; entry = refl; operations = refl; bytes = refl }; bytes = refl; counts = (refl, refl); flash_faults = omega arith; faults = run.faults; cuts = run.cuts; worn = λ since e. inl e })
+    runs_stay (flash_device (device_of m entry s)) (flash_device (device_of m entry (record s { banks = b; content = content; job = job; last = last; given = given }))) run
+    (record { none = record { reading = refl; entry = refl; operations = refl; bytes = refl }; bytes = refl; counts = (refl, refl); flash_faults = omega arith; faults = run.faults; cuts = run.cuts; worn = λ n since e. inl e })
 
 -- the bytes hold another memory's banks, where they are those that it has then
 pub holds_still : (m : Making) (entry : Told) (s : Parts) (b : BanksState) (content : List ℕ) (job : Option FeeJob) (last : JobResult) (given : ℕ) (h : HoldsBehind (device_of m entry s)) → s.started ≡ true → (x : Memory)

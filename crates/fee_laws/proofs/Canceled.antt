@@ -11,10 +11,9 @@ use Rattle.fee_log.specs.Log.{work_in}
 use Rattle.fee_log.specs.Step.{given_up}
 use Rattle.fee_switch.specs.Banks.{BanksState}
 use Rattle.promise_device.specs.Making.{Making}
-use Rattle.fee_told.specs.Device.{Device, told_of}
-use Rattle.fee_told.specs.Clock.{clock_of}
+use Rattle.fls_told.proofs.Clocks.{clocks_stay}
+use Rattle.fee_told.specs.Device.{Device, told_of, clock_of, flash_device}
 use Rattle.fee_told.specs.SlotLaws.{SamePlaces}
-use Rattle.fee_told.proofs.Clocks.{clocks_stay}
 use Rattle.fee_told.proofs.Kept.{same_places}
 use Rattle.fee_laws.specs.declared.job.FeeJob.{FeeJob}
 use Rattle.fee_laws.specs.Inside.{Parts, device_of, memory_of, stand_of, IsSound}
@@ -37,7 +36,7 @@ pub none_cancels : NoneCancels
 none_cancels m entry s listed kept count is_off sound shut =
     let d : Device = device_of m entry s in (
       subst (λ (o : Option FeeJob). IfElse (is_open (stand_of s.content o s.last s.given)) (IsCanceled (told_of d) (told_of d)) (told_of d ≡ told_of d)) (sym shut) refl,
-      record { same = clocks_stay d d (record { making = refl; entry = refl; operations = refl; bytes = refl }) refl; order = sound.device.order },
+      record { same = clocks_stay (flash_device d) (flash_device d) (record { reading = refl; entry = refl; operations = refl; bytes = refl }) (λ n. refl); order = sound.device.order },
     )
 
 -- AN OPEN JOB

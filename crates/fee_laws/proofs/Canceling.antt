@@ -16,12 +16,12 @@ use Rattle.fee_switch_laws.specs.Shown.{old_shown}
 use Rattle.promise_device.specs.Making.{Making, banks_of}
 use Rattle.fee_told.specs.Slots.{Memory, HasJob, IsWorkOf, slots_held, slots_found}
 use Rattle.fee_told.specs.SlotLaws.{SamePlaces, IsHeld}
-use Rattle.fee_told.specs.Device.{Device, tells, told_of}
-use Rattle.fee_told.specs.Tells.{was}
+use Rattle.fls_told.specs.Device.{slot_with}
+use Rattle.fls_told.proofs.Tells.{tells_keep}
+use Rattle.fee_told.specs.Device.{Device, tells, told_of, flash_device}
 use Rattle.fee_told.proofs.Kept.{same_places}
 use Rattle.fee_told.proofs.Jobs.{jobs_change}
 use Rattle.fee_told.proofs.Steps.{jobs_keep, places_tell}
-use Rattle.fee_told.proofs.Tells.{tells_keep}
 use Rattle.fee_laws.specs.Inside.{Parts, device_of, memory_of, HoldsBehind, IsSound}
 use Rattle.fee_laws.specs.Parts.{canceled}
 use Rattle.fee_laws.proofs.Starting.{same_bytes}
@@ -88,8 +88,8 @@ module _ (m : Making) (entry : Told) (s : Parts) (listed : List (DeviceNumber ×
       (subst (λ (slots : List Slot). Keeps (slot_at m.numbers slots n) (slot_at m.numbers (slots_held (banks_of m) m.numbers bytes behind) n)) before k)
 
   pub keeps_all : KeepsAll (told_of d) (told_of t)
-  keeps_all = tells_keep d t (record { making = refl; entry = refl; old = sound.device.run.alike; new = sound.device.run.alike }) (λ old new told n.
-      subst (λ (x : List ℕ). Keeps (was d old n) (was t x n)) (same_bytes (bytes_now s.fls.flash) old new told.1 told.2)
+  keeps_all = tells_keep (flash_device d) (flash_device t) (record { reading = refl; numbers = refl; entry = refl; old = sound.device.run.alike; new = sound.device.run.alike }) (λ old new told n.
+      subst (λ (x : List ℕ). Keeps (slot_with (flash_device d) old n) (slot_with (flash_device t) x n)) (same_bytes (bytes_now s.fls.flash) old new told.1 told.2)
       (subst (λ (x : Bool). Keeps
       (slot_at m.numbers (if x then slots_held (banks_of m) m.numbers old (memory_of s) else slots_found (banks_of m) m.numbers old) n)
       (slot_at m.numbers (if x then slots_held (banks_of m) m.numbers old (memory_of (canceled b s)) else slots_found (banks_of m) m.numbers old) n)) (sym started) (keeps_at old told.1 told.0 n)))

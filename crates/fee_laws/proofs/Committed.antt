@@ -51,8 +51,7 @@ use Rattle.fee_switch_laws.proofs.Appends.{takes}
 use Rattle.promise_device.specs.Making.{Making}
 use Rattle.fee_told.specs.Slots.{Memory, settled_in, job_leaves, writes_of}
 use Rattle.fee_told.specs.SlotLaws.{IsHeld}
-use Rattle.fee_told.specs.Device.{Device, told_of}
-use Rattle.fee_told.specs.Clock.{clock_of}
+use Rattle.fee_told.specs.Device.{Device, told_of, clock_of}
 use Rattle.fee_told.specs.Appends.{IsCommitted}
 use Rattle.fee_told.specs.Figures.{Work, Waits, left_of as turns_left, ready_of, wait_of}
 use Rattle.fee_told.proofs.Appends.{appends_commit as told_appends_commit}
@@ -77,7 +76,7 @@ use Rattle.fee_laws.proofs.Tails.{tailed, shown, page_commits, free_on}
 use Rattle.fee_laws.proofs.Figures.{free_is, switch_is}
 use Rattle.fee_laws.proofs.Heads.{head_fits}
 use Rattle.fee_laws.proofs.Page.{in_work, h, work_is, a, old_is, body, log, appending, stands}
-use Rattle.fee_laws.proofs.Shown.{after_is, counted, j, open_is, mark as its_mark, head_is, writes, job_of, content_fits, something, no_read}
+use Rattle.fee_laws.proofs.Shown.{after_is, counted, j, open_is, mark as its_mark, head_is, kind_is, job_of, content_fits, something, no_read}
 use Rattle.fee_laws.proofs.GoneOn.{if_else, no_seal}
 use Rattle.fee_laws.proofs.Left.{l, asked, keeps, run_on, facts_ended}
 
@@ -161,11 +160,11 @@ module _ (m : Making) (entry : Told) (s : Parts) (listed : List (DeviceNumber ×
   abbrev size : ℕ
   size = (job_of m entry s listed kept count is.on is.work).length
 
-  configured : length_of m.numbers r.number ≡ Some size
-  configured = ap (λ (x : RecHead). length_of m.numbers x.number) (head_is m entry s listed kept count is.on is.work) ∙ (job_of m entry s listed kept count is.on is.work).configured
+  configured : length_of m.numbers r.number.0 ≡ Some size
+  configured = ap (λ (x : RecHead). length_of m.numbers x.number.0) (head_is m entry s listed kept count is.on is.work) ∙ (job_of m entry s listed kept count is.on is.work).configured
 
-  fits_it : IsTrue (fits r.number size r)
-  fits_it = subst (λ (x : RecHead). IsTrue (fits x.number size x)) (sym (head_is m entry s listed kept count is.on is.work)) (head_fits jb.op jb.number.0 jb.length size r.count (writes m entry s listed kept count is.on is.work) (job_of m entry s listed kept count is.on is.work).fits)
+  fits_it : IsTrue (fits r.number.0 size r)
+  fits_it = subst (λ (x : RecHead). IsTrue (fits x.number.0 size x)) (sym (head_is m entry s listed kept count is.on is.work)) (head_fits jb.op r.kind jb.number jb.length size r.count (kind_is m entry s listed kept count is.on is.work) (job_of m entry s listed kept count is.on is.work).fits)
 
   was_tail : was.tail ≡ LogWrites r content at_last.done
   was_tail = ap (λ (x : Tail). tail_with x content) at_last.tail ∙ ap (λ (x : RecHead). LogWrites x content at_last.done) (sym head_same)
@@ -193,7 +192,7 @@ module _ (m : Making) (entry : Told) (s : Parts) (listed : List (DeviceNumber ×
       (let before = before_told s.fls.flash.bytes f.flash.bytes (work_op s) Done new (asked m entry s listed kept count Done f is).bytes at in
       (committed before.0 new before.1 at more (held_at m entry s listed kept count is.on before.0 before.1 told')).held))
 
-  settles : Settles r.number (held_written r content).mark (told_of d) (told_of e)
+  settles : Settles r.number.0 (held_written r content).mark (told_of d) (told_of e)
   settles = commits_are_told d e more r content (started m entry s listed kept count is.on (work_op s) Done f is.drives (asked m entry s listed kept count Done f is) (keeps m entry s listed kept count Done f is) b None JobOk 0 (run_on m entry s listed kept count Done f is None JobOk 0))
       (λ old new at. committed old new at.1 at.2 more (held_at m entry s listed kept count is.on old at.1 at.0))
 
@@ -202,7 +201,7 @@ module _ (m : Making) (entry : Told) (s : Parts) (listed : List (DeviceNumber ×
   ns = s.banks.log.numbers
 
   abbrev number : ℕ
-  number = r.number
+  number = r.number.0
 
   abbrev settled : Held
   settled = held_written r content
@@ -291,12 +290,12 @@ module _ (m : Making) (entry : Told) (s : Parts) (listed : List (DeviceNumber ×
       (settling_widens (flags_in m s old) number settled)
 
   -- a copy that sets a flag is of another number
-  differs : (w : Copying) → s.banks.course ≡ Some (course.Copy (Some w)) → w.sets ≡ true → IfSome (work_in s.banks.copies.tail) (λ x. x.number ≢ number)
+  differs : (w : Copying) → s.banks.course ≡ Some (course.Copy (Some w)) → w.sets ≡ true → IfSome (work_in s.banks.copies.tail) (λ x. x.number.0 ≢ number)
   differs w at sets =
       let roomy = subst (λ (o : Option Course). IfSome o (IsRoomy m.reserve s.banks)) at (is.on.sound.room is.on.started (power m entry s listed kept count is.on)).switch in
       let here = roomy.target.work in
-      let there = numbers_have_places 0 ns w.index (record { 0 = here.head.number }, here.length) is.on.log.numbers here.named in
-      subst (λ (o : Option RecHead). IfSome o (λ x. x.number ≢ number)) (sym (ap work_in here.tail))
+      let there = numbers_have_places 0 ns w.index (here.head.number, here.length) is.on.log.numbers here.named in
+      subst (λ (o : Option RecHead). IfSome o (λ x. x.number.0 ≢ number)) (sym (ap work_in here.tail))
       (λ same.
       (let its_place : place_of ns number ≡ Some w.index = subst (λ (n : ℕ). place_of ns n ≡ Some w.index) same there in
       let none = sets_none w ((λ i. appended_at (sym its_place i) (sym at i)) ∙ its.alone ∙ at) in
@@ -348,7 +347,7 @@ module _ (m : Making) (entry : Told) (s : Parts) (listed : List (DeviceNumber ×
 
   ends : EndsAs asks.mark asks.number JobOk [] (told_of d) (told_of e)
   ends = subst (λ (o : Option Mark). EndsAs o asks.number JobOk [] (told_of d) (told_of e)) (sym mark_at)
-      (subst (λ (n : ℕ). Settles n (held_written r content).mark (told_of d) (told_of e)) (ap (λ (x : RecHead). x.number) (head_is m entry s listed kept count is.on is.work)) settles, refl)
+      (subst (λ (n : ℕ). Settles n (held_written r content).mark (told_of d) (told_of e)) (ap (λ (x : RecHead). x.number.0) (head_is m entry s listed kept count is.on is.work)) settles, refl)
 
   abbrev w : Work
   w = work_of m.reserve s.banks s.job

@@ -20,8 +20,8 @@ use Rattle.fee_image.specs.Banks.{Old}
 use Rattle.promise_device.specs.Making.{Making, banks_of}
 use Rattle.fee_told.specs.Slots.{Memory, IsWorkOf}
 use Rattle.fee_told.specs.SlotLaws.{IsHeld, SamePlaces}
-use Rattle.fee_told.specs.Device.{Device, told_of}
-use Rattle.fee_told.specs.Runs.{HasRun}
+use Rattle.fls_told.specs.Runs.{HasRun}
+use Rattle.fee_told.specs.Device.{Device, told_of, flash_device}
 use Rattle.fee_told.specs.Kept.{IsKept, with_log}
 use Rattle.fee_told.specs.Figures.{Work}
 use Rattle.fee_told.specs.FigureLaws.{IsWork}
@@ -79,7 +79,7 @@ module _ (m : Making) (entry : Told) (s : Parts) (listed : List (DeviceNumber ×
   same_places : SamePlaces torn.old (memory_of s).old
   same_places = subst (λ (o : Old). SamePlaces torn.old o) (sym (old_is m entry s listed kept count is.on is.work)) (refl, refl, sym (failed_places m.geometry.page was was.tail))
 
-  abbrev run_then : HasRun e
+  abbrev run_then : HasRun (flash_device e)
   run_then = run_on m entry s listed kept count Off f is s.job s.last s.given
 
   behind : HoldsBehind e

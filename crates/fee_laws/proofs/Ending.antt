@@ -15,11 +15,10 @@ use Rattle.fee_switch_laws.specs.KeepsRoom.{KeepsRoom}
 use Rattle.promise_device.specs.Making.{Making, banks_of}
 use Rattle.fee_told.specs.Slots.{Memory, HasJob}
 use Rattle.fee_told.specs.SlotLaws.{SamePlaces}
-use Rattle.fee_told.specs.Device.{Device, told_of}
-use Rattle.fee_told.specs.Clock.{clock_of}
+use Rattle.fls_told.proofs.Clocks.{clocks_stay}
+use Rattle.fee_told.specs.Device.{Device, told_of, clock_of, flash_device}
 use Rattle.fee_told.specs.Figures.{left_of}
 use Rattle.fee_told.proofs.Kept.{same_places}
-use Rattle.fee_told.proofs.Clocks.{clocks_stay}
 use Rattle.fee_told.proofs.Jobs.{jobs_change}
 use Rattle.fee_laws.specs.declared.job.FeeJob.{FeeJob}
 use Rattle.fee_laws.specs.Inside.{Parts, device_of, memory_of, stand_of, fixed_in, HoldsBehind, IsMadeFor, IsAtWork, IsSound, ShowsCopies, TellsCopies, flags_in}
@@ -90,7 +89,7 @@ module _ (m : Making) (entry : Told) (s : Parts) (listed : List (DeviceNumber ×
   ended_as e = record { only = λ i. record (told_of t) { switching = e.switching i }; marks = keeps_all m entry s listed kept count is_off sound started b places; left = e.left; ready = e.ready }
 
   pub ended_stays : Ends → ClockStays (clock_of d) (told_of t) (clock_of t)
-  ended_stays e = record { same = clocks_stay d t (record { making = refl; entry = refl; operations = refl; bytes = refl }) refl; order = order e.behind e.few }
+  ended_stays e = record { same = clocks_stay (flash_device d) (flash_device t) (record { reading = refl; entry = refl; operations = refl; bytes = refl }) (λ n. refl); order = order e.behind e.few }
 
 -- WITHOUT A RECORD IN WORK
 module _ (m : Making) (entry : Told) (s : Parts) (listed : List (DeviceNumber × ℕ)) (kept count : ℕ) (is_off : Bool) (sound : IsSound m entry s listed kept count is_off) (started : s.started ≡ true) (state : IsBanksState s.banks) (j : FeeJob) (job : s.job ≡ Some j) (calm : j.urgent ≡ false) (idle : work_in s.banks.log.tail ≡ None) where

@@ -15,8 +15,7 @@ use Rattle.fee_image.specs.Step.{log_failed}
 use Rattle.fee_switch.specs.Banks.{BanksState}
 use Rattle.promise_device.specs.Making.{Making}
 use Rattle.fee_told.specs.Slots.{Memory}
-use Rattle.fee_told.specs.Device.{told_of}
-use Rattle.fee_told.specs.Clock.{clock_of}
+use Rattle.fee_told.specs.Device.{told_of, clock_of}
 use Rattle.fee_told.specs.Kept.{IsKept}
 use Rattle.fee_told.proofs.Appends.{appends_fail as told_appends_fail}
 use Rattle.fee_laws.specs.declared.job.FeeJob.{FeeJob}

@@ -53,7 +53,7 @@ record_begins s head content bytes xs state may follows =
     let then = append_begun s head in
     record {
       log = by_active s.active may.room follows.log;
-      banks = with_log s then.log then.course then.course bytes (appended s (place_of s.log.numbers head.number) s.course bytes follows.banks);
+      banks = with_log s then.log then.course then.course bytes (appended s (place_of s.log.numbers head.number.0) s.course bytes follows.banks);
     }
   where
     by_active : (o : Option ActiveBank) → IfSome o (λ a. record_pages_of head.length s.log.geometry.page ≤ free_in s.log)

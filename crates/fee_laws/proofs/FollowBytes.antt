@@ -39,8 +39,8 @@ head_page p h low legal =
     let t3 = byte_at 3 h.count ∷ t2 in
     let l0 = byte_at 0 h.length ∷ t3 in
     let l1 = byte_at 1 h.length ∷ l0 in
-    let n0 = byte_at 0 h.number ∷ l1 in
-    let n1 = byte_at 1 h.number ∷ n0 in
+    let n0 = byte_at 0 h.number.0 ∷ l1 in
+    let n1 = byte_at 1 h.number.0 ∷ n0 in
     record {
       size = omega (arith, length-replicate {A = ℕ} (p - 10) 255);
       bytes =
@@ -51,8 +51,8 @@ head_page p h low legal =
           let e = all_cons (byte_at 3 h.count) t2 (byte_small 3 h.count) f in
           let d = all_cons (byte_at 0 h.length) t3 (byte_small 0 h.length) e in
           let c = all_cons (byte_at 1 h.length) l0 (byte_small 1 h.length) d in
-          let b = all_cons (byte_at 0 h.number) l1 (byte_small 0 h.number) c in
-          let a = all_cons (byte_at 1 h.number) n0 (byte_small 1 h.number) b in
+          let b = all_cons (byte_at 0 h.number.0) l1 (byte_small 0 h.number.0) c in
+          let a = all_cons (byte_at 1 h.number.0) n0 (byte_small 1 h.number.0) b in
           let k = all_cons (kind_byte h.kind) n1 (kind_small h.kind) a in
           all_cons 0x52 (kind_byte h.kind ∷ n1) (omega arith) k);
     }

@@ -25,6 +25,7 @@ use Rattle.promise_device.specs.Making.{Making}
 use Rattle.fee_laws.specs.declared.job.FeeJob.{FeeJob}
 use Rattle.fee_laws.specs.Inside.{Parts, body_of}
 use Rattle.fee_laws.specs.Record.{IsJobOf, IsLengthOf, IsInWork, head_of}
+use Rattle.fee_laws.proofs.Heads.{not_read}
 use Rattle.fee_laws.specs.Work.{pages_of_op}
 use Rattle.fee_laws.specs.Turn.{IsOn}
 use Rattle.fee_laws.specs.Worn.{KnowsRoom}
@@ -98,7 +99,7 @@ has_pages p Erase length of writes fits = subst (λ (n : ℕ). record_pages_of n
 
 few_for : (numbers : List (DeviceNumber × ℕ)) (h : RecHead) → AreLengths 0 numbers → IsFor numbers h → h.length ≤ 4096
 few_for numbers h all is =
-    let x : DeviceNumber × ℕ = (record { 0 = h.number }, is.length) in
+    let x : DeviceNumber × ℕ = (h.number, is.length) in
     let up = numbers_are_in_bounds 0 numbers is.configured.0 x all (slice_get-get_or numbers is.configured.0 x is.configured.1 ∙ ap Some is.configured.2) in
     omega (arith, length_within h.kind h.length is.length is.kind, up.3)
 
@@ -106,14 +107,14 @@ room_by : (o : Option ActiveBank) (pages free : ℕ) → pages ≤ (if is_some o
 room_by None pages free less = tt
 room_by (Some a) pages free less = less
 
-may_begin : (m : Making) (entry : Told) (s : Parts) (listed : List (DeviceNumber × ℕ)) (kept count : ℕ) (j : FeeJob) → IsOn m entry s listed kept count → MayBegin m s j → MayBeginIn s.banks (head_of s.banks.log j) s.content
+may_begin : (m : Making) (entry : Told) (s : Parts) (listed : List (DeviceNumber × ℕ)) (kept count : ℕ) (j : FeeJob) → IsOn m entry s listed kept count → (may : MayBegin m s j) → MayBeginIn s.banks (head_of s.banks.log may.kind j) s.content
 may_begin m entry s listed kept count j on may =
     let at_work = on.sound.works on.started in
     let job : IsJobOf m.numbers j = subst (λ (o : Option FeeJob). IfSome o (IsJobOf m.numbers)) may.job at_work.job in
     let p = s.banks.geometry.page in
-    let pages = has_pages p j.op j.length job.length may.writes job.fits in
+    let pages = has_pages p j.op j.length job.length (not_read j.op may.kind may.writes) job.fits in
     let free = room_is j.urgent (pages_of_op p j.op j.length) m.reserve (free_pages s.banks) may.room in
-    let few = few_for s.banks.log.numbers (head_of s.banks.log j) on.log.numbers may.configured in
+    let few = few_for s.banks.log.numbers (head_of s.banks.log may.kind j) on.log.numbers may.configured in
     record {
       idle = may.idle;
       configured = may.configured;
@@ -124,8 +125,8 @@ may_begin m entry s listed kept count j on may =
 
 pub begun_follows : BegunFollows
 begun_follows m entry s listed kept count j on may follows = λ started power'.
-    each_now s.fls.flash.bytes (FollowsBytes (append_begun s.banks (head_of s.banks.log j)) s.content s.operations) (λ bytes at.
-    record_begins s.banks (head_of s.banks.log j) s.content bytes s.operations on.log (may_begin m entry s listed kept count j on may) (now_at s.fls.flash.bytes (FollowsBytes s.banks s.content s.operations) bytes at (follows started power')))
+    each_now s.fls.flash.bytes (FollowsBytes (append_begun s.banks (head_of s.banks.log may.kind j)) s.content s.operations) (λ bytes at.
+    record_begins s.banks (head_of s.banks.log may.kind j) s.content bytes s.operations on.log (may_begin m entry s listed kept count j on may) (now_at s.fls.flash.bytes (FollowsBytes s.banks s.content s.operations) bytes at (follows started power')))
 
 pub switching_follows : SwitchingFollows
 switching_follows m entry s listed kept count j on may follows = λ started power'.
@@ -135,7 +136,7 @@ switching_follows m entry s listed kept count j on may follows = λ started powe
 -- A READ
 no_work : (s : Parts) (j : FeeJob) (o : Option RecHead) → s.job ≡ Some j → j.op ≡ Read → IfSome o (IsInWork s.banks s.job) → o ≡ None
 no_work s j None job reads work = refl
-no_work s j (Some h) job reads work = absurd (work.writes (let same : work.of ≡ j = (let a = work.is_open in cc (a, job)) in ap (λ (x : FeeJob). x.op) same ∙ reads))
+no_work s j (Some h) job reads work = absurd (not_read work.of.op h.kind work.writes (let same : work.of ≡ j = (let a = work.is_open in cc (a, job)) in ap (λ (x : FeeJob). x.op) same ∙ reads))
 
 pub reads_follow : ReadsFollow
 reads_follow m entry s listed kept count j at writes content answer f reading asked follows =

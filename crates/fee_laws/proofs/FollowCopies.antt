@@ -111,7 +111,7 @@ module _ (k : LogState) (state : IsLogState k) (tail : k.tail ≡ Open) (head : 
     numbers = state.numbers;
     places = state.places;
     counts = state.counts;
-    flags = flag_length k.numbers k.flags head.number false ∙ state.flags;
+    flags = flag_length k.numbers k.flags head.number.0 false ∙ state.flags;
     end_low = state.end_low;
     end_high = state.end_high;
     tail = subst (IsTail k.geometry.page (pages_in k) k.end) (sym begun_tail) (written.staged.legal, written.left, written.staged.room);

@@ -14,7 +14,7 @@ use Rattle.fls_jobs.specs.State.{FlsState}
 use Rattle.fee_switch.specs.Banks.{BanksState}
 use Rattle.fee_switch_laws.specs.Shown.{layout_in}
 use Rattle.promise_device.specs.Making.{Making}
-use Rattle.fee_told.specs.Clock.{change_of}
+use Rattle.fls_told.specs.Clock.{change_of}
 use Rattle.fee_laws.specs.Inside.{Parts}
 use Rattle.fee_laws.specs.Turn.{IsOn, operated}
 use Rattle.fee_laws.specs.Follows.{FollowsBytes, Follows}

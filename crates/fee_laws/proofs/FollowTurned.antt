@@ -31,7 +31,7 @@ use Rattle.fee_switch_laws.specs.Shown.{layout_in}
 use Rattle.fee_switch_laws.specs.KeepsRoom.{IsRoomy, IsTargetLog, IsOpenCopy}
 use Rattle.fee_switch_laws.proofs.RoomReady.{steps_may_be_made}
 use Rattle.promise_device.specs.Making.{Making}
-use Rattle.fee_told.specs.Clock.{change_of}
+use Rattle.fls_told.specs.Clock.{change_of}
 use Rattle.fee_laws.specs.Inside.{Parts, body_of}
 use Rattle.fee_laws.specs.Record.{IsInWork}
 use Rattle.fee_laws.specs.Turn.{IsOn, operated}
@@ -84,13 +84,13 @@ module _ (m : Making) (entry : Told) (s : Parts) (listed : List (DeviceNumber ×
 
 -- ITS FIRST ONE
 -- the number that is copied next, in what makes its copy, and in what was known before
-pub mark_length : (p : Place) (n size : ℕ) → reads_place p ≡ false → (head_at p n size).length ≡ 0
+pub mark_length : (p : Place) (n : DeviceNumber) (size : ℕ) → reads_place p ≡ false → (head_at p n size).length ≡ 0
 mark_length (place.Content at count) n size reads = cc reads
 mark_length (place.Invalid count) n size reads = refl
 mark_length (place.Erased count) n size reads = refl
 mark_length place.Unwritten n size reads = refl
 
-mark_begins : (p : Place) (s : BanksState) (n size : ℕ) (told told' : Told) (answer : FlashAnswer) (made : BanksState) → reads_place p ≡ false → BeginsAt p s n size told answer made told'
+mark_begins : (p : Place) (s : BanksState) (n : DeviceNumber) (size : ℕ) (told told' : Told) (answer : FlashAnswer) (made : BanksState) → reads_place p ≡ false → BeginsAt p s n size told answer made told'
     → let k = begun s.copies (head_at p n size) in IsStep (op_of k []) told answer told' × (made ≡ record s { copies = after_step k answer })
 mark_begins (place.Content at count) s n size told told' answer made reads begins = cc reads
 mark_begins (place.Invalid count) s n size told told' answer made reads begins = begins
@@ -124,18 +124,18 @@ module _ (m : Making) (entry : Told) (s : Parts) (listed : List (DeviceNumber ×
       let same : slice_index_or s.banks.log.numbers is.makes.source.index d ≡ slice_index_or s.banks.log.numbers src.index d = ap (λ (y : Source). slice_index_or s.banks.log.numbers y.index d) source_same in
       ap (λ (y : DeviceNumber × ℕ). y.0) (sym a ∙ same ∙ b)
 
-  begins_at : BeginsAt src.place s.banks num.0 src.length s.fls.flash answer made f.flash
-  begins_at = subst (λ (y : DeviceNumber). BeginsAt src.place s.banks y.0 src.length s.fls.flash answer made f.flash) number_same
-      (subst (λ (y : Source). BeginsAt y.place s.banks is.makes.number.0 y.length s.fls.flash answer made f.flash) source_same is.makes.begins)
+  begins_at : BeginsAt src.place s.banks num src.length s.fls.flash answer made f.flash
+  begins_at = subst (λ (y : DeviceNumber). BeginsAt src.place s.banks y src.length s.fls.flash answer made f.flash) number_same
+      (subst (λ (y : Source). BeginsAt y.place s.banks is.makes.number y.length s.fls.flash answer made f.flash) source_same is.makes.begins)
 
   target : IsTargetLog s.banks (Copy None)
   target = (subst (λ (o : Option Course). IfSome o (IsRoomy m.reserve s.banks)) is.course (is.on.sound.room is.on.started (power m entry s listed kept count is.on)).switch).target
 
-  may_copy : MayCopy s.banks (head_at src.place num.0 src.length)
+  may_copy : MayCopy s.banks (head_at src.place num src.length)
   may_copy = record {
     tail = target.work;
     configured = can.can.configured;
-    room = subst (λ (g : Geometry). record_pages_of (head_at src.place num.0 src.length).length g.page ≤ free_in s.banks.copies) (sym is.on.banks.copies.shape) can.can.room;
+    room = subst (λ (g : Geometry). record_pages_of (head_at src.place num src.length).length g.page ≤ free_in s.banks.copies) (sym is.on.banks.copies.shape) can.can.room;
   }
 
   -- a mark
@@ -144,13 +144,13 @@ module _ (m : Making) (entry : Told) (s : Parts) (listed : List (DeviceNumber ×
     unread = sym (ap reads_source can.next.first) ∙ changes
 
     abbrev mark : RecHead
-    mark = head_at src.place num.0 src.length
+    mark = head_at src.place num src.length
 
     none : mark.length ≡ 0
-    none = mark_length src.place num.0 src.length unread
+    none = mark_length src.place num src.length unread
 
     begins_mark : IsStep (op_of (begun s.banks.copies mark) []) s.fls.flash answer f.flash × (made ≡ record s.banks { copies = after_step (begun s.banks.copies mark) answer })
-    begins_mark = mark_begins src.place s.banks num.0 src.length s.fls.flash f.flash answer made unread begins_at
+    begins_mark = mark_begins src.place s.banks num src.length s.fls.flash f.flash answer made unread begins_at
 
   -- a content
   module _ (reads : reads_next s.banks.log (Some (Copy None)) ≡ true) where
@@ -158,14 +158,14 @@ module _ (m : Making) (entry : Told) (s : Parts) (listed : List (DeviceNumber ×
     content_at = is_content src.place (sym (ap reads_source can.next.first) ∙ reads)
 
     abbrev copy : RecHead
-    copy = record { number = num.0; kind = kind.Content; length = src.length; count = content_at.1 }
+    copy = record { number = num; kind = kind.Content; length = src.length; count = content_at.1 }
 
     may_content : MayCopy s.banks copy
-    may_content = subst (MayCopy s.banks) (ap (λ (p : Place). head_at p num.0 src.length) content_at.2) may_copy
+    may_content = subst (MayCopy s.banks) (ap (λ (p : Place). head_at p num src.length) content_at.2) may_copy
 
     begins_content : IsRead (address_of_page s.banks.geometry s.banks.banks s.banks.log.bank (content_at.0 + 2)) s.fls.flash (take src.length s.banks.buffer) answer (take src.length made.buffer) f.flash
         × (made ≡ record s.banks { copies = begun_where answer s.banks.copies copy; buffer = made.buffer })
-    begins_content = subst (λ (p : Place). BeginsAt p s.banks num.0 src.length s.fls.flash answer made f.flash) content_at.2 begins_at
+    begins_content = subst (λ (p : Place). BeginsAt p s.banks num src.length s.fls.flash answer made f.flash) content_at.2 begins_at
 
     content_fits : length made.buffer ≡ length s.banks.buffer → length (body_of (Some copy) made.buffer) ≡ copy.length
     content_fits wide = (let few = can.can.fits in length-take-le src.length made.buffer (omega (arith, few, wide)))

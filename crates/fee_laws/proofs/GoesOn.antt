@@ -55,7 +55,7 @@ module _ (m : Making) (entry : Told) (s : Parts) (listed : List (DeviceNumber ×
   some_work = ap (λ (o : Option RecHead). is_some o) work_on
 
   in_work_on : IsInWork b s.job (h m entry s listed kept count is.on is.work)
-  in_work_on = let w = in_work m entry s listed kept count is.on is.work in record { of = w.of; is_open = w.is_open; head = w.head ∙ sym (same_head s.banks.log b.log w.of refl going.places); writes = w.writes; active = w.active; taken = w.taken; beside = w.beside; clear = w.clear; alone = w.alone }
+  in_work_on = let w = in_work m entry s listed kept count is.on is.work in record { of = w.of; is_open = w.is_open; head = w.head ∙ sym (same_head s.banks.log b.log (h m entry s listed kept count is.on is.work).kind w.of refl going.places); writes = w.writes; active = w.active; taken = w.taken; beside = w.beside; clear = w.clear; alone = w.alone }
 
   was_at_work : IsAtWork m s
   was_at_work = at_work m entry s listed kept count is.on is.work

@@ -16,8 +16,7 @@ use Rattle.fee_format.specs.declared.rec_head.RecordKind.{RecordKind}
 use Rattle.fee_course.specs.declared.course.Course.TheVariants as course
 use Rattle.fee_switch.specs.Banks.{TakesRecord}
 use Rattle.promise_device.specs.Making.{Making}
-use Rattle.fee_told.specs.Device.{told_of}
-use Rattle.fee_told.specs.Clock.{clock_of}
+use Rattle.fee_told.specs.Device.{told_of, clock_of}
 use Rattle.fee_told.specs.Figures.{Waits, left_of, ready_of}
 use Rattle.fee_told.proofs.Figures.{turns_lower, urgent_nears}
 use Rattle.fee_laws.specs.declared.job.FeeJob.{FeeJob}

@@ -22,8 +22,8 @@ use Rattle.fee_switch_laws.specs.KeepsRoom.{KeepsRoom}
 use Rattle.fee_switch_laws.proofs.RoomAppends.{pages_keep_room}
 use Rattle.promise_device.specs.Making.{Making, banks_of}
 use Rattle.fee_told.specs.SlotLaws.{IsHeld}
-use Rattle.fee_told.specs.Device.{Device, told_of}
-use Rattle.fee_told.specs.Runs.{HasRun, KeepsWorn}
+use Rattle.fls_told.specs.Runs.{HasRun, KeepsWorn}
+use Rattle.fee_told.specs.Device.{Device, told_of, flash_device}
 use Rattle.fee_told.specs.Kept.{IsKept}
 use Rattle.fee_told.specs.Whole.{CutsKeep}
 use Rattle.fee_told.proofs.Whole.{kept_is_told}
@@ -61,10 +61,10 @@ module _ (m : Making) (entry : Told) (s : Parts) (listed : List (DeviceNumber ×
     abbrev e : Device
     e = device_of m entry t
 
-    stays_worn : KeepsWorn (work_op s) d e
+    stays_worn : KeepsWorn (work_op s) (flash_device d) (flash_device e)
     stays_worn = worn_by m entry s listed kept count is.on (work_op s) answer f is.drives asked keeps t.banks job last given refl (keeps_last m entry s listed kept count is.on is.work is.page.size)
 
-    pub run_on : HasRun e
+    pub run_on : HasRun (flash_device e)
     run_on = run m entry s listed kept count is.on (work_op s) answer f is.drives asked keeps t.banks job last given stays_worn
 
     abbrev pub Keeping : Type 0

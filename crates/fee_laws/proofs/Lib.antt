@@ -19,7 +19,7 @@ mod Behind
 mod MadeFor
 mod BehindNone
 mod Turning
-mod Heads
+pub mod Heads
 mod Kept
 mod Page
 mod Figures

@@ -9,12 +9,13 @@ use Rattle.fls_model.specs.Attach.{IsAttached, IsFilled, AreBytesOf}
 use Rattle.fls_model.specs.Told.{Told, ToldBytes, IfBothTold}
 use Rattle.fls_jobs.specs.Start.{IsIdle}
 use Rattle.promise_device.specs.Making.{Making}
-use Rattle.fee_told.specs.Device.{Device, told_of}
-use Rattle.fee_told.specs.Runs.{CountsCuts, IsMade}
+use Rattle.promise_device.proofs.Readings.{banks_attach_sound}
+use Rattle.fls_told.specs.Runs.{CountsCuts, IsMade}
+use Rattle.fls_told.proofs.Making.{runs_begin}
+use Rattle.fee_told.specs.Device.{Device, told_of, flash_device}
 use Rattle.fee_switch.specs.Banks.{IsMade as AreMade}
 use Rattle.fee_course.specs.declared.course.Course.{Course}
 use Rattle.fee_switch_laws.specs.Space.{HasSpace}
-use Rattle.fee_told.proofs.Making.{runs_begin}
 use Rattle.fee_told.proofs.Whole.{unstarted_finds_now}
 use Rattle.fee_laws.specs.Inside.{Parts, device_of, IsSound, ShowsCopies}
 use Rattle.fee_laws.specs.Parts.{fresh}
@@ -61,8 +62,8 @@ module _ (m : Making) (entry : Told) (s : Parts) (legal : IsLegal m.geometry) (a
       let same : s.fls.flash.planning.unplanned ≡ entry.planning.unplanned = ap (λ (p : Planning). p.unplanned) at.planning in
       omega (arith, same, at.cuts, at.unplanned)
 
-  is_made : IsMade d
-  is_made = record { attaches = at; operations = refl; faults = refl; worn = refl }
+  is_made : IsMade (flash_device d)
+  is_made = record { attaches = at; operations = refl; faults = refl; worn = λ n. refl }
 
   bytes : IfSome s.fls.flash.bytes (λ b. AreBytesOf m.geometry b.now)
   bytes = filled_bytes m.geometry entry.bytes s.fls.flash.bytes at.bytes
@@ -71,7 +72,7 @@ module _ (m : Making) (entry : Told) (s : Parts) (legal : IsLegal m.geometry) (a
   made_sound geometry idle room = record {
     made_for = record { geometry = geometry; idle = idle; banks_geometry = made.shape; shared = made.shared; numbers = made.configured; space = space; bytes = bytes; room = room; given = omega arith; ended = λ e. cc e };
     device = record {
-      run = runs_begin d is_made (cuts_counted entry s.fls.flash at.planning at.cuts counted);
+      run = runs_begin (flash_device d) is_made (banks_attach_sound m) (cuts_counted entry s.fls.flash at.planning at.cuts counted);
       held = λ started. cc started;
       order = at_rest m entry (fresh s) made.course (unstarted_finds_now d refl (some_told m.geometry s.fls.flash.bytes legal bytes));
       faults = omega arith;

@@ -21,8 +21,9 @@ use Rattle.fee_switch_laws.specs.Space.{HasSpace, free_pages}
 use Rattle.promise_device.specs.Making.{Making, banks_of}
 use Rattle.fee_told.specs.Slots.{Memory, HasJob, slots_held, slots_found, settled_in}
 use Rattle.fee_told.specs.SlotLaws.{SamePlaces, IsHeld, Opened}
-use Rattle.fee_told.specs.Device.{Device, tells, told_of}
-use Rattle.fee_told.specs.Clock.{clock_of}
+use Rattle.fls_told.specs.Device.{slot_with}
+use Rattle.fls_told.proofs.Clocks.{clocks_stay}
+use Rattle.fee_told.specs.Device.{Device, tells, told_of, clock_of, flash_device}
 use Rattle.fee_told.specs.Figures.{Work, fixed_for, left_of, turns_of, Waits, ready_of, wait_of}
 use Rattle.fee_told.proofs.Jobs.{jobs_change}
 use Rattle.fee_told.proofs.Figures.{owed_few, urgent_starts}
@@ -43,8 +44,6 @@ use Rattle.fee_image.specs.Banks.{Old}
 use Rattle.fee_image.specs.Copies.{copied_of}
 use Rattle.fee_course.specs.declared.course.Course.{Course}
 use Rattle.fee_course.specs.declared.course.Course.TheVariants as course
-use Rattle.fee_told.specs.Tells.{was}
-use Rattle.fee_told.proofs.Clocks.{clocks_stay}
 use Rattle.fee_told.proofs.Steps.{places_tell, jobs_open as told_jobs_open}
 use Rattle.fee_told.proofs.Whole.{opens_are_told}
 use Rattle.fee_laws.specs.Copied.{flags_of, IsCopying}
@@ -236,7 +235,7 @@ module _ (m : Making) (entry : Told) (s : Parts) (listed : List (DeviceNumber ×
   ready = ready_of m.reserve (nat_le 1 (seal_turns s.banks.course)) (free_pages s.banks)
 
   ordered : ClockStays (clock_of d) (told_of t) (clock_of t)
-  ordered = record { same = clocks_stay d t (record { making = refl; entry = refl; operations = refl; bytes = refl }) refl; order = in_order }
+  ordered = record { same = clocks_stay (flash_device d) (flash_device t) (record { reading = refl; entry = refl; operations = refl; bytes = refl }) (λ n. refl); order = in_order }
 
   -- WHAT HOLDS
   module _ (promised : j.promised ≡ true → pages ≤ ready) where
@@ -297,8 +296,8 @@ module _ (m : Making) (entry : Told) (s : Parts) (listed : List (DeviceNumber ×
       (sym (places_tell (banks_of m) m.numbers bytes h.behind (memory_of s) h.places (sym h.stand))) o
 
   marks : DoubtsAt jb.number jb.mark (told_of d) (told_of t)
-  marks = opens_are_told d t jb (record { same = record { making = refl; entry = refl; old = sound.device.run.alike; new = sound.device.run.alike }; old = started; new = started }) (λ old new told n.
-      subst (λ (x : List ℕ). Opened jb n (was d old n) (was t x n) jb.mark) (same_bytes (bytes_now s.fls.flash) old new told.1 told.2)
+  marks = opens_are_told d t jb (record { same = record { reading = refl; numbers = refl; entry = refl; old = sound.device.run.alike; new = sound.device.run.alike }; making = refl; old = started; new = started }) (λ old new told n.
+      subst (λ (x : List ℕ). Opened jb n (slot_with (flash_device d) old n) (slot_with (flash_device t) x n) jb.mark) (same_bytes (bytes_now s.fls.flash) old new told.1 told.2)
       (subst (λ (x : Bool). Opened jb n
       (slot_at m.numbers (if x then slots_held (banks_of m) m.numbers old (memory_of s) else slots_found (banks_of m) m.numbers old) n)
       (slot_at m.numbers (if x then slots_held (banks_of m) m.numbers old (memory_of u) else slots_found (banks_of m) m.numbers old) n) jb.mark) (sym started) (opened_at old told.1 told.0 n)))

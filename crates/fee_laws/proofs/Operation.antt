@@ -18,16 +18,18 @@ use Rattle.fls_jobs.specs.State.{FlsState}
 use Rattle.fee_switch.specs.Banks.{BanksState}
 use Rattle.promise_device.specs.Making.{Making}
 use Rattle.promise_device.specs.Bridge.{is_program}
-use Rattle.promise_device.specs.Image.{IsOfLastGeneration}
-use Rattle.fee_told.specs.Device.{Device, told_of, ops_in, part_of}
-use Rattle.fee_told.specs.Clock.{Makes, CutsArePossible, change_of, turn_of, clock_of}
-use Rattle.fee_told.specs.Parts.{Counts}
-use Rattle.fee_told.specs.Runs.{HasRun, LeavesSound, KeepsWorn, CountsCuts as RunCounts, counts_fault}
-use Rattle.fee_told.specs.Tells.{IsSame}
+use Rattle.promise_device.specs.Image.{IsOfLastGeneration, is_of_last_generation}
+use Rattle.promise_device.proofs.Readings.{last_generations_compute}
+use Rattle.fls_told.specs.Device.{asked_ops, flash_part}
+use Rattle.fls_told.specs.Clock.{Makes, CutsArePossible, change_of, turn_of}
+use Rattle.fls_told.specs.Parts.{Counts}
+use Rattle.fls_told.specs.Runs.{HasRun, LeavesSound, KeepsWorn, CountsCuts as RunCounts, counts_fault}
+use Rattle.fls_told.specs.Tells.{IsSame}
+use Rattle.fls_told.proofs.Clocks.{clocks_tick}
+use Rattle.fls_told.proofs.Making.{runs_go_on}
+use Rattle.fls_told.proofs.Parts.{parts_work}
+use Rattle.fee_told.specs.Device.{Device, told_of, clock_of, flash_device}
 use Rattle.fee_told.specs.Whole.{CutsKeep, AreStarted}
-use Rattle.fee_told.proofs.Clocks.{clocks_tick}
-use Rattle.fee_told.proofs.Making.{runs_go_on}
-use Rattle.fee_told.proofs.Parts.{parts_work}
 use Rattle.fee_told.proofs.Whole.{cuts_are_told}
 use Rattle.fee_laws.specs.declared.job.FeeJob.{FeeJob}
 use Rattle.fee_laws.specs.Inside.{Parts, device_of, CountsCuts}
@@ -108,7 +110,7 @@ module _ (m : Making) (entry : Told) (s : Parts) (listed : List (DeviceNumber ×
   cuts = still_counted entry s.fls.flash f.flash answer asked.cause drives.counted on.sound.cuts
 
   module _ (keeps : CutsKeep op d) where
-    are : CutsArePossible op d × LeavesSound op d
+    are : CutsArePossible op (flash_device d) × LeavesSound op (flash_device d)
     are = cuts_are_told op d (copied m entry s listed kept count on) (holds m entry s listed kept count on) keeps
 
     module _ (b : BanksState) (job : Option FeeJob) (last : JobResult) (given : ℕ) where
@@ -118,35 +120,36 @@ module _ (m : Making) (entry : Told) (s : Parts) (listed : List (DeviceNumber ×
       abbrev pub e : Device
       e = device_of m entry t
 
-      makes : Makes op answer d e
-      makes = record { making = refl; entry = refl; asked = asked; operations = refl; worn = refl }
+      makes : Makes op answer (flash_device d) (flash_device e)
+      makes = record { reading = refl; entry = refl; asked = asked; operations = refl; worn = λ n. refl }
 
-      pub counts : Counts op answer d e
+      pub counts : Counts op answer (flash_device d) (flash_device e)
       counts = record { makes = makes; on = power m entry s listed kept count on; faults = refl; small = on.sound.device.faults }
 
-      pub part_works : answer ≢ Off → PartTurns false (ops_in d) (ops_in e) (part_of d) (part_of e)
-      part_works on' = parts_work op answer d e counts on'
+      pub part_works : answer ≢ Off → PartTurns false (asked_ops (flash_device d)) (asked_ops (flash_device e)) (flash_part (flash_device d)) (flash_part (flash_device e))
+      part_works on' = parts_work op answer (flash_device d) (flash_device e) counts on'
 
       pub ticks : Ticks First (turn_of answer) (told_of d) (clock_of d) (told_of e) (clock_of e)
-      ticks = clocks_tick op answer d e on.sound.device.run.alike makes (failure_counted answer s.faults on.sound.device.faults) are.0
+      ticks = clocks_tick op answer (flash_device d) (flash_device e) on.sound.device.run.alike makes (failure_counted answer s.faults on.sound.device.faults) are.0
 
-      pub run : KeepsWorn op d e → HasRun e
-      run worn = runs_go_on op answer d e on.sound.device.run makes refl (run_counts entry f.flash cuts) are.1 worn
+      pub run : KeepsWorn op (flash_device d) (flash_device e) → HasRun (flash_device e)
+      run worn = runs_go_on op answer (flash_device d) (flash_device e) on.sound.device.run makes refl (run_counts entry f.flash cuts) are.1 worn
 
-      pub same : HasRun e → IsSame d e
-      same run' = record { making = refl; entry = refl; old = on.sound.device.run.alike; new = run'.alike }
+      pub same : HasRun (flash_device e) → IsSame (flash_device d) (flash_device e)
+      same run' = record { reading = refl; numbers = refl; entry = refl; old = on.sound.device.run.alike; new = run'.alike }
 
-      pub started : HasRun e → AreStarted d e
-      started run' = record { same = same run'; old = on.started; new = on.started }
+      pub started : HasRun (flash_device e) → AreStarted d e
+      started run' = record { same = same run'; making = refl; old = on.started; new = on.started }
 
       pub faults : e.faults ≤ last_count
       faults = few_faults answer s.faults on.sound.device.faults
 
       -- whatever it leaves, a worn-out device stays so
-      pub worn_by : IsTrue (is_program op) → ((old new : List ℕ) → MayLeave op old new → IsOfLastGeneration m old → IsOfLastGeneration m new) → KeepsWorn op d e
-      worn_by program stays since is = (
+      pub worn_by : IsTrue (is_program op) → ((old new : List ℕ) → MayLeave op old new → IsOfLastGeneration m old → IsOfLastGeneration m new) → KeepsWorn op (flash_device d) (flash_device e)
+      worn_by program stays n since is = (
         program,
-        each_told f.flash.bytes (IsOfLastGeneration m) (λ new at.
+        each_told f.flash.bytes (λ (x : List ℕ). IsTrue (is_of_last_generation m x)) (λ new at.
             (let before = before_told s.fls.flash.bytes f.flash.bytes op answer new asked.bytes at in
-            stays before.0 new (left before.0 new before.1 at).0 (told_at s.fls.flash.bytes (IsOfLastGeneration m) before.0 before.1 (on.sound.device.run.worn since is).last))),
+            let was = (last_generations_compute m before.0).0 (told_at s.fls.flash.bytes (λ (x : List ℕ). IsTrue (is_of_last_generation m x)) before.0 before.1 (on.sound.device.run.worn n since is).last) in
+            (last_generations_compute m new).1 (stays before.0 new (left before.0 new before.1 at).0 was))),
       )

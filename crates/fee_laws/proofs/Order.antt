@@ -14,8 +14,7 @@ use Rattle.fee_log.specs.declared.tail.Tail.{Tail}
 use Rattle.fee_log.specs.declared.tail.Tail.TheVariants as tail
 use Rattle.promise_device.specs.Making.{Making, banks_of}
 use Rattle.fee_told.specs.Slots.{slots_found}
-use Rattle.fee_told.specs.Device.{Device, tells, told_of, slots_in}
-use Rattle.fee_told.specs.Clock.{clock_of}
+use Rattle.fee_told.specs.Device.{Device, tells, told_of, slots_in, clock_of}
 use Rattle.fee_told.specs.Figures.{figures_for, wait_of, turns_owed}
 use Rattle.fee_told.specs.FigureLaws.{IsWork}
 use Rattle.fee_told.proofs.Figures.{left_fits, left_is_bounded, ready_is_kept}

@@ -37,7 +37,7 @@ use Rattle.fee_told.specs.Appends.{TakesRecord as TakesNext, IsAppending as IsAp
 use Rattle.fee_told.specs.Kept.{with_log}
 use Rattle.fee_told.specs.Whole.{CutsKeep, IsKeptSo}
 use Rattle.fee_told.proofs.Appends.{appends_fail as told_appends_fail}
-use Rattle.fee_told.proofs.Parts.{programs_keep_last}
+use Rattle.fee_told.proofs.Programs.{programs_keep_last}
 use Rattle.fee_laws.specs.Inside.{Parts, device_of, memory_of, body_of, IsActiveOf, IsAtWork}
 use Rattle.fee_laws.specs.Record.{IsInWork}
 use Rattle.fee_laws.specs.Turn.{IsOn}

@@ -30,8 +30,8 @@ use Rattle.fee_switch.specs.declared.active.ActiveBank.{ActiveBank}
 use Rattle.fee_switch_laws.specs.Shown.{old_shown}
 use Rattle.promise_device.specs.Making.{Making, banks_of}
 use Rattle.fee_told.specs.Slots.{job_leaves, settled_in, slots_found, slots_held}
+use Rattle.fls_told.proofs.Parts.{rose_more}
 use Rattle.fee_told.specs.Device.{slots_in}
-use Rattle.fee_told.proofs.Parts.{rose_more}
 use Rattle.fee_laws.specs.declared.job.FeeJob.{FeeJob}
 use Rattle.fee_laws.specs.Inside.{Parts, body_of, device_of, memory_of}
 use Rattle.fee_laws.specs.Record.{IsJobOf, IsLengthOf}

@@ -28,8 +28,7 @@ use Rattle.fee_switch_laws.specs.Shown.{old_shown}
 use Rattle.promise_device.specs.Making.{Making, banks_of}
 use Rattle.fee_told.specs.Slots.{Memory, HasJob, job_leaves, left_by, slots_found, slots_with, settled_in}
 use Rattle.fee_told.specs.SlotLaws.{IsHeld}
-use Rattle.fee_told.specs.Device.{Device, tells, told_of, slots_in}
-use Rattle.fee_told.specs.Clock.{clock_of}
+use Rattle.fee_told.specs.Device.{Device, tells, told_of, slots_in, clock_of}
 use Rattle.fee_told.specs.Figures.{ready_of, turns_of, left_of as turns_left}
 use Rattle.fee_told.proofs.Jobs.{jobs_change}
 use Rattle.fee_laws.specs.declared.job.FeeJob.{FeeJob}
@@ -41,6 +40,7 @@ use Rattle.fee_laws.specs.Turn.{Turned}
 use Rattle.fee_laws.specs.Reads.{IsReading}
 use Rattle.fee_laws.proofs.Before.{power, lengths, legal, copied, held_at, now_at, each_now}
 use Rattle.fee_laws.proofs.Order.{urgent_is, tells_by}
+use Rattle.fee_laws.proofs.Heads.{not_read}
 use Rattle.fee_laws.proofs.Marks.{same_with}
 use Rattle.fee_laws.proofs.Appended.{IsShaped, resting_work, idle_at_work}
 use Rattle.fee_laws.proofs.GoneOn.{if_else}
@@ -53,7 +53,7 @@ idle_by s job j None open' op work = refl
 idle_by s job j (Some r) open' op work =
     let is = work.is_open in
     let same : work.of ≡ j = cc (is, open') in
-    absurd (work.writes (ap (λ (x : FeeJob). x.op) same ∙ op))
+    absurd (not_read work.of.op r.kind work.writes (ap (λ (x : FeeJob). x.op) same ∙ op))
 
 -- an ended job has no record in work
 pub has_none : (ns : List (DeviceNumber × ℕ)) (o : Option ActiveBank) (log : LogState) (t : Tail) (body given : List ℕ) (result : JobResult) → work_in t ≡ None → HasJob ns (Ended result given) (old_shown o (record log { tail = t }) body)

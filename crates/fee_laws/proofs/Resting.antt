@@ -12,8 +12,7 @@ use Rattle.fee_log.specs.Log.{work_in}
 use Rattle.fee_switch.specs.Banks.{BanksState}
 use Rattle.fee_switch_laws.specs.Shown.{phase_shown}
 use Rattle.promise_device.specs.Making.{Making}
-use Rattle.fee_told.specs.Device.{is_switching, told_of}
-use Rattle.fee_told.specs.Clock.{clock_of}
+use Rattle.fee_told.specs.Device.{is_switching, told_of, clock_of}
 use Rattle.fee_laws.specs.declared.job.FeeJob.{FeeJob}
 use Rattle.fee_laws.specs.Inside.{Parts, body_of, device_of, memory_of, stand_of, fixed_in, IsSound}
 use Rattle.fee_laws.specs.Rests.{IdleTurns, OffTurns}

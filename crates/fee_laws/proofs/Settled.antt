@@ -56,56 +56,56 @@ later low number settled x xs m k ms next less is = record {
 -- a record that is noted is its number's
 abbrev pub Notes : RecHead → List (DeviceNumber × ℕ) → Type 0
 Notes h [] = Unit {0}
-Notes h (x ∷ xs) = (fits x.0.0 x.1 h ≡ (x.0.0 == h.number)) × Notes h xs
+Notes h (x ∷ xs) = (fits x.0.0 x.1 h ≡ (x.0.0 == h.number.0)) × Notes h xs
 
-differs_by : (x : DeviceNumber × ℕ) (h : RecHead) → x.0.0 ≢ h.number → fits x.0.0 x.1 h ≡ (x.0.0 == h.number)
-differs_by x h differs = rw (not_fits x.0.0 x.1 h (λ same. differs (sym same)), ne_eqb x.0.0 h.number differs) refl
+differs_by : (x : DeviceNumber × ℕ) (h : RecHead) → x.0.0 ≢ h.number.0 → fits x.0.0 x.1 h ≡ (x.0.0 == h.number.0)
+differs_by x h differs = rw (not_fits x.0.0 x.1 h (λ same. differs (sym same)), ne_eqb x.0.0 h.number.0 differs) refl
 
-notes_above : (low : ℕ) (h : RecHead) (ns : List (DeviceNumber × ℕ)) → AreLengths low ns → h.number ≤ low → Notes h ns
+notes_above : (low : ℕ) (h : RecHead) (ns : List (DeviceNumber × ℕ)) → AreLengths low ns → h.number.0 ≤ low → Notes h ns
 notes_above low h [] are le = tt
 notes_above low h (x ∷ xs) are le =
     let more = are.0 in
     (differs_by x h (λ same. omega (arith, more, same, le)), notes_above x.0.0 h xs are.4 (omega (arith, more, le)))
 
-pub notes : (low : ℕ) (h : RecHead) (size : ℕ) (ns : List (DeviceNumber × ℕ)) → AreLengths low ns → length_of ns h.number ≡ Some size → fits h.number size h ≡ true → Notes h ns
+pub notes : (low : ℕ) (h : RecHead) (size : ℕ) (ns : List (DeviceNumber × ℕ)) → AreLengths low ns → length_of ns h.number.0 ≡ Some size → fits h.number.0 size h ≡ true → Notes h ns
 notes low h size [] are is fit = tt
-notes low h size (x ∷ xs) are is fit = by_test (λ at. notes x.0.0 h size xs are.4 at fit) (x.0.0 == h.number) refl is
+notes low h size (x ∷ xs) are is fit = by_test (λ at. notes x.0.0 h size xs are.4 at fit) (x.0.0 == h.number.0) refl is
   where
-    by_test : (length_of xs h.number ≡ Some size → Notes h xs) → (b : Bool) → (x.0.0 == h.number) ≡ b → (if b then Some x.1 else length_of xs h.number) ≡ Some size → Notes h (x ∷ xs)
+    by_test : (length_of xs h.number.0 ≡ Some size → Notes h xs) → (b : Bool) → (x.0.0 == h.number.0) ≡ b → (if b then Some x.1 else length_of xs h.number.0) ≡ Some size → Notes h (x ∷ xs)
     by_test rest true e is =
-        let same : x.0.0 ≡ h.number = eqb-true x.0.0 h.number e in
+        let same : x.0.0 ≡ h.number.0 = eqb-true x.0.0 h.number.0 e in
         let one : x.1 ≡ size = cc is in
         ((λ i. fits (same i) (one i) h) ∙ fit ∙ sym e, notes_above x.0.0 h xs are.4 (omega (arith, same)))
-    by_test rest false e is = (differs_by x h (eqb-false x.0.0 h.number e), rest is)
+    by_test rest false e is = (differs_by x h (eqb-false x.0.0 h.number.0 e), rest is)
 
 -- one flag, behind a record that is noted for its number alone
-flag_then : (low : ℕ) (h : RecHead) (settled : Held) (x : DeviceNumber × ℕ) (xs : List (DeviceNumber × ℕ)) (p q : Place) (c : Bool) (m k : Held) (ms next : List Held) → low < x.0.0 → true ≡ is_written q → fits x.0.0 x.1 h ≡ (x.0.0 == h.number)
-    → SettlesOne low h.number settled (x ∷ xs) (m ∷ ms) (k ∷ next)
+flag_then : (low : ℕ) (h : RecHead) (settled : Held) (x : DeviceNumber × ℕ) (xs : List (DeviceNumber × ℕ)) (p q : Place) (c : Bool) (m k : Held) (ms next : List Held) → low < x.0.0 → true ≡ is_written q → fits x.0.0 x.1 h ≡ (x.0.0 == h.number.0)
+    → SettlesOne low h.number.0 settled (x ∷ xs) (m ∷ ms) (k ∷ next)
     → record { number = x.0.0; length = x.1; copied = c; written = is_written (if fits x.0.0 x.1 h then q else p); settled = k }
-    ≡ (let f : Flag = record { number = x.0.0; length = x.1; copied = c; written = is_written p; settled = m } in if x.0.0 == h.number then record f { written = true; settled = settled } else f)
-flag_then low h settled x xs p q c m k ms next less new fit is = by_test (fits x.0.0 x.1 h) (x.0.0 == h.number) refl fit
+    ≡ (let f : Flag = record { number = x.0.0; length = x.1; copied = c; written = is_written p; settled = m } in if x.0.0 == h.number.0 then record f { written = true; settled = settled } else f)
+flag_then low h settled x xs p q c m k ms next less new fit is = by_test (fits x.0.0 x.1 h) (x.0.0 == h.number.0) refl fit
   where
-    by_test : (a b : Bool) → (x.0.0 == h.number) ≡ b → a ≡ b → record { number = x.0.0; length = x.1; copied = c; written = is_written (if a then q else p); settled = k }
+    by_test : (a b : Bool) → (x.0.0 == h.number.0) ≡ b → a ≡ b → record { number = x.0.0; length = x.1; copied = c; written = is_written (if a then q else p); settled = k }
         ≡ (let f : Flag = record { number = x.0.0; length = x.1; copied = c; written = is_written p; settled = m } in if b then record f { written = true; settled = settled } else f)
     by_test true true e both =
-        let same : x.0.0 ≡ h.number = eqb-true x.0.0 h.number e in
+        let same : x.0.0 ≡ h.number.0 = eqb-true x.0.0 h.number.0 e in
         let path : k ≡ settled = sym (head_at x xs k next) ∙ ap (at (x ∷ xs) (k ∷ next)) same ∙ is.one (omega (arith, less, same)) in
         λ i. record { number = x.0.0; length = x.1; copied = c; written = sym new i; settled = path i }
     by_test false false e both =
-        let path : k ≡ m = sym (head_at x xs k next) ∙ is.others x.0.0 less (eqb-false x.0.0 h.number e) ∙ head_at x xs m ms in
+        let path : k ≡ m = sym (head_at x xs k next) ∙ is.others x.0.0 less (eqb-false x.0.0 h.number.0 e) ∙ head_at x xs m ms in
         λ i. record { number = x.0.0; length = x.1; copied = c; written = is_written p; settled = path i }
     by_test true false e both = cc both
     by_test false true e both = cc both
 
 pub flags_settled : (low : ℕ) (h : RecHead) (end : ℕ) (settled : Held) (ns : List (DeviceNumber × ℕ)) (ps : List Place) (flags : List Bool) (ms next : List Held) → AreLengths low ns → Notes h ns → length ms ≡ length ns → length next ≡ length ns
-    → SettlesOne low h.number settled ns ms next → flags_of ns (noted ns ps end h) flags next ≡ settled_at h.number settled (flags_of ns ps flags ms)
+    → SettlesOne low h.number.0 settled ns ms next → flags_of ns (noted ns ps end h) flags next ≡ settled_at h.number.0 settled (flags_of ns ps flags ms)
 flags_settled low h end settled [] ps flags ms next are fit a b is = refl
 flags_settled low h end settled (x ∷ xs) [] flags ms next are fit a b is = refl
 flags_settled low h end settled (x ∷ xs) (p ∷ ps) [] ms next are fit a b is = refl
 flags_settled low h end settled (x ∷ xs) (p ∷ ps) (c ∷ flags) [] next are fit a b is = absurd (omega (arith, a))
 flags_settled low h end settled (x ∷ xs) (p ∷ ps) (c ∷ flags) (m ∷ ms) [] are fit a b is = absurd (omega (arith, b))
 flags_settled low h end settled (x ∷ xs) (p ∷ ps) (c ∷ flags) (m ∷ ms) (k ∷ next) are fit a b is =
-    let rest = flags_settled x.0.0 h end settled xs ps flags ms next are.4 fit.1 (omega (arith, a)) (omega (arith, b)) (later low h.number settled x xs m k ms next are.0 is) in
+    let rest = flags_settled x.0.0 h end settled xs ps flags ms next are.4 fit.1 (omega (arith, a)) (omega (arith, b)) (later low h.number.0 settled x xs m k ms next are.0 is) in
     λ i. flag_then low h settled x xs p (place_at end h) c m k ms next are.0 (is_placed h end) fit.0 is i ∷ rest i
 
 -- as their slots say
@@ -170,20 +170,20 @@ settles_open number n settled (f ∷ fs) open' = (
   settles_open number n settled fs open'.1,
 )
 
-settles_copies : (h : RecHead) (body : List ℕ) (n : ℕ) (settled : Held) (fs : List Flag) → h.number ≢ n → Each (Copies h body) fs → Each (Copies h body) (settled_at n settled fs)
+settles_copies : (h : RecHead) (body : List ℕ) (n : ℕ) (settled : Held) (fs : List Flag) → h.number.0 ≢ n → Each (Copies h body) fs → Each (Copies h body) (settled_at n settled fs)
 settles_copies h body n settled [] differs copies = tt
 settles_copies h body n settled (f ∷ fs) differs copies = (
   cond_both (f.number == n) (record f { written = true; settled = settled }) f (Copies h body)
-      (λ e same. absurd (differs (sym (eqb-true f.number h.number same) ∙ eqb-true f.number n e))) (λ e. copies.0),
+      (λ e same. absurd (differs (sym (eqb-true f.number h.number.0 same) ∙ eqb-true f.number n e))) (λ e. copies.0),
   settles_copies h body n settled fs differs copies.1,
 )
 
 -- a copy of another number, or one that sets no flag, goes on
-pub settles_in : (sets : Bool) (work : Option RecHead) (buffer : List ℕ) (n : ℕ) (settled : Held) (fs : List Flag) → (sets ≡ true → IfSome work (λ h. h.number ≢ n))
+pub settles_in : (sets : Bool) (work : Option RecHead) (buffer : List ℕ) (n : ℕ) (settled : Held) (fs : List Flag) → (sets ≡ true → IfSome work (λ h. h.number.0 ≢ n))
     → IsCopyIn sets work buffer fs → IsCopyIn sets work buffer (settled_at n settled fs)
 settles_in sets None buffer n settled fs differs copy = tt
-settles_in true (Some h) buffer n settled fs differs copy = (settles_copies h _ n settled fs (differs refl) copy.0, settles_open h.number n settled fs copy.1)
-settles_in false (Some h) buffer n settled fs differs copy = (settles_open h.number n settled fs copy.0, settles_open h.number n settled fs copy.1)
+settles_in true (Some h) buffer n settled fs differs copy = (settles_copies h _ n settled fs (differs refl) copy.0, settles_open h.number.0 n settled fs copy.1)
+settles_in false (Some h) buffer n settled fs differs copy = (settles_open h.number.0 n settled fs copy.0, settles_open h.number.0 n settled fs copy.1)
 
 -- where an append to its number changes nothing it sets none
 abbrev sets_of : Option Course → Bool

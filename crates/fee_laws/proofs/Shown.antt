@@ -10,6 +10,7 @@ use Rattle.memif.specs.Told.{more_writes, Stand, is_open, nothing_open}
 use Rattle.memif.specs.Calls.{is_read}
 use Rattle.fls_model.specs.Told.{Told}
 use Rattle.fee_format.specs.declared.rec_head.RecHead.{RecHead}
+use Rattle.fee_format.specs.declared.rec_head.RecordKind.{RecordKind}
 use Rattle.fee_image.specs.RecordList.{pages_of_head}
 use Rattle.fee_image.specs.Log.{Log, Writes as LogWrites}
 use Rattle.fee_image.specs.Banks.{OldBank}
@@ -26,10 +27,10 @@ use Rattle.fee_told.specs.Kept.{with_log}
 use Rattle.fee_image.specs.May.{held_written}
 use Rattle.fee_laws.specs.declared.job.FeeJob.{FeeJob}
 use Rattle.fee_laws.specs.Inside.{Parts, body_of, device_of, mark_of, stand_of}
-use Rattle.fee_laws.specs.Record.{IsJobOf, IsLengthOf, head_of}
+use Rattle.fee_laws.specs.Record.{IsJobOf, IsLengthOf, head_of, kind_of}
 use Rattle.fee_laws.specs.Work.{pages_of_op}
 use Rattle.fee_laws.specs.Turn.{IsOn}
-use Rattle.fee_laws.proofs.Heads.{IsAmong, among, mark_is, head_with}
+use Rattle.fee_laws.proofs.Heads.{IsAmong, among, mark_is, head_with, not_read}
 use Rattle.fee_laws.proofs.Marks.{counted_by}
 use Rattle.fee_laws.proofs.Tails.{shown}
 use Rattle.fee_laws.proofs.Page.{at_work, h, work_is, in_work, a, active_is, body, mem}
@@ -49,11 +50,11 @@ few_by Write length of few fits = omega arith
 few_by Invalidate length of few fits = omega arith
 few_by Erase length of few fits = omega arith
 
-pub pages_by : (p : ℕ) (op : DeviceOp) (number length of count : ℕ) → op ≢ Read → IsLengthOf op length of → pages_of_head p (head_with op number length count) ≡ pages_of_op p op length
-pages_by p Read number length of count writes fits = absurd (writes refl)
-pages_by p Write number length of count writes fits = refl
-pages_by p Invalidate number length of count writes fits = ap (λ (n : ℕ). record_pages_of n p) fits
-pages_by p Erase number length of count writes fits = ap (λ (n : ℕ). record_pages_of n p) fits
+pub pages_by : (p : ℕ) (op : DeviceOp) (kind : RecordKind) (number : DeviceNumber) (length of count : ℕ) → kind_of op ≡ Some kind → IsLengthOf op length of → pages_of_head p (head_with kind number length count) ≡ pages_of_op p op length
+pages_by p Read kind number length of count writes fits = cc writes
+pages_by p Write kind number length of count writes fits = refl
+pages_by p Invalidate kind number length of count writes fits = ap (λ (n : ℕ). record_pages_of n p) fits
+pages_by p Erase kind number length of count writes fits = ap (λ (n : ℕ). record_pages_of n p) fits
 
 module _ (m : Making) (entry : Told) (s : Parts) (listed : List (DeviceNumber × ℕ)) (kept count : ℕ) (on : IsOn m entry s listed kept count) (work : IsSome (work_in s.banks.log.tail)) where
   -- with another log, and where the jobs stand then
@@ -81,8 +82,11 @@ module _ (m : Making) (entry : Told) (s : Parts) (listed : List (DeviceNumber ×
   pub open_is : s.job ≡ Some j
   open_is = (in_work m entry s listed kept count on work).is_open
 
+  pub kind_is : kind_of j.op ≡ Some (h m entry s listed kept count on work).kind
+  kind_is = (in_work m entry s listed kept count on work).writes
+
   pub writes : j.op ≢ Read
-  writes = (in_work m entry s listed kept count on work).writes
+  writes = not_read j.op (h m entry s listed kept count on work).kind kind_is
 
   pub job_of : IsJobOf m.numbers j
   job_of = subst (λ (o : Option FeeJob). IfSome o (IsJobOf m.numbers)) open_is (at_work m entry s listed kept count on work).job
@@ -91,7 +95,7 @@ module _ (m : Making) (entry : Told) (s : Parts) (listed : List (DeviceNumber ×
   number = among 0 m.numbers j.number.0 job_of.length on.sound.made_for.space.lengths job_of.configured
 
   -- its header is that of the record in work
-  pub head_is : h m entry s listed kept count on work ≡ head_of s.banks.log j
+  pub head_is : h m entry s listed kept count on work ≡ head_of s.banks.log (h m entry s listed kept count on work).kind j
   head_is = (in_work m entry s listed kept count on work).head
 
   pub few : (h m entry s listed kept count on work).length ≤ length s.content
@@ -109,7 +113,7 @@ module _ (m : Making) (entry : Told) (s : Parts) (listed : List (DeviceNumber ×
   -- with its mark, where it stands open
   pub mark : mark_of j.op (take j.length s.content) ≡ Some (held_written (h m entry s listed kept count on work) (body m entry s listed kept count on work)).mark
   mark =
-      mark_is j.op j.number.0 j.length (head_of s.banks.log j).count s.content writes
+      mark_is j.op (h m entry s listed kept count on work).kind j.number j.length (head_of s.banks.log (h m entry s listed kept count on work).kind j).count s.content kind_is
       ∙ (λ i. Some (held_written (sym head_is i) (sym body_is i)).mark)
 
   abbrev at : Option FeeJob → Stand
@@ -122,17 +126,17 @@ module _ (m : Making) (entry : Told) (s : Parts) (listed : List (DeviceNumber ×
   no_read = subst (λ (o : Option FeeJob). is_read (at o) ≡ false) (sym open_is) (ap (λ (o : Option Mark). is_none o) mark)
 
   -- and counts one more than its number has
-  pub counted : (h m entry s listed kept count on work).count ≡ more_writes 1 (writes_of m.numbers s.banks.log.places (h m entry s listed kept count on work).number)
+  pub counted : (h m entry s listed kept count on work).count ≡ more_writes 1 (writes_of m.numbers s.banks.log.places (h m entry s listed kept count on work).number.0)
   counted =
       ap (λ (r : RecHead). r.count) head_is
       ∙ counted_by s.banks.log.numbers m.numbers s.banks.log.places j.number.0 on.sound.made_for.numbers
-      ∙ ap (λ (r : RecHead). more_writes 1 (writes_of m.numbers s.banks.log.places r.number)) (sym head_is)
+      ∙ ap (λ (r : RecHead). more_writes 1 (writes_of m.numbers s.banks.log.places r.number.0)) (sym head_is)
 
   pub work_of_job : (done : ℕ) → IsWorkOf m.numbers s.banks.log.places (stand_of s.content s.job s.last s.given) (LogWrites (h m entry s listed kept count on work) (body m entry s listed kept count on work) done)
   work_of_job done =
       subst (λ (o : Option FeeJob). IsWorkOf m.numbers s.banks.log.places (stand_of s.content o s.last s.given) (LogWrites (h m entry s listed kept count on work) (body m entry s listed kept count on work) done)) (sym open_is)
-      (ap (λ (r : RecHead). r.number) (sym head_is), mark, counted)
+      (ap (λ (r : RecHead). r.number.0) (sym head_is), mark, counted)
 
   -- its pages
   pub pages : pages_of_head s.banks.geometry.page (h m entry s listed kept count on work) ≡ pages_of_op s.banks.geometry.page j.op j.length
-  pages = ap (λ (r : RecHead). pages_of_head s.banks.geometry.page r) head_is ∙ pages_by s.banks.geometry.page j.op j.number.0 j.length job_of.length (head_of s.banks.log j).count writes job_of.fits
+  pages = ap (λ (r : RecHead). pages_of_head s.banks.geometry.page r) head_is ∙ pages_by s.banks.geometry.page j.op (h m entry s listed kept count on work).kind j.number j.length job_of.length (head_of s.banks.log (h m entry s listed kept count on work).kind j).count kind_is job_of.fits

@@ -32,13 +32,20 @@ use Rattle.fee_switch.specs.Start.{IsLoadedAs}
 use Rattle.fee_switch.specs.Banks.{BanksState, FindsActive, LoadsActive}
 use Rattle.fee_switch_laws.specs.Shown.{old_shown, phase_shown}
 use Rattle.promise_device.specs.Making.{Making, banks_of}
+use Rattle.promise_device.specs.Bridge.{reading_of}
 use Rattle.promise_device.specs.Image.{IsSoundFlash}
+use Rattle.promise_device.proofs.Readings.{sound_flashes_compute}
 use Rattle.fee_told.specs.Slots.{Memory, slots_held, slots_found, held_of, banks_with, may_told}
 use Rattle.fee_told.specs.SlotLaws.{IsStarted, IsHeld}
-use Rattle.fee_told.specs.Device.{Device, tells, told_of, part_of, slots_in, is_switching}
-use Rattle.fee_told.specs.Clock.{MakesNone, clock_of}
-use Rattle.fee_told.specs.Runs.{HasRun}
-use Rattle.fee_told.specs.Tells.{IsSame, was}
+use Rattle.fls_told.specs.Device.{flash_part, slot_with}
+use Rattle.fls_told.specs.Clock.{MakesNone}
+use Rattle.fls_told.specs.Runs.{HasRun}
+use Rattle.fls_told.specs.Tells.{IsSame}
+use Rattle.fls_told.proofs.Clocks.{clocks_stay}
+use Rattle.fls_told.proofs.Making.{runs_stay}
+use Rattle.fls_told.proofs.Parts.{parts_power}
+use Rattle.fls_told.proofs.Tells.{tells_start}
+use Rattle.fee_told.specs.Device.{Device, tells, told_of, slots_in, is_switching, clock_of, flash_device}
 use Rattle.fee_told.specs.Jobs.{MayStart, AreStarted}
 use Rattle.fee_told.specs.Whole.{HoldsBanks}
 use Rattle.fee_told.specs.Figures.{left_of}
@@ -47,13 +54,9 @@ use Rattle.fee_log.specs.Index.{clear_flags}
 use Rattle.fee_switch_laws.specs.Space.{HasSpace}
 use Rattle.fee_switch_laws.specs.KeepsRoom.{IsRoomy}
 use Rattle.fee_told.proofs.Kept.{same_places}
-use Rattle.fee_told.proofs.Clocks.{clocks_stay}
 use Rattle.fee_told.proofs.Held.{images_find}
 use Rattle.fee_told.proofs.Jobs.{banks_start as told_banks_start, no_bank_starts}
-use Rattle.fee_told.proofs.Making.{runs_stay}
-use Rattle.fee_told.proofs.Parts.{parts_power}
 use Rattle.fee_told.proofs.Steps.{places_tell, unstarted_find, unstarted_is_found}
-use Rattle.fee_told.proofs.Tells.{tells_start}
 use Rattle.fee_told.proofs.Whole.{held_finds_now, unstarted_finds_now}
 use Rattle.fee_laws.specs.Inside.{Parts, memory_of, body_of, device_of, IsMadeFor, IsDevice, IsSound, HoldsBehind, HasSwitch, IsAtWork, ShowsCopies}
 use Rattle.fee_laws.specs.Record.{IsInWork}
@@ -78,6 +81,10 @@ at_most a b c x y = omega (arith, x, y)
 pub same_bytes : (o : Option (List ℕ)) (x y : List ℕ) → o ≡ Some x → o ≡ Some y → x ≡ y
 same_bytes o x y a b = cc (a, b)
 
+-- a number that is settled at what was possible
+settled : {x y : Slot} → IsStarted x y → ComesFrom x y × (y.doubts ≡ [])
+settled is = (is.comes_from, is.clear)
+
 -- no job is open, nothing more may be copied
 none_copied : May
 none_copied number length = None
@@ -101,22 +108,22 @@ module _ (m : Making) (entry : Told) (s : Parts) (made : IsMadeFor m s) (is : Is
   shared : HasBanks m.geometry m.banks
   shared = subst (λ (g : Geometry). HasBanks g m.banks) are.geometry (subst (HasBanks b.geometry) are.shared are.state.shared)
 
-  none : MakesNone d t
-  none = record { making = refl; entry = refl; operations = refl; bytes = refl }
+  none : MakesNone (flash_device d) (flash_device t)
+  none = record { reading = refl; entry = refl; operations = refl; bytes = refl }
 
-  run : HasRun t
-  run = runs_stay d t is.run (record {
+  run : HasRun (flash_device t)
+  run = runs_stay (flash_device d) (flash_device t) is.run (record {
     none = none;
     bytes = refl;
     counts = (refl, refl);
     flash_faults = more;
     faults = were_counted entry.faults s.fls.flash.faults flash_faults s.faults faults more counted is.run.faults;
     cuts = is.run.cuts;
-    worn = λ since e. inl e;
+    worn = λ n since e. inl e;
   })
 
-  part : PowersUp (part_of d) (part_of t)
-  part = parts_power d t (record { off = refl; planning = refl; operations = refl; more = more; faults = counted; small = is.faults })
+  part : PowersUp (flash_part (flash_device d)) (flash_part (flash_device t))
+  part = parts_power (flash_device d) (flash_device t) (record { off = refl; planning = refl; operations = refl; more = more; faults = counted; small = is.faults })
 
   second : PowersUp no_part no_part
   second = record { only = refl; faults = record { faults = omega arith; flash = omega arith; tied = inl (omega arith) }; off = λ e. e }
@@ -136,7 +143,7 @@ module _ (m : Making) (entry : Told) (s : Parts) (made : IsMadeFor m s) (is : Is
       subst (λ (slots : List Slot). (n : ℕ) → IsPossible (slot_at m.numbers slots n) (held_of l m.numbers bytes n)) (sym (places_tell l m.numbers bytes h.behind d.memory h.places (sym h.stand))) found
   possible_by false e bytes at told = unstarted_is_found l m.numbers bytes
 
-  possible : (bytes : List ℕ) → bytes_now s.fls.flash ≡ Some bytes → IsTrue (tells d) → (n : ℕ) → IsPossible (was d bytes n) (held_of l m.numbers bytes n)
+  possible : (bytes : List ℕ) → bytes_now s.fls.flash ≡ Some bytes → IsTrue (tells d) → (n : ℕ) → IsPossible (slot_with (flash_device d) bytes n) (held_of l m.numbers bytes n)
   possible bytes at told = possible_by s.started refl bytes at told
 
   -- WHAT IT STARTS WITH
@@ -145,7 +152,7 @@ module _ (m : Making) (entry : Told) (s : Parts) (made : IsMadeFor m s) (is : Is
     lengths = lengths;
     legal = layouts_are_legal m.geometry m.banks legal shared;
     size = at_most (l.pages * l.page * l.banks) (length bytes) (size_of m.geometry) (banks_fill m.geometry m.banks legal shared).0 (now_at s.fls.flash.bytes (AreBytesOf m.geometry) bytes at made.bytes).size;
-    sound = sound_in m bytes (told_at s.fls.flash.bytes (λ (x : List ℕ). 0 < length x) bytes at some) (told_at s.fls.flash.bytes (IsSoundFlash m) bytes at (is.run.sound told));
+    sound = sound_in m bytes (told_at s.fls.flash.bytes (λ (x : List ℕ). 0 < length x) bytes at some) ((sound_flashes_compute m bytes).0 (told_at s.fls.flash.bytes (λ (x : List ℕ). IsTrue ((reading_of m).is_sound x)) bytes at (is.run.sound told)));
     target_in = omega (arith, are.state.target, are.shared);
     possible = possible bytes at told;
     shut = refl;
@@ -195,8 +202,8 @@ module _ (m : Making) (entry : Told) (s : Parts) (made : IsMadeFor m s) (is : Is
   at_work x closed rdy = record { active = rdy.active; job = tt; work = no_work (work_in b.log.tail) rdy.idle; ready = tt; switch = no_switch b.course closed rdy.clear }
 
   -- WHAT IS TOLD
-  same : IsSame d t
-  same = record { making = refl; entry = refl; old = is.run.alike; new = run.alike }
+  same : IsSame (flash_device d) (flash_device t)
+  same = record { reading = refl; numbers = refl; entry = refl; old = is.run.alike; new = run.alike }
 
   off_now : ready && is_switching (memory_of u).phase ≡ false
   off_now = ap (λ (phase : Phase). ready && is_switching phase) idle ∙ by_test ready
@@ -212,7 +219,7 @@ module _ (m : Making) (entry : Told) (s : Parts) (made : IsMadeFor m s) (is : Is
   only = λ i. record (told_of t) { switching = off_now i; left = left_now i }
 
   pub starts_up_as : FindsNow (told_of t) (clock_of t) → ClockStays (clock_of d) (told_of t) (clock_of t)
-  starts_up_as now = record { same = clocks_stay d t none refl; order = at_rest m entry u are.closed now }
+  starts_up_as now = record { same = clocks_stay (flash_device d) (flash_device t) none (λ n. refl); order = at_rest m entry u are.closed now }
 
   unplanned : (s.fls.flash.planning.unplanned + entry.cuts ≤ entry.planning.unplanned + s.fls.flash.cuts) ⊎ (last_count ≤ s.fls.flash.cuts) → ((dropped s.fls.flash.planning).unplanned + entry.cuts ≤ entry.planning.unplanned + s.fls.flash.cuts) ⊎ (last_count ≤ s.fls.flash.cuts)
   unplanned since = since
@@ -271,8 +278,8 @@ module _ (m : Making) (entry : Told) (s : Parts) (made : IsMadeFor m s) (is : Is
     ready_now = held_finds_now ready_device none_copied ready_holds
 
     ready_each : EachNumber (λ n x y. ComesFrom x y) (told_of (device_of m entry s)) (told_of ready_device) × EachNumber (λ n x y. y.doubts ≡ []) (told_of (device_of m entry s)) (told_of ready_device)
-    ready_each = tells_start (device_of m entry s) ready_device (same m entry s made is lengths b are result s.fls.flash.faults true s.faults ready_more (inl refl)) (λ old new told n.
-        subst (λ (x : List ℕ). IsStarted (was (device_of m entry s) old n) (was ready_device x n)) (same_bytes (bytes_now s.fls.flash) old new told.1 told.2) ((banks_start old told.1 told.0).starts n))
+    ready_each = tells_start (flash_device (device_of m entry s)) (flash_device ready_device) (same m entry s made is lengths b are result s.fls.flash.faults true s.faults ready_more (inl refl)) (λ old new told n.
+        settled (subst (λ (x : List ℕ). IsStarted (slot_with (flash_device (device_of m entry s)) old n) (slot_with (flash_device ready_device) x n)) (same_bytes (bytes_now s.fls.flash) old new told.1 told.2) ((banks_start old told.1 told.0).starts n)))
 
     pub ready_starts : StartsUp (Ok tt) (told_of (device_of m entry s)) (clock_of (device_of m entry s)) (told_of ready_device) (clock_of ready_device)
     ready_starts = record {
@@ -306,9 +313,9 @@ module _ (m : Making) (entry : Told) (s : Parts) (made : IsMadeFor m s) (is : Is
     failed_now = unstarted_finds_now failed_device refl (some m entry s made is lengths b are result flash_faults false (next_count s.faults) risen (inr (refl, rose)))
 
     failed_each : EachNumber (λ n x y. ComesFrom x y) (told_of (device_of m entry s)) (told_of failed_device) × EachNumber (λ n x y. y.doubts ≡ []) (told_of (device_of m entry s)) (told_of failed_device)
-    failed_each = tells_start (device_of m entry s) failed_device (same m entry s made is lengths b are result flash_faults false (next_count s.faults) risen (inr (refl, rose))) (λ old new told n.
-        subst (λ (x : List ℕ). IsStarted (was (device_of m entry s) old n) (was failed_device x n)) (same_bytes (bytes_now s.fls.flash) old new told.1 told.2)
-        (unstarted_find (banks_of m) m.numbers old (slots_in (device_of m entry s) old) (possible m entry s made is lengths b are result flash_faults false (next_count s.faults) risen (inr (refl, rose)) old told.1 told.0) n))
+    failed_each = tells_start (flash_device (device_of m entry s)) (flash_device failed_device) (same m entry s made is lengths b are result flash_faults false (next_count s.faults) risen (inr (refl, rose))) (λ old new told n.
+        settled (subst (λ (x : List ℕ). IsStarted (slot_with (flash_device (device_of m entry s)) old n) (slot_with (flash_device failed_device) x n)) (same_bytes (bytes_now s.fls.flash) old new told.1 told.2)
+        (unstarted_find (banks_of m) m.numbers old (slots_in (device_of m entry s) old) (possible m entry s made is lengths b are result flash_faults false (next_count s.faults) risen (inr (refl, rose)) old told.1 told.0) n)))
 
     pub failed_starts : StartsUp (Err Fault) (told_of (device_of m entry s)) (clock_of (device_of m entry s)) (told_of failed_device) (clock_of failed_device)
     failed_starts = record {

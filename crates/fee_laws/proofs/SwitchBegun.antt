@@ -24,11 +24,10 @@ use Rattle.fee_switch_laws.proofs.RoomSteps.{begins_keep_room}
 use Rattle.promise_device.specs.Making.{Making, banks_of}
 use Rattle.fee_told.specs.Slots.{Memory, slots_found}
 use Rattle.fee_told.specs.SlotLaws.{IsHeld, SamePlaces}
-use Rattle.fee_told.specs.Device.{Device, tells, told_of, slots_in}
-use Rattle.fee_told.specs.Clock.{clock_of}
+use Rattle.fls_told.proofs.Clocks.{clocks_stay}
+use Rattle.fee_told.specs.Device.{Device, tells, told_of, slots_in, clock_of, flash_device}
 use Rattle.fee_told.specs.Figures.{Work, ready_of, wait_of}
 use Rattle.fee_told.proofs.Kept.{same_places}
-use Rattle.fee_told.proofs.Clocks.{clocks_stay}
 use Rattle.fee_told.proofs.Steps.{places_tell}
 use Rattle.fee_told.proofs.Switches.{switches_begin as told_switches_begin}
 use Rattle.fee_laws.specs.declared.job.FeeJob.{FeeJob}
@@ -128,14 +127,14 @@ module _ (m : Making) (entry : Told) (s : Parts) (listed : List (DeviceNumber ×
       record { held = held_then bytes more (copied_of (flags_in m t bytes)) (held_at m entry s listed kept count on bytes at told); copy = tt })
 
   -- THE SWITCH
-  pages_are : pages_of_head p (head_of s.banks.log j) ≡ pages_of_op p j.op j.length
-  pages_are = pages_by p j.op j.number.0 j.length job_of.length (head_of s.banks.log j).count may.writes job_of.fits
+  pages_are : pages_of_head p (head_of s.banks.log may.kind j) ≡ pages_of_op p j.op j.length
+  pages_are = pages_by p j.op may.kind j.number j.length job_of.length (head_of s.banks.log may.kind j).count may.writes job_of.fits
 
-  full : has_room j.urgent (pages_of_head p (head_of s.banks.log j)) m.reserve (free_pages s.banks) ≡ false
+  full : has_room j.urgent (pages_of_head p (head_of s.banks.log may.kind j)) m.reserve (free_pages s.banks) ≡ false
   full = ap (λ (n : ℕ). has_room j.urgent n m.reserve (free_pages s.banks)) pages_are ∙ may.full
 
   room_on : KeepsRoom m.reserve t.banks
-  room_on = begins_keep_room m.reserve s.banks (head_of s.banks.log j) j.urgent on.banks (on.sound.room on.started (power m entry s listed kept count on)) may.idle may.worn may.configured full
+  room_on = begins_keep_room m.reserve s.banks (head_of s.banks.log may.kind j) j.urgent on.banks (on.sound.room on.started (power m entry s listed kept count on)) may.idle may.worn may.configured full
 
   switch_on : HasSwitch t.banks (Some (Erase 0))
   switch_on = (may.worn, room_on.switch.going)
@@ -219,7 +218,7 @@ module _ (m : Making) (entry : Told) (s : Parts) (listed : List (DeviceNumber ×
     left = left_few;
     job = subst (λ (o : Option FeeJob). is_open (stand_of s.content o s.last s.given) ≡ true) (sym may.job) refl;
     on = (power m entry s listed kept count on, refl);
-    same = clocks_stay d e (makes_none m entry s listed kept count on t none) refl;
+    same = clocks_stay (flash_device d) (flash_device e) (makes_none m entry s listed kept count on t none) (λ n. refl);
   }
 
   pub sound : IsSound m entry t listed kept count false

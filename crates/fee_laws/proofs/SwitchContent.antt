@@ -27,7 +27,7 @@ use Rattle.promise_device.specs.Making.{Making, banks_of}
 use Rattle.fee_told.specs.Slots.{Memory, settled_in}
 use Rattle.fee_told.specs.Kept.{IsKept}
 use Rattle.fee_told.proofs.Switches.{copies_fail}
-use Rattle.fee_told.proofs.Parts.{rose_more}
+use Rattle.fls_told.proofs.Parts.{rose_more}
 use Rattle.fee_told.proofs.Slots.{keeps_same}
 use Rattle.fee_laws.specs.Copied.{flags_of, IsCopying}
 use Rattle.fee_laws.specs.Inside.{Parts, memory_of, body_of, flags_in, ShowsCopies, stand_of}
@@ -99,17 +99,17 @@ module _ (m : Making) (entry : Told) (s : Parts) (listed : List (DeviceNumber ×
   at = content.0
 
   abbrev pub copy : RecHead
-  copy = record { number = num.0; kind = kind.Content; length = src.length; count = content.1 }
+  copy = record { number = num; kind = kind.Content; length = src.length; count = content.1 }
 
   abbrev head : RecHead
   head = h m entry s listed kept count made answer f is
 
   pub head_is : head ≡ copy
-  head_is = ap (λ (p : Place). head_at p num.0 src.length) content.2
+  head_is = ap (λ (p : Place). head_at p num src.length) content.2
 
   pub begins : IsRead (address_of_page s.banks.geometry s.banks.banks s.banks.log.bank (at + 2)) s.fls.flash (take src.length s.banks.buffer) answer (take src.length made.buffer) f.flash
       × (made ≡ record s.banks { copies = begun_where answer s.banks.copies copy; buffer = made.buffer })
-  begins = subst (λ (p : Place). BeginsAt p s.banks num.0 src.length s.fls.flash answer made f.flash) content.2 (begins_at m entry s listed kept count made answer f is)
+  begins = subst (λ (p : Place). BeginsAt p s.banks num src.length s.fls.flash answer made f.flash) content.2 (begins_at m entry s listed kept count made answer f is)
 
   abbrev l : Layout
   l = banks_of m
@@ -172,9 +172,9 @@ module _ (m : Making) (entry : Told) (s : Parts) (listed : List (DeviceNumber ×
           let whole' : length (take src.length made.buffer) ≡ src.length = length-take-le src.length made.buffer few in
           let is_read : take head.length made.buffer ≡ piece (address_of_page m.geometry m.banks x.active.bank (at + 2)) src.length old =
           (λ i. take (length_is i) made.buffer) ∙ read_in old now ∙ (λ i. piece (address_of_page (geo' i) (banks_are' i) (bank_is i) (at + 2)) (whole' i) old) in
-          let writes = subst (λ (p : Place). held_written (head_at p num.0 src.length) (take head.length made.buffer) ≡ held_at bank' old src.length p) (sym content.2) (λ i. record { mark = mark.Content (is_read i); count = content.1 }) in
+          let writes = subst (λ (p : Place). held_written (head_at p num src.length) (take head.length made.buffer) ≡ held_at bank' old src.length p) (sym content.2) (λ i. record { mark = mark.Content (is_read i); count = content.1 }) in
           subst (λ (ns : List (DeviceNumber × ℕ)). Each (Copies head (take head.length made.buffer)) (flags_of ns s.banks.log.places s.banks.log.flags (settled_in l ns old mem.old))) is.on.sound.made_for.numbers
-          (found_copies bank' old (take head.length made.buffer) src.place src.length num.0 (flags_of s.banks.log.numbers s.banks.log.places s.banks.log.flags (settled_in l s.banks.log.numbers old mem.old)) x.left_in writes x.flags_in)
+          (found_copies bank' old (take head.length made.buffer) src.place src.length num (flags_of s.banks.log.numbers s.banks.log.places s.banks.log.flags (settled_in l s.banks.log.numbers old mem.old)) x.left_in writes x.flags_in)
 
       pub copying_then : (old : List ℕ) → bytes_now s.fls.flash ≡ Some old → IsCopying next (work_in log_k.tail) made.buffer (flags_in m s old)
       copying_then old now =

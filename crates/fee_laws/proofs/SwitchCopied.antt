@@ -80,13 +80,13 @@ last_is done pages total sum = elim (cases_Bool (pages == 1)) [
 ]
 
 -- behind it what the target shows of its number
-settling_open : (h : RecHead) (body : List ℕ) (fs : List Flag) → IsOpenFor h.number fs → IsWider (settling (copied_of fs) h body) (copied_of fs)
+settling_open : (h : RecHead) (body : List ℕ) (fs : List Flag) → IsOpenFor h.number.0 fs → IsWider (settling (copied_of fs) h body) (copied_of fs)
 settling_open h body fs open' number length m among =
     by_fit (fits number length h) refl among
   where
     by_fit : (b : Bool) → fits number length h ≡ b → IsAmong (if b then Some (held_written h body ∷ []) else copied_of fs number length) m → IsAmong (copied_of fs number length) m
     by_fit false e among' = among'
-    by_fit true e among' = (let same : h.number ≡ number = eqb-true h.number number (both (h.number == number) (matches_length h.kind h.length length) e) in subst (λ (n : ℕ). IsAmong (copied_of fs n length) m) same (open_any h.number fs length m open'))
+    by_fit true e among' = (let same : h.number.0 ≡ number = eqb-true h.number.0 number (both (h.number.0 == number) (matches_length h.kind h.length length) e) in subst (λ (n : ℕ). IsAmong (copied_of fs n length) m) same (open_any h.number.0 fs length m open'))
       where
         both : (a b : Bool) → a && b ≡ true → a ≡ true
         both true b e = refl
@@ -96,7 +96,7 @@ abbrev marked_if : Bool → ℕ → List Flag → List Flag
 marked_if b number fs = if b then marked number fs else fs
 
 wider_by : (last sets : Bool) (h : RecHead) (body : List ℕ) (fs : List Flag) → CopiesOrNot sets h body fs
-    → IsWider (if last then settling (copied_of fs) h body else copied_of fs) (copied_of (marked_if (sets && last) h.number fs))
+    → IsWider (if last then settling (copied_of fs) h body else copied_of fs) (copied_of (marked_if (sets && last) h.number.0 fs))
 wider_by true true h body fs copies = marking_holds fs h body copies
 wider_by true false h body fs copies = settling_open h body fs copies
 wider_by false true h body fs copies = λ number length m among. among
@@ -204,8 +204,8 @@ module _ (m : Making) (entry : Told) (s : Parts) (listed : List (DeviceNumber ×
   abbrev sets_now : Bool
   sets_now = w.sets && (w.pages == 1)
 
-  set_is : set ≡ record s.banks.log { flags = if sets_now then with_flag s.banks.log.numbers s.banks.log.flags h.number true else s.banks.log.flags }
-  set_is = flag_set s.banks.log w.index (record { 0 = h.number }, here.length) sets_now here.named
+  set_is : set ≡ record s.banks.log { flags = if sets_now then with_flag s.banks.log.numbers s.banks.log.flags h.number.0 true else s.banks.log.flags }
+  set_is = flag_set s.banks.log w.index (h.number, here.length) sets_now here.named
 
   pub set_same : set ≡ record s.banks.log { flags = set.flags }
   set_same = set_is ∙ (λ i. record s.banks.log { flags = (sym set_is i).flags })
@@ -234,18 +234,18 @@ module _ (m : Making) (entry : Told) (s : Parts) (listed : List (DeviceNumber ×
   abbrev pub fs' : List ℕ → List Flag
   fs' bytes = flags_of m.numbers s.banks.log.places set.flags (settled_in l m.numbers bytes old')
 
-  flags_then : (old new : List ℕ) → ShowsCopies m s c old → MayLeave op old new → fs' new ≡ marked_if sets_now h.number (fs old)
+  flags_then : (old new : List ℕ) → ShowsCopies m s c old → MayLeave op old new → fs' new ≡ marked_if sets_now h.number.0 (fs old)
   flags_then old new shows leaves =
       let settled' = settled_same m entry s listed kept count c made answer f is op step (q m entry s listed kept count c made answer f is k body h done tail is.copies over small)
       (page m entry s listed kept count c made answer f is k body h done tail is.copies over small) op_is (size m entry s listed kept count c made answer f is k body h done tail is.copies over small)
       (inside m entry s listed kept count c made answer f is k body h done tail is.copies over small) old new (copied_of (fs old)) shows.held leaves in
       let held = settled_in l m.numbers old mem.old in
       let same : settled_in l m.numbers new old' ≡ held = ap (settled_in l m.numbers new) old_is ∙ settled' in
-      let set_flags : set.flags ≡ (if sets_now then with_flag m.numbers s.banks.log.flags h.number true else s.banks.log.flags) =
-      ap (λ (x : LogState). x.flags) set_is ∙ (λ i. if sets_now then with_flag (is.on.sound.made_for.numbers i) s.banks.log.flags h.number true else s.banks.log.flags) in
-      (λ i. flags_of m.numbers s.banks.log.places (set_flags i) (same i)) ∙ flags_if m.numbers s.banks.log.places s.banks.log.flags held h.number sets_now
+      let set_flags : set.flags ≡ (if sets_now then with_flag m.numbers s.banks.log.flags h.number.0 true else s.banks.log.flags) =
+      ap (λ (x : LogState). x.flags) set_is ∙ (λ i. if sets_now then with_flag (is.on.sound.made_for.numbers i) s.banks.log.flags h.number.0 true else s.banks.log.flags) in
+      (λ i. flags_of m.numbers s.banks.log.places (set_flags i) (same i)) ∙ flags_if m.numbers s.banks.log.places s.banks.log.flags held h.number.0 sets_now
 
-  copy_was : (old : List ℕ) → ShowsCopies m s c old → CopiesOrNot w.sets h (take h.length s.banks.buffer) (fs old) × IsOpenFor h.number (fs old)
+  copy_was : (old : List ℕ) → ShowsCopies m s c old → CopiesOrNot w.sets h (take h.length s.banks.buffer) (fs old) × IsOpenFor h.number.0 (fs old)
   copy_was old shows = subst (λ (o : Option RecHead). IsCopying c o s.banks.buffer (fs old)) work shows.copy
 
   may_is : (may : May) → may_done l.page may (log_of k body) ≡ (if w.pages == 1 then settling may h body else may)
@@ -262,8 +262,8 @@ module _ (m : Making) (entry : Told) (s : Parts) (listed : List (DeviceNumber ×
       let held_if = subst (λ (x : May). IsHeld l m.numbers new (record mem { phase = Copying N }) x) (may_is cop) first.held in
       let copies = subst (λ (x : List ℕ). CopiesOrNot w.sets h x (fs old)) (sym body_is) (copy_was old shows).0 in
       let wide = wider_by (w.pages == 1) w.sets h body (fs old) copies in
-      let held_wide = copies_widen l m.numbers new (record mem { phase = Copying N }) (if w.pages == 1 then settling cop h body else cop) (copied_of (marked_if sets_now h.number (fs old))) held_if wide tt in
-      let both : IsKept l m.numbers old new mem (record mem { phase = Copying N }) (copied_of (marked_if sets_now h.number (fs old))) = record { held = held_wide; keeps = first.keeps } in
+      let held_wide = copies_widen l m.numbers new (record mem { phase = Copying N }) (if w.pages == 1 then settling cop h body else cop) (copied_of (marked_if sets_now h.number.0 (fs old))) held_if wide tt in
+      let both : IsKept l m.numbers old new mem (record mem { phase = Copying N }) (copied_of (marked_if sets_now h.number.0 (fs old))) = record { held = held_wide; keeps = first.keeps } in
       subst (λ (x : Memory). IsKept l m.numbers old new mem x (copied_of (fs' new))) then_is
       (subst (λ (x : List Flag). IsKept l m.numbers old new mem (record mem { phase = Copying N }) (copied_of x)) (sym (flags_then old new shows leaves)) both)
 
@@ -277,7 +277,7 @@ module _ (m : Making) (entry : Told) (s : Parts) (listed : List (DeviceNumber ×
       (λ e. settled_copying set.numbers set.places set.flags (work_in (after_step k Done).tail) s.banks.buffer (fs' new))
       (λ e.
       (let none : sets_now ≡ false = ap (λ (b : Bool). w.sets && b) e ∙ and_false w.sets in
-      let same : fs' new ≡ fs old = flags_then old new shows leaves ∙ ap (λ (b : Bool). marked_if b h.number (fs old)) none in
+      let same : fs' new ≡ fs old = flags_then old new shows leaves ∙ ap (λ (b : Bool). marked_if b h.number.0 (fs old)) none in
       let on = work_on (same_last k.geometry.page (ap (λ (g : Geometry). g.page) is.on.banks.copies.shape) ∙ e) in
       subst (λ (x : List Flag). IsCopying (Copy (Some (record w { pages = w.pages - 1 }))) (work_in (after_step k Done).tail) s.banks.buffer x) (sym same)
       (subst (λ (o : Option RecHead). IsCopying (Copy (Some (record w { pages = w.pages - 1 }))) o s.banks.buffer (fs old)) (sym on) (copy_was old shows))))

@@ -15,8 +15,8 @@ use Rattle.fee_switch.specs.Banks.{BanksState}
 use Rattle.promise_device.specs.Making.{Making, banks_of}
 use Rattle.fee_image.specs.Banks.{Old}
 use Rattle.fee_told.specs.Slots.{Memory, HasJob}
-use Rattle.fee_told.specs.Device.{Device, tells, told_of}
-use Rattle.fee_told.specs.Runs.{HasRun}
+use Rattle.fls_told.specs.Runs.{HasRun}
+use Rattle.fee_told.specs.Device.{Device, tells, told_of, flash_device}
 use Rattle.fee_told.proofs.Kept.{same_places}
 use Rattle.fee_laws.specs.Inside.{Parts, device_of, IsAtWork, HasSwitch}
 use Rattle.fee_laws.specs.Record.{IsReady}
@@ -67,7 +67,7 @@ module _ (m : Making) (entry : Told) (s : Parts) (listed : List (DeviceNumber ×
   more_is : (old : List ℕ) → bytes_now s.fls.flash ≡ Some old → more ≡ copied_of (flags_in m s old)
   more_is old at = ap (may_in m s) at
 
-  run_then : HasRun e
+  run_then : HasRun (flash_device e)
   run_then = run_on m entry s listed kept count c made Off f is op step torn cutting b c is.course s.job s.last s.given
 
   behind_then : HoldsBehind e

@@ -22,14 +22,16 @@ use Rattle.fee_course.specs.declared.course.Course.{Course}
 use Rattle.fee_course.specs.declared.course.Course.TheVariants as course
 use Rattle.fee_switch.specs.Banks.{BanksState, left_of}
 use Rattle.fee_format.specs.declared.rec_head.RecHead.{RecHead}
+use Rattle.fee_format.specs.declared.rec_head.RecordKind.{RecordKind}
+use Rattle.fee_format.specs.declared.rec_head.RecordKind.TheVariants as kind
 use Rattle.nv_base.specs.declared.job.DeviceOp.TheVariants.{Read}
 use Rattle.fee_switch_laws.specs.KeepsRoom.{KeepsRoom}
 use Rattle.fee_switch_laws.specs.Space.{free_pages}
 use Rattle.fee_switch_laws.proofs.RoomSteps.{records_have_room, steps_keep_room, switches_make_room}
 use Rattle.promise_device.specs.Making.{Making, banks_of}
 use Rattle.fee_told.specs.Slots.{Memory}
-use Rattle.fee_told.specs.Device.{Device, told_of}
-use Rattle.fee_told.specs.Clock.{clock_of}
+use Rattle.fls_told.specs.Runs.{HasRun}
+use Rattle.fee_told.specs.Device.{Device, told_of, clock_of, tells, flash_device}
 use Rattle.fee_told.specs.Figures.{Work, turns_owed, wait_of}
 use Rattle.fee_told.specs.FigureLaws.{IsWork}
 use Rattle.fee_told.proofs.Figures.{ready_stays, turns_lower, urgent_nears}
@@ -78,12 +80,10 @@ use Rattle.fee_switch_laws.specs.KeepsRoom.{IsTargetLog}
 use Rattle.fee_switch_laws.specs.RoomLaws.{IsBehindSwitch}
 use Rattle.fee_switch_laws.specs.Space.{most_pages, has_room}
 use Rattle.fee_told.specs.SlotLaws.{IsHeld}
-use Rattle.fee_told.specs.Device.{tells}
-use Rattle.fee_told.specs.Runs.{HasRun}
 use Rattle.fee_told.specs.Kept.{IsKept}
 use Rattle.fee_laws.specs.Inside.{memory_of, flags_in, HoldsBehind}
 use Rattle.fee_laws.specs.Record.{IsLengthOf, kind_of}
-use Rattle.fee_laws.proofs.Heads.{head_with}
+use Rattle.fee_laws.proofs.Heads.{has_kind, head_with, same_kind}
 use Rattle.fee_laws.specs.Work.{pages_of_op, fits_in, is_waiting, needs_switch, claimed}
 use Rattle.fee_laws.specs.Switches.{step_op}
 use Rattle.fee_laws.proofs.Operation.{run, left, before_told, started}
@@ -114,15 +114,15 @@ is_listed (x ∷ xs) n size is =
     (λ e is'. (0, omega arith, (let at : x.0.0 ≡ n = eqb-true x.0.0 n e in let same : x.1 ≡ size = cc is' in (λ i. (record { 0 = at i }, same i)))))
     (λ e is'. (let later = is_listed xs n size is' in (suc later.0, (let less = later.1 in omega (arith, less)), later.2))) is
 
-length_for : (op : DeviceOp) (got length : ℕ) → op ≢ Read → IsLengthOf op got length → IsLengthFor (kind_of op) got length
-length_for Read got length writes is = absurd (writes refl)
-length_for Write got length writes is = is
-length_for Invalidate got length writes is = is
-length_for Erase got length writes is = is
+length_for : (op : DeviceOp) (k : RecordKind) (got length : ℕ) → kind_of op ≡ Some k → IsLengthOf op got length → IsLengthFor k got length
+length_for Read k got length writes is = cc writes
+length_for Write k got length writes is = same_kind (λ (x : RecordKind). IsLengthFor x got length) kind.Content k writes is
+length_for Invalidate k got length writes is = same_kind (λ (x : RecordKind). IsLengthFor x got length) kind.Invalid k writes is
+length_for Erase k got length writes is = same_kind (λ (x : RecordKind). IsLengthFor x got length) kind.Erased k writes is
 
-pub for_job : (numbers : List (DeviceNumber × ℕ)) (j : FeeJob) (count : ℕ) → j.op ≢ Read → IsJobOf numbers j → count < 2 ^ 32 → IsFor numbers (head_with j.op j.number.0 j.length count)
-for_job numbers j count writes is counted =
-    record { length = is.length; configured = is_listed numbers j.number.0 is.length is.configured; kind = length_for j.op j.length is.length writes is.fits; count = counted }
+pub for_job : (numbers : List (DeviceNumber × ℕ)) (j : FeeJob) (kind : RecordKind) (count : ℕ) → kind_of j.op ≡ Some kind → IsJobOf numbers j → count < 2 ^ 32 → IsFor numbers (head_with kind j.number j.length count)
+for_job numbers j kind count writes is counted =
+    record { length = is.length; configured = is_listed numbers j.number.0 is.length is.configured; kind = length_for j.op kind j.length is.length writes is.fits; count = counted }
 
 pub pages_for : (p : ℕ) (op : DeviceOp) (length of : ℕ) → op ≢ Read → IsLengthOf op length of → pages_of_op p op length ≡ record_pages_of length p
 pages_for p Read length of writes fits = absurd (writes refl)
@@ -132,8 +132,9 @@ pages_for p Erase length of writes fits = ap (λ (n : ℕ). record_pages_of n p)
 
 pub job_fits : (reserve : ℕ) (b : BanksState) (j : FeeJob) → 16 ≤ b.geometry.page → j.op ≢ Read → IsJobOf b.log.numbers j → most_pages b.geometry.page b.log.numbers reserve ≤ free_pages b → fits_in reserve b j ≡ true
 job_fits reserve b j low writes is room =
+    let k = has_kind j.op writes in
     ap (λ (n : ℕ). has_room j.urgent n reserve (free_pages b)) (pages_for b.geometry.page j.op j.length is.length writes is.fits)
-    ∙ records_have_room b.geometry.page reserve (free_pages b) b.log.numbers (head_with j.op j.number.0 j.length 0) j.urgent low (for_job b.log.numbers j 0 writes is (omega arith)) room
+    ∙ records_have_room b.geometry.page reserve (free_pages b) b.log.numbers (head_with k.0 j.number j.length 0) j.urgent low (for_job b.log.numbers j k.0 0 k.1 is (omega arith)) room
 
 -- so none needs another switch
 pub no_need : (reserve : ℕ) (b : BanksState) (j : FeeJob) → fits_in reserve b j ≡ true → needs_switch reserve b (Some j) ≡ false
@@ -177,8 +178,8 @@ module _ (m : Making) (entry : Told) (s : Parts) (listed : List (DeviceNumber ×
   abbrev e : Device
   e = device_of m entry t
 
-  run_then : HasRun e
-  run_then = run m entry s listed kept count is.on o Done f is.drives asks keep b s.job s.last s.given (λ since worn. absurd (not_worn m entry s listed kept count c made Done f is o stepped since worn))
+  run_then : HasRun (flash_device e)
+  run_then = run m entry s listed kept count is.on o Done f is.drives asks keep b s.job s.last s.given (λ n since worn. absurd (not_worn m entry s listed kept count c made Done f is o stepped since worn))
 
   -- THE BANKS
   target : IsTargetLog s.banks c
@@ -278,7 +279,8 @@ module _ (m : Making) (entry : Told) (s : Parts) (listed : List (DeviceNumber ×
   room_beside : (j : FeeJob) → IsJobOf m.numbers j → j.op ≢ Read → pages_of_op b.geometry.page j.op j.length + m.reserve ≤ free_pages b
   room_beside j is' w' =
       let is'' = subst (λ (ns : List (DeviceNumber × ℕ)). IsJobOf ns j) (sym numbers) is' in
-      let has = records_have_room b.geometry.page m.reserve (free_pages b) b.log.numbers (head_with j.op j.number.0 j.length 0) false low (for_job b.log.numbers j 0 w' is'' (omega arith)) behind_switch.room in
+      let k = has_kind j.op w' in
+      let has = records_have_room b.geometry.page m.reserve (free_pages b) b.log.numbers (head_with k.0 j.number j.length 0) false low (for_job b.log.numbers j k.0 0 k.1 is'' (omega arith)) behind_switch.room in
       let same = pages_for b.geometry.page j.op j.length is'.length w' is'.fits in
       let le = leb-true (record_pages_of j.length b.geometry.page + m.reserve) (free_pages b) has in
       omega (arith, same, le)

@@ -76,13 +76,13 @@ bounds_at low (x ∷ xs) (suc i) n size are less named =
     let l1 = are.0 in let l2 = later.low_than in
     record { low_than = omega (arith, l1, l2); high = later.high; some = later.some; few = later.few }
 
-legal_at : (at : Place) (n size low : ℕ) → Bounds low n size → (head_at at n size).count < 2 ^ 32 → IsLegalRecHead (head_at at n size)
+legal_at : (at : Place) (n : DeviceNumber) (size low : ℕ) → Bounds low n.0 size → (head_at at n size).count < 2 ^ 32 → IsLegalRecHead (head_at at n size)
 legal_at (place.Content q count) n size low is counted = (let a = is.low_than in let b = is.some in let c' = is.few in record { number_low = omega (arith, a); number_high = is.high; kind = omega (arith, b); length = omega (arith, c'); count = counted })
 legal_at (place.Invalid count) n size low is counted = (let a = is.low_than in record { number_low = omega (arith, a); number_high = is.high; kind = refl; length = omega arith; count = counted })
 legal_at (place.Erased count) n size low is counted = (let a = is.low_than in record { number_low = omega (arith, a); number_high = is.high; kind = refl; length = omega arith; count = counted })
 legal_at place.Unwritten n size low is counted = (let a = is.low_than in record { number_low = omega (arith, a); number_high = is.high; kind = refl; length = omega arith; count = counted })
 
-number_at : (at : Place) (n size : ℕ) → (head_at at n size).number ≡ n
+number_at : (at : Place) (n : DeviceNumber) (size : ℕ) → (head_at at n size).number ≡ n
 number_at (place.Content q count) n size = refl
 number_at (place.Invalid count) n size = refl
 number_at (place.Erased count) n size = refl
@@ -110,7 +110,7 @@ module _ (m : Making) (entry : Told) (s : Parts) (listed : List (DeviceNumber ×
   number = can.number
 
   abbrev pub h : RecHead
-  h = head_at source.place number.0 source.length
+  h = head_at source.place number source.length
 
   abbrev pub k0 : LogState
   k0 = s.banks.copies
@@ -128,7 +128,7 @@ module _ (m : Making) (entry : Told) (s : Parts) (listed : List (DeviceNumber ×
   bounds = bounds_at 0 s.banks.log.numbers source.index number source.length is.on.log.numbers can.next.inside can.next.named
 
   legal_head : IsLegalRecHead h
-  legal_head = legal_at source.place number.0 source.length 0 bounds can.can.configured.count
+  legal_head = legal_at source.place number source.length 0 bounds can.can.configured.count
 
   free_is : free_in k0 ≡ pages_in k0 - (k0.end + 0)
   free_is = ap (free_behind k0.geometry.page (pages_in k0) k0.end) target.work
@@ -154,7 +154,7 @@ module _ (m : Making) (entry : Told) (s : Parts) (listed : List (DeviceNumber ×
     numbers = is.copies.numbers;
     places = is.copies.places;
     counts = is.copies.counts;
-    flags = flags_many k0.numbers k0.flags h.number false ∙ is.copies.flags;
+    flags = flags_many k0.numbers k0.flags h.number.0 false ∙ is.copies.flags;
     end_low = is.copies.end_low;
     end_high = is.copies.end_high;
     tail = subst (IsTail k0.geometry.page (pages_in k0) k0.end) (sym tail) (legal_head, some_pages, fits_in);
@@ -173,11 +173,11 @@ module _ (m : Making) (entry : Told) (s : Parts) (listed : List (DeviceNumber ×
   pub found : (old : List ℕ) → FoundIn l old s.banks.active s.banks.log (body_of (work_in s.banks.log.tail) s.content) source number
   found old = found_in l old s.banks s.banks.active (body_of (work_in s.banks.log.tail) s.content) source number is.on.log.numbers (is.on.sound.works is.on.started).active can.next.first can.next.named
 
-  pub is_open : (old : List ℕ) → IsOpenFor h.number (flags_in m s old)
+  pub is_open : (old : List ℕ) → IsOpenFor h.number.0 (flags_in m s old)
   is_open old =
       let x = found old in
       let a = found_open (bank_in l x.active.head.format x.active.bank) old source.place source.length number.0 (flags_of s.banks.log.numbers s.banks.log.places s.banks.log.flags (settled_in l s.banks.log.numbers old (memory_of s).old)) x.flags_in in
-      subst (λ (n : ℕ). IsOpenFor n (flags_in m s old)) (sym (number_at source.place number.0 source.length))
+      subst (λ (n : DeviceNumber). IsOpenFor n.0 (flags_in m s old)) (sym (number_at source.place number source.length))
       (subst (λ (ns : List (DeviceNumber × ℕ)). IsOpenFor number.0 (flags_of ns s.banks.log.places s.banks.log.flags (settled_in l ns old (memory_of s).old))) is.on.sound.made_for.numbers a)
 
   -- with it in work
@@ -190,7 +190,7 @@ module _ (m : Making) (entry : Told) (s : Parts) (listed : List (DeviceNumber ×
       let was = subst (λ (b : Bank). HoldsLog b k0.numbers old cop (log_of k0 body0)) path (subst (λ (ns : List (DeviceNumber × ℕ)). HoldsLog (bank_in l new_format s.banks.target) ns old cop (log_of k0 body0)) (sym over.numbers) phased.holds) in
       let size_path : l.pages * l.page * l.banks ≡ pages_in k0 * k0.geometry.page * k0.banks = λ i. pages_of_bank (sym over.geometry i) (sym over.banks i) * (sym over.geometry i).page * sym over.banks i in
       let was_state : HoldsState k0 body0 old cop = record { size = subst (λ (n : ℕ). n ≤ length old) size_path held.banks.size; holds = was; follows = subst (λ (t : Tail). MayFollow cop t body0) (sym target.work) tt } in
-      let commit : MayCommit cop h body = λ n size' fit. subst (λ (x : ℕ). IsAmong (cop x size') (held_written h body)) (eqb-true h.number n (both_true (h.number == n) (matches_length h.kind h.length size') fit)) (open_any h.number (flags_in m s old) size' (held_written h body) (is_open old)) in
+      let commit : MayCommit cop h body = λ n size' fit. subst (λ (x : ℕ). IsAmong (cop x size') (held_written h body)) (eqb-true h.number.0 n (both_true (h.number.0 == n) (matches_length h.kind h.length size') fit)) (open_any h.number.0 (flags_in m s old) size' (held_written h body) (is_open old)) in
       let now = begins_hold k0 h body0 body old cop is.copies was_state can.can.idle can.can.configured room size commit in
       let holds = subst (λ (ns : List (DeviceNumber × ℕ)). HoldsLog (bank_in l new_format s.banks.target) ns old cop (log_of k body)) over.numbers (subst (λ (b : Bank). HoldsLog b k0.numbers old cop (log_of k body)) (sym path) now.holds) in
       record {

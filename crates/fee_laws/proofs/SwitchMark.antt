@@ -72,14 +72,14 @@ slice_is (x ∷ xs) zero n size less named = ap (λ (y : DeviceNumber × ℕ). S
 slice_is (x ∷ xs) (suc i) n size less named = slice_is xs i n size (omega arith) named
 
 -- of a place that isn't read the record's header is programmed, which is all that it shows
-begins_mark : (p : Place) (s : BanksState) (n size : ℕ) (told : Told) (answer : FlashAnswer) (made : BanksState) (then_told : Told) → reads_place p ≡ false → BeginsAt p s n size told answer made then_told
+begins_mark : (p : Place) (s : BanksState) (n : DeviceNumber) (size : ℕ) (told : Told) (answer : FlashAnswer) (made : BanksState) (then_told : Told) → reads_place p ≡ false → BeginsAt p s n size told answer made then_told
     → IsStep (op_of (begun s.copies (head_at p n size)) []) told answer then_told × (made ≡ record s { copies = after_step (begun s.copies (head_at p n size)) answer })
 begins_mark (place.Content at count) s n size told answer made then_told reads begins = cc reads
 begins_mark (place.Invalid count) s n size told answer made then_told reads begins = begins
 begins_mark (place.Erased count) s n size told answer made then_told reads begins = begins
 begins_mark place.Unwritten s n size told answer made then_told reads begins = begins
 
-mark_shown : (b : Bank) (bytes body : List ℕ) (p : Place) (n size : ℕ) → reads_place p ≡ false → held_written (head_at p n size) body ≡ held_at b bytes size p
+mark_shown : (b : Bank) (bytes body : List ℕ) (p : Place) (n : DeviceNumber) (size : ℕ) → reads_place p ≡ false → held_written (head_at p n size) body ≡ held_at b bytes size p
 mark_shown b bytes body (place.Content at count) n size reads = cc reads
 mark_shown b bytes body (place.Invalid count) n size reads = refl
 mark_shown b bytes body (place.Erased count) n size reads = refl
@@ -109,9 +109,9 @@ module _ (m : Making) (entry : Told) (s : Parts) (listed : List (DeviceNumber ×
       let same : slice_index_or s.banks.log.numbers is.makes.source.index d ≡ slice_index_or s.banks.log.numbers src.index d = ap (λ (x : Source). slice_index_or s.banks.log.numbers x.index d) source_same in
       ap (λ (x : DeviceNumber × ℕ). x.0) (sym a ∙ same ∙ b)
 
-  pub begins_at : BeginsAt src.place s.banks num.0 src.length s.fls.flash answer made f.flash
-  begins_at = subst (λ (x : DeviceNumber). BeginsAt src.place s.banks x.0 src.length s.fls.flash answer made f.flash) number_same
-      (subst (λ (x : Source). BeginsAt x.place s.banks is.makes.number.0 x.length s.fls.flash answer made f.flash) source_same is.makes.begins)
+  pub begins_at : BeginsAt src.place s.banks num src.length s.fls.flash answer made f.flash
+  begins_at = subst (λ (x : DeviceNumber). BeginsAt src.place s.banks x src.length s.fls.flash answer made f.flash) number_same
+      (subst (λ (x : Source). BeginsAt x.place s.banks is.makes.number x.length s.fls.flash answer made f.flash) source_same is.makes.begins)
 
   abbrev head : RecHead
   head = h m entry s listed kept count made answer f is
@@ -130,13 +130,13 @@ module _ (m : Making) (entry : Told) (s : Parts) (listed : List (DeviceNumber ×
     reads = sym (ap reads_source next_is.first) ∙ changes
 
     begins : IsStep (op_of (begun s.banks.copies head) []) s.fls.flash answer f.flash × (made ≡ record s.banks { copies = after_step (begun s.banks.copies head) answer })
-    begins = begins_mark src.place s.banks num.0 src.length s.fls.flash answer made f.flash reads begins_at
+    begins = begins_mark src.place s.banks num src.length s.fls.flash answer made f.flash reads begins_at
 
     made_is : made ≡ record s.banks { copies = after_step log_k answer }
     made_is = begins.1
 
     length_none : head.length ≡ 0
-    length_none = mark_length src.place num.0 src.length reads
+    length_none = mark_length src.place num src.length reads
 
     body_is : body ≡ take head.length s.banks.buffer
     body_is = ap (λ (t : Tail). body_of (work_in t) s.banks.buffer) tail_k
@@ -251,9 +251,9 @@ module _ (m : Making) (entry : Told) (s : Parts) (listed : List (DeviceNumber ×
     copies_it old =
         let x = found m entry s listed kept count made answer f is old in
         let bank' = bank_in l x.active.head.format x.active.bank in
-        let writes = mark_shown bank' old (take head.length s.banks.buffer) src.place num.0 src.length reads in
+        let writes = mark_shown bank' old (take head.length s.banks.buffer) src.place num src.length reads in
         subst (λ (ns : List (DeviceNumber × ℕ)). Each (Copies head (take head.length s.banks.buffer)) (flags_of ns s.banks.log.places s.banks.log.flags (settled_in l ns old mem.old))) is.on.sound.made_for.numbers
-        (found_copies bank' old (take head.length s.banks.buffer) src.place src.length num.0 (flags_of s.banks.log.numbers s.banks.log.places s.banks.log.flags (settled_in l s.banks.log.numbers old mem.old)) x.left_in writes x.flags_in)
+        (found_copies bank' old (take head.length s.banks.buffer) src.place src.length num (flags_of s.banks.log.numbers s.banks.log.places s.banks.log.flags (settled_in l s.banks.log.numbers old mem.old)) x.left_in writes x.flags_in)
 
     copying_then : (old new : List ℕ) → ShowsCopies m s c old → MayLeave op old new → IsCopying next (work_in (after_step log_k Done).tail) s.banks.buffer (flags_in m s new)
     copying_then old new shows leaves =

@@ -141,25 +141,25 @@ each_flag P Q all (f ∷ fs) has = (all f has.0, each_flag P Q all fs has.1)
 pub found_open : (b : Bank) (bytes : List ℕ) (at : Place) (size n : ℕ) (fs : List Flag) → Each (λ f. IsTrue (f.number == n) → IsOf b bytes at size f) fs → IsOpenFor n fs
 found_open b bytes at size n fs are = each_flag (λ f. IsTrue (f.number == n) → IsOf b bytes at size f) (λ f. IsTrue (f.number == n) → is_done f ≡ false) (λ f is same. not_done b bytes at size f (is same)) fs are
 
-copies_one : (b : Bank) (bytes body : List ℕ) (at : Place) (size n : ℕ) (f : Flag) → is_left at false ≡ true → held_written (head_at at n size) body ≡ held_at b bytes size at → (IsTrue (f.number == n) → IsOf b bytes at size f) → Copies (head_at at n size) body f
+copies_one : (b : Bank) (bytes body : List ℕ) (at : Place) (size : ℕ) (n : DeviceNumber) (f : Flag) → is_left at false ≡ true → held_written (head_at at n size) body ≡ held_at b bytes size at → (IsTrue (f.number == n.0) → IsOf b bytes at size f) → Copies (head_at at n size) body f
 copies_one b bytes body (place.Content q count) size n f left writes is same =
     let one = is same in
-    let a : (n == f.number) ≡ true = eq-eqb n f.number (sym (eqb-true f.number n same)) in
+    let a : (n.0 == f.number) ≡ true = eq-eqb n.0 f.number (sym (eqb-true f.number n.0 same)) in
     let c : (size == f.length) ≡ true = eq-eqb size f.length (sym one.length_is) in
     ((λ i. a i && c i), one.written_is, one.settled_is ∙ sym writes)
 copies_one b bytes body (place.Invalid count) size n f left writes is same =
     let one = is same in
-    let a : (n == f.number) ≡ true = eq-eqb n f.number (sym (eqb-true f.number n same)) in
+    let a : (n.0 == f.number) ≡ true = eq-eqb n.0 f.number (sym (eqb-true f.number n.0 same)) in
     ((λ i. a i && true), one.written_is, one.settled_is ∙ sym writes)
 copies_one b bytes body (place.Erased count) size n f left writes is same =
     let one = is same in
-    let a : (n == f.number) ≡ true = eq-eqb n f.number (sym (eqb-true f.number n same)) in
+    let a : (n.0 == f.number) ≡ true = eq-eqb n.0 f.number (sym (eqb-true f.number n.0 same)) in
     ((λ i. a i && true), one.written_is, one.settled_is ∙ sym writes)
 copies_one b bytes body place.Unwritten size n f left writes is same = cc left
 
-pub found_copies : (b : Bank) (bytes body : List ℕ) (at : Place) (size n : ℕ) (fs : List Flag) → is_left at false ≡ true → held_written (head_at at n size) body ≡ held_at b bytes size at → Each (λ f. IsTrue (f.number == n) → IsOf b bytes at size f) fs
+pub found_copies : (b : Bank) (bytes body : List ℕ) (at : Place) (size : ℕ) (n : DeviceNumber) (fs : List Flag) → is_left at false ≡ true → held_written (head_at at n size) body ≡ held_at b bytes size at → Each (λ f. IsTrue (f.number == n.0) → IsOf b bytes at size f) fs
     → Each (Copies (head_at at n size) body) fs
-found_copies b bytes body at size n fs left writes are = each_flag (λ f. IsTrue (f.number == n) → IsOf b bytes at size f) (Copies (head_at at n size) body) (λ f is. copies_one b bytes body at size n f left writes is) fs are
+found_copies b bytes body at size n fs left writes are = each_flag (λ f. IsTrue (f.number == n.0) → IsOf b bytes at size f) (Copies (head_at at n size) body) (λ f is. copies_one b bytes body at size n f left writes is) fs are
 
 -- OF A LOG
 -- where a bank is active

@@ -20,7 +20,8 @@ use Rattle.fee_laws.specs.Inside.{Parts, memory_of, flags_in, ShowsCopies, stand
 use Rattle.fee_laws.proofs.Before.{power}
 use Rattle.memif.specs.declared.answer.JobResult.{JobResult}
 use Rattle.memif.specs.Marks.{KeepsAll}
-use Rattle.fee_told.specs.Device.{Device, told_of}
+use Rattle.fls_told.specs.Runs.{HasRun}
+use Rattle.fee_told.specs.Device.{Device, told_of, tells, flash_device}
 use Rattle.fee_told.specs.FigureLaws.{IsWork}
 use Rattle.fee_laws.specs.declared.job.FeeJob.{FeeJob}
 use Rattle.fee_laws.specs.Inside.{device_of, IsAtWork}
@@ -29,8 +30,6 @@ use Rattle.fee_laws.specs.Turn.{IsOn}
 use Rattle.memif.specs.declared.answer.JobResult.TheVariants.{JobPending}
 use Rattle.fee_switch.specs.Banks.{IsSameFlash}
 use Rattle.fls_model.specs.Told.{bytes_now}
-use Rattle.fee_told.specs.Runs.{HasRun}
-use Rattle.fee_told.specs.Device.{tells}
 use Rattle.fee_told.specs.Whole.{AreStarted}
 use Rattle.fee_laws.specs.Inside.{HoldsBehind, TellsCopies}
 use Rattle.fls_jobs.specs.declared.answer.FlsResult.{FlsResult}
@@ -64,7 +63,7 @@ module _ (m : Making) (entry : Told) (s : Parts) (listed : List (DeviceNumber ×
   pub none : AsksNone m entry s t
   none = record { only = refl; more = more; counted = counted; worn = λ since worn. inl worn }
 
-  run_read : HasRun e
+  run_read : HasRun (flash_device e)
   run_read = run m entry s listed kept count on t none
 
   -- what the bytes hold then
@@ -83,7 +82,7 @@ module _ (m : Making) (entry : Told) (s : Parts) (listed : List (DeviceNumber ×
         subst (λ (x : May). IsHeld (banks_of m) m.numbers old (memory_of t) x) (sym (may_is old at)) (reading old at (shows_now old at told)).0.held)
 
     started' : AreStarted d e
-    started' = record { same = record { making = refl; entry = refl; old = on.sound.device.run.alike; new = run_read.alike }; old = on.started; new = on.started }
+    started' = record { same = record { reading = refl; numbers = refl; entry = refl; old = on.sound.device.run.alike; new = run_read.alike }; making = refl; old = on.started; new = on.started }
 
     same_bytes : (old new : List ℕ) → bytes_now s.fls.flash ≡ Some old → bytes_now s.fls.flash ≡ Some new → old ≡ new
     same_bytes old new a b' = cc (a, b')

@@ -9,7 +9,7 @@ use Rattle.fee_course.specs.declared.course.Course.{Course}
 use Rattle.fee_switch.specs.Banks.{BanksState, left_of}
 use Rattle.fee_switch_laws.specs.KeepsRoom.{KeepsRoom}
 use Rattle.promise_device.specs.Making.{Making}
-use Rattle.fee_told.specs.Clock.{clock_of}
+use Rattle.fee_told.specs.Device.{clock_of}
 use Rattle.fee_laws.specs.Inside.{Parts, device_of, IsActiveOf, IsAtWork, HasSwitch}
 use Rattle.fee_laws.specs.Turn.{Turned}
 use Rattle.fee_laws.specs.Switches.{IsBehind}

@@ -18,9 +18,9 @@ use Rattle.fee_switch.specs.Banks.{BanksState}
 use Rattle.promise_device.specs.Making.{Making, banks_of}
 use Rattle.fee_told.specs.Slots.{Memory}
 use Rattle.fee_told.specs.SlotLaws.{IsHeld}
-use Rattle.fee_told.specs.Device.{Device, tells, told_of}
-use Rattle.fee_told.specs.Clock.{change_of}
-use Rattle.fee_told.specs.Runs.{HasRun, KeepsWorn, counts_fault}
+use Rattle.fls_told.specs.Clock.{change_of}
+use Rattle.fls_told.specs.Runs.{HasRun, KeepsWorn, counts_fault}
+use Rattle.fee_told.specs.Device.{Device, tells, told_of, flash_device}
 use Rattle.fee_told.specs.Kept.{IsKept}
 use Rattle.fee_told.specs.Whole.{CutsKeep, IsKeptSo}
 use Rattle.fee_told.proofs.Whole.{kept_is_told}
@@ -75,10 +75,10 @@ module _ (m : Making) (entry : Told) (s : Parts) (listed : List (DeviceNumber ×
       abbrev pub e : Device
       e = device_of m entry t
 
-      stays_worn : KeepsWorn op d e
-      stays_worn since worn = absurd (not_worn since worn)
+      stays_worn : KeepsWorn op (flash_device d) (flash_device e)
+      stays_worn n since worn = absurd (not_worn since worn)
 
-      pub run_on : HasRun e
+      pub run_on : HasRun (flash_device e)
       run_on = run m entry s listed kept count is.on op answer f is.drives asked keeps b job last given stays_worn
 
       -- what the bytes hold then

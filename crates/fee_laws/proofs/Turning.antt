@@ -18,11 +18,11 @@ use Rattle.fls_model.specs.Told.{Told}
 use Rattle.fls_jobs.specs.State.{FlsState}
 use Rattle.fee_switch.specs.Banks.{BanksState}
 use Rattle.promise_device.specs.Making.{Making}
-use Rattle.fee_told.specs.Device.{Device, told_of}
-use Rattle.fee_told.specs.Clock.{clock_of, turn_of}
-use Rattle.fee_told.specs.Runs.{counts_fault}
+use Rattle.fls_told.specs.Clock.{turn_of}
+use Rattle.fls_told.specs.Runs.{counts_fault}
+use Rattle.fls_told.proofs.Parts.{parts_cut}
+use Rattle.fee_told.specs.Device.{Device, told_of, clock_of, flash_device}
 use Rattle.fee_told.specs.Whole.{CutsKeep}
-use Rattle.fee_told.proofs.Parts.{parts_cut}
 use Rattle.fee_laws.specs.declared.job.FeeJob.{FeeJob}
 use Rattle.fee_laws.specs.Inside.{Parts, device_of, mark_of, stand_of}
 use Rattle.fee_laws.specs.Turn.{IsOn, Drives, Turned}
@@ -97,7 +97,7 @@ was_cut m entry s listed kept count on op f drives asked b keeps facts something
           record {
             only = refl;
             of = is_of_first m s.content s.job s.last s.given;
-            part = parts_cut op (device_of m entry s) (e m entry s listed kept count on op Off f drives asked b s.job s.last s.given) (counts m entry s listed kept count on op Off f drives asked keeps b s.job s.last s.given);
+            part = parts_cut op (flash_device (device_of m entry s)) (flash_device (e m entry s listed kept count on op Off f drives asked b s.job s.last s.given)) (counts m entry s listed kept count on op Off f drives asked keeps b s.job s.last s.given);
             no_read = no_read;
             marks = marks;
           },

@@ -27,16 +27,17 @@ use Rattle.fee_switch.specs.Banks.{is_worn_out}
 use Rattle.fee_switch_laws.specs.Space.{free_pages}
 use Rattle.promise_device.specs.Making.{Making, banks_of}
 use Rattle.promise_device.specs.Bridge.{has_failed, is_program, wanted_pages}
-use Rattle.promise_device.specs.Image.{HasNoRoomFor, IsOfLastGeneration}
+use Rattle.promise_device.specs.Image.{HasNoRoomFor, has_no_room_for, IsOfLastGeneration, is_of_last_generation}
+use Rattle.promise_device.proofs.Readings.{last_generations_compute, full_banks_compute}
 use Rattle.fee_told.specs.Slots.{HasJob}
 use Rattle.fee_told.specs.SlotLaws.{IsHeld}
-use Rattle.fee_told.specs.Device.{Device, tells, told_of, ops_in}
-use Rattle.fee_told.specs.Clock.{clock_of}
-use Rattle.fee_told.specs.Runs.{HasRun, IsWornSince}
+use Rattle.fls_told.specs.Device.{asked_ops}
+use Rattle.fls_told.specs.Runs.{HasRun, IsWornSince}
+use Rattle.fls_told.proofs.Clocks.{worn_now}
+use Rattle.fee_told.specs.Device.{Device, tells, told_of, clock_of, flash_device}
 use Rattle.fee_told.specs.Kept.{IsKept}
 use Rattle.fee_told.specs.Figures.{left_of as turns_left, ready_of, turns_of, wait_of}
 use Rattle.fee_told.proofs.Kept.{same_places}
-use Rattle.fee_told.proofs.Clocks.{worn_now}
 use Rattle.fee_told.proofs.Jobs.{jobs_change}
 use Rattle.fee_told.proofs.Steps.{jobs_keep}
 use Rattle.fee_told.proofs.Whole.{kept_is_told}
@@ -124,12 +125,12 @@ module _ (m : Making) (entry : Told) (s : Parts) (listed : List (DeviceNumber ×
 
   last_at : (bytes : List ℕ) → bytes_now s.fls.flash ≡ Some bytes → IsOfLastGeneration m bytes
   last_at bytes at = elim is.worn [
-    | inl before ↦ (let x = some_of s.worn before in told_at s.fls.flash.bytes (IsOfLastGeneration m) bytes at (on.sound.device.run.worn x.0 x.1).last)
+    | inl before ↦ (let x = some_of s.worn before in (last_generations_compute m bytes).0 (told_at s.fls.flash.bytes (λ (y : List ℕ). IsTrue (is_of_last_generation m y)) bytes at (on.sound.device.run.worn 0 x.0 x.1).last))
     | inr worn ↦ last_shown s.banks.active m bytes worn (shows_at bytes at).active
   ]
 
-  last_now : IfSome (bytes_now s.fls.flash) (IsOfLastGeneration m)
-  last_now = each_told s.fls.flash.bytes (IsOfLastGeneration m) last_at
+  last_now : IfSome (bytes_now s.fls.flash) (λ (x : List ℕ). IsTrue (is_of_last_generation m x))
+  last_now = each_told s.fls.flash.bytes (λ (x : List ℕ). IsTrue (is_of_last_generation m x)) (λ bytes at. (last_generations_compute m bytes).1 (last_at bytes at))
 
   since_few : (o : Option ℕ) → s.worn ≡ o → unwrap_or o count ≤ min (length s.operations) last_count
   since_few None at = let h = on.sound.ops in omega (arith, h)
@@ -138,9 +139,9 @@ module _ (m : Making) (entry : Told) (s : Parts) (listed : List (DeviceNumber ×
   few_now : since ≤ min (length s.operations) last_count
   few_now = since_few s.worn refl
 
-  worn_since : (o : Option ℕ) → s.worn ≡ o → IsWornSince e (unwrap_or o count)
-  worn_since None at = record { last = last_now; no_erase = none_since count s.operations on.sound.ops }
-  worn_since (Some x) at = let w = on.sound.device.run.worn x at in record { last = w.last; no_erase = w.no_erase }
+  worn_since : (o : Option ℕ) → s.worn ≡ o → (n : ℕ) → IsWornSince (flash_device e) n (unwrap_or o count)
+  worn_since None at n = record { last = last_now; follow = none_since count s.operations on.sound.ops }
+  worn_since (Some x) at n = let w = on.sound.device.run.worn n x at in record { last = w.last; follow = w.follow }
 
   worn_either : (o : Option ℕ) → s.worn ≡ o → (Some (unwrap_or o count) ≡ s.worn) ⊎ (s.worn ≡ None)
   worn_either None at = inr at
@@ -166,27 +167,27 @@ module _ (m : Making) (entry : Told) (s : Parts) (listed : List (DeviceNumber ×
       let same = wanted_is in
       omega (arith, less, fits, same)
 
-  room_at : (bytes : List ℕ) → bytes_now s.fls.flash ≡ Some bytes → HasNoRoomFor (wanted_pages m j.number.0) m bytes ⊎ IsTrue (has_failed s.operations)
+  room_at : (bytes : List ℕ) → bytes_now s.fls.flash ≡ Some bytes → IsTrue (has_no_room_for (wanted_pages m j.number.0) m bytes) ⊎ IsTrue (has_failed s.operations)
   room_at bytes at =
       let shows = shows_at bytes at in
       let last = last_at bytes at in
       elim (shows.room (active_some s.banks.active (last.0, last.1) (shows.active ∙ last.2))) [
-        | inl none ↦ inl (more_pages m (free_pages s.banks + 1) (wanted_pages m j.number.0) bytes few_free none)
+        | inl none ↦ inl ((full_banks_compute (wanted_pages m j.number.0) m bytes).1 (more_pages m (free_pages s.banks + 1) (wanted_pages m j.number.0) bytes few_free none))
         | inr failed ↦ inr failed
       ]
 
-  room_now : IfSome (bytes_now s.fls.flash) (HasNoRoomFor (wanted_pages m j.number.0) m) ⊎ IsTrue (has_failed s.operations)
-  room_now = told_or s.fls.flash.bytes (HasNoRoomFor (wanted_pages m j.number.0) m) (IsTrue (has_failed s.operations))
-      (each_now s.fls.flash.bytes (λ (x : List ℕ). HasNoRoomFor (wanted_pages m j.number.0) m x ⊎ IsTrue (has_failed s.operations)) room_at)
+  room_now : IfSome (bytes_now s.fls.flash) (λ (x : List ℕ). IsTrue (has_no_room_for (wanted_pages m j.number.0) m x)) ⊎ IsTrue (has_failed s.operations)
+  room_now = told_or s.fls.flash.bytes (λ (x : List ℕ). IsTrue (has_no_room_for (wanted_pages m j.number.0) m x)) (IsTrue (has_failed s.operations))
+      (each_now s.fls.flash.bytes (λ (x : List ℕ). IsTrue (has_no_room_for (wanted_pages m j.number.0) m x) ⊎ IsTrue (has_failed s.operations)) room_at)
 
-  is_worn : (clock_of e).worn (ops_in e) j.number.0
-  is_worn = worn_now e since j.number.0 refl few_now room_now
+  is_worn : (clock_of e).worn (asked_ops (flash_device e)) j.number.0
+  is_worn = worn_now (flash_device e) since j.number.0 refl few_now room_now
 
   -- BEHIND IT
   asks_none : AsksNone m entry s t
-  asks_none = record { only = refl; more = omega arith; counted = inl refl; worn = λ x at. inr (subst (IsWornSince e) (some_is x at) (worn_since s.worn refl)) }
+  asks_none = record { only = refl; more = omega arith; counted = inl refl; worn = λ x at. inr (subst (λ (k : ℕ). (n : ℕ) → IsWornSince (flash_device e) n k) (some_is x at) (worn_since s.worn refl)) }
 
-  run_on : HasRun e
+  run_on : HasRun (flash_device e)
   run_on = run m entry s listed kept count on t asks_none
 
   has_job : HasJob m.numbers (Ended JobFailed []) (memory_of s).old
@@ -208,7 +209,7 @@ module _ (m : Making) (entry : Told) (s : Parts) (listed : List (DeviceNumber ×
 
   keeps_all : KeepsAll (told_of d) (told_of e)
   keeps_all = kept_is_told d e more
-      (record { same = record { making = refl; entry = refl; old = on.sound.device.run.alike; new = run_on.alike }; old = on.started; new = on.started })
+      (record { same = record { reading = refl; numbers = refl; entry = refl; old = on.sound.device.run.alike; new = run_on.alike }; making = refl; old = on.started; new = on.started })
       (λ old new told. subst (λ (x : List ℕ). IsKept (banks_of m) m.numbers old x (memory_of s) (memory_of t) more) (same_bytes old new told.1 told.2) (kept_at old told.1 told.0))
 
   behind : HoldsBehind e

@@ -1,18 +1,17 @@
 -- The beginning of a record or a switch, in memory alone, which a turn makes before its first operation.
-use Rattle.std.specs.Prelude.{◌≡◌, ◌≢◌, ◌≤◌, ℕ, true, false, is_some, List, Some, None}
+use Rattle.std.specs.Prelude.{◌≡◌, ◌≤◌, ℕ, true, false, is_some, List, Some, None}
 use Rattle.nv_base.specs.declared.instance.DeviceNumber.{DeviceNumber}
-use Rattle.nv_base.specs.declared.job.DeviceOp.TheVariants.{Read}
 use Rattle.memif.specs.declared.answer.DeviceTurn.{DeviceTurn}
 use Rattle.memif.specs.Told.{DeviceTold, is_open}
 use Rattle.memif.specs.Clock.{Clock, SameClock}
 use Rattle.memif.specs.Calls.{Turns}
 use Rattle.fls_model.specs.Told.{Told}
+use Rattle.fee_format.specs.declared.rec_head.RecordKind.{RecordKind}
 use Rattle.fee_log.specs.Log.{IsFor, work_in}
 use Rattle.fee_course.specs.declared.course.Course.TheVariants.{Erase}
 use Rattle.fee_switch.specs.Banks.{TakesRecord, append_begun, begun_again, is_worn_out}
 use Rattle.promise_device.specs.Making.{Making}
-use Rattle.fee_told.specs.Device.{told_of}
-use Rattle.fee_told.specs.Clock.{clock_of}
+use Rattle.fee_told.specs.Device.{told_of, clock_of}
 use Rattle.fee_laws.specs.declared.job.FeeJob.{FeeJob}
 use Rattle.fee_laws.specs.Inside.{Parts, device_of, IsSound}
 use Rattle.fee_laws.specs.Record.{kind_of, head_of}
@@ -38,15 +37,16 @@ BegunTurns =
 -- the open job's record may begin: none is in work, and it has room; beside a switch that erases or copies an urgent one's may
 pub record MayBegin (m : Making) (s : Parts) (j : FeeJob) : Type 0 where
   pub job : s.job ≡ Some j
-  pub writes : j.op ≢ Read
+  pub kind : RecordKind
+  pub writes : kind_of j.op ≡ Some kind
   pub idle : work_in s.banks.log.tail ≡ None
-  pub taken : TakesRecord (kind_of j.op) s.banks.course
+  pub taken : TakesRecord kind s.banks.course
   pub beside : is_some s.banks.course ≡ true → j.urgent ≡ true
-  pub configured : IsFor s.banks.log.numbers (head_of s.banks.log j)
+  pub configured : IsFor s.banks.log.numbers (head_of s.banks.log kind j)
   pub room : fits_in m.reserve s.banks j ≡ true
 
-abbrev pub begun_with : FeeJob → Parts → Parts
-begun_with j s = record s { banks = append_begun s.banks (head_of s.banks.log j) }
+abbrev pub begun_with : RecordKind → FeeJob → Parts → Parts
+begun_with kind j s = record s { banks = append_begun s.banks (head_of s.banks.log kind j) }
 
 pub record Begun (m : Making) (entry : Told) (s t : Parts) (listed : List (DeviceNumber × ℕ)) (kept count : ℕ) : Type 0 where
   pub told : HasBegun (told_of (device_of m entry s)) (told_of (device_of m entry t)) (clock_of (device_of m entry s)) (clock_of (device_of m entry t))
@@ -55,15 +55,16 @@ pub record Begun (m : Making) (entry : Told) (s t : Parts) (listed : List (Devic
 abbrev pub RecordsBegin : Type 0
 RecordsBegin =
     (m : Making) (entry : Told) (s : Parts) (listed : List (DeviceNumber × ℕ)) (kept count : ℕ) (j : FeeJob)
-    → IsOn m entry s listed kept count → MayBegin m s j → Begun m entry s (begun_with j s) listed kept count
+    → IsOn m entry s listed kept count → (may : MayBegin m s j) → Begun m entry s (begun_with may.kind j s) listed kept count
 
 -- a switch may be opened for the open job: its record has no room, and the device isn't worn out
 pub record MaySwitch (m : Making) (s : Parts) (j : FeeJob) : Type 0 where
   pub job : s.job ≡ Some j
-  pub writes : j.op ≢ Read
+  pub kind : RecordKind
+  pub writes : kind_of j.op ≡ Some kind
   pub idle : work_in s.banks.log.tail ≡ None
   pub shut : s.banks.course ≡ None
-  pub configured : IsFor s.banks.log.numbers (head_of s.banks.log j)
+  pub configured : IsFor s.banks.log.numbers (head_of s.banks.log kind j)
   pub full : fits_in m.reserve s.banks j ≡ false
   pub fresh : s.worn ≡ None
   pub worn : is_worn_out s.banks.active ≡ false

@@ -14,8 +14,7 @@ use Rattle.fee_log.specs.Log.{work_in}
 use Rattle.fee_switch.specs.Banks.{BanksState, IsBanksState, IsMade, FindsActive, LoadsActive}
 use Rattle.fee_switch_laws.specs.Space.{HasSpace, free_pages}
 use Rattle.promise_device.specs.Making.{Making}
-use Rattle.fee_told.specs.Device.{told_of}
-use Rattle.fee_told.specs.Clock.{clock_of}
+use Rattle.fee_told.specs.Device.{told_of, clock_of}
 use Rattle.fee_told.specs.Figures.{ready_of}
 use Rattle.fee_laws.specs.declared.job.FeeJob.{FeeJob}
 use Rattle.fee_laws.specs.Inside.{Parts, device_of, mark_of, IsSound, IsActiveOf}

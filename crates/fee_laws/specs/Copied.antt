@@ -19,7 +19,7 @@ flags_of _ _ _ _ = []
 -- a copy in work is of the mark that is settled for its number, or sets no flag; a copy of that is left to make
 abbrev pub IsCopyIn : Bool → Option RecHead → List ℕ → List Flag → Type 0
 IsCopyIn sets None buffer fs = Unit {0}
-IsCopyIn sets (Some h) buffer fs = CopiesOrNot sets h (take h.length buffer) fs × IsOpenFor h.number fs
+IsCopyIn sets (Some h) buffer fs = CopiesOrNot sets h (take h.length buffer) fs × IsOpenFor h.number.0 fs
 
 abbrev pub IsCopying : Course → Option RecHead → List ℕ → List Flag → Type 0
 IsCopying (Copy (Some w)) work buffer fs = IsCopyIn w.sets work buffer fs

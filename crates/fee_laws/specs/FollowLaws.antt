@@ -80,7 +80,7 @@ GivenUpFollows = (s : Parts) → IsLogState s.banks.log → Follows s → Follow
 abbrev pub BegunFollows : Type 0
 BegunFollows =
     (m : Making) (entry : Told) (s : Parts) (listed : List (DeviceNumber × ℕ)) (kept count : ℕ) (j : FeeJob)
-    → IsOn m entry s listed kept count → MayBegin m s j → Follows s → Follows (begun_with j s)
+    → IsOn m entry s listed kept count → (may : MayBegin m s j) → Follows s → Follows (begun_with may.kind j s)
 
 abbrev pub SwitchingFollows : Type 0
 SwitchingFollows =

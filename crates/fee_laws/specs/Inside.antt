@@ -30,9 +30,8 @@ use Rattle.fee_switch_laws.specs.Space.{HasSpace}
 use Rattle.promise_device.specs.Making.{Making, banks_of}
 use Rattle.fee_told.specs.Slots.{Memory, HasJob, settled_in}
 use Rattle.fee_told.specs.SlotLaws.{IsHeld, SamePlaces}
-use Rattle.fee_told.specs.Device.{Device, tells, told_of}
-use Rattle.fee_told.specs.Clock.{clock_of}
-use Rattle.fee_told.specs.Runs.{HasRun}
+use Rattle.fls_told.specs.Runs.{HasRun}
+use Rattle.fee_told.specs.Device.{Device, tells, told_of, clock_of, flash_device}
 use Rattle.fee_told.specs.Whole.{HoldsBanks}
 use Rattle.fee_told.specs.Figures.{fixed_for, left_of, ready_of, wait_of}
 use Rattle.fee_laws.specs.declared.job.FeeJob.{FeeJob}
@@ -166,7 +165,7 @@ pub record HoldsBehind (d : Device) : Type 0 where
   pub idle : (behind ≡ d.memory) ⊎ ((stand : Stand) → HasJob d.making.numbers stand behind.old)
 
 pub record IsDevice (d : Device) : Type 0 where
-  pub run : HasRun d
+  pub run : HasRun (flash_device d)
   pub held : d.started ≡ true → HoldsBehind d
   pub order : InOrder (told_of d) (clock_of d)
   pub faults : d.faults ≤ last_count

@@ -4,8 +4,8 @@ use Rattle.memif.specs.declared.answer.JobResult.TheVariants.{JobOk}
 use Rattle.memif.specs.Told.{PartTold, Ended, nothing_open}
 use Rattle.fls_model.specs.Told.{Told}
 use Rattle.promise_device.specs.Making.{Making}
-use Rattle.fee_told.specs.Device.{Device, told_of}
-use Rattle.fee_told.specs.Runs.{IsMade}
+use Rattle.fls_told.specs.Runs.{IsMade}
+use Rattle.fee_told.specs.Device.{Device, told_of, flash_device}
 
 -- the part of a device over a flash that told this, before its first call
 abbrev pub part_at : Told → PartTold
@@ -15,7 +15,7 @@ part_at entry = record { faults = 0; flash_faults = entry.faults; off = entry.of
 pub record IsMadeOf (m : Making) (entry : Told) (d : Device) : Type 0 where
   pub making : d.making ≡ m
   pub told_entry : d.entry ≡ entry
-  pub made : IsMade d
+  pub made : IsMade (flash_device d)
   pub started : d.started ≡ false
   pub stand : (told_of d).stand ≡ Ended JobOk []
   pub ops : (told_of d).ops ≡ 0

@@ -1,5 +1,5 @@
 -- The record of the open job.
-use Rattle.std.specs.Prelude.{◌≡◌, ◌≢◌, ◌⊎◌, ◌≤◌, ℕ, true, false, is_some, List, Option, Some, None}
+use Rattle.std.specs.Prelude.{◌≡◌, ◌⊎◌, ◌≤◌, ℕ, true, false, is_some, List, Option, Some, None}
 use Rattle.nv_base.specs.declared.instance.DeviceNumber.{DeviceNumber}
 use Rattle.nv_base.specs.declared.job.DeviceOp.{DeviceOp}
 use Rattle.nv_base.specs.declared.job.DeviceOp.TheVariants.{Read, Write, Invalidate, Erase}
@@ -13,16 +13,16 @@ use Rattle.fee_switch.specs.Banks.{BanksState, TakesRecord, course_appended}
 use Rattle.fee_laws.specs.declared.job.FeeJob.{FeeJob}
 use Rattle.fee_laws.specs.Work.{begins_next, seal_turns}
 
--- the kind of the record of an operation; a read has none, and stands with the erasings
-abbrev pub kind_of : DeviceOp → RecordKind
-kind_of Read = kind.Erased
-kind_of Write = kind.Content
-kind_of Invalidate = kind.Invalid
-kind_of Erase = kind.Erased
+-- the kind of the record of an operation; a read has none
+abbrev pub kind_of : DeviceOp → Option RecordKind
+kind_of Read = None
+kind_of Write = Some kind.Content
+kind_of Invalidate = Some kind.Invalid
+kind_of Erase = Some kind.Erased
 
--- the header of its record, the next one of its number
-abbrev pub head_of : LogState → FeeJob → RecHead
-head_of log j = head_next log j.number.0 (kind_of j.op) j.length
+-- the header of a job's record of a kind, the next one of its number
+abbrev pub head_of : LogState → RecordKind → FeeJob → RecHead
+head_of log kind j = head_next log j.number kind j.length
 
 -- a content has its number's length, and a mark none
 abbrev pub IsLengthOf : DeviceOp → ℕ → ℕ → Type 0
@@ -44,13 +44,13 @@ pub record IsJobOf (numbers : List (DeviceNumber × ℕ)) (j : FeeJob) : Type 0 
 pub record IsInWork (s : BanksState) (job : Option FeeJob) (h : RecHead) : Type 0 where
   pub of : FeeJob
   pub is_open : job ≡ Some of
-  pub head : h ≡ head_of s.log of
-  pub writes : of.op ≢ Read
+  pub writes : kind_of of.op ≡ Some h.kind
+  pub head : h ≡ head_of s.log h.kind of
   pub active : is_some s.active ≡ true
   pub taken : TakesRecord h.kind s.course
   pub beside : is_some s.course ≡ true → of.urgent ≡ true
-  pub clear : with_flag s.log.numbers s.log.flags h.number false ≡ s.log.flags
-  pub alone : course_appended s.log.numbers h.number s.course ≡ s.course
+  pub clear : with_flag s.log.numbers s.log.flags h.number.0 false ≡ s.log.flags
+  pub alone : course_appended s.log.numbers h.number.0 s.course ≡ s.course
 
 -- an urgent write that is promised begins next, or waits for the seal of another bank
 abbrev pub IsReady : BanksState → FeeJob → Type 0

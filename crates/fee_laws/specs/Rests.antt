@@ -6,8 +6,7 @@ use Rattle.memif.specs.declared.answer.DeviceTurn.TheVariants as turn
 use Rattle.memif.specs.Calls.{Turns}
 use Rattle.fls_model.specs.Told.{Told}
 use Rattle.promise_device.specs.Making.{Making}
-use Rattle.fee_told.specs.Device.{told_of}
-use Rattle.fee_told.specs.Clock.{clock_of}
+use Rattle.fee_told.specs.Device.{told_of, clock_of}
 use Rattle.fee_laws.specs.Inside.{Parts, device_of, IsSound}
 
 -- the device is as it was

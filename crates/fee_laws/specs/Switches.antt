@@ -41,7 +41,7 @@ op_in s at = op_at (target_at s at) at
 -- of the header of the record that copies a mark
 abbrev pub mark_op_for : LogState → Place → Option (DeviceNumber × ℕ) → Op
 mark_op_for copies place None = nothing
-mark_op_for copies place (Some n) = op_of (begun copies (head_at place n.0.0 n.1)) []
+mark_op_for copies place (Some n) = op_of (begun copies (head_at place n.0 n.1)) []
 
 abbrev pub mark_op_of : BanksState → Option Source → Op
 mark_op_of s None = nothing

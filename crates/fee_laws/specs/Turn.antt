@@ -12,9 +12,9 @@ use Rattle.fls_jobs.specs.State.{FlsState, IsDriverState}
 use Rattle.fee_log.specs.Log.{IsLogState}
 use Rattle.fee_switch.specs.Banks.{BanksState, IsBanksState}
 use Rattle.promise_device.specs.Making.{Making}
-use Rattle.fee_told.specs.Device.{told_of}
-use Rattle.fee_told.specs.Clock.{clock_of, change_of}
-use Rattle.fee_told.specs.Runs.{counts_fault}
+use Rattle.fls_told.specs.Clock.{change_of}
+use Rattle.fls_told.specs.Runs.{counts_fault}
+use Rattle.fee_told.specs.Device.{told_of, clock_of}
 use Rattle.fee_laws.specs.Inside.{Parts, device_of, IsSound}
 
 -- BEFORE

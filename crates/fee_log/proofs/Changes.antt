@@ -43,11 +43,11 @@ module _ {A : Type 0} where
 
 -- PLACES
 -- a record of another number changes nothing
-not_fits : (number length : ℕ) (h : RecHead) → h.number ≢ number → fits number length h ≡ false
-not_fits number length h differs = rw (ne_eqb h.number number differs) refl
+not_fits : (number length : ℕ) (h : RecHead) → h.number.0 ≢ number → fits number length h ≡ false
+not_fits number length h differs = rw (ne_eqb h.number.0 number differs) refl
 
 pub noted_none : (ns : List (DeviceNumber × ℕ)) (places : List Place) (at : ℕ) (h : RecHead)
-    → All (λ n. n.0.0 ≢ h.number) ns → places ≡ noted ns places at h
+    → All (λ n. n.0.0 ≢ h.number.0) ns → places ≡ noted ns places at h
 noted_none [] places at h none = refl
 noted_none (n ∷ ns) [] at h none = refl
 noted_none (n ∷ ns) (place ∷ places) at h none =
@@ -57,7 +57,7 @@ noted_none (n ∷ ns) (place ∷ places) at h none =
 -- a record of the number at an index changes its place, where it fits
 noted_at : (low : ℕ) (ns : List (DeviceNumber × ℕ)) (places : List Place) (at : ℕ) (h : RecHead) (i : ℕ) (d : DeviceNumber × ℕ)
     → AreLengths low ns → length places ≡ length ns → i < length ns
-    → ((n : DeviceNumber × ℕ) → (get_or ns i n).0.0 ≡ h.number)
+    → ((n : DeviceNumber × ℕ) → (get_or ns i n).0.0 ≡ h.number.0)
     → noted ns places at h ≡ (if fits (get_or ns i d).0.0 (get_or ns i d).1 h then set places i (place_at at h) else places)
 noted_at low [] places at h i d all each lt is = absurd (omega arith)
 noted_at low (n ∷ ns) [] at h i d all each lt is = absurd (omega arith)
@@ -74,7 +74,7 @@ noted_at low (n ∷ ns) (place ∷ places) at h (suc i) d all each lt is =
 
 -- by what was found of them
 pub noted_by : (ns list : List (DeviceNumber × ℕ)) (places : List Place) (at : ℕ) (h : RecHead) (i : ℕ) (ok : Bool)
-    → AreLengths 0 ns → length places ≡ length ns → i < length ns → ((n : DeviceNumber × ℕ) → (get_or ns i n).0.0 ≡ h.number)
+    → AreLengths 0 ns → length places ≡ length ns → i < length ns → ((n : DeviceNumber × ℕ) → (get_or ns i n).0.0 ≡ h.number.0)
     → list ≡ ns → (let d : DeviceNumber × ℕ = (record { 0 = 0 }, 0) in ok ≡ fits (get_or list i d).0.0 (get_or list i d).1 h)
     → noted ns places at h ≡ (if ok then set places i (place_at at h) else places)
 noted_by ns list places at h i ok all each lt is same fit = rw (fit, same) (noted_at 0 ns places at h i (record { 0 = 0 }, 0) all each lt is)

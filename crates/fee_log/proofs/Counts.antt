@@ -96,4 +96,4 @@ next_counted : (count : ℕ) → count < 2 ^ 32 → more_writes 1 count < 2 ^ 32
 next_counted count small = omega (arith, small)
 
 pub next_is_counted : NextIsCounted
-next_is_counted s number kind length sound = next_counted (count_at (place_in s.numbers s.places number)) (found_counted s.places (place_of s.numbers number) sound.counts)
+next_is_counted s number kind length sound = next_counted (count_at (place_in s.numbers s.places number.0)) (found_counted s.places (place_of s.numbers number.0) sound.counts)

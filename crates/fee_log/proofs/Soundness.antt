@@ -100,7 +100,7 @@ length_of_kind kind.Erased got length some is = is
 pub legal_for : (numbers : List (DeviceNumber × ℕ)) (h : RecHead) → AreLengths 0 numbers → IsFor numbers h
     → IsLegalRecHead h
 legal_for numbers h all is =
-    let x : DeviceNumber × ℕ = (record { 0 = h.number }, is.length) in
+    let x : DeviceNumber × ℕ = (h.number, is.length) in
     let up = numbers_are_in_bounds 0 numbers is.configured.0 x all (slice_get-get_or numbers is.configured.0 x is.configured.1 ∙ ap Some is.configured.2) in
     record {
       number_low = up.0;
@@ -138,7 +138,7 @@ begun_sound s h sound idle is room = record {
   numbers = sound.numbers;
   places = sound.places;
   counts = sound.counts;
-  flags = rw (flag_length s.numbers s.flags h.number false) sound.flags;
+  flags = rw (flag_length s.numbers s.flags h.number.0 false) sound.flags;
   end_low = sound.end_low;
   end_high = sound.end_high;
   tail =

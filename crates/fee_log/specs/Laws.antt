@@ -111,7 +111,7 @@ abbrev pub PlacesAreCounted : Type 0
 PlacesAreCounted = (s : LogState) (i : ℕ) (place : Place) → IsLogState s → slice_get s.places i ≡ Some place → count_at place < 2 ^ 32
 
 abbrev pub NextIsCounted : Type 0
-NextIsCounted = (s : LogState) (number : ℕ) (kind : RecordKind) (length : ℕ) → IsLogState s → (head_next s number kind length).count < 2 ^ 32
+NextIsCounted = (s : LogState) (number : DeviceNumber) (kind : RecordKind) (length : ℕ) → IsLogState s → (head_next s number kind length).count < 2 ^ 32
 
 -- STEPS
 -- what may be found after an answer: after a record's last page its mark alone

@@ -178,13 +178,13 @@ IsLengthFor kind.Erased got length = got ≡ 0
 -- the number is configured, with this length
 pub record IsFor (numbers : List (DeviceNumber × ℕ)) (h : RecHead) : Type 0 where
   pub length : ℕ
-  pub configured : Contains numbers (record { 0 = h.number }, length)
+  pub configured : Contains numbers (h.number, length)
   pub kind : IsLengthFor h.kind h.length length
   pub count : h.count < 2 ^ 32
 
 -- the header of the next record of a number
-abbrev pub head_next : LogState → ℕ → RecordKind → ℕ → RecHead
-head_next s number kind length = record { number = number; kind = kind; length = length; count = more_writes 1 (count_at (place_in s.numbers s.places number)) }
+abbrev pub head_next : LogState → DeviceNumber → RecordKind → ℕ → RecHead
+head_next s number kind length = record { number = number; kind = kind; length = length; count = more_writes 1 (count_at (place_in s.numbers s.places number.0)) }
 
 -- behind an owed gate it waits for that gate
 abbrev pub tail_begun : Tail → RecHead → Tail
@@ -193,4 +193,4 @@ tail_begun _ head = Writes head 0
 
 -- it clears its number's flag
 abbrev pub begun : LogState → RecHead → LogState
-begun s head = record s { tail = tail_begun s.tail head; flags = with_flag s.numbers s.flags head.number false }
+begun s head = record s { tail = tail_begun s.tail head; flags = with_flag s.numbers s.flags head.number.0 false }

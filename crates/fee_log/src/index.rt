@@ -106,9 +106,9 @@ fn matches_length(kind: RecordKind, size: usize, length: u16) -> bool
 
 // Whether a record of this number is one of its length, for a content.
 fn fits(wanted: (DeviceNumber, u16), number: DeviceNumber, kind: RecordKind, size: usize) -> bool
-    ensures { (count : _) → result ≡ fits wanted.0.0 wanted.1 (record { number = number.0; kind = kind; length = size; count = count }) }
+    ensures { (count : _) → result ≡ fits wanted.0.0 wanted.1 (record { number = number; kind = kind; length = size; count = count }) }
 {
-    number.0 == wanted.0.0 && matches_length(kind, size, wanted.1)
+    number == wanted.0 && matches_length(kind, size, wanted.1)
 }
 
 /// Takes a committed record into the places, where it fits a number.
@@ -122,7 +122,7 @@ pub(crate) fn note(
     count: u32,
 )
     requires { length places.old ≡ length numbers.now }
-    ensures { places.new ≡ noted numbers.now places.old at (record { number = number.0; kind = kind; length = size; count = count }) }
+    ensures { places.new ≡ noted numbers.now places.old at (record { number = number; kind = kind; length = size; count = count }) }
 {
     let Some(i) = numbers.place_of(number) else {
         return;

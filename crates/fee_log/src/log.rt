@@ -235,20 +235,20 @@ impl Log {
         requires view { IsViewOf self.old view.now }
         ensures log { IsLoaded view.now self.old self.new }
     {
-        take_records(view, &self.numbers, &mut self.places);
+        let end = take_records(view, &self.numbers, &mut self.places);
         clear_all(&self.numbers, &mut self.flags);
         self.format = view.head().format;
-        self.end = view.end_page();
-        self.tail = tail_seen(view);
+        self.end = end;
+        self.tail = tail_seen(view, end);
     }
 
     /// The header of the next record of a number, which is counted by one more.
     pub fn head_next(&self, number: DeviceNumber, kind: RecordKind, length: u16) -> RecHead
-        ensures head { result ≡ head_next self.now number.0 kind length }
+        ensures head { result ≡ head_next self.now number kind length }
         ensures state { IsLogState self.now }
     {
         RecHead {
-            number: number.0,
+            number,
             kind,
             length,
             count: count_at(self.find(number)).saturating_add(1),
@@ -263,12 +263,7 @@ impl Log {
         requires room { record_pages_of head.length self.old.geometry.page ≤ free_in self.old }
         ensures { self.new ≡ begun self.old head }
     {
-        put_flag(
-            &self.numbers,
-            &mut self.flags,
-            DeviceNumber(head.number),
-            false,
-        );
+        put_flag(&self.numbers, &mut self.flags, head.number, false);
         self.tail = tail_begun(self.tail, head);
     }
 
@@ -375,7 +370,7 @@ impl Log {
             &self.numbers,
             &mut self.places,
             self.end,
-            DeviceNumber(head.number),
+            head.number,
             head.kind,
             usize::from(head.length),
             head.count,

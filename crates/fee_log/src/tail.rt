@@ -1,5 +1,7 @@
 // What stands behind a log's records.
-ghost use Rattle.std.specs.Prelude.{◌≡◌};
+ghost use Rattle.std.specs.Prelude.{◌≡◌, ◌≤◌};
+ghost use Rattle.fee_image.specs.RecordList.{end_of};
+ghost use Rattle.fee_view.specs.View.{bank_of};
 ghost use Rattle.fee_log.specs.Log.{IsTailSeen, tail_begun};
 
 use fee_format::{NEW_FORMAT, RecHead};
@@ -37,11 +39,13 @@ pub(crate) fn tail_begun(tail: Tail, begun: RecHead) -> Tail
     }
 }
 
-/// What stands behind the records of a bank: blank pages of the format that is written, or anything.
-pub(crate) fn tail_seen(view: &BankView<'_>) -> Tail
+/// What stands behind the records of a bank, from their end on: blank pages of the format that is written, or anything.
+pub(crate) fn tail_seen(view: &BankView<'_>, end: u32) -> Tail
+    requires end { end ≡ end_of (bank_of view.now) view.now.bytes }
+    requires inside { end ≤ view.now.pages }
     ensures { IsTailSeen view.now result }
 {
-    if view.head().format == NEW_FORMAT && view.tail_blank() {
+    if view.head().format == NEW_FORMAT && view.blank_from(end) {
         Tail::Open
     } else {
         Tail::Closed

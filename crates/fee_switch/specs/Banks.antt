@@ -28,8 +28,6 @@ use Rattle.fee_switch.specs.Active.{active_shown}
 use Rattle.fee_switch.specs.Start.{IsLoadedAs}
 use Rattle.fee_switch.specs.declared.phase.BankStart.{BankStart}
 use Rattle.fee_switch.specs.declared.phase.BankStart.TheVariants.{Ready, Failed}
-use Rattle.fee_switch.specs.declared.phase.BankStep.{BankStep}
-use Rattle.fee_switch.specs.declared.phase.BankStep.TheVariants as step
 use Rattle.fee_switch.specs.declared.target.Stage.{Stage}
 use Rattle.fee_switch.specs.declared.target.Target.{Target}
 use Rattle.fee_switch.specs.declared.phase.Phase.{Phase}
@@ -122,7 +120,7 @@ target_at s stage = record { geometry = s.geometry; banks = s.banks; bank = s.ta
 -- the number of the record in work, by its place in the list of all
 abbrev pub index_of : List (DeviceNumber × ℕ) → Option RecHead → Option ℕ
 index_of numbers None = None
-index_of numbers (Some h) = place_of numbers h.number
+index_of numbers (Some h) = place_of numbers h.number.0
 
 abbrev pub left_with : BanksState → Option Course → ℕ
 left_with s None = 0
@@ -174,7 +172,7 @@ abbrev pub course_appended : List (DeviceNumber × ℕ) → ℕ → Option Cours
 course_appended numbers number course = appended_at (place_of numbers number) course
 
 abbrev pub append_begun : BanksState → RecHead → BanksState
-append_begun s head = record s { log = begun s.log head; course = course_appended s.log.numbers head.number s.course }
+append_begun s head = record s { log = begun s.log head; course = course_appended s.log.numbers head.number.0 s.course }
 
 -- STEPS
 -- the target stands: the roles turn
@@ -227,12 +225,3 @@ abbrev pub after_answer : BanksState → Course → FlashAnswer → BanksState
 after_answer s course Done = done_at s course
 after_answer s course FlashFailed = fallen_back s course
 after_answer s course Off = s
-
-abbrev pub step_done : Course → BankStep
-step_done (Gate failed) = step.Ended
-step_done course = step.More
-
-abbrev pub step_of : Course → FlashAnswer → BankStep
-step_of course Done = step_done course
-step_of course FlashFailed = step.Failed
-step_of course Off = step.Off

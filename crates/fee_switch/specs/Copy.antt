@@ -20,10 +20,9 @@ use Rattle.fee_course.specs.declared.copies.Source.{Source}
 use Rattle.fee_course.specs.declared.course.Course.{Course}
 use Rattle.fee_course.specs.declared.course.Course.TheVariants.{Erase, Copy, Head, Gate}
 use Rattle.fee_course.specs.Copies.{next_copy}
-use Rattle.fee_switch.specs.declared.phase.BankStep.{BankStep}
 use Rattle.fee_switch.specs.declared.target.Stage.TheVariants as stage
 use Rattle.fee_switch.specs.Target.{op_at}
-use Rattle.fee_switch.specs.Banks.{BanksState, target_at, after_answer, step_of}
+use Rattle.fee_switch.specs.Banks.{BanksState, target_at, after_answer}
 
 -- A COPY BEGINS
 -- a record begins where a read was done
@@ -32,7 +31,7 @@ begun_where Done log head = begun log head
 begun_where _ log head = log
 
 -- the record that copies what stands at a place, as often written
-abbrev pub head_at : Place → ℕ → ℕ → RecHead
+abbrev pub head_at : Place → DeviceNumber → ℕ → RecHead
 head_at (Content at count) number length = record { number = number; kind = kind.Content; length = length; count = count }
 head_at (Invalid count) number length = record { number = number; kind = kind.Invalid; length = 0; count = count }
 head_at (Erased count) number length = record { number = number; kind = kind.Erased; length = 0; count = count }
@@ -41,14 +40,13 @@ head_at Unwritten number length = record { number = number; kind = kind.Erased; 
 -- the copy of a number has its content, and has room
 pub record CanBegin (s : BanksState) (number : DeviceNumber) (source : Source) : Type 0 where
   pub within : IsWithin s.geometry.page s.log.end source.length source.place
-  pub some : 0 < source.length
   pub fits : source.length ≤ length s.buffer
   pub idle : work_in s.copies.tail ≡ None
-  pub configured : IsFor s.copies.numbers (head_at source.place number.0 source.length)
-  pub room : record_pages_of (head_at source.place number.0 source.length).length s.geometry.page ≤ free_in s.copies
+  pub configured : IsFor s.copies.numbers (head_at source.place number source.length)
+  pub room : record_pages_of (head_at source.place number source.length).length s.geometry.page ≤ free_in s.copies
 
 -- a content is read to the front of the buffer, and of a mark the first page is programmed
-abbrev pub BeginsAt : Place → BanksState → ℕ → ℕ → Told → FlashAnswer → BanksState → Told → Type 0
+abbrev pub BeginsAt : Place → BanksState → DeviceNumber → ℕ → Told → FlashAnswer → BanksState → Told → Type 0
 BeginsAt (Content at count) s number length told answer t told' =
     IsRead (address_of_page s.geometry s.banks s.log.bank (at + 2)) told (take length s.buffer) answer (take length t.buffer) told'
     × (t ≡ record s { copies = begun_where answer s.copies (head_at (Content at count) number length); buffer = t.buffer })
@@ -72,7 +70,7 @@ pub record BeginsNext (s : BanksState) (told : Told) (answer : FlashAnswer) (t :
   pub source : Source
   pub number : DeviceNumber
   pub next : IsNext s source number
-  pub begins : BeginsAt source.place s number.0 source.length told answer t told'
+  pub begins : BeginsAt source.place s number source.length told answer t told'
 
 -- A STEP
 -- the copy in work has its content in the buffer
@@ -96,9 +94,7 @@ MakesNext s Head told answer t told' = IsStep (op_at (target_at s stage.Head) st
 MakesNext s (Gate failed) told answer t told' = IsStep (op_at (target_at s stage.Gate) stage.Gate) told answer told' × (t ≡ s)
 
 -- the next operation is made, and then what its answer leaves
-pub record IsBankStep (s : BanksState) (course : Course) (told : Told) (result : BankStep) (t : BanksState) (told' : Told) : Type 0 where
-  pub answer : FlashAnswer
+pub record IsBankStep (s : BanksState) (course : Course) (told : Told) (answer : FlashAnswer) (t : BanksState) (told' : Told) : Type 0 where
   pub made : BanksState
   pub makes : MakesNext s course told answer made told'
   pub after : t ≡ after_answer made course answer
-  pub is : result ≡ step_of course answer

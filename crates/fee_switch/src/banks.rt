@@ -151,7 +151,7 @@ impl Banks {
         };
         let (numbers, places, flags) = self.log.lists();
         let appended = match self.log.work() {
-            Some(head) => numbers.place_of(DeviceNumber(head.number)),
+            Some(head) => numbers.place_of(head.number),
             None => None,
         };
         let sectors = self.bank_sectors();
@@ -194,7 +194,7 @@ impl Banks {
         requires room { record_pages_of head.length self.old.geometry.page ≤ free_in self.old.log }
         ensures { self.new ≡ append_begun self.old head }
     {
-        let index = self.log.lists().0.place_of(DeviceNumber(head.number));
+        let index = self.log.lists().0.place_of(head.number);
         self.log.append_start(head);
         if let (Some(course), Some(index)) = (self.course, index) {
             self.course = Some(course.appended_to(index));

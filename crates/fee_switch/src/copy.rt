@@ -20,7 +20,7 @@ use nv_base::DeviceNumber;
 
 /// The record that copies what stands at a place of a number, as often written.
 pub(crate) fn head_at(place: Place, number: DeviceNumber, size: u16) -> RecHead
-    ensures { result ≡ head_at place number.0 size }
+    ensures { result ≡ head_at place number size }
 {
     let (kind, length, count) = match place {
         Place::Content { count, .. } => (RecordKind::Content, size, count),
@@ -29,7 +29,7 @@ pub(crate) fn head_at(place: Place, number: DeviceNumber, size: u16) -> RecHead
         Place::Unwritten => (RecordKind::Erased, 0, 0),
     };
     RecHead {
-        number: number.0,
+        number,
         kind,
         length,
         count,
@@ -48,7 +48,6 @@ pub(crate) fn read_content<F: Flash>(
     requires idle { IsIdle fls.old }
     requires geometry { fls.old.geometry ≡ log.now.geometry }
     requires within { at + record_pages_of head.length log.now.geometry.page ≤ log.now.end }
-    requires some { 0 < head.length }
     requires buffer { head.length ≤ length buffer.old }
     requires no_work { work_in copies.old.tail ≡ None }
     requires configured { IsFor copies.old.numbers head }

@@ -19,6 +19,6 @@ mod target;
 
 pub use active::{ActiveBank, comes_first};
 pub use banks::Banks;
-pub use phase::{BankBegin, BankStart, BankStep, Phase};
+pub use phase::{BankBegin, BankStart, Phase};
 pub use reading::read_bank;
 pub use target::{Stage, Target};

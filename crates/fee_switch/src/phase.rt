@@ -29,16 +29,6 @@ pub enum BankBegin {
     WornOut,
 }
 
-/// The answer to a step of a switch: its operation was done, and was or wasn't the last; it failed, which a fault counts; or
-/// the power is off.
-#[derive(Clone, Copy)]
-pub enum BankStep {
-    More,
-    Ended,
-    Failed,
-    Off,
-}
-
 /// The phase of a course, if a switch is open.
 pub(crate) fn phase_of(course: Option<Course>) -> Phase
     ensures { result ≡ phase_of course }

@@ -9,11 +9,11 @@ ghost use Rattle.fee_log.specs.Log.{work_in};
 ghost use Rattle.fee_course.specs.Course.{IsShort};
 ghost use Rattle.fee_switch.specs.Target.{IsWorking, op_at};
 ghost use Rattle.fee_switch.specs.Copy.{CanBegin, BeginsAt, CanCopy, BeginsNext, CanGoOn, MakesNext, IsBankStep};
-ghost use Rattle.fee_switch.specs.Banks.{is_worn_out, target_at, ended, advanced, fallen_back, after_answer, step_of};
+ghost use Rattle.fee_switch.specs.Banks.{is_worn_out, target_at, ended, advanced, fallen_back, after_answer};
 
 use crate::copy::{begin_mark, copy_page, head_at, read_content};
 use crate::due::{set_flag_due, target_of};
-use crate::{ActiveBank, BankStep, Banks, Stage, Target};
+use crate::{ActiveBank, Banks, Stage, Target};
 use fee_course::{Course, Source, next_copy};
 use fee_format::{BankHead, NEW_FORMAT};
 use fee_image::Place;
@@ -98,27 +98,17 @@ impl Banks {
     }
 
     // What an answer leaves of the banks.
-    fn settle(&mut self, course: Course, answer: FlashAnswer) -> BankStep
+    fn settle(&mut self, course: Course, answer: FlashAnswer)
         requires short { IsShort (sectors_of_bank self.old.geometry self.old.banks) course }
         requires worn { is_worn_out self.old.active ≡ false }
         requires course { self.old.course ≡ Some course }
-        ensures after { self.new ≡ after_answer self.old course answer }
-        ensures answer { result ≡ step_of course answer }
+        ensures { self.new ≡ after_answer self.old course answer }
     {
         match (answer, course) {
-            (FlashAnswer::Done, Course::Gate { .. }) => {
-                self.turn_roles();
-                BankStep::Ended
-            }
-            (FlashAnswer::Done, course) => {
-                self.advance(course);
-                BankStep::More
-            }
-            (FlashAnswer::Failed, course) => {
-                self.fall_back(course);
-                BankStep::Failed
-            }
-            (FlashAnswer::Off, _) => BankStep::Off,
+            (FlashAnswer::Done, Course::Gate { .. }) => self.turn_roles(),
+            (FlashAnswer::Done, course) => self.advance(course),
+            (FlashAnswer::Failed, course) => self.fall_back(course),
+            (FlashAnswer::Off, _) => {}
         }
     }
 
@@ -132,7 +122,7 @@ impl Banks {
         requires can { CanBegin self.old number source }
         requires idle { IsIdle fls.old }
         requires geometry { fls.old.geometry ≡ self.old.geometry }
-        ensures begins { BeginsAt source.place self.old number.0 source.length fls.old.flash result self.new fls.new.flash }
+        ensures begins { BeginsAt source.place self.old number source.length fls.old.flash result self.new fls.new.flash }
         ensures same { fls.new ≡ record fls.old { flash = fls.new.flash; result = closed_as result } }
     {
         let head = head_at(source.place, number, source.length);
@@ -196,8 +186,8 @@ impl Banks {
     /// by the next one, and behind the last one the copies come: of each number in order that has a record and no copy,
     /// with one read of a content and one turn a page. The head and the gate come only where no copy is left; after a
     /// failed copy or head the first erase comes again, and a failed gate is programmed again until one is done: then the
-    /// target is active.
-    pub fn step<F: Flash>(&mut self, fls: &mut Fls<F>) -> BankStep
+    /// target is active. Answers what the flash did.
+    pub fn step<F: Flash>(&mut self, fls: &mut Fls<F>) -> FlashAnswer
         requires open { is_some self.old.course ≡ true }
         requires no_work { work_in self.old.log.tail ≡ None }
         requires worn { is_worn_out self.old.active ≡ false }
@@ -211,6 +201,7 @@ impl Banks {
             unreachable!();
         };
         let answer = self.call(fls, course);
-        self.settle(course, answer)
+        self.settle(course, answer);
+        answer
     }
 }

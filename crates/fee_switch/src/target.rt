@@ -1,7 +1,7 @@
 // The steps of a switch's target that aren't copies.
 ghost use Rattle.std.specs.Prelude.{◌≡◌, ◌<◌, ◌≤◌, ◌+◌, ◌*◌, length, take};
 ghost use Rattle.std.specs.List.{All};
-ghost use Rattle.nv_base.specs.Geometry.{address_of_page, pages_of_bank, sectors_of_bank};
+ghost use Rattle.nv_base.specs.Geometry.{IsLegal, HasBanks, address_of_page, pages_of_bank, sectors_of_bank};
 ghost use Rattle.fls_model.specs.Step.{IsStep, programs};
 ghost use Rattle.fls_model.specs.Told.{HasPage, HasSector};
 ghost use Rattle.fls_jobs.specs.CallOf.{closed_as};
@@ -61,7 +61,9 @@ fn fill_gate(size: usize, buffer: &mut [u8])
 impl Target {
     // Programs a page of the bank.
     fn program_page<F: Flash>(&self, fls: &mut Fls<F>, page: u32, bytes: &[u8]) -> FlashAnswer
-        requires target { IsTarget self.now }
+        requires legal { IsLegal self.now.geometry }
+        requires shared { HasBanks self.now.geometry self.now.banks }
+        requires bank { self.now.bank < self.now.banks }
         requires page { page < pages_of_bank self.now.geometry self.now.banks }
         requires size { length bytes.now ≡ self.now.geometry.page }
         requires idle { IsIdle fls.old }
@@ -76,7 +78,9 @@ impl Target {
 
     // The number of a sector of the bank among those of the flash.
     fn flash_sector(&self, sector: u32) -> u32
-        requires target { IsTarget self.now }
+        requires legal { IsLegal self.now.geometry }
+        requires shared { HasBanks self.now.geometry self.now.banks }
+        requires bank { self.now.bank < self.now.banks }
         requires sector { sector < sectors_of_bank self.now.geometry self.now.banks }
         ensures value { result ≡ self.now.bank * sectors_of_bank self.now.geometry self.now.banks + sector }
         ensures inside { result < self.now.geometry.sectors }
@@ -86,7 +90,9 @@ impl Target {
 
     // Erases a sector of the bank.
     fn erase_sector<F: Flash>(&self, fls: &mut Fls<F>, sector: u32) -> FlashAnswer
-        requires target { IsTarget self.now }
+        requires legal { IsLegal self.now.geometry }
+        requires shared { HasBanks self.now.geometry self.now.banks }
+        requires bank { self.now.bank < self.now.banks }
         requires sector { sector < sectors_of_bank self.now.geometry self.now.banks }
         requires idle { IsIdle fls.old }
         requires geometry { fls.old.geometry ≡ self.now.geometry }

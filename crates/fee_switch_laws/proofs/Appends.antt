@@ -145,7 +145,7 @@ module _ (s : BanksState) (bodies : Bodies) (old : List ℕ) (may copied : May) 
 begun_phase : (s : BanksState) (head : RecHead) (body : List ℕ) → phase_shown s.course (record s { log = begun s.log head }) body ≡ phase_shown (append_begun s head).course (append_begun s head) body
 begun_phase s head body =
     other_log s.course (record s { log = begun s.log head }) (begun s.log head) (append_begun s head).course body
-    ∙ sym (same_phase (place_of s.log.numbers head.number) s.course (append_begun s head) body)
+    ∙ sym (same_phase (place_of s.log.numbers head.number.0) s.course (append_begun s head) body)
 
 pub appends_begin : AppendsBegin
 appends_begin s bodies bytes body may copied a head is active may_begin holds =
@@ -164,8 +164,8 @@ appends_clear s bodies bytes body may fs a head is active may_begin follows hold
     let t = append_begun s head in
     let taking = subst TakesAppends (begun_phase s head bodies.copy) (takes head.kind s.course (record s { log = begun s.log head }) bodies.copy may_begin.taken) in
     record {
-      banks = flags_may_clear (layout_in s) s.log.numbers bytes (banks_shown t (record bodies { append = body }) may (copied_of fs)) head.number fs h.banks taking;
-      flags = are_with s.log.numbers s.log.places s.log.flags fs head.number false holds.flags;
+      banks = flags_may_clear (layout_in s) s.log.numbers bytes (banks_shown t (record bodies { append = body }) may (copied_of fs)) head.number.0 fs h.banks taking;
+      flags = are_with s.log.numbers s.log.places s.log.flags fs head.number.0 false holds.flags;
     }
 
 pub appends_go_on : AppendsGoOn

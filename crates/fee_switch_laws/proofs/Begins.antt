@@ -54,14 +54,14 @@ first_stays s body x ns ps cs = split (next_copy ns ps cs)
 module _ (s : BanksState) (bodies : Bodies) (bytes body : List ℕ) (may : May) (fs : List Flag)
     (source : Source) (number : DeviceNumber) (is : IsBanksState s) (target : IsCopyLog s) (begins : IsBeginning s source number body fs) (holds : HoldsFlags s bodies bytes may fs) where
   abbrev head : RecHead
-  head = head_at source.place number.0 source.length
+  head = head_at source.place number source.length
 
   open_for : IsOpenFor number.0 fs
   open_for =
       let there = slice_get-get_or s.log.numbers source.index (number, source.length) begins.next.inside ∙ ap Some (begins.next.named (number, source.length)) in
       next_is_open s.log.numbers s.log.places s.log.flags fs source (number, source.length) (subst (AreLengths 0) is.numbers target.state.numbers) holds.flags begins.next.first there
 
-  number_is : (place : Place) → (head_at place number.0 source.length).number ≡ number.0
+  number_is : (place : Place) → (head_at place number source.length).number ≡ number
   number_is (Content at count) = refl
   number_is (Invalid count) = refl
   number_is (Erased count) = refl
@@ -84,14 +84,14 @@ module _ (s : BanksState) (bodies : Bodies) (bytes body : List ℕ) (may : May) 
   pub begun_held : Held s bodies bytes may (Copying (log_of (begun s.copies head) body)) fs
   begun_held =
       let idle : (log_of s.copies bodies.copy).tail ≡ LogOpen = ap (λ (t : Tail). tail_with t bodies.copy) begins.tail in
-      let opened = subst (λ (n : ℕ). IsOpenFor n fs) (sym (number_is source.place)) open_for in
+      let opened = subst (λ (n : DeviceNumber). IsOpenFor n.0 fs) (sym (number_is source.place)) open_for in
       let h = copies_may_begin (layout_in s) s.log.numbers bytes (banks_shown s bodies may (copied_of fs)) (log_of s.copies bodies.copy) head body fs holds.banks phase idle is_record opened in
       subst (λ (x : Log). Held s bodies bytes may (Copying x) fs) (sym (begins_open s.copies head body begins.tail)) h
 
 pub contents_begin : ContentsBegin
 contents_begin s bodies bytes buffer body may fs source number at count is target place begins holds =
     let h = begun_held s bodies bytes body may fs source number is target begins holds in
-    let made : BanksState = record s { copies = begun s.copies (head_at source.place number.0 source.length); buffer = buffer } in
+    let made : BanksState = record s { copies = begun s.copies (head_at source.place number source.length); buffer = buffer } in
     advanced_holds made (record bodies { copy = body }) bytes may fs (Copy None) (first_stays made body) (record { flags = s.log.flags; is = refl; are = holds.flags }) h
 
 pub contents_fall_back : ContentsFallBack
@@ -139,7 +139,7 @@ module _ (s : BanksState) (bodies : Bodies) (old new : List ℕ) (may : May) (fs
   phase_made : phase_shown made.course made [] ≡ Copying (log_of made.copies [])
   phase_made = ap (λ (c : Option Course). phase_shown c made []) begins.begins.course
 
-  same_mark : head_at source.place number.0 source.length ≡ mark
+  same_mark : head_at source.place number source.length ≡ mark
   same_mark = refl
 
   held : HoldsFlags made with_mark old may fs

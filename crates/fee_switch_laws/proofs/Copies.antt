@@ -237,8 +237,8 @@ copies_go_on s bodies old new may fs w is target course work holds leaves done =
     let pages_of = pages_of_head p work.head in
     let h = goes_on s bodies old new may fs work.head work.done w.sets is target work.tail work.page (phase_of_page s bodies w course) holds work.copies leaves done in
     let last = turned (eqb w.pages 1) w.sets (eqb (work.done + 1) pages_of) (last_page work.done w.pages pages_of work.pages) in
-    let one = one_flagged s.log fs w.index (record { 0 = work.head.number }, work.length) (w.sets && eqb w.pages 1) work.named holds.flags in
-    let flags = subst (λ (b : Bool). IsFlagged s.log (flagged_by s.log (flag_due (Copy (Some w)))) (cond b (marked work.head.number fs) fs)) (sym last) one in
+    let one = one_flagged s.log fs w.index (work.head.number, work.length) (w.sets && eqb w.pages 1) work.named holds.flags in
+    let flags = subst (λ (b : Bool). IsFlagged s.log (flagged_by s.log (flag_due (Copy (Some w)))) (cond b (marked work.head.number.0 fs) fs)) (sym last) one in
     let made : BanksState = record s { copies = after_step s.copies Done } in
     let tail = ap (λ (t : Tail). tail_with t bodies.copy) work.tail in
     subst (λ (t : LogTail). HoldsFlags (advanced made (Copy (Some w))) bodies new may (flags_copied p w.sets t fs)) (sym tail)

@@ -37,16 +37,16 @@ open_is_any (f ∷ fs) number length open' = split (eqb f.number number) refl (e
     split true is false here behind = behind
     split false is c here behind = behind
 
-number_of_fit : (number length : ℕ) (h : RecHead) → fits number length h ≡ true → h.number ≡ number
-number_of_fit number length h fit = eqb-true h.number number (and_parts (eqb h.number number) _ fit).0
+number_of_fit : (number length : ℕ) (h : RecHead) → fits number length h ≡ true → h.number.0 ≡ number
+number_of_fit number length h fit = eqb-true h.number.0 number (and_parts (eqb h.number.0 number) _ fit).0
 
-open_may_be : (fs : List Flag) (h : RecHead) (number length : ℕ) (m : Held) → IsOpenFor h.number fs → fits number length h ≡ true → IsAmong (copied_of fs number length) m
+open_may_be : (fs : List Flag) (h : RecHead) (number length : ℕ) (m : Held) → IsOpenFor h.number.0 fs → fits number length h ≡ true → IsAmong (copied_of fs number length) m
 open_may_be fs h number length m open' fit =
     let same = number_of_fit number length h fit in
     let none : copied_of fs number length ≡ None = open_is_any fs number length (subst (λ (n : ℕ). IsOpenFor n fs) same open') in
     subst (λ (o : Option (List Held)). IsAmong o m) (sym none) tt
 
-open_wide : (fs : List Flag) (h : RecHead) (body : List ℕ) → IsOpenFor h.number fs → IsWider (settling (copied_of fs) h body) (copied_of fs)
+open_wide : (fs : List Flag) (h : RecHead) (body : List ℕ) → IsOpenFor h.number.0 fs → IsWider (settling (copied_of fs) h body) (copied_of fs)
 open_wide fs h body open' number length m = split (fits number length h) refl
   where
     split : (b : Bool) → fits number length h ≡ b → IsAmong (cond b (Some (held_written h body ∷ [])) (copied_of fs number length)) m → IsAmong (copied_of fs number length) m
@@ -61,7 +61,7 @@ copied_wide p sets Closed fs is = λ number length m among. among
 copied_wide p sets (Writes h body done) fs is = split (is_last p h done) sets is
   where
     split : (b sets' : Bool) → CopiesOrNot sets' h body fs
-        → IsWider (cond b (settling (copied_of fs) h body) (copied_of fs)) (copied_of (cond (b && sets') (marked h.number fs) fs))
+        → IsWider (cond b (settling (copied_of fs) h body) (copied_of fs)) (copied_of (cond (b && sets') (marked h.number.0 fs) fs))
     split true true copies = marking_holds fs h body copies
     split true false open' = open_wide fs h body open'
     split false sets' copies = λ number length m among. among
@@ -70,7 +70,7 @@ module _ (l : Layout) (ns : List (DeviceNumber × ℕ)) (old new : List ℕ) (s 
   copying : IsCopying l ns old s.target log (copied_of fs)
   copying = subst (HoldsPhase l ns old (flagged s fs)) phase holds.phase
 
-  begins : (h : RecHead) (body : List ℕ) → log.tail ≡ Open → IsRecord (bank_in l new_format s.target) log.end h body → IsOpenFor h.number fs
+  begins : (h : RecHead) (body : List ℕ) → log.tail ≡ Open → IsRecord (bank_in l new_format s.target) log.end h body → IsOpenFor h.number.0 fs
       → Holds l ns old (flagged (record s { phase = Copying (log_begun log h body) }) fs)
   begins h body idle is open' =
       copies_change l ns old (flagged s fs) log (log_begun log h body) (copied_of fs) holds phase
@@ -115,7 +115,7 @@ appends_may_begin l ns bytes s k h log head body fs holds old takes idle is comm
     let bank = subst (λ (o : _). HoldsOld l ns bytes s.target o s.may) old holds.old in
     let next = image_records_begin (bank_in l h.format k) ns bytes s.may log head body bank.1.holds idle is commit in
     let begun = old_logs_change l ns bytes (flagged s fs) k h log (log_begun log head body) s.may holds old takes next in
-    flags_may_clear l ns bytes (record s { old = OldBank k h (log_begun log head body) }) head.number fs begun takes
+    flags_may_clear l ns bytes (record s { old = OldBank k h (log_begun log head body) }) head.number.0 fs begun takes
 
 pub appended_wide : (p : ℕ) (tail : Tail) (fs : List Flag) → IsAppendTo tail fs → IsWider (copied_of fs) (copied_of (flags_appended p tail fs))
 appended_wide p Open fs is = λ number length m among. among
@@ -123,8 +123,8 @@ appended_wide p (Owes h) fs is = λ number length m among. among
 appended_wide p Closed fs is = λ number length m among. among
 appended_wide p (Writes h body done) fs is = split (is_last p h done)
   where
-    split : (b : Bool) → IsWider (copied_of fs) (copied_of (cond b (settled_at h.number (held_written h body) fs) fs))
-    split true = subst (λ (x : List Flag). IsWider (copied_of x) (copied_of (settled_at h.number (held_written h body) x))) is (settling_widens fs h.number (held_written h body))
+    split : (b : Bool) → IsWider (copied_of fs) (copied_of (cond b (settled_at h.number.0 (held_written h body) fs) fs))
+    split true = subst (λ (x : List Flag). IsWider (copied_of x) (copied_of (settled_at h.number.0 (held_written h body) x))) is (settling_widens fs h.number.0 (held_written h body))
     split false = λ number length m among. among
 
 pub appended_pages_hold : AppendedPagesHold

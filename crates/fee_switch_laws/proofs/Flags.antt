@@ -47,9 +47,9 @@ are_clear (n ∷ ns) (x ∷ ps) (c ∷ cs) (f ∷ fs) are = (are.0, are.1, refl,
 
 -- A RECORD IS COMMITTED
 -- a record is one of a flag where it has its number
-fit_is : (f : Flag) (h : RecHead) (b : Bool) → eqb f.number h.number ≡ b → (IsTrue (eqb f.number h.number) → IsTrue (fits f.number f.length h)) → b ≡ fits f.number f.length h
+fit_is : (f : Flag) (h : RecHead) (b : Bool) → eqb f.number h.number.0 ≡ b → (IsTrue (eqb f.number h.number.0) → IsTrue (fits f.number f.length h)) → b ≡ fits f.number f.length h
 fit_is f h true e fit = sym (fit e)
-fit_is f h false e fit = sym (rw (ne_eqb h.number f.number (λ same. eqb-false f.number h.number e (sym same))) refl)
+fit_is f h false e fit = sym (rw (ne_eqb h.number.0 f.number (λ same. eqb-false f.number h.number.0 e (sym same))) refl)
 
 one_settled : (n : DeviceNumber × ℕ) (x y : Place) (c : Bool) (f : Flag) (m : Held) (a b : Bool) → a ≡ b → true ≡ is_written y
     → f.number ≡ n.0.0 → f.length ≡ n.1 → f.copied ≡ c → f.written ≡ is_written x
@@ -60,7 +60,7 @@ one_settled n x y c f m true false same new i j k l = cc
 one_settled n x y c f m false true same new i j k l = cc
 
 pub are_settled : (ns : List (DeviceNumber × ℕ)) (ps : List Place) (cs : List Bool) (fs : List Flag) (at : ℕ) (h : RecHead) (m : Held) → true ≡ is_written (place_at at h)
-    → Each (λ f. IsTrue (eqb f.number h.number) → IsTrue (fits f.number f.length h)) fs → AreFlagsOf ns ps cs fs → AreFlagsOf ns (noted ns ps at h) cs (settled_at h.number m fs)
+    → Each (λ f. IsTrue (eqb f.number h.number.0) → IsTrue (fits f.number f.length h)) fs → AreFlagsOf ns ps cs fs → AreFlagsOf ns (noted ns ps at h) cs (settled_at h.number.0 m fs)
 are_settled [] [] [] [] at h m new fit are = tt
 are_settled [] [] [] (f ∷ fs) at h m new fit are = absurd are
 are_settled [] [] (c ∷ cs) fs at h m new fit are = absurd are
@@ -70,7 +70,7 @@ are_settled (n ∷ ns) (x ∷ ps) [] fs at h m new fit are = absurd are
 are_settled (n ∷ ns) (x ∷ ps) (c ∷ cs) [] at h m new fit are = absurd are
 are_settled (n ∷ ns) (x ∷ ps) (c ∷ cs) (f ∷ fs) at h m new fit are =
     let one : fits f.number f.length h ≡ fits n.0.0 n.1 h = λ i. fits (are.0 i) (are.1 i) h in
-    let g = one_settled n x (place_at at h) c f m (eqb f.number h.number) (fits n.0.0 n.1 h) (fit_is f h (eqb f.number h.number) refl fit.0 ∙ one) new are.0 are.1 are.2 are.3 in
+    let g = one_settled n x (place_at at h) c f m (eqb f.number h.number.0) (fits n.0.0 n.1 h) (fit_is f h (eqb f.number h.number.0) refl fit.0 ∙ one) new are.0 are.1 are.2 are.3 in
     (g.0, g.1, g.2, g.3, are_settled ns ps cs fs at h m new fit.1 are.4)
 
 -- there is one then

@@ -203,7 +203,7 @@ content_length ns h for content = subst (λ (k : RecordKind). IsLengthFor k h.le
 
 module _ (reserve : ℕ) (s : BanksState) (h : RecHead) (is : IsBanksState s) (space : HasSpace s.log.numbers s.geometry s.banks reserve)
     (idle : work_in s.log.tail ≡ None) (for : IsFor s.log.numbers h) (room : record_pages_of h.length s.geometry.page ≤ free_pages s)
-    (content : h.kind ≡ kind.Content) (i : ℕ) (named : slice_get s.log.numbers i ≡ Some (record { 0 = h.number }, for.length)) where
+    (content : h.kind ≡ kind.Content) (i : ℕ) (named : slice_get s.log.numbers i ≡ Some (h.number, for.length)) where
   abbrev page : ℕ
   page = s.geometry.page
 
@@ -217,13 +217,13 @@ module _ (reserve : ℕ) (s : BanksState) (h : RecHead) (is : IsBanksState s) (s
   begun_with flags' course = record s { log = record s.log { tail = tail_begun s.log.tail h; flags = flags' }; course = Some course }
 
   -- its flag is cleared
-  cleared : with_flag ns flags h.number false ≡ set flags i false
-  cleared = flag_at 0 ns flags i (record { 0 = h.number }, for.length) false space.lengths named
+  cleared : with_flag ns flags h.number.0 false ≡ set flags i false
+  cleared = flag_at 0 ns flags i (h.number, for.length) false space.lengths named
 
   -- which adds its pages to the copies at most
   adds : (due : List Bool) → uncopied_pages page ns (set due i false) ≤ uncopied_pages page ns due + record_pages_of h.length page
   adds due =
-      let more = cleared_adds page ns due i (record { 0 = h.number }, for.length) named in
+      let more = cleared_adds page ns due i (h.number, for.length) named in
       let size : record_pages_of h.length page ≡ record_pages_of for.length page = ap (λ (n : ℕ). record_pages_of n page) (content_length ns h for content) in
       omega (arith, more, size)
 
@@ -284,7 +284,7 @@ module _ (reserve : ℕ) (s : BanksState) (h : RecHead) (is : IsBanksState s) (s
       begun_roomy (set flags i false) (Erase n) (Erase n) r (record { short = r.going.short; fitting = tt; few = tt })
       (record {
         copies = r.target.copies;
-        clear = sym cleared ∙ ap (λ (f : List Bool). with_flag ns f h.number false) r.target.clear ∙ clear_flags_stay ns h.number;
+        clear = sym cleared ∙ ap (λ (f : List Bool). with_flag ns f h.number.0 false) r.target.clear ∙ clear_flags_stay ns h.number.0;
       })
       takes (adds flags)
   begins_at (Copy None) r takes =
@@ -304,11 +304,11 @@ takes_content (Gate failed) k takes = absurd takes
 pub records_keep_room : RecordsKeepRoom
 records_keep_room reserve s h is keeps idle takes for room = record { space = keeps.space; switch = at s.course keeps.switch takes }
   where
-    here : IsAt s.log.numbers h.number for.length
+    here : IsAt s.log.numbers h.number.0 for.length
     here = at_number s.log.numbers h for
 
-    place : place_of s.log.numbers h.number ≡ Some here.index
-    place = numbers_have_places 0 s.log.numbers here.index (record { 0 = h.number }, for.length) keeps.space.lengths here.is
+    place : place_of s.log.numbers h.number.0 ≡ Some here.index
+    place = numbers_have_places 0 s.log.numbers here.index (h.number, for.length) keeps.space.lengths here.is
 
     -- where its number stands
     at_place : (o : Option Course) → IfSome o (IsRoomy reserve s) → TakesRecord h.kind o
@@ -318,13 +318,13 @@ records_keep_room reserve s h is keeps idle takes for room = record { space = ke
     at_place (Some course) r takes =
         begins_at reserve s h is keeps.space idle for room (takes_content course h.kind takes) here.index here.is course r takes
 
-    flags_are : with_flag s.log.numbers s.log.flags h.number false ≡ set s.log.flags here.index false
-    flags_are = flag_at 0 s.log.numbers s.log.flags here.index (record { 0 = h.number }, for.length) false keeps.space.lengths here.is
+    flags_are : with_flag s.log.numbers s.log.flags h.number.0 false ≡ set s.log.flags here.index false
+    flags_are = flag_at 0 s.log.numbers s.log.flags here.index (h.number, for.length) false keeps.space.lengths here.is
 
     P : Option Course → List Bool → Type 0
     P course flags = IfSome course (IsRoomy reserve (record s { log = record s.log { tail = tail_begun s.log.tail h; flags = flags }; course = course }))
 
-    at : (o : Option Course) → IfSome o (IsRoomy reserve s) → TakesRecord h.kind o → P (course_appended s.log.numbers h.number o) (with_flag s.log.numbers s.log.flags h.number false)
+    at : (o : Option Course) → IfSome o (IsRoomy reserve s) → TakesRecord h.kind o → P (course_appended s.log.numbers h.number.0 o) (with_flag s.log.numbers s.log.flags h.number.0 false)
     at o r takes =
-        subst (λ (f : List Bool). P (course_appended s.log.numbers h.number o) f) (sym flags_are)
+        subst (λ (f : List Bool). P (course_appended s.log.numbers h.number.0 o) f) (sym flags_are)
         (subst (λ (k : Option ℕ). P (appended_at k o) (set s.log.flags here.index false)) (sym place) (at_place o r takes))

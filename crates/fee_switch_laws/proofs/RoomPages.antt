@@ -69,9 +69,9 @@ pub record IsAt (ns : List (DeviceNumber × ℕ)) (number length : ℕ) : Type 0
   pub index : ℕ
   pub is : slice_get ns index ≡ Some (record { 0 = number }, length)
 
-pub at_number : (ns : List (DeviceNumber × ℕ)) (h : RecHead) (for : IsFor ns h) → IsAt ns h.number for.length
+pub at_number : (ns : List (DeviceNumber × ℕ)) (h : RecHead) (for : IsFor ns h) → IsAt ns h.number.0 for.length
 at_number ns h for =
-    let x : DeviceNumber × ℕ = (record { 0 = h.number }, for.length) in
+    let x : DeviceNumber × ℕ = (h.number, for.length) in
     record { index = for.configured.0; is = slice_get-get_or ns for.configured.0 x for.configured.1 ∙ ap Some for.configured.2 }
 
 pub record_pages : (p : ℕ) (ns : List (DeviceNumber × ℕ)) (h : RecHead) (for : IsFor ns h) → 16 ≤ p → record_pages_of h.length p ≤ record_pages_of for.length p
@@ -88,7 +88,7 @@ record_pages p ns h for low = few h.kind h.length for.kind
 pub few_pages : (p : ℕ) (ns : List (DeviceNumber × ℕ)) (h : RecHead) → IsFor ns h → 16 ≤ p → record_pages_of h.length p ≤ greatest p ns
 few_pages p ns h for low =
     let at = at_number ns h for in
-    omega (arith, record_pages p ns h for low, among_greatest p ns at.index (record { 0 = h.number }, for.length) at.is)
+    omega (arith, record_pages p ns h for low, among_greatest p ns at.index (h.number, for.length) at.is)
 
 -- FLAGS
 -- no flag is that of a number below all

@@ -7,7 +7,6 @@ use Rattle.nv_base.specs.declared.geometry.Geometry.{Geometry}
 use Rattle.nv_base.specs.declared.instance.DeviceNumber.{DeviceNumber}
 use Rattle.nv_base.specs.Geometry.{IsLegal, HasBanks, pages_of_bank, pages_of_sector, sectors_of_bank, size_of_bank}
 use Rattle.nv_base.specs.Pages.{record_pages_of, body_pages_of}
-use Rattle.nv_base.proofs.Places.{numbers_are_in_bounds}
 use Rattle.fee_format.specs.declared.rec_head.RecHead.{RecHead}
 use Rattle.fee_image.specs.RecordList.{pages_of_head}
 use Rattle.fee_image.specs.declared.place.Place.{Place}
@@ -66,7 +65,7 @@ index_within p end (m ∷ ns) (place ∷ places) (suc i) n x within is at = inde
 
 -- its record is of the number
 for_number : (ns : List (DeviceNumber × ℕ)) (i length' : ℕ) (number : DeviceNumber) (place : Place) → slice_get ns i ≡ Some (number, length') → count_at place < 2 ^ 32
-    → IsFor ns (head_at place number.0 length')
+    → IsFor ns (head_at place number length')
 for_number ns i length' number (Content at count) is few =
     record { length = length'; configured = (i, slice_get_within ns i (number, length') is, get_or_from_slice_get ns i (number, length') (number, length') is); kind = refl; count = few }
 for_number ns i length' number (Invalid count) is few =
@@ -82,7 +81,7 @@ counted_at (x ∷ xs) zero place all is = let same : x ≡ place = cc in subst (
 counted_at (x ∷ xs) (suc i) place all is = counted_at xs i place all.1 is
 
 -- and has no more pages than its content
-head_pages : (p length' number : ℕ) (place : Place) → 16 ≤ p → record_pages_of (head_at place number length').length p ≤ record_pages_of length' p
+head_pages : (p length' : ℕ) (number : DeviceNumber) (place : Place) → 16 ≤ p → record_pages_of (head_at place number length').length p ≤ record_pages_of length' p
 head_pages p length' number (Content at count) low = omega arith
 head_pages p length' number (Invalid count) low = mark_pages p length' low
 head_pages p length' number (Erased count) low = mark_pages p length' low
@@ -108,12 +107,11 @@ module _ (reserve : ℕ) (s : BanksState)
       record {
         within = subst (λ (g : Geometry). IsWithin g.page s.log.end source.length source.place) is.log.shape
             (index_within s.log.geometry.page s.log.end s.log.numbers s.log.places source.index n source.place state.places named h.place);
-        some = omega (arith, (numbers_are_in_bounds 0 s.log.numbers source.index n space.lengths named).2);
         fits = fits_buffer s source.length is (omega (arith, takes, r.room));
         idle = ap work_in tail;
-        configured = subst (λ (ns : List (DeviceNumber × ℕ)). IsFor ns (head_at source.place number.0 source.length)) (sym is.numbers)
+        configured = subst (λ (ns : List (DeviceNumber × ℕ)). IsFor ns (head_at source.place number source.length)) (sym is.numbers)
             (for_number s.log.numbers source.index source.length number source.place named (counted_at s.log.places source.index source.place state.counts h.place));
-        room = omega (arith, head_pages page source.length number.0 source.place is.legal.page_low, takes, r.room, taken, free, pages);
+        room = omega (arith, head_pages page source.length number source.place is.legal.page_low, takes, r.room, taken, free, pages);
       }
 
   can_copy : IsRoomy reserve s (Copy None) → (o : Option Source) → next_copy s.log.numbers s.log.places s.log.flags ≡ o → is_some o ≡ true → CanCopy s

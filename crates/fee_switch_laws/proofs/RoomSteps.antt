@@ -49,7 +49,7 @@ pub record IsMadeOf (s made : BanksState) : Type 0 where
 made_as : (s made : BanksState) → made ≡ s → IsMadeOf s made
 made_as s made e = record { copies = s.copies; buffer = s.buffer; is = e }
 
-begins_of : (s made : BanksState) (place : Place) (number length' : ℕ) (told told' : Told) (answer : FlashAnswer) → BeginsAt place s number length' told answer made told' → IsMadeOf s made
+begins_of : (s made : BanksState) (place : Place) (number : DeviceNumber) (length' : ℕ) (told told' : Told) (answer : FlashAnswer) → BeginsAt place s number length' told answer made told' → IsMadeOf s made
 begins_of s made (Content at count) number length' told told' answer begins = record { copies = _; buffer = made.buffer; is = begins.1 }
 begins_of s made (Invalid count) number length' told told' answer begins = record { copies = _; buffer = s.buffer; is = begins.1 }
 begins_of s made (Erased count) number length' told told' answer begins = record { copies = _; buffer = s.buffer; is = begins.1 }
@@ -57,7 +57,7 @@ begins_of s made Unwritten number length' told told' answer begins = record { co
 
 made_of : (s made : BanksState) (course : Course) (told told' : Told) (answer : FlashAnswer) → MakesNext s course told answer made told' → IsMadeOf s made
 made_of s made (Erase done) told told' answer makes = made_as s made makes.1
-made_of s made (Copy None) told told' answer makes = begins_of s made makes.source.place makes.number.0 makes.source.length told told' answer makes.begins
+made_of s made (Copy None) told told' answer makes = begins_of s made makes.source.place makes.number makes.source.length told told' answer makes.begins
 made_of s made (Copy (Some w)) told told' answer makes = record { copies = after_step s.copies answer; buffer = s.buffer; is = makes.1 }
 made_of s made Head told told' answer makes = made_as s made makes.1
 made_of s made (Gate failed) told told' answer makes = made_as s made makes.1
@@ -100,7 +100,7 @@ record IsBegun (s : BanksState) (source : Source) (number : DeviceNumber) (copie
   clear : copies.flags ≡ clear_flags copies.numbers
   end : copies.end ≡ s.copies.end
   tail : copies.tail ≡ Writes head done
-  number_is : head.number ≡ number.0
+  number_is : head.number ≡ number
   all : done + pages ≡ pages_of_head s.geometry.page head
   few : pages_of_head s.geometry.page head ≤ record_pages_of source.length s.geometry.page
 
@@ -193,7 +193,7 @@ module _ (reserve : ℕ) (s : BanksState) (is : IsBanksState s) (state : IsLogSt
             done = done;
             tail = b.tail;
             length = source.length;
-            named = named ∙ ap (λ (x : ℕ). Some (record { 0 = x }, source.length)) (sym b.number_is);
+            named = named ∙ ap (λ (x : DeviceNumber). Some (x, source.length)) (sym b.number_is);
             pages = b.all;
           };
         })
@@ -215,9 +215,9 @@ module _ (reserve : ℕ) (s : BanksState) (is : IsBanksState s) (state : IsLogSt
     begun_clear number' = ap (λ (f : List Bool). with_flag s.copies.numbers f number' false) r.target.clear ∙ clear_flags_stay s.copies.numbers number'
 
     content_keeps : (buffer : List ℕ) (at' count : ℕ) → source.place ≡ Content at' count
-        → KeepsRoom reserve (advanced (record s { copies = begun s.copies (head_at (Content at' count) number.0 source.length); buffer = buffer }) (Copy None))
+        → KeepsRoom reserve (advanced (record s { copies = begun s.copies (head_at (Content at' count) number source.length); buffer = buffer }) (Copy None))
     content_keeps buffer at' count place =
-        let head : RecHead = head_at (Content at' count) number.0 source.length in
+        let head : RecHead = head_at (Content at' count) number source.length in
         after_begun (begun s.copies head) buffer head 0 (record_pages_of source.length page)
         (record {
           format = r.target.format;
@@ -230,7 +230,7 @@ module _ (reserve : ℕ) (s : BanksState) (is : IsBanksState s) (state : IsLogSt
         })
         (ap (λ (x : Place). course_begun page (Some (record source { place = x }))) place)
 
-    mark_keeps : (head : RecHead) → head.number ≡ number.0 → head.length ≡ 0 → course_begun page (Some source) ≡ Copy (Some (record { index = source.index; pages = record_pages_of 0 page - 1; sets = true }))
+    mark_keeps : (head : RecHead) → head.number ≡ number → head.length ≡ 0 → course_begun page (Some source) ≡ Copy (Some (record { index = source.index; pages = record_pages_of 0 page - 1; sets = true }))
         → KeepsRoom reserve (advanced (record s { copies = after_step (begun s.copies head) Done }) (Copy None))
     mark_keeps head named_so none is_course =
         let pages : pages_of_head page head ≡ record_pages_of 0 page = ap (λ (n : ℕ). record_pages_of n page) none in
@@ -241,19 +241,19 @@ module _ (reserve : ℕ) (s : BanksState) (is : IsBanksState s) (state : IsLogSt
         let few : record_pages_of 0 page ≤ record_pages_of source.length page = mark_pages page source.length is.legal.page_low in
         subst (λ (x : LogState). KeepsRoom reserve (advanced (record s { copies = x }) (Copy None))) (sym stepped)
         (after_begun (record c { tail = Writes head 1 }) s.buffer head 1 (record_pages_of 0 page - 1)
-        (record { format = r.target.format; clear = begun_clear head.number; end = refl; tail = refl; number_is = named_so; all = omega (arith, pages); few = omega (arith, few, pages) })
+        (record { format = r.target.format; clear = begun_clear head.number.0; end = refl; tail = refl; number_is = named_so; all = omega (arith, pages); few = omega (arith, few, pages) })
         is_course)
 
-    begin_keeps : (made : BanksState) (told told' : Told) (place : Place) → source.place ≡ place → BeginsAt place s number.0 source.length told Done made told'
+    begin_keeps : (made : BanksState) (told told' : Told) (place : Place) → source.place ≡ place → BeginsAt place s number source.length told Done made told'
         → KeepsRoom reserve (advanced made (Copy None))
     begin_keeps made told told' (Content at' count) place begins =
         subst (λ (x : BanksState). KeepsRoom reserve (advanced x (Copy None))) (sym begins.1) (content_keeps made.buffer at' count place)
     begin_keeps made told told' (Invalid count) place begins =
-        subst (λ (x : BanksState). KeepsRoom reserve (advanced x (Copy None))) (sym begins.1) (mark_keeps (head_at (Invalid count) number.0 source.length) refl refl (ap (λ (x : Place). course_begun page (Some (record source { place = x }))) place))
+        subst (λ (x : BanksState). KeepsRoom reserve (advanced x (Copy None))) (sym begins.1) (mark_keeps (head_at (Invalid count) number source.length) refl refl (ap (λ (x : Place). course_begun page (Some (record source { place = x }))) place))
     begin_keeps made told told' (Erased count) place begins =
-        subst (λ (x : BanksState). KeepsRoom reserve (advanced x (Copy None))) (sym begins.1) (mark_keeps (head_at (Erased count) number.0 source.length) refl refl (ap (λ (x : Place). course_begun page (Some (record source { place = x }))) place))
+        subst (λ (x : BanksState). KeepsRoom reserve (advanced x (Copy None))) (sym begins.1) (mark_keeps (head_at (Erased count) number source.length) refl refl (ap (λ (x : Place). course_begun page (Some (record source { place = x }))) place))
     begin_keeps made told told' Unwritten place begins =
-        subst (λ (x : BanksState). KeepsRoom reserve (advanced x (Copy None))) (sym begins.1) (mark_keeps (head_at Unwritten number.0 source.length) refl refl (ap (λ (x : Place). course_begun page (Some (record source { place = x }))) place))
+        subst (λ (x : BanksState). KeepsRoom reserve (advanced x (Copy None))) (sym begins.1) (mark_keeps (head_at Unwritten number source.length) refl refl (ap (λ (x : Place). course_begun page (Some (record source { place = x }))) place))
 
   -- A PAGE OF A COPY
   -- what the page is followed by, with this log and this log of the target, where it was the last one or not
@@ -328,7 +328,7 @@ module _ (reserve : ℕ) (s : BanksState) (is : IsBanksState s) (state : IsLogSt
     flag_set : log_due true true ≡ record s.log { flags = set s.log.flags index true }
     flag_set =
         ap (flagged_at s.log) work.named ∙ ap (λ (f : List Bool). record s.log { flags = f })
-        (flag_at 0 ns s.log.flags index (record { 0 = work.head.number }, work.length) true space.lengths work.named)
+        (flag_at 0 ns s.log.flags index (work.head.number, work.length) true space.lengths work.named)
 
   page_keeps : (index pages : ℕ) (sets last : Bool) (r : IsRoomy reserve s (Copy (Some (record { index = index; pages = pages; sets = sets })))) → eqb pages 1 ≡ last
       → PageKeeps (record { index = index; pages = pages; sets = sets }) (flagged_by s.log (cond (sets && last) (Some index) None)) (after_step s.copies Done) last

@@ -30,7 +30,7 @@ after_flags s (Writes h k) body fs are fit = split (is_last s.geometry.page h k)
   where
     split : (b : Bool)
         → AreFlagsOf s.numbers (cond b (record (log_behind s.geometry.page (log_of (record s { tail = Writes h k }) []) h) { places = noted s.numbers s.places s.end h }) (record (log_of (record s { tail = Writes h k }) []) { tail = LogWrites h [] (k + 1) })).places s.flags
-        (cond b (settled_at h.number (held_written h body) fs) fs)
+        (cond b (settled_at h.number.0 (held_written h body) fs) fs)
     split true = are_settled s.numbers s.places s.flags fs s.end h (held_written h body) (is_placed h s.end) fit are
     split false = are
 after_flags s (Owes h None) body fs are fit = are

@@ -63,7 +63,7 @@ abbrev pub AppendsClear : Type 0
 AppendsClear =
     (s : BanksState) (bodies : Bodies) (bytes body : List ℕ) (may : May) (fs : List Flag) (a : ActiveBank) (head : RecHead)
     → IsBanksState s → IsActiveLog s a → MayBegin s head body may → MayFollow may s.log.tail bodies.append → HoldsFlags s bodies bytes may fs
-    → HoldsFlags (append_begun s head) (record bodies { append = body }) bytes may (cleared head.number fs)
+    → HoldsFlags (append_begun s head) (record bodies { append = body }) bytes may (cleared head.number.0 fs)
 
 -- ITS PAGES
 -- done or failed, the banks are held
@@ -91,7 +91,7 @@ AppendsGivenUp =
 -- IN A SWITCH
 -- a record is one of each flag with its number
 abbrev pub FitsFlags : Tail → List Flag → Type 0
-FitsFlags (Writes h body done) fs = Each (λ f. IsTrue (f.number == h.number) → IsTrue (fits f.number f.length h)) fs
+FitsFlags (Writes h body done) fs = Each (λ f. IsTrue (f.number == h.number.0) → IsTrue (fits f.number f.length h)) fs
 FitsFlags _ fs = Unit {0}
 
 -- its last page settles the mark of its number, whose flag is clear

@@ -26,12 +26,12 @@ pub record IsBeginning (s : BanksState) (source : Source) (number : DeviceNumber
   pub tail : s.copies.tail ≡ Open
   pub next : IsNext s source number
   pub can : CanBegin s number source
-  pub size : length body ≡ (head_at source.place number.0 source.length).length
-  pub copies : Each (Copies (head_at source.place number.0 source.length) body) fs
+  pub size : length body ≡ (head_at source.place number source.length).length
+  pub copies : Each (Copies (head_at source.place number source.length) body) fs
 
 -- the header of a mark without content is programmed at once
 abbrev pub mark_head : Source → DeviceNumber → RecHead
-mark_head source number = head_at source.place number.0 source.length
+mark_head source number = head_at source.place number source.length
 
 pub record IsMarkBeginning (s : BanksState) (source : Source) (number : DeviceNumber) (fs : List Flag) : Type 0 where
   pub place : reads_place source.place ≡ false
@@ -44,7 +44,7 @@ abbrev pub ContentsBegin : Type 0
 ContentsBegin =
     (s : BanksState) (bodies : Bodies) (bytes buffer body : List ℕ) (may : May) (fs : List Flag) (source : Source) (number : DeviceNumber) (at count : ℕ)
     → IsBanksState s → IsCopyLog s → source.place ≡ Content at count → IsBeginning s source number body fs → HoldsFlags s bodies bytes may fs
-    → HoldsFlags (advanced (record s { copies = begun s.copies (head_at source.place number.0 source.length); buffer = buffer }) (Copy None))
+    → HoldsFlags (advanced (record s { copies = begun s.copies (head_at source.place number source.length); buffer = buffer }) (Copy None))
     (record bodies { copy = body }) bytes may fs
 
 -- it failed: the first erase comes with no flag

@@ -45,7 +45,7 @@ CopiesStart =
 abbrev pub CopiesMayBegin : Type 0
 CopiesMayBegin =
     (l : Layout) (ns : List (DeviceNumber × ℕ)) (bytes : List ℕ) (s : Banks) (log : Log) (h : RecHead) (body : List ℕ) (fs : List Flag)
-    → Holds l ns bytes (flagged s fs) → s.phase ≡ Copying log → log.tail ≡ Open → IsRecord (bank_in l new_format s.target) log.end h body → IsOpenFor h.number fs
+    → Holds l ns bytes (flagged s fs) → s.phase ≡ Copying log → log.tail ≡ Open → IsRecord (bank_in l new_format s.target) log.end h body → IsOpenFor h.number.0 fs
     → Holds l ns bytes (flagged (record s { phase = Copying (log_begun log h body) }) fs)
 
 -- a page of it is done, the last one with its flag
@@ -78,7 +78,7 @@ AppendsMayBegin =
     (l : Layout) (ns : List (DeviceNumber × ℕ)) (bytes : List ℕ) (s : Banks) (k : ℕ) (h : BankHead) (log : Log) (head : RecHead) (body : List ℕ) (fs : List Flag)
     → Holds l ns bytes (flagged s fs) → s.old ≡ OldBank k h log → TakesAppends s.phase
     → log.tail ≡ Open → IsRecord (bank_in l h.format k) log.end head body → MayCommit s.may head body
-    → Holds l ns bytes (flagged (record s { old = OldBank k h (log_begun log head body) }) (cleared head.number fs))
+    → Holds l ns bytes (flagged (record s { old = OldBank k h (log_begun log head body) }) (cleared head.number.0 fs))
 
 -- a page of it is done, the last one with its mark settled
 abbrev pub AppendedPagesHold : Type 0

@@ -34,7 +34,7 @@ pub record IsInWork (s : BanksState) (body : List ℕ) (w : Copying) (fs : List 
   pub done : ℕ
   pub tail : s.copies.tail ≡ Writes head done
   pub length : ℕ
-  pub named : slice_get s.log.numbers w.index ≡ Some (record { 0 = head.number }, length)
+  pub named : slice_get s.log.numbers w.index ≡ Some (head.number, length)
   pub left : 0 < w.pages
   pub pages : done + w.pages ≡ pages_of_head s.geometry.page head
   pub copies : CopiesOrNot w.sets head body fs

@@ -33,7 +33,7 @@ all_clear fs = map {A = Flag} (λ f. record f { copied = false }) fs
 -- the record in work copies the settled mark of its number, or, where it sets no flag, a copy of that is left to make
 abbrev pub CopiesOrNot : Bool → RecHead → List ℕ → List Flag → Type 0
 CopiesOrNot true h body fs = Each (Copies h body) fs
-CopiesOrNot false h body fs = IsOpenFor h.number fs
+CopiesOrNot false h body fs = IsOpenFor h.number.0 fs
 
 abbrev pub IsCopyOf : Bool → Tail → List Flag → Type 0
 IsCopyOf sets (Writes h body done) fs = CopiesOrNot sets h body fs
@@ -41,16 +41,16 @@ IsCopyOf sets _ fs = Unit {0}
 
 -- its last page sets the flag
 abbrev pub flags_copied : ℕ → Bool → Tail → List Flag → List Flag
-flags_copied p sets (Writes h body done) fs = if is_last p h done && sets then marked h.number fs else fs
+flags_copied p sets (Writes h body done) fs = if is_last p h done && sets then marked h.number.0 fs else fs
 flags_copied p sets _ fs = fs
 
 -- AN APPEND
 -- the flag of the record's number is clear
 abbrev pub IsAppendTo : Tail → List Flag → Type 0
-IsAppendTo (Writes h body done) fs = cleared h.number fs ≡ fs
+IsAppendTo (Writes h body done) fs = cleared h.number.0 fs ≡ fs
 IsAppendTo _ fs = Unit {0}
 
 -- its last page settles its mark
 abbrev pub flags_appended : ℕ → Tail → List Flag → List Flag
-flags_appended p (Writes h body done) fs = if is_last p h done then settled_at h.number (held_written h body) fs else fs
+flags_appended p (Writes h body done) fs = if is_last p h done then settled_at h.number.0 (held_written h body) fs else fs
 flags_appended p _ fs = fs

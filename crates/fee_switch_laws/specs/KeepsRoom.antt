@@ -25,7 +25,7 @@ pub record IsOpenCopy (s : BanksState) (w : Copying) : Type 0 where
   pub done : ℕ
   pub tail : s.copies.tail ≡ Writes head done
   pub length : ℕ
-  pub named : slice_get s.log.numbers w.index ≡ Some (record { 0 = head.number }, length)
+  pub named : slice_get s.log.numbers w.index ≡ Some (head.number, length)
   pub pages : done + w.pages ≡ pages_of_head s.geometry.page head
 
 abbrev pub HasCopy : BanksState → Course → Type 0

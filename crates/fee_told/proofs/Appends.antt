@@ -89,7 +89,7 @@ given_up_work ns ps p log (Writes h body (suc (suc done))) stand is = none_open 
 
 -- a record in work counts one more than its number has
 job_count : (ns : List (DeviceNumber × ℕ)) (ps : List Place) (stand : Stand) (r : RecHead) (body : List ℕ) (done : ℕ) → IsWorkOf ns ps stand (Writes r body done)
-    → r.count ≡ more_writes 1 (writes_of ns ps r.number)
+    → r.count ≡ more_writes 1 (writes_of ns ps r.number.0)
 job_count ns ps (OpenJob j) r body done work = work.2
 job_count ns ps (Ended result given) r body done work = absurd work
 
@@ -179,12 +179,12 @@ module _ (l : Layout) (numbers : List (DeviceNumber × ℕ)) (old new : List ℕ
       commit_holds : Holds l numbers new (banks_with (with_log m k h (log_done l.page numbers log) stand) (settling told r body) copied)
       commit_holds = subst (λ (may : May). Holds l numbers new (banks_with (with_log m k h (log_done l.page numbers log) stand) may copied)) may_is done_holds
 
-      count_is : r.count ≡ more_writes 1 (writes_in numbers m.old r.number)
+      count_is : r.count ≡ more_writes 1 (writes_in numbers m.old r.number.0)
       count_is =
           let work : IsWorkOf numbers log.places m.stand (Writes r body done) = subst (IsWorkOf numbers log.places m.stand) writes (job_by l numbers old m copied k h log takes) in
-          subst (λ (o : Old). r.count ≡ more_writes 1 (writes_in numbers o r.number)) (sym takes.bank) (job_count numbers log.places m.stand r body done work)
+          subst (λ (o : Old). r.count ≡ more_writes 1 (writes_in numbers o r.number.0)) (sym takes.bank) (job_count numbers log.places m.stand r body done work)
 
-      committed : (size : ℕ) → length_of numbers r.number ≡ Some size → IsTrue (fits r.number size r) → is_open stand ≡ false
+      committed : (size : ℕ) → length_of numbers r.number.0 ≡ Some size → IsTrue (fits r.number.0 size r) → is_open stand ≡ false
           → IsCommitted l numbers old new m (with_log m k h (log_done l.page numbers log) stand) copied r body
       committed size is fit shut = record {
         held = held_anew l numbers new (with_log m k h (log_done l.page numbers log) stand) (settling told r body) copied takes.lengths commit_holds

@@ -152,7 +152,7 @@ module _ (l : Layout) (numbers : List (DeviceNumber × ℕ)) (bytes : List ℕ) 
   shown_told : (n size : ℕ) → IsAmong (told n size) (shown_of l bytes m.old n size)
   shown_told n size = by_slot n size (shown_of l bytes m.old n size) (shown_possible (settled_at l numbers bytes m.old n) (shown_of l bytes m.old n size) (left_on (settled_at l numbers bytes m.old n) (job_leaves m.stand n)))
 
-  job_has : (places : List Place) (stand : Stand) (h : RecHead) (body : List ℕ) (done n : ℕ) (settled : Held) → IsWorkOf numbers places stand (Writes h body done) → h.number ≡ n
+  job_has : (places : List Place) (stand : Stand) (h : RecHead) (body : List ℕ) (done n : ℕ) (settled : Held) → IsWorkOf numbers places stand (Writes h body done) → h.number.0 ≡ n
       → settled.count ≡ writes_of numbers places n → Contains (left_on settled (job_leaves stand n)) (held_written h body)
   job_has places (Open j) h body done n settled (number, mark, count) same writes =
       rw (eq-eqb j.number n (number ∙ same)) (subst (λ (o : Option Mark). Contains (left_on settled (left_by o)) (held_written h body)) (sym mark) (
@@ -176,7 +176,7 @@ module _ (l : Layout) (numbers : List (DeviceNumber × ℕ)) (bytes : List ℕ) 
   work_told places (Writes h body done) is writes = λ number length fit.
       by_slot number length (held_written h body)
       (inr (job_doubted (settled_at l numbers bytes m.old number) (shown_of l bytes m.old number length) (left_on (settled_at l numbers bytes m.old number) (job_leaves m.stand number)) (held_written h body)
-      (job_has places m.stand h body done number (settled_at l numbers bytes m.old number) is (eqb-true h.number number (and_parts _ _ fit).0) (writes number))))
+      (job_has places m.stand h body done number (settled_at l numbers bytes m.old number) is (eqb-true h.number.0 number (and_parts _ _ fit).0) (writes number))))
 
   marks_told : (o : Old) → ((n : ℕ) → (settled_at l numbers bytes m.old n).count ≡ writes_in numbers o n) → HasJob numbers m.stand o → HoldsOld l numbers bytes m.target o may → ((n size : ℕ) → IsAmong (told n size) (settled_at l numbers bytes o n)) → HasMarks l numbers bytes o told
   marks_told NoBank writes has held give = tt

@@ -2,11 +2,8 @@ pub mod Held
 pub mod Places
 pub mod Slots
 pub mod Steps
-pub mod Clocks
-pub mod Making
-pub mod Parts
-pub mod Runs
-pub mod Tells
+pub mod Attached
+pub mod Programs
 pub mod Figures
 pub mod Appends
 pub mod Jobs

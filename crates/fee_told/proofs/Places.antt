@@ -34,14 +34,14 @@ module _ (b : Bank) (old new : List ℕ) (may : May) (end : ℕ) (big : 16 ≤ b
   marks_same (n ∷ ns) (place ∷ places) all = λ i. places_stay b old new b.at end n.1 place big same all.0 i ∷ marks_same ns places all.2 i
 
   -- a record more gives other numbers no place
-  others_same : (r : RecHead) (at n : ℕ) → (n ≡ r.number → ⊥) → (ns : List (DeviceNumber × ℕ)) (places : List Place) → ArePlaced b old may end ns places
+  others_same : (r : RecHead) (at n : ℕ) → (n ≡ r.number.0 → ⊥) → (ns : List (DeviceNumber × ℕ)) (places : List Place) → ArePlaced b old may end ns places
       → at_number never_written ns (held_all b new ns (noted ns places at r)) n ≡ at_number never_written ns (held_all b old ns places) n
   others_same r at n differs [] [] all = refl
   others_same r at n differs [] (place ∷ places) all = absurd all
   others_same r at n differs (x ∷ xs) [] all = absurd all
   others_same r at n differs (x ∷ xs) (place ∷ places) all = elim (cases_Bool (x.0.0 == n)) [
     | inl e ↦
-        let other : (r.number == x.0.0) ≡ false = ne_eqb r.number x.0.0 (λ is. differs (sym (eqb-true x.0.0 n e) ∙ sym is)) in
+        let other : (r.number.0 == x.0.0) ≡ false = ne_eqb r.number.0 x.0.0 (λ is. differs (sym (eqb-true x.0.0 n e) ∙ sym is)) in
         rw (e, other) (places_stay b old new b.at end x.1 place big same all.0)
     | inr e ↦ rw e (others_same r at n differs xs places all.2)
   ]
@@ -61,7 +61,7 @@ module _ (l : Layout) (numbers : List (DeviceNumber × ℕ)) (old new : List ℕ
       ∙ marks_same (bank_in l h.format k) old new may log.end legal.page (same k h log refl) numbers log.places holds.1.holds.placed
 
   pub others_settled : (t : ℕ) (k : ℕ) (h : BankHead) (log next : Log) (may : May) (r : RecHead) → HoldsOld l numbers old t (OldBank k h log) may → SameBefore l old new k log.end → next.places ≡ noted numbers log.places log.end r
-      → (n : ℕ) → (n ≡ r.number → ⊥) → settled_at l numbers new (OldBank k h next) n ≡ settled_at l numbers old (OldBank k h log) n
+      → (n : ℕ) → (n ≡ r.number.0 → ⊥) → settled_at l numbers new (OldBank k h next) n ≡ settled_at l numbers old (OldBank k h log) n
   others_settled t k h log next may r holds same is n differs =
       ap (λ (places : List Place). at_number never_written numbers (held_all (bank_in l h.format k) new numbers places) n) is
       ∙ others_same (bank_in l h.format k) old new may log.end legal.page same r log.end n differs numbers log.places holds.1.holds.placed

@@ -105,10 +105,10 @@ module _ (l : Layout) (numbers : List (DeviceNumber × ℕ)) (old new : List ℕ
           doubts = ap (λ (x : Slot). x.doubts) clear;
         }
 
-    unfit : (n size : ℕ) → (h.number == n) ≡ false → after n size ≡ may_told l numbers old m n size
+    unfit : (n size : ℕ) → (h.number.0 == n) ≡ false → after n size ≡ may_told l numbers old m n size
     unfit n size other = rw other refl
 
-    others_keep : (n : ℕ) (o : Option ℕ) → length_of numbers n ≡ o → (h.number == n) ≡ false → settled_at l numbers new t.old n ≡ settled_at l numbers old m.old n → Keeps (was n) (now n)
+    others_keep : (n : ℕ) (o : Option ℕ) → length_of numbers n ≡ o → (h.number.0 == n) ≡ false → settled_at l numbers new t.old n ≡ settled_at l numbers old m.old n → Keeps (was n) (now n)
     others_keep n None is other same = none_keeps l numbers old new m t n is
     others_keep n (Some size) is other same =
         let shown = possible_from numbers (slots_held l numbers old m) n size (shown_of l new t.old n size) is (subst (λ (o : Option (List Held)). IsAmong o (shown_of l new t.old n size)) (unfit n size other) (now_shown after holds n size)) in
@@ -116,19 +116,19 @@ module _ (l : Layout) (numbers : List (DeviceNumber × ℕ)) (old new : List ℕ
         (keeps_one (settled_at l numbers old m.old n) (shown_of l old m.old n size) (shown_of l new t.old n size) (left_on (settled_at l numbers old m.old n) (job_leaves m.stand n)) (left_on (settled_at l numbers old m.old n) (job_leaves t.stand n))
         (subst (λ (s : Slot). IsPossible s (shown_of l new t.old n size)) (slot_told l numbers old m before is_held n size is) shown) (λ x has. leaves_fewer m.stand t.stand n (settled_at l numbers old m.old n) x (inr shut) has))
 
-    one_settles : (size : ℕ) → length_of numbers h.number ≡ Some size → IsTrue (fits h.number size h) → h.count ≡ more_writes 1 (writes_in numbers m.old h.number) → ((n : ℕ) → (n ≡ h.number → ⊥) → settled_at l numbers new t.old n ≡ settled_at l numbers old m.old n)
-        → (n : ℕ) (c : Bool) → (n == h.number) ≡ c → IfElse c (SettlesAs (held_written h body).mark (was n) (now n)) (Keeps (was n) (now n))
+    one_settles : (size : ℕ) → length_of numbers h.number.0 ≡ Some size → IsTrue (fits h.number.0 size h) → h.count ≡ more_writes 1 (writes_in numbers m.old h.number.0) → ((n : ℕ) → (n ≡ h.number.0 → ⊥) → settled_at l numbers new t.old n ≡ settled_at l numbers old m.old n)
+        → (n : ℕ) (c : Bool) → (n == h.number.0) ≡ c → IfElse c (SettlesAs (held_written h body).mark (was n) (now n)) (Keeps (was n) (now n))
     one_settles size is fit count others n true c =
-        let name = eqb-true n h.number c in
+        let name = eqb-true n h.number.0 c in
         settles n size (ap (length_of numbers) name ∙ is) (subst (λ (j : ℕ). fits j size h ≡ true) (sym name) fit)
         (pair_is (held_written h body) (settled_at l numbers old m.old n)
         (count ∙ ap (λ (k : ℕ). more_writes 1 (writes_in numbers m.old k)) (sym name) ∙ ap (more_writes 1) (sym (settled_count l numbers old m.old n))))
     one_settles size is fit count others n false c =
-        let differs = eqb-false n h.number c in
-        others_keep n (length_of numbers n) refl (elim (cases_Bool (h.number == n)) [ inl e ↦ absurd (differs (sym (eqb-true h.number n e))) | inr e ↦ e ]) (others n differs)
+        let differs = eqb-false n h.number.0 c in
+        others_keep n (length_of numbers n) refl (elim (cases_Bool (h.number.0 == n)) [ inl e ↦ absurd (differs (sym (eqb-true h.number.0 n e))) | inr e ↦ e ]) (others n differs)
 
 pub steps_settle : StepsSettle
-steps_settle l numbers old new m t before copied h body size is_held holds shut is fit count others n = one_settles l numbers old new m t before copied is_held h body holds shut size is fit count others n (n == h.number) refl
+steps_settle l numbers old new m t before copied h body size is_held holds shut is fit count others n = one_settles l numbers old new m t before copied is_held h body holds shut size is fit count others n (n == h.number.0) refl
 
 pub steps_seal : StepsSeal
 steps_seal l numbers old new m t before may copied is_held holds only goes n = seal_keeps l numbers old new m t before copied is_held may holds only goes n (length_of numbers n) refl

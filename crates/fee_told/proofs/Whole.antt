@@ -1,5 +1,5 @@
 -- What a turn makes of a device as a whole.
-use Rattle.std.specs.Prelude.{IfSome, if◌then◌else◌}
+use Rattle.std.specs.Prelude.{IfSome, IsTrue, if◌then◌else◌}
 use Rattle.std.proofs.Common.{◌≡◌, ℕ, ◌<◌, Bool, true, false, List, length, Option, Some, None, sym, ap, ◌∙◌, subst, arith}
 use Rattle.nv_base.specs.declared.mark.Mark.{Mark}
 use Rattle.memif.specs.Told.{Slot, Job, slot_at}
@@ -8,18 +8,21 @@ use Rattle.fls_model.specs.Op.{Op, Program, Erase, MayLeave}
 use Rattle.fls_model.specs.Told.{bytes_now}
 use Rattle.fee_image.specs.May.{held_written}
 use Rattle.promise_device.specs.Making.{banks_of}
-use Rattle.promise_device.specs.Image.{held_in, IsSoundFlash}
+use Rattle.promise_device.specs.Image.{held_in}
+use Rattle.promise_device.proofs.Readings.{sound_flashes_compute}
+use Rattle.fls_told.specs.Device.{slot_with}
+use Rattle.fls_told.specs.Clock.{ImageIsPossible}
+use Rattle.fls_told.specs.Tells.{AreTold, OneSettles}
+use Rattle.fls_told.proofs.Clocks.{clocks_find_now}
+use Rattle.fls_told.proofs.Tells.{tells_doubt, tells_keep, tells_settle}
 use Rattle.fee_told.specs.Slots.{banks_with, slots_held, slots_found, may_told, held_of}
 use Rattle.fee_told.specs.SlotLaws.{Opened}
-use Rattle.fee_told.specs.Device.{Device, layout_in, slots_in, told_of}
-use Rattle.fee_told.specs.Clock.{ImageIsPossible}
-use Rattle.fee_told.specs.Tells.{was, AreTold, OneSettles}
+use Rattle.fee_told.specs.Device.{Device, layout_in, flash_device, slots_in, told_of}
 use Rattle.fee_told.specs.Whole.{HeldFindsNow, UnstartedFindsNow, CutsAreTold, AreStarted, KeptIsTold, CommitsAreTold, OpensAreTold}
-use Rattle.fee_told.proofs.Clocks.{clocks_find_now}
 use Rattle.fee_told.proofs.Held.{images_find}
 use Rattle.fee_told.proofs.Kept.{kept_is_found}
 use Rattle.fee_told.proofs.Steps.{unstarted_is_found}
-use Rattle.fee_told.proofs.Tells.{images_attach, tells_doubt, tells_keep, tells_settle}
+use Rattle.fee_told.proofs.Attached.{images_attach}
 
 -- BYTES
 both_some : (o : Option (List ℕ)) (P Q R : List ℕ → Type 0) → IfSome o P → IfSome o Q → ((bytes : List ℕ) → P bytes → Q bytes → R bytes) → IfSome o R
@@ -37,15 +40,15 @@ same_size (Erase address n) bytes image leaves = leaves.0.size
 -- what is found in an image, by the slots that it tells
 possible_in : (d : Device) (bytes image : List ℕ) → d.started ≡ true → 0 < length image
     → ((n : ℕ) → IsPossible (slot_at d.making.numbers (slots_held (layout_in d) d.making.numbers bytes d.memory) n) (held_of (layout_in d) d.making.numbers image n))
-    → ImageIsPossible d bytes image
+    → ImageIsPossible (flash_device d) bytes image
 possible_in d bytes image started some possible n =
     subst (λ (s : List Slot). IsPossible (slot_at d.making.numbers s n) (held_in d.making image n)) (sym (slots_are d bytes started))
     (subst (IsPossible (slot_at d.making.numbers (slots_held (layout_in d) d.making.numbers bytes d.memory) n)) (sym ((images_attach d.making image some).0 n)) (possible n))
 
 -- NOW
 pub held_finds_now : HeldFindsNow
-held_finds_now d copied holds = clocks_find_now d (λ told.
-    both_some (bytes_now d.flash) _ _ (λ bytes. ImageIsPossible d bytes bytes) holds.some (holds.held told) (λ bytes some held.
+held_finds_now d copied holds = clocks_find_now (flash_device d) (λ told.
+    both_some (bytes_now d.flash) _ _ (λ bytes. ImageIsPossible (flash_device d) bytes bytes) holds.some (holds.held told) (λ bytes some held.
     possible_in d bytes bytes holds.started some
     (images_find (layout_in d) d.making.numbers (slots_held (layout_in d) d.making.numbers bytes d.memory) bytes (banks_with d.memory (may_told (layout_in d) d.making.numbers bytes d.memory) copied) holds.legal held.banks (λ number size x is. is))))
 
@@ -53,46 +56,46 @@ found_are : (d : Device) (bytes : List ℕ) → d.started ≡ false → slots_in
 found_are d bytes started = ap (λ (b : Bool). if b then slots_held (layout_in d) d.making.numbers bytes d.memory else slots_found (layout_in d) d.making.numbers bytes) started
 
 pub unstarted_finds_now : UnstartedFindsNow
-unstarted_finds_now d started some = clocks_find_now d (λ told.
-    both_some (bytes_now d.flash) _ _ (λ bytes. ImageIsPossible d bytes bytes) some some (λ bytes more same n.
+unstarted_finds_now d started some = clocks_find_now (flash_device d) (λ told.
+    both_some (bytes_now d.flash) _ _ (λ bytes. ImageIsPossible (flash_device d) bytes bytes) some some (λ bytes more same n.
     subst (λ (s : List Slot). IsPossible (slot_at d.making.numbers s n) (held_in d.making bytes n)) (sym (found_are d bytes started))
     (subst (IsPossible (slot_at d.making.numbers (slots_found (layout_in d) d.making.numbers bytes) n)) (sym ((images_attach d.making bytes more).0 n)) (unstarted_is_found (layout_in d) d.making.numbers bytes n))))
 
 -- CUTS
 pub cuts_are_told : CutsAreTold
 cuts_are_told op d copied holds keep = (
-  λ told. both_some (bytes_now d.flash) _ _ (λ bytes. (image : List ℕ) → MayLeave op bytes image → ImageIsPossible d bytes image) holds.some (keep told) (λ bytes some kept image leaves.
+  λ told. both_some (bytes_now d.flash) _ _ (λ bytes. (image : List ℕ) → MayLeave op bytes image → ImageIsPossible (flash_device d) bytes image) holds.some (keep told) (λ bytes some kept image leaves.
       let k = kept image leaves in
       let more : 0 < length image = omega (arith, same_size op bytes image leaves) in
       possible_in d bytes image holds.started more (kept_is_found (layout_in d) d.making.numbers bytes image d.memory k.behind k.copied holds.legal k.kept)),
-  λ told. both_some (bytes_now d.flash) _ _ (λ bytes. (image : List ℕ) → MayLeave op bytes image → IsSoundFlash d.making image) holds.some (keep told) (λ bytes some kept image leaves.
+  λ told. both_some (bytes_now d.flash) _ _ (λ bytes. (image : List ℕ) → MayLeave op bytes image → IsTrue ((flash_device d).reading.is_sound image)) holds.some (keep told) (λ bytes some kept image leaves.
       let k = kept image leaves in
       let more : 0 < length image = omega (arith, same_size op bytes image leaves) in
-      (images_attach d.making image more).1 k.kept.held.banks.sound),
+      (sound_flashes_compute d.making image).1 ((images_attach d.making image more).1 k.kept.held.banks.sound)),
 )
 
 -- BEFORE AND AFTER
 module _ (d t : Device) (are : AreStarted d t) (old new : List ℕ) where
-  was_is : (n : ℕ) → was d old n ≡ slot_at d.making.numbers (slots_held (layout_in d) d.making.numbers old d.memory) n
+  was_is : (n : ℕ) → slot_with (flash_device d) old n ≡ slot_at d.making.numbers (slots_held (layout_in d) d.making.numbers old d.memory) n
   was_is n = ap (λ (s : List Slot). slot_at d.making.numbers s n) (slots_are d old are.old)
 
-  now_is : (n : ℕ) → was t new n ≡ slot_at d.making.numbers (slots_held (layout_in d) d.making.numbers new t.memory) n
-  now_is n = ap (λ (s : List Slot). slot_at t.making.numbers s n) (slots_are t new are.new) ∙ (λ i. slot_at (are.same.making i).numbers (slots_held (banks_of (are.same.making i)) (are.same.making i).numbers new t.memory) n)
+  now_is : (n : ℕ) → slot_with (flash_device t) new n ≡ slot_at d.making.numbers (slots_held (layout_in d) d.making.numbers new t.memory) n
+  now_is n = ap (λ (s : List Slot). slot_at t.making.numbers s n) (slots_are t new are.new) ∙ (λ i. slot_at (are.making i).numbers (slots_held (banks_of (are.making i)) (are.making i).numbers new t.memory) n)
 
-  pub by_slots : (P : Slot → Slot → Type 0) (n : ℕ) → P (slot_at d.making.numbers (slots_held (layout_in d) d.making.numbers old d.memory) n) (slot_at d.making.numbers (slots_held (layout_in d) d.making.numbers new t.memory) n) → P (was d old n) (was t new n)
-  by_slots P n holds = subst (λ (s : Slot). P s (was t new n)) (sym (was_is n)) (subst (P (slot_at d.making.numbers (slots_held (layout_in d) d.making.numbers old d.memory) n)) (sym (now_is n)) holds)
+  pub by_slots : (P : Slot → Slot → Type 0) (n : ℕ) → P (slot_at d.making.numbers (slots_held (layout_in d) d.making.numbers old d.memory) n) (slot_at d.making.numbers (slots_held (layout_in d) d.making.numbers new t.memory) n) → P (slot_with (flash_device d) old n) (slot_with (flash_device t) new n)
+  by_slots P n holds = subst (λ (s : Slot). P s (slot_with (flash_device t) new n)) (sym (was_is n)) (subst (P (slot_at d.making.numbers (slots_held (layout_in d) d.making.numbers old d.memory) n)) (sym (now_is n)) holds)
 
 pub kept_is_told : KeptIsTold
-kept_is_told d t copied are kept = tells_keep d t are.same (λ old new told n. by_slots d t are old new Keeps n ((kept old new told).keeps n))
+kept_is_told d t copied are kept = tells_keep (flash_device d) (flash_device t) are.same (λ old new told n. by_slots d t are old new Keeps n ((kept old new told).keeps n))
 
 pub commits_are_told : CommitsAreTold
 commits_are_told d t copied r body are committed =
-    tells_settle d t r.number (held_written r body).mark are.same
-    (λ old new told n. by_slots d t are old new (OneSettles r.number (held_written r body).mark n) n ((committed old new told).settles n))
+    tells_settle (flash_device d) (flash_device t) r.number.0 (held_written r body).mark are.same
+    (λ old new told n. by_slots d t are old new (OneSettles r.number.0 (held_written r body).mark n) n ((committed old new told).settles n))
 
-opens_as : (d t : Device) (j : Job) (o : Option Mark) → AreStarted d t → ((old new : List ℕ) → AreTold d t old new → (n : ℕ) → Opened j n (was d old n) (was t new n) o) → DoubtsAt j.number o (told_of d) (told_of t)
-opens_as d t j None are opened = tells_keep d t are.same opened
-opens_as d t j (Some mark) are opened = tells_doubt d t j.number mark are.same opened
+opens_as : (d t : Device) (j : Job) (o : Option Mark) → AreStarted d t → ((old new : List ℕ) → AreTold (flash_device d) (flash_device t) old new → (n : ℕ) → Opened j n (slot_with (flash_device d) old n) (slot_with (flash_device t) new n) o) → DoubtsAt j.number o (told_of d) (told_of t)
+opens_as d t j None are opened = tells_keep (flash_device d) (flash_device t) are.same opened
+opens_as d t j (Some mark) are opened = tells_doubt (flash_device d) (flash_device t) j.number mark are.same opened
 
 pub opens_are_told : OpensAreTold
 opens_are_told d t j are opened = opens_as d t j j.mark are opened

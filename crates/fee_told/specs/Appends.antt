@@ -76,7 +76,7 @@ AppendsGoOn =
 pub record IsCommitted (l : Layout) (numbers : List (DeviceNumber × ℕ)) (old new : List ℕ) (m t : Memory)
     (copied : May) (r : RecHead) (body : List ℕ) : Type 0 where
   pub held : IsHeld l numbers new t copied
-  pub settles : (n : ℕ) → IfElse (n == r.number)
+  pub settles : (n : ℕ) → IfElse (n == r.number.0)
       (SettlesAs (held_written r body).mark (slot_at numbers (slots_held l numbers old m) n) (slot_at numbers (slots_held l numbers new t) n))
       (Keeps (slot_at numbers (slots_held l numbers old m) n) (slot_at numbers (slots_held l numbers new t) n))
 
@@ -85,6 +85,6 @@ AppendsCommit =
     (l : Layout) (numbers : List (DeviceNumber × ℕ)) (old new : List ℕ) (m : Memory) (copied : May) (k : ℕ) (h : BankHead) (log : Log)
     → (r : RecHead) (body : List ℕ) (done size : ℕ) (stand : Stand)
     → IsAppending l numbers old new m copied k h log → image_page l new k (page_due log) ≡ bytes_due l.page log
-    → log.tail ≡ Writes r body done → is_last l.page r done ≡ true → length_of numbers r.number ≡ Some size
-    → IsTrue (fits r.number size r) → is_open stand ≡ false
+    → log.tail ≡ Writes r body done → is_last l.page r done ≡ true → length_of numbers r.number.0 ≡ Some size
+    → IsTrue (fits r.number.0 size r) → is_open stand ≡ false
     → IsCommitted l numbers old new m (with_log m k h (log_done l.page numbers log) stand) copied r body

@@ -1,10 +1,8 @@
 pub mod SlotLaws
 pub mod Slots
-pub mod Clock
 pub mod Device
-pub mod Parts
-pub mod Runs
-pub mod Tells
+pub mod Attached
+pub mod Programs
 pub mod Figures
 pub mod FigureLaws
 pub mod Appends

@@ -67,9 +67,9 @@ StepsSettle =
     (l : Layout) (numbers : List (DeviceNumber × ℕ)) (old new : List ℕ) (m t : Memory) (before copied : May) (h : RecHead) (body : List ℕ) (size : ℕ)
     → IsHeld l numbers old m before
     → Holds l numbers new (banks_with t (settling (may_told l numbers old m) h body) copied) → is_open t.stand ≡ false
-    → length_of numbers h.number ≡ Some size → IsTrue (fits h.number size h) → h.count ≡ more_writes 1 (writes_in numbers m.old h.number)
-    → ((n : ℕ) → (n ≡ h.number → ⊥) → settled_at l numbers new t.old n ≡ settled_at l numbers old m.old n)
-    → (n : ℕ) → IfElse (n == h.number)
+    → length_of numbers h.number.0 ≡ Some size → IsTrue (fits h.number.0 size h) → h.count ≡ more_writes 1 (writes_in numbers m.old h.number.0)
+    → ((n : ℕ) → (n ≡ h.number.0 → ⊥) → settled_at l numbers new t.old n ≡ settled_at l numbers old m.old n)
+    → (n : ℕ) → IfElse (n == h.number.0)
     (SettlesAs (held_written h body).mark (slot_at numbers (slots_held l numbers old m) n) (slot_at numbers (slots_held l numbers new t) n))
     (Keeps (slot_at numbers (slots_held l numbers old m) n) (slot_at numbers (slots_held l numbers new t) n))
 
@@ -170,4 +170,4 @@ CommitsKeepOthers =
     → IsLegalLayout l → Holds l numbers old s → s.old ≡ OldBank k h log → length page ≡ l.page → q < l.pages
     → log.end ≤ q → MayLeave (program_of l k q page) old new
     → next.places ≡ noted numbers log.places log.end r
-    → (n : ℕ) → (n ≡ r.number → ⊥) → settled_at l numbers new (OldBank k h next) n ≡ settled_at l numbers old s.old n
+    → (n : ℕ) → (n ≡ r.number.0 → ⊥) → settled_at l numbers new (OldBank k h next) n ≡ settled_at l numbers old s.old n

@@ -38,7 +38,7 @@ writes_in numbers (OldBank k h log) n = writes_of numbers log.places n
 -- a record in work is that of the open job, and counts one more than its number has
 abbrev pub IsWorkOf : List (DeviceNumber × ℕ) → List Place → Stand → Tail → Type 0
 IsWorkOf numbers places (Open j) (Writes h body done) =
-    (j.number ≡ h.number) × (j.mark ≡ Some (held_written h body).mark) × (h.count ≡ more_writes 1 (writes_of numbers places h.number))
+    (j.number ≡ h.number.0) × (j.mark ≡ Some (held_written h body).mark) × (h.count ≡ more_writes 1 (writes_of numbers places h.number.0))
 IsWorkOf numbers places (Ended result given) (Writes h body done) = ⊥
 IsWorkOf numbers places stand tail = Unit {0}
 

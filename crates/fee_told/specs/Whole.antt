@@ -9,19 +9,20 @@ use Rattle.fls_model.specs.Told.{bytes_now}
 use Rattle.fee_format.specs.declared.rec_head.RecHead.{RecHead}
 use Rattle.fee_image.specs.Image.{Layout, IsLegalLayout}
 use Rattle.fee_image.specs.May.{May, held_written}
+use Rattle.fls_told.specs.Device.{slot_with}
+use Rattle.fls_told.specs.Clock.{ToldAlike, CutsArePossible}
+use Rattle.fls_told.specs.Runs.{LeavesSound}
+use Rattle.fls_told.specs.Tells.{IsSame, AreTold}
 use Rattle.fee_told.specs.Slots.{Memory}
 use Rattle.fee_told.specs.SlotLaws.{IsHeld, Opened}
-use Rattle.fee_told.specs.Device.{Device, layout_in, tells, told_of}
-use Rattle.fee_told.specs.Clock.{clock_of, ToldAlike, CutsArePossible}
-use Rattle.fee_told.specs.Runs.{LeavesSound}
-use Rattle.fee_told.specs.Tells.{IsSame, was, AreTold}
+use Rattle.fee_told.specs.Device.{Device, layout_in, flash_device, tells, told_of, clock_of}
 use Rattle.fee_told.specs.Kept.{IsKept}
 use Rattle.fee_told.specs.Appends.{IsCommitted}
 
 -- a device that is started, and whose bytes hold its banks, where they are told
 pub record HoldsBanks (d : Device) (copied : May) : Type 0 where
   pub started : d.started ≡ true
-  pub alike : ToldAlike d
+  pub alike : ToldAlike (flash_device d)
   pub legal : IsLegalLayout (layout_in d)
   pub some : IfSome (bytes_now d.flash) (λ bytes. 0 < length bytes)
   pub held : IsTrue (tells d) → IfSome (bytes_now d.flash) (λ bytes. IsHeld (layout_in d) d.making.numbers bytes d.memory copied)
@@ -49,28 +50,29 @@ CutsKeep op d =
 
 -- so it is possible by what is told, and sound
 abbrev pub CutsAreTold : Type 0
-CutsAreTold = (op : Op) (d : Device) (copied : May) → HoldsBanks d copied → CutsKeep op d → CutsArePossible op d × LeavesSound op d
+CutsAreTold = (op : Op) (d : Device) (copied : May) → HoldsBanks d copied → CutsKeep op d → CutsArePossible op (flash_device d) × LeavesSound op (flash_device d)
 
 -- BEFORE AND AFTER
 pub record AreStarted (d t : Device) : Type 0 where
-  pub same : IsSame d t
+  pub same : IsSame (flash_device d) (flash_device t)
+  pub making : t.making ≡ d.making
   pub old : d.started ≡ true
   pub new : t.started ≡ true
 
 abbrev pub KeptIsTold : Type 0
 KeptIsTold =
     (d t : Device) (copied : May) → AreStarted d t
-    → ((old new : List ℕ) → AreTold d t old new → IsKept (layout_in d) d.making.numbers old new d.memory t.memory copied)
+    → ((old new : List ℕ) → AreTold (flash_device d) (flash_device t) old new → IsKept (layout_in d) d.making.numbers old new d.memory t.memory copied)
     → KeepsAll (told_of d) (told_of t)
 
 abbrev pub CommitsAreTold : Type 0
 CommitsAreTold =
     (d t : Device) (copied : May) (r : RecHead) (body : List ℕ) → AreStarted d t
-    → ((old new : List ℕ) → AreTold d t old new → IsCommitted (layout_in d) d.making.numbers old new d.memory t.memory copied r body)
-    → Settles r.number (held_written r body).mark (told_of d) (told_of t)
+    → ((old new : List ℕ) → AreTold (flash_device d) (flash_device t) old new → IsCommitted (layout_in d) d.making.numbers old new d.memory t.memory copied r body)
+    → Settles r.number.0 (held_written r body).mark (told_of d) (told_of t)
 
 abbrev pub OpensAreTold : Type 0
 OpensAreTold =
     (d t : Device) (j : Job) → AreStarted d t
-    → ((old new : List ℕ) → AreTold d t old new → (n : ℕ) → Opened j n (was d old n) (was t new n) j.mark)
+    → ((old new : List ℕ) → AreTold (flash_device d) (flash_device t) old new → (n : ℕ) → Opened j n (slot_with (flash_device d) old n) (slot_with (flash_device t) new n) j.mark)
     → DoubtsAt j.number j.mark (told_of d) (told_of t)

@@ -2,7 +2,7 @@
 use Rattle.std.specs.Prelude.{◌≡◌, ◌≤◌, ◌+◌, ◌*◌, ◌^◌, ℕ, true, List, [], ◌∷◌, length, take, Option, Some, None}
 use Rattle.fee_format.specs.Pages.{body_pages_of}
 use Rattle.fee_image.specs.Bank.{Bank, pages_from}
-use Rattle.fee_image.specs.RecordList.{Rec, records_left}
+use Rattle.fee_image.specs.RecordList.{Rec, pages_of_head, records_left}
 use Rattle.fee_view.specs.declared.record.Record.{Record}
 use Rattle.fee_view.specs.declared.record.Seen.{Seen}
 
@@ -30,10 +30,14 @@ pub record Walk : Type 0 where
 abbrev pub records_in : Walk → List Rec
 records_in w = records_left w.bank w.bytes w.at
 
--- the next record is given, one of the list, or none is left
+-- the same walk behind a record
+abbrev pub behind : Walk → Rec → Walk
+behind w r = record w { at = w.at + pages_of_head w.bank.page r.head }
+
+-- the next record is given, one of the list, and the walk goes on behind it, or none is left
 abbrev pub GivesRecord : Walk → Option Record → Walk → Type 0
-GivesRecord old None new = (records_in old ≡ []) × (records_in new ≡ [])
-GivesRecord old (Some r) new = (records_in old ≡ rec_shown r ∷ records_in new) × (r.trusted ≡ true)
+GivesRecord old None new = (records_in old ≡ []) × (new ≡ old)
+GivesRecord old (Some r) new = (records_in old ≡ rec_shown r ∷ records_in new) × (r.trusted ≡ true) × (new ≡ behind old (rec_shown r))
 
 -- it stays within its bank
 pub record IsWalk (w : Walk) : Type 0 where

@@ -95,19 +95,25 @@ impl<'a> BankView<'a> {
     pub fn tail_blank(&self) -> bool
         ensures { IsTrue result ↔ IsTailBlank (bank_of self.now) self.now.bytes (end_of (bank_of self.now) self.now.bytes) }
     {
-        is_tail_blank(self.bytes, self.page, self.pages, self.end_page())
+        self.blank_from(self.end_page())
+    }
+
+    /// Whether all pages from one on are blank.
+    pub fn blank_from(&self, page: u32) -> bool
+        requires { page ≤ self.now.pages }
+        ensures { IsTrue result ↔ IsTailBlank (bank_of self.now) self.now.bytes page }
+    {
+        is_tail_blank(self.bytes, self.page, self.pages, page)
     }
 }
 
 // Whether all pages from one on are blank.
 fn is_tail_blank(bank: &[u8], page: u32, pages: u32, end: u32) -> bool
-    requires { pages * page ≤ length bank.now }
+    requires whole { pages * page ≤ length bank.now }
+    requires inside { end ≤ pages }
     ensures { IsTrue result ↔ IsTailBlank (own_bank page pages 1) bank.now end }
 {
-    for at in end..pages {
-        if !all_are(page_of(bank, page, at), 255) {
-            return false;
-        }
-    }
-    true
+    let from = end as usize * page as usize;
+    let to = pages as usize * page as usize;
+    all_are(&bank[from..to], 255)
 }

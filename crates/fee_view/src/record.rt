@@ -7,6 +7,7 @@ ghost use Rattle.fee_view.specs.Record.{rec_seen, rec_shown};
 
 use crate::page::page_of;
 use fee_format::{RecHead, RecordKind, gate_stands, pages_of, read_rec_head};
+use nv_base::DeviceNumber;
 
 /// A record as its bank shows it: the page of the bank where its header stands, its number and kind, its
 /// count (0 in format 1), whether it is one of the bank's list, which each item of it is, whether its commit gate stands
@@ -14,7 +15,7 @@ use fee_format::{RecHead, RecordKind, gate_stands, pages_of, read_rec_head};
 #[derive(Clone, Copy)]
 pub struct Record<'a> {
     pub at: u32,
-    pub number: u16,
+    pub number: DeviceNumber,
     pub kind: RecordKind,
     pub count: u32,
     pub trusted: bool,

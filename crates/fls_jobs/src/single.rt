@@ -1,5 +1,5 @@
 // Single calls of the flash, which open no job.
-ghost use Rattle.std.specs.Prelude.{◌≡◌, ◌<◌, ◌≤◌, length};
+ghost use Rattle.std.specs.Prelude.{◌≡◌, length};
 ghost use Rattle.fls_model.specs.Told.{HasRange, HasPage, HasSector};
 ghost use Rattle.fls_model.specs.Read.{IsRead};
 ghost use Rattle.fls_model.specs.Step.{IsStep, programs, erases};
@@ -52,12 +52,10 @@ impl<F: Flash> Fls<F> {
         answer
     }
 
-    /// Reads 1 to 65,536 bytes by one call of the flash, and leaves no job open.
+    /// Reads bytes by one call of the flash, and leaves no job open.
     pub fn read_range(&mut self, address: u32, into: &mut [u8]) -> FlashAnswer
         requires idle { IsIdle self.old }
         requires range { HasRange self.old.flash address (length into.old) }
-        requires some { 0 < length into.old }
-        requires most { length into.old ≤ 65536 }
         ensures read { IsRead address self.old.flash into.old result into.new self.new.flash }
         ensures same { self.new ≡ record self.old { flash = self.new.flash; result = closed_as result } }
         ensures before { IsDriverState self.old }

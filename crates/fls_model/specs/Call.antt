@@ -1,5 +1,5 @@
 -- Calls as they are kept.
-use Rattle.std.specs.Prelude.{ℕ, ◌+◌, ◌≤◌, length, take}
+use Rattle.std.specs.Prelude.{◌≡◌, ℕ, List, ◌+◌, ◌≤◌, length, take, slice_set}
 use Rattle.nv_base.specs.declared.geometry.Geometry.{Geometry}
 use Rattle.fls_model.specs.declared.call.Call.{Call}
 use Rattle.fls_model.specs.declared.call.Call.TheVariants.{Page, Sector}
@@ -20,3 +20,9 @@ IsCall (Sector sector) = Unit {0}
 abbrev pub IsInside : Op → ℕ → Type 0
 IsInside (Program address page) size = address + length page ≤ size
 IsInside (Erase address n) size = address + n ≤ size
+
+-- a call of an operation is kept at a place, where there is one
+pub record KeepsCall (asked : Op) (at : ℕ) (old new : List Call) : Type 0 where
+  pub call : Call
+  pub op : (g : Geometry) → op_of g call ≡ asked
+  pub kept : new ≡ slice_set old at call

@@ -6,7 +6,9 @@ ghost use Rattle.fls_model.specs.Told.{bytes_now, armed, powered, HasRange, HasP
 ghost use Rattle.fls_model.specs.Step.{IsStep, programs, erases};
 ghost use Rattle.fls_model.specs.Read.{IsRead};
 ghost use Rattle.fls_model.specs.Attach.{IsAttach, IsAttached, HasSize, enlarged};
+ghost use Rattle.fls_model.specs.declared.call.Call.TheVariants.{Sector};
 ghost use Rattle.fls_model.specs.Memory.{in_memory, IsAskedOnce, IsBegun};
+ghost use Rattle.fls_model.specs.Call.{KeepsCall};
 
 use crate::call::{Call, program_call};
 use crate::range::{below_256, erase_range, program_range};
@@ -89,17 +91,33 @@ fn enlarge(bytes: &mut Vec<u8>, size: usize) -> Result<(), AllocError>
     Ok(())
 }
 
-// Counts an operation that is asked for, and keeps its call where there is room.
-fn note(calls: &mut Vec<Call>, asked: &mut u64, ops: &mut u64, call: Call)
-    ensures calls { calls.new.items ≡ slice_set calls.old.items asked.old call }
+// Counts an operation that is asked for.
+fn count(asked: &mut u64, ops: &mut u64)
     ensures asked { asked.new ≡ next_count asked.old }
     ensures ops { ops.new ≡ next_count ops.old }
 {
-    if *asked < calls.len() as u64 {
-        calls[*asked as usize] = call;
-    }
     *asked = asked.saturating_add(1);
     *ops = ops.saturating_add(1);
+}
+
+// Keeps the call of a program, behind so many others, where there is room: only there it is copied.
+fn keep_program(calls: &mut Vec<Call>, asked: u64, address: u32, page: &[u8])
+    requires { length page.now ≤ 256 }
+    ensures { KeepsCall (programs address page.now) asked calls.old.items calls.new.items }
+{
+    if calls.len() as u64 <= asked {
+        return;
+    }
+    calls[asked as usize] = program_call(address, page);
+}
+
+// Keeps the call of an erase likewise.
+fn keep_erase(calls: &mut Vec<Call>, asked: u64, sector: u32)
+    ensures { calls.new.items ≡ slice_set calls.old.items asked (Sector sector) }
+{
+    if asked < calls.len() as u64 {
+        calls[asked as usize] = Call::Sector { sector };
+    }
 }
 
 impl MemFlash {
@@ -189,8 +207,8 @@ impl Flash for MemFlash {
         ensures asked { IsAskedOnce self.old self.new }
     {
         program_range(&mut self.bytes, address as usize, page);
-        let call = program_call(address, page);
-        note(&mut self.calls, &mut self.asked, &mut self.ops, call);
+        keep_program(&mut self.calls, self.asked, address, page);
+        count(&mut self.asked, &mut self.ops);
         FlashAnswer::Done
     }
 
@@ -202,8 +220,8 @@ impl Flash for MemFlash {
     {
         let length = self.geometry.sector as usize;
         erase_range(&mut self.bytes, sector as usize * length, length);
-        let call = Call::Sector { sector };
-        note(&mut self.calls, &mut self.asked, &mut self.ops, call);
+        keep_erase(&mut self.calls, self.asked, sector);
+        count(&mut self.asked, &mut self.ops);
         FlashAnswer::Done
     }
 }

@@ -1,6 +1,6 @@
 -- What a Pick takes for a job.
-use Rattle.std.specs.Prelude.{ℕ, List, option_map, Option, Some, None}
-use Rattle.block_machine.specs.Words.{Taken, TookNothing, TookContent, TookRefused, TookStale}
+use Rattle.std.specs.Prelude.{ℕ, Bool, List, option_map, if◌then◌else◌, Option, Some, None}
+use Rattle.block_machine.specs.Words.{ReqResult, NotOk, Taken, TookNothing, TookContent, TookRefused, TookStale}
 use Rattle.job_pending.specs.declared.take.Staged.{Staged}
 use Rattle.job_pending.specs.declared.take.Take.{Take}
 use Rattle.job_pending.specs.declared.take.Take.TheVariants as take
@@ -37,3 +37,7 @@ taken_as content (take.Stale asked got count) = TookStale asked got count
 -- what the last Pick of a job took, if it was picked
 abbrev pub taken_last : Option (List ℕ × ℕ) → Option Take → Option Taken
 taken_last content last = option_map (taken_as content) last
+
+-- what a job ends with whose last Pick got no content to write
+abbrev pub result_without : (none : Bool) → Option ReqResult
+result_without none = if none then Some NotOk else None

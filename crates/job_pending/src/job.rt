@@ -5,12 +5,12 @@ ghost use Rattle.block_machine.specs.Blocks.{asked_content, job_block, kind_of, 
 ghost use Rattle.block_machine.specs.Sweeps.{member_request};
 ghost use Rattle.block_machine.specs.Steps.{picked_job};
 ghost use Rattle.block_machine.specs.Results.{took_none};
-ghost use Rattle.job_pending.specs.Take.{taken_with, taken_last};
+ghost use Rattle.job_pending.specs.Take.{taken_with, result_without};
 
 use crate::request::{asked_block, job_kind};
 use crate::written::Written;
 use crate::{Staged, Take};
-use block_machine::nv_base::{Bytes, JobKind, Request};
+use block_machine::nv_base::{Bytes, JobKind, ReqResult, Request};
 use std::marker::Model;
 
 /// A job on one block, from its acceptance, or as a member of a request on all blocks from its Pick, to its Post. Contracts
@@ -136,13 +136,6 @@ impl Job {
         self.reserved
     }
 
-    /// What its last Pick took, if it was picked.
-    pub fn last_pick(&self) -> Option<Take>
-        ensures { taken_last self.now.content result ≡ self.now.taken }
-    {
-        self.last
-    }
-
     /// Whether it was picked.
     pub fn was_picked(&self) -> bool
         ensures { result ≡ is_some self.now.taken }
@@ -150,14 +143,15 @@ impl Job {
         self.last.is_some()
     }
 
-    /// Whether its last Pick got no content to write: each copy was refused, or too old.
-    pub fn took_none(&self) -> bool
-        ensures { result ≡ took_none self.now.taken }
+    /// What it ends with, without an operation, where its last Pick got no content to write: each copy was refused, or too
+    /// old.
+    pub fn result_without_content(&self) -> Option<ReqResult>
+        ensures { result ≡ result_without (took_none self.now.taken) }
     {
-        matches!(
-            self.last,
-            Some(Take::Refused { .. }) | Some(Take::Stale { .. })
-        )
+        match self.last {
+            Some(Take::Refused { .. }) | Some(Take::Stale { .. }) => Some(ReqResult::NotOk),
+            _ => None,
+        }
     }
 
     /// How many instances it wrote since its last Pick.

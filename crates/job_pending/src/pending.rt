@@ -1,5 +1,6 @@
 // The pending jobs.
-ghost use Rattle.std.specs.Prelude.{◌≡◌, ◌<◌, ◌≤◌, ◌+◌, ◌-◌, ◌^◌, ◌++◌, ◌∷◌, [], ℕ, List, Option, Some, None, length, is_some, option_copied, ◌↔◌, IsTrue, IfOk, IfSome, Bool, if◌then◌else◌};
+ghost use Rattle.std.specs.Option.{option_map_or};
+ghost use Rattle.std.specs.Prelude.{◌≡◌, ◌<◌, ◌≤◌, ◌+◌, ◌-◌, ◌^◌, ◌++◌, ◌∷◌, [], ℕ, List, Option, Some, None, false, length, is_some, option_copied, ◌↔◌, IsTrue, IfOk, IfSome, Bool, if◌then◌else◌};
 ghost use Rattle.block_machine.specs.Words.{Configuration};
 ghost use Rattle.block_machine.specs.State.{Job as MachineJob};
 ghost use Rattle.block_machine.specs.Blocks.{job_block, rank_of};
@@ -78,6 +79,13 @@ impl PendingJobs {
         self.slots.job(first.block)
     }
 
+    /// Whether the job that goes before all others that wait is an immediate one. It looks at no job.
+    pub fn next_is_immediate(&self) -> bool
+        ensures { (c : Configuration) (waiting : List MachineJob) (held : Option MachineJob) → Agree c self.now waiting held → result ≡ option_map_or (λ j. (rank_of c j).immediate) (next_in c waiting) false }
+    {
+        self.queues.has_immediate()
+    }
+
     /// Whether as many jobs as the immediate or the standard queue has room for were accepted and not yet picked.
     pub fn is_full(&self, config: &Config, immediate: bool) -> bool
         ensures { (waiting : List MachineJob) (held : Option MachineJob) → Agree config.now self.now waiting held → result ≡ is_queue_full config.now waiting immediate }
@@ -129,8 +137,8 @@ impl PendingJobs {
         self.slots.put(waiting.block, job);
     }
 
-    /// The next job comes in hand with what its Pick takes, and the copy of that, if one was made. One that is in hand is interrupted: it waits again, and gets two
-    /// of its entries. It does nothing where no job waits.
+    /// The next job comes in hand with what its Pick takes, and the copy of that, if one was made. One that is in hand is
+    /// interrupted: it waits again, and gets two of its entries. It does nothing where no job waits.
     pub fn pick(&mut self, config: &Config, take: Take, copy: Option<Bytes>)
         requires reserved { IfSome self.old.hand (λ h. self.old.reserved + h.reserved + 2 < 2 ^ 32) }
         ensures places { length self.new.slots ≡ length self.old.slots }

@@ -2,7 +2,7 @@
 use Rattle.std.specs.Prelude.{ℕ, Bool, true, false}
 use Rattle.block_machine.specs.nv_base.declared.job.JobStep.{JobStep}
 use Rattle.block_machine.specs.nv_base.declared.job.JobStep.TheVariants.{Device, Ended}
-use Rattle.block_machine.specs.Words.{BlockDesc, JobKind, Outcome, NotOk, FromNowhere}
+use Rattle.block_machine.specs.Words.{BlockDesc, JobKind, Outcome, ReqResult, NotOk, FromNowhere}
 use Rattle.job_programs.specs.Program.{Program, program_of, after, step_of}
 use Rattle.job_progress.specs.declared.program.JobProgram.{JobProgram}
 use Rattle.job_progress.specs.declared.program.JobProgram.TheVariants.{Plain, Redundant}
@@ -22,9 +22,13 @@ pub record HandState : Type 0 where
 abbrev pub began : BlockDesc → Bool → ℕ → ℕ → JobKind → HandState
 began d defaults block index kind = record { program = program_of d defaults block index kind; step = step_of (program_of d defaults block index kind); started = false }
 
+-- one that ends with this, without an operation
+abbrev pub finished : BlockDesc → Bool → ℕ → ℕ → JobKind → ReqResult → HandState
+finished d defaults block index kind r = record { program = program_of d defaults block index kind; step = Ended r FromNowhere; started = false }
+
 -- one that got no content to write
 abbrev pub refused : BlockDesc → Bool → ℕ → ℕ → JobKind → HandState
-refused d defaults block index kind = record { program = program_of d defaults block index kind; step = Ended NotOk FromNowhere; started = false }
+refused d defaults block index kind = finished d defaults block index kind NotOk
 
 -- the device begins with the step
 abbrev pub with_start : HandState → HandState

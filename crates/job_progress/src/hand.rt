@@ -1,6 +1,6 @@
 // The driver's hand.
 ghost use Rattle.std.specs.Prelude.{◌≡◌, ◌≤◌, is_some, true, false, [], ◌∷◌, length};
-ghost use Rattle.job_progress.specs.Hand.{began, refused, with_start, ended, is_finished};
+ghost use Rattle.job_progress.specs.Hand.{began, finished, with_start, ended, is_finished};
 
 use crate::JobProgram;
 use block_machine::block_config::BlockDesc;
@@ -38,14 +38,20 @@ impl Hand {
         }
     }
 
-    /// A job that got no content to write: it is finished without an operation.
-    pub fn refused(desc: &BlockDesc, block: u16, index: u8, job: JobKind) -> Hand
-        ensures { result ≡ refused desc.now (is_some desc.now.defaults) block index job }
+    /// A job that ends with this result, without an operation.
+    pub fn finished(
+        desc: &BlockDesc,
+        block: u16,
+        index: u8,
+        job: JobKind,
+        answer: ReqResult,
+    ) -> Hand
+        ensures { result ≡ finished desc.now (is_some desc.now.defaults) block index job answer }
     {
         Hand {
             program: JobProgram::begin(desc, block, index, job),
             step: JobStep::Ended {
-                result: ReqResult::NotOk,
+                result: answer,
                 source: GivenFrom::Nothing,
             },
             started: false,

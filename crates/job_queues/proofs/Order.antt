@@ -1,16 +1,19 @@
 -- The queues and the machine's order.
-use Rattle.std.proofs.Common.{◌≡◌, ◌≢◌, ℕ, ◌==◌, not, Bool, true, false, if◌then◌else◌, List, [], ◌∷◌, ◌++◌, map, fold, refl, ap, ◌∙◌, Option, Some, None, option_map}
+use Rattle.std.specs.Option.{option_map_or}
+use Rattle.std.proofs.Common.{◌≡◌, ◌≢◌, ℕ, ◌==◌, not, Bool, true, false, if◌then◌else◌, List, [], ◌∷◌, ◌++◌, length, map, fold, refl, ap, ◌∙◌, arith, Option, Some, None, option_map}
+use Rattle.std.proofs.lemmas.Bool.Decides.{nat_tests}
 use Rattle.std.proofs.lemmas.List.{append-nil, map-append}
 use Rattle.std.proofs.lemmas.List.Elements.{filter-append}
 use Rattle.block_machine.specs.Words.{Configuration}
 use Rattle.block_machine.specs.State.{Job}
 use Rattle.block_machine.specs.Order.{goes_before}
-use Rattle.block_machine.specs.Next.{first_of_two as machine_two}
+use Rattle.block_machine.specs.Blocks.{rank_of as machine_rank}
+use Rattle.block_machine.specs.Next.{first_of_two as machine_two, next_in}
 use Rattle.block_machine.specs.Steps.{without_job}
 use Rattle.job_queues.specs.declared.waiting.Waiting.{Waiting}
 use Rattle.job_queues.specs.Order.{first_of, first_of_two, rank_of}
 use Rattle.job_queues.specs.Jobs.{Jobs, either, with_job, with_job_first, without}
-use Rattle.job_queues.specs.Laws.{only, OneOrder, FirstIsNext, AddedWaits, PutBackWaits, TakenLeaves, NoneIsEmpty, waiting_of}
+use Rattle.job_queues.specs.Laws.{only, OneOrder, FirstIsNext, AddedWaits, PutBackWaits, TakenLeaves, NoneIsEmpty, ImmediateGoesFirst, waiting_of}
 
 -- ONE ORDER
 
@@ -95,6 +98,48 @@ key_fold c (j ∷ jobs) o = key_fold c jobs (machine_two c o j) ∙ ap (λ o. fo
 
 pub first_is_next : FirstIsNext
 first_is_next c jobs i s = key_fold c jobs None ∙ one_order (map (waiting_of c) jobs)
+
+-- AN IMMEDIATE JOB
+
+are_by : (t u : Bool) (w : Waiting) (ws : List Waiting) (o : Option Waiting) → (u ≡ true → w.immediate ≡ t) → Are t o → ((p : Option Waiting) → Are t p → Are t (fold first_of_two p (only t ws)))
+    → Are t (fold first_of_two o (if u then w ∷ only t ws else only t ws))
+are_by t true w ws o e h rest = rest (first_of_two o w) (two_are t o w h (e refl))
+are_by t false w ws o e h rest = rest o h
+
+no_immediate : (b : Bool) → not b ≡ true → b ≡ false
+no_immediate true e = cc
+no_immediate false e = refl
+
+all_are : (t : Bool) (ws : List Waiting) (o : Option Waiting) → Are t o → Are t (fold first_of_two o (only t ws))
+all_are t [] o h = h
+all_are true (w ∷ ws) o h = are_by true w.immediate w ws o (λ e. e) h (all_are true ws)
+all_are false (w ∷ ws) o h = are_by false (not w.immediate) w ws o (no_immediate w.immediate) h (all_are false ws)
+
+abbrev immediate_in : Option Waiting → Bool
+immediate_in o = option_map_or (λ w. w.immediate) o false
+
+some_immediate : (o s : Option Waiting) → o ≢ None → Are true o → immediate_in (either o s) ≡ true
+some_immediate None s some are = absurd (some refl)
+some_immediate (Some w) s some are = are
+
+none_immediate : (s : Option Waiting) → Are false s → immediate_in s ≡ false
+none_immediate None are = refl
+none_immediate (Some w) are = are
+
+immediate_first : (i s : List Waiting) → Are true (first_of i) → Are false (first_of s) → immediate_in (either (first_of i) (first_of s)) ≡ not (length i == 0)
+immediate_first [] s hi hs = none_immediate (first_of s) hs
+immediate_first (w ∷ i) s hi hs =
+    let some : (length (w ∷ i) == 0) ≡ false = grind (arith, nat_tests) in
+    rw some (some_immediate (first_of (w ∷ i)) (first_of s) (some_left i w) hi)
+
+as_waiting : (c : Configuration) (o : Option Job) → option_map_or (λ j. (machine_rank c j).immediate) o false ≡ immediate_in (option_map (waiting_of c) o)
+as_waiting c None = refl
+as_waiting c (Some j) = refl
+
+pub immediate_goes_first : ImmediateGoesFirst
+immediate_goes_first c jobs i s =
+    let ws = map (waiting_of c) jobs in
+    as_waiting c (next_in c jobs) ∙ ap immediate_in (first_is_next c jobs i s) ∙ immediate_first (only true ws) (only false ws) (all_are true ws None tt) (all_are false ws None tt)
 
 -- A JOB THAT LEAVES
 

@@ -1,5 +1,6 @@
 -- The queues against the machine.
-use Rattle.std.specs.Prelude.{◌≡◌, ◌↔◌, ℕ, not, Bool, true, false, List, [], ◌∷◌, ◌++◌, filter, map, option_map, if◌then◌else◌, Some, None}
+use Rattle.std.specs.Prelude.{◌≡◌, ◌↔◌, ◌==◌, ℕ, not, Bool, true, false, List, [], ◌∷◌, ◌++◌, filter, length, map, option_map, if◌then◌else◌, Some, None}
+use Rattle.std.specs.Option.{option_map_or}
 use Rattle.block_machine.specs.Words.{Configuration}
 use Rattle.block_machine.specs.State.{Job}
 use Rattle.block_machine.specs.Blocks.{job_block, rank_of}
@@ -37,6 +38,12 @@ queues_of c jobs immediate standard = record {
 -- the first in the queues is the machine's next job
 abbrev pub FirstIsNext : Type 0
 FirstIsNext = (c : Configuration) (jobs : List Job) (i s : ℕ) → option_map (waiting_of c) (next_in c jobs) ≡ first_in (queues_of c jobs i s)
+
+-- the machine's next job is an immediate one exactly where one waits
+abbrev pub ImmediateGoesFirst : Type 0
+ImmediateGoesFirst =
+    (c : Configuration) (jobs : List Job) (i s : ℕ)
+    → option_map_or (λ j. (rank_of c j).immediate) (next_in c jobs) false ≡ not (length (queues_of c jobs i s).immediate == 0)
 
 -- a job that is added waits behind the others
 abbrev pub AddedWaits : Type 0

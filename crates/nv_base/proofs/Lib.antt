@@ -1,5 +1,6 @@
+mod Runs
+mod Steps
 pub mod Lists
 pub mod Numerals
 pub mod Places
 pub mod Shapes
-mod Steps

@@ -1,8 +1,8 @@
 // The configured device numbers with their lengths.
-ghost use Rattle.std.specs.Prelude.{◌≡◌, ◌≢◌, ◌↔◌, ◌<◌, ◌≤◌, ◌++◌, ◌∷◌, [], ℕ, All, IsTrue, length, Some, MatchOption, IfOk, OnOk, OnErr, slice_get};
+ghost use Rattle.std.specs.Prelude.{◌≡◌, ◌≢◌, ◌↔◌, true, ◌<◌, ◌≤◌, ◌++◌, ◌∷◌, [], ℕ, All, IsTrue, length, Some, MatchOption, IfOk, OnOk, OnErr, slice_get};
 ghost use Rattle.nv_base.specs.Lengths.{AreLengths, IsPlace, last_or, place_of};
 
-use crate::DeviceNumber;
+use crate::{DeviceNumber, instance_of};
 use std::alloc::{AllocError, Global};
 use std::marker::Model;
 
@@ -58,8 +58,22 @@ impl Lengths {
         &self.items
     }
 
-    /// The place of a number, from 0, by a binary search. None exactly where the number doesn't stand here.
+    /// The place of a number, from 0. None exactly where the number doesn't stand here. It looks first where a number
+    /// stands as long as each block behind block 1 has one instance, and else makes a binary search.
     pub fn place_of(&self, number: DeviceNumber) -> Option<usize>
+        ensures value { result ≡ place_of self.now number.0 }
+        ensures place { MatchOption result (All (λ x. x.0.0 ≢ number.0) self.now) (IsPlace self.now number.0) }
+        ensures only { (i : ℕ) → IsPlace self.now number.0 i → result ≡ Some i }
+    {
+        let place = usize::from(instance_of(number).block);
+        if is_at(self.as_slice(), number, place) {
+            return Some(place);
+        }
+        self.search(number)
+    }
+
+    // The place of a number by a binary search.
+    fn search(&self, number: DeviceNumber) -> Option<usize>
         ensures value { result ≡ place_of self.now number.0 }
         ensures place { MatchOption result (All (λ x. x.0.0 ≢ number.0) self.now) (IsPlace self.now number.0) }
         ensures only { (i : ℕ) → IsPlace self.now number.0 i → result ≡ Some i }
@@ -79,6 +93,16 @@ impl Lengths {
     {
         self.items.push((number, length))?;
         Ok(())
+    }
+}
+
+// Whether a number stands at a place.
+fn is_at(numbers: &[(DeviceNumber, u16)], number: DeviceNumber, place: usize) -> bool
+    ensures { result ≡ true → IsPlace numbers.now number.0 place }
+{
+    match numbers.get(place) {
+        Some(item) => item.0.0 == number.0,
+        None => false,
     }
 }
 

@@ -6,7 +6,7 @@ use Rattle.block_machine.specs.Words.{Configuration, ReqResult, Pick, Post, JobK
 use Rattle.block_machine.specs.State.{State, Job, Sweep}
 use Rattle.block_machine.specs.Blocks.{desc_of, block_at, is_pending, keeps_ram, status_of}
 use Rattle.block_machine.specs.Sweeps.{is_picked, member_job, member_kind}
-use Rattle.block_machine.specs.Next.{Next, BeginSweep, PickMember, PostMember, next_in, next_by, next_of, next_member, next_in_sweep}
+use Rattle.block_machine.specs.Next.{Next, BeginSweep, PickMember, PostMember, next_in, next_by, next_of, next_member}
 use Rattle.block_machine.specs.Steps.{after, changed_by, step, posted, posted_next, content_after, in_hand, with_member, ended}
 use Rattle.block_laws.specs.Consistent.{IsConsistent}
 use Rattle.block_laws.proofs.NextLaws.{none_waits}

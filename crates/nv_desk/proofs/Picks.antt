@@ -1,10 +1,11 @@
 -- The next job is picked.
-use Rattle.std.proofs.Common.{◌≡◌, ◌≢◌, ◌≤◌, ◌<◌, ℕ, ◌+◌, ◌^◌, List, [], ◌∷◌, ◌++◌, length, option_to_list, refl, sym, ap, ◌∙◌, subst, arith, Option, Some, None, IfSome, Bool, IsTrue, ◌↔◌}
+use Rattle.std.proofs.Common.{◌≡◌, ◌≢◌, ◌≤◌, ◌<◌, ℕ, ◌+◌, ◌^◌, List, [], ◌∷◌, ◌++◌, length, option_to_list, refl, sym, ap, ◌∙◌, subst, arith, Option, Some, None, IfSome, Bool, false, IsTrue, ◌↔◌}
+use Rattle.std.specs.Option.{option_map_or}
 use Rattle.std.proofs.lemmas.List.Sums.{sum_by-cons}
 use Rattle.block_machine.specs.nv_base.History.{Listed}
 use Rattle.block_machine.specs.Words.{Configuration, JobKind, Taken, Pick}
 use Rattle.block_machine.specs.State.{State, Job}
-use Rattle.block_machine.specs.Blocks.{desc_of, job_block, kind_of}
+use Rattle.block_machine.specs.Blocks.{desc_of, job_block, kind_of, rank_of}
 use Rattle.block_machine.specs.Next.{PickJob, next_in, next_of}
 use Rattle.block_machine.specs.Reply.{reserved_entries}
 use Rattle.block_machine.specs.Steps.{after, step, changed_by, in_hand, content_after}
@@ -154,4 +155,11 @@ interruption r d h j hand next both = (
   λ t. record { job = h; held = hand; next = j; first = next; may = both.0 t },
   λ i. both.1 (subst (λ (x : Job). MayInterrupt d.config x j) (some_is i.job h (sym i.held ∙ hand))
       (subst (λ (x : Job). MayInterrupt d.config i.job x) (some_is i.next j (sym i.first ∙ next)) i.may)),
+)
+
+-- a job that isn't immediate interrupts none
+pub not_interrupting : (d : DeskState) → false ≡ option_map_or (λ j. (rank_of d.config j).immediate) (next_in d.config (state_of d).waiting) false → (IsTrue false ↔ IsInterruption d)
+not_interrupting d told = (
+  λ t. cc,
+  λ i. let is = told ∙ ap (λ (o : Option Job). option_map_or (λ j. (rank_of d.config j).immediate) o false) i.first in cc (is, i.may.immediate),
 )

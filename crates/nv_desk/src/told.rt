@@ -74,6 +74,9 @@ impl Desk {
         let Some(_held) = self.hand() else {
             return false;
         };
+        if !self.kept.jobs.next_is_immediate() {
+            return false;
+        }
         let Some(_next) = self.next_job() else {
             return false;
         };

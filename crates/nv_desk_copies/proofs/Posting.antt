@@ -10,6 +10,7 @@ use Rattle.block_machine.specs.Results.{Answer, Own, own_of, outcomes_of, device
 use Rattle.block_machine.specs.Next.{Next, PostMember, next_of}
 use Rattle.block_machine.specs.Legal.{IsDriving, MayPost, MayPostNext, ByTable, IsCopyRefused, IsAllowed}
 use Rattle.ram_blocks.specs.Told.{Told}
+use Rattle.ram_blocks.specs.Tries.{OthersStay}
 use Rattle.nv_desk.specs.Desk.{DeskState, state_of}
 use Rattle.nv_desk.specs.Driver.{block_now}
 use Rattle.block_laws.proofs.FailedSets.{failed_sets_are_least}
@@ -111,10 +112,9 @@ pub posted : (old new : DeskState) (j : Job) (r : ReqResult) (source : GivenFrom
     (before after : List Told) (block : ℕ) (ram : Bool) (ended answer : Answer) (refused : ℕ) → (state_of old).hand ≡ Some j → block ≡ job_block j
     → ram ≡ names_ram j.request → ended ≡ answer_of old.config (state_of old) j r source content
     → IsHandedOver (goes_over (desc_of old.config block) ram ended.1) ended answer refused ((desc_of old.config block).repeats + 1) block before after
-    → new ≡ record old { entries = old.entries ++ Post (block_now (state_of old)) answer.0 answer.1 refused ops ∷ [] }
+    → OthersStay block before after → new ≡ record old { entries = old.entries ++ Post (block_now (state_of old)) answer.0 answer.1 refused ops ∷ [] }
     → IsPosted (IsEndOf old j r source content ops) (job_block j) (names_ram j.request) (answer_of old.config (state_of old) j r source content) ops old new before after
-    (record { block = block; result = answer.0 })
-posted old new j r source content ops before after block ram ended answer refused hand at names is over adds =
+posted old new j r source content ops before after block ram ended answer refused hand at names is over others adds =
     let c = old.config in
     let here : IsHandedOver (goes_over (desc_of c (job_block j)) ram ended.1) ended answer refused ((desc_of c (job_block j)).repeats + 1) (job_block j) before after
     = subst (λ (n : ℕ). IsHandedOver (goes_over (desc_of c n) ram ended.1) ended answer refused ((desc_of c n).repeats + 1) n before after) at over in
@@ -123,11 +123,12 @@ posted old new j r source content ops before after block ram ended answer refuse
     let all = subst (λ (a : Answer). IsHandedOver (goes_over (desc_of c (job_block j)) (names_ram j.request) a.1) a answer refused
     ((desc_of c (job_block j)).repeats + 1) (job_block j) before after) is named in
     record {
+      result = answer.0;
       given = answer.1;
       refused = refused;
-      block_is = at;
       adds = adds ∙ ap (λ (o : Option Job). record old { entries = old.entries ++ Post (option_map_or job_block o 0) answer.0 answer.1 refused ops ∷ [] }) hand;
       over = all;
+      others = subst (λ (n : ℕ). OthersStay n before after) at others;
       allowed = λ end. job_posts c old.cap (state_of old) j r source content end.failed answer refused ops before after end.driving hand end.ended all;
     }
 
@@ -143,13 +144,14 @@ pub member_posted : (old new : DeskState) (sw : Sweep) (id : ℕ) (ops : ℕ) (b
     → IsDriving (state_of old) ops → next_of old.config (state_of old) ≡ PostMember sw id
     → IsHandedOver (goes_over (desc_of old.config id) true (unpicked_result (own_of old.config (state_of old) id) sw.writes).1)
     (unpicked_result (own_of old.config (state_of old) id) sw.writes) answer refused ((desc_of old.config id).repeats + 1) id before after
-    → new ≡ record old { entries = old.entries ++ Post id answer.0 answer.1 refused ops ∷ [] }
-    → IsPosted (Unit {0}) id true (unpicked_result (own_of old.config (state_of old) id) sw.writes) ops old new before after (record { block = id; result = answer.0 })
-member_posted old new sw id ops before after answer refused driving is over adds = record {
+    → OthersStay id before after → new ≡ record old { entries = old.entries ++ Post id answer.0 answer.1 refused ops ∷ [] }
+    → IsPosted (Unit {0}) id true (unpicked_result (own_of old.config (state_of old) id) sw.writes) ops old new before after
+member_posted old new sw id ops before after answer refused driving is over others adds = record {
+  result = answer.0;
   given = answer.1;
   refused = refused;
-  block_is = refl;
   adds = adds;
   over = over;
+  others = others;
   allowed = λ u. member_posts old.config old.cap (state_of old) sw id answer refused ops before after driving is over;
 }

@@ -1,52 +1,21 @@
 -- What a Pick takes, by the machine.
-use Rattle.std.proofs.Common.{◌≡◌, ℕ, Bool, true, false, List, [], ◌∷◌, ◌++◌, if◌then◌else◌, refl, sym, ap, subst, Option, Some, None}
-use Rattle.block_machine.specs.Words.{JobKind, ReadJob, WriteJob, RestoreJob, EraseJob, InvalidateJob, ReadAllJob, WriteAllJob, BlockDesc, Configuration, Pick, TookNothing}
-use Rattle.block_machine.specs.State.{State, BlockState, Job, Sweep}
-use Rattle.block_machine.specs.Blocks.{desc_of, block_at, is_synchronized, asked_block, job_block, kind_of, asked_store}
+use Rattle.std.proofs.Common.{◌≡◌, ℕ, Bool, true, false, List, [], ◌∷◌, ◌++◌, if◌then◌else◌, refl, sym, ap, ◌∙◌, subst, Option, Some, None}
+use Rattle.block_machine.specs.Words.{JobKind, Configuration, Taken, Pick, TookNothing}
+use Rattle.block_machine.specs.State.{State, Job, Sweep}
+use Rattle.block_machine.specs.Blocks.{desc_of, block_at, is_synchronized, asked_block, job_block, kind_of}
 use Rattle.block_machine.specs.Sweeps.{is_picked, member_kind, member_request, member_job}
 use Rattle.block_machine.specs.Next.{Next, Nothing, PickJob, BeginSweep, PickMember, PostMember, EndSweep, next_in, next_by, next_of, next_member}
-use Rattle.block_machine.specs.Legal.{IsDriving, HandIsFree, TakesForWrite, TakesBy, MayPick, IsAllowed}
+use Rattle.block_machine.specs.Legal.{IsDriving, HandIsFree, TakesBy, MayPick, IsAllowed}
 use Rattle.job_pending.specs.Take.{taken_with}
 use Rattle.job_pending.specs.declared.take.Take.{Take}
-use Rattle.job_pending.specs.declared.take.Take.TheVariants as take
 use Rattle.nv_desk.specs.Desk.{DeskState, state_of}
 use Rattle.nv_desk.specs.Picks.{took_of}
 use Rattle.nv_desk.specs.Members.{MayPickMember}
 use Rattle.nv_desk.specs.AllBlocks.{sweep_kind}
 use Rattle.ram_blocks.specs.Told.{Told}
 use Rattle.nv_desk.proofs.MemberEntries.{at_picked, at_posted}
-use Rattle.nv_desk_copies.specs.Takes.{source_by, source_of, source_next, IsTakenFrom, IsCopied, IsCopySource}
+use Rattle.nv_desk_copies.specs.Takes.{copies_out_by, copies_out_for, copies_out_next, IsCopied}
 use Rattle.nv_desk_copies.specs.Picks.{IsPicked, IsPickNext}
-
--- only a write of synchronized RAM copies
-pub copy_source : (kind : JobKind) (content : Option (List ℕ × ℕ)) (synchronized : Bool) (asked : ℕ)
-    → IsCopySource (source_by kind content synchronized asked) → synchronized ≡ true
-copy_source WriteJob None true asked h = refl
-copy_source WriteJob None false asked h = absurd h
-copy_source WriteJob (Some x) synchronized asked h = absurd h
-copy_source ReadJob content synchronized asked h = absurd h
-copy_source RestoreJob content synchronized asked h = absurd h
-copy_source EraseJob content synchronized asked h = absurd h
-copy_source InvalidateJob content synchronized asked h = absurd h
-copy_source ReadAllJob content synchronized asked h = absurd h
-copy_source WriteAllJob content synchronized asked h = absurd h
-
-for_write : (d : BlockDesc) (b : BlockState) (j : Job) (content : Option (List ℕ × ℕ)) (synchronized : Bool) (t : Take) (lent : List ℕ)
-    → IsTakenFrom d b (source_by WriteJob content synchronized (asked_store j.request)) t lent
-    → TakesForWrite d b j content synchronized (taken_with content (took_of t lent))
-for_write d b j (Some x) synchronized t lent h = rw h refl
-for_write d b j None false t lent h = rw (h.0, h.1) refl
-for_write d b j None true take.Nothing lent h = h
-for_write d b j None true take.Own lent h = h
-for_write d b j None true (take.Copied store) lent h = h
-for_write d b j None true (take.Refused count) lent h = h
-for_write d b j None true (take.Stale wanted got count) lent h = h
-
-takes_by : (d : BlockDesc) (b : BlockState) (j : Job) (kind : JobKind) (t : Take) (lent : List ℕ)
-    → IsTakenFrom d b (source_by kind j.content (is_synchronized d.ram) (asked_store j.request)) t lent
-    → TakesBy d b j kind (taken_with j.content (took_of t lent))
-takes_by d b j WriteJob t lent h = for_write d b j j.content (is_synchronized d.ram) t lent h
-takes_by d b j kind t lent h = rw h refl
 
 -- A JOB
 
@@ -72,39 +41,45 @@ free_at : (c : Configuration) (o : Option Job) (j : Job) → o ≡ None → Hand
 free_at c None j e = tt
 free_at c (Some h) j e = cc
 
-pub member_allowed : (c : Configuration) (cap : ℕ) (s : State) (sw : Sweep) (id : ℕ) (t : Take) (lent : List ℕ) (ops : ℕ) → IsDriving s ops
-    → next_of c s ≡ PickMember sw id → IsTakenFrom (desc_of c id) (block_at s id) (source_of c (member_job c sw id)) t lent
-    → IsAllowed c cap s (Pick id (member_kind sw.writes) (taken_with None (took_of t lent)) ops)
-member_allowed c cap s sw id t lent ops driving is taken =
+pub member_allowed : (c : Configuration) (cap : ℕ) (s : State) (sw : Sweep) (id : ℕ) (taken : Taken) (ops : ℕ) → IsDriving s ops
+    → next_of c s ≡ PickMember sw id → TakesBy (desc_of c id) (block_at s id) (member_job c sw id) (member_kind sw.writes) taken
+    → IsAllowed c cap s (Pick id (member_kind sw.writes) taken ops)
+member_allowed c cap s sw id taken ops driving is takes =
     let j = member_job c sw id in
     let block : job_block j ≡ id = block_is sw.writes id in (
       driving,
-      subst (λ (n : Next). MayPick c s id (member_kind sw.writes) (taken_with None (took_of t lent)) n) (sym is)
+      subst (λ (n : Next). MayPick c s id (member_kind sw.writes) taken n) (sym is)
           (record {
             free = free_at c s.hand j (hand_by c s sw id (next_in c s.waiting) s.hand s.sweep is);
             same_block = sym block;
             same_kind = kind_by sw.writes c sw id refl;
-            takes = takes_by (desc_of c (job_block j)) (block_at s (job_block j)) j (kind_of j) t lent
-                (subst (λ (n : ℕ). IsTakenFrom (desc_of c n) (block_at s n) (source_of c j) t lent) (sym block) taken);
+            takes = subst (λ (n : ℕ). TakesBy (desc_of c n) (block_at s n) j (kind_of j) taken) (sym block)
+                (subst (λ (k : JobKind). TakesBy (desc_of c id) (block_at s id) j k taken) (kind_by sw.writes c sw id refl) takes);
           }),
     )
 
 pub may_pick_member : (d : DeskState) (sw : Sweep) (id : ℕ) (t : Take) (lent : List ℕ) (ops : ℕ) → IsDriving (state_of d) ops
     → next_of d.config (state_of d) ≡ PickMember sw id
-    → IsTakenFrom (desc_of d.config id) (block_at (state_of d) id) (source_of d.config (member_job d.config sw id)) t lent
+    → TakesBy (desc_of d.config id) (block_at (state_of d) id) (member_job d.config sw id) (member_kind sw.writes) (taken_with None (took_of t lent))
     → MayPickMember d id (took_of t lent) ops
-may_pick_member d sw id t lent ops driving is taken = record {
+may_pick_member d sw id t lent ops driving is takes = record {
   sweep = sw;
   is = is;
-  allowed = member_allowed d.config d.cap (state_of d) sw id t lent ops driving is taken;
+  allowed = member_allowed d.config d.cap (state_of d) sw id (taken_with None (took_of t lent)) ops driving is takes;
 }
 
--- a member copies where its block is synchronized
-pub member_copies : (c : Configuration) (sw : Sweep) (id : ℕ) → IsCopySource (source_of c (member_job c sw id)) → is_synchronized (desc_of c id).ram ≡ true
-member_copies c sw id h =
+-- a member of a WriteAll copies where its block is synchronized
+member_copies : (c : Configuration) (sw : Sweep) (id : ℕ)
+    → copies_out_by (member_kind sw.writes) None (is_synchronized (desc_of c id).ram) ≡ copies_out_for c (member_job c sw id)
+member_copies c sw id =
     let j = member_job c sw id in
-    subst (λ (n : ℕ). is_synchronized (desc_of c n).ram ≡ true) (block_is sw.writes id)
-    (copy_source (kind_of j) None (is_synchronized (desc_of c (job_block j)).ram) (asked_store j.request) h)
+    ap (λ (k : JobKind). copies_out_by k None (is_synchronized (desc_of c id).ram)) (kind_by sw.writes c sw id refl)
+    ∙ ap (λ (n : ℕ). copies_out_by (kind_of j) None (is_synchronized (desc_of c n).ram)) (sym (block_is sw.writes id))
+
+pub member_copied : (IsStore : ℕ → List ℕ → Type 0) (before after : List Told) (c : Configuration) (sw : Sweep) (id : ℕ) (taken : Taken)
+    → IsCopied IsStore id before after (copies_out_by (member_kind sw.writes) None (is_synchronized (desc_of c id).ram)) taken
+    → IsCopied IsStore id before after (copies_out_for c (member_job c sw id)) taken
+member_copied IsStore before after c sw id taken = subst (λ (b : Bool). IsCopied IsStore id before after b taken) (member_copies c sw id)
 
 -- WHAT COMES NEXT
 
@@ -150,20 +125,20 @@ not_nothing n is picks = subst IsPickNext is picks
 
 pub job_picked : (IsStore : ℕ → ℕ → List ℕ → Type 0) (before after : List Told) (c : Configuration) (n : Next) (j : Job) (block ops : ℕ) (old new : DeskState)
     → n ≡ PickJob j → block ≡ job_block j
-    → IsPicked (λ t. IsCopied (IsStore (job_block j)) (job_block j) before after (source_of c j) t) (job_block j) ops old new
-    → IsPicked (λ t. IsCopied (IsStore block) block before after (source_next c n) t) block ops old new
+    → IsPicked (λ t. IsCopied (IsStore (job_block j)) (job_block j) before after (copies_out_for c j) t) (job_block j) ops old new
+    → IsPicked (λ t. IsCopied (IsStore block) block before after (copies_out_next c n) t) block ops old new
 job_picked IsStore before after c n j block ops old new is at h = rw (is, at) h
 
 pub member_picked : (IsStore : ℕ → ℕ → List ℕ → Type 0) (before after : List Told) (c : Configuration) (n : Next) (sw : Sweep) (block ops : ℕ) (old new : DeskState)
     → n ≡ PickMember sw block
-    → IsPicked (λ t. IsCopied (IsStore block) block before after (source_of c (member_job c sw block)) t) block ops old new
-    → IsPicked (λ t. IsCopied (IsStore block) block before after (source_next c n) t) block ops old new
+    → IsPicked (λ t. IsCopied (IsStore block) block before after (copies_out_for c (member_job c sw block)) t) block ops old new
+    → IsPicked (λ t. IsCopied (IsStore block) block before after (copies_out_next c n) t) block ops old new
 member_picked IsStore before after c n sw block ops old new is h = rw is h
 
 pub sweep_picked : (IsStore : ℕ → ℕ → List ℕ → Type 0) (told : List Told) (sw : Sweep) (ops : ℕ) (old new : DeskState) → IsDriving (state_of old) ops
     → next_of old.config (state_of old) ≡ BeginSweep sw
     → new ≡ record old { entries = old.entries ++ Pick 0 (sweep_kind sw.writes) TookNothing ops ∷ [] }
-    → IsPicked (λ t. IsCopied (IsStore 0) 0 told told (source_next old.config (next_of old.config (state_of old))) t) 0 ops old new
+    → IsPicked (λ t. IsCopied (IsStore 0) 0 told told (copies_out_next old.config (next_of old.config (state_of old))) t) 0 ops old new
 sweep_picked IsStore told sw ops old new driving is adds = record {
   kind = sweep_kind sw.writes;
   taken = TookNothing;
@@ -173,5 +148,5 @@ sweep_picked IsStore told sw ops old new driving is adds = record {
     subst (λ (n : Next). MayPick old.config (state_of old) 0 (sweep_kind sw.writes) TookNothing n) (sym is)
         (record { all_blocks = refl; same_kind = refl; takes_nothing = refl }),
   );
-  copied = subst (λ (n : Next). IsCopied (IsStore 0) 0 told told (source_next old.config n) TookNothing) (sym is) refl;
+  copied = subst (λ (n : Next). IsCopied (IsStore 0) 0 told told (copies_out_next old.config n) TookNothing) (sym is) refl;
 }

@@ -11,9 +11,9 @@ use Rattle.block_machine.specs.Results.{Answer, Own, own_of, outcomes_of, device
 use Rattle.block_machine.specs.Next.{Next, PostMember, EndSweep, next_of}
 use Rattle.block_machine.specs.Legal.{IsDriving, IsAllowed}
 use Rattle.ram_blocks.specs.Told.{Told, told_at, refusals_of}
+use Rattle.ram_blocks.specs.Tries.{OthersStay}
 use Rattle.nv_desk.specs.Desk.{DeskState, state_of}
 use Rattle.nv_desk_copies.specs.Front.{Numbers, given_if}
-use Rattle.nv_desk_copies.specs.declared.post.Posted.{Posted}
 
 -- WHAT A JOB ENDS WITH
 
@@ -65,14 +65,16 @@ IsHandedOver true ended posted refused tries block old new =
     ((posted ≡ ended) × (refused ≡ 0) × (option_map (λ s. s.last) (told_at new block) ≡ ended.1))
     ⊎ ((posted ≡ (NotOk, None)) × (refused ≡ tries) × WereCounted tries (refusals_of old block) (refusals_of new block))
 
--- One Post more, of what ended so on this block. The machine allows it under a premise.
-pub record IsPosted (Premise : Type 0) (block : ℕ) (ram : Bool) (ended : Answer) (ops : ℕ) (old new : DeskState) (before after : List Told) (posted : Posted) : Type 0 where
+-- One Post more, of what ended so on this block; of another block nothing is told otherwise. The machine allows it under a
+-- premise.
+pub record IsPosted (Premise : Type 0) (block : ℕ) (ram : Bool) (ended : Answer) (ops : ℕ) (old new : DeskState) (before after : List Told) : Type 0 where
+  pub result : ReqResult
   pub given : Option (List ℕ)
   pub refused : ℕ
-  pub block_is : posted.block ≡ block
-  pub adds : new ≡ record old { entries = old.entries ++ Post block posted.result given refused ops ∷ [] }
-  pub over : IsHandedOver (goes_over (desc_of old.config block) ram ended.1) ended (posted.result, given) refused ((desc_of old.config block).repeats + 1) block before after
-  pub allowed : Premise → IsAllowed old.config old.cap (state_of old) (Post block posted.result given refused ops)
+  pub adds : new ≡ record old { entries = old.entries ++ Post block result given refused ops ∷ [] }
+  pub over : IsHandedOver (goes_over (desc_of old.config block) ram ended.1) ended (result, given) refused ((desc_of old.config block).repeats + 1) block before after
+  pub others : OthersStay block before after
+  pub allowed : Premise → IsAllowed old.config old.cap (state_of old) (Post block result given refused ops)
 
 -- THE JOB IN HAND
 
@@ -96,6 +98,10 @@ is_read kind = false
 abbrev pub reads_own : Job → Option (List ℕ) → Bool
 reads_own j given = not (names_ram j.request) && (is_read (kind_of j) && is_some given)
 
+-- its block, where it did
+abbrev pub block_read : Job → Option (List ℕ) → Option ℕ
+block_read j given = if reads_own j given then Some (job_block j) else None
+
 -- then it can be taken: it is that of the Post with this number
 abbrev pub noted : Job → Option (List ℕ) → ℕ → Numbers → Numbers
 noted j given n unread = if reads_own j given then slice_set unread (job_block j) (Some n) else unread
@@ -118,8 +124,8 @@ pub record IsAtPost (d : DeskState) (block ops : ℕ) : Type 0 where
   pub sweep : Sweep
   pub is : next_of d.config (state_of d) ≡ PostMember sweep block
 
-abbrev pub IsPostedNext : Next → ℕ → (old new : DeskState) → (before after : List Told) → Posted → Type 0
-IsPostedNext (PostMember sw id) ops old new before after posted =
-    IsPosted (Unit {0}) id true (unpicked_result (own_of old.config (state_of old) id) sw.writes) ops old new before after posted
-IsPostedNext (EndSweep sw) ops old new before after posted = IsPosted (Unit {0}) 0 false (sweep_result sw, None) ops old new before after posted
-IsPostedNext next ops old new before after posted = ⊥
+abbrev pub IsPostedNext : Next → ℕ → (old new : DeskState) → (before after : List Told) → Type 0
+IsPostedNext (PostMember sw id) ops old new before after =
+    IsPosted (Unit {0}) id true (unpicked_result (own_of old.config (state_of old) id) sw.writes) ops old new before after
+IsPostedNext (EndSweep sw) ops old new before after = IsPosted (Unit {0}) 0 false (sweep_result sw, None) ops old new before after
+IsPostedNext next ops old new before after = ⊥

@@ -3,18 +3,17 @@ ghost use Rattle.std.specs.Prelude.{◌≡◌, ℕ, [], length, get_or, slice_se
 ghost use Rattle.block_machine.specs.State.{Job as MachineJob};
 ghost use Rattle.block_machine.specs.Blocks.{job_block, names_ram};
 ghost use Rattle.block_machine.specs.Next.{next_of};
-ghost use Rattle.ram_blocks.specs.Tries.{OthersStay};
 ghost use Rattle.nv_desk_state.specs.Next.{IsNextEntry};
 ghost use Rattle.nv_desk.specs.Desk.{state_of};
 ghost use Rattle.nv_desk_copies.specs.Front.{StagesAll, AreSynchronized, CopiesStay, given_at};
-ghost use Rattle.nv_desk_copies.specs.Takes.{source_next, IsCopied};
+ghost use Rattle.nv_desk_copies.specs.Takes.{copies_out_next, IsCopied};
 ghost use Rattle.nv_desk_copies.specs.Picks.{MayPickNow, PicksNext};
 ghost use Rattle.nv_desk_copies.specs.Posts.{MayPostNow, MayPostSkipped, IsEndOf, IsPosted, IsPostedNext, answer_of, noted};
 
 use crate::pick::pick;
 use crate::post::post;
 use crate::skipped::post_skipped;
-use crate::{Posted, Staging, Unread};
+use crate::{Staging, Unread};
 use block_machine::block_config::Config;
 use block_machine::nv_base::{Entry, GivenFrom, ReqResult};
 use nv_desk::{Desk, longest_content};
@@ -58,7 +57,7 @@ impl Front {
         requires next { IsNextEntry next (next_of self.old.desk.config (state_of self.old.desk)) }
         requires staging { StagesAll self.old.desk.config self.old.staging }
         requires synchronized { AreSynchronized self.old.desk.config (C.told copies.old) }
-        ensures picks { PicksNext (λ block t. IsCopied (λ n x. C.is_store copies.new block n x × C.looked copies.old copies.new block n) block (C.told copies.old) (C.told copies.new) (source_next self.old.desk.config (next_of self.old.desk.config (state_of self.old.desk))) t) ops self.old.desk self.new.desk (C.told copies.old) (C.told copies.new) }
+        ensures picks { PicksNext (λ block t. IsCopied (λ n x. C.is_store copies.new block n x × C.looked copies.old copies.new block n) block (C.told copies.old) (C.told copies.new) (copies_out_next self.old.desk.config (next_of self.old.desk.config (state_of self.old.desk))) t) ops self.old.desk self.new.desk (C.told copies.old) (C.told copies.new) }
         ensures room { self.new.staging.room ≡ self.old.staging.room }
         ensures unread { self.new.unread ≡ self.old.unread }
         ensures stays { CopiesStay C.told C.is_store C.over copies.old copies.new }
@@ -78,21 +77,20 @@ impl Front {
         content: &[u8],
         ops: u64,
         copies: &mut C,
-    ) -> Posted
+    )
         requires may { MayPostNow self.old.desk source content.now }
         requires staging { StagesAll self.old.desk.config self.old.staging }
         requires synchronized { AreSynchronized self.old.desk.config (C.told copies.old) }
         ensures posted { (j : MachineJob) → (state_of self.old.desk).hand ≡ Some j
-            → IsPosted (IsEndOf self.old.desk j answer source content.now ops) (job_block j) (names_ram j.request) (answer_of self.old.desk.config (state_of self.old.desk) j answer source content.now) ops self.old.desk self.new.desk (C.told copies.old) (C.told copies.new) result }
+            → IsPosted (IsEndOf self.old.desk j answer source content.now ops) (job_block j) (names_ram j.request) (answer_of self.old.desk.config (state_of self.old.desk) j answer source content.now) ops self.old.desk self.new.desk (C.told copies.old) (C.told copies.new) }
         ensures unread { (j : MachineJob) → (state_of self.old.desk).hand ≡ Some j
             → self.new.unread ≡ noted j (answer_of self.old.desk.config (state_of self.old.desk) j answer source content.now).1 (length self.old.desk.entries) self.old.unread }
         ensures room { self.new.staging.room ≡ self.old.staging.room }
-        ensures others { OthersStay result.block (C.told copies.old) (C.told copies.new) }
         ensures stays { CopiesStay C.told C.is_store C.over copies.old copies.new }
         ensures synchronized { AreSynchronized self.old.desk.config (C.told copies.new) }
     {
         let number = self.desk.history().len();
-        let ended = post(
+        let read = post(
             &mut self.desk,
             &mut self.staging,
             answer,
@@ -101,32 +99,25 @@ impl Front {
             ops,
             copies,
         );
-        if ended.reads {
-            self.unread.note(ended.posted.block, number);
+        if let Some(block) = read {
+            self.unread.note(block, number);
         }
-        ended.posted
     }
 
     /// The Post without a Pick that comes next, which is this entry: of a member of a request on all blocks, or of id 0. Defaults that a member
     /// gives to synchronized RAM are handed over as by `post`. It takes no memory.
-    pub fn post_skipped<C: SyncCalls>(
-        &mut self,
-        next: NextEntry,
-        ops: u64,
-        copies: &mut C,
-    ) -> Posted
+    pub fn post_skipped<C: SyncCalls>(&mut self, next: NextEntry, ops: u64, copies: &mut C)
         requires may { MayPostSkipped self.old.desk ops }
         requires next { IsNextEntry next (next_of self.old.desk.config (state_of self.old.desk)) }
         requires staging { StagesAll self.old.desk.config self.old.staging }
         requires synchronized { AreSynchronized self.old.desk.config (C.told copies.old) }
-        ensures posted { IsPostedNext (next_of self.old.desk.config (state_of self.old.desk)) ops self.old.desk self.new.desk (C.told copies.old) (C.told copies.new) result }
+        ensures posted { IsPostedNext (next_of self.old.desk.config (state_of self.old.desk)) ops self.old.desk self.new.desk (C.told copies.old) (C.told copies.new) }
         ensures room { self.new.staging.room ≡ self.old.staging.room }
         ensures unread { self.new.unread ≡ self.old.unread }
-        ensures others { OthersStay result.block (C.told copies.old) (C.told copies.new) }
         ensures stays { CopiesStay C.told C.is_store C.over copies.old copies.new }
         ensures synchronized { AreSynchronized self.old.desk.config (C.told copies.new) }
     {
-        post_skipped(&mut self.desk, &mut self.staging, next, ops, copies)
+        post_skipped(&mut self.desk, &mut self.staging, next, ops, copies);
     }
 
     /// Takes what the last read of a block to the caller's own buffer gave: the number of the Post that gave it, once. None

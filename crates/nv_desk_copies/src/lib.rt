@@ -12,11 +12,10 @@ mod over;
 mod pick;
 mod post;
 mod skipped;
-mod source;
 mod staging;
+mod synchronized;
 mod unread;
 
 pub use front::Front;
-pub use post::Posted;
 pub use staging::Staging;
 pub use unread::Unread;

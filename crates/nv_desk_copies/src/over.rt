@@ -6,7 +6,7 @@ ghost use Rattle.nv_desk_copies.specs.Front.{AreSynchronized, CopiesStay};
 ghost use Rattle.nv_desk_copies.specs.Posts.{answer_in, goes_over, IsHandedOver};
 
 use crate::Staging;
-use crate::source::{is_synchronized, tries};
+use crate::synchronized::{is_synchronized, tries};
 use block_machine::block_config::Config;
 use block_machine::nv_base::ReqResult;
 use ram_blocks::{SyncCalls, copy_in};
@@ -18,16 +18,8 @@ pub struct End {
     pub gives: bool,
 }
 
-/// What a job is posted with: its result, whether it gives the content that is staged, and how many copies of that were
-/// refused.
-#[derive(Clone, Copy)]
-pub struct Ending {
-    pub answer: ReqResult,
-    pub gives: bool,
-    pub refused: u8,
-}
-
-/// Hands what a job gives over to the application, where it goes to synchronized RAM.
+/// Hands what a job gives over to the application, where it goes to synchronized RAM. It answers what the job is posted with, and
+/// how many copies were refused.
 #[tactic(auto, using(crate::proofs::Sizes::nothing_copied))]
 pub fn hand_over<C: SyncCalls>(
     config: &Config,
@@ -36,24 +28,20 @@ pub fn hand_over<C: SyncCalls>(
     ram: bool,
     end: End,
     copies: &mut C,
-) -> Ending
+) -> (End, u8)
     requires whole { IfSome (answer_in end.answer end.gives staging.now.bytes).1 (λ x. length x ≡ (desc_of config.now block).length) }
     requires synchronized { AreSynchronized config.now (C.told copies.old) }
     ensures over { IsHandedOver (goes_over (desc_of config.now block) ram (answer_in end.answer end.gives staging.now.bytes).1)
-        (answer_in end.answer end.gives staging.now.bytes) (answer_in result.answer result.gives staging.now.bytes)
-        result.refused ((desc_of config.now block).repeats + 1) block (C.told copies.old) (C.told copies.new) }
-    ensures whole { IfSome (answer_in result.answer result.gives staging.now.bytes).1 (λ x. length x ≡ (desc_of config.now block).length) }
+        (answer_in end.answer end.gives staging.now.bytes) (answer_in result.0.answer result.0.gives staging.now.bytes)
+        result.1 ((desc_of config.now block).repeats + 1) block (C.told copies.old) (C.told copies.new) }
+    ensures whole { IfSome (answer_in result.0.answer result.0.gives staging.now.bytes).1 (λ x. length x ≡ (desc_of config.now block).length) }
     ensures others { OthersStay block (C.told copies.old) (C.told copies.new) }
     ensures stays { CopiesStay C.told C.is_store C.over copies.old copies.new }
 {
     if ram && is_synchronized(config, block) && end.gives {
         return copied_in(config, staging, block, end.answer, copies);
     }
-    Ending {
-        answer: end.answer,
-        gives: end.gives,
-        refused: 0,
-    }
+    (end, 0)
 }
 
 // The same where it goes there.
@@ -63,26 +51,26 @@ fn copied_in<C: SyncCalls>(
     block: u16,
     answer: ReqResult,
     copies: &mut C,
-) -> Ending
+) -> (End, u8)
     requires whole { length staging.now.bytes ≡ (desc_of config.now block).length }
     requires kind { is_synchronized (desc_of config.now block).ram ≡ true }
     requires synchronized { AreSynchronized config.now (C.told copies.old) }
-    ensures over { IsHandedOver true (answer_in answer true staging.now.bytes) (answer_in result.answer result.gives staging.now.bytes)
-        result.refused ((desc_of config.now block).repeats + 1) block (C.told copies.old) (C.told copies.new) }
+    ensures over { IsHandedOver true (answer_in answer true staging.now.bytes) (answer_in result.0.answer result.0.gives staging.now.bytes)
+        result.1 ((desc_of config.now block).repeats + 1) block (C.told copies.old) (C.told copies.new) }
     ensures others { OthersStay block (C.told copies.old) (C.told copies.new) }
     ensures stays { CopiesStay C.told C.is_store C.over copies.old copies.new }
 {
     let count = tries(config, block);
     if copy_in(copies, block, u16::from(count), staging.bytes()) {
-        return Ending {
+        let end = End {
             answer,
             gives: true,
-            refused: 0,
         };
+        return (end, 0);
     }
-    Ending {
+    let end = End {
         answer: ReqResult::NotOk,
         gives: false,
-        refused: count,
-    }
+    };
+    (end, count)
 }

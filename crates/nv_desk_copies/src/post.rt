@@ -4,10 +4,9 @@ ghost use Rattle.block_machine.specs.State.{Job as MachineJob};
 ghost use Rattle.block_machine.specs.Blocks.{desc_of, job_block, kind_of, names_ram};
 ghost use Rattle.block_machine.specs.Results.{checks_id, checked_id};
 ghost use Rattle.block_machine.specs.nv_base.declared.job.GivenFrom.TheVariants as GivenFrom;
-ghost use Rattle.ram_blocks.specs.Tries.{OthersStay};
 ghost use Rattle.nv_desk.specs.Desk.{state_of};
 ghost use Rattle.nv_desk_copies.specs.Front.{StagesAll, AreSynchronized, CopiesStay};
-ghost use Rattle.nv_desk_copies.specs.Posts.{MayPostNow, IsEndOf, IsPosted, answer_in, answer_of, is_read, reads_own};
+ghost use Rattle.nv_desk_copies.specs.Posts.{MayPostNow, IsEndOf, IsPosted, answer_in, answer_of, block_read, is_read};
 
 use crate::Staging;
 use crate::given::{defaults_of, stage_given};
@@ -18,21 +17,8 @@ use job_pending::{Job, names_ram};
 use nv_desk::Desk;
 use ram_blocks::SyncCalls;
 
-/// The Post that was added: of this block, with this result.
-#[derive(Clone, Copy)]
-pub struct Posted {
-    pub block: u16,
-    pub result: ReqResult,
-}
-
-/// The Post of a job in hand, and whether the job is a read to the caller's own buffer that gave a content.
-#[derive(Clone, Copy)]
-pub struct Done {
-    pub posted: Posted,
-    pub reads: bool,
-}
-
-/// Posts the job in hand, whose program ended with this result and source.
+/// Posts the job in hand, whose program ended with this result and source. It answers the job's block, where it is a read to the
+/// caller's own buffer that gave a content.
 #[tactic(auto, using(crate::proofs::Sizes::nothing_copied))]
 pub fn post<C: SyncCalls>(
     desk: &mut Desk,
@@ -42,50 +28,27 @@ pub fn post<C: SyncCalls>(
     content: &[u8],
     ops: u64,
     copies: &mut C,
-) -> Done
+) -> Option<u16>
     requires may { MayPostNow desk.old source content.now }
     requires staging { StagesAll desk.old.config staging.old }
     requires synchronized { AreSynchronized desk.old.config (C.told copies.old) }
     ensures posted { (j : MachineJob) → (state_of desk.old).hand ≡ Some j
-        → IsPosted (IsEndOf desk.old j answer source content.now ops) (job_block j) (names_ram j.request) (answer_of desk.old.config (state_of desk.old) j answer source content.now) ops desk.old desk.new (C.told copies.old) (C.told copies.new) result.posted }
-    ensures reads { (j : MachineJob) → (state_of desk.old).hand ≡ Some j → result.reads ≡ reads_own j (answer_of desk.old.config (state_of desk.old) j answer source content.now).1 }
+        → IsPosted (IsEndOf desk.old j answer source content.now ops) (job_block j) (names_ram j.request) (answer_of desk.old.config (state_of desk.old) j answer source content.now) ops desk.old desk.new (C.told copies.old) (C.told copies.new) }
+    ensures reads { (j : MachineJob) → (state_of desk.old).hand ≡ Some j → result ≡ block_read j (answer_of desk.old.config (state_of desk.old) j answer source content.now).1 }
     ensures room { staging.new.room ≡ staging.old.room }
-    ensures others { OthersStay result.posted.block (C.told copies.old) (C.told copies.new) }
     ensures stays { CopiesStay C.told C.is_store C.over copies.old copies.new }
 {
     let Some(job) = desk.hand() else {
-        return not_posted(answer);
+        return None;
     };
     let block = job.block();
     let ram = names_ram(job.request());
     let read = is_read(job.kind());
     let end = ended(desk, staging, job, answer, source, content);
     let reads = !ram && (read && end.gives);
-    let ending = hand_over(desk.config(), staging, block, ram, end, copies);
-    desk.post(
-        ending.answer,
-        staging.given(ending.gives),
-        ending.refused,
-        ops,
-    );
-    Done {
-        posted: Posted {
-            block,
-            result: ending.answer,
-        },
-        reads,
-    }
-}
-
-// No job is in hand.
-fn not_posted(answer: ReqResult) -> Done {
-    Done {
-        posted: Posted {
-            block: 0,
-            result: answer,
-        },
-        reads: false,
-    }
+    let (end, refused) = hand_over(desk.config(), staging, block, ram, end, copies);
+    desk.post(end.answer, staging.given(end.gives), refused, ops);
+    reads.then_some(block)
 }
 
 fn is_read(kind: JobKind) -> bool
@@ -110,9 +73,9 @@ fn ended(
     ensures room { staging.new.room ≡ staging.old.room }
 {
     let block = job.block();
-    if job.took_none() {
+    if let Some(answer) = job.result_without_content() {
         return End {
-            answer: ReqResult::NotOk,
+            answer,
             gives: false,
         };
     }

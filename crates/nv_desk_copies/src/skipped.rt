@@ -6,7 +6,6 @@ ghost use Rattle.block_machine.specs.Results.{own_of, unpicked_result};
 ghost use Rattle.block_machine.specs.Sweeps.{sweep_result};
 ghost use Rattle.block_machine.specs.Next.{next_of, PostMember, EndSweep};
 ghost use Rattle.ram_blocks.specs.Told.{Told};
-ghost use Rattle.ram_blocks.specs.Tries.{OthersStay};
 ghost use Rattle.nv_desk_state.specs.Next.{IsNextEntry};
 ghost use Rattle.nv_desk.specs.Desk.{state_of};
 ghost use Rattle.nv_desk.specs.AllBlocks.{MayFinish};
@@ -16,7 +15,6 @@ ghost use Rattle.nv_desk_copies.specs.Posts.{MayPostSkipped, IsAtPost, IsPosted,
 use crate::Staging;
 use crate::given::stage_given;
 use crate::over::{End, hand_over};
-use crate::post::Posted;
 use block_machine::nv_base::{GivenFrom, ReqResult};
 use nv_desk::Desk;
 use nv_desk_state::NextEntry;
@@ -30,37 +28,29 @@ pub fn post_skipped<C: SyncCalls>(
     next: NextEntry,
     ops: u64,
     copies: &mut C,
-) -> Posted
+)
     requires may { MayPostSkipped desk.old ops }
     requires next { IsNextEntry next (next_of desk.old.config (state_of desk.old)) }
     requires staging { StagesAll desk.old.config staging.old }
     requires synchronized { AreSynchronized desk.old.config (C.told copies.old) }
-    ensures posted { IsPostedNext (next_of desk.old.config (state_of desk.old)) ops desk.old desk.new (C.told copies.old) (C.told copies.new) result }
+    ensures posted { IsPostedNext (next_of desk.old.config (state_of desk.old)) ops desk.old desk.new (C.told copies.old) (C.told copies.new) }
     ensures room { staging.new.room ≡ staging.old.room }
-    ensures others { OthersStay result.block (C.told copies.old) (C.told copies.new) }
     ensures stays { CopiesStay C.told C.is_store C.over copies.old copies.new }
 {
     match next {
         NextEntry::PostMember { block } => post_member(desk, staging, block, ops, copies),
         NextEntry::EndSweep { result } => post_sweep(desk, result, ops),
-        _ => Posted {
-            block: 0,
-            result: ReqResult::Fine,
-        },
+        _ => {}
     }
 }
 
 // That of id 0.
-fn post_sweep(desk: &mut Desk, answer: ReqResult, ops: u64) -> Posted
+fn post_sweep(desk: &mut Desk, answer: ReqResult, ops: u64)
     requires { MayFinish desk.old answer ops }
     ensures posted { (sw : MachineSweep) (told : List Told) → next_of desk.old.config (state_of desk.old) ≡ EndSweep sw
-        → IsPosted (Unit {0}) 0 false (sweep_result sw, None) ops desk.old desk.new told told result }
+        → IsPosted (Unit {0}) 0 false (sweep_result sw, None) ops desk.old desk.new told told }
 {
     desk.post_sweep(answer, ops);
-    Posted {
-        block: 0,
-        result: answer,
-    }
 }
 
 // That of a member.
@@ -70,30 +60,18 @@ fn post_member<C: SyncCalls>(
     block: u16,
     ops: u64,
     copies: &mut C,
-) -> Posted
+)
     requires may { IsAtPost desk.old block ops }
     requires staging { StagesAll desk.old.config staging.old }
     requires synchronized { AreSynchronized desk.old.config (C.told copies.old) }
     ensures posted { (sw : MachineSweep) → next_of desk.old.config (state_of desk.old) ≡ PostMember sw block
-        → IsPosted (Unit {0}) block true (unpicked_result (own_of desk.old.config (state_of desk.old) block) sw.writes) ops desk.old desk.new (C.told copies.old) (C.told copies.new) result }
-    ensures block { result.block ≡ block }
+        → IsPosted (Unit {0}) block true (unpicked_result (own_of desk.old.config (state_of desk.old) block) sw.writes) ops desk.old desk.new (C.told copies.old) (C.told copies.new) }
     ensures room { staging.new.room ≡ staging.old.room }
-    ensures others { OthersStay block (C.told copies.old) (C.told copies.new) }
     ensures stays { CopiesStay C.told C.is_store C.over copies.old copies.new }
 {
     let end = unpicked(desk, staging, block);
-    let end = hand_over(desk.config(), staging, block, true, end, copies);
-    desk.post_member(
-        block,
-        end.answer,
-        staging.given(end.gives),
-        end.refused,
-        ops,
-    );
-    Posted {
-        block,
-        result: end.answer,
-    }
+    let (end, refused) = hand_over(desk.config(), staging, block, true, end, copies);
+    desk.post_member(block, end.answer, staging.given(end.gives), refused, ops);
 }
 
 // What a member ends with that isn't picked: a WriteAll skips it, a ReadAll gives its defaults where it has some.

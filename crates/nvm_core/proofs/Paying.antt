@@ -29,7 +29,6 @@ use Rattle.nvm_laws.specs.job_programs.Failures.{failed_tries}
 use Rattle.nvm_laws.specs.ram_blocks.Told.{Told}
 use Rattle.nvm_laws.specs.nv_desk.Desk.{DeskState, state_of}
 use Rattle.nvm_laws.specs.nv_desk_copies.Posts.{IsPostedNext}
-use Rattle.nvm_laws.specs.nv_desk_copies.declared.post.Posted.{Posted}
 use Rattle.nvm_laws.specs.job_progress.Hand.{HandState}
 use Rattle.nvm_laws.specs.job_progress.JobInHand.{IsInHand, IsPaired}
 use Rattle.nvm_laws.specs.job_progress.Begins.{hand_for}
@@ -309,8 +308,8 @@ module _ (since : ℕ) (old new : DeskState) (hand hand_new : Option HandState) 
   posts Fits ops copies behind adds none still None no_hand by_then e is =
       let alone : (state_of old).hand ≡ None = (subst (λ (x : Option HandState). IsPaired old.config (state_of old) x d) no_hand paired).0 in
       inl (counted_free since (faults_of d_new) (price_in_faults old.config (state_of old) e) less_now (free_alone old.config (state_of old) e alone))
-  posts Fits ops copies behind adds none still (Some h) held by_then e is = elim adds.1 [
-    | inl post ↦ posted h held none still (job_block post.job) adds.0.result post.is.given post.is.refused ops post.job post.hand refl by_then post.is.adds e is
+  posts Fits ops copies behind adds none still (Some h) held by_then e is = elim adds [
+    | inl post ↦ posted h held none still (job_block post.job) post.is.result post.is.given post.is.refused ops post.job post.hand refl by_then post.is.adds e is
     | inr next ↦ inl (counted_free since (faults_of d_new) (price_in_faults old.config (state_of old) e) less_now (free_alone old.config (state_of old) e next.0))
   ]
 
@@ -318,18 +317,18 @@ module _ (since : ℕ) (old new : DeskState) (hand hand_new : Option HandState) 
   pick_post : (h : List Entry) (block ops posted_block n m : ℕ) (kind : JobKind) (t : Taken) (r : ReqResult) (given : Option (List ℕ)) → h ++ Post posted_block r given n m ∷ [] ≡ h ++ Pick block kind t ops ∷ [] → ⊥
   pick_post h block ops posted_block n m kind t r given is = let same = last_same h (Post posted_block r given n m) (Pick block kind t ops) is in cc same
 
-  no_pick_next : (next : Next) (ops : ℕ) (copies behind : List Told) (x : Posted) → IsPostedNext next ops old new copies behind x → (block k : ℕ) (kind : JobKind) (t : Taken) → new.entries ≡ old.entries ++ Pick block kind t k ∷ [] → ⊥
-  no_pick_next (PostMember sw id) ops copies behind x post block k kind t is = pick_post old.entries block k _ _ _ kind t _ _ (sym (ap (λ (y : DeskState). y.entries) post.adds) ∙ is)
-  no_pick_next (EndSweep sw) ops copies behind x post block k kind t is = pick_post old.entries block k _ _ _ kind t _ _ (sym (ap (λ (y : DeskState). y.entries) post.adds) ∙ is)
-  no_pick_next Nothing ops copies behind x post block k kind t is = post
-  no_pick_next (PickJob j) ops copies behind x post block k kind t is = post
-  no_pick_next (BeginSweep sw) ops copies behind x post block k kind t is = post
-  no_pick_next (PickMember sw id) ops copies behind x post block k kind t is = post
+  no_pick_next : (next : Next) (ops : ℕ) (copies behind : List Told) → IsPostedNext next ops old new copies behind → (block k : ℕ) (kind : JobKind) (t : Taken) → new.entries ≡ old.entries ++ Pick block kind t k ∷ [] → ⊥
+  no_pick_next (PostMember sw id) ops copies behind post block k kind t is = pick_post old.entries block k _ _ _ kind t _ _ (sym (ap (λ (y : DeskState). y.entries) post.adds) ∙ is)
+  no_pick_next (EndSweep sw) ops copies behind post block k kind t is = pick_post old.entries block k _ _ _ kind t _ _ (sym (ap (λ (y : DeskState). y.entries) post.adds) ∙ is)
+  no_pick_next Nothing ops copies behind post block k kind t is = post
+  no_pick_next (PickJob j) ops copies behind post block k kind t is = post
+  no_pick_next (BeginSweep sw) ops copies behind post block k kind t is = post
+  no_pick_next (PickMember sw id) ops copies behind post block k kind t is = post
 
   no_pick_posted : (Fits : Type 0) (ops : ℕ) (copies behind : List Told) → AddsPost Fits ops old new copies behind → (block k : ℕ) (kind : JobKind) (t : Taken) → new.entries ≡ old.entries ++ Pick block kind t k ∷ [] → ⊥
-  no_pick_posted Fits ops copies behind adds block k kind t is = elim adds.1 [
+  no_pick_posted Fits ops copies behind adds block k kind t is = elim adds [
     | inl post ↦ pick_post old.entries block k _ _ _ kind t _ _ (sym (ap (λ (y : DeskState). y.entries) post.is.adds) ∙ is)
-    | inr next ↦ no_pick_next (next_of old.config (state_of old)) ops copies behind adds.0 next.1 block k kind t is
+    | inr next ↦ no_pick_next (next_of old.config (state_of old)) ops copies behind next.1 block k kind t is
   ]
 
   pub half_pays : (answer : Turned) (Holds : ℕ → Taken → Type 0) (Fits : Type 0) (copies behind : List Told) → IsHalf (Ended answer) Holds Fits old new copies behind d_new → AtDevice (Ended answer) hand d new hand_new d_new

@@ -16,7 +16,6 @@ use Rattle.nvm_laws.specs.ram_blocks.Told.{Told}
 use Rattle.nvm_laws.specs.nv_desk.Desk.{DeskState, state_of}
 use Rattle.nvm_laws.specs.nv_desk_copies.Front.{Numbers, given_at, given_in}
 use Rattle.nvm_laws.specs.nv_desk_copies.Posts.{IsEndOf, IsPosted, answer_of, IsPostedNext, IsHandedOver, goes_over, reads_own, is_read, noted}
-use Rattle.nvm_laws.specs.nv_desk_copies.declared.post.Posted.{Posted}
 use Rattle.nvm_laws.specs.job_progress.Hand.{HandState}
 use Rattle.nvm_laws.specs.job_progress.JobInHand.{IsInHand, GivesWhole, HandFits}
 use Rattle.nvm_laws.specs.Halves.{Adds, AddsPost}
@@ -44,36 +43,37 @@ ends_as desk h d ops r source content is driving at gave fits =
     }
 
 -- a Post under another premise
-pub posted_under : (P Q : Type 0) (block : ℕ) (ram : Bool) (ended : Answer) (ops : ℕ) (old new : DeskState) (before after : List Told) (posted : Posted)
-    → (Q → P) → IsPosted P block ram ended ops old new before after posted → IsPosted Q block ram ended ops old new before after posted
-posted_under P Q block ram ended ops old new before after posted so is = record {
+pub posted_under : (P Q : Type 0) (block : ℕ) (ram : Bool) (ended : Answer) (ops : ℕ) (old new : DeskState) (before after : List Told)
+    → (Q → P) → IsPosted P block ram ended ops old new before after → IsPosted Q block ram ended ops old new before after
+posted_under P Q block ram ended ops old new before after so is = record {
+  result = is.result;
   given = is.given;
   refused = is.refused;
-  block_is = is.block_is;
   adds = is.adds;
   over = is.over;
+  others = is.others;
   allowed = λ q. is.allowed (so q);
 }
 
 module _ (old new : DeskState) (h : HandState) (d : DeviceTold) (ops : ℕ) (r : ReqResult) (source : GivenFrom) (content : List ℕ)
-    (before after : List Told) (posted : Posted) (timed : ops ≡ device.ops_of d) (is : IsInHand old.config (state_of old) h d)
+    (before after : List Told) (timed : ops ≡ device.ops_of d) (is : IsInHand old.config (state_of old) h d)
     (driving : IsDriving (state_of old) ops) (at : h.step ≡ step.Ended r source) (gave : content ≡ device.given_by d.stand)
     (has : IsPosted (IsEndOf old is.job r source content ops) (job_block is.job) (names_ram is.job.request)
-    (answer_of old.config (state_of old) is.job r source content) ops old new before after posted) where
+    (answer_of old.config (state_of old) is.job r source content) ops old new before after) where
   -- it is posted with what the device gave, at the operations of the moment
   pub hand_posted : IsPosted (HandFits old.config (state_of old) (Some h) d) (job_block is.job) (names_ram is.job.request)
-      (answer_of old.config (state_of old) is.job r source (device.given_by d.stand)) (device.ops_of d) old new before after posted
+      (answer_of old.config (state_of old) is.job r source (device.given_by d.stand)) (device.ops_of d) old new before after
   hand_posted =
       let under = posted_under (IsEndOf old is.job r source content ops) (HandFits old.config (state_of old) (Some h) d) (job_block is.job) (names_ram is.job.request)
-      (answer_of old.config (state_of old) is.job r source content) ops old new before after posted (ends_as old h d ops r source content is driving at gave) has in
+      (answer_of old.config (state_of old) is.job r source content) ops old new before after (ends_as old h d ops r source content is driving at gave) has in
       let now = subst (λ (n : ℕ). IsPosted (HandFits old.config (state_of old) (Some h) d) (job_block is.job) (names_ram is.job.request)
-      (answer_of old.config (state_of old) is.job r source content) n old new before after posted) timed under in
+      (answer_of old.config (state_of old) is.job r source content) n old new before after) timed under in
       subst (λ (bytes : List ℕ). IsPosted (HandFits old.config (state_of old) (Some h) d) (job_block is.job) (names_ram is.job.request)
-      (answer_of old.config (state_of old) is.job r source bytes) (device.ops_of d) old new before after posted) gave now
+      (answer_of old.config (state_of old) is.job r source bytes) (device.ops_of d) old new before after) gave now
 
   pub hand_posts : (hand : Option HandState) → hand ≡ Some h → AddsPost (HandFits old.config (state_of old) hand d) (device.ops_of d) old new before after
   hand_posts hand held = subst (λ (x : Option HandState). AddsPost (HandFits old.config (state_of old) x d) (device.ops_of d) old new before after) (sym held)
-      (posted, inl (record { job = is.job; hand = is.hand; ended = answer_of old.config (state_of old) is.job r source (device.given_by d.stand); is = hand_posted }))
+      (inl (record { job = is.job; hand = is.hand; ended = answer_of old.config (state_of old) is.job r source (device.given_by d.stand); is = hand_posted }))
 
 -- READS
 pub last_entry : (xs : List Entry) (e : Entry) → slice_get (xs ++ e ∷ []) (length xs) ≡ Some e
@@ -90,14 +90,14 @@ note_by : (t : Bool) (d : BlockDesc) (ended posted : Answer) (refused tries bloc
 note_by true d ended posted refused tries block before after read over = refl
 note_by false d ended posted refused tries block before after read over = ap (λ (x : Answer). read && is_some x.1) (sym over.0)
 
-pub note_posted : (P : Type 0) (j : Job) (ended : Answer) (ops : ℕ) (old new : DeskState) (before after : List Told) (posted : Posted) (unread : Numbers)
-    → (state_of old).hand ≡ Some j → (is : IsPosted P (job_block j) (names_ram j.request) ended ops old new before after posted)
+pub note_posted : (P : Type 0) (j : Job) (ended : Answer) (ops : ℕ) (old new : DeskState) (before after : List Told) (unread : Numbers)
+    → (state_of old).hand ≡ Some j → (is : IsPosted P (job_block j) (names_ram j.request) ended ops old new before after)
     → NotesReads old new unread (noted j ended.1 (length old.entries) unread)
-note_posted P j ended ops old new before after posted unread hand is =
+note_posted P j ended ops old new before after unread hand is =
     let n = length old.entries in
     let at : given_at new.entries n ≡ is.given = ap (λ (x : DeskState). given_at x.entries n) is.adds
-    ∙ ap (option_and_then given_in) (last_entry old.entries (Post (job_block j) posted.result is.given is.refused ops)) in
-    let same : reads_own j ended.1 ≡ reads_own j is.given = note_by (names_ram j.request) (desc_of old.config (job_block j)) ended (posted.result, is.given)
+    ∙ ap (option_and_then given_in) (last_entry old.entries (Post (job_block j) is.result is.given is.refused ops)) in
+    let same : reads_own j ended.1 ≡ reads_own j is.given = note_by (names_ram j.request) (desc_of old.config (job_block j)) ended (is.result, is.given)
     is.refused ((desc_of old.config (job_block j)).repeats + 1) (job_block j) before after (is_read (kind_of j)) is.over in
     ap (λ (t : Bool). if t then slice_set unread (job_block j) (Some n) else unread) same
     ∙ ap (λ (g : Option (List ℕ)). noted j g n unread) (sym at)
@@ -132,20 +132,20 @@ pub record IsSkip (ops : ℕ) (old new : DeskState) : Type 0 where
   pub refused : ℕ
   pub adds : Adds (Post block result given refused ops) old new
 
-pub skips : (n : Next) (ops : ℕ) (old new : DeskState) (before behind : List Told) (posted : Posted)
-    → IsPostedNext n ops old new before behind posted → IsSkip ops old new
-skips (PostMember sw id) ops old new before behind posted is = record { block = id; result = posted.result; given = is.given; refused = is.refused; adds = is.adds }
-skips (EndSweep sw) ops old new before behind posted is = record { block = 0; result = posted.result; given = is.given; refused = is.refused; adds = is.adds }
-skips Nothing ops old new before behind posted is = absurd is
-skips (PickJob j) ops old new before behind posted is = absurd is
-skips (BeginSweep sw) ops old new before behind posted is = absurd is
-skips (PickMember sw id) ops old new before behind posted is = absurd is
+pub skips : (n : Next) (ops : ℕ) (old new : DeskState) (before behind : List Told)
+    → IsPostedNext n ops old new before behind → IsSkip ops old new
+skips (PostMember sw id) ops old new before behind is = record { block = id; result = is.result; given = is.given; refused = is.refused; adds = is.adds }
+skips (EndSweep sw) ops old new before behind is = record { block = 0; result = is.result; given = is.given; refused = is.refused; adds = is.adds }
+skips Nothing ops old new before behind is = absurd is
+skips (PickJob j) ops old new before behind is = absurd is
+skips (BeginSweep sw) ops old new before behind is = absurd is
+skips (PickMember sw id) ops old new before behind is = absurd is
 
-pub skip_timed : (n : Next) (ops at : ℕ) (old new : DeskState) (before after : List Told) (posted : Posted) → ops ≡ at
-    → IsPostedNext n ops old new before after posted → IsPostedNext n at old new before after posted
-skip_timed n ops at old new before after posted same is = subst (λ (k : ℕ). IsPostedNext n k old new before after posted) same is
+pub skip_timed : (n : Next) (ops at : ℕ) (old new : DeskState) (before after : List Told) → ops ≡ at
+    → IsPostedNext n ops old new before after → IsPostedNext n at old new before after
+skip_timed n ops at old new before after same is = subst (λ (k : ℕ). IsPostedNext n k old new before after) same is
 
-pub skip_posts : (Fits : Type 0) (ops at : ℕ) (old new : DeskState) (before after : List Told) (posted : Posted) → ops ≡ at → (state_of old).hand ≡ None
-    → IsPostedNext (next_of old.config (state_of old)) ops old new before after posted → AddsPost Fits at old new before after
-skip_posts Fits ops at old new before after posted same none is =
-    (posted, inr (none, skip_timed (next_of old.config (state_of old)) ops at old new before after posted same is))
+pub skip_posts : (Fits : Type 0) (ops at : ℕ) (old new : DeskState) (before after : List Told) → ops ≡ at → (state_of old).hand ≡ None
+    → IsPostedNext (next_of old.config (state_of old)) ops old new before after → AddsPost Fits at old new before after
+skip_posts Fits ops at old new before after same none is =
+    inr (none, skip_timed (next_of old.config (state_of old)) ops at old new before after same is)

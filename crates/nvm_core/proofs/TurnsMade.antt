@@ -10,7 +10,6 @@ use Rattle.nvm_laws.specs.ram_blocks.Told.{Told}
 use Rattle.nvm_laws.specs.nv_desk.Desk.{DeskState, state_of}
 use Rattle.nvm_laws.specs.nv_desk_copies.Front.{StagingState, StagesAll, AreSynchronized}
 use Rattle.nvm_laws.specs.nv_desk_copies.Posts.{IsPosted, IsPostedNext}
-use Rattle.nvm_laws.specs.nv_desk_copies.declared.post.Posted.{Posted}
 use Rattle.nvm_laws.specs.job_progress.Hand.{HandState}
 use Rattle.nvm_laws.specs.Ties.{IsTied}
 use Rattle.nvm_laws.specs.Halves.{IsHalf}
@@ -23,21 +22,21 @@ use Rattle.nvm_core.specs.Stack.{StackState, IsStack, IsRoom, PowersOff}
 use Rattle.nvm_core.specs.Turns.{IsFirstHalf}
 
 -- the configuration stays
-next_config : (n : Next) (ops : ℕ) (old new : DeskState) (before after : List Told) (posted : Posted) → IsPostedNext n ops old new before after posted → new.config ≡ old.config
-next_config (PostMember sw id) ops old new before after posted is = ap (λ (x : DeskState). x.config) is.adds
-next_config (EndSweep sw) ops old new before after posted is = ap (λ (x : DeskState). x.config) is.adds
-next_config Nothing ops old new before after posted is = absurd is
-next_config (PickJob j) ops old new before after posted is = absurd is
-next_config (BeginSweep sw) ops old new before after posted is = absurd is
-next_config (PickMember sw id) ops old new before after posted is = absurd is
+next_config : (n : Next) (ops : ℕ) (old new : DeskState) (before after : List Told) → IsPostedNext n ops old new before after → new.config ≡ old.config
+next_config (PostMember sw id) ops old new before after is = ap (λ (x : DeskState). x.config) is.adds
+next_config (EndSweep sw) ops old new before after is = ap (λ (x : DeskState). x.config) is.adds
+next_config Nothing ops old new before after is = absurd is
+next_config (PickJob j) ops old new before after is = absurd is
+next_config (BeginSweep sw) ops old new before after is = absurd is
+next_config (PickMember sw id) ops old new before after is = absurd is
 
 pub half_config : (act : Act) (Holds : ℕ → Taken → Type 0) (Fits : Type 0) (old new : DeskState) (before after : List Told) (d : DeviceTold)
     → IsHalf act Holds Fits old new before after d → new.config ≡ old.config
 half_config (Ended turned.Off) Holds Fits old new before after d is = ap (λ (x : DeskState). x.config) is.0.0
 half_config (Ended turned.Picked) Holds Fits old new before after d is = ap (λ (x : DeskState). x.config) is.1.adds
-half_config (Ended turned.Posted) Holds Fits old new before after d is = elim is.1 [
+half_config (Ended turned.Posted) Holds Fits old new before after d is = elim is [
   | inl held ↦ ap (λ (x : DeskState). x.config) held.is.adds
-  | inr next ↦ next_config (next_of old.config (state_of old)) _ old new before after is.0 next.1
+  | inr next ↦ next_config (next_of old.config (state_of old)) _ old new before after next.1
 ]
 half_config (Ended turned.Idle) Holds Fits old new before after d is = ap (λ (x : DeskState). x.config) is.0.0
 half_config (Ended turned.Worked) Holds Fits old new before after d is = absurd is
@@ -71,14 +70,15 @@ adds_config None old new same = ap (λ (x : DeskState). x.config) same
 adds_config (Some e) old new adds = ap (λ (x : DeskState). x.config) adds.0
 
 -- what was added, whatever holds of what was taken
-posted_by : (Fits : Type 0) (block : ℕ) (ram : Bool) (ended : Answer) (ops : ℕ) (old new : DeskState) (before after : List Told) (posted : Posted)
-    → IsPosted Fits block ram ended ops old new before after posted → IsPosted ⊥ block ram ended ops old new before after posted
-posted_by Fits block ram ended ops old new before after posted is = record {
+posted_by : (Fits : Type 0) (block : ℕ) (ram : Bool) (ended : Answer) (ops : ℕ) (old new : DeskState) (before after : List Told)
+    → IsPosted Fits block ram ended ops old new before after → IsPosted ⊥ block ram ended ops old new before after
+posted_by Fits block ram ended ops old new before after is = record {
+  result = is.result;
   given = is.given;
   refused = is.refused;
-  block_is = is.block_is;
   adds = is.adds;
   over = is.over;
+  others = is.others;
   allowed = λ never. absurd never;
 }
 
@@ -86,13 +86,10 @@ pub half_adds : (act : Act) (Holds : ℕ → Taken → Type 0) (Fits : Type 0) (
     → IsHalf act Holds Fits old new before after d → IsHalf act (λ block t. Unit {0}) ⊥ old new before after d
 half_adds (Ended turned.Off) Holds Fits old new before after d is = is
 half_adds (Ended turned.Picked) Holds Fits old new before after d is = (is.0, record { kind = is.1.kind; taken = is.1.taken; adds = is.1.adds; allowed = is.1.allowed; copied = tt })
-half_adds (Ended turned.Posted) Holds Fits old new before after d is = (
-  is.0,
-  elim is.1 [
-    | inl held ↦ inl (record { job = held.job; hand = held.hand; ended = held.ended; is = posted_by Fits _ _ _ _ old new before after is.0 held.is })
-    | inr next ↦ inr next
-  ],
-)
+half_adds (Ended turned.Posted) Holds Fits old new before after d is = elim is [
+  | inl held ↦ inl (record { job = held.job; hand = held.hand; ended = held.ended; is = posted_by Fits _ _ _ _ old new before after held.is })
+  | inr next ↦ inr next
+]
 half_adds (Ended turned.Idle) Holds Fits old new before after d is = is
 half_adds (Ended turned.Worked) Holds Fits old new before after d is = is
 half_adds Device Holds Fits old new before after d is = is

@@ -10,7 +10,7 @@ ghost use Rattle.nv_desk_state.specs.Next.{IsNextEntry};
 ghost use Rattle.nvm_laws.specs.nv_desk.Desk.{state_of};
 ghost use Rattle.nvm_laws.specs.nv_desk.Picks.{IsInterruption};
 ghost use Rattle.nvm_laws.specs.nv_desk_copies.Front.{StagesAll, AreSynchronized, CopiesStay};
-ghost use Rattle.nvm_laws.specs.nv_desk_copies.Takes.{source_next, IsCopied};
+ghost use Rattle.nvm_laws.specs.nv_desk_copies.Takes.{copies_out_next, IsCopied};
 ghost use Rattle.nvm_laws.specs.job_progress.Hand.{HandState};
 ghost use Rattle.nvm_laws.specs.Work.{program_in_hand, stack_work};
 ghost use Rattle.nvm_laws.specs.Ties.{IsTied};
@@ -43,7 +43,7 @@ pub(crate) fn interrupt<D: MemDevice, C: SyncCalls>(
     requires may { IsInterruption front.old.desk }
     requires staging { StagesAll front.old.desk.config front.old.staging }
     requires synchronized { AreSynchronized front.old.desk.config (C.told copies.old) }
-    ensures picks { AddsPick (λ block t. IsCopied (λ n x. C.is_store copies.new block n x × C.looked copies.old copies.new block n) block (C.told copies.old) (C.told copies.new) (source_next front.old.desk.config (next_of front.old.desk.config (state_of front.old.desk))) t)
+    ensures picks { AddsPick (λ block t. IsCopied (λ n x. C.is_store copies.new block n x × C.looked copies.old copies.new block n) block (C.told copies.old) (C.told copies.new) (copies_out_next front.old.desk.config (next_of front.old.desk.config (state_of front.old.desk))) t)
         (ops_of (D.told device.new)) front.old.desk front.new.desk }
     ensures tied { IsTied front.new.desk hand.new (D.told device.new) }
     ensures unread { NotesReads front.old.desk front.new.desk front.old.unread front.new.unread }
@@ -74,7 +74,7 @@ pub(crate) fn pick<D: MemDevice, C: SyncCalls>(
     requires next { IsNextEntry next (next_of front.old.desk.config (state_of front.old.desk)) }
     requires staging { StagesAll front.old.desk.config front.old.staging }
     requires synchronized { AreSynchronized front.old.desk.config (C.told copies.old) }
-    ensures picks { AddsPick (λ block t. IsCopied (λ n x. C.is_store copies.new block n x × C.looked copies.old copies.new block n) block (C.told copies.old) (C.told copies.new) (source_next front.old.desk.config (next_of front.old.desk.config (state_of front.old.desk))) t)
+    ensures picks { AddsPick (λ block t. IsCopied (λ n x. C.is_store copies.new block n x × C.looked copies.old copies.new block n) block (C.told copies.old) (C.told copies.new) (copies_out_next front.old.desk.config (next_of front.old.desk.config (state_of front.old.desk))) t)
         (ops_of (D.told device.now)) front.old.desk front.new.desk }
     ensures tied { IsTied front.new.desk hand.new (D.told device.now) }
     ensures unread { NotesReads front.old.desk front.new.desk front.old.unread front.new.unread }
@@ -106,9 +106,8 @@ fn hand_of(desk: &Desk) -> Option<Hand>
 fn begun(desc: &BlockDesc, job: &Job, index: u8) -> Hand
     ensures { result ≡ begun_by (took_none job.now.taken) desc.now (job_block job.now) index (kind_of job.now) }
 {
-    if job.took_none() {
-        Hand::refused(desc, job.block(), index, job.kind())
-    } else {
-        Hand::begin(desc, job.block(), index, job.kind())
+    match job.result_without_content() {
+        Some(answer) => Hand::finished(desc, job.block(), index, job.kind(), answer),
+        None => Hand::begin(desc, job.block(), index, job.kind()),
     }
 }

@@ -8,12 +8,11 @@ use Rattle.fee_core.specs.memif.Clock.{After}
 use Rattle.fee_core.specs.fls_model.Told.{Told, ToldBytes, Change, IfBothTold, bytes_now, changes_in}
 use Rattle.fls_devices.specs.Cutter.{Cutting, cutting, planning_of, told_cutting, OnlyCuts}
 use Rattle.fls_devices.specs.Journal.{Journaled, HaveParts, merged, bytes_over, empty_journal}
-use Rattle.fee_core.specs.promise_device.Making.{Making}
-use Rattle.fee_core.specs.promise_device.Bridge.{IsWornOut, wanted_pages}
-use Rattle.fee_core.specs.promise_device.FlashRun.{TellsBytes, TellsOperations, StartsSound, AreSeen, bytes_after}
-use Rattle.fee_core.specs.promise_device.Image.{IsSoundFlash, IsOfLastGeneration, HasNoRoomFor, held_in}
-use Rattle.fee_core.specs.fee_told.Device.{Device}
-use Rattle.fee_core.specs.fee_told.Clock.{clock_of}
+use Rattle.fee_core.specs.promise_device.Reading.{Reading, BeginsSound}
+use Rattle.fee_core.specs.promise_device.Bridge.{IsWornBy}
+use Rattle.fee_core.specs.promise_device.FlashRun.{TellsBytes, TellsOperations, AreSeen, bytes_after}
+use Rattle.fee_core.specs.fls_told.Device.{FlashDevice}
+use Rattle.fee_core.specs.fls_told.Clock.{flash_clock}
 use Rattle.nvm_flash.specs.CutterLaws.{run_over, run_within, HandsBack, DevicesBridge}
 use Rattle.nvm_flash.proofs.CutterSeen.{OffsKept, offs_kept, seen_merged}
 
@@ -43,8 +42,8 @@ as_same P o q same has = subst (λ (x : Option (List ℕ)). IfSome x P) same has
 abbrev tells_over : (inner : Told) (cuts : ℕ) (c : Cutting) (operations : List Change) → TellsBytes (run_within inner c operations) → TellsBytes (run_over inner cuts c operations)
 tells_over inner cuts c operations t = record { first = t.first; entry = same_entry inner cuts ∙ t.entry; last = t.last; exit = same_exit c ∙ t.exit }
 
-sound_over : (m : Making) (inner : Told) (cuts : ℕ) (c : Cutting) (operations : List Change) → StartsSound m (run_within inner c operations) → StartsSound m (run_over inner cuts c operations)
-sound_over m inner cuts c operations sound = subst (λ (o : Option (List ℕ)). IfSome o (IsSoundFlash m)) (sym (same_entry inner cuts)) sound
+sound_over : (r : Reading) (inner : Told) (cuts : ℕ) (c : Cutting) (operations : List Change) → BeginsSound r (run_within inner c operations) → BeginsSound r (run_over inner cuts c operations)
+sound_over r inner cuts c operations sound = subst (λ (o : Option (List ℕ)). IfSome o (λ image. IsTrue (r.is_sound image))) (sym (same_entry inner cuts)) sound
 
 -- WHAT IS TOLD OF THE CHANGES
 all_told : (j : Journaled) (g : Geometry) (b : Option ToldBytes) (last : List ℕ) (changes : List Change)
@@ -66,10 +65,10 @@ if_told (Some y) P x is has = (let e : y ≡ x = cc is in subst P e has)
 if_told None P x is has = cc
 
 -- the operations are the flash's own, but for those that were kept from it
-abbrev was_kept : Device → ℕ → Type 0
-was_kept d k = IsTrue true × (clock_of d).off_in k
+abbrev was_kept : FlashDevice → ℕ → Type 0
+was_kept d k = IsTrue true × (flash_clock d).off_in k
 
-seen_within : (inner : Told) (c : Cutting) (d : Device) → OnlyCuts c → HandsBack d c → (t : TellsOperations (run_within inner c d.operations)) → AreSeen (was_kept d) 0 t.bytes.last d.operations t.changes
+seen_within : (inner : Told) (c : Cutting) (d : FlashDevice) → OnlyCuts c → HandsBack d c → (t : TellsOperations (run_within inner c d.operations)) → AreSeen (was_kept d) 0 t.bytes.last d.operations t.changes
 seen_within inner c d only hands t =
     let g = c.flash.inner.geometry in
     let all : List Change = merged g c.flash.journal.events t.changes t.bytes.last in
@@ -89,29 +88,29 @@ rose_within : (a b own : ℕ) → own ≡ 0 → Rose (a + 0) (b + own) → Rose 
 rose_within a b own none (inl more) = inl (omega arith)
 rose_within a b own none (inr big) = inr (omega (arith, big.0), omega (arith, big.1))
 
-worn_within : (m : Making) (inner : Told) (cuts : ℕ) (c : Cutting) (operations : List Change) (k n : ℕ) → OnlyCuts c
-    → IsWornOut m (run_over inner cuts c operations) k n → IsWornOut m (run_within inner c operations) k n
-worn_within m inner cuts c operations k n only w = record {
-  last = as_same (IsOfLastGeneration m) _ _ (same_exit c) w.last;
-  no_erase = w.no_erase;
+worn_within : (r : Reading) (inner : Told) (cuts : ℕ) (c : Cutting) (operations : List Change) (k n : ℕ) → OnlyCuts c
+    → IsWornBy r (run_over inner cuts c operations) k n → IsWornBy r (run_within inner c operations) k n
+worn_within r inner cuts c operations k n only w = record {
+  last = as_same (λ image. IsTrue (r.is_last n image)) _ _ (same_exit c) w.last;
+  follow = w.follow;
   full = λ t small. elim (w.full (tells_over inner cuts c operations t) small) [
-    | inl room ↦ inl (as_same (HasNoRoomFor (wanted_pages m n) m) _ _ (same_after inner cuts c operations k) room)
+    | inl room ↦ inl (as_same (λ image. IsTrue (r.is_full n image)) _ _ (same_after inner cuts c operations k) room)
     | inr failed ↦ inr (rose_within inner.faults c.flash.inner.faults c.flash.faults only.faults failed.0, failed.1)
   ];
 }
 
 -- THE BRIDGE
 pub devices_bridge : DevicesBridge
-devices_bridge m cutter inner cuts c d before only hands first b =
+devices_bridge r cutter inner cuts c d before only hands first b =
     let up = tells_over inner cuts c d.operations in
     let all = operations_over inner cuts c d.operations in
-    let sound = sound_over m inner cuts c d.operations in
+    let sound = sound_over r inner cuts c d.operations in
     let last : (planning_of c).unplanned ≡ d.flash.planning.unplanned = ap (λ (t : Told). t.planning.unplanned) hands.told in
     record {
       after = λ t s k made small.
-          as_same (λ image. (clock_of d).may_find (After k) (held_in m image)) _ _ (same_after inner cuts c d.operations k) (b.after (up t) (sound s) k made small);
+          as_same (λ image. (flash_clock d).may_find (After k) (r.held image)) _ _ (same_after inner cuts c d.operations k) (b.after (up t) (sound s) k made small);
       cut = λ t s k image small leaves. b.cut (all t) (sound s) k image small leaves;
-      sound = λ t s. as_same (IsSoundFlash m) _ _ (same_exit c) (b.sound (up t) (sound s));
+      sound = λ t s. as_same (λ image. IsTrue (r.is_sound image)) _ _ (same_exit c) (b.sound (up t) (sound s));
       sound_cut = λ t s k image small leaves. b.sound_cut (all t) (sound s) k image small leaves;
       operations = record {
         told_alike = alike (empty_journal cuts) c.flash.journal inner.geometry c.flash.inner.geometry inner.bytes c.flash.inner.bytes b.operations.told_alike;
@@ -122,5 +121,5 @@ devices_bridge m cutter inner cuts c d before only hands first b =
       faults = λ n more. counted_within n inner.faults c.flash.inner.faults c.flash.faults only.faults (b.faults n more);
       failed = b.failed;
       cuts = λ n more. subst (λ (x : ℕ). WereCounted n x c.flash.inner.cuts) first (subst (WereCounted n before.planning.unplanned) (sym last) more);
-      worn = λ k n w. worn_within m inner cuts c d.operations k n only (b.worn k n w);
+      worn = λ k n w. worn_within r inner cuts c d.operations k n only (b.worn k n w);
     }

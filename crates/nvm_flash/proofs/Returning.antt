@@ -12,11 +12,10 @@ use Rattle.nvm_core.specs.nvm_found.Found.{FailsToFind}
 use Rattle.fee_core.specs.fls_model.Told.{Told, ToldBytes, Change, IfBothTold, changes_in}
 use Rattle.fls_devices.specs.Cutter.{Cutting, OnlyCuts, cutting, told_cutting}
 use Rattle.fee_core.specs.promise_device.Making.{Making}
-use Rattle.fee_core.specs.promise_device.Bridge.{Bridges}
+use Rattle.fee_core.specs.promise_device.Bridge.{Bridges, reading_of}
 use Rattle.fee_core.specs.promise_device.FlashRun.{FlashRun, IsChain}
 use Rattle.fee_core.specs.promise_device.Image.{attached}
-use Rattle.fee_core.specs.fee_told.Device.{Device, told_of}
-use Rattle.fee_core.specs.fee_told.Clock.{clock_of}
+use Rattle.fee_core.specs.fee_told.Device.{Device, flash_device, told_of, clock_of}
 use Rattle.fee_core.specs.fee_laws.Made.{IsMadeOf, part_at}
 use Rattle.promise_run.specs.Run.{cap}
 use Rattle.nvm_core.specs.ram_blocks.declared.plain_block.PlainBlock.{PlainBlock}
@@ -39,15 +38,15 @@ none_made n (x ∷ xs) is none = absurd (omega (arith, is, none))
 
 pub back : (c : Configuration) (inner : Told) (cuts : ℕ) (making : Making) (entry exit : Told) (k : Cutting) (d : Device) → IsOrigin c inner cuts making entry → OnlyCuts k → exit ≡ k.flash.inner
     → told_cutting k ≡ d.flash → IfSome (changes_in (told_cutting k).bytes) (λ changes. changes ≡ d.operations) → (d.operations ≡ [] → ((told_cutting k).ops ≡ entry.ops) × ((told_cutting k).cuts ≡ entry.cuts)) → entry.faults ≤ (told_cutting k).faults
-    → AreOfFirst d → ((cutter : Bool) → Bridges making cutter (record { entry = entry; exit = told_cutting k; operations = d.operations }) (part_at entry) (told_of d) (clock_of d))
+    → AreOfFirst d → ((cutter : Bool) → Bridges (reading_of making) cutter (record { entry = entry; exit = told_cutting k; operations = d.operations }) (part_at entry) (told_of d) (clock_of d))
     → IsBack c inner exit (part_at entry) (told_of d) (clock_of d)
 back c inner cuts making entry exit k d origin only is_exit told changes none more parts bridge =
     subst (λ (e : Told). IsBack c inner exit (part_at e) (told_of d) (clock_of d)) (sym origin.over)
     (subst (λ (x : Told). IsBack c inner x (part_at (told_cutting (cutting inner cuts))) (told_of d) (clock_of d)) (sym is_exit) (record {
       operations = d.operations;
-      bridges = devices_bridge (making_of c) true inner cuts k d (part_at (told_cutting (cutting inner cuts))) only (record { told = told; changes = changes }) refl
-          (subst (λ (m : Making). Bridges m true (record { entry = told_cutting (cutting inner cuts); exit = told_cutting k; operations = d.operations }) (part_at (told_cutting (cutting inner cuts))) (told_of d) (clock_of d)) origin.made_for
-          (subst (λ (e : Told). Bridges making true (record { entry = e; exit = told_cutting k; operations = d.operations }) (part_at e) (told_of d) (clock_of d)) origin.over (bridge true)));
+      bridges = devices_bridge (reading_of (making_of c)) true inner cuts k (flash_device d) (part_at (told_cutting (cutting inner cuts))) only (record { told = told; changes = changes }) refl
+          (subst (λ (m : Making). Bridges (reading_of m) true (record { entry = told_cutting (cutting inner cuts); exit = told_cutting k; operations = d.operations }) (part_at (told_cutting (cutting inner cuts))) (told_of d) (clock_of d)) origin.made_for
+          (subst (λ (e : Told). Bridges (reading_of making) true (record { entry = e; exit = told_cutting k; operations = d.operations }) (part_at e) (told_of d) (clock_of d)) origin.over (bridge true)));
       parts = parts;
       faults = (tells_within k only).1 ∙ ap (λ t. t.faults) told;
       more = let over = ap (λ t. t.faults) origin.over in let within = (tells_within k only).1 in omega (arith, over, within, more);

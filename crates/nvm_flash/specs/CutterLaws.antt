@@ -3,11 +3,11 @@ use Rattle.std.specs.Prelude.{◌≡◌, ℕ, Bool, true, List, IfSome}
 use Rattle.fee_core.specs.memif.Told.{PartTold}
 use Rattle.fee_core.specs.fls_model.Told.{Told, Change, changes_in}
 use Rattle.fls_devices.specs.Cutter.{Cutting, cutting, told_cutting, OnlyCuts}
-use Rattle.fee_core.specs.promise_device.Making.{Making}
+use Rattle.fee_core.specs.promise_device.Reading.{Reading}
 use Rattle.fee_core.specs.promise_device.Bridge.{Bridges}
 use Rattle.fee_core.specs.promise_device.FlashRun.{FlashRun}
-use Rattle.fee_core.specs.fee_told.Device.{Device, told_of}
-use Rattle.fee_core.specs.fee_told.Clock.{clock_of}
+use Rattle.fee_core.specs.fls_told.Device.{FlashDevice, flash_told}
+use Rattle.fee_core.specs.fls_told.Clock.{flash_clock}
 
 -- the run of a cutter, from its making on, and that of the flash within it
 abbrev pub run_over : Told → ℕ → Cutting → List Change → FlashRun
@@ -16,16 +16,17 @@ run_over inner cuts c operations = record { entry = told_cutting (cutting inner 
 abbrev pub run_within : Told → Cutting → List Change → FlashRun
 run_within inner c operations = record { entry = inner; exit = c.flash.inner; operations = operations }
 
--- What a device over banks promises of a cutter that it hands back: where the cutter tells its changes they are those that
--- the device asked for.
-pub record HandsBack (d : Device) (c : Cutting) : Type 0 where
+-- What a device promises of a cutter that it hands back: where the cutter tells its changes they are those that the device
+-- asked for.
+pub record HandsBack (d : FlashDevice) (c : Cutting) : Type 0 where
   pub told : told_cutting c ≡ d.flash
   pub changes : IfSome (changes_in (told_cutting c).bytes) (λ changes. changes ≡ d.operations)
 
--- What such a device tells of the cutter is so of the flash within it, but for the operations that the cutter kept from it.
+-- What any device over a flash tells of the cutter is so of the flash within it, but for the operations that the cutter kept
+-- from it.
 abbrev pub DevicesBridge : Type 0
 DevicesBridge =
-    (m : Making) (cutter : Bool) (inner : Told) (cuts : ℕ) (c : Cutting) (d : Device) (before : PartTold)
+    (r : Reading) (cutter : Bool) (inner : Told) (cuts : ℕ) (c : Cutting) (d : FlashDevice) (before : PartTold)
     → OnlyCuts c → HandsBack d c → before.planning.unplanned ≡ inner.cuts
-    → Bridges m cutter (run_over inner cuts c d.operations) before (told_of d) (clock_of d)
-    → Bridges m true (run_within inner c d.operations) before (told_of d) (clock_of d)
+    → Bridges r cutter (run_over inner cuts c d.operations) before (flash_told d) (flash_clock d)
+    → Bridges r true (run_within inner c d.operations) before (flash_told d) (flash_clock d)

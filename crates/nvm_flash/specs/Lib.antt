@@ -18,6 +18,7 @@ pub use Rattle.nvm_core.specs.nvm_laws as nvm_laws
 pub use Rattle.nvm_core.specs as nvm_core
 pub use Rattle.fee_core.specs.fee_image as fee_image
 pub use Rattle.fee_core.specs.promise_device as promise_device
+pub use Rattle.fee_core.specs.fls_told as fls_told
 pub use Rattle.fee_core.specs.fee_told as fee_told
 pub use Rattle.fee_core.specs.fee_laws as fee_laws
 pub use Rattle.fee_core.specs as fee_core

@@ -10,7 +10,7 @@ use Rattle.fee_core.specs.fls_model.declared.flash.AttachFault.{AttachFault}
 use Rattle.fee_core.specs.fls_model.declared.flash.AttachFault.TheVariants as attach
 use Rattle.fls_devices.specs.Cutter.{cutting, told_cutting}
 use Rattle.fee_core.specs.promise_device.Making.{Making}
-use Rattle.fee_core.specs.promise_device.Bridge.{Bridges}
+use Rattle.fee_core.specs.promise_device.Bridge.{Bridges, reading_of}
 use Rattle.fee_core.specs.fee_told.Device.{Device, told_of}
 use Rattle.fee_core.specs.fee_laws.Made.{IsMadeOf}
 use Rattle.nvm_core.specs.ram_blocks.declared.plain_block.PlainBlock.{PlainBlock}
@@ -46,7 +46,7 @@ pub record ComesBack (c : Configuration) (fault : MakeFault) (s t : Told) : Type
 -- What its part told of the flash is so. Where it asked for no operation, the flash counted none.
 pub record IsBack (c : Configuration) (inner exit : Told) (before : PartTold) (now : DeviceTold) (clock : Clock) : Type 0 where
   pub operations : List Change
-  pub bridges : Bridges (making_of c) true (record { entry = inner; exit = exit; operations = operations }) before now clock
+  pub bridges : Bridges (reading_of (making_of c)) true (record { entry = inner; exit = exit; operations = operations }) before now clock
   -- all numbers are of its one part
   pub parts : (n : ℕ) → (figures_at now.fixed n).part ≡ First
   pub faults : exit.faults ≡ now.first.flash_faults

@@ -1,8 +1,7 @@
 // The device is taken apart.
 ghost use Rattle.std.specs.Prelude.{ℕ};
 ghost use Rattle.nvm_core.specs.block_config.Config.{Configuration};
-ghost use Rattle.fee_core.specs.fee_told.Clock.{clock_of};
-ghost use Rattle.fee_core.specs.fee_told.Device.{told_of};
+ghost use Rattle.fee_core.specs.fee_told.Device.{told_of, clock_of};
 ghost use Rattle.fee_core.specs.fee_laws.Made.{part_at};
 ghost use Rattle.fee_core.specs.fls_model.Told.{Told};
 ghost use Rattle.nvm_flash.specs.Made.{IsBack, IsOrigin};

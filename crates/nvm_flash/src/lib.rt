@@ -13,7 +13,9 @@ mod stack;
 pub use back::give_back;
 pub use device::{MakeFault, make_device};
 pub use fee_core;
-pub use fee_core::{fee_image, fee_laws, fee_told, fls_model, memif, nv_base, promise_device};
+pub use fee_core::{
+    fee_image, fee_laws, fee_told, fls_model, fls_told, memif, nv_base, promise_device,
+};
 pub use fls_devices;
 pub use nvm_core;
 pub use nvm_core::{

@@ -15,13 +15,11 @@ use nvm_core::Stack;
 use nvm_core::block_config::Config;
 use nvm_core::nvm_laws::FoundAnswer;
 use nvm_core::ram_blocks::PlainSync;
+use promise_run::CAP;
 use std::alloc::Global;
 
 /// A stack over a flash whose power may be cut.
 pub type FlashStack<F, O> = Stack<Fee<Cutter<F>, O>, PlainSync>;
-
-/// The most entries of a history.
-const CAP: u32 = 100_000;
 
 /// The stack of a configuration over a flash, before its first start-up.
 pub fn make_stack<F: Flash, O: Origin>(

@@ -55,29 +55,29 @@ module _ (new : DeviceTold) (clock : Clock)
   posted_by : (Fits : Type 0) (ops : ℕ) (copies copies_new : List Told) → AddsPost Fits ops desk desk_new copies copies_new
       → AtDevice (Ended turned.Posted) hand old desk_new hand_new new → IsDue number turns (record { desk = desk; hand = hand; device = old })
       → PostsDue number desk desk_new ⊎ IsNearer number turns (record { desk = desk_new; hand = hand_new; device = new })
-  posted_by Fits ops copies copies_new (posted, inl is) at (inl due) =
-      let entry = Post (job_block is.job) posted.result is.is.given is.is.refused ops in
+  posted_by Fits ops copies copies_new (inl is) at (inl due) =
+      let entry = Post (job_block is.job) is.is.result is.is.given is.is.refused ops in
       let (h, held, in_hand) = hand_of desk.config (state_of desk) is.job hand old is.hand before in
-      let there = post_due number turns desk hand old due is.job is.hand (job_block is.job) is.is.refused ops posted.result is.is.given hand_new
+      let there = post_due number turns desk hand old due is.job is.hand (job_block is.job) is.is.refused ops is.is.result is.is.given hand_new
       (finished_first hand h held at.0) (ap post_first at.1) in
       inr (subst (λ (x : DeskState). IsNearer number turns (record { desk = x; hand = hand_new; device = new })) (sym is.is.adds)
       (subst (λ (d : DeviceTold). IsNearer number turns (record { desk = added entry desk; hand = hand_new; device = d })) (sym at.2) there))
-  posted_by Fits ops copies copies_new (posted, inl is) at (inr due) =
+  posted_by Fits ops copies copies_new (inl is) at (inr due) =
       let same : is.job ≡ due.job = let both : Some is.job ≡ Some due.job = sym is.hand ∙ due.held in cc in
       inl (record {
         job = is.job;
         held = is.hand;
         accepted = ap (λ (j : Job). j.number) same ∙ due.is.accepted;
-        result = posted.result;
+        result = is.is.result;
         given = is.is.given;
         refused = is.is.refused;
         ops = ops;
         adds = is.is.adds;
       })
-  posted_by Fits ops copies copies_new (posted, inr next) at (inl due) =
-      absurd (never_posted desk.config (state_of desk) due.job (next_of desk.config (state_of desk)) ops desk desk_new copies copies_new posted
+  posted_by Fits ops copies copies_new (inr next) at (inl due) =
+      absurd (never_posted desk.config (state_of desk) due.job (next_of desk.config (state_of desk)) ops desk desk_new copies copies_new
       (next_is desk.config (state_of desk) due.job due.next) next.1)
-  posted_by Fits ops copies copies_new (posted, inr next) at (inr due) = let none : None ≡ Some due.job = sym next.0 ∙ due.held in cc
+  posted_by Fits ops copies copies_new (inr next) at (inr due) = let none : None ≡ Some due.job = sym next.0 ∙ due.held in cc
 
   -- no turn goes by
   waits_not : IsDueNext number turns (record { desk = desk; hand = hand; device = old }) → GoesOn hand old hand_new new → ¬ IsInterruption desk

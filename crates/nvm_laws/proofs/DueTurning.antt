@@ -17,7 +17,6 @@ use Rattle.job_programs.specs.Program.{Program, works}
 use Rattle.nvm_figures.specs.Urgent.{IsOnTime, pages_of}
 use Rattle.nv_desk.specs.Desk.{DeskState, state_of}
 use Rattle.nv_desk_copies.specs.Posts.{IsPostedNext}
-use Rattle.nv_desk_copies.specs.declared.post.Posted.{Posted}
 use Rattle.job_progress.specs.Hand.{HandState, is_finished, with_start}
 use Rattle.job_progress.specs.JobInHand.{IsAt, IsInHand, IsPaired, program_for}
 use Rattle.job_progress.specs.Begins.{hand_by, hand_for}
@@ -45,9 +44,9 @@ pub next_is : (c : Configuration) (s : State) (j : Job) → next_in c s.waiting 
 next_is c s j first = ap (λ (o : Option Job). next_by c s o s.hand s.sweep) first
 
 -- it isn't posted without a Pick
-pub never_posted : (c : Configuration) (s : State) (j : Job) (n : Next) (ops : ℕ) (old new : DeskState) (before after : List Told) (posted : Posted) → n ≡ PickJob j
-    → IsPostedNext n ops old new before after posted → ⊥
-never_posted c s j n ops old new before after posted is next = rw is at next
+pub never_posted : (c : Configuration) (s : State) (j : Job) (n : Next) (ops : ℕ) (old new : DeskState) (before after : List Told) → n ≡ PickJob j
+    → IsPostedNext n ops old new before after → ⊥
+never_posted c s j n ops old new before after is next = rw is at next
 
 -- nothing is picked over an immediate job
 sure : (t : Bool) → t ≡ true → not t ≡ true → ⊥

@@ -18,7 +18,6 @@ use Rattle.job_programs.specs.Laws.{failed_of}
 use Rattle.ram_blocks.specs.Told.{Told}
 use Rattle.nv_desk.specs.Desk.{DeskState, state_of}
 use Rattle.nv_desk_copies.specs.Posts.{IsPosted, IsPostedNext, answer_of, goes_over}
-use Rattle.nv_desk_copies.specs.declared.post.Posted.{Posted}
 use Rattle.job_progress.specs.Hand.{HandState}
 use Rattle.job_progress.specs.JobInHand.{HandFits, IsFruitless, IsInHand}
 use Rattle.job_progress.specs.Fits.{IsExplained}
@@ -89,52 +88,52 @@ module _ (d : DeviceTold) (clock : Clock) (old : DeskState) (h : HandState) (j :
       let (failed, ex) = ends_are_explained old.config (state_of old) h d j r source is hand (kept.fits j hand) over in
       restored failed ex (kind_by j.request off)
 
-  pub posted_keeps : (new : DeskState) (told behind : List Told) (posted : Posted)
-      → IsPosted (HandFits old.config (state_of old) (Some h) d) (job_block j) (names_ram j.request) answer (ops_of d) old new told behind posted
+  pub posted_keeps : (new : DeskState) (told behind : List Told)
+      → IsPosted (HandFits old.config (state_of old) (Some h) d) (job_block j) (names_ram j.request) answer (ops_of d) old new told behind
       → StackKeeps before new None d clock
-  posted_keeps new told behind posted post =
+  posted_keeps new told behind post =
       subst (λ (x : DeskState). StackKeeps before x None d clock) (sym post.adds) (record {
         started = started_push old.entries e;
         keeps = entries_keep d clock old.config old.cap old.entries before e kept.started kept.keeps refl (post.allowed kept.fits) refl
-            (by (over_by (goes_over (desc_of old.config (job_block j)) (names_ram j.request) answer.1) answer (posted.result, post.given) post.refused
+            (by (over_by (goes_over (desc_of old.config (job_block j)) (names_ram j.request) answer.1) answer (post.result, post.given) post.refused
             (desc_of old.config (job_block j)).repeats (job_block j) told behind post.over));
         fits = tt;
         paid = tt;
       })
     where
       e : Entry
-      e = Post (job_block j) posted.result post.given post.refused (ops_of d)
+      e = Post (job_block j) post.result post.given post.refused (ops_of d)
 
-      by : (((posted.result, post.given) ≡ answer) × (post.refused ≡ 0)) ⊎ (post.refused ≡ (desc_of old.config (job_block j)).repeats + 1)
-          → IsPaidNow (posted.result, post.given) post.refused
-      by (inl (same, none)) = subst (λ (n : ℕ). IsPaidNow (posted.result, post.given) n) (sym none)
+      by : (((post.result, post.given) ≡ answer) × (post.refused ≡ 0)) ⊎ (post.refused ≡ (desc_of old.config (job_block j)).repeats + 1)
+          → IsPaidNow (post.result, post.given) post.refused
+      by (inl (same, none)) = subst (λ (n : ℕ). IsPaidNow (post.result, post.given) n) (sym none)
           (subst (λ (a : Answer). IsPaidNow a 0) (sym same) (as_ended (took_none j.taken) (works (kind_of j)) refl refl))
-      by (inr each) = free (posted.result, post.given) post.refused
-          (free_refused old.config (state_of old) (job_block j) posted.result post.given post.refused (desc_of old.config (job_block j)).repeats (ops_of d) each)
+      by (inr each) = free (post.result, post.given) post.refused
+          (free_refused old.config (state_of old) (job_block j) post.result post.given post.refused (desc_of old.config (job_block j)).repeats (ops_of d) each)
 
 pub posts_keep : (d : DeviceTold) (clock : Clock)
     → PostsKeep d clock
-posts_keep d clock old new h j r source told behind posted hand is over post before kept =
-    posted_keeps d clock old h j r source hand is over before kept new told behind posted post
+posts_keep d clock old new h j r source told behind hand is over post before kept =
+    posted_keeps d clock old h j r source hand is over before kept new told behind post
 
 -- WITHOUT A PICK
-module _ (d : DeviceTold) (clock : Clock) (old new : DeskState) (told behind : List Told) (posted : Posted)
+module _ (d : DeviceTold) (clock : Clock) (old new : DeskState) (told behind : List Told)
     (none : (state_of old).hand ≡ None) (before : Part → PartTold) (kept : StackKeeps before old None d clock) where
-  alone : (block : ℕ) (ram : Bool) (ended : Answer) → IsPosted (Unit {0}) block ram ended (ops_of d) old new told behind posted → StackKeeps before new None d clock
+  alone : (block : ℕ) (ram : Bool) (ended : Answer) → IsPosted (Unit {0}) block ram ended (ops_of d) old new told behind → StackKeeps before new None d clock
   alone block ram ended post =
       subst (λ (x : DeskState). StackKeeps before x None d clock) (sym post.adds) (record {
         started = started_push old.entries e;
         keeps = entries_keep d clock old.config old.cap old.entries before e kept.started kept.keeps refl (post.allowed tt) refl
             (λ p. pays_free (is_of p d.fixed) old.config clock.worn (before p).faults (part_at p d).faults old.entries e
-            (free_alone old.config (state_of old) block posted.result post.given post.refused (ops_of d) none) (kept.keeps.over.paid p));
+            (free_alone old.config (state_of old) block post.result post.given post.refused (ops_of d) none) (kept.keeps.over.paid p));
         fits = tt;
         paid = tt;
       })
     where
       e : Entry
-      e = Post block posted.result post.given post.refused (ops_of d)
+      e = Post block post.result post.given post.refused (ops_of d)
 
-  pub alone_by : (n : Next) → IsPostedNext n (ops_of d) old new told behind posted → StackKeeps before new None d clock
+  pub alone_by : (n : Next) → IsPostedNext n (ops_of d) old new told behind → StackKeeps before new None d clock
   alone_by (PostMember sw id) post = alone id true (unpicked_result (own_of old.config (state_of old) id) sw.writes) post
   alone_by (EndSweep sw) post = alone 0 false (sweep_result sw, None) post
   alone_by Nothing post = absurd post
@@ -143,5 +142,5 @@ module _ (d : DeviceTold) (clock : Clock) (old new : DeskState) (told behind : L
   alone_by (PickMember sw id) post = absurd post
 
 pub skipped_keep : (d : DeviceTold) (clock : Clock) → SkippedKeep d clock
-skipped_keep d clock old new told behind posted none post before kept =
-    alone_by d clock old new told behind posted none before kept (next_of old.config (state_of old)) post
+skipped_keep d clock old new told behind none post before kept =
+    alone_by d clock old new told behind none before kept (next_of old.config (state_of old)) post

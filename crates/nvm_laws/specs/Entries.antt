@@ -11,7 +11,6 @@ use Rattle.block_machine.specs.Legal.{IsAllowed}
 use Rattle.ram_blocks.specs.Told.{Told}
 use Rattle.nv_desk.specs.Desk.{DeskState, state_of}
 use Rattle.nv_desk_copies.specs.Posts.{IsPosted, IsPostedNext, answer_of}
-use Rattle.nv_desk_copies.specs.declared.post.Posted.{Posted}
 use Rattle.job_progress.specs.Hand.{HandState}
 use Rattle.job_progress.specs.JobInHand.{HandFits, IsInHand}
 use Rattle.nvm_laws.specs.Halves.{Adds}
@@ -28,17 +27,17 @@ PicksKeep d clock =
 -- the Post of a finished job, with what its program ended with
 abbrev pub PostsKeep : DeviceTold → Clock → Type 0
 PostsKeep d clock =
-    (old new : DeskState) (h : HandState) (j : Job) (r : ReqResult) (source : GivenFrom) (before after : List Told) (posted : Posted)
+    (old new : DeskState) (h : HandState) (j : Job) (r : ReqResult) (source : GivenFrom) (before after : List Told)
     → (state_of old).hand ≡ Some j → IsInHand old.config (state_of old) h d → h.step ≡ step.Ended r source
     → IsPosted (HandFits old.config (state_of old) (Some h) d) (job_block j) (names_ram j.request)
-    (answer_of old.config (state_of old) j r source (given_by d.stand)) (ops_of d) old new before after posted
+    (answer_of old.config (state_of old) j r source (given_by d.stand)) (ops_of d) old new before after
     → StaysKept old (Some h) d clock new None d clock
 
 -- a Post without a Pick, with no job in hand
 abbrev pub SkippedKeep : DeviceTold → Clock → Type 0
 SkippedKeep d clock =
-    (old new : DeskState) (before after : List Told) (posted : Posted) → (state_of old).hand ≡ None
-    → IsPostedNext (next_of old.config (state_of old)) (ops_of d) old new before after posted
+    (old new : DeskState) (before after : List Told) → (state_of old).hand ≡ None
+    → IsPostedNext (next_of old.config (state_of old)) (ops_of d) old new before after
     → StaysKept old None d clock new None d clock
 
 -- a request, with whatever is in hand

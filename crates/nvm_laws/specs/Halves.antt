@@ -11,7 +11,6 @@ use Rattle.ram_blocks.specs.Told.{Told}
 use Rattle.nv_desk.specs.Desk.{DeskState, state_of}
 use Rattle.nv_desk_copies.specs.Picks.{IsPicked}
 use Rattle.nv_desk_copies.specs.Posts.{IsPosted, IsPostedNext}
-use Rattle.nv_desk_copies.specs.declared.post.Posted.{Posted}
 use Rattle.nvm_laws.specs.declared.turned.Turned.TheVariants as turned
 use Rattle.nvm_laws.specs.declared.turned.Act.{Act}
 use Rattle.nvm_laws.specs.declared.turned.Act.TheVariants.{Ended, Device}
@@ -25,17 +24,16 @@ abbrev pub AddsPick : (Holds : ℕ → Taken → Type 0) → ℕ → DeskState �
 AddsPick Holds ops old new = (block : ℕ) × IsPicked (Holds block) block ops old new
 
 -- the Post of the job in hand, which the machine allows where what its program saw fits the settled marks
-pub record PostsHand (Fits : Type 0) (ops : ℕ) (old new : DeskState) (before after : List Told) (posted : Posted) : Type 0 where
+pub record PostsHand (Fits : Type 0) (ops : ℕ) (old new : DeskState) (before after : List Told) : Type 0 where
   pub job : Job
   pub hand : (state_of old).hand ≡ Some job
   pub ended : Answer
-  pub is : IsPosted Fits (job_block job) (names_ram job.request) ended ops old new before after posted
+  pub is : IsPosted Fits (job_block job) (names_ram job.request) ended ops old new before after
 
 -- a Post more: that of the job in hand, or one that comes next without a Pick
 abbrev pub AddsPost : (Fits : Type 0) → ℕ → DeskState → DeskState → List Told → List Told → Type 0
 AddsPost Fits ops old new before after =
-    (posted : Posted) × (PostsHand Fits ops old new before after posted
-    ⊎ (((state_of old).hand ≡ None) × IsPostedNext (next_of old.config (state_of old)) ops old new before after posted))
+    PostsHand Fits ops old new before after ⊎ (((state_of old).hand ≡ None) × IsPostedNext (next_of old.config (state_of old)) ops old new before after)
 
 -- no job is in hand and nothing comes next
 pub record IsAtRest (desk : DeskState) (d : DeviceTold) : Type 0 where

@@ -6,6 +6,7 @@ pub mod Fields
 pub mod LineLaws
 pub mod Numerals
 pub mod OwnerLaws
+pub mod Places
 pub mod Readers
 pub mod RuleLaws
 pub mod ScriptLaws

@@ -33,8 +33,8 @@ word_text Await = codes "await"
 
 abbrev pub all_words : List Word
 all_words =
-    Read ∷ ReadRam ∷ Write ∷ WriteRam ∷ Restore ∷ RestoreRam ∷ Erase ∷ Invalidate ∷ SetIndex ∷ GetIndex ∷ Protect ∷ Lock ∷ SetRam ∷ Ram
-    ∷ Status ∷ ReadAll ∷ WriteAll ∷ Cancel ∷ Turn ∷ Drain ∷ Restart ∷ Cut ∷ Refuse ∷ Await ∷ []
+    Write ∷ Read ∷ Drain ∷ Turn ∷ ReadRam ∷ WriteRam ∷ Restore ∷ RestoreRam ∷ Erase ∷ Invalidate ∷ SetIndex ∷ GetIndex ∷ Protect ∷ Lock
+    ∷ SetRam ∷ Ram ∷ Status ∷ ReadAll ∷ WriteAll ∷ Cancel ∷ Restart ∷ Cut ∷ Refuse ∷ Await ∷ []
 
 -- the word that a text is
 unfoldable pub word_of : List ℕ → Option Word

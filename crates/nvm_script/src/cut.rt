@@ -2,10 +2,13 @@
 ghost use Rattle.std.specs.Prelude.{◌≡◌, ◌==◌, ◌+◌, ◌<◌, ◌≤◌, length, position, option_copied, IfSome};
 ghost use Rattle.nvm_script.specs.Cut.{cut_at};
 
+use memchr::memchr;
+
+#[tactic(auto, using(crate::proofs::Places::first_is_position))]
 fn place_of(text: &[u8], at: u8) -> Option<usize>
     ensures { result ≡ position (λ b. b == at) text.now }
 {
-    text.iter().position(|b| *b == at)
+    memchr(at, text)
 }
 
 // What stands before the first such byte, and what after it; all of it, and None where there is no such byte.
@@ -27,7 +30,7 @@ pub fn line_length(text: &[u8]) -> usize
     ensures some { 0 < result }
     ensures most { result ≤ length text.now }
 {
-    match text.iter().position(|byte| *byte == b'\n') {
+    match memchr(b'\n', text) {
         Some(at) => at + 1,
         None => text.len(),
     }

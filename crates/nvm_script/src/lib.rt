@@ -24,7 +24,7 @@ mod word;
 mod words;
 
 pub use cut::line_length;
-pub use lines::{end_text, entry_text};
+pub use lines::{end_text, entry_text, entry_text_in};
 pub use played_cases::other_steps_are_not_played;
 pub use script::{Mode, ScriptFault, first_line, read_script};
 pub use step::{Step, StepKind};

@@ -16,92 +16,103 @@ use std::alloc::{AllocError, Global};
 #[tactic(auto, using(crate::proofs::TextLaws::parts))]
 impl Text {
     // The number of operations so far, and the end of the line.
-    fn ops(self, ops: u64) -> Text
-        ensures { Adds (ops_text ops) self result }
+    fn ops(&mut self, ops: u64)
+        ensures { Adds (ops_text ops) self.old self.new }
     {
-        self.word(" ops ").number(ops).word("\n")
+        self.word(" ops ");
+        self.number(ops);
+        self.word("\n");
     }
 
-    fn ask_line(self, caller: u8, request: &Request, reply: Reply) -> Text
-        ensures { Adds (ask_text caller (request_text request.now) (reply_text reply)) self result }
+    fn ask_line(&mut self, caller: u8, request: &Request, reply: Reply)
+        ensures { Adds (ask_text caller (request_text request.now) (reply_text reply)) self.old self.new }
     {
-        let asked = self
-            .word("ask ")
-            .number(caller as u64)
-            .word(" ")
-            .request(request);
-        asked.word(" -> ").reply(reply).word("\n")
+        self.word("ask ");
+        self.number(caller as u64);
+        self.word(" ");
+        self.request(request);
+        self.word(" -> ");
+        self.reply(reply);
+        self.word("\n");
     }
 
-    fn pick_line(self, block: u16, job: JobKind, taken: &Taken, ops: u64) -> Text
-        ensures { Adds (pick_text block (job_text job) (taken_text taken.now) ops) self result }
+    fn pick_line(&mut self, block: u16, job: JobKind, taken: &Taken, ops: u64)
+        ensures { Adds (pick_text block (job_text job) (taken_text taken.now) ops) self.old self.new }
     {
-        let picked = self
-            .word("pick ")
-            .number(block as u64)
-            .word(" ")
-            .word(job_word(job));
-        picked.taken(taken).ops(ops)
+        self.word("pick ");
+        self.number(block as u64);
+        self.word(" ");
+        self.word(job_word(job));
+        self.taken(taken);
+        self.ops(ops);
     }
 
-    fn instance(self, instance: Instance, mark: &Mark) -> Text
-        ensures { Adds (instance_text instance (mark_text mark.now)) self result }
+    fn instance(&mut self, instance: Instance, mark: &Mark)
+        ensures { Adds (instance_text instance (mark_text mark.now)) self.old self.new }
     {
-        let block = self.number(instance.block as u64).word(".");
-        block.number(instance.index as u64).word(" ").mark(mark)
+        self.number(instance.block as u64);
+        self.word(".");
+        self.number(instance.index as u64);
+        self.word(" ");
+        self.mark(mark);
     }
 
-    fn wrote_line(self, instance: Instance, mark: &Mark, ops: u64) -> Text
-        ensures { Adds (wrote_text (instance_text instance (mark_text mark.now)) ops) self result }
+    fn wrote_line(&mut self, instance: Instance, mark: &Mark, ops: u64)
+        ensures { Adds (wrote_text (instance_text instance (mark_text mark.now)) ops) self.old self.new }
     {
-        self.word("wrote ").instance(instance, mark).ops(ops)
+        self.word("wrote ");
+        self.instance(instance, mark);
+        self.ops(ops);
     }
 
     fn post_line(
-        self,
+        &mut self,
         block: u16,
         outcome: ReqResult,
         given: &Option<Bytes>,
         refused: u8,
         ops: u64,
-    ) -> Text
-        ensures { Adds (post_text block (code_of outcome) (given_text given.now) (refused_text refused) ops) self result }
+    )
+        ensures { Adds (post_text block (code_of outcome) (given_text given.now) (refused_text refused) ops) self.old self.new }
     {
-        let posted = self.word("post ").number(block as u64).word(" ");
-        let told = posted.number(result_code(outcome) as u64).given(given);
-        told.refused(refused).ops(ops)
+        self.word("post ");
+        self.number(block as u64);
+        self.word(" ");
+        self.number(result_code(outcome) as u64);
+        self.given(given);
+        self.refused(refused);
+        self.ops(ops);
     }
 
-    fn found(self, instance: Instance, mark: &Mark) -> Text
-        ensures { Adds (found_text (instance, mark.now)) self result }
+    fn found(&mut self, instance: Instance, mark: &Mark)
+        ensures { Adds (found_text (instance, mark.now)) self.old self.new }
     {
-        self.word(" ").instance(instance, mark)
+        self.word(" ");
+        self.instance(instance, mark);
     }
 
     // The instances that were found, in order.
-    fn all_found(self, marks: &Marks) -> Text
-        ensures { Adds (flat_map found_text marks.now) self result }
+    fn all_found(&mut self, marks: &Marks)
+        ensures { Adds (flat_map found_text marks.now) self.old self.new }
     {
-        let mut text = self;
         for i in 0..marks.len() {
             if let Some((instance, mark)) = marks.get(i) {
-                text = text.found(instance, mark);
+                self.found(instance, mark);
             }
         }
-        text
     }
 
-    fn found_line(self, marks: &Marks, ops: u64) -> Text
-        ensures { Adds (found_line_text (length marks.now) (flat_map found_text marks.now) ops) self result }
+    fn found_line(&mut self, marks: &Marks, ops: u64)
+        ensures { Adds (found_line_text (length marks.now) (flat_map found_text marks.now) ops) self.old self.new }
     {
-        self.word("found ")
-            .number(marks.len() as u64)
-            .all_found(marks)
-            .ops(ops)
+        self.word("found ");
+        self.number(marks.len() as u64);
+        self.all_found(marks);
+        self.ops(ops);
     }
 
-    fn line(self, entry: &Entry) -> Text
-        ensures { Adds (entry_line entry.now) self result }
+    fn line(&mut self, entry: &Entry)
+        ensures { Adds (entry_line entry.now) self.old self.new }
     {
         match entry {
             Entry::Ask {
@@ -127,18 +138,32 @@ impl Text {
                 refused,
                 ops,
             } => self.post_line(*block, *outcome, given, *refused, *ops),
-            Entry::Off { ops } => self.word("off").ops(*ops),
+            Entry::Off { ops } => {
+                self.word("off");
+                self.ops(*ops);
+            }
             Entry::Found { marks, ops } => self.found_line(marks, *ops),
         }
     }
 }
 
-/// The line of an entry, with its newline.
+/// The line of an entry, with its newline, in the memory of a text that isn't needed any more. Where that is large enough
+/// none is taken.
 #[tactic(auto, using(crate::proofs::TextLaws::written))]
+pub fn entry_text_in(memory: Vec<u8>, entry: &Entry) -> Result<Vec<u8>, AllocError>
+    ensures { IfOk result (λ v. v.items ≡ entry_line entry.now) }
+{
+    let mut text = Text::over(memory);
+    text.line(entry);
+    text.finish()
+}
+
+/// The line of an entry, with its newline.
 pub fn entry_text(alloc: Global, entry: &Entry) -> Result<Bytes, AllocError>
     ensures { IfOk result (λ b. b ≡ entry_line entry.now) }
 {
-    Text::new(alloc).line(entry).finish()
+    let text = entry_text_in(Vec::new(alloc), entry)?;
+    Ok(Bytes::from_vec(text))
 }
 
 /// The last line of a history, with how many entries it has, and its newline.
@@ -146,9 +171,9 @@ pub fn entry_text(alloc: Global, entry: &Entry) -> Result<Bytes, AllocError>
 pub fn end_text(alloc: Global, count: u32) -> Result<Bytes, AllocError>
     ensures { IfOk result (λ b. b ≡ end_line count) }
 {
-    Text::new(alloc)
-        .word("end ")
-        .number(count as u64)
-        .word("\n")
-        .finish()
+    let mut text = Text::over(Vec::new(alloc));
+    text.word("end ");
+    text.number(count as u64);
+    text.word("\n");
+    Ok(Bytes::from_vec(text.finish()?))
 }

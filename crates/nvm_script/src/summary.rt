@@ -11,40 +11,47 @@ use std::alloc::{AllocError, Global};
 
 #[tactic(auto, using(crate::proofs::TextLaws::parts))]
 impl Text {
-    fn result_line(self, code: usize, count: u32) -> Text
-        ensures { Adds (result_text code count) self result }
+    fn result_line(&mut self, code: usize, count: u32)
+        ensures { Adds (result_text code count) self.old self.new }
     {
-        let coded = self.word("result ").number(code as u64).word(" ");
-        coded.number(count as u64).word("\n")
+        self.word("result ");
+        self.number(code as u64);
+        self.word(" ");
+        self.number(count as u64);
+        self.word("\n");
     }
 
     // One line for each result.
-    fn result_lines(self, results: &[u32; 9]) -> Text
-        ensures { Adds (flat_map (λ code. result_text code (slice_index results.now code)) all_codes) self result }
+    fn result_lines(&mut self, results: &[u32; 9])
+        ensures { Adds (flat_map (λ code. result_text code (slice_index results.now code)) all_codes) self.old self.new }
     {
-        let mut text = self;
         for code in 0..9 {
-            text = text.result_line(code, results[code]);
+            self.result_line(code, results[code]);
         }
-        text
     }
 
-    fn head_lines(self, entries: u32, counts: &Counts) -> Text
-        ensures { Adds (head_text entries counts.now.asks counts.now.refused counts.now.posts) self result }
+    fn head_lines(&mut self, entries: u32, counts: &Counts)
+        ensures { Adds (head_text entries counts.now.asks counts.now.refused counts.now.posts) self.old self.new }
     {
-        let entries = self.word("entries ").number(entries as u64).word("\nasks ");
-        let asks = entries.number(counts.asks as u64).word(" refused ");
-        let refused = asks.number(counts.refused as u64).word("\nposts ");
-        refused.number(counts.posts as u64).word("\n")
+        self.word("entries ");
+        self.number(entries as u64);
+        self.word("\nasks ");
+        self.number(counts.asks as u64);
+        self.word(" refused ");
+        self.number(counts.refused as u64);
+        self.word("\nposts ");
+        self.number(counts.posts as u64);
+        self.word("\n");
     }
 
-    fn summary_lines(self, entries: u32, counts: &Counts) -> Text
-        ensures { Adds (lines_text (head_text entries counts.now.asks counts.now.refused counts.now.posts) (flat_map (λ code. result_text code (slice_index counts.now.results code)) all_codes) counts.now.ops) self result }
+    fn summary_lines(&mut self, entries: u32, counts: &Counts)
+        ensures { Adds (lines_text (head_text entries counts.now.asks counts.now.refused counts.now.posts) (flat_map (λ code. result_text code (slice_index counts.now.results code)) all_codes) counts.now.ops) self.old self.new }
     {
-        let results = self
-            .head_lines(entries, counts)
-            .result_lines(&counts.results);
-        results.word("ops ").number(counts.ops).word("\n")
+        self.head_lines(entries, counts);
+        self.result_lines(&counts.results);
+        self.word("ops ");
+        self.number(counts.ops);
+        self.word("\n");
     }
 }
 
@@ -55,7 +62,7 @@ pub fn summary_text(alloc: Global, history: &History) -> Result<Bytes, AllocErro
     ensures { IfOk result (λ b. b ≡ summary history.now.entries) }
 {
     let counts = counts_of(history);
-    Text::new(alloc)
-        .summary_lines(history.len(), &counts)
-        .finish()
+    let mut text = Text::over(Vec::new(alloc));
+    text.summary_lines(history.len(), &counts);
+    Ok(Bytes::from_vec(text.finish()?))
 }

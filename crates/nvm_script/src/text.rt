@@ -1,78 +1,82 @@
 // Text that is written part by part.
-ghost use Rattle.std.specs.Prelude.{◌≡◌, true, false, [], IfOk, OnErr, string_bytes};
+ghost use Rattle.std.specs.Prelude.{◌≡◌, true, [], ◌∷◌, IfOk};
 ghost use Rattle.std.specs.Fmt.{decimal};
 ghost use Rattle.hex.specs.Hex.{encode_lower};
 ghost use Rattle.nvm_script.specs.Text.{Adds};
 
-use nv_base::Bytes;
-use std::alloc::{AllocError, Global};
+use itoa::Buffer;
+use std::alloc::AllocError;
+
+const DIGITS: &[u8; 16] = b"0123456789abcdef";
 
 /// A text that grows at its end. It is whole as long as there was memory for each part.
 #[derive(Drop)]
 pub struct Text {
-    alloc: Global,
-    written: String,
+    written: Vec<u8>,
     whole: bool,
 }
 
 impl Text {
-    pub fn new(alloc: Global) -> Text
-        ensures { string_bytes result.written ≡ [] }
+    /// An empty text, in the memory of one that isn't needed any more.
+    pub fn over(memory: Vec<u8>) -> Text
+        ensures { result.written.items ≡ [] }
     {
+        let mut written = memory;
+        written.clear();
         Text {
-            alloc,
-            written: String::new(alloc),
+            written,
             whole: true,
         }
     }
 
-    pub fn word(self, word: &str) -> Text
-        ensures { Adds word.now self result }
+    fn bytes(&mut self, bytes: &[u8])
+        ensures { Adds bytes.now self.old self.new }
     {
-        let mut text = self;
-        if text.written.push_str(word).is_err() {
-            text.whole = false;
+        if self.written.extend_from_slice(bytes).is_err() {
+            self.whole = false;
         }
-        text
     }
 
-    fn part(self, part: Result<String, AllocError>) -> Text
-        ensures ok { IfOk part (λ p. Adds (string_bytes p) self result) }
-        ensures err { OnErr part (result.whole ≡ false) }
+    pub fn word(&mut self, word: &str)
+        ensures { Adds word.now self.old self.new }
     {
-        match part {
-            Ok(part) => self.word(part.as_str()),
-            Err(_) => Text {
-                alloc: self.alloc,
-                written: self.written,
-                whole: false,
-            },
-        }
+        self.bytes(word.as_bytes());
     }
 
     /// A number in decimal digits.
-    pub fn number(self, number: u64) -> Text
-        ensures { Adds (decimal number) self result }
+    pub fn number(&mut self, number: u64)
+        ensures { Adds (decimal number) self.old self.new }
     {
-        let part = format!(in self.alloc; "{number}");
-        self.part(part)
+        let mut buffer = Buffer::new();
+        self.bytes(buffer.format(number).as_bytes());
+    }
+
+    /// Two digits of a byte.
+    #[tactic(auto, unfolding(hex::specs::Hex::encode_with))]
+    pub fn pair(&mut self, byte: u8)
+        ensures { Adds (encode_lower (byte ∷ [])) self.old self.new }
+    {
+        let high = DIGITS[usize::from(byte / 16)];
+        let low = DIGITS[usize::from(byte % 16)];
+        self.bytes(&[high, low]);
     }
 
     /// Two digits a byte, in lower case.
-    pub fn digits(self, bytes: &[u8]) -> Text
-        ensures { Adds (encode_lower bytes.now) self result }
+    pub fn digits(&mut self, bytes: &[u8])
+        ensures { Adds (encode_lower bytes.now) self.old self.new }
     {
-        let part = hex::encode(self.alloc, bytes);
-        self.part(part)
+        for i in 0..bytes.len() {
+            self.pair(bytes[i]);
+        }
     }
 
     /// The whole text, or no memory was left for it.
-    pub fn finish(self) -> Result<Bytes, AllocError>
-        ensures { IfOk result (λ b. (self.whole ≡ true) × (b ≡ string_bytes self.written)) }
+    pub fn finish(self) -> Result<Vec<u8>, AllocError>
+        ensures { IfOk result (λ v. (self.whole ≡ true) × (v.items ≡ self.written.items)) }
     {
         if !self.whole {
             return Err(AllocError);
         }
-        Ok(Bytes::from_vec(self.written.into_bytes()))
+        Ok(self.written)
     }
 }

@@ -32,10 +32,13 @@ pub enum Word {
     Await,
 }
 
+// In the order in which they are tried: what most scripts say most comes first.
 static WORDS: [Word; 24] = [
-    Word::Read,
-    Word::ReadRam,
     Word::Write,
+    Word::Read,
+    Word::Drain,
+    Word::Turn,
+    Word::ReadRam,
     Word::WriteRam,
     Word::Restore,
     Word::RestoreRam,
@@ -51,8 +54,6 @@ static WORDS: [Word; 24] = [
     Word::ReadAll,
     Word::WriteAll,
     Word::Cancel,
-    Word::Turn,
-    Word::Drain,
     Word::Restart,
     Word::Cut,
     Word::Refuse,

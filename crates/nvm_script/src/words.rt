@@ -37,80 +37,88 @@ fn switch_word(on: bool) -> &'static str
 
 #[tactic(auto, using(crate::proofs::TextLaws::parts))]
 impl Text {
-    fn run(self, byte: u8, count: usize) -> Text
-        ensures { Adds (encode_lower (byte ∷ []) ++ (codes "*" ++ decimal count)) self result }
+    fn run(&mut self, byte: u8, count: usize)
+        ensures { Adds (encode_lower (byte ∷ []) ++ (codes "*" ++ decimal count)) self.old self.new }
     {
-        self.digits(&[byte]).word("*").number(count as u64)
+        self.pair(byte);
+        self.word("*");
+        self.number(count as u64);
     }
 
     // A content: a long run as its byte and its length, any other as hexadecimal digits.
-    fn content(self, content: &Bytes) -> Text
-        ensures { Adds (content_text content.now) self result }
+    fn content(&mut self, content: &Bytes)
+        ensures { Adds (content_text content.now) self.old self.new }
     {
         let bytes = content.as_slice();
         if is_run(bytes) {
-            return self.run(bytes[0], bytes.len());
+            self.run(bytes[0], bytes.len());
+        } else {
+            self.digits(bytes);
         }
-        self.digits(bytes)
     }
 
-    pub fn mark(self, mark: &Mark) -> Text
-        ensures { Adds (mark_text mark.now) self result }
+    pub fn mark(&mut self, mark: &Mark)
+        ensures { Adds (mark_text mark.now) self.old self.new }
     {
         match mark {
-            Mark::Content(bytes) => self.word("data ").content(bytes),
+            Mark::Content(bytes) => {
+                self.word("data ");
+                self.content(bytes);
+            }
             Mark::Invalid => self.word("invalid"),
             Mark::Erased => self.word("erased"),
         }
     }
 
-    fn of_block(self, word: &str, block: u16) -> Text
-        ensures { Adds (block_text word.now block) self result }
+    fn of_block(&mut self, word: &str, block: u16)
+        ensures { Adds (block_text word.now block) self.old self.new }
     {
-        self.word(word).word(" ").number(block as u64)
+        self.word(word);
+        self.word(" ");
+        self.number(block as u64);
     }
 
-    fn of_block_with(self, word: &str, block: u16, argument: &str) -> Text
-        ensures { Adds (block_text_with word.now block argument.now) self result }
+    fn of_block_with(&mut self, word: &str, block: u16, argument: &str)
+        ensures { Adds (block_text_with word.now block argument.now) self.old self.new }
     {
-        self.word(word)
-            .word(" ")
-            .number(block as u64)
-            .word(" ")
-            .word(argument)
+        self.word(word);
+        self.word(" ");
+        self.number(block as u64);
+        self.word(" ");
+        self.word(argument);
     }
 
-    fn with_content(self, word: &str, block: u16, content: &Bytes) -> Text
-        ensures { Adds (block_text_with word.now block (content_text content.now)) self result }
+    fn with_content(&mut self, word: &str, block: u16, content: &Bytes)
+        ensures { Adds (block_text_with word.now block (content_text content.now)) self.old self.new }
     {
-        self.word(word)
-            .word(" ")
-            .number(block as u64)
-            .word(" ")
-            .content(content)
+        self.word(word);
+        self.word(" ");
+        self.number(block as u64);
+        self.word(" ");
+        self.content(content);
     }
 
-    fn with_index(self, word: &str, block: u16, index: u8) -> Text
-        ensures { Adds (block_text_with word.now block (decimal index)) self result }
+    fn with_index(&mut self, word: &str, block: u16, index: u8)
+        ensures { Adds (block_text_with word.now block (decimal index)) self.old self.new }
     {
-        self.word(word)
-            .word(" ")
-            .number(block as u64)
-            .word(" ")
-            .number(index as u64)
+        self.word(word);
+        self.word(" ");
+        self.number(block as u64);
+        self.word(" ");
+        self.number(index as u64);
     }
 
-    fn store(self, store: u64) -> Text
-        ensures { Adds (store_text store) self result }
+    fn store(&mut self, store: u64)
+        ensures { Adds (store_text store) self.old self.new }
     {
-        if store == 0 {
-            return self;
+        if store != 0 {
+            self.word(" store ");
+            self.number(store);
         }
-        self.word(" store ").number(store)
     }
 
-    pub fn request(self, request: &Request) -> Text
-        ensures { Adds (request_text request.now) self result }
+    pub fn request(&mut self, request: &Request)
+        ensures { Adds (request_text request.now) self.old self.new }
     {
         match request {
             Request::Read { block, ram: false } => self.of_block("read", *block),
@@ -124,7 +132,10 @@ impl Text {
                 block,
                 content: None,
                 store,
-            } => self.of_block("writeram", *block).store(*store),
+            } => {
+                self.of_block("writeram", *block);
+                self.store(*store);
+            }
             Request::Restore { block, ram: false } => self.of_block("restore", *block),
             Request::Restore { block, ram: true } => self.of_block("restoreram", *block),
             Request::Erase { block } => self.of_block("erase", *block),
@@ -144,49 +155,68 @@ impl Text {
         }
     }
 
-    pub fn reply(self, reply: Reply) -> Text
-        ensures { Adds (reply_text reply) self result }
+    pub fn reply(&mut self, reply: Reply)
+        ensures { Adds (reply_text reply) self.old self.new }
     {
         match reply {
             Reply::Accepted => self.word("ok"),
             Reply::Refused(refusal) => {
-                self.word("refused ").number(refusal_number(refusal) as u64)
+                self.word("refused ");
+                self.number(refusal_number(refusal) as u64);
             }
-            Reply::StatusIs(status) => self.word("status ").number(result_code(status) as u64),
-            Reply::IndexIs(index) => self.word("index ").number(index as u64),
+            Reply::StatusIs(status) => {
+                self.word("status ");
+                self.number(result_code(status) as u64);
+            }
+            Reply::IndexIs(index) => {
+                self.word("index ");
+                self.number(index as u64);
+            }
         }
     }
 
-    pub fn taken(self, taken: &Taken) -> Text
-        ensures { Adds (taken_text taken.now) self result }
+    pub fn taken(&mut self, taken: &Taken)
+        ensures { Adds (taken_text taken.now) self.old self.new }
     {
         match taken {
-            Taken::Nothing => self,
-            Taken::Content { bytes, store } => self.word(" ").content(bytes).store(*store),
-            Taken::Refused { count } => self.word(" refused ").number(*count as u64),
+            Taken::Nothing => {}
+            Taken::Content { bytes, store } => {
+                self.word(" ");
+                self.content(bytes);
+                self.store(*store);
+            }
+            Taken::Refused { count } => {
+                self.word(" refused ");
+                self.number(*count as u64);
+            }
             Taken::Stale {
                 asked,
                 got,
                 count: _,
-            } => self.word(" stale ").number(*asked).word(" ").number(*got),
+            } => {
+                self.word(" stale ");
+                self.number(*asked);
+                self.word(" ");
+                self.number(*got);
+            }
         }
     }
 
-    pub fn given(self, given: &Option<Bytes>) -> Text
-        ensures { Adds (given_text given.now) self result }
+    pub fn given(&mut self, given: &Option<Bytes>)
+        ensures { Adds (given_text given.now) self.old self.new }
     {
-        match given {
-            Some(bytes) => self.word(" data ").content(bytes),
-            None => self,
+        if let Some(bytes) = given {
+            self.word(" data ");
+            self.content(bytes);
         }
     }
 
-    pub fn refused(self, count: u8) -> Text
-        ensures { Adds (refused_text count) self result }
+    pub fn refused(&mut self, count: u8)
+        ensures { Adds (refused_text count) self.old self.new }
     {
-        if count == 0 {
-            return self;
+        if count != 0 {
+            self.word(" refused ");
+            self.number(count as u64);
         }
-        self.word(" refused ").number(count as u64)
     }
 }

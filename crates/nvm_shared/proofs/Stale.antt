@@ -3,13 +3,13 @@ use Rattle.std.proofs.Common.{◌≡◌, ℕ, Bool, true, false, List, [], ◌�
 use Rattle.nvm_core.specs.memif.Told.{DeviceTold}
 use Rattle.nvm_core.specs.block_machine.Words.{JobKind, WriteJob, Taken, TookNothing, TookStale, BlockDesc, Configuration, Entry, Pick}
 use Rattle.nvm_core.specs.block_machine.State.{State, BlockState, Job}
-use Rattle.nvm_core.specs.block_machine.Blocks.{desc_of, block_at, is_synchronized, job_block, kind_of, asked_store}
+use Rattle.nvm_core.specs.block_machine.Blocks.{desc_of, block_at, is_synchronized, job_block, kind_of}
 use Rattle.nvm_core.specs.block_machine.Sweeps.{member_job}
 use Rattle.nvm_core.specs.block_machine.Next.{Next, Nothing, PickJob, BeginSweep, PickMember, PostMember, EndSweep, next_of}
 use Rattle.nvm_core.specs.block_machine.Legal.{TakesBy, TakesForWrite, MayPick}
 use Rattle.nvm_core.specs.ram_blocks.Told.{Told}
 use Rattle.nvm_core.specs.nv_desk.Desk.{DeskState, state_of}
-use Rattle.nvm_core.specs.nv_desk_copies.Takes.{source_by, source_next, IsCopied}
+use Rattle.nvm_core.specs.nv_desk_copies.Takes.{copies_out_by, copies_out_next, IsCopied}
 use Rattle.nvm_core.specs.nvm_laws.declared.turned.Turned.TheVariants as turned
 use Rattle.nvm_core.specs.nvm_laws.declared.turned.Act.TheVariants.{Ended}
 use Rattle.nvm_shared.specs.Behind.{with_more}
@@ -43,18 +43,18 @@ module _ (IsStore : ℕ → List ℕ → Type 0) (block : ℕ) (old new : List T
   abbrev Older : Type 0
   Older = (x : List ℕ) × IsStore got x
 
-  for_write : (d : BlockDesc) (b : BlockState) (j : Job) (content : Option (List ℕ × ℕ)) (synchronized : Bool) (asked : ℕ)
-      → IsCopied IsStore block old new (source_by WriteJob content synchronized asked) stale → TakesForWrite d b j content synchronized stale → Older
-  for_write d b j (Some x) synchronized asked is takes = cc
-  for_write d b j None true asked is takes = is
-  for_write d b j None false asked is takes = cc
+  for_write : (d : BlockDesc) (b : BlockState) (j : Job) (content : Option (List ℕ × ℕ)) (synchronized : Bool)
+      → IsCopied IsStore block old new (copies_out_by WriteJob content synchronized) stale → TakesForWrite d b j content synchronized stale → Older
+  for_write d b j (Some x) synchronized is takes = cc
+  for_write d b j None true is takes = is
+  for_write d b j None false is takes = cc
 
   by_kind : (d : BlockDesc) (b : BlockState) (j : Job) (kind : JobKind)
-      → IsCopied IsStore block old new (source_by kind j.content (is_synchronized d.ram) (asked_store j.request)) stale → TakesBy d b j kind stale → Older
-  by_kind d b j WriteJob is takes = for_write d b j j.content (is_synchronized d.ram) (asked_store j.request) is takes
+      → IsCopied IsStore block old new (copies_out_by kind j.content (is_synchronized d.ram)) stale → TakesBy d b j kind stale → Older
+  by_kind d b j WriteJob is takes = for_write d b j j.content (is_synchronized d.ram) is takes
   by_kind d b j kind is takes = cc
 
-  older : (c : Configuration) (s : State) (kind : JobKind) (n : Next) → IsCopied IsStore block old new (source_next c n) stale → MayPick c s block kind stale n → Older
+  older : (c : Configuration) (s : State) (kind : JobKind) (n : Next) → IsCopied IsStore block old new (copies_out_next c n) stale → MayPick c s block kind stale n → Older
   older c s kind (PickJob j) is may = by_kind (desc_of c (job_block j)) (block_at s (job_block j)) j (kind_of j) is may.takes
   older c s kind (PickMember sw id) is may =
       let j = member_job c sw id in
@@ -75,6 +75,6 @@ stale_shown told copies is_store looked desk desk_new old new begins front block
     let same = same_last d.entries front _ (Pick block kind (TookStale wanted got count) ops) (sym (ap (λ (x : DeskState). x.entries) picked.adds) ∙ last) in
     let took : picked.taken ≡ TookStale wanted got count = ap taken_in same in
     let found = older (λ m x. is_store new.copies at m x × looked old.copies new.copies at m) at (copies old.copies) (copies new.copies) wanted got count d.config (state_of d) picked.kind n
-    (subst (λ (t : Taken). IsCopied (λ m x. is_store new.copies at m x × looked old.copies new.copies at m) at (copies old.copies) (copies new.copies) (source_next d.config n) t) took picked.copied)
+    (subst (λ (t : Taken). IsCopied (λ m x. is_store new.copies at m x × looked old.copies new.copies at m) at (copies old.copies) (copies new.copies) (copies_out_next d.config n) t) took picked.copied)
     (subst (λ (t : Taken). MayPick d.config (state_of d) at picked.kind t n) took picked.allowed.1) in
     subst (λ (k : ℕ). looked old.copies new.copies k got) (ap block_in same) found.1.1

@@ -14,7 +14,6 @@ use Rattle.nvm_core.specs.ram_blocks.Told.{Told}
 use Rattle.nvm_core.specs.nv_desk.Desk.{DeskState, state_of}
 use Rattle.nvm_core.specs.nv_desk_copies.Front.{StagingState, StagesAll}
 use Rattle.nvm_core.specs.nv_desk_copies.Posts.{IsPostedNext}
-use Rattle.nvm_core.specs.nv_desk_copies.declared.post.Posted.{Posted}
 use Rattle.nvm_core.specs.nvm_laws.Halves.{IsHalf, Adds}
 use Rattle.nvm_core.specs.nvm_laws.Turns.{AddsBy, entry_by}
 use Rattle.nvm_core.specs.nvm_laws.declared.turned.Turned.{Turned}
@@ -37,21 +36,21 @@ IsDriven e = (is_ask e ≡ false) × (is_found e ≡ false)
 abbrev pub Writes : Bool → DeskState → DeskState → Type 0
 Writes tells old new = (new ≡ old) ⊎ ((e : Entry) × Adds e old new × IsWritten tells old.config old.cap (state_of old) e × IsDriven e)
 
-next_writes : (tells : Bool) (n : Next) (ops : ℕ) (old new : DeskState) (before after : List Told) (posted : Posted) → IsPostedNext n ops old new before after posted → Writes tells old new
-next_writes tells (PostMember sw id) ops old new before after posted is = inr (Post id posted.result is.given is.refused ops, is.adds, (λ told. is.allowed tt), (refl, refl))
-next_writes tells (EndSweep sw) ops old new before after posted is = inr (Post 0 posted.result is.given is.refused ops, is.adds, (λ told. is.allowed tt), (refl, refl))
-next_writes tells Nothing ops old new before after posted is = absurd is
-next_writes tells (PickJob j) ops old new before after posted is = absurd is
-next_writes tells (BeginSweep sw) ops old new before after posted is = absurd is
-next_writes tells (PickMember sw id) ops old new before after posted is = absurd is
+next_writes : (tells : Bool) (n : Next) (ops : ℕ) (old new : DeskState) (before after : List Told) → IsPostedNext n ops old new before after → Writes tells old new
+next_writes tells (PostMember sw id) ops old new before after is = inr (Post id is.result is.given is.refused ops, is.adds, (λ told. is.allowed tt), (refl, refl))
+next_writes tells (EndSweep sw) ops old new before after is = inr (Post 0 is.result is.given is.refused ops, is.adds, (λ told. is.allowed tt), (refl, refl))
+next_writes tells Nothing ops old new before after is = absurd is
+next_writes tells (PickJob j) ops old new before after is = absurd is
+next_writes tells (BeginSweep sw) ops old new before after is = absurd is
+next_writes tells (PickMember sw id) ops old new before after is = absurd is
 
 pub half_writes : (tells : Bool) (act : Act) (Holds : ℕ → Taken → Type 0) (Fits : Type 0) (old new : DeskState) (before after : List Told) (d : DeviceTold)
     → IsHalf act Holds Fits old new before after d → (tells ≡ true → Fits) → Writes tells old new
 half_writes tells (Ended turned.Off) Holds Fits old new before after d is fits = inl is.0.0
 half_writes tells (Ended turned.Picked) Holds Fits old new before after d is fits = inr (Pick is.0 is.1.kind is.1.taken _, is.1.adds, (λ told. is.1.allowed), (refl, refl))
-half_writes tells (Ended turned.Posted) Holds Fits old new before after d is fits = elim is.1 [
+half_writes tells (Ended turned.Posted) Holds Fits old new before after d is fits = elim is [
   | inl held ↦ inr (_, held.is.adds, (λ told. held.is.allowed (fits told)), (refl, refl))
-  | inr next ↦ next_writes tells (next_of old.config (state_of old)) _ old new before after is.0 next.1
+  | inr next ↦ next_writes tells (next_of old.config (state_of old)) _ old new before after next.1
 ]
 half_writes tells (Ended turned.Idle) Holds Fits old new before after d is fits = inl is.0.0
 half_writes tells (Ended turned.Worked) Holds Fits old new before after d is fits = absurd is

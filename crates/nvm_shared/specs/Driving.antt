@@ -27,7 +27,10 @@ use Rattle.nvm_core.specs.Stack.{StackState, stack_with}
 use Rattle.nvm_core.specs.Turns.{IsFirstHalf}
 use Rattle.nvm_core.specs.Due.{now_of}
 use Rattle.nvm_core.specs.Work.{LowersWork}
+use Rattle.turn_gate.specs.Pass.{knows}
 use Rattle.nvm_shared.specs.Behind.{AreAsks, AsksStandBehind, HandIsPending, with_more}
+use Rattle.nvm_shared.specs.Locked.{desk_with}
+use Rattle.nvm_shared.specs.Passes.{PassValue, SharedState, IsUserOf}
 
 -- the device, the application's copies, and the job in hand
 pub record DriverState (D C : Type 0) : Type 0 where
@@ -51,6 +54,12 @@ module _ {D C : Type 0} (told : D → DeviceTold) (clock : D → Clock) (copies 
     pub next : NextIsPending desk.config (state_of desk)
     pub synchronized : AreSynchronized desk.config (copies s.copies)
     pub kept : tells ≡ true → (before : Part → PartTold) × StackKeeps before desk s.hand (told s.device) (clock s.device)
+
+  -- The pass of this stack that has the mark, with the parts that are tied to what it has seen.
+  pub record IsDriverOf (shared : SharedState) (pass : PassValue) (s : DriverState D C) : Type 0 where
+    pub own : IsUserOf shared pass
+    pub mark : (knows pass).mark ≡ true
+    pub drives : Drives shared.terms.tells (desk_with shared.terms (knows pass).seen) s
 
 -- the first half of a turn, behind requests of others
 pub record BeginsTurn {D C : Type 0} (told : D → DeviceTold) (copies : C → List Told) (is_store : C → ℕ → ℕ → List ℕ → Type 0) (looked : C → C → ℕ → ℕ → Type 0) (act : Act) (desk desk_new : DeskState) (old new : DriverState D C) : Type 0 where

@@ -18,7 +18,7 @@ ghost use Rattle.nvm_shared.specs.Behind.{AreAsks, with_more};
 ghost use Rattle.nvm_shared.specs.Locked.{desk_with};
 ghost use Rattle.nvm_shared.specs.Passes.{IsUserOf, LearnsHalf, LearnsTurn};
 ghost use Rattle.nvm_shared.specs.Stale.{StaleIsShown};
-ghost use Rattle.nvm_shared.specs.Driving.{DriverState, Drives, BeginsTurn, IsTurned, EndsTurn, MayEnd, ServesDue, TurnsBehind, stack_of};
+ghost use Rattle.nvm_shared.specs.Driving.{DriverState, IsDriverOf, BeginsTurn, IsTurned, EndsTurn, MayEnd, ServesDue, TurnsBehind, stack_of};
 
 use crate::shared::{Shared, StackPass};
 use nvm_core::job_progress::Hand;
@@ -61,12 +61,9 @@ impl<D: MemDevice, C: SyncCalls + Drop> Driver<D, C> {
 
     /// The first half of a turn, under the lock: all but the device's own turn.
     pub fn begin<W: Wait>(&mut self, rt: &W, shared: &Shared, pass: &mut StackPass) -> Act
-        requires own { IsUserOf shared.now pass.old }
-        requires mark { (knows pass.old).mark ≡ true }
-        requires drives { Drives D.told D.clock C.told shared.now.terms.tells (desk_with shared.now.terms (knows pass.old).seen) self.old }
-        ensures own { IsUserOf shared.now pass.new }
+        requires driver { IsDriverOf D.told D.clock C.told shared.now pass.old self.old }
+        ensures driver { IsDriverOf D.told D.clock C.told shared.now pass.new self.new }
         ensures begins { BeginsTurn D.told C.told C.is_store C.looked result (desk_with shared.now.terms (knows pass.old).seen) (desk_with shared.now.terms (knows pass.new).seen) self.old self.new }
-        ensures drives { Drives D.told D.clock C.told shared.now.terms.tells (desk_with shared.now.terms (knows pass.new).seen) self.new }
         ensures keeps { StaysKept (desk_with shared.now.terms (knows pass.old).seen) self.old.hand (D.told self.old.device) (D.clock self.old.device) (desk_with shared.now.terms (knows pass.new).seen) self.new.hand (D.told self.new.device) (D.clock self.new.device) }
         ensures left { HalfLeft result (program_in_hand self.old.hand) (D.told self.old.device) (program_in_hand self.new.hand) (D.told self.new.device) }
         ensures stale { result ≡ Act.Ended Turned.Picked → StaleIsShown C.looked (knows pass.new).seen self.old.copies self.new.copies }
@@ -102,11 +99,10 @@ impl<D: MemDevice, C: SyncCalls + Drop> Driver<D, C> {
         requires own { IsUserOf shared.now pass.old }
         requires mark { (knows pass.old).mark ≡ true }
         requires turned { (before : DriverState D C) × MayEnd D.told D.clock C.told shared.now.terms.tells turned (desk_with shared.now.terms (knows pass.old).seen) before self.old }
-        ensures own { IsUserOf shared.now pass.new }
+        ensures driver { IsDriverOf D.told D.clock C.told shared.now pass.new self.new }
         ensures ends { (before : DriverState D C) → MayEnd D.told D.clock C.told shared.now.terms.tells turned (desk_with shared.now.terms (knows pass.old).seen) before self.old
             → EndsTurn D.told D.clock result (desk_with shared.now.terms (knows pass.old).seen) (desk_with shared.now.terms (knows pass.new).seen) before self.new }
         ensures device { self.new.device ≡ self.old.device }
-        ensures drives { Drives D.told D.clock C.told shared.now.terms.tells (desk_with shared.now.terms (knows pass.new).seen) self.new }
         ensures learns { LearnsHalf (knows pass.old) (knows pass.new) }
     {
         let mut value = shared.gate.enter(rt, pass);
@@ -119,13 +115,9 @@ impl<D: MemDevice, C: SyncCalls + Drop> Driver<D, C> {
 
     /// A whole turn, behind requests of others before each half.
     pub fn turn<W: Wait>(&mut self, rt: &W, shared: &Shared, pass: &mut StackPass) -> Turned
-        requires own { IsUserOf shared.now pass.old }
-        requires mark { (knows pass.old).mark ≡ true }
-        requires drives { Drives D.told D.clock C.told shared.now.terms.tells (desk_with shared.now.terms (knows pass.old).seen) self.old }
-        ensures own { IsUserOf shared.now pass.new }
-        ensures mark { (knows pass.new).mark ≡ true }
+        requires driver { IsDriverOf D.told D.clock C.told shared.now pass.old self.old }
+        ensures driver { IsDriverOf D.told D.clock C.told shared.now pass.new self.new }
         ensures parts { (knows pass.new).parts ≡ (knows pass.old).parts }
-        ensures drives { Drives D.told D.clock C.told shared.now.terms.tells (desk_with shared.now.terms (knows pass.new).seen) self.new }
         ensures keeps { StaysKept (desk_with shared.now.terms (knows pass.old).seen) self.old.hand (D.told self.old.device) (D.clock self.old.device) (desk_with shared.now.terms (knows pass.new).seen) self.new.hand (D.told self.new.device) (D.clock self.new.device) }
         ensures turns { TurnsBehind D.told D.clock C.told C.is_store C.looked result (desk_with shared.now.terms (knows pass.old).seen) (desk_with shared.now.terms (knows pass.new).seen) self.old self.new }
         ensures counted { faults_of (D.told self.old.device) ≤ faults_of (D.told self.new.device) }

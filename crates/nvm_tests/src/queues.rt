@@ -26,6 +26,7 @@ fn keep_order(queues: &mut Queues) -> bool {
         && is_this(queues.next(), second)
         && queues.put_back(second)
         && queues.room(false) == 1
+        && !queues.has_immediate()
         && is_this(queues.remove(2), waiting(2, 100, 1))
 }
 

@@ -1,12 +1,11 @@
 // A shared stack over a device in memory and mirrors: two callers with a side each, and the driver.
-ghost use Rattle.std.specs.Prelude.{◌≡◌, ◌≢◌, ◌≤◌, ◌<◌, ◌+◌, ◌^◌, length, map, true, None, IfOk, IfSome};
+ghost use Rattle.std.specs.Prelude.{◌≡◌, ◌≢◌, ◌≤◌, ◌<◌, ◌+◌, ◌^◌, length, map, None, IfOk, IfSome};
 ghost use Rattle.nvm_laws.specs.block_config.Lengths.{lengths_of};
 ghost use Rattle.turn_gate.specs.Pass.{knows};
 ghost use Rattle.nvm_laws.specs.nv_desk_copies.Front.{AreSynchronized};
 ghost use Rattle.ram_mirrors_sync.specs.Blocks.{AreEndsOf, AreSidesOf, IsSideIn, side_at, told_by};
-ghost use Rattle.nvm_shared.specs.Locked.{desk_with};
 ghost use Rattle.nvm_shared.specs.Passes.{IsUserOf};
-ghost use Rattle.nvm_shared.specs.Driving.{Drives};
+ghost use Rattle.nvm_shared.specs.Driving.{IsDriverOf};
 
 use nvm_laws::Turned;
 use nvm_laws::block_config::{Config, read};
@@ -37,13 +36,9 @@ fn rest<W: Wait, D: MemDevice, C: SyncCalls + Drop>(
     pass: &mut StackPass,
     driver: &mut Driver<D, C>,
 ) -> bool
-    requires own { IsUserOf shared.now pass.old }
-    requires mark { (knows pass.old).mark ≡ true }
-    requires drives { Drives D.told D.clock C.told shared.now.terms.tells (desk_with shared.now.terms (knows pass.old).seen) driver.old }
-    ensures own { IsUserOf shared.now pass.new }
-    ensures mark { (knows pass.new).mark ≡ true }
+    requires driver { IsDriverOf D.told D.clock C.told shared.now pass.old driver.old }
+    ensures driver { IsDriverOf D.told D.clock C.told shared.now pass.new driver.new }
     ensures parts { (knows pass.new).parts ≡ (knows pass.old).parts }
-    ensures drives { Drives D.told D.clock C.told shared.now.terms.tells (desk_with shared.now.terms (knows pass.new).seen) driver.new }
     ensures over { (first : C) → C.over first driver.old.copies → C.over first driver.new.copies }
 {
     for _ in 0..100 {
@@ -114,9 +109,8 @@ fn are_served<W: Wait, D: MemDevice, C: SyncCalls + Drop>(
     two: &mut StackPass,
     driver: &mut Driver<D, C>,
 ) -> bool
-    requires own { IsUserOf shared.now pass.old × IsUserOf shared.now one.old × IsUserOf shared.now two.old }
-    requires mark { (knows pass.old).mark ≡ true }
-    requires drives { Drives D.told D.clock C.told shared.now.terms.tells (desk_with shared.now.terms (knows pass.old).seen) driver.old }
+    requires own { IsUserOf shared.now one.old × IsUserOf shared.now two.old }
+    requires driver { IsDriverOf D.told D.clock C.told shared.now pass.old driver.old }
     ensures own { IsUserOf shared.now pass.new × IsUserOf shared.now one.new × IsUserOf shared.now two.new }
     ensures parts { ((knows pass.new).parts ≡ (knows pass.old).parts) × ((knows one.new).parts ≡ (knows one.old).parts) × ((knows two.new).parts ≡ (knows two.old).parts) }
     ensures over { (first : C) → C.over first driver.old.copies → C.over first driver.new.copies }
@@ -150,9 +144,8 @@ fn serves<W: Wait, D: MemDevice + Drop, C: SyncCalls + Drop>(
     mut pass: StackPass,
     mut driver: Driver<D, C>,
 ) -> (bool, C)
-    requires own { IsUserOf shared pass }
-    requires knows { ((knows pass).mark ≡ true) × ((knows pass).parts ≡ 2 ^ 64) }
-    requires drives { Drives D.told D.clock C.told shared.terms.tells (desk_with shared.terms (knows pass).seen) driver }
+    requires driver { IsDriverOf D.told D.clock C.told shared pass driver }
+    requires parts { (knows pass).parts ≡ 2 ^ 64 }
     ensures over { (first : C) → C.over first driver.copies → C.over first result.1 }
 {
     let mut one = shared.split(&mut pass);

@@ -1,5 +1,5 @@
 -- Where nothing fails a run serves its jobs.
-use Rattle.std.proofs.Common.{◌≡◌, ℕ, List, [], ◌∷◌, sym, subst}
+use Rattle.std.proofs.Common.{◌≡◌, ℕ, List, [], ◌∷◌, Option, None, refl, sym, subst}
 use Rattle.nvm_flash.specs.nv_base.Count.{Rose}
 use Rattle.nvm_flash.specs.block_config.Config.{Configuration}
 use Rattle.nvm_flash.specs.memif.Told.{PartTold}
@@ -8,7 +8,8 @@ use Rattle.script_walks.specs.Words.{Step}
 use Rattle.nvm_flash.specs.block_machine.Words.{Entry}
 use Rattle.nvm_flash.specs.block_machine.State.{State, Job}
 use Rattle.nvm_flash.specs.block_machine.Steps.{after}
-use Rattle.nvm_flash.specs.promise_run.Run.{Run, Course, Played, Ran, End, FlashFault, HasOrder, Follows, LeavesFor, RunsBy, EndsAtStart}
+use Rattle.nvm_flash.specs.promise_run.Beside.{Beside}
+use Rattle.nvm_flash.specs.promise_run.Run.{Run, Course, Played, Ran, End, FlashFault, HasOrder, Follows, LeavesFor, RunsBy, EndsAtStart, EndsBefore, FaultWasCounted}
 use Rattle.nvm_flash.specs.promise_run.Completeness.{Completeness, IsServed}
 use Rattle.script_player.specs.Told.{StackTold}
 use Rattle.script_player.specs.Made.{HasWalked}
@@ -19,18 +20,18 @@ use Rattle.nvm_top.proofs.PlayLemmas.{Rose-after}
 
 -- A FLASH FAULT WAS COUNTED
 
-by_steps : (r : Run) (s : State) (left : List Step) → LeavesFor r s FlashFault left → Rose r.flash.entry.faults r.flash.exit.faults
-by_steps r s [] is = absurd is
-by_steps r s (x ∷ xs) is = is.1
+by_steps : (r : Run) (s : State) (left : List Step) → r.beside ≡ None → LeavesFor r s FlashFault left → Rose r.flash.entry.faults r.flash.exit.faults
+by_steps r s [] one is = absurd is
+by_steps r s (x ∷ xs) one is = subst (λ (b : Option Beside). FaultWasCounted r.flash b) one is.1
 
-by_course : (r : Run) (course : Course) (h : List Entry) → r.end ≡ FlashFault → Follows r course h → Rose r.flash.entry.faults r.flash.exit.faults
-by_course r (Played made pieces left) h is follows =
-    by_steps r (after r.configuration h) left (subst (λ (e : End). LeavesFor r (after r.configuration h) e left) is follows.1)
-by_course r (Ran steps) h is follows = absurd (subst (λ (e : End). RunsBy r.configuration steps e h) is follows)
+by_course : (r : Run) (course : Course) (h : List Entry) → r.beside ≡ None → r.end ≡ FlashFault → Follows r course h → Rose r.flash.entry.faults r.flash.exit.faults
+by_course r (Played made pieces left) h one is follows =
+    by_steps r (after r.configuration h) left one (subst (λ (e : End). LeavesFor r (after r.configuration h) e left) is follows.1)
+by_course r (Ran steps) h one is follows = absurd (subst (λ (e : End). RunsBy r.configuration steps e h) is follows)
 
-by_order : (r : Run) (h : List Entry) → r.end ≡ FlashFault → HasOrder r h → Rose r.flash.entry.faults r.flash.exit.faults
-by_order r [] is order = subst (λ (e : End). EndsAtStart r.flash e) is order.0
-by_order r (e ∷ es) is order = by_course r r.course (e ∷ es) is order
+by_order : (r : Run) (h : List Entry) → r.beside ≡ None → r.end ≡ FlashFault → HasOrder r h → Rose r.flash.entry.faults r.flash.exit.faults
+by_order r [] one is order = subst (λ (e : End). EndsAtStart r.flash e) is (subst (λ (b : Option Beside). EndsBefore r.flash b r.end) one order.0)
+by_order r (e ∷ es) one is order = by_course r r.course (e ∷ es) one is order
 
 -- RUNS
 
@@ -38,7 +39,7 @@ by_order r (e ∷ es) is order = by_course r r.course (e ∷ es) is order
 pub early_complete : (c : Configuration) (steps : List Step) (entry exit : Told) (end : End) → HasOrder (run_of c [] entry exit [] (Played [] [] steps) end) []
     → Completeness (job_turns c) (run_of c [] entry exit [] (Played [] [] steps) end) (Played [] [] steps)
 early_complete c steps entry exit end order calm = record {
-  ends = λ is. calm.no_fault (by_order (run_of c [] entry exit [] (Played [] [] steps) end) [] is order);
+  ends = λ is. calm.no_fault (by_order (run_of c [] entry exit [] (Played [] [] steps) end) [] refl is order);
   served = record { posts = tt; drains = tt };
 }
 
@@ -47,7 +48,7 @@ pub walked_complete : {c : Configuration} {cuts : ℕ} {p q : Payer} (made left 
     → t.configuration ≡ old.configuration → (Rose before.faults t.faults → Rose entry.faults exit.faults) → HasOrder (run_of t.configuration t.entries entry exit operations (Played made walked.pieces left) end) t.entries
     → Completeness (job_turns t.configuration) (run_of t.configuration t.entries entry exit operations (Played made walked.pieces left) end) (Played made walked.pieces left)
 walked_complete {c} {cuts} {p} {q} made left end before old t entry exit operations started walked same faults order calm = record {
-  ends = λ is. calm.no_fault (by_order (run_of t.configuration t.entries entry exit operations (Played made walked.pieces left) end) t.entries is order);
+  ends = λ is. calm.no_fault (by_order (run_of t.configuration t.entries entry exit operations (Played made walked.pieces left) end) t.entries refl is order);
   served =
       subst (λ (x : Configuration). IsServed x (job_turns x) made walked.pieces t.entries) (sym same)
       (subst (λ (x : Configuration). IsServed old.configuration (job_turns x) made walked.pieces t.entries) (sym started.configuration)

@@ -19,11 +19,13 @@ use Rattle.nvm_flash.specs.fls_model.Told.{Told, ToldBytes, Change, IfBothTold, 
 use Rattle.nvm_flash.specs.fls_devices.Cutter.{cutting, told_cutting}
 use Rattle.nvm_flash.specs.fee_image.Laws.{SoundImagesCompute}
 use Rattle.nvm_flash.specs.promise_device.Making.{Making, banks_of}
-use Rattle.nvm_flash.specs.promise_device.Bridge.{Bridges}
+use Rattle.nvm_flash.specs.promise_device.Reading.{Reading}
+use Rattle.nvm_flash.specs.promise_device.Bridge.{Bridges, reading_of}
 use Rattle.nvm_flash.specs.promise_device.FlashRun.{HasFailed}
 use Rattle.nvm_flash.specs.promise_device.Image.{attached}
-use Rattle.nvm_flash.specs.fee_told.Device.{Device, told_of, is_told_sound, tells, slots_told}
-use Rattle.nvm_flash.specs.fee_told.Clock.{clock_of, off_in_of}
+use Rattle.nvm_flash.specs.fls_told.Device.{is_told_sound}
+use Rattle.nvm_flash.specs.fls_told.Clock.{off_in_of}
+use Rattle.nvm_flash.specs.fee_told.Device.{Device, flash_device, told_of, clock_of, tells, slots_told}
 use Rattle.nvm_flash.specs.fee_core.Tells.{told_clock}
 use Rattle.nvm_flash.specs.fee_laws.Made.{IsMadeOf, part_at}
 use Rattle.nvm_flash.specs.ram_blocks.declared.plain_block.PlainBlock.{PlainBlock}
@@ -51,6 +53,7 @@ use Rattle.nvm_flash.proofs.JobTurns.{job_turns_are_figures}
 use Rattle.nvm_flash.proofs.ram_blocks.FreshCopies.{none_refused}
 use Rattle.nvm_flash.proofs.nvm_device_laws.DownCalls.{over_with}
 use Rattle.nvm_flash.proofs.promise_device.FlashRun.{seen_more}
+use Rattle.nvm_flash.proofs.promise_device.Readings.{worn_banks_compute}
 use Rattle.nvm_flash.specs.Made.{IsOrigin, IsMadeStack, AreOfFirst, ComesBack, IsBack}
 use Rattle.nvm_flash.specs.promise_device.Bridge.{IsWornOut}
 use Rattle.nvm_flash.specs.nvm_core.Paying.{counted_of, TriesSince}
@@ -99,7 +102,7 @@ fresh_down d c inner cuts making entry most begins order origin legal made parts
     (record { rules = legal; numbers = ap (λ m. m.numbers) (made.making ∙ origin.made_for); parts = λ x has. parts x.0.0 ∙ sym (parts ((instance_of x.0).block * 64)) })
     (record { ops = made.ops; on = λ k off. never k off.0 off.1; finds = λ held finds. order.now held finds }))
   where
-    never : (k : ℕ) → k < last_count → off_in_of d k → ⊥
+    never : (k : ℕ) → k < last_count → off_in_of (flash_device d) k → ⊥
     never k small (inl full) = absurd (omega (arith, small, full))
     never k small (inr (x, at, is)) = none_off k d.operations made.made.operations x at
 
@@ -134,8 +137,8 @@ pub tells_slots : SoundImagesCompute → (c : Configuration) (inner : Told) (cut
 tells_slots sounds c inner cuts making entry d origin made well =
     let bytes : bytes_now d.entry ≡ Some well.first = ap bytes_now (made.told_entry ∙ origin.over) ∙ now_told inner.bytes _ ∙ well.bytes in
     let made_for : d.making ≡ making_of c = made.making ∙ origin.made_for in
-    let sound : is_told_sound (making_of c) (Some well.first) ≡ true = (sounds (banks_of (making_of c)) (attached c.geometry well.first)).1 well.sound in
-    let told : tells d ≡ true = ap (λ o. is_told_sound d.making o) bytes ∙ ap (λ m. is_told_sound m (Some well.first)) made_for ∙ sound in
+    let sound : is_told_sound (reading_of (making_of c)) (Some well.first) ≡ true = (sounds (banks_of (making_of c)) (attached c.geometry well.first)).1 well.sound in
+    let told : tells d ≡ true = ap (λ o. is_told_sound (reading_of d.making) o) bytes ∙ ap (λ m. is_told_sound (reading_of m) (Some well.first)) made_for ∙ sound in
     let (last, out) = both_some d.entry.bytes d.flash.bytes _ well.first made.made.attaches.bytes bytes in
     some_slots d well.first last told out
 
@@ -208,9 +211,9 @@ over_of true before desk hand d keeps = keeps.keeps.over
 over_of false before desk hand d keeps = over_with (told_of d).started desk.config desk.cap desk.entries before (down (told_of d)) (told_clock d) keeps.keeps.over
 
 -- what the device told of its operations, by the clock that it tells
-told_bridge : (m : Making) (inner exit : Told) (operations : List Change) (before : PartTold) (d : Device) → Bridges m true (record { entry = inner; exit = exit; operations = operations }) before (told_of d) (clock_of d)
-    → Bridges m true (record { entry = inner; exit = exit; operations = operations }) before (told_of d) (beyond_end (told_clock d))
-told_bridge m inner exit operations before d b = record {
+told_bridge : (r : Reading) (inner exit : Told) (operations : List Change) (before : PartTold) (d : Device) → Bridges r true (record { entry = inner; exit = exit; operations = operations }) before (told_of d) (clock_of d)
+    → Bridges r true (record { entry = inner; exit = exit; operations = operations }) before (told_of d) (beyond_end (told_clock d))
+told_bridge r inner exit operations before d b = record {
   after = b.after;
   cut = b.cut;
   sound = b.sound;
@@ -218,7 +221,7 @@ told_bridge m inner exit operations before d b = record {
   operations = record {
     told_alike = b.operations.told_alike;
     chain = b.operations.chain;
-    seen = λ t. seen_more (λ k. IsTrue true × off_in_of d k) (λ k. IsTrue true × ((last_count ≤ k) ⊎ ((k < last_count) × off_in_of d k))) 0 t.bytes.last operations t.changes (λ k is. (is.0, later k is.1)) (b.operations.seen t);
+    seen = λ t. seen_more (λ k. IsTrue true × off_in_of (flash_device d) k) (λ k. IsTrue true × ((last_count ≤ k) ⊎ ((k < last_count) × off_in_of (flash_device d) k))) 0 t.bytes.last operations t.changes (λ k is. (is.0, later k is.1)) (b.operations.seen t);
   };
   ops = b.ops;
   faults = b.faults;
@@ -227,7 +230,7 @@ told_bridge m inner exit operations before d b = record {
   worn = b.worn;
 }
   where
-    later : (k : ℕ) → off_in_of d k → (last_count ≤ k) ⊎ ((k < last_count) × off_in_of d k)
+    later : (k : ℕ) → off_in_of (flash_device d) k → (last_count ≤ k) ⊎ ((k < last_count) × off_in_of (flash_device d) k)
     later k off = elim (leb_tells last_count k) [ inl past_end ↦ inl past_end.1 | inr before_end ↦ inr (before_end.1, off) ]
 
 counted_rose : (a b : ℕ) → WereCounted 1 a b → a ≤ b → Rose a b
@@ -256,21 +259,22 @@ vouched c inner cuts making entry exit s e same halves origin config most back =
   counted = λ n counted. own.faults n (in_first (part_at entry).faults (told_of s.device).first.faults (told_by told_of s).faults n refl counted);
   cuts = λ n counted. own.cuts n (subst (λ (k : ℕ). WereCounted n (part_at entry).planning.unplanned k) one_part_cuts counted);
   worn = λ k n (few, is).
-      subst (λ (x : Configuration). IsWornOut (making_of x) (record { entry = inner; exit = exit; operations = back.operations }) k n) (sym config) (own.worn k n is);
+      subst (λ (x : Configuration). IsWornOut (making_of x) (record { entry = inner; exit = exit; operations = back.operations }) k n) (sym config) (worn_banks_compute (making_of c) (record { entry = inner; exit = exit; operations = back.operations }) k n (own.worn k n is));
   promise = λ kept made left pieces end order refusals off.
       its (run_of s.desk.config s.desk.entries inner exit back.operations (Played made pieces left) end) (one_part (part_at entry)) (told_of s.device)
       (record {
+        alone = refl;
         order = order;
         over = subst (λ (n : ℕ). KeepsOver s.desk.config n s.desk.entries (one_part (part_at entry)) (told_of s.device) (told_clock s.device)) most (over_of s.ready (one_part (part_at entry)) s.desk s.hand s.device kept);
         refusals = refusals;
         off = subst (λ (k : ℕ). WereCounted (offs_of_flash (Played made pieces left) s.desk.entries) (part_at entry).planning.unplanned k) one_part_cuts off;
         one = λ block. rw (parts (block * 64)) refl;
       })
-      (told_bridge (making_of s.desk.config) inner exit back.operations (part_at entry) s.device (subst (λ (x : Configuration). Bridges (making_of x) true (record { entry = inner; exit = exit; operations = back.operations }) (part_at entry) (told_of s.device) (clock_of s.device)) (sym config) own));
+      (told_bridge (reading_of (making_of s.desk.config)) inner exit back.operations (part_at entry) s.device (subst (λ (x : Configuration). Bridges (reading_of (making_of x)) true (record { entry = inner; exit = exit; operations = back.operations }) (part_at entry) (told_of s.device) (clock_of s.device)) (sym config) own));
 }
   where
-    own : Bridges (making_of c) true (record { entry = inner; exit = exit; operations = back.operations }) (part_at entry) (told_of s.device) (clock_of s.device)
-    own = subst (λ (d : Device). Bridges (making_of c) true (record { entry = inner; exit = exit; operations = back.operations }) (part_at entry) (told_of d) (clock_of d)) same back.bridges
+    own : Bridges (reading_of (making_of c)) true (record { entry = inner; exit = exit; operations = back.operations }) (part_at entry) (told_of s.device) (clock_of s.device)
+    own = subst (λ (d : Device). Bridges (reading_of (making_of c)) true (record { entry = inner; exit = exit; operations = back.operations }) (part_at entry) (told_of d) (clock_of d)) same back.bridges
 
     its : HalvesMakeIt (told_clock s.device)
     its = subst (λ (d : Device). HalvesMakeIt (told_clock d)) same halves

@@ -18,7 +18,8 @@ use Rattle.nvm_flash.specs.block_machine.Words.{Entry, Found}
 use Rattle.nvm_flash.specs.block_machine.State.{State, Job}
 use Rattle.nvm_flash.specs.block_machine.Steps.{after}
 use Rattle.nvm_flash.specs.block_machine.Prices.{prices_in_refusals}
-use Rattle.nvm_flash.specs.promise_run.Run.{Run, Course, Played, End, Whole, cap, HasOrder, LeavesFor, EndsAtStart, HasNoRoom, RefusalsExplain, refusals_of, unpaid_offs}
+use Rattle.nvm_flash.specs.promise_run.Beside.{Beside}
+use Rattle.nvm_flash.specs.promise_run.Run.{Run, Course, Played, End, Whole, cap, FaultWasCounted, HasOrder, LeavesFor, EndsAtStart, HasNoRoom, RefusalsExplain, refusals_of, unpaid_offs}
 use Rattle.nvm_flash.specs.promise_run.Run.{FlashFault, HistoryFull, LeavesAlone, Memory}
 use Rattle.nvm_flash.specs.promise_run.Promise.{Promise, making_of}
 use Rattle.nvm_flash.specs.promise_run.Call.{Ends, last_line, IsCourseOf, IsInputOf}
@@ -111,6 +112,7 @@ early_has c steps Tells entry exit stop end stops ends tells = record {
   course = refl;
   at_entry = refl;
   at_exit = refl;
+  beside = refl;
   ends = tells;
   keeps =
       let promise = early_promise c steps entry exit stop end stops ends in
@@ -228,10 +230,15 @@ no_room c s (kind.Ask r) is = is
 no_room c s kind.Restart is = is
 no_room c s _ is = absurd is
 
+-- a fault of the first flash is one of a flash
+counted_first : (f : FlashRun) (b : Option Beside) → Rose f.entry.faults f.exit.faults → FaultWasCounted f b
+counted_first f None rose = rose
+counted_first f (Some b) rose = inl rose
+
 -- why the steps behind are left
 left_for : (why : StepFault) (left : List Step) (r : Run) (before : PartTold) (last : Moment) (old t : StackTold) → old.configuration ≡ r.configuration → old.cap ≡ cap → t.entries ≡ r.history → before.faults ≤ last.faults
     → (Rose before.faults t.faults → Rose r.flash.entry.faults r.flash.exit.faults) → WereLeft why left last old t → LeavesFor r (after r.configuration r.history) (ends.end_of why) left
-left_for fault.Flash (x ∷ xs) r before last old t same most entries less faults is = (is.0, faults (Rose-after before.faults last.faults t.faults less is.1))
+left_for fault.Flash (x ∷ xs) r before last old t same most entries less faults is = (is.0, counted_first r.flash r.beside (faults (Rose-after before.faults last.faults t.faults less is.1)))
 left_for fault.HistoryFull (x ∷ xs) r before last old t same most entries less faults is =
     no_room r.configuration (after r.configuration r.history) x.kind
     (subst (λ (h : List Entry). steps.HasNoRoom r.configuration cap (after r.configuration h) x.kind) entries
@@ -281,6 +288,7 @@ has_run Kept p q c cuts all made left end before old t entry exit Tells started 
   course = parts;
   at_entry = refl;
   at_exit = refl;
+  beside = refl;
   ends = tells;
   keeps = record {
     order = order;
@@ -454,7 +462,7 @@ input_of (Some bytes) c steps r same course has = record {
 has_promise : (left : Option (List ℕ)) (x : Status) (c : Configuration) (steps : List Step) (entry exit : Told) (w w' : Option (List ℕ)) → IfSome left (λ bytes. HasPlayable bytes c steps)
     → HasRun c steps (λ r. Ends (played_call left x entry exit w w') r r.end) entry exit → HasPromise (played_call left x entry exit w w')
 has_promise left x c steps entry exit w w' has run =
-    (run.run, record { input = input_of left c steps run.run run.configuration run.course has; entry = run.at_entry; exit = run.at_exit; ends = run.ends }, run.keeps)
+    (run.run, record { input = input_of left c steps run.run run.configuration run.course has; entry = run.at_entry; exit = run.at_exit; beside = run.beside; ends = run.ends }, run.keeps)
 
 -- a run's promise is the call's
 pub call_keeps : (need : ℕ) (left : Option (List ℕ)) (x : Status) (c : Configuration) (steps : List Step) (entry exit : Told) (w w' : Option (List ℕ)) → IfSome left (λ bytes. HasPlayable bytes c steps) → IsStepsEnd need entry exit x

@@ -1,5 +1,5 @@
 -- The promise of a whole run, as a command keeps it.
-use Rattle.std.specs.Prelude.{◌≡◌, ◌⊎◌, ◌++◌, ℕ, List, [], Option, IfSome}
+use Rattle.std.specs.Prelude.{◌≡◌, ◌⊎◌, ◌++◌, ℕ, List, [], Option, None, IfSome}
 use Rattle.std.specs.Io.KnownBytes.{Appends}
 use Rattle.nv_streams.specs.Sink.{AppendsPrefix}
 use Rattle.nvm_flash.specs.block_config.Config.{Configuration}
@@ -62,13 +62,14 @@ KeepsPromise x call = LeavesAlone call.entry call.exit
 
 -- FROM THE ATTACH ON
 
--- a run of these steps from the attach of the flash on, which ends as a command tells it
+-- a run of these steps over one flash, from its attach on, which ends as a command tells it
 pub record HasRun (c : Configuration) (steps : List Step) (Tells : Run → Type 0) (entry exit : Told) : Type 0 where
   pub run : Run
   pub configuration : run.configuration ≡ c
   pub course : IsCourseOf mode.Play steps run.course
   pub at_entry : run.flash.entry ≡ entry
   pub at_exit : run.flash.exit ≡ exit
+  pub beside : run.beside ≡ None
   pub ends : Tells run
   pub keeps : KeepsRun run
 

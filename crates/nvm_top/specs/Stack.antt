@@ -1,5 +1,5 @@
 -- The stack that a command runs over a flash.
-use Rattle.std.specs.Prelude.{◌≡◌, ◌<◌, ◌≤◌, ℕ, List, [], length, min, Some}
+use Rattle.std.specs.Prelude.{◌≡◌, ◌<◌, ◌≤◌, ℕ, List, [], length, min, Some, None}
 use Rattle.nvm_flash.specs.nv_base.Count.{last_count, Rose, WereCounted}
 use Rattle.nvm_flash.specs.nv_base.Geometry.{size_of}
 use Rattle.nvm_flash.specs.block_config.Config.{Configuration}
@@ -23,10 +23,10 @@ use Rattle.nvm_top.specs.declared.stop.Stop.TheVariants as stop
 use Rattle.nvm_top.specs.Play.{IsAttachStop, IsStepsEnd}
 use Rattle.nvm_top.specs.Stop.{status_of}
 
--- a run that followed this course and came to this end
+-- a run over one flash that followed this course and came to this end
 abbrev pub run_of : Configuration → List Entry → Told → Told → List Change → Course → End → Run
 run_of c h entry exit operations course end =
-    record { configuration = c; course = course; end = end; history = h; flash = record { entry = entry; exit = exit; operations = operations } }
+    record { configuration = c; course = course; end = end; history = h; flash = record { entry = entry; exit = exit; operations = operations }; beside = None }
 
 -- a device of one part
 abbrev pub one_part : PartTold → Part → PartTold

@@ -11,7 +11,7 @@ use crate::Status;
 use crate::stop::Stop;
 use nv_streams::{Sink, SinkAnswer};
 use nvm_flash::nv_base::History;
-use nvm_script::{end_text, entry_text, line_length};
+use nvm_script::{end_text, entry_text_in, line_length};
 use std::alloc::{AllocError, Global};
 
 /// Why the output wasn't written: a counted fault, or want of memory.
@@ -74,7 +74,7 @@ pub fn put_lines<K: Sink>(output: &mut K, text: &[u8]) -> Result<(), OutputFault
     Ok(())
 }
 
-/// Writes the entries of a history, one line each.
+/// Writes the entries of a history, one line each, all in the memory of the longest.
 pub fn write_history<K: Sink>(
     alloc: Global,
     history: &History,
@@ -85,10 +85,11 @@ pub fn write_history<K: Sink>(
     ensures failed { IfErr result (λ fault. fault ≡ OutputFault.Failed → Rose (K.faults output.old) (K.faults output.new)) }
     ensures part { IfErr result (λ fault. BreaksOff fault history.now.entries (K.written output.old) (K.written output.new)) }
 {
+    let mut line = Vec::new(alloc);
     for i in 0..history.len() {
         if let Some(entry) = history.entry(i) {
-            let text = entry_text(alloc, entry)?;
-            let Ok(()) = put_line(output, text.as_slice()) else {
+            line = entry_text_in(line, entry)?;
+            let Ok(()) = put_line(output, line.as_slice()) else {
                 return Err(OutputFault::Failed);
             };
         }

@@ -1,1 +1,2 @@
 pub mod FlashRun
+pub mod Readings

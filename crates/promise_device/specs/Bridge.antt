@@ -9,9 +9,11 @@ use Rattle.fls_model.specs.Op.{Op, Program, Erase}
 use Rattle.fls_model.specs.declared.flash.FlashAnswer.{FlashAnswer}
 use Rattle.fls_model.specs.declared.flash.FlashAnswer.TheVariants.{Failed}
 use Rattle.fls_model.specs.Told.{Change, bytes_now}
-use Rattle.promise_device.specs.Making.{Making}
-use Rattle.promise_device.specs.Image.{IsSoundFlash, held_in, IsOfLastGeneration, HasNoRoomFor}
-use Rattle.promise_device.specs.FlashRun.{FlashRun, TellsBytes, TellsOperations, StartsSound, IsCutImage, HasFailed, bytes_after, AreOperations}
+use Rattle.fee_image.specs.Sound.{is_sound_image}
+use Rattle.promise_device.specs.Making.{Making, banks_of}
+use Rattle.promise_device.specs.Image.{attached, held_in, IsOfLastGeneration, is_of_last_generation, HasNoRoomFor, has_no_room_for}
+use Rattle.promise_device.specs.FlashRun.{FlashRun, TellsBytes, TellsOperations, IsCutImage, HasFailed, bytes_after, AreOperations}
+use Rattle.promise_device.specs.Reading.{Reading, BeginsSound}
 
 abbrev pub is_program : Op → Bool
 is_program (Program address page) = true
@@ -38,20 +40,27 @@ pub record IsWornOut (m : Making) (f : FlashRun) (k n : ℕ) : Type 0 where
   pub full : TellsBytes f → k < last_count → IfSome (bytes_after f k) (HasNoRoomFor (wanted_pages m n) m)
       ⊎ (Rose f.entry.faults f.exit.faults × IsTrue (has_failed (take k f.operations)))
 
+-- The same of any device over a flash, by its reading.
+pub record IsWornBy (r : Reading) (f : FlashRun) (k n : ℕ) : Type 0 where
+  pub last : IfSome (bytes_now f.exit) (λ image. IsTrue (r.is_last n image))
+  pub follow : k < last_count → IsTrue (list_all (λ x. r.may_follow n x.op) (drop k f.operations))
+  pub full : TellsBytes f → k < last_count → IfSome (bytes_after f k) (λ image. IsTrue (r.is_full n image))
+      ⊎ (Rose f.entry.faults f.exit.faults × IsTrue (has_failed (take k f.operations)))
+
 -- What a device over a flash tells is so: its part before the first start-up, it and its clock now. A `cutter` between
 -- them keeps an operation from the flash where the power goes off in it.
-pub record Bridges (m : Making) (cutter : Bool) (f : FlashRun) (before : PartTold) (now : DeviceTold) (clock : Clock) : Type 0 where
+pub record Bridges (r : Reading) (cutter : Bool) (f : FlashRun) (before : PartTold) (now : DeviceTold) (clock : Clock) : Type 0 where
   -- its maps are those of the images: of the bytes once k operations were made, and of each that a cut may leave
-  pub after : TellsBytes f → StartsSound m f → (k : ℕ) → k ≤ length f.operations → k < last_count
-      → IfSome (bytes_after f k) (λ image. clock.may_find (After k) (held_in m image))
-  pub cut : TellsOperations f → StartsSound m f → (k : ℕ) (image : List ℕ) → k < last_count → IsCutImage f k image
-      → clock.may_find (CutIn k) (held_in m image)
+  pub after : TellsBytes f → BeginsSound r f → (k : ℕ) → k ≤ length f.operations → k < last_count
+      → IfSome (bytes_after f k) (λ image. clock.may_find (After k) (r.held image))
+  pub cut : TellsOperations f → BeginsSound r f → (k : ℕ) (image : List ℕ) → k < last_count → IsCutImage f k image
+      → clock.may_find (CutIn k) (r.held image)
   -- a sound image stays sound
-  pub sound : TellsBytes f → StartsSound m f → IfSome (bytes_now f.exit) (IsSoundFlash m)
-  pub sound_cut : TellsOperations f → StartsSound m f → (k : ℕ) (image : List ℕ) → k < last_count → IsCutImage f k image
-      → IsSoundFlash m image
+  pub sound : TellsBytes f → BeginsSound r f → IfSome (bytes_now f.exit) (λ image. IsTrue (r.is_sound image))
+  pub sound_cut : TellsOperations f → BeginsSound r f → (k : ℕ) (image : List ℕ) → k < last_count → IsCutImage f k image
+      → IsTrue (r.is_sound image)
   -- its operations are the run's
-  pub operations : AreOperations m.geometry f (λ k. IsTrue cutter × clock.off_in k)
+  pub operations : AreOperations r.geometry f (λ k. IsTrue cutter × clock.off_in k)
   pub ops : now.ops ≡ min (length f.operations) last_count
   -- what it counted the flash counted too
   pub faults : (n : ℕ) → WereCounted n before.faults now.first.faults → WereCounted n f.entry.faults f.exit.faults
@@ -59,4 +68,16 @@ pub record Bridges (m : Making) (cutter : Bool) (f : FlashRun) (before : PartTol
   pub failed : (k : ℕ) → k < last_count → HasFailed f k → clock.failed k
   pub cuts : (n : ℕ) → WereCounted n before.planning.unplanned now.first.planning.unplanned → WereCounted n f.entry.cuts f.exit.cuts
   -- and where it says that it is worn out, the flash is
-  pub worn : (k n : ℕ) → clock.worn k n → IsWornOut m f k n
+  pub worn : (k n : ℕ) → clock.worn k n → IsWornBy r f k n
+
+-- A DEVICE OVER BANKS
+-- the reading of one: the sound images, the last generation and a bank without room are those of `Image`, computed
+abbrev pub reading_of : Making → Reading
+reading_of m = record {
+  geometry = m.geometry;
+  held = held_in m;
+  is_sound = λ image. is_sound_image (banks_of m) (attached m.geometry image);
+  is_last = λ n image. is_of_last_generation m image;
+  is_full = λ n image. has_no_room_for (wanted_pages m n) m image;
+  may_follow = λ n op. is_program op;
+}

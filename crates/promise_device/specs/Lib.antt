@@ -1,5 +1,7 @@
 pub mod Making
 pub mod Image
 pub mod FlashRun
+pub mod Reading
 pub mod Bridge
+pub mod Laws
 pub mod Cases

@@ -1,8 +1,8 @@
 //! The device's half of the promise of a run: what ties the words of a memory device to the bytes of its flash, which
 //! images its maps of found marks stand for, whose operations and faults it counts, and when it is worn out.
 //!
-//! It has definitions with their cases, and no machinery: `Bridges` is that half. It names no block, and that a device
-//! over a flash keeps it is left to that device's crate.
+//! It has definitions with their cases, and no machinery: `Bridges` is that half, said of what any device makes of its
+//! flash's bytes, `Reading`. It names no block, and that a device over a flash keeps it is left to that device's crate.
 #![tactic(auto)]
 
 mod cases;

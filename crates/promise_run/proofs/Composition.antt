@@ -13,11 +13,13 @@ use Rattle.block_machine.specs.Steps.{step}
 use Rattle.promise_blocks.specs.Payment.{Worn, ArePaid, IsPaid, price_for, every_block}
 use Rattle.promise_blocks.specs.OverDevice.{HasStarted, HasOffAt, is_of}
 use Rattle.promise_device.specs.Image.{held_in, IsSoundFlash}
+use Rattle.promise_device.specs.Reading.{BeginsSound}
 use Rattle.promise_device.specs.FlashRun.{TellsBytes, StartsSound, IsCutImage, bytes_after}
-use Rattle.promise_device.specs.Bridge.{IsWornOut}
+use Rattle.promise_device.specs.Bridge.{IsWornOut, reading_of}
 use Rattle.promise_device.proofs.FlashRun.{seen_more}
-use Rattle.promise_run.specs.Run.{Run, cap, has_cutter}
-use Rattle.promise_run.specs.Promise.{CutsCount, Keeps, StartUpsFind, making_of}
+use Rattle.promise_device.proofs.Readings.{sound_flashes_compute, sound_starts_compute, worn_banks_compute}
+use Rattle.promise_run.specs.Run.{Run, alone, cap, has_cutter}
+use Rattle.promise_run.specs.Promise.{CutsCount, Keeps, Promise, StartUpsFind, making_of}
 use Rattle.promise_run.proofs.Founds.{last_soon}
 use Rattle.promise_run.proofs.Paid.{excused_too}
 use Rattle.promise_run.specs.Halves.{BlockHalf, DeviceHalf, HalvesMakeIt, beyond_end}
@@ -69,17 +71,17 @@ both_told (Some image) P Q R more p q = more image p q
 both_told None P Q R more p q = tt
 
 -- THE MARKS
-lists : (r : Run) (before : Part → PartTold) (now : DeviceTold) (clock : Clock) → BlockHalf r before now clock → DeviceHalf r (before First) now (beyond_end clock)
-    → TellsBytes r.flash → StartsSound (making_of r.configuration) r.flash → StartUpsFind r
+lists : (r : Run) (before : Part → PartTold) (now : DeviceTold) (clock : Clock) → BlockHalf (alone r) before now clock → DeviceHalf r (before First) now (beyond_end clock)
+    → TellsBytes r.flash → StartsSound (making_of r.configuration) r.flash → StartUpsFind (alone r)
 lists r before now clock block device tells sound marks ops has small =
     let c = r.configuration in
     let least : min (length r.flash.operations) last_count ≤ length r.flash.operations = omega arith in
     let within : ops ≤ length r.flash.operations = omega (arith, block.over.counted (Found marks ops) ops has refl, device.ops) in
     if_told (bytes_after r.flash ops) (λ image. clock.may_find (After ops) (held_in (making_of c) image)) _
     (λ image finds. block.over.found marks ops (held_in (making_of c) image) has small finds)
-    (device.after tells sound ops within small)
+    (device.after tells (sound_starts_compute (making_of c) r.flash sound) ops within small)
 
-exits : (r : Run) (before : Part → PartTold) (now : DeviceTold) (clock : Clock) → BlockHalf r before now clock → DeviceHalf r (before First) now (beyond_end clock)
+exits : (r : Run) (before : Part → PartTold) (now : DeviceTold) (clock : Clock) → BlockHalf (alone r) before now clock → DeviceHalf r (before First) now (beyond_end clock)
     → TellsBytes r.flash → StartsSound (making_of r.configuration) r.flash → HasStarted r.history → length r.flash.operations < last_count → IfSome (bytes_now r.flash.exit) (Keeps r.configuration r.history)
 exits r before now clock block device tells sound started small =
     let c = r.configuration in
@@ -87,19 +89,20 @@ exits r before now clock block device tells sound started small =
     let all : now.ops ≡ n = omega (arith, device.ops) in
     let told : bytes_after r.flash n ≡ bytes_now r.flash.exit = ap (λ (o : Option Change). option_map_or (λ x. Some x.before) o (bytes_now r.flash.exit)) (past r.flash.operations) in
     let finds : IfSome (bytes_now r.flash.exit) (λ image. clock.may_find (After n) (held_in (making_of c) image)) =
-    subst (λ (b : Option (List ℕ)). IfSome b (λ image. clock.may_find (After n) (held_in (making_of c) image))) told (device.after tells sound n (omega arith) small) in
+    subst (λ (b : Option (List ℕ)). IfSome b (λ image. clock.may_find (After n) (held_in (making_of c) image))) told (device.after tells (sound_starts_compute (making_of c) r.flash sound) n (omega arith) small) in
     both_told (bytes_now r.flash.exit) (λ image. clock.may_find (After n) (held_in (making_of c) image)) (IsSoundFlash (making_of c)) (Keeps c r.history)
     (λ image is whole. record {
       marks = block.over.at_end (held_in (making_of c) image) started (omega (arith, device.ops)) (subst (λ (k : ℕ). clock.may_find (After k) (held_in (making_of c) image)) (sym all) is);
       sound = whole;
     })
-    finds (device.sound tells sound)
+    finds (if_told (bytes_now r.flash.exit) (λ image. IsTrue ((reading_of (making_of c)).is_sound image)) (IsSoundFlash (making_of c)) (λ image is. (sound_flashes_compute (making_of c) image).0 is)
+    (device.sound tells (sound_starts_compute (making_of c) r.flash sound)))
 
 -- THE COUNTS
-cuts_count : (r : Run) (before : Part → PartTold) (now : DeviceTold) (clock : Clock) → BlockHalf r before now clock → DeviceHalf r (before First) now (beyond_end clock)
+cuts_count : (r : Run) (before : Part → PartTold) (now : DeviceTold) (clock : Clock) → BlockHalf (alone r) before now clock → DeviceHalf r (before First) now (beyond_end clock)
     → TellsBytes r.flash → StartsSound (making_of r.configuration) r.flash
     → ((k : ℕ) (image : List ℕ) → k < last_count → IsCutImage r.flash k image → clock.may_find (CutIn k) (held_in (making_of r.configuration) image))
-    → CutsCount r
+    → CutsCount (alone r)
 cuts_count r before now clock block device tells sound cuts k ops image small cut last =
     let c = r.configuration in
     let within : k < length r.flash.operations = one_of k r.flash.operations cut.0 cut.1 in
@@ -107,23 +110,24 @@ cuts_count r before now clock block device tells sound cuts k ops image small cu
     if_told (bytes_after r.flash ops) (λ first. clock.may_find (After ops) (held_in (making_of c) first)) _
     (λ first finds. block.over.counts k ops (held_in (making_of c) first) (held_in (making_of c) image) small
     (was_asked (length r.flash.operations) now.ops k small within device.ops) (cuts k image small cut) last finds)
-    (device.after tells sound ops (omega (arith, soon, within)) (omega (arith, soon, small)))
+    (device.after tells (sound_starts_compute (making_of c) r.flash sound) ops (omega (arith, soon, within)) (omega (arith, soon, small)))
 
-pub halves_make_the_promise : (clock : Clock) → HalvesMakeIt clock
-halves_make_the_promise clock r before now block device = record {
+-- over one flash
+of_one : (clock : Clock) (r : Run) (before : Part → PartTold) (now : DeviceTold) → BlockHalf (alone r) before now clock → DeviceHalf r (before First) now (beyond_end clock) → Promise (alone r)
+of_one clock r before now block device = record {
   order = block.order;
   power_cut = λ tells sound k image small cut. record {
     marks = block.over.cut k (held_in (making_of r.configuration) image) small
         (was_asked (length r.flash.operations) now.ops k small (one_of k r.flash.operations cut.0 cut.1) device.ops)
-        (device.cut tells sound k image small cut);
-    sound = device.sound_cut tells sound k image small cut;
+        (device.cut tells (begins sound) k image small cut);
+    sound = (sound_flashes_compute (making_of r.configuration) image).0 (device.sound_cut tells (begins sound) k image small cut);
   };
   counts = λ tells sound. cuts_count r before now clock block device tells.bytes sound
-      (λ k image small cut. device.cut tells sound k image small cut);
+      (λ k image small cut. device.cut tells (begins sound) k image small cut);
   found = lists r before now clock block device;
   at_exit = exits r before now clock block device;
   block_machine = block.over.legal;
-  faults = pays (is_of First now.fixed) block.one r.configuration clock.worn (IsWornOut (making_of r.configuration) r.flash) (before First).faults now.first.faults r.flash.entry.faults r.flash.exit.faults r.history device.worn device.faults (block.over.paid First);
+  faults = pays (is_of First now.fixed) block.one r.configuration clock.worn (IsWornOut (making_of r.configuration) r.flash) (before First).faults now.first.faults r.flash.entry.faults r.flash.exit.faults r.history (λ k n worn. worn_banks_compute (making_of r.configuration) r.flash k n (device.worn k n worn)) device.faults (block.over.paid First);
   refusals = block.refusals;
   off = device.cuts _ block.off;
   operations = λ started. record {
@@ -135,6 +139,16 @@ halves_make_the_promise clock r before now block device = record {
   counted = λ e ops has is. omega (arith, block.over.counted e ops has is, device.ops);
 }
   where
+    begins : StartsSound (making_of r.configuration) r.flash → BeginsSound (reading_of (making_of r.configuration)) r.flash
+    begins sound = sound_starts_compute (making_of r.configuration) r.flash sound
+
     told : (k : ℕ) → (last_count ≤ k) ⊎ clock.off_in k → (last_count ≤ k) ⊎ HasOffAt r.history (next_count k)
     told k (inl past_end) = inl past_end
     told k (inr off) = inr (block.over.off k off)
+
+pub halves_make_the_promise : (clock : Clock) → HalvesMakeIt clock
+halves_make_the_promise clock r before now block device =
+    subst Promise (sym same) (of_one clock r before now (subst (λ (x : Run). BlockHalf x before now clock) same block) device)
+  where
+    same : r ≡ alone r
+    same = λ i. record r { beside = block.alone i }

@@ -75,7 +75,7 @@ each P a b c x (suc (suc (suc k)), few, is) = absurd (omega (arith, few))
 abbrev pub Stands : List Entry → DeviceNumber × ℕ → Type 0
 Stands h x = MayStandIn (instance_at (after small h) (instance_of x.0)) Erased
 
-keeps_erased : (h : List Entry) (found : ℕ → Mark) → ((n : ℕ) → found n ≡ Erased) → ((x : DeviceNumber × ℕ) → Contains (lengths_of small) x → Stands h x)
+pub keeps_erased : (h : List Entry) (found : ℕ → Mark) → ((n : ℕ) → found n ≡ Erased) → ((x : DeviceNumber × ℕ) → Contains (lengths_of small) x → Stands h x)
     → ((i : Instance) → IsAccepted small h i Erased) → ((i : Instance) → IsNotOlder small h i Erased) → KeepsMarks small h found
 keeps_erased h found erased stands accepted newest = record {
   stands = λ x has. subst (λ (m : Mark). MayStandIn (instance_at (after small h) (instance_of x.0)) m) (sym (erased x.0.0)) (stands x has);
@@ -93,7 +93,7 @@ Finds image n = held_as (banks_of (making_of small)) (attached small.geometry im
 blank_holds : BlankHasErased → (n : ℕ) → Finds blank n ≡ never_written
 blank_holds erased n = all_erased (banks_of (making_of small)) blank n (length_of (lengths_of small) n) (erased (banks_of (making_of small)) 320 n)
 
-blank_found : BlankHasErased → (n : ℕ) → found_by small blank n ≡ Erased
+pub blank_found : BlankHasErased → (n : ℕ) → found_by small blank n ≡ Erased
 blank_found erased n = ap (λ (h : Held). h.mark) (blank_holds erased n)
 
 -- A TORN ERASE OF A BLANK FLASH

@@ -7,6 +7,7 @@ mod WrongOrders
 mod WrongMarks
 mod WrongCauses
 mod KeptRuns
+mod TwoFlashes
 mod LostWrite
 mod WrongCalls
 mod OneByOne

@@ -22,7 +22,7 @@ use Rattle.fee_image.specs.Sound.{IsSoundImage}
 use Rattle.promise_device.specs.Making.{banks_of}
 use Rattle.promise_device.specs.Image.{held_as, IsSoundFlash}
 use Rattle.promise_device.specs.FlashRun.{TellsBytes, StartsSound, bytes_after, IsChain}
-use Rattle.promise_run.specs.Run.{Run, HasOrder}
+use Rattle.promise_run.specs.Run.{Run, HasOrder, alone}
 use Rattle.promise_run.specs.Promise.{Promise, Keeps, found_by, making_of}
 use Rattle.promise_run.specs.Life.{Spell, IsSpell, LeavesImage, history_by, Holds, UnitsHoldMarks}
 
@@ -76,7 +76,7 @@ starts_with [] exit start last told chain = told ∙ ap (λ (bytes : List ℕ). 
 starts_with (x ∷ xs) exit start last told chain = ap (λ (bytes : List ℕ). Some bytes) chain.0
 
 -- it lists what was found in the first image
-lists_first : (r : Run) (t : TellsBytes r.flash) (marks : List (Instance × Mark)) (es : List Entry) → Promise r → StartsSound (making_of r.configuration) r.flash
+lists_first : (r : Run) (t : TellsBytes r.flash) (marks : List (Instance × Mark)) (es : List Entry) → Promise (alone r) → StartsSound (making_of r.configuration) r.flash
     → r.history ≡ Found marks 0 ∷ es → Lists r.configuration marks (found_by r.configuration t.first)
 lists_first r t marks es promise sound is x has =
     let c = r.configuration in
@@ -102,14 +102,14 @@ both_are g entry exit first image a b both =
     ]
 
 -- without a start-up no operation can be cut
-idle_spell : (r : Run) (cut : Option ℕ) (first image : List ℕ) → Promise r → bytes_now r.flash.entry ≡ Some first → LeavesImage r cut image
+idle_spell : (r : Run) (cut : Option ℕ) (first image : List ℕ) → Promise (alone r) → bytes_now r.flash.entry ≡ Some first → LeavesImage r cut image
     → IsSoundFlash (making_of r.configuration) first → r.history ≡ [] → Passes r.configuration first (history_by cut r.history) image
 idle_spell r None first image promise starts leaves sound empty =
-    let order : HasOrder r [] = subst (λ (h : List Entry). HasOrder r h) empty promise.order in
+    let order : HasOrder (alone r) [] = subst (λ (h : List Entry). HasOrder (alone r) h) empty promise.order in
     subst (λ (h : List Entry). Passes r.configuration first h image) (sym empty)
     (idles r.configuration first image sound (both_are r.configuration.geometry (bytes_now r.flash.entry) (bytes_now r.flash.exit) first image starts leaves.0 order.2.bytes))
 idle_spell r (Some k) first image promise starts leaves sound empty =
-    let order : HasOrder r [] = subst (λ (h : List Entry). HasOrder r h) empty promise.order in
+    let order : HasOrder (alone r) [] = subst (λ (h : List Entry). HasOrder (alone r) h) empty promise.order in
     let none : slice_get r.flash.operations k ≡ None = ap (λ (ops : List Change). slice_get ops k) order.2.none in
     absurd (cc (none, leaves.2.1))
 
@@ -120,7 +120,7 @@ begins_too k marks es = ap (λ (b : Bool). cond (b || list_any (is_driver_until 
 sound_start : (r : Run) (first : List ℕ) → bytes_now r.flash.entry ≡ Some first → IsSoundFlash (making_of r.configuration) first → StartsSound (making_of r.configuration) r.flash
 sound_start r first starts sound = subst (λ (bytes : Option (List ℕ)). IfSome bytes (IsSoundFlash (making_of r.configuration))) (sym starts) sound
 
-busy_spell : (r : Run) (cut : Option ℕ) (first image : List ℕ) (marks : List (Instance × Mark)) (es : List Entry) → Promise r → bytes_now r.flash.entry ≡ Some first → LeavesImage r cut image
+busy_spell : (r : Run) (cut : Option ℕ) (first image : List ℕ) (marks : List (Instance × Mark)) (es : List Entry) → Promise (alone r) → bytes_now r.flash.entry ≡ Some first → LeavesImage r cut image
     → IsSoundFlash (making_of r.configuration) first → r.history ≡ Found marks 0 ∷ es → Passes r.configuration first (history_by cut r.history) image
 busy_spell r None first image marks es promise starts leaves sound is =
     let t : TellsBytes r.flash = record { first = first; entry = starts; last = image; exit = leaves.0 } in
@@ -138,7 +138,7 @@ busy_spell r (Some k) first image marks es promise starts leaves sound is =
     subst (λ (h : List Entry). Passes r.configuration first h image) (sym same)
     (keeps_on r.configuration first image marks (up_to k es) (subst (λ (h : List Entry). Keeps r.configuration h image) same keeps) (lists_first r t marks es promise from is))
 
-passes_by : (r : Run) (cut : Option ℕ) (first image : List ℕ) → Promise r → bytes_now r.flash.entry ≡ Some first → LeavesImage r cut image
+passes_by : (r : Run) (cut : Option ℕ) (first image : List ℕ) → Promise (alone r) → bytes_now r.flash.entry ≡ Some first → LeavesImage r cut image
     → IsSoundFlash (making_of r.configuration) first → Passes r.configuration first (history_by cut r.history) image
 passes_by r cut first image promise starts leaves sound = elim (begins_with r.history promise.begins) [
   | inl empty ↦ idle_spell r cut first image promise starts leaves sound empty
@@ -147,7 +147,7 @@ passes_by r cut first image promise starts leaves sound = elim (begins_with r.hi
 
 passes : (c : Configuration) (first image : List ℕ) (x : Spell) → IsSpell c first x image → IsSoundFlash (making_of c) first → Passes c first (history_by x.cut x.run.history) image
 passes c first image x spell = subst (λ (d : Configuration). IsSoundFlash (making_of d) first → Passes d first (history_by x.cut x.run.history) image) spell.same_unit
-    (passes_by x.run x.cut first image spell.promise spell.starts spell.leaves)
+    (passes_by x.run x.cut first image (subst Promise (λ i. record x.run { beside = spell.alone i }) spell.promise) spell.starts spell.leaves)
 
 -- ONE AFTER ANOTHER
 both : (c : Configuration) (first image last : List ℕ) (x : Spell) (xs : List Spell) → Passes c first (history_by x.cut x.run.history) image → Holds c image xs last → Holds c first (x ∷ xs) last

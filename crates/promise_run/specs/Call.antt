@@ -1,5 +1,5 @@
 -- The call that a run belongs to.
-use Rattle.std.specs.Prelude.{◌≡◌, ◌⊎◌, ℕ, List, [], ◌++◌, length, codes, Option, IfSome, Ok}
+use Rattle.std.specs.Prelude.{◌≡◌, ◌⊎◌, ℕ, List, [], ◌++◌, length, codes, Option, None, IfSome, Ok}
 use Rattle.std.specs.Io.KnownBytes.{Appends}
 use Rattle.nv_streams.specs.Sink.{AppendsPrefix}
 use Rattle.block_machine.specs.block_config.Reading.{meaning_of}
@@ -63,9 +63,10 @@ Ends call r end =
     ((call.status ≡ status_of_end end) × Appends call.written call.written_after (text_of r))
     ⊎ ((call.status ≡ 6) × AppendsPrefix call.written call.written_after (text_of r))
 
--- the run is this call's: its configuration, its steps, its flash, its status and its output
+-- the run is this call's: its configuration, its steps, its one flash, its status and its output
 pub record IsRunOf (call : Call) (r : Run) : Type 0 where
   pub input : IfSome call.input (IsInputOf call.mode r)
   pub entry : r.flash.entry ≡ call.entry
   pub exit : r.flash.exit ≡ call.exit
+  pub beside : r.beside ≡ None
   pub ends : Ends call r r.end

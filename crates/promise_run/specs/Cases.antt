@@ -1,5 +1,7 @@
--- Runs on a small flash, of 10 pages a bank, that keep the promise and that break it, and a call of the demo.
-use Rattle.std.specs.Prelude.{ℕ, ◌+◌, ◌-◌, ◌*◌, true, false, List, [], ◌∷◌, ◌++◌, map, flat_map, take, drop, replicate, codes, Option, Some, None}
+-- Runs on a small flash, of 10 pages a bank, and one beside another flash, that keep the promise and that break it, and a call
+-- of the demo.
+use Rattle.std.specs.Prelude.{ℕ, ◌+◌, ◌-◌, ◌*◌, ◌==◌, true, false, List, [], ◌∷◌, ◌++◌, map, flat_map, take, drop, replicate, codes, Option, Some, None}
+use Rattle.block_machine.specs.nv_base.Held.{never_written}
 use Rattle.block_machine.specs.nv_base.Plan.{no_planning}
 use Rattle.block_machine.specs.block_config.DemoConfig.{demo_config}
 use Rattle.block_machine.specs.block_config.Block.{plain_block, manager_block}
@@ -16,6 +18,7 @@ use Rattle.script_walks.specs.Words.{StepKind, AskStep, Store, Turn, Drain, Rest
 use Rattle.block_machine.specs.Words.{Fine, NotOk, Content, Write, SetLock, Status, Accepted, StatusIs, WriteJob, TookContent, TookStale, Entry, Ask, Pick, Wrote, Post, Off, Found, BlockDesc, Dataset, Sync, Configuration}
 use Rattle.block_machine.specs.State.{State, Job}
 use Rattle.promise_device.specs.FlashRun.{FlashRun, HasFailed}
+use Rattle.promise_run.specs.Beside.{Beside}
 use Rattle.promise_run.specs.Call.{Call}
 use Rattle.promise_run.specs.Promise.{Promise}
 use Rattle.promise_run.specs.Turns.{Moment, Move, CountFailed, ArePaidSince}
@@ -39,7 +42,7 @@ image_of generation pages = bank_head_page 16 (record { format = 2; generation =
 
 -- the committed record of a content with this number
 abbrev pub record_of : ℕ → List ℕ → List ℕ
-record_of number content = rec_head_page 2 16 (record { number = number; kind = record_kind.Content; length = 4; count = 1 }) ++ gate_page 16 ++ content ++ replicate 12 255 ++ gate_page 16
+record_of number content = rec_head_page 2 16 (record { number = record { 0 = number }; kind = record_kind.Content; length = 4; count = 1 }) ++ gate_page 16 ++ content ++ replicate 12 255 ++ gate_page 16
 
 abbrev pub one : List ℕ
 one = 0x11 ∷ 0x22 ∷ 0x33 ∷ 0x44 ∷ []
@@ -69,11 +72,30 @@ plays steps flash = record {
   end = Whole;
   history = Found [] 0 ∷ flat_map (λ x. x.1) steps;
   flash = flash;
+  beside = None;
 }
 
 -- a start-up on a flash of no bytes, and no step
 abbrev pub quiet : Run
 quiet = plays [] (unchanged [] blank)
+
+-- OVER TWO FLASHES
+-- a second device, which holds block 2, and finds nothing in a flash that has this run
+abbrev pub holds_block_2 : FlashRun → Beside
+holds_block_2 flash = record {
+  flash = flash;
+  geometry = small.geometry;
+  blocks = λ block. block == 2;
+  held = λ image n. never_written;
+  is_sound = λ image. true;
+  is_full = λ n image. false;
+  is_last = λ n image. false;
+  may_follow = λ n op. false;
+}
+
+-- a start-up on both flashes, the second one with these bytes before and behind the run
+abbrev pub quiet_beside : List ℕ → List ℕ → Run
+quiet_beside before after = record quiet { beside = Some (holds_block_2 (unchanged before after)) }
 
 -- the image is wiped, and memory is wanting before a start-up
 abbrev pub wiped : Run

@@ -1,15 +1,16 @@
 -- The two halves of the promise: what is said over any device, and what ties the device to its flash.
-use Rattle.std.specs.Prelude.{◌≡◌, ◌⊎◌, ◌≤◌, ℕ, true}
+use Rattle.std.specs.Prelude.{◌≡◌, ◌⊎◌, ◌≤◌, ℕ, true, None}
 use Rattle.block_machine.specs.nv_base.Count.{last_count, WereCounted}
 use Rattle.memif.specs.Told.{Part, PartTold, DeviceTold, First}
 use Rattle.memif.specs.Clock.{Clock}
 use Rattle.promise_blocks.specs.OverDevice.{KeepsOver, is_of}
-use Rattle.promise_device.specs.Bridge.{Bridges}
+use Rattle.promise_device.specs.Bridge.{Bridges, reading_of}
 use Rattle.promise_run.specs.Run.{Run, cap, HasOrder, offs_of_flash, has_cutter, RefusalsExplain}
 use Rattle.promise_run.specs.Promise.{Promise, making_of}
 
 -- what the stack promises of a run over any device of one part, as it is told before the first start-up and at the end
 pub record BlockHalf (r : Run) (before : Part → PartTold) (now : DeviceTold) (clock : Clock) : Type 0 where
+  pub alone : r.beside ≡ None
   pub order : HasOrder r r.history
   pub over : KeepsOver r.configuration cap r.history before now clock
   pub refusals : (id : ℕ) → RefusalsExplain r.configuration r.course r.history id
@@ -19,7 +20,7 @@ pub record BlockHalf (r : Run) (before : Part → PartTold) (now : DeviceTold) (
 
 -- what its device over the run's flash promises
 abbrev pub DeviceHalf : Run → PartTold → DeviceTold → Clock → Type 0
-DeviceHalf r before now clock = Bridges (making_of r.configuration) (has_cutter r.course) r.flash before now clock
+DeviceHalf r before now clock = Bridges (reading_of (making_of r.configuration)) (has_cutter r.course) r.flash before now clock
 
 -- what is told of where the power went off; past the end of the count it may have gone off in any operation
 abbrev pub beyond_end : Clock → Clock

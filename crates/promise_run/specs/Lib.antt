@@ -1,3 +1,4 @@
+pub mod Beside
 pub mod Run
 pub mod Promise
 pub mod Halves

@@ -34,9 +34,10 @@ abbrev pub LeavesImage : Run → Option ℕ → List ℕ → Type 0
 LeavesImage r None image = (bytes_now r.flash.exit ≡ Some image) × (length r.flash.operations < last_count)
 LeavesImage r (Some k) image = TellsOperations r.flash × (k < last_count) × IsCutImage r.flash k image
 
--- a run that keeps the promise, from one image to another
+-- a run over one flash that keeps the promise, from one image to another
 pub record IsSpell (c : Configuration) (first : List ℕ) (x : Spell) (image : List ℕ) : Type 0 where
   pub same_unit : x.run.configuration ≡ c
+  pub alone : x.run.beside ≡ None
   pub promise : Promise x.run
   pub starts : bytes_now x.run.flash.entry ≡ Some first
   pub leaves : LeavesImage x.run x.cut image

@@ -1,13 +1,15 @@
 -- What the stack promises of each run. Its fields, read one after another, are one sentence, and behind it the bookkeeping.
-use Rattle.std.specs.Prelude.{◌≡◌, ◌⊎◌, ◌<◌, ◌≤◌, ℕ, IsTrue, List, length, Contains, Some, IfSome}
+use Rattle.std.specs.Prelude.{◌≡◌, ◌⊎◌, ◌<◌, ◌≤◌, ◌+◌, ℕ, Bool, true, false, not, if◌then◌else◌, IsTrue, List, length, Contains, Option, Some, None, IfSome}
 use Rattle.block_machine.specs.nv_base.Count.{last_count, next_count, WereCounted}
+use Rattle.block_machine.specs.nv_base.Held.{Held}
+use Rattle.block_machine.specs.nv_base.Marks.{instance_of}
 use Rattle.block_machine.specs.block_config.Banks.{bank_count}
 use Rattle.block_machine.specs.block_config.Lengths.{lengths_of}
 use Rattle.block_machine.specs.block_config.Sizes.{measures_of}
 use Rattle.block_machine.specs.Words.{Instance, Mark, Entry, Found, Configuration}
 use Rattle.block_machine.specs.Legal.{IsLegal}
 use Rattle.block_machine.specs.History.{up_to}
-use Rattle.promise_blocks.specs.Marks.{KeepsMarks, Lists}
+use Rattle.promise_blocks.specs.Marks.{KeepsMarks, Lists, marks_in}
 use Rattle.promise_blocks.specs.Counts.{KeepsCounts, counts_in, last_found}
 use Rattle.promise_blocks.specs.Payment.{IsPaid, every_block}
 use Rattle.promise_blocks.specs.OverDevice.{HasStarted, BeginsBefore, TellsAtMost, HasOffAt}
@@ -16,7 +18,8 @@ use Rattle.promise_device.specs.Image.{IsSoundFlash, found_in, held_in}
 use Rattle.promise_device.specs.FlashRun.{TellsBytes, TellsOperations, StartsSound, IsCutImage, bytes_after, AreOperations}
 use Rattle.promise_device.specs.Making.{Making}
 use Rattle.promise_device.specs.Bridge.{IsWornOut}
-use Rattle.promise_run.specs.Run.{Run, cap, HasOrder, offs_of_flash, has_cutter, RefusalsExplain}
+use Rattle.promise_run.specs.Beside.{Beside, BesideStartsSound, IsWornBeside, AreCutImages, is_beside, ops_beside, ops_first}
+use Rattle.promise_run.specs.Run.{Run, cap, HasOrder, of_flashes, offs_of_flash, has_cutter, RefusalsExplain}
 
 -- the device is made for this configuration, over the banks that a configuration has
 abbrev pub making_of : Configuration → Making
@@ -31,38 +34,102 @@ pub record Keeps (c : Configuration) (h : List Entry) (image : List ℕ) : Type 
   pub marks : KeepsMarks c h (found_by c image)
   pub sound : IsSoundFlash (making_of c) image
 
+-- what is found in both images: of each block in that of its own device
+abbrev pub held_both : Configuration → Beside → List ℕ → List ℕ → ℕ → Held
+held_both c b image other n = if b.blocks (instance_of (record { 0 = n })).block then b.held other n else held_in (making_of c) image n
+
+-- both images keep to a history
+pub record KeepBoth (c : Configuration) (b : Beside) (h : List Entry) (image other : List ℕ) : Type 0 where
+  pub marks : KeepsMarks c h (marks_in (held_both c b image other))
+  pub sound : IsSoundFlash (making_of c) image
+  pub sound_beside : IsTrue (b.is_sound other)
+
+-- a fact on the bytes of both flashes once k operations of both were made
+abbrev pub IfBothAfter : Run → Beside → ℕ → (List ℕ → List ℕ → Type 0) → Type 0
+IfBothAfter r b k P = IfSome (bytes_after r.flash (ops_first r.configuration r.history b k)) (λ image. IfSome (bytes_after b.flash (ops_beside r.configuration r.history b k)) (P image))
+
 -- each start-up lists what it found in the bytes of its moment
-abbrev pub StartUpsFind : Run → Type 0
-StartUpsFind r =
+abbrev pub StartUpsFindIn : Run → Option Beside → Type 0
+StartUpsFindIn r None =
     (marks : List (Instance × Mark)) (ops : ℕ) → Contains r.history (Found marks ops) → ops < last_count
     → IfSome (bytes_after r.flash ops) (λ image. Lists r.configuration marks (found_by r.configuration image))
+StartUpsFindIn r (Some b) =
+    TellsBytes b.flash → BesideStartsSound b → (marks : List (Instance × Mark)) (ops : ℕ) → Contains r.history (Found marks ops) → ops < last_count
+    → IfBothAfter r b ops (λ image other. Lists r.configuration marks (marks_in (held_both r.configuration b image other)))
+
+abbrev pub StartUpsFind : Run → Type 0
+StartUpsFind r = StartUpsFindIn r r.beside
 
 -- each image that a power cut may leave keeps to the history up to then
+abbrev pub CutsKeepIn : Run → Option Beside → Type 0
+CutsKeepIn r None = (k : ℕ) (image : List ℕ) → k < last_count → IsCutImage r.flash k image → Keeps r.configuration (up_to k r.history) image
+CutsKeepIn r (Some b) =
+    TellsOperations b.flash → BesideStartsSound b → (k : ℕ) (image other : List ℕ) → k < last_count → AreCutImages r.configuration r.history r.flash b k image other
+    → KeepBoth r.configuration b (up_to k r.history) image other
+
 abbrev pub CutsKeep : Run → Type 0
-CutsKeep r = (k : ℕ) (image : List ℕ) → k < last_count → IsCutImage r.flash k image → Keeps r.configuration (up_to k r.history) image
+CutsKeep r = CutsKeepIn r r.beside
 
 -- the bytes at the exit keep to the whole history
+abbrev pub ExitKeepsIn : Run → Option Beside → Type 0
+ExitKeepsIn r None = HasStarted r.history → length r.flash.operations < last_count → IfSome (bytes_now r.flash.exit) (Keeps r.configuration r.history)
+ExitKeepsIn r (Some b) =
+    TellsBytes b.flash → BesideStartsSound b → HasStarted r.history → length r.flash.operations + length b.flash.operations < last_count
+    → IfSome (bytes_now r.flash.exit) (λ image. IfSome (bytes_now b.flash.exit) (KeepBoth r.configuration b r.history image))
+
 abbrev pub ExitKeeps : Run → Type 0
-ExitKeeps r = HasStarted r.history → length r.flash.operations < last_count → IfSome (bytes_now r.flash.exit) (Keeps r.configuration r.history)
+ExitKeeps r = ExitKeepsIn r r.beside
 
 -- how often each instance was written, by what an image has of it
 abbrev pub counts_by : Configuration → List ℕ → ℕ → ℕ
 counts_by c image = counts_in (held_in (making_of c) image)
 
 -- each image that a power cut may leave has the counts that the last start-up by then found, with the writes since
-abbrev pub CutsCount : Run → Type 0
-CutsCount r =
+abbrev pub CutsCountIn : Run → Option Beside → Type 0
+CutsCountIn r None =
     (k ops : ℕ) (image : List ℕ) → k < last_count → IsCutImage r.flash k image → last_found (up_to k r.history) ≡ Some ops
     → IfSome (bytes_after r.flash ops)
     (λ first. KeepsCounts r.configuration (up_to k r.history) (counts_by r.configuration first) (counts_by r.configuration image))
+CutsCountIn r (Some b) =
+    TellsOperations b.flash → BesideStartsSound b → (k ops : ℕ) (image other : List ℕ) → k < last_count
+    → AreCutImages r.configuration r.history r.flash b k image other → last_found (up_to k r.history) ≡ Some ops
+    → IfBothAfter r b ops (λ first second. KeepsCounts r.configuration (up_to k r.history)
+    (counts_in (held_both r.configuration b first second)) (counts_in (held_both r.configuration b image other)))
+
+abbrev pub CutsCount : Run → Type 0
+CutsCount r = CutsCountIn r r.beside
 
 -- A planned cut kept this operation from the flash: the power went off in it. Past the end of the count no Off tells which.
 abbrev pub MayBeKept : Run → ℕ → Type 0
 MayBeKept r k = IsTrue (has_cutter r.course) × ((last_count ≤ k) ⊎ HasOffAt r.history (next_count k))
 
--- the flash's faults pay for each failure, but where the flash is worn out
+-- the operation with this number of one of the devices is such a one
+pub record MayBeKeptOf (r : Run) (b : Beside) (second : Bool) (own : Configuration → List Entry → Beside → ℕ → ℕ) (n : ℕ) : Type 0 where
+  pub operation : ℕ
+  pub whose : is_beside r.configuration r.history b operation ≡ second
+  pub number : own r.configuration r.history b operation ≡ n
+  pub kept : MayBeKept r operation
+
+-- the operations are those of the flash, but for these
+abbrev pub OperationsAreIn : Run → Option Beside → Type 0
+OperationsAreIn r None = AreOperations r.configuration.geometry r.flash (MayBeKept r)
+OperationsAreIn r (Some b) =
+    AreOperations r.configuration.geometry r.flash (MayBeKeptOf r b false ops_first)
+    × AreOperations b.geometry b.flash (MayBeKeptOf r b true ops_beside)
+
+abbrev pub OperationsAre : Run → Type 0
+OperationsAre r = OperationsAreIn r r.beside
+
+-- the flash's faults pay for each failure, but where the flash is worn out; each flash's for its own blocks
+abbrev pub FailuresArePaidIn : Run → Option Beside → Type 0
+FailuresArePaidIn r None = IsPaid every_block r.configuration (IsWornOut (making_of r.configuration) r.flash) r.flash.entry.faults r.flash.exit.faults r.history
+FailuresArePaidIn r (Some b) =
+    IsPaid (λ block. not (b.blocks block)) r.configuration (λ k n. IsWornOut (making_of r.configuration) r.flash (ops_first r.configuration r.history b k) n)
+    r.flash.entry.faults r.flash.exit.faults r.history
+    × IsPaid b.blocks r.configuration (λ k n. IsWornBeside b (ops_beside r.configuration r.history b k) n) b.flash.entry.faults b.flash.exit.faults r.history
+
 abbrev pub FailuresArePaid : Run → Type 0
-FailuresArePaid r = IsPaid every_block r.configuration (IsWornOut (making_of r.configuration) r.flash) r.flash.entry.faults r.flash.exit.faults r.history
+FailuresArePaid r = FailuresArePaidIn r r.beside
 
 pub record Promise (r : Run) : Type 0 where
   -- For every order of callers' requests and main-function turns,
@@ -80,8 +147,8 @@ pub record Promise (r : Run) : Type 0 where
   pub faults : FailuresArePaid r
   pub refusals : (id : ℕ) → RefusalsExplain r.configuration r.course r.history id
   -- An Off is planned, or the flash counted a cut.
-  pub off : WereCounted (offs_of_flash r.course r.history) r.flash.entry.cuts r.flash.exit.cuts
+  pub off : WereCounted (offs_of_flash r.course r.history) (of_flashes (λ f. f.entry.cuts) r) (of_flashes (λ f. f.exit.cuts) r)
   -- The operations are those of the flash, but for one at each Off that a planned cut kept from it; the entries count them.
-  pub operations : HasStarted r.history → AreOperations r.configuration.geometry r.flash (MayBeKept r)
+  pub operations : HasStarted r.history → OperationsAre r
   pub begins : BeginsBefore r.history
-  pub counted : TellsAtMost (length r.flash.operations) r.history
+  pub counted : TellsAtMost (of_flashes (λ f. length f.operations) r) r.history

@@ -14,6 +14,7 @@ use Rattle.script_walks.specs.Walk.{IsWalkOf, joined}
 use Rattle.script_walks.specs.Callers.{IsRun, IsWholeRun, asks_of, requests_of, program_of}
 use Rattle.promise_device.specs.Image.{attached}
 use Rattle.promise_device.specs.FlashRun.{FlashRun}
+use Rattle.promise_run.specs.Beside.{Beside}
 
 -- the most entries of a history
 abbrev pub cap : ℕ
@@ -39,6 +40,26 @@ pub record Run : Type 0 where
   pub end : End
   pub history : List Entry
   pub flash : FlashRun
+  -- the second device, if there is one
+  pub beside : Option Beside
+
+-- the same run, over the first flash alone
+abbrev pub alone : Run → Run
+alone r = record r { beside = None }
+
+-- BOTH FLASHES
+-- a count of a flash, or its sum over both
+abbrev pub with_beside : (FlashRun → ℕ) → FlashRun → Option Beside → ℕ
+with_beside count f None = count f
+with_beside count f (Some b) = count f + count b.flash
+
+abbrev pub of_flashes : (FlashRun → ℕ) → Run → ℕ
+of_flashes count r = with_beside count r.flash r.beside
+
+-- a fault of one of them was counted
+abbrev pub FaultWasCounted : FlashRun → Option Beside → Type 0
+FaultWasCounted f None = Rose f.entry.faults f.exit.faults
+FaultWasCounted f (Some b) = Rose f.entry.faults f.exit.faults ⊎ Rose b.flash.entry.faults b.flash.exit.faults
 
 -- WITHOUT A START-UP
 -- a run ends so only where start-up failed or memory was wanting
@@ -47,11 +68,21 @@ EndsAtStart f FlashFault = Rose f.entry.faults f.exit.faults
 EndsAtStart f Memory = Unit {0}
 EndsAtStart f end = ⊥
 
+-- of one of the flashes
+abbrev pub EndsBefore : FlashRun → Option Beside → End → Type 0
+EndsBefore f None end = EndsAtStart f end
+EndsBefore f (Some b) end = EndsAtStart f end ⊎ EndsAtStart b.flash end
+
 -- no changing operation was made, and the bytes are as they were, or a blank flash has its size
 pub record LeavesFlash (g : Geometry) (f : FlashRun) : Type 0 where
   pub none : f.operations ≡ []
   pub ops : f.exit.ops ≡ f.entry.ops
   pub bytes : IfBothTold (bytes_now f.entry) (bytes_now f.exit) (λ old new. (new ≡ old) ⊎ (new ≡ attached g old))
+
+-- so it is of each flash
+abbrev pub LeavesFlashes : Geometry → FlashRun → Option Beside → Type 0
+LeavesFlashes g f None = LeavesFlash g f
+LeavesFlashes g f (Some b) = LeavesFlash g f × LeavesFlash b.geometry b.flash
 
 -- no changing operation, no fault and no cut was counted, and the bytes are as they were
 pub record LeavesAlone (s t : Told) : Type 0 where
@@ -70,7 +101,7 @@ HasNoRoom c s kind = ⊥
 -- why these steps were left
 abbrev pub LeavesFor : Run → State → End → List Step → Type 0
 LeavesFor r s Whole left = left ≡ []
-LeavesFor r s FlashFault (x ∷ left) = (x.kind ≡ Restart) × Rose r.flash.entry.faults r.flash.exit.faults
+LeavesFor r s FlashFault (x ∷ left) = (x.kind ≡ Restart) × FaultWasCounted r.flash r.beside
 LeavesFor r s HistoryFull (x ∷ left) = HasNoRoom r.configuration s x.kind
 LeavesFor r s Memory left = Unit {0}
 LeavesFor r s end left = ⊥
@@ -101,9 +132,9 @@ MadeNothing (Played made pieces left) = (made ≡ []) × (pieces ≡ [])
 MadeNothing (Ran steps) = Unit {0}
 
 -- The history is a walk of the steps that were made, or a run of the callers' programs, and the end says why no more were.
--- Without a start-up it is empty, and the flash is as it was.
+-- Without a start-up it is empty, and each flash is as it was.
 abbrev pub HasOrder : Run → List Entry → Type 0
-HasOrder r [] = EndsAtStart r.flash r.end × MadeNothing r.course × LeavesFlash r.configuration.geometry r.flash
+HasOrder r [] = EndsBefore r.flash r.beside r.end × MadeNothing r.course × LeavesFlashes r.configuration.geometry r.flash r.beside
 HasOrder r (e ∷ es) = Follows r r.course (e ∷ es)
 
 -- POWER CUTS

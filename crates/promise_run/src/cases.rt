@@ -6,12 +6,12 @@ ghost use Rattle.block_machine.specs.Legal.{IsLegal};
 ghost use Rattle.promise_blocks.specs.OverDevice.{BeginsBefore, TellsAtMost};
 ghost use Rattle.promise_device.specs.FlashRun.{AreOperations};
 ghost use Rattle.promise_run.specs.Run.{cap, HasOrder, RefusalsExplain, offs_of_flash};
-ghost use Rattle.promise_run.specs.Promise.{Promise, StartUpsFind, CutsCount, CutsKeep, ExitKeeps, FailuresArePaid, MayBeKept};
+ghost use Rattle.promise_run.specs.Promise.{OperationsAre, Promise, StartUpsFind, CutsCount, CutsKeep, ExitKeeps, FailuresArePaid, MayBeKept};
 ghost use Rattle.promise_run.specs.Call.{IsRunOf, text_of};
 ghost use Rattle.promise_run.specs.Completeness.{Completeness};
 ghost use Rattle.promise_run.specs.Run.{FlashFault};
 ghost use Rattle.promise_run.specs.Turns.{BeginsAt, EndsBy, HasTurns};
-ghost use Rattle.promise_run.specs.Cases.{six_turns, lazy, leaps, at_faults, faulty, PaysFailed, CountsFailed, mended, posts_on_credit, starts_on_credit, untold, BreaksBy, small, quiet, wiped, empty_at_11, made_up_mark, off_without_a_cut, stale_in_play, invented_store, second_found, other_dataset, worn_but_roomy, worn_and_full, kept_write, lost_write, two_callers, written_at, always, turned, not_drained, ends_for_nothing, demo_run, demo_call};
+ghost use Rattle.promise_run.specs.Cases.{six_turns, lazy, leaps, at_faults, faulty, PaysFailed, CountsFailed, mended, posts_on_credit, starts_on_credit, untold, BreaksBy, small, one, two, quiet, quiet_beside, wiped, empty_at_11, made_up_mark, off_without_a_cut, stale_in_play, invented_store, second_found, other_dataset, worn_but_roomy, worn_and_full, kept_write, lost_write, two_callers, written_at, always, turned, not_drained, ends_for_nothing, demo_run, demo_call};
 
 /// A start-up alone keeps it, and so do a write that a cut breaks off with a restart behind it, and the requests of two
 /// callers.
@@ -20,6 +20,13 @@ pub fn runs_that_keep_it()
     ensures quiet { Promise quiet }
     ensures kept_write { Promise kept_write }
     ensures two_callers { Promise two_callers }
+{}
+
+/// A start-up alone over two flashes keeps it. Where the bytes of the second one change without an operation, they aren't those
+/// of its operations.
+pub fn runs_over_two_flashes()
+    ensures keeps { Promise (quiet_beside one one) }
+    ensures changes { BreaksBy (quiet_beside one two) (OperationsAre (quiet_beside one two)) }
 {}
 
 /// A run that wipes the flash or ends with a full history before a start-up breaks it by its order, and so does one that
@@ -63,12 +70,13 @@ pub fn a_lost_write_breaks_it()
     ensures counted { TellsAtMost 5 lost_write.history }
 {}
 
-/// A call is told by its run where configuration, steps, status and output are the run's.
+/// A call is told by its run where configuration, steps, flash, status and output are the run's, and the run has no second flash.
 pub fn runs_of_calls()
     ensures own { IsRunOf (demo_call 0 (text_of demo_run)) demo_run }
     ensures other_status { IsRunOf (demo_call 7 (text_of demo_run)) demo_run → ⊥ }
     ensures no_last_line { IsRunOf (demo_call 0 (history_text demo_run.history)) demo_run → ⊥ }
     ensures other_configuration { IsRunOf (demo_call 0 (text_of quiet)) quiet → ⊥ }
+    ensures two_flashes { IsRunOf (demo_call 0 (text_of demo_run)) (record demo_run { beside = (quiet_beside one one).beside }) → ⊥ }
 {}
 
 /// Where nothing fails a job is posted within its turns, a drain leaves none, and no run ends at a flash fault.

@@ -1,17 +1,13 @@
 // The line of a request.
 use crate::codes::{refusal_of, result_of};
-use crate::words::Words;
+use crate::words::{Parsed, Words};
 use block_machine::block_config::Config;
 use block_machine::nv_base::{Entry, Reply, Request};
 use nvm_script::{Mode, ScriptFault, StepKind, StepList, read_script};
 use std::alloc::{AllocError, Global};
 
 /// A request with its caller and its reply.
-pub fn read_ask(
-    alloc: Global,
-    config: &Config,
-    words: Words<'_>,
-) -> Result<Option<Entry>, AllocError> {
+pub fn read_ask(alloc: Global, config: &Config, words: Words<'_>) -> Parsed<Entry> {
     let mut words = words;
     let caller = words.small();
     let (step, reply) = words.rest().split_once(" -> ").unwrap_or(("", ""));
@@ -37,7 +33,7 @@ fn read_reply(words: Words<'_>) -> Reply {
 }
 
 // The request that a step asks.
-fn read_request(alloc: Global, config: &Config, step: &str) -> Result<Option<Request>, AllocError> {
+fn read_request(alloc: Global, config: &Config, step: &str) -> Parsed<Request> {
     match stored_write(step) {
         Some((block, store)) => Ok(Some(Request::Write {
             block,
@@ -62,7 +58,7 @@ fn stored_write(step: &str) -> Option<(u16, u64)> {
 }
 
 // The request of a step, which is read as the second line of a script.
-fn read_step(alloc: Global, config: &Config, step: &str) -> Result<Option<Request>, AllocError> {
+fn read_step(alloc: Global, config: &Config, step: &str) -> Parsed<Request> {
     let script = format!(in alloc; "\n{step}")?;
     let script = script.as_bytes();
     if script.len() >= u32::MAX as usize {
@@ -75,7 +71,7 @@ fn read_step(alloc: Global, config: &Config, step: &str) -> Result<Option<Reques
     }
 }
 
-fn first_request(steps: &StepList) -> Result<Option<Request>, AllocError> {
+fn first_request(steps: &StepList) -> Parsed<Request> {
     let Some(step) = steps.get(0) else {
         return Ok(None);
     };

@@ -5,15 +5,15 @@ ghost use Rattle.nvm_script.specs.Lines.{entry_line};
 use crate::asks::read_ask;
 use crate::marks::{read_found, read_wrote};
 use crate::posts::{read_pick, read_post};
-use crate::words::Words;
+use crate::words::{Parsed, Words};
 use block_machine::block_config::Config;
 use block_machine::nv_base::Entry;
 use nvm_script::entry_text;
-use std::alloc::{AllocError, Global};
+use std::alloc::Global;
 use std::str::from_utf8;
 
 /// The entry whose line, with its newline, this is, if it is one of an entry.
-pub fn read_entry(alloc: Global, config: &Config, line: &[u8]) -> Result<Option<Entry>, AllocError>
+pub fn read_entry(alloc: Global, config: &Config, line: &[u8]) -> Parsed<Entry>
     ensures { IfOk result (λ r. IfSome r (λ e. entry_line e ≡ line.now)) }
 {
     let Ok(text) = from_utf8(line) else {
@@ -26,7 +26,7 @@ pub fn read_entry(alloc: Global, config: &Config, line: &[u8]) -> Result<Option<
 }
 
 // An entry that has this line.
-fn checked(alloc: Global, entry: Entry, line: &[u8]) -> Result<Option<Entry>, AllocError>
+fn checked(alloc: Global, entry: Entry, line: &[u8]) -> Parsed<Entry>
     ensures { IfOk result (λ r. IfSome r (λ e. entry_line e ≡ line.now)) }
 {
     let text = entry_text(alloc, &entry)?;
@@ -37,7 +37,7 @@ fn checked(alloc: Global, entry: Entry, line: &[u8]) -> Result<Option<Entry>, Al
 }
 
 // The entry that the words of a line may tell.
-fn entry_of(alloc: Global, config: &Config, line: &str) -> Result<Option<Entry>, AllocError> {
+fn entry_of(alloc: Global, config: &Config, line: &str) -> Parsed<Entry> {
     let mut words = Words::of(line);
     match words.next() {
         "ask" => read_ask(alloc, config, words),

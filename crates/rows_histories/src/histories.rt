@@ -8,9 +8,6 @@ use block_machine::nv_base::History;
 use nvm_script::line_length;
 use std::alloc::{AllocError, Global};
 
-// The most entries of a history.
-const CAP: u32 = 100_000;
-
 /// A history that was printed, and how many bytes of the text its lines have.
 #[derive(Drop)]
 pub struct Printed {
@@ -23,9 +20,9 @@ pub fn read_history(alloc: Global, config: &Config, text: &[u8]) -> Result<Print
     ensures lines { IfOk result (λ p. history_text p.history.entries ≡ take p.length text.now) }
     ensures within { IfOk result (λ p. p.length ≤ length text.now) }
 {
-    let mut history = History::make(alloc, CAP);
+    let mut history = History::make(alloc, u32::MAX);
     let mut at = 0;
-    while at < text.len() && history.len() < CAP {
+    while at < text.len() && history.len() < u32::MAX {
         let next = at + line_length(&text[at..]);
         let Some(entry) = read_entry(alloc, config, &text[at..next])? else {
             break;

@@ -2,13 +2,13 @@
 ghost use Rattle.std.specs.Prelude.{◌≤◌, IfOk, IfSome};
 ghost use Rattle.block_machine.specs.nv_base.Marks.{next_or};
 
-use crate::words::Words;
+use crate::words::{Parsed, Words};
 use block_machine::block_config::read_content;
 use block_machine::nv_base::{Bytes, Entry, Instance, Mark, Marks};
 use std::alloc::{AllocError, Global};
 
 /// A mark that the device stored.
-pub fn read_wrote(alloc: Global, words: Words<'_>) -> Result<Option<Entry>, AllocError> {
+pub fn read_wrote(alloc: Global, words: Words<'_>) -> Parsed<Entry> {
     let mut words = words;
     let instance = instance_of(words.next());
     let mark = read_mark(alloc, &mut words)?;
@@ -20,7 +20,7 @@ pub fn read_wrote(alloc: Global, words: Words<'_>) -> Result<Option<Entry>, Allo
 }
 
 /// The marks that a start-up found.
-pub fn read_found(alloc: Global, words: Words<'_>) -> Result<Option<Entry>, AllocError> {
+pub fn read_found(alloc: Global, words: Words<'_>) -> Parsed<Entry> {
     let mut words = words;
     let count = words.number();
     let marks = read_marks(alloc, &mut words, count)?;

@@ -1,17 +1,13 @@
 // The lines of jobs that are taken in hand and that end.
 use crate::codes::result_of;
 use crate::marks::content_of;
-use crate::words::Words;
+use crate::words::{Parsed, Words};
 use block_machine::block_config::Config;
 use block_machine::nv_base::{Bytes, Entry, JobKind, Taken};
-use std::alloc::{AllocError, Global};
+use std::alloc::Global;
 
 /// A job that is taken in hand.
-pub fn read_pick(
-    alloc: Global,
-    config: &Config,
-    words: Words<'_>,
-) -> Result<Option<Entry>, AllocError> {
+pub fn read_pick(alloc: Global, config: &Config, words: Words<'_>) -> Parsed<Entry> {
     let mut words = words;
     let block = words.block();
     let job = job_of(words.next());
@@ -44,12 +40,7 @@ fn job_of(word: &str) -> JobKind {
 }
 
 // What a write takes.
-fn read_taken(
-    alloc: Global,
-    config: &Config,
-    block: u16,
-    words: &mut Words<'_>,
-) -> Result<Option<Taken>, AllocError> {
+fn read_taken(alloc: Global, config: &Config, block: u16, words: &mut Words<'_>) -> Parsed<Taken> {
     match words.next() {
         "refused" => Ok(Some(Taken::Refused {
             count: words.small(),
@@ -86,7 +77,7 @@ fn read_store(words: &mut Words<'_>) -> u64 {
 }
 
 /// A job that ended.
-pub fn read_post(alloc: Global, words: Words<'_>) -> Result<Option<Entry>, AllocError> {
+pub fn read_post(alloc: Global, words: Words<'_>) -> Parsed<Entry> {
     let mut words = words;
     let block = words.block();
     let result = result_of(words.number());
@@ -101,7 +92,7 @@ pub fn read_post(alloc: Global, words: Words<'_>) -> Result<Option<Entry>, Alloc
 }
 
 // The content that was given, if one was.
-fn read_given(alloc: Global, words: &mut Words<'_>) -> Result<Option<Bytes>, AllocError> {
+fn read_given(alloc: Global, words: &mut Words<'_>) -> Parsed<Bytes> {
     if words.passes("data ") {
         return Ok(Some(content_of(alloc, words.next())?));
     }

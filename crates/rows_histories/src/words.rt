@@ -1,4 +1,8 @@
 // The words of a line.
+use std::alloc::AllocError;
+
+/// What words tell, if they tell it; or want of memory.
+pub type Parsed<T> = Result<Option<T>, AllocError>;
 
 /// The words of a line, parted by one space. What isn't there is an empty word, and what is no number reads as 0: whether
 /// the line is that of an entry that was read so is tested at the end.

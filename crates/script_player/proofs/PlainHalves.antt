@@ -13,9 +13,8 @@ use Rattle.nvm_core.specs.ram_blocks.Told.{Told, refusals_of, most_of}
 use Rattle.nvm_core.specs.ram_blocks.Plain.{told_of, store_of}
 use Rattle.nvm_core.specs.ram_blocks.Tries.{OnlyRefuses}
 use Rattle.nvm_core.specs.nv_desk.Desk.{DeskState, state_of}
-use Rattle.nvm_core.specs.nv_desk_copies.Takes.{source_next}
+use Rattle.nvm_core.specs.nv_desk_copies.Takes.{copies_out_next}
 use Rattle.nvm_core.specs.nv_desk_copies.Posts.{IsHandedOver, IsPosted, IsPostedNext}
-use Rattle.nvm_core.specs.nv_desk_copies.declared.post.Posted.{Posted}
 use Rattle.nvm_core.specs.job_progress.Hand.{HandState}
 use Rattle.nvm_core.specs.job_progress.JobInHand.{IsPaired}
 use Rattle.nvm_core.specs.nvm_laws.Halves.{AddsPost}
@@ -29,7 +28,7 @@ use Rattle.nvm_core.specs.Work as work
 use Rattle.script_walks.specs.Walk.{is_due}
 use Rattle.script_walks.specs.Turn.{TakesNewest, copies_next}
 use Rattle.script_player.specs.Calls.{Turns, IsAnswer, Lowers}
-use Rattle.script_player.specs.PlainTold.{told_by, untold_of, IfCopied, AreWithin}
+use Rattle.script_player.specs.PlainTold.{told_by, untold_of, IfCopied, AreWithin, may_copy}
 use Rattle.script_player.proofs.PlainDevices.{goes_same, unplanned_same}
 use Rattle.script_player.proofs.PlainPicks.{newest, stored_so, counted, due_off, due_rest, at_rest}
 use Rattle.script_player.proofs.PlainRefused.{IsOn, fewer, pick_keeps, post_keeps}
@@ -68,34 +67,34 @@ over_counted true ended posted refused tries block before after less over = elim
   | inr all ↦ subst (λ (n : ℕ). WereCounted n (refusals_of before block) (refusals_of after block)) (sym all.1) all.2
 ]
 
-posting_of : (Premise : Type 0) (block : ℕ) (ram : Bool) (ended : Answer) (ops : ℕ) (old new : DeskState) (before after : List Told) (posted : Posted) → OnlyRefuses before after
-    → IsOn block (state_of old).hand → IsPosted Premise block ram ended ops old new before after posted → Posting ops old new before after
-posting_of Premise block ram ended ops old new before after posted only on is = record {
+posting_of : (Premise : Type 0) (block : ℕ) (ram : Bool) (ended : Answer) (ops : ℕ) (old new : DeskState) (before after : List Told) → OnlyRefuses before after
+    → IsOn block (state_of old).hand → IsPosted Premise block ram ended ops old new before after → Posting ops old new before after
+posting_of Premise block ram ended ops old new before after only on is = record {
   block = block;
-  result = posted.result;
+  result = is.result;
   given = is.given;
   refused = is.refused;
   adds = is.adds;
   on = on;
-  told = over_counted _ ended (posted.result, is.given) is.refused _ block before after (only block).1 is.over;
+  told = over_counted _ ended (is.result, is.given) is.refused _ block before after (only block).1 is.over;
 }
 
-posting_next : (n : Next) (ops : ℕ) (old new : DeskState) (before after : List Told) (posted : Posted) → OnlyRefuses before after → (state_of old).hand ≡ None
-    → IsPostedNext n ops old new before after posted → Posting ops old new before after
-posting_next (PostMember sw id) ops old new before after posted only none is =
-    posting_of (Unit {0}) id true _ ops old new before after posted only (subst (λ (h : Option Job). IsOn id h) (sym none) tt) is
-posting_next (EndSweep sw) ops old new before after posted only none is =
-    posting_of (Unit {0}) 0 false _ ops old new before after posted only (subst (λ (h : Option Job). IsOn 0 h) (sym none) tt) is
-posting_next (PickJob j) ops old new before after posted only none is = absurd is
-posting_next (BeginSweep sw) ops old new before after posted only none is = absurd is
-posting_next (PickMember sw id) ops old new before after posted only none is = absurd is
-posting_next Nothing ops old new before after posted only none is = absurd is
+posting_next : (n : Next) (ops : ℕ) (old new : DeskState) (before after : List Told) → OnlyRefuses before after → (state_of old).hand ≡ None
+    → IsPostedNext n ops old new before after → Posting ops old new before after
+posting_next (PostMember sw id) ops old new before after only none is =
+    posting_of (Unit {0}) id true _ ops old new before after only (subst (λ (h : Option Job). IsOn id h) (sym none) tt) is
+posting_next (EndSweep sw) ops old new before after only none is =
+    posting_of (Unit {0}) 0 false _ ops old new before after only (subst (λ (h : Option Job). IsOn 0 h) (sym none) tt) is
+posting_next (PickJob j) ops old new before after only none is = absurd is
+posting_next (BeginSweep sw) ops old new before after only none is = absurd is
+posting_next (PickMember sw id) ops old new before after only none is = absurd is
+posting_next Nothing ops old new before after only none is = absurd is
 
 posting : (Fits : Type 0) (ops : ℕ) (old new : DeskState) (before after : List Told) → OnlyRefuses before after → AddsPost Fits ops old new before after → Posting ops old new before after
-posting Fits ops old new before after only adds = elim adds.1 [
-  | inl held ↦ posting_of Fits (job_block held.job) (names_ram held.job.request) held.ended ops old new before after adds.0 only
+posting Fits ops old new before after only adds = elim adds [
+  | inl held ↦ posting_of Fits (job_block held.job) (names_ram held.job.request) held.ended ops old new before after only
       (subst (λ (h : Option Job). IsOn (job_block held.job) h) (sym held.hand) refl) held.is
-  | inr next ↦ posting_next (next_of old.config (state_of old)) ops old new before after adds.0 only next.0 next.1
+  | inr next ↦ posting_next (next_of old.config (state_of old)) ops old new before after only next.0 next.1
 ]
 
 -- THE TURN
@@ -113,7 +112,7 @@ pub record IsBehind {D : Type 0} (device : D → DeviceTold) (answer : Turned) (
   pub tied : IsTied old.desk old.hand (device old.device)
   pub tied_behind : IsTied new.desk new.hand (device new.device)
   pub small : (id : ℕ) → most_of (map told_of new.copies) id < last_count
-  pub within : (h : List Entry) (e : Entry) → new.desk.entries ≡ h ++ e ∷ [] → IfCopied e (AreWithin new.copies)
+  pub within : IsTrue (may_copy answer) → (h : List Entry) (e : Entry) → new.desk.entries ≡ h ++ e ∷ [] → IfCopied e (AreWithin new.copies)
 
 module _ {D : Type 0} (device : D → DeviceTold) (old new : StackState D (List PlainBlock)) where
   -- nothing is added
@@ -153,7 +152,7 @@ module _ {D : Type 0} (device : D → DeviceTold) (old new : StackState D (List 
       let two = ap (λ (d : DeviceTold). d.second) half.device in
       let stores = same_stores old.copies new.copies half.sizes half.stores_stay in
       let may = picked.allowed.1 in
-      let within = behind.within old.desk.entries (Pick block picked.kind picked.taken ops) (ap (λ (x : DeskState). x.entries) picked.adds) in
+      let within = behind.within refl old.desk.entries (Pick block picked.kind picked.taken ops) (ap (λ (x : DeskState). x.entries) picked.adds) in
       let refused = counted (λ n x. is_now new.copies block n x × is_looked old.copies new.copies block n) block (map told_of old.copies) (map told_of new.copies) (half.refuses block).1 c s picked.kind picked.taken (next_of c s) picked.copied may in record {
         made = record {
           entries = Pick block picked.kind picked.taken ops ∷ [];
@@ -164,7 +163,7 @@ module _ {D : Type 0} (device : D → DeviceTold) (old new : StackState D (List 
             entry = record {
               may = may;
               newest = subst (λ (xs : List (ℕ × List ℕ)). TakesNewest xs (copies_next c (next_of c s)) block picked.taken) stores
-                  (newest (map store_of new.copies) c s block picked.kind (map told_of old.copies) (map told_of new.copies) picked.taken (next_of c s) (stored_so _ _ block (map told_of old.copies) (map told_of new.copies) (source_next c (next_of c s)) picked.taken (λ n x h. h.0) picked.copied) may);
+                  (newest (map store_of new.copies) c s block picked.kind (map told_of old.copies) (map told_of new.copies) picked.taken (next_of c s) (stored_so _ _ block (map told_of old.copies) (map told_of new.copies) (copies_out_next c (next_of c s)) picked.taken (λ n x h. h.0) picked.copied) may);
             };
             begins = begins_by (is_due s);
           };
@@ -190,7 +189,7 @@ module _ {D : Type 0} (device : D → DeviceTold) (old new : StackState D (List 
       let one = ap (λ (d : DeviceTold). d.first) half.device in
       let two = ap (λ (d : DeviceTold). d.second) half.device in
       let stores = same_stores old.copies new.copies half.sizes half.stores_stay in
-      let within = behind.within old.desk.entries (Post post.block post.result post.given post.refused ops) (ap (λ (x : DeskState). x.entries) post.adds) in record {
+      let within = behind.within refl old.desk.entries (Post post.block post.result post.given post.refused ops) (ap (λ (x : DeskState). x.entries) post.adds) in record {
         made = record {
           entries = Post post.block post.result post.given post.refused ops ∷ [];
           grows = grown device old new (Post post.block post.result post.given post.refused ops ∷ []) post.adds stores half.ready (ap (λ (d : DeviceTold). d.fixed) half.device);

@@ -1,5 +1,5 @@
 -- What is told of a stack whose application stores in memory.
-use Rattle.std.specs.Prelude.{ℕ, ◌+◌, ◌-◌, ◌==◌, ◌<◌, ◌≤◌, min, not, Bool, List, map, is_some, option_map, if◌then◌else◌, Option, Some, None}
+use Rattle.std.specs.Prelude.{ℕ, ◌+◌, ◌-◌, ◌==◌, ◌<◌, ◌≤◌, min, not, Bool, true, false, List, map, is_some, option_map, if◌then◌else◌, Option, Some, None}
 use Rattle.std.specs.Option.{option_map_or}
 use Rattle.nvm_core.specs.nv_base.Count.{last_count}
 use Rattle.nvm_core.specs.memif.Told.{DeviceTold, Fixed, PartTold, faults_of, nothing_open}
@@ -11,6 +11,8 @@ use Rattle.nvm_core.specs.ram_blocks.declared.plain_block.PlainBlock.{PlainBlock
 use Rattle.nvm_core.specs.ram_blocks.Told.{Told, refusals_of, most_of}
 use Rattle.nvm_core.specs.ram_blocks.Plain.{told_of, store_of}
 use Rattle.nvm_core.specs.nv_desk.Desk.{DeskState, state_of}
+use Rattle.nvm_core.specs.nvm_laws.declared.turned.Turned.{Turned}
+use Rattle.nvm_core.specs.nvm_laws.declared.turned.Turned.TheVariants as turned
 use Rattle.nvm_core.specs.job_progress.Hand.{HandState}
 use Rattle.nvm_core.specs.Stack.{StackState}
 use Rattle.nvm_core.specs.Work.{left_with}
@@ -39,6 +41,14 @@ abbrev pub IfCopied : Entry → (ℕ → Type 0) → Type 0
 IfCopied (Pick block kind t ops) P = P block
 IfCopied (Post block r given refused ops) P = P block
 IfCopied e P = Unit {0}
+
+-- a turn copies synchronized RAM where it is a Pick or a Post, if at all
+abbrev pub may_copy : Turned → Bool
+may_copy turned.Picked = true
+may_copy turned.Posted = true
+may_copy turned.Idle = false
+may_copy turned.Off = false
+may_copy turned.Worked = false
 
 -- no more copies of a block were refused than were to be
 abbrev pub AreWithin : List PlainBlock → ℕ → Type 0

@@ -1,8 +1,8 @@
 // The stack, as its player sees it.
-ghost use Rattle.std.specs.Prelude.{◌≡◌, ◌++◌, ◌∷◌, [], List};
+ghost use Rattle.std.specs.Prelude.{◌≡◌, ◌++◌, ◌∷◌, [], IsTrue, List};
 ghost use Rattle.nvm_core.specs.block_machine.Words.{Configuration, Entry};
 ghost use Rattle.nvm_core.specs.ram_blocks.Plain.{plain_blocks_of};
-ghost use Rattle.script_player.specs.PlainTold.{AreWithin, IfCopied};
+ghost use Rattle.script_player.specs.PlainTold.{AreWithin, IfCopied, may_copy};
 
 use crate::PlayedStack;
 use nvm_core::Stack;
@@ -82,7 +82,7 @@ impl<D: MemDevice> PlayedStack for PlainStack<D> {
         let _device = self.stack.device();
         let turned = self.stack.turn();
         let _behind = self.stack.device();
-        see_refusals(&self.stack);
+        see_refusals(&self.stack, turned);
         turned
     }
 
@@ -118,8 +118,18 @@ impl<D: MemDevice> PlayedStack for PlainStack<D> {
     }
 }
 
-// No more copies of the last entry's block were refused than were to be.
-fn see_refusals<D: MemDevice>(stack: &Stack<D, PlainSync>)
+// Behind a Pick or a Post no more copies of the last entry's block were refused than were to be.
+fn see_refusals<D: MemDevice>(stack: &Stack<D, PlainSync>, turned: Turned)
+    ensures { IsTrue (may_copy turned) → (h : List Entry) (e : Entry) → stack.now.desk.entries ≡ h ++ e ∷ [] → IfCopied e (AreWithin stack.now.copies) }
+{
+    match turned {
+        Turned::Picked | Turned::Posted => see_last(stack),
+        Turned::Idle | Turned::Off | Turned::Worked => {}
+    }
+}
+
+// Those of the last entry.
+fn see_last<D: MemDevice>(stack: &Stack<D, PlainSync>)
     ensures { (h : List Entry) (e : Entry) → stack.now.desk.entries ≡ h ++ e ∷ [] → IfCopied e (AreWithin stack.now.copies) }
 {
     let history = stack.history();

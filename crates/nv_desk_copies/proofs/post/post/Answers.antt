@@ -15,7 +15,7 @@ returns-clause-posted g c j hand =
     posted d c.post.new.self j c.args.answer c.args.source c.args.content.now c.args.ops _ _
     c.block-block.result c.names_ram-ram.result
     (answer_in c.ended-end.result.answer c.ended-end.result.gives lent)
-    (answer_in c.hand_over-ending.result.answer c.hand_over-ending.result.gives lent) c.hand_over-ending.result.refused
+    (answer_in c.hand_over-refused.result.0.answer c.hand_over-refused.result.0.gives lent) c.hand_over-refused.result.1
     hand (c.block-block.ensures ∙ ap job_block same) (names ∙ ap (λ (x : Job). names_ram x.request) same)
     (c.ended-end.ensures.answer ∙ ap (λ (x : Job). answer_of d.config (state_of d) x c.args.answer c.args.source c.args.content.now) same)
-    (rw c.config.ensures at c.hand_over-ending.ensures.over) (rw c.given.ensures at c.post.ensures)
+    (rw c.config.ensures at c.hand_over-refused.ensures.over) c.hand_over-refused.ensures.others (rw c.given.ensures at c.post.ensures)

@@ -10,21 +10,21 @@ post_member-requires g c =
     let d = c.args.desk.now in
     let sw = c.requires.may.sweep in
     let ended = c.unpicked-end.ensures.answer sw (posts_of d.config (state_of d) sw c.args.block c.requires.may.is).1 in
-    let over = as_ended (desc_of d.config c.args.block) _ _ _ _ _ _ _ ended (rw c.config.ensures at c.hand_over-end.ensures.over) in
+    let over = as_ended (desc_of d.config c.args.block) _ _ _ _ _ _ _ ended (rw c.config.ensures at c.hand_over-refused.ensures.over) in
     rw c.given.ensures (record {
       sweep = sw;
       is = c.requires.may.is;
       allowed = member_posts d.config d.cap (state_of d) sw c.args.block
-          (answer_in c.hand_over-end.result.answer c.hand_over-end.result.gives c.unpicked-end.new.staging.bytes) c.hand_over-end.result.refused c.args.ops _ _
+          (answer_in c.hand_over-refused.result.0.answer c.hand_over-refused.result.0.gives c.unpicked-end.new.staging.bytes) c.hand_over-refused.result.1 c.args.ops _ _
           c.requires.may.driving c.requires.may.is over;
-      whole = rw c.config.ensures at c.hand_over-end.ensures.whole;
+      whole = rw c.config.ensures at c.hand_over-refused.ensures.whole;
     })
 
 pub returns-clause-posted : goal.returns-clause-posted
 returns-clause-posted g c sw is =
     let d = c.args.desk.now in
     let ended = c.unpicked-end.ensures.answer sw (posts_of d.config (state_of d) sw c.args.block is).1 in
-    let over = as_ended (desc_of d.config c.args.block) _ _ _ _ _ _ _ ended (rw c.config.ensures at c.hand_over-end.ensures.over) in
+    let over = as_ended (desc_of d.config c.args.block) _ _ _ _ _ _ _ ended (rw c.config.ensures at c.hand_over-refused.ensures.over) in
     member_posted d c.post_member.new.self sw c.args.block c.args.ops _ _
-    (answer_in c.hand_over-end.result.answer c.hand_over-end.result.gives c.unpicked-end.new.staging.bytes) c.hand_over-end.result.refused
-    c.requires.may.driving is over (rw c.given.ensures at (c.post_member.ensures sw is))
+    (answer_in c.hand_over-refused.result.0.answer c.hand_over-refused.result.0.gives c.unpicked-end.new.staging.bytes) c.hand_over-refused.result.1
+    c.requires.may.driving is over c.hand_over-refused.ensures.others (rw c.given.ensures at (c.post_member.ensures sw is))

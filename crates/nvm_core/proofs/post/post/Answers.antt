@@ -34,17 +34,17 @@ returns g c =
     let driving = drives (state_of desk) c.ops.result tied.started held.on (rw c.ops.ensures tied.later) in
     let end = c.end_of-answer.ensures held.held held.is held.end in
     let posted = c.post.ensures.posted is.job is.hand in
-    let e = Post (job_block is.job) c.post.result.result posted.given posted.refused c.ops.result in
+    let e = Post (job_block is.job) posted.result posted.given posted.refused c.ops.result in
     record {
-      posts = hand_posts desk new held.held told c.ops.result _ _ _ _ _ _ c.ops.ensures is driving end c.take_data.ensures posted c.args.hand.now held.is;
+      posts = hand_posts desk new held.held told c.ops.result _ _ _ _ _ c.ops.ensures is driving end c.take_data.ensures posted c.args.hand.now held.is;
       tied = tied_behind desk new e told posted.adds None (jobs_keep_power desk.config (state_of desk) e refl) (ap Some c.ops.ensures) tied.up tied.numbers tied.started held.on
           (posts_leave_none desk.config (state_of desk) e tt, finished_are_closed desk.config (state_of desk) held.held told is held.end);
-      unread = c.post.ensures.unread is.job is.hand ∙ note_posted _ is.job _ c.ops.result desk new _ _ c.post.result c.args.front.now.unread is.hand posted;
+      unread = c.post.ensures.unread is.job is.hand ∙ note_posted _ is.job _ c.ops.result desk new _ _ c.args.front.now.unread is.hand posted;
       room = c.post.ensures.room;
       synchronized = c.post.ensures.synchronized;
       stays = c.post.ensures.stays;
-      keeps = rw held.is (posts_keep told clock desk new held.held is.job _ _ _ _ c.post.result is.hand is end
-          (hand_posted desk new held.held told c.ops.result _ _ _ _ _ c.post.result c.ops.ensures is driving end c.take_data.ensures posted));
+      keeps = rw held.is (posts_keep told clock desk new held.held is.job _ _ _ _ is.hand is end
+          (hand_posted desk new held.held told c.ops.result _ _ _ _ _ c.ops.ensures is driving end c.take_data.ensures posted));
       lowers = entries_lower_work told clock told desk new e c.args.hand.now None c.status-status.ensures.order posted.adds
           (within new _ _ c.history.ensures.entries c.history.ensures.cap c.len-count.ensures.within) tt;
       left = rw held.is (post_left held.held.program told);

@@ -30,18 +30,18 @@ returns g c =
     let tied = c.requires.tied in
     let hand = c.requires.none.is in
     let none = none_in _ desk c.args.hand.now told tied c.requires.none in
-    let is = skips (next_of desk.config (state_of desk)) c.ops.result desk new _ _ c.post_skipped.result posted in
+    let is = skips (next_of desk.config (state_of desk)) c.ops.result desk new _ _ posted in
     let e = Post is.block is.result is.given is.refused c.ops.result in
     record {
-      posts = skip_posts _ c.ops.result _ desk new _ _ c.post_skipped.result c.ops.ensures none.0 posted;
+      posts = skip_posts _ c.ops.result _ desk new _ _ c.ops.ensures none.0 posted;
       tied = rw hand (tied_behind desk new e told is.adds None (jobs_keep_power desk.config (state_of desk) e refl) (ap Some c.ops.ensures) tied.up tied.numbers tied.started c.requires.none.on
           (posts_leave_none desk.config (state_of desk) e tt, none.1));
       unread = c.post_skipped.ensures.unread ∙ notes_skip desk new c.args.front.now.unread none.0;
       room = c.post_skipped.ensures.room;
       synchronized = c.post_skipped.ensures.synchronized;
       stays = c.post_skipped.ensures.stays;
-      keeps = rw hand (skipped_keep told clock desk new _ _ c.post_skipped.result none.0
-          (skip_timed (next_of desk.config (state_of desk)) c.ops.result (ops_of told) desk new _ _ c.post_skipped.result c.ops.ensures posted));
+      keeps = rw hand (skipped_keep told clock desk new _ _ none.0
+          (skip_timed (next_of desk.config (state_of desk)) c.ops.result (ops_of told) desk new _ _ c.ops.ensures posted));
       lowers = rw hand (entries_lower_work told clock told desk new e None None c.status-status.ensures.order is.adds
           (within new _ _ c.history.ensures.entries c.history.ensures.cap c.len-count.ensures.within) tt);
       left = rw hand (omega arith);

@@ -6,7 +6,7 @@ use Rattle.rows_histories.proofs.histories.read_history.Given as goal
 abbrev pub invariant-loop-at : goal.invariant-loop-at
 invariant-loop-at l = record {
   place : l.at ≤ length l.text;
-  cap : l.history.cap ≡ 100000;
+  cap : l.history.cap ≡ 4294967295;
   lines : history_text l.history.entries ≡ take l.at l.text;
 }
 

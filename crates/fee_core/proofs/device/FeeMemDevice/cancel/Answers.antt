@@ -1,13 +1,14 @@
 use Rattle.std.proofs.Common.{subst}
 use Rattle.memif.specs.Calls.{Cancels}
 use Rattle.fee_told.specs.Device.{Device, told_of}
-use Rattle.fee_told.specs.Clock.{clock_of}
 use Rattle.fee_laws.specs.Inside.{device_of}
+use Rattle.fee_core.specs.Tells.{told_clock}
 use Rattle.fee_core.proofs.Telling.{stays_told}
 use Rattle.fee_core.proofs.device.FeeMemDevice.cancel.Goals as goal
 
 pub returns : goal.returns
 returns g c =
     let t = device_of g.O.Origin.making g.O.Origin.entry c.cancel.new.self.parts in
-    let own = subst (λ (d : Device). Cancels (told_of d) (clock_of d) (told_of t) (clock_of t)) c.self.view_is c.cancel.ensures.cancels in
-    (own.0, stays_told (told_of t) _ t own.1)
+    let old = device_of g.O.Origin.making g.O.Origin.entry c.self.inside.parts.parts in
+    let own : Cancels (told_of old) (told_clock old) (told_of t) (told_clock t) = (c.cancel.ensures.cancels.0, stays_told (told_of t) old t c.cancel.ensures.cancels.1) in
+    subst (λ (d : Device). Cancels (told_of d) (told_clock d) (told_of t) (told_clock t)) c.self.view_is own

@@ -2,13 +2,14 @@ use Rattle.std.proofs.Common.{Some, None, false, subst}
 use Rattle.nv_base.specs.declared.mark.Mark.TheVariants as mark
 use Rattle.memif.specs.Calls.{Accepts}
 use Rattle.fee_told.specs.Device.{Device, told_of}
-use Rattle.fee_told.specs.Clock.{clock_of}
 use Rattle.fee_laws.specs.Inside.{device_of}
+use Rattle.fee_core.specs.Tells.{told_clock}
 use Rattle.fee_core.proofs.Telling.{stays_told}
 use Rattle.fee_core.proofs.device.FeeMemDevice.start_invalidate.Goals as goal
 
 pub returns : goal.returns
 returns g c =
     let t = device_of g.O.Origin.making g.O.Origin.entry c.start_invalidate.new.self.parts in
-    let own = subst (λ (d : Device). Accepts (record { job = record { number = c.args.number.0; mark = Some mark.Invalid; urgent = false }; length = None }) c.start_invalidate.result (told_of d) (clock_of d) (told_of t) (clock_of t)) c.self.view_is c.start_invalidate.ensures.accepts in
-    (own.0, stays_told (told_of t) _ t own.1)
+    let old = device_of g.O.Origin.making g.O.Origin.entry c.self.inside.parts.parts in
+    let own : Accepts (record { job = record { number = c.args.number.0; mark = Some mark.Invalid; urgent = false }; length = None }) c.start_invalidate.result (told_of old) (told_clock old) (told_of t) (told_clock t) = (c.start_invalidate.ensures.accepts.0, stays_told (told_of t) old t c.start_invalidate.ensures.accepts.1) in
+    subst (λ (d : Device). Accepts (record { job = record { number = c.args.number.0; mark = Some mark.Invalid; urgent = false }; length = None }) c.start_invalidate.result (told_of d) (told_clock d) (told_of t) (told_clock t)) c.self.view_is own

@@ -4,10 +4,9 @@ use Rattle.nv_base.specs.Geometry.{sectors_of_bank}
 use Rattle.memif.specs.Told.{First, figures_at}
 use Rattle.fee_course.specs.Course.{most_turns}
 use Rattle.fls_model.specs.Told.{Told, changes_in}
-use Rattle.promise_device.specs.Bridge.{Bridges}
-use Rattle.fee_told.specs.Device.{Device, told_of}
-use Rattle.fee_told.specs.Clock.{clock_of}
-use Rattle.fee_told.proofs.Runs.{runs_bridge}
+use Rattle.promise_device.specs.Bridge.{Bridges, reading_of}
+use Rattle.fls_told.proofs.Runs.{runs_bridge}
+use Rattle.fee_told.specs.Device.{Device, told_of, clock_of, flash_device}
 use Rattle.fee_laws.specs.Inside.{device_of}
 use Rattle.fee_laws.specs.Made.{part_at}
 use Rattle.fee_core.specs.Whole.{Whole}
@@ -22,9 +21,9 @@ returns-clause-bridge g c cutter =
     let d = device_of m entry p.parts in
     let told = g.F.Flash.told c.into_flash.result in
     let same = c.into_flash.ensures ∙ ap (λ (w : Whole). w.parts.fls.flash) c.parts.view_is in
-    let holds = runs_bridge cutter d c.self.invariant.parts.device.run in
-    let out = subst (λ (x : Told). Bridges m cutter (record { entry = entry; exit = x; operations = p.parts.operations }) (part_at entry) (told_of d) (clock_of d)) (sym same) holds in
-    subst (λ (x : Device). Bridges m cutter (record { entry = entry; exit = told; operations = x.operations }) (part_at entry) (told_of x) (clock_of x)) c.self.view_is out
+    let holds = runs_bridge cutter (flash_device d) c.self.invariant.parts.device.run in
+    let out = subst (λ (x : Told). Bridges (reading_of m) cutter (record { entry = entry; exit = x; operations = p.parts.operations }) (part_at entry) (told_of d) (clock_of d)) (sym same) holds in
+    subst (λ (x : Device). Bridges (reading_of m) cutter (record { entry = entry; exit = told; operations = x.operations }) (part_at entry) (told_of x) (clock_of x)) c.self.view_is out
 
 pub returns-clause-geometry : goal.returns-clause-geometry
 returns-clause-geometry g c =

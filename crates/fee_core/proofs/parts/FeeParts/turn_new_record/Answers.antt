@@ -7,21 +7,21 @@ use Rattle.fee_core.proofs.Standing.{stands}
 use Rattle.fee_core.proofs.parts.FeeParts.turn_new_record.Goals as goal
 
 pub append_start-requires-clause-active : goal.append_start-requires-clause-active
-append_start-requires-clause-active g c = (can_append (stands c.self.view_is c.requires.up c.active-active.ensures.state c.active-active.ensures.log) c.requires.waits c.requires.begins c.in-Some.ensures.1 c.kind_of-kind.ensures c.head_next-head.ensures.head).active
+append_start-requires-clause-active g c = (can_append (stands c.self.view_is c.requires.up c.active-active.ensures.state c.active-active.ensures.log) c.requires.waits c.requires.begins c.kind_of-kind.ensures c.in-Some.ensures.1 c.head_next-head.ensures.head).active
 
 pub append_start-requires-clause-open : goal.append_start-requires-clause-open
-append_start-requires-clause-open g c = (can_append (stands c.self.view_is c.requires.up c.active-active.ensures.state c.active-active.ensures.log) c.requires.waits c.requires.begins c.in-Some.ensures.1 c.kind_of-kind.ensures c.head_next-head.ensures.head).taken
+append_start-requires-clause-open g c = (can_append (stands c.self.view_is c.requires.up c.active-active.ensures.state c.active-active.ensures.log) c.requires.waits c.requires.begins c.kind_of-kind.ensures c.in-Some.ensures.1 c.head_next-head.ensures.head).taken
 
 pub append_start-requires-clause-configured : goal.append_start-requires-clause-configured
-append_start-requires-clause-configured g c = (can_append (stands c.self.view_is c.requires.up c.active-active.ensures.state c.active-active.ensures.log) c.requires.waits c.requires.begins c.in-Some.ensures.1 c.kind_of-kind.ensures c.head_next-head.ensures.head).configured
+append_start-requires-clause-configured g c = (can_append (stands c.self.view_is c.requires.up c.active-active.ensures.state c.active-active.ensures.log) c.requires.waits c.requires.begins c.kind_of-kind.ensures c.in-Some.ensures.1 c.head_next-head.ensures.head).configured
 
 pub append_start-requires-clause-room : goal.append_start-requires-clause-room
-append_start-requires-clause-room g c = (can_append (stands c.self.view_is c.requires.up c.active-active.ensures.state c.active-active.ensures.log) c.requires.waits c.requires.begins c.in-Some.ensures.1 c.kind_of-kind.ensures c.head_next-head.ensures.head).room
+append_start-requires-clause-room g c = (can_append (stands c.self.view_is c.requires.up c.active-active.ensures.state c.active-active.ensures.log) c.requires.waits c.requires.begins c.kind_of-kind.ensures c.in-Some.ensures.1 c.head_next-head.ensures.head).room
 
 pub turn_record-requires-clause-up : goal.turn_record-requires-clause-up
 turn_record-requires-clause-up g c =
     let at = stands c.self.view_is c.requires.up c.active-active.ensures.state c.active-active.ensures.log in
-    begun_up at (record_begun at c.requires.waits c.requires.begins c.in-Some.ensures.1 c.kind_of-kind.ensures c.head_next-head.ensures.head c.append_start.new.self c.append_start.ensures)
+    begun_up at (record_begun at c.requires.waits c.requires.begins c.kind_of-kind.ensures c.in-Some.ensures.1 c.head_next-head.ensures.head c.append_start.new.self c.append_start.ensures)
 
 pub turn_record-requires-clause-work : goal.turn_record-requires-clause-work
 turn_record-requires-clause-work g c =
@@ -31,4 +31,4 @@ turn_record-requires-clause-work g c =
 pub returns : goal.returns
 returns g c =
     let at = stands c.self.view_is c.requires.up c.active-active.ensures.state c.active-active.ensures.log in
-    begun_turned at (record_begun at c.requires.waits c.requires.begins c.in-Some.ensures.1 c.kind_of-kind.ensures c.head_next-head.ensures.head c.append_start.new.self c.append_start.ensures) c.turn_record.ensures
+    begun_turned at (record_begun at c.requires.waits c.requires.begins c.kind_of-kind.ensures c.in-Some.ensures.1 c.head_next-head.ensures.head c.append_start.new.self c.append_start.ensures) c.turn_record.ensures

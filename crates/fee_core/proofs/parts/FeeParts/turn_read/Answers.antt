@@ -3,7 +3,7 @@ use Rattle.fee_log.specs.Index.{place_in}
 use Rattle.fee_log.specs.Log.{LogState}
 use Rattle.fee_laws.specs.Reads.{IsErasedAt}
 use Rattle.fee_laws.proofs.Read.{marks_are_read}
-use Rattle.fee_core.proofs.Reading.{read_some, read_within, reading, asked_for, content_read, read_fails}
+use Rattle.fee_core.proofs.Reading.{read_within, reading, asked_for, content_read, read_fails}
 use Rattle.fee_core.proofs.Standing.{stands, turned_from, job_is, job_few}
 use Rattle.fls_model.specs.declared.flash.FlashAnswer.TheVariants.{Done}
 use Rattle.fee_core.proofs.parts.FeeParts.turn_read.Goals as goal
@@ -15,11 +15,6 @@ read-answer-requires-clause-within g c =
     let log = c.in-Some.ensures.1 in
     let numbers = ap (λ (l : LogState). l.numbers) log ∙ at.on.sound.made_for.numbers in
     read_within _ c.in-Some.log.now c.args.job c.in-Content.at c.in-Content.count c.find.result (job_is at.on is.job) c.requires.op numbers c.find.ensures.within c.in-Content.is
-
-pub read-answer-requires-clause-some : goal.read-answer-requires-clause-some
-read-answer-requires-clause-some g c =
-    let at = stands c.self.view_is c.requires.up c.active-active.ensures.state c.active-active.ensures.log in
-    read_some _ c.args.job at.on.sound.made_for.space.lengths (job_is at.on (reading at c.requires.job c.requires.op).job) c.requires.op
 
 pub read-answer-requires-clause-few : goal.read-answer-requires-clause-few
 read-answer-requires-clause-few g c =

@@ -5,9 +5,16 @@ use Rattle.block_machine.specs.Legal.{MayInterrupt}
 use Rattle.block_machine.specs.Steps.{after}
 use Rattle.block_machine.specs.Next.{next_in}
 use Rattle.job_pending.specs.Pending.{Agree}
-use Rattle.nv_desk.specs.Desk.{DeskState, state_of}
-use Rattle.nv_desk.proofs.Picks.{interruption}
+use Rattle.nv_desk.specs.Desk.{DeskState, shown, state_of}
+use Rattle.nv_desk.proofs.Picks.{interruption, not_interrupting}
 use Rattle.nv_desk.proofs.desk.Desk.may_interrupt.Goals as goal
+
+pub returns-then-not-next_is_immediate : goal.returns-then-not-next_is_immediate
+returns-then-not-next_is_immediate c =
+    let d = c.self.inside in
+    let s = after d.config d.history.entries in
+    let told = c.if-not-next_is_immediate.ensures d.config s.waiting s.hand c.self.invariant.agrees.jobs in
+    rw (← c.self.view_is) (not_interrupting (shown d) told)
 
 pub returns : goal.returns
 returns c =

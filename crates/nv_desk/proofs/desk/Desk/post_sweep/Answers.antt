@@ -1,4 +1,4 @@
-use Rattle.std.proofs.Common.{◌≡◌, ◌∙◌, refl, ap, sym}
+use Rattle.std.proofs.Common.{◌≡◌, ◌∙◌, refl, ap}
 use Rattle.block_machine.specs.Sweeps.{sweep_result}
 use Rattle.nv_desk.proofs.AllBlocks.{ended_kept, room_to_finish, same_sweep}
 use Rattle.nv_desk.proofs.desk.Desk.post_sweep.Goals as goal

@@ -5,4 +5,4 @@ use Rattle.nvm_script.specs.Lines.{found_text}
 use Rattle.nvm_script.proofs.text.Text.all_found.Given as goal
 
 abbrev pub invariant-loop-i : goal.invariant-loop-i
-invariant-loop-i l = Adds (flat_map found_text (take l.i l.marks)) l.fn.self l.text
+invariant-loop-i l = Adds (flat_map found_text (take l.i l.marks)) l.initial.self l.self

@@ -5,4 +5,4 @@ use Rattle.nvm_script.specs.Summary.{result_line}
 use Rattle.nvm_script.proofs.text.Text.result_lines.Given as goal
 
 abbrev pub invariant-loop-code : goal.invariant-loop-code
-invariant-loop-code l = Adds (flat_map (λ code. result_line code (get_or l.results code 0)) (range_with_len 0 l.code)) l.fn.self l.text
+invariant-loop-code l = Adds (flat_map (λ code. result_line code (get_or l.results code 0)) (range_with_len 0 l.code)) l.initial.self l.self

@@ -28,15 +28,15 @@ pub first_half-act-requires-clause-tied : goal.first_half-act-requires-clause-ti
 first_half-act-requires-clause-tied g c =
     let e = c.enter-value.ensures in
     (stands g.D.MemDevice.told g.D.MemDevice.clock g.C.SyncCalls.told c.args.shared.now.terms (knows c.args.pass.now) (knows c.enter-value.new.pass) c.enter-value.result
-    (record { own = c.requires.own.root; root = e.root; seen = e.seen; starts = e.starts; agree = e.agree; mark = c.requires.mark; open_now = e.open; kin = e.same; written = c.len-number.ensures.written })
-    c.args.self.now (driver_of c.self.inside.device c.self.inside.copies c.self.inside.hand) c.self.view_is c.requires.drives).stands.tied
+    (record { own = c.requires.driver.own.root; root = e.root; seen = e.seen; starts = e.starts; agree = e.agree; mark = c.requires.driver.mark; open_now = e.open; kin = e.same; written = c.len-number.ensures.written })
+    c.args.self.now (driver_of c.self.inside.device c.self.inside.copies c.self.inside.hand) c.self.view_is c.requires.driver.drives).stands.tied
 
 pub first_half-act-requires-clause-fits : goal.first_half-act-requires-clause-fits
 first_half-act-requires-clause-fits g c =
     let e = c.enter-value.ensures in
     fits g.D.MemDevice.told g.D.MemDevice.clock g.C.SyncCalls.told c.args.shared.now.terms (knows c.args.pass.now) (knows c.enter-value.new.pass) c.enter-value.result
-    (record { own = c.requires.own.root; root = e.root; seen = e.seen; starts = e.starts; agree = e.agree; mark = c.requires.mark; open_now = e.open; kin = e.same; written = c.len-number.ensures.written })
-    c.args.self.now (driver_of c.self.inside.device c.self.inside.copies c.self.inside.hand) c.self.view_is c.requires.drives
+    (record { own = c.requires.driver.own.root; root = e.root; seen = e.seen; starts = e.starts; agree = e.agree; mark = c.requires.driver.mark; open_now = e.open; kin = e.same; written = c.len-number.ensures.written })
+    c.args.self.now (driver_of c.self.inside.device c.self.inside.copies c.self.inside.hand) c.self.view_is c.requires.driver.drives
 
 pub leave-requires-clause-adds : goal.leave-requires-clause-adds
 leave-requires-clause-adds g c =
@@ -46,10 +46,10 @@ leave-requires-clause-adds g c =
     let u = knows c.enter-value.new.pass in
     let x = c.enter-value.result in
     let e = c.enter-value.ensures in
-    let enters : Enters t v u x = record { own = c.requires.own.root; root = e.root; seen = e.seen; starts = e.starts; agree = e.agree; mark = c.requires.mark; open_now = e.open; kin = e.same; written = c.len-number.ensures.written } in
+    let enters : Enters t v u x = record { own = c.requires.driver.own.root; root = e.root; seen = e.seen; starts = e.starts; agree = e.agree; mark = c.requires.driver.mark; open_now = e.open; kin = e.same; written = c.len-number.ensures.written } in
     let new = c.first_half-act.new.self in
     extended t v u x new x.tells enters (half_writes x.tells c.first_half-act.result _ _ x.desk new.desk _ _ _ c.first_half-act.ensures.half.half
-    (fits g.D.MemDevice.told g.D.MemDevice.clock g.C.SyncCalls.told t v u x enters c.args.self.now (driver_of inside.device inside.copies inside.hand) c.self.view_is c.requires.drives))
+    (fits g.D.MemDevice.told g.D.MemDevice.clock g.C.SyncCalls.told t v u x enters c.args.self.now (driver_of inside.device inside.copies inside.hand) c.self.view_is c.requires.driver.drives))
 
 pub returns : goal.returns
 returns g c =
@@ -67,10 +67,10 @@ returns g c =
     let clock = clocks inside.device in
     let half = c.first_half-act.ensures in
     let new = c.first_half-act.new in
-    let enters : Enters t v u x = record { own = c.requires.own.root; root = e.root; seen = e.seen; starts = e.starts; agree = e.agree; mark = c.requires.mark; open_now = e.open; kin = e.same; written = c.len-number.ensures.written } in
-    let drive = drives told clocks copies t v u x enters c.args.self.now now c.self.view_is c.requires.drives in
-    let b = stands told clocks copies t v u x enters c.args.self.now now c.self.view_is c.requires.drives in
-    let writes = half_writes x.tells c.first_half-act.result _ _ x.desk new.self.desk _ _ _ half.half.half (fits told clocks copies t v u x enters c.args.self.now now c.self.view_is c.requires.drives) in
+    let enters : Enters t v u x = record { own = c.requires.driver.own.root; root = e.root; seen = e.seen; starts = e.starts; agree = e.agree; mark = c.requires.driver.mark; open_now = e.open; kin = e.same; written = c.len-number.ensures.written } in
+    let drive = drives told clocks copies t v u x enters c.args.self.now now c.self.view_is c.requires.driver.drives in
+    let b = stands told clocks copies t v u x enters c.args.self.now now c.self.view_is c.requires.driver.drives in
+    let writes = half_writes x.tells c.first_half-act.result _ _ x.desk new.self.desk _ _ _ half.half.half (fits told clocks copies t v u x enters c.args.self.now now c.self.view_is c.requires.driver.drives) in
     let w = knows c.leave.new.pass in
     let l = left t v u w x new.self x.tells enters (record { same = c.leave.ensures.same; more = c.leave.ensures.more }) writes in
     let desk : new.self.desk ≡ desk_with t w.seen = desk_behind t x new.self w.seen b.terms half.terms l.seen in
@@ -92,16 +92,19 @@ returns g c =
           (half_adds c.first_half-act.result _ _ x.desk new.self.desk _ _ _ first.half) first.at_device half.first b.stands.tied first.tied due);
     }) in
     record {
-      own = record { own = c.leave.ensures.own; outside = c.leave.ensures.outside; root = l.root ∙ c.requires.own.root };
       begins = begins;
       stale = λ picked. stale_shown told copies is looked (desk_with t v.seen) (desk_with t w.seen) c.args.self.now behind_it
           (subst (λ (a : Act). BeginsTurn told copies is looked a (desk_with t v.seen) (desk_with t w.seen) c.args.self.now behind_it) picked begins);
-      drives = record {
-        tied = subst (λ (y : DeskState). IsTied y new.hand (told new.device)) desk first.tied;
-        pending = subst (λ (y : DeskState). HandIsPending (state_of y)) desk c.len-len.ensures.pending;
-        next = subst (λ (y : DeskState). NextIsPending y.config (state_of y)) desk c.len-len.ensures.next;
-        synchronized = subst (λ (s : Terms). AreSynchronized s.config (copies new.copies)) b.terms half.synchronized;
-        kept = λ told_now. let (before, kept) = drive.kept told_now in (before, subst (λ (y : DeskState). StackKeeps before y new.hand (told new.device) clock_new) desk (half.keeps before (b.stands.kept before kept)));
+      driver = record {
+        own = record { own = c.leave.ensures.own; outside = c.leave.ensures.outside; root = l.root ∙ c.requires.driver.own.root };
+        mark = l.learns.mark ∙ c.requires.driver.mark;
+        drives = record {
+          tied = subst (λ (y : DeskState). IsTied y new.hand (told new.device)) desk first.tied;
+          pending = subst (λ (y : DeskState). HandIsPending (state_of y)) desk c.len-len.ensures.pending;
+          next = subst (λ (y : DeskState). NextIsPending y.config (state_of y)) desk c.len-len.ensures.next;
+          synchronized = subst (λ (s : Terms). AreSynchronized s.config (copies new.copies)) b.terms half.synchronized;
+          kept = λ told_now. let (before, kept) = drive.kept told_now in (before, subst (λ (y : DeskState). StackKeeps before y new.hand (told new.device) clock_new) desk (half.keeps before (b.stands.kept before kept)));
+        };
       };
       keeps = subst (λ (s : DriverState g.row.D.Denot g.row.C.Denot). StaysKept (desk_with t v.seen) s.hand (told s.device) (clocks s.device) (desk_with t w.seen) new.hand (told new.device) clock_new) c.self.view_is
           (subst (λ (y : DeskState). StaysKept (desk_with t v.seen) inside.hand d clock y new.hand (told new.device) clock_new) desk

@@ -55,9 +55,12 @@ returns g c =
     let l = left t v u w x y x.tells enters (record { same = c.leave.ensures.same; more = c.leave.ensures.more }) writes in
     let desk = desk_behind t x y w.seen (stood told clock copies t v u x enters self now c.self.view_is c.args.turned s may).terms half.terms l.seen in
     record {
-      own = record { own = c.leave.ensures.own; outside = c.leave.ensures.outside; root = l.root ∙ c.requires.own.root };
       device = ap (λ (s : DriverState g.row.D.Denot g.row.C.Denot). s.device) c.self.view_is;
       learns = l.learns;
-      drives = drives_on told clock copies t v u x enters self now c.self.view_is c.args.turned s may c.second_half-answer.result y hand w.seen half.takes half.tied desk c.len-len.ensures.pending c.len-len.ensures.next;
+      driver = record {
+        own = record { own = c.leave.ensures.own; outside = c.leave.ensures.outside; root = l.root ∙ c.requires.own.root };
+        mark = l.learns.mark ∙ c.requires.mark;
+        drives = drives_on told clock copies t v u x enters self now c.self.view_is c.args.turned s may c.second_half-answer.result y hand w.seen half.takes half.tied desk c.len-len.ensures.pending c.len-len.ensures.next;
+      };
       ends = λ s may. ends told clock copies t v u x enters self now c.self.view_is c.args.turned s may c.second_half-answer.result y hand w.seen half.takes half.tied desk c.len-len.ensures.legal c.len-len.ensures.within;
     }

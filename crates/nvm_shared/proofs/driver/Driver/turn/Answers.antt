@@ -21,7 +21,7 @@ use Rattle.nvm_shared.proofs.driver.Driver.turn.Goals as goal
 pub finish-answer-requires-clause-turned : goal.finish-answer-requires-clause-turned
 finish-answer-requires-clause-turned g c =
     let is = c.in-Device.ensures in
-    (c.begin.new.self, may_end g.D.MemDevice.told g.D.MemDevice.clock g.C.SyncCalls.told g.C.SyncCalls.is_store g.C.SyncCalls.looked c.args.shared.now.terms.tells c.device_turn-turned.result _ _ _ _ _ is.begins is.drives c.device_turn-turned.ensures.turns)
+    (c.begin.new.self, may_end g.D.MemDevice.told g.D.MemDevice.clock g.C.SyncCalls.told g.C.SyncCalls.is_store g.C.SyncCalls.looked c.args.shared.now.terms.tells c.device_turn-turned.result _ _ _ _ _ is.begins is.driver.drives c.device_turn-turned.ensures.turns)
 
 pub returns-in-Ended : goal.returns-in-Ended
 returns-in-Ended g c =
@@ -38,10 +38,8 @@ returns-in-Ended g c =
     let never : answer ≡ turned.Worked → ⊥ = λ worked. never_worked answer _ _ _ _ _ _ _ worked half.half in
     let same = leaves_counts (told old.device) (told new.device) half.device in
     record {
-      own = is.own;
-      mark = is.learns.mark ∙ c.requires.mark;
+      driver = is.driver;
       parts = is.learns.parts;
-      drives = is.drives;
       keeps = is.keeps;
       turns = inl is.begins;
       counted = omega (arith, same);
@@ -71,16 +69,14 @@ returns-in-Device g c =
     let half = is.begins.half in
     let behind = c.finish-answer.ensures in
     let ends = behind.ends between
-    (may_end told clocks g.C.SyncCalls.told g.C.SyncCalls.is_store g.C.SyncCalls.looked c.args.shared.now.terms.tells c.device_turn-turned.result desk desk_between old between _ is.begins is.drives c.device_turn-turned.ensures.turns) in
+    (may_end told clocks g.C.SyncCalls.told g.C.SyncCalls.is_store g.C.SyncCalls.looked c.args.shared.now.terms.tells c.device_turn-turned.result desk desk_between old between _ is.begins is.driver.drives c.device_turn-turned.ensures.turns) in
     let less = less_before told desk is.begins.asks old in
     let same = leaves_counts (told old.device) (told between.device) half.device in
     let more = device_counts answer (told between.device) (clocks between.device) (told new.device) (clocks new.device) ends.turns in
     let faults : (told between.device).first.faults ≡ (told old.device).first.faults = ap (λ (x : DeviceTold). x.first.faults) half.device in
     record {
-      own = behind.own;
-      mark = behind.learns.mark ∙ is.learns.mark ∙ c.requires.mark;
+      driver = behind.driver;
       parts = behind.learns.parts ∙ is.learns.parts;
-      drives = behind.drives;
       keeps = λ before kept. ends.keeps before (is.keeps before kept);
       turns = inr (
         desk_between,
@@ -95,7 +91,7 @@ returns-in-Device g c =
           (device_lasts answer (told between.device) (clocks between.device) (told new.device) (clocks new.device) ends.turns);
       lowers = device_lowers told (stack_of desk old) answer (stack_of desk_between between) (stack_of desk_new new) (clocks between.device) (clocks new.device) ends.turns
           (omega (arith, half.lowers, less)) same
-          (none_before desk old.hand between.hand (told old.device) (told between.device) half.at_device c.requires.drives.tied.paired)
+          (none_before desk old.hand between.hand (told old.device) (told between.device) half.at_device c.requires.driver.drives.tied.paired)
           (λ worked. ends.lowers worked (half.started refl));
       due = λ number turns calm due.
           inr (ends.nearer number turns (half.started refl) half.half.1 (subst (λ (n : ℕ). ¬ Rose n (told new.device).first.faults) (sym faults) calm.faultless) calm.on (is.begins.served number turns due));

@@ -1,0 +1,5 @@
+pub mod Clocks
+pub mod Making
+pub mod Parts
+pub mod Runs
+pub mod Tells

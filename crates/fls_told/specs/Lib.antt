@@ -1,0 +1,5 @@
+pub mod Device
+pub mod Clock
+pub mod Parts
+pub mod Runs
+pub mod Tells
