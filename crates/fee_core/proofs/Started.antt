@@ -1,6 +1,6 @@
 -- A start-up, from what its calls answer.
 use Rattle.std.specs.Prelude.{IfSome}
-use Rattle.std.proofs.Common.{◌≡◌, ℕ, Bool, true, false, List, Option, Some, None, Result, Ok, Err, refl, sym, ap, ◌∙◌, subst}
+use Rattle.std.proofs.Common.{◌≡◌, ◌+◌, ℕ, Bool, true, false, List, Option, Some, None, Result, Ok, Err, refl, sym, ap, ◌∙◌, subst}
 use Rattle.nv_base.specs.Count.{Rose, next_count}
 use Rattle.memif.specs.declared.answer.JobResult.TheVariants.{JobOk}
 use Rattle.memif.specs.declared.answer.StartFault.{StartFault}
@@ -47,8 +47,8 @@ failed_driver old p f is same flash =
     same ∙ (λ i. record p { flash = flash i; result = f.result }) ∙ ap (λ (x : FlsState). record x { flash = record x.flash { faults = f.flash.faults }; result = f.result }) is
 
 -- the parts with this driver and these banks, and nothing open
-abbrev resting : Parts → FlsState → BanksState → Bool → ℕ → Parts
-resting s f b ready faults = record s { fls = f; banks = b; job = None; last = JobOk; given = 0; started = ready; faults = faults }
+abbrev resting : Parts → FlsState → BanksState → ℕ → Bool → ℕ → Parts
+resting s f b starts ready faults = record s { fls = f; banks = b; job = None; last = JobOk; given = 0; starts = starts; started = ready; faults = faults }
 
 -- what the banks are where they are ready
 pub record IsLoaded (old b : BanksState) : Type 0 where
@@ -104,31 +104,34 @@ module _ {m : Making} {entry : Told} {w v : Whole} (shown : w ≡ v) (sound : So
   starts answer t is follows = (record { parts = is.0; follows = follows }, subst (λ (x : Whole). StartsUp answer (told_in m entry x) (clock_in m entry x) (told_at m entry t) (clock_at m entry t)) shown is.1)
 
   -- they are as the bytes show them
-  ready_follows : f.flash ≡ p.flash → IfSome p.flash.bytes (λ x. FindsActive x.now b) → IfSome p.flash.bytes (λ x. LoadsActive x.now b) → Follows (resting s f b true s.faults)
+  ready_follows : f.flash ≡ p.flash → IfSome p.flash.bytes (λ x. FindsActive x.now b) → IfSome p.flash.bytes (λ x. LoadsActive x.now b) → Follows (resting s f b (s.starts + 1) true s.faults)
   ready_follows flash finds loads =
       let here : f.flash.bytes ≡ s.fls.flash.bytes = ap (λ (x : Told). x.bytes) flash ∙ ap (λ (x : FlsState). x.flash.bytes) is in
       let bytes = subst (λ (o : Option ToldBytes). IfSome o (λ x. AreBytesOf b.geometry x.now)) (sym here) (subst (λ (g : Geometry). IfSome s.fls.flash.bytes (λ x. AreBytesOf g x.now)) (sym are.geometry) parts.made_for.bytes) in
       let finds' = subst (λ (x : Told). IfSome x.bytes (λ y. FindsActive y.now b)) (sym flash) finds in
       let loads' = subst (λ (x : Told). IfSome x.bytes (λ y. LoadsActive y.now b)) (sym flash) loads in
-      starts_follow (resting s f b true s.faults) (record { state = state; shut = closed; bytes = bytes; finds = finds'; loads = loads'; closes = closes_in f.flash.bytes b loads' })
+      starts_follow (resting s f b (s.starts + 1) true s.faults) (record { state = state; shut = closed; bytes = bytes; finds = finds'; loads = loads'; closes = closes_in f.flash.bytes b loads' })
 
-  pub ready_ends : IsLoaded s.banks b → f.flash ≡ p.flash → IfSome p.flash.bytes (λ x. FindsActive x.now b) → IfSome p.flash.bytes (λ x. LoadsActive x.now b) → Starts (Ok tt) (resting s f b true s.faults)
-  ready_ends loaded flash finds loads =
+  pub ready_ends : IsLoaded s.banks b → f.flash ≡ p.flash → IfSome p.flash.bytes (λ x. FindsActive x.now b) → IfSome p.flash.bytes (λ x. LoadsActive x.now b) → {n : ℕ} → n ≡ s.starts + 1 → Starts (Ok tt) (resting s f b n true s.faults)
+  ready_ends loaded flash finds loads {n} more =
       let finds' = subst (λ (x : FlsState). IfSome x.flash.bytes (λ y. FindsActive y.now b)) is finds in
       let loads' = subst (λ (x : FlsState). IfSome x.flash.bytes (λ y. LoadsActive y.now b)) is loads in
       let ready = starts_are_ready m entry s w.numbers w.reserve w.ops w.off b f.result parts are (record { ready = are_ready s.banks b of loaded; finds = finds'; loads = loads' }) in
       let driver = sym (ready_driver s.fls p f is same flash) in
-      starts (Ok tt) (resting s f b true s.faults)
-      (subst (λ (x : FlsState). (let t = resting s x b true s.faults in IsSound m entry t w.numbers w.reserve w.ops false × StartsUp (Ok tt) (told_at m entry s) (clock_at m entry s) (told_at m entry t) (clock_at m entry t))) driver ready)
-      (ready_follows flash finds loads)
+      subst (λ (k : ℕ). Starts (Ok tt) (resting s f b k true s.faults)) (sym more)
+      (starts (Ok tt) (resting s f b (s.starts + 1) true s.faults)
+      (subst (λ (x : FlsState). (let t = resting s x b (s.starts + 1) true s.faults in IsSound m entry t w.numbers w.reserve w.ops false × StartsUp (Ok tt) (told_at m entry s) (clock_at m entry s) (told_at m entry t) (clock_at m entry t))) driver ready)
+      (ready_follows flash finds loads))
 
-  pub failed_ends : f.flash ≡ record p.flash { faults = f.flash.faults } → Rose p.flash.faults f.flash.faults → {faults : ℕ} → faults ≡ next_count s.faults → Starts (Err Fault) (resting s f b false faults)
-  failed_ends flash rose {faults} counted =
+  pub failed_ends : f.flash ≡ record p.flash { faults = f.flash.faults } → Rose p.flash.faults f.flash.faults → {faults : ℕ} → faults ≡ next_count s.faults → {n : ℕ} → n ≡ s.starts + 1
+      → Starts (Err Fault) (resting s f b n false faults)
+  failed_ends flash rose {faults} counted {n} more =
       let rose' = subst (λ (x : FlsState). Rose x.flash.faults f.flash.faults) is rose in
       let failed = starts_fail m entry s w.numbers w.reserve w.ops w.off b f.result f.flash.faults parts are rose' in
       let driver = sym (failed_driver s.fls p f is same flash) in
-      let t = resting s f b false (next_count s.faults) in
-      subst (λ (n : ℕ). Starts (Err Fault) (resting s f b false n)) (sym counted)
+      let t = resting s f b (s.starts + 1) false (next_count s.faults) in
+      subst (λ (k : ℕ). Starts (Err Fault) (resting s f b k false faults)) (sym more)
+      (subst (λ (k : ℕ). Starts (Err Fault) (resting s f b (s.starts + 1) false k)) (sym counted)
       (starts (Err Fault) t
-      (subst (λ (x : FlsState). (let t = resting s x b false (next_count s.faults) in IsSound m entry t w.numbers w.reserve w.ops false × StartsUp (Err Fault) (told_at m entry s) (clock_at m entry s) (told_at m entry t) (clock_at m entry t))) driver failed)
-      (unstarted_follows t refl))
+      (subst (λ (x : FlsState). (let t = resting s x b (s.starts + 1) false (next_count s.faults) in IsSound m entry t w.numbers w.reserve w.ops false × StartsUp (Err Fault) (told_at m entry s) (clock_at m entry s) (told_at m entry t) (clock_at m entry t))) driver failed)
+      (unstarted_follows t refl)))

@@ -37,7 +37,7 @@ clock_in m entry w = clock_of (device_of m entry w.parts)
 -- what is kept of a device that has these, and did nothing yet
 abbrev pub unstarted : FlsState → BanksState → List (DeviceNumber × ℕ) → ℕ → List ℕ → Whole
 unstarted fls banks numbers reserve content = record {
-  parts = record { fls = fls; banks = banks; content = content; job = None; last = JobOk; given = 0; started = false; faults = 0; worn = None; operations = [] };
+  parts = record { fls = fls; banks = banks; content = content; job = None; last = JobOk; given = 0; starts = 0; started = false; faults = 0; worn = None; operations = [] };
   numbers = numbers;
   reserve = reserve;
   ops = 0;

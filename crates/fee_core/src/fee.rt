@@ -71,6 +71,7 @@ fn unstarted<F: Flash, O: Origin>(
         job: None,
         last: JobResult::JobOk,
         given: 0,
+        starts: Trace::new(),
         started: false,
         off: false,
         ops: 0,

@@ -22,6 +22,7 @@ pub(crate) struct FeeParts<F: Flash, O: Origin> {
     pub job: Option<FeeJob>,
     pub last: JobResult,
     pub given: u16,
+    pub starts: Trace<()>,
     pub started: bool,
     pub off: bool,
     pub ops: u64,
@@ -32,6 +33,7 @@ pub(crate) struct FeeParts<F: Flash, O: Origin> {
 }
 
 impl<F: Flash, O: Origin> Model for FeeParts<F, O> {
+    ghost use Rattle.std.specs.Prelude.{length};
     ghost use Rattle.fee_core.specs.Whole.{Whole};
 
     ghost Value = { Whole };
@@ -44,6 +46,7 @@ impl<F: Flash, O: Origin> Model for FeeParts<F, O> {
         job = s.job;
         last = s.last;
         given = s.given;
+        starts = length s.starts.items;
         started = s.started;
         faults = s.faults;
         worn = s.worn;

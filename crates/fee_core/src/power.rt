@@ -24,6 +24,7 @@ impl<F: Flash, O: Origin> FeeParts<F, O> {
         self.job = None;
         self.last = JobResult::JobOk;
         self.given = 0;
+        self.starts = self.starts.with(&());
         match answer {
             BankStart::Ready => {
                 self.started = true;

@@ -163,7 +163,7 @@ module _ (m : Making) (entry : Told) (s : Parts) (listed : List (DeviceNumber ×
         (
           First,
           record {
-            only = λ i. record (told_of e) { started = ap (λ (x : Parts). x.started) none.only i };
+            only = λ i. record (told_of e) { starts = ap (λ (x : Parts). x.starts) none.only i; started = ap (λ (x : Parts). x.started) none.only i };
             up = on.started;
             of = is_of_first m s.content s.job s.last s.given;
             part = part;

@@ -93,7 +93,7 @@ module _ (m : Making) (entry : Told) (s : Parts) (legal : IsLegal m.geometry) (a
   rests_made = refl
 
   pub made_of : IsMadeOf m entry d
-  made_of = record { making = refl; told_entry = refl; made = is_made; started = refl; stand = refl; ops = refl; part = λ i. record { faults = 0; flash_faults = at.faults i; off = at.off i; planning = at.planning i }; rests = rests_made }
+  made_of = record { making = refl; told_entry = refl; made = is_made; started = refl; starts = refl; stand = refl; ops = refl; part = λ i. record { faults = 0; flash_faults = at.faults i; off = at.off i; planning = at.planning i }; rests = rests_made }
 
 pub new_is_sound : NewIsSound
 new_is_sound m entry s new = (

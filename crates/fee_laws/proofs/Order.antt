@@ -45,7 +45,7 @@ urgent_is m j = ap (λ (p : Part). j.urgent && is_first p) (first_of m j.number)
 
 -- any job of the device is of the first part
 pub is_of_first : (m : Making) (content : List ℕ) (o : Option FeeJob) (last : JobResult) (given : ℕ) → IsOf First (fixed_in m) (stand_of content o last given)
-is_of_first m content None last given = tt
+is_of_first m content None last given = refl
 is_of_first m content (Some j) last given = (tt, sym (first_of m j.number.0))
 
 -- BEFORE AN URGENT WRITE

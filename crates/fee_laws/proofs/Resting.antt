@@ -50,7 +50,7 @@ module _ (m : Making) (entry : Told) (s : Parts) (listed : List (DeviceNumber ×
 
   -- the work is that of its one part
   of_by : (o : Option FeeJob) → IsOf First (fixed_in m) (at o)
-  of_by None = tt
+  of_by None = refl
   of_by (Some j) = (tt, sym (first_of m j.number.0))
 
   open_job : (o : Option FeeJob) (b : Bool) → IsSome o → not (is_open (at o)) && b ≡ false

@@ -48,6 +48,7 @@ pub record Parts : Type 0 where
   -- what the last job came to, and the length of the content that it gave
   pub last : JobResult
   pub given : ℕ
+  pub starts : ℕ
   pub started : Bool
   pub faults : ℕ
   pub worn : Option ℕ
@@ -92,6 +93,7 @@ device_of m entry s = record {
   operations = s.operations;
   faults = s.faults;
   worn = s.worn;
+  starts = s.starts;
   started = s.started;
   memory = memory_of s;
   left = left_of (stand_of s.content s.job s.last s.given) (work_of m.reserve s.banks s.job);

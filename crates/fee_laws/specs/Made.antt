@@ -11,12 +11,13 @@ use Rattle.fee_told.specs.Device.{Device, told_of, flash_device}
 abbrev pub part_at : Told → PartTold
 part_at entry = record { faults = 0; flash_faults = entry.faults; off = entry.off; planning = entry.planning }
 
--- of this, over a flash that told this: it asked for no operation yet, isn't started, and has nothing open
+-- of this, over a flash that told this: it asked for no operation yet, wasn't started, and has nothing open
 pub record IsMadeOf (m : Making) (entry : Told) (d : Device) : Type 0 where
   pub making : d.making ≡ m
   pub told_entry : d.entry ≡ entry
   pub made : IsMade (flash_device d)
   pub started : d.started ≡ false
+  pub starts : d.starts ≡ 0
   pub stand : (told_of d).stand ≡ Ended JobOk []
   pub ops : (told_of d).ops ≡ 0
   pub part : (told_of d).first ≡ part_at entry

@@ -1,5 +1,5 @@
 -- What each call that isn't a turn makes of the parts of a device.
-use Rattle.std.specs.Prelude.{ℕ, Bool, [], List, None, Some, false, if◌then◌else◌, is_some}
+use Rattle.std.specs.Prelude.{◌+◌, ℕ, Bool, [], List, None, Some, false, if◌then◌else◌, is_some}
 use Rattle.nv_base.specs.Plan.{dropped}
 use Rattle.memif.specs.declared.answer.JobResult.TheVariants.{JobOk, JobCanceled}
 use Rattle.fls_model.specs.Told.{armed}
@@ -12,7 +12,7 @@ use Rattle.fee_laws.specs.Inside.{Parts}
 
 -- nothing was done yet
 abbrev pub fresh : Parts → Parts
-fresh s = record s { job = None; last = JobOk; given = 0; started = false; faults = 0; worn = None; operations = [] }
+fresh s = record s { job = None; last = JobOk; given = 0; starts = 0; started = false; faults = 0; worn = None; operations = [] }
 
 -- a plan at its flash
 abbrev pub with_plan : ℕ → ℕ → Parts → Parts
@@ -26,6 +26,7 @@ started_with s b result flash_faults ready faults = record s {
   job = None;
   last = JobOk;
   given = 0;
+  starts = s.starts + 1;
   started = ready;
   faults = faults;
 }

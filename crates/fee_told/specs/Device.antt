@@ -26,7 +26,8 @@ pub record Device : Type 0 where
   pub faults : ℕ
   -- from when on it is worn out, if it is
   pub worn : Option ℕ
-  -- the last start-up answered Ok, and the rest of its memory is of use
+  -- how often it was started up; the last start-up answered Ok, and the rest of its memory is of use
+  pub starts : ℕ
   pub started : Bool
   pub memory : Memory
   -- the turns of its work, and how an urgent write stands
@@ -61,6 +62,7 @@ flash_device d = record {
   slots = slots_in d;
   stand = d.memory.stand;
   switching = d.started && is_switching d.memory.phase;
+  starts = d.starts;
   left = d.left;
   ready = d.ready;
   wait = d.wait;

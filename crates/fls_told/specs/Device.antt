@@ -19,7 +19,8 @@ pub record FlashDevice : Type 0 where
   pub faults : ℕ
   -- from when on it is worn out for a number, if it is
   pub worn : ℕ → Option ℕ
-  -- the last start-up answered Ok
+  -- how often it was started up; the last start-up answered Ok
+  pub starts : ℕ
   pub started : Bool
   -- what its numbers hold where its flash has these bytes
   pub slots : List ℕ → List Slot
@@ -65,6 +66,7 @@ flash_told d = record {
   stand = d.stand;
   switching = d.switching;
   ops = asked_ops d;
+  starts = d.starts;
   first = flash_part d;
   second = no_part;
   left = d.left;

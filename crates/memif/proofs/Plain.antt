@@ -15,7 +15,7 @@ use Rattle.memif.specs.declared.kept.Kept.{Kept}
 use Rattle.memif.specs.declared.plain_store.PlainJob.{PlainJob}
 use Rattle.memif.specs.Calls.{refusal_of, length_refusal}
 use Rattle.memif.specs.Kept.{undoubted}
-use Rattle.memif.specs.PlainInside.{slot_of, told_with, AreKept}
+use Rattle.memif.specs.PlainInside.{StartUps, slot_of, told_with, AreKept}
 
 -- PLACES
 -- a number has the first place, or one behind it
@@ -109,13 +109,13 @@ room_map (x ∷ xs) [] room = absurd room
 room_map (x ∷ xs) (k ∷ ks) room = (room.0, room.1, room_map xs ks room.2)
 
 -- REFUSALS
-pub refusal_is : (numbers : List (DeviceNumber × ℕ)) (kept : List Kept) (started : Bool) (job : Option PlainJob) (last : JobResult) (given : Option ℕ) (number : ℕ) (size : Option ℕ) (r : Option DeviceRefusal) → is_some job ≡ false → started ≡ true → length_refusal size (length_of numbers number) ≡ r → refusal_of (told_with numbers kept started job last given) number size ≡ r
-refusal_is numbers kept started None last given number size r none on is = rw on is
-refusal_is numbers kept started (Some j) last given number size r none on is = cc
+pub refusal_is : (numbers : List (DeviceNumber × ℕ)) (kept : List Kept) (up : StartUps) (job : Option PlainJob) (last : JobResult) (given : Option ℕ) (number : ℕ) (size : Option ℕ) (r : Option DeviceRefusal) → is_some job ≡ false → up.started ≡ true → length_refusal size (length_of numbers number) ≡ r → refusal_of (told_with numbers kept up job last given) number size ≡ r
+refusal_is numbers kept up None last given number size r none on is = rw on is
+refusal_is numbers kept up (Some j) last given number size r none on is = cc
 
-pub none_open : (numbers : List (DeviceNumber × ℕ)) (kept : List Kept) (started : Bool) (job : Option PlainJob) (last : JobResult) (given : Option ℕ) (number : ℕ) (size : Option ℕ) → refusal_of (told_with numbers kept started job last given) number size ≡ None → job ≡ None
-none_open numbers kept started None last given number size none = refl
-none_open numbers kept started (Some j) last given number size none = cc
+pub none_open : (numbers : List (DeviceNumber × ℕ)) (kept : List Kept) (up : StartUps) (job : Option PlainJob) (last : JobResult) (given : Option ℕ) (number : ℕ) (size : Option ℕ) → refusal_of (told_with numbers kept up job last given) number size ≡ None → job ≡ None
+none_open numbers kept up None last given number size none = refl
+none_open numbers kept up (Some j) last given number size none = cc
 
 -- THE MARKS
 module _ (numbers : List (DeviceNumber × ℕ)) (kept : List Kept) (number place : ℕ) (room : AreKept numbers kept) (at : place_of numbers number ≡ Some place) where

@@ -1,6 +1,6 @@
 -- What the calls of a device in memory do.
 use Rattle.std.specs.Prelude.{◌==◌, ◌&&◌, slice_get, is_none, not, is_some}
-use Rattle.std.proofs.Common.{◌≡◌, ◌≢◌, ◌⊎◌, inl, inr, ◌<◌, ◌≤◌, ℕ, zero, suc, Bool, true, false, if◌then◌else◌, List, [], ◌∷◌, get_or, set, map, Option, Some, None, Ok, refl, sym, ap, ◌∙◌, subst, arith, length, All}
+use Rattle.std.proofs.Common.{◌≡◌, ◌≢◌, ◌⊎◌, inl, inr, ◌<◌, ◌≤◌, ◌+◌, ℕ, zero, suc, Bool, true, false, if◌then◌else◌, List, [], ◌∷◌, get_or, set, map, Option, Some, None, Ok, refl, sym, ap, ◌∙◌, subst, arith, length, All}
 use Rattle.std.proofs.lemmas.Bool.{not-true, not-false, cases_Bool, eqb-true}
 use Rattle.std.specs.List.{Contains}
 use Rattle.nv_base.specs.Lengths.{place_of}
@@ -17,11 +17,11 @@ use Rattle.memif.specs.Clock.{FindsNow, Ticks}
 use Rattle.memif.specs.Calls.{InOrder, ClockStays, Arms, IsPrompt, Nearer, is_first, StartsUp, PowersUp, Opens, Turns, PartTurns, Reads, Gives, EndsAs, refusal_of, length_refusal, Accepts, IsKind, kind_of}
 use Rattle.memif.specs.Plain.{plain_figures, plain_fixed, no_clock}
 use Rattle.memif.specs.Kept.{settled, undoubted}
-use Rattle.memif.specs.PlainInside.{mark_of, held_of, slot_of, next_of, turns_of, job_of, told_with, given_of, AreKept, IsSoundWith, content_of, IsSoundJob, GivesBehind, stand_of, IsSoundGiven}
+use Rattle.memif.specs.PlainInside.{StartUps, mark_of, held_of, slot_of, next_of, turns_of, job_of, told_with, given_of, AreKept, IsSoundWith, content_of, IsSoundJob, GivesBehind, stand_of, IsSoundGiven}
 use Rattle.memif.proofs.Turning.{none_in, same_clock, past_same}
 use Rattle.memif.proofs.Plain.{at_same, length_at, length_none, refusal_is, blank, place_within, slot_is, slot_set, get_is, get_set, none_open, kept_length, size_is, room_at, room_set}
 use Rattle.memif.specs.declared.answer.DeviceRefusal.{DeviceRefusal}
-use Rattle.memif.specs.declared.answer.DeviceRefusal.TheVariants.{BadLength}
+use Rattle.memif.specs.declared.answer.DeviceRefusal.TheVariants.{Uninit, BadLength}
 use Rattle.std.proofs.lemmas.List.{get_or_default}
 use Rattle.memif.specs.declared.answer.PlainMark.TheVariants as plain
 use Rattle.std.proofs.lemmas.Option.{slice_get-get_or}
@@ -54,32 +54,32 @@ finds_now : (d : DeviceTold) → FindsNow d no_clock
 finds_now d m finds = absurd finds
 
 -- IN ORDER
-pub order_none : (numbers : List (DeviceNumber × ℕ)) (kept : List Kept) (started : Bool) (last : JobResult) (given : Option ℕ) → InOrder (told_with numbers kept started None last given) no_clock
-order_none numbers kept started last given = record {
+pub order_none : (numbers : List (DeviceNumber × ℕ)) (kept : List Kept) (up : StartUps) (last : JobResult) (given : Option ℕ) → InOrder (told_with numbers kept up None last given) no_clock
+order_none numbers kept up last given = record {
   bounded = omega arith;
   fits = omega arith;
   ready = omega arith;
   wait = λ h. (0, refl, omega arith);
   second = λ h. refl;
-  now = finds_now (told_with numbers kept started None last given);
+  now = finds_now (told_with numbers kept up None last given);
 }
 
 figures_of : (numbers : List (DeviceNumber × ℕ)) (j : PlainJob) → place_of numbers j.number.0 ≡ Some j.place → figures_at (plain_fixed numbers) j.number.0 ≡ plain_figures
 figures_of numbers j at = at_same no_figures numbers plain_figures j.number.0 _ (length_at numbers j.number.0 j.place (record { 0 = 0 }, 0) at)
 
-pub order_open : (numbers : List (DeviceNumber × ℕ)) (kept : List Kept) (started : Bool) (j : PlainJob) (last : JobResult) (given : Option ℕ) → place_of numbers j.number.0 ≡ Some j.place → InOrder (told_with numbers kept started (Some j) last given) no_clock
-order_open numbers kept started j last given at = record {
+pub order_open : (numbers : List (DeviceNumber × ℕ)) (kept : List Kept) (up : StartUps) (j : PlainJob) (last : JobResult) (given : Option ℕ) → place_of numbers j.number.0 ≡ Some j.place → InOrder (told_with numbers kept up (Some j) last given) no_clock
+order_open numbers kept up j last given at = record {
   bounded = rw (figures_of numbers j at) (omega (arith, most_is (op_of (job_of kept j).mark)));
   fits = omega arith;
   ready = omega arith;
   wait = λ h. (turns_of j.urgent, refl, turns_few j.urgent);
   second = λ h. refl;
-  now = finds_now (told_with numbers kept started (Some j) last given);
+  now = finds_now (told_with numbers kept up (Some j) last given);
 }
 
-pub in_order : (numbers : List (DeviceNumber × ℕ)) (kept : List Kept) (started : Bool) (job : Option PlainJob) (last : JobResult) (given : Option ℕ) (now : DeviceTold) → told_with numbers kept started job last given ≡ now → IsSoundWith numbers kept started job last given → InOrder now no_clock
-in_order numbers kept started None last given now view sound = subst (λ (d : DeviceTold). InOrder d no_clock) view (order_none numbers kept started last given)
-in_order numbers kept started (Some j) last given now view sound = subst (λ (d : DeviceTold). InOrder d no_clock) view (order_open numbers kept started j last given sound.at)
+pub in_order : (numbers : List (DeviceNumber × ℕ)) (kept : List Kept) (up : StartUps) (job : Option PlainJob) (last : JobResult) (given : Option ℕ) (now : DeviceTold) → told_with numbers kept up job last given ≡ now → IsSoundWith numbers kept up job last given → InOrder now no_clock
+in_order numbers kept up None last given now view sound = subst (λ (d : DeviceTold). InOrder d no_clock) view (order_none numbers kept up last given)
+in_order numbers kept up (Some j) last given now view sound = subst (λ (d : DeviceTold). InOrder d no_clock) view (order_open numbers kept up j last given sound.at)
 
 pub stays : (d : DeviceTold) → InOrder d no_clock → ClockStays no_clock d no_clock
 stays d order = record { same = same_clock no_clock; order = order }
@@ -99,17 +99,21 @@ ticks old new = record {
 powers_up : PowersUp no_part no_part
 powers_up = record { only = refl; faults = record { faults = omega arith; flash = omega arith; tied = inl (omega arith) }; off = λ h. h }
 
-pub starts_up : (numbers : List (DeviceNumber × ℕ)) (kept : List Kept) (started : Bool) (job : Option PlainJob) (last : JobResult) (given : Option ℕ) → StartsUp (Ok tt) (told_with numbers kept started job last given) no_clock (told_with numbers (map undoubted kept) true None JobOk None) no_clock
-starts_up numbers kept started job last given = record {
-  only = refl;
-  comes_to = (refl, refl, refl, λ n. (slots_undoubted numbers kept n).1);
-  marks = λ n. record { settled = inl (slots_undoubted numbers kept n).0; doubts = λ m has. absurd (none_in m (subst (λ (l : List Held). Contains l m) (slots_undoubted numbers kept n).1 has)) };
-  first = powers_up;
-  second = powers_up;
-  clock_stays = stays (told_with numbers (map undoubted kept) true None JobOk None) (order_none numbers (map undoubted kept) true JobOk None);
-}
+module _ (numbers : List (DeviceNumber × ℕ)) (kept : List Kept) (up : StartUps) (job : Option PlainJob) (last : JobResult) (given : Option ℕ) (starts : ℕ) (counted : starts ≡ up.starts + 1) where
+  abbrev again : DeviceTold
+  again = told_with numbers (map undoubted kept) (record { started = true; starts = starts }) None JobOk None
 
-module _ (numbers : List (DeviceNumber × ℕ)) (kept : List Kept) (started : Bool) (last : JobResult) (given : Option ℕ) (j : PlainJob) (room : AreKept numbers kept) (at : place_of numbers j.number.0 ≡ Some j.place) where
+  pub starts_up : StartsUp (Ok tt) (told_with numbers kept up job last given) no_clock again no_clock
+  starts_up = record {
+    only = λ i. told_with numbers (map undoubted kept) (record { started = true; starts = counted i }) None JobOk None;
+    comes_to = (refl, refl, refl, λ n. (slots_undoubted numbers kept n).1);
+    marks = λ n. record { settled = inl (slots_undoubted numbers kept n).0; doubts = λ m has. absurd (none_in m (subst (λ (l : List Held). Contains l m) (slots_undoubted numbers kept n).1 has)) };
+    first = powers_up;
+    second = powers_up;
+    clock_stays = stays again (order_none numbers (map undoubted kept) (record { started = true; starts = starts }) JobOk None);
+  }
+
+module _ (numbers : List (DeviceNumber × ℕ)) (kept : List Kept) (up : StartUps) (last : JobResult) (given : Option ℕ) (j : PlainJob) (room : AreKept numbers kept) (at : place_of numbers j.number.0 ≡ Some j.place) where
   abbrev one : Kept
   one = get_or kept j.place blank
 
@@ -132,22 +136,22 @@ module _ (numbers : List (DeviceNumber × ℕ)) (kept : List Kept) (started : Bo
   figures_are = figures_of numbers j at
 
   -- THE START OF A JOB
-  starts_ready : (after : List Kept) (u : Bool) → j.urgent ≡ u → (b : Bool) → IfElse (u && b) (IsPrompt (figures_at (plain_fixed numbers) j.number.0).pages (told_with numbers kept started None last given) (told_with numbers after started (Some j) last None)) ((told_with numbers kept started None last given).ready ≤ (told_with numbers after started (Some j) last None).ready)
+  starts_ready : (after : List Kept) (u : Bool) → j.urgent ≡ u → (b : Bool) → IfElse (u && b) (IsPrompt (figures_at (plain_fixed numbers) j.number.0).pages (told_with numbers kept up None last given) (told_with numbers after up (Some j) last None)) ((told_with numbers kept up None last given).ready ≤ (told_with numbers after up (Some j) last None).ready)
   starts_ready after true is true = λ le. (omega arith, (0, 1, refl, ap (λ (b : Bool). Some (turns_of b)) is, rw figures_are (omega arith)))
   starts_ready after true is false = omega arith
   starts_ready after false is b = omega arith
 
-  opens : (after : List Kept) (m : Option Mark) → (if j.reads then None else Some (next_of (slice_get after j.place))) ≡ m → DoubtsAt j.number.0 m (told_with numbers kept started None last given) (told_with numbers after started (Some j) last None)
-      → Opens (record { number = j.number.0; mark = m; urgent = j.urgent }) (told_with numbers kept started None last given) (told_with numbers after started (Some j) last None)
+  opens : (after : List Kept) (m : Option Mark) → (if j.reads then None else Some (next_of (slice_get after j.place))) ≡ m → DoubtsAt j.number.0 m (told_with numbers kept up None last given) (told_with numbers after up (Some j) last None)
+      → Opens (record { number = j.number.0; mark = m; urgent = j.urgent }) (told_with numbers kept up None last given) (told_with numbers after up (Some j) last None)
   opens after m is marks = record {
-    only = λ i. record (told_with numbers after started (Some j) last None) { stand = Open (record { number = j.number.0; mark = is i; urgent = j.urgent }) };
+    only = λ i. record (told_with numbers after up (Some j) last None) { stand = Open (record { number = j.number.0; mark = is i; urgent = j.urgent }) };
     marks = marks;
     left_low = omega arith;
     left_high = rw figures_are (omega (arith, most_is (op_of m)));
     ready = starts_ready after j.urgent refl (is_first (figures_at (plain_fixed numbers) j.number.0).part);
   }
 
-  pub read_taken : j.reads ≡ true → Opens (record { number = j.number.0; mark = None; urgent = j.urgent }) (told_with numbers kept started None last given) (told_with numbers kept started (Some j) last None)
+  pub read_taken : j.reads ≡ true → Opens (record { number = j.number.0; mark = None; urgent = j.urgent }) (told_with numbers kept up None last given) (told_with numbers kept up (Some j) last None)
   read_taken reads = opens kept None (rw reads refl) (λ n. keeps_same (slot_at numbers (map slot_of kept) n))
 
   -- what it leaves for certain is as it was, and what it may leave is one more
@@ -166,7 +170,7 @@ module _ (numbers : List (DeviceNumber × ℕ)) (kept : List Kept) (started : Bo
       last_one h (suc i, lt, is) = absurd (omega arith)
 
   pub mark_taken : (v : Kept) → j.reads ≡ false → held_of v ≡ held_of one → v.doubted ≡ true
-      → Opens (record { number = j.number.0; mark = Some (mark_of v.next); urgent = j.urgent }) (told_with numbers kept started None last given) (told_with numbers (set kept j.place v) started (Some j) last None)
+      → Opens (record { number = j.number.0; mark = Some (mark_of v.next); urgent = j.urgent }) (told_with numbers kept up None last given) (told_with numbers (set kept j.place v) up (Some j) last None)
   mark_taken v reads same doubted = opens (set kept j.place v) (Some (mark_of v.next)) (rw (reads, get_set numbers kept j.number.0 j.place room at v) refl) (each_set (Doubts (mark_of v.next)) v (takes_for v same doubted))
 
   -- A TURN
@@ -174,7 +178,7 @@ module _ (numbers : List (DeviceNumber × ℕ)) (kept : List Kept) (started : Bo
   the_job = job_of kept j
 
   abbrev before : DeviceTold
-  before = told_with numbers kept started (Some j) last given
+  before = told_with numbers kept up (Some j) last given
 
   part_works : PartTurns false 0 0 no_part no_part
   part_works = record { only = refl; on = refl; later = omega arith; one = inl refl; plan = inl refl; faults = record { faults = omega arith; flash = omega arith; tied = inl (omega arith) } }
@@ -182,7 +186,7 @@ module _ (numbers : List (DeviceNumber × ℕ)) (kept : List Kept) (started : Bo
   of_first : First ≡ part_of (plain_fixed numbers) the_job
   of_first = ap (λ (f : Figures). f.part) (sym figures_are)
 
-  turns_ready : (k : List Kept) (r : JobResult) (g : Option ℕ) → r ≢ JobFailed → (u : Bool) → j.urgent ≡ u → (b : Bool) → IfElse (u && b) (Nearer before (told_with numbers k started None r g)) (before.ready ≤ (told_with numbers k started None r g).ready)
+  turns_ready : (k : List Kept) (r : JobResult) (g : Option ℕ) → r ≢ JobFailed → (u : Bool) → j.urgent ≡ u → (b : Bool) → IfElse (u && b) (Nearer before (told_with numbers k up None r g)) (before.ready ≤ (told_with numbers k up None r g).ready)
   turns_ready k r g done true is true = λ v was. (omega arith, (0, refl, urgent_waits v j.urgent is was), λ x e. done (ap result_of e))
     where
       urgent_waits : (v : ℕ) (u : Bool) → u ≡ true → Some (turns_of u) ≡ Some v → 0 < v
@@ -195,8 +199,8 @@ module _ (numbers : List (DeviceNumber × ℕ)) (kept : List Kept) (started : Bo
   none_by None is = refl
   none_by (Some m) is = cc
 
-  ends : (k : List Kept) (r : JobResult) (g : Option ℕ) → EndsAs the_job.mark j.number.0 r (given_of k g) before (told_with numbers k started None r g) → started ≡ true → r ≢ JobFailed
-      → (the_job.mark ≡ None → Some (map slot_of k) ≡ Some (map slot_of kept)) → Turns Worked before no_clock (told_with numbers k started None r g) no_clock
+  ends : (k : List Kept) (r : JobResult) (g : Option ℕ) → EndsAs the_job.mark j.number.0 r (given_of k g) before (told_with numbers k up None r g) → up.started ≡ true → r ≢ JobFailed
+      → (the_job.mark ≡ None → Some (map slot_of k) ≡ Some (map slot_of kept)) → Turns Worked before no_clock (told_with numbers k up None r g) no_clock
   ends k r g so on done reads = (
     (
       refl,
@@ -212,24 +216,24 @@ module _ (numbers : List (DeviceNumber × ℕ)) (kept : List Kept) (started : Bo
           nearer = inl (omega arith);
           ready = λ calm. turns_ready k r g done j.urgent refl (is_first (part_of (plain_fixed numbers) the_job));
         },
-        ticks before (told_with numbers k started None r g),
+        ticks before (told_with numbers k up None r g),
       ),
     ),
-    order_none numbers k started r g,
+    order_none numbers k up r g,
   )
 
-  pub write_turns : started ≡ true → j.reads ≡ false → given ≡ None → Turns Worked (told_with numbers kept started (Some j) last given) no_clock (told_with numbers (set kept j.place (settled one)) started None JobOk given) no_clock
+  pub write_turns : up.started ≡ true → j.reads ≡ false → given ≡ None → Turns Worked (told_with numbers kept up (Some j) last given) no_clock (told_with numbers (set kept j.place (settled one)) up None JobOk given) no_clock
   write_turns on reads none =
       let e : the_job.mark ≡ Some (mark_of one.next) = rw (reads, get_is numbers kept j.number.0 j.place room at) refl in
       let after : List Kept = set kept j.place (settled one) in
-      ends after JobOk given (subst (λ (m : Option Mark). EndsAs m j.number.0 JobOk (given_of after given) before (told_with numbers after started None JobOk given)) (sym e) (each_set (SettlesAs (mark_of one.next)) (settled one) (record { settled = refl; doubts = refl }), ap (given_of after) none)) on (λ is. cc) (λ is. cc)
+      ends after JobOk given (subst (λ (m : Option Mark). EndsAs m j.number.0 JobOk (given_of after given) before (told_with numbers after up None JobOk given)) (sym e) (each_set (SettlesAs (mark_of one.next)) (settled one) (record { settled = refl; doubts = refl }), ap (given_of after) none)) on (λ is. cc) (λ is. cc)
 
-  pub read_turns : started ≡ true → (r : JobResult) (g : Option ℕ) → j.reads ≡ true → Reads (mark_of one.settled) r (given_of kept g) → Gives r (length_of numbers j.number.0) (given_of kept g) → r ≢ JobFailed → Turns Worked (told_with numbers kept started (Some j) last given) no_clock (told_with numbers kept started None r g) no_clock
+  pub read_turns : up.started ≡ true → (r : JobResult) (g : Option ℕ) → j.reads ≡ true → Reads (mark_of one.settled) r (given_of kept g) → Gives r (length_of numbers j.number.0) (given_of kept g) → r ≢ JobFailed → Turns Worked (told_with numbers kept up (Some j) last given) no_clock (told_with numbers kept up None r g) no_clock
   read_turns on r g is_read reads gives done =
       let e : the_job.mark ≡ None = rw is_read refl in
       let was : slot_at numbers (map slot_of kept) j.number.0 ≡ slot_of one = slot_is numbers kept j.number.0 j.place room at in
       let shows : Reads (slot_at numbers (map slot_of kept) j.number.0).settled.mark r (given_of kept g) = subst (λ (s : Slot). Reads s.settled.mark r (given_of kept g)) (sym was) reads in
-      ends kept r g (subst (λ (m : Option Mark). EndsAs m j.number.0 r (given_of kept g) before (told_with numbers kept started None r g)) (sym e) (shows, gives)) on done (λ is. refl)
+      ends kept r g (subst (λ (m : Option Mark). EndsAs m j.number.0 r (given_of kept g) before (told_with numbers kept up None r g)) (sym e) (shows, gives)) on done (λ is. refl)
 
 -- a plan isn't taken
 unarmed : (a b : Bool) (d : DeviceTold) → d ≡ (if a then d else (if b then d else d))
@@ -237,10 +241,10 @@ unarmed true b d = refl
 unarmed false true d = refl
 unarmed false false d = refl
 
-pub arms : (which nth keep : ℕ) (numbers : List (DeviceNumber × ℕ)) (kept : List Kept) (started : Bool) (job : Option PlainJob) (last : JobResult) (given : Option ℕ) (now : DeviceTold) → told_with numbers kept started job last given ≡ now → IsSoundWith numbers kept started job last given → Arms which nth keep now no_clock now no_clock
-arms which nth keep numbers kept started job last given now view sound =
-    let d : DeviceTold = told_with numbers kept started job last given in
-    subst (λ (x : DeviceTold). Arms which nth keep x no_clock x no_clock) view (unarmed (which == 0) (which == 1) d, stays d (in_order numbers kept started job last given d refl sound))
+pub arms : (which nth keep : ℕ) (numbers : List (DeviceNumber × ℕ)) (kept : List Kept) (up : StartUps) (job : Option PlainJob) (last : JobResult) (given : Option ℕ) (now : DeviceTold) → told_with numbers kept up job last given ≡ now → IsSoundWith numbers kept up job last given → Arms which nth keep now no_clock now no_clock
+arms which nth keep numbers kept up job last given now view sound =
+    let d : DeviceTold = told_with numbers kept up job last given in
+    subst (λ (x : DeviceTold). Arms which nth keep x no_clock x no_clock) view (unarmed (which == 0) (which == 1) d, stays d (in_order numbers kept up job last given d refl sound))
 
 -- STARTS
 same_size : (given size : ℕ) → length_refusal (Some given) (Some size) ≡ None → given ≡ size
@@ -255,7 +259,7 @@ same_mark plain.Content a b other = absurd (other refl)
 same_mark plain.Invalid a b other = refl
 same_mark plain.Erased a b other = refl
 
-module _ (numbers : List (DeviceNumber × ℕ)) (kept : List Kept) (started : Bool) (job : Option PlainJob) (last : JobResult) (given : Option ℕ) (now : DeviceTold) (view : told_with numbers kept started job last given ≡ now) (number : DeviceNumber) (place : ℕ) (size : Option ℕ) (sound : IsSoundWith numbers kept started job last given) (none : refusal_of now number.0 size ≡ None) (at : place_of now.fixed.numbers number.0 ≡ Some place) where
+module _ (numbers : List (DeviceNumber × ℕ)) (kept : List Kept) (up : StartUps) (job : Option PlainJob) (last : JobResult) (given : Option ℕ) (now : DeviceTold) (view : told_with numbers kept up job last given ≡ now) (number : DeviceNumber) (place : ℕ) (size : Option ℕ) (sound : IsSoundWith numbers kept up job last given) (none : refusal_of now number.0 size ≡ None) (at : place_of now.fixed.numbers number.0 ≡ Some place) where
   abbrev job_with : Bool → Bool → PlainJob
   job_with reads urgent = record { number = number; place = place; reads = reads; urgent = urgent }
 
@@ -263,58 +267,58 @@ module _ (numbers : List (DeviceNumber × ℕ)) (kept : List Kept) (started : Bo
   here = subst (λ (d : DeviceTold). place_of d.fixed.numbers number.0 ≡ Some place) (sym view) at
 
   open_none : job ≡ None
-  open_none = none_open numbers kept started job last given number.0 size (subst (λ (d : DeviceTold). refusal_of d number.0 size ≡ None) (sym view) none)
+  open_none = none_open numbers kept up job last given number.0 size (subst (λ (d : DeviceTold). refusal_of d number.0 size ≡ None) (sym view) none)
 
-  told_none : told_with numbers kept started None last given ≡ now
-  told_none = ap (λ (o : Option PlainJob). told_with numbers kept started o last given) (sym open_none) ∙ view
+  told_none : told_with numbers kept up None last given ≡ now
+  told_none = ap (λ (o : Option PlainJob). told_with numbers kept up o last given) (sym open_none) ∙ view
 
-  opened : (after : List Kept) (reads urgent : Bool) → ClockStays no_clock (told_with numbers after started (Some (job_with reads urgent)) last None) no_clock
+  opened : (after : List Kept) (reads urgent : Bool) → ClockStays no_clock (told_with numbers after up (Some (job_with reads urgent)) last None) no_clock
   opened after reads urgent =
       let j : PlainJob = job_with reads urgent in
-      stays (told_with numbers after started (Some j) last None) (order_open numbers after started j last None here)
+      stays (told_with numbers after up (Some j) last None) (order_open numbers after up j last None here)
 
   pub within : place < length kept
   within = omega (arith, place_within numbers number.0 place here, kept_length numbers kept sound.room)
 
-  pub read_starts : Accepts (record { job = record { number = number.0; mark = None; urgent = false }; length = size }) (Ok tt) now no_clock (told_with numbers kept started (Some (job_with true false)) last None) no_clock
+  pub read_starts : Accepts (record { job = record { number = number.0; mark = None; urgent = false }; length = size }) (Ok tt) now no_clock (told_with numbers kept up (Some (job_with true false)) last None) no_clock
   read_starts =
       let j : PlainJob = job_with true false in
-      ((none, subst (λ (d : DeviceTold). Opens (record { number = number.0; mark = None; urgent = false }) d (told_with numbers kept started (Some j) last None)) told_none (read_taken numbers kept started last given j sound.room here refl)), opened kept true false)
+      ((none, subst (λ (d : DeviceTold). Opens (record { number = number.0; mark = None; urgent = false }) d (told_with numbers kept up (Some j) last None)) told_none (read_taken numbers kept up last given j sound.room here refl)), opened kept true false)
 
   pub mark_starts : (u : Bool) (v : Kept) (after : List Kept) → after ≡ set kept place v → held_of v ≡ held_of (get_or kept place blank) → v.doubted ≡ true
-      → Accepts (record { job = record { number = number.0; mark = Some (mark_of v.next); urgent = u }; length = size }) (Ok tt) now no_clock (told_with numbers after started (Some (job_with false u)) last None) no_clock
+      → Accepts (record { job = record { number = number.0; mark = Some (mark_of v.next); urgent = u }; length = size }) (Ok tt) now no_clock (told_with numbers after up (Some (job_with false u)) last None) no_clock
   mark_starts u v after is same doubted =
       let j : PlainJob = job_with false u in
-      let taken = mark_taken numbers kept started last given j sound.room here v refl same doubted in
-      let moved = subst (λ (d : DeviceTold). Opens (record { number = number.0; mark = Some (mark_of v.next); urgent = u }) d (told_with numbers (set kept place v) started (Some j) last None)) told_none taken in
-      ((none, subst (λ (l : List Kept). Opens (record { number = number.0; mark = Some (mark_of v.next); urgent = u }) now (told_with numbers l started (Some j) last None)) (sym is) moved), opened after false u)
+      let taken = mark_taken numbers kept up last given j sound.room here v refl same doubted in
+      let moved = subst (λ (d : DeviceTold). Opens (record { number = number.0; mark = Some (mark_of v.next); urgent = u }) d (told_with numbers (set kept place v) up (Some j) last None)) told_none taken in
+      ((none, subst (λ (l : List Kept). Opens (record { number = number.0; mark = Some (mark_of v.next); urgent = u }) now (told_with numbers l up (Some j) last None)) (sym is) moved), opened after false u)
 
   -- a content that wasn't refused fits
   pub fits : (n : ℕ) → size ≡ Some n → (d : Kept) → length (get_or kept place d).next.content ≡ n
   fits n is d =
       let first : DeviceNumber × ℕ = (record { 0 = 0 }, 0) in
       let known : length_of numbers number.0 ≡ Some (get_or numbers place first).1 = size_is numbers kept number.0 place sound.room here first in
-      let taken = accepted started (subst (λ (d : DeviceTold). refusal_of d number.0 size ≡ None) (sym told_none) none) in
+      let taken = accepted up.started (subst (λ (d : DeviceTold). refusal_of d number.0 size ≡ None) (sym told_none) none) in
       (room_at numbers kept place first d sound.room (place_within numbers number.0 place here)).1 ∙ sym (same_size n _ (rw (is, known) at taken))
     where
-      accepted : (s : Bool) → refusal_of (told_with numbers kept s None last given) number.0 size ≡ None → length_refusal size (length_of numbers number.0) ≡ None
+      accepted : (s : Bool) → (if s then length_refusal size (length_of numbers number.0) else Some Uninit) ≡ None → length_refusal size (length_of numbers number.0) ≡ None
       accepted true is = is
       accepted false is = cc
 
-  pub sound_after : (u : Bool) (v : Kept) (after : List Kept) → after ≡ set kept place v → length v.settled.content ≡ length (get_or kept place blank).settled.content → length v.next.content ≡ length (get_or kept place blank).next.content → IsSoundWith numbers after started (Some (job_with false u)) last None
+  pub sound_after : (u : Bool) (v : Kept) (after : List Kept) → after ≡ set kept place v → length v.settled.content ≡ length (get_or kept place blank).settled.content → length v.next.content ≡ length (get_or kept place blank).next.content → IsSoundWith numbers after up (Some (job_with false u)) last None
   sound_after u v after is one two = record {
     room = subst (AreKept numbers) (sym is) (room_set numbers kept place v sound.room (λ d. (one ∙ (room_at numbers kept place d blank sound.room (place_within numbers number.0 place here)).0, two ∙ (room_at numbers kept place d blank sound.room (place_within numbers number.0 place here)).1)));
     at = here;
     gives = tt;
     behind = tt;
     ended = sound.ended;
-    up = λ shut. up_now started (subst (λ (d : DeviceTold). refusal_of d number.0 size ≡ None) told_none none);
+    on = λ shut. up_now up.started (subst (λ (d : DeviceTold). refusal_of d number.0 size ≡ None) told_none none);
   }
     where
-      told_none : now ≡ told_with numbers kept started None last given
-      told_none = sym view ∙ ap (λ (o : Option PlainJob). told_with numbers kept started o last given) open_none
+      told_none : now ≡ told_with numbers kept up None last given
+      told_none = sym view ∙ ap (λ (o : Option PlainJob). told_with numbers kept up o last given) open_none
 
-      up_now : (on : Bool) → refusal_of (told_with numbers kept on None last given) number.0 size ≡ None → on ≡ true
+      up_now : (on : Bool) → (if on then length_refusal size (length_of numbers number.0) else Some Uninit) ≡ None → on ≡ true
       up_now true is = refl
       up_now false is = cc is
 
@@ -323,15 +327,15 @@ behind_none : (j : PlainJob) (given : Option ℕ) → GivesBehind (Some j) given
 behind_none j None behind = refl
 behind_none j (Some place) behind = absurd behind
 
-module _ (numbers : List (DeviceNumber × ℕ)) (kept : List Kept) (started : Bool) (job : Option PlainJob) (last : JobResult) (given : Option ℕ) (now : DeviceTold) (view : told_with numbers kept started job last given ≡ now) (j : PlainJob) (is : job ≡ Some j) (sound : IsSoundWith numbers kept started job last given) where
+module _ (numbers : List (DeviceNumber × ℕ)) (kept : List Kept) (up : StartUps) (job : Option PlainJob) (last : JobResult) (given : Option ℕ) (now : DeviceTold) (view : told_with numbers kept up job last given ≡ now) (j : PlainJob) (is : job ≡ Some j) (sound : IsSoundWith numbers kept up job last given) where
   stands : place_of numbers j.number.0 ≡ Some j.place
   stands = subst (IsSoundJob numbers) is sound.at
 
   none_given : given ≡ None
   none_given = behind_none j given (subst (λ (o : Option PlainJob). GivesBehind o given) is sound.behind)
 
-  told_some : told_with numbers kept started (Some j) last given ≡ now
-  told_some = ap (λ (o : Option PlainJob). told_with numbers kept started o last given) (sym is) ∙ view
+  told_some : told_with numbers kept up (Some j) last given ≡ now
+  told_some = ap (λ (o : Option PlainJob). told_with numbers kept up o last given) (sym is) ∙ view
 
   pub turn_within : j.place < length kept
   turn_within = omega (arith, place_within numbers j.number.0 j.place stands, kept_length numbers kept sound.room)
@@ -342,44 +346,44 @@ module _ (numbers : List (DeviceNumber × ℕ)) (kept : List Kept) (started : Bo
   pub turn_room : (d : Kept) → length (get_or kept j.place d).next.content ≡ length (get_or kept j.place d).settled.content
   turn_room d = (room_at numbers kept j.place first d sound.room (place_within numbers j.number.0 j.place stands)).1 ∙ sym (room_at numbers kept j.place first d sound.room (place_within numbers j.number.0 j.place stands)).0
 
-  pub write_sound : (after : List Kept) → after ≡ set kept j.place (settled (get_or kept j.place blank)) → IsSoundWith numbers after started None JobOk given
+  pub write_sound : (after : List Kept) → after ≡ set kept j.place (settled (get_or kept j.place blank)) → IsSoundWith numbers after up None JobOk given
   write_sound after same = record {
     room = subst (AreKept numbers) (sym same) (room_set numbers kept j.place (settled (get_or kept j.place blank)) sound.room (λ d. let r = (room_at numbers kept j.place d blank sound.room (place_within numbers j.number.0 j.place stands)).1 in (r, r)));
     at = tt;
     gives = sound.gives;
     behind = tt;
     ended = λ h. cc;
-    up = λ shut. cc shut;
+    on = λ shut. cc shut;
   }
 
   -- the content that was read stands at the job's place
-  pub read_sound : IsSoundWith numbers kept started None JobOk (Some j.place)
+  pub read_sound : IsSoundWith numbers kept up None JobOk (Some j.place)
   read_sound = record {
     room = sound.room;
     at = tt;
     gives = place_within numbers j.number.0 j.place stands;
     behind = tt;
     ended = λ h. cc;
-    up = λ shut. cc shut;
+    on = λ shut. cc shut;
   }
 
-  pub write_is : (after : List Kept) → after ≡ set kept j.place (settled (get_or kept j.place blank)) → not j.reads ≡ true → Turns Worked now no_clock (told_with numbers after started None JobOk given) no_clock
+  pub write_is : (after : List Kept) → after ≡ set kept j.place (settled (get_or kept j.place blank)) → not j.reads ≡ true → Turns Worked now no_clock (told_with numbers after up None JobOk given) no_clock
   write_is after same writes =
-      let turned = write_turns numbers kept started last given j sound.room stands (sound.up (ap is_some is)) (not-true j.reads writes) none_given in
-      let moved = subst (λ (d : DeviceTold). Turns Worked d no_clock (told_with numbers (set kept j.place (settled (get_or kept j.place blank))) started None JobOk given) no_clock) told_some turned in
-      subst (λ (l : List Kept). Turns Worked now no_clock (told_with numbers l started None JobOk given) no_clock) (sym same) moved
+      let turned = write_turns numbers kept up last given j sound.room stands (sound.on (ap is_some is)) (not-true j.reads writes) none_given in
+      let moved = subst (λ (d : DeviceTold). Turns Worked d no_clock (told_with numbers (set kept j.place (settled (get_or kept j.place blank))) up None JobOk given) no_clock) told_some turned in
+      subst (λ (l : List Kept). Turns Worked now no_clock (told_with numbers l up None JobOk given) no_clock) (sym same) moved
 
   -- the mark that is read
   module _ (k : Kept) (item : k ≡ get_or kept j.place k) (reads : not j.reads ≡ false) where
     the_one : k ≡ get_or kept j.place blank
     the_one = item ∙ get_or_default kept j.place k blank turn_within
 
-    read_is : (r : JobResult) (g : Option ℕ) → Reads (mark_of k.settled) r (given_of kept g) → Gives r (length_of numbers j.number.0) (given_of kept g) → r ≢ JobFailed → Turns Worked now no_clock (told_with numbers kept started None r g) no_clock
+    read_is : (r : JobResult) (g : Option ℕ) → Reads (mark_of k.settled) r (given_of kept g) → Gives r (length_of numbers j.number.0) (given_of kept g) → r ≢ JobFailed → Turns Worked now no_clock (told_with numbers kept up None r g) no_clock
     read_is r g shows gives done =
-        let turned = read_turns numbers kept started last given j sound.room stands (sound.up (ap is_some is)) r g (not-false j.reads reads) (subst (λ (x : Kept). Reads (mark_of x.settled) r (given_of kept g)) the_one shows) gives done in
-        subst (λ (d : DeviceTold). Turns Worked d no_clock (told_with numbers kept started None r g) no_clock) told_some turned
+        let turned = read_turns numbers kept up last given j sound.room stands (sound.on (ap is_some is)) r g (not-false j.reads reads) (subst (λ (x : Kept). Reads (mark_of x.settled) r (given_of kept g)) the_one shows) gives done in
+        subst (λ (d : DeviceTold). Turns Worked d no_clock (told_with numbers kept up None r g) no_clock) told_some turned
 
-    pub content_is : k.settled.kind ≡ plain.Content → Turns Worked now no_clock (told_with numbers kept started None JobOk (Some j.place)) no_clock
+    pub content_is : k.settled.kind ≡ plain.Content → Turns Worked now no_clock (told_with numbers kept up None JobOk (Some j.place)) no_clock
     content_is kind =
         let lent : given_of kept (Some j.place) ≡ k.settled.content = ap content_of (get_is numbers kept j.number.0 j.place sound.room stands) ∙ ap (λ (x : Kept). x.settled.content) (sym the_one) in
         let size : length_of numbers j.number.0 ≡ Some (get_or numbers j.place first).1 = size_is numbers kept j.number.0 j.place sound.room stands first in
@@ -389,10 +393,10 @@ module _ (numbers : List (DeviceNumber × ℕ)) (kept : List Kept) (started : Bo
     nothing : given_of kept given ≡ []
     nothing = ap (given_of kept) none_given
 
-    pub invalid_is : k.settled.kind ≡ plain.Invalid → Turns Worked now no_clock (told_with numbers kept started None BlockInvalid given) no_clock
+    pub invalid_is : k.settled.kind ≡ plain.Invalid → Turns Worked now no_clock (told_with numbers kept up None BlockInvalid given) no_clock
     invalid_is kind = read_is BlockInvalid given (rw kind nothing) nothing (λ h. cc)
 
-    pub erased_is : k.settled.kind ≡ plain.Erased → Turns Worked now no_clock (told_with numbers kept started None BlockInconsistent given) no_clock
+    pub erased_is : k.settled.kind ≡ plain.Erased → Turns Worked now no_clock (told_with numbers kept up None BlockInconsistent given) no_clock
     erased_is kind = read_is BlockInconsistent given (rw kind nothing) nothing (λ h. cc)
 
 -- WHAT IS TOLD
@@ -401,23 +405,23 @@ kind_at c plain.Content is = rw is refl
 kind_at c plain.Invalid is = rw is refl
 kind_at c plain.Erased is = rw is refl
 
-module _ (numbers : List (DeviceNumber × ℕ)) (kept : List Kept) (started : Bool) (job : Option PlainJob) (last : JobResult) (given : Option ℕ) (now : DeviceTold) (view : told_with numbers kept started job last given ≡ now) where
-  pub refused_as : (n : ℕ) (size : Option ℕ) (r : Option DeviceRefusal) → is_some job ≡ false → started ≡ true → length_refusal size (length_of numbers n) ≡ r → refusal_of now n size ≡ r
-  refused_as n size r none on why = subst (λ (d : DeviceTold). refusal_of d n size ≡ r) view (refusal_is numbers kept started job last given n size r none on why)
+module _ (numbers : List (DeviceNumber × ℕ)) (kept : List Kept) (up : StartUps) (job : Option PlainJob) (last : JobResult) (given : Option ℕ) (now : DeviceTold) (view : told_with numbers kept up job last given ≡ now) where
+  pub refused_as : (n : ℕ) (size : Option ℕ) (r : Option DeviceRefusal) → is_some job ≡ false → up.started ≡ true → length_refusal size (length_of numbers n) ≡ r → refusal_of now n size ≡ r
+  refused_as n size r none on why = subst (λ (d : DeviceTold). refusal_of d n size ≡ r) view (refusal_is numbers kept up job last given n size r none on why)
 
   pub kind_none : (n : ℕ) → All (λ x. x.0.0 ≢ n) numbers → IsKind now n None
   kind_none n none =
-      let at : IsKind (told_with numbers kept started job last given) n None = record { configured = rw (length_none numbers n none) refl; kind = tt } in
+      let at : IsKind (told_with numbers kept up job last given) n None = record { configured = rw (length_none numbers n none) refl; kind = tt } in
       subst (λ (d : DeviceTold). IsKind d n None) view at
 
-  pub kind_some : (n place : ℕ) (k : Kept) → IsSoundWith numbers kept started job last given → place_of numbers n ≡ Some place → k ≡ get_or kept place k → IsKind now n (Some k.settled.kind)
+  pub kind_some : (n place : ℕ) (k : Kept) → IsSoundWith numbers kept up job last given → place_of numbers n ≡ Some place → k ≡ get_or kept place k → IsKind now n (Some k.settled.kind)
   kind_some n place k sound at item =
       let lt : place < length kept = omega (arith, place_within numbers n place at, kept_length numbers kept sound.room) in
       let one : k ≡ get_or kept place blank = item ∙ get_or_default kept place k blank lt in
       let slot : slot_at numbers (map slot_of kept) n ≡ slot_of k = slot_is numbers kept n place sound.room at ∙ ap slot_of (sym one) in
       let shows : k.settled.kind ≡ kind_of (slot_at numbers (map slot_of kept) n).settled.mark = kind_at k.settled k.settled.kind refl ∙ ap (λ (s : Slot). kind_of s.settled.mark) (sym slot) in
       let size = size_is numbers kept n place sound.room at (record { 0 = 0 }, 0) in
-      let told : IsKind (told_with numbers kept started job last given) n (Some k.settled.kind) = record { configured = rw size refl; kind = λ on. shows } in
+      let told : IsKind (told_with numbers kept up job last given) n (Some k.settled.kind) = record { configured = rw size refl; kind = λ on. shows } in
       subst (λ (d : DeviceTold). IsKind d n (Some k.settled.kind)) view told
 
   pub most_turns : (n : ℕ) (op : DeviceOp) → IsConfigured now n → 1 ≡ most_of (figures_at now.fixed n) op
@@ -429,12 +433,12 @@ module _ (numbers : List (DeviceNumber × ℕ)) (kept : List Kept) (started : Bo
       most_with (Some size) is known = most_is op ∙ ap (λ f. most_of f op) (sym (at_same no_figures numbers plain_figures n size is))
       most_with None is known = cc
 
-  pub lent_within : (place : ℕ) → IsSoundWith numbers kept started job last given → given ≡ Some place → place < length kept
+  pub lent_within : (place : ℕ) → IsSoundWith numbers kept up job last given → given ≡ Some place → place < length kept
   lent_within place sound is =
       let at : place < length numbers = subst (IsSoundGiven numbers) is sound.gives in
       omega (arith, kept_length numbers kept sound.room)
 
-  pub lent_is : (place : ℕ) (k : Kept) (bytes : List ℕ) → IsSoundWith numbers kept started job last given → given ≡ Some place → k ≡ get_or kept place k → bytes ≡ k.settled.content → bytes ≡ given_by now.stand
+  pub lent_is : (place : ℕ) (k : Kept) (bytes : List ℕ) → IsSoundWith numbers kept up job last given → given ≡ Some place → k ≡ get_or kept place k → bytes ≡ k.settled.content → bytes ≡ given_by now.stand
   lent_is place k bytes sound is item same =
       let there : slice_get kept place ≡ Some k = slice_get-get_or kept place k (lent_within place sound is) ∙ ap Some (sym item) in
       let lent : given_of kept given ≡ k.settled.content = ap (given_of kept) is ∙ ap content_of there in

@@ -127,9 +127,9 @@ abbrev pub ComesUp : Result (Unit {0}) StartFault → DeviceTold → DeviceTold 
 ComesUp (Ok _) old new = (new.started ≡ true) × (new.first.off ≡ false) × (new.second.off ≡ false) × EachNumber (λ n s t. t.doubts ≡ []) old new
 ComesUp (Err _) old new = (new.started ≡ false) × (Rose old.first.faults new.first.faults ⊎ Rose old.second.faults new.second.faults)
 
--- whatever it answers, it drops an open job and work of its own
+-- whatever it answers, it is counted, and drops an open job and work of its own
 pub record StartsUp (answer : Result (Unit {0}) StartFault) (old : DeviceTold) (clock : Clock) (new : DeviceTold) (clock_new : Clock) : Type 0 where
-  pub only : new ≡ record old { slots = new.slots; started = new.started; stand = Ended JobOk []; switching = false; first = new.first; second = new.second; left = 0; ready = new.ready; wait = new.wait }
+  pub only : new ≡ record old { slots = new.slots; started = new.started; stand = Ended JobOk []; switching = false; starts = old.starts + 1; first = new.first; second = new.second; left = 0; ready = new.ready; wait = new.wait }
   pub comes_to : ComesUp answer old new
   -- each number's mark and doubts were its settled mark or a doubt of it before
   pub marks : EachNumber (λ n s t. ComesFrom s t) old new
@@ -173,10 +173,10 @@ abbrev pub MayFail : Part → Job → DeviceTold → DeviceTold → Clock → Ty
 MayFail p j old new clock_new = Rose (part_at p old).faults (part_at p new).faults ⊎ ((j.mark ≢ None) × clock_new.worn new.ops j.number)
 
 -- A TURN
--- the turn works on the part of the open job; with none open, on that of the device's own work
+-- the turn works on the part of the open job; with none open, on the first one, whose alone the device's own work is
 abbrev pub IsOf : Part → Fixed → Stand → Type 0
 IsOf p f (Open j) = HasPart f p × (p ≡ part_of f j)
-IsOf p f (Ended result given) = HasPart f p
+IsOf p f (Ended result given) = p ≡ First
 
 -- a job goes on and its end is nearer, so that a fault ends it; or it ends; with none open own work goes on
 abbrev pub JobTurns : Part → Stand → Stand → DeviceTold → DeviceTold → Clock → Type 0

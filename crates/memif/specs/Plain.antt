@@ -24,6 +24,7 @@ plain_store numbers = record {
   stand = Ended JobOk [];
   switching = false;
   ops = 0;
+  starts = 0;
   first = no_part;
   second = no_part;
   left = 0;

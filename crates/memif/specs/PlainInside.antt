@@ -56,17 +56,26 @@ abbrev pub is_urgent_job : Option PlainJob → Bool
 is_urgent_job None = false
 is_urgent_job (Some j) = j.urgent
 
-abbrev pub told_with : List (DeviceNumber × ℕ) → List Kept → Bool → Option PlainJob → JobResult → Option ℕ → DeviceTold
-told_with numbers kept started job last given = record (plain_store numbers) {
+-- whether it is started, and how often it was
+pub record StartUps : Type 0 where
+  pub started : Bool
+  pub starts : ℕ
+
+abbrev pub told_with : List (DeviceNumber × ℕ) → List Kept → StartUps → Option PlainJob → JobResult → Option ℕ → DeviceTold
+told_with numbers kept up job last given = record (plain_store numbers) {
   slots = Some (map slot_of kept);
-  started = started;
+  started = up.started;
+  starts = up.starts;
   stand = stand_of kept job last given;
   left = turns_of (is_some job);
   wait = Some (turns_of (is_urgent_job job));
 }
 
+abbrev pub start_ups_of : Inside → StartUps
+start_ups_of p = record { started = p.started; starts = length p.starts.items }
+
 abbrev pub told_of : Inside → DeviceTold
-told_of p = told_with p.numbers p.kept.items p.started p.job p.last p.given
+told_of p = told_with p.numbers p.kept.items (start_ups_of p) p.job p.last p.given
 
 -- each number has room for its content, twice
 abbrev pub AreKept : List (DeviceNumber × ℕ) → List Kept → Type 0
@@ -89,13 +98,13 @@ GivesBehind (Some j) (Some place) = ⊥
 GivesBehind (Some j) None = Unit {0}
 GivesBehind None given = Unit {0}
 
-pub record IsSoundWith (numbers : List (DeviceNumber × ℕ)) (kept : List Kept) (started : Bool) (job : Option PlainJob) (last : JobResult) (given : Option ℕ) : Type 0 where
+pub record IsSoundWith (numbers : List (DeviceNumber × ℕ)) (kept : List Kept) (up : StartUps) (job : Option PlainJob) (last : JobResult) (given : Option ℕ) : Type 0 where
   pub room : AreKept numbers kept
   pub at : IsSoundJob numbers job
   pub gives : IsSoundGiven numbers given
   pub behind : GivesBehind job given
   pub ended : last ≢ JobPending
-  pub up : is_some job ≡ true → started ≡ true
+  pub on : is_some job ≡ true → up.started ≡ true
 
 abbrev pub IsSound : Inside → Type 0
-IsSound p = IsSoundWith p.numbers p.kept.items p.started p.job p.last p.given
+IsSound p = IsSoundWith p.numbers p.kept.items (start_ups_of p) p.job p.last p.given

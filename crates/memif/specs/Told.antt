@@ -78,6 +78,8 @@ pub record DeviceTold : Type 0 where
   pub switching : Bool
   -- the changing operations that were asked for, of both parts
   pub ops : ℕ
+  -- how often it was started up, whatever was answered
+  pub starts : ℕ
   pub first : PartTold
   pub second : PartTold
   -- the turns that the open work takes, where no fault comes

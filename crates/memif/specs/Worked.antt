@@ -1,5 +1,5 @@
 -- A small device, for worked cases.
-use Rattle.std.specs.Prelude.{◌≡◌, ℕ, Bool, true, false, List, [], ◌∷◌, Some, None}
+use Rattle.std.specs.Prelude.{◌≡◌, ◌+◌, ℕ, Bool, true, false, List, [], ◌∷◌, Some, None}
 use Rattle.nv_base.specs.declared.instance.DeviceNumber.{DeviceNumber}
 use Rattle.nv_base.specs.declared.mark.Mark.TheVariants.{Content}
 use Rattle.memif.specs.declared.answer.JobResult.{JobResult}
@@ -51,6 +51,10 @@ after_failure = record (at_rest doubtful) { stand = Ended JobFailed [] }
 abbrev pub after_success : DeviceTold
 after_success = record (at_rest (clear new_content)) { ops = 1 }
 
+-- one start-up more
+abbrev pub started_once_more : DeviceTold → DeviceTold
+started_once_more d = record d { started = true; starts = d.starts + 1 }
+
 -- a fault is counted
 abbrev pub faulty : DeviceTold → DeviceTold
 faulty d = record d { first = record no_part { faults = 1; flash_faults = 1 } }
@@ -66,6 +70,10 @@ without_power d = record d { first = record no_part { off = true } }
 -- a device of two parts, whose number is of the second one
 abbrev pub of_two : DeviceTold → DeviceTold
 of_two d = record d { fixed = record d.fixed { figures = record no_figures { part = Second } ∷ []; two = true } }
+
+-- a device of two parts at work of its own, with as many faults of the second one
+abbrev pub at_own_work : ℕ → DeviceTold
+at_own_work faults = record (of_two (at_rest doubtful)) { switching = true; second = record no_part { faults = faults; flash_faults = faults } }
 
 -- a clock of a flash without operations, on which the old content stands
 abbrev pub finds_old : When → (ℕ → Held) → Type 0

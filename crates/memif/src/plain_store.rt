@@ -8,7 +8,7 @@ ghost use Rattle.nv_base.specs.Lengths.{place_of};
 
 use crate::kept::{Kept, leave_no_doubt, mark, room_for, settle, stage};
 use crate::{DeviceRefusal, DeviceTurn, JobResult, MemDevice, MemStatus, PlainMark, StartFault};
-use nv_base::{DeviceNumber, DeviceOp, Lengths, lengths_of};
+use nv_base::{DeviceNumber, DeviceOp, Lengths, Trace, lengths_of};
 use std::alloc::{AllocError, Global};
 use std::marker::Model;
 
@@ -42,6 +42,7 @@ pub struct PlainStore {
     numbers: Lengths,
     kept: Vec<Kept>,
     started: bool,
+    starts: Trace<()>,
     job: Option<PlainJob>,
     last: JobResult,
     given: Option<usize>,
@@ -70,6 +71,7 @@ impl PlainStore {
             numbers,
             kept,
             started: false,
+            starts: Trace::new(),
             job: None,
             last: JobResult::JobOk,
             given: None,
@@ -84,6 +86,7 @@ impl PlainStore {
             numbers: Lengths::new(alloc),
             kept: Vec::new(alloc),
             started: false,
+            starts: Trace::new(),
             job: None,
             last: JobResult::JobOk,
             given: None,
@@ -141,6 +144,7 @@ impl MemDevice for PlainStore {
     {
         leave_no_doubt(&mut self.kept);
         self.started = true;
+        self.starts = self.starts.with(&());
         self.job = None;
         self.last = JobResult::JobOk;
         self.given = None;

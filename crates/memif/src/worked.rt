@@ -10,7 +10,7 @@ ghost use Rattle.memif.specs.Marks.{IsPossible, Keeps, Doubts, SettlesAs, ComesF
 ghost use Rattle.memif.specs.Calls.{refusal_of, Reads, Accepts, StartsUp, Turns, FaultsGrow};
 ghost use Rattle.memif.specs.Plain.{no_clock};
 ghost use Rattle.memif.specs.Run.{known_after, known_by};
-ghost use Rattle.memif.specs.Worked.{one_number, old_content, new_content, doubtful, clear, unstarted, at_rest, at_work, the_read, the_write, after_failure, after_success, faulty, planned, without_power, of_two, old_stands, fails_first, writing, known_before};
+ghost use Rattle.memif.specs.Worked.{one_number, old_content, new_content, doubtful, clear, unstarted, at_rest, at_work, at_own_work, started_once_more, the_read, the_write, after_failure, after_success, faulty, planned, without_power, of_two, old_stands, fails_first, writing, known_before};
 
 /// Worked cases of refusals, states and results.
 pub fn worked_answers()
@@ -51,16 +51,18 @@ pub fn worked_run()
 {}
 
 /// What no device does: it doesn't go on for ever by faults, fail without a cause or by a fault of another part, let an
-/// operation fail that it doesn't count, tell an Off of a planned cut without its operation, count what its flash didn't, leave turns behind a start-up, open work of its own
-/// at a start, or settle what its flash doesn't hold.
+/// operation fail that it doesn't count, tell an Off of a planned cut without its operation, do work of its own on the second part, count what its flash didn't,
+/// leave a start-up uncounted or turns behind one, open work of its own at a start, or settle what its flash doesn't hold.
 pub fn wrong_devices()
     ensures a_fault_leaves_the_job { ¬ Turns Worked (at_work the_write doubtful) no_clock (faulty (at_work the_write doubtful)) no_clock }
     ensures fails_without_a_cause { ¬ Turns Worked (at_work the_write doubtful) no_clock after_failure no_clock }
     ensures fails_by_another_part { ¬ Turns Worked (of_two (at_work the_write doubtful)) no_clock (of_two (faulty after_failure)) no_clock }
     ensures leaves_a_failure_uncounted { ¬ Turns Worked (at_work the_write doubtful) no_clock after_success fails_first }
     ensures tells_an_off_without_its_operation { ¬ Turns Off (planned (at_work the_write doubtful)) no_clock (without_power (at_work the_write doubtful)) no_clock }
+    ensures does_own_work_on_the_second_part { ¬ Turns Worked (at_own_work 0) no_clock (at_own_work 1) no_clock }
     ensures counts_what_was_not { ¬ FaultsGrow no_part (record no_part { faults = 1 }) }
-    ensures a_start_up_leaves_turns { ¬ StartsUp (Ok tt) unstarted no_clock (record unstarted { started = true; left = 2 ^ 64 - 1 }) no_clock }
+    ensures a_start_up_leaves_turns { ¬ StartsUp (Ok tt) unstarted no_clock (record (started_once_more unstarted) { left = 2 ^ 64 - 1 }) no_clock }
+    ensures a_start_up_is_not_counted { ¬ StartsUp (Ok tt) unstarted no_clock (record unstarted { started = true }) no_clock }
     ensures a_start_opens_own_work { ¬ Accepts (record { job = the_read; length = None }) (Ok tt) (at_rest doubtful) no_clock (record (at_work the_read doubtful) { switching = true }) no_clock }
-    ensures a_start_up_settles_another { ¬ StartsUp (Ok tt) (at_rest doubtful) old_stands (at_rest (clear new_content)) old_stands }
+    ensures a_start_up_settles_another { ¬ StartsUp (Ok tt) (at_rest doubtful) old_stands (started_once_more (at_rest (clear new_content))) old_stands }
 {}

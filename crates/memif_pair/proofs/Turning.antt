@@ -197,7 +197,7 @@ module _ (a : DeviceTold) (ca : Clock) (anew : DeviceTold) (ca_new : Clock) (b :
 
       pub works_both : Works First old new (pair_clock ca_new b cb next)
       works_both = record {
-        only = λ i. record new { fixed = fixed_both (fixed i) b.fixed; started = started_same i && b.started };
+        only = λ i. record new { fixed = fixed_both (fixed i) b.fixed; started = started_same i && b.started; starts = (ap (λ (d : DeviceTold). d.starts) works.only) i };
         up = λ i. works.up i && up i;
         of = subst (λ (s : Stand). IsOf First old.fixed s) (sym on) (tt, sym (ap (λ (x : Figures). x.part) (figures_first a.fixed b.fixed j.number of)));
         part = part_both false works.part;
@@ -211,7 +211,7 @@ module _ (a : DeviceTold) (ca : Clock) (anew : DeviceTold) (ca_new : Clock) (b :
     -- a cut, and a turn while the power is off
     cut_both : a.stand ≡ Open j → IsCut First a anew → IsCut First old new
     cut_both on cut = record {
-      only = λ i. record new { fixed = fixed_both (fixed i) b.fixed; started = (ap (λ (d : DeviceTold). d.started) cut.only) i && b.started; stand = (ap (λ (d : DeviceTold). d.stand) cut.only) i };
+      only = λ i. record new { fixed = fixed_both (fixed i) b.fixed; started = (ap (λ (d : DeviceTold). d.started) cut.only) i && b.started; starts = (ap (λ (d : DeviceTold). d.starts) cut.only) i; stand = (ap (λ (d : DeviceTold). d.stand) cut.only) i };
       of = subst (λ (s : Stand). IsOf First old.fixed s) (sym on) (tt, sym (ap (λ (x : Figures). x.part) (figures_first a.fixed b.fixed j.number of)));
       part = part_both true cut.part;
       no_read = cut.no_read;

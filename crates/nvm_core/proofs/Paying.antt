@@ -100,6 +100,8 @@ module _ (before : Part → PartTold) (desk : DeskState) (h : HandState) (d : De
     };
     fits = kept.fits;
     paid = subst (λ (k : ℕ). AreTriesPaid (is_of own_part d.fixed) desk.config clock.worn (record { ops = 0; faults = k }) (counted_at own_part d) desk.entries h.program) (sym (here own_part n before)) tries;
+    order = kept.order;
+    starts = kept.starts;
   }
 
 -- A POST

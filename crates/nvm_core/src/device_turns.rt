@@ -1,5 +1,5 @@
 // A turn of the device.
-ghost use Rattle.std.specs.Prelude.{◌≡◌, false};
+ghost use Rattle.std.specs.Prelude.{◌≡◌, IfSome, false, true};
 ghost use Rattle.nvm_laws.specs.memif.Told.{ops_of};
 ghost use Rattle.nvm_laws.specs.nv_desk.Desk.{state_of};
 ghost use Rattle.nvm_laws.specs.Ties.{IsTied};
@@ -13,10 +13,12 @@ use nvm_laws::job_progress::Hand;
 use nvm_laws::memif::MemDevice;
 use nvm_laws::nv_desk::Desk;
 
-/// A turn of the device with the second half behind it, where the machine's power is on. It takes no memory.
+/// A turn of the device with the second half behind it, where the machine's power is on and the device is at the operation of the
+/// job in hand, if one is in hand. It takes no memory.
 pub fn device_turn<D: MemDevice>(desk: &mut Desk, hand: &mut Option<Hand>, device: &mut D) -> Turned
     requires tied { IsTied desk.old hand.old (D.told device.old) }
     requires on { (state_of desk.old).off ≡ false }
+    requires started { IfSome hand.old (λ h. h.started ≡ true) }
     ensures turns { TurnsDevice result (D.told device.old) (D.clock device.old) (D.told device.new) (D.clock device.new) }
     ensures adds { AddsBy (asked_by result (D.told device.old).stand (D.told device.new).stand (ops_of (D.told device.new))) desk.old desk.new }
     ensures hand { hand.new ≡ hand_by (D.told device.old).stand (D.told device.new).stand hand.old }

@@ -28,6 +28,7 @@ at_rest left = record {
   stand = Ended JobOk [];
   switching = false;
   ops = 0;
+  starts = 1;
   first = no_part;
   second = no_part;
   left = left;

@@ -109,14 +109,15 @@ clear_more a b c clear two = no_doubts c.doubts (λ h has. subst (λ (l : List H
 
 -- A DEVICE
 -- what a read leaves of a device that was started up
-pub up_more : (a b c : DeviceTold) → c.fixed ≡ b.fixed → c.ops ≡ b.ops → c.started ≡ b.started → PartReads b.first c.first
+pub up_more : (a b c : DeviceTold) → c.fixed ≡ b.fixed → c.ops ≡ b.ops → c.starts ≡ b.starts → c.started ≡ b.started → PartReads b.first c.first
     → PartReads b.second c.second → KeepsAll b c → IsUp a b → IsUp a c
-up_more a b c fixed ops started first second marks up =
+up_more a b c fixed ops starts started first second marks up =
     let was = up.restarted in
     record {
       restarted = record {
         fixed = fixed ∙ was.fixed;
         ops = ops ∙ was.ops;
+        starts = starts ∙ was.starts;
         first = powers_on a.first b.first c.first was.first first;
         second = powers_on a.second b.second c.second was.second second;
         marks = each_more ComesFrom Keeps ComesFrom comes_more a b c was.fixed was.marks marks;

@@ -69,7 +69,7 @@ module _ (number size : ℕ) (old : DeviceTold) (clock : Clock) (new : DeviceTol
         fixed = fixed;
         marks = opens.marks;
         ops = ap (λ (d : DeviceTold). d.ops) opens.only;
-        up = λ begun is. up_more begun old new fixed (ap (λ (d : DeviceTold). d.ops) opens.only) (ap (λ (d : DeviceTold). d.started) opens.only) (part_same old.first new.first first) (part_same old.second new.second second) opens.marks is;
+        up = λ begun is. up_more begun old new fixed (ap (λ (d : DeviceTold). d.ops) opens.only) (ap (λ (d : DeviceTold). d.starts) opens.only) (ap (λ (d : DeviceTold). d.started) opens.only) (part_same old.first new.first first) (part_same old.second new.second second) opens.marks is;
         stays = stays;
         down = down;
         lasts = same_lasts old clock new clock_new (ap (λ (d : DeviceTold). d.ops) opens.only) (ap (λ (d : DeviceTold). d.first.faults) opens.only) (ap (λ (d : DeviceTold). d.second.faults) opens.only) same;
@@ -130,6 +130,10 @@ module _ (old : DeviceTold) (new : DeviceTold) (clock_new : Clock) where
   works_started First works = ap (λ (d : DeviceTold). d.started) works.only
   works_started Second works = ap (λ (d : DeviceTold). d.started) works.only
 
+  works_starts : (p : Part) → Works p old new clock_new → new.starts ≡ old.starts
+  works_starts First works = ap (λ (d : DeviceTold). d.starts) works.only
+  works_starts Second works = ap (λ (d : DeviceTold). d.starts) works.only
+
   -- a fault of it is one since the device was as it was once
   has_fault : (p : Part) (begun : DeviceTold) → IsUp begun old → Rose (part_at p old).faults (part_at p new).faults → HasFault begun new
   has_fault First begun up rose = inl (rose_since begun.first.faults old.first.faults new.first.faults up.restarted.first.faults.faults rose)
@@ -143,7 +147,7 @@ module _ (old : DeviceTold) (new : DeviceTold) (clock_new : Clock) where
         fixed = works_fixed p works;
         marks = marks;
         ops = (works.read read).0;
-        up = λ begun is. up_more begun old new (works_fixed p works) (works.read read).0 (works_started p works) (first_reads p works read) (second_reads p works read) marks is;
+        up = λ begun is. up_more begun old new (works_fixed p works) (works.read read).0 (works_starts p works) (works_started p works) (first_reads p works read) (second_reads p works read) marks is;
         stays = stays;
         down = down;
         lasts = lasts;
@@ -257,6 +261,7 @@ pub restarts : (answer : Result (Unit {0}) StartFault) (old : DeviceTold) (clock
 restarts answer old clock new clock_new up = record {
   fixed = ap (λ (d : DeviceTold). d.fixed) up.only;
   ops = ap (λ (d : DeviceTold). d.ops) up.only;
+  starts = ap (λ (d : DeviceTold). d.starts) up.only;
   first = up.first;
   second = up.second;
   marks = up.marks;

@@ -19,11 +19,12 @@ use Rattle.promise_blocks.specs.OverDevice.{HasStarted}
 use Rattle.nvm_device_laws.specs.Turn.{Keeps, down}
 
 -- THE DEVICE
--- whatever is answered: no operation is made and no cut begins, a plan is dropped, and each number's mark and doubts were
--- its settled mark or a doubt of it before
+-- whatever is answered: no operation is made and no cut begins, the start-up is counted, a plan is dropped, and each number's
+-- mark and doubts were its settled mark or a doubt of it before
 pub record IsRestarted (old new : DeviceTold) : Type 0 where
   pub fixed : new.fixed ≡ old.fixed
   pub ops : new.ops ≡ old.ops
+  pub starts : new.starts ≡ old.starts + 1
   pub first : PowersUp old.first new.first
   pub second : PowersUp old.second new.second
   pub marks : EachNumber (λ n s t. ComesFrom s t) old new

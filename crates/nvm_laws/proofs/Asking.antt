@@ -24,6 +24,7 @@ use Rattle.job_progress.proofs.Asking.{asked_hand, pending_stay}
 use Rattle.nvm_laws.specs.Keeps.{StackKeeps}
 use Rattle.nvm_laws.specs.Entries.{AsksKeep}
 use Rattle.nvm_laws.proofs.Operations.{held}
+use Rattle.nvm_laws.proofs.Ordering.{order_asked, starts_push}
 
 -- WHAT IS SETTLED
 -- the marks of a block's instances, by what the state has of them
@@ -74,6 +75,8 @@ module _ (d : DeviceTold) (clock : Clock) (old : DeskState) (caller : ℕ) (r : 
     keeps = entries_keep d clock old.config old.cap old.entries before e kept.started kept.keeps refl allowed tt tt;
     fits = hand_fits hand kept;
     paid = paid_on hand kept.paid;
+    order = order_asked d clock old.config old.entries e refl kept.order;
+    starts = starts_push d old.entries e refl kept.starts;
   })
 
 pub asks_keep : (d : DeviceTold) (clock : Clock)

@@ -10,6 +10,7 @@ pub mod Staying
 pub mod StartingUp
 mod Seeing
 mod Ending
+pub mod Ordering
 pub mod Turning
 pub mod Asking
 pub mod Working

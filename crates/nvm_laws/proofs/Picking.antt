@@ -22,6 +22,7 @@ use Rattle.nvm_device_laws.proofs.Pushed.{started_push}
 use Rattle.nvm_laws.specs.Turns.{hand_in}
 use Rattle.nvm_laws.specs.Keeps.{StackKeeps}
 use Rattle.nvm_laws.specs.Entries.{PicksKeep}
+use Rattle.nvm_laws.proofs.Ordering.{order_push, starts_push}
 
 -- THE HAND OF A JOB ON WHICH NOTHING WAS DONE
 -- it gives nothing that the device read
@@ -64,6 +65,8 @@ picks_keep d clock old new hand block kind taken adds allowed before kept =
       keeps = keeps_now;
       fits = fits_by old.config behind d behind.hand;
       paid = paid_by d clock old.config behind (old.entries ++ e ∷ []) before keeps_now.over.paid behind.hand;
+      order = order_push d clock old.config old.entries e refl kept.order;
+      starts = starts_push d old.entries e refl kept.starts;
     })
   where
     e : Entry

@@ -30,6 +30,7 @@ use Rattle.nvm_device_laws.proofs.Pushed.{started_push}
 use Rattle.nvm_laws.specs.Keeps.{StackKeeps}
 use Rattle.nvm_laws.specs.Entries.{PostsKeep, SkippedKeep}
 use Rattle.nvm_laws.proofs.Operations.{same_job}
+use Rattle.nvm_laws.proofs.Ordering.{order_push, starts_push}
 use Rattle.nvm_laws.proofs.Paying.{pays_free, free_alone, free_refused, free_unfailed, none_result, only_none, over_by}
 
 -- a program that ended has no instance next
@@ -99,6 +100,8 @@ module _ (d : DeviceTold) (clock : Clock) (old : DeskState) (h : HandState) (j :
             (desc_of old.config (job_block j)).repeats (job_block j) told behind post.over));
         fits = tt;
         paid = tt;
+        order = order_push d clock old.config old.entries e refl kept.order;
+        starts = starts_push d old.entries e refl kept.starts;
       })
     where
       e : Entry
@@ -128,6 +131,8 @@ module _ (d : DeviceTold) (clock : Clock) (old new : DeskState) (told behind : L
             (free_alone old.config (state_of old) block post.result post.given post.refused (ops_of d) none) (kept.keeps.over.paid p));
         fits = tt;
         paid = tt;
+        order = order_push d clock old.config old.entries e refl kept.order;
+        starts = starts_push d old.entries e refl kept.starts;
       })
     where
       e : Entry

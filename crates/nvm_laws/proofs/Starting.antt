@@ -1,16 +1,16 @@
 -- The start of an operation that the job in hand names, and the calls that drop or leave the job in hand.
 use Rattle.std.specs.Prelude.{slice_get, nat_le, if◌then◌else◌}
 use Rattle.std.specs.List.{Contains}
-use Rattle.std.proofs.Common.{◌≡◌, ◌≢◌, ℕ, ◌+◌, ◌*◌, Bool, true, false, List, [], ◌∷◌, length, Option, Some, None, Result, refl, sym, ap, ◌∙◌, subst, arith}
+use Rattle.std.proofs.Common.{◌≡◌, ◌≢◌, ℕ, ◌+◌, ◌*◌, Bool, true, false, List, [], ◌∷◌, length, Option, Some, None, Result, Ok, Err, refl, sym, ap, ◌∙◌, subst, arith}
 use Rattle.block_machine.specs.nv_base.Marks.{instance_of}
 use Rattle.block_machine.specs.nv_base.declared.instance.DeviceNumber.{DeviceNumber}
 use Rattle.block_machine.specs.nv_base.declared.instance.Instance.{Instance}
 use Rattle.block_machine.specs.nv_base.declared.job.DeviceOp.{DeviceOp}
 use Rattle.block_machine.specs.nv_base.declared.job.JobStep.TheVariants as step
 use Rattle.memif.specs.Told as device
-use Rattle.memif.specs.Told.{DeviceTold, Slot, Part, PartTold}
+use Rattle.memif.specs.Told.{DeviceTold, Slot, Part, PartTold, IfElse, is_open}
 use Rattle.memif.specs.Clock.{Clock}
-use Rattle.memif.specs.Calls.{Wish, Accepts, Cancels}
+use Rattle.memif.specs.Calls.{Wish, Accepts, Cancels, IsCanceled}
 use Rattle.memif.specs.declared.answer.DeviceRefusal.{DeviceRefusal}
 use Rattle.block_machine.specs.block_config.Lengths.{lengths_of}
 use Rattle.block_machine.specs.Words.{Mark, JobKind, ReadJob, Outcome, BlockKind, Native, Redundant, Dataset, Configuration}
@@ -27,11 +27,13 @@ use Rattle.job_progress.specs.JobInHand.{HandFits, IsInHand, job_for, program_fo
 use Rattle.job_progress.specs.Goes.{Names}
 use Rattle.block_laws.proofs.InstanceIndices.{is_in_at}
 use Rattle.block_laws.proofs.HandMarks.{marks_in_hand_stand, marks_in_hand_are_doubts}
-use Rattle.nvm_device_laws.proofs.DeviceCalls.{cancel_stays, read_stays, start_stays}
+use Rattle.nvm_device_laws.proofs.DeviceCalls.{cancel_stays, goes_canceled, goes_opened, goes_same, read_stays, start_stays}
 use Rattle.nvm_device_laws.proofs.DeviceTries.{start_tries}
+use Rattle.nvm_device_laws.proofs.Pushed.{Goes}
 use Rattle.nvm_laws.specs.Keeps.{StackKeeps}
 use Rattle.nvm_laws.specs.Calls.{StartsKeep, CancelsKeep}
 use Rattle.nvm_laws.proofs.Operations.{own, same_job}
+use Rattle.nvm_laws.proofs.Ordering.{order_stays, starts_stay}
 
 -- THE MARK OF THE JOB
 -- the machine has each instance that the device has
@@ -118,6 +120,17 @@ pub fits_on : (c : Configuration) (s : State) (h : HandState) (old new : DeviceT
 fits_on c s h old new op i at fits j held = record { fit = (fits j held).fit; last = λ r bytes ends stands. cc }
 
 -- THE START
+-- it makes no operation and is no start-up
+accepted_goes : (old : DeviceTold) (clock : Clock) (new : DeviceTold) (clock_new : Clock) (w : Wish) (answer : Result (Unit {0}) DeviceRefusal)
+    → Accepts w answer old clock new clock_new → Goes old clock new clock_new
+accepted_goes old clock new clock_new w (Ok u) accepts = goes_opened old clock new clock_new w.job accepts.0.1 accepts.1
+accepted_goes old clock new clock_new w (Err refusal) accepts = goes_same old clock new clock_new accepts.0.1 accepts.1.same (λ held. accepts.1.order.now held)
+
+accepted_same : (old : DeviceTold) (clock : Clock) (new : DeviceTold) (clock_new : Clock) (w : Wish) (answer : Result (Unit {0}) DeviceRefusal)
+    → Accepts w answer old clock new clock_new → (new.ops ≡ old.ops) × (new.starts ≡ old.starts)
+accepted_same old clock new clock_new w (Ok u) accepts = (ap (λ (d : DeviceTold). d.ops) accepts.0.1.only, ap (λ (d : DeviceTold). d.starts) accepts.0.1.only)
+accepted_same old clock new clock_new w (Err refusal) accepts = (ap (λ (d : DeviceTold). d.ops) accepts.0.1, ap (λ (d : DeviceTold). d.starts) accepts.0.1)
+
 pub starts_keep : (old : DeviceTold) (clock : Clock) (new : DeviceTold) (clock_new : Clock) (w : Wish) (answer : Result (Unit {0}) DeviceRefusal)
     → Accepts w answer old clock new clock_new → StartsKeep w old clock new clock_new
 starts_keep old clock new clock_new w answer accepts desk h op i names at is asked before kept = record {
@@ -126,6 +139,9 @@ starts_keep old clock new clock_new w answer accepts desk h op i names at is ask
       (subst (λ (j : device.Job). IsStaged desk.config (state_of desk) j.number j.mark) (sym asked) (staged before desk h op i names old clock is kept)) kept.keeps;
   fits = fits_on desk.config (state_of desk) h old new op i at kept.fits;
   paid = start_tries old clock new clock_new w answer accepts desk.config desk.cap desk.entries before h.program kept.keeps kept.paid;
+  order = order_stays old clock new clock_new (accepted_goes old clock new clock_new w answer accepts).fixed (accepted_goes old clock new clock_new w answer accepts).past.of_second desk.config desk.entries
+      (accepted_same old clock new clock_new w answer accepts).0 kept.order;
+  starts = starts_stay old new (accepted_goes old clock new clock_new w answer accepts).faults desk.entries kept.starts (accepted_same old clock new clock_new w answer accepts).1;
 }
 
 -- a read has no mark
@@ -136,13 +152,26 @@ reads_keep old clock new clock_new w answer none accepts desk h op i names at is
   keeps = read_stays old clock new clock_new w answer none accepts desk.config desk.cap desk.entries before kept.started kept.keeps;
   fits = fits_on desk.config (state_of desk) h old new op i at kept.fits;
   paid = start_tries old clock new clock_new w answer accepts desk.config desk.cap desk.entries before h.program kept.keeps kept.paid;
+  order = order_stays old clock new clock_new (accepted_goes old clock new clock_new w answer accepts).fixed (accepted_goes old clock new clock_new w answer accepts).past.of_second desk.config desk.entries
+      (accepted_same old clock new clock_new w answer accepts).0 kept.order;
+  starts = starts_stay old new (accepted_goes old clock new clock_new w answer accepts).faults desk.entries kept.starts (accepted_same old clock new clock_new w answer accepts).1;
 }
 
 -- A CANCEL
+canceled_same : (old : DeviceTold) (clock : Clock) (new : DeviceTold) (clock_new : Clock) → Cancels old clock new clock_new → (new.ops ≡ old.ops) × (new.starts ≡ old.starts)
+canceled_same old clock new clock_new cancels = by (is_open old.stand) cancels.0
+  where
+    by : (t : Bool) → IfElse t (IsCanceled old new) (new ≡ old) → (new.ops ≡ old.ops) × (new.starts ≡ old.starts)
+    by true is = (ap (λ (d : DeviceTold). d.ops) is.only, ap (λ (d : DeviceTold). d.starts) is.only)
+    by false is = (ap (λ (d : DeviceTold). d.ops) is, ap (λ (d : DeviceTold). d.starts) is)
+
 pub cancels_keep : (old : DeviceTold) (clock : Clock) (new : DeviceTold) (clock_new : Clock) → Cancels old clock new clock_new → CancelsKeep old clock new clock_new
 cancels_keep old clock new clock_new cancels desk hand before kept = record {
   started = kept.started;
   keeps = cancel_stays old clock new clock_new cancels desk.config desk.cap desk.entries before kept.started kept.keeps;
   fits = tt;
   paid = tt;
+  order = order_stays old clock new clock_new (goes_canceled old clock new clock_new cancels).fixed (goes_canceled old clock new clock_new cancels).past.of_second desk.config desk.entries
+      (canceled_same old clock new clock_new cancels).0 kept.order;
+  starts = starts_stay old new (goes_canceled old clock new clock_new cancels).faults desk.entries kept.starts (canceled_same old clock new clock_new cancels).1;
 }

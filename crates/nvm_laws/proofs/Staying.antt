@@ -6,15 +6,15 @@ use Rattle.memif.specs.Clock.{Clock}
 use Rattle.memif.specs.Calls.{Arms}
 use Rattle.block_machine.specs.Words.{Entry, Configuration}
 use Rattle.block_machine.specs.State.{State}
-use Rattle.nvm_device_laws.specs.Turn.{Keeps, Stays}
+use Rattle.nvm_device_laws.specs.Turn.{Keeps}
 use Rattle.nvm_device_laws.specs.Tries.{TriesArePaid, TriesStay}
 use Rattle.nv_desk.specs.Desk.{DeskState, state_of}
 use Rattle.job_progress.specs.Hand.{HandState}
 use Rattle.job_progress.specs.JobInHand.{FitsMarks, HandFits}
-use Rattle.nvm_device_laws.proofs.DeviceCalls.{arm_stays}
+use Rattle.nvm_device_laws.proofs.DeviceCalls.{arm_stays, goes_armed}
 use Rattle.nvm_device_laws.proofs.DeviceTries.{arm_tries}
-use Rattle.nvm_laws.specs.Keeps.{StaysKept}
 use Rattle.nvm_laws.specs.Calls.{ArmsKeep}
+use Rattle.nvm_laws.proofs.Ordering.{order_stays, starts_stay}
 
 pub fits_stay : (c : Configuration) (s : State) (hand : Option HandState) (old new : DeviceTold) → new.stand ≡ old.stand → HandFits c s hand old → HandFits c s hand new
 fits_stay c s None old new same fits = tt
@@ -26,15 +26,6 @@ pub paid_stays : (old : DeviceTold) (clock : Clock) (new : DeviceTold) (clock_ne
 paid_stays old clock new clock_new tries c cap h before keeps None paid = tt
 paid_stays old clock new clock_new tries c cap h before keeps (Some x) paid = tries c cap h before x.program keeps paid
 
-pub stays_kept : (old : DeviceTold) (clock : Clock) (new : DeviceTold) (clock_new : Clock) → new.stand ≡ old.stand
-    → Stays old clock new clock_new → TriesStay old clock new clock_new → (desk : DeskState) (hand : Option HandState) → StaysKept desk hand old clock desk hand new clock_new
-stays_kept old clock new clock_new same stays tries desk hand before kept = record {
-  started = kept.started;
-  keeps = stays desk.config desk.cap desk.entries before kept.started kept.keeps;
-  fits = fits_stay desk.config (state_of desk) hand old new same kept.fits;
-  paid = paid_stays old clock new clock_new tries desk.config desk.cap desk.entries before kept.keeps hand kept.paid;
-}
-
 -- a planned cut changes no job
 armed_stand : (which nth keep : ℕ) (d : DeviceTold) → (armed which nth keep d).stand ≡ d.stand
 armed_stand which nth keep d = by (which == 0) (which == 1)
@@ -44,8 +35,24 @@ armed_stand which nth keep d = by (which == 0) (which == 1)
     by false true = refl
     by false false = refl
 
+armed_starts : (which nth keep : ℕ) (d : DeviceTold) → ((armed which nth keep d).ops ≡ d.ops) × ((armed which nth keep d).starts ≡ d.starts)
+armed_starts which nth keep d = by (which == 0) (which == 1)
+  where
+    by : (t u : Bool) → let e = (if t then record d { first = plans nth keep d.first } else (if u then record d { second = plans nth keep d.second } else d)) in (e.ops ≡ d.ops) × (e.starts ≡ d.starts)
+    by true u = (refl, refl)
+    by false true = (refl, refl)
+    by false false = (refl, refl)
+
 pub arms_keep : (old : DeviceTold) (clock : Clock) (new : DeviceTold) (clock_new : Clock) (which nth keep : ℕ)
     → Arms which nth keep old clock new clock_new → ArmsKeep old clock new clock_new
-arms_keep old clock new clock_new which nth keep arms =
-    stays_kept old clock new clock_new (ap (λ (d : DeviceTold). d.stand) arms.0 ∙ armed_stand which nth keep old)
-    (arm_stays old clock new clock_new which nth keep arms) (arm_tries old clock new clock_new which nth keep arms)
+arms_keep old clock new clock_new which nth keep arms desk hand before kept =
+    let goes = goes_armed old clock new clock_new which nth keep arms in
+    let same = armed_starts which nth keep old in
+    record {
+      started = kept.started;
+      keeps = arm_stays old clock new clock_new which nth keep arms desk.config desk.cap desk.entries before kept.started kept.keeps;
+      fits = fits_stay desk.config (state_of desk) hand old new (ap (λ (d : DeviceTold). d.stand) arms.0 ∙ armed_stand which nth keep old) kept.fits;
+      paid = paid_stays old clock new clock_new (arm_tries old clock new clock_new which nth keep arms) desk.config desk.cap desk.entries before kept.keeps hand kept.paid;
+      order = order_stays old clock new clock_new goes.fixed goes.past.of_second desk.config desk.entries (ap (λ (d : DeviceTold). d.ops) arms.0 ∙ same.0) kept.order;
+      starts = starts_stay old new goes.faults desk.entries kept.starts (ap (λ (d : DeviceTold). d.starts) arms.0 ∙ same.1);
+    }

@@ -5,6 +5,7 @@ use Rattle.memif.specs.declared.answer.DeviceTurn.{DeviceTurn}
 use Rattle.memif.specs.declared.answer.DeviceTurn.TheVariants as turn
 use Rattle.memif.specs.declared.answer.JobResult.{JobResult}
 use Rattle.memif.specs.declared.answer.JobResult.TheVariants.{JobOk}
+use Rattle.block_machine.specs.nv_base.Entry as entry
 use Rattle.block_machine.specs.nv_base.Marks.{instance_of}
 use Rattle.memif.specs.Told as device
 use Rattle.memif.specs.Told.{DeviceTold, Part, First, Second, Stand, Open, Ended, is_open, ops_of, PartTold}
@@ -14,6 +15,7 @@ use Rattle.block_machine.specs.Words.{Mark, Entry, Off, Configuration}
 use Rattle.block_machine.specs.State.{State}
 use Rattle.block_machine.specs.Steps.{step}
 use Rattle.promise_blocks.specs.Counts.{count_due}
+use Rattle.promise_blocks.specs.Operations.{AreOfJobs, AreStartsTold, start_ups_in}
 use Rattle.nvm_device_laws.specs.Outcomes.{outcome_by, OutcomesFit}
 use Rattle.nvm_device_laws.specs.Turn.{StaysBy, TurnsKeep, settled_by, wrote_by}
 use Rattle.nvm_device_laws.specs.Tries.{TriesArePaid, TriesStay, TriesGoOn, is_post}
@@ -33,6 +35,7 @@ use Rattle.nvm_laws.specs.Calls.{DeviceTurnsKeep}
 use Rattle.nvm_laws.proofs.Operations.{is_block}
 use Rattle.nvm_laws.proofs.Staying.{fits_stay, paid_stays}
 use Rattle.nvm_laws.proofs.Ending.{ended_fits, index, listed, next, number_is, read_has_none, small_index}
+use Rattle.nvm_laws.proofs.Ordering.{order_push, starts_push, turn_ordered}
 
 -- WHERE THE JOBS STAND
 -- the job stands as it did, or it ended
@@ -65,17 +68,18 @@ hand_same (Open j) (Ended r given) hand same = cc
 hand_same (Ended r given) b hand same = refl
 
 -- THE ENTRY
-abbrev IsNoPost : Option Entry → Type 0
-IsNoPost None = Unit {0}
-IsNoPost (Some e) = is_post e ≡ false
+-- it is no Post and no Found, and tells so many operations
+abbrev IsOfTurn : ℕ → Option Entry → Type 0
+IsOfTurn ops None = Unit {0}
+IsOfTurn ops (Some e) = (is_post e ≡ false) × (entry.ops_of e ≡ Some ops) × (start_ups_in e ≡ 0)
 
-no_post : (a b : Stand) (ops : ℕ) → IsNoPost (settled_by a b ops)
-no_post (Open j) (Ended JobOk given) ops = by j.mark
+of_turn : (a b : Stand) (ops : ℕ) → IsOfTurn ops (settled_by a b ops)
+of_turn (Open j) (Ended JobOk given) ops = by j.mark
   where
-    by : (mark : Option Mark) → IsNoPost (wrote_by j.number mark ops)
+    by : (mark : Option Mark) → IsOfTurn ops (wrote_by j.number mark ops)
     by None = tt
-    by (Some m) = refl
-no_post a b ops = tt
+    by (Some m) = (refl, refl, refl)
+of_turn a b ops = tt
 
 fits_off : (c : Configuration) (s : State) (hand : Option HandState) (d : DeviceTold) (ops : ℕ) → HandFits c s hand d → HandFits c (step c s (Off ops)) hand d
 fits_off c s None d ops fits = tt
@@ -84,7 +88,8 @@ fits_off c s (Some h) d ops fits = λ j held. record { fit = (fits j held).fit; 
 module _ (old : DeviceTold) (clock : Clock) (new : DeviceTold) (clock_new : Clock)
     (tries : TriesStay old clock new clock_new) (goes_on : TriesGoOn old clock new clock_new) (outcomes : OutcomesFit old new)
     (before : Part → PartTold) (desk desk_new : DeskState) (hand : Option HandState)
-    (up : old.started ≡ true) (paired : IsPaired desk.config (state_of desk) hand old) (kept : StackKeeps before desk hand old clock) where
+    (up : old.started ≡ true) (paired : IsPaired desk.config (state_of desk) hand old) (kept : StackKeeps before desk hand old clock)
+    (order : AreOfJobs desk.config desk.entries new clock_new) (starts : AreStartsTold desk.entries new) where
   abbrev ArePaidAt : List Entry → Option HandState → Type 0
   ArePaidAt entries held = IfSome held (λ x. TriesArePaid desk.config clock_new.worn before new entries x.program)
 
@@ -93,19 +98,23 @@ module _ (old : DeviceTold) (clock : Clock) (new : DeviceTold) (clock_new : Cloc
   paid_with e plain (Some x) paid = tries_stay_with new clock_new desk.config desk.entries before x.program e plain paid
 
   -- all is kept behind an entry, or without one
-  made : (e : Option Entry) → IsNoPost e → StaysBy e old clock new clock_new → AddsBy e desk desk_new → (held : Option HandState)
+  made : (e : Option Entry) → IsOfTurn (ops_of new) e → StaysBy e old clock new clock_new → AddsBy e desk desk_new → (held : Option HandState)
       → HandFits desk.config (state_by desk.config (state_of desk) e) held new → ArePaidAt desk.entries held → StackKeeps before desk_new held new clock_new
   made None plain stays adds held fits paid = subst (λ (x : DeskState). StackKeeps before x held new clock_new) (sym adds) (record {
     started = kept.started;
     keeps = stays desk.config desk.cap desk.entries before kept.started kept.keeps;
     fits = fits;
     paid = paid;
+    order = order;
+    starts = starts;
   })
   made (Some e) plain stays adds held fits paid = subst (λ (x : DeskState). StackKeeps before x held new clock_new) (sym adds.0) (record {
     started = started_push desk.entries e;
     keeps = stays desk.config desk.cap desk.entries before kept.started adds.1 kept.keeps;
     fits = subst (λ (t : State). HandFits desk.config t held new) (sym (histories_step desk.config desk.entries e)) fits;
-    paid = paid_with e plain held paid;
+    paid = paid_with e plain.0 held paid;
+    order = order_push new clock_new desk.config desk.entries e plain.1 order;
+    starts = starts_push new desk.entries e plain.2 starts;
   })
 
   paid_now : ArePaidAt desk.entries hand
@@ -117,7 +126,7 @@ module _ (old : DeviceTold) (clock : Clock) (new : DeviceTold) (clock_new : Cloc
   -- the power goes off
   went_off : new.stand ≡ old.stand → StaysBy (Some (Off (ops_of new))) old clock new clock_new → AddsBy (Some (Off (ops_of new))) desk desk_new → Done
   went_off same stays adds = subst (λ (x : Option HandState). StackKeeps before desk_new x new clock_new) (sym (hand_same old.stand new.stand hand same))
-      (made (Some (Off (ops_of new))) refl stays adds hand
+      (made (Some (Off (ops_of new))) (refl, refl, refl) stays adds hand
       (fits_off desk.config (state_of desk) hand new (ops_of new) (fits_stay desk.config (state_of desk) hand old new same kept.fits)) paid_now)
 
   -- no job ended
@@ -168,7 +177,7 @@ module _ (old : DeviceTold) (clock : Clock) (new : DeviceTold) (clock_new : Cloc
         let paid : TriesArePaid desk.config clock.worn before old desk.entries h.program =
         subst (λ (x : Option HandState). IfSome x (λ y. TriesArePaid desk.config clock.worn before old desk.entries y.program)) held kept.paid in
         subst (λ (x : Option HandState). StackKeeps before desk_new x new clock_new) (sym (hand_is h held))
-        (made (settled_by (Open job) (Ended r given) (ops_of new)) (no_post (Open job) (Ended r given) (ops_of new))
+        (made (settled_by (Open job) (Ended r given) (ops_of new)) (of_turn (Open job) (Ended r given) (ops_of new))
         (subst (λ (e : Option Entry). StaysBy e old clock new clock_new) entry_is stays)
         (subst (λ (e : Option Entry). AddsBy e desk desk_new) entry_is adds)
         (Some (ended (outcome_by job.mark r) h)) (ended_seen h is fits) (ended_paid h held is paid))
@@ -195,7 +204,8 @@ module _ (old : DeviceTold) (clock : Clock) (new : DeviceTold) (clock_new : Cloc
 
 pub device_turns_keep : (old : DeviceTold) (clock : Clock) (new : DeviceTold) (clock_new : Clock) (answer : DeviceTurn)
     → Turns answer old clock new clock_new → DeviceTurnsKeep answer old clock new clock_new
-device_turns_keep old clock new clock_new answer turns desk desk_new hand up paired adds before kept =
+device_turns_keep old clock new clock_new answer turns desk desk_new hand up paired on adds before kept =
+    let ordered = turn_ordered old clock new clock_new before desk hand kept.keeps paired on kept.order kept.starts answer turns in
     turned old clock new clock_new (turn_tries old clock new clock_new answer turns) (turn_goes_on old clock new clock_new answer turns)
-    (outcomes_fit old clock new clock_new answer turns) before desk desk_new hand up paired kept answer turns
+    (outcomes_fit old clock new clock_new answer turns) before desk desk_new hand up paired kept ordered.order ordered.starts answer turns
     (turn_keeps old clock new clock_new answer turns) adds

@@ -43,9 +43,10 @@ CancelsKeep old clock new clock_new = (desk : DeskState) (hand : Option HandStat
 abbrev pub ArmsKeep : DeviceTold → Clock → DeviceTold → Clock → Type 0
 ArmsKeep old clock new clock_new = (desk : DeskState) (hand : Option HandState) → StaysKept desk hand old clock desk hand new clock_new
 
--- a turn of a device that is up, with the entry that it asks for; the job in hand goes on by what its operation came to
+-- a turn of a device that is up and at the operation of the job in hand, if one is in hand, with the entry that it asks for; the
+-- job goes on by what its operation came to
 abbrev pub DeviceTurnsKeep : DeviceTurn → DeviceTold → Clock → DeviceTold → Clock → Type 0
 DeviceTurnsKeep answer old clock new clock_new =
     (desk desk_new : DeskState) (hand : Option HandState) → old.started ≡ true → IsPaired desk.config (state_of desk) hand old
-    → AddsBy (entry_by answer old.stand new.stand (ops_of new)) desk desk_new
+    → IfSome hand (λ h. h.started ≡ true) → AddsBy (entry_by answer old.stand new.stand (ops_of new)) desk desk_new
     → StaysKept desk hand old clock desk_new (hand_by old.stand new.stand hand) new clock_new

@@ -39,6 +39,7 @@ pub may_end : {D C : Type 0} (told : D → DeviceTold) (clock : D → Clock) (co
 may_end told clock copies is_store looked tells turned desk desk_new old between now begins drives turns = record {
   drives = drives;
   on = ap (λ (x : DeskState). (state_of x).off) begins.half.half.0.0 ∙ begins.half.half.2;
+  started = begins.half.started refl;
   turned = turns;
 }
 
@@ -85,7 +86,7 @@ module _ {D C : Type 0} (told : D → DeviceTold) (clock : D → Clock) (copies 
       keeps =
           subst (λ (z : DeskState). StaysKept (desk_with t v.seen) s.hand (told s.device) (clock s.device) z hand (told now.device) (clock now.device)) desk
           (subst (λ (h : Option HandState). StaysKept (desk_with t v.seen) s.hand (told s.device) (clock s.device) y.desk h (told now.device) (clock now.device)) (sym goes)
-          (λ before kept. may.turned.keeps x.desk y.desk s.hand stood.stands.tied.up stood.stands.tied.paired (takes.adds (told s.device) is_behind) before (stood.stands.kept before kept)))
+          (λ before kept. may.turned.keeps x.desk y.desk s.hand stood.stands.tied.up stood.stands.tied.paired may.started (takes.adds (told s.device) is_behind) before (stood.stands.kept before kept)))
 
       pub drives_on : HandIsPending (state_of y.desk) → NextIsPending y.desk.config (state_of y.desk) → Drives told clock copies t.tells (desk_with t seen) (driver_of now.device now.copies hand)
       drives_on pending next = record {

@@ -79,10 +79,12 @@ pub record IsTurned {D C : Type 0} (told : D → DeviceTold) (clock : D → Cloc
   pub stand : AsksStandBehind (told old.device) (clock old.device)
   pub only : new ≡ record old { device = new.device }
 
--- the second half is due: the device made its turn, with parts that are tied to a desk whose power is on
+-- the second half is due: the device made its turn, at the operation of the job in hand, if one is in hand, with parts that are
+-- tied to a desk whose power is on
 pub record MayEnd {D C : Type 0} (told : D → DeviceTold) (clock : D → Clock) (copies : C → List Told) (tells : Bool) (answer : DeviceTurn) (desk : DeskState) (before now : DriverState D C) : Type 0 where
   pub drives : Drives told clock copies tells desk before
   pub on : (state_of desk).off ≡ false
+  pub started : IfSome before.hand (λ h. h.started ≡ true)
   pub turned : IsTurned told clock answer before now
 
 -- the device's turn with the second half, behind requests of others

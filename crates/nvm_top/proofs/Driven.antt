@@ -37,7 +37,7 @@ use Rattle.nvm_flash.specs.promise_blocks.OverDevice.{KeepsOver}
 use Rattle.nvm_flash.specs.nvm_device_laws.Turn.{Keeps, BeginsKept, down}
 use Rattle.nvm_flash.specs.nvm_core.Stack.{StackState}
 use Rattle.nvm_flash.specs.nvm_core.StartUps.{StartsUp, StartsKeep}
-use Rattle.nvm_flash.specs.nvm_laws.Keeps.{StackKeeps}
+use Rattle.nvm_flash.specs.nvm_laws.Keeps.{StackKeeps, KeepsWhileDown}
 use Rattle.nvm_flash.specs.nvm_laws.declared.turned.FoundAnswer.TheVariants as found
 use Rattle.nvm_flash.specs.promise_run.Run.{Played, cap, offs_of_flash}
 use Rattle.nvm_flash.specs.promise_run.Promise.{making_of}
@@ -52,6 +52,7 @@ use Rattle.nvm_flash.specs.Turns.{fixed_by}
 use Rattle.nvm_flash.proofs.JobTurns.{job_turns_are_figures}
 use Rattle.nvm_flash.proofs.ram_blocks.FreshCopies.{none_refused}
 use Rattle.nvm_flash.proofs.nvm_device_laws.DownCalls.{over_with}
+use Rattle.nvm_flash.proofs.nvm_laws.StartingUp.{stacks_begin}
 use Rattle.nvm_flash.proofs.promise_device.FlashRun.{seen_more}
 use Rattle.nvm_flash.proofs.promise_device.Readings.{worn_banks_compute}
 use Rattle.nvm_flash.specs.Made.{IsOrigin, IsMadeStack, AreOfFirst, ComesBack, IsBack}
@@ -115,9 +116,10 @@ pub begins_up : (c : Configuration) (making : Making) (entry : Told) (m s : Stac
     → (inner : Told) (cuts : ℕ) → m.desk.config ≡ c → IsLegalConfig c → IsOrigin c inner cuts making entry → IsSome (told_of m.device).slots → StackKeeps (one_part (part_at entry)) s.desk None (told_of s.device) (told_clock s.device)
 begins_up c making entry m s made begins order starts keeps inner cuts same legal origin slots =
     keeps (one_part (part_at entry)) slots (inr (starts.finds.up.restarted.ops ∙ made.device.ops))
-    (subst (λ (h : List Entry). Keeps m.desk.config m.desk.cap h (one_part (part_at entry)) (down (told_of m.device)) (told_clock m.device)) (sym (ap (λ x. x.desk.entries) made.only))
-    (subst (λ (x : Configuration). Keeps x m.desk.cap [] (one_part (part_at entry)) (down (told_of m.device)) (told_clock m.device)) (sym same)
-    (fresh_down m.device c inner cuts making entry m.desk.cap begins order origin legal made.device made.parts)))
+    (subst (λ (h : List Entry). KeepsWhileDown m.desk.config m.desk.cap h (one_part (part_at entry)) (told_of m.device) (told_clock m.device)) (sym (ap (λ x. x.desk.entries) made.only))
+    (subst (λ (x : Configuration). KeepsWhileDown x m.desk.cap [] (one_part (part_at entry)) (told_of m.device) (told_clock m.device)) (sym same)
+    (stacks_begin (told_of m.device) (told_clock m.device) c m.desk.cap (one_part (part_at entry)) made.device.ops made.device.starts
+    (fresh_down m.device c inner cuts making entry m.desk.cap begins order origin legal made.device made.parts))))
 
 -- WHERE THE FLASH TELLS ITS BYTES
 
@@ -208,7 +210,7 @@ kept_up before m s t same starts keeps = let kept = is_kept before m s t same st
 
 over_of : (b : Bool) (before : Part → PartTold) (desk : DeskState) (hand : Option HandState) (d : Device) → IsKept b before desk hand (told_of d) (told_clock d) → KeepsOver desk.config desk.cap desk.entries before (told_of d) (told_clock d)
 over_of true before desk hand d keeps = keeps.keeps.over
-over_of false before desk hand d keeps = over_with (told_of d).started desk.config desk.cap desk.entries before (down (told_of d)) (told_clock d) keeps.keeps.over
+over_of false before desk hand d keeps = over_with (told_of d).started desk.config desk.cap desk.entries before (down (told_of d)) (told_clock d) keeps.keeps.keeps.over
 
 -- what the device told of its operations, by the clock that it tells
 told_bridge : (r : Reading) (inner exit : Told) (operations : List Change) (before : PartTold) (d : Device) → Bridges r true (record { entry = inner; exit = exit; operations = operations }) before (told_of d) (clock_of d)

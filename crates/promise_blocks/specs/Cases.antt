@@ -1,5 +1,8 @@
--- A failed write and what pays for it, and a write and the counts that it may leave.
-use Rattle.std.specs.Prelude.{◌≡◌, ◌≤◌, ◌++◌, ℕ, List, [], ◌∷◌, replicate, Some, None}
+-- A failed write and what pays for it, and a write, the counts that it may leave and its operations.
+use Rattle.std.specs.Prelude.{◌≡◌, ◌<◌, ◌≤◌, ◌++◌, ℕ, true, List, [], ◌∷◌, replicate, Some, None}
+use Rattle.memif.specs.Told.{DeviceTold, Second, no_figures, no_part}
+use Rattle.memif.specs.Clock.{Clock, untold}
+use Rattle.memif.specs.Plain.{plain_fixed, plain_store}
 use Rattle.block_machine.specs.block_config.DemoConfig.{demo_config}
 use Rattle.block_machine.specs.Words.{NotOk, Fine, Content, Instance, Write, Accepted, WriteJob, TookContent, Entry, Ask, Pick, Wrote, Post, Found}
 use Rattle.block_machine.specs.Blocks.{instance_at}
@@ -27,6 +30,9 @@ block_2 = record { block = 2; index = 0 }
 abbrev pub picked : ℕ → List Entry
 picked ops = Ask 0 (Write 2 (Some (replicate 4 1)) 0) Accepted ∷ Pick 2 WriteJob (TookContent (replicate 4 1) 0) ops ∷ []
 
+abbrev pub found_first : List Entry
+found_first = Found [] 0 ∷ picked 0
+
 abbrev pub written_once : List Entry
 written_once = Found [] 0 ∷ picked 0 ++ Wrote block_2 (Content (replicate 4 1)) 10 ∷ Post 2 Fine None 0 10 ∷ []
 
@@ -36,3 +42,18 @@ picked_again = written_once ++ picked 10
 -- behind these entries its count may be this one, where the start-up found that one
 abbrev pub MayHave : List Entry → ℕ → ℕ → Type 0
 MayHave h found count = MayCountIn (instance_at (after demo_config h) block_2) (count_due h (λ n. found) 128) count
+
+-- OPERATIONS AND START-UPS
+-- a device of two parts, whose block 2 is of the second one: it was asked for so many operations, was started so often, and
+-- counted so many faults of its first part
+abbrev pub two_parts : (ops starts faults : ℕ) → DeviceTold
+two_parts ops starts faults = record (plain_store []) {
+  fixed = record (plain_fixed ((record { 0 = 128 }, 4) ∷ [])) { figures = record no_figures { part = Second } ∷ []; two = true };
+  ops = ops;
+  starts = starts;
+  first = record no_part { faults = faults };
+}
+
+-- its operations below this one were of the second part, and no other
+abbrev pub second_below : ℕ → Clock
+second_below n = record untold { of_second = λ k. k < n }

@@ -2,4 +2,5 @@ pub mod Counts
 pub mod Marks
 pub mod Payment
 pub mod OverDevice
+pub mod Operations
 pub mod Cases

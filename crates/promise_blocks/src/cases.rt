@@ -1,7 +1,8 @@
-// What pays for a failed write, and which counts a write may leave.
+// What pays for a failed write, which counts a write may leave, and which operations are a job's.
 ghost use Rattle.block_machine.specs.block_config.DemoConfig.{demo_config};
 ghost use Rattle.promise_blocks.specs.Payment.{IsPaid, every_block};
-ghost use Rattle.promise_blocks.specs.Cases.{failed_write, never_worn, worn_from, written_once, picked_again, MayHave};
+ghost use Rattle.promise_blocks.specs.Operations.{AreOfJobs, AreStartsTold};
+ghost use Rattle.promise_blocks.specs.Cases.{failed_write, never_worn, worn_from, written_once, picked_again, MayHave, second_below, two_parts};
 
 /// Two faults pay for a write that was tried twice, and so does a device that was worn out by then.
 pub fn failures_that_are_paid()
@@ -31,4 +32,27 @@ pub fn counts_that_may_not_be_found()
     ensures without_a_mark { MayHave written_once 6 8 → ⊥ }
     ensures by_two { MayHave picked_again 6 9 → ⊥ }
     ensures past_the_last { MayHave written_once 4294967295 4294967296 → ⊥ }
+{}
+
+/// The operations of a write on a block of the second part are of that part, from its Pick to its Wrote.
+pub fn operations_of_jobs()
+    ensures of_its_part { AreOfJobs demo_config written_once (two_parts 10 1 0) (second_below 10) }
+{}
+
+/// None of them is of the first part, and none behind its Post is of the second one.
+pub fn operations_of_no_job()
+    ensures of_the_first { AreOfJobs demo_config written_once (two_parts 10 1 0) (second_below 9) → ⊥ }
+    ensures behind_it { AreOfJobs demo_config written_once (two_parts 11 1 0) (second_below 11) → ⊥ }
+{}
+
+/// A start-up is told by its Found, and one that failed by a fault of a part.
+pub fn start_ups_that_are_told()
+    ensures found { AreStartsTold written_once (two_parts 10 1 0) }
+    ensures failed { AreStartsTold written_once (two_parts 10 2 1) }
+{}
+
+/// None is told without a Found or a fault, and no Found comes without a start-up.
+pub fn start_ups_that_are_not_told()
+    ensures without_a_fault { AreStartsTold written_once (two_parts 10 2 0) → ⊥ }
+    ensures without_a_start_up { AreStartsTold written_once (two_parts 10 0 1) → ⊥ }
 {}

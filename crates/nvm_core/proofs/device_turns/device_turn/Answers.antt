@@ -39,5 +39,5 @@ returns g c =
       hand = hand;
       tied = c.second_half.ensures.tied;
       keeps = subst (λ (h : Option HandState). StaysKept desk c.args.hand.now old clock c.second_half.new.desk h new clock_new) (sym hand)
-          (device_turns_keep old clock new clock_new turned c.turn-turned.ensures desk c.second_half.new.desk c.args.hand.now c.requires.tied.up c.requires.tied.paired adds);
+          (device_turns_keep old clock new clock_new turned c.turn-turned.ensures desk c.second_half.new.desk c.args.hand.now c.requires.tied.up c.requires.tied.paired c.requires.started adds);
     }

@@ -20,7 +20,7 @@ invariant_of-result g c =
     let at = subst (λ (f : FlsState). IsAttached f.geometry f.flash c.attach.new.self.flash) made done.attach in
     let geometry = ap (λ (f : FlsState). f.geometry) done.ok ∙ ap (λ (f : FlsState). f.geometry) made in
     let idle : IsIdle c.attach.new.self = record { job = ap (λ (f : FlsState). f.job) done.ok; attached = ap (λ (f : FlsState). f.attached) done.ok } in
-    let s : Parts = record { fls = c.attach.new.self; banks = c.in-Ok.banks; content = c.in-Ok.content; job = None; last = JobOk; given = 0; started = false; faults = 0; worn = None; operations = [] } in
+    let s : Parts = record { fls = c.attach.new.self; banks = c.in-Ok.banks; content = c.in-Ok.content; job = None; last = JobOk; given = 0; starts = 0; started = false; faults = 0; worn = None; operations = [] } in
     let m : Making = record { geometry = c.args.geometry; banks = c.args.banks; numbers = c.args.numbers.now; reserve = c.args.reserve } in
     let law = new_is_sound m _ s (record { legal = c.requires.legal; space = c.requires.space; attached = at; banks = c.in-Ok.ensures.banks; geometry = geometry; idle = idle; room = c.in-Ok.ensures.content }) in
     subst (Sound g.O.Origin.making g.O.Origin.entry) (sym c.unstarted.ensures) (rw (c.requires.making, c.requires.entry, c.in-Ok.ensures.numbers) (record { parts = law.0; follows = unstarted_follows s refl }))

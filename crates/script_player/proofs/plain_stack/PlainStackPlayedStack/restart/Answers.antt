@@ -52,7 +52,7 @@ module _ {D : Type 0} (told : D → DeviceTold) (clock : D → Clock) (before : 
   begun = is_started before old.desk old.hand (told old.device) (clock old.device) comes old.ready kept
 
   slots : IsSome (told old.device).slots
-  slots = told_slots old.desk.config (after old.desk.config old.desk.entries) (count_due old.desk.entries downs.base) (told old.device).fixed.numbers (told old.device).slots (downs.marks begun)
+  slots = told_slots old.desk.config (after old.desk.config old.desk.entries) (count_due old.desk.entries downs.keeps.base) (told old.device).fixed.numbers (told old.device).slots (downs.keeps.marks begun)
 
   same : new ≡ old → IsKept new.ready before new.desk new.hand (told new.device) (clock new.device)
   same is = subst (λ (s : StackState D (List PlainBlock)). IsKept s.ready before s.desk s.hand (told s.device) (clock s.device)) (sym is) kept
