@@ -1,6 +1,7 @@
 // A step or a fault at each turn of a job.
 use crate::case::Case;
-use crate::everywhere::{KEEPS, fail_each, fail_reads};
+use crate::everywhere::{KEEPS, fail_each};
+use crate::faults::Failing;
 use crate::ranges::Ranges;
 use crate::spots::with_line;
 use crate::trials::{Trial, Trials};
@@ -56,16 +57,12 @@ pub fn try_faults<R: Print + AllocGlobal + Threads + Wait + Sync>(
     let before = trials.call(rt, before, None)?;
     let whole = trials.call(rt, &case.input, None)?;
     for keep in KEEPS {
+        let failing = Failing::Operation { keep };
         let operations = (before.operations, whole.operations);
-        fail_each(rt, &mut trials, &case.input, from, operations, keep)?;
+        fail_each(rt, &mut trials, &case.input, from, failing, operations)?;
     }
-    fail_reads(
-        rt,
-        &mut trials,
-        &case.input,
-        from,
-        (before.reads, whole.reads),
-    )?;
+    let reads = (before.reads, whole.reads);
+    fail_each(rt, &mut trials, &case.input, from, Failing::Read, reads)?;
     trials.show(rt)
 }
 

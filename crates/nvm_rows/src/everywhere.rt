@@ -1,10 +1,10 @@
 // A script with one cut or one fault at each place.
 use crate::case::Case;
-use crate::faults::Fault;
+use crate::faults::{Failing, Fault};
 use crate::ranges::Ranges;
 use crate::spots::{Spot, spots, with_line, with_plan};
 use crate::trials::{Trial, Trials};
-use std::alloc::AllocGlobal;
+use std::alloc::{AllocError, AllocGlobal, Global};
 use std::sync::Wait;
 use std::thread::Threads;
 
@@ -29,16 +29,12 @@ pub fn try_everywhere<R: Print + AllocGlobal + Threads + Wait + Sync>(
         for spot in &spots(alloc, &input)? {
             cut_behind(rt, &mut trials, &input, *spot, keep)?;
         }
-        fail_each(
-            rt,
-            &mut trials,
-            &input,
-            u64::MAX,
-            (0, whole.operations),
-            keep,
-        )?;
+        let failing = Failing::Operation { keep };
+        let operations = (0, whole.operations);
+        fail_each(rt, &mut trials, &input, u64::MAX, failing, operations)?;
     }
-    fail_reads(rt, &mut trials, &input, u64::MAX, (0, whole.reads))?;
+    let reads = (0, whole.reads);
+    fail_each(rt, &mut trials, &input, u64::MAX, Failing::Read, reads)?;
     trials.show(rt)
 }
 
@@ -83,23 +79,22 @@ fn operations_behind<R: AllocGlobal + Threads + Wait + Sync>(
     Ok(behind.saturating_sub(before))
 }
 
-/// A fault at each changing operation behind the first of these numbers, to the second one.
+/// A fault at each of these calls of the flash behind the first of these numbers, to the second one.
 pub fn fail_each<R: Print + AllocGlobal + Threads + Wait + Sync>(
     rt: &R,
     trials: &mut Trials<'_>,
     input: &[u8],
     from: u64,
+    failing: Failing,
     (before, last): (u64, u64),
-    keep: u32,
 ) -> anyhow::Result<()> {
-    let what = format!(in rt.alloc(); "operation fails keep {keep} at")?;
-    let mut ranges = Ranges::of(what);
+    let mut ranges = Ranges::of(title(rt.alloc(), failing)?);
     for number in 1..=last.saturating_sub(before) {
         let nth = before.saturating_add(number);
         let trial = Trial {
             number,
             input,
-            fault: Some(Fault::Operation { nth, keep }),
+            fault: Some(Fault { failing, nth }),
             from,
         };
         trials.run(rt, &mut ranges, trial)?;
@@ -107,24 +102,9 @@ pub fn fail_each<R: Print + AllocGlobal + Threads + Wait + Sync>(
     ranges.end(rt)
 }
 
-/// A fault at each read behind the first of these numbers, to the second one.
-pub fn fail_reads<R: Print + AllocGlobal + Threads + Wait + Sync>(
-    rt: &R,
-    trials: &mut Trials<'_>,
-    input: &[u8],
-    from: u64,
-    (before, last): (u64, u64),
-) -> anyhow::Result<()> {
-    let mut ranges = Ranges::of(String::from_str(rt.alloc(), "read fails at")?);
-    for number in 1..=last.saturating_sub(before) {
-        let nth = before.saturating_add(number);
-        let trial = Trial {
-            number,
-            input,
-            fault: Some(Fault::Read { nth }),
-            from,
-        };
-        trials.run(rt, &mut ranges, trial)?;
+fn title(alloc: Global, failing: Failing) -> Result<String, AllocError> {
+    match failing {
+        Failing::Operation { keep } => format!(in alloc; "operation fails keep {keep} at"),
+        Failing::Read => String::from_str(alloc, "read fails at"),
     }
-    ranges.end(rt)
 }

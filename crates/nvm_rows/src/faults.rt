@@ -11,11 +11,18 @@ pub struct Faults {
     pub reads: Vec<u64>,
 }
 
-/// One more fault of the flash.
+/// Which calls of the flash fail: changing operations, with the bytes of one that are done, or reads.
 #[derive(Clone, Copy)]
-pub enum Fault {
-    Operation { nth: u64, keep: u32 },
-    Read { nth: u64 },
+pub enum Failing {
+    Operation { keep: u32 },
+    Read,
+}
+
+/// One more fault of the flash, at its nth call of these.
+#[derive(Clone, Copy)]
+pub struct Fault {
+    pub failing: Failing,
+    pub nth: u64,
 }
 
 impl Faults {
@@ -32,10 +39,11 @@ impl Faults {
     pub fn of_flash(&self, alloc: Global, fault: Option<Fault>) -> Result<Faults, AllocError> {
         let mut operations = self.operations.as_slice().to_vec(alloc)?;
         let mut reads = self.reads.as_slice().to_vec(alloc)?;
-        match fault {
-            Some(Fault::Operation { nth, keep }) => operations.push((nth, keep))?,
-            Some(Fault::Read { nth }) => reads.push(nth)?,
-            None => {}
+        if let Some(Fault { failing, nth }) = fault {
+            match failing {
+                Failing::Operation { keep } => operations.push((nth, keep))?,
+                Failing::Read => reads.push(nth)?,
+            }
         }
         Ok(Faults {
             takes: Vec::new(alloc),

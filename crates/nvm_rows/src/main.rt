@@ -14,6 +14,7 @@ mod counted;
 mod everywhere;
 mod faults;
 mod lines;
+mod memory;
 mod plain;
 mod ranges;
 mod show;

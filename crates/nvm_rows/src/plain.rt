@@ -2,8 +2,7 @@
 use crate::call::Called;
 use crate::case::Case;
 use crate::lines::without_operations;
-use anyhow::bail;
-use rows_memory::play_in_memory;
+use crate::memory::play_in_memory;
 use std::alloc::{AllocError, AllocGlobal, Global};
 
 /// Plays the script of a case over a device in memory, without its power cuts, and with these numbers of turns in its `turn`
@@ -17,9 +16,7 @@ pub fn show_plain<R: Print + AllocGlobal>(
 ) -> anyhow::Result<()> {
     let alloc = rt.alloc();
     let input = steps_in_memory(alloc, &case.input, turns)?;
-    let Ok(text) = play_in_memory(alloc, &input) else {
-        bail!("no run in memory");
-    };
+    let text = play_in_memory(alloc, &input)?;
     let mut printed = str::from_utf8(&called.output)?;
     for line in str::from_utf8(&text)?.split('\n') {
         if line.is_empty() {

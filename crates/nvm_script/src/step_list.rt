@@ -1,5 +1,5 @@
 // The steps of a script in order.
-ghost use Rattle.std.specs.Prelude.{◌≡◌, ◌<◌, ◌≤◌, ◌++◌, ◌∷◌, [], length, Some, MatchOption, OnOk, OnErr, slice_get};
+ghost use Rattle.std.specs.Prelude.{◌≡◌, ◌<◌, ◌≤◌, ◌^◌, ◌++◌, ◌∷◌, [], length, Some, MatchOption, OnOk, OnErr, slice_get};
 
 use crate::Step;
 use std::alloc::{AllocError, Global};
@@ -54,5 +54,13 @@ impl StepList {
     {
         self.items.push(step)?;
         Ok(())
+    }
+
+    /// The steps themselves.
+    pub fn into_steps(self) -> Vec<Step>
+        ensures steps { result.items ≡ self }
+        ensures few { length self < 2 ^ 32 }
+    {
+        self.items
     }
 }

@@ -42,7 +42,8 @@ use Rattle.nvm_flash.specs.nvm_laws.declared.turned.FoundAnswer.TheVariants as f
 use Rattle.nvm_flash.specs.promise_run.Run.{Played, cap, offs_of_flash}
 use Rattle.nvm_flash.specs.promise_run.Promise.{making_of}
 use Rattle.nvm_flash.specs.promise_run.Halves.{HalvesMakeIt, beyond_end}
-use Rattle.script_player.specs.PlainTold.{told_by, plan_of, untold_of}
+use Rattle.script_player.specs.Made.{IsFresh}
+use Rattle.script_player.specs.PlainTold.{told_by}
 use Rattle.script_player.specs.PlainKept.{IsKept}
 use Rattle.nvm_flash.specs.declared.device.MakeFault.{MakeFault}
 use Rattle.nvm_flash.specs.declared.device.MakeFault.TheVariants as fault
@@ -50,7 +51,7 @@ use Rattle.nvm_flash.specs.job_progress.JobInHand.{program_for}
 use Rattle.nvm_flash.specs.nvm_figures.Left.{most_turns}
 use Rattle.nvm_flash.specs.Turns.{fixed_by}
 use Rattle.nvm_flash.proofs.JobTurns.{job_turns_are_figures}
-use Rattle.nvm_flash.proofs.ram_blocks.FreshCopies.{none_refused}
+use Rattle.script_player.proofs.Fresh.{is_fresh}
 use Rattle.nvm_flash.proofs.nvm_device_laws.DownCalls.{over_with}
 use Rattle.nvm_flash.proofs.nvm_laws.StartingUp.{stacks_begin}
 use Rattle.nvm_flash.proofs.promise_device.FlashRun.{seen_more}
@@ -146,9 +147,6 @@ tells_slots sounds c inner cuts making entry d origin made well =
 
 -- WHAT IS TOLD BEHIND IT
 
-no_plan : (n : ℕ) (p : PartTold) → p.planning.plan ≡ None → plan_of n p ≡ None
-no_plan n p none = elim (cases_Bool p.off) [ inl off ↦ rw off refl | inr on ↦ rw (on, none) refl ]
-
 pub started : (c : Configuration) (inner : Told) (cuts : ℕ) (making : Making) (entry : Told) (m s : StackState Device (List PlainBlock)) → IsLegalConfig c → IsOrigin c inner cuts making entry → IsMadeStack c making entry m → StartsUp told_of m s → IsStarted c cuts (part_at entry) (told_by told_of s)
 started c inner cuts making entry m s legal origin made starts = record {
   configuration = config;
@@ -157,18 +155,8 @@ started c inner cuts making entry m s legal origin made starts = record {
       ap (λ (f : Fixed). λ (x : State) (j : Job). most_turns f (program_for s.desk.config x j)) (starts.finds.up.restarted.fixed ∙ made.fixed)
       ∙ ap (λ (y : Configuration). λ (x : State) (j : Job). most_turns (fixed_by c) (program_for y x j)) config
       ∙ (λ i x j. job_turns_are_figures c legal x j i);
-  fresh = record {
-    ready = ap (λ x. x.ready) starts.only;
-    marks = starts.marks;
-    ops = ops_of (told_of s.device);
-    entries = entries;
-    stores = ap (λ bs. map store_of bs) copies ∙ ap (λ x. map store_of (plain_blocks_of x)) (sym config);
-    none_refused = λ id.
-        let refused : (most_of (map sync_told s.copies) id - refusals_of (map sync_told s.copies) id) ≡ 0 = ap (λ bs. most_of (map sync_told bs) id - refusals_of (map sync_told bs) id) copies ∙ none_refused c id in
-        let hand : untold_of id (state_of s.desk).hand ≡ 0 = ap (λ h. untold_of id (after s.desk.config h).hand) entries in omega (arith, refused, hand);
-    none_planned = rw (no_plan _ (told_of s.device).first (ap (λ p. p.planning.plan) starts.finds.up.restarted.first.only)) refl;
-  };
-  ops = refl;
+  fresh = fresh.0;
+  ops = fresh.1;
   takes = let is = ap (λ p. p.planning.takes) starts.finds.up.restarted.first.only ∙ ap (λ p. p.planning.takes) part in omega (arith, is);
   none = refl;
   faults = omega arith;
@@ -180,11 +168,8 @@ started c inner cuts making entry m s legal origin made starts = record {
     config : s.desk.config ≡ c
     config = ap (λ x. x.desk.config) starts.only ∙ ap (λ x. x.desk.config) made.only
 
-    copies : s.copies ≡ plain_blocks_of c
-    copies = ap (λ x. x.copies) starts.only ∙ ap (λ x. x.copies) made.only
-
-    entries : s.desk.entries ≡ Found starts.marks (ops_of (told_of s.device)) ∷ []
-    entries = ap (λ x. x.desk.entries) starts.only ∙ ap (λ h. h ++ Found starts.marks (ops_of (told_of s.device)) ∷ []) (ap (λ x. x.desk.entries) made.only)
+    fresh : (fresh : IsFresh (told_by told_of s)) × (fresh.ops ≡ (told_by told_of s).ops)
+    fresh = is_fresh told_of m s (ap (λ x. x.desk.entries) made.only) (ap (λ x. x.copies) made.only ∙ ap (λ x. plain_blocks_of x.desk.config) (sym made.only)) starts
 
     part : (told_of m.device).first ≡ part_at (told_cutting (cutting inner cuts))
     part = made.device.part ∙ ap part_at origin.over

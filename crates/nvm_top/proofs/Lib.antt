@@ -1,5 +1,4 @@
 pub mod Complete
-pub mod Cuts
 pub mod Driven
 pub mod Dumps
 pub mod Images

@@ -4,7 +4,7 @@ ghost use Rattle.nvm_flash.specs.nv_base.Count.{Rose};
 ghost use Rattle.nvm_flash.specs.nv_base.Geometry.{size_of};
 ghost use Rattle.nvm_flash.specs.Made.{IsOrigin};
 ghost use Rattle.nvm_script.specs.Played.{ArePlayed};
-ghost use Rattle.script_player.specs.Made.{cuts_in, cuts_of};
+ghost use Rattle.script_player.specs.Made.{cuts_of};
 ghost use Rattle.nvm_top.specs.Causes.{HasCauses};
 ghost use Rattle.nvm_top.specs.Ends.{PlaysBy, StopsBy};
 ghost use Rattle.nvm_top.specs.Output.{Writes, Prints};
@@ -19,8 +19,7 @@ use crate::stack::{end_driven, start_driven};
 use nv_streams::{Sink, Source};
 use nvm_flash::fee_core::Origin;
 use nvm_flash::fls_model::Flash;
-use nvm_script::{StepKind, StepList};
-use script_player::make_steps;
+use script_player::{cuts_of, make_steps};
 use std::alloc::Global;
 use std::marker::Brand;
 
@@ -88,32 +87,10 @@ fn play_steps<K: Sink, F: Flash, O: Origin>(
     let blocks = config.blocks();
     match start_driven::<F, O>(alloc, config, flash, cuts_of(&steps)) {
         Ok(mut driven) => {
-            let run = stop_of(make_steps(alloc, &steps, blocks, &mut driven));
+            let run = stop_of(make_steps(alloc, steps, blocks, &mut driven));
             let status = write_text(alloc, text, run, driven.stack().history(), output);
             (status, end_driven(driven))
         }
         Err((stop, flash)) => (report(alloc, stop, output), flash),
-    }
-}
-
-// How many power cuts steps plan.
-fn cuts_of(steps: &StepList) -> u32
-    ensures { result ≡ cuts_of steps.now }
-{
-    let mut cuts = 0;
-    for i in 0..steps.len() {
-        if let Some(step) = steps.get(i) {
-            cuts += cuts_in(&step.kind);
-        }
-    }
-    cuts
-}
-
-fn cuts_in(kind: &StepKind) -> u32
-    ensures { result ≡ cuts_in kind.now }
-{
-    match kind {
-        StepKind::Cut { .. } => 1,
-        _ => 0,
     }
 }

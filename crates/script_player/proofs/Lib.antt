@@ -26,3 +26,5 @@ pub mod PlainBehind
 pub mod PlainMostTurns
 pub mod PlainServing
 pub mod PlainPaying
+pub mod PlannedCuts
+pub mod Fresh

@@ -1,9 +1,9 @@
 -- Step after step.
-use Rattle.std.specs.Prelude.{slice_get, take, drop}
-use Rattle.std.proofs.Common.{◌≡◌, ◌<◌, ◌≤◌, ◌+◌, ◌*◌, ◌^◌, ℕ, zero, suc, List, [], ◌∷◌, ◌++◌, Option, Some, None, length, map, replicate, refl, sym, ap, ◌∙◌, subst, arith, add-one, length-append, append_assoc, append-nil}
+use Rattle.std.specs.Prelude.{take}
+use Rattle.std.proofs.Common.{◌≡◌, ◌<◌, ◌≤◌, ◌+◌, ◌*◌, ◌^◌, ℕ, zero, suc, List, [], ◌∷◌, ◌++◌, Option, None, length, map, replicate, refl, sym, ap, ◌∙◌, subst, arith, add-one, length-append, append_assoc, append-nil}
 use Rattle.std.proofs.lemmas.List.{length-map}
-use Rattle.std.proofs.lemmas.List.Sums.{sum_by_push, sum_by-take-le}
-use Rattle.std.proofs.lemmas.Option.{get_or_from_slice_get, slice_get_within}
+use Rattle.std.proofs.lemmas.List.Sums.{sum_by_push, sum_by-append, sum_by-cons}
+use Rattle.std.proofs.Math.Seq.{get_or-append_seam}
 use Rattle.nvm_core.specs.nv_base.Count.{WereCounted}
 use Rattle.nvm_core.specs.nv_base.Entry.{ops_behind}
 use Rattle.nvm_core.specs.block_machine.Words.{Instance, Mark, Entry, Found, Configuration}
@@ -20,13 +20,12 @@ use Rattle.promise_run.specs.Run.{Played, unpaid_offs, refusals_of, RefusalsExpl
 use Rattle.promise_run.specs.Completeness.{IsServed}
 use Rattle.script_walks.proofs.Jobs.{starts_keep_stored}
 use Rattle.script_walks.proofs.First.{first_are_newest}
-use Rattle.script_walks.proofs.RunsGrow.{take_more}
 use Rattle.script_walks.proofs.Walks.{walks_grow}
 use Rattle.script_player.specs.declared.steps.StepFault.{StepFault}
 use Rattle.script_player.specs.declared.steps.StepFault.TheVariants.{Flash, HistoryFull, Memory}
 use Rattle.script_player.specs.Told.{StackTold, state_of, moment_of, IsNoEarlier}
 use Rattle.script_player.specs.Kept.{IsKept}
-use Rattle.script_player.specs.Made.{cuts_in, cuts_of, PaysOffs, IsExplained, HasNoRoom, IsMade, IsLeft, IsFresh, HasWalked, MakesAt, LeavesAt, WereLeft, WasBroken}
+use Rattle.script_player.specs.Made.{cuts_in, cuts_of, PaysOffs, IsExplained, HasNoRoom, IsMade, IsLeft, IsFresh, Makes, HasWalked, WereLeft, WasBroken}
 use Rattle.script_player.specs.Walking.{plan_behind, refusals_in, IsWalking, AreUnderWay}
 use Rattle.script_player.specs.Table.{HasLastStores}
 use Rattle.promise_run.specs.Turns.{Moment, Move, entries_of, moment_behind, all_moves}
@@ -42,31 +41,13 @@ use Rattle.script_player.proofs.Table.{first_table}
 use Rattle.script_player.proofs.Explained.{counted_more, none_counted}
 use Rattle.script_player.proofs.Serving.{calm_until, calm_from}
 use Rattle.script_player.proofs.Awaited.{none_within, serving_more, is_served}
-use Rattle.script_player.proofs.Causes.{plan_more, unpaid_more, ops_in_all, joined_more, all_of, prices_more, refusals_more}
-
--- LISTS
-
-pub take_one_more : {X : Type 0} (n : ℕ) (xs : List X) (x : X) → slice_get xs n ≡ Some x → take (n + 1) xs ≡ take n xs ++ x ∷ []
-take_one_more n xs x is = ap (λ m. take m xs) (add-one n) ∙ take_more n xs x is
-
-pub few_taken : {X : Type 0} (n : ℕ) (xs : List X) → length (take n xs) ≤ n
-few_taken zero xs = omega arith
-few_taken (suc n) [] = omega arith
-few_taken (suc n) (x ∷ xs) = let fewer = few_taken n xs in omega (arith, fewer)
-
-pub in_two : {X : Type 0} (n : ℕ) (xs : List X) → xs ≡ take n xs ++ drop n xs
-in_two zero xs = refl
-in_two (suc n) [] = refl
-in_two (suc n) (x ∷ xs) = ap (λ ys. x ∷ ys) (in_two n xs)
-
-rest_begins : {X : Type 0} (n : ℕ) (xs : List X) (x : X) → slice_get xs n ≡ Some x → drop n xs ≡ x ∷ drop (suc n) xs
-rest_begins n [] x is = cc
-rest_begins zero (y ∷ ys) x is = let same : y ≡ x = cc in ap (λ z. z ∷ ys) same
-rest_begins (suc n) (y ∷ ys) x is = rest_begins n ys x is
+use Rattle.script_player.proofs.Causes.{plan_more, unpaid_more, ops_in_all, joined_more, prices_more, refusals_more}
 
 -- a step of the script can be played
-pub is_played : (c : Configuration) (steps : List Step) (n : ℕ) (x : Step) → slice_get steps n ≡ Some x → ArePlayed c steps → IsPlayed c x
-is_played c steps n x is all = subst (λ (y : Step). IsPlayed c y) (get_or_from_slice_get steps n x x is) (all n x (slice_get_within steps n x is))
+pub is_played : (c : Configuration) (made left : List Step) (x : Step) → ArePlayed c (made ++ x ∷ left) → IsPlayed c x
+is_played c made left x all =
+    let many = length-append made (x ∷ left) in
+    subst (λ (y : Step). IsPlayed c y) (get_or-append_seam made x left x) (all (length made) x (omega (arith, many)))
 
 -- THE WALK
 
@@ -233,25 +214,14 @@ were_left HistoryFull x xs old mid new configuration cap left =
     (subst (λ (n : ℕ). HasNoRoom old.configuration n (after old.configuration mid.entries) x.kind) cap
     (subst (λ (c : Configuration). HasNoRoom c mid.cap (after c mid.entries) x.kind) configuration left.why))
 
-pub was_broken : (p q r : Payer) (fault : StepFault) (steps : List Step) (n : ℕ) (x : Step) (old mid new : StackTold) → slice_get steps n ≡ Some x → mid.configuration ≡ old.configuration → mid.cap ≡ old.cap
-    → IsWalking p q (take n steps) old mid → IsLeft fault x mid new → PaysBy q r mid [] → WasBroken p r fault steps old new
-unfolding has_walked
-was_broken p q r fault steps n x old mid new is configuration cap walking left pays = record {
-  made = take n steps;
-  left = drop n steps;
-  order = in_two n steps;
-  walked = has_walked p q r (take n steps) old mid new left.entries left.counted left.operations left.cuts pays walking;
-  why = subst (λ (xs : List Step). WereLeft fault xs (moment_of mid) old new) (sym (rest_begins n steps x is)) (were_left fault x (drop (suc n) steps) old mid new configuration cap left);
-}
-
 -- nothing was made for want of memory
 pub none_made : (p : Payer) (steps : List Step) (t : StackTold) → IsFresh t → WasBroken p p Memory steps t t
 none_made p steps t fresh = record { made = []; left = steps; order = refl; walked = has_walked p p p [] t t t refl (omega arith) refl (none_counted t.causes.unplanned) (none_pays p t) (fresh_walking p t fresh); why = tt }
 
 -- UNDER WAY
 
-pub begin : (p : Payer) (steps : List Step) (blocks : ℕ) (table : List ℕ) (t : StackTold) → IsFresh t → blocks ≡ length t.configuration.blocks → table ≡ replicate (16 * (blocks + 1)) 0 → AreUnderWay p p steps 0 table t t
-begin p steps blocks table t fresh count is = record {
+pub begin : (p : Payer) (blocks : ℕ) (table : List ℕ) (t : StackTold) → IsFresh t → blocks ≡ length t.configuration.blocks → table ≡ replicate (16 * (blocks + 1)) 0 → AreUnderWay p p [] table t t
+begin p blocks table t fresh count is = record {
   configuration = refl;
   cap = refl;
   most = refl;
@@ -262,31 +232,41 @@ begin p steps blocks table t fresh count is = record {
 }
 
 -- the plans that the next step may need are taken yet
-takes_enough : (steps : List Step) (i : ℕ) (x : Step) (old mid : StackTold) → slice_get steps i ≡ Some x → cuts_of steps ≤ old.causes.takes → old.causes.takes ≤ mid.causes.takes + cuts_of (take i steps) → cuts_in x.kind ≤ mid.causes.takes
-takes_enough steps i x old mid at all are =
-    let more = ap cuts_of (take_one_more i steps x at) ∙ sum_by_push (λ (y : Step). cuts_in y.kind) (take i steps) x in
-    let within = sum_by-take-le (λ (y : Step). cuts_in y.kind) steps (i + 1) in omega (arith, more, within, all, are)
+takes_enough : (made left : List Step) (x : Step) (old mid : StackTold) → cuts_of (made ++ x ∷ left) ≤ old.causes.takes → old.causes.takes ≤ mid.causes.takes + cuts_of made → cuts_in x.kind ≤ mid.causes.takes
+takes_enough made left x old mid all are =
+    let both = sum_by-append (λ (y : Step). cuts_in y.kind) made (x ∷ left) in
+    let first = sum_by-cons (λ (y : Step). cuts_in y.kind) x left in omega (arith, both, first, all, are)
 
-pub go_on : (p q r : Payer) (steps : List Step) (i : ℕ) (table table' : List ℕ) (old mid new : StackTold) → i < 2 ^ 32 → cuts_of steps ≤ old.causes.takes → AreUnderWay p q steps i table old mid → MakesAt q r steps i table table' mid new → AreUnderWay p r steps (i + 1) table' old new
-go_on p q r steps i table table' old mid new few planned way makes =
-    let fewer = few_taken i steps in
-    let (made, has) = makes.made (take i steps) (omega (arith, fewer, few)) way.kept way.table_kept in
-    let more = take_one_more i steps makes.step makes.at in
+-- one step more of those that are to be made
+pub go_on : (p q r : Payer) (steps made left : List Step) (x : Step) (table table' : List ℕ) (old mid new : StackTold) → steps ≡ made ++ x ∷ left → length steps < 2 ^ 32 → cuts_of steps ≤ old.causes.takes → AreUnderWay p q made table old mid
+    → Makes q r x table table' mid new → AreUnderWay p r (made ++ x ∷ []) table' old new
+go_on p q r steps made left x table table' old mid new order few planned way makes =
+    let many = ap length order ∙ length-append made (x ∷ left) in
+    let (step, has) = makes made (omega (arith, many, few)) way.kept way.table_kept in
     record {
-      configuration = made.configuration ∙ way.configuration;
-      cap = made.cap ∙ way.cap;
-      most = made.most ∙ way.most;
-      counted = let a = way.counted in let b = made.counted in omega (arith, a, b);
-      kept = subst (λ (xs : List Step). IsKept xs new) (sym more) made.kept;
-      table_kept = subst (λ (xs : List Step). HasLastStores new.configuration xs table') (sym more) (subst (λ (c : Configuration). HasLastStores c (take i steps ++ makes.step ∷ []) table') (sym made.configuration) has);
-      walking = subst (λ (xs : List Step). IsWalking p r xs old new) (sym more)
-          (walks_on p q r (take i steps) makes.step old mid new way.configuration way.most way.counted way.walking made (takes_enough steps i makes.step old mid makes.at planned way.walking.takes));
+      configuration = step.configuration ∙ way.configuration;
+      cap = step.cap ∙ way.cap;
+      most = step.most ∙ way.most;
+      counted = let a = way.counted in let b = step.counted in omega (arith, a, b);
+      kept = step.kept;
+      table_kept = subst (λ (c : Configuration). HasLastStores c (made ++ x ∷ []) table') (sym step.configuration) has;
+      walking =
+          walks_on p q r made x old mid new way.configuration way.most way.counted way.walking step
+          (takes_enough made left x old mid (subst (λ (xs : List Step). cuts_of xs ≤ old.causes.takes) order planned) way.walking.takes);
     }
 
 -- all of them
-pub all_made : (p q : Payer) (steps : List Step) (i : ℕ) (table : List ℕ) (old now : StackTold) → length steps ≤ i → AreUnderWay p q steps i table old now → HasWalked p q steps old now
-all_made p q steps i table old now all way =
-    subst (λ (xs : List Step). HasWalked p q xs old now) (all_of i steps all) (has_walked p q q (take i steps) old now now refl (omega arith) refl (none_counted now.causes.unplanned) (none_pays q now) way.walking)
+pub all_made : (p q : Payer) (steps made : List Step) (table : List ℕ) (old now : StackTold) → made ≡ steps → AreUnderWay p q made table old now → HasWalked p q steps old now
+all_made p q steps made table old now all way =
+    subst (λ (xs : List Step). HasWalked p q xs old now) all (has_walked p q q made old now now refl (omega arith) refl (none_counted now.causes.unplanned) (none_pays q now) way.walking)
 
-pub some_made : (p q r : Payer) (fault : StepFault) (steps : List Step) (i : ℕ) (table : List ℕ) (old mid new : StackTold) → AreUnderWay p q steps i table old mid → LeavesAt fault steps i mid new → PaysBy q r mid [] → WasBroken p r fault steps old new
-some_made p q r fault steps i table old mid new way leaves pays = was_broken p q r fault steps i leaves.step old mid new leaves.at way.configuration way.cap way.walking leaves.left pays
+pub some_made : (p q r : Payer) (fault : StepFault) (steps made left : List Step) (x : Step) (table : List ℕ) (old mid new : StackTold) → steps ≡ made ++ x ∷ left → AreUnderWay p q made table old mid → IsLeft fault x mid new → PaysBy q r mid []
+    → WasBroken p r fault steps old new
+unfolding has_walked
+some_made p q r fault steps made left x table old mid new order way leaves pays = record {
+  made = made;
+  left = x ∷ left;
+  order = order;
+  walked = has_walked p q r made old mid new leaves.entries leaves.counted leaves.operations leaves.cuts pays way.walking;
+  why = were_left fault x left old mid new way.configuration way.cap leaves;
+}

@@ -9,3 +9,4 @@ pub mod Paying
 pub mod PlainTold
 pub mod PlainKept
 pub mod PlainPaying
+pub use Rattle.nvm_core.specs.ram_blocks as ram_blocks

@@ -1,5 +1,5 @@
 -- The steps that were made.
-use Rattle.std.specs.Prelude.{◌≡◌, ◌≤◌, ◌<◌, ◌+◌, ◌^◌, ℕ, not, true, false, IsTrue, List, [], ◌∷◌, ◌++◌, length, map, sum_by, slice_get, Option, Some, None}
+use Rattle.std.specs.Prelude.{◌≡◌, ◌≤◌, ◌<◌, ◌+◌, ◌^◌, ℕ, not, true, false, IsTrue, List, [], ◌∷◌, ◌++◌, length, map, sum_by, Option, None}
 use Rattle.nvm_core.specs.nv_base.Count.{Rose, WereCounted}
 use Rattle.nvm_core.specs.nv_base.Entry.{ops_behind}
 use Rattle.nvm_core.specs.block_machine.Words.{Instance, Mark, Request, Reply, Entry, Ask, Found, Configuration}
@@ -139,17 +139,6 @@ pub record HasWalked (p q : Payer) (made : List Step) (old new : StackTold) : Ty
   pub counted : last.faults ≤ new.faults
   -- and each Post is paid since the last Pick before it, and each operation that failed is counted in its own
   pub pays : PaysBy p q old (all_moves moves.moves)
-
--- the step at a place is made, or left
-pub record MakesAt (p q : Payer) (steps : List Step) (i : ℕ) (table table' : List ℕ) (old new : StackTold) : Type 0 where
-  pub step : Step
-  pub at : slice_get steps i ≡ Some step
-  pub made : Makes p q step table table' old new
-
-pub record LeavesAt (fault : StepFault) (steps : List Step) (i : ℕ) (old new : StackTold) : Type 0 where
-  pub step : Step
-  pub at : slice_get steps i ≡ Some step
-  pub left : IsLeft fault step old new
 
 -- why these steps were left behind this moment, in the state after the whole history: a start-up failed by a fault of its own
 abbrev pub WereLeft : StepFault → List Step → Moment → StackTold → StackTold → Type 0

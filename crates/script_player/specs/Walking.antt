@@ -83,12 +83,12 @@ pub record IsWalking (p q : Payer) (made : List Step) (old now : StackTold) : Ty
   -- where nothing failed, they serve the jobs
   pub serves : StaysCalm old now → AreServing (Found marks ops) made pieces old now
 
--- the first i steps are made
-pub record AreUnderWay (p q : Payer) (steps : List Step) (i : ℕ) (table : List ℕ) (old now : StackTold) : Type 0 where
+-- these steps are made
+pub record AreUnderWay (p q : Payer) (made : List Step) (table : List ℕ) (old now : StackTold) : Type 0 where
   pub configuration : now.configuration ≡ old.configuration
   pub cap : now.cap ≡ old.cap
   pub most : now.most ≡ old.most
   pub counted : old.faults ≤ now.faults
-  pub kept : IsKept (take i steps) now
-  pub table_kept : HasLastStores now.configuration (take i steps) table
-  pub walking : IsWalking p q (take i steps) old now
+  pub kept : IsKept made now
+  pub table_kept : HasLastStores now.configuration made table
+  pub walking : IsWalking p q made old now

@@ -6,14 +6,19 @@
 //! left has its cause. Which device it is, and what becomes of the history, is left to the crates above.
 #![tactic(auto)]
 
+mod cuts;
 mod last_stores;
 mod plain_stack;
 mod played_stack;
 mod steps;
 mod turns;
 
+pub use cuts::cuts_of;
 pub use last_stores::LastStores;
+pub use nvm_core;
+pub use nvm_core::{block_config, memif, nvm_laws, ram_blocks};
 pub use plain_stack::PlainStack;
 pub use played_stack::PlayedStack;
+pub use promise_run;
 pub use steps::{StepFault, make_step, make_steps};
 pub use turns::{drain, make_turns};

@@ -1,5 +1,5 @@
 // The steps of a script.
-ghost use Rattle.std.specs.Prelude.{◌≡◌, ◌<◌, ◌≤◌, ◌^◌, ℕ, List, [], true, length, OnOk, OnErr, IfOk, IfErr};
+ghost use Rattle.std.specs.Prelude.{◌≡◌, ◌≤◌, ℕ, List, [], true, length, OnOk, OnErr, IfOk, IfErr};
 ghost use Rattle.nvm_core.specs.memif.Told.{Part, PartTold};
 ghost use Rattle.nvm_core.specs.block_machine.Words.{Configuration};
 ghost use Rattle.nvm_core.specs.block_machine.Legal.{HasStore};
@@ -7,7 +7,7 @@ ghost use Rattle.script_walks.specs.Words.{Step as Made, AskStep, Restart};
 ghost use Rattle.script_walks.specs.Walk.{request_after};
 ghost use Rattle.nvm_script.specs.Played.{IsPlayed, ArePlayed, CanBePlayed};
 ghost use Rattle.script_player.specs.Calls.{StartsAgain};
-ghost use Rattle.script_player.specs.Made.{Makes, MakesAt, LeavesAt, IsAsked, IsLeft, IsFresh, HasWalked, WasBroken, cuts_of};
+ghost use Rattle.script_player.specs.Made.{Makes, IsAsked, IsLeft, IsFresh, HasWalked, WasBroken, cuts_of};
 ghost use Rattle.script_player.specs.Paying.{PaysBy, PaysNothing};
 ghost use Rattle.script_player.specs.Table.{HasLastStores, HoldsSynchronized};
 
@@ -17,7 +17,7 @@ use nvm_core::nv_base::Request;
 use nvm_core::nv_desk::AskFault;
 use nvm_core::nvm_laws::FoundAnswer;
 use nvm_script::{Step, StepKind, StepList};
-use std::alloc::{AllocError, Global};
+use std::alloc::Global;
 
 /// Why a step isn't made: a fault at a start-up, a history that is full, or want of memory.
 #[derive(Clone, Copy)]
@@ -30,16 +30,16 @@ pub enum StepFault {
 /// Makes steps in order on a stack behind its first start-up, whose configuration has so many blocks.
 pub fn make_steps<S: PlayedStack>(
     alloc: Global,
-    steps: &StepList,
+    steps: StepList,
     blocks: u16,
     stack: &mut S,
 ) -> Result<(), StepFault>
     requires blocks { blocks ≡ length (S.told stack.old).configuration.blocks }
     requires fresh { IsFresh (S.told stack.old) }
-    requires played { ArePlayed (S.told stack.old).configuration steps.now }
-    requires planned { cuts_of steps.now ≤ (S.told stack.old).causes.takes }
-    ensures all { OnOk result (HasWalked (S.payer stack.old) (S.payer stack.new) steps.now (S.told stack.old) (S.told stack.new)) }
-    ensures some { IfErr result (λ fault. WasBroken (S.payer stack.old) (S.payer stack.new) fault steps.now (S.told stack.old) (S.told stack.new)) }
+    requires played { ArePlayed (S.told stack.old).configuration steps }
+    requires planned { cuts_of steps ≤ (S.told stack.old).causes.takes }
+    ensures all { OnOk result (HasWalked (S.payer stack.old) (S.payer stack.new) steps (S.told stack.old) (S.told stack.new)) }
+    ensures some { IfErr result (λ fault. WasBroken (S.payer stack.old) (S.payer stack.new) fault steps (S.told stack.old) (S.told stack.new)) }
     ensures configuration { (S.told stack.new).configuration ≡ (S.told stack.old).configuration }
     ensures most { (S.told stack.new).cap ≡ (S.told stack.old).cap }
     ensures counted { (S.told stack.old).faults ≤ (S.told stack.new).faults }
@@ -48,63 +48,41 @@ pub fn make_steps<S: PlayedStack>(
     let Ok(mut stores) = LastStores::make(alloc, blocks) else {
         return Err(StepFault::Memory);
     };
-    for i in 0..steps.len() {
-        if let Err(fault) = make_next(alloc, steps, i, &mut stores, stack) {
+    for step in steps.into_steps() {
+        if let Err(fault) = make_step(alloc, step, &mut stores, stack) {
             return Err(fault);
         }
     }
     Ok(())
 }
 
-// Makes the step at a place.
-fn make_next<S: PlayedStack>(
-    alloc: Global,
-    steps: &StepList,
-    i: u32,
-    stores: &mut LastStores,
-    stack: &mut S,
-) -> Result<(), StepFault>
-    requires within { i < length steps.now }
-    requires ready { (S.told stack.old).ready ≡ true }
-    requires played { ArePlayed (S.told stack.old).configuration steps.now }
-    requires synchronized { HoldsSynchronized (S.told stack.old).configuration stores.old }
-    ensures made { OnOk result (MakesAt (S.payer stack.old) (S.payer stack.new) steps.now i stores.old stores.new (S.told stack.old) (S.told stack.new)) }
-    ensures left { IfErr result (λ fault. LeavesAt fault steps.now i (S.told stack.old) (S.told stack.new)) }
-    ensures owes { OnErr result (PaysBy (S.payer stack.old) (S.payer stack.new) (S.told stack.old) []) }
-    ensures keeps { (before : Part → PartTold) → S.kept stack.old before → S.kept stack.new before }
-{
-    match steps.get(i) {
-        Some(step) => make_step(alloc, step, stores, stack),
-        None => Ok(()),
-    }
-}
-
 /// Makes one step.
 pub fn make_step<S: PlayedStack>(
     alloc: Global,
-    step: &Step,
+    step: Step,
     stores: &mut LastStores,
     stack: &mut S,
 ) -> Result<(), StepFault>
     requires ready { (S.told stack.old).ready ≡ true }
-    requires played { IsPlayed (S.told stack.old).configuration step.now }
+    requires played { IsPlayed (S.told stack.old).configuration step }
     requires synchronized { HoldsSynchronized (S.told stack.old).configuration stores.old }
     ensures synchronized { HoldsSynchronized (S.told stack.old).configuration stores.new }
     ensures ready { OnOk result ((S.told stack.new).ready ≡ true) }
-    ensures made { OnOk result (Makes (S.payer stack.old) (S.payer stack.new) step.now stores.old stores.new (S.told stack.old) (S.told stack.new)) }
-    ensures left { IfErr result (λ fault. IsLeft fault step.now (S.told stack.old) (S.told stack.new)) }
+    ensures made { OnOk result (Makes (S.payer stack.old) (S.payer stack.new) step stores.old stores.new (S.told stack.old) (S.told stack.new)) }
+    ensures left { IfErr result (λ fault. IsLeft fault step (S.told stack.old) (S.told stack.new)) }
     ensures owes { OnErr result (PaysBy (S.payer stack.old) (S.payer stack.new) (S.told stack.old) []) }
     ensures keeps { (before : Part → PartTold) → S.kept stack.old before → S.kept stack.new before }
 {
-    match &step.kind {
-        StepKind::Ask(request) => ask(alloc, step.caller, request, stores, stack),
+    let Step { caller, kind, .. } = step;
+    match kind {
+        StepKind::Ask(request) => ask(alloc, caller, request, stores, stack),
         StepKind::Store { block, content } => {
-            let number = stack.store(*block, content.as_slice());
-            stores.note(step.caller, *block, number);
+            let number = stack.store(block, content.as_slice());
+            stores.note(caller, block, number);
             Ok(())
         }
         StepKind::Turn { count } => {
-            make_turns(stack, *count);
+            make_turns(stack, count);
             Ok(())
         }
         StepKind::Drain => {
@@ -113,11 +91,11 @@ pub fn make_step<S: PlayedStack>(
         }
         StepKind::Restart => restart(alloc, stack),
         StepKind::Cut { nth, keep } => {
-            stack.arm(*nth, *keep);
+            stack.arm(nth, keep);
             Ok(())
         }
         StepKind::Refuse { block, count } => {
-            stack.refuse(*block, *count);
+            stack.refuse(block, count);
             Ok(())
         }
         StepKind::Await { .. } => Ok(()),
@@ -144,34 +122,24 @@ fn request_with(request: Request, caller: u8, stores: &LastStores) -> Request
     }
 }
 
-fn copied(request: &Request) -> Result<Request, AllocError>
-    ensures { IfOk result (λ r. r ≡ request.now) }
-{
-    request.clone()
-}
-
 fn ask<S: PlayedStack>(
     alloc: Global,
     caller: u8,
-    request: &Request,
+    request: Request,
     stores: &LastStores,
     stack: &mut S,
 ) -> Result<(), StepFault>
     requires ready { (S.told stack.old).ready ≡ true }
     requires caller { caller ≤ 15 }
-    requires played { CanBePlayed (S.told stack.old).configuration (AskStep request.now) }
+    requires played { CanBePlayed (S.told stack.old).configuration (AskStep request) }
     requires synchronized { HoldsSynchronized (S.told stack.old).configuration stores.now }
     ensures ready { OnOk result ((S.told stack.new).ready ≡ true) }
-    ensures asked { OnOk result (IsAsked caller request.now stores.now (S.told stack.old) (S.told stack.new) × PaysNothing (S.payer stack.old) (S.payer stack.new) (S.told stack.new)) }
+    ensures asked { OnOk result (IsAsked caller request stores.now (S.told stack.old) (S.told stack.new) × PaysNothing (S.payer stack.old) (S.payer stack.new) (S.told stack.new)) }
     ensures owes { OnErr result (PaysBy (S.payer stack.old) (S.payer stack.new) (S.told stack.old) []) }
-    ensures left { IfErr result (λ fault. (line : ℕ) → IsLeft fault (record { line = line; caller = caller; kind = AskStep request.now }) (S.told stack.old) (S.told stack.new)) }
+    ensures left { IfErr result (λ fault. (line : ℕ) → IsLeft fault (record { line = line; caller = caller; kind = AskStep request }) (S.told stack.old) (S.told stack.new)) }
     ensures keeps { (before : Part → PartTold) → S.kept stack.old before → S.kept stack.new before }
 {
-    let Ok(request) = copied(request) else {
-        return Err(StepFault::Memory);
-    };
-    let request = request_with(request, caller, stores);
-    match stack.ask(alloc, caller, request) {
+    match stack.ask(alloc, caller, request_with(request, caller, stores)) {
         Ok(_reply) => Ok(()),
         Err(AskFault::NoRoom) => Err(StepFault::HistoryFull),
         Err(AskFault::Memory) => Err(StepFault::Memory),

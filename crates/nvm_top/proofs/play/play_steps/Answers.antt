@@ -45,9 +45,9 @@ returns-in-Ok-clause-size g c = λ is.
     (ran_to _ _ _ _ c.args.playable.config _ c.args.playable.steps (part_at g.O.Origin.entry) (told_by told_of c.in-Ok.driven) (told_by told_of s) (g.F.Flash.told c.args.flash) (g.F.Flash.told c.end_driven.result) c.write_text-status.result (g.K.Sink.written c.args.output.now) (g.K.Sink.written c.write_text-status.new.output) (text_in c.args.text c.history.result.now.entries) (line_written c.args.text c.stop_of-run.result c.history.result.now.entries) c.make_steps.result c.stop_of-run.result
     c.in-Ok.ensures.started c.make_steps.ensures.some v c.stop_of-run.ensures c.write_text-status.ensures.text) is)
 
-pub returns-clause-print : goal.returns-clause-print
-returns-clause-print g c is = attach-print _ _ _ _ c.in-Err.stop _ c.in-Err.ensures.stopped.why c.report.ensures.line
+pub returns-in-Err-clause-print : goal.returns-in-Err-clause-print
+returns-in-Err-clause-print g c is = attach-print _ _ _ _ c.in-Err.stop _ c.in-Err.ensures.stopped.why c.report.ensures.line
 
-pub returns-clause-promise : goal.returns-clause-promise
-returns-clause-promise g c input =
+pub returns-in-Err-clause-promise : goal.returns-in-Err-clause-promise
+returns-in-Err-clause-promise g c input =
     early_in c.args.text c.args.playable.config c.args.playable.steps (g.F.Flash.told c.args.flash) (g.F.Flash.told c.in-Err.flash) c.in-Err.stop c.report.result _ _ input c.in-Err.ensures.stopped c.report.ensures.line

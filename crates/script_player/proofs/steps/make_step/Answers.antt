@@ -14,7 +14,7 @@ pub returns-in-Ask-clause-made : goal.returns-in-Ask-clause-made
 returns-in-Ask-clause-made g c =
     let old = g.S.PlayedStack.told c.args.stack.now in
     let new = g.S.PlayedStack.told c.ask.new.stack in
-    let x = c.args.step.now in
+    let x = c.args.step in
     on_ok c.ask.result c.ask.ensures.asked (λ asked.
     step_made (g.S.PlayedStack.payer c.args.stack.now) (g.S.PlayedStack.payer c.ask.new.stack) x (kind.Ask c.in-Ask.request) c.args.stores.now old new c.in-Ask.is refl (λ before has kept.
     ask_made (g.S.PlayedStack.payer c.args.stack.now) (g.S.PlayedStack.payer c.ask.new.stack) before x.line x.caller c.in-Ask.request c.args.stores.now old new
@@ -22,7 +22,7 @@ returns-in-Ask-clause-made g c =
 
 pub returns-in-Ask-clause-left : goal.returns-in-Ask-clause-left
 returns-in-Ask-clause-left g c =
-    let x = c.args.step.now in
+    let x = c.args.step in
     if_err c.ask.result c.ask.ensures.left (λ fault left.
     at_kind (λ (y : Step). IsLeft fault y (g.S.PlayedStack.told c.args.stack.now) (g.S.PlayedStack.told c.ask.new.stack)) x (kind.Ask c.in-Ask.request) c.in-Ask.is (left x.line))
 
@@ -30,7 +30,7 @@ pub returns-in-Turn-clause-made : goal.returns-in-Turn-clause-made
 returns-in-Turn-clause-made g c =
     let old = g.S.PlayedStack.told c.args.stack.now in
     let new = g.S.PlayedStack.told c.make_turns.new.stack in
-    let x = c.args.step.now in
+    let x = c.args.step in
     step_made (g.S.PlayedStack.payer c.args.stack.now) (g.S.PlayedStack.payer c.make_turns.new.stack) x (kind.Turn c.in-Turn.count) c.args.stores.now old new c.in-Turn.is refl (λ before has kept.
     let (made, now) = c.make_turns.ensures.turns before kept in
     turns_made (g.S.PlayedStack.payer c.args.stack.now) (g.S.PlayedStack.payer c.make_turns.new.stack) before x.line x.caller c.in-Turn.count old new (subst (λ (k : StepKind). CanBePlayed old.configuration k) c.in-Turn.is c.requires.played.kind) made now)
@@ -39,37 +39,37 @@ pub returns-in-Drain-clause-made : goal.returns-in-Drain-clause-made
 returns-in-Drain-clause-made g c =
     let old = g.S.PlayedStack.told c.args.stack.now in
     let new = g.S.PlayedStack.told c.drain.new.stack in
-    step_made (g.S.PlayedStack.payer c.args.stack.now) (g.S.PlayedStack.payer c.drain.new.stack) c.args.step.now kind.Drain c.args.stores.now old new c.in-Drain.is refl (λ before has kept.
+    step_made (g.S.PlayedStack.payer c.args.stack.now) (g.S.PlayedStack.payer c.drain.new.stack) c.args.step kind.Drain c.args.stores.now old new c.in-Drain.is refl (λ before has kept.
     let (made, now) = c.drain.ensures.drains before kept in
-    drain_made (g.S.PlayedStack.payer c.args.stack.now) (g.S.PlayedStack.payer c.drain.new.stack) before c.args.step.now.line c.args.step.now.caller old new made now)
+    drain_made (g.S.PlayedStack.payer c.args.stack.now) (g.S.PlayedStack.payer c.drain.new.stack) before c.args.step.line c.args.step.caller old new made now)
 
 pub returns-in-Restart-clause-made : goal.returns-in-Restart-clause-made
 returns-in-Restart-clause-made g c =
     let old = g.S.PlayedStack.told c.args.stack.now in
     let new = g.S.PlayedStack.told c.restart.new.stack in
     on_ok c.restart.result c.restart.ensures.made (λ restarted.
-    step_made (g.S.PlayedStack.payer c.args.stack.now) (g.S.PlayedStack.payer c.restart.new.stack) c.args.step.now kind.Restart c.args.stores.now old new c.in-Restart.is refl (λ before has kept.
-    restart_made (g.S.PlayedStack.payer c.args.stack.now) (g.S.PlayedStack.payer c.restart.new.stack) before c.args.step.now.line c.args.step.now.caller old new restarted.0 restarted.1 kept))
+    step_made (g.S.PlayedStack.payer c.args.stack.now) (g.S.PlayedStack.payer c.restart.new.stack) c.args.step kind.Restart c.args.stores.now old new c.in-Restart.is refl (λ before has kept.
+    restart_made (g.S.PlayedStack.payer c.args.stack.now) (g.S.PlayedStack.payer c.restart.new.stack) before c.args.step.line c.args.step.caller old new restarted.0 restarted.1 kept))
 
 pub returns-in-Restart-clause-left : goal.returns-in-Restart-clause-left
 returns-in-Restart-clause-left g c =
-    let x = c.args.step.now in
+    let x = c.args.step in
     if_err c.restart.result c.restart.ensures.left (λ fault left.
     at_kind (λ (y : Step). IsLeft fault y (g.S.PlayedStack.told c.args.stack.now) (g.S.PlayedStack.told c.restart.new.stack)) x kind.Restart c.in-Restart.is (left x.line x.caller))
 
 pub returns-in-Cut-clause-made : goal.returns-in-Cut-clause-made
 returns-in-Cut-clause-made g c =
-    arm_made (g.S.PlayedStack.payer c.args.stack.now) (g.S.PlayedStack.payer c.arm.new.self) c.args.step.now c.in-Cut.nth c.in-Cut.keep c.args.stores.now (g.S.PlayedStack.told c.args.stack.now) (g.S.PlayedStack.told c.arm.new.self) c.in-Cut.is c.arm.ensures.arms c.arm.ensures.pays
+    arm_made (g.S.PlayedStack.payer c.args.stack.now) (g.S.PlayedStack.payer c.arm.new.self) c.args.step c.in-Cut.nth c.in-Cut.keep c.args.stores.now (g.S.PlayedStack.told c.args.stack.now) (g.S.PlayedStack.told c.arm.new.self) c.in-Cut.is c.arm.ensures.arms c.arm.ensures.pays
 
 pub returns-in-Refuse-clause-made : goal.returns-in-Refuse-clause-made
 returns-in-Refuse-clause-made g c =
-    refuse_made (g.S.PlayedStack.payer c.args.stack.now) (g.S.PlayedStack.payer c.refuse.new.self) c.args.step.now c.in-Refuse.block c.in-Refuse.count c.args.stores.now (g.S.PlayedStack.told c.args.stack.now) (g.S.PlayedStack.told c.refuse.new.self) c.in-Refuse.is c.refuse.ensures.refuses c.refuse.ensures.pays
+    refuse_made (g.S.PlayedStack.payer c.args.stack.now) (g.S.PlayedStack.payer c.refuse.new.self) c.args.step c.in-Refuse.block c.in-Refuse.count c.args.stores.now (g.S.PlayedStack.told c.args.stack.now) (g.S.PlayedStack.told c.refuse.new.self) c.in-Refuse.is c.refuse.ensures.refuses c.refuse.ensures.pays
 
 pub returns-in-Store-clause-made : goal.returns-in-Store-clause-made
 returns-in-Store-clause-made g c =
     let old = g.S.PlayedStack.told c.args.stack.now in
     let new = g.S.PlayedStack.told c.store-number.new.self in
-    let x = c.args.step.now in
+    let x = c.args.step in
     let block = c.in-Store.block in
     let content = c.in-Store.content in
     let number = c.store-number.result in

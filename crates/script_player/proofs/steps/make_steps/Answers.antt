@@ -1,41 +1,55 @@
-use Rattle.std.proofs.Common.{◌<◌, ◌^◌, sym, subst, arith}
+use Rattle.std.proofs.Common.{◌≡◌, ◌++◌, ◌∷◌, [], List, length, sym, ap, ◌∙◌, subst, append_assoc, append-nil, arith, rules}
+use Rattle.std.proofs.lemmas.List.{nil_from_length}
+use Rattle.std.specs.Vec.Iter.{into_iter_items}
 use Rattle.nvm_core.specs.block_config.Config.{Configuration}
+use Rattle.nvm_script.specs.declared.step.Step.{Step}
 use Rattle.nvm_script.specs.Played.{ArePlayed}
 use Rattle.script_player.proofs.Table.{holds_synchronized}
-use Rattle.script_player.proofs.Walking.{none_made, begin, go_on, all_made, some_made}
+use Rattle.script_player.proofs.Walking.{is_played, none_made, begin, go_on, all_made, some_made}
 use Rattle.script_player.proofs.steps.make_steps.Goals as goal
 
 pub returns-in_default-clause-some : goal.returns-in_default-clause-some
-returns-in_default-clause-some g c = none_made (g.S.PlayedStack.payer c.args.stack.now) c.args.steps.now (g.S.PlayedStack.told c.args.stack.now) c.requires.fresh
+returns-in_default-clause-some g c = none_made (g.S.PlayedStack.payer c.args.stack.now) c.args.steps (g.S.PlayedStack.told c.args.stack.now) c.requires.fresh
 
-pub loop-i-init : goal.loop-i-init
-loop-i-init g c = record {
-  way = begin (g.S.PlayedStack.payer c.args.stack.now) c.args.steps.now c.args.blocks c.in-Ok.stores (g.S.PlayedStack.told c.args.stack.now) c.requires.fresh c.requires.blocks c.in-Ok.ensures;
+pub loop-step-init : goal.loop-step-init
+loop-step-init g c = record {
+  order = sym (c.into_iter-step-iterator.ensures.into_iter_gives.0 ∙ c.into_steps-step-items.ensures.steps);
+  left = search rules;
+  way = begin (g.S.PlayedStack.payer c.args.stack.now) c.args.blocks c.in-Ok.stores (g.S.PlayedStack.told c.args.stack.now) c.requires.fresh c.requires.blocks c.in-Ok.ensures;
   keeps = λ before kept. kept;
 }
 
-pub make_next-requires : goal.make_next-requires
-make_next-requires g c =
-    let way = c.loop-i.invariant.way in
+pub make_step-requires : goal.make_step-requires
+make_step-requires g c =
+    let way = c.loop-step.invariant.way in
+    let config : Configuration = (g.S.PlayedStack.told c.loop-step.stack).configuration in
+    let order = c.loop-step.invariant.order ∙ ap (λ (xs : List Step). c.loop-step.yielded ++ xs) c.in-Some.ensures.steps.0 in
     record {
-      within = subst (λ n. c.loop-i.i < n) c.len-i-end.ensures c.loop-i-test.true;
       ready = way.kept.ready;
-      played = subst (λ (x : Configuration). ArePlayed x c.args.steps.now) (sym way.configuration) c.requires.played;
-      synchronized = holds_synchronized _ _ c.loop-i.stores way.table_kept;
+      played = is_played config c.loop-step.yielded _ c.in-Some.step (subst (λ (xs : List Step). ArePlayed config xs) order (subst (λ (x : Configuration). ArePlayed x c.args.steps) (sym way.configuration) c.requires.played));
+      synchronized = holds_synchronized _ _ c.loop-step.stores way.table_kept;
     }
 
-pub loop-i-preserved : goal.loop-i-preserved
-loop-i-preserved g c =
-    let few : c.loop-i.i < 2 ^ 32 = omega arith in
+pub loop-step-preserved : goal.loop-step-preserved
+loop-step-preserved g c =
+    let at = c.loop-step in
+    let more = c.in-Some.ensures.steps.0 in
+    let order = at.invariant.order ∙ ap (λ (xs : List Step). at.yielded ++ xs) more in
     record {
-      way = go_on (g.S.PlayedStack.payer c.args.stack.now) (g.S.PlayedStack.payer c.loop-i.stack) (g.S.PlayedStack.payer c.make_next.new.stack) c.args.steps.now c.loop-i.i c.loop-i.stores c.make_next.new.stores (g.S.PlayedStack.told c.args.stack.now) (g.S.PlayedStack.told c.loop-i.stack) (g.S.PlayedStack.told c.make_next.new.stack) few c.requires.planned c.loop-i.invariant.way c.in_default-make_next.ensures.made;
-      keeps = λ before kept. c.make_next.ensures.keeps before (c.loop-i.invariant.keeps before kept);
+      order = order ∙ sym (append_assoc at.yielded (c.in-Some.step ∷ []) _);
+      left = let few = at.invariant.left in let gone = c.in-Some.ensures.steps.1 in let short = ap length more in omega (arith, few, gone, short);
+      way = go_on (g.S.PlayedStack.payer c.args.stack.now) (g.S.PlayedStack.payer at.stack) (g.S.PlayedStack.payer c.make_step.new.stack) c.args.steps at.yielded _ c.in-Some.step at.stores c.make_step.new.stores (g.S.PlayedStack.told c.args.stack.now) (g.S.PlayedStack.told at.stack) (g.S.PlayedStack.told c.make_step.new.stack) order c.into_steps-step-items.ensures.few c.requires.planned at.invariant.way c.in_default-make_step.ensures.made;
+      keeps = λ before kept. c.make_step.ensures.keeps before (at.invariant.keeps before kept);
     }
 
 pub returns-in-Err-clause-some : goal.returns-in-Err-clause-some
 returns-in-Err-clause-some g c =
-    some_made (g.S.PlayedStack.payer c.args.stack.now) (g.S.PlayedStack.payer c.loop-i.stack) (g.S.PlayedStack.payer c.make_next.new.stack) c.in-Err.fault c.args.steps.now c.loop-i.i c.loop-i.stores (g.S.PlayedStack.told c.args.stack.now) (g.S.PlayedStack.told c.loop-i.stack) (g.S.PlayedStack.told c.make_next.new.stack) c.loop-i.invariant.way c.in-Err.ensures.left c.in-Err.ensures.owes
+    let at = c.loop-step in
+    some_made (g.S.PlayedStack.payer c.args.stack.now) (g.S.PlayedStack.payer at.stack) (g.S.PlayedStack.payer c.make_step.new.stack) c.in-Err.fault c.args.steps at.yielded _ c.in-Some.step at.stores (g.S.PlayedStack.told c.args.stack.now) (g.S.PlayedStack.told at.stack) (g.S.PlayedStack.told c.make_step.new.stack) (at.invariant.order ∙ ap (λ (xs : List Step). at.yielded ++ xs) c.in-Some.ensures.steps.0) at.invariant.way c.in-Err.ensures.left c.in-Err.ensures.owes
 
 pub returns-clause-all : goal.returns-clause-all
 returns-clause-all g c =
-    all_made (g.S.PlayedStack.payer c.args.stack.now) (g.S.PlayedStack.payer c.loop-i.stack) c.args.steps.now c.loop-i.i c.loop-i.stores (g.S.PlayedStack.told c.args.stack.now) (g.S.PlayedStack.told c.loop-i.stack) (omega (arith, c.loop-i-test.false, c.len-i-end.ensures)) c.loop-i.invariant.way
+    let at = c.loop-step in
+    let none : into_iter_items at.step-iterator ≡ [] = nil_from_length _ (sym at.invariant.left ∙ c.in-None.ensures.steps.0) in
+    all_made (g.S.PlayedStack.payer c.args.stack.now) (g.S.PlayedStack.payer at.stack) c.args.steps at.yielded at.stores (g.S.PlayedStack.told c.args.stack.now) (g.S.PlayedStack.told at.stack)
+    (sym (at.invariant.order ∙ ap (λ (xs : List Step). at.yielded ++ xs) none ∙ append-nil at.yielded)) at.invariant.way

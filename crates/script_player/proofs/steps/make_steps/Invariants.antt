@@ -1,9 +1,14 @@
+use Rattle.std.proofs.Common.{◌≡◌, ◌++◌, length}
+use Rattle.std.specs.Vec.Iter.{into_iter_items, into_iter_len}
 use Rattle.nvm_core.specs.memif.Told.{Part, PartTold}
 use Rattle.script_player.specs.Walking.{AreUnderWay}
 use Rattle.script_player.proofs.steps.make_steps.Given as goal
 
-abbrev pub invariant-loop-i : goal.invariant-loop-i
-invariant-loop-i g l = record {
-  way : AreUnderWay (g.S.PlayedStack.payer l.initial.stack) (g.S.PlayedStack.payer l.stack) l.steps l.i l.stores (g.S.PlayedStack.told l.initial.stack) (g.S.PlayedStack.told l.stack);
+-- the steps that the loop has given are made
+abbrev pub invariant-loop-step : goal.invariant-loop-step
+invariant-loop-step g l = record {
+  order : l.fn.steps ≡ l.yielded ++ into_iter_items l.step-iterator;
+  left : into_iter_len l.step-iterator ≡ length (into_iter_items l.step-iterator);
+  way : AreUnderWay (g.S.PlayedStack.payer l.initial.stack) (g.S.PlayedStack.payer l.stack) l.yielded l.stores (g.S.PlayedStack.told l.initial.stack) (g.S.PlayedStack.told l.stack);
   keeps : (before : Part → PartTold) → g.S.PlayedStack.kept l.initial.stack before → g.S.PlayedStack.kept l.stack before;
 }

@@ -1,6 +1,6 @@
 use Rattle.std.proofs.Common.{◌≡◌, ◌≤◌, take}
 use Rattle.script_player.specs.Made.{cuts_of}
-use Rattle.nvm_top.proofs.play.cuts_of.Given as goal
+use Rattle.script_player.proofs.cuts.cuts_of.Given as goal
 
 abbrev pub invariant-loop-i : goal.invariant-loop-i
 invariant-loop-i l = record {

@@ -1,7 +1,7 @@
 use Rattle.std.proofs.Common.{arith}
-use Rattle.nvm_top.proofs.Cuts.{one_more, few_in}
-use Rattle.nvm_top.proofs.play.cuts_of.Goals.{in-Some, in_default}
-use Rattle.nvm_top.proofs.play.cuts_of.Goals as goal
+use Rattle.script_player.proofs.PlannedCuts.{one_more, few_in}
+use Rattle.script_player.proofs.cuts.cuts_of.Goals.{in-Some, in_default}
+use Rattle.script_player.proofs.cuts.cuts_of.Goals as goal
 
 pub loop-i-preserved : goal.loop-i-preserved
 loop-i-preserved c = elim c.match-get.branch [
