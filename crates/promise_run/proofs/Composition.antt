@@ -72,7 +72,7 @@ both_told None P Q R more p q = tt
 
 -- THE MARKS
 lists : (r : Run) (before : Part → PartTold) (now : DeviceTold) (clock : Clock) → BlockHalf (alone r) before now clock → DeviceHalf r (before First) now (beyond_end clock)
-    → TellsBytes r.flash → StartsSound (making_of r.configuration) r.flash → StartUpsFind (alone r)
+    → TellsBytes r.flash → StartsSound (making_of r.configuration) r.flash → StartUpsFind (alone r) None
 lists r before now clock block device tells sound marks ops has small =
     let c = r.configuration in
     let least : min (length r.flash.operations) last_count ≤ length r.flash.operations = omega arith in
@@ -102,7 +102,7 @@ exits r before now clock block device tells sound started small =
 cuts_count : (r : Run) (before : Part → PartTold) (now : DeviceTold) (clock : Clock) → BlockHalf (alone r) before now clock → DeviceHalf r (before First) now (beyond_end clock)
     → TellsBytes r.flash → StartsSound (making_of r.configuration) r.flash
     → ((k : ℕ) (image : List ℕ) → k < last_count → IsCutImage r.flash k image → clock.may_find (CutIn k) (held_in (making_of r.configuration) image))
-    → CutsCount (alone r)
+    → CutsCount (alone r) None
 cuts_count r before now clock block device tells sound cuts k ops image small cut last =
     let c = r.configuration in
     let within : k < length r.flash.operations = one_of k r.flash.operations cut.0 cut.1 in

@@ -44,7 +44,7 @@ founds = every FindsNothing whole
 lists : Lists small [] (found_by small (begun 0))
 lists = each (λ x. Erased ≡ found_by small (begun 0) x.0.0) refl refl refl
 
-pub start_ups_find : StartUpsFind lost_write
+pub start_ups_find : StartUpsFind lost_write lost_write.beside
 start_ups_find marks zero has few = subst (λ (ms : List (Instance × Mark)). Lists small ms (found_by small (begun 0))) (sym (founds (Found marks zero) has marks zero refl).0) lists
 start_ups_find marks (suc ops) has few = let none : suc ops ≡ 0 = (founds (Found marks (suc ops)) has marks (suc ops) refl).1 in absurd (omega (arith, none))
 
@@ -120,7 +120,7 @@ is_legal = (
   ),
 )
 
-pub is_paid : FailuresArePaid lost_write
+pub is_paid : FailuresArePaid lost_write lost_write.beside
 is_paid = record { faults = 0; counted = inl (omega arith); pay = inl (omega arith, inl (omega arith, inl (omega arith, inl (omega arith, inl (omega arith, tt))))) }
 
 posted_none : (id : ℕ) → prices_in_refusals small id whole ≡ 0

@@ -1,8 +1,7 @@
 -- A run over two flashes.
-use Rattle.std.specs.Prelude.{Contains, IfSome, if◌then◌else◌, ◌==◌}
-use Rattle.std.proofs.Common.{◌≡◌, ℕ, zero, suc, ◌<◌, Bool, true, false, List, [], ◌∷◌, Option, Some, None, refl, sym, ap, ◌∙◌, inl, arith}
+use Rattle.std.specs.Prelude.{Contains, if◌then◌else◌}
+use Rattle.std.proofs.Common.{◌≡◌, ℕ, zero, suc, Bool, true, false, List, [], Some, refl, sym, ap, ◌∙◌, inl, arith}
 use Rattle.block_machine.specs.nv_base.Held.{Held, never_written}
-use Rattle.block_machine.specs.nv_base.declared.instance.DeviceNumber.{DeviceNumber}
 use Rattle.block_machine.specs.nv_base.Marks.{instance_of}
 use Rattle.block_machine.specs.Words.{Instance, Mark, Erased, Entry, Found}
 use Rattle.block_machine.specs.StartUp.{listed_mark}
@@ -11,9 +10,9 @@ use Rattle.fee_image.specs.Laws.{BlankIsSound, BlankHasErased}
 use Rattle.promise_blocks.specs.Marks.{Lists, marks_in}
 use Rattle.promise_device.specs.Making.{banks_of}
 use Rattle.promise_device.specs.Image.{attached, held_in}
-use Rattle.promise_device.specs.FlashRun.{FlashRun, IsCutImage, bytes_after}
+use Rattle.promise_device.specs.FlashRun.{IsCutImage, bytes_after}
 use Rattle.promise_run.specs.Run.{RefusalsExplain}
-use Rattle.promise_run.specs.Beside.{Beside, AreCutImages, is_beside, ops_beside, ops_first}
+use Rattle.promise_run.specs.Beside.{Beside, AreCutImages, is_beside, ops_of}
 use Rattle.promise_run.specs.Promise.{KeepBoth, OperationsAre, Promise, held_both, making_of}
 use Rattle.promise_run.specs.Cases.{blank, holds_block_2, one, quiet, quiet_beside, small, two, unchanged}
 use Rattle.promise_run.proofs.KeptRuns.{Stands, at_most, blank_found, each, keeps_erased, some_changes, some_list, tells}
@@ -35,7 +34,7 @@ no_cut n m image other true is = absurd (let none = is.1.1 in cc none)
 no_cut n m image other false is = absurd (let none = is.0.1 in cc none)
 
 none_cut : (k : ℕ) (image other : List ℕ) → AreCutImages small h quiet.flash second k image other → ⊥
-none_cut k image other is = no_cut (ops_first small h second k) (ops_beside small h second k) image other (is_beside small h second k) is
+none_cut k image other is = no_cut (ops_of false small h second k) (ops_of true small h second k) image other (is_beside small h second k) is
 
 -- MARKS
 erased_if : (t : Bool) (x y : Held) → x.mark ≡ Erased → y.mark ≡ Erased → (if t then x else y).mark ≡ Erased
@@ -91,5 +90,5 @@ both_keep sound erased = record {
 }
 
 -- its bytes changed, and no operation changed them
-pub not_changed : OperationsAre (quiet_beside one two) → ⊥
+pub not_changed : OperationsAre (quiet_beside one two) (quiet_beside one two).beside → ⊥
 not_changed are = let same : two ≡ one = are.1.chain (record { first = one; entry = refl; last = two; exit = refl }) in cc same

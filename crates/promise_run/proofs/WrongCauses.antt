@@ -90,10 +90,10 @@ unpaid n is (inl (p0, inl (p1, inr (none, rest)))) = none
 unpaid n is (inl (p0, inl (p1, inl (p2, inl (p3, rest))))) = omega (arith, p3, is)
 unpaid n is (inl (p0, inl (p1, inl (p2, inr ((j, hand, some, was), rest))))) = not_worn was.moment was.index was.by_then (instance_is j was.index hand was.failed) was.is
 
-pub no_worn_but_roomy : FailuresArePaid worn_but_roomy → ⊥
+pub no_worn_but_roomy : FailuresArePaid worn_but_roomy worn_but_roomy.beside → ⊥
 no_worn_but_roomy paid = unpaid paid.faults (few_counted paid.faults 1 (omega arith) paid.counted) paid.pay
 
-pub full_is_worn : FailuresArePaid worn_and_full
+pub full_is_worn : FailuresArePaid worn_and_full worn_and_full.beside
 full_is_worn = record {
   faults = 0;
   counted = inl (omega arith);

@@ -16,13 +16,13 @@ use Rattle.promise_run.specs.Cases.{BreaksBy, small, blank, begun, operations, m
 from_blank : (f : FlashRun) (last : List ℕ) → bytes_now f.entry ≡ Some [] → bytes_now f.exit ≡ Some last → TellsBytes f
 from_blank f last entry exit = record { first = []; entry = entry; last = last; exit = exit }
 
-no_made_up_mark : BlankHasErased → StartUpsFind made_up_mark → ⊥
+no_made_up_mark : BlankHasErased → StartUpsFind made_up_mark made_up_mark.beside → ⊥
 no_made_up_mark erased finds =
     let listed = finds _ 0 (0, omega arith, refl) (omega arith) (record { 0 = 128 }, 4) (2, omega arith, refl) in
     let none : found_by small blank 128 ≡ Erased = ap (λ (h : Held). h.mark) (erased (banks_of (making_of small)) 320 128 4) in
     cc (listed ∙ none)
 
-pub made_up_mark_breaks : BlankIsSound → BlankHasErased → BreaksBy made_up_mark (StartUpsFind made_up_mark)
+pub made_up_mark_breaks : BlankIsSound → BlankHasErased → BreaksBy made_up_mark (StartUpsFind made_up_mark made_up_mark.beside)
 made_up_mark_breaks sound erased = (λ p. p.found (from_blank made_up_mark.flash blank refl refl) (sound (banks_of (making_of small)) 320), no_made_up_mark erased)
 
 pub only_zero : (n : ℕ) → Contains (0 ∷ []) n → n ≡ 0
@@ -30,7 +30,7 @@ only_zero n (zero, few, is) = sym is
 only_zero n (suc k, few, is) = omega (arith, few)
 
 -- no Pick took it for dataset 1
-no_other_dataset : ExitKeeps other_dataset → ⊥
+no_other_dataset : ExitKeeps other_dataset other_dataset.beside → ⊥
 no_other_dataset exit =
     let keeps = exit tt (omega arith) in
     elim (keeps.marks.accepted (record { 0 = 129 }, 4) (3, omega arith, refl)).brought [
@@ -40,7 +40,7 @@ no_other_dataset exit =
       | inr (inr (inr none)) ↦ none
     ]
 
-pub other_dataset_breaks : BlankIsSound → BreaksBy other_dataset (ExitKeeps other_dataset)
+pub other_dataset_breaks : BlankIsSound → BreaksBy other_dataset (ExitKeeps other_dataset other_dataset.beside)
 other_dataset_breaks sound = (λ p. p.at_exit (from_blank other_dataset.flash _ refl refl) (sound (banks_of (making_of small)) 320), no_other_dataset)
 
 zeros : (n : ℕ) → AreBytes (replicate n 0)
@@ -65,7 +65,7 @@ written = begun 4
 abbrev torn : List ℕ
 torn = replicate 16 0 ++ drop 16 written
 
-no_lost_write : CutsKeep lost_write → ⊥
+no_lost_write : CutsKeep lost_write lost_write.beside → ⊥
 no_lost_write cuts =
     let keeps = cuts 4 torn (omega arith)
     (_, refl, (record { size = refl; front = refl; back = refl }, λ were. joined_bytes (replicate 16 0) (drop 16 written) (zeros 16) (dropped_bytes 16 written were))) in
@@ -74,7 +74,7 @@ no_lost_write cuts =
       | inr (k, few, is) ↦ omega (arith, few)
     ]
 
-pub lost_write_breaks : SoundImagesCompute → BreaksBy lost_write (CutsKeep lost_write)
+pub lost_write_breaks : SoundImagesCompute → BreaksBy lost_write (CutsKeep lost_write lost_write.beside)
 lost_write_breaks computes = (
   λ p. p.power_cut (record { bytes = record { first = begun 0; entry = refl; last = begun 4; exit = refl }; changes = operations; told = refl })
       ((computes (banks_of (making_of small)) (begun 0)).0 refl),
@@ -82,7 +82,7 @@ lost_write_breaks computes = (
 )
 
 -- nor is it counted there
-no_lost_count : CutsCount lost_write → ⊥
+no_lost_count : CutsCount lost_write lost_write.beside → ⊥
 no_lost_count counts =
     let keeps : KeepsCounts small (up_to 4 lost_write.history) (counts_by small (begun 0)) (counts_by small torn) = counts 4 0 torn (omega arith)
     (_, refl, (record { size = refl; front = refl; back = refl }, λ were. joined_bytes (replicate 16 0) (drop 16 written) (zeros 16) (dropped_bytes 16 written were))) refl in
@@ -91,7 +91,7 @@ no_lost_count counts =
       | inr (is, since) ↦ cc is
     ]
 
-pub lost_count_breaks : SoundImagesCompute → BreaksBy lost_write (CutsCount lost_write)
+pub lost_count_breaks : SoundImagesCompute → BreaksBy lost_write (CutsCount lost_write lost_write.beside)
 lost_count_breaks computes = (
   λ p. p.counts (record { bytes = record { first = begun 0; entry = refl; last = begun 4; exit = refl }; changes = operations; told = refl })
       ((computes (banks_of (making_of small)) (begun 0)).0 refl),

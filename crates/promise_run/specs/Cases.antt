@@ -84,13 +84,15 @@ quiet = plays [] (unchanged [] blank)
 abbrev pub holds_block_2 : FlashRun → Beside
 holds_block_2 flash = record {
   flash = flash;
-  geometry = small.geometry;
+  reading = record {
+    geometry = small.geometry;
+    held = λ image n. never_written;
+    is_sound = λ image. true;
+    is_last = λ n image. false;
+    is_full = λ n image. false;
+    may_follow = λ n op. false;
+  };
   blocks = λ block. block == 2;
-  held = λ image n. never_written;
-  is_sound = λ image. true;
-  is_full = λ n image. false;
-  is_last = λ n image. false;
-  may_follow = λ n op. false;
 }
 
 -- a start-up on both flashes, the second one with these bytes before and behind the run

@@ -17,8 +17,9 @@ use Rattle.fls_model.specs.Told.{bytes_now}
 use Rattle.promise_device.specs.Image.{IsSoundFlash, found_in, held_in}
 use Rattle.promise_device.specs.FlashRun.{TellsBytes, TellsOperations, StartsSound, IsCutImage, bytes_after, AreOperations}
 use Rattle.promise_device.specs.Making.{Making}
-use Rattle.promise_device.specs.Bridge.{IsWornOut}
-use Rattle.promise_run.specs.Beside.{Beside, BesideStartsSound, IsWornBeside, AreCutImages, is_beside, ops_beside, ops_first}
+use Rattle.promise_device.specs.Reading.{BeginsSound}
+use Rattle.promise_device.specs.Bridge.{IsWornOut, IsWornBy}
+use Rattle.promise_run.specs.Beside.{Beside, AreCutImages, is_beside, ops_of}
 use Rattle.promise_run.specs.Run.{Run, cap, HasOrder, of_flashes, offs_of_flash, has_cutter, RefusalsExplain}
 
 -- the device is made for this configuration, over the banks that a configuration has
@@ -36,119 +37,101 @@ pub record Keeps (c : Configuration) (h : List Entry) (image : List ℕ) : Type 
 
 -- what is found in both images: of each block in that of its own device
 abbrev pub held_both : Configuration → Beside → List ℕ → List ℕ → ℕ → Held
-held_both c b image other n = if b.blocks (instance_of (record { 0 = n })).block then b.held other n else held_in (making_of c) image n
+held_both c b image other n = if b.blocks (instance_of (record { 0 = n })).block then b.reading.held other n else held_in (making_of c) image n
 
 -- both images keep to a history
 pub record KeepBoth (c : Configuration) (b : Beside) (h : List Entry) (image other : List ℕ) : Type 0 where
   pub marks : KeepsMarks c h (marks_in (held_both c b image other))
   pub sound : IsSoundFlash (making_of c) image
-  pub sound_beside : IsTrue (b.is_sound other)
+  pub sound_beside : IsTrue (b.reading.is_sound other)
 
 -- a fact on the bytes of both flashes once k operations of both were made
 abbrev pub IfBothAfter : Run → Beside → ℕ → (List ℕ → List ℕ → Type 0) → Type 0
-IfBothAfter r b k P = IfSome (bytes_after r.flash (ops_first r.configuration r.history b k)) (λ image. IfSome (bytes_after b.flash (ops_beside r.configuration r.history b k)) (P image))
+IfBothAfter r b k P = IfSome (bytes_after r.flash (ops_of false r.configuration r.history b k)) (λ image. IfSome (bytes_after b.flash (ops_of true r.configuration r.history b k)) (P image))
 
 -- each start-up lists what it found in the bytes of its moment
-abbrev pub StartUpsFindIn : Run → Option Beside → Type 0
-StartUpsFindIn r None =
+abbrev pub StartUpsFind : Run → Option Beside → Type 0
+StartUpsFind r None =
     (marks : List (Instance × Mark)) (ops : ℕ) → Contains r.history (Found marks ops) → ops < last_count
     → IfSome (bytes_after r.flash ops) (λ image. Lists r.configuration marks (found_by r.configuration image))
-StartUpsFindIn r (Some b) =
-    TellsBytes b.flash → BesideStartsSound b → (marks : List (Instance × Mark)) (ops : ℕ) → Contains r.history (Found marks ops) → ops < last_count
+StartUpsFind r (Some b) =
+    TellsBytes b.flash → BeginsSound b.reading b.flash → (marks : List (Instance × Mark)) (ops : ℕ) → Contains r.history (Found marks ops) → ops < last_count
     → IfBothAfter r b ops (λ image other. Lists r.configuration marks (marks_in (held_both r.configuration b image other)))
 
-abbrev pub StartUpsFind : Run → Type 0
-StartUpsFind r = StartUpsFindIn r r.beside
-
 -- each image that a power cut may leave keeps to the history up to then
-abbrev pub CutsKeepIn : Run → Option Beside → Type 0
-CutsKeepIn r None = (k : ℕ) (image : List ℕ) → k < last_count → IsCutImage r.flash k image → Keeps r.configuration (up_to k r.history) image
-CutsKeepIn r (Some b) =
-    TellsOperations b.flash → BesideStartsSound b → (k : ℕ) (image other : List ℕ) → k < last_count → AreCutImages r.configuration r.history r.flash b k image other
+abbrev pub CutsKeep : Run → Option Beside → Type 0
+CutsKeep r None = (k : ℕ) (image : List ℕ) → k < last_count → IsCutImage r.flash k image → Keeps r.configuration (up_to k r.history) image
+CutsKeep r (Some b) =
+    TellsOperations b.flash → BeginsSound b.reading b.flash → (k : ℕ) (image other : List ℕ) → k < last_count → AreCutImages r.configuration r.history r.flash b k image other
     → KeepBoth r.configuration b (up_to k r.history) image other
 
-abbrev pub CutsKeep : Run → Type 0
-CutsKeep r = CutsKeepIn r r.beside
-
 -- the bytes at the exit keep to the whole history
-abbrev pub ExitKeepsIn : Run → Option Beside → Type 0
-ExitKeepsIn r None = HasStarted r.history → length r.flash.operations < last_count → IfSome (bytes_now r.flash.exit) (Keeps r.configuration r.history)
-ExitKeepsIn r (Some b) =
-    TellsBytes b.flash → BesideStartsSound b → HasStarted r.history → length r.flash.operations + length b.flash.operations < last_count
+abbrev pub ExitKeeps : Run → Option Beside → Type 0
+ExitKeeps r None = HasStarted r.history → length r.flash.operations < last_count → IfSome (bytes_now r.flash.exit) (Keeps r.configuration r.history)
+ExitKeeps r (Some b) =
+    TellsBytes b.flash → BeginsSound b.reading b.flash → HasStarted r.history → length r.flash.operations + length b.flash.operations < last_count
     → IfSome (bytes_now r.flash.exit) (λ image. IfSome (bytes_now b.flash.exit) (KeepBoth r.configuration b r.history image))
-
-abbrev pub ExitKeeps : Run → Type 0
-ExitKeeps r = ExitKeepsIn r r.beside
 
 -- how often each instance was written, by what an image has of it
 abbrev pub counts_by : Configuration → List ℕ → ℕ → ℕ
 counts_by c image = counts_in (held_in (making_of c) image)
 
 -- each image that a power cut may leave has the counts that the last start-up by then found, with the writes since
-abbrev pub CutsCountIn : Run → Option Beside → Type 0
-CutsCountIn r None =
+abbrev pub CutsCount : Run → Option Beside → Type 0
+CutsCount r None =
     (k ops : ℕ) (image : List ℕ) → k < last_count → IsCutImage r.flash k image → last_found (up_to k r.history) ≡ Some ops
     → IfSome (bytes_after r.flash ops)
     (λ first. KeepsCounts r.configuration (up_to k r.history) (counts_by r.configuration first) (counts_by r.configuration image))
-CutsCountIn r (Some b) =
-    TellsOperations b.flash → BesideStartsSound b → (k ops : ℕ) (image other : List ℕ) → k < last_count
+CutsCount r (Some b) =
+    TellsOperations b.flash → BeginsSound b.reading b.flash → (k ops : ℕ) (image other : List ℕ) → k < last_count
     → AreCutImages r.configuration r.history r.flash b k image other → last_found (up_to k r.history) ≡ Some ops
     → IfBothAfter r b ops (λ first second. KeepsCounts r.configuration (up_to k r.history)
     (counts_in (held_both r.configuration b first second)) (counts_in (held_both r.configuration b image other)))
-
-abbrev pub CutsCount : Run → Type 0
-CutsCount r = CutsCountIn r r.beside
 
 -- A planned cut kept this operation from the flash: the power went off in it. Past the end of the count no Off tells which.
 abbrev pub MayBeKept : Run → ℕ → Type 0
 MayBeKept r k = IsTrue (has_cutter r.course) × ((last_count ≤ k) ⊎ HasOffAt r.history (next_count k))
 
 -- the operation with this number of one of the devices is such a one
-pub record MayBeKeptOf (r : Run) (b : Beside) (second : Bool) (own : Configuration → List Entry → Beside → ℕ → ℕ) (n : ℕ) : Type 0 where
+pub record MayBeKeptOf (r : Run) (b : Beside) (second : Bool) (n : ℕ) : Type 0 where
   pub operation : ℕ
   pub whose : is_beside r.configuration r.history b operation ≡ second
-  pub number : own r.configuration r.history b operation ≡ n
+  pub number : ops_of second r.configuration r.history b operation ≡ n
   pub kept : MayBeKept r operation
 
 -- the operations are those of the flash, but for these
-abbrev pub OperationsAreIn : Run → Option Beside → Type 0
-OperationsAreIn r None = AreOperations r.configuration.geometry r.flash (MayBeKept r)
-OperationsAreIn r (Some b) =
-    AreOperations r.configuration.geometry r.flash (MayBeKeptOf r b false ops_first)
-    × AreOperations b.geometry b.flash (MayBeKeptOf r b true ops_beside)
-
-abbrev pub OperationsAre : Run → Type 0
-OperationsAre r = OperationsAreIn r r.beside
+abbrev pub OperationsAre : Run → Option Beside → Type 0
+OperationsAre r None = AreOperations r.configuration.geometry r.flash (MayBeKept r)
+OperationsAre r (Some b) =
+    AreOperations r.configuration.geometry r.flash (MayBeKeptOf r b false)
+    × AreOperations b.reading.geometry b.flash (MayBeKeptOf r b true)
 
 -- the flash's faults pay for each failure, but where the flash is worn out; each flash's for its own blocks
-abbrev pub FailuresArePaidIn : Run → Option Beside → Type 0
-FailuresArePaidIn r None = IsPaid every_block r.configuration (IsWornOut (making_of r.configuration) r.flash) r.flash.entry.faults r.flash.exit.faults r.history
-FailuresArePaidIn r (Some b) =
-    IsPaid (λ block. not (b.blocks block)) r.configuration (λ k n. IsWornOut (making_of r.configuration) r.flash (ops_first r.configuration r.history b k) n)
+abbrev pub FailuresArePaid : Run → Option Beside → Type 0
+FailuresArePaid r None = IsPaid every_block r.configuration (IsWornOut (making_of r.configuration) r.flash) r.flash.entry.faults r.flash.exit.faults r.history
+FailuresArePaid r (Some b) =
+    IsPaid (λ block. not (b.blocks block)) r.configuration (λ k n. IsWornOut (making_of r.configuration) r.flash (ops_of false r.configuration r.history b k) n)
     r.flash.entry.faults r.flash.exit.faults r.history
-    × IsPaid b.blocks r.configuration (λ k n. IsWornBeside b (ops_beside r.configuration r.history b k) n) b.flash.entry.faults b.flash.exit.faults r.history
-
-abbrev pub FailuresArePaid : Run → Type 0
-FailuresArePaid r = FailuresArePaidIn r r.beside
+    × IsPaid b.blocks r.configuration (λ k n. IsWornBy b.reading b.flash (ops_of true r.configuration r.history b k) n) b.flash.entry.faults b.flash.exit.faults r.history
 
 pub record Promise (r : Run) : Type 0 where
   -- For every order of callers' requests and main-function turns,
   pub order : HasOrder r r.history
   -- and a power cut before or within any flash operation, start-up finds in each stored instance one whole accepted mark,
   -- not older than the last acknowledged by then;
-  pub power_cut : TellsOperations r.flash → StartsSound (making_of r.configuration) r.flash → CutsKeep r
+  pub power_cut : TellsOperations r.flash → StartsSound (making_of r.configuration) r.flash → CutsKeep r r.beside
   -- with the count of its writes;
-  pub counts : TellsOperations r.flash → StartsSound (making_of r.configuration) r.flash → CutsCount r
-  pub found : TellsBytes r.flash → StartsSound (making_of r.configuration) r.flash → StartUpsFind r
-  pub at_exit : TellsBytes r.flash → StartsSound (making_of r.configuration) r.flash → ExitKeeps r
+  pub counts : TellsOperations r.flash → StartsSound (making_of r.configuration) r.flash → CutsCount r r.beside
+  pub found : TellsBytes r.flash → StartsSound (making_of r.configuration) r.flash → StartUpsFind r r.beside
+  pub at_exit : TellsBytes r.flash → StartsSound (making_of r.configuration) r.flash → ExitKeeps r r.beside
   -- every reply, choice and result is the block machine's over the one history;
   pub block_machine : IsLegal r.configuration cap r.history
   -- a failure result comes only from counted faults, refused copies or what the flash holds written.
-  pub faults : FailuresArePaid r
+  pub faults : FailuresArePaid r r.beside
   pub refusals : (id : ℕ) → RefusalsExplain r.configuration r.course r.history id
   -- An Off is planned, or the flash counted a cut.
   pub off : WereCounted (offs_of_flash r.course r.history) (of_flashes (λ f. f.entry.cuts) r) (of_flashes (λ f. f.exit.cuts) r)
   -- The operations are those of the flash, but for one at each Off that a planned cut kept from it; the entries count them.
-  pub operations : HasStarted r.history → OperationsAre r
+  pub operations : HasStarted r.history → OperationsAre r r.beside
   pub begins : BeginsBefore r.history
   pub counted : TellsAtMost (of_flashes (λ f. length f.operations) r) r.history

@@ -1,5 +1,6 @@
 -- One run of the program, from the attach of its flash on, and how it follows its script.
 use Rattle.std.specs.Prelude.{◌≡◌, ◌⊎◌, ◌<◌, ◌≤◌, ◌+◌, ℕ, not, Bool, true, false, IsTrue, List, [], ◌∷◌, ◌++◌, length, take, nat_le, ◌||◌, ◌==◌, if◌then◌else◌, sum_by, count_by, Option, Some, None}
+use Rattle.std.specs.Option.{option_map_or}
 use Rattle.block_machine.specs.nv_base.Count.{last_count, Rose}
 use Rattle.block_machine.specs.nv_base.declared.geometry.Geometry.{Geometry}
 use Rattle.block_machine.specs.nv_base.Entry.{ops_behind}
@@ -49,12 +50,8 @@ alone r = record r { beside = None }
 
 -- BOTH FLASHES
 -- a count of a flash, or its sum over both
-abbrev pub with_beside : (FlashRun → ℕ) → FlashRun → Option Beside → ℕ
-with_beside count f None = count f
-with_beside count f (Some b) = count f + count b.flash
-
 abbrev pub of_flashes : (FlashRun → ℕ) → Run → ℕ
-of_flashes count r = with_beside count r.flash r.beside
+of_flashes count r = option_map_or (λ b. count r.flash + count b.flash) r.beside (count r.flash)
 
 -- a fault of one of them was counted
 abbrev pub FaultWasCounted : FlashRun → Option Beside → Type 0
@@ -82,7 +79,7 @@ pub record LeavesFlash (g : Geometry) (f : FlashRun) : Type 0 where
 -- so it is of each flash
 abbrev pub LeavesFlashes : Geometry → FlashRun → Option Beside → Type 0
 LeavesFlashes g f None = LeavesFlash g f
-LeavesFlashes g f (Some b) = LeavesFlash g f × LeavesFlash b.geometry b.flash
+LeavesFlashes g f (Some b) = LeavesFlash g f × LeavesFlash b.reading.geometry b.flash
 
 -- no changing operation, no fault and no cut was counted, and the bytes are as they were
 pub record LeavesAlone (s t : Told) : Type 0 where

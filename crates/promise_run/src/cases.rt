@@ -26,7 +26,7 @@ pub fn runs_that_keep_it()
 /// of its operations.
 pub fn runs_over_two_flashes()
     ensures keeps { Promise (quiet_beside one one) }
-    ensures changes { BreaksBy (quiet_beside one two) (OperationsAre (quiet_beside one two)) }
+    ensures changes { BreaksBy (quiet_beside one two) (OperationsAre (quiet_beside one two) (quiet_beside one two).beside) }
 {}
 
 /// A run that wipes the flash or ends with a full history before a start-up breaks it by its order, and so does one that
@@ -42,27 +42,27 @@ pub fn wrong_orders_break_it()
 /// A start-up that lists what was never written breaks it by what start-ups find, and an image that holds a mark in another
 /// dataset than the one that was written by what the exit keeps.
 pub fn wrong_marks_break_it()
-    ensures made_up_mark { BreaksBy made_up_mark (StartUpsFind made_up_mark) }
-    ensures other_dataset { BreaksBy other_dataset (ExitKeeps other_dataset) }
+    ensures made_up_mark { BreaksBy made_up_mark (StartUpsFind made_up_mark made_up_mark.beside) }
+    ensures other_dataset { BreaksBy other_dataset (ExitKeeps other_dataset other_dataset.beside) }
 {}
 
 /// A power cut that nothing brought breaks it by its cuts, and a failure with a fault too few, over a bank of the last
 /// generation that has room, by its faults. Over one that has none the failure is paid.
 pub fn wrong_causes_break_it()
     ensures off_without_a_cut { BreaksBy off_without_a_cut (WereCounted 1 0 0) }
-    ensures worn_but_roomy { BreaksBy worn_but_roomy (FailuresArePaid worn_but_roomy) }
-    ensures worn_and_full { FailuresArePaid worn_and_full }
+    ensures worn_but_roomy { BreaksBy worn_but_roomy (FailuresArePaid worn_but_roomy worn_but_roomy.beside) }
+    ensures worn_and_full { FailuresArePaid worn_and_full worn_and_full.beside }
 {}
 
 /// A run that may lose an acknowledged write at a cut breaks it, by its power cut and its counts alone: all other fields hold.
 pub fn a_lost_write_breaks_it()
-    ensures breaks { BreaksBy lost_write (CutsKeep lost_write) }
-    ensures counts { BreaksBy lost_write (CutsCount lost_write) }
+    ensures breaks { BreaksBy lost_write (CutsKeep lost_write lost_write.beside) }
+    ensures counts { BreaksBy lost_write (CutsCount lost_write lost_write.beside) }
     ensures order { HasOrder lost_write lost_write.history }
-    ensures found { StartUpsFind lost_write }
-    ensures at_exit { ExitKeeps lost_write }
+    ensures found { StartUpsFind lost_write lost_write.beside }
+    ensures at_exit { ExitKeeps lost_write lost_write.beside }
     ensures block_machine { IsLegal small cap lost_write.history }
-    ensures faults { FailuresArePaid lost_write }
+    ensures faults { FailuresArePaid lost_write lost_write.beside }
     ensures refusals { (id : ℕ) → RefusalsExplain small lost_write.course lost_write.history id }
     ensures off { WereCounted (offs_of_flash lost_write.course lost_write.history) 0 0 }
     ensures operations { AreOperations small.geometry lost_write.flash (MayBeKept lost_write) }
