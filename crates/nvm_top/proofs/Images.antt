@@ -28,6 +28,9 @@ filled_bytes g (Some a) None is = absurd is
 kept-faults : (s t : Told) (n : ℕ) → KeepsFlash s t → KeepsFlash s (record t { faults = n })
 kept-faults s t n is = record { bytes = is.bytes; ops = is.ops; cuts = is.cuts }
 
+pub kept-same : (s : Told) → KeepsFlash s s
+kept-same s = record { bytes = same_bytes s.bytes; ops = refl; cuts = refl }
+
 pub kept-attached : (g : Geometry) (s t : Told) → IsAttached g s t → KeepsFlash s (powered t)
 kept-attached g s t is = record { bytes = filled_bytes g s.bytes t.bytes is.bytes; ops = is.ops; cuts = is.cuts }
 

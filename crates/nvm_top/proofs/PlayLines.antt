@@ -9,9 +9,9 @@ use Rattle.nvm_top.specs.Output.{Writes, Prints}
 use Rattle.nvm_top.specs.declared.status.Status.{Status}
 use Rattle.nvm_top.specs.declared.status.Status.TheVariants as status
 use Rattle.nvm_top.specs.declared.stop.Stop.{Stop}
-use Rattle.nvm_top.specs.declared.stop.Stop.TheVariants.{BadWords, BadConfig, BadScript, ReadFault, TooLong, WrongSize, FlashFault, HistoryFull, Memory}
+use Rattle.nvm_top.specs.declared.stop.Stop.TheVariants.{BadConfig, BadScript, ReadFault, TooLong, WrongSize, FlashFault, HistoryFull, Memory}
 use Rattle.nvm_top.specs.Stop.{status_of, line_of, IsStop}
-use Rattle.nvm_top.specs.Ends.{StopsBy, IsBadWords, HasStepsOf, HasPlayable}
+use Rattle.nvm_top.specs.Ends.{StopsBy, HasStepsOf, HasPlayable}
 use Rattle.nvm_top.specs.Reading.{IsPlayStop}
 use Rattle.nvm_top.specs.Play.{IsRunEnd, HasRunCause, IsRunLine, IsAttachStop, IsStepsEnd, IsBeforeAttach, IsOfWrongSize, WritesSize, RunsBy, PrintsBy}
 use Rattle.script_player.specs.declared.steps.StepFault.{StepFault}
@@ -57,10 +57,6 @@ play_stop left flash _ is = absurd is
 pub stopped-print : (left : Option (List ℕ)) (flash : Option ToldBytes) (w w' : Option (List ℕ)) (stop : Stop) (x : Status) → IsPlayStop left stop → Writes (IsStop stop) w w' x → Prints (PrintsBy left flash) w w' x
 stopped-print left flash w w' stop x stops is =
     Prints-alone (IsStop stop) (PrintsBy left flash) w w' x (λ y line at. inl (refl, by_stop (StopsBy left flash) stop y line (play_stop left flash stop stops) at)) is
-
-pub bad_words-print : (left : Option (List ℕ)) (flash : Option ToldBytes) (w w' : Option (List ℕ)) (x : Status) → Writes IsBadWords w w' x → Prints (PrintsBy left flash) w w' x
-bad_words-print left flash w w' x is =
-    Prints-alone IsBadWords (PrintsBy left flash) w w' x (λ y line at. inl (refl, by_stop (StopsBy left flash) BadWords y line refl at)) is
 
 has_steps : (left : Option (List ℕ)) (c : Configuration) (steps : List Step) → IfSome left (λ bytes. HasPlayable bytes c steps) → IfSome left (HasStepsOf c)
 has_steps None c steps has = tt

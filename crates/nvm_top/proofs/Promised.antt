@@ -477,7 +477,7 @@ call_keeps need left status.WrongSize c steps entry exit w w' has end is = is
 call_keeps need left _ c steps entry exit w w' has end is = absurd end
 
 -- a call that stops early leaves the flash as it was
-alone : (told : Told) → LeavesAlone told told
+pub alone : (told : Told) → LeavesAlone told told
 alone told = record { bytes = refl; ops = refl; faults = refl; cuts = refl }
 
 stops_early : (left : Option (List ℕ)) (why : Stop) (told : Told) (w w' : Option (List ℕ)) → IsEarly why → KeepsPromise (status_of why) (played_call left (status_of why) told told w w')

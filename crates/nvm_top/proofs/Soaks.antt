@@ -17,7 +17,6 @@ use Rattle.nvm_top.specs.declared.stop.Stop.{Stop}
 use Rattle.nvm_top.specs.declared.stop.Stop.TheVariants as stop
 use Rattle.nvm_top.specs.Ends.{HasPlayable}
 use Rattle.nvm_top.specs.Output.{Writes, IsReport}
-use Rattle.nvm_flash.specs.promise_run.Run.{LeavesAlone}
 use Rattle.nvm_top.specs.Play.{IsStepsEnd}
 use Rattle.nvm_top.specs.Promised.{played_call, HasRun, RunsAs, SoakEnds, SoakKeepsPromise}
 use Rattle.nvm_top.specs.Reading.{IsEarly}
@@ -25,6 +24,7 @@ use Rattle.nvm_top.specs.Soak.{HasStepAt, IsSoakStop, SoakStopsBy}
 use Rattle.nvm_top.specs.Stop.{status_of, line_of, IsStop}
 use Rattle.nvm_top.proofs.Dumps.{Writes-as}
 use Rattle.nvm_top.proofs.PlayLemmas.{report-by}
+use Rattle.nvm_top.proofs.Promised.{alone}
 use Rattle.nvm_top.proofs.RunLines.{by_stop}
 
 -- FEW ROUNDS
@@ -100,9 +100,6 @@ pub soak_keeps : (need : ℕ) (left : Option (List ℕ)) (x : Status) (c : Confi
 soak_keeps need left x c made steps entry exit w w' has drawn end is =
     soak_runs need left x c steps entry exit w w' has end
     (subst (λ (xs : List Step). RunsAs x (HasRun c xs (λ r. SoakEnds (played_call left x entry exit w w') r r.end) entry exit) entry exit) drawn is)
-
-alone : (told : Told) → LeavesAlone told told
-alone told = record { bytes = refl; ops = refl; faults = refl; cuts = refl }
 
 stops_early : (left : Option (List ℕ)) (steps : Configuration → List Step) (why : Stop) (told : Told) (w w' : Option (List ℕ)) → IsEarly why → SoakKeepsPromise (status_of why) left steps (played_call left (status_of why) told told w w')
 stops_early left steps stop.BadWords told w w' early = alone told

@@ -13,7 +13,7 @@ use Rattle.nvm_top.specs.declared.status.Status.{Status}
 use Rattle.nvm_top.specs.declared.status.Status.TheVariants as status
 use Rattle.nvm_top.specs.declared.stop.Stop.TheVariants as stop
 use Rattle.nvm_top.specs.Measures.{measures_line}
-use Rattle.nvm_top.specs.Stop.{IsStop, line_of}
+use Rattle.nvm_top.specs.Stop.{line_of}
 
 -- the input isn't too long, and its first line is this configuration
 pub record HasConfig (bytes : List ℕ) (c : Configuration) : Type 0 where
@@ -53,10 +53,6 @@ NamesWrongLine left line = (number : ℕ) × IfSome left (λ bytes. HasWrongLine
 abbrev pub TellsSize : ℕ → Option ToldBytes → List ℕ → Type 0
 TellsSize need flash line = (found : ℕ) × IfSome flash (λ b. length b.now ≡ found) × (line ≡ line_of (stop.WrongSize found need))
 
--- words of no command, or of another one
-abbrev pub IsBadWords : Status → List ℕ → Type 0
-IsBadWords x line = IsStop stop.BadWords x line
-
 -- `check`, with the bytes of its input, where they are told, and with the line that it writes
 abbrev pub ChecksBy : Option (List ℕ) → Status → List ℕ → Type 0
 ChecksBy left status.Ok line = (c : Configuration) × IfSome left (λ bytes. HasConfig bytes c) × (line ≡ measures_line c)
@@ -85,7 +81,6 @@ PlaysBy left x = ReadsBy HasSteps HasWrongLine left x
 -- `play` where it stops before start-up, with the bytes of its input and of its flash, where they are told, and with
 -- the line that it writes
 abbrev pub StopsBy : Option (List ℕ) → Option ToldBytes → Status → List ℕ → Type 0
-StopsBy left flash status.BadWords line = line ≡ line_of stop.BadWords
 StopsBy left flash status.BadConfig line = NamesRule left line
 StopsBy left flash status.BadScript line = NamesWrongLine left line
 StopsBy left flash status.ReadFault line = line ≡ line_of stop.ReadFault

@@ -1,4 +1,5 @@
 pub mod Causes
+pub mod Commands
 pub mod Dump
 pub mod Ends
 pub mod Input

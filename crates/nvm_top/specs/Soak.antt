@@ -4,7 +4,6 @@ use Rattle.nvm_flash.specs.block_config.Config.{Configuration}
 use Rattle.nvm_words.specs.declared.words.CommandKind.{CommandKind}
 use Rattle.nvm_words.specs.declared.words.CommandKind.TheVariants.{Soak}
 use Rattle.nvm_script.specs.declared.step.Step.{Step}
-use Rattle.script_soak.specs.Soak.{soak}
 use Rattle.nvm_top.specs.Ends.{HasPlayable, HasWrongLine, NamesRule, ReadsBy}
 use Rattle.nvm_top.specs.Input.{IsLonger, input_limit}
 use Rattle.nvm_top.specs.Reading.{IsPlayStop}
@@ -19,11 +18,6 @@ use Rattle.nvm_top.specs.Stop.{line_of}
 abbrev pub is_soak : Option CommandKind → Bool
 is_soak (Some (Soak seed count)) = true
 is_soak _ = false
-
--- the steps that they ask for
-abbrev pub steps_named : Option CommandKind → Configuration → List Step
-steps_named (Some (Soak seed count)) c = soak c seed count
-steps_named _ c = []
 
 -- THE INPUT
 
@@ -46,7 +40,6 @@ SoaksBy left x = ReadsBy HasNoStep HasStepAt left x
 
 -- where it stops before its flash is attached, with the line that it writes
 abbrev pub SoakStopsBy : Option (List ℕ) → Status → List ℕ → Type 0
-SoakStopsBy left status.BadWords line = line ≡ line_of stop.BadWords
 SoakStopsBy left status.BadConfig line = NamesRule left line
 SoakStopsBy left status.BadScript line = (number : ℕ) × IfSome left (λ bytes. HasStepAt bytes number) × (line ≡ line_of (stop.BadScript number))
 SoakStopsBy left status.ReadFault line = line ≡ line_of stop.ReadFault

@@ -1,13 +1,7 @@
 // The call of the program, and a call for each command alone.
-ghost use Rattle.std.specs.Prelude.{◌≡◌, None, map, string_bytes, true, false};
-ghost use Rattle.nvm_flash.specs.nv_base.Count.{Rose};
-ghost use Rattle.nvm_top.specs.Causes.{HasCauses};
-ghost use Rattle.nvm_top.specs.Dump.{DumpsBy, KeepsFlash};
-ghost use Rattle.nvm_top.specs.Ends.{ChecksBy, PlaysBy, StopsBy, IsBadWords};
-ghost use Rattle.nvm_top.specs.Output.{Writes, Prints};
-ghost use Rattle.nvm_top.specs.Play.{IsBeforeAttach, IsBeforeStart, IsOfWrongSize, PrintsBy};
-ghost use Rattle.nvm_top.specs.Promised.{KeepsPromise, SoakKeepsPromise, played_call};
-ghost use Rattle.nvm_top.specs.Soak.{is_soak, steps_named, SoaksBy, SoakStopsBy};
+ghost use Rattle.std.specs.Prelude.{map, string_bytes};
+ghost use Rattle.nvm_top.specs.Commands.{ended, KeepsCommand, KeepsOnly};
+ghost use Rattle.nvm_top.specs.Soak.{is_soak};
 ghost use Rattle.nvm_words.specs.Words.{command_of, is_check, is_dump, is_play};
 
 use crate::Status;
@@ -34,25 +28,7 @@ pub fn command<R: Threads + Wait + Sync, S: Source, K: Sink, F: Flash>(
     output: &mut K,
     flash: F,
 ) -> (Status, F)
-    ensures bad_words { result.0 ≡ Status.BadWords → command_of (map string_bytes words.now) ≡ None }
-    ensures no_command { command_of (map string_bytes words.now) ≡ None → Writes IsBadWords (K.written output.old) (K.written output.new) result.0 }
-    ensures play { is_play (command_of (map string_bytes words.now)) ≡ true → PlaysBy (S.left input.old) result.0 }
-    ensures play_line { is_play (command_of (map string_bytes words.now)) ≡ true → IsBeforeAttach result.0 → Writes (StopsBy (S.left input.old) (F.told flash).bytes) (K.written output.old) (K.written output.new) result.0 }
-    ensures play_print { is_play (command_of (map string_bytes words.now)) ≡ true → Prints (PrintsBy (S.left input.old) (F.told flash).bytes) (K.written output.old) (K.written output.new) result.0 }
-    ensures play_promise { is_play (command_of (map string_bytes words.now)) ≡ true
-        → KeepsPromise result.0 (played_call (S.left input.old) result.0 (F.told flash) (F.told result.1) (K.written output.old) (K.written output.new)) }
-    ensures play_size { is_play (command_of (map string_bytes words.now)) ≡ true → result.0 ≡ Status.WrongSize → IsOfWrongSize (S.left input.old) (F.told flash) (F.told result.1) (K.written output.old) (K.written output.new) }
-    ensures soak { is_soak (command_of (map string_bytes words.now)) ≡ true → SoaksBy (S.left input.old) result.0 }
-    ensures soak_line { is_soak (command_of (map string_bytes words.now)) ≡ true → IsBeforeAttach result.0 → Writes (SoakStopsBy (S.left input.old)) (K.written output.old) (K.written output.new) result.0 }
-    ensures soak_promise { is_soak (command_of (map string_bytes words.now)) ≡ true
-        → SoakKeepsPromise result.0 (S.left input.old) (steps_named (command_of (map string_bytes words.now))) (played_call (S.left input.old) result.0 (F.told flash) (F.told result.1) (K.written output.old) (K.written output.new)) }
-    ensures check { is_check (command_of (map string_bytes words.now)) ≡ true → Writes (ChecksBy (S.left input.old)) (K.written output.old) (K.written output.new) result.0 }
-    ensures dump { is_dump (command_of (map string_bytes words.now)) ≡ true → Writes (DumpsBy (S.left input.old) (F.told flash).bytes) (K.written output.old) (K.written output.new) result.0 }
-    ensures dump_keeps { is_dump (command_of (map string_bytes words.now)) ≡ true → KeepsFlash (F.told flash) (F.told result.1) }
-    ensures check_keeps { is_check (command_of (map string_bytes words.now)) ≡ true → F.told result.1 ≡ F.told flash }
-    ensures causes { HasCauses result.0 (S.faults input.old) (S.faults input.new) (K.faults output.old) (K.faults output.new) (S.left input.new) }
-    ensures flash_fault { result.0 ≡ Status.FlashFault → Rose (F.told flash).faults (F.told result.1).faults }
-    ensures untouched { IsBeforeAttach result.0 → F.told result.1 ≡ F.told flash }
+    ensures { KeepsCommand (command_of (map string_bytes words.now)) (ended result.0 (S.left input.old) (S.left input.new) (S.faults input.old) (S.faults input.new) (K.written output.old) (K.written output.new) (K.faults output.old) (K.faults output.new) (F.told flash) (F.told result.1)) }
 {
     match command_of(alloc, words) {
         Ok(None) => (report(alloc, Stop::BadWords, output), flash),
@@ -75,16 +51,7 @@ pub fn play_command<S: Source, K: Sink, F: Flash>(
     output: &mut K,
     flash: F,
 ) -> (Status, F)
-    ensures bad_words { is_play (command_of (map string_bytes words.now)) ≡ false → Writes IsBadWords (K.written output.old) (K.written output.new) result.0 }
-    ensures by_input { is_play (command_of (map string_bytes words.now)) ≡ true → PlaysBy (S.left input.old) result.0 }
-    ensures line { IsBeforeAttach result.0 → Writes (StopsBy (S.left input.old) (F.told flash).bytes) (K.written output.old) (K.written output.new) result.0 }
-    ensures print { Prints (PrintsBy (S.left input.old) (F.told flash).bytes) (K.written output.old) (K.written output.new) result.0 }
-    ensures promise { is_play (command_of (map string_bytes words.now)) ≡ true
-        → KeepsPromise result.0 (played_call (S.left input.old) result.0 (F.told flash) (F.told result.1) (K.written output.old) (K.written output.new)) }
-    ensures causes { HasCauses result.0 (S.faults input.old) (S.faults input.new) (K.faults output.old) (K.faults output.new) (S.left input.new) }
-    ensures flash_fault { result.0 ≡ Status.FlashFault → Rose (F.told flash).faults (F.told result.1).faults }
-    ensures wrong_size { result.0 ≡ Status.WrongSize → IsOfWrongSize (S.left input.old) (F.told flash) (F.told result.1) (K.written output.old) (K.written output.new) }
-    ensures untouched { IsBeforeAttach result.0 → F.told result.1 ≡ F.told flash }
+    ensures { KeepsOnly is_play (command_of (map string_bytes words.now)) (ended result.0 (S.left input.old) (S.left input.new) (S.faults input.old) (S.faults input.new) (K.written output.old) (K.written output.new) (K.faults output.old) (K.faults output.new) (F.told flash) (F.told result.1)) }
 {
     match command_of(alloc, words) {
         Ok(Some(CommandKind::Play)) => play(alloc, input, output, flash),
@@ -102,15 +69,7 @@ pub fn soak_command<S: Source, K: Sink, F: Flash>(
     output: &mut K,
     flash: F,
 ) -> (Status, F)
-    ensures bad_words { is_soak (command_of (map string_bytes words.now)) ≡ false → Writes IsBadWords (K.written output.old) (K.written output.new) result.0 }
-    ensures by_input { is_soak (command_of (map string_bytes words.now)) ≡ true → SoaksBy (S.left input.old) result.0 }
-    ensures line { IsBeforeAttach result.0 → Writes (SoakStopsBy (S.left input.old)) (K.written output.old) (K.written output.new) result.0 }
-    ensures promise { is_soak (command_of (map string_bytes words.now)) ≡ true
-        → SoakKeepsPromise result.0 (S.left input.old) (steps_named (command_of (map string_bytes words.now))) (played_call (S.left input.old) result.0 (F.told flash) (F.told result.1) (K.written output.old) (K.written output.new)) }
-    ensures causes { HasCauses result.0 (S.faults input.old) (S.faults input.new) (K.faults output.old) (K.faults output.new) (S.left input.new) }
-    ensures flash_fault { result.0 ≡ Status.FlashFault → Rose (F.told flash).faults (F.told result.1).faults }
-    ensures wrong_size { result.0 ≡ Status.WrongSize → IsOfWrongSize (S.left input.old) (F.told flash) (F.told result.1) (K.written output.old) (K.written output.new) }
-    ensures untouched { IsBeforeAttach result.0 → F.told result.1 ≡ F.told flash }
+    ensures { KeepsOnly is_soak (command_of (map string_bytes words.now)) (ended result.0 (S.left input.old) (S.left input.new) (S.faults input.old) (S.faults input.new) (K.written output.old) (K.written output.new) (K.faults output.old) (K.faults output.new) (F.told flash) (F.told result.1)) }
 {
     match command_of(alloc, words) {
         Ok(Some(CommandKind::Soak { seed, count })) => {
@@ -131,10 +90,7 @@ pub fn check_command<S: Source, K: Sink, F: Flash>(
     output: &mut K,
     flash: F,
 ) -> (Status, F)
-    ensures bad_words { is_check (command_of (map string_bytes words.now)) ≡ false → Writes IsBadWords (K.written output.old) (K.written output.new) result.0 }
-    ensures by_input { is_check (command_of (map string_bytes words.now)) ≡ true → Writes (ChecksBy (S.left input.old)) (K.written output.old) (K.written output.new) result.0 }
-    ensures causes { HasCauses result.0 (S.faults input.old) (S.faults input.new) (K.faults output.old) (K.faults output.new) (S.left input.new) }
-    ensures untouched { F.told result.1 ≡ F.told flash }
+    ensures { KeepsOnly is_check (command_of (map string_bytes words.now)) (ended result.0 (S.left input.old) (S.left input.new) (S.faults input.old) (S.faults input.new) (K.written output.old) (K.written output.new) (K.faults output.old) (K.faults output.new) (F.told flash) (F.told result.1)) }
 {
     match command_of(alloc, words) {
         Ok(Some(CommandKind::Check)) => (check(alloc, input, output), flash),
@@ -152,12 +108,7 @@ pub fn dump_command<S: Source, K: Sink, F: Flash>(
     output: &mut K,
     flash: F,
 ) -> (Status, F)
-    ensures bad_words { is_dump (command_of (map string_bytes words.now)) ≡ false → Writes IsBadWords (K.written output.old) (K.written output.new) result.0 }
-    ensures by_input { is_dump (command_of (map string_bytes words.now)) ≡ true → Writes (DumpsBy (S.left input.old) (F.told flash).bytes) (K.written output.old) (K.written output.new) result.0 }
-    ensures causes { HasCauses result.0 (S.faults input.old) (S.faults input.new) (K.faults output.old) (K.faults output.new) (S.left input.new) }
-    ensures flash_fault { result.0 ≡ Status.FlashFault → Rose (F.told flash).faults (F.told result.1).faults }
-    ensures kept { KeepsFlash (F.told flash) (F.told result.1) }
-    ensures untouched { IsBeforeStart result.0 → F.told result.1 ≡ F.told flash }
+    ensures { KeepsOnly is_dump (command_of (map string_bytes words.now)) (ended result.0 (S.left input.old) (S.left input.new) (S.faults input.old) (S.faults input.new) (K.written output.old) (K.written output.new) (K.faults output.old) (K.faults output.new) (F.told flash) (F.told result.1)) }
 {
     match command_of(alloc, words) {
         Ok(Some(CommandKind::Dump)) => dump(alloc, input, output, flash),

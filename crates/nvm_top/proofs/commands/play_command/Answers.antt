@@ -1,5 +1,7 @@
-use Rattle.nvm_top.proofs.PlayLines.{bad_words-print}
+use Rattle.std.proofs.Common.{map, string_bytes}
+use Rattle.nvm_words.specs.Words.{command_of, is_play}
+use Rattle.nvm_top.proofs.Calls.{wanting_only}
 use Rattle.nvm_top.proofs.commands.play_command.Goals as goal
 
-pub returns-in-Ok-clause-print : goal.returns-in-Ok-clause-print
-returns-in-Ok-clause-print g c = bad_words-print (g.S.Source.left c.args.input.now) (g.F.Flash.told c.args.flash).bytes _ _ _ c.report.ensures.line
+pub returns-in-Err : goal.returns-in-Err
+returns-in-Err g c = wanting_only is_play (command_of (map string_bytes c.args.words.now)) _ _ _ _ _

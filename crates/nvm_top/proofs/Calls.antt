@@ -1,0 +1,30 @@
+-- A call of the program that calls no command.
+use Rattle.std.proofs.Common.{ℕ, Bool, List, [], Option, Some, None, inr, refl}
+use Rattle.std.proofs.KnownBytes.{Appends-nil}
+use Rattle.nvm_flash.specs.fls_model.Told.{Told}
+use Rattle.nvm_words.specs.declared.words.CommandKind.{CommandKind}
+use Rattle.nvm_words.specs.declared.words.CommandKind.TheVariants.{Play, Run, Dump, Check, Soak}
+use Rattle.nvm_top.specs.declared.status.Status.TheVariants as status
+use Rattle.nvm_top.specs.Causes.{HasCauses}
+use Rattle.nvm_top.specs.Commands.{ended, KeepsCommand, KeepsOnly}
+use Rattle.nvm_top.proofs.Images.{kept-same}
+use Rattle.nvm_top.proofs.Promised.{alone}
+
+-- WANT OF MEMORY
+
+no_cause : (reads writes : ℕ) (left : Option (List ℕ)) → HasCauses status.Memory reads reads writes writes left
+no_cause reads writes left = record { read_fault = λ is. cc; write_fault = λ is. cc; ended = λ is. cc }
+
+-- before any command nothing was read, written or changed
+pub wanting : (k : Option CommandKind) (left : Option (List ℕ)) (reads : ℕ) (written : Option (List ℕ)) (writes : ℕ) (told : Told) → KeepsCommand k (ended status.Memory left left reads reads written written writes writes told told)
+wanting None left reads written writes told = record { line = refl; unread = refl; untouched = refl; causes = no_cause reads writes left }
+wanting (Some Run) left reads written writes told = record { line = refl; unread = refl; untouched = refl; causes = no_cause reads writes left }
+wanting (Some Check) left reads written writes told = record { by_input = refl; untouched = refl; causes = no_cause reads writes left }
+wanting (Some Dump) left reads written writes told = record { by_input = refl; kept = kept-same told; flash_fault = λ is. cc; untouched = λ is. refl; causes = no_cause reads writes left }
+wanting (Some Play) left reads written writes told =
+    record { by_input = tt; line = λ is. absurd is; print = ([], Appends-nil written); promise = inr (alone told); wrong_size = λ is. absurd (cc is); flash_fault = λ is. cc; untouched = λ is. refl; causes = no_cause reads writes left }
+wanting (Some (Soak seed count)) left reads written writes told =
+    record { by_input = tt; line = λ is. absurd is; promise = inr (alone told); wrong_size = λ is. absurd (cc is); flash_fault = λ is. cc; untouched = λ is. refl; causes = no_cause reads writes left }
+
+pub wanting_only : (is_served : Option CommandKind → Bool) (k : Option CommandKind) (left : Option (List ℕ)) (reads : ℕ) (written : Option (List ℕ)) (writes : ℕ) (told : Told) → KeepsOnly is_served k (ended status.Memory left left reads reads written written writes writes told told)
+wanting_only is_served k left reads written writes told = record { served = λ _. wanting k left reads written writes told; refused = λ _. wanting None left reads written writes told }

@@ -1,0 +1,108 @@
+-- What a call of each command keeps; a call of the program keeps what the command keeps that its words name.
+use Rattle.std.specs.Prelude.{◌≡◌, ℕ, Bool, true, false, List, Option, Some, None}
+use Rattle.nvm_flash.specs.nv_base.Count.{Rose}
+use Rattle.nvm_flash.specs.block_config.Config.{Configuration}
+use Rattle.nvm_flash.specs.fls_model.Told.{Told}
+use Rattle.nvm_flash.specs.promise_run.Call.{Call}
+use Rattle.nvm_script.specs.declared.step.Step.{Step}
+use Rattle.nvm_words.specs.declared.words.CommandKind.{CommandKind}
+use Rattle.nvm_words.specs.declared.words.CommandKind.TheVariants.{Play, Run, Dump, Check, Soak}
+use Rattle.script_soak.specs.Soak.{soak}
+use Rattle.nvm_top.specs.declared.status.Status.{Status}
+use Rattle.nvm_top.specs.declared.status.Status.TheVariants as status
+use Rattle.nvm_top.specs.declared.stop.Stop.{Stop}
+use Rattle.nvm_top.specs.declared.stop.Stop.TheVariants as stop
+use Rattle.nvm_top.specs.Causes.{HasCauses}
+use Rattle.nvm_top.specs.Dump.{DumpsBy, KeepsFlash}
+use Rattle.nvm_top.specs.Ends.{ChecksBy, PlaysBy, StopsBy}
+use Rattle.nvm_top.specs.Output.{Writes, Prints}
+use Rattle.nvm_top.specs.Play.{IsBeforeAttach, IsBeforeStart, IsOfWrongSize, PrintsBy}
+use Rattle.nvm_top.specs.Promised.{KeepsPromise, SoakKeepsPromise, played_call}
+use Rattle.nvm_top.specs.Soak.{SoaksBy, SoakStopsBy}
+use Rattle.nvm_top.specs.Stop.{IsStop}
+
+-- A call that is over: its status, and before it and behind it what was left of its input and how often that had failed, what
+-- was written to its output and how often that had failed, and its flash.
+pub record Ended : Type 0 where
+  pub status : Status
+  pub left : Option (List ℕ)
+  pub left_after : Option (List ℕ)
+  pub read_faults : ℕ
+  pub read_faults_after : ℕ
+  pub written : Option (List ℕ)
+  pub written_after : Option (List ℕ)
+  pub write_faults : ℕ
+  pub write_faults_after : ℕ
+  pub entry : Told
+  pub exit : Told
+
+abbrev pub ended : Status → (left left' : Option (List ℕ)) (reads reads' : ℕ) (written written' : Option (List ℕ)) (writes writes' : ℕ) (entry exit : Told) → Ended
+ended x left left' reads reads' written written' writes writes' entry exit =
+    record { status = x; left = left; left_after = left'; read_faults = reads; read_faults_after = reads'; written = written; written_after = written'; write_faults = writes; write_faults_after = writes'; entry = entry; exit = exit }
+
+-- as a call of the promise
+abbrev pub call_of : Ended → Call
+call_of e = played_call e.left e.status e.entry e.exit e.written e.written_after
+
+abbrev pub IsCaused : Ended → Type 0
+IsCaused e = HasCauses e.status e.read_faults e.read_faults_after e.write_faults e.write_faults_after e.left_after
+
+abbrev pub WritesBy : (Status → List ℕ → Type 0) → Ended → Type 0
+WritesBy IsEnd e = Writes IsEnd e.written e.written_after e.status
+
+-- EACH COMMAND
+
+pub record KeepsPlay (e : Ended) : Type 0 where
+  pub by_input : PlaysBy e.left e.status
+  pub line : IsBeforeAttach e.status → WritesBy (StopsBy e.left e.entry.bytes) e
+  pub print : Prints (PrintsBy e.left e.entry.bytes) e.written e.written_after e.status
+  pub promise : KeepsPromise e.status (call_of e)
+  pub wrong_size : e.status ≡ status.WrongSize → IsOfWrongSize e.left e.entry e.exit e.written e.written_after
+  pub flash_fault : e.status ≡ status.FlashFault → Rose e.entry.faults e.exit.faults
+  pub untouched : IsBeforeAttach e.status → e.exit ≡ e.entry
+  pub causes : IsCaused e
+
+-- with the steps that are drawn for a configuration
+pub record KeepsSoak (steps : Configuration → List Step) (e : Ended) : Type 0 where
+  pub by_input : SoaksBy e.left e.status
+  pub line : IsBeforeAttach e.status → WritesBy (SoakStopsBy e.left) e
+  pub promise : SoakKeepsPromise e.status e.left steps (call_of e)
+  pub wrong_size : e.status ≡ status.WrongSize → IsOfWrongSize e.left e.entry e.exit e.written e.written_after
+  pub flash_fault : e.status ≡ status.FlashFault → Rose e.entry.faults e.exit.faults
+  pub untouched : IsBeforeAttach e.status → e.exit ≡ e.entry
+  pub causes : IsCaused e
+
+pub record KeepsCheck (e : Ended) : Type 0 where
+  pub by_input : WritesBy (ChecksBy e.left) e
+  pub untouched : e.exit ≡ e.entry
+  pub causes : IsCaused e
+
+pub record KeepsDump (e : Ended) : Type 0 where
+  pub by_input : WritesBy (DumpsBy e.left e.entry.bytes) e
+  pub kept : KeepsFlash e.entry e.exit
+  pub flash_fault : e.status ≡ status.FlashFault → Rose e.entry.faults e.exit.faults
+  pub untouched : IsBeforeStart e.status → e.exit ≡ e.entry
+  pub causes : IsCaused e
+
+-- no command is called: nothing is read, the flash is as it was, and the line of this stop is written
+pub record IsRefused (why : Stop) (e : Ended) : Type 0 where
+  pub line : WritesBy (IsStop why) e
+  pub unread : e.left_after ≡ e.left
+  pub untouched : e.exit ≡ e.entry
+  pub causes : IsCaused e
+
+-- THE PROGRAM
+-- words of no command, or of one that isn't served, call none
+abbrev pub KeepsCommand : Option CommandKind → Ended → Type 0
+KeepsCommand None e = IsRefused stop.BadWords e
+KeepsCommand (Some Play) e = KeepsPlay e
+KeepsCommand (Some (Soak seed count)) e = KeepsSoak (λ c. soak c seed count) e
+KeepsCommand (Some Check) e = KeepsCheck e
+KeepsCommand (Some Dump) e = KeepsDump e
+KeepsCommand (Some Run) e = IsRefused (stop.Unbuilt 0) e
+
+-- A CALL OF ONE COMMAND
+-- it serves these words alone, and refuses all others, as words of no command are
+pub record KeepsOnly (is_served : Option CommandKind → Bool) (command : Option CommandKind) (e : Ended) : Type 0 where
+  pub served : is_served command ≡ true → KeepsCommand command e
+  pub refused : is_served command ≡ false → IsRefused stop.BadWords e
