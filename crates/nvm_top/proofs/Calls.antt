@@ -20,11 +20,11 @@ pub wanting : (k : Option CommandKind) (left : Option (List ℕ)) (reads : ℕ) 
 wanting None left reads written writes told = record { line = refl; unread = refl; untouched = refl; causes = no_cause reads writes left }
 wanting (Some Run) left reads written writes told = record { line = refl; unread = refl; untouched = refl; causes = no_cause reads writes left }
 wanting (Some Check) left reads written writes told = record { by_input = refl; untouched = refl; causes = no_cause reads writes left }
-wanting (Some Dump) left reads written writes told = record { by_input = refl; kept = kept-same told; flash_fault = λ is. cc; untouched = λ is. refl; causes = no_cause reads writes left }
+wanting (Some Dump) left reads written writes told = record { by_input = refl; kept = kept-same told; untouched = λ is. refl; causes = no_cause reads writes left }
 wanting (Some Play) left reads written writes told =
-    record { by_input = tt; line = λ is. absurd is; print = ([], Appends-nil written); promise = inr (alone told); wrong_size = λ is. absurd (cc is); flash_fault = λ is. cc; untouched = λ is. refl; causes = no_cause reads writes left }
+    record { print = ([], Appends-nil written); promise = inr (alone told); untouched = λ is. refl; causes = no_cause reads writes left }
 wanting (Some (Soak seed count)) left reads written writes told =
-    record { by_input = tt; line = λ is. absurd is; promise = inr (alone told); wrong_size = λ is. absurd (cc is); flash_fault = λ is. cc; untouched = λ is. refl; causes = no_cause reads writes left }
+    record { text = refl; promise = inr (alone told); untouched = λ is. refl; causes = no_cause reads writes left }
 
 pub wanting_only : (is_served : Option CommandKind → Bool) (k : Option CommandKind) (left : Option (List ℕ)) (reads : ℕ) (written : Option (List ℕ)) (writes : ℕ) (told : Told) → KeepsOnly is_served k (ended status.Memory left left reads reads written written writes writes told told)
 wanting_only is_served k left reads written writes told = record { served = λ _. wanting k left reads written writes told; refused = λ _. wanting None left reads written writes told }

@@ -441,12 +441,16 @@ written_end less more meant status.Memory text line w w' end is = tt
 written_end less more meant status.WriteFault text line w w' end is = tt
 written_end less more meant x text line w w' end is = subst (λ (y : Status). IsRunEnd less more y) (sym is.0) end
 
+pub run_end : (Kept : Type 0) (p q r : Payer) (c : Configuration) (cuts : ℕ) (all : List Step) (before : PartTold) (old t : StackTold) (entry exit : Told) (result : Result (Unit {0}) StepFault) (run : Result (Unit {0}) Stop) → IsStarted c cuts before old
+    → IfErr result (λ why. WasBroken p q why all old t) → Vouches Kept r before t entry exit → run ≡ ends.run_of result → IsRunEnd entry.faults exit.faults (ends.status_of_run run)
+run_end Kept p q r c cuts all before old t entry exit result run started broken v is_run =
+    subst (λ (y : Result (Unit {0}) Stop). IsRunEnd entry.faults exit.faults (ends.status_of_run y)) (sym is_run) (steps_end p q result all before old t entry.faults exit.faults started.none v.faults broken)
+
 -- by the run as it was written
 pub ran_to : (Kept : Type 0) (p q r : Payer) (c : Configuration) (cuts : ℕ) (all : List Step) (before : PartTold) (old t : StackTold) (entry exit : Told) (x : Status) (w w' : Option (List ℕ)) (text line : List ℕ) (result : Result (Unit {0}) StepFault) (run : Result (Unit {0}) Stop) → IsStarted c cuts before old
     → IfErr result (λ why. WasBroken p q why all old t) → Vouches Kept r before t entry exit → run ≡ ends.run_of result → WritesText (ends.status_of_run run) text line w w' x → IsRunEnd entry.faults exit.faults x
 ran_to Kept p q r c cuts all before old t entry exit x w w' text line result run started broken v is_run is =
-    written_end entry.faults exit.faults (ends.status_of_run run) x text line w w'
-    (subst (λ (y : Result (Unit {0}) Stop). IsRunEnd entry.faults exit.faults (ends.status_of_run y)) (sym is_run) (steps_end p q result all before old t entry.faults exit.faults started.none v.faults broken)) is
+    written_end entry.faults exit.faults (ends.status_of_run run) x text line w w' (run_end Kept p q r c cuts all before old t entry exit result run started broken v is_run) is
 
 -- OF THE WHOLE CALL
 

@@ -1,9 +1,12 @@
 -- The steps and the words of `soak`.
 use Rattle.std.specs.Prelude.{nat_le, IfSome, slice_get}
 use Rattle.std.specs.Str.Parse.{digits_value}
-use Rattle.std.proofs.Common.{◌≡◌, ◌≤◌, ◌&&◌, ℕ, Bool, true, false, List, [], ◌∷◌, Option, Some, None, if◌then◌else◌, refl, ap, subst, inl, inr}
+use Rattle.std.proofs.Common.{◌≡◌, ◌≤◌, ◌&&◌, ℕ, Bool, true, false, List, [], ◌∷◌, Option, Some, None, Result, Ok, Err, if◌then◌else◌, refl, sym, ap, subst, inl, inr}
 use Rattle.std.proofs.lemmas.Bool.{leb-true}
 use Rattle.nvm_flash.specs.nv_base.Decimal.{is_numeral, decimal_number_of}
+use Rattle.nvm_flash.specs.nv_base.Count.{Rose}
+use Rattle.nvm_flash.specs.nv_base.Geometry.{size_of}
+use Rattle.nvm_flash.specs.nv_base.declared.entry.Entry.{Entry}
 use Rattle.nvm_flash.specs.block_config.Config.{Configuration}
 use Rattle.nvm_flash.specs.fls_model.Told.{Told}
 use Rattle.nvm_words.specs.Words.{are_words, command_named, soak_of, command_with, command_in, command_of}
@@ -17,10 +20,11 @@ use Rattle.nvm_top.specs.declared.stop.Stop.{Stop}
 use Rattle.nvm_top.specs.declared.stop.Stop.TheVariants as stop
 use Rattle.nvm_top.specs.Ends.{HasPlayable}
 use Rattle.nvm_top.specs.Output.{Writes, IsReport}
-use Rattle.nvm_top.specs.Play.{IsStepsEnd}
+use Rattle.nvm_top.specs.Play.{IsAttachStop, IsRunEnd, IsStepsEnd}
 use Rattle.nvm_top.specs.Promised.{played_call, HasRun, RunsAs, SoakEnds, SoakKeepsPromise}
 use Rattle.nvm_top.specs.Reading.{IsEarly}
-use Rattle.nvm_top.specs.Soak.{HasStepAt, IsSoakStop, SoakStopsBy}
+use Rattle.nvm_top.specs.Soak.{HasStepAt, IsSoakStop, SoakPrintsBy, SoakStopsBy, SumsBy}
+use Rattle.nvm_top.specs.Runs.{IsSummaryLine, status_of_run}
 use Rattle.nvm_top.specs.Stop.{status_of, line_of, IsStop}
 use Rattle.nvm_top.proofs.Dumps.{Writes-as}
 use Rattle.nvm_top.proofs.PlayLemmas.{report-by}
@@ -115,13 +119,41 @@ pub early_soak_keeps : (left : Option (List ℕ)) (steps : Configuration → Lis
 early_soak_keeps left steps why x told w w' early reports =
     report-by (λ y. SoakKeepsPromise y left steps (played_call left y told told w w')) (status_of why) x (stops_early left steps why told w w' early) (inr (alone told)) (inr (alone told)) reports
 
-soak_stop : (left : Option (List ℕ)) (why : Stop) → IsSoakStop left why → SoakStopsBy left (status_of why) (line_of why)
-soak_stop left (stop.BadConfig rule block) is = (rule, block, is, refl)
-soak_stop left (stop.BadScript number) is = (number, is, refl)
-soak_stop left stop.ReadFault is = refl
-soak_stop left stop.TooLong is = (is, refl)
-soak_stop left stop.Memory is = refl
-soak_stop left _ is = absurd is
+soak_stop : (left : Option (List ℕ)) (reads reads' : ℕ) (why : Stop) → (why ≡ stop.ReadFault → Rose reads reads') → IsSoakStop left why → SoakStopsBy left reads reads' (status_of why) (line_of why)
+soak_stop left reads reads' (stop.BadConfig rule block) fault is = (rule, block, is, refl)
+soak_stop left reads reads' (stop.BadScript number) fault is = (number, is, refl)
+soak_stop left reads reads' stop.ReadFault fault is = (fault refl, refl)
+soak_stop left reads reads' stop.TooLong fault is = (is, refl)
+soak_stop left reads reads' stop.Memory fault is = refl
+soak_stop left reads reads' _ fault is = absurd is
 
-pub soak_line : (left : Option (List ℕ)) (why : Stop) (w w' : Option (List ℕ)) (x : Status) → IsSoakStop left why → Writes (IsStop why) w w' x → Writes (SoakStopsBy left) w w' x
-soak_line left why w w' x stops is = Writes-as (IsStop why) (SoakStopsBy left) w w' x (λ y line at. by_stop (SoakStopsBy left) why y line (soak_stop left why stops) at) is
+-- before the attach
+pub stopped_sum : (left : Option (List ℕ)) (reads reads' : ℕ) (s t : Told) (why : Stop) (w w' : Option (List ℕ)) (x : Status) → (why ≡ stop.ReadFault → Rose reads reads') → IsSoakStop left why → Writes (IsStop why) w w' x → Writes (SoakPrintsBy left reads reads' s t) w w' x
+stopped_sum left reads reads' s t why w w' x fault stops is =
+    Writes-as (IsStop why) (SoakPrintsBy left reads reads' s t) w w' x (λ y line at. inl (by_stop (SoakStopsBy left reads reads') why y line (soak_stop left reads reads' why fault stops) at)) is
+
+-- from it on
+sum_stop : (need : ℕ) (s t : Told) (why : Stop) → IsRunEnd s.faults t.faults (status_of why) → SumsBy need s t (status_of why) (line_of why)
+sum_stop need s t stop.FlashFault end = (end, refl)
+sum_stop need s t stop.HistoryFull end = refl
+sum_stop need s t stop.Memory end = refl
+sum_stop need s t _ end = absurd end
+
+run_sum : (need : ℕ) (s t : Told) (run : Result (Unit {0}) Stop) (entries : List Entry) (y : Status) (line : List ℕ) → IsRunEnd s.faults t.faults (status_of_run run) → IsSummaryLine run entries y line → SumsBy need s t y line
+run_sum need s t (Ok _) entries y line end is = subst (λ (z : Status). SumsBy need s t z line) (sym is.0) (entries, is.1)
+run_sum need s t (Err why) entries y line end is = by_stop (SumsBy need s t) why y line (sum_stop need s t why end) is
+
+pub ran_sum : (need : ℕ) (s t : Told) (w w' : Option (List ℕ)) (run : Result (Unit {0}) Stop) (entries : List Entry) (x : Status) → IsRunEnd s.faults t.faults (status_of_run run) → Writes (IsSummaryLine run entries) w w' x → Writes (SumsBy need s t) w w' x
+ran_sum need s t w w' run entries x end is = Writes-as (IsSummaryLine run entries) (SumsBy need s t) w w' x (λ y line at. run_sum need s t run entries y line end at) is
+
+attach_sum : (need : ℕ) (s t : Told) (why : Stop) → IsAttachStop need s.bytes why → IsStepsEnd need s t (status_of why) → SumsBy need s t (status_of why) (line_of why)
+attach_sum need s t (stop.WrongSize found needed) is end = (refl, end.0, (found, is.0, ap (λ (n : ℕ). line_of (stop.WrongSize found n)) is.1))
+attach_sum need s t stop.FlashFault is end = (end, refl)
+attach_sum need s t stop.Memory is end = refl
+attach_sum need s t _ is end = absurd is
+
+pub left_sum : (need : ℕ) (s t : Told) (w w' : Option (List ℕ)) (why : Stop) (x : Status) → IsAttachStop need s.bytes why → IsStepsEnd need s t (status_of why) → Writes (IsStop why) w w' x → Writes (SumsBy need s t) w w' x
+left_sum need s t w w' why x stops end is = Writes-as (IsStop why) (SumsBy need s t) w w' x (λ y line at. by_stop (SumsBy need s t) why y line (attach_sum need s t why stops end) at) is
+
+pub soaked_sum : (left : Option (List ℕ)) (reads reads' : ℕ) (s t : Told) (c : Configuration) (w w' : Option (List ℕ)) (x : Status) → IfSome left (λ bytes. HasPlayable bytes c []) → Writes (SumsBy (size_of c.geometry) s t) w w' x → Writes (SoakPrintsBy left reads reads' s t) w w' x
+soaked_sum left reads reads' s t c w w' x has is = Writes-as (SumsBy (size_of c.geometry) s t) (SoakPrintsBy left reads reads' s t) w w' x (λ y line at. inr (c, has, at)) is

@@ -1,6 +1,5 @@
 -- What a call of each command keeps; a call of the program keeps what the command keeps that its words name.
 use Rattle.std.specs.Prelude.{◌≡◌, ℕ, Bool, true, false, List, Option, Some, None}
-use Rattle.nvm_flash.specs.nv_base.Count.{Rose}
 use Rattle.nvm_flash.specs.block_config.Config.{Configuration}
 use Rattle.nvm_flash.specs.fls_model.Told.{Told}
 use Rattle.nvm_flash.specs.promise_run.Call.{Call}
@@ -9,16 +8,15 @@ use Rattle.nvm_words.specs.declared.words.CommandKind.{CommandKind}
 use Rattle.nvm_words.specs.declared.words.CommandKind.TheVariants.{Play, Run, Dump, Check, Soak}
 use Rattle.script_soak.specs.Soak.{soak}
 use Rattle.nvm_top.specs.declared.status.Status.{Status}
-use Rattle.nvm_top.specs.declared.status.Status.TheVariants as status
 use Rattle.nvm_top.specs.declared.stop.Stop.{Stop}
 use Rattle.nvm_top.specs.declared.stop.Stop.TheVariants as stop
 use Rattle.nvm_top.specs.Causes.{HasCauses}
 use Rattle.nvm_top.specs.Dump.{DumpsBy, KeepsFlash}
-use Rattle.nvm_top.specs.Ends.{ChecksBy, PlaysBy, StopsBy}
+use Rattle.nvm_top.specs.Ends.{ChecksBy}
 use Rattle.nvm_top.specs.Output.{Writes, Prints}
-use Rattle.nvm_top.specs.Play.{IsBeforeAttach, IsBeforeStart, IsOfWrongSize, PrintsBy}
+use Rattle.nvm_top.specs.Play.{IsBeforeAttach, IsBeforeStart, PrintsBy}
 use Rattle.nvm_top.specs.Promised.{KeepsPromise, SoakKeepsPromise, played_call}
-use Rattle.nvm_top.specs.Soak.{SoaksBy, SoakStopsBy}
+use Rattle.nvm_top.specs.Soak.{SoakPrintsBy}
 use Rattle.nvm_top.specs.Stop.{IsStop}
 
 -- A call that is over: its status, and before it and behind it what was left of its input and how often that had failed, what
@@ -53,34 +51,26 @@ WritesBy IsEnd e = Writes IsEnd e.written e.written_after e.status
 -- EACH COMMAND
 
 pub record KeepsPlay (e : Ended) : Type 0 where
-  pub by_input : PlaysBy e.left e.status
-  pub line : IsBeforeAttach e.status → WritesBy (StopsBy e.left e.entry.bytes) e
-  pub print : Prints (PrintsBy e.left e.entry.bytes) e.written e.written_after e.status
+  pub print : Prints (PrintsBy e.left e.read_faults e.read_faults_after e.entry e.exit) e.written e.written_after e.status
   pub promise : KeepsPromise e.status (call_of e)
-  pub wrong_size : e.status ≡ status.WrongSize → IsOfWrongSize e.left e.entry e.exit e.written e.written_after
-  pub flash_fault : e.status ≡ status.FlashFault → Rose e.entry.faults e.exit.faults
   pub untouched : IsBeforeAttach e.status → e.exit ≡ e.entry
   pub causes : IsCaused e
 
 -- with the steps that are drawn for a configuration
 pub record KeepsSoak (steps : Configuration → List Step) (e : Ended) : Type 0 where
-  pub by_input : SoaksBy e.left e.status
-  pub line : IsBeforeAttach e.status → WritesBy (SoakStopsBy e.left) e
+  pub text : WritesBy (SoakPrintsBy e.left e.read_faults e.read_faults_after e.entry e.exit) e
   pub promise : SoakKeepsPromise e.status e.left steps (call_of e)
-  pub wrong_size : e.status ≡ status.WrongSize → IsOfWrongSize e.left e.entry e.exit e.written e.written_after
-  pub flash_fault : e.status ≡ status.FlashFault → Rose e.entry.faults e.exit.faults
   pub untouched : IsBeforeAttach e.status → e.exit ≡ e.entry
   pub causes : IsCaused e
 
 pub record KeepsCheck (e : Ended) : Type 0 where
-  pub by_input : WritesBy (ChecksBy e.left) e
+  pub by_input : WritesBy (ChecksBy e.left e.read_faults e.read_faults_after) e
   pub untouched : e.exit ≡ e.entry
   pub causes : IsCaused e
 
 pub record KeepsDump (e : Ended) : Type 0 where
-  pub by_input : WritesBy (DumpsBy e.left e.entry.bytes) e
+  pub by_input : WritesBy (DumpsBy e.left e.read_faults e.read_faults_after e.entry e.exit) e
   pub kept : KeepsFlash e.entry e.exit
-  pub flash_fault : e.status ≡ status.FlashFault → Rose e.entry.faults e.exit.faults
   pub untouched : IsBeforeStart e.status → e.exit ≡ e.entry
   pub causes : IsCaused e
 

@@ -2,6 +2,7 @@
 use Rattle.std.specs.Prelude.{◌≡◌, ℕ, List, Option, IfSome}
 use Rattle.nvm_flash.specs.nv_base.declared.geometry.Geometry.{Geometry}
 use Rattle.nvm_flash.specs.nv_base.Geometry.{size_of}
+use Rattle.nvm_flash.specs.nv_base.Count.{Rose}
 use Rattle.nvm_flash.specs.block_config.Banks.{bank_count}
 use Rattle.nvm_flash.specs.block_config.Config.{Configuration}
 use Rattle.nvm_flash.specs.fls_model.Attach.{HasSize, enlarged}
@@ -11,7 +12,7 @@ use Rattle.fee_dump.specs.Dump.{dump_text}
 use Rattle.nvm_top.specs.declared.status.Status.{Status}
 use Rattle.nvm_top.specs.declared.status.Status.TheVariants as status
 use Rattle.nvm_top.specs.declared.stop.Stop.TheVariants as stop
-use Rattle.nvm_top.specs.Ends.{HasConfig, NamesRule, TellsSize}
+use Rattle.nvm_top.specs.Ends.{HasConfig, NamesRule, TellsReadFault, TellsSize}
 use Rattle.nvm_top.specs.Input.{IsLonger, input_limit}
 use Rattle.nvm_top.specs.Play.{IsWrongSize}
 use Rattle.nvm_top.specs.Stop.{line_of}
@@ -24,21 +25,21 @@ IsImageOf g flash image = IfSome flash (λ b. HasSize g b.now × (image ≡ enla
 abbrev pub IsDump : Geometry → List ℕ → Status → List ℕ → Type 0
 IsDump g image x text = (x ≡ status.Ok) × (text ≡ dump_text (layout_of g bank_count) image)
 
--- from the attach of a flash of this shape on, with its bytes, where they are told, and with what is written
-abbrev pub DumpsFlash : Geometry → Option ToldBytes → Status → List ℕ → Type 0
-DumpsFlash g flash status.Ok text = (image : List ℕ) × IsImageOf g flash image × (text ≡ dump_text (layout_of g bank_count) image)
-DumpsFlash g flash status.WrongSize line = IsWrongSize (size_of g) flash × TellsSize (size_of g) flash line
-DumpsFlash g flash status.FlashFault line = line ≡ line_of stop.FlashFault
-DumpsFlash g flash status.Memory line = line ≡ line_of stop.Memory
-DumpsFlash g flash _ line = ⊥
+-- from the attach of a flash of this shape on, before it and behind it, and with what is written
+abbrev pub DumpsFlash : Geometry → (s t : Told) → Status → List ℕ → Type 0
+DumpsFlash g s t status.Ok text = (image : List ℕ) × IsImageOf g s.bytes image × (text ≡ dump_text (layout_of g bank_count) image)
+DumpsFlash g s t status.WrongSize line = IsWrongSize (size_of g) s.bytes × TellsSize (size_of g) s.bytes line
+DumpsFlash g s t status.FlashFault line = Rose s.faults t.faults × (line ≡ line_of stop.FlashFault)
+DumpsFlash g s t status.Memory line = line ≡ line_of stop.Memory
+DumpsFlash g s t _ line = ⊥
 
--- as a whole, with the bytes of the input, where they are told too
-abbrev pub DumpsBy : Option (List ℕ) → Option ToldBytes → Status → List ℕ → Type 0
-DumpsBy left flash status.BadConfig line = NamesRule left line
-DumpsBy left flash status.TooLong line = IsLonger left input_limit × (line ≡ line_of stop.TooLong)
-DumpsBy left flash status.ReadFault line = line ≡ line_of stop.ReadFault
-DumpsBy left flash status.Memory line = line ≡ line_of stop.Memory
-DumpsBy left flash x text = (c : Configuration) × IfSome left (λ bytes. HasConfig bytes c) × DumpsFlash c.geometry flash x text
+-- as a whole, with the bytes of the input, where they are told, and with its faults before and after
+abbrev pub DumpsBy : Option (List ℕ) → (reads reads' : ℕ) (s t : Told) → Status → List ℕ → Type 0
+DumpsBy left reads reads' s t status.BadConfig line = NamesRule left line
+DumpsBy left reads reads' s t status.TooLong line = IsLonger left input_limit × (line ≡ line_of stop.TooLong)
+DumpsBy left reads reads' s t status.ReadFault line = TellsReadFault reads reads' line
+DumpsBy left reads reads' s t status.Memory line = line ≡ line_of stop.Memory
+DumpsBy left reads reads' s t x text = (c : Configuration) × IfSome left (λ bytes. HasConfig bytes c) × DumpsFlash c.geometry s t x text
 
 -- a flash is left as it was: no changing operation was made, and its bytes are the same, or blank where it had none
 pub record KeepsFlash (s t : Told) : Type 0 where

@@ -1,6 +1,7 @@
 -- How a command ends, as its input decides. No two cases of a command hold of one input, but those of the faults and
 -- of the want of memory, which may come in place of any other.
 use Rattle.std.specs.Prelude.{◌≡◌, ◌≤◌, ℕ, List, [], length, Option, IfSome, Ok, Err}
+use Rattle.nvm_flash.specs.nv_base.Count.{Rose}
 use Rattle.nvm_flash.specs.block_config.Config.{Configuration}
 use Rattle.nvm_flash.specs.block_config.Reading.{meaning_of}
 use Rattle.nvm_flash.specs.block_config.declared.fault.ConfigFault.TheVariants.{Broken}
@@ -34,9 +35,6 @@ pub record HasPlayable (bytes : List ℕ) (c : Configuration) (steps : List Step
   pub config : HasConfig bytes c
   pub script : IsScript c Play 2 [] (later_lines bytes) steps
 
-abbrev pub HasSteps : List ℕ → Type 0
-HasSteps bytes = (c : Configuration) × HasStepsOf c bytes
-
 -- and of its later lines this is the first that is wrong
 abbrev pub HasWrongLine : List ℕ → ℕ → Type 0
 HasWrongLine bytes number = (c : Configuration) × HasConfig bytes c × IsFirstWrong c Play 2 [] (later_lines bytes) number
@@ -53,37 +51,25 @@ NamesWrongLine left line = (number : ℕ) × IfSome left (λ bytes. HasWrongLine
 abbrev pub TellsSize : ℕ → Option ToldBytes → List ℕ → Type 0
 TellsSize need flash line = (found : ℕ) × IfSome flash (λ b. length b.now ≡ found) × (line ≡ line_of (stop.WrongSize found need))
 
--- `check`, with the bytes of its input, where they are told, and with the line that it writes
-abbrev pub ChecksBy : Option (List ℕ) → Status → List ℕ → Type 0
-ChecksBy left status.Ok line = (c : Configuration) × IfSome left (λ bytes. HasConfig bytes c) × (line ≡ measures_line c)
-ChecksBy left status.BadConfig line = NamesRule left line
-ChecksBy left status.TooLong line = IsLonger left input_limit × (line ≡ line_of stop.TooLong)
-ChecksBy left status.ReadFault line = line ≡ line_of stop.ReadFault
-ChecksBy left status.Memory line = line ≡ line_of stop.Memory
-ChecksBy left _ line = ⊥
+-- a read of the input failed, and the line says so
+abbrev pub TellsReadFault : ℕ → ℕ → List ℕ → Type 0
+TellsReadFault reads reads' line = Rose reads reads' × (line ≡ line_of stop.ReadFault)
 
--- a command that reads steps, with the bytes of its input, where they are told: what these are to be, and which of their lines
--- are wrong
-abbrev pub ReadsBy : (List ℕ → Type 0) → (List ℕ → ℕ → Type 0) → Option (List ℕ) → Status → Type 0
-ReadsBy IsGood IsWrong left status.BadConfig = IfSome left (λ bytes. (rule : ℕ) × (block : ℕ) × BreaksRule bytes rule block)
-ReadsBy IsGood IsWrong left status.BadScript = IfSome left (λ bytes. (number : ℕ) × IsWrong bytes number)
-ReadsBy IsGood IsWrong left status.TooLong = IsLonger left input_limit
-ReadsBy IsGood IsWrong left status.ReadFault = Unit {0}
-ReadsBy IsGood IsWrong left status.WriteFault = Unit {0}
-ReadsBy IsGood IsWrong left status.Memory = Unit {0}
-ReadsBy IsGood IsWrong left status.BadWords = ⊥
-ReadsBy IsGood IsWrong left _ = IfSome left IsGood
+-- `check`, with the bytes of its input, where they are told, with its faults before and after, and with the line that it writes
+abbrev pub ChecksBy : Option (List ℕ) → (reads reads' : ℕ) → Status → List ℕ → Type 0
+ChecksBy left reads reads' status.Ok line = (c : Configuration) × IfSome left (λ bytes. HasConfig bytes c) × (line ≡ measures_line c)
+ChecksBy left reads reads' status.BadConfig line = NamesRule left line
+ChecksBy left reads reads' status.TooLong line = IsLonger left input_limit × (line ≡ line_of stop.TooLong)
+ChecksBy left reads reads' status.ReadFault line = TellsReadFault reads reads' line
+ChecksBy left reads reads' status.Memory line = line ≡ line_of stop.Memory
+ChecksBy left reads reads' _ line = ⊥
 
--- `play`
-abbrev pub PlaysBy : Option (List ℕ) → Status → Type 0
-PlaysBy left x = ReadsBy HasSteps HasWrongLine left x
-
--- `play` where it stops before start-up, with the bytes of its input and of its flash, where they are told, and with
--- the line that it writes
-abbrev pub StopsBy : Option (List ℕ) → Option ToldBytes → Status → List ℕ → Type 0
-StopsBy left flash status.BadConfig line = NamesRule left line
-StopsBy left flash status.BadScript line = NamesWrongLine left line
-StopsBy left flash status.ReadFault line = line ≡ line_of stop.ReadFault
-StopsBy left flash status.TooLong line = IsLonger left input_limit × (line ≡ line_of stop.TooLong)
-StopsBy left flash status.Memory line = line ≡ line_of stop.Memory
-StopsBy left flash _ line = ⊥
+-- `play` where it stops before its flash is attached, with the bytes of its input, where they are told, with its faults before
+-- and after, and with the line that it writes
+abbrev pub StopsBy : Option (List ℕ) → (reads reads' : ℕ) → Status → List ℕ → Type 0
+StopsBy left reads reads' status.BadConfig line = NamesRule left line
+StopsBy left reads reads' status.BadScript line = NamesWrongLine left line
+StopsBy left reads reads' status.ReadFault line = TellsReadFault reads reads' line
+StopsBy left reads reads' status.TooLong line = IsLonger left input_limit × (line ≡ line_of stop.TooLong)
+StopsBy left reads reads' status.Memory line = line ≡ line_of stop.Memory
+StopsBy left reads reads' _ line = ⊥

@@ -1,6 +1,5 @@
 -- How a run of `play` ends or stops, each fault with its cause.
 use Rattle.std.specs.Prelude.{◌≡◌, ◌≢◌, ◌⊎◌, ℕ, List, [], length, Option, IfSome, Result, Ok, Err}
-use Rattle.std.specs.Io.KnownBytes.{Appends}
 use Rattle.nvm_flash.specs.nv_base.Count.{Rose}
 use Rattle.nvm_flash.specs.fls_model.Told.{Told, ToldBytes}
 use Rattle.nvm_flash.specs.nv_base.declared.entry.Entry.{Entry}
@@ -26,15 +25,6 @@ IsAttachStop need bytes (stop.WrongSize found needed) = IfSome bytes (λ b. leng
 IsAttachStop need bytes stop.FlashFault = Unit {0}
 IsAttachStop need bytes stop.Memory = Unit {0}
 IsAttachStop need bytes _ = ⊥
-
--- the output, where it is told, grew by the line of a wrong size
-abbrev pub WritesSize : ℕ → Option ToldBytes → Option (List ℕ) → Option (List ℕ) → Type 0
-WritesSize need flash written written' = (line : List ℕ) × TellsSize need flash line × Appends written written' line
-
--- a flash isn't as large as the configuration's, and is left alone; the output, where it is told, grew by the line that says so
-abbrev pub IsOfWrongSize : Option (List ℕ) → Told → Told → Option (List ℕ) → Option (List ℕ) → Type 0
-IsOfWrongSize left s t written written' =
-    (c : Configuration) × IfSome left (HasStepsOf c) × IsWrongSize (size_of c.geometry) s.bytes × LeavesAlone s t × WritesSize (size_of c.geometry) s.bytes written written'
 
 -- the statuses of a call that stops before its flash is attached
 abbrev pub IsBeforeAttach : Status → Type 0
@@ -81,27 +71,23 @@ IsRunEnd before after status.WriteFault = Unit {0}
 IsRunEnd before after status.Memory = Unit {0}
 IsRunEnd before after _ = ⊥
 
--- a run that isn't over stops with a cause
-abbrev pub HasRunCause : ℕ → ℕ → Result (Unit {0}) Stop → Type 0
-HasRunCause before after (Ok _) = Unit {0}
-HasRunCause before after (Err stop) = IsRunEnd before after (status_of stop)
-
 -- HOW IT IS PRINTED
 -- a run that is over, or that stops, with its entries and its last line
 abbrev pub IsRunLine : Result (Unit {0}) Stop → List Entry → Status → List ℕ → Type 0
 IsRunLine (Ok _) entries x line = IsEndOf entries x line
 IsRunLine (Err stop) entries x line = IsStop stop x line
 
--- from the attach of a flash on that is to have so many bytes, with the entries and the last line
-abbrev pub RunsBy : ℕ → Option ToldBytes → List Entry → Status → List ℕ → Type 0
-RunsBy need flash entries status.Ok line = line ≡ end_line (length entries)
-RunsBy need flash entries status.FlashFault line = line ≡ line_of stop.FlashFault
-RunsBy need flash entries status.HistoryFull line = line ≡ line_of stop.HistoryFull
-RunsBy need flash entries status.WrongSize line = (entries ≡ []) × TellsSize need flash line
-RunsBy need flash entries status.Memory line = line ≡ line_of stop.Memory
-RunsBy need flash entries _ line = ⊥
+-- from the attach of a flash on that is to have so many bytes, before it and behind it, with the entries and the last line
+abbrev pub RunsBy : ℕ → (s t : Told) → List Entry → Status → List ℕ → Type 0
+RunsBy need s t entries status.Ok line = line ≡ end_line (length entries)
+RunsBy need s t entries status.FlashFault line = Rose s.faults t.faults × (line ≡ line_of stop.FlashFault)
+RunsBy need s t entries status.HistoryFull line = line ≡ line_of stop.HistoryFull
+RunsBy need s t entries status.WrongSize line = (entries ≡ []) × IsWrongSize need s.bytes × TellsSize need s.bytes line
+RunsBy need s t entries status.Memory line = line ≡ line_of stop.Memory
+RunsBy need s t entries _ line = ⊥
 
--- as a whole, with the bytes of the input and of the flash, where they are told: it stops before start-up and prints no
--- entry, or it runs
-abbrev pub PrintsBy : Option (List ℕ) → Option ToldBytes → List Entry → Status → List ℕ → Type 0
-PrintsBy left flash entries x line = ((entries ≡ []) × StopsBy left flash x line) ⊎ ((c : Configuration) × IfSome left (HasStepsOf c) × RunsBy (size_of c.geometry) flash entries x line)
+-- as a whole, with the bytes of the input, where they are told, and with its faults before and after: it stops before its flash is
+-- attached and prints no entry, or it runs
+abbrev pub PrintsBy : Option (List ℕ) → (reads reads' : ℕ) (s t : Told) → List Entry → Status → List ℕ → Type 0
+PrintsBy left reads reads' s t entries x line =
+    ((entries ≡ []) × StopsBy left reads reads' x line) ⊎ ((c : Configuration) × IfSome left (HasStepsOf c) × RunsBy (size_of c.geometry) s t entries x line)

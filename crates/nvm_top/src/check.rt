@@ -16,7 +16,7 @@ use std::alloc::Global;
 
 /// The command behind its words.
 pub(crate) fn check<S: Source, K: Sink>(alloc: Global, input: &mut S, output: &mut K) -> Status
-    ensures by_input { Writes (ChecksBy (S.left input.old)) (K.written output.old) (K.written output.new) result }
+    ensures by_input { Writes (ChecksBy (S.left input.old) (S.faults input.old) (S.faults input.new)) (K.written output.old) (K.written output.new) result }
     ensures causes { HasCauses result (S.faults input.old) (S.faults input.new) (K.faults output.old) (K.faults output.new) (S.left input.new) }
 {
     match read_configuration(alloc, input) {

@@ -25,9 +25,8 @@ pub(crate) fn dump<S: Source, K: Sink, F: Flash>(
     output: &mut K,
     flash: F,
 ) -> (Status, F)
-    ensures by_input { Writes (DumpsBy (S.left input.old) (F.told flash).bytes) (K.written output.old) (K.written output.new) result.0 }
+    ensures by_input { Writes (DumpsBy (S.left input.old) (S.faults input.old) (S.faults input.new) (F.told flash) (F.told result.1)) (K.written output.old) (K.written output.new) result.0 }
     ensures causes { HasCauses result.0 (S.faults input.old) (S.faults input.new) (K.faults output.old) (K.faults output.new) (S.left input.new) }
-    ensures flash_fault { result.0 ≡ Status.FlashFault → Rose (F.told flash).faults (F.told result.1).faults }
     ensures kept { KeepsFlash (F.told flash) (F.told result.1) }
     ensures untouched { IsBeforeStart result.0 → F.told result.1 ≡ F.told flash }
 {
@@ -48,9 +47,8 @@ fn dump_flash<K: Sink, F: Flash>(
     flash: &mut F,
 ) -> Status
     requires { IsLegal geometry }
-    ensures text { Writes (DumpsFlash geometry (F.told flash.old).bytes) (K.written output.old) (K.written output.new) result }
+    ensures text { Writes (DumpsFlash geometry (F.told flash.old) (F.told flash.new)) (K.written output.old) (K.written output.new) result }
     ensures write_fault { result ≡ Status.WriteFault → Rose (K.faults output.old) (K.faults output.new) }
-    ensures flash_fault { result ≡ Status.FlashFault → Rose (F.told flash.old).faults (F.told flash.new).faults }
     ensures kept { KeepsFlash (F.told flash.old) (F.told flash.new) }
     ensures untouched { IsBeforeStart result → F.told flash.new ≡ F.told flash.old }
 {

@@ -6,9 +6,9 @@ ghost use Rattle.nvm_flash.specs.Made.{IsOrigin};
 ghost use Rattle.nvm_script.specs.Played.{ArePlayed};
 ghost use Rattle.script_player.specs.Made.{cuts_of};
 ghost use Rattle.nvm_top.specs.Causes.{HasCauses};
-ghost use Rattle.nvm_top.specs.Ends.{PlaysBy, StopsBy};
 ghost use Rattle.nvm_top.specs.Output.{Writes, Prints};
-ghost use Rattle.nvm_top.specs.Play.{IsBeforeAttach, IsOfWrongSize, IsStepsEnd, RunsBy, PrintsBy, WritesSize};
+ghost use Rattle.nvm_top.specs.Play.{IsBeforeAttach, IsStepsEnd, RunsBy, PrintsBy};
+ghost use Rattle.nvm_top.specs.Soak.{SumsBy};
 ghost use Rattle.nvm_top.specs.Promised.{EndsIn, HasRun, RunsAs, KeepsPromise, played_call};
 
 use crate::Status;
@@ -30,13 +30,9 @@ pub(crate) fn play<S: Source, K: Sink, F: Flash>(
     output: &mut K,
     flash: F,
 ) -> (Status, F)
-    ensures by_input { PlaysBy (S.left input.old) result.0 }
-    ensures line { IsBeforeAttach result.0 → Writes (StopsBy (S.left input.old) (F.told flash).bytes) (K.written output.old) (K.written output.new) result.0 }
-    ensures print { Prints (PrintsBy (S.left input.old) (F.told flash).bytes) (K.written output.old) (K.written output.new) result.0 }
+    ensures print { Prints (PrintsBy (S.left input.old) (S.faults input.old) (S.faults input.new) (F.told flash) (F.told result.1)) (K.written output.old) (K.written output.new) result.0 }
     ensures promise { KeepsPromise result.0 (played_call (S.left input.old) result.0 (F.told flash) (F.told result.1) (K.written output.old) (K.written output.new)) }
     ensures causes { HasCauses result.0 (S.faults input.old) (S.faults input.new) (K.faults output.old) (K.faults output.new) (S.left input.new) }
-    ensures flash_fault { result.0 ≡ Status.FlashFault → Rose (F.told flash).faults (F.told result.1).faults }
-    ensures wrong_size { result.0 ≡ Status.WrongSize → IsOfWrongSize (S.left input.old) (F.told flash) (F.told result.1) (K.written output.old) (K.written output.new) }
     ensures untouched { IsBeforeAttach result.0 → F.told result.1 ≡ F.told flash }
 {
     match read_playable(alloc, input) {
@@ -55,8 +51,8 @@ pub(crate) fn play_flash<K: Sink, F: Flash>(
 ) -> (Status, F)
     requires played { ArePlayed playable.config playable.steps }
     ensures end { IsStepsEnd (size_of playable.config.geometry) (F.told flash) (F.told result.1) result.0 }
-    ensures size { result.0 ≡ Status.WrongSize → WritesSize (size_of playable.config.geometry) (F.told flash).bytes (K.written output.old) (K.written output.new) }
-    ensures print { text ≡ RunText.History → Prints (RunsBy (size_of playable.config.geometry) (F.told flash).bytes) (K.written output.old) (K.written output.new) result.0 }
+    ensures print { text ≡ RunText.History → Prints (RunsBy (size_of playable.config.geometry) (F.told flash) (F.told result.1)) (K.written output.old) (K.written output.new) result.0 }
+    ensures sum { text ≡ RunText.Summary → Writes (SumsBy (size_of playable.config.geometry) (F.told flash) (F.told result.1)) (K.written output.old) (K.written output.new) result.0 }
     ensures promise { (input : Option (List ℕ))
         → RunsAs result.0 (HasRun playable.config playable.steps (λ r. EndsIn text (played_call input result.0 (F.told flash) (F.told result.1) (K.written output.old) (K.written output.new)) r r.end) (F.told flash) (F.told result.1))
         (F.told flash) (F.told result.1) }
@@ -76,8 +72,8 @@ fn play_steps<K: Sink, F: Flash, O: Origin>(
     requires origin { IsOrigin playable.config (F.told flash) (cuts_of playable.steps) O.making O.entry }
     requires played { ArePlayed playable.config playable.steps }
     ensures end { IsStepsEnd (size_of playable.config.geometry) (F.told flash) (F.told result.1) result.0 }
-    ensures size { result.0 ≡ Status.WrongSize → WritesSize (size_of playable.config.geometry) (F.told flash).bytes (K.written output.old) (K.written output.new) }
-    ensures print { text ≡ RunText.History → Prints (RunsBy (size_of playable.config.geometry) (F.told flash).bytes) (K.written output.old) (K.written output.new) result.0 }
+    ensures print { text ≡ RunText.History → Prints (RunsBy (size_of playable.config.geometry) (F.told flash) (F.told result.1)) (K.written output.old) (K.written output.new) result.0 }
+    ensures sum { text ≡ RunText.Summary → Writes (SumsBy (size_of playable.config.geometry) (F.told flash) (F.told result.1)) (K.written output.old) (K.written output.new) result.0 }
     ensures promise { (input : Option (List ℕ))
         → RunsAs result.0 (HasRun playable.config playable.steps (λ r. EndsIn text (played_call input result.0 (F.told flash) (F.told result.1) (K.written output.old) (K.written output.new)) r r.end) (F.told flash) (F.told result.1))
         (F.told flash) (F.told result.1) }

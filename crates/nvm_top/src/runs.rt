@@ -89,6 +89,7 @@ pub fn write_text<K: Sink>(
     output: &mut K,
 ) -> Status
     ensures print { text ≡ RunText.History → Prints (IsRunLine run) (K.written output.old) (K.written output.new) result }
+    ensures sum { text ≡ RunText.Summary → Writes (IsSummaryLine run history.now.entries) (K.written output.old) (K.written output.new) result }
     ensures text { WritesText (status_of_run run) (text_in text history.now.entries) (line_written text run history.now.entries) (K.written output.old) (K.written output.new) result }
     ensures write_fault { result ≡ Status.WriteFault → Rose (K.faults output.old) (K.faults output.new) }
 {

@@ -7,10 +7,10 @@ ghost use Rattle.script_soak.specs.Soak.{soak};
 ghost use Rattle.nvm_top.specs.Causes.{HasCauses};
 ghost use Rattle.nvm_top.specs.Ends.{HasPlayable};
 ghost use Rattle.nvm_top.specs.Output.{Writes};
-ghost use Rattle.nvm_top.specs.Play.{IsBeforeAttach, IsOfWrongSize};
+ghost use Rattle.nvm_top.specs.Play.{IsBeforeAttach};
 ghost use Rattle.nvm_top.specs.Promised.{SoakKeepsPromise, played_call};
 ghost use Rattle.nvm_top.specs.Reading.{IsEarly};
-ghost use Rattle.nvm_top.specs.Soak.{IsSoakStop, SoaksBy, SoakStopsBy};
+ghost use Rattle.nvm_top.specs.Soak.{IsSoakStop, SoakPrintsBy};
 
 use crate::Status;
 use crate::output::report;
@@ -33,12 +33,9 @@ pub(crate) fn soak<S: Source, K: Sink, F: Flash>(
     flash: F,
 ) -> (Status, F)
     requires { count < u32.MAX }
-    ensures by_input { SoaksBy (S.left input.old) result.0 }
-    ensures line { IsBeforeAttach result.0 → Writes (SoakStopsBy (S.left input.old)) (K.written output.old) (K.written output.new) result.0 }
+    ensures text { Writes (SoakPrintsBy (S.left input.old) (S.faults input.old) (S.faults input.new) (F.told flash) (F.told result.1)) (K.written output.old) (K.written output.new) result.0 }
     ensures promise { SoakKeepsPromise result.0 (S.left input.old) (λ c. soak c seed count) (played_call (S.left input.old) result.0 (F.told flash) (F.told result.1) (K.written output.old) (K.written output.new)) }
     ensures causes { HasCauses result.0 (S.faults input.old) (S.faults input.new) (K.faults output.old) (K.faults output.new) (S.left input.new) }
-    ensures flash_fault { result.0 ≡ Status.FlashFault → Rose (F.told flash).faults (F.told result.1).faults }
-    ensures wrong_size { result.0 ≡ Status.WrongSize → IsOfWrongSize (S.left input.old) (F.told flash) (F.told result.1) (K.written output.old) (K.written output.new) }
     ensures untouched { IsBeforeAttach result.0 → F.told result.1 ≡ F.told flash }
 {
     match read_soaked(alloc, seed, count, input) {

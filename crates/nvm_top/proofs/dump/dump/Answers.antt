@@ -1,12 +1,16 @@
-use Rattle.std.proofs.Common.{subst}
+use Rattle.std.proofs.Common.{Err, ap, subst}
 use Rattle.nvm_flash.specs.nv_base.declared.geometry.Geometry.{Geometry}
 use Rattle.nvm_top.specs.Dump.{DumpsFlash}
 use Rattle.nvm_top.specs.Output.{Writes}
-use Rattle.nvm_top.proofs.Dumps.{configured-text}
+use Rattle.nvm_top.proofs.Dumps.{configured-text, unread-text}
 use Rattle.nvm_top.proofs.dump.dump.Goals as goal
 
 pub returns-in-Ok-clause-by_input : goal.returns-in-Ok-clause-by_input
 returns-in-Ok-clause-by_input g c =
-    let flash = (g.F.Flash.told c.args.flash).bytes in
-    let text = subst (λ (shape : Geometry). Writes (DumpsFlash shape flash) (g.K.Sink.written c.args.output.now) (g.K.Sink.written c.dump_flash-status.new.output) c.dump_flash-status.result) c.geometry.ensures.value c.dump_flash-status.ensures.text in
-    configured-text (g.S.Source.left c.args.input.now) flash c.in-Ok.config _ _ _ c.in-Ok.ensures.ok text
+    let s = g.F.Flash.told c.args.flash in
+    let t = g.F.Flash.told c.dump_flash-status.new.flash in
+    let text = subst (λ (shape : Geometry). Writes (DumpsFlash shape s t) (g.K.Sink.written c.args.output.now) (g.K.Sink.written c.dump_flash-status.new.output) c.dump_flash-status.result) c.geometry.ensures.value c.dump_flash-status.ensures.text in
+    configured-text (g.S.Source.left c.args.input.now) _ _ s t c.in-Ok.config _ _ _ c.in-Ok.ensures.ok text
+
+pub returns-in-Err-clause-by_input : goal.returns-in-Err-clause-by_input
+returns-in-Err-clause-by_input g c = unread-text (g.S.Source.left c.args.input.now) _ _ (g.F.Flash.told c.args.flash) (g.F.Flash.told c.args.flash) c.in-Err.stop _ _ _ (λ is. c.in-Err.ensures.read_fault (ap Err is)) c.in-Err.ensures.err c.report.ensures.line

@@ -10,8 +10,9 @@ use Rattle.script_player.specs.PlainTold.{told_by}
 use Rattle.nvm_top.specs.Promised.{text_in}
 use Rattle.nvm_top.specs.Runs.{line_written}
 use Rattle.nvm_top.specs.Stack.{one_part}
-use Rattle.nvm_top.proofs.PlayLines.{attach-print, no-size, run-ends, steps-print}
-use Rattle.nvm_top.proofs.Promised.{early_in, ran_in, ran_to}
+use Rattle.nvm_top.proofs.PlayLines.{attach-print, run-ends, run-print}
+use Rattle.nvm_top.proofs.Promised.{early_in, ran_in, ran_to, run_end}
+use Rattle.nvm_top.proofs.Soaks.{left_sum, ran_sum}
 use Rattle.nvm_top.proofs.play.play_steps.Goals as goal
 
 pub make_steps-requires-clause-played : goal.make_steps-requires-clause-played
@@ -27,7 +28,11 @@ returns-in-Ok-clause-promise g c input =
     (c.history.ensures.entries ∙ ap (λ x. x.desk.entries) c.stack.ensures) c.write_text-status.ensures.text
 
 pub returns-in-Ok-clause-print : goal.returns-in-Ok-clause-print
-returns-in-Ok-clause-print g c is = steps-print _ _ _ _ c.make_steps.result c.stop_of-run.result c.write_text-status.result c.stop_of-run.ensures (c.write_text-status.ensures.print is)
+returns-in-Ok-clause-print g c is =
+    let s = c.make_steps.new.stack in
+    let v = c.end_driven.ensures c.args.playable.config (g.F.Flash.told c.args.flash) _ c.requires.origin (c.make_steps.ensures.configuration ∙ c.in-Ok.ensures.started.configuration) (c.make_steps.ensures.most ∙ c.in-Ok.ensures.started.most) in
+    run-print _ (g.F.Flash.told c.args.flash) (g.F.Flash.told c.end_driven.result) _ _ c.stop_of-run.result c.write_text-status.result
+    (run_end _ _ _ _ c.args.playable.config _ c.args.playable.steps (part_at g.O.Origin.entry) (told_by told_of c.in-Ok.driven) (told_by told_of s) (g.F.Flash.told c.args.flash) (g.F.Flash.told c.end_driven.result) c.make_steps.result c.stop_of-run.result c.in-Ok.ensures.started c.make_steps.ensures.some v c.stop_of-run.ensures) (c.write_text-status.ensures.print is)
 
 pub returns-in-Ok-clause-end : goal.returns-in-Ok-clause-end
 returns-in-Ok-clause-end g c =
@@ -37,16 +42,18 @@ returns-in-Ok-clause-end g c =
     (ran_to _ _ _ _ c.args.playable.config _ c.args.playable.steps (part_at g.O.Origin.entry) (told_by told_of c.in-Ok.driven) (told_by told_of s) (g.F.Flash.told c.args.flash) (g.F.Flash.told c.end_driven.result) c.write_text-status.result (g.K.Sink.written c.args.output.now) (g.K.Sink.written c.write_text-status.new.output) (text_in c.args.text c.history.result.now.entries) (line_written c.args.text c.stop_of-run.result c.history.result.now.entries) c.make_steps.result c.stop_of-run.result
     c.in-Ok.ensures.started c.make_steps.ensures.some v c.stop_of-run.ensures c.write_text-status.ensures.text)
 
-pub returns-in-Ok-clause-size : goal.returns-in-Ok-clause-size
-returns-in-Ok-clause-size g c = λ is.
+pub returns-in-Err-clause-print : goal.returns-in-Err-clause-print
+returns-in-Err-clause-print g c is = attach-print _ (g.F.Flash.told c.args.flash) (g.F.Flash.told c.in-Err.flash) _ _ c.in-Err.stop _ c.in-Err.ensures.stopped.why c.in-Err.ensures.stopped.end c.report.ensures.line
+
+pub returns-in-Ok-clause-sum : goal.returns-in-Ok-clause-sum
+returns-in-Ok-clause-sum g c is =
     let s = c.make_steps.new.stack in
     let v = c.end_driven.ensures c.args.playable.config (g.F.Flash.told c.args.flash) _ c.requires.origin (c.make_steps.ensures.configuration ∙ c.in-Ok.ensures.started.configuration) (c.make_steps.ensures.most ∙ c.in-Ok.ensures.started.most) in
-    absurd (no-size _ _ c.write_text-status.result
-    (ran_to _ _ _ _ c.args.playable.config _ c.args.playable.steps (part_at g.O.Origin.entry) (told_by told_of c.in-Ok.driven) (told_by told_of s) (g.F.Flash.told c.args.flash) (g.F.Flash.told c.end_driven.result) c.write_text-status.result (g.K.Sink.written c.args.output.now) (g.K.Sink.written c.write_text-status.new.output) (text_in c.args.text c.history.result.now.entries) (line_written c.args.text c.stop_of-run.result c.history.result.now.entries) c.make_steps.result c.stop_of-run.result
-    c.in-Ok.ensures.started c.make_steps.ensures.some v c.stop_of-run.ensures c.write_text-status.ensures.text) is)
+    ran_sum _ (g.F.Flash.told c.args.flash) (g.F.Flash.told c.end_driven.result) _ _ c.stop_of-run.result c.history.result.now.entries c.write_text-status.result
+    (run_end _ _ _ _ c.args.playable.config _ c.args.playable.steps (part_at g.O.Origin.entry) (told_by told_of c.in-Ok.driven) (told_by told_of s) (g.F.Flash.told c.args.flash) (g.F.Flash.told c.end_driven.result) c.make_steps.result c.stop_of-run.result c.in-Ok.ensures.started c.make_steps.ensures.some v c.stop_of-run.ensures) (c.write_text-status.ensures.sum is)
 
-pub returns-in-Err-clause-print : goal.returns-in-Err-clause-print
-returns-in-Err-clause-print g c is = attach-print _ _ _ _ c.in-Err.stop _ c.in-Err.ensures.stopped.why c.report.ensures.line
+pub returns-in-Err-clause-sum : goal.returns-in-Err-clause-sum
+returns-in-Err-clause-sum g c is = left_sum _ (g.F.Flash.told c.args.flash) (g.F.Flash.told c.in-Err.flash) _ _ c.in-Err.stop _ c.in-Err.ensures.stopped.why c.in-Err.ensures.stopped.end c.report.ensures.line
 
 pub returns-in-Err-clause-promise : goal.returns-in-Err-clause-promise
 returns-in-Err-clause-promise g c input =
