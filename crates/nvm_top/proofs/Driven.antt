@@ -61,7 +61,8 @@ use Rattle.nvm_flash.specs.promise_device.Bridge.{IsWornOut}
 use Rattle.nvm_flash.specs.nvm_core.Paying.{counted_of, TriesSince}
 use Rattle.script_player.specs.PlainPaying.{payer_by}
 use Rattle.nvm_top.specs.Stack.{IsKeptFrom, IsStarted, StartsWell, StopsAtStart, Vouches, run_of, one_part, stop_of_make}
-use Rattle.nvm_top.specs.Play.{IsWrongSize}
+use Rattle.nvm_flash.specs.fls_model.Attach.{IsFilled}
+use Rattle.nvm_top.specs.Play.{IsRightSize, IsWrongSize}
 use Rattle.nvm_top.specs.declared.stop.Stop.{Stop}
 
 -- WITHOUT A START-UP
@@ -144,6 +145,26 @@ tells_slots sounds c inner cuts making entry d origin made well =
     let told : tells d ≡ true = ap (λ o. is_told_sound (reading_of d.making) o) bytes ∙ ap (λ m. is_told_sound (reading_of m) (Some well.first)) made_for ∙ sound in
     let (last, out) = both_some d.entry.bytes d.flash.bytes _ well.first made.made.attaches.bytes bytes in
     some_slots d well.first last told out
+
+-- its flash has the configuration's size, or had no bytes
+filled_size : (g : Geometry) (x y : Option ToldBytes) → IfBothTold x y (IsFilled g) → IsRightSize (size_of g) x
+filled_size g None y is = tt
+filled_size g (Some a) None is = absurd is
+filled_size g (Some a) (Some b) is = is.size
+
+some_now : (x y : List ℕ) → Some x ≡ Some y → x ≡ y
+some_now x y is = cc
+
+size_now : (need : ℕ) (x y : Option ToldBytes) → option_map (λ (b : ToldBytes). b.now) x ≡ option_map (λ (b : ToldBytes). b.now) y → IsRightSize need x → IsRightSize need y
+size_now need x None same is = tt
+size_now need None (Some b) same is = cc same
+size_now need (Some a) (Some b) same is = subst (λ (l : List ℕ). (l ≡ []) ⊎ (length l ≡ need)) (some_now a.now b.now same) is
+
+pub right_size : (c : Configuration) (inner : Told) (cuts : ℕ) (making : Making) (entry : Told) (m : StackState Device (List PlainBlock)) → IsOrigin c inner cuts making entry → IsMadeStack c making entry m → IsRightSize (size_of c.geometry) inner.bytes
+right_size c inner cuts making entry m origin made =
+    let bytes : bytes_now m.device.entry ≡ bytes_now inner = ap bytes_now (made.device.told_entry ∙ origin.over) ∙ now_told inner.bytes _ in
+    let whole : IsRightSize (size_of m.device.making.geometry) m.device.entry.bytes = filled_size m.device.making.geometry m.device.entry.bytes m.device.flash.bytes made.device.made.attaches.bytes in
+    size_now (size_of c.geometry) m.device.entry.bytes inner.bytes bytes (subst (λ (x : Making). IsRightSize (size_of x.geometry) m.device.entry.bytes) (made.device.making ∙ origin.made_for) whole)
 
 -- WHAT IS TOLD BEHIND IT
 

@@ -14,24 +14,24 @@ use Rattle.nvm_top.specs.declared.stop.Stop.TheVariants.{BadConfig, BadScript, R
 use Rattle.nvm_top.specs.Stop.{status_of, line_of, IsStop}
 use Rattle.nvm_top.specs.Ends.{StopsBy, HasStepsOf, HasPlayable}
 use Rattle.nvm_top.specs.Reading.{IsPlayStop}
-use Rattle.nvm_top.specs.Play.{IsRunEnd, IsRunLine, IsAttachStop, IsStepsEnd, RunsBy, PrintsBy}
+use Rattle.nvm_top.specs.Play.{IsRunEnd, IsRunLine, IsRightSize, IsAttachStop, IsStepsEnd, RunsBy, PrintsBy}
 use Rattle.nvm_top.specs.Runs.{status_of_run}
 use Rattle.nvm_top.proofs.Printing.{Prints-alone, Prints-as}
 use Rattle.nvm_top.proofs.RunLines.{by_stop}
 
-run_stop : (need : ℕ) (s t : Told) (entries : List Entry) (stop : Stop) → IsRunEnd s.faults t.faults (status_of stop) → RunsBy need s t entries (status_of stop) (line_of stop)
-run_stop need s t entries FlashFault end = (end, refl)
-run_stop need s t entries HistoryFull end = refl
-run_stop need s t entries Memory end = refl
-run_stop need s t entries _ end = absurd end
+run_stop : (need : ℕ) (s t : Told) (entries : List Entry) (stop : Stop) → IsRightSize need s.bytes → IsRunEnd s.faults t.faults (status_of stop) → RunsBy need s t entries (status_of stop) (line_of stop)
+run_stop need s t entries FlashFault size end = (end, refl)
+run_stop need s t entries HistoryFull size end = (size, refl)
+run_stop need s t entries Memory size end = refl
+run_stop need s t entries _ size end = absurd end
 
-run_line : (need : ℕ) (s t : Told) (run : Result (Unit {0}) Stop) (entries : List Entry) (y : Status) (line : List ℕ) → IsRunEnd s.faults t.faults (status_of_run run) → IsRunLine run entries y line → RunsBy need s t entries y line
-run_line need s t (Ok _) entries y line end is = subst (λ (z : Status). RunsBy need s t entries z line) (sym is.0) is.1
-run_line need s t (Err stop) entries y line end is = by_stop (RunsBy need s t entries) stop y line (run_stop need s t entries stop end) is
+run_line : (need : ℕ) (s t : Told) (run : Result (Unit {0}) Stop) (entries : List Entry) (y : Status) (line : List ℕ) → IsRightSize need s.bytes → IsRunEnd s.faults t.faults (status_of_run run) → IsRunLine run entries y line → RunsBy need s t entries y line
+run_line need s t (Ok _) entries y line size end is = subst (λ (z : Status). RunsBy need s t entries z line) (sym is.0) (size, is.1)
+run_line need s t (Err stop) entries y line size end is = by_stop (RunsBy need s t entries) stop y line (run_stop need s t entries stop size end) is
 
-pub run-print : (need : ℕ) (s t : Told) (w w' : Option (List ℕ)) (run : Result (Unit {0}) Stop) (x : Status) → IsRunEnd s.faults t.faults (status_of_run run) → Prints (IsRunLine run) w w' x → Prints (RunsBy need s t) w w' x
-run-print need s t w w' run x end is =
-    Prints-as (IsRunLine run) (RunsBy need s t) w w' x (λ entries y line at. run_line need s t run entries y line end at) is
+pub run-print : (need : ℕ) (s t : Told) (w w' : Option (List ℕ)) (run : Result (Unit {0}) Stop) (x : Status) → IsRightSize need s.bytes → IsRunEnd s.faults t.faults (status_of_run run) → Prints (IsRunLine run) w w' x → Prints (RunsBy need s t) w w' x
+run-print need s t w w' run x size end is =
+    Prints-as (IsRunLine run) (RunsBy need s t) w w' x (λ entries y line at. run_line need s t run entries y line size end at) is
 
 attach_stop : (need : ℕ) (s t : Told) (stop : Stop) → IsAttachStop need s.bytes stop → IsStepsEnd need s t (status_of stop) → RunsBy need s t [] (status_of stop) (line_of stop)
 attach_stop need s t (WrongSize found needed) is end = (refl, end.0, (found, is.0, subst (λ (n : ℕ). line_of (WrongSize found needed) ≡ line_of (WrongSize found n)) is.1 refl))

@@ -20,7 +20,7 @@ use Rattle.nvm_top.specs.declared.stop.Stop.{Stop}
 use Rattle.nvm_top.specs.declared.stop.Stop.TheVariants as stop
 use Rattle.nvm_top.specs.Ends.{HasPlayable}
 use Rattle.nvm_top.specs.Output.{Writes, IsReport}
-use Rattle.nvm_top.specs.Play.{IsAttachStop, IsRunEnd, IsStepsEnd}
+use Rattle.nvm_top.specs.Play.{IsAttachStop, IsRightSize, IsRunEnd, IsStepsEnd}
 use Rattle.nvm_top.specs.Promised.{played_call, HasRun, RunsAs, SoakEnds, SoakKeepsPromise}
 use Rattle.nvm_top.specs.Reading.{IsEarly}
 use Rattle.nvm_top.specs.Soak.{HasStepAt, IsSoakStop, SoakPrintsBy, SoakStopsBy, SumsBy}
@@ -133,18 +133,18 @@ stopped_sum left reads reads' s t why w w' x fault stops is =
     Writes-as (IsStop why) (SoakPrintsBy left reads reads' s t) w w' x (λ y line at. inl (by_stop (SoakStopsBy left reads reads') why y line (soak_stop left reads reads' why fault stops) at)) is
 
 -- from it on
-sum_stop : (need : ℕ) (s t : Told) (why : Stop) → IsRunEnd s.faults t.faults (status_of why) → SumsBy need s t (status_of why) (line_of why)
-sum_stop need s t stop.FlashFault end = (end, refl)
-sum_stop need s t stop.HistoryFull end = refl
-sum_stop need s t stop.Memory end = refl
-sum_stop need s t _ end = absurd end
+sum_stop : (need : ℕ) (s t : Told) (why : Stop) → IsRightSize need s.bytes → IsRunEnd s.faults t.faults (status_of why) → SumsBy need s t (status_of why) (line_of why)
+sum_stop need s t stop.FlashFault size end = (end, refl)
+sum_stop need s t stop.HistoryFull size end = (size, refl)
+sum_stop need s t stop.Memory size end = refl
+sum_stop need s t _ size end = absurd end
 
-run_sum : (need : ℕ) (s t : Told) (run : Result (Unit {0}) Stop) (entries : List Entry) (y : Status) (line : List ℕ) → IsRunEnd s.faults t.faults (status_of_run run) → IsSummaryLine run entries y line → SumsBy need s t y line
-run_sum need s t (Ok _) entries y line end is = subst (λ (z : Status). SumsBy need s t z line) (sym is.0) (entries, is.1)
-run_sum need s t (Err why) entries y line end is = by_stop (SumsBy need s t) why y line (sum_stop need s t why end) is
+run_sum : (need : ℕ) (s t : Told) (run : Result (Unit {0}) Stop) (entries : List Entry) (y : Status) (line : List ℕ) → IsRightSize need s.bytes → IsRunEnd s.faults t.faults (status_of_run run) → IsSummaryLine run entries y line → SumsBy need s t y line
+run_sum need s t (Ok _) entries y line size end is = subst (λ (z : Status). SumsBy need s t z line) (sym is.0) (size, (entries, is.1))
+run_sum need s t (Err why) entries y line size end is = by_stop (SumsBy need s t) why y line (sum_stop need s t why size end) is
 
-pub ran_sum : (need : ℕ) (s t : Told) (w w' : Option (List ℕ)) (run : Result (Unit {0}) Stop) (entries : List Entry) (x : Status) → IsRunEnd s.faults t.faults (status_of_run run) → Writes (IsSummaryLine run entries) w w' x → Writes (SumsBy need s t) w w' x
-ran_sum need s t w w' run entries x end is = Writes-as (IsSummaryLine run entries) (SumsBy need s t) w w' x (λ y line at. run_sum need s t run entries y line end at) is
+pub ran_sum : (need : ℕ) (s t : Told) (w w' : Option (List ℕ)) (run : Result (Unit {0}) Stop) (entries : List Entry) (x : Status) → IsRightSize need s.bytes → IsRunEnd s.faults t.faults (status_of_run run) → Writes (IsSummaryLine run entries) w w' x → Writes (SumsBy need s t) w w' x
+ran_sum need s t w w' run entries x size end is = Writes-as (IsSummaryLine run entries) (SumsBy need s t) w w' x (λ y line at. run_sum need s t run entries y line size end at) is
 
 attach_sum : (need : ℕ) (s t : Told) (why : Stop) → IsAttachStop need s.bytes why → IsStepsEnd need s t (status_of why) → SumsBy need s t (status_of why) (line_of why)
 attach_sum need s t (stop.WrongSize found needed) is end = (refl, end.0, (found, is.0, ap (λ (n : ℕ). line_of (stop.WrongSize found n)) is.1))

@@ -19,6 +19,10 @@ use Rattle.nvm_top.specs.Output.{IsEndOf}
 abbrev pub IsWrongSize : ℕ → Option ToldBytes → Type 0
 IsWrongSize need bytes = IfSome bytes (λ b. (length b.now ≢ 0) × (length b.now ≢ need))
 
+-- where it tells them, it has none or so many
+abbrev pub IsRightSize : ℕ → Option ToldBytes → Type 0
+IsRightSize need bytes = IfSome bytes (λ b. (b.now ≡ []) ⊎ (length b.now ≡ need))
+
 -- why a flash isn't attached that is to have so many bytes, with its bytes, where they are told
 abbrev pub IsAttachStop : ℕ → Option ToldBytes → Stop → Type 0
 IsAttachStop need bytes (stop.WrongSize found needed) = IfSome bytes (λ b. length b.now ≡ found) × (needed ≡ need)
@@ -79,9 +83,9 @@ IsRunLine (Err stop) entries x line = IsStop stop x line
 
 -- from the attach of a flash on that is to have so many bytes, before it and behind it, with the entries and the last line
 abbrev pub RunsBy : ℕ → (s t : Told) → List Entry → Status → List ℕ → Type 0
-RunsBy need s t entries status.Ok line = line ≡ end_line (length entries)
+RunsBy need s t entries status.Ok line = IsRightSize need s.bytes × (line ≡ end_line (length entries))
 RunsBy need s t entries status.FlashFault line = Rose s.faults t.faults × (line ≡ line_of stop.FlashFault)
-RunsBy need s t entries status.HistoryFull line = line ≡ line_of stop.HistoryFull
+RunsBy need s t entries status.HistoryFull line = IsRightSize need s.bytes × (line ≡ line_of stop.HistoryFull)
 RunsBy need s t entries status.WrongSize line = (entries ≡ []) × IsWrongSize need s.bytes × TellsSize need s.bytes line
 RunsBy need s t entries status.Memory line = line ≡ line_of stop.Memory
 RunsBy need s t entries _ line = ⊥

@@ -10,7 +10,7 @@ use Rattle.nvm_words.specs.declared.words.CommandKind.TheVariants.{Soak}
 use Rattle.nvm_script.specs.declared.step.Step.{Step}
 use Rattle.nvm_top.specs.Ends.{HasPlayable, HasWrongLine, NamesRule, TellsReadFault}
 use Rattle.nvm_top.specs.Input.{IsLonger, input_limit}
-use Rattle.nvm_top.specs.Play.{RunsBy}
+use Rattle.nvm_top.specs.Play.{IsRightSize, RunsBy}
 use Rattle.nvm_top.specs.Reading.{IsPlayStop}
 use Rattle.nvm_top.specs.declared.status.Status.{Status}
 use Rattle.nvm_top.specs.declared.status.Status.TheVariants as status
@@ -48,7 +48,7 @@ SoakStopsBy left reads reads' _ line = ⊥
 
 -- from the attach of a flash on that is to have so many bytes, before it and behind it: the summary of a history, or the line of a stop
 abbrev pub SumsBy : ℕ → (s t : Told) → Status → List ℕ → Type 0
-SumsBy need s t status.Ok text = (entries : List Entry) × (text ≡ summary entries)
+SumsBy need s t status.Ok text = IsRightSize need s.bytes × ((entries : List Entry) × (text ≡ summary entries))
 SumsBy need s t x line = RunsBy need s t [] x line
 
 -- as a whole

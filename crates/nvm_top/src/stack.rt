@@ -14,6 +14,7 @@ ghost use Rattle.script_player.specs.PlainKept.{IsKept};
 ghost use Rattle.script_player.specs.PlainTold.{told_by};
 ghost use Rattle.script_player.specs.PlainPaying.{payer_by};
 ghost use Rattle.nvm_flash.specs.promise_run.Run.{cap};
+ghost use Rattle.nvm_top.specs.Play.{IsRightSize};
 ghost use Rattle.nvm_top.specs.Stack.{IsKeptFrom, IsStarted, StartsWell, StopsAtStart, Vouches, one_part, stop_of_make};
 
 use crate::stop::Stop;
@@ -40,6 +41,7 @@ pub fn start_driven<F: Flash, O: Origin>(
     requires { IsOrigin config (F.told flash) cuts O.making O.entry }
     ensures started { IfOk result (λ m. IsStarted config cuts (part_at O.entry) (told_by told_of m)) }
     ensures kept { IfOk result (λ m. StartsWell config (F.told flash) → IsKeptFrom (IsKept m.ready (one_part (part_at O.entry)) m.desk m.hand (told_of m.device) (told_clock m.device)) (payer_by told_of told_clock m) (told_by told_of m)) }
+    ensures size { IfOk result (λ _. IsRightSize (size_of config.geometry) (F.told flash).bytes) }
     ensures stopped { IfErr result (λ e. StopsAtStart config (F.told flash) (F.told e.1) e.0) }
 {
     let geometry = config.geometry();

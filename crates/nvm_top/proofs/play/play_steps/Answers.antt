@@ -31,7 +31,7 @@ pub returns-in-Ok-clause-print : goal.returns-in-Ok-clause-print
 returns-in-Ok-clause-print g c is =
     let s = c.make_steps.new.stack in
     let v = c.end_driven.ensures c.args.playable.config (g.F.Flash.told c.args.flash) _ c.requires.origin (c.make_steps.ensures.configuration ∙ c.in-Ok.ensures.started.configuration) (c.make_steps.ensures.most ∙ c.in-Ok.ensures.started.most) in
-    run-print _ (g.F.Flash.told c.args.flash) (g.F.Flash.told c.end_driven.result) _ _ c.stop_of-run.result c.write_text-status.result
+    run-print _ (g.F.Flash.told c.args.flash) (g.F.Flash.told c.end_driven.result) _ _ c.stop_of-run.result c.write_text-status.result c.in-Ok.ensures.size
     (run_end _ _ _ _ c.args.playable.config _ c.args.playable.steps (part_at g.O.Origin.entry) (told_by told_of c.in-Ok.driven) (told_by told_of s) (g.F.Flash.told c.args.flash) (g.F.Flash.told c.end_driven.result) c.make_steps.result c.stop_of-run.result c.in-Ok.ensures.started c.make_steps.ensures.some v c.stop_of-run.ensures) (c.write_text-status.ensures.print is)
 
 pub returns-in-Ok-clause-end : goal.returns-in-Ok-clause-end
@@ -49,7 +49,7 @@ pub returns-in-Ok-clause-sum : goal.returns-in-Ok-clause-sum
 returns-in-Ok-clause-sum g c is =
     let s = c.make_steps.new.stack in
     let v = c.end_driven.ensures c.args.playable.config (g.F.Flash.told c.args.flash) _ c.requires.origin (c.make_steps.ensures.configuration ∙ c.in-Ok.ensures.started.configuration) (c.make_steps.ensures.most ∙ c.in-Ok.ensures.started.most) in
-    ran_sum _ (g.F.Flash.told c.args.flash) (g.F.Flash.told c.end_driven.result) _ _ c.stop_of-run.result c.history.result.now.entries c.write_text-status.result
+    ran_sum _ (g.F.Flash.told c.args.flash) (g.F.Flash.told c.end_driven.result) _ _ c.stop_of-run.result c.history.result.now.entries c.write_text-status.result c.in-Ok.ensures.size
     (run_end _ _ _ _ c.args.playable.config _ c.args.playable.steps (part_at g.O.Origin.entry) (told_by told_of c.in-Ok.driven) (told_by told_of s) (g.F.Flash.told c.args.flash) (g.F.Flash.told c.end_driven.result) c.make_steps.result c.stop_of-run.result c.in-Ok.ensures.started c.make_steps.ensures.some v c.stop_of-run.ensures) (c.write_text-status.ensures.sum is)
 
 pub returns-in-Err-clause-sum : goal.returns-in-Err-clause-sum

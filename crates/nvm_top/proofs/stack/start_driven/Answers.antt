@@ -8,13 +8,16 @@ use Rattle.nvm_flash.specs.ram_blocks.declared.plain_block.PlainBlock.{PlainBloc
 use Rattle.nvm_flash.specs.nvm_core.Stack.{StackState}
 use Rattle.nvm_flash.proofs.fee_image.Soundness.{sound_images_compute}
 use Rattle.nvm_top.specs.Stack.{IsStarted, one_part}
-use Rattle.nvm_top.proofs.Driven.{started, kept_up, tells_slots, stops_by}
+use Rattle.nvm_top.proofs.Driven.{right_size, started, kept_up, tells_slots, stops_by}
 use Rattle.nvm_top.proofs.stack.start_driven.Goals as goal
 
 pub returns-in-Ok-begin-clause-started : goal.returns-in-Ok-begin-clause-started
 returns-in-Ok-begin-clause-started g c =
     subst (λ (m : StackState Device (List PlainBlock)). IsStarted c.args.config c.args.cuts (part_at g.O.Origin.entry) (told_by told_of m)) (sym c.over.ensures)
     (started c.args.config (g.F.Flash.told c.args.flash) c.args.cuts g.O.Origin.making g.O.Origin.entry c.in-Ok.stack c.in-Ok-begin.stack c.geometry-geometry.ensures.legal c.requires c.in-Ok.ensures.made c.in-Ok-begin.ensures.started)
+
+pub returns-in-Ok-begin-clause-size : goal.returns-in-Ok-begin-clause-size
+returns-in-Ok-begin-clause-size g c = right_size c.args.config (g.F.Flash.told c.args.flash) c.args.cuts g.O.Origin.making g.O.Origin.entry c.in-Ok.stack c.requires c.in-Ok.ensures.made
 
 pub returns-in-Ok-begin-clause-kept : goal.returns-in-Ok-begin-clause-kept
 returns-in-Ok-begin-clause-kept g c = λ well.
