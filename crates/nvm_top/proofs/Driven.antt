@@ -1,7 +1,6 @@
 -- The stack over a flash: what it is behind its first start-up, and what its flash comes back with.
-use Rattle.std.specs.Prelude.{IfSome, IfOk, IsSome, slice_get, option_map, min, ◌-◌}
-use Rattle.std.proofs.Common.{◌≡◌, ◌≢◌, ◌<◌, ◌≤◌, ◌+◌, ◌*◌, ◌⊎◌, ℕ, Bool, true, false, IsTrue, List, [], ◌∷◌, ◌++◌, Option, Some, None, Result, Ok, Err, length, map, refl, sym, ap, ◌∙◌, subst, inl, inr, arith}
-use Rattle.std.proofs.lemmas.Bool.{cases_Bool}
+use Rattle.std.specs.Prelude.{IfSome, IfOk, IsSome, slice_get, option_map, min}
+use Rattle.std.proofs.Common.{◌≡◌, ◌≢◌, ◌<◌, ◌≤◌, ◌+◌, ◌*◌, ◌⊎◌, ℕ, Bool, true, false, IsTrue, List, [], ◌∷◌, Option, Some, None, Result, Ok, Err, length, refl, sym, ap, ◌∙◌, subst, inl, inr, arith}
 use Rattle.std.proofs.lemmas.Bool.Decides.{leb_tells}
 use Rattle.std.proofs.Math.Nat.{eq-or-lt_of_le}
 use Rattle.nvm_flash.specs.nv_base.Count.{last_count, Rose, WereCounted}
@@ -10,10 +9,9 @@ use Rattle.nvm_flash.specs.nv_base.Marks.{instance_of}
 use Rattle.nvm_flash.specs.nv_base.declared.geometry.Geometry.{Geometry}
 use Rattle.nvm_flash.specs.block_config.Config.{Configuration}
 use Rattle.nvm_flash.specs.block_config.Rules.{IsLegalConfig}
-use Rattle.nvm_flash.specs.block_machine.Words.{Entry, Found}
+use Rattle.nvm_flash.specs.block_machine.Words.{Entry}
 use Rattle.nvm_flash.specs.block_machine.State.{State, Job}
-use Rattle.nvm_flash.specs.block_machine.Steps.{after}
-use Rattle.nvm_flash.specs.memif.Told.{Part, PartTold, DeviceTold, Fixed, First, Second, ops_of, faults_of, figures_at, part_at as at_part}
+use Rattle.nvm_flash.specs.memif.Told.{Part, PartTold, DeviceTold, Fixed, First, Second, faults_of, figures_at, part_at as at_part}
 use Rattle.nvm_flash.specs.memif.Calls.{InOrder}
 use Rattle.nvm_flash.specs.fls_model.Told.{Told, ToldBytes, Change, IfBothTold, bytes_now}
 use Rattle.nvm_flash.specs.fls_devices.Cutter.{cutting, told_cutting}
@@ -29,9 +27,8 @@ use Rattle.nvm_flash.specs.fee_told.Device.{Device, flash_device, told_of, clock
 use Rattle.nvm_flash.specs.fee_core.Tells.{told_clock}
 use Rattle.nvm_flash.specs.fee_laws.Made.{IsMadeOf, part_at}
 use Rattle.nvm_flash.specs.ram_blocks.declared.plain_block.PlainBlock.{PlainBlock}
-use Rattle.nvm_flash.specs.ram_blocks.Told.{most_of, refusals_of}
-use Rattle.nvm_flash.specs.ram_blocks.Plain.{told_of as sync_told, store_of, plain_blocks_of}
-use Rattle.nvm_flash.specs.nv_desk.Desk.{DeskState, state_of}
+use Rattle.nvm_flash.specs.ram_blocks.Plain.{plain_blocks_of}
+use Rattle.nvm_flash.specs.nv_desk.Desk.{DeskState}
 use Rattle.nvm_flash.specs.job_progress.Hand.{HandState}
 use Rattle.nvm_flash.specs.promise_blocks.OverDevice.{KeepsOver}
 use Rattle.nvm_flash.specs.nvm_device_laws.Turn.{Keeps, BeginsKept, down}

@@ -1,5 +1,5 @@
 -- How a call ends, from how its parts end.
-use Rattle.std.proofs.Common.{◌≡◌, ◌≤◌, inl, inr, ℕ, sym, subst, arith}
+use Rattle.std.proofs.Common.{◌≤◌, inl, inr, ℕ, sym, subst, arith}
 use Rattle.nvm_flash.specs.nv_base.Count.{Rose}
 use Rattle.nvm_top.specs.declared.status.Status.{Status}
 use Rattle.nvm_top.specs.declared.status.Status.TheVariants as status

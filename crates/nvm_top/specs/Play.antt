@@ -12,7 +12,7 @@ use Rattle.nvm_top.specs.declared.stop.Stop.TheVariants as stop
 use Rattle.nvm_flash.specs.block_config.Config.{Configuration}
 use Rattle.nvm_flash.specs.nv_base.Geometry.{size_of}
 use Rattle.nvm_top.specs.Ends.{TellsSize, StopsBy, HasStepsOf}
-use Rattle.nvm_top.specs.Stop.{status_of, line_of, IsStop}
+use Rattle.nvm_top.specs.Stop.{line_of, IsStop}
 use Rattle.nvm_top.specs.Output.{IsEndOf}
 
 -- a flash, where it tells its bytes, has neither none nor so many
