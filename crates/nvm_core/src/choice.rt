@@ -26,7 +26,8 @@ pub(crate) enum Case {
     Rest,
 }
 
-/// The first that holds.
+/// The first that holds. Each turn asks for it once, and an idle one for little else: it is a part of its caller.
+#[inline(always)]
 pub(crate) fn case_of(desk: &Desk, hand: &Option<Hand>) -> Case
     ensures { IsCase result desk.now hand.now }
 {
@@ -46,6 +47,7 @@ pub(crate) fn case_of(desk: &Desk, hand: &Option<Hand>) -> Case
 }
 
 // The case where no job is in hand.
+#[inline(always)]
 fn next_case(desk: &Desk) -> Case
     ensures { IsNextCase result (next_of desk.now.config (state_of desk.now)) }
 {
