@@ -94,6 +94,7 @@ told_step g op torn ok call before answer asked asked' faults faults' (Some f) (
   bytes = leaves op ok f f' faults faults' answer holds.operates answers;
   within = holds.operates.within;
   changes = subst (λ (b : List ℕ). changes_of g asked' ≡ changes_of g asked ++ record { op = op; before = b; answer = answer } ∷ []) same (notes g op call before answer asked asked' is of);
+  room = λ n tells. (refl, omega (arith, tells.1));
 })
 
 goes : (ok : Bool) (faults faults' : ℕ) (answer : FlashAnswer) → Answers ok faults faults' answer → PlanGoes answer no_planning no_planning

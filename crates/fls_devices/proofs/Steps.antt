@@ -1,13 +1,13 @@
 -- steps of a flash over another one
 use Rattle.std.proofs.Common.{◌≡◌, ◌≤◌, ℕ, zero, suc, ◌+◌, Bool, true, false, List, [], ◌∷◌, ◌++◌, length, Some, None, inl, inr, refl, ap, ◌∙◌, subst, arith}
-use Rattle.std.specs.Prelude.{Option, IfSome, option_map}
+use Rattle.std.specs.Prelude.{Option, IfSome, IsSome, option_map}
 use Rattle.std.proofs.lemmas.Bool.{cases_lt}
 use Rattle.std.proofs.lemmas.List.{length_push}
 use Rattle.nv_base.specs.Count.{Rose, last_count, next_count}
 use Rattle.fls_model.specs.declared.flash.FlashAnswer.{FlashAnswer}
 use Rattle.fls_model.specs.declared.flash.FlashAnswer.TheVariants.{Done, Failed, Off}
 use Rattle.nv_base.specs.Plan.{Planning}
-use Rattle.fls_model.specs.Told.{Told, ToldBytes, Change, IfBothTold, changes_in}
+use Rattle.fls_model.specs.Told.{Told, ToldBytes, Change, TellsFor, IfBothTold, changes_in}
 use Rattle.fls_model.specs.Op.{Op, MayLeave}
 use Rattle.nv_base.specs.declared.geometry.Geometry.{Geometry}
 use Rattle.fls_model.specs.Call.{op_of}
@@ -54,6 +54,22 @@ leaves_harmed Fault Done op old new may = may
 leaves_harmed Fault Failed op old new may = may
 leaves_harmed Fault Off op old new may = may
 
+-- it is told where the inner flash's list is
+some_over : (f : List Change → List Change) (c : Option (List Change)) → IsSome c → IsSome (option_map f c)
+some_over f (Some c) is = refl
+some_over f None is = is
+
+some_within : (f : List Change → List Change) (c : Option (List Change)) → IsSome (option_map f c) → IsSome c
+some_within f (Some c) is = refl
+some_within f None is = is
+
+-- with the same room
+tells_over : (g : Geometry) (es es' : List Harmed) (x y : ToldBytes) (n : ℕ) → ((k : ℕ) → TellsFor (k + 1) x → TellsFor k y)
+    → TellsFor (n + 1) (record { now = x.now; changes = all_changes g es x; room = x.room }) → TellsFor n (record { now = y.now; changes = all_changes g es' y; room = y.room })
+tells_over g es es' x y n more tells =
+    let inner = more n (some_within (λ cs. merged g es cs x.now) x.changes tells.0, tells.1) in
+    (some_over (λ cs. merged g es' cs y.now) y.changes inner.0, inner.1)
+
 over_pass : (g : Geometry) (op : Op) (a : FlashAnswer) (j j' : Journaled) (b b' : Option ToldBytes) → Passes j j' → IfBothTold b b' (IsChanged op a) → FitsChanges j (changes_in b) → IfBothTold (bytes_over j g b) (bytes_over j' g b') (IsChanged op a)
 over_pass g op a j j' None None passes changed fits = tt
 over_pass g op a j j' None (Some y) passes changed fits = absurd changed
@@ -62,7 +78,7 @@ over_pass g op a j j' (Some x) (Some y) passes changed fits =
     let change : Change = record { op = op; before = x.now; answer = a } in
     let notes : Notes change (all_changes g j.events x) (all_changes g j'.events y) =
     rw passes.events (told_pass g change j.events j.since x.now y.now x.changes y.changes refl changed.changes fits) in
-    record { bytes = changed.bytes; within = changed.within; changes = notes }
+    record { bytes = changed.bytes; within = changed.within; changes = notes; room = λ n. tells_over g j.events j'.events x y n changed.room }
 
 over_withheld : (g : Geometry) (op : Op) (h : Harm) (j j' : Journaled) (e : Harmed) (b : Option ToldBytes) → Adds e j j' → op_of g e.call ≡ op → e.answer ≡ harmed h Done → e.since ≡ j.since → e.reached ≡ false → FitsChanges j (changes_in b)
     → IfBothTold (bytes_over j g b) (bytes_over j' g b) (IsChanged op (harmed h Done))
@@ -71,7 +87,7 @@ over_withheld g op h j j' e (Some x) adds is answered since not fits =
     let change : Change = record { op = op; before = x.now; answer = harmed h Done } in
     let notes : Notes change (all_changes g j.events x) (all_changes g j'.events x) =
     rw adds.events (rw (← told_as g op (harmed h Done) e x.now is answered) (told_withheld g j.events e x.now x.changes not (rw since fits))) in
-    record { bytes = leaves_harmed h Done op x.now x.now (may_stay op x.now); within = may_stay op x.now; changes = notes }
+    record { bytes = leaves_harmed h Done op x.now x.now (may_stay op x.now); within = may_stay op x.now; changes = notes; room = λ n. tells_over g j.events j'.events x x n (λ k tells. (tells.0, omega (arith, tells.1))) }
 
 over_reached : (g : Geometry) (op : Op) (h : Harm) (keep : ℕ) (a : FlashAnswer) (j j' : Journaled) (e : Harmed) (b b' : Option ToldBytes) → Adds e j j' → op_of g e.call ≡ op → e.answer ≡ harmed h a → e.since ≡ j.since → e.reached ≡ true
     → IfBothTold b b' (IsChanged (part_of keep op) a) → FitsChanges j (changes_in b) → IfBothTold (bytes_over j g b) (bytes_over j' g b') (IsChanged op (harmed h a))
@@ -84,7 +100,7 @@ over_reached g op h keep a j j' e (Some x) (Some y) adds is answered since true_
     let within = part_within keep op x.now y.now changed.within in
     let notes : Notes change (all_changes g j.events x) (all_changes g j'.events y) =
     rw adds.events (rw (← told_as g op (harmed h a) e x.now is answered) (told_reached g part j.events e x.now y.now x.changes y.changes true_is refl changed.changes (rw since fits))) in
-    record { bytes = leaves_harmed h a op x.now y.now within; within = within; changes = notes }
+    record { bytes = leaves_harmed h a op x.now y.now within; within = within; changes = notes; room = λ n. tells_over g j.events j'.events x y n changed.room }
 
 -- THE COUNTS
 pub record HasCounts (o : Overlaid) : Type 0 where

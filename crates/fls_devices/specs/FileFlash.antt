@@ -1,5 +1,6 @@
 -- A flash in a file of bytes.
 use Rattle.std.specs.Prelude.{◌≡◌, ℕ, Bool, false, if◌then◌else◌, List, [], Option, Some, option_map}
+use Rattle.nv_base.specs.Count.{last_count}
 use Rattle.nv_base.specs.declared.geometry.Geometry.{Geometry}
 use Rattle.nv_base.specs.Plan.{no_planning}
 use Rattle.fls_model.specs.Op.{Op, MayLeave}
@@ -19,7 +20,7 @@ abbrev pub bytes_of : Bool → FileBytes → List ℕ
 bytes_of torn f = if torn then [] else f.now
 
 abbrev pub told_bytes : Bool → List Change → Option FileBytes → Option ToldBytes
-told_bytes torn changes held = option_map (λ f. record { now = bytes_of torn f; changes = Some changes }) held
+told_bytes torn changes held = option_map (λ f. record { now = bytes_of torn f; changes = Some changes; room = last_count }) held
 
 -- no cut ever stands, and no plan is taken
 abbrev pub told_in_file : Geometry → ℕ → ℕ → Option ToldBytes → Told

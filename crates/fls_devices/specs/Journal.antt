@@ -102,4 +102,4 @@ HaveParts g (e ∷ es) changes = HasPart e.reached (op_of g e.call) (drop e.sinc
 
 -- the inner flash's bytes with the list of all changes, where it tells its bytes
 abbrev pub bytes_over : Journaled → Geometry → Option ToldBytes → Option ToldBytes
-bytes_over j g bytes = option_map (λ b. record { now = b.now; changes = all_changes g j.events b }) bytes
+bytes_over j g bytes = option_map (λ b. record { now = b.now; changes = all_changes g j.events b; room = b.room }) bytes

@@ -1,6 +1,6 @@
 -- a change of a flash in memory
-use Rattle.std.specs.Prelude.{nat_le, true, false}
-use Rattle.std.proofs.Common.{inl, inr, ◌≡◌, ◌<◌, ◌≤◌, ℕ, ◌+◌, List, [], ◌∷◌, ◌++◌, length, take, set, refl, ap, sym, ◌∙◌, arith, ◌^◌}
+use Rattle.std.specs.Prelude.{nat_le, true, false, IsSome}
+use Rattle.std.proofs.Common.{inl, inr, ◌≡◌, ◌<◌, ◌≤◌, ℕ, ◌+◌, ◌-◌, List, [], ◌∷◌, ◌++◌, length, take, set, refl, ap, sym, ◌∙◌, arith, ◌^◌}
 use Rattle.std.proofs.lemmas.List.{length-set, take_more_set}
 use Rattle.std.proofs.lemmas.Bool.{cases_lt, cases_Bool, le-leb, lt-leb}
 use Rattle.nv_base.specs.Count.{next_count}
@@ -68,11 +68,17 @@ notes_more m n call kept changes =
           elim (cases_Bool (nat_le m.asked m.room)) [ inl e ↦ rw (e, after) tt | inr e ↦ rw (e, after) tt ]
     ]
 
+-- its list has a place less
+room_more : (m n : Inside) (call : Call) → Changes m n call → (k : ℕ) → k + 1 ≤ m.room - m.asked → IsSome (changes_in (in_memory_of n).told.bytes) × (k ≤ n.room - n.asked)
+room_more m n call changes k le =
+    let is : nat_le n.asked n.room ≡ true = le-leb _ _ (omega (arith, changes.asked, changes.room)) in
+    (rw is refl, omega (arith, changes.asked, changes.room))
+
 pub asked_more : (m n : Inside) (call : Call) → IsKept m → Changes m n call → IsAsked (op_of m.geometry call) (in_memory_of m).told Done (in_memory_of n).told
 asked_more m n call kept changes = record {
   geometry = changes.geometry;
   ops = changes.ops;
-  bytes = record { bytes = changes.bytes; within = changes.within; changes = notes_more m n call kept changes };
+  bytes = record { bytes = changes.bytes; within = changes.within; changes = notes_more m n call kept changes; room = λ k tells. room_more m n call changes k tells.1 };
   cause = (refl, refl, refl);
   planning = record { early = λ due. due; planning = refl };
   counted = inl (omega arith);

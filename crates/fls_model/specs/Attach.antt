@@ -5,7 +5,7 @@ use Rattle.nv_base.specs.Geometry.{size_of}
 use Rattle.nv_base.specs.declared.geometry.Geometry.{Geometry}
 use Rattle.fls_model.specs.declared.flash.AttachFault.{AttachFault}
 use Rattle.fls_model.specs.declared.flash.AttachFault.TheVariants.{Failed, WrongSize, Memory}
-use Rattle.fls_model.specs.Told.{Told, ToldBytes, IfBothTold}
+use Rattle.fls_model.specs.Told.{Told, ToldBytes, TellsFor, IfBothTold}
 use Rattle.fls_model.specs.Bytes.{AreBytes}
 
 -- a flash of no bytes is blank
@@ -22,12 +22,14 @@ pub record AreBytesOf (g : Geometry) (image : List ℕ) : Type 0 where
   pub size : length image ≡ size_of g
   pub bytes : AreBytes image
 
--- what is told of the bytes at an attach: they have the geometry's size from here on, and the list of changes begins
+-- what is told of the bytes at an attach: they have the geometry's size from here on, and the list of changes
+-- begins, for at least as many as before
 pub record IsFilled (g : Geometry) (old new : ToldBytes) : Type 0 where
   pub size : HasSize g old.now
   pub bytes : new.now ≡ enlarged (size_of g) old.now
   pub are_bytes : AreBytesOf g new.now
   pub changes : IfSome new.changes (λ changes. changes ≡ [])
+  pub room : (n : ℕ) → TellsFor n old → TellsFor n new
 
 pub record IsAttached (g : Geometry) (s t : Told) : Type 0 where
   pub geometry : t.geometry ≡ g

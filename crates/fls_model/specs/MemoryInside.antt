@@ -1,5 +1,5 @@
 -- The fields of a flash in memory.
-use Rattle.std.specs.Prelude.{◌≡◌, ◌≤◌, ◌<◌, ℕ, false, if◌then◌else◌, nat_le, List, [], ◌∷◌, take, length, Some, None}
+use Rattle.std.specs.Prelude.{◌≡◌, ◌≤◌, ◌<◌, ◌-◌, ℕ, false, if◌then◌else◌, nat_le, List, [], ◌∷◌, take, length, Some, None}
 use Rattle.nv_base.specs.Geometry.{size_of}
 use Rattle.nv_base.specs.declared.geometry.Geometry.{Geometry}
 use Rattle.fls_model.specs.declared.flash.FlashAnswer.TheVariants.{Done}
@@ -25,7 +25,7 @@ abbrev pub in_memory_of : Inside → InMemory
 in_memory_of m = record {
   told = record {
     geometry = m.geometry;
-    bytes = Some (record { now = m.bytes.items; changes = if nat_le m.asked m.room then Some (replay m.geometry m.first.items (take m.asked m.calls.items)) else None });
+    bytes = Some (record { now = m.bytes.items; changes = if nat_le m.asked m.room then Some (replay m.geometry m.first.items (take m.asked m.calls.items)) else None; room = m.room - m.asked });
     ops = m.ops;
     faults = 0;
     cuts = 0;

@@ -6,7 +6,7 @@ use Rattle.fls_model.specs.declared.flash.FlashAnswer.{FlashAnswer}
 use Rattle.fls_model.specs.declared.flash.FlashAnswer.TheVariants.{Done, Failed, Off}
 use Rattle.fls_model.specs.Op.{Op, Program, Erase, after_op, MayLeave}
 use Rattle.fls_model.specs.Plan.{PlanGoes}
-use Rattle.fls_model.specs.Told.{Told, ToldBytes, Change, IfBothTold}
+use Rattle.fls_model.specs.Told.{Told, ToldBytes, Change, TellsFor, IfBothTold}
 
 abbrev pub programs : ℕ → List ℕ → Op
 programs = Program
@@ -32,6 +32,8 @@ pub record IsChanged (op : Op) (answer : FlashAnswer) (old new : ToldBytes) : Ty
   -- whatever the answer, the bytes are some that a cut may leave, all else is as it was
   pub within : MayLeave op old.now new.now
   pub changes : Notes (record { op = op; before = old.now; answer = answer }) old.changes new.changes
+  -- it takes one place at most of those that the list surely has
+  pub room : (n : ℕ) → TellsFor (n + 1) old → TellsFor n new
 
 -- a fault and a cut have their counts, and a cut stands from its operation on; a cut may hide a fault
 abbrev pub HasCause : FlashAnswer → Told → Told → Type 0

@@ -1,5 +1,5 @@
 -- What is told of a flash.
-use Rattle.std.specs.Prelude.{◌≡◌, ◌<◌, ◌≤◌, ◌+◌, ◌%◌, ℕ, Bool, false, List, Option, Some, None, option_map}
+use Rattle.std.specs.Prelude.{◌≡◌, ◌<◌, ◌≤◌, ◌+◌, ◌%◌, ℕ, Bool, false, List, Option, Some, None, IsSome, option_map}
 use Rattle.nv_base.specs.declared.geometry.Geometry.{Geometry}
 use Rattle.nv_base.specs.Geometry.{size_of}
 use Rattle.fls_model.specs.declared.flash.FlashAnswer.{FlashAnswer}
@@ -12,10 +12,16 @@ pub record Change : Type 0 where
   pub before : List ℕ
   pub answer : FlashAnswer
 
--- what is told of the bytes: the bytes now, and each changing operation since the attach, where these are told too
+-- what is told of the bytes: the bytes now, and each changing operation since the attach, where these are told too, with how
+-- many more are surely told from here on
 pub record ToldBytes : Type 0 where
   pub now : List ℕ
   pub changes : Option (List Change)
+  pub room : ℕ
+
+-- the changes are told, and so many more will be
+abbrev pub TellsFor : ℕ → ToldBytes → Type 0
+TellsFor n b = IsSome b.changes × (n ≤ b.room)
 
 pub record Told : Type 0 where
   -- all zeros until it is attached

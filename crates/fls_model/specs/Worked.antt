@@ -1,7 +1,18 @@
 -- What the worked cases take.
-use Rattle.std.specs.Prelude.{ℕ, Some}
+use Rattle.std.specs.Prelude.{ℕ, List, [], ◌∷◌, Option, Some}
 use Rattle.nv_base.specs.Plan.{Planning}
+use Rattle.fls_model.specs.declared.flash.FlashAnswer.TheVariants.{Done}
+use Rattle.fls_model.specs.Op.{Program}
+use Rattle.fls_model.specs.Told.{ToldBytes, Change}
 
 -- a plan of a cut at the nth operation from now, with 7 bytes of it done
 abbrev pub planned_at : ℕ → Planning
 planned_at nth = record { plan = Some (record { left = nth; keep = 7 }); takes = 0; unplanned = 0 }
+
+-- a flash of no bytes that has this list, with room for so many more
+abbrev pub listing : Option (List Change) → ℕ → ToldBytes
+listing changes room = record { now = []; changes = changes; room = room }
+
+-- a program of no bytes
+abbrev pub one_change : List Change
+one_change = record { op = Program 0 []; before = []; answer = Done } ∷ []

@@ -1,9 +1,10 @@
 // Worked cases of the definitions.
-ghost use Rattle.std.specs.Prelude.{◌≡◌, [], ◌∷◌, None};
+ghost use Rattle.std.specs.Prelude.{◌≡◌, [], ◌∷◌, Some, None};
 ghost use Rattle.fls_model.specs.Op.{after_op, MayLeave, Program, Erase};
 ghost use Rattle.nv_base.specs.Plan.{Planning, planned, no_planning};
 ghost use Rattle.fls_model.specs.Plan.{PlanGoes};
-ghost use Rattle.fls_model.specs.Worked.{planned_at};
+ghost use Rattle.fls_model.specs.Step.{IsChanged};
+ghost use Rattle.fls_model.specs.Worked.{planned_at, listing, one_change};
 ghost use Rattle.fls_model.specs.declared.flash.FlashAnswer.TheVariants.{Done, Off};
 
 /// Worked cases of what operations do, and of what a cut may and may not leave.
@@ -28,4 +29,12 @@ pub fn planned_cases()
     ensures not_later { (after : Planning) → ¬ PlanGoes Done (planned_at 1) after }
     ensures not_earlier { ¬ PlanGoes Off (planned_at 2) no_planning }
     ensures not_by_itself { ¬ PlanGoes Off no_planning no_planning }
+{}
+
+/// Worked cases of the list of changes: an operation takes one place of its room at most, and while there is room it is told.
+pub fn room_cases()
+    ensures told { IsChanged (Program 0 []) Done (listing (Some []) 1) (listing (Some one_change) 0) }
+    ensures full { IsChanged (Program 0 []) Done (listing (Some []) 0) (listing None 0) }
+    ensures not_told { ¬ IsChanged (Program 0 []) Done (listing (Some []) 1) (listing None 0) }
+    ensures two_places { ¬ IsChanged (Program 0 []) Done (listing (Some []) 2) (listing (Some one_change) 0) }
 {}

@@ -122,7 +122,7 @@ begins_up c making entry m s made begins order starts keeps inner cuts same lega
 
 -- WHERE THE FLASH TELLS ITS BYTES
 
-now_told : (o : Option ToldBytes) (f : ToldBytes → Option (List Change)) → option_map (λ (b : ToldBytes). b.now) (option_map {T = ToldBytes} {U = ToldBytes} (λ b. record { now = b.now; changes = f b }) o) ≡ option_map (λ (b : ToldBytes). b.now) o
+now_told : (o : Option ToldBytes) (f : ToldBytes → Option (List Change)) → option_map (λ (b : ToldBytes). b.now) (option_map {T = ToldBytes} {U = ToldBytes} (λ b. record { now = b.now; changes = f b; room = b.room }) o) ≡ option_map (λ (b : ToldBytes). b.now) o
 now_told None f = refl
 now_told (Some b) f = refl
 

@@ -11,15 +11,14 @@ use Rattle.nvm_flash.specs.fls_model.Told.{Told, Change}
 use Rattle.nvm_flash.specs.promise_device.Image.{IsSoundFlash}
 use Rattle.nvm_flash.specs.promise_device.FlashRun.{FlashRun, TellsBytes, StartsSound, HasFailed}
 use Rattle.nvm_script.specs.Printed.{history_text}
-use Rattle.nvm_script.specs.declared.step.StepKind.TheVariants as kind
-use Rattle.script_walks.specs.Words.{Step, StepKind}
+use Rattle.script_walks.specs.Words.{Step}
 use Rattle.script_walks.specs.Walk.{IsWalkOf, joined}
 use Rattle.nvm_flash.specs.block_machine.Words.{Entry, Found}
 use Rattle.nvm_flash.specs.block_machine.State.{State, Job}
 use Rattle.nvm_flash.specs.block_machine.Steps.{after}
 use Rattle.nvm_flash.specs.block_machine.Prices.{prices_in_refusals}
 use Rattle.nvm_flash.specs.promise_run.Beside.{Beside}
-use Rattle.nvm_flash.specs.promise_run.Run.{Run, Course, Played, End, Whole, cap, FaultWasCounted, HasOrder, LeavesFor, EndsAtStart, HasNoRoom, RefusalsExplain, refusals_of, unpaid_offs}
+use Rattle.nvm_flash.specs.promise_run.Run.{Run, Course, Played, End, Whole, cap, FaultWasCounted, HasOrder, LeavesFor, EndsAtStart, EachPiece, HasNoRoom, HadRoom, RefusalsExplain, refusals_of, unpaid_offs}
 use Rattle.nvm_flash.specs.promise_run.Run.{FlashFault, HistoryFull, LeavesAlone, Memory}
 use Rattle.nvm_flash.specs.promise_run.Promise.{Promise, making_of}
 use Rattle.nvm_flash.specs.promise_run.Call.{Ends, last_line, IsCourseOf, IsInputOf}
@@ -225,10 +224,12 @@ early_in Summary c steps entry exit why x w w' input stops is =
 
 -- THE COURSE OF THE STEPS
 
-no_room : (c : Configuration) (s : State) (k : StepKind) → steps.HasNoRoom c cap s k → HasNoRoom c s k
-no_room c s (kind.Ask r) is = is
-no_room c s kind.Restart is = is
-no_room c s _ is = absurd is
+-- a fact on the state behind a whole history, by the configuration and the cap of the first moment
+behind_all : (P : Configuration → ℕ → State → Type 0) (c : Configuration) (h : List Entry) (old t : StackTold) → old.configuration ≡ c → old.cap ≡ cap → t.entries ≡ h → P old.configuration old.cap (after old.configuration t.entries) → P c cap (after c h)
+behind_all P c h old t same most entries is =
+    subst (λ (es : List Entry). P c cap (after c es)) entries
+    (subst (λ (n : ℕ). P c n (after c t.entries)) most
+    (subst (λ (d : Configuration). P d old.cap (after d t.entries)) same is))
 
 -- a fault of the first flash is one of a flash
 counted_first : (f : FlashRun) (b : Option Beside) → Rose f.entry.faults f.exit.faults → FaultWasCounted f b
@@ -238,12 +239,13 @@ counted_first f (Some b) rose = inl rose
 -- why the steps behind are left
 left_for : (why : StepFault) (left : List Step) (r : Run) (before : PartTold) (last : Moment) (old t : StackTold) → old.configuration ≡ r.configuration → old.cap ≡ cap → t.entries ≡ r.history → before.faults ≤ last.faults
     → (Rose before.faults t.faults → Rose r.flash.entry.faults r.flash.exit.faults) → WereLeft why left last old t → LeavesFor r (after r.configuration r.history) (ends.end_of why) left
-left_for fault.Flash (x ∷ xs) r before last old t same most entries less faults is = (is.0, counted_first r.flash r.beside (faults (Rose-after before.faults last.faults t.faults less is.1)))
+left_for fault.Flash (x ∷ xs) r before last old t same most entries less faults is = (
+  is.0,
+  counted_first r.flash r.beside (faults (Rose-after before.faults last.faults t.faults less is.1)),
+  behind_all (λ c n s. ¬ HasNoRoom c n s x.kind) r.configuration r.history old t same most entries is.2,
+)
 left_for fault.HistoryFull (x ∷ xs) r before last old t same most entries less faults is =
-    no_room r.configuration (after r.configuration r.history) x.kind
-    (subst (λ (h : List Entry). steps.HasNoRoom r.configuration cap (after r.configuration h) x.kind) entries
-    (subst (λ (n : ℕ). steps.HasNoRoom r.configuration n (after r.configuration t.entries) x.kind) most
-    (subst (λ (c : Configuration). steps.HasNoRoom c old.cap (after c t.entries) x.kind) same is)))
+    behind_all (λ c n s. HasNoRoom c n s x.kind) r.configuration r.history old t same most entries is
 left_for fault.Memory xs r before last old t same most entries less faults is = tt
 left_for fault.Flash [] r before last old t same most entries less faults is = absurd is
 left_for fault.HistoryFull [] r before last old t same most entries less faults is = absurd is
@@ -261,14 +263,17 @@ ends_by fault.HistoryFull left before last old t f none counted is = tt
 ends_by fault.Memory left before last old t f none counted is = tt
 
 -- the history of steps that were made is one of a run
-ordered : {p q : Payer} (made left : List Step) (end : End) (old t : StackTold) (entry exit : Told) (operations : List Change) (fresh : steps.IsFresh old) (walked : HasWalked p q made old t) → t.configuration ≡ old.configuration
+ordered : {p q : Payer} (made left : List Step) (end : End) (old t : StackTold) (entry exit : Told) (operations : List Change) (fresh : steps.IsFresh old) (walked : HasWalked p q made old t) → t.configuration ≡ old.configuration → old.cap ≡ cap
     → LeavesFor (run_of t.configuration t.entries entry exit operations (Played made walked.pieces left) end) (after t.configuration t.entries) end left
     → HasOrder (run_of t.configuration t.entries entry exit operations (Played made walked.pieces left) end) t.entries
-ordered made left end old t entry exit operations fresh walked same leaves =
+ordered made left end old t entry exit operations fresh walked same most leaves =
     let is : t.entries ≡ Found fresh.marks fresh.ops ∷ walked.more = walked.grows ∙ ap (λ (h : List Entry). h ++ walked.more) fresh.entries in
     let r = run_of t.configuration t.entries entry exit operations (Played made walked.pieces left) end in
     subst (λ (h : List Entry). HasOrder r h) (sym is) (
       subst (λ (h : List Entry). IsWalkOf t.configuration made walked.pieces h) is (subst (λ (c : Configuration). IsWalkOf c made walked.pieces t.entries) (sym same) walked.walk),
+      subst (λ (h : List Entry). EachPiece t.configuration (HadRoom t.configuration cap) (after t.configuration (take 1 h)) made walked.pieces) is
+          (subst (λ (n : ℕ). EachPiece t.configuration (HadRoom t.configuration n) (after t.configuration (take 1 t.entries)) made walked.pieces) most
+          (subst (λ (c : Configuration). EachPiece c (HadRoom c old.cap) (after c (take 1 t.entries)) made walked.pieces) (sym same) walked.room)),
       subst (λ (h : List Entry). LeavesFor r (after t.configuration h) end left) is leaves,
     )
 
@@ -334,7 +339,7 @@ has_run Kept p q c cuts all made left end before old t entry exit Tells started 
         (subst (λ (most : State → Job → ℕ). EachMove old.configuration (ServesTurn old.configuration most) (after old.configuration old.entries) (all_moves walked.moves.moves)) started.turns walked.serves)))
 
     order : HasOrder (run_of t.configuration t.entries entry exit v.operations (Played made walked.pieces left) end) t.entries
-    order = ordered made left end old t entry exit v.operations started.fresh walked same leaves
+    order = ordered made left end old t entry exit v.operations started.fresh walked same started.most leaves
 
     refusals : (id : ℕ) → RefusalsExplain t.configuration (Played made walked.pieces left) t.entries id
     refusals id = subst (λ (x : Configuration). RefusalsExplain x (Played made walked.pieces []) t.entries id) (sym same) (walked.refusals id)

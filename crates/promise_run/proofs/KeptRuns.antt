@@ -207,7 +207,7 @@ is_legal = (
 
 pub write_keeps : NoActiveComputes → TornErasesMakeNoBank → TornErasesKeepSound → TornErasesSetBits → BlankIsSound → BlankHasErased → Promise kept_write
 write_keeps computes makes stays bits sound erased = record {
-  order = ((refl, ((refl, tt), (((refl, refl), (tt, tt)), ((record { played = refl; ends = refl }, (tt, (tt, tt))), ((tt, (tt, tt)), tt))))), refl);
+  order = ((refl, ((refl, tt), (((refl, refl), (tt, tt)), ((record { played = refl; ends = refl }, (tt, (tt, tt))), ((tt, (tt, tt)), tt))))), ((λ no. no), ((λ no. cc no), ((λ no. no), ((λ no. omega (arith, no)), tt)))), refl);
   power_cut = λ told from k image few cut. cuts_keep computes makes stays bits sound k image cut;
   counts = λ told from. cuts_count computes makes bits sound erased;
   found = λ told from. start_ups_find erased;

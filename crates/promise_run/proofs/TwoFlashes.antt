@@ -64,7 +64,7 @@ none_refused id (suc n) = omega arith
 
 pub both_keep : BlankIsSound → BlankHasErased → Promise (quiet_beside one one)
 both_keep sound erased = record {
-  order = ((refl, tt), refl);
+  order = ((refl, tt), tt, refl);
   power_cut = λ told from too begins k image other few cut. absurd (none_cut k image other cut);
   counts = λ told from too begins k ops image other few cut last. absurd (none_cut k image other cut);
   found = λ told from too begins marks ops has few. lists_none erased marks ops has;

@@ -14,7 +14,7 @@ use Rattle.fee_format.specs.BankHead.{bank_head_page}
 use Rattle.fee_format.specs.RecHead.{rec_head_page}
 use Rattle.fee_format.specs.declared.rec_head.RecordKind.TheVariants as record_kind
 use Rattle.nvm_script.specs.declared.script.Mode.TheVariants as mode
-use Rattle.script_walks.specs.Words.{StepKind, AskStep, Store, Turn, Drain, Restart, Cut}
+use Rattle.script_walks.specs.Words.{Step, StepKind, AskStep, Store, Turn, Drain, Restart, Cut}
 use Rattle.block_machine.specs.Words.{Fine, NotOk, Content, Write, SetLock, Status, Accepted, StatusIs, WriteJob, TookContent, TookStale, Entry, Ask, Pick, Wrote, Post, Off, Found, BlockDesc, Dataset, Sync, Configuration}
 use Rattle.block_machine.specs.State.{State, Job}
 use Rattle.promise_device.specs.FlashRun.{FlashRun, HasFailed}
@@ -23,7 +23,7 @@ use Rattle.promise_run.specs.Call.{Call}
 use Rattle.promise_run.specs.Promise.{Promise}
 use Rattle.promise_run.specs.Turns.{Moment, Move, CountFailed, ArePaidSince}
 use Rattle.block_machine.specs.Steps.{after}
-use Rattle.promise_run.specs.Run.{Run, Played, Ran, Whole, FlashFault, HistoryFull, Memory}
+use Rattle.promise_run.specs.Run.{Run, Played, Ran, cap, HadRoom, LeavesFor, End, Whole, FlashFault, HistoryFull, Memory}
 
 -- IMAGES
 -- block 2 is as described
@@ -58,7 +58,7 @@ BreaksBy r P = (Promise r → P) × (P → ⊥)
 -- a flash of the small shape with these bytes, and the changes since it was attached
 abbrev pub tells : List ℕ → Option (List Change) → Told
 tells now all =
-    record { geometry = small.geometry; bytes = Some (record { now = now; changes = all }); ops = 0; faults = 0; cuts = 0; off = false; planning = no_planning }
+    record { geometry = small.geometry; bytes = Some (record { now = now; changes = all; room = 1 }); ops = 0; faults = 0; cuts = 0; off = false; planning = no_planning }
 
 -- no operation reaches the flash
 abbrev pub unchanged : List ℕ → List ℕ → FlashRun
@@ -297,6 +297,23 @@ posted_after n =
 
 abbrev pub PaysFailed : ℕ → Type 0
 PaysFailed n = ArePaidSince tried_twice (λ operations number. ⊥) 0 (at_faults 2) (after tried_twice (Found [] 0 ∷ Ask 0 (Write 2 (Some one) 0) Accepted ∷ [])) (posted_after n)
+
+-- A FULL HISTORY
+-- the state behind a start-up, with so many entries in all
+abbrev pub at_count : ℕ → State
+at_count n = record (after small (Found [] 0 ∷ [])) { count = n }
+
+-- a step of caller 0
+abbrev pub step_of : StepKind → Step
+step_of kind = record { line = 0; caller = 0; kind = kind }
+
+-- it was made behind so many entries, by their room
+abbrev pub HadRoomAt : ℕ → StepKind → Type 0
+HadRoomAt n kind = HadRoom small cap (at_count n) (step_of kind) [] [] []
+
+-- behind so many entries a start-up was left, at this end
+abbrev pub LeftAt : ℕ → End → Type 0
+LeftAt n end = LeavesFor (record quiet { flash = faulty 1 }) (at_count n) end (step_of Restart ∷ [])
 
 -- A CALL
 -- `play` of the demo configuration without a step, with this status and this output

@@ -8,7 +8,7 @@ use Rattle.block_machine.specs.State.{State, Job}
 use Rattle.block_machine.specs.Blocks.{job_block}
 use Rattle.block_machine.specs.Steps.{after, after_from}
 use Rattle.script_walks.specs.Walk.{is_at_rest}
-use Rattle.promise_run.specs.Run.{Run, Course, Played, Ran, FlashFault}
+use Rattle.promise_run.specs.Run.{Run, Course, Played, Ran, FlashFault, EachPiece}
 
 -- NOTHING FAILS
 abbrev pub is_calm_entry : Entry → Bool
@@ -49,12 +49,6 @@ abbrev pub ends_job : ℕ → Entry → Bool
 ends_job id (Post block r given refused ops) = block == id
 ends_job id (Pick block kind t ops) = true
 ends_job id e = false
-
--- What each step of a run keeps: a fact on the state before its piece, the step, its piece, and the steps and pieces behind
--- it.
-abbrev pub EachPiece : Configuration → (State → Step → List Entry → List Step → List (List Entry) → Type 0) → State → List Step → List (List Entry) → Type 0
-EachPiece c P s (x ∷ xs) (p ∷ ps) = P s x p xs ps × EachPiece c P (after_from c s p) xs ps
-EachPiece c P s xs ps = Unit {0}
 
 -- A job that is in hand behind a step is posted, or interrupted, within the most turns that it takes. How many those are is
 -- told of a job in a state in which it is in hand.

@@ -10,7 +10,7 @@ use Rattle.block_machine.specs.Words.{Entry, Off, Configuration}
 use Rattle.block_machine.specs.State.{State}
 use Rattle.block_machine.specs.Reply.{fits}
 use Rattle.block_machine.specs.Prices.{prices_in_refusals}
-use Rattle.block_machine.specs.Steps.{after}
+use Rattle.block_machine.specs.Steps.{after, after_from}
 use Rattle.script_walks.specs.Walk.{IsWalkOf, joined}
 use Rattle.script_walks.specs.Callers.{IsRun, IsWholeRun, asks_of, requests_of, program_of}
 use Rattle.promise_device.specs.Image.{attached}
@@ -88,18 +88,29 @@ pub record LeavesAlone (s t : Told) : Type 0 where
   pub faults : t.faults ≡ s.faults
   pub cuts : t.cuts ≡ s.cuts
 
--- `PLAY`
--- the next step has no room in the history
-abbrev pub HasNoRoom : Configuration → State → StepKind → Type 0
-HasNoRoom c s (AskStep r) = IsTrue (not (fits c cap s 1))
-HasNoRoom c s Restart = cap < s.count + 2
-HasNoRoom c s kind = ⊥
+-- STEPS
+-- What each step of a run keeps: a fact on the state before its piece, the step, its piece, and the steps and pieces behind
+-- it.
+abbrev pub EachPiece : Configuration → (State → Step → List Entry → List Step → List (List Entry) → Type 0) → State → List Step → List (List Entry) → Type 0
+EachPiece c P s (x ∷ xs) (p ∷ ps) = P s x p xs ps × EachPiece c P (after_from c s p) xs ps
+EachPiece c P s xs ps = Unit {0}
 
--- why these steps were left
+-- `PLAY`
+-- the next step has no room in a history of so many entries at most
+abbrev pub HasNoRoom : Configuration → ℕ → State → StepKind → Type 0
+HasNoRoom c most s (AskStep r) = IsTrue (not (fits c most s 1))
+HasNoRoom c most s Restart = most < s.count + 2
+HasNoRoom c most s kind = ⊥
+
+-- a step that was made had room
+abbrev pub HadRoom : Configuration → ℕ → State → Step → List Entry → List Step → List (List Entry) → Type 0
+HadRoom c most s x p xs ps = ¬ HasNoRoom c most s x.kind
+
+-- why these steps were left: a start-up that failed had room too
 abbrev pub LeavesFor : Run → State → End → List Step → Type 0
 LeavesFor r s Whole left = left ≡ []
-LeavesFor r s FlashFault (x ∷ left) = (x.kind ≡ Restart) × FaultWasCounted r.flash r.beside
-LeavesFor r s HistoryFull (x ∷ left) = HasNoRoom r.configuration s x.kind
+LeavesFor r s FlashFault (x ∷ left) = (x.kind ≡ Restart) × FaultWasCounted r.flash r.beside × ¬ HasNoRoom r.configuration cap s x.kind
+LeavesFor r s HistoryFull (x ∷ left) = HasNoRoom r.configuration cap s x.kind
 LeavesFor r s Memory left = Unit {0}
 LeavesFor r s end left = ⊥
 
@@ -120,7 +131,9 @@ RunsBy c steps FlashFault h = ⊥
 
 -- THE ORDER
 abbrev pub Follows : Run → Course → List Entry → Type 0
-Follows r (Played made pieces left) h = IsWalkOf r.configuration made pieces h × LeavesFor r (after r.configuration h) r.end left
+Follows r (Played made pieces left) h =
+    IsWalkOf r.configuration made pieces h × EachPiece r.configuration (HadRoom r.configuration cap) (after r.configuration (take 1 h)) made pieces
+    × LeavesFor r (after r.configuration h) r.end left
 Follows r (Ran steps) h = RunsBy r.configuration steps r.end h
 
 -- without a start-up no step was made
@@ -128,7 +141,8 @@ abbrev pub MadeNothing : Course → Type 0
 MadeNothing (Played made pieces left) = (made ≡ []) × (pieces ≡ [])
 MadeNothing (Ran steps) = Unit {0}
 
--- The history is a walk of the steps that were made, or a run of the callers' programs, and the end says why no more were.
+-- The history is a walk of the steps that were made, or a run of the callers' programs, and the end says why no more were: it
+-- is full exactly where the next step of a walk has no room, since each that was made had.
 -- Without a start-up it is empty, and each flash is as it was.
 abbrev pub HasOrder : Run → List Entry → Type 0
 HasOrder r [] = EndsBefore r.flash r.beside r.end × MadeNothing r.course × LeavesFlashes r.configuration.geometry r.flash r.beside

@@ -9,9 +9,11 @@ ghost use Rattle.promise_run.specs.Run.{cap, HasOrder, RefusalsExplain, offs_of_
 ghost use Rattle.promise_run.specs.Promise.{OperationsAre, Promise, StartUpsFind, CutsCount, CutsKeep, ExitKeeps, FailuresArePaid, MayBeKept};
 ghost use Rattle.promise_run.specs.Call.{IsRunOf, text_of};
 ghost use Rattle.promise_run.specs.Completeness.{Completeness};
-ghost use Rattle.promise_run.specs.Run.{FlashFault};
+ghost use Rattle.script_walks.specs.Words.{AskStep, Restart};
+ghost use Rattle.block_machine.specs.Words.{Status};
+ghost use Rattle.promise_run.specs.Run.{FlashFault, HistoryFull};
 ghost use Rattle.promise_run.specs.Turns.{BeginsAt, EndsBy, HasTurns};
-ghost use Rattle.promise_run.specs.Cases.{six_turns, lazy, leaps, at_faults, faulty, PaysFailed, CountsFailed, mended, posts_on_credit, starts_on_credit, untold, BreaksBy, small, one, two, quiet, quiet_beside, wiped, empty_at_11, made_up_mark, off_without_a_cut, stale_in_play, invented_store, second_found, other_dataset, worn_but_roomy, worn_and_full, kept_write, lost_write, two_callers, written_at, always, turned, not_drained, ends_for_nothing, demo_run, demo_call};
+ghost use Rattle.promise_run.specs.Cases.{six_turns, lazy, leaps, at_faults, faulty, PaysFailed, CountsFailed, HadRoomAt, LeftAt, mended, posts_on_credit, starts_on_credit, untold, BreaksBy, small, one, two, quiet, quiet_beside, wiped, empty_at_11, made_up_mark, off_without_a_cut, stale_in_play, invented_store, second_found, other_dataset, worn_but_roomy, worn_and_full, kept_write, lost_write, two_callers, written_at, always, turned, not_drained, ends_for_nothing, demo_run, demo_call};
 
 /// A start-up alone keeps it, and so do a write that a cut breaks off with a restart behind it, and the requests of two
 /// callers.
@@ -37,6 +39,19 @@ pub fn wrong_orders_break_it()
     ensures stale_in_play { BreaksBy stale_in_play (HasOrder stale_in_play stale_in_play.history) }
     ensures invented_store { BreaksBy invented_store (HasOrder invented_store invented_store.history) }
     ensures second_found { BreaksBy second_found (HasOrder second_found second_found.history) }
+{}
+
+/// One entry below the cap neither a request nor a start-up was made, and a start-up that is left there is left for a full
+/// history, and for no fault. One sooner both have room, and none is left for a full history.
+pub fn full_histories_end()
+    ensures ends_full { LeftAt 99999 HistoryFull }
+    ensures ends_by_a_fault { LeftAt 99998 FlashFault }
+    ensures asks { HadRoomAt 99998 (AskStep (Status 2)) }
+    ensures starts { HadRoomAt 99998 Restart }
+    ensures fails_full { LeftAt 99999 FlashFault → ⊥ }
+    ensures ends_too_soon { LeftAt 99998 HistoryFull → ⊥ }
+    ensures asks_full { HadRoomAt 99999 (AskStep (Status 2)) → ⊥ }
+    ensures starts_full { HadRoomAt 99999 Restart → ⊥ }
 {}
 
 /// A start-up that lists what was never written breaks it by what start-ups find, and an image that holds a mark in another

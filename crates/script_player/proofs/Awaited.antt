@@ -10,7 +10,8 @@ use Rattle.nvm_core.specs.block_machine.Blocks.{job_block}
 use Rattle.nvm_core.specs.block_machine.Steps.{after, after_from}
 use Rattle.script_walks.specs.Words.{Step}
 use Rattle.script_walks.specs.Walk.{is_at_rest, joined}
-use Rattle.promise_run.specs.Completeness.{turns_of, is_drain, is_restart, entries_within, ends_job, EachPiece, PostsInHand, DrainsAll, IsServed}
+use Rattle.promise_run.specs.Run.{EachPiece}
+use Rattle.promise_run.specs.Completeness.{turns_of, is_drain, is_restart, entries_within, ends_job, PostsInHand, DrainsAll, IsServed}
 use Rattle.nvm_core.proofs.block_laws.HistoryLaws.{histories_go_on}
 use Rattle.script_player.specs.Told.{StackTold, state_of, IsWithin}
 use Rattle.script_player.specs.Made.{IsMade, ServesJobs}
@@ -61,7 +62,7 @@ awaited_more id n (y ∷ ys) (q ∷ qs) x p mid new state serves within (inr (in
 -- EACH PLACE
 
 -- a fact of each place and one of a place more
-each_more : (c : Configuration) (P Q : State → Step → List Entry → List Step → List (List Entry) → Type 0) (x : Step) (p : List Entry) (last : State)
+pub each_more : (c : Configuration) (P Q : State → Step → List Entry → List Step → List (List Entry) → Type 0) (x : Step) (p : List Entry) (last : State)
     → ((s : State) (y : Step) (q : List Entry) (ys : List Step) (qs : List (List Entry)) → P s y q ys qs → Q s y q (ys ++ x ∷ []) (qs ++ p ∷ [])) → Q last x p [] []
     → (s : State) (xs : List Step) (ps : List (List Entry)) → length ps ≡ length xs → after_from c s (joined ps) ≡ last → EachPiece c P s xs ps → EachPiece c Q s (xs ++ x ∷ []) (ps ++ p ∷ [])
 each_more c P Q x p last keeps here s [] [] many is each = (subst (λ (t : State). Q t x p [] []) (sym is) here, tt)

@@ -1,15 +1,16 @@
 -- Each kind of step is made.
 use Rattle.std.proofs.Common.{◌≡◌, ◌<◌, ◌≤◌, ◌+◌, ◌^◌, ℕ, zero, suc, Bool, true, false, IsTrue, List, [], ◌∷◌, ◌++◌, length, get_or, refl, sym, ap, ◌∙◌, subst, arith, Option, append-nil, length-set}
-use Rattle.std.specs.Prelude.{slice_set, Result, Ok, Err, OnOk, IfErr}
+use Rattle.std.specs.Prelude.{not, slice_set, Result, Ok, Err, OnOk, IfErr}
 use Rattle.std.proofs.Math.Nat.{min-eq_left}
 use Rattle.nvm_core.specs.block_machine.Words.{Instance, Mark, Request, Reply, Entry, Ask, Found, Configuration}
 use Rattle.nvm_core.specs.block_machine.State.{State}
 use Rattle.nvm_core.specs.block_machine.Blocks.{desc_of, is_synchronized}
 use Rattle.nvm_core.specs.block_machine.Next.{next_of}
+use Rattle.nvm_core.specs.block_machine.Reply.{fits}
 use Rattle.nvm_core.specs.block_machine.Steps.{step, after}
 use Rattle.nvm_core.specs.ram_blocks.Copies.{next_number}
 use Rattle.script_walks.specs.Words.{Step, StepKind, AskStep, Store, Turn, Drain, Restart, Cut, Refuse}
-use Rattle.promise_run.specs.Run.{plan_after}
+use Rattle.promise_run.specs.Run.{HasNoRoom, plan_after}
 use Rattle.promise_run.specs.Completeness.{turns_of, is_drain}
 use Rattle.script_walks.specs.Walk.{stores_of, request_after, is_at_rest, copies_by, TakesStore, IsPieceBy}
 use Rattle.nvm_script.specs.Played.{CanBePlayed}
@@ -53,9 +54,9 @@ kept_more before x t none kept = record {
 }
 
 -- a step that adds nothing, and changes the causes at most
-nothing_made : (p q : Payer) (before : List Step) (line caller : ℕ) (kind : StepKind) (old new : StackTold) → is_store kind ≡ false → turns_of kind ≡ 0 → is_drain kind ≡ false → AreMovesOf kind (moment_of old) [] → IsPieceBy old.configuration before (state_of old) caller kind []
+nothing_made : (p q : Payer) (before : List Step) (line caller : ℕ) (kind : StepKind) (old new : StackTold) → is_store kind ≡ false → ¬ HasNoRoom old.configuration old.cap (state_of old) kind → turns_of kind ≡ 0 → is_drain kind ≡ false → AreMovesOf kind (moment_of old) [] → IsPieceBy old.configuration before (state_of old) caller kind []
     → new ≡ record old { causes = new.causes } → IsExplained kind [] old new → PaysNothing p q new → IsKept before old → IsMade p q before (record { line = line; caller = caller; kind = kind }) old new
-nothing_made p q before line caller kind old new none turns no_drain rests is same explained pays kept =
+nothing_made p q before line caller kind old new none room turns no_drain rests is same explained pays kept =
     let x : Step = record { line = line; caller = caller; kind = kind } in
     record {
       piece = [];
@@ -65,6 +66,7 @@ nothing_made p q before line caller kind old new none turns no_drain rests is sa
       entries = ap (λ t. t.entries) same ∙ sym (append-nil old.entries);
       counted = let n : new.faults ≡ old.faults = ap (λ t. t.faults) same in omega (arith, n);
       is = (is, tt);
+      room = room;
       explained = explained;
       serves = λ calm. same_serves kind old new turns no_drain (ap state_of same) (ap (λ t. t.left) same) (ap (λ t. t.most) same);
       moves = [];
@@ -80,19 +82,19 @@ nothing_made p q before line caller kind old new none turns no_drain rests is sa
     moved kept = record { ready = kept.ready; places = kept.places; stores = kept.stores; jobs = kept.jobs }
 
 -- a step that adds nothing, where the causes alone change
-causes_made : (p q : Payer) (x : Step) (kind : StepKind) (table : List ℕ) (old new : StackTold) → x.kind ≡ kind → is_store kind ≡ false → turns_of kind ≡ 0 → is_drain kind ≡ false → AreMovesOf kind (moment_of old) []
+causes_made : (p q : Payer) (x : Step) (kind : StepKind) (table : List ℕ) (old new : StackTold) → x.kind ≡ kind → is_store kind ≡ false → ¬ HasNoRoom old.configuration old.cap (state_of old) kind → turns_of kind ≡ 0 → is_drain kind ≡ false → AreMovesOf kind (moment_of old) []
     → ((before : List Step) → IsPieceBy old.configuration before (state_of old) x.caller kind []) → new ≡ record old { causes = new.causes } → IsExplained kind [] old new → PaysNothing p q new → Makes p q x table table old new
-causes_made p q x kind table old new is none turns no_drain rests piece same explained pays =
-    step_made p q x kind table old new is none (λ before has kept. nothing_made p q before x.line x.caller kind old new none turns no_drain rests (piece before) same explained pays kept)
+causes_made p q x kind table old new is none room turns no_drain rests piece same explained pays =
+    step_made p q x kind table old new is none (λ before has kept. nothing_made p q before x.line x.caller kind old new none room turns no_drain rests (piece before) same explained pays kept)
 
 -- an arm, and a refusal
 pub arm_made : (p q : Payer) (x : Step) (nth keep : ℕ) (table : List ℕ) (old new : StackTold) → x.kind ≡ Cut nth keep → Arms nth old new → PaysNothing p q new → Makes p q x table table old new
 arm_made p q x nth keep table old new is arms pays =
-    causes_made p q x (Cut nth keep) table old new is refl refl refl refl (λ before. refl) (arms.only ∙ ap (λ y. record old { causes = y }) (sym (ap (λ t. t.causes) arms.only))) (by_cut nth keep old new arms) pays
+    causes_made p q x (Cut nth keep) table old new is refl (λ no. no) refl refl refl (λ before. refl) (arms.only ∙ ap (λ y. record old { causes = y }) (sym (ap (λ t. t.causes) arms.only))) (by_cut nth keep old new arms) pays
 
 pub refuse_made : (p q : Payer) (x : Step) (block count : ℕ) (table : List ℕ) (old new : StackTold) → x.kind ≡ Refuse block count → Refuses block count old new → PaysNothing p q new → Makes p q x table table old new
 refuse_made p q x block count table old new is refuses pays =
-    causes_made p q x (Refuse block count) table old new is refl refl refl refl (λ before. refl) (refuses.only ∙ ap (λ y. record old { causes = y }) (sym (ap (λ t. t.causes) refuses.only))) (by_refuse block count old new refuses) pays
+    causes_made p q x (Refuse block count) table old new is refl (λ no. no) refl refl refl (λ before. refl) (refuses.only ∙ ap (λ y. record old { causes = y }) (sym (ap (λ t. t.causes) refuses.only))) (by_refuse block count old new refuses) pays
 
 ask_takes : (c : Configuration) (before : List Step) (copies : Bool) (e : Entry) (caller : ℕ) (r : Request) (reply : Reply) → TakesStore c before copies (Ask caller r reply)
 ask_takes c before true e caller r reply = tt
@@ -101,6 +103,10 @@ ask_takes c before false e caller r reply = tt
 found_takes : (c : Configuration) (before : List Step) (copies : Bool) (marks : List (Instance × Mark)) (ops : ℕ) → TakesStore c before copies (Found marks ops)
 found_takes c before true marks ops = tt
 found_takes c before false marks ops = tt
+
+not_both : (b : Bool) → IsTrue b → ¬ IsTrue (not b)
+not_both true is no = cc no
+not_both false is no = cc is
 
 -- a request
 pub ask_made : (p q : Payer) (before : List Step) (line caller : ℕ) (r : Request) (table : List ℕ) (old new : StackTold) → CanBePlayed old.configuration (AskStep r)
@@ -116,6 +122,7 @@ ask_made p q before line caller r table old new can asked pays has kept =
       most = ap (λ t. t.most) adds.adds;
       entries = ap (λ t. t.entries) adds.adds;
       counted = let n : new.faults ≡ old.faults = ap (λ t. t.faults) adds.adds in omega (arith, n);
+      room = not_both (fits old.configuration old.cap (state_of old) 1) adds.room;
       explained = by_entries (AskStep r) (e ∷ []) old new (λ plan ops. refl) adds.explained;
       serves = λ calm. ask_serves r caller (request_after old.configuration before caller r) reply old new adds;
       moves = move_to (e ∷ []) old ∷ [];
@@ -151,6 +158,7 @@ restart_made p q before line caller old new starts_again pays kept =
       most = ap (λ t. t.most) same;
       entries = ap (λ t. t.entries) same;
       counted = starts_again.counted;
+      room = starts_again.room;
       explained = by_restart (e ∷ []) old new starts_again.explained;
       serves = λ calm. restart_serves (e ∷ []) old new (ap (λ (s : State). s.hand) (ap state_of same ∙ after_is));
       moves = move_to (e ∷ []) new ∷ [];
@@ -170,9 +178,9 @@ restart_made p q before line caller old new starts_again pays kept =
     }
 
 -- turns, with the piece that they added
-turned_made : (p q : Payer) (before : List Step) (line caller : ℕ) (kind : StepKind) (old new : StackTold) (es : List Entry) (ms : List Move) → AreMovesOf kind (moment_of old) ms → AreMade p q es ms old new → is_store kind ≡ false → ((plan : Option ℕ) (ops : ℕ) → plan_after kind plan ops ≡ plan)
+turned_made : (p q : Payer) (before : List Step) (line caller : ℕ) (kind : StepKind) (old new : StackTold) (es : List Entry) (ms : List Move) → AreMovesOf kind (moment_of old) ms → AreMade p q es ms old new → is_store kind ≡ false → ¬ HasNoRoom old.configuration old.cap (state_of old) kind → ((plan : Option ℕ) (ops : ℕ) → plan_after kind plan ops ≡ plan)
     → HasTurned (turns_of kind) before old new es → (StaysCalm old new → is_drain kind ≡ true → IsTrue (is_at_rest (state_of new))) → IsPieceBy old.configuration before (state_of old) caller kind es → IsKept before new → IsMade p q before (record { line = line; caller = caller; kind = kind }) old new
-turned_made p q before line caller kind old new es ms own moved none plans turned drains is kept =
+turned_made p q before line caller kind old new es ms own moved none room plans turned drains is kept =
     let x : Step = record { line = line; caller = caller; kind = kind } in
     record {
       piece = es;
@@ -181,6 +189,7 @@ turned_made p q before line caller kind old new es ms own moved none plans turne
       most = ap (λ t. t.most) turned.grows;
       entries = ap (λ t. t.entries) turned.grows;
       counted = turned.counted;
+      room = room;
       explained = by_entries kind es old new plans turned.explained;
       serves = λ calm. let serves = turned.serves calm in record { nears = λ on. serves.nears; within = serves.within; drains = drains calm };
       moves = ms;
@@ -196,11 +205,11 @@ turned_made p q before line caller kind old new es ms own moved none plans turne
 pub turns_made : (p q : Payer) (before : List Step) (line caller count : ℕ) (old new : StackTold) → 1 ≤ count → MakesTurns p q count before old new → IsKept before new
     → IsMade p q before (record { line = line; caller = caller; kind = Turn count }) old new
 turns_made p q before line caller zero old new some made kept = absurd (let none : 1 ≤ 0 = some in omega (arith, none))
-turns_made p q before line caller (suc n) old new some (es, turned, is, (ms, many, moved)) kept = turned_made p q before line caller (Turn (suc n)) old new es ms (many, moved.turns) moved refl (λ plan ops. refl) turned (λ calm no_. absurd (cc no_)) is kept
+turns_made p q before line caller (suc n) old new some (es, turned, is, (ms, many, moved)) kept = turned_made p q before line caller (Turn (suc n)) old new es ms (many, moved.turns) moved refl (λ no. no) (λ plan ops. refl) turned (λ calm no_. absurd (cc no_)) is kept
 
 pub drain_made : (p q : Payer) (before : List Step) (line caller : ℕ) (old new : StackTold) → Drains p q before old new → IsKept before new → IsMade p q before (record { line = line; caller = caller; kind = Drain }) old new
 drain_made p q before line caller old new (es, turned, is, (ms, moved)) kept =
-    turned_made p q before line caller Drain old new es ms moved.turns moved refl (λ plan ops. refl) turned (λ calm drain. at_rest_where_calm old new es turned.grows calm is.ends) is kept
+    turned_made p q before line caller Drain old new es ms moved.turns moved refl (λ no. no) (λ plan ops. refl) turned (λ calm drain. at_rest_where_calm old new es turned.grows calm is.ends) is kept
 
 -- a store
 pub next_store : (c : Configuration) (before : List Step) (block n : ℕ) → length before < 2 ^ 32 → n ≡ length (stores_of block before) → next_number n ≡ length (stores_of block before) + 1
@@ -222,6 +231,7 @@ store_made p q before line caller block number content old new sync within small
       most = refl;
       entries = sym (append-nil old.entries);
       counted = omega arith;
+      room = λ no. no;
       explained = by_nothing (Store block content) old (record old { stores = slice_set old.stores block (number, content) }) (λ plan ops. refl) refl;
       serves = λ calm. same_serves (Store block content) old (record old { stores = slice_set old.stores block (number, content) }) refl refl refl refl refl;
       moves = [];

@@ -16,7 +16,7 @@ use Rattle.script_walks.specs.Walk.{IsPiece, IsWalkOf, joined}
 use Rattle.nvm_script.specs.Played.{IsPlayed, ArePlayed}
 use Rattle.script_walks.specs.Stores.{AreNewest, JobsTookStored}
 use Rattle.nvm_core.specs.ram_blocks.Plain.{store_of, plain_blocks_of}
-use Rattle.promise_run.specs.Run.{Played, unpaid_offs, refusals_of, RefusalsExplain}
+use Rattle.promise_run.specs.Run.{Played, EachPiece, HasNoRoom, HadRoom, unpaid_offs, refusals_of, RefusalsExplain}
 use Rattle.promise_run.specs.Completeness.{IsServed}
 use Rattle.script_walks.proofs.Jobs.{starts_keep_stored}
 use Rattle.script_walks.proofs.First.{first_are_newest}
@@ -25,7 +25,7 @@ use Rattle.script_player.specs.declared.steps.StepFault.{StepFault}
 use Rattle.script_player.specs.declared.steps.StepFault.TheVariants.{Flash, HistoryFull, Memory}
 use Rattle.script_player.specs.Told.{StackTold, state_of, moment_of, IsNoEarlier}
 use Rattle.script_player.specs.Kept.{IsKept}
-use Rattle.script_player.specs.Made.{cuts_in, cuts_of, PaysOffs, IsExplained, HasNoRoom, IsMade, IsLeft, IsFresh, Makes, HasWalked, WereLeft, WasBroken}
+use Rattle.script_player.specs.Made.{cuts_in, cuts_of, PaysOffs, IsExplained, IsMade, IsLeft, IsFresh, Makes, HasWalked, WereLeft, WasBroken}
 use Rattle.script_player.specs.Walking.{plan_behind, refusals_in, IsWalking, AreUnderWay}
 use Rattle.script_player.specs.Table.{HasLastStores}
 use Rattle.promise_run.specs.Turns.{Moment, Move, entries_of, moment_behind, all_moves}
@@ -40,7 +40,7 @@ use Rattle.script_player.proofs.Grown.{state_more}
 use Rattle.script_player.proofs.Table.{first_table}
 use Rattle.script_player.proofs.Explained.{counted_more, none_counted}
 use Rattle.script_player.proofs.Serving.{calm_until, calm_from}
-use Rattle.script_player.proofs.Awaited.{none_within, serving_more, is_served}
+use Rattle.script_player.proofs.Awaited.{none_within, each_more, serving_more, is_served}
 use Rattle.script_player.proofs.Causes.{plan_more, unpaid_more, ops_in_all, joined_more, prices_more, refusals_more}
 
 -- a step of the script can be played
@@ -51,10 +51,14 @@ is_played c made left x all =
 
 -- THE WALK
 
+-- a fact on the state behind steps, by the configuration and the cap before them
+behind : (P : Configuration → ℕ → State → Type 0) (old mid : StackTold) → mid.configuration ≡ old.configuration → mid.cap ≡ old.cap → P mid.configuration mid.cap (state_of mid) → P old.configuration old.cap (after old.configuration mid.entries)
+behind P old mid same cap is = subst (λ (n : ℕ). P old.configuration n (after old.configuration mid.entries)) cap (subst (λ (c : Configuration). P c mid.cap (after c mid.entries)) same is)
+
 -- one more step
-pub walks_on : (p q r : Payer) (made : List Step) (x : Step) (old mid new : StackTold) → mid.configuration ≡ old.configuration → mid.most ≡ old.most → old.faults ≤ mid.faults → IsWalking p q made old mid
+pub walks_on : (p q r : Payer) (made : List Step) (x : Step) (old mid new : StackTold) → mid.configuration ≡ old.configuration → mid.cap ≡ old.cap → mid.most ≡ old.most → old.faults ≤ mid.faults → IsWalking p q made old mid
     → IsMade q r made x mid new → cuts_in x.kind ≤ mid.causes.takes → IsWalking p r (made ++ x ∷ []) old new
-walks_on p q r made x old mid new same most counted walking step planned = record {
+walks_on p q r made x old mid new same cap most counted walking step planned = record {
   marks = walking.marks;
   ops = walking.ops;
   pieces = walking.pieces ++ piece ∷ [];
@@ -68,6 +72,8 @@ walks_on p q r made x old mid new same most counted walking step planned = recor
       let a = length-append walking.pieces (piece ∷ []) in
       let b = length-append made (x ∷ []) in
       let n = walking.as_many in omega (arith, a, b, n);
+  room = each_more old.configuration (HadRoom old.configuration old.cap) (HadRoom old.configuration old.cap) x piece (after old.configuration (first ∷ joined walking.pieces)) (λ s y q ys qs had. had) room
+      (after old.configuration (first ∷ [])) made walking.pieces walking.as_many refl walking.room;
   refusals = λ id. refusals_more old.configuration id first made walking.pieces x piece walking.as_many (walking.refusals id) (told id);
   refusable = λ id.
       let price = ap (λ (es : List Entry). prices_in_refusals old.configuration id (first ∷ es)) (joined_more walking.pieces piece) ∙ prices_more old.configuration id (first ∷ joined walking.pieces) piece in
@@ -115,6 +121,9 @@ walks_on p q r made x old mid new same most counted walking step planned = recor
     state : after old.configuration mid.entries ≡ after old.configuration (first ∷ joined walking.pieces)
     state = ap (after old.configuration) walking.at
 
+    room : ¬ HasNoRoom old.configuration old.cap (after old.configuration (first ∷ joined walking.pieces)) x.kind
+    room = subst (λ (s : State). ¬ HasNoRoom old.configuration old.cap s x.kind) state (behind (λ c n s. ¬ HasNoRoom c n s x.kind) old mid same cap step.room)
+
     -- the prices of the piece
     own : (id : ℕ) → sum_from old.configuration (block_price id) (after old.configuration (first ∷ joined walking.pieces)) piece + new.causes.refusable id ≤ mid.causes.refusable id + refusals_of id x.kind
     own id =
@@ -136,6 +145,7 @@ has_walked p q r made old mid new same counted operations cuts pays walking = re
   grows = same ∙ walking.grows;
   pieces = walking.pieces;
   walk = subst (λ (es : List Entry). IsWalkOf old.configuration made walking.pieces es) (sym (same ∙ walking.at)) walking.walk;
+  room = subst (λ (es : List Entry). EachPiece old.configuration (HadRoom old.configuration old.cap) (after old.configuration (take 1 es)) made walking.pieces) (sym (same ∙ walking.at)) walking.room;
   refusals = λ id. subst (λ (es : List Entry). RefusalsExplain old.configuration (Played made walking.pieces []) es id) (sym (same ∙ walking.at)) (walking.refusals id);
   off = subst (λ (n : ℕ). WereCounted n old.causes.unplanned new.causes.unplanned) (nothing_more (unpaid_offs None 0 made walking.pieces))
       (counted_more (unpaid_offs None 0 made walking.pieces) 0 old.causes.unplanned mid.causes.unplanned new.causes.unplanned walking.off cuts);
@@ -182,6 +192,7 @@ fresh_walking p t fresh = record {
   at = fresh.entries;
   walk = (refl, tt);
   as_many = refl;
+  room = tt;
   refusals = λ id n. none_taken t.configuration id n fresh.marks fresh.ops;
   refusable = λ id. let none = fresh.none_refused id in omega (arith, none);
   off = none_counted t.causes.unplanned;
@@ -207,12 +218,11 @@ fresh_kept t fresh = record {
 -- WHAT IS LEFT
 
 were_left : (fault : StepFault) (x : Step) (xs : List Step) (old mid new : StackTold) → mid.configuration ≡ old.configuration → mid.cap ≡ old.cap → IsLeft fault x mid new → WereLeft fault (x ∷ xs) (moment_of mid) old new
-were_left Flash x xs old mid new configuration cap left = left.why
+were_left Flash x xs old mid new configuration cap left =
+    (left.why.0, left.why.1, subst (λ (h : List Entry). ¬ HasNoRoom old.configuration old.cap (after old.configuration h) x.kind) (sym left.entries) (behind (λ c n s. ¬ HasNoRoom c n s x.kind) old mid configuration cap left.why.2))
 were_left Memory x xs old mid new configuration cap left = tt
 were_left HistoryFull x xs old mid new configuration cap left =
-    subst (λ (h : List Entry). HasNoRoom old.configuration old.cap (after old.configuration h) x.kind) (sym left.entries)
-    (subst (λ (n : ℕ). HasNoRoom old.configuration n (after old.configuration mid.entries) x.kind) cap
-    (subst (λ (c : Configuration). HasNoRoom c mid.cap (after c mid.entries) x.kind) configuration left.why))
+    subst (λ (h : List Entry). HasNoRoom old.configuration old.cap (after old.configuration h) x.kind) (sym left.entries) (behind (λ c n s. HasNoRoom c n s x.kind) old mid configuration cap left.why)
 
 -- nothing was made for want of memory
 pub none_made : (p : Payer) (steps : List Step) (t : StackTold) → IsFresh t → WasBroken p p Memory steps t t
@@ -251,7 +261,7 @@ go_on p q r steps made left x table table' old mid new order few planned way mak
       kept = step.kept;
       table_kept = subst (λ (c : Configuration). HasLastStores c (made ++ x ∷ []) table') (sym step.configuration) has;
       walking =
-          walks_on p q r made x old mid new way.configuration way.most way.counted way.walking step
+          walks_on p q r made x old mid new way.configuration way.cap way.most way.counted way.walking step
           (takes_enough made left x old mid (subst (λ (xs : List Step). cuts_of xs ≤ old.causes.takes) order planned) way.walking.takes);
     }
 

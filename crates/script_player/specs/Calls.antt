@@ -49,8 +49,9 @@ pub record Serves (turns : ℕ) (es : List Entry) (old new : StackTold) : Type 0
 
 -- REQUESTS
 
--- one entry; a job in hand stays in hand, with the turns that were left of it
+-- one entry, which has room; a job in hand stays in hand, with the turns that were left of it
 pub record AddsAsk (e : Entry) (old new : StackTold) : Type 0 where
+  pub room : IsTrue (fits old.configuration old.cap (state_of old) 1)
   pub adds : new ≡ record old { entries = old.entries ++ e ∷ []; work = new.work; causes = new.causes }
   pub explained : AreExplained old.causes.plan (e ∷ []) old new
   pub within : IsWithin old → IsWithin new
@@ -111,8 +112,13 @@ pub record Turns (answer : Turned) (old new : StackTold) : Type 0 where
 
 -- START-UPS
 
--- a start-up that stands is one entry, and makes no changing operation; no cut is planned behind it
+-- a start-up has no room
+abbrev pub StartsFull : StackTold → Type 0
+StartsFull t = t.cap < (state_of t).count + 2
+
+-- one that stands is one entry, and makes no changing operation; no cut is planned behind it
 pub record StartsAgain (old new : StackTold) : Type 0 where
+  pub room : ¬ StartsFull old
   pub marks : List (Instance × Mark)
   pub ops : ℕ
   pub grows : IsGrown (Found marks ops ∷ []) (record old { ready = true }) new
@@ -122,6 +128,7 @@ pub record StartsAgain (old new : StackTold) : Type 0 where
 
 -- one that fails adds no entry and makes no changing operation, and the stack isn't ready
 pub record FailsToStart (old new : StackTold) : Type 0 where
+  pub room : ¬ StartsFull old
   pub only : new ≡ record old { ready = false; faults = new.faults; ops = new.ops; work = new.work; left = new.left; busy = new.busy; causes = new.causes }
   pub operations : new.ops ≡ old.ops
   pub fault : Rose old.faults new.faults
@@ -130,7 +137,7 @@ pub record FailsToStart (old new : StackTold) : Type 0 where
 abbrev pub Restarts : FoundAnswer → StackTold → StackTold → Type 0
 Restarts found.Ready old new = StartsAgain old new
 Restarts found.Failed old new = FailsToStart old new
-Restarts found.NoRoom old new = (new ≡ old) × (old.cap < (state_of old).count + 2)
+Restarts found.NoRoom old new = (new ≡ old) × StartsFull old
 Restarts found.Memory old new = new ≡ old
 
 -- THE PLAYER'S OWN STEPS

@@ -1,16 +1,15 @@
 -- The steps that were made.
-use Rattle.std.specs.Prelude.{◌≡◌, ◌≤◌, ◌<◌, ◌+◌, ◌^◌, ℕ, not, true, false, IsTrue, List, [], ◌∷◌, ◌++◌, length, map, sum_by, Option, None}
+use Rattle.std.specs.Prelude.{◌≡◌, ◌≤◌, ◌<◌, ◌+◌, ◌^◌, ℕ, not, true, false, IsTrue, List, [], ◌∷◌, ◌++◌, length, map, take, sum_by, Option, None}
 use Rattle.nvm_core.specs.nv_base.Count.{Rose, WereCounted}
 use Rattle.nvm_core.specs.nv_base.Entry.{ops_behind}
 use Rattle.nvm_core.specs.block_machine.Words.{Instance, Mark, Request, Reply, Entry, Ask, Found, Configuration}
 use Rattle.nvm_core.specs.block_machine.State.{State}
-use Rattle.nvm_core.specs.block_machine.Reply.{fits}
 use Rattle.nvm_core.specs.block_machine.Prices.{sum_from, block_price}
 use Rattle.nvm_core.specs.block_machine.Steps.{after}
 use Rattle.nvm_core.specs.ram_blocks.Plain.{store_of, plain_blocks_of}
 use Rattle.script_walks.specs.Words.{Step, StepKind, AskStep, Cut, Restart}
 use Rattle.script_walks.specs.Walk.{request_after, is_at_rest, IsPiece, IsWalkOf}
-use Rattle.promise_run.specs.Run.{Played, plan_after, unpaid_off, offs_of_flash, refusals_of, RefusalsExplain}
+use Rattle.promise_run.specs.Run.{Played, EachPiece, HasNoRoom, HadRoom, plan_after, unpaid_off, offs_of_flash, refusals_of, RefusalsExplain}
 use Rattle.promise_run.specs.Completeness.{turns_of, is_drain, is_restart, IsServed}
 use Rattle.promise_run.specs.Turns.{Moment, Move, entries_of, moment_behind, AreMovesOf, HasMoves, EachMove, ServesTurn, all_moves}
 use Rattle.script_player.specs.declared.steps.StepFault.{StepFault}
@@ -63,6 +62,7 @@ pub record IsMade (p q : Payer) (before : List Step) (x : Step) (old new : Stack
   pub entries : new.entries ≡ old.entries ++ piece
   pub counted : old.faults ≤ new.faults
   pub is : IsPiece old.configuration before (state_of old) x piece
+  pub room : ¬ HasNoRoom old.configuration old.cap (state_of old) x.kind
   pub explained : IsExplained x.kind piece old new
   pub serves : StaysCalm old new → ServesJobs x.kind piece old new
   -- its moves, whose entries are the piece
@@ -86,15 +86,9 @@ Makes p q x table table' old new =
     (before : List Step) → length before < 2 ^ 32 → IsKept before old → HasLastStores old.configuration before table
     → IsMade p q before x old new × HasLastStores old.configuration (before ++ x ∷ []) table'
 
--- the next entry has no room
-abbrev pub HasNoRoom : Configuration → ℕ → State → StepKind → Type 0
-HasNoRoom c cap s (AskStep r) = IsTrue (not (fits c cap s 1))
-HasNoRoom c cap s Restart = cap < s.count + 2
-HasNoRoom c cap s kind = ⊥
-
 -- why the step isn't made; it added nothing
 abbrev pub Stops : StepFault → StepKind → StackTold → StackTold → Type 0
-Stops Flash kind old new = (kind ≡ Restart) × Rose old.faults new.faults
+Stops Flash kind old new = (kind ≡ Restart) × Rose old.faults new.faults × ¬ HasNoRoom old.configuration old.cap (state_of old) kind
 Stops HistoryFull kind old new = HasNoRoom old.configuration old.cap (state_of old) kind
 Stops Memory kind old new = Unit {0}
 
@@ -126,6 +120,7 @@ pub record HasWalked (p q : Payer) (made : List Step) (old new : StackTold) : Ty
   pub grows : new.entries ≡ old.entries ++ more
   pub pieces : List (List Entry)
   pub walk : IsWalkOf old.configuration made pieces new.entries
+  pub room : EachPiece old.configuration (HadRoom old.configuration old.cap) (after old.configuration (take 1 new.entries)) made pieces
   pub refusals : (id : ℕ) → RefusalsExplain old.configuration (Played made pieces []) new.entries id
   pub off : WereCounted (offs_of_flash (Played made pieces []) new.entries) old.causes.unplanned new.causes.unplanned
   pub complete : StaysCalm old new → IsServed old.configuration old.most made pieces new.entries
@@ -142,7 +137,7 @@ pub record HasWalked (p q : Payer) (made : List Step) (old new : StackTold) : Ty
 
 -- why these steps were left behind this moment, in the state after the whole history: a start-up failed by a fault of its own
 abbrev pub WereLeft : StepFault → List Step → Moment → StackTold → StackTold → Type 0
-WereLeft Flash (x ∷ xs) last old new = (x.kind ≡ Restart) × Rose last.faults new.faults
+WereLeft Flash (x ∷ xs) last old new = (x.kind ≡ Restart) × Rose last.faults new.faults × ¬ HasNoRoom old.configuration old.cap (after old.configuration new.entries) x.kind
 WereLeft HistoryFull (x ∷ xs) last old new = HasNoRoom old.configuration old.cap (after old.configuration new.entries) x.kind
 WereLeft Memory xs last old new = Unit {0}
 WereLeft fault xs last old new = ⊥

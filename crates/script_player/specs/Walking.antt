@@ -10,8 +10,8 @@ use Rattle.nvm_core.specs.block_machine.Steps.{after, after_from}
 use Rattle.nvm_core.specs.block_machine.Prices.{prices_in_refusals}
 use Rattle.script_walks.specs.Words.{Step}
 use Rattle.script_walks.specs.Walk.{IsWalkOf, joined}
-use Rattle.promise_run.specs.Run.{plan_after, unpaid_offs, refusals_of}
-use Rattle.promise_run.specs.Completeness.{turns_of, is_drain, is_restart, ends_job, EachPiece, DrainsAll}
+use Rattle.promise_run.specs.Run.{EachPiece, HadRoom, plan_after, unpaid_offs, refusals_of}
+use Rattle.promise_run.specs.Completeness.{turns_of, is_drain, is_restart, ends_job, DrainsAll}
 use Rattle.promise_run.specs.Turns.{HasMoves, all_moves}
 use Rattle.script_player.specs.Chain.{shown_of, AreMoved}
 use Rattle.script_player.specs.Told.{StackTold, state_of, moment_of, IsWithin, IsNoEarlier}
@@ -69,6 +69,7 @@ pub record IsWalking (p q : Payer) (made : List Step) (old now : StackTold) : Ty
   pub at : now.entries ≡ Found marks ops ∷ joined pieces
   pub walk : IsWalkOf old.configuration made pieces (Found marks ops ∷ joined pieces)
   pub as_many : length pieces ≡ length made
+  pub room : EachPiece old.configuration (HadRoom old.configuration old.cap) (after old.configuration (Found marks ops ∷ [])) made pieces
   -- each number of steps explains the refused copies of its Posts, and all steps those of which Posts may tell yet
   pub refusals : (id n : ℕ) → prices_in_refusals old.configuration id (Found marks ops ∷ joined (take n pieces)) ≤ refusals_in id (take n made)
   pub refusable : (id : ℕ) → prices_in_refusals old.configuration id (Found marks ops ∷ joined pieces) + now.causes.refusable id ≤ refusals_in id made
