@@ -75,6 +75,17 @@ impl PendingJobs {
     pub fn next(&self) -> Option<&Job>
         ensures { (c : Configuration) (waiting : List MachineJob) (held : Option MachineJob) → Agree c self.now waiting held → option_copied result ≡ next_in c waiting }
     {
+        if self.queues.is_empty() {
+            return None;
+        }
+        self.first_waiting()
+    }
+
+    // The same where a job waits. It stays out of line, since in most turns none does.
+    #[inline(never)]
+    fn first_waiting(&self) -> Option<&Job>
+        ensures { (c : Configuration) (waiting : List MachineJob) (held : Option MachineJob) → Agree c self.now waiting held → option_copied result ≡ next_in c waiting }
+    {
         let first = self.queues.first()?;
         self.slots.job(first.block)
     }

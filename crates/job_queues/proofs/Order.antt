@@ -1,8 +1,8 @@
 -- The queues and the machine's order.
 use Rattle.std.specs.Option.{option_map_or}
-use Rattle.std.proofs.Common.{◌≡◌, ◌≢◌, ℕ, ◌==◌, not, Bool, true, false, if◌then◌else◌, List, [], ◌∷◌, ◌++◌, length, map, fold, refl, ap, ◌∙◌, arith, Option, Some, None, option_map}
+use Rattle.std.proofs.Common.{◌≡◌, ◌≢◌, ℕ, ◌+◌, ◌==◌, not, Bool, true, false, if◌then◌else◌, List, [], ◌∷◌, ◌++◌, length, map, fold, refl, sym, ap, ◌∙◌, arith, Option, Some, None, option_map}
 use Rattle.std.proofs.lemmas.Bool.Decides.{nat_tests}
-use Rattle.std.proofs.lemmas.List.{append-nil, map-append}
+use Rattle.std.proofs.lemmas.List.{append-nil, map-append, length-append, nil_from_length}
 use Rattle.std.proofs.lemmas.List.Elements.{filter-append}
 use Rattle.block_machine.specs.Words.{Configuration}
 use Rattle.block_machine.specs.State.{Job}
@@ -12,7 +12,7 @@ use Rattle.block_machine.specs.Next.{first_of_two as machine_two, next_in}
 use Rattle.block_machine.specs.Steps.{without_job}
 use Rattle.job_queues.specs.declared.waiting.Waiting.{Waiting}
 use Rattle.job_queues.specs.Order.{first_of, first_of_two, rank_of}
-use Rattle.job_queues.specs.Jobs.{Jobs, either, with_job, with_job_first, without}
+use Rattle.job_queues.specs.Jobs.{Jobs, either, first_in, with_job, with_job_first, without}
 use Rattle.job_queues.specs.Laws.{only, OneOrder, FirstIsNext, AddedWaits, PutBackWaits, TakenLeaves, NoneIsEmpty, ImmediateGoesFirst, waiting_of}
 
 -- ONE ORDER
@@ -81,6 +81,10 @@ empty_by (w ∷ i) s e = cc
 
 pub none_is_empty : NoneIsEmpty
 none_is_empty q = (none_by q.immediate q.standard, empty_by q.immediate q.standard)
+
+-- no job goes first of empty queues
+pub no_first : (q : Jobs) → length q.immediate + length q.standard ≡ 0 → None ≡ first_in q
+no_first q e = sym (empty_by q.immediate q.standard (nil_from_length (q.immediate ++ q.standard) (length-append q.immediate q.standard ∙ e)))
 
 -- THE MACHINE'S NEXT JOB
 

@@ -1,5 +1,5 @@
 // The two queues.
-ghost use Rattle.std.specs.Prelude.{◌≡◌, ◌-◌, ◌^◌, ◌<◌, ◌≤◌, ◌↔◌, ◌==◌, not, [], length, true, false, IfOk};
+ghost use Rattle.std.specs.Prelude.{◌≡◌, ◌+◌, ◌-◌, ◌^◌, ◌<◌, ◌≤◌, ◌↔◌, ◌==◌, not, [], length, true, false, IfOk};
 ghost use Rattle.job_queues.specs.Jobs.{jobs_of, size_of, first_in, found_in, with_job, with_job_first, without_first, without_block};
 
 use crate::Waiting;
@@ -77,6 +77,13 @@ impl Queues {
             Some(first) => Some(first),
             None => first_of(&self.standard),
         }
+    }
+
+    /// Whether no job waits. It looks at no job.
+    pub fn is_empty(&self) -> bool
+        ensures { (result ≡ true) ↔ (length self.now.immediate + length self.now.standard ≡ 0) }
+    {
+        self.immediate.is_empty() && self.standard.is_empty()
     }
 
     /// Whether a job waits in the immediate queue. It looks at no job.
