@@ -198,6 +198,13 @@ impl BlockStates {
         self.close(id, answer, protects);
     }
 
+    /// The states are as before the first start-up. The memory stays.
+    pub fn forget(&mut self)
+        ensures { self.new ≡ record self.old { states = [] } }
+    {
+        self.started = false;
+    }
+
     /// A start-up that found these marks: no block is locked, each is protected as it is configured, or a write-once
     /// block where it was written, and RAM is zeros. It takes no memory.
     pub fn start_up(&mut self, config: &Config, marks: &Marks)

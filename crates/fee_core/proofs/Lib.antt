@@ -7,6 +7,7 @@ mod Looking
 mod Opening
 mod Planning
 mod Reading
+mod RoomTold
 mod Settled
 mod Standing
 mod Started

@@ -1,13 +1,13 @@
 -- What a turn that does something begins with, and the open job of a started device.
 use Rattle.std.specs.Prelude.{is_some, IfSome, slice_get}
-use Rattle.std.proofs.Common.{◌≡◌, inl, inr, ◌≤◌, ◌<◌, ◌^◌, ◌++◌, ℕ, zero, suc, Bool, true, false, List, [], ◌∷◌, Option, Some, None, refl, sym, ap, ◌∙◌, subst, arith}
+use Rattle.std.proofs.Common.{◌≡◌, inl, inr, ◌≤◌, ◌<◌, ◌^◌, ℕ, zero, suc, Bool, true, false, List, [], ◌∷◌, Option, Some, None, refl, sym, ap, ◌∙◌, subst, arith}
 use Rattle.nv_base.specs.declared.instance.DeviceNumber.{DeviceNumber}
 use Rattle.nv_base.specs.Lengths.{place_of}
 use Rattle.nv_base.specs.declared.job.DeviceOp.{DeviceOp}
 use Rattle.nv_base.specs.declared.job.DeviceOp.TheVariants.{Read, Write, Invalidate, Erase}
 use Rattle.memif.specs.declared.answer.DeviceTurn.{DeviceTurn}
 use Rattle.memif.specs.declared.answer.DeviceTurn.TheVariants as turn
-use Rattle.fls_model.specs.Told.{Told, Change}
+use Rattle.fls_model.specs.Told.{Told}
 use Rattle.fee_format.specs.declared.rec_head.RecordKind.{RecordKind}
 use Rattle.fee_image.specs.declared.place.Place.{Place}
 use Rattle.fee_image.specs.declared.place.Place.TheVariants.{Unwritten}
@@ -67,10 +67,6 @@ started_by : (b : Bool) → (b ≡ false → ⊥) → b ≡ true
 started_by true never = refl
 started_by false never = absurd (never refl)
 
-none_more : (xs : List Change) → xs ≡ xs ++ []
-none_more [] = refl
-none_more (x ∷ xs) = ap (λ (ys : List Change). x ∷ ys) (none_more xs)
-
 module _ (m : Making) (entry : Told) (s : Parts) (listed : List (DeviceNumber × ℕ)) (kept count : ℕ) (is_off : Bool) (sound : IsSound m entry s listed kept count is_off) where
   job_started : (j : FeeJob) → s.job ≡ Some j → s.started ≡ true
   job_started j job = started_by s.started (λ e. (let none = (sound.rests e).job in cc (none, job)))
@@ -87,8 +83,7 @@ module _ (m : Making) (entry : Told) (s : Parts) (listed : List (DeviceNumber ×
     banks = refl;
     bytes = refl;
     content = inr (idle_shut started shut);
-    more = [];
-    operations = none_more s.operations;
+    operations = refl;
   }
 
 -- what is some

@@ -1,6 +1,6 @@
 -- The next page of a record in work in the active log.
 use Rattle.std.specs.Prelude.{IfSome, IsSome}
-use Rattle.std.proofs.Common.{◌≡◌, inl, inr, ◌<◌, ◌≤◌, ◌++◌, ◌∷◌, ℕ, List, [], Option, Some, None, refl, sym, ◌∙◌, subst, arith}
+use Rattle.std.proofs.Common.{◌≡◌, inl, inr, ◌<◌, ◌≤◌, ◌++◌, ◌∷◌, ℕ, true, false, List, [], Option, Some, None, refl, sym, ◌∙◌, subst, arith}
 use Rattle.std.proofs.lemmas.Bool.{cases_eq}
 use Rattle.nv_base.specs.Geometry.{pages_of_bank, address_of_page}
 use Rattle.nv_base.specs.declared.geometry.Geometry.{Geometry}
@@ -20,6 +20,8 @@ use Rattle.fee_log.specs.Step.{IsPageOf, due_page, due_bytes, op_of, after_step}
 use Rattle.fee_log.proofs.Steps.{answers_hold}
 use Rattle.fee_switch.specs.declared.active.ActiveBank.{ActiveBank}
 use Rattle.fee_switch.specs.Banks.{BanksState, IsBanksState, IsLogOf}
+use Rattle.fee_course.specs.declared.course.Course.{Course}
+use Rattle.promise_device.specs.Bridge.{is_program}
 use Rattle.fee_laws.specs.Inside.{body_of}
 use Rattle.fee_laws.specs.Follows.{anything, IsClosedFor, FollowsLog, FollowsBytes}
 use Rattle.fee_image.proofs.Frames.{SameOthers, others_stay, page_stays}
@@ -70,17 +72,17 @@ state_after s content old new answer state holds work page on leaves left =
     ]
 
 -- why it is closed
-closed_after : (s : LogState) (xs : List Change) (x : Change) (new : List ℕ) (answer : FlashAnswer) → IsSome (work_in s.tail) → (answer ≡ Off → ⊥) → x.answer ≡ answer → IsClosedFor (after_step s answer) (xs ++ x ∷ []) new
-closed_after s xs x new Done work on is = λ shut. (let wide = done_open s s.tail work in cc (shut, wide))
-closed_after s xs x new Failed work on is = λ shut. inr (failed_last xs x is)
-closed_after s xs x new Off work on is = absurd (on refl)
+closed_after : (c : Option Course) (s : LogState) (xs : List Change) (x : Change) (new : List ℕ) (answer : FlashAnswer) → IsSome (work_in s.tail) → (answer ≡ Off → ⊥) → is_program x.op ≡ true → x.answer ≡ answer → IsClosedFor c (after_step s answer) (xs ++ x ∷ []) new
+closed_after c s xs x new Done work on program is = λ none shut. (let wide = done_open s s.tail work in cc (shut, wide))
+closed_after c s xs x new Failed work on program is = λ none shut. inr (failed_last false xs x program is)
+closed_after c s xs x new Off work on program is = absurd (on refl)
 
 module _ (s : BanksState) (is : IsBanksState s) (state : IsLogState s.log) (content old new : List ℕ) (xs : List Change) (x : Change) (a : ActiveBank) (active : s.active ≡ Some a) (work : IsSome (work_in s.log.tail)) (follows : FollowsBytes s content xs old) where
   abbrev body : List ℕ
   body = body_of (work_in s.log.tail) content
 
-  log : FollowsLog s.log body xs old
-  log = subst (λ (o : Option ActiveBank). IfSome o (λ y. FollowsLog s.log body xs old)) active follows.log
+  log : FollowsLog s.course s.log body xs old
+  log = subst (λ (o : Option ActiveBank). IfSome o (λ y. FollowsLog s.course s.log body xs old)) active follows.log
 
   other : s.target ≡ s.log.bank → ⊥
   other same = (let b = subst (λ (o : Option ActiveBank). IfSome o (λ y. (y.bank ≡ s.target → ⊥) × (s.log.bank ≡ y.bank))) active is.active in b.0 (sym b.1 ∙ sym same))
@@ -97,15 +99,15 @@ module _ (s : BanksState) (is : IsBanksState s) (state : IsLogState s.log) (cont
           | inr differs ↦ fronts_of s is old new j (others s.geometry s.banks s.log is.log state work body old new page leaves j differs)
         ]
 
-    pub goes_on : (answer : FlashAnswer) → (answer ≡ Off → ⊥) → Leaves (op_of s.log body) answer old new → x.answer ≡ answer → FollowsBytes (record s { log = after_step s.log answer }) content (xs ++ x ∷ []) new
-    goes_on answer on left same =
+    pub goes_on : (answer : FlashAnswer) → (answer ≡ Off → ⊥) → Leaves (op_of s.log body) answer old new → is_program x.op ≡ true → x.answer ≡ answer → FollowsBytes (record s { log = after_step s.log answer }) content (xs ++ x ∷ []) new
+    goes_on answer on left program same =
         let page' = subst (λ (g : Geometry). IsPageOf g.page (due_bytes s.log body)) (sym is.log.shape) page in
         let then = after_step s.log answer in
         let apart = others s.geometry s.banks s.log is.log state work body old new page leaves s.target other in
         record {
-          log = subst (λ (o : Option ActiveBank). IfSome o (λ y. FollowsLog then (body_of (work_in then.tail) content) (xs ++ x ∷ []) new)) (sym active) (record {
+          log = subst (λ (o : Option ActiveBank). IfSome o (λ y. FollowsLog s.course then (body_of (work_in then.tail) content) (xs ++ x ∷ []) new)) (sym active) (record {
             holds = state_after s.log content old new answer state log.holds work page' on leaves left;
-            closed = closed_after s.log xs x new answer work on same;
+            closed = closed_after s.course s.log xs x new answer work on program same;
           });
           banks = with_log s then s.course s.course new (banks_stay s is old new s.course leaves.0.size fronts apart follows.banks);
         }

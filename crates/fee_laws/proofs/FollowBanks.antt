@@ -1,8 +1,7 @@
 -- Banks whose pages stay.
-use Rattle.std.specs.Prelude.{IfSome, IsTrue, ◌||◌}
-use Rattle.std.proofs.Common.{◌≡◌, inl, inr, ◌<◌, ◌≤◌, ◌++◌, ◌∷◌, ℕ, Bool, true, false, List, [], length, Option, Some, None, refl, sym, ap, ◌∙◌, subst, arith}
+use Rattle.std.specs.Prelude.{IfSome, IsTrue, ◌||◌, ◌&&◌}
+use Rattle.std.proofs.Common.{◌≡◌, ◌⊎◌, inl, inr, ◌<◌, ◌≤◌, ◌++◌, ◌∷◌, ℕ, Bool, true, false, List, [], length, Option, Some, None, refl, sym, ap, ◌∙◌, subst, arith}
 use Rattle.std.proofs.lemmas.Bool.{cond_both}
-use Rattle.std.proofs.lemmas.List.Folds.{list_any-append}
 use Rattle.nv_base.specs.Geometry.{pages_of_bank}
 use Rattle.nv_base.specs.declared.geometry.Geometry.{Geometry}
 use Rattle.fls_model.specs.declared.flash.FlashAnswer.TheVariants.{Failed}
@@ -12,17 +11,19 @@ use Rattle.fee_image.specs.Image.{Layout, layout_of, bank_in, image_page, BankSt
 use Rattle.fee_image.proofs.Banks.{active_stays}
 use Rattle.fee_image.proofs.Sectors.{layouts_are_legal}
 use Rattle.fee_image.proofs.Frames.{stands_same}
+use Rattle.fee_log.specs.Laws.{HoldsState}
 use Rattle.fee_log.specs.Log.{LogState, bank_of, work_in}
 use Rattle.fee_switch.specs.declared.active.ActiveBank.{ActiveBank}
 use Rattle.fee_course.specs.declared.course.Course.{Course}
 use Rattle.fee_course.specs.declared.course.Course.TheVariants.{Erase, Copy, Head, Gate}
 use Rattle.fee_switch.specs.Banks.{BanksState, IsBanksState, IsLogOf, appended_at}
 use Rattle.fee_switch_laws.specs.Shown.{layout_in}
-use Rattle.promise_device.specs.Bridge.{has_failed, is_failed}
+use Rattle.promise_device.specs.Bridge.{has_failed, is_failed, is_program}
+use Rattle.promise_device.specs.Room.{failed_from}
 use Rattle.fee_laws.specs.Inside.{body_of}
 use Rattle.fee_laws.specs.Follows.{anything, FollowsLog, StandsFirst, FollowsCopies, FollowsTarget, FollowsBanks}
 use Rattle.fee_image.proofs.Frames.{SamePages}
-use Rattle.fee_laws.proofs.FollowStates.{SameBody, state_moves, closed_moves}
+use Rattle.fee_laws.proofs.FollowStates.{SameBody, state_moves}
 
 -- OPERATIONS
 or_left : (a b : Bool) → IsTrue a → IsTrue (a || b)
@@ -33,12 +34,27 @@ or_right : (a b : Bool) → IsTrue b → IsTrue (a || b)
 or_right true b is = refl
 or_right false b is = is
 
--- one that failed is never forgotten
-pub failed_more : (xs more : List Change) → IsTrue (has_failed xs) → IsTrue (has_failed (xs ++ more))
-failed_more xs more is = list_any-append (λ (x : Change). is_failed x.answer) xs more ∙ or_left (has_failed xs) (has_failed more) is
+-- a program that failed last may have closed the bank
+and_both : (a b : Bool) → a ≡ true → b ≡ true → a && b ≡ true
+and_both true b is holds = holds
+and_both false b is holds = cc is
 
-pub failed_last : (xs : List Change) (x : Change) → x.answer ≡ Failed → IsTrue (has_failed (xs ++ x ∷ []))
-failed_last xs x is = list_any-append (λ (y : Change). is_failed y.answer) xs (x ∷ []) ∙ or_right (has_failed xs) (has_failed (x ∷ [])) (ap (λ a. is_failed a || false) is)
+pub failed_last : (before : Bool) (xs : List Change) (x : Change) → is_program x.op ≡ true → x.answer ≡ Failed → IsTrue (failed_from before (xs ++ x ∷ []))
+failed_last before [] x program is = and_both (is_program x.op) (before || is_failed x.answer) program (or_right before (is_failed x.answer) (ap is_failed is))
+failed_last before (y ∷ ys) x program is = failed_last (is_program y.op && (before || is_failed y.answer)) ys x program is
+
+-- only an operation that failed may have
+or_by : (before now program : Bool) → program && (before || now) ≡ true → (before ≡ true) ⊎ (now ≡ true)
+or_by true now program is = inl refl
+or_by false now true is = inr is
+or_by false now false is = cc is
+
+pub failed_once : (before : Bool) (xs : List Change) → IsTrue (failed_from before xs) → (before ≡ true) ⊎ IsTrue (has_failed xs)
+failed_once before [] is = inl is
+failed_once before (x ∷ xs) is = elim (failed_once (is_program x.op && (before || is_failed x.answer)) xs is) [
+  | inl now ↦ elim (or_by before (is_failed x.answer) (is_program x.op) now) [ inl was ↦ inl was | inr failed ↦ inr (or_left (is_failed x.answer) (has_failed xs) failed) ]
+  | inr failed ↦ inr (or_right (is_failed x.answer) (has_failed xs) failed)
+]
 
 -- THE PAGES OF A LOG'S BANK
 module _ (g : Geometry) (banks : ℕ) (log : LogState) (of : IsLogOf g banks log) (old new : List ℕ) where
@@ -49,13 +65,11 @@ module _ (g : Geometry) (banks : ℕ) (log : LogState) (of : IsLogOf g banks log
   same_body same q low inside = page_is new q ∙ same q (subst (λ (n : ℕ). q < n) (λ i. pages_of_bank (of.shape i) (of.shared i)) inside) ∙ sym (page_is old q)
 
 -- THE ACTIVE LOG
-pub log_stays : (s : LogState) (body old new : List ℕ) (xs more : List Change) → 16 ≤ s.geometry.page → length new ≡ length old → SameBody s old new → FollowsLog s body xs old → FollowsLog s body (xs ++ more) new
-log_stays s body old new xs more low long same follows = record {
-  holds = state_moves s body old new anything low long same follows.holds;
-  closed = λ shut. elim (follows.closed shut) [
-    | inl is ↦ inl (closed_moves s old new same is)
-    | inr failed ↦ inr (failed_more xs more failed)
-  ];
+-- while a switch is open
+pub log_stays : (then : Course) (s : LogState) (body old new : List ℕ) (xs : List Change) → 16 ≤ s.geometry.page → length new ≡ length old → SameBody s old new → HoldsState s body old anything → FollowsLog (Some then) s body xs new
+log_stays then s body old new xs low long same holds = record {
+  holds = state_moves s body old new anything low long same holds;
+  closed = λ none. cc none;
 }
 
 -- THE BANKS

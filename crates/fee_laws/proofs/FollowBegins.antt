@@ -40,12 +40,12 @@ pub record MayBeginIn (s : BanksState) (head : RecHead) (content : List ℕ) : T
   pub room : IfSome s.active (λ a. record_pages_of head.length s.log.geometry.page ≤ free_in s.log)
   pub size : length (body_of (Some head) content) ≡ head.length
 
-pub log_begins : (s : LogState) (head : RecHead) (content bytes : List ℕ) (xs : List Change) → IsLogState s → work_in s.tail ≡ None → IsFor s.numbers head → record_pages_of head.length s.geometry.page ≤ free_in s
-    → length (body_of (Some head) content) ≡ head.length → FollowsLog s (body_of (work_in s.tail) content) xs bytes → FollowsLog (begun s head) (body_of (work_in (begun s head).tail) content) xs bytes
-log_begins s head content bytes xs state idle configured room size follows = record {
+pub log_begins : (c : Option Course) (s : LogState) (head : RecHead) (content bytes : List ℕ) (xs : List Change) → IsLogState s → work_in s.tail ≡ None → IsFor s.numbers head → record_pages_of head.length s.geometry.page ≤ free_in s
+    → length (body_of (Some head) content) ≡ head.length → FollowsLog c s (body_of (work_in s.tail) content) xs bytes → (then : Option Course) → FollowsLog then (begun s head) (body_of (work_in (begun s head).tail) content) xs bytes
+log_begins c s head content bytes xs state idle configured room size follows then = record {
   holds = subst (λ (o : Option RecHead). HoldsState (begun s head) (body_of o content) bytes anything) (sym (work_begun s.tail head))
       (begins_hold s head (body_of (work_in s.tail) content) (body_of (Some head) content) bytes anything state follows.holds idle configured room size (λ number length fit. tt));
-  closed = λ shut. (let wide = begun_open s.tail head in cc (shut, wide));
+  closed = λ none shut. (let wide = begun_open s.tail head in cc (shut, wide));
 }
 
 pub record_begins : (s : BanksState) (head : RecHead) (content bytes : List ℕ) (xs : List Change) → IsLogState s.log → MayBeginIn s head content → FollowsBytes s content xs bytes → FollowsBytes (append_begun s head) content xs bytes
@@ -57,30 +57,30 @@ record_begins s head content bytes xs state may follows =
     }
   where
     by_active : (o : Option ActiveBank) → IfSome o (λ a. record_pages_of head.length s.log.geometry.page ≤ free_in s.log)
-        → IfSome o (λ a. FollowsLog s.log (body_of (work_in s.log.tail) content) xs bytes) → IfSome o (λ a. FollowsLog (begun s.log head) (body_of (work_in (begun s.log head).tail) content) xs bytes)
+        → IfSome o (λ a. FollowsLog s.course s.log (body_of (work_in s.log.tail) content) xs bytes) → IfSome o (λ a. FollowsLog (append_begun s head).course (begun s.log head) (body_of (work_in (begun s.log head).tail) content) xs bytes)
     by_active None room follows' = tt
-    by_active (Some a) room follows' = log_begins s.log head content bytes xs state may.idle may.configured room may.size follows'
+    by_active (Some a) room follows' = log_begins s.course s.log head content bytes xs state may.idle may.configured room may.size follows' (append_begun s head).course
 
 -- A RECORD IS GIVEN UP
-log_given : (s : LogState) (content bytes : List ℕ) (xs : List Change) → IsLogState s → FollowsLog s (body_of (work_in s.tail) content) xs bytes → FollowsLog (given_up s) (body_of (work_in (given_up s).tail) content) xs bytes
-log_given s content bytes xs state follows = record {
+log_given : (c : Option Course) (s : LogState) (content bytes : List ℕ) (xs : List Change) → IsLogState s → FollowsLog c s (body_of (work_in s.tail) content) xs bytes → FollowsLog c (given_up s) (body_of (work_in (given_up s).tail) content) xs bytes
+log_given c s content bytes xs state follows = record {
   holds = given_up_holds s (body_of (work_in s.tail) content) (body_of (work_in (given_up s).tail) content) bytes anything state follows.holds;
-  closed = λ shut. follows.closed (given_closed s s.tail shut);
+  closed = λ none shut. follows.closed none (given_closed s s.tail shut);
 }
 
 pub record_given : (s : BanksState) (content bytes : List ℕ) (xs : List Change) → IsLogState s.log → FollowsBytes s content xs bytes → FollowsBytes (record s { log = given_up s.log }) content xs bytes
 record_given s content bytes xs state follows = record {
-  log = each s.active (λ a. FollowsLog s.log (body_of (work_in s.log.tail) content) xs bytes) (λ a. FollowsLog (given_up s.log) (body_of (work_in (given_up s.log).tail) content) xs bytes) (λ a at. log_given s.log content bytes xs state) follows.log;
+  log = each s.active (λ a. FollowsLog s.course s.log (body_of (work_in s.log.tail) content) xs bytes) (λ a. FollowsLog s.course (given_up s.log) (body_of (work_in (given_up s.log).tail) content) xs bytes) (λ a at. log_given s.course s.log content bytes xs state) follows.log;
   banks = with_log s (given_up s.log) s.course s.course bytes follows.banks;
 }
 
 -- FLAGS
--- they are none of what a log's bank holds
-pub log_flagged : (s : LogState) (flags : List Bool) (body bytes : List ℕ) (xs : List Change) → FollowsLog s body xs bytes → FollowsLog (record s { flags = flags }) body xs bytes
-log_flagged s flags body bytes xs follows = record { holds = any_flags s flags body bytes anything follows.holds; closed = follows.closed }
+-- they are none of what a log's bank holds, and while a switch is open it may be closed for any reason
+pub log_flagged : (c : Option Course) (then : Course) (s : LogState) (flags : List Bool) (body bytes : List ℕ) (xs : List Change) → FollowsLog c s body xs bytes → FollowsLog (Some then) (record s { flags = flags }) body xs bytes
+log_flagged c then s flags body bytes xs follows = record { holds = any_flags s flags body bytes anything follows.holds; closed = λ none. cc none }
 
-pub active_flagged : (s : BanksState) (flags : List Bool) (body bytes : List ℕ) (xs : List Change) → IfSome s.active (λ a. FollowsLog s.log body xs bytes) → IfSome s.active (λ a. FollowsLog (record s.log { flags = flags }) body xs bytes)
-active_flagged s flags body bytes xs follows = each s.active (λ a. FollowsLog s.log body xs bytes) (λ a. FollowsLog (record s.log { flags = flags }) body xs bytes) (λ a at. log_flagged s.log flags body bytes xs) follows
+pub active_flagged : (c : Option Course) (then : Course) (s : BanksState) (flags : List Bool) (body bytes : List ℕ) (xs : List Change) → IfSome s.active (λ a. FollowsLog c s.log body xs bytes) → IfSome s.active (λ a. FollowsLog (Some then) (record s.log { flags = flags }) body xs bytes)
+active_flagged c then s flags body bytes xs follows = each s.active (λ a. FollowsLog c s.log body xs bytes) (λ a. FollowsLog (Some then) (record s.log { flags = flags }) body xs bytes) (λ a at. log_flagged c then s.log flags body bytes xs) follows
 
 -- A SWITCH BEGINS
 -- the active bank that is shown stands first
@@ -104,6 +104,6 @@ module _ (s : BanksState) (bytes : List ℕ) where
   switch_begins content xs shut follows =
       let first = first_shown (subst (λ (c : Option Course). FollowsBanks s c bytes) shut follows.banks) in
       record {
-        log = active_flagged s (clear_flags s.log.numbers) (body_of (work_in s.log.tail) content) bytes xs follows.log;
+        log = active_flagged s.course (Erase 0) s (clear_flags s.log.numbers) (body_of (work_in s.log.tail) content) bytes xs follows.log;
         banks = (record { stands = first.stands; behind = first.behind }, λ q below inside. absurd (omega arith));
       }

@@ -1,6 +1,6 @@
 -- What a device knows of its room, its start-ups, and its calls without a changing operation.
 use Rattle.std.specs.Prelude.{IfSome, is_some, if◌then◌else◌, take}
-use Rattle.std.proofs.Common.{◌≡◌, ◌≢◌, ◌⊎◌, inl, inr, ◌≤◌, ◌+◌, ◌++◌, ℕ, List, length, Option, Some, None, refl, sym, ap, ◌∙◌, subst, arith}
+use Rattle.std.proofs.Common.{◌≡◌, ◌≢◌, ◌⊎◌, inl, inr, ◌≤◌, ◌+◌, ℕ, List, length, Option, Some, None, refl, sym, ap, ◌∙◌, subst, arith}
 use Rattle.std.proofs.lemmas.List.{length-take-le}
 use Rattle.std.proofs.lemmas.Option.{slice_get-get_or}
 use Rattle.nv_base.specs.Geometry.{address_of_page}
@@ -32,7 +32,6 @@ use Rattle.fee_laws.specs.Worn.{KnowsRoom}
 use Rattle.fee_laws.specs.Begins.{MayBegin}
 use Rattle.fee_laws.specs.Follows.{FollowsLog, FollowsBytes}
 use Rattle.fee_laws.specs.FollowLaws.{RoomIsKnown, UnstartedFollows, StartsFollow, SameFollow, FailedFollow, GivenUpFollows, BegunFollows, SwitchingFollows, ReadsFollow}
-use Rattle.fee_laws.proofs.FollowBanks.{failed_more}
 use Rattle.fee_laws.proofs.FollowBegins.{MayBeginIn, each, record_begins, record_given, switch_begins}
 use Rattle.fee_laws.proofs.FollowStarts.{found_follows}
 use Rattle.fee_laws.proofs.FollowKnown.{knows}
@@ -57,18 +56,15 @@ starts_follow s is = λ started on.
     (now_at s.fls.flash.bytes (λ (x : List ℕ). FindsActive x s.banks) bytes at is.finds) (now_at s.fls.flash.bytes (λ (x : List ℕ). LoadsActive x s.banks) bytes at is.loads))
 
 -- THE SAME BANKS
--- another content while no record is in work, and more operations
+-- another content while no record is in work
 same_content : (s : BanksState) (content after : List ℕ) → (after ≡ content) ⊎ (work_in s.log.tail ≡ None) → body_of (work_in s.log.tail) content ≡ body_of (work_in s.log.tail) after
 same_content s content after (inl same) = ap (body_of (work_in s.log.tail)) (sym same)
 same_content s content after (inr idle) = ap (λ (o : Option RecHead). body_of o content) idle ∙ sym (ap (λ (o : Option RecHead). body_of o after) idle)
 
-more_follow : (s : BanksState) (content after bytes : List ℕ) (xs more : List Change) → (after ≡ content) ⊎ (work_in s.log.tail ≡ None) → FollowsBytes s content xs bytes → FollowsBytes s after (xs ++ more) bytes
-more_follow s content after bytes xs more same follows = record {
-  log = each s.active (λ a. FollowsLog s.log (body_of (work_in s.log.tail) content) xs bytes) (λ a. FollowsLog s.log (body_of (work_in s.log.tail) after) (xs ++ more) bytes) (λ a at log.
-      subst (λ (body : List ℕ). FollowsLog s.log body (xs ++ more) bytes) (same_content s content after same) (record {
-        holds = log.holds;
-        closed = λ shut. elim (log.closed shut) [ inl is ↦ inl is | inr failed ↦ inr (failed_more xs more failed) ];
-      })) follows.log;
+content_follows : (s : BanksState) (content after bytes : List ℕ) (xs : List Change) → (after ≡ content) ⊎ (work_in s.log.tail ≡ None) → FollowsBytes s content xs bytes → FollowsBytes s after xs bytes
+content_follows s content after bytes xs same follows = record {
+  log = each s.active (λ a. FollowsLog s.course s.log (body_of (work_in s.log.tail) content) xs bytes) (λ a. FollowsLog s.course s.log (body_of (work_in s.log.tail) after) xs bytes)
+      (λ a at log. subst (λ (body : List ℕ). FollowsLog s.course s.log body xs bytes) (same_content s content after same) log) follows.log;
   banks = follows.banks;
 }
 
@@ -76,9 +72,9 @@ pub same_follow : SameFollow
 same_follow s t is follows = λ started on.
     subst (λ (b : BanksState). IfSome t.fls.flash.bytes (λ y. FollowsBytes b t.content t.operations y.now)) (sym is.banks)
     (subst (λ (xs : List Change). IfSome t.fls.flash.bytes (λ y. FollowsBytes s.banks t.content xs y.now)) (sym is.operations)
-    (subst (λ (o : Option ToldBytes). IfSome o (λ y. FollowsBytes s.banks t.content (s.operations ++ is.more) y.now)) (sym is.bytes)
-    (each_now s.fls.flash.bytes (FollowsBytes s.banks t.content (s.operations ++ is.more)) (λ bytes at.
-    more_follow s.banks s.content t.content bytes s.operations is.more is.content (now_at s.fls.flash.bytes (FollowsBytes s.banks s.content s.operations) bytes at (follows (is.started started) (is.on on)))))))
+    (subst (λ (o : Option ToldBytes). IfSome o (λ y. FollowsBytes s.banks t.content s.operations y.now)) (sym is.bytes)
+    (each_now s.fls.flash.bytes (FollowsBytes s.banks t.content s.operations) (λ bytes at.
+    content_follows s.banks s.content t.content bytes s.operations is.content (now_at s.fls.flash.bytes (FollowsBytes s.banks s.content s.operations) bytes at (follows (is.started started) (is.on on)))))))
 
 pub failed_follow : FailedFollow
 failed_follow s None follows = follows
@@ -144,8 +140,4 @@ reads_follow m entry s listed kept count j at writes content answer f reading as
     let idle = no_work s j (work_in s.banks.log.tail) reading.job reading.op (on.sound.works on.started).work in
     let address = address_of_page s.banks.log.geometry s.banks.log.banks s.banks.log.bank (at + 2) in
     memory_follows s f s.banks content on.started (power m entry s listed kept count on) (read_bytes address s.fls.flash f.flash (take j.length s.content) (take j.length content) answer asked.read)
-    (λ bytes told was. record {
-      log = each s.banks.active (λ a. FollowsLog s.banks.log (body_of (work_in s.banks.log.tail) s.content) s.operations bytes) (λ a. FollowsLog s.banks.log (body_of (work_in s.banks.log.tail) content) s.operations bytes)
-          (λ a there log. subst (λ (body : List ℕ). FollowsLog s.banks.log body s.operations bytes) (same_content s.banks s.content content (inr idle)) log) was.log;
-      banks = was.banks;
-    }) follows
+    (λ bytes told was. content_follows s.banks s.content content bytes s.operations (inr idle) was) follows

@@ -64,17 +64,17 @@ module _ (s : BanksState) (is : IsBanksState s) (bytes : List ℕ) (are : AreByt
         let any = logs_widen b s.log.numbers bytes (exactly b bytes) anything (loaded_log b s.log.numbers bytes (tail_with s.log.tail body)) (λ number length m among. tt) h in
         subst (HoldsLog b s.log.numbers bytes anything) (sym (loaded.loaded body)) any
 
-    pub log_found : FollowsLog s.log body xs bytes
+    pub log_found : FollowsLog s.course s.log body xs bytes
     log_found = record {
       holds = record {
         size = subst (λ (n : ℕ). n ≤ length bytes) size_is (wide s is bytes are);
         holds = subst (λ (b : Bank). HoldsLog b s.log.numbers bytes anything (log_of s.log body)) bank_is held;
         follows = loaded_follows (bank_in l a.head.format a.bank) bytes body s.log.tail (loaded.tail body);
       };
-      closed = λ shut. inl (subst (λ (b : Bank). IsClosed b bytes (end_of b bytes)) bank_is (loaded.closed shut));
+      closed = λ none shut. inl (subst (λ (b : Bank). IsClosed b bytes (end_of b bytes)) bank_is (loaded.closed shut));
     }
 
-  found_by : (o : Option ActiveBank) → IfSome o (λ a. (a.bank ≡ s.target → ⊥) × (s.log.bank ≡ a.bank)) → IfSome o (λ a. IsLoadedAs l bytes a.bank a.head s.log) → IfSome o (λ a. FollowsLog s.log body xs bytes)
+  found_by : (o : Option ActiveBank) → IfSome o (λ a. (a.bank ≡ s.target → ⊥) × (s.log.bank ≡ a.bank)) → IfSome o (λ a. IsLoadedAs l bytes a.bank a.head s.log) → IfSome o (λ a. FollowsLog s.course s.log body xs bytes)
   found_by None state loaded = tt
   found_by (Some a) state loaded = log_found a state.1 loaded
 

@@ -1,11 +1,9 @@
 -- Logs whose banks' pages stay, and logs of which nothing but the content of a record in work changes.
-use Rattle.std.proofs.Common.{◌≡◌, inl, inr, ◌<◌, ◌≤◌, ℕ, ◌+◌, ◌*◌, Bool, List, [], ◌∷◌, length, Some, None, refl, sym, ap, ◌∙◌, subst, arith}
-use Rattle.fee_image.specs.Bank.{Bank, page_of}
-use Rattle.fee_image.specs.RecordList.{Rec, IsClosed, end_after, end_of, records_of, pages_of_head}
+use Rattle.std.proofs.Common.{◌≡◌, ◌<◌, ◌≤◌, ℕ, ◌*◌, Bool, List, length, Some, None, refl, subst, arith}
+use Rattle.fee_image.specs.Bank.{page_of}
 use Rattle.fee_image.specs.Log.{HoldsLog, Tail as LogTail}
 use Rattle.fee_image.specs.May.{May, IsWider}
 use Rattle.fee_image.proofs.Logs.{logs_stay, logs_widen}
-use Rattle.fee_image.proofs.Reading.{records_stay}
 use Rattle.fee_log.specs.declared.tail.Tail.{Tail}
 use Rattle.fee_log.specs.declared.tail.Tail.TheVariants.{Open, Writes, Owes, Closed}
 use Rattle.fee_log.specs.Laws.{HoldsState, MayFollow}
@@ -23,24 +21,6 @@ state_moves s body old new may low long same holds = record {
   holds = logs_stay (bank_of s) s.numbers old new (s.bank * pages_in s) may (log_of s body) low same holds.holds;
   follows = holds.follows;
 }
-
-low_end : (p q : ℕ) (rs : List Rec) → q ≤ end_after p q rs
-low_end p q [] = omega arith
-low_end p q (r ∷ rs) = let h = low_end p (q + pages_of_head p r.head) rs in omega (arith, h)
-
-module _ (s : LogState) (old new : List ℕ) (same : SameBody s old new) where
-  abbrev b : Bank
-  b = bank_of s
-
-  end_same : end_of b new ≡ end_of b old
-  end_same = ap (end_after b.page 2) (records_stay b old new (s.bank * pages_in s) same)
-
-  pub closed_moves : IsClosed b old (end_of b old) → IsClosed b new (end_of b new)
-  closed_moves (inl other) = inl other
-  closed_moves (inr closed) = inr (λ blank. closed (λ q above inside.
-      (let low = low_end b.page 2 (records_of b old) in
-      let e = end_same in
-      sym (same q (omega (arith, low, above)) inside) ∙ blank q (omega (arith, e, above)) inside)))
 
 -- THE CONTENT
 -- with no record in work there is none

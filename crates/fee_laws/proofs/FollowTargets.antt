@@ -34,18 +34,18 @@ module _ (s : BanksState) (is : IsBanksState s) (content old new : List ℕ) (xs
   low : 16 ≤ s.log.geometry.page
   low = subst (λ g. 16 ≤ g.page) (sym is.log.shape) is.legal.page_low
 
-  log_by : (o : Option ActiveBank) → IfSome o (λ a. (a.bank ≡ s.target → ⊥) × (s.log.bank ≡ a.bank)) → IfSome o (λ a. FollowsLog s.log body xs old) → IfSome o (λ a. FollowsLog s.log body (xs ++ more) new)
+  log_by : (o : Option ActiveBank) → IfSome o (λ a. (a.bank ≡ s.target → ⊥) × (s.log.bank ≡ a.bank)) → IfSome o (λ a. FollowsLog s.course s.log body xs old) → IfSome o (λ a. FollowsLog (Some c) s.log body (xs ++ more) new)
   log_by None other log = tt
-  log_by (Some a) other log = log_stays s.log body old new xs more low long (same_body s.geometry s.banks s.log is.log old new (apart s.log.bank (λ same. other.0 (sym other.1 ∙ same)))) log
+  log_by (Some a) other log = log_stays c s.log body old new (xs ++ more) low long (same_body s.geometry s.banks s.log is.log old new (apart s.log.bank (λ same. other.0 (sym other.1 ∙ same)))) log.holds
 
-  log : IfSome s.active (λ a. FollowsLog s.log body (xs ++ more) new)
+  log : IfSome s.active (λ a. FollowsLog (Some c) s.log body (xs ++ more) new)
   log = log_by s.active is.active follows.log
 
   -- with these flags, and a target as it is after
   pub builds : (flags : List Bool) (after : Course) (copies : LogState) (buffer : List ℕ) → FollowsTarget (record s { course = Some after; log = record s.log { flags = flags }; copies = copies; buffer = buffer }) after new
       → FollowsBytes (record s { course = Some after; log = record s.log { flags = flags }; copies = copies; buffer = buffer }) content (xs ++ more) new
   builds flags after copies buffer target = record {
-    log = active_flagged s flags body new (xs ++ more) log;
+    log = active_flagged (Some c) after s flags body new (xs ++ more) log;
     banks = (record { stands = first.stands; behind = first.behind }, target);
   }
 

@@ -57,7 +57,7 @@ pages_follow m entry s listed kept count answer f is follows =
     let in_work : IsInWork s.banks s.job h.0 = subst (λ (o : Option RecHead). IfSome o (IsInWork s.banks s.job)) h.1 (on.sound.works on.started).work in
     let a = some_of s.banks.active in_work.active in
     operation_follows s f (record s.banks { log = after_step s.banks.log answer }) (work_op s) (work_op s) answer on.started (power m entry s listed kept count on) is.step
-    (λ not_off old new at leaves left was. goes_on s.banks on.banks on.log s.content old new s.operations (change_of (work_op s) s.fls.flash answer) a.0 a.1 is.work was is.page leaves answer not_off left refl) follows
+    (λ not_off old new at leaves left was. goes_on s.banks on.banks on.log s.content old new s.operations (change_of (work_op s) s.fls.flash answer) a.0 a.1 is.work was is.page leaves answer not_off left refl refl) follows
 
 module _ (m : Making) (entry : Told) (s : Parts) (listed : List (DeviceNumber × ℕ)) (kept count : ℕ) (c : Course) (made : BanksState) (answer : FlashAnswer) (f : FlsState) (is : IsStepping m entry s listed kept count c made answer f) where
   abbrev on : IsOn m entry s listed kept count

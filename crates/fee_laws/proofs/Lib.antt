@@ -89,6 +89,7 @@ mod FollowMarked
 mod FollowContents
 mod FollowStarts
 mod FollowKnown
+pub mod FollowRoom
 mod FollowLifts
 pub mod FollowTurned
 pub mod FollowCalled

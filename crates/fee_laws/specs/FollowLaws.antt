@@ -1,10 +1,10 @@
 -- Laws of a device whose banks follow the bytes of its flash: what that is for, what gives it, and what keeps it.
-use Rattle.std.specs.Prelude.{◌≡◌, ◌⊎◌, ◌++◌, ℕ, true, false, List, length, Option, Some, None, IfSome}
+use Rattle.std.specs.Prelude.{◌≡◌, ◌⊎◌, ℕ, true, false, List, length, Option, Some, None, IfSome}
 use Rattle.nv_base.specs.declared.instance.DeviceNumber.{DeviceNumber}
 use Rattle.fls_model.specs.declared.flash.FlashAnswer.{FlashAnswer}
 use Rattle.fls_model.specs.declared.flash.FlashAnswer.TheVariants.{Done}
 use Rattle.fls_model.specs.Attach.{AreBytesOf}
-use Rattle.fls_model.specs.Told.{Told, Change}
+use Rattle.fls_model.specs.Told.{Told}
 use Rattle.fls_jobs.specs.State.{FlsState}
 use Rattle.fee_image.specs.Image.{bank_in}
 use Rattle.fee_image.specs.RecordList.{IsClosed, end_of}
@@ -15,8 +15,10 @@ use Rattle.fee_course.specs.declared.course.Course.TheVariants.{Copy}
 use Rattle.fee_switch.specs.Banks.{BanksState, IsBanksState, FindsActive, LoadsActive, reads_next, after_answer}
 use Rattle.fee_switch_laws.specs.Shown.{layout_in}
 use Rattle.promise_device.specs.Making.{Making}
+use Rattle.promise_device.specs.Room.{may_be_closed, TellsWork}
+use Rattle.fee_told.specs.Device.{told_of}
 use Rattle.fee_laws.specs.declared.job.FeeJob.{FeeJob}
-use Rattle.fee_laws.specs.Inside.{Parts}
+use Rattle.fee_laws.specs.Inside.{Parts, device_of}
 use Rattle.fee_laws.specs.Turn.{IsOn, operated}
 use Rattle.fee_laws.specs.Appends.{IsAppending, after_page}
 use Rattle.fee_laws.specs.Begins.{MayBegin, MaySwitch, begun_with, switching_with}
@@ -32,6 +34,13 @@ RoomIsKnown =
     (m : Making) (entry : Told) (s : Parts) (listed : List (DeviceNumber × ℕ)) (kept count : ℕ)
     → IsOn m entry s listed kept count → work_in s.banks.log.tail ≡ None → s.banks.course ≡ None → Follows s
     → IfSome s.fls.flash.bytes (λ b. KnowsRoom m entry s b.now)
+
+-- and with no switch open it gives what the bytes say of what the device tells of its room and its turns
+abbrev pub RoomIsTold : Type 0
+RoomIsTold =
+    (m : Making) (entry : Told) (s : Parts) (listed : List (DeviceNumber × ℕ)) (kept count : ℕ)
+    → IsOn m entry s listed kept count → s.banks.course ≡ None → Follows s
+    → IfSome s.fls.flash.bytes (λ b. TellsWork m (may_be_closed s.operations) b.now (told_of (device_of m entry s)))
 
 -- WHAT GIVES IT
 -- a device that isn't started, as it was made or behind a start-up that failed
@@ -55,15 +64,14 @@ abbrev pub StartsFollow : Type 0
 StartsFollow = (s : Parts) → IsFoundIn s → Follows s
 
 -- WHAT KEEPS IT
--- the same banks and bytes, and no operation less; the content may differ while no record is in work
+-- the same banks, bytes and operations; the content may differ while no record is in work
 pub record IsSameBeside (s t : Parts) : Type 0 where
   pub started : t.started ≡ true → s.started ≡ true
   pub on : t.fls.flash.off ≡ false → s.fls.flash.off ≡ false
   pub banks : t.banks ≡ s.banks
   pub bytes : t.fls.flash.bytes ≡ s.fls.flash.bytes
   pub content : (t.content ≡ s.content) ⊎ (work_in s.banks.log.tail ≡ None)
-  pub more : List Change
-  pub operations : t.operations ≡ s.operations ++ more
+  pub operations : t.operations ≡ s.operations
 
 abbrev pub SameFollow : Type 0
 SameFollow = (s t : Parts) → IsSameBeside s t → Follows s → Follows t

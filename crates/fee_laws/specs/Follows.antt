@@ -17,7 +17,7 @@ use Rattle.fee_course.specs.declared.course.Course.{Course}
 use Rattle.fee_course.specs.declared.course.Course.TheVariants.{Erase, Copy, Head, Gate}
 use Rattle.fee_switch.specs.Banks.{BanksState, next_generation}
 use Rattle.fee_switch_laws.specs.Shown.{layout_in}
-use Rattle.promise_device.specs.Bridge.{has_failed}
+use Rattle.promise_device.specs.Room.{may_be_closed}
 use Rattle.fee_laws.specs.Inside.{Parts, body_of}
 
 -- any mark may be found
@@ -25,14 +25,14 @@ abbrev pub anything : May
 anything number length = None
 
 -- THE ACTIVE LOG
--- where it is closed in memory, its bank is closed in the bytes, or an operation failed before
-abbrev pub IsClosedFor : LogState → List Change → List ℕ → Type 0
-IsClosedFor log operations bytes = is_closed log.tail ≡ true → (let b = bank_of log in IsClosed b bytes (end_of b bytes)) ⊎ IsTrue (has_failed operations)
+-- where it is closed in memory, and no switch is open, its bank is closed in the bytes, or a program failed since the last erase
+abbrev pub IsClosedFor : Option Course → LogState → List Change → List ℕ → Type 0
+IsClosedFor course log operations bytes = course ≡ None → is_closed log.tail ≡ true → (let b = bank_of log in IsClosed b bytes (end_of b bytes)) ⊎ IsTrue (may_be_closed operations)
 
 -- its bank holds it, whatever marks that shows
-pub record FollowsLog (log : LogState) (body : List ℕ) (operations : List Change) (bytes : List ℕ) : Type 0 where
+pub record FollowsLog (course : Option Course) (log : LogState) (body : List ℕ) (operations : List Change) (bytes : List ℕ) : Type 0 where
   pub holds : HoldsState log body bytes anything
-  pub closed : IsClosedFor log operations bytes
+  pub closed : IsClosedFor course log operations bytes
 
 -- THE BANKS
 -- a bank that stands beside the active one comes behind it; where none is active none stands
@@ -66,7 +66,7 @@ FollowsBanks s (Some c) bytes = StandsFirst s bytes × FollowsTarget s c bytes
 
 -- this is the content of the record in work
 pub record FollowsBytes (s : BanksState) (content : List ℕ) (operations : List Change) (bytes : List ℕ) : Type 0 where
-  pub log : IfSome s.active (λ a. FollowsLog s.log (body_of (work_in s.log.tail) content) operations bytes)
+  pub log : IfSome s.active (λ a. FollowsLog s.course s.log (body_of (work_in s.log.tail) content) operations bytes)
   pub banks : FollowsBanks s s.course bytes
 
 -- THE DEVICE

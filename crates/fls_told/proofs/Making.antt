@@ -1,7 +1,7 @@
 -- What ties a device to its flash is kept by each call.
 use Rattle.std.specs.Prelude.{slice_get, unwrap_or, IsTrue, IfSome, option_map, drop}
 use Rattle.std.specs.List.{list_all, list_any}
-use Rattle.std.proofs.Common.{◌≡◌, ◌⊎◌, inl, inr, ℕ, zero, suc, ◌<◌, ◌≤◌, Bool, true, false, List, [], ◌∷◌, ◌++◌, length, Option, Some, None, refl, sym, ap, ◌∙◌, subst, arith}
+use Rattle.std.proofs.Common.{◌≡◌, ◌⊎◌, inl, inr, ℕ, zero, suc, ◌<◌, ◌≤◌, ◌+◌, Bool, true, false, List, [], ◌∷◌, ◌++◌, length, Option, Some, None, refl, sym, ap, ◌∙◌, subst, arith}
 use Rattle.std.proofs.lemmas.Bool.{cases_lt, and_parts, and_from, or_cases, false≢true}
 use Rattle.nv_base.specs.Count.{Rose, WereCounted}
 use Rattle.nv_base.specs.declared.geometry.Geometry.{Geometry}
@@ -10,7 +10,7 @@ use Rattle.fls_model.specs.declared.flash.FlashAnswer.TheVariants.{Done, Failed,
 use Rattle.fls_model.specs.Attach.{IsFilled}
 use Rattle.fls_model.specs.Op.{Op, MayLeave}
 use Rattle.fls_model.specs.Step.{IsChanged, Leaves, Notes, HasCause}
-use Rattle.fls_model.specs.Told.{Told, ToldBytes, Change, IfBothTold, bytes_now, changes_in}
+use Rattle.fls_model.specs.Told.{Told, ToldBytes, Change, TellsFor, IfBothTold, bytes_now, changes_in}
 use Rattle.promise_device.specs.Bridge.{is_failed, has_failed}
 use Rattle.promise_device.specs.FlashRun.{TellsBytes, IsChain, IsCutImage}
 use Rattle.promise_device.specs.Image.{attached}
@@ -52,6 +52,12 @@ none_made None None g both = tt
 if_same : (o : Option (List Change)) (a b : List Change) → b ≡ a → IfSome o (λ (c : List Change). c ≡ a) → IfSome o (λ (c : List Change). c ≡ b)
 if_same o a b same holds = subst (λ (l : List Change). IfSome o (λ (c : List Change). c ≡ l)) (sym same) holds
 
+room_begun : (x y : Option ToldBytes) (g : Geometry) (m n : ℕ) → m ≡ n → IfBothTold x y (IsFilled g) → IfSome x (TellsFor m) → IfSome y (TellsFor n)
+room_begun (Some x) (Some y) g m n is both tells = both.room n (tells.0, omega (arith, is, tells.1))
+room_begun (Some x) None g m n is both tells = absurd both
+room_begun None (Some y) g m n is both tells = absurd both
+room_begun None None g m n is both tells = tt
+
 no_get : (k : ℕ) (x : Change) → slice_get [] k ≡ Some x → ⊥
 no_get zero x is = cc
 no_get (suc k) x is = cc
@@ -65,6 +71,7 @@ runs_begin d made attaches cuts =
       alike = alike_made g d.entry.bytes d.flash.bytes at.bytes;
       chain = λ t. subst (λ (l : List Change). IsChain (attached g t.first) l t.last) (sym made.operations) (filled g d.entry.bytes d.flash.bytes t.first t.last at.bytes t.entry t.exit);
       changes = if_same (changes_in d.flash.bytes) [] d.operations made.operations (none_made d.entry.bytes d.flash.bytes g at.bytes);
+      room = λ n. room_begun d.entry.bytes d.flash.bytes g (length d.operations + n) n (omega (arith, ap length made.operations)) at.bytes;
       sound = λ told. some_if (bytes_now d.flash) (λ image. IsTrue (r.is_sound image)) (λ end is.
           let first = filled_before g d.entry.bytes d.flash.bytes end at.bytes is in
           let same = filled g d.entry.bytes d.flash.bytes first.bytes end at.bytes first.is is in
@@ -113,6 +120,8 @@ module _ (d t : FlashDevice) (has : HasRun d) (keeps : KeepsRun d t) where
     chain = λ b. subst (λ (g : Geometry). IsChain (attached g b.first) t.operations b.last) (sym geometry)
         (subst (λ (l : List Change). IsChain (attached d.reading.geometry b.first) l b.last) (sym none.operations) (has.chain (told_in b)));
     changes = if_same (changes_in t.flash.bytes) d.operations t.operations none.operations (subst (λ (o : Option ToldBytes). IfSome (changes_in o) (λ (c : List Change). c ≡ d.operations)) (sym keeps.bytes) has.changes);
+    room = λ n tells. subst (λ (o : Option ToldBytes). IfSome o (TellsFor n)) (sym keeps.bytes)
+        (has.room n (subst (λ (e : Told). IfSome e.bytes (TellsFor (length d.operations + n))) none.entry (subst (λ (l : List Change). IfSome t.entry.bytes (TellsFor (length l + n))) none.operations tells)));
     sound = λ told. subst (λ (r : Reading). IfSome (bytes_now t.flash) (λ image. IsTrue (r.is_sound image))) (sym none.reading) (subst (λ (o : Option (List ℕ)). IfSome o (λ image. IsTrue (d.reading.is_sound image))) (sym none.bytes) (has.sound (is_told told)));
     sound_cut = λ told k image (x, get, leaves). subst (λ (r : Reading). IsTrue (r.is_sound image)) (sym none.reading) (has.sound_cut (is_told told) k image (x, ap (λ (l : List Change). slice_get l k) (sym none.operations) ∙ get, leaves));
     faults = keeps.faults;
@@ -200,6 +209,12 @@ noted_more op answer s (Some x) None old new is more both same = absurd both
 noted_more op answer s None (Some y) old new is more both same = absurd both
 noted_more op answer s None None old new is more both same = tt
 
+room_less : (op : Op) (answer : FlashAnswer) (x y : Option ToldBytes) (n : ℕ) → IfBothTold x y (IsChanged op answer) → IfSome x (TellsFor (n + 1)) → IfSome y (TellsFor n)
+room_less op answer (Some x) (Some y) n both tells = both.room n tells
+room_less op answer (Some x) None n both tells = absurd both
+room_less op answer None (Some y) n both tells = absurd both
+room_less op answer None None n both tells = tt
+
 module _ (op : Op) (answer : FlashAnswer) (d t : FlashDevice) (has : HasRun d) (makes : Makes op answer d t) where
   abbrev change : Change
   change = change_of op d.flash answer
@@ -261,6 +276,10 @@ module _ (op : Op) (answer : FlashAnswer) (d t : FlashDevice) (has : HasRun d) (
       alike = subst (λ (e : Told). IfBothTold e.bytes t.flash.bytes (λ a b. Unit {0})) (sym makes.entry) (alike_more op answer d.entry.bytes d.flash.bytes t.flash.bytes has.alike makes.asked.bytes);
       chain = goes_chain;
       changes = noted_more op answer d.flash d.flash.bytes t.flash.bytes d.operations t.operations refl makes.operations makes.asked.bytes has.changes;
+      room = λ n tells.
+          let at : length t.operations + n ≡ length d.operations + (n + 1) = omega (arith, one_more op answer d t has.alike makes) in
+          room_less op answer d.flash.bytes t.flash.bytes n makes.asked.bytes
+          (has.room (n + 1) (subst (λ (k : ℕ). IfSome d.entry.bytes (TellsFor k)) at (subst (λ (e : Told). IfSome e.bytes (TellsFor (length t.operations + n))) makes.entry tells)));
       sound = goes_sound;
       sound_cut = goes_cut;
       faults = subst (λ (e : Told). WereCounted t.faults e.faults t.flash.faults) (sym makes.entry) (counts_more answer d.flash t.flash d.faults t.faults d.entry.faults makes.asked.cause counted has.faults);

@@ -1,12 +1,12 @@
 -- What ties a device to its flash, over its calls.
-use Rattle.std.specs.Prelude.{IsTrue, IfSome, take, drop, ◌||◌}
+use Rattle.std.specs.Prelude.{IsTrue, IfSome, IsSome, take, drop, option_map, ◌||◌}
 use Rattle.std.specs.List.{list_all, list_any}
-use Rattle.std.proofs.Common.{◌≡◌, inl, inr, ℕ, zero, suc, ◌≤◌, Bool, true, false, List, [], ◌∷◌, Option, Some, None, refl, sym, ◌∙◌, subst, arith}
+use Rattle.std.proofs.Common.{◌≡◌, inl, inr, ℕ, zero, suc, ◌≤◌, ◌+◌, Bool, true, false, List, [], ◌∷◌, length, Option, Some, None, refl, sym, ◌∙◌, subst, arith}
 use Rattle.std.proofs.lemmas.Bool.{and_parts, false≢true, or_cases}
 use Rattle.nv_base.specs.Count.{WereCounted}
-use Rattle.fls_model.specs.Told.{Change, bytes_now, changes_in}
+use Rattle.fls_model.specs.Told.{ToldBytes, Change, TellsFor, bytes_now, changes_in}
 use Rattle.promise_device.specs.Bridge.{is_failed, IsWornBy}
-use Rattle.promise_device.specs.FlashRun.{TellsBytes, AreSeen, bytes_after}
+use Rattle.promise_device.specs.FlashRun.{TellsBytes, TellsOperations, HasRoom, AreSeen, bytes_after}
 use Rattle.promise_device.specs.Reading.{BeginsSound}
 use Rattle.promise_device.proofs.FlashRun.{seen_all}
 use Rattle.fls_told.specs.Device.{FlashDevice, flash_run, is_told_sound, tells_held}
@@ -25,6 +25,20 @@ told_sound d first is told = subst (λ (o : Option (List ℕ)). IsTrue (is_told_
 if_changes : (o : Option (List Change)) (operations changes : List Change) → IfSome o (λ (c : List Change). c ≡ operations) → o ≡ Some changes → changes ≡ operations
 if_changes (Some c) operations changes same is = (let e : c ≡ changes = cc is in sym e ∙ same)
 if_changes None operations changes same is = cc
+
+list_told : (o : Option (List Change)) → IsSome o → (changes : List Change) × (o ≡ Some changes)
+list_told None some = cc some
+list_told (Some changes) some = (changes, refl)
+
+changes_told : (o : Option ToldBytes) (last : List ℕ) → option_map (λ (b : ToldBytes). b.now) o ≡ Some last → IfSome o (TellsFor 0) → (changes : List Change) × (changes_in o ≡ Some changes)
+changes_told None last is tells = cc
+changes_told (Some b) last is tells = list_told b.changes tells.0
+
+tells_operations : (d : FlashDevice) → HasRun d → HasRoom (flash_run d) → TellsOperations (flash_run d)
+tells_operations d has h =
+    let at : length d.operations ≡ length d.operations + 0 = omega arith in
+    let (changes, told) = changes_told d.flash.bytes h.bytes.last h.bytes.exit (has.room 0 (subst (λ (n : ℕ). IfSome d.entry.bytes (TellsFor n)) at h.room)) in
+    record { bytes = h.bytes; changes = changes; told = told }
 
 counted : (n own entry exit : ℕ) → WereCounted own entry exit → WereCounted n 0 own → WereCounted n entry exit
 counted n own entry exit (inr big) more = inr big
@@ -71,6 +85,7 @@ runs_bridge cutter d has = record {
     told_alike = has.alike;
     chain = has.chain;
     seen = λ t. subst (AreSeen _ 0 t.bytes.last d.operations) (sym (if_changes (changes_in d.flash.bytes) d.operations t.changes has.changes t.told)) (seen_all _ 0 t.bytes.last d.operations);
+    told = tells_operations d has;
   };
   ops = refl;
   faults = λ n more. counted n d.faults d.entry.faults d.flash.faults has.faults more;

@@ -1,5 +1,5 @@
 -- What ties a device to its flash, from its making on.
-use Rattle.std.specs.Prelude.{◌≡◌, ◌⊎◌, ◌<◌, ◌≤◌, ℕ, Bool, IsTrue, List, [], drop, Some, None, IfSome}
+use Rattle.std.specs.Prelude.{◌≡◌, ◌⊎◌, ◌<◌, ◌≤◌, ◌+◌, ℕ, Bool, IsTrue, List, [], length, drop, Some, None, IfSome}
 use Rattle.std.specs.List.{list_all}
 use Rattle.nv_base.specs.Count.{last_count, next_count, Rose, WereCounted}
 use Rattle.memif.specs.Told.{PartTold}
@@ -7,7 +7,7 @@ use Rattle.fls_model.specs.declared.flash.FlashAnswer.{FlashAnswer}
 use Rattle.fls_model.specs.declared.flash.FlashAnswer.TheVariants.{Failed}
 use Rattle.fls_model.specs.Attach.{IsAttached}
 use Rattle.fls_model.specs.Op.{Op, MayLeave}
-use Rattle.fls_model.specs.Told.{Told, bytes_now, changes_in}
+use Rattle.fls_model.specs.Told.{Told, TellsFor, bytes_now, changes_in}
 use Rattle.promise_device.specs.Bridge.{Bridges, has_failed}
 use Rattle.promise_device.specs.FlashRun.{TellsBytes, IsChain, IsCutImage}
 use Rattle.promise_device.specs.Image.{attached}
@@ -29,6 +29,8 @@ pub record HasRun (d : FlashDevice) : Type 0 where
   -- its operations are those of the flash, one after another from the first bytes to the last
   pub chain : (t : TellsBytes (flash_run d)) → IsChain (attached d.reading.geometry t.first) d.operations t.last
   pub changes : IfSome (changes_in d.flash.bytes) (λ changes. changes ≡ d.operations)
+  -- what it had room to tell at the entry, but for these
+  pub room : (n : ℕ) → IfSome d.entry.bytes (TellsFor (length d.operations + n)) → IfSome d.flash.bytes (TellsFor n)
   -- a sound image stays sound, also in whatever a cut leaves
   pub sound : IsTrue (tells_held d) → IfSome (bytes_now d.flash) (λ image. IsTrue (d.reading.is_sound image))
   pub sound_cut : IsTrue (tells_held d) → (k : ℕ) (image : List ℕ) → IsCutImage (flash_run d) k image → IsTrue (d.reading.is_sound image)

@@ -3,6 +3,7 @@ pub mod Asks
 pub mod Contents
 pub mod Drivers
 pub mod Entries
+pub mod HandingOut
 pub mod Jobs
 pub mod Lengths
 pub mod MemberEntries

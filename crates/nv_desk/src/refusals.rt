@@ -76,7 +76,7 @@ impl Desk {
     fn is_pending(&self, id: u16) -> bool
         ensures { result ≡ is_pending (status_of (state_of self.now) id) }
     {
-        matches!(self.kept.blocks.facts(id).status, ReqResult::Pending)
+        matches!(self.status(id), ReqResult::Pending)
     }
 
     fn names_rom(&self, id: u16) -> bool

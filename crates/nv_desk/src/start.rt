@@ -1,11 +1,12 @@
 // Start-ups.
-ghost use Rattle.std.specs.Prelude.{◌≡◌, ◌≤◌, ◌+◌, ◌++◌, ◌∷◌, ◌↔◌, [], length, IsTrue, OnOk, OnErr};
-ghost use Rattle.nv_desk.specs.Desk.{state_of};
+ghost use Rattle.std.specs.Prelude.{◌≡◌, ◌≤◌, ◌+◌, ◌++◌, ◌∷◌, ◌↔◌, [], length, IsTrue, IfOk, OnOk, OnErr};
+ghost use Rattle.nv_desk.specs.Desk.{first_desk, state_of};
 
 use crate::Desk;
 use crate::memory::take_memory;
-use block_machine::nv_base::{Entry, Marks};
+use block_machine::nv_base::{Entry, History, Marks};
 use std::alloc::{AllocError, Global};
+use std::mem;
 
 impl Desk {
     /// Whether the entry of a start-up fits under the cap, with an Off behind it.
@@ -23,6 +24,23 @@ impl Desk {
         take_memory(alloc, &mut self.history, &mut self.rooms, 1)?;
         self.prepared = self.history.len();
         Ok(())
+    }
+
+    /// Hands the history out, and begins an empty one, as before the first start-up, with the memory of that start-up's entry and
+    /// of an Off behind it. What was pending is gone. At Err nothing changed.
+    #[tactic(auto, using(crate::proofs::Entries::memory_kept))]
+    pub fn hand_out(&mut self, alloc: Global) -> Result<History, AllocError>
+        requires started { IsTrue (state_of self.old).started }
+        ensures history { IfOk result (λ h. h.entries ≡ self.old.entries) }
+        ensures ok { OnOk result (self.new ≡ first_desk self.old.config self.old.cap) }
+        ensures fits { OnOk result (2 ≤ self.old.cap) }
+        ensures err { OnErr result (self.new ≡ self.old) }
+    {
+        let mut history = History::make(alloc, self.history.cap());
+        take_memory(alloc, &mut history, &mut self.rooms, 1)?;
+        self.kept.forget();
+        self.prepared = 0;
+        Ok(mem::replace(&mut self.history, history))
     }
 
     /// A start-up found these marks: what was pending is gone. It takes no memory, since that was taken with no entry since.

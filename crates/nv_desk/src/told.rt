@@ -2,14 +2,17 @@
 ghost use Rattle.std.specs.Prelude.{◌≡◌, ◌≤◌, ◌↔◌, IfSome, IsTrue, false, length, Some, option_copied};
 ghost use Rattle.std.specs.Option.{option_map_or};
 ghost use Rattle.block_machine.specs.State.{Sweep as MachineSweep};
-ghost use Rattle.block_machine.specs.Blocks.{block_at, desc_of, rank_of};
+ghost use Rattle.block_machine.specs.Blocks.{block_at, desc_of, rank_of, status_of};
 ghost use Rattle.block_machine.specs.Next.{next_in};
+ghost use Rattle.block_machine.specs.Reply.{reply_of};
+ghost use Rattle.block_machine.specs.Words.{Status, StatusIs};
 ghost use Rattle.nv_desk.specs.Desk.{state_of};
 ghost use Rattle.nv_desk.specs.Picks.{IsInterruption};
 ghost use Rattle.nv_desk.specs.Sound.{IsPendingJob};
 
 use crate::Desk;
 use block_machine::block_config::Config;
+use block_machine::nv_base::ReqResult;
 use job_pending::Job;
 
 impl Desk {
@@ -25,6 +28,15 @@ impl Desk {
         ensures { result ≡ (state_of self.now).off }
     {
         self.kept.off
+    }
+
+    /// The status of a block, and of the requests on all blocks for id 0 (NvM_GetErrorStatus). It is what a `Status` is answered
+    /// with, where that isn't refused.
+    pub fn status(&self, block: u16) -> ReqResult
+        ensures status { result ≡ status_of (state_of self.now) block }
+        ensures asked { (r : ReqResult) → reply_of self.now.config self.now.cap (state_of self.now) (Status block) ≡ StatusIs r → result ≡ r }
+    {
+        self.kept.blocks.facts(block).status
     }
 
     /// The data index of a block.

@@ -5,7 +5,7 @@ ghost use Rattle.block_machine.specs.State.{State, Job as MachineJob, Sweep as M
 ghost use Rattle.block_machine.specs.Blocks.{job_block, kind_of, names_ram, keeps_ram};
 ghost use Rattle.block_machine.specs.Sweeps.{after_member};
 ghost use Rattle.block_machine.specs.Next.{next_in};
-ghost use Rattle.block_machine.specs.StartUp.{started_with};
+ghost use Rattle.block_machine.specs.StartUp.{at_first, started_with};
 ghost use Rattle.block_machine.specs.Steps.{in_hand, wrote, posted};
 ghost use Rattle.job_pending.specs.Take.{taken_with};
 ghost use Rattle.block_states.specs.States.{rooms_of};
@@ -58,6 +58,17 @@ impl Kept {
         self.blocks
             .end(config, job.block(), job.kind(), ram, answer, given);
         note(&mut self.sweep, answer);
+    }
+
+    /// What is kept is as before the first start-up. The memory stays.
+    pub fn forget(&mut self)
+        ensures { (c : Configuration) (s : State) → Agrees c self.old s → Agrees c self.new at_first }
+    {
+        self.started = false;
+        self.off = false;
+        self.blocks.forget();
+        self.jobs.clear();
+        self.sweep = None;
     }
 
     /// A start-up found these marks: nothing is pending.

@@ -1,16 +1,16 @@
 -- The run of a cutter, and that of the flash within it.
-use Rattle.std.specs.Prelude.{IsTrue, IfSome, option_map, slice_get}
+use Rattle.std.specs.Prelude.{IsTrue, IfSome, IsSome, option_map, slice_get}
 use Rattle.std.specs.Option.{option_map_or}
-use Rattle.std.proofs.Common.{◌≡◌, inl, inr, ℕ, ◌+◌, true, List, Option, Some, None, refl, sym, ap, ◌∙◌, subst, arith}
+use Rattle.std.proofs.Common.{◌≡◌, inl, inr, ℕ, ◌+◌, true, List, length, Option, Some, None, refl, sym, ap, ◌∙◌, subst, arith}
 use Rattle.fee_core.specs.nv_base.Count.{Rose, WereCounted}
 use Rattle.fee_core.specs.nv_base.declared.geometry.Geometry.{Geometry}
 use Rattle.fee_core.specs.memif.Clock.{After}
-use Rattle.fee_core.specs.fls_model.Told.{Told, ToldBytes, Change, IfBothTold, bytes_now, changes_in}
+use Rattle.fee_core.specs.fls_model.Told.{Told, ToldBytes, Change, TellsFor, IfBothTold, bytes_now, changes_in}
 use Rattle.fls_devices.specs.Cutter.{Cutting, cutting, planning_of, told_cutting, OnlyCuts}
 use Rattle.fls_devices.specs.Journal.{Journaled, HaveParts, merged, bytes_over, empty_journal}
 use Rattle.fee_core.specs.promise_device.Reading.{Reading, BeginsSound}
 use Rattle.fee_core.specs.promise_device.Bridge.{IsWornBy}
-use Rattle.fee_core.specs.promise_device.FlashRun.{TellsBytes, TellsOperations, AreSeen, bytes_after}
+use Rattle.fee_core.specs.promise_device.FlashRun.{TellsBytes, TellsOperations, HasRoom, AreSeen, bytes_after}
 use Rattle.fee_core.specs.fls_told.Device.{FlashDevice}
 use Rattle.fee_core.specs.fls_told.Clock.{flash_clock}
 use Rattle.nvm_flash.specs.CutterLaws.{run_over, run_within, HandsBack, DevicesBridge}
@@ -59,6 +59,30 @@ operations_over inner cuts c operations t = record {
   changes = merged c.flash.inner.geometry c.flash.journal.events t.changes t.bytes.last;
   told = all_told c.flash.journal c.flash.inner.geometry c.flash.inner.bytes t.bytes.last t.changes t.bytes.exit t.told;
 }
+
+list_within : (f : List Change → List Change) (o : Option (List Change)) (all : List Change) → option_map f o ≡ Some all → (changes : List Change) × (o ≡ Some changes)
+list_within f None all is = cc
+list_within f (Some changes) all is = (changes, refl)
+
+told_within : (j : Journaled) (g : Geometry) (b : Option ToldBytes) (all : List Change) → changes_in (bytes_over j g b) ≡ Some all → (changes : List Change) × (changes_in b ≡ Some changes)
+told_within j g None all is = cc
+told_within j g (Some b) all is = list_within (λ changes. merged g j.events changes b.now) b.changes all is
+
+list_over : (f : List Change → List Change) (o : Option (List Change)) → IsSome o → IsSome (option_map f o)
+list_over f (Some changes) some = refl
+list_over f None some = some
+
+-- with as much room
+room_over : (j : Journaled) (g : Geometry) (b : Option ToldBytes) (n : ℕ) → IfSome b (TellsFor n) → IfSome (bytes_over j g b) (TellsFor n)
+room_over j g None n tells = tt
+room_over j g (Some b) n tells = (list_over (λ changes. merged g j.events changes b.now) b.changes tells.0, tells.1)
+
+operations_within : (inner : Told) (cuts : ℕ) (c : Cutting) (operations : List Change) → (HasRoom (run_over inner cuts c operations) → TellsOperations (run_over inner cuts c operations))
+    → HasRoom (run_within inner c operations) → TellsOperations (run_within inner c operations)
+operations_within inner cuts c operations over h =
+    let t = over (record { bytes = tells_over inner cuts c operations h.bytes; room = room_over (empty_journal cuts) inner.geometry inner.bytes (length operations) h.room }) in
+    let (changes, told) = told_within c.flash.journal c.flash.inner.geometry c.flash.inner.bytes t.changes t.told in
+    record { bytes = h.bytes; changes = changes; told = told }
 
 if_told : {A : Type 0} (o : Option A) (P : A → Type 0) (x : A) → o ≡ Some x → IfSome o P → P x
 if_told (Some y) P x is has = (let e : y ≡ x = cc is in subst P e has)
@@ -116,6 +140,7 @@ devices_bridge r cutter inner cuts c d before only hands first b =
         told_alike = alike (empty_journal cuts) c.flash.journal inner.geometry c.flash.inner.geometry inner.bytes c.flash.inner.bytes b.operations.told_alike;
         chain = λ t. b.operations.chain (up t);
         seen = seen_within inner c d only hands;
+        told = operations_within inner cuts c d.operations b.operations.told;
       };
       ops = b.ops;
       faults = λ n more. counted_within n inner.faults c.flash.inner.faults c.flash.faults only.faults (b.faults n more);

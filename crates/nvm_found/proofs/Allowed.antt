@@ -7,7 +7,7 @@ use Rattle.block_machine.specs.nv_base.Marks.{instance_of, listed}
 use Rattle.block_machine.specs.nv_base.declared.instance.DeviceNumber.{DeviceNumber}
 use Rattle.block_machine.specs.nv_base.declared.mark.Mark.TheVariants.{Content, Invalid, Erased}
 use Rattle.memif.specs.Told as device
-use Rattle.memif.specs.Told.{DeviceTold, PartTold, Slot, Fixed, slot_at, Part}
+use Rattle.memif.specs.Told.{DeviceTold, PartTold, Slot, Fixed, slot_at, Part, never_written}
 use Rattle.memif.specs.Marks.{ComesFrom, IfTold}
 use Rattle.memif.specs.Clock.{Clock}
 use Rattle.block_machine.specs.block_config.Lengths.{lengths_of}
@@ -25,7 +25,8 @@ use Rattle.nvm_device_laws.specs.Turn.{Keeps, ListsSettled, down}
 use Rattle.block_laws.proofs.HistoryLaws.{entries_are_counted}
 use Rattle.block_laws.proofs.OwnInstances.{found_may_stand}
 use Rattle.nvm_device_laws.proofs.Behind.{is_behind}
-use Rattle.nvm_found.specs.Found.{relisted, HasLength, IsListOf, AreHeld, Finds}
+use Rattle.nvm_device_laws.proofs.Moments.{keeps_marks}
+use Rattle.nvm_found.specs.Found.{relisted, HasLength, IsListOf, AreHeld, Finds, listed_in, FoundMarksKeep}
 use Rattle.block_laws.proofs.InstanceNumbers.{own_length}
 
 -- WHAT IT LISTS
@@ -71,6 +72,18 @@ found_stands c s due marks numbers (Some u) (Some v) each pairs lists x has =
     rw (at, lists x has) (allows (slot_at numbers v x.0.0).settled (each x.0.0).settled).mark
 found_stands c s due marks numbers (Some u) None each pairs lists x has = absurd each
 found_stands c s due marks numbers None n each pairs lists x has = absurd pairs
+
+-- so it keeps to the history
+pub found_marks_keep : FoundMarksKeep
+found_marks_keep c cap h before old clock new marks finds told has keeps =
+    let was = finds.up.restarted in
+    let numbers : new.fixed.numbers ≡ old.fixed.numbers = ap (λ (f : Fixed). f.numbers) was.fixed in
+    let configured : new.fixed.numbers ≡ lengths_of c = numbers ∙ keeps.device.numbers in
+    let settled : ListsSettled c marks new.fixed.numbers new.slots =
+    settled_list c marks new.fixed.numbers (λ u v. (i : ℕ) → ComesFrom (slot_at old.fixed.numbers u i) (slot_at old.fixed.numbers v i)) old.slots new.slots was.marks told configured finds.held in
+    keeps_marks c cap h (λ n. record never_written { mark = listed_in marks n }) keeps.device.rules keeps.over.legal
+    (found_stands c (after c h) (count_due h keeps.base) marks old.fixed.numbers old.slots new.slots was.marks (keeps.marks has)
+    (subst (λ ns. ListsSettled c marks ns new.slots) numbers settled))
 
 -- before the first start-up there is nothing
 first_found : (c : Configuration) (h : List Entry) (marks : List (Instance × Mark)) → (HasStarted h → MayBeFound marks (after c h).instances)

@@ -16,6 +16,7 @@ use Rattle.block_machine.specs.StartUp.{listed_mark}
 use Rattle.block_machine.specs.Steps.{after}
 use Rattle.block_machine.specs.Legal.{IsAllowed}
 use Rattle.promise_blocks.specs.OverDevice.{HasStarted}
+use Rattle.promise_blocks.specs.Marks.{KeepsMarks}
 use Rattle.nvm_device_laws.specs.Turn.{Keeps, down}
 
 -- THE DEVICE
@@ -72,7 +73,18 @@ pub record FailsToFind (old new : DeviceTold) : Type 0 where
   pub at_rest : is_open new.stand ≡ false
   pub faults : Rose old.first.faults new.first.faults ⊎ Rose old.second.faults new.second.faults
 
+-- the mark that is listed for a number
+abbrev pub listed_in : List (Instance × Mark) → ℕ → Mark
+listed_in marks n = listed_mark marks (instance_of (record { 0 = n }))
+
 -- THE PROMISE
+-- What is found keeps to the history that stands, where the device tells what it holds.
+abbrev pub FoundMarksKeep : Type 1
+FoundMarksKeep =
+    (c : Configuration) (cap : ℕ) (h : List Entry) (before : Part → PartTold) (old : DeviceTold) (clock : Clock) (new : DeviceTold)
+    (marks : List (Instance × Mark)) → Finds marks old new → IsSome old.slots → HasStarted h → Keeps c cap h before old clock
+    → KeepsMarks c h (listed_in marks)
+
 -- Where the device tells what it holds and the entry fits with an Off behind it, the Found of these marks is allowed, and
 -- keeps all, the first before any operation. At a fault the history that stands keeps all, until a start-up answers Ok.
 abbrev pub FindsKeep : {E : Type 0} → Result (List (Instance × Mark)) E → DeviceTold → Clock → DeviceTold → Clock → Type 0

@@ -227,6 +227,7 @@ told_bridge r inner exit operations before d b = record {
     told_alike = b.operations.told_alike;
     chain = b.operations.chain;
     seen = λ t. seen_more (λ k. IsTrue true × off_in_of (flash_device d) k) (λ k. IsTrue true × ((last_count ≤ k) ⊎ ((k < last_count) × off_in_of (flash_device d) k))) 0 t.bytes.last operations t.changes (λ k is. (is.0, later k is.1)) (b.operations.seen t);
+    told = b.operations.told;
   };
   ops = b.ops;
   faults = b.faults;

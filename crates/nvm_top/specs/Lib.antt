@@ -2,6 +2,7 @@ pub mod Causes
 pub mod Commands
 pub mod Dump
 pub mod Ends
+pub mod Flashes
 pub mod Input
 pub mod Measures
 pub mod Output

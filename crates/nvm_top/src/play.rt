@@ -12,16 +12,17 @@ ghost use Rattle.nvm_top.specs.Soak.{SumsBy};
 ghost use Rattle.nvm_top.specs.Promised.{EndsIn, HasRun, RunsAs, KeepsPromise, played_call};
 
 use crate::Status;
+use crate::flashes::Flashes;
+use crate::made::{Made, make_run};
 use crate::output::report;
 use crate::playable::{Playable, read_playable};
 use crate::runs::{RunText, stop_of, write_text};
-use crate::stack::{end_driven, start_driven};
+use crate::stack::OneFlash;
 use nv_streams::{Sink, Source};
 use nvm_flash::fee_core::Origin;
 use nvm_flash::fls_model::Flash;
-use script_player::{cuts_of, make_steps};
 use std::alloc::Global;
-use std::marker::Brand;
+use std::marker::{Brand, PhantomData};
 
 /// The command behind its words.
 pub(crate) fn play<S: Source, K: Sink, F: Flash>(
@@ -79,14 +80,17 @@ fn play_steps<K: Sink, F: Flash, O: Origin>(
         (F.told flash) (F.told result.1) }
     ensures write_fault { result.0 ≡ Status.WriteFault → Rose (K.faults output.old) (K.faults output.new) }
 {
-    let Playable { config, steps } = playable;
-    let blocks = config.blocks();
-    match start_driven::<F, O>(alloc, config, flash, cuts_of(&steps)) {
-        Ok(mut driven) => {
-            let run = stop_of(make_steps(alloc, steps, blocks, &mut driven));
-            let status = write_text(alloc, text, run, driven.stack().history(), output);
-            (status, end_driven(driven))
+    let handed = OneFlash::<F, O> {
+        flash,
+        origin: PhantomData,
+    };
+    match make_run(alloc, playable, handed) {
+        Ok(Made { end, stack }) => {
+            let status = write_text(alloc, text, stop_of(end), stack.stack().history(), output);
+            let device = stack.into_stack().into_device();
+            let OneFlash { flash, .. } = OneFlash::<F, O>::back(device);
+            (status, flash)
         }
-        Err((stop, flash)) => (report(alloc, stop, output), flash),
+        Err((stop, OneFlash { flash, .. })) => (report(alloc, stop, output), flash),
     }
 }

@@ -10,13 +10,9 @@ ghost use Rattle.nvm_flash.specs.nvm_core.StartUps.{StartsUp};
 ghost use Rattle.nvm_flash.specs.nvm_laws.Keeps.{StackKeeps};
 ghost use Rattle.nvm_flash.specs.fls_model.Told.{Told};
 ghost use Rattle.nvm_flash.specs.nv_base.Geometry.{IsLegal, size_of};
-ghost use Rattle.script_player.specs.PlainKept.{IsKept};
-ghost use Rattle.script_player.specs.PlainTold.{told_by};
-ghost use Rattle.script_player.specs.PlainPaying.{payer_by};
-ghost use Rattle.nvm_flash.specs.promise_run.Run.{cap};
-ghost use Rattle.nvm_top.specs.Play.{IsRightSize};
-ghost use Rattle.nvm_top.specs.Stack.{IsKeptFrom, IsStarted, StartsWell, StopsAtStart, Vouches, one_part, stop_of_make};
+ghost use Rattle.nvm_top.specs.Stack.{one_part, stop_of_make};
 
+use crate::flashes::Flashes;
 use crate::stop::Stop;
 use nvm_flash::block_config::Config;
 use nvm_flash::fee_core::{Fee, Origin};
@@ -25,42 +21,62 @@ use nvm_flash::fls_model::Flash;
 use nvm_flash::memif::MemDevice;
 use nvm_flash::nv_base::Geometry;
 use nvm_flash::{FlashStack, MakeFault, give_back, make_stack, start_stack};
-use script_player::PlainStack;
 use std::alloc::Global;
+use std::marker::PhantomData;
 
-/// The stack over a flash.
-pub type Driven<F, O> = PlainStack<Fee<Cutter<F>, O>>;
-
-/// The stack of a configuration over a flash behind its first start-up, with so many power cuts that can be planned.
-pub fn start_driven<F: Flash, O: Origin>(
-    alloc: Global,
-    config: Config,
-    flash: F,
-    cuts: u32,
-) -> Result<Driven<F, O>, (Stop, F)>
-    requires { IsOrigin config (F.told flash) cuts O.making O.entry }
-    ensures started { IfOk result (λ m. IsStarted config cuts (part_at O.entry) (told_by told_of m)) }
-    ensures kept { IfOk result (λ m. StartsWell config (F.told flash) → IsKeptFrom (IsKept m.ready (one_part (part_at O.entry)) m.desk m.hand (told_of m.device) (told_clock m.device)) (payer_by told_of told_clock m) (told_by told_of m)) }
-    ensures size { IfOk result (λ _. IsRightSize (size_of config.geometry) (F.told flash).bytes) }
-    ensures stopped { IfErr result (λ e. StopsAtStart config (F.told flash) (F.told e.1) e.0) }
-{
-    let geometry = config.geometry();
-    match make_stack(alloc, config, flash, cuts) {
-        Ok(stack) => match begin(stack) {
-            Ok(stack) => Ok(PlainStack::over(stack)),
-            Err((fault, flash)) => Err((stop_of_make(fault, geometry), flash)),
-        },
-        Err((fault, flash)) => Err((stop_of_make(fault, geometry), flash)),
-    }
+/// One flash, over which a device of this origin is made.
+#[derive(Drop)]
+pub struct OneFlash<F, O> {
+    pub flash: F,
+    pub origin: PhantomData<O>,
 }
 
-/// Gives the flash of a stack back.
-pub fn end_driven<F: Flash, O: Origin>(machine: Driven<F, O>) -> F
-    ensures { (c : Configuration) (inner : Told) (cuts : ℕ) → IsOrigin c inner cuts O.making O.entry → machine.desk.config ≡ c → machine.desk.cap ≡ cap
-        → Vouches (IsKept machine.ready (one_part (part_at O.entry)) machine.desk machine.hand (told_of machine.device) (told_clock machine.device)) (payer_by told_of told_clock machine) (part_at O.entry) (told_by told_of machine) inner (F.told result) }
-{
-    let stack = machine.into_stack();
-    give_back(stack.into_device())
+impl<F: Flash, O: Origin> Flashes for OneFlash<F, O> {
+    ghost use Rattle.nvm_flash.specs.fee_told.Device.{told_of, clock_of};
+    ghost use Rattle.nvm_flash.specs.fee_laws.Made.{part_at};
+    ghost use Rattle.nvm_flash.specs.Made.{IsBack, IsOrigin};
+    ghost use Rattle.nvm_top.specs.Flashes.{one_flash};
+    ghost use Rattle.nvm_top.specs.Stack.{StartsWell, StopsAtStart, one_part};
+
+    type Device = Fee<Cutter<F>, O>;
+
+    ghost told = { λ s. one_flash (F.told s.flash) };
+
+    ghost before = { one_part (part_at O.entry) };
+
+    ghost is_origin = { λ c entry cuts. IsOrigin c entry.flash cuts O.making O.entry };
+
+    ghost starts_well = { λ c entry. StartsWell c entry.flash };
+
+    ghost stops = { λ c entry exit why. StopsAtStart c entry.flash exit.flash why };
+
+    ghost is_back = { λ c entry exit d. IsBack c entry.flash exit.flash (part_at O.entry) (told_of d) (clock_of d) };
+
+    fn start(
+        self,
+        alloc: Global,
+        config: Config,
+        cuts: u32,
+    ) -> Result<FlashStack<F, O>, (Stop, OneFlash<F, O>)> {
+        let OneFlash { flash, origin } = self;
+        let geometry = config.geometry();
+        match make_stack(alloc, config, flash, cuts) {
+            Ok(stack) => match begin(stack) {
+                Ok(stack) => Ok(stack),
+                Err((fault, flash)) => {
+                    Err((stop_of_make(fault, geometry), OneFlash { flash, origin }))
+                }
+            },
+            Err((fault, flash)) => Err((stop_of_make(fault, geometry), OneFlash { flash, origin })),
+        }
+    }
+
+    fn back(device: Fee<Cutter<F>, O>) -> OneFlash<F, O> {
+        OneFlash {
+            flash: give_back(device),
+            origin: PhantomData,
+        }
+    }
 }
 
 // The first start-up of a stack that was made.

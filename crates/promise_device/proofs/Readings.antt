@@ -19,7 +19,7 @@ use Rattle.fee_image.proofs.Soundness.{sound_images_compute}
 use Rattle.promise_device.specs.Making.{banks_of}
 use Rattle.promise_device.specs.Image.{attached, IsSoundFlash, IsOfLastGeneration, is_of_last_generation, are_blank, is_closed_bank, lacks_pages, HasNoRoomFor, has_no_room_for}
 use Rattle.promise_device.specs.Bridge.{wanted_pages, reading_of}
-use Rattle.promise_device.specs.Laws.{SoundFlashesCompute, SoundStartsCompute, BanksAttachSound, LastGenerationsCompute, FullBanksCompute, WornBanksCompute}
+use Rattle.promise_device.specs.Laws.{SoundFlashesCompute, SoundStartsCompute, BanksAttachSound, LastGenerationsCompute, ClosedBanksCompute, FullBanksCompute, WornBanksCompute}
 
 pub sound_flashes_compute : SoundFlashesCompute
 sound_flashes_compute m image = sound_images_compute (banks_of m) (attached m.geometry image)
@@ -83,8 +83,8 @@ tail_is b bytes end =
       λ blank. is.1 (λ q le lt. blank q le (omega (arith, le, lt))),
     )
 
-closed_is : (b : Bank) (bytes : List ℕ) (end : ℕ) → IsTrue (is_closed_bank b bytes end) ↔ IsClosed b bytes end
-closed_is b bytes end =
+pub closed_banks_compute : ClosedBanksCompute
+closed_banks_compute b bytes end =
     either (not (b.format == new_format)) (not (are_blank b bytes end (b.pages - end))) (b.format ≡ new_format → ⊥) (IsTailBlank b bytes end → ⊥)
     (not_is (b.format == new_format) (b.format ≡ new_format) (eq_is b.format new_format))
     (not_is (are_blank b bytes end (b.pages - end)) (IsTailBlank b bytes end) (tail_is b bytes end))
@@ -95,7 +95,7 @@ Lacks pages image b = IsClosed b image (end_of b image) ⊎ (b.pages < end_of b 
 lacks_is : (pages : ℕ) (image : List ℕ) (b : Bank) → IsTrue (lacks_pages pages b image) ↔ Lacks pages image b
 lacks_is pages image b =
     either (is_closed_bank b image (end_of b image)) (nat_lt b.pages (end_of b image + pages)) (IsClosed b image (end_of b image)) (b.pages < end_of b image + pages)
-    (closed_is b image (end_of b image)) (lt_is b.pages (end_of b image + pages))
+    (closed_banks_compute b image (end_of b image)) (lt_is b.pages (end_of b image + pages))
 
 pub full_banks_compute : FullBanksCompute
 full_banks_compute pages m image =

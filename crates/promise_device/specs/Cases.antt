@@ -1,9 +1,17 @@
--- Two operations of a flash of two pages of 2 bytes.
-use Rattle.std.specs.Prelude.{◌≡◌, ℕ, List, [], ◌∷◌}
+-- Two operations of a flash of two pages of 2 bytes, and what a device tells over two banks of ten pages.
+use Rattle.std.specs.Prelude.{◌≡◌, ℕ, Bool, true, false, List, [], ◌∷◌, ◌++◌, replicate, Some}
+use Rattle.nv_base.specs.declared.mark.Mark.TheVariants.{Content}
+use Rattle.memif.specs.declared.answer.JobResult.TheVariants.{JobOk}
+use Rattle.memif.specs.Told.{Stand, Open, Ended}
+use Rattle.memif.specs.Plain.{plain_store}
 use Rattle.fls_model.specs.declared.flash.FlashAnswer.{FlashAnswer}
-use Rattle.fls_model.specs.declared.flash.FlashAnswer.TheVariants.{Done, Off}
+use Rattle.fls_model.specs.declared.flash.FlashAnswer.TheVariants.{Done, Failed, Off}
 use Rattle.fls_model.specs.Op.{Program, Erase}
 use Rattle.fls_model.specs.Told.{Change}
+use Rattle.fee_format.specs.Pages.{gate_page}
+use Rattle.fee_format.specs.BankHead.{bank_head_page}
+use Rattle.promise_device.specs.Making.{Making}
+use Rattle.promise_device.specs.Room.{TellsWork}
 
 abbrev pub blank : List ℕ
 blank = 255 ∷ 255 ∷ 255 ∷ 255 ∷ []
@@ -26,9 +34,42 @@ program = answered Off
 abbrev pub erase : Change → List Change
 erase x = record { op = Erase 0 4; before = blank; answer = Done } ∷ x ∷ []
 
+-- an erase that failed
+abbrev pub failed_erase : Change
+failed_erase = record { op = Erase 0 4; before = blank; answer = Failed }
+
 -- no operation was kept back; the second was
 abbrev pub never : ℕ → Type 0
 never k = ⊥
 
 abbrev pub second : ℕ → Type 0
 second k = k ≡ 1
+
+-- ROOM
+-- one number of 4 bytes, whose record takes four pages, as many as are kept
+abbrev pub two_banks : Making
+two_banks = record { geometry = record { page = 16; sector = 160; sectors = 2 }; banks = 2; numbers = (record { 0 = 128 }, 4) ∷ []; reserve = 4 }
+
+-- bank 0 stands, and this is behind its gate
+abbrev pub standing : List ℕ → List ℕ
+standing pages = bank_head_page 16 (record { format = 2; generation = 1 }) ++ gate_page 16 ++ pages ++ replicate 160 255
+
+abbrev pub roomy : List ℕ
+roomy = standing (replicate 128 255)
+
+-- a page behind its gate is torn, which closes it
+abbrev pub torn : List ℕ
+torn = standing (0 ∷ replicate 127 255)
+
+abbrev pub no_job : Stand
+no_job = Ended JobOk []
+
+abbrev pub urgent_write : Stand
+urgent_write = Open (record { number = 128; mark = Some (Content (1 ∷ 2 ∷ 3 ∷ 4 ∷ [])); urgent = true })
+
+abbrev pub standard_write : Stand
+standard_write = Open (record { number = 128; mark = Some (Content (1 ∷ 2 ∷ 3 ∷ 4 ∷ [])); urgent = false })
+
+-- a device tells of this room and these turns
+abbrev pub Tells : Bool → List ℕ → Stand → (ready left : ℕ) → Type 0
+Tells failed image stand ready left = TellsWork two_banks failed image (record (plain_store []) { stand = stand; ready = ready; left = left })

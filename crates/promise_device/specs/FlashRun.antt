@@ -6,7 +6,7 @@ use Rattle.fls_model.specs.declared.flash.FlashAnswer.{FlashAnswer}
 use Rattle.fls_model.specs.declared.flash.FlashAnswer.TheVariants.{Failed, Off}
 use Rattle.fls_model.specs.Op.{Op, Program, Erase, MayLeave}
 use Rattle.fls_model.specs.Step.{Leaves}
-use Rattle.fls_model.specs.Told.{Told, Change, IfBothTold, bytes_now, changes_in}
+use Rattle.fls_model.specs.Told.{Told, Change, TellsFor, IfBothTold, bytes_now, changes_in}
 use Rattle.promise_device.specs.Making.{Making}
 use Rattle.promise_device.specs.Image.{attached, IsSoundFlash}
 
@@ -40,6 +40,11 @@ pub record TellsOperations (f : FlashRun) : Type 0 where
   pub bytes : TellsBytes f
   pub changes : List Change
   pub told : changes_in f.exit.bytes ≡ Some changes
+
+-- at the entry it told its operations, with room for all of these
+pub record HasRoom (f : FlashRun) : Type 0 where
+  pub bytes : TellsBytes f
+  pub room : IfSome f.entry.bytes (TellsFor (length f.operations))
 
 -- the image at the entry is sound
 abbrev pub StartsSound : Making → FlashRun → Type 0
@@ -83,3 +88,4 @@ pub record AreOperations (g : Geometry) (f : FlashRun) (kept : ℕ → Type 0) :
   pub told_alike : IfBothTold f.entry.bytes f.exit.bytes (λ first last. Unit {0})
   pub chain : (t : TellsBytes f) → IsChain (attached g t.first) f.operations t.last
   pub seen : (t : TellsOperations f) → AreSeen kept 0 t.bytes.last f.operations t.changes
+  pub told : HasRoom f → TellsOperations f

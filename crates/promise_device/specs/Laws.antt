@@ -1,7 +1,9 @@
 -- What the reading of a device over banks computes is what is said of an image.
 use Rattle.std.specs.Prelude.{◌↔◌, ℕ, IsTrue, List}
+use Rattle.fee_image.specs.Bank.{Bank}
+use Rattle.fee_image.specs.RecordList.{IsClosed}
 use Rattle.promise_device.specs.Making.{Making}
-use Rattle.promise_device.specs.Image.{IsSoundFlash, IsOfLastGeneration, is_of_last_generation, HasNoRoomFor, has_no_room_for}
+use Rattle.promise_device.specs.Image.{IsSoundFlash, IsOfLastGeneration, is_of_last_generation, is_closed_bank, HasNoRoomFor, has_no_room_for}
 use Rattle.promise_device.specs.FlashRun.{FlashRun, StartsSound}
 use Rattle.promise_device.specs.Reading.{BeginsSound, AttachesSound}
 use Rattle.promise_device.specs.Bridge.{IsWornOut, IsWornBy, reading_of}
@@ -14,6 +16,9 @@ SoundStartsCompute = (m : Making) (f : FlashRun) → StartsSound m f → BeginsS
 
 abbrev pub LastGenerationsCompute : Type 0
 LastGenerationsCompute = (m : Making) (image : List ℕ) → IsTrue (is_of_last_generation m image) ↔ IsOfLastGeneration m image
+
+abbrev pub ClosedBanksCompute : Type 0
+ClosedBanksCompute = (b : Bank) (image : List ℕ) (end : ℕ) → IsTrue (is_closed_bank b image end) ↔ IsClosed b image end
 
 abbrev pub FullBanksCompute : Type 0
 FullBanksCompute = (pages : ℕ) (m : Making) (image : List ℕ) → IsTrue (has_no_room_for pages m image) ↔ HasNoRoomFor pages m image

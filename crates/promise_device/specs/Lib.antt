@@ -3,5 +3,6 @@ pub mod Image
 pub mod FlashRun
 pub mod Reading
 pub mod Bridge
+pub mod Room
 pub mod Laws
 pub mod Cases

@@ -1,8 +1,9 @@
-// Whose operations they are.
-ghost use Rattle.std.specs.Prelude.{ℕ, []};
+// Whose operations they are, and whose room it is.
+ghost use Rattle.std.specs.Prelude.{◌≡◌, ℕ, [], ◌∷◌, true, false};
 ghost use Rattle.fls_model.specs.declared.flash.FlashAnswer.TheVariants.{Done, Failed};
 ghost use Rattle.promise_device.specs.FlashRun.{AreSeen, IsChain};
-ghost use Rattle.promise_device.specs.Cases.{blank, other, erase, answered, program, seen_there, never, second};
+ghost use Rattle.promise_device.specs.Room.{may_be_closed};
+ghost use Rattle.promise_device.specs.Cases.{blank, other, erase, answered, program, seen_there, never, second, Tells, roomy, torn, no_job, urgent_write, standard_write, failed_erase};
 
 /// An erase that the flash saw, and a program that a planned cut kept from it, whose bytes stay, or of which it saw a part. A
 /// program that failed, with its answer.
@@ -26,4 +27,35 @@ pub fn answers_of_another_flash()
     ensures planned_but_done { AreSeen second 0 blank (erase (answered Done)) (erase (answered Failed)) → ⊥ }
     ensures failed_alone { AreSeen second 0 blank (erase (answered Failed)) (erase (answered Done)) → ⊥ }
     ensures not_planned { AreSeen never 0 blank (erase program) (erase (answered Failed)) → ⊥ }
+{}
+
+/// Over a bank of eight free pages the four that are kept are ready, also beside the job that takes the other four, which has as
+/// many turns as pages. Over a torn one nothing is, and a standard write, which leaves what is kept, needs a switch.
+pub fn room_of_a_bank()
+    ensures at_rest { Tells false roomy no_job 4 0 }
+    ensures urgent { Tells false roomy urgent_write 4 4 }
+    ensures standard { Tells false roomy standard_write 4 4 }
+    ensures torn { Tells false torn no_job 0 0 }
+    ensures switch { Tells false torn standard_write 0 20 }
+{}
+
+/// A device that tells that nothing is ready, or more than there is, or turns where nothing is open, or more of a job with room
+/// than it has pages, is another one; but where a program failed, which may have closed the bank, nothing may be ready.
+pub fn room_of_another_bank()
+    ensures nothing_ready { Tells false roomy no_job 0 0 → ⊥ }
+    ensures beside_a_job { Tells false roomy urgent_write 3 4 → ⊥ }
+    ensures too_much { Tells false roomy no_job 9 0 → ⊥ }
+    ensures idle_turns { Tells false roomy no_job 4 1 → ⊥ }
+    ensures too_many_turns { Tells false roomy standard_write 4 5 → ⊥ }
+    ensures after_a_failure { Tells true roomy no_job 0 0 }
+{}
+
+/// A program that failed may have closed the bank, whatever was programmed since, until the next erase. An erase that failed
+/// closes none.
+pub fn banks_that_may_be_closed()
+    ensures failed { may_be_closed (erase (answered Failed)) ≡ true }
+    ensures long_ago { may_be_closed (answered Failed ∷ answered Done ∷ []) ≡ true }
+    ensures done { may_be_closed (erase (answered Done)) ≡ false }
+    ensures erased { may_be_closed (answered Failed ∷ erase (answered Done)) ≡ false }
+    ensures erase_failed { may_be_closed (failed_erase ∷ []) ≡ false }
 {}

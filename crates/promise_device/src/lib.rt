@@ -7,4 +7,7 @@
 
 mod cases;
 
-pub use cases::{answers_of_another_flash, operations_of_another_flash, operations_of_the_flash};
+pub use cases::{
+    answers_of_another_flash, banks_that_may_be_closed, operations_of_another_flash,
+    operations_of_the_flash, room_of_a_bank, room_of_another_bank,
+};

@@ -134,6 +134,7 @@ of_one clock r before now block device = record {
     told_alike = device.operations.told_alike;
     chain = device.operations.chain;
     seen = λ t. seen_more (λ k. IsTrue (has_cutter r.course) × ((last_count ≤ k) ⊎ clock.off_in k)) _ 0 t.bytes.last r.flash.operations t.changes (λ k is. (is.0, told k is.1)) (device.operations.seen t);
+    told = device.operations.told;
   };
   begins = block.over.begins;
   counted = λ e ops has is. omega (arith, block.over.counted e ops has is, device.ops);

@@ -220,6 +220,7 @@ write_keeps computes makes stays bits sound erased = record {
     told_alike = tt;
     chain = λ t. chains t.first t.last (some_list [] t.first t.entry) (some_list blank t.last t.exit);
     seen = λ t. stays_back t.bytes.last t.changes (some_list blank t.bytes.last t.bytes.exit) (some_changes [] t.changes t.told);
+    told = λ room. record { bytes = room.bytes; changes = []; told = refl };
   };
   begins = refl;
   counted = at_most 1 whole (tells 1 0 (omega arith), ((λ ops is. absurd (cc is)), (tells 1 0 (omega arith), (tells 1 1 (omega arith), (tells 1 1 (omega arith), tt)))));

@@ -2,6 +2,8 @@ mod Founds
 pub mod Paid
 pub mod Counted
 pub mod Composition
+pub mod InRoom
+pub mod Texts
 mod Spells
 mod WrongOrders
 mod WrongMarks
@@ -12,3 +14,4 @@ mod LostWrite
 mod WrongCalls
 mod OneByOne
 mod Failing
+pub mod Callers

@@ -150,6 +150,7 @@ are_operations = record {
   told_alike = tt;
   chain = λ t. chains t.first t.last (some_list (begun 0) t.first t.entry) (some_list (begun 4) t.last t.exit);
   seen = λ t. seen t.bytes.last t.changes (some_changes operations t.changes t.told);
+  told = λ h. absurd (let told = h.room.0 in cc told);
 }
 
 pub tells_few : TellsAtMost 5 whole

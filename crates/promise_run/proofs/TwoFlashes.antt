@@ -78,11 +78,13 @@ both_keep sound erased = record {
       told_alike = tt;
       chain = λ t. sym (some_list blank t.last t.exit) ∙ ap (attached small.geometry) (some_list [] t.first t.entry);
       seen = λ t. sym (some_changes [] t.changes t.told);
+      told = λ room. record { bytes = room.bytes; changes = []; told = refl };
     },
     record {
       told_alike = tt;
       chain = λ t. sym (some_list one t.last t.exit) ∙ ap (attached small.geometry) (some_list one t.first t.entry);
       seen = λ t. sym (some_changes [] t.changes t.told);
+      told = λ room. record { bytes = room.bytes; changes = []; told = refl };
     },
   );
   begins = refl;

@@ -27,7 +27,7 @@ pub record Call : Type 0 where
 -- the steps of the script, made and left
 abbrev pub IsCourseOf : Mode → List Step → Course → Type 0
 IsCourseOf mode.Play steps (Played made pieces left) = made ++ left ≡ steps
-IsCourseOf mode.Run steps (Ran all) = all ≡ steps
+IsCourseOf mode.Run steps (Ran all looks) = all ≡ steps
 IsCourseOf m steps course = ⊥
 
 -- the first line means the configuration, and the later lines are the steps

@@ -14,7 +14,8 @@ use Rattle.fee_format.specs.BankHead.{bank_head_page}
 use Rattle.fee_format.specs.RecHead.{rec_head_page}
 use Rattle.fee_format.specs.declared.rec_head.RecordKind.TheVariants as record_kind
 use Rattle.nvm_script.specs.declared.script.Mode.TheVariants as mode
-use Rattle.script_walks.specs.Words.{Step, StepKind, AskStep, Store, Turn, Drain, Restart, Cut}
+use Rattle.script_walks.specs.Words.{Step, StepKind, AskStep, Store, Turn, Drain, Restart, Cut, Await}
+use Rattle.script_walks.specs.Looks.{Look}
 use Rattle.block_machine.specs.Words.{Fine, NotOk, Content, Write, SetLock, Status, Accepted, StatusIs, WriteJob, TookContent, TookStale, Entry, Ask, Pick, Wrote, Post, Off, Found, BlockDesc, Dataset, Sync, Configuration}
 use Rattle.block_machine.specs.State.{State, Job}
 use Rattle.promise_device.specs.FlashRun.{FlashRun, HasFailed}
@@ -55,7 +56,7 @@ two = 0x55 ∷ 0x66 ∷ 0x77 ∷ 0x88 ∷ []
 abbrev pub BreaksBy : Run → Type 0 → Type 0
 BreaksBy r P = (Promise r → P) × (P → ⊥)
 
--- a flash of the small shape with these bytes, and the changes since it was attached
+-- a flash of the small shape with these bytes, and the changes since it was attached, with room to tell one more
 abbrev pub tells : List ℕ → Option (List Change) → Told
 tells now all =
     record { geometry = small.geometry; bytes = Some (record { now = now; changes = all; room = 1 }); ops = 0; faults = 0; cuts = 0; off = false; planning = no_planning }
@@ -172,7 +173,11 @@ worn_and_full = failed_on (image_of 4294967295 (record_of 77 one ++ record_of 77
 abbrev pub kept_write : Run
 kept_write =
     plays ((Cut 1 0, []) ∷ asks_one ∷ (Drain, picks_one ∷ Off 1 ∷ []) ∷ (Restart, Found [] 1 ∷ []) ∷ [])
-    (record { entry = tells [] None; exit = tells blank (Some []); operations = record { op = Erase 0 160; before = blank; answer = FlashOff } ∷ [] })
+    (record { entry = tells [] (Some []); exit = tells blank (Some []); operations = record { op = Erase 0 160; before = blank; answer = FlashOff } ∷ [] })
+
+-- the same, over a flash that doesn't tell its operations any more, though it had room for one
+abbrev pub untold_write : Run
+untold_write = let f = kept_write.flash in record kept_write { flash = record f { exit = tells blank None } }
 
 -- the first pages of the record in a bank that stands, and the program of the next one
 abbrev pub begun : ℕ → List ℕ
@@ -194,17 +199,38 @@ lost_write =
     plays (asks_one ∷ (Drain, picks_one ∷ written_at 4) ∷ [])
     (record { entry = tells (begun 0) None; exit = tells (begun 4) (Some operations); operations = operations })
 
--- TWO CALLERS
+-- CALLERS
+-- a run of these callers' steps, with these looks of the driver: a start-up that finds nothing, and these entries
+abbrev pub runs : List (ℕ × StepKind) → List Look → List Entry → Run
+runs steps looks es = record quiet { course = Ran (map (λ x. record { line = 0; caller = x.0; kind = x.1 }) steps) looks; history = Found [] 0 ∷ es }
+
 -- one locks block 2 and the other asks for its status
 abbrev pub two_callers : Run
-two_callers = record quiet {
-  course = Ran (record { line = 0; caller = 1; kind = AskStep (SetLock 2 true) } ∷ record { line = 0; caller = 2; kind = AskStep (Status 2) } ∷ []);
-  history = Found [] 0 ∷ Ask 2 (Status 2) (StatusIs Fine) ∷ Ask 1 (SetLock 2 true) Accepted ∷ [];
-}
+two_callers = runs ((1, AskStep (SetLock 2 true)) ∷ (2, AskStep (Status 2)) ∷ []) [] (Ask 2 (Status 2) (StatusIs Fine) ∷ Ask 1 (SetLock 2 true) Accepted ∷ [])
 
 -- in `run` a second start-up comes
 abbrev pub second_found : Run
-second_found = record quiet { course = Ran []; history = Found [] 0 ∷ Found [] 0 ∷ [] }
+second_found = runs [] [] (Found [] 0 ∷ [])
+
+-- a caller stores `one` and writes it, and the Pick takes an older copy, which no look showed
+abbrev pub unseen_stale : Run
+unseen_stale =
+    record (runs ((1, Store 2 one) ∷ (1, AskStep (Write 2 None 0)) ∷ []) [] (Ask 1 (Write 2 None 1) Accepted ∷ Pick 2 WriteJob (TookStale 1 0 1) 0 ∷ Post 2 NotOk None 0 0 ∷ []))
+    { configuration = with_block_2 (record (plain_block 4) { ram = Sync }) }
+
+-- a caller writes, waits for that write, and stores `one`; the write takes it
+abbrev pub later_store : Run
+later_store =
+    record (runs ((1, AskStep (Write 2 None 0)) ∷ (1, Await 2) ∷ (1, Store 2 one) ∷ []) (record { entry = 2; block = 2; shown = 1 } ∷ []) (Ask 1 (Write 2 None 0) Accepted ∷ Pick 2 WriteJob (TookContent one 1) 0 ∷ written_at 4))
+    { configuration = with_block_2 (record (plain_block 4) { ram = Sync }) }
+
+-- it ends at a full history, and has room
+abbrev pub full_for_nothing : Run
+full_for_nothing = record (runs ((1, AskStep (Status 2)) ∷ []) [] []) { end = HistoryFull }
+
+-- a caller's write is in hand at the end
+abbrev pub not_served : Run
+not_served = runs ((1, AskStep (Write 2 (Some one) 0)) ∷ []) [] (Ask 1 (Write 2 (Some one) 0) Accepted ∷ picks_one ∷ [])
 
 -- TURNS
 -- each job takes so many turns at most

@@ -1,4 +1,4 @@
--- What is served in `play`, and by when: where nothing fails, each job comes to its Post.
+-- What is served, and in `play` by when: where nothing fails, each job comes to its Post.
 use Rattle.std.specs.Prelude.{◌≡◌, ◌≢◌, ◌-◌, ◌==◌, ◌&&◌, ◌||◌, ℕ, suc, nat_le, nat_lt, Bool, true, false, IsTrue, List, ◌∷◌, ◌++◌, take, option_map, if◌then◌else◌, Option, Some, None, IfSome}
 use Rattle.std.specs.List.{list_all, list_any}
 use Rattle.block_machine.specs.nv_base.Count.{Rose}
@@ -8,7 +8,8 @@ use Rattle.block_machine.specs.State.{State, Job}
 use Rattle.block_machine.specs.Blocks.{job_block}
 use Rattle.block_machine.specs.Steps.{after, after_from}
 use Rattle.script_walks.specs.Walk.{is_at_rest}
-use Rattle.promise_run.specs.Run.{Run, Course, Played, Ran, FlashFault, EachPiece}
+use Rattle.promise_run.specs.Run.{Run, Course, Played, Ran, FlashFault, EachPiece, Memory, HasOrder}
+use Rattle.script_walks.specs.Looks.{Look}
 
 -- NOTHING FAILS
 abbrev pub is_calm_entry : Entry → Bool
@@ -71,6 +72,17 @@ pub record IsComplete (most : State → Job → ℕ) (r : Run) (made : List Step
   pub ends : r.end ≢ FlashFault
   pub served : IsServed r.configuration most made pieces r.history
 
+-- completeness of a run of callers in which nothing fails: nothing is pending at its end, so each accepted job has its Post
+pub record ServesCallers (r : Run) : Type 0 where
+  pub ends : r.end ≢ FlashFault
+  pub rests : r.end ≢ Memory → IsTrue (is_at_rest (after r.configuration r.history))
+
 abbrev pub Completeness : (State → Job → ℕ) → Run → Course → Type 0
 Completeness most r (Played made pieces left) = IsCalm r → IsComplete most r made pieces
-Completeness most r (Ran steps) = IsCalm r → r.end ≢ FlashFault
+Completeness most r (Ran steps looks) = IsCalm r → ServesCallers r
+
+-- a run over one flash that follows its callers' programs has it
+abbrev pub CallersAreServed : Type 0
+CallersAreServed =
+    (most : State → Job → ℕ) (r : Run) (steps : List Step) (looks : List Look) → r.course ≡ Ran steps looks → r.beside ≡ None → HasOrder r r.history
+    → Completeness most r (Ran steps looks)

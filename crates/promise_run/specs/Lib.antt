@@ -7,4 +7,6 @@ pub mod Call
 pub mod Completeness
 pub mod Turns
 pub mod JobTurns
+pub mod InRoom
+pub mod Texts
 pub mod Cases

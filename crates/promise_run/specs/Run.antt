@@ -1,5 +1,5 @@
 -- One run of the program, from the attach of its flash on, and how it follows its script.
-use Rattle.std.specs.Prelude.{◌≡◌, ◌⊎◌, ◌<◌, ◌≤◌, ◌+◌, ℕ, not, Bool, true, false, IsTrue, List, [], ◌∷◌, ◌++◌, length, take, nat_le, ◌||◌, ◌==◌, if◌then◌else◌, sum_by, count_by, Option, Some, None}
+use Rattle.std.specs.Prelude.{◌≡◌, ◌⊎◌, ◌<◌, ◌≤◌, ◌+◌, ℕ, not, Bool, true, false, IsTrue, List, [], ◌∷◌, ◌++◌, take, nat_le, ◌||◌, ◌==◌, if◌then◌else◌, sum_by, count_by, Option, Some, None}
 use Rattle.std.specs.Option.{option_map_or}
 use Rattle.block_machine.specs.nv_base.Count.{last_count, Rose}
 use Rattle.block_machine.specs.nv_base.declared.geometry.Geometry.{Geometry}
@@ -12,7 +12,8 @@ use Rattle.block_machine.specs.Reply.{fits}
 use Rattle.block_machine.specs.Prices.{prices_in_refusals}
 use Rattle.block_machine.specs.Steps.{after, after_from}
 use Rattle.script_walks.specs.Walk.{IsWalkOf, joined}
-use Rattle.script_walks.specs.Callers.{IsRun, IsWholeRun, asks_of, requests_of, program_of}
+use Rattle.script_walks.specs.Looks.{Look}
+use Rattle.script_walks.specs.Runs.{IsRun, IsWholeRun, IsFullRun}
 use Rattle.promise_device.specs.Image.{attached}
 use Rattle.promise_device.specs.FlashRun.{FlashRun}
 use Rattle.promise_run.specs.Beside.{Beside}
@@ -25,8 +26,8 @@ cap = 100000
 pub data Course : Type 0 where
   -- `play`: the steps that were made, with the entries that each added, and those that were left
   Played : (made : List Step) → (pieces : List (List Entry)) → (left : List Step) → Course
-  -- `run`: the steps of all callers, side by side
-  Ran : (steps : List Step) → Course
+  -- `run`: the steps of all callers, side by side, and the driver's looks at the application's stores
+  Ran : (steps : List Step) → (looks : List Look) → Course
 
 -- How it ended: at the end of the script, at a start-up that failed, at a history that is full, or for want of memory.
 pub data End : Type 0 where
@@ -115,31 +116,25 @@ LeavesFor r s Memory left = Unit {0}
 LeavesFor r s end left = ⊥
 
 -- `RUN`
--- at some prefix of the history the next request of a caller had no room
-pub record AskHadNoRoom (c : Configuration) (steps : List Step) (h : List Entry) : Type 0 where
-  pub entries : ℕ
-  pub caller : ℕ
-  pub more : length (asks_of caller (take entries h)) < length (requests_of c (program_of caller steps))
-  pub full : IsTrue (not (fits c cap (after c (take entries h)) 1))
-
--- at its end all requests were made and served; else some of each caller's, from its first on
-abbrev pub RunsBy : Configuration → List Step → End → List Entry → Type 0
-RunsBy c steps Whole h = IsWholeRun c steps h
-RunsBy c steps HistoryFull h = IsRun c steps h × AskHadNoRoom c steps h
-RunsBy c steps Memory h = IsRun c steps h
-RunsBy c steps FlashFault h = ⊥
+-- at its end all requests were made and served, or a full history ended callers one by one; else some of each caller's were made,
+-- from its first on
+abbrev pub RunsBy : Configuration → List Step → List Look → End → List Entry → Type 0
+RunsBy c steps looks Whole h = IsWholeRun c steps looks h
+RunsBy c steps looks HistoryFull h = IsFullRun cap c steps looks h
+RunsBy c steps looks Memory h = IsRun c steps looks h
+RunsBy c steps looks FlashFault h = ⊥
 
 -- THE ORDER
 abbrev pub Follows : Run → Course → List Entry → Type 0
 Follows r (Played made pieces left) h =
     IsWalkOf r.configuration made pieces h × EachPiece r.configuration (HadRoom r.configuration cap) (after r.configuration (take 1 h)) made pieces
     × LeavesFor r (after r.configuration h) r.end left
-Follows r (Ran steps) h = RunsBy r.configuration steps r.end h
+Follows r (Ran steps looks) h = RunsBy r.configuration steps looks r.end h
 
--- without a start-up no step was made
+-- without a start-up no step was made, and no look
 abbrev pub MadeNothing : Course → Type 0
 MadeNothing (Played made pieces left) = (made ≡ []) × (pieces ≡ [])
-MadeNothing (Ran steps) = Unit {0}
+MadeNothing (Ran steps looks) = looks ≡ []
 
 -- The history is a walk of the steps that were made, or a run of the callers' programs, and the end says why no more were: it
 -- is full exactly where the next step of a walk has no room, since each that was made had.
@@ -178,12 +173,12 @@ unpaid_offs plan ops xs ps = 0
 -- the Offs of a run that the flash itself must have counted
 abbrev pub offs_of_flash : Course → List Entry → ℕ
 offs_of_flash (Played made pieces left) h = unpaid_offs None 0 made pieces
-offs_of_flash (Ran steps) h = count_by is_off h
+offs_of_flash (Ran steps looks) h = count_by is_off h
 
 -- in `play` a planned cut keeps its operation from the flash
 abbrev pub has_cutter : Course → Bool
 has_cutter (Played made pieces left) = true
-has_cutter (Ran steps) = false
+has_cutter (Ran steps looks) = false
 
 -- REFUSED COPIES
 -- the copies of a block that this step lets be refused
@@ -196,4 +191,4 @@ refusals_of id kind = 0
 abbrev pub RefusalsExplain : Configuration → Course → List Entry → ℕ → Type 0
 RefusalsExplain c (Played made pieces left) h id =
     (n : ℕ) → prices_in_refusals c id (take 1 h ++ joined (take n pieces)) ≤ sum_by (λ x. refusals_of id x.kind) (take n made)
-RefusalsExplain c (Ran steps) h id = prices_in_refusals c id h ≡ 0
+RefusalsExplain c (Ran steps looks) h id = prices_in_refusals c id h ≡ 0

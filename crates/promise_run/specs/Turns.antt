@@ -200,4 +200,4 @@ pub record KeepsTurns (most : State → Job → ℕ) (r : Run) (made : List Step
 
 abbrev pub HasTurns : (State → Job → ℕ) → Run → Course → Type 0
 HasTurns most r (Played made pieces left) = KeepsTurns most r made pieces
-HasTurns most r (Ran steps) = Unit {0}
+HasTurns most r (Ran steps looks) = Unit {0}

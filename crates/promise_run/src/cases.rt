@@ -13,7 +13,7 @@ ghost use Rattle.script_walks.specs.Words.{AskStep, Restart};
 ghost use Rattle.block_machine.specs.Words.{Status};
 ghost use Rattle.promise_run.specs.Run.{FlashFault, HistoryFull};
 ghost use Rattle.promise_run.specs.Turns.{BeginsAt, EndsBy, HasTurns};
-ghost use Rattle.promise_run.specs.Cases.{six_turns, lazy, leaps, at_faults, faulty, PaysFailed, CountsFailed, HadRoomAt, LeftAt, mended, posts_on_credit, starts_on_credit, untold, BreaksBy, small, one, two, quiet, quiet_beside, wiped, empty_at_11, made_up_mark, off_without_a_cut, stale_in_play, invented_store, second_found, other_dataset, worn_but_roomy, worn_and_full, kept_write, lost_write, two_callers, written_at, always, turned, not_drained, ends_for_nothing, demo_run, demo_call};
+ghost use Rattle.promise_run.specs.Cases.{six_turns, lazy, leaps, at_faults, faulty, PaysFailed, CountsFailed, HadRoomAt, LeftAt, mended, posts_on_credit, starts_on_credit, untold, BreaksBy, small, one, two, quiet, quiet_beside, wiped, empty_at_11, made_up_mark, off_without_a_cut, stale_in_play, invented_store, second_found, other_dataset, worn_but_roomy, worn_and_full, kept_write, lost_write, two_callers, written_at, always, turned, not_drained, ends_for_nothing, demo_run, demo_call, untold_write, unseen_stale, later_store, full_for_nothing, not_served};
 
 /// A start-up alone keeps it, and so do a write that a cut breaks off with a restart behind it, and the requests of two
 /// callers.
@@ -32,13 +32,17 @@ pub fn runs_over_two_flashes()
 {}
 
 /// A run that wipes the flash or ends with a full history before a start-up breaks it by its order, and so does one that
-/// takes an old copy or one that nobody stored, or that starts twice beside its callers.
+/// takes an old copy or one that nobody stored, or that starts twice beside its callers. So does a run of callers with an old copy
+/// that no look showed, with a store that is taken by the write that it waits for, or full where there is room.
 pub fn wrong_orders_break_it()
     ensures wiped { BreaksBy wiped (HasOrder wiped wiped.history) }
     ensures empty_at_11 { BreaksBy empty_at_11 (HasOrder empty_at_11 empty_at_11.history) }
     ensures stale_in_play { BreaksBy stale_in_play (HasOrder stale_in_play stale_in_play.history) }
     ensures invented_store { BreaksBy invented_store (HasOrder invented_store invented_store.history) }
     ensures second_found { BreaksBy second_found (HasOrder second_found second_found.history) }
+    ensures unseen_stale { BreaksBy unseen_stale (HasOrder unseen_stale unseen_stale.history) }
+    ensures later_store { BreaksBy later_store (HasOrder later_store later_store.history) }
+    ensures full_for_nothing { BreaksBy full_for_nothing (HasOrder full_for_nothing full_for_nothing.history) }
 {}
 
 /// One entry below the cap neither a request nor a start-up was made, and a start-up that is left there is left for a full
@@ -85,6 +89,11 @@ pub fn a_lost_write_breaks_it()
     ensures counted { TellsAtMost 5 lost_write.history }
 {}
 
+/// A flash that doesn't tell its operations at the exit, and had room for them at the entry, breaks it by its operations.
+pub fn a_list_that_ends_early_breaks_it()
+    ensures { BreaksBy untold_write (OperationsAre untold_write untold_write.beside) }
+{}
+
 /// A call is told by its run where configuration, steps, flash, status and output are the run's, and the run has no second flash.
 pub fn runs_of_calls()
     ensures own { IsRunOf (demo_call 0 (text_of demo_run)) demo_run }
@@ -94,12 +103,15 @@ pub fn runs_of_calls()
     ensures two_flashes { IsRunOf (demo_call 0 (text_of demo_run)) (record demo_run { beside = (quiet_beside one one).beside }) → ⊥ }
 {}
 
-/// Where nothing fails a job is posted within its turns, a drain leaves none, and no run ends at a flash fault.
+/// Where nothing fails a job is posted within its turns, a drain leaves none, nor does a run of callers, and no run ends at a flash
+/// fault.
 pub fn runs_that_are_served()
     ensures served { Completeness (always 8) (turned (written_at 4)) (turned (written_at 4)).course }
     ensures not_posted { Completeness (always 8) (turned []) (turned []).course → ⊥ }
     ensures not_drained { Completeness (always 100) not_drained not_drained.course → ⊥ }
     ensures not_ended { Completeness (always 100) ends_for_nothing ends_for_nothing.course → ⊥ }
+    ensures callers { Completeness (always 8) two_callers two_callers.course }
+    ensures not_served { Completeness (always 8) not_served not_served.course → ⊥ }
 {}
 
 /// A write that its sixth turn posts has its turns. Nine turns that pick a job and make no more of it aren't turns of a job

@@ -6,7 +6,7 @@ use Rattle.ram_mirrors.specs.Stores.{Contents, store_number}
 use mathlib.Core.Option.{some}
 use lib.ListN.{get_elem?}
 use Rattle.atomic_table.proofs.Lists.{at_last, at_longer}
-use Rattle.ram_mirrors_sync.specs.Ends.{EndValue, IsTaken, HasShown, CopiesEndOut, CopiesEndIn, last_of, told_of}
+use Rattle.ram_mirrors_sync.specs.Ends.{EndValue, IsTaken, HasShown, LooksAscend, CopiesEndOut, CopiesEndIn, last_of, told_of}
 use Rattle.ram_mirrors_sync.specs.Blocks.{IsStore, HasLooked, EndList, end_at, told_by}
 
 -- an end whose end tells the same takes the place of one
@@ -51,6 +51,7 @@ if_some (Some l) P Q on h = on l h
 pub record GoesOn (old new : EndValue) : Type 0 where
   pub keeps : (i k : ℕ) → get_elem? old.up.all_shown i ≡ some k → get_elem? new.up.all_shown i ≡ some k
   pub longer : length old.up.all_shown ≤ length new.up.all_shown
+  pub later : old.up.shown ≤ new.up.shown
 
 pub out_goes_on : (old new : EndValue) (n : ℕ) (content : List ℕ) → CopiesEndOut old n content new → GoesOn old new
 out_goes_on old new n content is =
@@ -58,12 +59,14 @@ out_goes_on old new n content is =
       keeps = λ i k at. ap (λ (l : List ℕ). get_elem? l i) shows
           ∙ at_longer (old.up.all_shown ++ more) (new.up.shown ∷ []) i k (at_longer old.up.all_shown more i k at);
       longer = omega (arith, ap (λ (l : List ℕ). length l) shows, length-append (old.up.all_shown ++ more) (new.up.shown ∷ []), length-append old.up.all_shown more);
+      later = is.later;
     }
 
 pub in_goes_on : (old new : EndValue) (n : ℕ) (content : List ℕ) → CopiesEndIn old n content new → GoesOn old new
 in_goes_on old new n content is = record {
   keeps = λ i k at. ap (λ (e : EndValue). get_elem? e.up.all_shown i) is.stored ∙ at;
   longer = omega (arith, ap (λ (e : EndValue). length e.up.all_shown) is.stored);
+  later = omega (arith, ap (λ (e : EndValue). e.up.shown) is.stored);
 }
 
 -- a copy out gives what its look showed
@@ -76,6 +79,8 @@ out_shows old new n content is =
       ap (λ (l : List ℕ). get_elem? l (length (old.up.all_shown ++ more))) shows
           ∙ at_last (old.up.all_shown ++ more) new.up.shown (length (old.up.all_shown ++ more)) refl,
       is.shown,
+      is.later,
+      omega arith,
     )
 
 pub looked_now : (xs : EndList) (i : ℕ) (end new : EndValue) (n : ℕ) → end_at xs i ≡ Some end → HasShown end new n → HasLooked xs (slice_set xs i (Some new)) i n
@@ -86,10 +91,13 @@ pub store_now : (xs : EndList) (i : ℕ) (end new : EndValue) (n : ℕ) (x : Lis
 store_now xs i end new n x is taken = held_now (λ l. IsTaken l n x) xs i end new is taken
 
 shown_later : (since old new : EndValue) (n : ℕ) → GoesOn old new → HasShown since old n → HasShown since new n
-shown_later since old new n on (i, k, from, at, is) = (i, k, from, on.keeps i k at, is)
+shown_later since old new n on (i, k, from, at, is, low, high) = (i, k, from, on.keeps i k at, is, low, omega (arith, high, on.later))
 
 shown_earlier : (old new until : EndValue) (n : ℕ) → GoesOn old new → HasShown new until n → HasShown old until n
-shown_earlier old new until n on (i, k, from, at, is) = (i, k, omega (arith, from, on.longer), at, is)
+shown_earlier old new until n on (i, k, from, at, is, low, high) = (i, k, omega (arith, from, on.longer), at, is, omega (arith, low, on.later), high)
+
+pub looks_ascend : LooksAscend
+looks_ascend a b c n m (i, k, from, at, is, low, high) (j, l, after, there, shown, under, over) = omega (arith, is, shown, high, under)
 
 -- what a copy leaves as it was: each store, and what looks showed before it and behind it
 pub record Keeps (old new : EndList) : Type 0 where

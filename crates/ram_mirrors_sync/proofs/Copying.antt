@@ -1,5 +1,5 @@
 -- A copy out of the driver's end.
-use Rattle.std.proofs.Common.{◌≡◌, inl, inr, ℕ, ◌+◌, List, [], ◌∷◌, ◌++◌, length, Option, Some, None, IfSome, IfNone, refl, sym, ap, ◌∙◌, subst, arith}
+use Rattle.std.proofs.Common.{◌≡◌, inl, inr, ℕ, ◌+◌, ◌≤◌, List, [], ◌∷◌, ◌++◌, length, Option, Some, None, IfSome, IfNone, refl, sym, ap, ◌∙◌, subst, arith}
 use Rattle.std.proofs.lemmas.List.{append-nil}
 use lib.ListN.{get_elem?}
 use Rattle.atomic_table.proofs.Lists.{at_last, at_longer}
@@ -14,10 +14,11 @@ pub record Looks (m : MirrorValue) (old new : TakerValue) : Type 0 where
   pub looks : new.looks ≡ old.looks + 1
   pub got : (more : List (ℕ × List ℕ)) × (new.got ≡ old.got ++ more)
   pub shows : ShowsNewest old new
+  pub later : old.shown ≤ new.shown
 
 pub looks_by : (m : MirrorValue) (old new : TakerValue) (r : Option ℕ) → IsTakerOf m old → IsTakerOf m new → IfNone r (NothingNewer old new) → IfSome r (λ n. TakesNewest old n new) → ShowsNewest old new → Looks m old new
-looks_by m old new None before own nothing one shows = record { own_old = before; own = own; looks = nothing.2; got = ([], nothing.0 ∙ sym (append-nil old.got)); shows = shows }
-looks_by m old new (Some n) before own nothing one shows = record { own_old = before; own = own; looks = one.4; got = ((n, new.content) ∷ [], one.2); shows = shows }
+looks_by m old new None before own nothing one shows = record { own_old = before; own = own; looks = nothing.2; got = ([], nothing.0 ∙ sym (append-nil old.got)); shows = shows; later = omega (arith, nothing.1) }
+looks_by m old new (Some n) before own nothing one shows = record { own_old = before; own = own; looks = one.4; got = ((n, new.content) ∷ [], one.2); shows = shows; later = omega (arith, one.0) }
 
 -- an end after it
 abbrev after : EndValue → TakerValue → EndValue
@@ -40,6 +41,7 @@ copies_first m e t n content looks shown zero same = record {
   looks = looks.looks;
   shown = shown;
   shows = looks.shows;
+  later = looks.later;
   taken = inl (zero, same);
   stays = taken_on e t looks.got.0 looks.got.1;
   rest = ap (λ (size : ℕ). record (told_of e) { bytes = size }) (looks.own.1 ∙ sym looks.own_old.1);
@@ -50,6 +52,7 @@ copies_last m e t n content looks is shown not same = record {
   looks = looks.looks;
   shown = shown;
   shows = looks.shows;
+  later = looks.later;
   taken = subst (λ (k : ℕ). IsTaken (after e t) k content) (sym shown) (subst (λ (x : List ℕ). IsTaken (after e t) (store_number t.shown) x) (sym same) (last_taken e t is (λ zero. not (shown ∙ zero))));
   stays = taken_on e t looks.got.0 looks.got.1;
   rest = ap (λ (size : ℕ). record (told_of e) { bytes = size }) (looks.own.1 ∙ sym looks.own_old.1);

@@ -1,5 +1,5 @@
 mod Copying
-mod Copies
+pub mod Copies
 mod Belonging
 mod Blocks
 mod Ending

@@ -43,9 +43,15 @@ told_of e = record { bytes = e.up.size; refusals = 0; most = 0; handed = store_n
 abbrev pub IsTaken : EndValue → ℕ → List ℕ → Type 0
 IsTaken e n content = ((n ≡ 0) × (content ≡ e.first)) ⊎ ((i : ℕ) × (get_elem? e.up.got i ≡ some (n, content)))
 
--- a look between these two showed the store with this number as the newest
+-- a look between these two showed the store with this number as the newest: none that is older than was shown before it, or newer
+-- than is shown behind it
 abbrev pub HasShown : (old new : EndValue) → ℕ → Type 0
-HasShown old new n = (i : ℕ) × (k : ℕ) × (length old.up.all_shown ≤ i) × (get_elem? new.up.all_shown i ≡ some k) × (n ≡ store_number k)
+HasShown old new n =
+    (i : ℕ) × (k : ℕ) × (length old.up.all_shown ≤ i) × (get_elem? new.up.all_shown i ≡ some k) × (n ≡ store_number k) × (old.up.shown ≤ k) × (k ≤ new.up.shown)
+
+-- so later looks show no older store
+abbrev pub LooksAscend : Type 0
+LooksAscend = (a b c : EndValue) (n m : ℕ) → HasShown a b n → HasShown b c m → n ≤ m
 
 -- ONE COPY
 -- a copy out looks once, and gives the store that this look showed as the newest, whole
@@ -53,6 +59,7 @@ pub record CopiesEndOut (old : EndValue) (n : ℕ) (content : List ℕ) (new : E
   pub looks : new.up.looks ≡ old.up.looks + 1
   pub shown : n ≡ store_number new.up.shown
   pub shows : ShowsNewest old.up new.up
+  pub later : old.up.shown ≤ new.up.shown
   pub taken : IsTaken new n content
   pub stays : (m : ℕ) (x : List ℕ) → IsTaken old m x → IsTaken new m x
   pub rest : told_of new ≡ told_of old

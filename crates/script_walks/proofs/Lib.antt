@@ -6,3 +6,5 @@ pub mod First
 pub mod Newest
 pub mod Jobs
 pub mod Turns
+mod Looks
+mod FullRuns

@@ -3,7 +3,9 @@ use Rattle.std.specs.Prelude.{slice_get, take}
 use Rattle.std.proofs.Common.{◌≡◌, ◌==◌, ℕ, zero, suc, false, IsTrue, [], length, refl, arith}
 use Rattle.std.proofs.lemmas.Bool.{ne_eqb, false≢true}
 use Rattle.block_machine.specs.block_config.DemoConfig.{demo_config}
-use Rattle.script_walks.specs.Callers.{program_of, requests_of, asks_of, is_over, WaitedFor, KeepsAwait, IsInOrder, IsRun, IsWholeRun}
+use Rattle.script_walks.specs.Callers.{program_of, requests_of, asks_of, is_over, WaitedFor, KeepsAwait, IsInOrder}
+use Rattle.script_walks.specs.Looks.{AreInOrder}
+use Rattle.script_walks.specs.Runs.{IsRun, IsWholeRun}
 use Rattle.script_walks.specs.Cases.{callers_script, two_callers, impatient_caller}
 
 awaits_1 : (n : ℕ) → KeepsAwait demo_config 1 (length (requests_of demo_config (take n (program_of 1 callers_script)))) two_callers (slice_get (program_of 1 callers_script) n)
@@ -40,8 +42,21 @@ all (suc zero) = refl
 all (suc (suc zero)) = refl
 all (suc (suc (suc caller))) = rw (no_program caller, no_asks caller) refl
 
-pub two_callers_run : IsWholeRun demo_config callers_script two_callers
-two_callers_run = record { order = record { one_start = refl; order = order; stores = (tt, (tt, (tt, (tt, (tt, (tt, (tt, (tt, (tt, tt))))))))) }; all = all; ends = refl }
+no_looks : AreInOrder []
+no_looks i j a b less at there = cc
+
+pub two_callers_run : IsWholeRun demo_config callers_script [] two_callers
+two_callers_run = record {
+  order = record {
+    one_start = refl;
+    order = order;
+    stores = (tt, (tt, (tt, (tt, (tt, (tt, (tt, (tt, (tt, tt)))))))));
+    in_order = no_looks;
+    shown = (tt, (tt, (tt, (tt, (tt, (tt, (tt, (tt, (tt, tt)))))))));
+  };
+  all = all;
+  ends = refl;
+}
 
 -- the wait of caller 1 wasn't over before its read
 no_wait : (n : ℕ) → length (asks_of 1 (take n impatient_caller)) ≡ 1 → IsTrue (is_over demo_config 2 (take n impatient_caller)) → ⊥
@@ -57,5 +72,5 @@ no_wait (suc (suc (suc (suc (suc (suc (suc n))))))) asked over = omega arith
 waits : WaitedFor demo_config 1 2 1 impatient_caller → ⊥
 waits w = no_wait w.entries w.asked w.over
 
-pub impatient_caller_no_run : IsRun demo_config callers_script impatient_caller → ⊥
+pub impatient_caller_no_run : IsRun demo_config callers_script [] impatient_caller → ⊥
 impatient_caller_no_run run = waits ((run.order 1).awaits 1 (omega arith))

@@ -1,20 +1,25 @@
 -- How the runs of callers grow.
 use Rattle.std.specs.Prelude.{slice_get, take}
 use Rattle.std.specs.List.{list_all}
-use Rattle.std.proofs.Common.{◌≡◌, ◌==◌, ◌<◌, ◌≤◌, ◌+◌, ◌⊎◌, ℕ, zero, suc, not, Bool, true, false, IsTrue, List, [], ◌∷◌, ◌++◌, length, refl, sym, ap, ◌∙◌, subst, inl, inr, arith, Option, Some, None, length-append, append-nil}
+use Rattle.std.proofs.Common.{◌≡◌, ◌==◌, ◌<◌, ◌≤◌, ◌+◌, ◌⊎◌, ℕ, zero, suc, not, Bool, true, false, List, [], ◌∷◌, ◌++◌, length, refl, sym, ap, ◌∙◌, subst, inl, inr, arith, Option, Some, None, length-append, append-nil}
 use Rattle.std.proofs.lemmas.Bool.{cases_Bool}
 use Rattle.std.proofs.lemmas.Bool.Decides.{nat_tests}
+use Rattle.std.proofs.lemmas.List.{append_assoc}
+use Rattle.std.proofs.lemmas.List.Elements.{Contains-append_left}
 use Rattle.std.proofs.lemmas.Option.{get_or_from_slice_get, slice_get_within}
 use Rattle.std.proofs.Math.Seq.{take-suc}
 use Rattle.nvm_script.specs.declared.step.Step.{Step}
 use Rattle.nvm_script.specs.declared.step.StepKind.{StepKind}
 use Rattle.nvm_script.specs.declared.step.StepKind.TheVariants.{Await}
-use Rattle.block_machine.specs.Words.{Request, Reply, Entry, Ask, Pick, Wrote, Post, Off, Found, Configuration}
+use Rattle.block_machine.specs.Words.{Request, Reply, TookNothing, TookContent, TookRefused, TookStale, Entry, Ask, Pick, Wrote, Post, Off, Found, Configuration}
 use Rattle.block_machine.specs.Next.{next_of}
 use Rattle.block_machine.specs.StartUp.{at_first}
 use Rattle.block_machine.specs.Steps.{step, after}
 use Rattle.script_walks.specs.Walk.{TakesStore, copies_by, StoresGrow}
-use Rattle.script_walks.specs.Callers.{program_of, requests_of, asks_of, is_over, WaitedFor, KeepsAwait, KeepsAwaitBy, IsInOrder, is_found, IsRun, IsNextAsk, RunsGrow}
+use Rattle.script_walks.specs.Turn.{copies_next}
+use Rattle.script_walks.specs.Callers.{program_of, requests_of, asks_of, WaitedFor, KeepsAwait, KeepsAwaitBy, IsInOrder}
+use Rattle.script_walks.specs.Looks.{Look, AreInOrder, IsShown, CopyIsShown, CopiesAreShown}
+use Rattle.script_walks.specs.Runs.{is_found, IsRun, IsNextAsk, RunsGrow}
 
 -- STORES
 
@@ -77,19 +82,6 @@ longer c caller block k h e w = let l : length (h ++ e ∷ []) ≡ length h + 1 
   over = rw (take_front w.entries h (e ∷ []) w.within) w.over;
 }
 
-take_all : {X : Type 0} (xs ys : List X) → take (length xs) (xs ++ ys) ≡ xs
-take_all [] ys = refl
-take_all (x ∷ xs) ys = ap (λ zs. x ∷ zs) (take_all xs ys)
-
-waited : (c : Configuration) (caller block k : ℕ) (x : Entry) (h : List Entry) (e : Entry) → k ≡ length (asks_of caller (x ∷ h)) → IsTrue (is_over c block (x ∷ h)) → WaitedFor c caller block k (x ∷ h ++ e ∷ [])
-waited c caller block k x h e is over = let l : length (h ++ e ∷ []) ≡ length h + 1 = length-append h (e ∷ []) in record {
-  entries = length (x ∷ h);
-  some = omega arith;
-  within = omega (arith, l);
-  asked = rw (take_all h (e ∷ [])) (sym is);
-  over = rw (take_all h (e ∷ [])) over;
-}
-
 keeps_by : (c : Configuration) (caller k : ℕ) (h : List Entry) (e : Entry) (kind : StepKind) → asks_of caller (h ++ e ∷ []) ≡ asks_of caller h → KeepsAwaitBy c caller k h kind → KeepsAwaitBy c caller k (h ++ e ∷ []) kind
 keeps_by c caller k h e (Await block) same keeps = λ more. longer c caller block k h e (keeps (subst (λ (rs : List Request). k < length rs) same more))
 keeps_by c caller k h e kind same keeps = tt
@@ -99,18 +91,18 @@ keeps c caller k h e None same was = tt
 keeps c caller k h e (Some x) same was = keeps_by c caller k h e x.kind same was
 
 waits_by : (c : Configuration) (caller k : ℕ) (x : Entry) (h : List Entry) (e : Entry) (r : Request) (kind : StepKind) → asks_of caller (x ∷ h ++ e ∷ []) ≡ asks_of caller (x ∷ h) ++ r ∷ []
-    → ((block : ℕ) → kind ≡ Await block → k ≡ length (asks_of caller (x ∷ h)) → IsTrue (is_over c block (x ∷ h))) → KeepsAwaitBy c caller k (x ∷ h) kind → KeepsAwaitBy c caller k (x ∷ h ++ e ∷ []) kind
+    → ((block : ℕ) → kind ≡ Await block → k ≡ length (asks_of caller (x ∷ h)) → WaitedFor c caller block k (x ∷ h)) → KeepsAwaitBy c caller k (x ∷ h) kind → KeepsAwaitBy c caller k (x ∷ h ++ e ∷ []) kind
 waits_by c caller k x h e r (Await block) same over was =
     λ more. let l : length (asks_of caller (x ∷ h) ++ r ∷ []) ≡ length (asks_of caller (x ∷ h)) + 1 = length-append (asks_of caller (x ∷ h)) (r ∷ []) in
     let less : k < length (asks_of caller (x ∷ h) ++ r ∷ []) = subst (λ (rs : List Request). k < length rs) same more in
     elim (less_or_same k (length (asks_of caller (x ∷ h))) (omega (arith, l, less))) [
       | inl before ↦ longer c caller block k (x ∷ h) e (was before)
-      | inr now ↦ waited c caller block k x h e now (over block refl now)
+      | inr now ↦ longer c caller block k (x ∷ h) e (over block refl now)
     ]
 waits_by c caller k x h e r kind same over was = tt
 
 waits : (c : Configuration) (caller k : ℕ) (x : Entry) (h : List Entry) (e : Entry) (r : Request) (o : Option Step) → asks_of caller (x ∷ h ++ e ∷ []) ≡ asks_of caller (x ∷ h) ++ r ∷ []
-    → ((block : ℕ) (y : Step) → o ≡ Some y → y.kind ≡ Await block → k ≡ length (asks_of caller (x ∷ h)) → IsTrue (is_over c block (x ∷ h))) → KeepsAwait c caller k (x ∷ h) o → KeepsAwait c caller k (x ∷ h ++ e ∷ []) o
+    → ((block : ℕ) (y : Step) → o ≡ Some y → y.kind ≡ Await block → k ≡ length (asks_of caller (x ∷ h)) → WaitedFor c caller block k (x ∷ h)) → KeepsAwait c caller k (x ∷ h) o → KeepsAwait c caller k (x ∷ h ++ e ∷ []) o
 waits c caller k x h e r None same over was = tt
 waits c caller k x h e r (Some y) same over was = waits_by c caller k x h e r y.kind same (λ block kind now. over block y refl kind now) was
 
@@ -134,7 +126,7 @@ next_order c steps caller x h r reply e one ask order =
     let all : asks ++ r ∷ [] ≡ take (length (asks ++ r ∷ [])) reqs = ap (λ rs. rs ++ r ∷ []) order.requests ∙ sym (take_more (length asks) reqs r ask.next) ∙ ap (λ n. take n reqs) (sym l) in
     record {
       requests = subst (λ (rs : List Request). rs ≡ take (length rs) reqs) (sym same) all;
-      awaits = λ n. waits c caller (length (requests_of c (take n (program_of caller steps)))) x h e r (slice_get (program_of caller steps) n) same (λ block y at kind now. ask.waited n block y at kind now) (order.awaits n);
+      awaits = λ n. waits c caller (length (requests_of c (take n (program_of caller steps)))) x h e r (slice_get (program_of caller steps) n) same (λ block y at kind now. subst (λ (m : ℕ). WaitedFor c caller block m (x ∷ h)) (sym now) (ask.waited n block y at kind now)) (order.awaits n);
     }
 
 ask_order : (c : Configuration) (steps : List Step) (x : Entry) (h : List Entry) (who : ℕ) (r : Request) (reply : Reply) → IsNextAsk c steps (x ∷ h) who r → ((caller : ℕ) → IsInOrder c caller (program_of caller steps) (x ∷ h))
@@ -146,21 +138,58 @@ ask_order c steps x h who r reply ask order caller = elim (cases_Bool (who == ca
   | inr other ↦ same_order c steps caller (x ∷ h) (Ask who r reply) (rw other refl) (order caller)
 ]
 
-driven : (c : Configuration) (steps : List Step) (x : Entry) (h : List Entry) (e : Entry) → is_found e ≡ false → ((caller : ℕ) → asks_of caller (e ∷ []) ≡ []) → TakesStore c steps (copies_by c (next_of c (after c (x ∷ h)))) e → IsRun c steps (x ∷ h) → IsRun c steps (x ∷ h ++ e ∷ [])
-driven c steps x h e driver none takes run = record {
+-- LOOKS
+
+more_shown : (c : Configuration) (steps : List Step) (looks more : List Look) (before : List Entry) (block number : ℕ) → IsShown c steps looks before block number → IsShown c steps (looks ++ more) before block number
+more_shown c steps looks more before block number is = record { seen = Contains-append_left looks more _ is.seen; made = is.made }
+
+more_looks : (c : Configuration) (steps : List Step) (looks more : List Look) (before : List Entry) (e : Entry) (copies : Bool) → CopyIsShown c steps looks before e copies → CopyIsShown c steps (looks ++ more) before e copies
+more_looks c steps looks more before (Pick block kind (TookStale asked got count) ops) copies is = (more_shown c steps looks more before block got is.0, is.1)
+more_looks c steps looks more before (Pick block kind (TookContent bytes number) ops) true is = more_shown c steps looks more before block number is
+more_looks c steps looks more before (Pick block kind (TookContent bytes number) ops) false is = tt
+more_looks c steps looks more before (Pick block kind TookNothing ops) copies is = tt
+more_looks c steps looks more before (Pick block kind (TookRefused count) ops) copies is = tt
+more_looks c steps looks more before (Ask caller r reply) copies is = tt
+more_looks c steps looks more before (Wrote i mark ops) copies is = tt
+more_looks c steps looks more before (Post block r given refused ops) copies is = tt
+more_looks c steps looks more before (Off ops) copies is = tt
+more_looks c steps looks more before (Found marks ops) copies is = tt
+
+abbrev Shows : Configuration → List Step → List Look → List Entry → Entry → Type 0
+Shows c steps looks before e = CopyIsShown c steps looks before e (copies_next c (next_of c (after c before)))
+
+copies_grow : (c : Configuration) (steps : List Step) (looks more : List Look) (before es whole : List Entry) (e : Entry) → whole ≡ before ++ es → CopiesAreShown c steps looks before es → Shows c steps (looks ++ more) whole e
+    → CopiesAreShown c steps (looks ++ more) before (es ++ e ∷ [])
+copies_grow c steps looks more before [] whole e is all one = (subst (λ (b : List Entry). Shows c steps (looks ++ more) b e) (is ∙ append-nil before) one, tt)
+copies_grow c steps looks more before (x ∷ es) whole e is all one =
+    (more_looks c steps looks more before x (copies_next c (next_of c (after c before))) all.0, copies_grow c steps looks more (before ++ x ∷ []) es whole e (is ∙ sym (append_assoc before (x ∷ []) es)) all.1 one)
+
+ask_shows : (c : Configuration) (steps : List Step) (looks : List Look) (before : List Entry) (caller : ℕ) (r : Request) (reply : Reply) → Shows c steps looks before (Ask caller r reply)
+ask_shows c steps looks before caller r reply = tt
+
+abbrev Driven : Configuration → List Step → List Look → List Entry → Entry → Type 0
+Driven c steps looks h e = TakesStore c steps (copies_by c (next_of c (after c h))) e × Shows c steps looks h e
+
+driven : (c : Configuration) (steps : List Step) (looks more : List Look) (x : Entry) (h : List Entry) (e : Entry) → is_found e ≡ false → ((caller : ℕ) → asks_of caller (e ∷ []) ≡ []) → AreInOrder (looks ++ more) → Driven c steps (looks ++ more) (x ∷ h) e
+    → IsRun c steps looks (x ∷ h) → IsRun c steps (looks ++ more) (x ∷ h ++ e ∷ [])
+driven c steps looks more x h e driver none in_order takes run = record {
   one_start = all_push (λ e. not (is_found e)) h e run.one_start (ap not driver);
   order = λ caller. same_order c steps caller (x ∷ h) e (none caller) (run.order caller);
-  stores = stores_grow c steps at_first (x ∷ h) e run.stores takes;
+  stores = stores_grow c steps at_first (x ∷ h) e run.stores takes.0;
+  in_order = in_order;
+  shown = copies_grow c steps looks more [] (x ∷ h) (x ∷ h) e refl run.shown takes.1;
 }
 
 pub runs_grow : RunsGrow
-runs_grow c steps x h (Ask who r reply) run follow = record {
+runs_grow c steps looks more x h (Ask who r reply) run in_order follow = record {
   one_start = all_push (λ e. not (is_found e)) h (Ask who r reply) run.one_start refl;
   order = ask_order c steps x h who r reply follow run.order;
   stores = stores_grow c steps at_first (x ∷ h) (Ask who r reply) run.stores (ask_takes c steps (copies_by c (next_of c (after c (x ∷ h)))) who r reply);
+  in_order = in_order;
+  shown = copies_grow c steps looks more [] (x ∷ h) (x ∷ h) (Ask who r reply) refl run.shown (ask_shows c steps (looks ++ more) (x ∷ h) who r reply);
 }
-runs_grow c steps x h (Pick block kind t ops) run follow = driven c steps x h (Pick block kind t ops) refl (λ caller. refl) follow run
-runs_grow c steps x h (Wrote i mark ops) run follow = driven c steps x h (Wrote i mark ops) refl (λ caller. refl) follow run
-runs_grow c steps x h (Post block r given refused ops) run follow = driven c steps x h (Post block r given refused ops) refl (λ caller. refl) follow run
-runs_grow c steps x h (Off ops) run follow = driven c steps x h (Off ops) refl (λ caller. refl) follow run
-runs_grow c steps x h (Found marks ops) run follow = absurd follow
+runs_grow c steps looks more x h (Pick block kind t ops) run in_order follow = driven c steps looks more x h (Pick block kind t ops) refl (λ caller. refl) in_order follow run
+runs_grow c steps looks more x h (Wrote i mark ops) run in_order follow = driven c steps looks more x h (Wrote i mark ops) refl (λ caller. refl) in_order follow run
+runs_grow c steps looks more x h (Post block r given refused ops) run in_order follow = driven c steps looks more x h (Post block r given refused ops) refl (λ caller. refl) in_order follow run
+runs_grow c steps looks more x h (Off ops) run in_order follow = driven c steps looks more x h (Off ops) refl (λ caller. refl) in_order follow run
+runs_grow c steps looks more x h (Found marks ops) run in_order follow = absurd follow

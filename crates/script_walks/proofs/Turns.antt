@@ -2,7 +2,7 @@
 use Rattle.std.specs.Prelude.{option_to_list}
 use Rattle.std.specs.List.{list_all}
 use Rattle.std.specs.Option.{is_some}
-use Rattle.std.proofs.Common.{◌≡◌, ◌==◌, ◌&&◌, ◌||◌, ◌≤◌, ◌+◌, ℕ, not, Bool, true, false, IsTrue, List, [], ◌∷◌, ◌++◌, length, get_or, refl, sym, ◌∙◌, subst, inl, inr, arith, Option, Some, None, if◌then◌else◌, length-append}
+use Rattle.std.proofs.Common.{◌≡◌, ◌==◌, ◌&&◌, ◌||◌, ◌≤◌, ℕ, not, Bool, true, false, IsTrue, List, [], ◌∷◌, ◌++◌, length, get_or, refl, sym, ◌∙◌, subst, inl, inr, arith, Option, Some, None, if◌then◌else◌, length-append}
 use Rattle.std.proofs.lemmas.Bool.{cases_Bool}
 use Rattle.block_machine.specs.Words.{Request, Write, ReqResult, JobKind, WriteJob, Taken, TookNothing, TookContent, TookRefused, TookStale, Instance, Mark, Entry, Ask, Pick, Wrote, Post, Off, Found, BlockDesc, Configuration}
 use Rattle.block_machine.specs.State.{State, BlockState, Job, Sweep}

@@ -1,9 +1,11 @@
 -- Scripts of the worked cases, and runs of several callers.
-use Rattle.std.specs.Prelude.{ℕ, List, [], ◌∷◌, take, drop, None}
+use Rattle.std.specs.Prelude.{ℕ, List, [], ◌∷◌, ◌++◌, take, drop, None}
 use Rattle.script_walks.specs.Words.{Step, StepKind, AskStep, Store, Turn, Drain, Restart, Cut, Refuse, Await}
-use Rattle.block_machine.specs.Words.{Fine, Request, Write, Status, Accepted, Refused, StatusIs, BlockPending, ReadJob, WriteJob, TookContent, Entry, Ask, Pick, Found, Configuration}
-use Rattle.block_machine.specs.Cases.{write, read, pick, pick_write, wrote, post, give, bytes_1, bytes_2, four, cap}
+use Rattle.block_machine.specs.block_config.Block.{plain_block}
+use Rattle.block_machine.specs.Words.{Fine, Request, Write, Status, Accepted, Refused, StatusIs, BlockPending, ReadJob, WriteJob, Taken, TookContent, Entry, Ask, Pick, Found, Configuration}
+use Rattle.block_machine.specs.Cases.{write, read, pick, pick_write, wrote, post, give, bytes_1, bytes_2, four, cap, config_of}
 use Rattle.script_walks.specs.Walk.{IsWalkOf}
+use Rattle.script_walks.specs.Looks.{Look}
 use Rattle.block_machine.specs.Legal.{IsLegal}
 
 -- pieces of so many entries
@@ -69,3 +71,59 @@ stale_steps = does (Store 2 bytes_1) ∷ asks (Write 2 None 0) ∷ does (Turn 1)
 -- what caller 1's write takes in a run
 abbrev pub stored_pick : List ℕ → ℕ → List Entry
 stored_pick bytes n = Found [] 0 ∷ Ask 1 (Write 2 None 1) Accepted ∷ Pick 2 WriteJob (TookContent bytes n) 0 ∷ []
+
+-- LOOKS
+
+-- a look at block 2 in the Pick that is this entry
+abbrev pub saw : ℕ → ℕ → List Look
+saw entry shown = record { entry = entry; block = 2; shown = shown } ∷ []
+
+-- caller 1 stores, and writes its store
+abbrev pub stores_and_writes : List Step
+stores_and_writes = by 1 (Store 2 bytes_1) ∷ by 1 (AskStep (Write 2 None 0)) ∷ []
+
+-- what the Pick of that write takes
+abbrev pub takes : Taken → List Entry
+takes t = Found [] 0 ∷ Ask 1 (Write 2 None 1) Accepted ∷ Pick 2 WriteJob t 0 ∷ []
+
+-- caller 1 writes before its first store, does this, and stores
+abbrev pub writes_and_stores : List Step → List Step
+writes_and_stores between = by 1 (AskStep (Write 2 None 0)) ∷ between ++ by 1 (Store 2 bytes_1) ∷ []
+
+-- the Pick of that write takes the store
+abbrev pub takes_later_store : List Entry
+takes_later_store = Found [] 0 ∷ Ask 1 (Write 2 None 0) Accepted ∷ Pick 2 WriteJob (TookContent bytes_1 1) 0 ∷ []
+
+-- caller 1 writes, waits, stores and writes again: each write takes the store before it
+abbrev pub writes_twice : List Step
+writes_twice = writes_and_stores (by 1 (Await 2) ∷ []) ++ by 1 (AskStep (Write 2 None 0)) ∷ []
+
+abbrev pub takes_twice : List Entry
+takes_twice =
+    Found [] 0 ∷ Ask 1 (Write 2 None 0) Accepted ∷ Pick 2 WriteJob (TookContent (four 0) 0) 0 ∷ wrote 2 0 (four 0) 10 ∷ post 2 Fine 10
+    ∷ Ask 1 (Write 2 None 1) Accepted ∷ Pick 2 WriteJob (TookContent bytes_1 1) 10 ∷ []
+
+-- WAITS
+
+-- caller 1 writes, waits and reads, and caller 2 writes the same block
+abbrev pub both_write : List Step
+both_write = by 1 (AskStep (write 2 bytes_1)) ∷ by 1 (Await 2) ∷ by 1 (AskStep (read 2)) ∷ by 2 (AskStep (write 2 bytes_2)) ∷ []
+
+-- the block is PENDING again before caller 1 reads
+abbrev pub pending_again : List Entry
+pending_again = Found [] 0 ∷ Ask 1 (write 2 bytes_1) Accepted ∷ pick_write 2 bytes_1 0 ∷ wrote 2 0 bytes_1 10 ∷ post 2 Fine 10 ∷ Ask 2 (write 2 bytes_2) Accepted ∷ []
+
+-- FULL HISTORIES
+
+-- block 2 is written at once: its job holds five entries, two of them for a job that it may interrupt
+abbrev pub immediate_config : Configuration
+immediate_config = config_of (record (plain_block 4) { priority = 0 } ∷ [])
+
+-- caller 1 writes, waits, and asks for the status, as caller 2 does
+abbrev pub full_script : List Step
+full_script = by 1 (AskStep (write 2 bytes_1)) ∷ by 1 (Await 2) ∷ by 1 (AskStep (Status 2)) ∷ by 2 (AskStep (Status 2)) ∷ []
+
+-- caller 2 asks while the job holds its entries, so that eight have no room for it, and caller 1 once it is posted
+abbrev pub full_run : List Entry
+full_run =
+    Found [] 0 ∷ Ask 1 (write 2 bytes_1) Accepted ∷ pick_write 2 bytes_1 0 ∷ wrote 2 0 bytes_1 10 ∷ post 2 Fine 10 ∷ Ask 1 (Status 2) (StatusIs Fine) ∷ []

@@ -6,3 +6,5 @@ pub mod Cases
 pub mod Stores
 pub mod Turn
 pub mod StoreLaws
+pub mod Looks
+pub mod Runs

@@ -4,7 +4,6 @@ use Rattle.std.specs.List.{list_all}
 use Rattle.block_machine.specs.Words.{Instance, Mark, Request, Reply, Entry, Ask, Found, Configuration}
 use Rattle.block_machine.specs.State.{State}
 use Rattle.block_machine.specs.Steps.{step, after_from}
-use Rattle.ram_blocks.specs.Copies.{next_number}
 use Rattle.ram_blocks.specs.Plain.{store_of, plain_blocks_of}
 use Rattle.script_walks.specs.Words.{Step, StepKind, AskStep, Store}
 use Rattle.script_walks.specs.Walk.{is_played, request_after, stores_of, last_store, TakesStores, AreTurns}

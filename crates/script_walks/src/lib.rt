@@ -13,7 +13,10 @@ pub use cases::{
     cases_of_order_are_walks, cases_of_ram_are_walks, cases_with_faults_are_walks,
     simple_cases_are_walks,
 };
-pub use run_cases::{runs_keep_the_callers_order, walks_take_stores, wrong_walks_are_refuted};
+pub use run_cases::{
+    copies_are_shown, full_histories_end_callers_one_by_one, runs_keep_the_callers_order,
+    stores_come_before_they_are_taken, waits_stay_over, walks_take_stores, wrong_walks_are_refuted,
+};
 pub use wrong_cases::{
     near_walks_are_walks, other_pieces_are_refuted, unfinished_runs_are_refuted,
 };

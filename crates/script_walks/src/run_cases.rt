@@ -1,23 +1,59 @@
 // Histories that are walks or runs, and histories that are none.
-ghost use Rattle.std.specs.Prelude.{[], ◌∷◌, None};
+ghost use Rattle.std.specs.Prelude.{[], ◌∷◌, ◌++◌, take, None};
 ghost use Rattle.block_machine.specs.block_config.DemoConfig.{demo_config};
-ghost use Rattle.nvm_script.specs.declared.step.StepKind.TheVariants.{Ask as AskStep, Store, Turn};
-ghost use Rattle.block_machine.specs.Words.{Write, WriteJob, Accepted, TookContent, TookStale, Ask, Pick, Found};
+ghost use Rattle.nvm_script.specs.declared.step.StepKind.TheVariants.{Ask as AskStep, Store, Turn, Await};
+ghost use Rattle.block_machine.specs.Words.{Write, Status, WriteJob, Accepted, TookContent, TookStale, Ask, Pick, Found};
 ghost use Rattle.block_machine.specs.Legal.{IsLegal};
-ghost use Rattle.block_machine.specs.Cases.{cap, ok, write, pick_write, bytes_1, bytes_2, sync_config, sync_plain};
-ghost use Rattle.script_walks.specs.Callers.{IsRun, IsWholeRun};
-ghost use Rattle.script_walks.specs.Cases.{IsWalkIn, by, does, asks, drain, store_run, store_run_script, two_callers, callers_script, impatient_caller, stale_steps, stored_pick};
+ghost use Rattle.block_machine.specs.Cases.{cap, ok, read, write, pick_write, bytes_1, bytes_2, sync_config, sync_plain};
+ghost use Rattle.script_walks.specs.Looks.{AreInOrder};
+ghost use Rattle.script_walks.specs.Runs.{IsRun, IsWholeRun, IsNextAsk, IsFullRun};
+ghost use Rattle.script_walks.specs.Cases.{IsWalkIn, by, does, asks, drain, store_run, store_run_script, two_callers, callers_script, impatient_caller, stale_steps, stored_pick, saw, stores_and_writes, takes, writes_and_stores, takes_later_store, writes_twice, takes_twice, both_write, pending_again, immediate_config, full_script, full_run};
 
 /// Callers beside each other: their requests in order, and their waits.
 pub fn runs_keep_the_callers_order()
     ensures store_run_is_legal { IsLegal sync_config cap store_run }
     ensures two_callers_is_legal { IsLegal demo_config cap two_callers }
     ensures impatient_caller_is_legal { IsLegal demo_config cap impatient_caller }
-    ensures store_run { IsWholeRun sync_config store_run_script store_run }
-    ensures two_callers { IsWholeRun demo_config callers_script two_callers }
-    ensures impatient_caller { ¬ IsRun demo_config callers_script impatient_caller }
-    ensures restarted { ¬ IsRun demo_config callers_script (Found [] 0 ∷ Found [] 0 ∷ []) }
-    ensures other_store { ¬ IsRun sync_config store_run_script (stored_pick bytes_2 1) }
+    ensures store_run { IsWholeRun sync_config store_run_script (saw 2 1) store_run }
+    ensures two_callers { IsWholeRun demo_config callers_script [] two_callers }
+    ensures impatient_caller { ¬ IsRun demo_config callers_script [] impatient_caller }
+    ensures restarted { ¬ IsRun demo_config callers_script [] (Found [] 0 ∷ Found [] 0 ∷ []) }
+    ensures other_store { ¬ IsRun sync_config store_run_script (saw 2 1) (stored_pick bytes_2 1) }
+{}
+
+/// In `run` a copy is the store that a look in that very Pick showed, one that is stale was shown one that is too old, and no
+/// later look shows an older one.
+pub fn copies_are_shown()
+    ensures legal { IsLegal sync_plain cap (takes (TookStale 1 0 1)) }
+    ensures stale { IsRun sync_plain stores_and_writes (saw 2 0) (takes (TookStale 1 0 1)) }
+    ensures no_look { ¬ IsRun sync_plain stores_and_writes [] (takes (TookStale 1 0 1)) }
+    ensures in_another_entry { ¬ IsRun sync_plain stores_and_writes (saw 1 0) (takes (TookStale 1 0 1)) }
+    ensures shown_as_asked { ¬ IsRun sync_plain stores_and_writes (saw 2 1) (takes (TookStale 1 0 1)) }
+    ensures not_too_old { ¬ IsRun sync_plain stores_and_writes (saw 2 1) (takes (TookStale 1 1 1)) }
+    ensures content_without_a_look { ¬ IsRun sync_plain stores_and_writes [] (takes (TookContent bytes_1 1)) }
+    ensures goes_back { ¬ AreInOrder (saw 2 1 ++ saw 6 0) }
+{}
+
+/// A store is taken only once its caller can have made it: its requests before it were made, and its waits over.
+pub fn stores_come_before_they_are_taken()
+    ensures behind_its_write { IsRun sync_plain (writes_and_stores []) (saw 2 1) takes_later_store }
+    ensures behind_a_wait { ¬ IsRun sync_plain (writes_and_stores (by 1 (Await 2) ∷ [])) (saw 2 1) takes_later_store }
+    ensures behind_a_request { ¬ IsRun sync_plain (writes_and_stores (by 1 (AskStep (Status 2)) ∷ [])) (saw 2 1) takes_later_store }
+    ensures once_it_was_over { IsRun sync_plain writes_twice (saw 2 0 ++ saw 6 1) takes_twice }
+{}
+
+/// A wait that was over lets the next request come, though the block is PENDING again; none that wasn't does.
+pub fn waits_stay_over()
+    ensures over { IsNextAsk demo_config both_write pending_again 1 (read 2) }
+    ensures too_early { ¬ IsNextAsk demo_config both_write (take 4 pending_again) 1 (read 2) }
+{}
+
+/// At a full history one caller ends, and the others go on: none of them stops where it has room, and no job stays pending.
+pub fn full_histories_end_callers_one_by_one()
+    ensures full { IsFullRun 8 immediate_config full_script [] full_run }
+    ensures all_stop { ¬ IsFullRun 8 immediate_config full_script [] (take 5 full_run) }
+    ensures job_in_hand { ¬ IsFullRun 8 immediate_config full_script [] (take 3 full_run) }
+    ensures has_room { ¬ IsFullRun 9 immediate_config full_script [] full_run }
 {}
 
 /// A write carries its own caller's last store, and takes the content of a store that was made before.

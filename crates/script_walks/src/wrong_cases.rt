@@ -4,12 +4,12 @@ ghost use Rattle.block_machine.specs.block_config.DemoConfig.{demo_config};
 ghost use Rattle.nvm_script.specs.declared.step.StepKind.TheVariants.{Store, Turn, Restart};
 ghost use Rattle.block_machine.specs.Words.{Fine, Write, Status, Accepted, StatusIs, WriteJob, TookContent, Ask, Pick, Off, Found};
 ghost use Rattle.block_machine.specs.Cases.{ok, read, write, pick_write, wrote, bytes_1, four, sync_config, sync_plain};
-ghost use Rattle.script_walks.specs.Callers.{IsWholeRun};
-ghost use Rattle.script_walks.specs.Cases.{IsWalkIn, does, asks, drain, store_run_script, stored_pick};
+ghost use Rattle.script_walks.specs.Runs.{IsWholeRun};
+ghost use Rattle.script_walks.specs.Cases.{IsWalkIn, does, asks, drain, store_run_script, stored_pick, saw};
 
 /// A whole run leaves nothing pending.
 pub fn unfinished_runs_are_refuted()
-    ensures job_in_hand { ¬ IsWholeRun sync_config store_run_script (stored_pick (four 10) 1) }
+    ensures job_in_hand { ¬ IsWholeRun sync_config store_run_script (saw 2 1) (stored_pick (four 10) 1) }
 {}
 
 /// A step adds its own entries alone.

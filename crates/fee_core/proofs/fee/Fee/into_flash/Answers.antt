@@ -5,11 +5,15 @@ use Rattle.memif.specs.Told.{First, figures_at}
 use Rattle.fee_course.specs.Course.{most_turns}
 use Rattle.fls_model.specs.Told.{Told, changes_in}
 use Rattle.promise_device.specs.Bridge.{Bridges, reading_of}
+use Rattle.promise_device.specs.Room.{TellsWorkOver}
+use Rattle.fee_log.specs.Log.{IsLogState}
+use Rattle.fee_switch.specs.Banks.{IsBanksState}
 use Rattle.fls_told.proofs.Runs.{runs_bridge}
 use Rattle.fee_told.specs.Device.{Device, told_of, clock_of, flash_device}
 use Rattle.fee_laws.specs.Inside.{device_of}
 use Rattle.fee_laws.specs.Made.{part_at}
 use Rattle.fee_core.specs.Whole.{Whole}
+use Rattle.fee_core.proofs.RoomTold.{work_told}
 use Rattle.fee_core.proofs.Telling.{all_first}
 use Rattle.fee_core.proofs.fee.Fee.into_flash.Goals as goal
 
@@ -63,3 +67,15 @@ returns-clause-parts g c =
     let m = g.O.Origin.making in
     subst (λ (x : Device). (n : ℕ) → (figures_at (told_of x).fixed n).part ≡ First) c.self.view_is
     (λ n. all_first m.geometry.page (most_turns m.geometry.page (sectors_of_bank m.geometry m.banks) m.numbers) m.numbers n)
+
+pub returns-clause-room : goal.returns-clause-room
+returns-clause-room g c =
+    let m = g.O.Origin.making in
+    let entry = g.O.Origin.entry in
+    let p = c.self.inside.parts in
+    let same = c.into_flash.ensures ∙ ap (λ (w : Whole). w.parts.fls.flash) c.parts.view_is in
+    let banks = subst (λ (w : Whole). IsBanksState w.parts.banks) c.parts.view_is c.active-active.ensures.state in
+    let log = subst (λ (w : Whole). IsLogState w.parts.banks.log) c.parts.view_is c.active-active.ensures.log in
+    let here = work_told m entry p c.self.invariant banks log in
+    let out = subst (λ (x : Told). TellsWorkOver m p.parts.operations x (told_of (device_of m entry p.parts))) (sym same) here in
+    subst (λ (x : Device). TellsWorkOver m x.operations (g.F.Flash.told c.into_flash.result) (told_of x)) c.self.view_is out

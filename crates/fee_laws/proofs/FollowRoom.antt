@@ -1,0 +1,349 @@
+-- What a device over banks tells of its room and its turns, by the bytes that its banks follow.
+use Rattle.std.specs.Prelude.{IfSome, IsTrue, ◌&&◌, not, is_some, is_none, min, nat_le, take, unwrap_or, if◌then◌else◌}
+use Rattle.std.specs.Option.{option_map_or}
+use Rattle.std.proofs.Common.{◌≡◌, ◌≢◌, ◌⊎◌, inl, inr, ◌≤◌, ◌+◌, ◌-◌, ℕ, suc, Bool, true, false, List, Option, Some, None, refl, sym, ap, ◌∙◌, subst, arith}
+use Rattle.std.proofs.lemmas.Bool.{le-leb}
+use Rattle.nv_base.specs.Pages.{record_pages_of}
+use Rattle.nv_base.specs.declared.geometry.Geometry.{Geometry}
+use Rattle.nv_base.specs.declared.instance.DeviceNumber.{DeviceNumber}
+use Rattle.nv_base.specs.declared.job.DeviceOp.{DeviceOp}
+use Rattle.nv_base.specs.declared.job.DeviceOp.TheVariants.{Read, Write, Invalidate, Erase}
+use Rattle.nv_base.specs.declared.mark.Mark.{Mark}
+use Rattle.memif.specs.Told.{Stand, is_open, length_of}
+use Rattle.memif.specs.Calls.{is_read}
+use Rattle.fls_model.specs.Told.{Told}
+use Rattle.fee_format.specs.declared.bank_head.BankHead.{BankHead}
+use Rattle.fee_format.specs.declared.rec_head.RecHead.{RecHead}
+use Rattle.fee_image.specs.Bank.{Bank, page_of}
+use Rattle.fee_image.specs.Image.{bank_in}
+use Rattle.fee_image.specs.RecordList.{IsLog, IsClosed, end_of, pages_of_head, free_pages_of}
+use Rattle.fee_image.specs.Append.{Staged}
+use Rattle.fee_image.specs.Log.{HasTail}
+use Rattle.fee_image.specs.May.{May}
+use Rattle.fee_image.proofs.Appends.{appends_leave_one_more, stops_behind}
+use Rattle.fee_image.proofs.Records.{logs_compute}
+use Rattle.fee_log.specs.declared.tail.Tail.{Tail}
+use Rattle.fee_log.specs.declared.tail.Tail.TheVariants as tail
+use Rattle.fee_log.specs.Log.{bank_of, work_in, is_closed, free_behind, free_in, tail_with, pages_with}
+use Rattle.fee_switch.specs.declared.active.ActiveBank.{ActiveBank}
+use Rattle.fee_switch.specs.Active.{active_shown}
+use Rattle.fee_switch_laws.specs.Space.{free_pages, has_room}
+use Rattle.promise_device.specs.Making.{Making, banks_of}
+use Rattle.promise_device.specs.Image.{is_closed_bank}
+use Rattle.promise_device.specs.Room.{may_be_closed, mark_pages, job_pages, pages_needed, turns_with_room, free_in_bank, TellsRoom, TellsRoomOf, TellsWork}
+use Rattle.promise_device.proofs.Readings.{closed_banks_compute}
+use Rattle.fee_told.specs.Device.{told_of}
+use Rattle.fee_told.specs.Figures.{Work, ready_of, left_of, turns_of, turns_owed}
+use Rattle.fee_laws.specs.declared.job.FeeJob.{FeeJob}
+use Rattle.fee_laws.specs.Inside.{Parts, body_of, device_of, mark_of, stand_of, IsAtWork}
+use Rattle.fee_laws.specs.Record.{IsJobOf, IsLengthOf, IsInWork, head_of}
+use Rattle.fee_laws.specs.Turn.{IsOn}
+use Rattle.fee_laws.specs.Work.{pages_of_op, pages_free, is_owed, is_waiting, fits_in, needs_switch, begins_next, claimed, takes_append, switch_turns, work_of, seal_turns}
+use Rattle.fee_laws.specs.Follows.{anything, FollowsBytes}
+use Rattle.fee_laws.specs.FollowLaws.{RoomIsTold}
+use Rattle.fee_laws.proofs.Appended.{pages_few}
+use Rattle.fee_laws.proofs.Before.{now_at, each_now, power}
+use Rattle.fee_laws.proofs.CallsBehind.{no_work}
+use Rattle.fee_laws.proofs.FollowKnown.{no_header, test, follows_log, bank_is, closed_at, free_is, shows_active}
+use Rattle.fee_laws.proofs.Shown.{pages_by}
+use Rattle.fee_laws.proofs.SwitchBegun.{seal_is}
+use Rattle.fee_laws.proofs.WornFull.{op_some}
+
+-- THE PAGES
+-- no gate is owed, and what is free in memory, beside the record in work, is no less than lies behind the log's end
+record IsFree (b : Bank) (bytes : List ℕ) (t : Tail) (free : ℕ) : Type 0 where
+  paid : is_owed t ≡ false
+  least : b.pages ≤ end_of b bytes + (free + pages_with b.page (work_in t))
+
+-- where the log's records end in the bytes, by its tail
+module _ (b : Bank) (bytes : List ℕ) (may : May) (big : 16 ≤ b.page) (end : ℕ) (body : List ℕ) (high : end ≤ b.pages) where
+  -- where a record is in work
+  ends_by : (records : List _) (h : RecHead) (content : List ℕ) (done : ℕ) → Staged b bytes records end h content done → suc done ≤ pages_of_head b.page h → (end ≡ end_of b bytes) ⊎ (end + pages_of_head b.page h ≡ end_of b bytes)
+  ends_by records h content done staged left = elim (appends_leave_one_more b bytes bytes records end h content done big staged left (λ q inside other. refl)) [
+    | inl none ↦ inl ((logs_compute b bytes records end).0 none.1).1
+    | inr more ↦ inr ((logs_compute b bytes _ (end + pages_of_head b.page h)).0 more.log).1
+  ]
+
+  -- and where a gate is owed
+  ends_owing : (records : List _) (h : RecHead) (content : List ℕ) → Staged b bytes records end h content 1 → end ≡ end_of b bytes
+  ends_owing records h content staged =
+      let log : IsLog b bytes records end = record { walk = staged.front; stop = stops_behind b bytes end big (λ inside. staged.blank (end + 1) (omega arith) inside) } in
+      ((logs_compute b bytes records end).0 log).1
+
+  -- no more is free in memory than lies behind that end
+  most_free : (t : Tail) → HasTail b bytes may end (tail_with t body) → free_behind b.page b.pages end t ≤ b.pages - end_of b bytes
+  most_free tail.Open open' = (let is = open'.is_end in omega (arith, is))
+  most_free (tail.Writes h done) at = elim (ends_by at.records h body done at.staged at.left) [ inl is ↦ omega (arith, is) | inr is ↦ omega (arith, is) ]
+  most_free (tail.Owes h next) at = (let is = ends_owing at.records h at.body at.staged in omega (arith, is))
+  most_free tail.Closed at = omega arith
+
+  -- and no less, where the bank isn't closed in the bytes
+  least_free : (t : Tail) → HasTail b bytes may end (tail_with t body) → is_closed t ≡ false → IsClosed b bytes (end_of b bytes) ⊎ IsFree b bytes t (free_behind b.page b.pages end t)
+  least_free tail.Open open' wide = (let is = open'.is_end in inr (record { paid = refl; least = omega (arith, is) }))
+  least_free (tail.Writes h done) at wide =
+      let room = at.staged.room in
+      inr (record { paid = refl; least = elim (ends_by at.records h body done at.staged at.left) [ inl is ↦ omega (arith, is, room) | inr is ↦ omega (arith, is, room) ] })
+  least_free (tail.Owes h next) at wide =
+      let is = ends_owing at.records h at.body at.staged in
+      let start : end + 0 ≡ end = omega arith in
+      let room = at.staged.room in
+      let written = at.staged.written 0 (omega arith) in
+      inl (inr (λ blank. no_header b.page _ (omega (arith, big)) (sym written ∙ ap (page_of b bytes) start ∙ blank end (omega (arith, is)) (omega (arith, room)))))
+  least_free tail.Closed at wide = cc wide
+
+few_free : (pages end : ℕ) (shut : Bool) → free_pages_of pages end shut ≤ pages - end
+few_free pages end true = omega arith
+few_free pages end false = omega arith
+
+none_free : (pages end : ℕ) (shut : Bool) → shut ≡ true → free_pages_of pages end shut ≡ 0
+none_free pages end true is = refl
+none_free pages end false is = cc is
+
+-- THE JOB
+job_is : (m : Making) (number length of : ℕ) (op : DeviceOp) (bytes : List ℕ) → length_of m.numbers number ≡ Some of → IsLengthOf op length of
+    → option_map_or (mark_pages m number) (mark_of op bytes) 0 ≡ pages_of_op m.geometry.page op length
+job_is m number length of Read bytes configured fits = refl
+job_is m number length of Write bytes configured fits = ap (λ (o : Option ℕ). record_pages_of (unwrap_or o 0) m.geometry.page) configured ∙ ap (λ (n : ℕ). record_pages_of n m.geometry.page) (sym fits)
+job_is m number length of Invalidate bytes configured fits = refl
+job_is m number length of Erase bytes configured fits = refl
+
+-- a read, or another job, whose mark has a record
+is_a_read : (op : DeviceOp) → (op ≡ Read) ⊎ (op ≢ Read)
+is_a_read Read = inl refl
+is_a_read Write = inr (λ e. cc e)
+is_a_read Invalidate = inr (λ e. cc e)
+is_a_read Erase = inr (λ e. cc e)
+
+turns_marked : (m : Making) (number : ℕ) (o : Option Mark) → (o ≡ None → ⊥) → option_map_or (mark_pages m number) o 1 ≡ option_map_or (mark_pages m number) o 0
+turns_marked m number None some = absurd (some refl)
+turns_marked m number (Some mark) some = refl
+
+op_read : (op : DeviceOp) (bytes : List ℕ) → mark_of op bytes ≡ None → op ≡ Read
+op_read Read bytes none = refl
+op_read Write bytes none = cc none
+op_read Invalidate bytes none = cc none
+op_read Erase bytes none = cc none
+
+none_is : (o : Option Mark) → is_none o ≡ true → o ≡ None
+none_is None is = refl
+none_is (Some mark) is = cc is
+
+turns_written : (o : Option Mark) (w : Work) → (o ≡ None → ⊥) → turns_of o w ≡ w.pages + turns_owed w.owed
+turns_written None w some = absurd (some refl)
+turns_written (Some mark) w some = refl
+
+-- TESTS
+not_third : (a b c d : Bool) → c ≡ false → a && b && c && d ≡ false
+not_third true true c d is = rw is refl
+not_third true false c d is = refl
+not_third false b c d is = refl
+
+not_second : (a b : Bool) → b ≡ false → a && b ≡ false
+not_second true b is = is
+not_second false b is = refl
+
+none_by : (x : Bool) (n : ℕ) → x ≡ false → (if x then n else 0) ≡ 0
+none_by true n is = cc is
+none_by false n is = refl
+
+at_most : (x : Bool) (n : ℕ) → (if x then n else 0) ≤ n
+at_most true n = omega arith
+at_most false n = omega arith
+
+has_pages : (urgent : Bool) (pages reserve free : ℕ) → pages + (if urgent then 0 else reserve) ≤ free → has_room urgent pages reserve free ≡ true
+has_pages true pages reserve free few = le-leb pages free (omega (arith, few))
+has_pages false pages reserve free few = le-leb (pages + reserve) free few
+
+module _ (m : Making) (entry : Told) (s : Parts) (listed : List (DeviceNumber × ℕ)) (kept count : ℕ) (on : IsOn m entry s listed kept count) (shut : s.banks.course ≡ None) (bytes : List ℕ) (follows : FollowsBytes s.banks s.content s.operations bytes) where
+  abbrev stand : Option FeeJob → Stand
+  stand o = stand_of s.content o s.last s.given
+
+  abbrev t : Tail
+  t = s.banks.log.tail
+
+  abbrev failed : Bool
+  failed = may_be_closed s.operations
+
+  at_work : IsAtWork m s
+  at_work = on.sound.works on.started
+
+  shape : s.banks.geometry ≡ m.geometry
+  shape = on.sound.made_for.banks_geometry
+
+  -- no switch is needed
+  no_turns : (o : Option FeeJob) → needs_switch m.reserve s.banks o ≡ false → switch_turns m.reserve s.banks o s.banks.course ≡ 0
+  no_turns o none = ap (switch_turns m.reserve s.banks o) shut ∙ none_by (needs_switch m.reserve s.banks o) _ none
+
+  idle_work : work_in t ≡ None → pages_with m.geometry.page (work_in t) ≡ 0
+  idle_work idle = ap (pages_with m.geometry.page) idle
+
+  none_left : s.job ≡ None → left_of (stand None) (work_of m.reserve s.banks None) ≡ 0
+  none_left none = no_turns None refl
+
+  module _ (j : FeeJob) (job : s.job ≡ Some j) where
+    abbrev p : ℕ
+    p = s.banks.geometry.page
+
+    of : IsJobOf m.numbers j
+    of = subst (λ (o : Option FeeJob). IfSome o (IsJobOf m.numbers)) job at_work.job
+
+    own_pages : job_pages m (stand (Some j)) ≡ pages_of_op p j.op j.length
+    own_pages = job_is m j.number.0 j.length of.length j.op (take j.length s.content) of.configured of.fits ∙ ap (λ (g : Geometry). pages_of_op g.page j.op j.length) (sym shape)
+
+    in_work : (h : RecHead) → work_in t ≡ Some h → IsInWork s.banks (Some j) h
+    in_work h work = subst (λ (o : Option FeeJob). IsInWork s.banks o h) job (subst (λ (o : Option RecHead). IfSome o (IsInWork s.banks s.job)) work at_work.work)
+
+    -- the record in work is its own
+    work_pages : (h : RecHead) → work_in t ≡ Some h → pages_of_head p h ≡ pages_of_op p j.op j.length
+    work_pages h work =
+        let is = in_work h work in
+        let its : IsJobOf m.numbers is.of = subst (λ (o : Option FeeJob). IfSome o (IsJobOf m.numbers)) (job ∙ is.is_open) at_work.job in
+        let same : is.of ≡ j = (let e = is.is_open in cc e) in
+        ap (pages_of_head p) is.head ∙ pages_by p is.of.op h.kind is.of.number is.of.length its.length (head_of s.banks.log h.kind is.of).count is.writes its.fits ∙ ap (λ (x : FeeJob). pages_of_op p x.op x.length) same
+
+    waits_none : (h : RecHead) → work_in t ≡ Some h → is_waiting s.banks j ≡ false
+    waits_none h work = not_second (nat_le 1 (pages_of_op p j.op j.length)) (not (is_some (work_in t))) (ap (λ (o : Option RecHead). not (is_some o)) work)
+
+    claims_by : (o : Option RecHead) → work_in t ≡ o → claimed s.banks (Some j) + pages_with p o ≤ pages_of_op p j.op j.length
+    claims_by None idle = (let few = at_most (begins_next s.banks j) (pages_of_op p j.op j.length) in omega (arith, few))
+    claims_by (Some h) work =
+        let none : claimed s.banks (Some j) ≡ 0 = none_by (begins_next s.banks j) (pages_of_op p j.op j.length) (not_third (takes_append s.banks.course) j.urgent (is_waiting s.banks j) (fits_in 0 s.banks j) (waits_none h work)) in
+        let same = work_pages h work in
+        omega (arith, none, same)
+
+    -- a read takes one turn
+    reads : j.op ≡ Read → left_of (stand (Some j)) (work_of m.reserve s.banks (Some j)) ≡ 1
+    reads read =
+        let no_pages : pages_of_op p j.op j.length ≡ 0 = ap (λ (op : DeviceOp). pages_of_op p op j.length) read in
+        let no_record : nat_le 1 (pages_of_op p j.op j.length) ≡ false = ap (nat_le 1) no_pages in
+        let none : needs_switch m.reserve s.banks (Some j) ≡ false = ap (λ (x : Bool). (x && not (is_some (work_in t))) && not (fits_in m.reserve s.banks j)) no_record in
+        let zero = no_turns (Some j) none in
+        let one : turns_of (mark_of j.op (take j.length s.content)) (work_of m.reserve s.banks (Some j)) ≡ 1 = ap (λ (op : DeviceOp). turns_of (mark_of op (take j.length s.content)) (work_of m.reserve s.banks (Some j))) read in
+        omega (arith, zero, one)
+
+    -- another job with room no more than its record has pages
+    module _ (wide : is_owed t ≡ false) (writes : j.op ≢ Read) where
+      not_needed : (o : Option RecHead) → work_in t ≡ o → (o ≡ None → fits_in m.reserve s.banks j ≡ true) → needs_switch m.reserve s.banks (Some j) ≡ false
+      not_needed None idle fits = not_second (is_waiting s.banks j) (not (fits_in m.reserve s.banks j)) (ap not (fits refl))
+      not_needed (Some h) work fits = ap (λ (x : Bool). x && not (fits_in m.reserve s.banks j)) (waits_none h work)
+
+      written : (fits : work_in t ≡ None → fits_in m.reserve s.banks j ≡ true) → left_of (stand (Some j)) (work_of m.reserve s.banks (Some j)) ≤ pages_of_op p j.op j.length
+      written fits =
+          let zero = no_turns (Some j) (not_needed (work_in t) refl (λ idle. fits idle)) in
+          let few = pages_few p (pages_of_op p j.op j.length) t (λ r some. (let same = work_pages r some in omega (arith, same))) in
+          let paid : turns_owed (is_owed t) ≡ 0 = ap turns_owed wide in
+          let turns = turns_written (mark_of j.op (take j.length s.content)) (work_of m.reserve s.banks (Some j)) (λ none. writes (op_read j.op (take j.length s.content) none)) in
+          omega (arith, zero, few, paid, turns)
+
+  -- WITHOUT ROOM IN THE BYTES
+  ready_is : ready_of m.reserve (nat_le 1 (seal_turns s.banks.course)) (pages_free s.banks s.job) ≡ min m.reserve (pages_free s.banks s.job)
+  ready_is = ap (λ (n : ℕ). ready_of m.reserve (nat_le 1 n) (pages_free s.banks s.job)) (seal_is s.banks.course shut)
+
+  -- what is claimed, and the record in work, are the open job's
+  claims : (o : Option FeeJob) → s.job ≡ o → claimed s.banks o + pages_with m.geometry.page (work_in t) ≤ job_pages m (stand o)
+  claims None none = (let idle = no_work s.banks s.job (work_in t) none at_work.work in let zero = idle_work idle in omega (arith, zero))
+  claims (Some j) job =
+      let own = own_pages j job in
+      let few = claims_by j job (work_in t) refl in
+      let same : pages_with m.geometry.page (work_in t) ≡ pages_with s.banks.geometry.page (work_in t) = ap (λ (g : Geometry). pages_with g.page (work_in t)) (sym shape) in
+      omega (arith, own, few, same)
+
+  module _ (a : ActiveBank) (active : s.banks.active ≡ Some a) where
+    abbrev b : Bank
+    b = bank_in (banks_of m) a.head.format a.bank
+
+    -- where the bank isn't closed in the bytes, and no operation failed
+    abbrev Shut : Type 0
+    Shut = is_closed_bank b bytes (end_of b bytes) ≡ true
+
+    low : 16 ≤ s.banks.log.geometry.page
+    low = subst (λ (g : Geometry). 16 ≤ g.page) (sym on.banks.log.shape) on.banks.legal.page_low
+
+    high : free_pages s.banks ≤ b.pages - end_of b bytes
+    high =
+        let held = (follows_log m entry s listed kept count on bytes follows a active).holds.holds in
+        let most = most_free (bank_of s.banks.log) bytes anything low s.banks.log.end (body_of (work_in t) s.content) held.high t held.tail in
+        let here : free_in s.banks.log ≤ b.pages - end_of b bytes = subst (λ (x : Bank). free_in s.banks.log ≤ x.pages - end_of x bytes) (bank_is m entry s listed kept count on bytes follows a active) most in
+        let same = free_is m entry s listed kept count on bytes follows a active in
+        omega (arith, here, same)
+
+    free_by : Shut ⊎ (IsTrue failed ⊎ IsFree b bytes t (free_pages s.banks))
+    free_by = elim (test (is_closed t)) [
+      | inl closed ↦ (elim (closed_at m entry s listed kept count on bytes follows a active shut closed) [
+        | inl is ↦ inl ((closed_banks_compute b bytes (end_of b bytes)).1 is)
+        | inr bad ↦ inr (inl bad)
+      ])
+      | inr wide ↦ (
+          let held = (follows_log m entry s listed kept count on bytes follows a active).holds.holds in
+          let least = least_free (bank_of s.banks.log) bytes anything low s.banks.log.end (body_of (work_in t) s.content) held.high t held.tail wide in
+          let here = subst (λ (x : Bank). IsClosed x bytes (end_of x bytes) ⊎ IsFree x bytes t (free_in s.banks.log)) (bank_is m entry s listed kept count on bytes follows a active) least in
+          elim here [
+            | inl is ↦ inl ((closed_banks_compute b bytes (end_of b bytes)).1 is)
+            | inr free ↦ inr (inr (subst (IsFree b bytes t) (sym (free_is m entry s listed kept count on bytes follows a active)) free))
+          ])
+    ]
+
+    few : free_in_bank b bytes ≤ b.pages - end_of b bytes
+    few = few_free b.pages (end_of b bytes) (is_closed_bank b bytes (end_of b bytes))
+
+    none_in : Shut → free_in_bank b bytes ≡ 0
+    none_in is = none_free b.pages (end_of b bytes) (is_closed_bank b bytes (end_of b bytes)) is
+
+    left_by : (o : Option FeeJob) → s.job ≡ o → pages_needed m (stand o) ≤ free_in_bank b bytes → IsTrue failed ⊎ (left_of (stand o) (work_of m.reserve s.banks o) ≤ turns_with_room m (stand o))
+    left_by None none room = (let zero = none_left none in inr (omega (arith, zero)))
+    left_by (Some j) job room = elim (is_a_read j.op) [
+      | inl read ↦ (
+          let one = reads j job read in
+          let turns : turns_with_room m (stand (Some j)) ≡ 1 = ap (λ (op : DeviceOp). option_map_or (mark_pages m j.number.0) (mark_of op (take j.length s.content)) 1) read in
+          inr (omega (arith, one, turns)))
+      | inr writes ↦ (
+          let own = own_pages j job in
+          let some = op_some s.banks.geometry.page j.op j.length writes in
+          let same = turns_marked m j.number.0 (mark_of j.op (take j.length s.content)) (λ none. writes (op_read j.op (take j.length s.content) none)) in
+          elim free_by [
+            | inl is ↦ (let zero = none_in is in absurd (omega (arith, zero, room, own, some)))
+            | inr (inl bad) ↦ inl bad
+            | inr (inr free) ↦ (
+                let least = free.least in
+                let beside = few in
+                let fits : work_in t ≡ None → fits_in m.reserve s.banks j ≡ true = λ idle. has_pages j.urgent (pages_of_op s.banks.geometry.page j.op j.length) m.reserve (free_pages s.banks)
+                (let zero = idle_work idle in omega (arith, zero, least, beside, room, own)) in
+                let turns = written j job free.paid writes fits in
+                inr (omega (arith, turns, same, own)))
+          ])
+    ]
+
+    tells_room : TellsRoom m failed b bytes (told_of (device_of m entry s))
+    tells_room = record {
+      ready_high = (let is = ready_is in let most = high in omega (arith, is, most));
+      ready_low = elim free_by [
+        | inl is ↦ (let zero = none_in is in inr (omega (arith, zero)))
+        | inr (inl bad) ↦ inl bad
+        | inr (inr free) ↦ (let is = ready_is in let own = claims s.job refl in let least = free.least in let most = few in inr (omega (arith, is, own, least, most)))
+      ];
+      left = λ room. left_by s.job refl room;
+    }
+
+  room_of : (o : Option ActiveBank) → s.banks.active ≡ o → TellsRoomOf m failed (active_shown o) bytes (told_of (device_of m entry s))
+  room_of None none = (let is = ready_is in let zero : free_pages s.banks ≡ 0 = ap (λ (o : Option ActiveBank). if is_some o then free_in s.banks.log else 0) none in omega (arith, is, zero))
+  room_of (Some a) active = tells_room a active
+
+  idle_by : (o : Option FeeJob) → s.job ≡ o → is_open (stand o) ≡ false → left_of (stand o) (work_of m.reserve s.banks o) ≡ 0
+  idle_by None none idle = none_left none
+  idle_by (Some j) job idle = cc idle
+
+  read_by : (o : Option FeeJob) → s.job ≡ o → is_read (stand o) ≡ true → left_of (stand o) (work_of m.reserve s.banks o) ≡ 1
+  read_by None none read = cc read
+  read_by (Some j) job read = reads j job (op_read j.op (take j.length s.content) (none_is (mark_of j.op (take j.length s.content)) read))
+
+  tells_work : TellsWork m failed bytes (told_of (device_of m entry s))
+  tells_work = record {
+    idle = idle_by s.job refl;
+    read = read_by s.job refl;
+    room = subst (λ (o : Option (ℕ × BankHead)). TellsRoomOf m failed o bytes (told_of (device_of m entry s))) (shows_active m entry s listed kept count on bytes follows shut) (room_of s.banks.active refl);
+  }
+
+pub room_is_told : RoomIsTold
+room_is_told m entry s listed kept count on shut follows =
+    each_now s.fls.flash.bytes (λ bytes. TellsWork m (may_be_closed s.operations) bytes (told_of (device_of m entry s))) (λ bytes at.
+    tells_work m entry s listed kept count on shut bytes (now_at s.fls.flash.bytes (FollowsBytes s.banks s.content s.operations) bytes at (follows on.started (power m entry s listed kept count on))))

@@ -1,0 +1,80 @@
+// A new history over the same device.
+ghost use Rattle.std.specs.Prelude.{◌≡◌, ◌↔◌, IsTrue, true, IfOk};
+ghost use Rattle.nvm_laws.specs.block_config.Lengths.{lengths_of};
+ghost use Rattle.nvm_laws.specs.memif.Trials.{Lasts};
+ghost use Rattle.nvm_laws.specs.Halves.{IsAtRest};
+ghost use Rattle.nvm_core.specs.Renewal.{Renews, RenewalKeeps};
+
+use crate::Stack;
+use nv_desk_state::NextEntry;
+use nvm_found::FoundRoom;
+use nvm_laws::FoundAnswer;
+use nvm_laws::block_config::Config;
+use nvm_laws::memif::{MemDevice, MemStatus};
+use nvm_laws::nv_base::History;
+use nvm_laws::ram_blocks::SyncCalls;
+use std::alloc::{AllocError, Global};
+
+/// What became of a new history: it began with its start-up, or that failed by a counted fault, and this is the history so far;
+/// a job is pending or the device is at work; or no memory was found.
+#[derive(Drop)]
+pub enum Renewed {
+    Ready { history: History },
+    Failed { history: History },
+    Busy,
+    Memory,
+}
+
+impl<D: MemDevice, C: SyncCalls + Drop> Stack<D, C> {
+    /// Whether nothing is pending and nothing is open at the device: a turn would answer `Idle`, or `Off` while the power is off.
+    pub fn is_at_rest(&self) -> bool
+        requires ready { self.now.ready ≡ true }
+        ensures { IsTrue result ↔ IsAtRest self.now.desk (D.told self.now.device) }
+    {
+        if self.in_hand() {
+            return false;
+        }
+        match self.front.desk.next() {
+            NextEntry::Nothing => self.device.status() == MemStatus::Idle,
+            _ => false,
+        }
+    }
+
+    /// Hands the history out at an idle moment, and begins a new one by a start-up over the same device. The marks stay: what the
+    /// new history begins with is allowed by the one that was handed out, and not older than its last acknowledged marks. All else
+    /// begins anew, as at each start-up: statuses, data indices, locks, RAM and the numbers of the entries. At `Busy` and `Memory`
+    /// nothing changed; at `Failed` no turn comes until a `restart` answers Ready.
+    pub fn renew(&mut self, alloc: Global) -> Renewed
+        requires ready { self.old.ready ≡ true }
+        ensures renews { Renews D.told result self.old self.new }
+        ensures keeps { RenewalKeeps result self.old.desk self.old.hand (D.told self.old.device) (D.clock self.old.device) self.new.desk }
+        ensures lasts { Lasts (D.told self.old.device) (D.clock self.old.device) (D.told self.new.device) (D.clock self.new.device) }
+    {
+        if !self.is_at_rest() {
+            return Renewed::Busy;
+        }
+        let Ok(room) = found_room(alloc, self.front.desk.config()) else {
+            return Renewed::Memory;
+        };
+        let Ok(history) = self.front.desk.hand_out(alloc) else {
+            return Renewed::Memory;
+        };
+        self.hand = None;
+        self.room = None;
+        self.ready = false;
+        match self.start_in(room) {
+            FoundAnswer::Ready => Renewed::Ready { history },
+            FoundAnswer::Failed | FoundAnswer::NoRoom | FoundAnswer::Memory => {
+                Renewed::Failed { history }
+            }
+        }
+    }
+}
+
+// The memory of a start-up's marks.
+fn found_room(alloc: Global, config: &Config) -> Result<FoundRoom, AllocError>
+    ensures { IfOk result (λ room. room ≡ lengths_of config.now) }
+{
+    let lengths = config.lengths(alloc)?;
+    FoundRoom::make(alloc, &lengths)
+}

@@ -1,0 +1,30 @@
+use Rattle.std.proofs.Common.{◌≡◌, ℕ, List, sym, subst}
+use Rattle.nvm_flash.specs.memif.Told.{First}
+use Rattle.nvm_flash.specs.nvm_core.Stack.{StackState}
+use Rattle.nvm_flash.specs.ram_blocks.declared.plain_block.PlainBlock.{PlainBlock}
+use Rattle.script_player.specs.Made.{cuts_of}
+use Rattle.script_player.specs.PlainKept.{IsKept}
+use Rattle.script_player.specs.PlainPaying.{payer_by}
+use Rattle.script_player.specs.PlainTold.{told_by}
+use Rattle.nvm_top.specs.Stack.{IsStarted}
+use Rattle.nvm_top.proofs.made.make_run.Goals as goal
+
+pub returns-in-Ok-clause-made : goal.returns-in-Ok-clause-made
+returns-in-Ok-clause-made g c =
+    let told = g.P.Device.MemDevice.told in
+    let clock = g.P.Device.MemDevice.clock in
+    let before = g.P.Flashes.before in
+    let same : c.over-stack.result ≡ c.in-Ok.stack = c.over-stack.ensures in
+    record {
+      first = c.over-stack.result;
+      started =
+          subst (λ (s : StackState g.row.P-Device.Denot (List PlainBlock)). IsStarted c.args.playable.config (cuts_of c.args.playable.steps) (before First) (told_by told s)) (sym same)
+          (subst (λ (n : ℕ). IsStarted c.args.playable.config n (before First) (told_by told c.in-Ok.stack)) c.cuts_of.ensures c.in-Ok.ensures.started);
+      all = c.make_steps-end.ensures.all;
+      some = c.make_steps-end.ensures.some;
+      configuration = c.make_steps-end.ensures.configuration;
+      most = c.make_steps-end.ensures.most;
+      keeps = λ well. c.make_steps-end.ensures.keeps before
+          (subst (λ (s : StackState g.row.P-Device.Denot (List PlainBlock)). IsKept s.ready before s.desk s.hand (told s.device) (clock s.device)) (sym same) (c.in-Ok.ensures.kept well).0);
+      owes = λ well. subst (λ (s : StackState g.row.P-Device.Denot (List PlainBlock)). (payer_by told clock s).owes (told_by told s).faults) (sym same) (c.in-Ok.ensures.kept well).1;
+    }

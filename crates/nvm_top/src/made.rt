@@ -1,0 +1,45 @@
+// The steps of a run on the stack over what is handed in, whatever that is.
+ghost use Rattle.std.specs.Prelude.{◌≡◌, IfErr, IfOk};
+ghost use Rattle.nvm_flash.specs.nv_base.Geometry.{size_of};
+ghost use Rattle.nvm_script.specs.Played.{ArePlayed};
+ghost use Rattle.script_player.specs.Made.{cuts_of};
+ghost use Rattle.nvm_top.specs.Flashes.{WereMade};
+ghost use Rattle.nvm_top.specs.Play.{IsRightSize};
+
+use crate::flashes::Flashes;
+use crate::playable::Playable;
+use crate::stop::Stop;
+use nvm_flash::memif::MemDevice;
+use script_player::{PlainStack, StepFault, cuts_of, make_steps};
+use std::alloc::Global;
+
+/// How steps ended, and the stack behind them.
+#[derive(Drop)]
+pub struct Made<D: MemDevice> {
+    pub end: Result<(), StepFault>,
+    pub stack: PlainStack<D>,
+}
+
+/// Makes steps on the stack of a configuration, from its first start-up on.
+pub fn make_run<P: Flashes>(
+    alloc: Global,
+    playable: Playable,
+    handed: P,
+) -> Result<Made<P::Device>, (Stop, P)>
+    requires origin { P.is_origin playable.config (P.told handed) (cuts_of playable.steps) }
+    requires played { ArePlayed playable.config playable.steps }
+    ensures made { IfOk result (λ m. WereMade P.Device.told P.Device.clock P.before (P.starts_well playable.config (P.told handed)) playable.config (cuts_of playable.steps) playable.steps m.end m.stack) }
+    ensures size { IfOk result (λ _. IsRightSize (size_of playable.config.geometry) (P.told handed).flash.bytes) }
+    ensures stopped { IfErr result (λ e. P.stops playable.config (P.told handed) (P.told e.1) e.0) }
+{
+    let Playable { config, steps } = playable;
+    let blocks = config.blocks();
+    match handed.start(alloc, config, cuts_of(&steps)) {
+        Ok(stack) => {
+            let mut stack = PlainStack::over(stack);
+            let end = make_steps(alloc, steps, blocks, &mut stack);
+            Ok(Made { end, stack })
+        }
+        Err(stopped) => Err(stopped),
+    }
+}
