@@ -1,6 +1,5 @@
 -- A call of the program that calls no command.
-use Rattle.std.proofs.Common.{ℕ, Bool, List, [], Option, Some, None, inr, refl}
-use Rattle.std.proofs.KnownBytes.{Appends-nil}
+use Rattle.std.proofs.Common.{ℕ, Bool, List, Option, Some, None, inr, refl}
 use Rattle.nvm_flash.specs.fls_model.Told.{Told}
 use Rattle.nvm_words.specs.declared.words.CommandKind.{CommandKind}
 use Rattle.nvm_words.specs.declared.words.CommandKind.TheVariants.{Play, Run, Dump, Check, Soak}
@@ -21,10 +20,8 @@ wanting None left reads written writes told = record { line = refl; unread = ref
 wanting (Some Run) left reads written writes told = record { line = refl; unread = refl; untouched = refl; causes = no_cause reads writes left }
 wanting (Some Check) left reads written writes told = record { by_input = refl; untouched = refl; causes = no_cause reads writes left }
 wanting (Some Dump) left reads written writes told = record { by_input = refl; kept = kept-same told; untouched = λ is. refl; causes = no_cause reads writes left }
-wanting (Some Play) left reads written writes told =
-    record { print = ([], Appends-nil written); promise = inr (alone told); untouched = λ is. refl; causes = no_cause reads writes left }
-wanting (Some (Soak seed count)) left reads written writes told =
-    record { text = refl; promise = inr (alone told); untouched = λ is. refl; causes = no_cause reads writes left }
+wanting (Some Play) left reads written writes told = record { promise = inr (record { line = refl; alone = alone told }); untouched = λ is. refl; causes = no_cause reads writes left }
+wanting (Some (Soak seed count)) left reads written writes told = record { promise = inr (record { line = refl; alone = alone told }); untouched = λ is. refl; causes = no_cause reads writes left }
 
 pub wanting_only : (is_served : Option CommandKind → Bool) (k : Option CommandKind) (left : Option (List ℕ)) (reads : ℕ) (written : Option (List ℕ)) (writes : ℕ) (told : Told) → KeepsOnly is_served k (ended status.Memory left left reads reads written written writes writes told told)
 wanting_only is_served k left reads written writes told = record { served = λ _. wanting k left reads written writes told; refused = λ _. wanting None left reads written writes told }

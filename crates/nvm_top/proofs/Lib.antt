@@ -4,7 +4,6 @@ pub mod Driven
 pub mod Dumps
 pub mod Images
 pub mod PlayLemmas
-pub mod PlayLines
 pub mod Printing
 pub mod Promised
 pub mod RunLines

@@ -1,6 +1,6 @@
 -- Lines of entries that are appended one behind the other.
 use Rattle.std.proofs.Common.{◌≡◌, ◌≤◌, ◌-◌, ℕ, ◌+◌, List, [], ◌∷◌, ◌++◌, length, take, drop, Option, Some, slice_get, ap, sym, subst, ◌∙◌, arith, append-nil}
-use Rattle.std.proofs.KnownBytes.{Appends-nil, Appends-trans}
+use Rattle.std.proofs.KnownBytes.{Appends-trans}
 use Rattle.std.proofs.Math.Seq.{take-add, take-append-add}
 use Rattle.std.proofs.lemmas.List.{take-append-le, take_more, take-append-drop, length-append}
 use Rattle.std.proofs.lemmas.List.Concat.{flat_map-append}
@@ -11,9 +11,6 @@ use Rattle.nv_streams.specs.Sink.{AppendsPrefix}
 use Rattle.nvm_flash.specs.nv_base.declared.entry.Entry.{Entry}
 use Rattle.nvm_script.specs.Lines.{entry_line}
 use Rattle.nvm_script.specs.Printed.{history_text}
-use Rattle.nvm_top.specs.Output.{Writes, Prints}
-use Rattle.nvm_top.specs.declared.status.Status.{Status}
-use Rattle.nvm_top.specs.declared.status.Status.TheVariants as status
 
 -- A PREFIX
 -- of a text is one of a longer text
@@ -44,23 +41,6 @@ entries-prefix w w1 w2 entries i e piece at before same line =
     let parts : history_text entries ≡ history_text (take (i + 1) entries) ++ history_text (drop (i + 1) entries) =
     ap history_text (sym (take-append-drop (i + 1) entries)) ∙ flat_map-append entry_line (take (i + 1) entries) (drop (i + 1) entries) in
     subst (λ (l : List ℕ). AppendsPrefix w w2 l) (sym parts) (prefix-longer w w2 _ _ front)
-
--- ENDS
--- a line behind entries
-pub Prints-behind : (P : Status → List ℕ → Type 0) (Q : List Entry → Status → List ℕ → Type 0) (entries : List Entry) (w w1 w2 : Option (List ℕ)) (x : Status) → ((y : Status) (line : List ℕ) → P y line → Q entries y line) → Appends w w1 (history_text entries) → Writes P w1 w2 x → Prints Q w w2 x
-Prints-behind P Q entries w w1 w2 status.Memory leads before is = (entries, subst (λ (o : Option (List ℕ)). Appends w o (history_text entries)) (sym is) before)
-Prints-behind P Q entries w w1 w2 status.WriteFault leads before is = (entries, is.0, is.1, leads is.0 is.1 is.2, prefix-behind w w1 w2 (history_text entries) is.1 before is.3)
-Prints-behind P Q entries w w1 w2 x leads before is = (entries, is.0, leads x is.0 is.1, Appends-trans w w1 w2 (history_text entries) is.0 before is.2)
-
--- a line alone
-pub Prints-alone : (P : Status → List ℕ → Type 0) (Q : List Entry → Status → List ℕ → Type 0) (w w' : Option (List ℕ)) (x : Status) → ((y : Status) (line : List ℕ) → P y line → Q [] y line) → Writes P w w' x → Prints Q w w' x
-Prints-alone P Q w w' x leads is = Prints-behind P Q [] w w w' x leads (Appends-nil w) is
-
--- an end of one kind is one of another
-pub Prints-as : (P Q : List Entry → Status → List ℕ → Type 0) (w w' : Option (List ℕ)) (x : Status) → ((entries : List Entry) (y : Status) (line : List ℕ) → P entries y line → Q entries y line) → Prints P w w' x → Prints Q w w' x
-Prints-as P Q w w' status.Memory leads is = is
-Prints-as P Q w w' status.WriteFault leads is = (is.0, is.1, is.2, leads is.0 is.1 is.2 is.3, is.4)
-Prints-as P Q w w' x leads is = (is.0, is.1, leads is.0 x is.1 is.2, is.3)
 
 -- LINES OF A TEXT
 front : (text : List ℕ) (at next : ℕ) → at ≤ next → take at text ++ slice_range text at next ≡ take next text

@@ -1,13 +1,12 @@
 -- A run keeps the promise, by the course of its steps and by what its stack vouches for.
 use Rattle.std.specs.Prelude.{OnOk, IfErr, IfSome, sum_by, take}
 use Rattle.std.specs.List.{Contains}
-use Rattle.std.proofs.Common.{◌≡◌, ◌≤◌, ◌+◌, ◌⊎◌, ℕ, zero, suc, List, [], ◌∷◌, ◌++◌, Option, Some, None, Result, Ok, Err, refl, sym, ap, ◌∙◌, subst, inl, inr, arith, append-nil}
-use Rattle.std.specs.Io.KnownBytes.{Appends}
-use Rattle.nv_streams.specs.Sink.{AppendsPrefix}
+use Rattle.std.proofs.Common.{◌≡◌, ◌≢◌, ◌≤◌, ◌+◌, ◌⊎◌, ℕ, zero, suc, List, [], ◌∷◌, ◌++◌, length, Option, Some, None, Result, Ok, Err, refl, sym, ap, ◌∙◌, subst, inl, inr, arith, append-nil}
 use Rattle.nvm_flash.specs.nv_base.Count.{Rose, WereCounted}
+use Rattle.nvm_flash.specs.nv_base.Geometry.{size_of}
 use Rattle.nvm_flash.specs.block_config.Config.{Configuration}
 use Rattle.nvm_flash.specs.memif.Told.{PartTold}
-use Rattle.nvm_flash.specs.fls_model.Told.{Told, Change}
+use Rattle.nvm_flash.specs.fls_model.Told.{Told, ToldBytes, Change}
 use Rattle.nvm_flash.specs.promise_device.Image.{IsSoundFlash}
 use Rattle.nvm_flash.specs.promise_device.FlashRun.{FlashRun, TellsBytes, StartsSound, HasFailed}
 use Rattle.nvm_script.specs.Printed.{history_text}
@@ -18,16 +17,17 @@ use Rattle.nvm_flash.specs.block_machine.State.{State, Job}
 use Rattle.nvm_flash.specs.block_machine.Steps.{after}
 use Rattle.nvm_flash.specs.block_machine.Prices.{prices_in_refusals}
 use Rattle.nvm_flash.specs.promise_run.Beside.{Beside}
-use Rattle.nvm_flash.specs.promise_run.Run.{Run, Course, Played, End, Whole, cap, FaultWasCounted, HasOrder, LeavesFor, EndsAtStart, EachPiece, HasNoRoom, HadRoom, RefusalsExplain, refusals_of, unpaid_offs}
+use Rattle.nvm_flash.specs.promise_run.Run.{Run, Played, End, Whole, cap, FaultWasCounted, HasOrder, LeavesFor, EndsAtStart, EachPiece, HasNoRoom, HadRoom, RefusalsExplain, refusals_of, unpaid_offs}
 use Rattle.nvm_flash.specs.promise_run.Run.{FlashFault, HistoryFull, LeavesAlone, Memory}
 use Rattle.nvm_flash.specs.promise_run.Promise.{Promise, making_of}
-use Rattle.nvm_flash.specs.promise_run.Call.{Ends, last_line, IsCourseOf, IsInputOf}
+use Rattle.nvm_flash.specs.promise_run.Call.{EndsWith, IsCourseOf, IsInputOf}
 use Rattle.nvm_script.specs.Script.{IsScript, later_lines}
 use Rattle.nvm_script.specs.declared.script.Mode.TheVariants as mode
 use Rattle.nvm_flash.specs.promise_run.JobTurns.{job_turns}
-use Rattle.nvm_top.specs.Ends.{HasPlayable}
-use Rattle.nvm_top.specs.Play.{IsRunEnd, IsStepsEnd}
-use Rattle.nvm_top.specs.Reading.{IsEarly}
+use Rattle.nvm_top.specs.Ends.{HasPlayable, HasStepsOf, HasWrongLine}
+use Rattle.nvm_top.specs.Input.{input_limit}
+use Rattle.nvm_top.specs.Play.{IsAttachStop, IsBeforeAttach, IsRightSize, IsSizeStop, PlayStopsBy, StopsBy}
+use Rattle.nvm_top.specs.Reading.{IsReadStop}
 use Rattle.nvm_flash.specs.promise_run.Turns.{Moment, moment_behind, BeginsAt, EndsBy, ArePaidSince, HasTurns, EachMove, ServesTurn, all_moves}
 use Rattle.nvm_flash.proofs.promise_run.Paid.{since_too}
 use Rattle.nvm_flash.proofs.promise_run.Counted.{all_behind, counted_by}
@@ -46,13 +46,13 @@ use Rattle.nvm_top.specs.declared.stop.Stop.{Stop}
 use Rattle.nvm_top.specs.declared.stop.Stop.TheVariants as stop
 use Rattle.nvm_top.specs.Stack.{IsStarted, StartsWell, StopsAtStart, Vouches, run_of}
 use Rattle.nvm_top.specs.Output.{Writes, IsReport}
-use Rattle.nvm_top.specs.Promised.{played_call, HasRun, RunsAs, WritesText, HasPromise, KeepsPromise, EndsIn, text_in, line_in, soak_text, SoakEnds}
+use Rattle.nvm_top.specs.Promised.{played_call, HasNoRun, HasRun, WritesText, HasPromise, EndsIn, entries_in, line_in}
 use Rattle.nvm_top.specs.Runs as ends
 use Rattle.nvm_top.specs.Stop.{status_of, line_of, IsStop}
 use Rattle.nvm_top.proofs.PlayLemmas.{Rose-after, report-by}
 use Rattle.nvm_top.proofs.Complete.{early_complete, walked_complete}
-use Rattle.nvm_top.proofs.Printing.{prefix-longer}
-use Rattle.nvm_top.proofs.Texts.{all_prefix, text_alone}
+use Rattle.nvm_top.proofs.RunLines.{Writes-as, by_stop, read_line}
+use Rattle.nvm_top.proofs.Texts.{stop_alone}
 
 -- A RUN WITHOUT A START-UP
 
@@ -115,7 +115,7 @@ early_has c steps Tells entry exit stop end stops ends tells = record {
   ends = tells;
   keeps =
       let promise = early_promise c steps entry exit stop end stops ends in
-      record { order = promise.order; refusals = promise.refusals; off = promise.off; complete = early_complete c steps entry exit end promise.order; turns = early_turns c steps entry exit end stops.faults ends; promise = λ told sound. promise };
+      record { order = promise.order; size = λ started. absurd started; refusals = promise.refusals; off = promise.off; complete = early_complete c steps entry exit end promise.order; turns = early_turns c steps entry exit end stops.faults ends; promise = λ told sound. promise };
 }
 
 -- WHAT IS TOLD OF A RUN
@@ -127,100 +127,63 @@ status_at FlashFault = status.FlashFault
 status_at HistoryFull = status.HistoryFull
 status_at Memory = status.Memory
 
--- A command tells how a run ended by its status and its output: a text of the history and a line. At want of memory a
--- beginning of the text suffices.
-pub record Telling (entry exit : Told) (w w' : Option (List ℕ)) (text : List Entry → List ℕ) (line : End → List Entry → List ℕ) (Tells : Status → Run → Type 0) : Type 0 where
-  pub good : (c : Configuration) (h : List Entry) (operations : List Change) (course : Course) (end : End) → Appends w w' (text h ++ line end h) → Tells (status_at end) (run_of c h entry exit operations course end)
-  pub failed : (c : Configuration) (h : List Entry) (operations : List Change) (course : Course) (end : End) → AppendsPrefix w w' (text h ++ line end h) → Tells status.WriteFault (run_of c h entry exit operations course end)
-  pub wanting : (c : Configuration) (h : List Entry) (operations : List Change) (course : Course) → AppendsPrefix w w' (text h) → Tells status.Memory (run_of c h entry exit operations course Memory)
+-- at want of memory a run is one that ended so
+abbrev pub end_at : Status → End → End
+end_at status.Memory end = Memory
+end_at x end = end
 
--- what holds at the status of an end
-runs_at : (Has : Status → Type 0) (entry exit : Told) (end : End) → Has (status_at end) → RunsAs (status_at end) (Has (status_at end)) entry exit
-runs_at Has entry exit Whole has = has
-runs_at Has entry exit FlashFault has = has
-runs_at Has entry exit HistoryFull has = has
-runs_at Has entry exit Memory has = has
-
--- of each status, by what was written
-by_status : (meant : Status) (text line : List ℕ) (w w' : Option (List ℕ)) (x : Status) (Has : Status → Type 0) (entry exit : Told) → WritesText meant text line w w' x
-    → (AppendsPrefix w w' text → Has status.Memory) → (AppendsPrefix w w' (text ++ line) → Has status.WriteFault ⊎ LeavesAlone entry exit) → (Appends w w' (text ++ line) → RunsAs meant (Has meant) entry exit)
-    → RunsAs x (Has x) entry exit
-by_status meant text line w w' status.Memory Has entry exit is memory failed whole = memory is
-by_status meant text line w w' status.WriteFault Has entry exit is memory failed whole = failed is
-by_status meant text line w w' x Has entry exit is memory failed whole = subst (λ (y : Status). RunsAs y (Has y) entry exit) (sym is.0) (whole is.1)
+-- a call ends as its output was written
+ends_told : (input : Option (List ℕ)) (entry exit : Told) (w w' : Option (List ℕ)) (entries : List Entry) (line : End → List ℕ) (end : End) (x : Status) → WritesText (status_at end) entries (line end) w w' x
+    → EndsWith entries (history_text entries ++ line (end_at x end)) (played_call input x entry exit w w') (end_at x end)
+ends_told input entry exit w w' entries line end status.Memory is = (refl, is)
+ends_told input entry exit w w' entries line Memory status.WriteFault is = absurd (is.0 refl)
+ends_told input entry exit w w' entries line Whole status.WriteFault is = inr (refl, is.1)
+ends_told input entry exit w w' entries line FlashFault status.WriteFault is = inr (refl, is.1)
+ends_told input entry exit w w' entries line HistoryFull status.WriteFault is = inr (refl, is.1)
+ends_told input entry exit w w' entries line Whole status.Ok is = inl (refl, is.1)
+ends_told input entry exit w w' entries line FlashFault status.FlashFault is = inl (refl, is.1)
+ends_told input entry exit w w' entries line HistoryFull status.HistoryFull is = inl (refl, is.1)
+ends_told input entry exit w w' entries line Whole _ is = absurd (let same = is.0 in cc same)
+ends_told input entry exit w w' entries line FlashFault _ is = absurd (let same = is.0 in cc same)
+ends_told input entry exit w w' entries line HistoryFull _ is = absurd (let same = is.0 in cc same)
+ends_told input entry exit w w' entries line Memory _ is = absurd (let same = is.0 in cc same)
 
 -- WHERE NO START-UP WAS MADE
 
-early_end : (c : Configuration) (steps : List Step) (entry exit : Told) (why : Stop) (end : End) (x : Status) (w w' : Option (List ℕ)) (text : List Entry → List ℕ) (line : End → List Entry → List ℕ) (Tells : Status → Run → Type 0) → Telling entry exit w w' text line Tells
-    → StopsAtStart c entry exit why → EndsAtStart (record { entry = entry; exit = exit; operations = [] }) end → WritesText (status_at end) (text []) (line end []) w w' x
-    → RunsAs x (HasRun c steps (Tells x) entry exit) entry exit
-early_end c steps entry exit why end x w w' text line Tells telling stops ends is =
-    by_status (status_at end) (text []) (line end []) w w' x (λ y. HasRun c steps (Tells y) entry exit) entry exit is
-    (λ part. early_has c steps (Tells status.Memory) entry exit why Memory stops tt (telling.wanting c [] [] (Played [] [] steps) part))
-    (λ part. inl (early_has c steps (Tells status.WriteFault) entry exit why end stops ends (telling.failed c [] [] (Played [] [] steps) end part)))
-    (λ all. runs_at (λ y. HasRun c steps (Tells y) entry exit) entry exit end (early_has c steps (Tells (status_at end)) entry exit why end stops ends (telling.good c [] [] (Played [] [] steps) end all)))
+early_end : (text : RunText) (c : Configuration) (steps : List Step) (entry exit : Told) (why : Stop) (end : End) (x : Status) (w w' input : Option (List ℕ)) → StopsAtStart c entry exit why → EndsAtStart (record { entry = entry; exit = exit; operations = [] }) end
+    → WritesText (status_at end) (entries_in text []) (line_in text end []) w w' x → HasRun c steps (EndsIn text (played_call input x entry exit w w')) entry exit
+early_end text c steps entry exit why end status.Memory w w' input stops ends is =
+    early_has c steps (EndsIn text (played_call input status.Memory entry exit w w')) entry exit why Memory stops tt (ends_told input entry exit w w' (entries_in text []) (λ e. line_in text e []) end status.Memory is)
+early_end text c steps entry exit why end x w w' input stops ends is =
+    early_has c steps (EndsIn text (played_call input x entry exit w w')) entry exit why end stops ends (ends_told input entry exit w w' (entries_in text []) (λ e. line_in text e []) end x is)
 
 -- its line stands alone
-early_by : (c : Configuration) (steps : List Step) (entry exit : Told) (why : Stop) (x : Status) (w w' : Option (List ℕ)) (text : List Entry → List ℕ) (line : End → List Entry → List ℕ) (Tells : Status → Run → Type 0) → Telling entry exit w w' text line Tells
-    → text [] ≡ [] → line FlashFault [] ≡ line_of stop.FlashFault → line Memory [] ≡ [] → StopsAtStart c entry exit why → WritesText (status_of why) [] (line_of why) w w' x
-    → RunsAs x (HasRun c steps (Tells x) entry exit) entry exit
-early_by c steps entry exit (stop.WrongSize found need) x w w' text line Tells telling none flash memory stops is =
-    by_status status.WrongSize [] (line_of (stop.WrongSize found need)) w w' x (λ y. HasRun c steps (Tells y) entry exit) entry exit is
-    (λ part. early_has c steps (Tells status.Memory) entry exit (stop.WrongSize found need) Memory stops tt (telling.wanting c [] [] (Played [] [] steps) (subst (λ (l : List ℕ). AppendsPrefix w w' l) (sym none) part)))
-    (λ part. inr stops.end.1)
-    (λ all. stops.end.1)
-early_by c steps entry exit stop.FlashFault x w w' text line Tells telling none flash memory stops is =
-    early_end c steps entry exit stop.FlashFault FlashFault x w w' text line Tells telling stops stops.end
-    (subst (λ (l : List ℕ). WritesText status.FlashFault (text []) l w w' x) (sym flash) (subst (λ (l : List ℕ). WritesText status.FlashFault l (line_of stop.FlashFault) w w' x) (sym none) is))
-early_by c steps entry exit stop.Memory x w w' text line Tells telling none flash memory stops is =
-    early_end c steps entry exit stop.Memory Memory x w w' text line Tells telling stops tt
-    (subst (λ (l : List ℕ). WritesText status.Memory (text []) l w w' x) (sym memory) (subst (λ (l : List ℕ). WritesText status.Memory l [] w w' x) (sym none) is))
-early_by c steps entry exit _ x w w' text line Tells telling none flash memory stops is = absurd stops.why
+early_line : (why : Stop) (meant : Status) (line : List ℕ) (text : RunText) (w w' : Option (List ℕ)) (x : Status) → meant ≡ status_of why → line ≡ line_of why → Writes (IsStop why) w w' x → WritesText meant (entries_in text []) line w w' x
+early_line why meant line History w w' x one two is = stop_alone why meant line w w' x one two is
+early_line why meant line Summary w w' x one two is = stop_alone why meant line w w' x one two is
 
--- `PLAY` AND `SOAK`
-
-play_tells : (input : Option (List ℕ)) (entry exit : Told) (w w' : Option (List ℕ)) → Telling entry exit w w' history_text last_line (λ x r. Ends (played_call input x entry exit w w') r r.end)
-play_tells input entry exit w w' = record {
-  good = good;
-  failed = failed;
-  wanting = λ c h operations course part. (prefix-longer w w' (history_text h) [] part, inl refl);
-}
-  where
-    good : (c : Configuration) (h : List Entry) (operations : List Change) (course : Course) (end : End) → Appends w w' (history_text h ++ last_line end h) → Ends (played_call input (status_at end) entry exit w w') (run_of c h entry exit operations course end) end
-    good c h operations course Whole is = inl (refl, is)
-    good c h operations course FlashFault is = inl (refl, is)
-    good c h operations course HistoryFull is = inl (refl, is)
-    good c h operations course Memory is = (all_prefix w w' (history_text h ++ last_line Memory h) is, inl refl)
-
-    failed : (c : Configuration) (h : List Entry) (operations : List Change) (course : Course) (end : End) → AppendsPrefix w w' (history_text h ++ last_line end h) → Ends (played_call input status.WriteFault entry exit w w') (run_of c h entry exit operations course end) end
-    failed c h operations course Whole is = inr (refl, is)
-    failed c h operations course FlashFault is = inr (refl, is)
-    failed c h operations course HistoryFull is = inr (refl, is)
-    failed c h operations course Memory is = (is, inr refl)
-
-soak_tells : (input : Option (List ℕ)) (entry exit : Told) (w w' : Option (List ℕ)) → Telling entry exit w w' (λ h. []) soak_text (λ x r. SoakEnds (played_call input x entry exit w w') r r.end)
-soak_tells input entry exit w w' = record { good = good; failed = failed; wanting = λ c h operations course part. (part, inl refl) }
-  where
-    good : (c : Configuration) (h : List Entry) (operations : List Change) (course : Course) (end : End) → Appends w w' (soak_text end h) → SoakEnds (played_call input (status_at end) entry exit w w') (run_of c h entry exit operations course end) end
-    good c h operations course Whole is = inl (refl, is)
-    good c h operations course FlashFault is = inl (refl, is)
-    good c h operations course HistoryFull is = inl (refl, is)
-    good c h operations course Memory is = (all_prefix w w' [] is, inl refl)
-
-    failed : (c : Configuration) (h : List Entry) (operations : List Change) (course : Course) (end : End) → AppendsPrefix w w' (soak_text end h) → SoakEnds (played_call input status.WriteFault entry exit w w') (run_of c h entry exit operations course end) end
-    failed c h operations course Whole is = inr (refl, is)
-    failed c h operations course FlashFault is = inr (refl, is)
-    failed c h operations course HistoryFull is = inr (refl, is)
-    failed c h operations course Memory is = (is, inr refl)
-
+-- the flash isn't attached for its size, or there is a run without a start-up
 pub early_in : (text : RunText) (c : Configuration) (steps : List Step) (entry exit : Told) (why : Stop) (x : Status) (w w' input : Option (List ℕ)) → StopsAtStart c entry exit why → Writes (IsStop why) w w' x
-    → RunsAs x (HasRun c steps (λ r. EndsIn text (played_call input x entry exit w w') r r.end) entry exit) entry exit
-early_in History c steps entry exit why x w w' input stops is =
-    early_by c steps entry exit why x w w' history_text last_line (λ y r. Ends (played_call input y entry exit w w') r r.end) (play_tells input entry exit w w') refl refl refl stops
-    (text_alone (IsStop why) (status_of why) (line_of why) w w' x (λ y l at. at) is)
-early_in Summary c steps entry exit why x w w' input stops is =
-    early_by c steps entry exit why x w w' (λ h. []) soak_text (λ y r. SoakEnds (played_call input y entry exit w w') r r.end) (soak_tells input entry exit w w') refl refl refl stops
-    (text_alone (IsStop why) (status_of why) (line_of why) w w' x (λ y l at. at) is)
+    → HasRun c steps (EndsIn text (played_call input x entry exit w w')) entry exit ⊎ HasNoRun (IsSizeStop (size_of c.geometry) entry.bytes) w w' x entry exit
+early_in text c steps entry exit (stop.WrongSize found needed) x w w' input stops is =
+    inr (record {
+      line = Writes-as (IsStop (stop.WrongSize found needed)) (IsSizeStop (size_of c.geometry) entry.bytes) w w' x
+          (λ y line at. by_stop (IsSizeStop (size_of c.geometry) entry.bytes) (stop.WrongSize found needed) y line (λ other. (stops.end.0, (found, stops.why.0, ap (λ n. line_of (stop.WrongSize found n)) stops.why.1))) at) is;
+      alone = stops.end.1;
+    })
+early_in text c steps entry exit stop.FlashFault x w w' input stops is =
+    inl (early_end text c steps entry exit stop.FlashFault FlashFault x w w' input stops stops.end (early_line stop.FlashFault status.FlashFault (line_in text FlashFault []) text w w' x refl (fault_line text) is))
+  where
+    fault_line : (t : RunText) → line_in t FlashFault [] ≡ line_of stop.FlashFault
+    fault_line History = refl
+    fault_line Summary = refl
+early_in text c steps entry exit stop.Memory x w w' input stops is =
+    inl (early_end text c steps entry exit stop.Memory Memory x w w' input stops tt (early_line stop.Memory status.Memory (line_in text Memory []) text w w' x refl (no_line text) is))
+  where
+    no_line : (t : RunText) → line_in t Memory [] ≡ []
+    no_line History = refl
+    no_line Summary = refl
+early_in text c steps entry exit _ x w w' input stops is = absurd stops.why
 
 -- THE COURSE OF THE STEPS
 
@@ -286,8 +249,8 @@ has_run : (Kept : Type 0) (p q : Payer) (c : Configuration) (cuts : ℕ) (all ma
     → t.configuration ≡ old.configuration → (StartsWell c entry → Kept) → (StartsWell c entry → p.owes old.faults) → (v : Vouches Kept q before t entry exit) → made ++ left ≡ all
     → LeavesFor (run_of t.configuration t.entries entry exit v.operations (Played made walked.pieces left) end) (after t.configuration t.entries) end left
     → EndsBy walked.last (record { entry = entry; exit = exit; operations = v.operations }) end
-    → Tells (run_of t.configuration t.entries entry exit v.operations (Played made walked.pieces left) end) → HasRun c all Tells entry exit
-has_run Kept p q c cuts all made left end before old t entry exit Tells started walked same keeps owes v parts leaves own tells = record {
+    → Tells (run_of t.configuration t.entries entry exit v.operations (Played made walked.pieces left) end) → IsRightSize (size_of c.geometry) entry.bytes → HasRun c all Tells entry exit
+has_run Kept p q c cuts all made left end before old t entry exit Tells started walked same keeps owes v parts leaves own tells size = record {
   run = run_of t.configuration t.entries entry exit v.operations (Played made walked.pieces left) end;
   configuration = of;
   course = parts;
@@ -297,6 +260,7 @@ has_run Kept p q c cuts all made left end before old t entry exit Tells started 
   ends = tells;
   keeps = record {
     order = order;
+    size = λ _. subst (λ (x : Configuration). IsRightSize (size_of x.geometry) entry.bytes) (sym of) size;
     refusals = refusals;
     off = v.cuts (unpaid_offs None 0 made walked.pieces) off;
     complete = walked_complete made left end before old t entry exit v.operations started walked same v.faults order;
@@ -363,99 +327,84 @@ has_run Kept p q c cuts all made left end before old t entry exit Tells started 
         (walked.pays.pays old.faults (owes (well told sound))).0))
 
 -- of the status, the output and the steps
-end_runs : (Kept : Type 0) (p q : Payer) (c : Configuration) (cuts : ℕ) (all made left : List Step) (end : End) (before : PartTold) (old t : StackTold) (entry exit : Told) (x : Status) (w w' : Option (List ℕ)) (text : List Entry → List ℕ) (line : End → List Entry → List ℕ) (Tells : Status → Run → Type 0)
-    → Telling entry exit w w' text line Tells → IsStarted c cuts before old → (walked : HasWalked p q made old t) → t.configuration ≡ old.configuration → (StartsWell c entry → Kept) → (StartsWell c entry → p.owes old.faults) → (v : Vouches Kept q before t entry exit) → made ++ left ≡ all
+end_runs : (text : RunText) (Kept : Type 0) (p q : Payer) (c : Configuration) (cuts : ℕ) (all made left : List Step) (end : End) (before : PartTold) (old t : StackTold) (entry exit : Told) (x : Status) (w w' input : Option (List ℕ))
+    → IsStarted c cuts before old → (walked : HasWalked p q made old t) → t.configuration ≡ old.configuration → (StartsWell c entry → Kept) → (StartsWell c entry → p.owes old.faults) → (v : Vouches Kept q before t entry exit) → made ++ left ≡ all
     → LeavesFor (run_of t.configuration t.entries entry exit v.operations (Played made walked.pieces left) end) (after t.configuration t.entries) end left
-    → EndsBy walked.last (record { entry = entry; exit = exit; operations = v.operations }) end → WritesText (status_at end) (text t.entries) (line end t.entries) w w' x
-    → RunsAs x (HasRun c all (Tells x) entry exit) entry exit
-end_runs Kept p q c cuts all made left end before old t entry exit x w w' text line Tells telling started walked same keeps owes v parts leaves own is =
-    by_status (status_at end) (text t.entries) (line end t.entries) w w' x (λ y. HasRun c all (Tells y) entry exit) entry exit is
-    (λ part. has_run Kept p q c cuts all made left Memory before old t entry exit (Tells status.Memory) started walked same keeps owes v parts tt tt (telling.wanting t.configuration t.entries v.operations (Played made walked.pieces left) part))
-    (λ part. inl (has_run Kept p q c cuts all made left end before old t entry exit (Tells status.WriteFault) started walked same keeps owes v parts leaves own (telling.failed t.configuration t.entries v.operations (Played made walked.pieces left) end part)))
-    (λ whole. runs_at (λ y. HasRun c all (Tells y) entry exit) entry exit end (has_run Kept p q c cuts all made left end before old t entry exit (Tells (status_at end)) started walked same keeps owes v parts leaves own (telling.good t.configuration t.entries v.operations (Played made walked.pieces left) end whole)))
+    → EndsBy walked.last (record { entry = entry; exit = exit; operations = v.operations }) end → IsRightSize (size_of c.geometry) entry.bytes → WritesText (status_at end) (entries_in text t.entries) (line_in text end t.entries) w w' x
+    → HasRun c all (EndsIn text (played_call input x entry exit w w')) entry exit
+end_runs text Kept p q c cuts all made left end before old t entry exit status.Memory w w' input started walked same keeps owes v parts leaves own size is =
+    has_run Kept p q c cuts all made left Memory before old t entry exit (EndsIn text (played_call input status.Memory entry exit w w')) started walked same keeps owes v parts tt tt
+    (ends_told input entry exit w w' (entries_in text t.entries) (λ e. line_in text e t.entries) end status.Memory is) size
+end_runs text Kept p q c cuts all made left end before old t entry exit x w w' input started walked same keeps owes v parts leaves own size is =
+    has_run Kept p q c cuts all made left end before old t entry exit (EndsIn text (played_call input x entry exit w w')) started walked same keeps owes v parts leaves own
+    (ends_told input entry exit w w' (entries_in text t.entries) (λ e. line_in text e t.entries) end x is) size
 
 -- the end of steps that were made, or left
 abbrev pub end_by : Result (Unit {0}) StepFault → End
 end_by (Ok done) = Whole
 end_by (Err why) = ends.end_of why
 
-runs_by : (Kept : Type 0) (p q : Payer) (c : Configuration) (cuts : ℕ) (all : List Step) (before : PartTold) (old t : StackTold) (entry exit : Told) (x : Status) (w w' : Option (List ℕ)) (text : List Entry → List ℕ) (line : End → List Entry → List ℕ) (Tells : Status → Run → Type 0) (result : Result (Unit {0}) StepFault)
-    → Telling entry exit w w' text line Tells → IsStarted c cuts before old → OnOk result (HasWalked p q all old t) → IfErr result (λ why. WasBroken p q why all old t) → t.configuration ≡ old.configuration → (StartsWell c entry → Kept) → (StartsWell c entry → p.owes old.faults) → Vouches Kept q before t entry exit
-    → WritesText (status_at (end_by result)) (text t.entries) (line (end_by result) t.entries) w w' x → RunsAs x (HasRun c all (Tells x) entry exit) entry exit
-runs_by Kept p q c cuts all before old t entry exit x w w' text line Tells (Ok done) telling started walked broken same keeps owes v is =
-    end_runs Kept p q c cuts all all [] Whole before old t entry exit x w w' text line Tells telling started walked same keeps owes v (append-nil all) refl tt is
-runs_by Kept p q c cuts all before old t entry exit x w w' text line Tells (Err why) telling started walked broken same keeps owes v is =
-    end_runs Kept p q c cuts all broken.made broken.left (ends.end_of why) before old t entry exit x w w' text line Tells telling started broken.walked same keeps owes v (sym broken.order)
+runs_by : (text : RunText) (Kept : Type 0) (p q : Payer) (c : Configuration) (cuts : ℕ) (all : List Step) (before : PartTold) (old t : StackTold) (entry exit : Told) (x : Status) (w w' input : Option (List ℕ)) (result : Result (Unit {0}) StepFault)
+    → IsStarted c cuts before old → OnOk result (HasWalked p q all old t) → IfErr result (λ why. WasBroken p q why all old t) → t.configuration ≡ old.configuration → (StartsWell c entry → Kept) → (StartsWell c entry → p.owes old.faults) → Vouches Kept q before t entry exit
+    → IsRightSize (size_of c.geometry) entry.bytes → WritesText (status_at (end_by result)) (entries_in text t.entries) (line_in text (end_by result) t.entries) w w' x → HasRun c all (EndsIn text (played_call input x entry exit w w')) entry exit
+runs_by text Kept p q c cuts all before old t entry exit x w w' input (Ok done) started walked broken same keeps owes v size is =
+    end_runs text Kept p q c cuts all all [] Whole before old t entry exit x w w' input started walked same keeps owes v (append-nil all) refl tt size is
+runs_by text Kept p q c cuts all before old t entry exit x w w' input (Err why) started walked broken same keeps owes v size is =
+    end_runs text Kept p q c cuts all broken.made broken.left (ends.end_of why) before old t entry exit x w w' input started broken.walked same keeps owes v (sym broken.order)
     (left_for why broken.left (run_of t.configuration t.entries entry exit v.operations (Played broken.made broken.walked.pieces broken.left) (ends.end_of why)) before broken.walked.last old t (sym same) started.most refl none v.faults broken.why)
-    (ends_by why broken.left before broken.walked.last old t (record { entry = entry; exit = exit; operations = v.operations }) started.none v.counted broken.why) is
+    (ends_by why broken.left before broken.walked.last old t (record { entry = entry; exit = exit; operations = v.operations }) started.none v.counted broken.why) size is
   where
     none : before.faults ≤ broken.walked.last.faults
     none = let first = started.none in omega (arith, first)
 
-play_text : (result : Result (Unit {0}) StepFault) (h : List Entry) (w w' : Option (List ℕ)) (x : Status) → WritesText (ends.status_of_run (ends.run_of result)) (history_text h) (ends.line_of_run (ends.run_of result) h) w w' x
-    → WritesText (status_at (end_by result)) (history_text h) (last_line (end_by result) h) w w' x
-play_text (Ok done) h w w' x is = is
-play_text (Err fault.Flash) h w w' x is = is
-play_text (Err fault.HistoryFull) h w w' x is = is
-play_text (Err fault.Memory) h w w' x is = is
-
-soaked_text : (result : Result (Unit {0}) StepFault) (h : List Entry) (w w' : Option (List ℕ)) (x : Status) → WritesText (ends.status_of_run (ends.run_of result)) [] (ends.summary_of_run (ends.run_of result) h) w w' x
-    → WritesText (status_at (end_by result)) [] (soak_text (end_by result) h) w w' x
-soaked_text (Ok done) h w w' x is = is
-soaked_text (Err fault.Flash) h w w' x is = is
-soaked_text (Err fault.HistoryFull) h w w' x is = is
-soaked_text (Err fault.Memory) h w w' x is = is
-
 -- a run that was written in one of these texts
-in_text : (text : RunText) (result : Result (Unit {0}) StepFault) (h : List Entry) (w w' : Option (List ℕ)) (x : Status) → WritesText (ends.status_of_run (ends.run_of result)) (text_in text h) (ends.line_written text (ends.run_of result) h) w w' x
-    → WritesText (status_at (end_by result)) (text_in text h) (line_in text (end_by result) h) w w' x
-in_text History result h w w' x is = play_text result h w w' x is
-in_text Summary result h w w' x is = soaked_text result h w w' x is
-
-tells_in : (text : RunText) (input : Option (List ℕ)) (entry exit : Told) (w w' : Option (List ℕ)) → Telling entry exit w w' (text_in text) (line_in text) (λ x r. EndsIn text (played_call input x entry exit w w') r r.end)
-tells_in History input entry exit w w' = play_tells input entry exit w w'
-tells_in Summary input entry exit w w' = soak_tells input entry exit w w'
+in_text : (text : RunText) (result : Result (Unit {0}) StepFault) (h : List Entry) (w w' : Option (List ℕ)) (x : Status) → WritesText (ends.status_of_run (ends.run_of result)) (entries_in text h) (ends.line_written text (ends.run_of result) h) w w' x
+    → WritesText (status_at (end_by result)) (entries_in text h) (line_in text (end_by result) h) w w' x
+in_text History (Ok done) h w w' x is = is
+in_text History (Err fault.Flash) h w w' x is = is
+in_text History (Err fault.HistoryFull) h w w' x is = is
+in_text History (Err fault.Memory) h w w' x is = is
+in_text Summary (Ok done) h w w' x is = is
+in_text Summary (Err fault.Flash) h w w' x is = is
+in_text Summary (Err fault.HistoryFull) h w w' x is = is
+in_text Summary (Err fault.Memory) h w w' x is = is
 
 -- with the history and the run as they were written
-pub ran_in : (form : RunText) (Kept : Type 0) (p q : Payer) (c : Configuration) (cuts : ℕ) (all : List Step) (before : PartTold) (old t : StackTold) (entry exit : Told) (x : Status) (w w' input : Option (List ℕ)) (result : Result (Unit {0}) StepFault) (run : Result (Unit {0}) Stop) (h : List Entry) → IsStarted c cuts before old
+pub ran_in : (text : RunText) (Kept : Type 0) (p q : Payer) (c : Configuration) (cuts : ℕ) (all : List Step) (before : PartTold) (old t : StackTold) (entry exit : Told) (x : Status) (w w' input : Option (List ℕ)) (result : Result (Unit {0}) StepFault) (run : Result (Unit {0}) Stop) (h : List Entry) → IsStarted c cuts before old
     → OnOk result (HasWalked p q all old t) → IfErr result (λ why. WasBroken p q why all old t) → t.configuration ≡ old.configuration → (StartsWell c entry → Kept) → (StartsWell c entry → p.owes old.faults) → Vouches Kept q before t entry exit → run ≡ ends.run_of result → h ≡ t.entries
-    → WritesText (ends.status_of_run run) (text_in form h) (ends.line_written form run h) w w' x
-    → RunsAs x (HasRun c all (λ r. EndsIn form (played_call input x entry exit w w') r r.end) entry exit) entry exit
-ran_in form Kept p q c cuts all before old t entry exit x w w' input result run h started walked broken same keeps owes v is_run is_history is =
-    runs_by Kept p q c cuts all before old t entry exit x w w' (text_in form) (line_in form) (λ y r. EndsIn form (played_call input y entry exit w w') r r.end) result (tells_in form input entry exit w w') started walked broken same keeps owes v
-    (in_text form result t.entries w w' x
-    (subst (λ (r : Result (Unit {0}) Stop). WritesText (ends.status_of_run r) (text_in form t.entries) (ends.line_written form r t.entries) w w' x) is_run
-    (subst (λ (es : List Entry). WritesText (ends.status_of_run run) (text_in form es) (ends.line_written form run es) w w' x) is_history is)))
+    → IsRightSize (size_of c.geometry) entry.bytes → WritesText (ends.status_of_run run) (entries_in text h) (ends.line_written text run h) w w' x → HasRun c all (EndsIn text (played_call input x entry exit w w')) entry exit
+ran_in text Kept p q c cuts all before old t entry exit x w w' input result run h started walked broken same keeps owes v is_run is_history size is =
+    runs_by text Kept p q c cuts all before old t entry exit x w w' input result started walked broken same keeps owes v size
+    (in_text text result t.entries w w' x
+    (subst (λ (r : Result (Unit {0}) Stop). WritesText (ends.status_of_run r) (entries_in text t.entries) (ends.line_written text r t.entries) w w' x) is_run
+    (subst (λ (es : List Entry). WritesText (ends.status_of_run run) (entries_in text es) (ends.line_written text run es) w w' x) is_history is)))
 
 -- HOW IT ENDS
+-- at none of the statuses before the attach
 
--- a start-up that failed counted a fault
-left_end : (why : StepFault) (left : List Step) (before : PartTold) (last : Moment) (old t : StackTold) (less more : ℕ) → before.faults ≡ 0 → (Rose before.faults t.faults → Rose less more) → WereLeft why left last old t → IsRunEnd less more (status_of (ends.stop_of_fault why))
-left_end fault.Flash (x ∷ xs) before last old t less more none faults is = faults (Rose-after before.faults last.faults t.faults (omega (arith, none)) is.1)
-left_end fault.Flash [] before last old t less more none faults is = absurd is
-left_end fault.HistoryFull left before last old t less more none faults is = tt
-left_end fault.Memory left before last old t less more none faults is = tt
+run_late : (result : Result (Unit {0}) StepFault) → IsBeforeAttach (ends.status_of_run (ends.run_of result)) → ⊥
+run_late (Ok done) is = is
+run_late (Err fault.Flash) is = is
+run_late (Err fault.HistoryFull) is = is
+run_late (Err fault.Memory) is = is
 
-steps_end : (p q : Payer) (result : Result (Unit {0}) StepFault) (all : List Step) (before : PartTold) (old t : StackTold) (less more : ℕ) → before.faults ≡ 0 → (Rose before.faults t.faults → Rose less more) → IfErr result (λ why. WasBroken p q why all old t)
-    → IsRunEnd less more (ends.status_of_run (ends.run_of result))
-steps_end p q (Ok done) all before old t less more none faults broken = tt
-steps_end p q (Err why) all before old t less more none faults broken = left_end why broken.left before broken.walked.last old t less more none faults broken.why
+written_late : (meant x : Status) (entries : List Entry) (line : List ℕ) (w w' : Option (List ℕ)) → (IsBeforeAttach meant → ⊥) → WritesText meant entries line w w' x → IsBeforeAttach x → ⊥
+written_late meant status.Memory entries line w w' late is early = early
+written_late meant status.WriteFault entries line w w' late is early = early
+written_late meant x entries line w w' late is early = late (subst (λ (y : Status). IsBeforeAttach y) is.0 early)
 
-written_end : (less more : ℕ) (meant x : Status) (text line : List ℕ) (w w' : Option (List ℕ)) → IsRunEnd less more meant → WritesText meant text line w w' x → IsRunEnd less more x
-written_end less more meant status.Memory text line w w' end is = tt
-written_end less more meant status.WriteFault text line w w' end is = tt
-written_end less more meant x text line w w' end is = subst (λ (y : Status). IsRunEnd less more y) (sym is.0) end
+pub ran_late : (result : Result (Unit {0}) StepFault) (run : Result (Unit {0}) Stop) (x : Status) (entries : List Entry) (line : List ℕ) (w w' : Option (List ℕ)) → run ≡ ends.run_of result → WritesText (ends.status_of_run run) entries line w w' x → IsBeforeAttach x → ⊥
+ran_late result run x entries line w w' is_run is =
+    written_late (ends.status_of_run run) x entries line w w' (subst (λ (r : Result (Unit {0}) Stop). IsBeforeAttach (ends.status_of_run r) → ⊥) (sym is_run) (run_late result)) is
 
-pub run_end : (Kept : Type 0) (p q r : Payer) (c : Configuration) (cuts : ℕ) (all : List Step) (before : PartTold) (old t : StackTold) (entry exit : Told) (result : Result (Unit {0}) StepFault) (run : Result (Unit {0}) Stop) → IsStarted c cuts before old
-    → IfErr result (λ why. WasBroken p q why all old t) → Vouches Kept r before t entry exit → run ≡ ends.run_of result → IsRunEnd entry.faults exit.faults (ends.status_of_run run)
-run_end Kept p q r c cuts all before old t entry exit result run started broken v is_run =
-    subst (λ (y : Result (Unit {0}) Stop). IsRunEnd entry.faults exit.faults (ends.status_of_run y)) (sym is_run) (steps_end p q result all before old t entry.faults exit.faults started.none v.faults broken)
+attach_late : (need : ℕ) (bytes : Option ToldBytes) (why : Stop) → IsAttachStop need bytes why → IsBeforeAttach (status_of why) → ⊥
+attach_late need bytes (stop.WrongSize found needed) is early = early
+attach_late need bytes stop.FlashFault is early = early
+attach_late need bytes stop.Memory is early = early
+attach_late need bytes _ is early = absurd is
 
--- by the run as it was written
-pub ran_to : (Kept : Type 0) (p q r : Payer) (c : Configuration) (cuts : ℕ) (all : List Step) (before : PartTold) (old t : StackTold) (entry exit : Told) (x : Status) (w w' : Option (List ℕ)) (text line : List ℕ) (result : Result (Unit {0}) StepFault) (run : Result (Unit {0}) Stop) → IsStarted c cuts before old
-    → IfErr result (λ why. WasBroken p q why all old t) → Vouches Kept r before t entry exit → run ≡ ends.run_of result → WritesText (ends.status_of_run run) text line w w' x → IsRunEnd entry.faults exit.faults x
-ran_to Kept p q r c cuts all before old t entry exit x w w' text line result run started broken v is_run is =
-    written_end entry.faults exit.faults (ends.status_of_run run) x text line w w' (run_end Kept p q r c cuts all before old t entry exit result run started broken v is_run) is
+pub stopped_late : (need : ℕ) (bytes : Option ToldBytes) (why : Stop) (x : Status) → IsAttachStop need bytes why → IsReport (status_of why) x → IsBeforeAttach x → ⊥
+stopped_late need bytes why x is reports = report-by (λ y. IsBeforeAttach y → ⊥) (status_of why) x (attach_late need bytes why is) (λ early. early) (λ early. early) reports
 
 -- OF THE WHOLE CALL
 
@@ -468,37 +417,61 @@ input_of (Some bytes) c steps r same course has = record {
   course = course;
 }
 
-has_promise : (left : Option (List ℕ)) (x : Status) (c : Configuration) (steps : List Step) (entry exit : Told) (w w' : Option (List ℕ)) → IfSome left (λ bytes. HasPlayable bytes c steps)
-    → HasRun c steps (λ r. Ends (played_call left x entry exit w w') r r.end) entry exit → HasPromise (played_call left x entry exit w w')
-has_promise left x c steps entry exit w w' has run =
-    (run.run, record { input = input_of left c steps run.run run.configuration run.course has; entry = run.at_entry; exit = run.at_exit; beside = run.beside; ends = run.ends }, run.keeps)
+short_input : (left : Option (List ℕ)) (c : Configuration) (steps : List Step) → IfSome left (λ bytes. HasPlayable bytes c steps) → IfSome left (λ bytes. length bytes ≤ input_limit)
+short_input None c steps has = tt
+short_input (Some bytes) c steps has = has.config.short
 
 -- a run's promise is the call's
-pub call_keeps : (need : ℕ) (left : Option (List ℕ)) (x : Status) (c : Configuration) (steps : List Step) (entry exit : Told) (w w' : Option (List ℕ)) → IfSome left (λ bytes. HasPlayable bytes c steps) → IsStepsEnd need entry exit x
-    → RunsAs x (HasRun c steps (λ r. Ends (played_call left x entry exit w w') r r.end) entry exit) entry exit → KeepsPromise x (played_call left x entry exit w w')
-call_keeps need left status.Ok c steps entry exit w w' has end is = has_promise left status.Ok c steps entry exit w w' has is
-call_keeps need left status.FlashFault c steps entry exit w w' has end is = has_promise left status.FlashFault c steps entry exit w w' has is
-call_keeps need left status.HistoryFull c steps entry exit w w' has end is = has_promise left status.HistoryFull c steps entry exit w w' has is
-call_keeps need left status.Memory c steps entry exit w w' has end is = inl (has_promise left status.Memory c steps entry exit w w' has is)
-call_keeps need left status.WriteFault c steps entry exit w w' has end (inl is) = inl (has_promise left status.WriteFault c steps entry exit w w' has is)
-call_keeps need left status.WriteFault c steps entry exit w w' has end (inr same) = inr same
-call_keeps need left status.WrongSize c steps entry exit w w' has end is = is
-call_keeps need left _ c steps entry exit w w' has end is = absurd end
+has_promise : (left : Option (List ℕ)) (x : Status) (c : Configuration) (steps : List Step) (entry exit : Told) (w w' : Option (List ℕ)) → IfSome left (λ bytes. HasPlayable bytes c steps)
+    → HasRun c steps (EndsIn History (played_call left x entry exit w w')) entry exit → HasPromise (played_call left x entry exit w w')
+has_promise left x c steps entry exit w w' has run = (
+  run.run,
+  record { input = input_of left c steps run.run run.configuration run.course has; entry = run.at_entry; exit = run.at_exit; beside = run.beside; ends = run.ends },
+  short_input left c steps has,
+  run.keeps,
+)
 
 -- a call that stops early leaves the flash as it was
 pub alone : (told : Told) → LeavesAlone told told
 alone told = record { bytes = refl; ops = refl; faults = refl; cuts = refl }
 
-stops_early : (left : Option (List ℕ)) (why : Stop) (told : Told) (w w' : Option (List ℕ)) → IsEarly why → KeepsPromise (status_of why) (played_call left (status_of why) told told w w')
-stops_early left stop.BadWords told w w' early = alone told
-stops_early left (stop.BadConfig rule block) told w w' early = alone told
-stops_early left (stop.BadScript line) told w w' early = alone told
-stops_early left stop.ReadFault told w w' early = alone told
-stops_early left stop.TooLong told w w' early = alone told
-stops_early left (stop.Unbuilt line) told w w' early = alone told
-stops_early left stop.Memory told w w' early = inr (alone told)
-stops_early left _ told w w' early = absurd early
+-- WHERE NO RUN IS BEGUN
 
-pub early_keeps : (left : Option (List ℕ)) (why : Stop) (x : Status) (told : Told) (w w' : Option (List ℕ)) → IsEarly why → IsReport (status_of why) x → KeepsPromise x (played_call left x told told w w')
-early_keeps left why x told w w' early reports =
-    report-by (λ y. KeepsPromise y (played_call left y told told w w')) (status_of why) x (stops_early left why told w w' early) (inr (alone told)) (inr (alone told)) reports
+-- the flash has a wrong size
+sized_line : (IsWrong : List ℕ → ℕ → Type 0) (Has : Configuration → List ℕ → Type 0) (left : Option (List ℕ)) (reads reads' : ℕ) (bytes : Option ToldBytes) (c : Configuration) (y : Status) (line : List ℕ) → IfSome left (Has c) → IsSizeStop (size_of c.geometry) bytes y line
+    → StopsBy IsWrong Has left reads reads' bytes y line
+sized_line IsWrong Has left reads reads' bytes c status.WrongSize line has is = (c, has, is)
+sized_line IsWrong Has left reads reads' bytes c _ line has is = absurd is
+
+pub sized : (IsWrong : List ℕ → ℕ → Type 0) (Has : Configuration → List ℕ → Type 0) (left : Option (List ℕ)) (reads reads' : ℕ) (c : Configuration) (w w' : Option (List ℕ)) (x : Status) (entry exit : Told) → IfSome left (Has c) → HasNoRun (IsSizeStop (size_of c.geometry) entry.bytes) w w' x entry exit
+    → HasNoRun (StopsBy IsWrong Has left reads reads' entry.bytes) w w' x entry exit
+sized IsWrong Has left reads reads' c w w' x entry exit has none = record {
+  line = Writes-as (IsSizeStop (size_of c.geometry) entry.bytes) (StopsBy IsWrong Has left reads reads' entry.bytes) w w' x (λ y line at. sized_line IsWrong Has left reads reads' entry.bytes c y line has at) none.line;
+  alone = none.alone;
+}
+
+-- the input isn't read, or a line of it is wrong
+unread_line : (IsWrong : List ℕ → ℕ → Type 0) (Has : Configuration → List ℕ → Type 0) (left : Option (List ℕ)) (reads reads' : ℕ) (bytes : Option ToldBytes) (why : Stop) → (why ≡ stop.ReadFault → Rose reads reads') → IsReadStop IsWrong left why → why ≢ stop.Memory
+    → StopsBy IsWrong Has left reads reads' bytes (status_of why) (line_of why)
+unread_line IsWrong Has left reads reads' bytes (stop.BadScript number) fault is other = (number, is, refl)
+unread_line IsWrong Has left reads reads' bytes (stop.WrongSize found need) fault is other = absurd is
+unread_line IsWrong Has left reads reads' bytes why fault is other = read_line left reads reads' why fault is other
+
+pub unread : (IsWrong : List ℕ → ℕ → Type 0) (Has : Configuration → List ℕ → Type 0) (left : Option (List ℕ)) (reads reads' : ℕ) (why : Stop) (w w' : Option (List ℕ)) (x : Status) (told : Told) → (why ≡ stop.ReadFault → Rose reads reads') → IsReadStop IsWrong left why → Writes (IsStop why) w w' x
+    → HasNoRun (StopsBy IsWrong Has left reads reads' told.bytes) w w' x told told
+unread IsWrong Has left reads reads' why w w' x told fault stops is = record {
+  line = Writes-as (IsStop why) (StopsBy IsWrong Has left reads reads' told.bytes) w w' x (λ y line at. by_stop (StopsBy IsWrong Has left reads reads' told.bytes) why y line (unread_line IsWrong Has left reads reads' told.bytes why fault stops) at) is;
+  alone = alone told;
+}
+
+-- `PLAY`
+
+has_steps : (left : Option (List ℕ)) (c : Configuration) (steps : List Step) → IfSome left (λ bytes. HasPlayable bytes c steps) → IfSome left (HasStepsOf c)
+has_steps None c steps has = tt
+has_steps (Some bytes) c steps has = (has.config, steps, has.script)
+
+pub played : (left : Option (List ℕ)) (reads reads' : ℕ) (x : Status) (c : Configuration) (steps : List Step) (entry exit : Told) (w w' : Option (List ℕ)) → IfSome left (λ bytes. HasPlayable bytes c steps)
+    → HasRun c steps (EndsIn History (played_call left x entry exit w w')) entry exit ⊎ HasNoRun (IsSizeStop (size_of c.geometry) entry.bytes) w w' x entry exit
+    → HasPromise (played_call left x entry exit w w') ⊎ HasNoRun (PlayStopsBy left reads reads' entry.bytes) w w' x entry exit
+played left reads reads' x c steps entry exit w w' has (inl run) = inl (has_promise left x c steps entry exit w w' has run)
+played left reads reads' x c steps entry exit w w' has (inr none) = inr (sized HasWrongLine HasStepsOf left reads reads' c w w' x entry exit (has_steps left c steps has) none)

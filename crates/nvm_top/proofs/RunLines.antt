@@ -1,48 +1,35 @@
--- How a run is written.
-use Rattle.std.proofs.Common.{◌≡◌, ℕ, List, length, take, Option, Result, Ok, Err, refl, sym, subst}
-use Rattle.std.specs.Io.KnownBytes.{Appends}
-use Rattle.nv_streams.specs.Sink.{AppendsPrefix}
-use Rattle.nvm_flash.specs.nv_base.declared.entry.Entry.{Entry}
-use Rattle.nvm_script.specs.Lines.{end_line}
-use Rattle.nvm_script.specs.Printed.{history_text}
-use Rattle.nvm_script.specs.Summary.{summary}
-use Rattle.nvm_top.specs.Output.{Writes, Prints, BreaksOff, IsEndOf, fault_status}
-use Rattle.nvm_top.specs.declared.output.OutputFault.{OutputFault}
-use Rattle.nvm_top.specs.declared.output.OutputFault.TheVariants.{Failed, Memory as OutOfMemory}
+-- The lines of stops.
+use Rattle.std.proofs.Common.{◌≡◌, ◌≢◌, ℕ, List, Option, refl, sym, subst}
+use Rattle.nvm_flash.specs.nv_base.Count.{Rose}
+use Rattle.nvm_top.specs.Ends.{ReadsBy}
+use Rattle.nvm_top.specs.Output.{Writes}
+use Rattle.nvm_top.specs.Reading.{IsCheckStop}
 use Rattle.nvm_top.specs.declared.status.Status.{Status}
 use Rattle.nvm_top.specs.declared.status.Status.TheVariants as status
 use Rattle.nvm_top.specs.declared.stop.Stop.{Stop}
-use Rattle.nvm_top.proofs.Printing.{prefix-longer, Prints-behind}
+use Rattle.nvm_top.specs.declared.stop.Stop.TheVariants as stop
 use Rattle.nvm_top.specs.Stop.{status_of, line_of, IsStop}
-use Rattle.nvm_top.specs.Play.{IsRunLine}
-use Rattle.nvm_top.specs.Runs.{IsSummaryLine}
+
+-- an end of one kind is one of another
+pub Writes-as : (P Q : Status → List ℕ → Type 0) (w w' : Option (List ℕ)) (x : Status) → ((y : Status) (line : List ℕ) → P y line → Q y line) → Writes P w w' x → Writes Q w w' x
+Writes-as P Q w w' status.Memory leads is = is
+Writes-as P Q w w' status.WriteFault leads is = (is.0, is.1, leads is.0 is.1 is.2, is.3)
+Writes-as P Q w w' x leads is = (is.0, leads x is.0 is.1, is.2)
 
 -- a stop's line is of its status
-pub by_stop : (P : Status → List ℕ → Type 0) (stop : Stop) (y : Status) (line : List ℕ) → P (status_of stop) (line_of stop) → IsStop stop y line → P y line
-by_stop P stop y line holds is =
-    subst (λ (z : Status). P z line) (sym is.0) (subst (λ (l : List ℕ). P (status_of stop) l) (sym is.1) holds)
+pub by_stop : (P : Status → List ℕ → Type 0) (why : Stop) (y : Status) (line : List ℕ) → (why ≢ stop.Memory → P (status_of why) (line_of why)) → IsStop why y line → P y line
+by_stop P why y line holds is =
+    subst (λ (z : Status). P z line) (sym is.1) (subst (λ (l : List ℕ). P (status_of why) l) (sym is.2) (holds is.0))
 
--- WRITING A RUN
-broken_at : (run : Result (Unit {0}) Stop) (entries : List Entry) (w w' : Option (List ℕ)) → AppendsPrefix w w' (history_text entries) → Prints (IsRunLine run) w w' status.WriteFault
-broken_at (Ok done) entries w w' is = (entries, status.Ok, end_line (length entries), (refl, refl), prefix-longer w w' (history_text entries) (end_line (length entries)) is)
-broken_at (Err stop) entries w w' is = (entries, status_of stop, line_of stop, (refl, refl), prefix-longer w w' (history_text entries) (line_of stop) is)
+-- where the input isn't read
+pub read_line : (left : Option (List ℕ)) (reads reads' : ℕ) (why : Stop) → (why ≡ stop.ReadFault → Rose reads reads') → IsCheckStop left why → why ≢ stop.Memory → ReadsBy left reads reads' (status_of why) (line_of why)
+read_line left reads reads' (stop.BadConfig rule block) fault is other = (rule, block, is, refl)
+read_line left reads reads' stop.ReadFault fault is other = (fault refl, refl)
+read_line left reads reads' stop.TooLong fault is other = (is, refl)
+read_line left reads reads' stop.Memory fault is other = absurd (other refl)
+read_line left reads reads' _ fault is other = absurd is
 
-broken : (run : Result (Unit {0}) Stop) (fault : OutputFault) (entries : List Entry) (w w' : Option (List ℕ)) → BreaksOff fault entries w w' → Prints (IsRunLine run) w w' (fault_status fault)
-broken run Failed entries w w' is = broken_at run entries w w' is
-broken run OutOfMemory entries w w' is = (take is.0 entries, is.1)
-
-pub broken-print : (run : Result (Unit {0}) Stop) (fault : OutputFault) (entries : List Entry) (w w' : Option (List ℕ)) (x : Status) → x ≡ fault_status fault → BreaksOff fault entries w w' → Prints (IsRunLine run) w w' x
-broken-print run fault entries w w' x e is = subst (λ (z : Status). Prints (IsRunLine run) w w' z) (sym e) (broken run fault entries w w' is)
-
-pub end-print : (run : Result (Unit {0}) Stop) (done : Unit {0}) (entries : List Entry) (w w1 w2 : Option (List ℕ)) (x : Status) → run ≡ Ok done → Appends w w1 (history_text entries) → Writes (IsEndOf entries) w1 w2 x → Prints (IsRunLine run) w w2 x
-end-print run done entries w w1 w2 x e before is =
-    subst (λ (r : Result (Unit {0}) Stop). Prints (IsRunLine r) w w2 x) (sym e) (Prints-behind (IsEndOf entries) (IsRunLine (Ok done)) entries w w1 w2 x (λ y line at. at) before is)
-
-pub stop-print : (run : Result (Unit {0}) Stop) (stop : Stop) (entries : List Entry) (w w1 w2 : Option (List ℕ)) (x : Status) → run ≡ Err stop → Appends w w1 (history_text entries) → Writes (IsStop stop) w1 w2 x → Prints (IsRunLine run) w w2 x
-stop-print run stop entries w w1 w2 x e before is =
-    subst (λ (r : Result (Unit {0}) Stop). Prints (IsRunLine r) w w2 x) (sym e) (Prints-behind (IsStop stop) (IsRunLine (Err stop)) entries w w1 w2 x (λ y line at. at) before is)
-
--- A SUMMARY
-
-pub summary-broken : (run : Result (Unit {0}) Stop) (done : Unit {0}) (entries : List Entry) (w w' : Option (List ℕ)) (text : List ℕ) → run ≡ Ok done → text ≡ summary entries → AppendsPrefix w w' text → Writes (IsSummaryLine run entries) w w' status.WriteFault
-summary-broken run done entries w w' text e is prefix = subst (λ (r : Result (Unit {0}) Stop). Writes (IsSummaryLine r entries) w w' status.WriteFault) (sym e) (status.Ok, text, (refl, is), prefix)
+-- only want of memory has its status
+pub not_wanting : (why : Stop) → why ≢ stop.Memory → status_of why ≢ status.Memory
+not_wanting stop.Memory other e = other refl
+not_wanting _ other e = cc

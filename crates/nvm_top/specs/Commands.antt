@@ -1,7 +1,7 @@
 -- What a call of each command keeps; a call of the program keeps what the command keeps that its words name.
-use Rattle.std.specs.Prelude.{◌≡◌, ℕ, Bool, true, false, List, Option, Some, None}
+use Rattle.std.specs.Prelude.{◌≡◌, ◌⊎◌, ℕ, Bool, true, false, List, Option, Some, None}
 use Rattle.nvm_flash.specs.block_config.Config.{Configuration}
-use Rattle.nvm_flash.specs.fls_model.Told.{Told}
+use Rattle.nvm_flash.specs.fls_model.Told.{Told, ToldBytes}
 use Rattle.nvm_flash.specs.promise_run.Call.{Call}
 use Rattle.nvm_script.specs.declared.step.Step.{Step}
 use Rattle.nvm_words.specs.declared.words.CommandKind.{CommandKind}
@@ -13,10 +13,10 @@ use Rattle.nvm_top.specs.declared.stop.Stop.TheVariants as stop
 use Rattle.nvm_top.specs.Causes.{HasCauses}
 use Rattle.nvm_top.specs.Dump.{DumpsBy, KeepsFlash}
 use Rattle.nvm_top.specs.Ends.{ChecksBy}
-use Rattle.nvm_top.specs.Output.{Writes, Prints}
-use Rattle.nvm_top.specs.Play.{IsBeforeAttach, IsBeforeStart, PrintsBy}
-use Rattle.nvm_top.specs.Promised.{KeepsPromise, SoakKeepsPromise, played_call}
-use Rattle.nvm_top.specs.Soak.{SoakPrintsBy}
+use Rattle.nvm_top.specs.Output.{Writes}
+use Rattle.nvm_top.specs.Play.{IsBeforeAttach, IsBeforeStart, PlayStopsBy}
+use Rattle.nvm_top.specs.Promised.{HasNoRun, HasPromise, HasSoaked, played_call}
+use Rattle.nvm_top.specs.Soak.{SoakStopsBy}
 use Rattle.nvm_top.specs.Stop.{IsStop}
 
 -- A call that is over: its status, and before it and behind it what was left of its input and how often that had failed, what
@@ -50,16 +50,18 @@ WritesBy IsEnd e = Writes IsEnd e.written e.written_after e.status
 
 -- EACH COMMAND
 
+-- where no run is begun, for one of these reasons, by what was read and by the flash
+abbrev pub StopsFor : (Option (List ℕ) → ℕ → ℕ → Option ToldBytes → Status → List ℕ → Type 0) → Ended → Type 0
+StopsFor IsEnd e = HasNoRun (IsEnd e.left e.read_faults e.read_faults_after e.entry.bytes) e.written e.written_after e.status e.entry e.exit
+
 pub record KeepsPlay (e : Ended) : Type 0 where
-  pub print : Prints (PrintsBy e.left e.read_faults e.read_faults_after e.entry e.exit) e.written e.written_after e.status
-  pub promise : KeepsPromise e.status (call_of e)
+  pub promise : HasPromise (call_of e) ⊎ StopsFor PlayStopsBy e
   pub untouched : IsBeforeAttach e.status → e.exit ≡ e.entry
   pub causes : IsCaused e
 
 -- with the steps that are drawn for a configuration
 pub record KeepsSoak (steps : Configuration → List Step) (e : Ended) : Type 0 where
-  pub text : WritesBy (SoakPrintsBy e.left e.read_faults e.read_faults_after e.entry e.exit) e
-  pub promise : SoakKeepsPromise e.status e.left steps (call_of e)
+  pub promise : HasSoaked e.left steps (call_of e) ⊎ StopsFor SoakStopsBy e
   pub untouched : IsBeforeAttach e.status → e.exit ≡ e.entry
   pub causes : IsCaused e
 

@@ -1,5 +1,5 @@
 -- `dump`: what it writes, and what it leaves of the flash.
-use Rattle.std.specs.Prelude.{◌≡◌, ℕ, List, Option, IfSome}
+use Rattle.std.specs.Prelude.{◌≡◌, ◌⊎◌, ℕ, List, Option, IfSome}
 use Rattle.nvm_flash.specs.nv_base.declared.geometry.Geometry.{Geometry}
 use Rattle.nvm_flash.specs.nv_base.Geometry.{size_of}
 use Rattle.nvm_flash.specs.nv_base.Count.{Rose}
@@ -12,9 +12,8 @@ use Rattle.fee_dump.specs.Dump.{dump_text}
 use Rattle.nvm_top.specs.declared.status.Status.{Status}
 use Rattle.nvm_top.specs.declared.status.Status.TheVariants as status
 use Rattle.nvm_top.specs.declared.stop.Stop.TheVariants as stop
-use Rattle.nvm_top.specs.Ends.{HasConfig, NamesRule, TellsReadFault, TellsSize}
-use Rattle.nvm_top.specs.Input.{IsLonger, input_limit}
-use Rattle.nvm_top.specs.Play.{IsWrongSize}
+use Rattle.nvm_top.specs.Ends.{HasConfig, ReadsBy}
+use Rattle.nvm_top.specs.Play.{NamesSize}
 use Rattle.nvm_top.specs.Stop.{line_of}
 
 -- these are the bytes of a flash of this shape, where it tells them; one of no bytes is blank
@@ -28,18 +27,13 @@ IsDump g image x text = (x ≡ status.Ok) × (text ≡ dump_text (layout_of g ba
 -- from the attach of a flash of this shape on, before it and behind it, and with what is written
 abbrev pub DumpsFlash : Geometry → (s t : Told) → Status → List ℕ → Type 0
 DumpsFlash g s t status.Ok text = (image : List ℕ) × IsImageOf g s.bytes image × (text ≡ dump_text (layout_of g bank_count) image)
-DumpsFlash g s t status.WrongSize line = IsWrongSize (size_of g) s.bytes × TellsSize (size_of g) s.bytes line
+DumpsFlash g s t status.WrongSize line = NamesSize (size_of g) s.bytes line
 DumpsFlash g s t status.FlashFault line = Rose s.faults t.faults × (line ≡ line_of stop.FlashFault)
-DumpsFlash g s t status.Memory line = line ≡ line_of stop.Memory
 DumpsFlash g s t _ line = ⊥
 
 -- as a whole, with the bytes of the input, where they are told, and with its faults before and after
 abbrev pub DumpsBy : Option (List ℕ) → (reads reads' : ℕ) (s t : Told) → Status → List ℕ → Type 0
-DumpsBy left reads reads' s t status.BadConfig line = NamesRule left line
-DumpsBy left reads reads' s t status.TooLong line = IsLonger left input_limit × (line ≡ line_of stop.TooLong)
-DumpsBy left reads reads' s t status.ReadFault line = TellsReadFault reads reads' line
-DumpsBy left reads reads' s t status.Memory line = line ≡ line_of stop.Memory
-DumpsBy left reads reads' s t x text = (c : Configuration) × IfSome left (λ bytes. HasConfig bytes c) × DumpsFlash c.geometry s t x text
+DumpsBy left reads reads' s t x text = ReadsBy left reads reads' x text ⊎ ((c : Configuration) × IfSome left (λ bytes. HasConfig bytes c) × DumpsFlash c.geometry s t x text)
 
 -- a flash is left as it was: no changing operation was made, and its bytes are the same, or blank where it had none
 pub record KeepsFlash (s t : Told) : Type 0 where

@@ -8,7 +8,6 @@ use Rattle.nvm_flash.specs.block_config.declared.fault.ConfigFault.TheVariants.{
 use Rattle.nvm_script.specs.Script.{IsScript, IsFirstWrong, first_line, later_lines}
 use Rattle.nvm_script.specs.declared.step.Step.{Step}
 use Rattle.nvm_script.specs.declared.script.Mode.TheVariants.{Play}
-use Rattle.nvm_flash.specs.fls_model.Told.{ToldBytes}
 use Rattle.nvm_top.specs.Input.{IsLonger, input_limit}
 use Rattle.nvm_top.specs.declared.status.Status.{Status}
 use Rattle.nvm_top.specs.declared.status.Status.TheVariants as status
@@ -43,33 +42,18 @@ HasWrongLine bytes number = (c : Configuration) × HasConfig bytes c × IsFirstW
 abbrev pub NamesRule : Option (List ℕ) → List ℕ → Type 0
 NamesRule left line = (rule : ℕ) × (block : ℕ) × IfSome left (λ bytes. BreaksRule bytes rule block) × (line ≡ line_of (stop.BadConfig rule block))
 
--- the line names the first wrong line of the input, where that is told
-abbrev pub NamesWrongLine : Option (List ℕ) → List ℕ → Type 0
-NamesWrongLine left line = (number : ℕ) × IfSome left (λ bytes. HasWrongLine bytes number) × (line ≡ line_of (stop.BadScript number))
-
--- the line tells how many bytes the flash has, where they are told, and how many are needed
-abbrev pub TellsSize : ℕ → Option ToldBytes → List ℕ → Type 0
-TellsSize need flash line = (found : ℕ) × IfSome flash (λ b. length b.now ≡ found) × (line ≡ line_of (stop.WrongSize found need))
-
 -- a read of the input failed, and the line says so
 abbrev pub TellsReadFault : ℕ → ℕ → List ℕ → Type 0
 TellsReadFault reads reads' line = Rose reads reads' × (line ≡ line_of stop.ReadFault)
 
--- `check`, with the bytes of its input, where they are told, with its faults before and after, and with the line that it writes
+-- why the input isn't read, with its bytes, where they are told, with its faults before and after, and with the line of it
+abbrev pub ReadsBy : Option (List ℕ) → (reads reads' : ℕ) → Status → List ℕ → Type 0
+ReadsBy left reads reads' status.BadConfig line = NamesRule left line
+ReadsBy left reads reads' status.ReadFault line = TellsReadFault reads reads' line
+ReadsBy left reads reads' status.TooLong line = IsLonger left input_limit × (line ≡ line_of stop.TooLong)
+ReadsBy left reads reads' _ line = ⊥
+
+-- how `check` ends, with the line that it writes
 abbrev pub ChecksBy : Option (List ℕ) → (reads reads' : ℕ) → Status → List ℕ → Type 0
 ChecksBy left reads reads' status.Ok line = (c : Configuration) × IfSome left (λ bytes. HasConfig bytes c) × (line ≡ measures_line c)
-ChecksBy left reads reads' status.BadConfig line = NamesRule left line
-ChecksBy left reads reads' status.TooLong line = IsLonger left input_limit × (line ≡ line_of stop.TooLong)
-ChecksBy left reads reads' status.ReadFault line = TellsReadFault reads reads' line
-ChecksBy left reads reads' status.Memory line = line ≡ line_of stop.Memory
-ChecksBy left reads reads' _ line = ⊥
-
--- `play` where it stops before its flash is attached, with the bytes of its input, where they are told, with its faults before
--- and after, and with the line that it writes
-abbrev pub StopsBy : Option (List ℕ) → (reads reads' : ℕ) → Status → List ℕ → Type 0
-StopsBy left reads reads' status.BadConfig line = NamesRule left line
-StopsBy left reads reads' status.BadScript line = NamesWrongLine left line
-StopsBy left reads reads' status.ReadFault line = TellsReadFault reads reads' line
-StopsBy left reads reads' status.TooLong line = IsLonger left input_limit × (line ≡ line_of stop.TooLong)
-StopsBy left reads reads' status.Memory line = line ≡ line_of stop.Memory
-StopsBy left reads reads' _ line = ⊥
+ChecksBy left reads reads' x line = ReadsBy left reads reads' x line

@@ -1,5 +1,5 @@
 -- What a command writes last, and the statuses of outputs that fail.
-use Rattle.std.specs.Prelude.{◌≡◌, ◌⊎◌, ℕ, List, ◌++◌, length, take, Option}
+use Rattle.std.specs.Prelude.{◌≡◌, ◌⊎◌, ℕ, List, length, take, Option}
 use Rattle.std.specs.Io.KnownBytes.{Appends}
 use Rattle.nv_streams.specs.Sink.{AppendsPrefix}
 use Rattle.nvm_flash.specs.nv_base.declared.entry.Entry.{Entry}
@@ -34,10 +34,3 @@ IsEndOf entries x line = (x ≡ status.Ok) × (line ≡ end_line (length entries
 abbrev pub BreaksOff : OutputFault → List Entry → Option (List ℕ) → Option (List ℕ) → Type 0
 BreaksOff Failed entries written written' = AppendsPrefix written written' (history_text entries)
 BreaksOff Memory entries written written' = (n : ℕ) × Appends written written' (history_text (take n entries))
-
--- As `Writes`, with the lines of entries before the line. At want of memory lines of entries stand there alone, each of
--- them whole.
-abbrev pub Prints : (List Entry → Status → List ℕ → Type 0) → Option (List ℕ) → Option (List ℕ) → Status → Type 0
-Prints IsEnd written written' status.Memory = (entries : List Entry) × Appends written written' (history_text entries)
-Prints IsEnd written written' status.WriteFault = (entries : List Entry) × (meant : Status) × (line : List ℕ) × IsEnd entries meant line × AppendsPrefix written written' (history_text entries ++ line)
-Prints IsEnd written written' x = (entries : List Entry) × (line : List ℕ) × IsEnd entries x line × Appends written written' (history_text entries ++ line)

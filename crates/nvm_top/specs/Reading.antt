@@ -46,14 +46,15 @@ IsCheckStop left TooLong = IsLonger left input_limit
 IsCheckStop left Memory = Unit {0}
 IsCheckStop left _ = ⊥
 
--- why `play` stops before its flash is attached, with the bytes of its input, where they are told
+-- why a call stops before its flash is attached, by what makes a later line a wrong one, with the bytes of its input, where
+-- they are told
+abbrev pub IsReadStop : (List ℕ → ℕ → Type 0) → Option (List ℕ) → Stop → Type 0
+IsReadStop IsWrong left (BadScript line) = IfSome left (λ bytes. IsWrong bytes line)
+IsReadStop IsWrong left why = IsCheckStop left why
+
+-- of `play`
 abbrev pub IsPlayStop : Option (List ℕ) → Stop → Type 0
-IsPlayStop left (BadConfig rule block) = IfSome left (λ bytes. BreaksRule bytes rule block)
-IsPlayStop left (BadScript line) = IfSome left (λ bytes. HasWrongLine bytes line)
-IsPlayStop left ReadFault = Unit {0}
-IsPlayStop left TooLong = IsLonger left input_limit
-IsPlayStop left Memory = Unit {0}
-IsPlayStop left _ = ⊥
+IsPlayStop = IsReadStop HasWrongLine
 
 -- a call stops before its flash is attached
 abbrev pub IsEarly : Stop → Type 0

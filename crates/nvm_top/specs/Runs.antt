@@ -1,5 +1,5 @@
 -- How a run of steps ends, and its summary.
-use Rattle.std.specs.Prelude.{◌≡◌, ℕ, List, length, Result, Ok, Err}
+use Rattle.std.specs.Prelude.{ℕ, List, length, Result, Ok, Err}
 use Rattle.nvm_flash.specs.nv_base.declared.entry.Entry.{Entry}
 use Rattle.nvm_script.specs.Lines.{end_line}
 use Rattle.nvm_script.specs.Summary.{summary}
@@ -35,20 +35,9 @@ abbrev pub status_of_run : Result (Unit {0}) Stop → Status
 status_of_run (Ok done) = status.Ok
 status_of_run (Err why) = status_of why
 
--- the last line of a run that is over, with these entries, or that stops
-abbrev pub line_of_run : Result (Unit {0}) Stop → List Entry → List ℕ
-line_of_run (Ok done) entries = end_line (length entries)
-line_of_run (Err why) entries = line_of why
-
--- a run that is over writes the summary of its history, one that stops its line alone
-abbrev pub summary_of_run : Result (Unit {0}) Stop → List Entry → List ℕ
-summary_of_run (Ok done) entries = summary entries
-summary_of_run (Err why) entries = line_of why
-
-abbrev pub IsSummaryLine : Result (Unit {0}) Stop → List Entry → Status → List ℕ → Type 0
-IsSummaryLine run entries x line = (x ≡ status_of_run run) × (line ≡ summary_of_run run entries)
-
--- what is written last of a run
+-- what is written last of a run in one of these texts: how many entries it has, or the summary of its history; of one that
+-- stops its line
 abbrev pub line_written : RunText → Result (Unit {0}) Stop → List Entry → List ℕ
-line_written History run entries = line_of_run run entries
-line_written Summary run entries = summary_of_run run entries
+line_written History (Ok done) entries = end_line (length entries)
+line_written Summary (Ok done) entries = summary entries
+line_written text (Err why) entries = line_of why

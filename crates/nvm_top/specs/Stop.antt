@@ -1,5 +1,5 @@
 -- The statuses of commands that stop, and the lines that say so.
-use Rattle.std.specs.Prelude.{◌≡◌, ℕ, List, [], ◌++◌, codes}
+use Rattle.std.specs.Prelude.{◌≡◌, ◌≢◌, ℕ, List, [], ◌++◌, codes}
 use Rattle.std.specs.Fmt.{decimal}
 use Rattle.nvm_top.specs.declared.status.Status.{Status}
 use Rattle.nvm_top.specs.declared.status.Status.TheVariants as status
@@ -31,6 +31,6 @@ line_of FlashFault = codes "flash fault\n"
 line_of HistoryFull = codes "history full\n"
 line_of Memory = []
 
--- a command that stops has this status, and writes this line last
+-- a command that stops has this status, and writes this line last; at want of memory it writes none
 abbrev pub IsStop : Stop → Status → List ℕ → Type 0
-IsStop stop x line = (x ≡ status_of stop) × (line ≡ line_of stop)
+IsStop stop x line = (stop ≢ Memory) × (x ≡ status_of stop) × (line ≡ line_of stop)

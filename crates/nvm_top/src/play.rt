@@ -1,15 +1,13 @@
 // The command `play`: the steps of a person over one flash, with their history.
-ghost use Rattle.std.specs.Prelude.{◌≡◌, ℕ, List, Option};
+ghost use Rattle.std.specs.Prelude.{◌≡◌, ◌⊎◌, ℕ, List, Option};
 ghost use Rattle.nvm_flash.specs.nv_base.Count.{Rose};
 ghost use Rattle.nvm_flash.specs.nv_base.Geometry.{size_of};
 ghost use Rattle.nvm_flash.specs.Made.{IsOrigin};
 ghost use Rattle.nvm_script.specs.Played.{ArePlayed};
 ghost use Rattle.script_player.specs.Made.{cuts_of};
 ghost use Rattle.nvm_top.specs.Causes.{HasCauses};
-ghost use Rattle.nvm_top.specs.Output.{Writes, Prints};
-ghost use Rattle.nvm_top.specs.Play.{IsBeforeAttach, IsStepsEnd, RunsBy, PrintsBy};
-ghost use Rattle.nvm_top.specs.Soak.{SumsBy};
-ghost use Rattle.nvm_top.specs.Promised.{EndsIn, HasRun, RunsAs, KeepsPromise, played_call};
+ghost use Rattle.nvm_top.specs.Play.{IsBeforeAttach, IsSizeStop, PlayStopsBy};
+ghost use Rattle.nvm_top.specs.Promised.{EndsIn, HasNoRun, HasPromise, HasRun, played_call};
 
 use crate::Status;
 use crate::flashes::Flashes;
@@ -31,8 +29,8 @@ pub(crate) fn play<S: Source, K: Sink, F: Flash>(
     output: &mut K,
     flash: F,
 ) -> (Status, F)
-    ensures print { Prints (PrintsBy (S.left input.old) (S.faults input.old) (S.faults input.new) (F.told flash) (F.told result.1)) (K.written output.old) (K.written output.new) result.0 }
-    ensures promise { KeepsPromise result.0 (played_call (S.left input.old) result.0 (F.told flash) (F.told result.1) (K.written output.old) (K.written output.new)) }
+    ensures promise { HasPromise (played_call (S.left input.old) result.0 (F.told flash) (F.told result.1) (K.written output.old) (K.written output.new))
+        ⊎ HasNoRun (PlayStopsBy (S.left input.old) (S.faults input.old) (S.faults input.new) (F.told flash).bytes) (K.written output.old) (K.written output.new) result.0 (F.told flash) (F.told result.1) }
     ensures causes { HasCauses result.0 (S.faults input.old) (S.faults input.new) (K.faults output.old) (K.faults output.new) (S.left input.new) }
     ensures untouched { IsBeforeAttach result.0 → F.told result.1 ≡ F.told flash }
 {
@@ -51,12 +49,10 @@ pub(crate) fn play_flash<K: Sink, F: Flash>(
     flash: F,
 ) -> (Status, F)
     requires played { ArePlayed playable.config playable.steps }
-    ensures end { IsStepsEnd (size_of playable.config.geometry) (F.told flash) (F.told result.1) result.0 }
-    ensures print { text ≡ RunText.History → Prints (RunsBy (size_of playable.config.geometry) (F.told flash) (F.told result.1)) (K.written output.old) (K.written output.new) result.0 }
-    ensures sum { text ≡ RunText.Summary → Writes (SumsBy (size_of playable.config.geometry) (F.told flash) (F.told result.1)) (K.written output.old) (K.written output.new) result.0 }
     ensures promise { (input : Option (List ℕ))
-        → RunsAs result.0 (HasRun playable.config playable.steps (λ r. EndsIn text (played_call input result.0 (F.told flash) (F.told result.1) (K.written output.old) (K.written output.new)) r r.end) (F.told flash) (F.told result.1))
-        (F.told flash) (F.told result.1) }
+        → HasRun playable.config playable.steps (EndsIn text (played_call input result.0 (F.told flash) (F.told result.1) (K.written output.old) (K.written output.new))) (F.told flash) (F.told result.1)
+        ⊎ HasNoRun (IsSizeStop (size_of playable.config.geometry) (F.told flash).bytes) (K.written output.old) (K.written output.new) result.0 (F.told flash) (F.told result.1) }
+    ensures late { IsBeforeAttach result.0 → ⊥ }
     ensures write_fault { result.0 ≡ Status.WriteFault → Rose (K.faults output.old) (K.faults output.new) }
 {
     play_steps::<K, F, Brand>(alloc, text, playable, output, flash)
@@ -72,12 +68,10 @@ fn play_steps<K: Sink, F: Flash, O: Origin>(
 ) -> (Status, F)
     requires origin { IsOrigin playable.config (F.told flash) (cuts_of playable.steps) O.making O.entry }
     requires played { ArePlayed playable.config playable.steps }
-    ensures end { IsStepsEnd (size_of playable.config.geometry) (F.told flash) (F.told result.1) result.0 }
-    ensures print { text ≡ RunText.History → Prints (RunsBy (size_of playable.config.geometry) (F.told flash) (F.told result.1)) (K.written output.old) (K.written output.new) result.0 }
-    ensures sum { text ≡ RunText.Summary → Writes (SumsBy (size_of playable.config.geometry) (F.told flash) (F.told result.1)) (K.written output.old) (K.written output.new) result.0 }
     ensures promise { (input : Option (List ℕ))
-        → RunsAs result.0 (HasRun playable.config playable.steps (λ r. EndsIn text (played_call input result.0 (F.told flash) (F.told result.1) (K.written output.old) (K.written output.new)) r r.end) (F.told flash) (F.told result.1))
-        (F.told flash) (F.told result.1) }
+        → HasRun playable.config playable.steps (EndsIn text (played_call input result.0 (F.told flash) (F.told result.1) (K.written output.old) (K.written output.new))) (F.told flash) (F.told result.1)
+        ⊎ HasNoRun (IsSizeStop (size_of playable.config.geometry) (F.told flash).bytes) (K.written output.old) (K.written output.new) result.0 (F.told flash) (F.told result.1) }
+    ensures late { IsBeforeAttach result.0 → ⊥ }
     ensures write_fault { result.0 ≡ Status.WriteFault → Rose (K.faults output.old) (K.faults output.new) }
 {
     let handed = OneFlash::<F, O> {

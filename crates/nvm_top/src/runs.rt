@@ -1,11 +1,8 @@
 // How a run is written.
-ghost use Rattle.std.specs.Prelude.{◌≡◌};
+ghost use Rattle.std.specs.Prelude.{◌≡◌, []};
 ghost use Rattle.nvm_flash.specs.nv_base.Count.{Rose};
-ghost use Rattle.nvm_top.specs.Output.{Writes, Prints};
-ghost use Rattle.nvm_top.specs.Play.{IsRunLine};
-ghost use Rattle.nvm_script.specs.Printed.{history_text};
-ghost use Rattle.nvm_top.specs.Promised.{WritesText, text_in};
-ghost use Rattle.nvm_top.specs.Runs.{run_of, status_of_run, line_of_run, line_written, IsSummaryLine};
+ghost use Rattle.nvm_top.specs.Promised.{WritesText, entries_in};
+ghost use Rattle.nvm_top.specs.Runs.{run_of, status_of_run, line_written};
 
 use crate::Status;
 use crate::output::{put_lines, report, write_end, write_history};
@@ -42,8 +39,7 @@ fn write_run<K: Sink>(
     history: &History,
     output: &mut K,
 ) -> Status
-    ensures print { Prints (IsRunLine run) (K.written output.old) (K.written output.new) result }
-    ensures text { WritesText (status_of_run run) (history_text history.now.entries) (line_of_run run history.now.entries) (K.written output.old) (K.written output.new) result }
+    ensures text { WritesText (status_of_run run) history.now.entries (line_written RunText.History run history.now.entries) (K.written output.old) (K.written output.new) result }
     ensures write_fault { result ≡ Status.WriteFault → Rose (K.faults output.old) (K.faults output.new) }
 {
     if run == Err(Stop::Memory) {
@@ -65,7 +61,7 @@ fn write_summary<K: Sink>(
     history: &History,
     output: &mut K,
 ) -> Status
-    ensures lines { Writes (IsSummaryLine run history.now.entries) (K.written output.old) (K.written output.new) result }
+    ensures text { WritesText (status_of_run run) [] (line_written RunText.Summary run history.now.entries) (K.written output.old) (K.written output.new) result }
     ensures write_fault { result ≡ Status.WriteFault → Rose (K.faults output.old) (K.faults output.new) }
 {
     if let Err(stop) = run {
@@ -88,9 +84,7 @@ pub fn write_text<K: Sink>(
     history: &History,
     output: &mut K,
 ) -> Status
-    ensures print { text ≡ RunText.History → Prints (IsRunLine run) (K.written output.old) (K.written output.new) result }
-    ensures sum { text ≡ RunText.Summary → Writes (IsSummaryLine run history.now.entries) (K.written output.old) (K.written output.new) result }
-    ensures text { WritesText (status_of_run run) (text_in text history.now.entries) (line_written text run history.now.entries) (K.written output.old) (K.written output.new) result }
+    ensures text { WritesText (status_of_run run) (entries_in text history.now.entries) (line_written text run history.now.entries) (K.written output.old) (K.written output.new) result }
     ensures write_fault { result ≡ Status.WriteFault → Rose (K.faults output.old) (K.faults output.new) }
 {
     match text {

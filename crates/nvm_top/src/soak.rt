@@ -1,16 +1,15 @@
 // The command `soak`: many steps that a seed draws, and the summary of their history.
-ghost use Rattle.std.specs.Prelude.{◌≡◌, ◌<◌, [], IfOk, IfErr, IfSome, OnOk, Err};
+ghost use Rattle.std.specs.Prelude.{◌≡◌, ◌⊎◌, ◌<◌, [], IfOk, IfErr, IfSome, OnOk, Err};
 ghost use Rattle.std.specs.Io.KnownBytes.{IsAtEnd};
 ghost use Rattle.nvm_flash.specs.nv_base.Count.{Rose};
 ghost use Rattle.nvm_script.specs.Played.{ArePlayed};
 ghost use Rattle.script_soak.specs.Soak.{soak};
 ghost use Rattle.nvm_top.specs.Causes.{HasCauses};
 ghost use Rattle.nvm_top.specs.Ends.{HasPlayable};
-ghost use Rattle.nvm_top.specs.Output.{Writes};
 ghost use Rattle.nvm_top.specs.Play.{IsBeforeAttach};
-ghost use Rattle.nvm_top.specs.Promised.{SoakKeepsPromise, played_call};
+ghost use Rattle.nvm_top.specs.Promised.{HasNoRun, HasSoaked, played_call};
 ghost use Rattle.nvm_top.specs.Reading.{IsEarly};
-ghost use Rattle.nvm_top.specs.Soak.{IsSoakStop, SoakPrintsBy};
+ghost use Rattle.nvm_top.specs.Soak.{IsSoakStop, SoakStopsBy};
 
 use crate::Status;
 use crate::output::report;
@@ -33,8 +32,8 @@ pub(crate) fn soak<S: Source, K: Sink, F: Flash>(
     flash: F,
 ) -> (Status, F)
     requires { count < u32.MAX }
-    ensures text { Writes (SoakPrintsBy (S.left input.old) (S.faults input.old) (S.faults input.new) (F.told flash) (F.told result.1)) (K.written output.old) (K.written output.new) result.0 }
-    ensures promise { SoakKeepsPromise result.0 (S.left input.old) (λ c. soak c seed count) (played_call (S.left input.old) result.0 (F.told flash) (F.told result.1) (K.written output.old) (K.written output.new)) }
+    ensures promise { HasSoaked (S.left input.old) (λ c. soak c seed count) (played_call (S.left input.old) result.0 (F.told flash) (F.told result.1) (K.written output.old) (K.written output.new))
+        ⊎ HasNoRun (SoakStopsBy (S.left input.old) (S.faults input.old) (S.faults input.new) (F.told flash).bytes) (K.written output.old) (K.written output.new) result.0 (F.told flash) (F.told result.1) }
     ensures causes { HasCauses result.0 (S.faults input.old) (S.faults input.new) (K.faults output.old) (K.faults output.new) (S.left input.new) }
     ensures untouched { IsBeforeAttach result.0 → F.told result.1 ≡ F.told flash }
 {

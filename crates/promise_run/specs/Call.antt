@@ -1,5 +1,5 @@
 -- The call that a run belongs to.
-use Rattle.std.specs.Prelude.{◌≡◌, ◌⊎◌, ℕ, List, [], ◌++◌, length, codes, Option, None, IfSome, Ok}
+use Rattle.std.specs.Prelude.{◌≡◌, ◌⊎◌, ℕ, List, [], ◌++◌, length, take, codes, Option, None, IfSome, Ok}
 use Rattle.std.specs.Io.KnownBytes.{Appends}
 use Rattle.nv_streams.specs.Sink.{AppendsPrefix}
 use Rattle.block_machine.specs.block_config.Reading.{meaning_of}
@@ -55,13 +55,17 @@ last_line Memory h = codes ""
 abbrev pub text_of : Run → List ℕ
 text_of r = history_text r.history ++ last_line r.end r.history
 
--- The output is that text; at want of memory a beginning of it, and where the output failed, with status 6 in place of
--- another one, a beginning too.
+-- The output is this text, the lines of these entries with a last one; at want of memory some of the entries' lines, from the
+-- first on, and where the output failed, with status 6 in place of another one, a beginning of the text.
+abbrev pub EndsWith : List Entry → List ℕ → Call → End → Type 0
+EndsWith entries text call Memory = (call.status ≡ 8) × ((n : ℕ) × Appends call.written call.written_after (history_text (take n entries)))
+EndsWith entries text call end =
+    ((call.status ≡ status_of_end end) × Appends call.written call.written_after text)
+    ⊎ ((call.status ≡ 6) × AppendsPrefix call.written call.written_after text)
+
+-- the output of a run's call is that of the run
 abbrev pub Ends : Call → Run → End → Type 0
-Ends call r Memory = AppendsPrefix call.written call.written_after (text_of r) × ((call.status ≡ 8) ⊎ (call.status ≡ 6))
-Ends call r end =
-    ((call.status ≡ status_of_end end) × Appends call.written call.written_after (text_of r))
-    ⊎ ((call.status ≡ 6) × AppendsPrefix call.written call.written_after (text_of r))
+Ends call r end = EndsWith r.history (text_of r) call end
 
 -- the run is this call's: its configuration, its steps, its one flash, its status and its output
 pub record IsRunOf (call : Call) (r : Run) : Type 0 where

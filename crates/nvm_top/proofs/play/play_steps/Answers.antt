@@ -1,4 +1,4 @@
-use Rattle.std.proofs.Common.{◌∙◌, ap}
+use Rattle.std.proofs.Common.{◌∙◌, ap, inl}
 use Rattle.nvm_flash.specs.fee_told.Device.{told_of}
 use Rattle.nvm_flash.specs.fee_core.Tells.{told_clock}
 use Rattle.nvm_flash.specs.fee_laws.Made.{part_at}
@@ -7,13 +7,11 @@ use Rattle.script_player.specs.PlainKept.{IsKept}
 use Rattle.script_player.specs.PlainPaying.{payer_by}
 use Rattle.script_player.specs.PlainTold.{told_by}
 use Rattle.nvm_top.specs.Flashes.{one_flash}
-use Rattle.nvm_top.specs.Promised.{text_in}
+use Rattle.nvm_top.specs.Promised.{entries_in}
 use Rattle.nvm_top.specs.Runs.{line_written}
 use Rattle.nvm_top.specs.Stack.{one_part}
 use Rattle.nvm_top.proofs.Driven.{vouched}
-use Rattle.nvm_top.proofs.PlayLines.{attach-print, run-ends, run-print}
-use Rattle.nvm_top.proofs.Promised.{early_in, ran_in, ran_to, run_end}
-use Rattle.nvm_top.proofs.Soaks.{left_sum, ran_sum}
+use Rattle.nvm_top.proofs.Promised.{early_in, ran_in, ran_late, stopped_late}
 use Rattle.nvm_top.proofs.play.play_steps.Goals as goal
 
 pub returns-in-Ok-clause-promise : goal.returns-in-Ok-clause-promise
@@ -22,45 +20,18 @@ returns-in-Ok-clause-promise g c input =
     let made = c.in-Ok.ensures.made in
     let device = c.into_device-device.result in
     let v = vouched c.args.playable.config (g.F.Flash.told c.args.flash) _ g.O.Origin.making g.O.Origin.entry (g.F.Flash.told c.back-flash.result.flash) s device (c.into_device-device.ensures ∙ ap (λ x. x.device) c.into_stack.ensures) (halves_make_the_promise (told_clock device)) c.requires.origin (made.configuration ∙ made.started.configuration) (made.most ∙ made.started.most) (c.back-flash.ensures c.args.playable.config (one_flash (g.F.Flash.told c.args.flash)) _ c.requires.origin) in
-    ran_in c.args.text (IsKept s.ready (one_part (part_at g.O.Origin.entry)) s.desk s.hand (told_of s.device) (told_clock s.device)) (payer_by told_of told_clock made.first) (payer_by told_of told_clock s) c.args.playable.config _ c.args.playable.steps (part_at g.O.Origin.entry) (told_by told_of made.first) (told_by told_of s)
+    inl (ran_in c.args.text (IsKept s.ready (one_part (part_at g.O.Origin.entry)) s.desk s.hand (told_of s.device) (told_clock s.device)) (payer_by told_of told_clock made.first) (payer_by told_of told_clock s) c.args.playable.config _ c.args.playable.steps (part_at g.O.Origin.entry) (told_by told_of made.first) (told_by told_of s)
     (g.F.Flash.told c.args.flash) (g.F.Flash.told c.back-flash.result.flash) c.write_text-status.result _ _ input c.in-Ok.field-0.end c.stop_of.result c.history.result.now.entries made.started
     made.all made.some made.configuration made.keeps made.owes v c.stop_of.ensures
-    (c.history.ensures.entries ∙ ap (λ x. x.desk.entries) c.stack.ensures) c.write_text-status.ensures.text
-
-pub returns-in-Ok-clause-print : goal.returns-in-Ok-clause-print
-returns-in-Ok-clause-print g c is =
-    let s = c.in-Ok.field-0.stack in
-    let made = c.in-Ok.ensures.made in
-    let device = c.into_device-device.result in
-    let v = vouched c.args.playable.config (g.F.Flash.told c.args.flash) _ g.O.Origin.making g.O.Origin.entry (g.F.Flash.told c.back-flash.result.flash) s device (c.into_device-device.ensures ∙ ap (λ x. x.device) c.into_stack.ensures) (halves_make_the_promise (told_clock device)) c.requires.origin (made.configuration ∙ made.started.configuration) (made.most ∙ made.started.most) (c.back-flash.ensures c.args.playable.config (one_flash (g.F.Flash.told c.args.flash)) _ c.requires.origin) in
-    run-print _ (g.F.Flash.told c.args.flash) (g.F.Flash.told c.back-flash.result.flash) _ _ c.stop_of.result c.write_text-status.result c.in-Ok.ensures.size
-    (run_end _ _ _ _ c.args.playable.config _ c.args.playable.steps (part_at g.O.Origin.entry) (told_by told_of made.first) (told_by told_of s) (g.F.Flash.told c.args.flash) (g.F.Flash.told c.back-flash.result.flash) c.in-Ok.field-0.end c.stop_of.result made.started made.some v c.stop_of.ensures) (c.write_text-status.ensures.print is)
-
-pub returns-in-Ok-clause-end : goal.returns-in-Ok-clause-end
-returns-in-Ok-clause-end g c =
-    let s = c.in-Ok.field-0.stack in
-    let made = c.in-Ok.ensures.made in
-    let device = c.into_device-device.result in
-    let v = vouched c.args.playable.config (g.F.Flash.told c.args.flash) _ g.O.Origin.making g.O.Origin.entry (g.F.Flash.told c.back-flash.result.flash) s device (c.into_device-device.ensures ∙ ap (λ x. x.device) c.into_stack.ensures) (halves_make_the_promise (told_clock device)) c.requires.origin (made.configuration ∙ made.started.configuration) (made.most ∙ made.started.most) (c.back-flash.ensures c.args.playable.config (one_flash (g.F.Flash.told c.args.flash)) _ c.requires.origin) in
-    run-ends _ _ _ c.write_text-status.result
-    (ran_to _ _ _ _ c.args.playable.config _ c.args.playable.steps (part_at g.O.Origin.entry) (told_by told_of made.first) (told_by told_of s) (g.F.Flash.told c.args.flash) (g.F.Flash.told c.back-flash.result.flash) c.write_text-status.result (g.K.Sink.written c.args.output.now) (g.K.Sink.written c.write_text-status.new.output) (text_in c.args.text c.history.result.now.entries) (line_written c.args.text c.stop_of.result c.history.result.now.entries) c.in-Ok.field-0.end c.stop_of.result
-    made.started made.some v c.stop_of.ensures c.write_text-status.ensures.text)
-
-pub returns-in-Ok-clause-sum : goal.returns-in-Ok-clause-sum
-returns-in-Ok-clause-sum g c is =
-    let s = c.in-Ok.field-0.stack in
-    let made = c.in-Ok.ensures.made in
-    let device = c.into_device-device.result in
-    let v = vouched c.args.playable.config (g.F.Flash.told c.args.flash) _ g.O.Origin.making g.O.Origin.entry (g.F.Flash.told c.back-flash.result.flash) s device (c.into_device-device.ensures ∙ ap (λ x. x.device) c.into_stack.ensures) (halves_make_the_promise (told_clock device)) c.requires.origin (made.configuration ∙ made.started.configuration) (made.most ∙ made.started.most) (c.back-flash.ensures c.args.playable.config (one_flash (g.F.Flash.told c.args.flash)) _ c.requires.origin) in
-    ran_sum _ (g.F.Flash.told c.args.flash) (g.F.Flash.told c.back-flash.result.flash) _ _ c.stop_of.result c.history.result.now.entries c.write_text-status.result c.in-Ok.ensures.size
-    (run_end _ _ _ _ c.args.playable.config _ c.args.playable.steps (part_at g.O.Origin.entry) (told_by told_of made.first) (told_by told_of s) (g.F.Flash.told c.args.flash) (g.F.Flash.told c.back-flash.result.flash) c.in-Ok.field-0.end c.stop_of.result made.started made.some v c.stop_of.ensures) (c.write_text-status.ensures.sum is)
-
-pub returns-in-Err-clause-print : goal.returns-in-Err-clause-print
-returns-in-Err-clause-print g c is = attach-print _ (g.F.Flash.told c.args.flash) (g.F.Flash.told c.in-Err.field-0-1.flash) _ _ c.in-Err.stop _ c.in-Err.ensures.stopped.why c.in-Err.ensures.stopped.end c.report.ensures.line
-
-pub returns-in-Err-clause-sum : goal.returns-in-Err-clause-sum
-returns-in-Err-clause-sum g c is = left_sum _ (g.F.Flash.told c.args.flash) (g.F.Flash.told c.in-Err.field-0-1.flash) _ _ c.in-Err.stop _ c.in-Err.ensures.stopped.why c.in-Err.ensures.stopped.end c.report.ensures.line
+    (c.history.ensures.entries ∙ ap (λ x. x.desk.entries) c.stack.ensures) c.in-Ok.ensures.size c.write_text-status.ensures.text)
 
 pub returns-in-Err-clause-promise : goal.returns-in-Err-clause-promise
 returns-in-Err-clause-promise g c input =
     early_in c.args.text c.args.playable.config c.args.playable.steps (g.F.Flash.told c.args.flash) (g.F.Flash.told c.in-Err.field-0-1.flash) c.in-Err.stop c.report.result _ _ input c.in-Err.ensures.stopped c.report.ensures.line
+
+pub returns-in-Ok-clause-late : goal.returns-in-Ok-clause-late
+returns-in-Ok-clause-late g c early =
+    ran_late c.in-Ok.field-0.end c.stop_of.result c.write_text-status.result (entries_in c.args.text c.history.result.now.entries) (line_written c.args.text c.stop_of.result c.history.result.now.entries) (g.K.Sink.written c.args.output.now) (g.K.Sink.written c.write_text-status.new.output) c.stop_of.ensures c.write_text-status.ensures.text early
+
+pub returns-in-Err-clause-late : goal.returns-in-Err-clause-late
+returns-in-Err-clause-late g c early = stopped_late _ _ c.in-Err.stop c.report.result c.in-Err.ensures.stopped.why c.report.ensures.status early
