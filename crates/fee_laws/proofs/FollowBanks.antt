@@ -1,6 +1,6 @@
 -- Banks whose pages stay.
 use Rattle.std.specs.Prelude.{IfSome, IsTrue, ◌||◌, ◌&&◌}
-use Rattle.std.proofs.Common.{◌≡◌, ◌⊎◌, inl, inr, ◌<◌, ◌≤◌, ◌++◌, ◌∷◌, ℕ, Bool, true, false, List, [], length, Option, Some, None, refl, sym, ap, ◌∙◌, subst, arith}
+use Rattle.std.proofs.Common.{◌≡◌, ◌<◌, ◌≤◌, ◌++◌, ◌∷◌, ℕ, Bool, true, false, List, [], length, Option, Some, None, refl, sym, ap, ◌∙◌, subst, arith}
 use Rattle.std.proofs.lemmas.Bool.{cond_both}
 use Rattle.nv_base.specs.Geometry.{pages_of_bank}
 use Rattle.nv_base.specs.declared.geometry.Geometry.{Geometry}
@@ -18,18 +18,13 @@ use Rattle.fee_course.specs.declared.course.Course.{Course}
 use Rattle.fee_course.specs.declared.course.Course.TheVariants.{Erase, Copy, Head, Gate}
 use Rattle.fee_switch.specs.Banks.{BanksState, IsBanksState, IsLogOf, appended_at}
 use Rattle.fee_switch_laws.specs.Shown.{layout_in}
-use Rattle.promise_device.specs.Bridge.{has_failed, is_failed, is_program}
-use Rattle.promise_device.specs.Room.{failed_from}
+use Rattle.promise_device.specs.Bridge.{is_failed, is_program, failed_from}
 use Rattle.fee_laws.specs.Inside.{body_of}
 use Rattle.fee_laws.specs.Follows.{anything, FollowsLog, StandsFirst, FollowsCopies, FollowsTarget, FollowsBanks}
 use Rattle.fee_image.proofs.Frames.{SamePages}
 use Rattle.fee_laws.proofs.FollowStates.{SameBody, state_moves}
 
 -- OPERATIONS
-or_left : (a b : Bool) → IsTrue a → IsTrue (a || b)
-or_left true b is = refl
-or_left false b is = cc is
-
 or_right : (a b : Bool) → IsTrue b → IsTrue (a || b)
 or_right true b is = refl
 or_right false b is = is
@@ -42,19 +37,6 @@ and_both false b is holds = cc is
 pub failed_last : (before : Bool) (xs : List Change) (x : Change) → is_program x.op ≡ true → x.answer ≡ Failed → IsTrue (failed_from before (xs ++ x ∷ []))
 failed_last before [] x program is = and_both (is_program x.op) (before || is_failed x.answer) program (or_right before (is_failed x.answer) (ap is_failed is))
 failed_last before (y ∷ ys) x program is = failed_last (is_program y.op && (before || is_failed y.answer)) ys x program is
-
--- only an operation that failed may have
-or_by : (before now program : Bool) → program && (before || now) ≡ true → (before ≡ true) ⊎ (now ≡ true)
-or_by true now program is = inl refl
-or_by false now true is = inr is
-or_by false now false is = cc is
-
-pub failed_once : (before : Bool) (xs : List Change) → IsTrue (failed_from before xs) → (before ≡ true) ⊎ IsTrue (has_failed xs)
-failed_once before [] is = inl is
-failed_once before (x ∷ xs) is = elim (failed_once (is_program x.op && (before || is_failed x.answer)) xs is) [
-  | inl now ↦ elim (or_by before (is_failed x.answer) (is_program x.op) now) [ inl was ↦ inl was | inr failed ↦ inr (or_left (is_failed x.answer) (has_failed xs) failed) ]
-  | inr failed ↦ inr (or_right (is_failed x.answer) (has_failed xs) failed)
-]
 
 -- THE PAGES OF A LOG'S BANK
 module _ (g : Geometry) (banks : ℕ) (log : LogState) (of : IsLogOf g banks log) (old new : List ℕ) where

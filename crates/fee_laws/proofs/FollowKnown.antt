@@ -21,13 +21,11 @@ use Rattle.fee_course.specs.declared.course.Course.{Course}
 use Rattle.fee_switch_laws.specs.Shown.{layout_in}
 use Rattle.fee_switch_laws.specs.Space.{free_pages}
 use Rattle.promise_device.specs.Making.{Making, banks_of}
-use Rattle.promise_device.specs.Bridge.{has_failed}
-use Rattle.promise_device.specs.Room.{may_be_closed}
+use Rattle.promise_device.specs.Bridge.{may_be_closed}
 use Rattle.promise_device.specs.Image.{HasNoRoomFor}
 use Rattle.fee_laws.specs.Inside.{Parts, body_of, IsActiveOf}
 use Rattle.fee_laws.specs.Turn.{IsOn}
 use Rattle.fee_laws.specs.Worn.{KnowsRoom}
-use Rattle.fee_laws.proofs.FollowBanks.{failed_once}
 use Rattle.fee_laws.specs.Follows.{anything, FollowsLog, FollowsBanks, FollowsBytes}
 
 -- THE PAGES
@@ -95,16 +93,9 @@ module _ (m : Making) (entry : Told) (s : Parts) (listed : List (DeviceNumber ×
     pub free_is : free_pages s.banks ≡ free_in s.banks.log
     free_is = ap (λ (o : Option ActiveBank). if is_some o then free_in s.banks.log else 0) active
 
-    -- a program that failed is an operation that did
-    pub shut_at : s.banks.course ≡ None → is_closed s.banks.log.tail ≡ true → (let b = bank_in (banks_of m) a.head.format a.bank in IsClosed b bytes (end_of b bytes)) ⊎ IsTrue (has_failed s.operations)
-    shut_at none shut = elim (closed_at none shut) [
-      | inl is ↦ inl is
-      | inr failed ↦ elim (failed_once false s.operations failed) [ inl never ↦ cc never | inr once ↦ inr once ]
-    ]
-
-    room_at : s.banks.course ≡ None → work_in s.banks.log.tail ≡ None → (let b = bank_in (banks_of m) a.head.format a.bank in HasNoMore b bytes (free_pages s.banks)) ⊎ IsTrue (has_failed s.operations)
+    room_at : s.banks.course ≡ None → work_in s.banks.log.tail ≡ None → (let b = bank_in (banks_of m) a.head.format a.bank in HasNoMore b bytes (free_pages s.banks)) ⊎ IsTrue (may_be_closed s.operations)
     room_at none idle = elim (test (is_closed s.banks.log.tail)) [
-      | inl shut ↦ (elim (shut_at none shut) [ inl is ↦ inl (inl is) | inr failed ↦ inr failed ])
+      | inl shut ↦ (elim (closed_at none shut) [ inl is ↦ inl (inl is) | inr failed ↦ inr failed ])
       | inr wide ↦ inl (
           let held = follows_log.holds.holds in
           let none = no_more (bank_of s.banks.log) bytes anything (subst (λ (g : Geometry). 16 ≤ g.page) (sym on.banks.log.shape) on.banks.legal.page_low) s.banks.log.end body' s.banks.log.tail held.tail held.high idle wide in
@@ -114,12 +105,12 @@ module _ (m : Making) (entry : Told) (s : Parts) (listed : List (DeviceNumber ×
   pub shows_active : s.banks.course ≡ None → active_shown s.banks.active ≡ active_of (banks_of m) bytes
   shows_active shut = subst (λ (l : Layout). active_shown s.banks.active ≡ active_of l bytes) layout_is (subst (λ (c : Option Course). FollowsBanks s.banks c bytes) shut follows.banks)
 
-  room_by : s.banks.course ≡ None → (o : Option ActiveBank) → s.banks.active ≡ o → active_shown o ≡ active_of (banks_of m) bytes → work_in s.banks.log.tail ≡ None → IsSome o → HasNoRoomFor (free_pages s.banks + 1) m bytes ⊎ IsTrue (has_failed s.operations)
+  room_by : s.banks.course ≡ None → (o : Option ActiveBank) → s.banks.active ≡ o → active_shown o ≡ active_of (banks_of m) bytes → work_in s.banks.log.tail ≡ None → IsSome o → HasNoRoomFor (free_pages s.banks + 1) m bytes ⊎ IsTrue (may_be_closed s.operations)
   room_by shut None active shown idle some = cc some
   room_by shut (Some a) active shown idle some = elim (room_at a active shut idle) [ inl none ↦ inl (a.bank, a.head, sym shown, none) | inr failed ↦ inr failed ]
 
   pub knows : work_in s.banks.log.tail ≡ None → s.banks.course ≡ None → KnowsRoom m entry s bytes
   knows idle shut = record {
-    closed = λ a active is. shut_at a active shut is;
+    closed = λ a active is. closed_at a active shut is;
     unsound = λ untold. record { active = shows_active shut; room = room_by shut s.banks.active refl (shows_active shut) idle };
   }

@@ -30,7 +30,8 @@ use Rattle.fee_switch.specs.Active.{active_shown}
 use Rattle.fee_switch_laws.specs.Space.{free_pages, has_room}
 use Rattle.promise_device.specs.Making.{Making, banks_of}
 use Rattle.promise_device.specs.Image.{is_closed_bank}
-use Rattle.promise_device.specs.Room.{may_be_closed, mark_pages, job_pages, pages_needed, turns_with_room, free_in_bank, TellsRoom, TellsRoomOf, TellsWork}
+use Rattle.promise_device.specs.Bridge.{may_be_closed}
+use Rattle.promise_device.specs.Room.{mark_pages, job_pages, pages_needed, turns_with_room, free_in_bank, TellsRoom, TellsRoomOf, TellsWork}
 use Rattle.promise_device.proofs.Readings.{closed_banks_compute}
 use Rattle.fee_told.specs.Device.{told_of}
 use Rattle.fee_told.specs.Figures.{Work, ready_of, left_of, turns_of, turns_owed}

@@ -13,7 +13,7 @@ use Rattle.fee_log.specs.Log.{work_in, is_closed, free_behind, free_in, pages_in
 use Rattle.fee_switch_laws.specs.Shown.{old_shown}
 use Rattle.fee_switch_laws.specs.Space.{free_pages}
 use Rattle.promise_device.specs.Making.{Making, banks_of}
-use Rattle.promise_device.specs.Bridge.{has_failed}
+use Rattle.promise_device.specs.Bridge.{may_be_closed}
 use Rattle.promise_device.specs.Image.{HasNoRoomFor}
 use Rattle.fee_told.specs.Slots.{banks_with, may_told}
 use Rattle.fee_told.specs.SlotLaws.{IsHeld}
@@ -63,7 +63,7 @@ module _ (m : Making) (entry : Told) (s : Parts) (listed : List (DeviceNumber ×
       let low = (shape m entry s listed kept count on).page_low in
       no_more (bank_in l a.head.format a.bank) bytes (may_told l m.numbers bytes (memory_of s)) low s.banks.log.end body s.banks.log.tail log.tail log.high idle wide
 
-  shows_by : ShowsClosed m s bytes → (o : Option ActiveBank) → s.banks.active ≡ o → IsSome o → HasNoRoomFor (free_pages s.banks + 1) m bytes ⊎ IsTrue (has_failed s.operations)
+  shows_by : ShowsClosed m s bytes → (o : Option ActiveBank) → s.banks.active ≡ o → IsSome o → HasNoRoomFor (free_pages s.banks + 1) m bytes ⊎ IsTrue (may_be_closed s.operations)
   shows_by closed None none some = cc some
   shows_by closed (Some a) some' some = elim (test (is_closed s.banks.log.tail)) [
     | inl shut' ↦ (elim (closed a some' shut') [

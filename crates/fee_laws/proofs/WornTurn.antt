@@ -26,7 +26,7 @@ use Rattle.fee_course.specs.declared.course.Course.{Course}
 use Rattle.fee_switch.specs.Banks.{is_worn_out}
 use Rattle.fee_switch_laws.specs.Space.{free_pages}
 use Rattle.promise_device.specs.Making.{Making, banks_of}
-use Rattle.promise_device.specs.Bridge.{has_failed, is_program, wanted_pages}
+use Rattle.promise_device.specs.Bridge.{may_be_closed, is_program, wanted_pages}
 use Rattle.promise_device.specs.Image.{HasNoRoomFor, has_no_room_for, IsOfLastGeneration, is_of_last_generation}
 use Rattle.promise_device.proofs.Readings.{last_generations_compute, full_banks_compute}
 use Rattle.fee_told.specs.Slots.{HasJob}
@@ -167,7 +167,7 @@ module _ (m : Making) (entry : Told) (s : Parts) (listed : List (DeviceNumber ×
       let same = wanted_is in
       omega (arith, less, fits, same)
 
-  room_at : (bytes : List ℕ) → bytes_now s.fls.flash ≡ Some bytes → IsTrue (has_no_room_for (wanted_pages m j.number.0) m bytes) ⊎ IsTrue (has_failed s.operations)
+  room_at : (bytes : List ℕ) → bytes_now s.fls.flash ≡ Some bytes → IsTrue (has_no_room_for (wanted_pages m j.number.0) m bytes) ⊎ IsTrue (may_be_closed s.operations)
   room_at bytes at =
       let shows = shows_at bytes at in
       let last = last_at bytes at in
@@ -176,9 +176,9 @@ module _ (m : Making) (entry : Told) (s : Parts) (listed : List (DeviceNumber ×
         | inr failed ↦ inr failed
       ]
 
-  room_now : IfSome (bytes_now s.fls.flash) (λ (x : List ℕ). IsTrue (has_no_room_for (wanted_pages m j.number.0) m x)) ⊎ IsTrue (has_failed s.operations)
-  room_now = told_or s.fls.flash.bytes (λ (x : List ℕ). IsTrue (has_no_room_for (wanted_pages m j.number.0) m x)) (IsTrue (has_failed s.operations))
-      (each_now s.fls.flash.bytes (λ (x : List ℕ). IsTrue (has_no_room_for (wanted_pages m j.number.0) m x) ⊎ IsTrue (has_failed s.operations)) room_at)
+  room_now : IfSome (bytes_now s.fls.flash) (λ (x : List ℕ). IsTrue (has_no_room_for (wanted_pages m j.number.0) m x)) ⊎ IsTrue (may_be_closed s.operations)
+  room_now = told_or s.fls.flash.bytes (λ (x : List ℕ). IsTrue (has_no_room_for (wanted_pages m j.number.0) m x)) (IsTrue (may_be_closed s.operations))
+      (each_now s.fls.flash.bytes (λ (x : List ℕ). IsTrue (has_no_room_for (wanted_pages m j.number.0) m x) ⊎ IsTrue (may_be_closed s.operations)) room_at)
 
   is_worn : (clock_of e).worn (asked_ops (flash_device e)) j.number.0
   is_worn = worn_now (flash_device e) since j.number.0 refl few_now room_now

@@ -15,7 +15,8 @@ use Rattle.fee_course.specs.declared.course.Course.TheVariants.{Copy}
 use Rattle.fee_switch.specs.Banks.{BanksState, IsBanksState, FindsActive, LoadsActive, reads_next, after_answer}
 use Rattle.fee_switch_laws.specs.Shown.{layout_in}
 use Rattle.promise_device.specs.Making.{Making}
-use Rattle.promise_device.specs.Room.{may_be_closed, TellsWork}
+use Rattle.promise_device.specs.Bridge.{may_be_closed}
+use Rattle.promise_device.specs.Room.{TellsWork}
 use Rattle.fee_told.specs.Device.{told_of}
 use Rattle.fee_laws.specs.declared.job.FeeJob.{FeeJob}
 use Rattle.fee_laws.specs.Inside.{Parts, device_of}

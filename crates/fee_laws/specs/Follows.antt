@@ -17,7 +17,7 @@ use Rattle.fee_course.specs.declared.course.Course.{Course}
 use Rattle.fee_course.specs.declared.course.Course.TheVariants.{Erase, Copy, Head, Gate}
 use Rattle.fee_switch.specs.Banks.{BanksState, next_generation}
 use Rattle.fee_switch_laws.specs.Shown.{layout_in}
-use Rattle.promise_device.specs.Room.{may_be_closed}
+use Rattle.promise_device.specs.Bridge.{may_be_closed}
 use Rattle.fee_laws.specs.Inside.{Parts, body_of}
 
 -- any mark may be found

@@ -13,7 +13,7 @@ use Rattle.fee_switch.specs.Active.{active_shown}
 use Rattle.fee_switch.specs.Banks.{is_worn_out}
 use Rattle.fee_switch_laws.specs.Space.{free_pages}
 use Rattle.promise_device.specs.Making.{Making, banks_of}
-use Rattle.promise_device.specs.Bridge.{has_failed}
+use Rattle.promise_device.specs.Bridge.{may_be_closed}
 use Rattle.promise_device.specs.Image.{HasNoRoomFor}
 use Rattle.fee_told.specs.Device.{tells}
 use Rattle.fee_laws.specs.declared.job.FeeJob.{FeeJob}
@@ -21,17 +21,17 @@ use Rattle.fee_laws.specs.Inside.{Parts, device_of}
 use Rattle.fee_laws.specs.Work.{fits_in}
 use Rattle.fee_laws.specs.Turn.{IsOn, ended_as, Turned}
 
--- the active bank is the one that these bytes show, and it has no more pages free in them than in memory, or an operation
--- failed before
+-- the active bank is the one that these bytes show, and it has no more pages free in them than in memory, or a program
+-- failed since the last erase
 pub record ShowsRoom (m : Making) (s : Parts) (bytes : List ℕ) : Type 0 where
   pub active : active_shown s.banks.active ≡ active_of (banks_of m) bytes
-  pub room : IsSome s.banks.active → HasNoRoomFor (free_pages s.banks + 1) m bytes ⊎ IsTrue (has_failed s.operations)
+  pub room : IsSome s.banks.active → HasNoRoomFor (free_pages s.banks + 1) m bytes ⊎ IsTrue (may_be_closed s.operations)
 
--- where its log is closed, the bank is closed in the bytes, or an operation failed before
+-- where its log is closed, the bank is closed in the bytes, or a program failed since the last erase
 abbrev pub ShowsClosed : Making → Parts → List ℕ → Type 0
 ShowsClosed m s bytes =
     (a : ActiveBank) → s.banks.active ≡ Some a → is_closed s.banks.log.tail ≡ true
-    → (let b = bank_in (banks_of m) a.head.format a.bank in IsClosed b bytes (end_of b bytes)) ⊎ IsTrue (has_failed s.operations)
+    → (let b = bank_in (banks_of m) a.head.format a.bank in IsClosed b bytes (end_of b bytes)) ⊎ IsTrue (may_be_closed s.operations)
 
 -- What is known of the bytes beside the invariant, where they are told: why a log is closed, and where they weren't sound
 -- when the device was made, which bank is active and what room it has.

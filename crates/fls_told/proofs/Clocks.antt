@@ -12,7 +12,7 @@ use Rattle.fls_model.specs.declared.flash.FlashAnswer.{FlashAnswer}
 use Rattle.fls_model.specs.Op.{Op, MayLeave}
 use Rattle.fls_model.specs.Step.{IsChanged}
 use Rattle.fls_model.specs.Told.{ToldBytes, Change, IfBothTold, bytes_now}
-use Rattle.promise_device.specs.Bridge.{has_failed}
+use Rattle.promise_device.specs.Bridge.{may_be_closed}
 use Rattle.promise_device.specs.FlashRun.{TellsBytes, HasFailed, bytes_after}
 use Rattle.promise_device.specs.Reading.{Reading}
 use Rattle.fls_told.specs.Device.{FlashDevice, flash_run, is_told_sound, tells_held, slot_with, slots_now, flash_told}
@@ -143,7 +143,7 @@ module _ (d t : FlashDevice) (none : MakesNone d t) where
     from = w.from;
     full = λ told small. elim (w.full (tells_back told) small) [
       | inl room ↦ inl (subst (λ (o : Option (List ℕ)). IfSome o (λ image. IsTrue (d.reading.is_full n image))) (bytes_same k) (room_back k n room))
-      | inr failed ↦ inr (subst (λ (l : List Change). IsTrue (has_failed (take k l))) none.operations failed)
+      | inr failed ↦ inr (subst (λ (l : List Change). IsTrue (may_be_closed (take k l))) none.operations failed)
     ];
   }
 
@@ -196,7 +196,7 @@ worn_now d since n is from full = record {
   full = λ told small. elim full [
     | inl room ↦ inl (subst (λ (o : Option (List ℕ)). IfSome o (λ image. IsTrue (d.reading.is_full n image)))
         (sym (bytes_at_end d) ∙ ap (bytes_after (flash_run d)) (let at : length d.operations ≡ min (length d.operations) last_count = omega (arith, small) in at)) room)
-    | inr failed ↦ inr (subst (λ (l : List Change). IsTrue (has_failed l)) (sym (take_all (min (length d.operations) last_count) d.operations (omega (arith, small)))) failed)
+    | inr failed ↦ inr (subst (λ (l : List Change). IsTrue (may_be_closed l)) (sym (take_all (min (length d.operations) last_count) d.operations (omega (arith, small)))) failed)
   ];
 }
 
@@ -285,7 +285,7 @@ module _ (op : Op) (answer : FlashAnswer) (d t : FlashDevice) (alike : ToldAlike
         elim (w.full d_tells small) [
           | inl room ↦ inl (subst (λ (reading : Reading). IfSome (bytes_after (flash_run t) k) (λ image. IsTrue (reading.is_full n image))) (sym makes.reading)
               (subst (λ (o : Option (List ℕ)). IfSome o (λ image. IsTrue (d.reading.is_full n image))) (sym (after_same k b.bytes b.is (omega arith))) room))
-          | inr failed ↦ inr (subst (λ (l : List Change). IsTrue (has_failed l)) (sym (ap (take k) makes.operations ∙ take-append-le k d.operations (change ∷ []) (omega arith))) failed)
+          | inr failed ↦ inr (subst (λ (l : List Change). IsTrue (may_be_closed l)) (sym (ap (take k) makes.operations ∙ take-append-le k d.operations (change ∷ []) (omega arith))) failed)
         ];
   }
 

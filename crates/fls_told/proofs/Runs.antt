@@ -9,6 +9,7 @@ use Rattle.promise_device.specs.Bridge.{is_failed, IsWornBy}
 use Rattle.promise_device.specs.FlashRun.{TellsBytes, TellsOperations, HasRoom, AreSeen, bytes_after}
 use Rattle.promise_device.specs.Reading.{BeginsSound}
 use Rattle.promise_device.proofs.FlashRun.{seen_all}
+use Rattle.promise_device.proofs.Closings.{closings_failed}
 use Rattle.fls_told.specs.Device.{FlashDevice, flash_run, is_told_sound, tells_held}
 use Rattle.fls_told.specs.Clock.{IsWornFor}
 use Rattle.fls_told.specs.Runs.{HasRun, RunsBridge}
@@ -71,7 +72,7 @@ worn_out d k n has w =
     record {
       last = since.last;
       follow = λ small. all_drop (λ (x : Change). d.reading.may_follow n x.op) w.since k d.operations w.from (since.follow (omega (arith, w.from)));
-      full = λ told small. elim (w.full told small) [ inl room ↦ inl room | inr failed ↦ inr (has.failed (any_front (λ (x : Change). is_failed x.answer) k d.operations failed), failed) ];
+      full = λ told small. elim (w.full told small) [ inl room ↦ inl room | inr closed ↦ inr (has.failed (any_front (λ (x : Change). is_failed x.answer) k d.operations (closings_failed (take k d.operations) closed)), closed) ];
     }
 
 pub runs_bridge : RunsBridge

@@ -11,7 +11,7 @@ use Rattle.fls_model.specs.declared.flash.FlashAnswer.TheVariants.{Done, Failed,
 use Rattle.fls_model.specs.Op.{Op, MayLeave}
 use Rattle.fls_model.specs.Step.{IsAsked}
 use Rattle.fls_model.specs.Told.{Told, Change, IfBothTold, bytes_now}
-use Rattle.promise_device.specs.Bridge.{has_failed}
+use Rattle.promise_device.specs.Bridge.{may_be_closed}
 use Rattle.promise_device.specs.FlashRun.{TellsBytes, IsCutImage, HasFailed, bytes_after}
 use Rattle.fls_told.specs.Device.{FlashDevice, flash_run, tells_held, slot_with, asked_ops, flash_told}
 
@@ -45,13 +45,13 @@ may_find_of d (CutIn k) m = FindsInCut d k m
 abbrev pub off_in_of : FlashDevice → ℕ → Type 0
 off_in_of d k = (last_count ≤ k) ⊎ ((x : Change) × (slice_get d.operations k ≡ Some x) × (x.answer ≡ Off))
 
--- since it is worn out for a number: the image was so by then, or an operation failed before
+-- since it is worn out for a number: the image was so by then, or a program failed since the last erase
 pub record IsWornFor (d : FlashDevice) (k n : ℕ) : Type 0 where
   pub since : ℕ
   pub is : d.worn n ≡ Some since
   pub from : since ≤ k
   pub full : TellsBytes (flash_run d) → k < last_count
-      → IfSome (bytes_after (flash_run d) k) (λ image. IsTrue (d.reading.is_full n image)) ⊎ IsTrue (has_failed (take k d.operations))
+      → IfSome (bytes_after (flash_run d) k) (λ image. IsTrue (d.reading.is_full n image)) ⊎ IsTrue (may_be_closed (take k d.operations))
 
 abbrev pub flash_clock : FlashDevice → Clock
 flash_clock d = record { may_find = may_find_of d; off_in = off_in_of d; failed = HasFailed (flash_run d); worn = IsWornFor d; of_second = λ k. ⊥ }
@@ -73,11 +73,11 @@ ClocksPass =
     (answer : DeviceTurn) (d t : FlashDevice) → MakesNone d t → ((n : ℕ) → (t.worn n ≡ d.worn n) ⊎ (d.worn n ≡ None))
     → Ticks First answer (flash_told d) (flash_clock d) (flash_told t) (flash_clock t)
 
--- it is worn out now for a number of which the bytes are so, or where an operation failed
+-- it is worn out now for a number of which the bytes are so, or where a program failed since the last erase
 abbrev pub WornNow : Type 0
 WornNow =
     (d : FlashDevice) (since n : ℕ) → d.worn n ≡ Some since → since ≤ asked_ops d
-    → (IfSome (bytes_now d.flash) (λ image. IsTrue (d.reading.is_full n image)) ⊎ IsTrue (has_failed d.operations))
+    → (IfSome (bytes_now d.flash) (λ image. IsTrue (d.reading.is_full n image)) ⊎ IsTrue (may_be_closed d.operations))
     → (flash_clock d).worn (asked_ops d) n
 
 -- BY AN OPERATION

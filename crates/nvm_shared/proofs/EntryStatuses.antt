@@ -49,7 +49,7 @@ pending_code Canceled is = cc
 pending_code RedundancyFailed is = cc
 pending_code Restored is = cc
 
-own_at : (status block : ℕ) → block < off_word → gives_by (told_at status block) block ≡ Some status
+pub own_at : (status block : ℕ) → block < off_word → gives_by (told_at status block) block ≡ Some status
 own_at status block low = ap (λ (b : Bool). gives_by (told_if b status block) block) (lt-ltb block off_word low) ∙ same block status
 
 -- REQUESTS

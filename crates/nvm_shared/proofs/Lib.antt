@@ -15,3 +15,4 @@ mod EntryStatuses
 pub mod Words
 pub mod Numbering
 mod Power
+pub mod Posting

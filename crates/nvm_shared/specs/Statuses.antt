@@ -1,12 +1,14 @@
 -- What the words tell, against the machine's state.
-use Rattle.std.specs.Prelude.{◌≡◌, ◌≤◌, ◌<◌, ℕ, true, List, [], ◌∷◌, ◌++◌, length, Option, Some, None}
+use Rattle.std.specs.Prelude.{◌≡◌, ◌≤◌, ◌<◌, ◌==◌, ℕ, not, Bool, true, false, IsTrue, List, [], ◌∷◌, ◌++◌, length, Option, Some, None}
+use Rattle.std.specs.List.{list_all, list_any}
 use Rattle.nvm_core.specs.nv_base.Result.{code_of}
-use Rattle.nvm_core.specs.block_machine.Words.{ReqResult, Entry, Configuration}
+use Rattle.nvm_core.specs.block_machine.Words.{ReqResult, Request, Accepted, Entry, Ask, Post, Configuration}
 use Rattle.nvm_core.specs.block_machine.Blocks.{status_of}
 use Rattle.nvm_core.specs.block_machine.Legal.{IsLegal}
 use Rattle.nvm_core.specs.block_machine.Steps.{after}
 use Rattle.turn_gate.specs.Entries.{Gave}
-use Rattle.nvm_shared.specs.StatusWords.{gives, off_word}
+use Rattle.script_walks.specs.Walk.{is_at_rest}
+use Rattle.nvm_shared.specs.StatusWords.{gives, is_found, off_word, pending_block}
 
 -- a status stays, or it becomes the one that is given
 pub record IsTold (old new : ReqResult) (given : Option ℕ) : Type 0 where
@@ -32,3 +34,15 @@ WordsTellStatuses =
 -- and where the last that was given to the word of the power is 1, the power is off
 abbrev pub TheOffWordTells : Type 0
 TheOffWordTells = (c : Configuration) (cap : ℕ) (h : List Entry) (entry : ℕ) → IsLegal c cap h → Gave gives h off_word entry 1 → IsLast h off_word entry → (after c h).off ≡ true
+
+-- POSTS
+abbrev pub is_post_of : ℕ → Entry → Bool
+is_post_of id (Post block r given refused ops) = block == id
+is_post_of id e = false
+
+-- Where no start-up comes behind an accepted job, or request on all blocks, and nothing is pending at the end, it was posted.
+abbrev pub JobsHavePosts : Type 0
+JobsHavePosts =
+    (c : Configuration) (cap : ℕ) (h more : List Entry) (caller : ℕ) (r : Request) (id : ℕ) → IsLegal c cap (h ++ Ask caller r Accepted ∷ [] ++ more)
+    → IsTrue (list_all (λ e. not (is_found e)) more) → IsTrue (is_at_rest (after c (h ++ Ask caller r Accepted ∷ [] ++ more))) → pending_block r ≡ Some id
+    → id ≤ length c.blocks → id < off_word → IsTrue (list_any (is_post_of id) more)

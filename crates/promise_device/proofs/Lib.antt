@@ -1,2 +1,3 @@
 pub mod FlashRun
 pub mod Readings
+pub mod Closings

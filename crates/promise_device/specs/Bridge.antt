@@ -1,5 +1,5 @@
 -- From the words of a device to the bytes of its flash.
-use Rattle.std.specs.Prelude.{◌≡◌, ◌⊎◌, ◌<◌, ◌≤◌, ◌+◌, ℕ, min, Bool, true, false, IsTrue, List, length, take, drop, unwrap_or, IfSome}
+use Rattle.std.specs.Prelude.{◌≡◌, ◌⊎◌, ◌<◌, ◌≤◌, ◌+◌, ◌&&◌, ◌||◌, ℕ, min, Bool, true, false, IsTrue, List, [], ◌∷◌, length, take, drop, unwrap_or, IfSome}
 use Rattle.std.specs.List.{list_all, list_any}
 use Rattle.nv_base.specs.Count.{last_count, Rose, WereCounted}
 use Rattle.nv_base.specs.Pages.{record_pages_of}
@@ -27,25 +27,33 @@ is_failed answer = false
 abbrev pub has_failed : List Change → Bool
 has_failed operations = list_any (λ x. is_failed x.answer) operations
 
+-- a program failed since the last erase, with which a switch begins: it may have closed the active bank
+abbrev pub failed_from : Bool → List Change → Bool
+failed_from before [] = before
+failed_from before (x ∷ xs) = failed_from (is_program x.op && (before || is_failed x.answer)) xs
+
+abbrev pub may_be_closed : List Change → Bool
+may_be_closed operations = failed_from false operations
+
 -- the pages of a record of a number, and those that are kept beside it
 abbrev pub wanted_pages : Making → ℕ → ℕ
 wanted_pages m n = record_pages_of (unwrap_or (length_of m.numbers n) 0) m.geometry.page + m.reserve
 
 -- Once k operations were made a device is worn out for a number, which it stays: the active bank has the last generation,
--- at the end still, nothing is erased from then on, and a record has no room in the bytes, where they are told, or an
--- operation failed before, which closed the bank.
+-- at the end still, nothing is erased from then on, and a record has no room in the bytes, where they are told, or a
+-- program failed since the last erase, which closed the bank.
 pub record IsWornOut (m : Making) (f : FlashRun) (k n : ℕ) : Type 0 where
   pub last : IfSome (bytes_now f.exit) (IsOfLastGeneration m)
   pub no_erase : k < last_count → IsTrue (list_all (λ x. is_program x.op) (drop k f.operations))
   pub full : TellsBytes f → k < last_count → IfSome (bytes_after f k) (HasNoRoomFor (wanted_pages m n) m)
-      ⊎ (Rose f.entry.faults f.exit.faults × IsTrue (has_failed (take k f.operations)))
+      ⊎ (Rose f.entry.faults f.exit.faults × IsTrue (may_be_closed (take k f.operations)))
 
 -- The same of any device over a flash, by its reading.
 pub record IsWornBy (r : Reading) (f : FlashRun) (k n : ℕ) : Type 0 where
   pub last : IfSome (bytes_now f.exit) (λ image. IsTrue (r.is_last n image))
   pub follow : k < last_count → IsTrue (list_all (λ x. r.may_follow n x.op) (drop k f.operations))
   pub full : TellsBytes f → k < last_count → IfSome (bytes_after f k) (λ image. IsTrue (r.is_full n image))
-      ⊎ (Rose f.entry.faults f.exit.faults × IsTrue (has_failed (take k f.operations)))
+      ⊎ (Rose f.entry.faults f.exit.faults × IsTrue (may_be_closed (take k f.operations)))
 
 -- What a device over a flash tells is so: its part before the first start-up, it and its clock now. A `cutter` between
 -- them keeps an operation from the flash where the power goes off in it.

@@ -1,12 +1,13 @@
 -- What the reading of a device over banks computes is what is said of an image.
 use Rattle.std.specs.Prelude.{◌↔◌, ℕ, IsTrue, List}
+use Rattle.fls_model.specs.Told.{Change}
 use Rattle.fee_image.specs.Bank.{Bank}
 use Rattle.fee_image.specs.RecordList.{IsClosed}
 use Rattle.promise_device.specs.Making.{Making}
 use Rattle.promise_device.specs.Image.{IsSoundFlash, IsOfLastGeneration, is_of_last_generation, is_closed_bank, HasNoRoomFor, has_no_room_for}
 use Rattle.promise_device.specs.FlashRun.{FlashRun, StartsSound}
 use Rattle.promise_device.specs.Reading.{BeginsSound, AttachesSound}
-use Rattle.promise_device.specs.Bridge.{IsWornOut, IsWornBy, reading_of}
+use Rattle.promise_device.specs.Bridge.{has_failed, may_be_closed, IsWornOut, IsWornBy, reading_of}
 
 abbrev pub SoundFlashesCompute : Type 0
 SoundFlashesCompute = (m : Making) (image : List ℕ) → IsTrue ((reading_of m).is_sound image) ↔ IsSoundFlash m image
@@ -26,6 +27,10 @@ FullBanksCompute = (pages : ℕ) (m : Making) (image : List ℕ) → IsTrue (has
 -- so it is worn out by its reading where it is by these
 abbrev pub WornBanksCompute : Type 0
 WornBanksCompute = (m : Making) (f : FlashRun) (k n : ℕ) → IsWornBy (reading_of m) f k n → IsWornOut m f k n
+
+-- where a program failed since the last erase an operation did
+abbrev pub ClosingsFailed : Type 0
+ClosingsFailed = (operations : List Change) → IsTrue (may_be_closed operations) → IsTrue (has_failed operations)
 
 -- a flash of no bytes is attached as a blank one
 abbrev pub BanksAttachSound : Type 0

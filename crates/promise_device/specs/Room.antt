@@ -1,5 +1,5 @@
 -- What a device over banks tells of its room and of the turns that are left, by the bytes of its flash.
-use Rattle.std.specs.Prelude.{◌≡◌, ◌⊎◌, ◌≤◌, ◌+◌, ◌-◌, ◌&&◌, ◌||◌, ℕ, min, if◌then◌else◌, Bool, true, false, IsTrue, List, [], ◌∷◌, unwrap_or, Option, Some, None, IfSome}
+use Rattle.std.specs.Prelude.{◌≡◌, ◌⊎◌, ◌≤◌, ◌+◌, ◌-◌, ℕ, min, if◌then◌else◌, Bool, true, false, IsTrue, List, unwrap_or, Option, Some, None, IfSome}
 use Rattle.std.specs.Option.{option_map_or}
 use Rattle.nv_base.specs.Pages.{record_pages_of}
 use Rattle.nv_base.specs.declared.mark.Mark.{Mark}
@@ -13,7 +13,7 @@ use Rattle.fee_image.specs.Image.{bank_in, active_of}
 use Rattle.fee_image.specs.RecordList.{end_of, free_pages_of}
 use Rattle.promise_device.specs.Making.{Making, banks_of}
 use Rattle.promise_device.specs.Image.{is_closed_bank}
-use Rattle.promise_device.specs.Bridge.{is_program, is_failed}
+use Rattle.promise_device.specs.Bridge.{may_be_closed}
 
 -- THE OPEN JOB
 -- the pages of the record of a mark of a number
@@ -36,14 +36,6 @@ turns_with_room m (Open j) = option_map_or (mark_pages m j.number) j.mark 1
 turns_with_room m (Ended result given) = 0
 
 -- THE ACTIVE BANK
--- a program failed since the last erase, with which a switch begins: it may have closed the bank
-abbrev pub failed_from : Bool → List Change → Bool
-failed_from before [] = before
-failed_from before (x ∷ xs) = failed_from (is_program x.op && (before || is_failed x.answer)) xs
-
-abbrev pub may_be_closed : List Change → Bool
-may_be_closed operations = failed_from false operations
-
 -- the free pages of a bank: those behind its log's end, none where it is closed
 abbrev pub free_in_bank : Bank → List ℕ → ℕ
 free_in_bank b image = free_pages_of b.pages (end_of b image) (is_closed_bank b image (end_of b image))

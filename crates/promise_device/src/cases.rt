@@ -2,7 +2,7 @@
 ghost use Rattle.std.specs.Prelude.{◌≡◌, ℕ, [], ◌∷◌, true, false};
 ghost use Rattle.fls_model.specs.declared.flash.FlashAnswer.TheVariants.{Done, Failed};
 ghost use Rattle.promise_device.specs.FlashRun.{AreSeen, IsChain};
-ghost use Rattle.promise_device.specs.Room.{may_be_closed};
+ghost use Rattle.promise_device.specs.Bridge.{may_be_closed};
 ghost use Rattle.promise_device.specs.Cases.{blank, other, erase, answered, program, seen_there, never, second, Tells, roomy, torn, no_job, urgent_write, standard_write, failed_erase};
 
 /// An erase that the flash saw, and a program that a planned cut kept from it, whose bytes stay, or of which it saw a part. A

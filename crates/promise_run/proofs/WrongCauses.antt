@@ -8,17 +8,17 @@ use Rattle.block_machine.specs.State.{Job}
 use Rattle.block_machine.specs.Results.{own_of, failed_set}
 use Rattle.block_machine.specs.Steps.{after}
 use Rattle.block_machine.specs.StartUp.{at_first}
-use Rattle.promise_blocks.specs.Payment.{ArePaid, every_block}
+use Rattle.promise_blocks.specs.Payment.{Worn, ArePaid, every_block}
 use Rattle.fee_format.specs.declared.bank_head.BankHead.{BankHead}
 use Rattle.fee_image.specs.RecordList.{IsTailBlank, IsClosed, end_of}
 use Rattle.fee_image.specs.Image.{bank_in}
 use Rattle.promise_device.specs.Making.{banks_of}
 use Rattle.promise_device.specs.Image.{HasNoRoomFor}
-use Rattle.promise_device.specs.Bridge.{has_failed, IsWornOut}
+use Rattle.promise_device.specs.Bridge.{may_be_closed, IsWornOut}
 use Rattle.promise_run.specs.Run.{offs_of_flash}
 use Rattle.promise_run.specs.Promise.{FailuresArePaid, making_of}
 use Rattle.promise_run.proofs.WrongMarks.{only_zero}
-use Rattle.promise_run.specs.Cases.{small, tried_twice, image_of, taken, off_without_a_cut, worn_but_roomy, worn_and_full}
+use Rattle.promise_run.specs.Cases.{small, tried_twice, image_of, taken, off_without_a_cut, failed_behind, worn_but_roomy, worn_long_ago, worn_and_full}
 
 few_counted : (n m : ℕ) → m ≤ 1 → WereCounted n 0 m → n ≤ m
 few_counted n m few (inl is) = omega (arith, is)
@@ -70,7 +70,7 @@ instance_is j index hand has =
     let is : unwrap_or (after tried_twice taken).hand j ≡ j = ap (λ (o : Option Job). unwrap_or o j) hand in
     only_zero index (subst (λ (x : Job). Contains (unwrap_or (failed_set (own_of tried_twice (after tried_twice taken) 2) x (NotOk, None)) []) index) (sym is) has)
 
-none_failed : (moment : ℕ) → IsTrue (has_failed (take moment [])) → ⊥
+none_failed : (moment : ℕ) → IsTrue (may_be_closed (take moment [])) → ⊥
 none_failed zero failed = cc failed
 none_failed (suc n) failed = cc failed
 
@@ -83,15 +83,29 @@ not_worn moment index soon is worn =
       | inr (rose, failed) ↦ none_failed moment failed
     ]
 
-unpaid : (n : ℕ) → n ≤ 1 → ArePaid every_block tried_twice (IsWornOut (making_of tried_twice) worn_but_roomy.flash) n at_first worn_but_roomy.history → ⊥
-unpaid n is (inr (none, rest)) = none
-unpaid n is (inl (p0, inr (none, rest))) = none
-unpaid n is (inl (p0, inl (p1, inr (none, rest)))) = none
-unpaid n is (inl (p0, inl (p1, inl (p2, inl (p3, rest))))) = omega (arith, p3, is)
-unpaid n is (inl (p0, inl (p1, inl (p2, inr ((j, hand, some, was), rest))))) = not_worn was.moment was.index was.by_then (instance_is j was.index hand was.failed) was.is
+-- nor is it behind a program that failed before the last erase: at each moment an erase follows, or none failed since
+not_worn_by : (moment : ℕ) → moment ≤ 2 → IsWornOut (making_of tried_twice) worn_long_ago.flash moment 128 → ⊥
+not_worn_by zero soon worn = elim (worn.full (record { first = _; entry = refl; last = _; exit = refl }) (omega arith)) [ inl full ↦ has_room full | inr (rose, closed) ↦ cc closed ]
+not_worn_by (suc zero) soon worn = let none = worn.no_erase (omega arith) in cc none
+not_worn_by (suc (suc zero)) soon worn = elim (worn.full (record { first = _; entry = refl; last = _; exit = refl }) (omega arith)) [ inl full ↦ has_room full | inr (rose, closed) ↦ cc closed ]
+not_worn_by (suc (suc (suc n))) soon worn = absurd (omega (arith, soon))
+
+not_worn_long_ago : (moment index : ℕ) → moment ≤ 2 → index ≡ 0 → IsWornOut (making_of tried_twice) worn_long_ago.flash moment (number_of (record { block = 2; index = index })) → ⊥
+not_worn_long_ago moment index soon is worn = not_worn_by moment soon (subst (λ (i : ℕ). IsWornOut (making_of tried_twice) worn_long_ago.flash moment (number_of (record { block = 2; index = i }))) is worn)
+
+unpaid : (worn : Worn) (ops n : ℕ) → n ≤ 1 → ((moment index : ℕ) → moment ≤ ops → index ≡ 0 → worn moment (number_of (record { block = 2; index = index })) → ⊥)
+    → ArePaid every_block tried_twice worn n at_first (failed_behind [] ops []).history → ⊥
+unpaid worn ops n is never (inr (none, rest)) = none
+unpaid worn ops n is never (inl (p0, inr (none, rest))) = none
+unpaid worn ops n is never (inl (p0, inl (p1, inr (none, rest)))) = none
+unpaid worn ops n is never (inl (p0, inl (p1, inl (p2, inl (p3, rest))))) = omega (arith, p3, is)
+unpaid worn ops n is never (inl (p0, inl (p1, inl (p2, inr ((j, hand, some, was), rest))))) = never was.moment was.index was.by_then (instance_is j was.index hand was.failed) was.is
 
 pub no_worn_but_roomy : FailuresArePaid worn_but_roomy worn_but_roomy.beside → ⊥
-no_worn_but_roomy paid = unpaid paid.faults (few_counted paid.faults 1 (omega arith) paid.counted) paid.pay
+no_worn_but_roomy paid = unpaid _ 0 paid.faults (few_counted paid.faults 1 (omega arith) paid.counted) not_worn paid.pay
+
+pub no_worn_long_ago : FailuresArePaid worn_long_ago worn_long_ago.beside → ⊥
+no_worn_long_ago paid = unpaid _ 2 paid.faults (few_counted paid.faults 1 (omega arith) paid.counted) not_worn_long_ago paid.pay
 
 pub full_is_worn : FailuresArePaid worn_and_full worn_and_full.beside
 full_is_worn = record {

@@ -151,19 +151,32 @@ other_dataset =
     record (plays (asks_one ∷ (Turn 1, picks_one ∷ []) ∷ []) (unchanged [] (image_of 1 (record_of 129 one ++ replicate 64 255))))
     { configuration = with_block_2 (record (plain_block 4) { kind = Dataset; nv = 2 }) }
 
--- a write that is tried twice fails on this image, with one fault and none of an operation
+-- a write that is tried twice fails on this image behind these operations, which a fault of one of them is to pay
 abbrev pub tried_twice : Configuration
 tried_twice = with_block_2 (record (plain_block 4) { writes = 1 })
 
-abbrev pub failed_on : List ℕ → Run
-failed_on image =
+abbrev pub failed_behind : List Change → ℕ → List ℕ → Run
+failed_behind operations ops image =
     let flash = unchanged image image in
-    record (plays (asks_one ∷ (Drain, picks_one ∷ Post 2 NotOk None 0 0 ∷ []) ∷ []) (record flash { exit = record flash.exit { faults = 1 } }))
+    record (plays (asks_one ∷ (Drain, picks_one ∷ Post 2 NotOk None 0 ops ∷ []) ∷ []) (record flash { operations = operations; exit = record flash.exit { faults = 1 } }))
     { configuration = tried_twice }
+
+-- with one fault and none of an operation
+abbrev pub failed_on : List ℕ → Run
+failed_on = failed_behind [] 0
 
 -- the active bank has the last generation, and room for the record
 abbrev pub worn_but_roomy : Run
 worn_but_roomy = failed_on (image_of 4294967295 (replicate 128 255))
+
+-- and so it has where a program failed, but before the last erase
+abbrev pub before_the_erase : List Change
+before_the_erase =
+    let roomy = image_of 4294967295 (replicate 128 255) in
+    record { op = Program 32 (replicate 16 0); before = roomy; answer = Failed } ∷ record { op = Erase 160 160; before = roomy; answer = Done } ∷ []
+
+abbrev pub worn_long_ago : Run
+worn_long_ago = failed_behind before_the_erase 2 (image_of 4294967295 (replicate 128 255))
 
 -- it has the last generation, and records of other numbers in all of its pages
 abbrev pub worn_and_full : Run

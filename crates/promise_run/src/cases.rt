@@ -13,7 +13,7 @@ ghost use Rattle.script_walks.specs.Words.{AskStep, Restart};
 ghost use Rattle.block_machine.specs.Words.{Status};
 ghost use Rattle.promise_run.specs.Run.{FlashFault, HistoryFull};
 ghost use Rattle.promise_run.specs.Turns.{BeginsAt, EndsBy, HasTurns};
-ghost use Rattle.promise_run.specs.Cases.{six_turns, lazy, leaps, at_faults, faulty, PaysFailed, CountsFailed, HadRoomAt, LeftAt, mended, posts_on_credit, starts_on_credit, untold, BreaksBy, small, one, two, quiet, quiet_beside, wiped, empty_at_11, made_up_mark, off_without_a_cut, stale_in_play, invented_store, second_found, other_dataset, worn_but_roomy, worn_and_full, kept_write, lost_write, two_callers, written_at, always, turned, not_drained, ends_for_nothing, demo_run, demo_call, untold_write, unseen_stale, later_store, full_for_nothing, not_served};
+ghost use Rattle.promise_run.specs.Cases.{six_turns, lazy, leaps, at_faults, faulty, PaysFailed, CountsFailed, HadRoomAt, LeftAt, mended, posts_on_credit, starts_on_credit, untold, BreaksBy, small, one, two, quiet, quiet_beside, wiped, empty_at_11, made_up_mark, off_without_a_cut, stale_in_play, invented_store, second_found, other_dataset, worn_but_roomy, worn_and_full, kept_write, lost_write, two_callers, written_at, always, turned, not_drained, ends_for_nothing, demo_run, demo_call, untold_write, unseen_stale, later_store, full_for_nothing, not_served, worn_long_ago};
 
 /// A start-up alone keeps it, and so do a write that a cut breaks off with a restart behind it, and the requests of two
 /// callers.
@@ -66,10 +66,12 @@ pub fn wrong_marks_break_it()
 {}
 
 /// A power cut that nothing brought breaks it by its cuts, and a failure with a fault too few, over a bank of the last
-/// generation that has room, by its faults. Over one that has none the failure is paid.
+/// generation that has room, by its faults, also where a program failed before the last erase. Over one that has none the failure
+/// is paid.
 pub fn wrong_causes_break_it()
     ensures off_without_a_cut { BreaksBy off_without_a_cut (WereCounted 1 0 0) }
     ensures worn_but_roomy { BreaksBy worn_but_roomy (FailuresArePaid worn_but_roomy worn_but_roomy.beside) }
+    ensures worn_long_ago { BreaksBy worn_long_ago (FailuresArePaid worn_long_ago worn_long_ago.beside) }
     ensures worn_and_full { FailuresArePaid worn_and_full worn_and_full.beside }
 {}
 

@@ -18,7 +18,7 @@ use Rattle.block_machine.specs.Steps.{step, after}
 use Rattle.script_walks.specs.Walk.{TakesStore, copies_by, StoresGrow}
 use Rattle.script_walks.specs.Turn.{copies_next}
 use Rattle.script_walks.specs.Callers.{program_of, requests_of, asks_of, WaitedFor, KeepsAwait, KeepsAwaitBy, IsInOrder}
-use Rattle.script_walks.specs.Looks.{Look, AreInOrder, IsShown, CopyIsShown, CopiesAreShown}
+use Rattle.script_walks.specs.Looks.{Look, AreInOrder, StepsStayMade, IsShown, CopyIsShown, CopiesAreShown}
 use Rattle.script_walks.specs.Runs.{is_found, IsRun, IsNextAsk, RunsGrow}
 
 -- STORES
@@ -73,13 +73,25 @@ less_or_same (suc k) (suc n) less = elim (less_or_same k n (omega arith)) [ inl 
 
 -- WAITS
 
-longer : (c : Configuration) (caller block k : ℕ) (h : List Entry) (e : Entry) → WaitedFor c caller block k h → WaitedFor c caller block k (h ++ e ∷ [])
-longer c caller block k h e w = let l : length (h ++ e ∷ []) ≡ length h + 1 = length-append h (e ∷ []) in let m = w.within in record {
+longer_by : (c : Configuration) (caller block k : ℕ) (h more : List Entry) → WaitedFor c caller block k h → WaitedFor c caller block k (h ++ more)
+longer_by c caller block k h more w = let l : length (h ++ more) ≡ length h + length more = length-append h more in let m = w.within in record {
   entries = w.entries;
   some = w.some;
   within = omega (arith, l, m);
-  asked = rw (take_front w.entries h (e ∷ []) w.within) w.asked;
-  over = rw (take_front w.entries h (e ∷ []) w.within) w.over;
+  asked = rw (take_front w.entries h more w.within) w.asked;
+  over = rw (take_front w.entries h more w.within) w.over;
+}
+
+longer : (c : Configuration) (caller block k : ℕ) (h : List Entry) (e : Entry) → WaitedFor c caller block k h → WaitedFor c caller block k (h ++ e ∷ [])
+longer c caller block k h e w = longer_by c caller block k h (e ∷ []) w
+
+pub steps_stay_made : StepsStayMade
+steps_stay_made c caller done h more made = record {
+  requests =
+      let few = made.requests in
+      let l : length (asks_of caller (h ++ more)) ≡ length (asks_of caller h) + length (asks_of caller more) = ap (λ (rs : List Request). length rs) (asks_more caller h more) ∙ length-append (asks_of caller h) (asks_of caller more) in
+      omega (arith, few, l);
+  waits = λ n block x at kind. longer_by c caller block (length (requests_of c (take n done))) h more (made.waits n block x at kind);
 }
 
 keeps_by : (c : Configuration) (caller k : ℕ) (h : List Entry) (e : Entry) (kind : StepKind) → asks_of caller (h ++ e ∷ []) ≡ asks_of caller h → KeepsAwaitBy c caller k h kind → KeepsAwaitBy c caller k (h ++ e ∷ []) kind

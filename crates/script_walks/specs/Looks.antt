@@ -26,6 +26,10 @@ pub record CanBeMade (c : Configuration) (caller : ℕ) (done : List Step) (h : 
   pub requests : length (requests_of c done) ≤ length (asks_of caller h)
   pub waits : (n block : ℕ) (x : Step) → slice_get done n ≡ Some x → x.kind ≡ Await block → WaitedFor c caller block (length (requests_of c (take n done))) h
 
+-- it still can with more entries behind them
+abbrev pub StepsStayMade : Type 0
+StepsStayMade = (c : Configuration) (caller : ℕ) (done : List Step) (h more : List Entry) → CanBeMade c caller done h → CanBeMade c caller done (h ++ more)
+
 -- the store of a block with this number can have been made: its caller can have made the steps before it
 abbrev pub CanBeStored : Configuration → List Step → (id number : ℕ) → List Entry → Type 0
 CanBeStored c steps id number h =
