@@ -261,6 +261,7 @@ vouched c inner cuts making entry exit s e same halves origin config most back =
   failed = λ k few is.
       let all = own.ops in
       (few, own.failed k (omega (arith, few, all)) (subst (λ (x : Configuration). HasFailed (record { entry = inner; exit = exit; operations = back.operations }) k) config is));
+  more = back.more;
   faults = λ rose. counted_rose inner.faults exit.faults (own.faults 1 (once (told_of s.device).first.faults (told_by told_of s).faults refl rose)) back.more;
   counted = λ n counted. own.faults n (in_first (part_at entry).faults (told_of s.device).first.faults (told_by told_of s).faults n refl counted);
   cuts = λ n counted. own.cuts n (subst (λ (k : ℕ). WereCounted n (part_at entry).planning.unplanned k) one_part_cuts counted);

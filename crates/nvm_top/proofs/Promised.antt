@@ -25,11 +25,12 @@ use Rattle.nvm_script.specs.Script.{IsScript, later_lines}
 use Rattle.nvm_script.specs.declared.script.Mode.TheVariants as mode
 use Rattle.nvm_flash.specs.promise_run.JobTurns.{job_turns}
 use Rattle.nvm_top.specs.Ends.{HasPlayable, HasStepsOf, HasWrongLine}
+use Rattle.nvm_top.specs.Play.{IsRunEnd, IsStepsEnd, IsAttachStop, IsBeforeAttach, IsRightSize, IsSizeStop, PlayStopsBy, StopsBy}
+use Rattle.nvm_top.specs.Reading.{IsEarly, IsReadStop}
+use Rattle.nvm_flash.specs.promise_run.Turns.{Moment, moment_behind, BeginsAt, EndsBy, ArePaidSince, HasTurns, EachMove, ServesTurn, StaysAtRest, all_moves}
 use Rattle.nvm_top.specs.Input.{input_limit}
-use Rattle.nvm_top.specs.Play.{IsAttachStop, IsBeforeAttach, IsRightSize, IsSizeStop, PlayStopsBy, StopsBy}
-use Rattle.nvm_top.specs.Reading.{IsReadStop}
-use Rattle.nvm_flash.specs.promise_run.Turns.{Moment, moment_behind, BeginsAt, EndsBy, ArePaidSince, HasTurns, EachMove, ServesTurn, all_moves}
 use Rattle.nvm_flash.proofs.promise_run.Paid.{since_too}
+use Rattle.nvm_flash.proofs.promise_run.CalmPosts.{calm_posts}
 use Rattle.nvm_flash.proofs.promise_run.Counted.{all_behind, counted_by}
 use Rattle.nvm_flash.specs.promise_device.Bridge.{IsWornOut}
 use Rattle.script_player.specs.Paying.{Payer}
@@ -81,7 +82,7 @@ early_promise c steps entry exit stop end stops ends = record {
 }
 
 -- it failed by a fault of its own
-one_fault : (f : FlashRun) (end : End) → EndsAtStart f end → EndsBy (record { faults = 0; ops = 0 }) f end
+one_fault : (f : FlashRun) (end : End) → EndsAtStart f end → EndsBy (record { faults = 0; ops = 0; busy = false }) f end
 one_fault f FlashFault (inl rose) = inl (omega (arith, rose))
 one_fault f FlashFault (inr (full, more)) = inr (omega (arith, full, more))
 one_fault f Memory ends = tt
@@ -91,8 +92,8 @@ one_fault f HistoryFull ends = tt
 -- no step was made
 early_turns : (c : Configuration) (steps : List Step) (entry exit : Told) (end : End) → entry.faults ≤ exit.faults → EndsAtStart (record { entry = entry; exit = exit; operations = [] }) end → HasTurns (job_turns c) (run_of c [] entry exit [] (Played [] [] steps) end) (Played [] [] steps)
 early_turns c steps entry exit end more ends = record {
-  first = record { faults = 0; ops = 0 };
-  last = record { faults = 0; ops = 0 };
+  first = record { faults = 0; ops = 0; busy = false };
+  last = record { faults = 0; ops = 0; busy = false };
   moves = record { moves = []; are = tt; tell = refl; behind = refl };
   begins = tt;
   operations = refl;
@@ -100,6 +101,8 @@ early_turns c steps entry exit end more ends = record {
   counted = inl (omega (arith, more));
   ends = one_fault (record { entry = entry; exit = exit; operations = [] }) end ends;
   serves = tt;
+  rests = tt;
+  drains = λ calm. tt;
   paid = λ told sound. tt;
 }
 
@@ -263,7 +266,9 @@ has_run Kept p q c cuts all made left end before old t entry exit Tells started 
     size = λ _. subst (λ (x : Configuration). IsRightSize (size_of x.geometry) entry.bytes) (sym of) size;
     refusals = refusals;
     off = v.cuts (unpaid_offs None 0 made walked.pieces) off;
-    complete = walked_complete made left end before old t entry exit v.operations started walked same v.faults order;
+    complete = walked_complete made left end before old t entry exit v.operations started walked same v.faults order (λ calm told sound.
+        let promise = v.promise (keeps (well told sound)) made left walked.pieces end order refusals off in
+        calm_posts t.configuration cap (IsWornOut (making_of t.configuration) (record { entry = entry; exit = exit; operations = v.operations })) t.entries entry.faults exit.faults v.more calm.no_fault calm.entries promise.block_machine promise.faults);
     turns = record {
       first = moment_of old;
       last = walked.last;
@@ -274,6 +279,11 @@ has_run Kept p q c cuts all made left end before old t entry exit Tells started 
       counted = v.counted walked.last.faults (let none = started.none in let all = walked.counted in inl (omega (arith, none, all)));
       ends = own;
       serves = serves;
+      rests = rests;
+      drains = λ calm. walked.closes (record {
+        no_fault = λ rose. calm.no_fault (v.faults (Rose-after before.faults old.faults t.faults started.faults rose));
+        entries = calm.entries;
+      });
       paid = λ told sound. paid told sound;
     };
     promise = λ told sound. v.promise (keeps (well told sound)) made left walked.pieces end order refusals off;
@@ -301,6 +311,11 @@ has_run Kept p q c cuts all made left end before old t entry exit Tells started 
         (subst (λ (x : Configuration). EachMove x (ServesTurn x (job_turns x)) (after x old.entries) (all_moves walked.moves.moves)) (sym same)
         (subst (λ (x : Configuration). EachMove old.configuration (ServesTurn old.configuration (job_turns x)) (after old.configuration old.entries) (all_moves walked.moves.moves)) (sym started.configuration)
         (subst (λ (most : State → Job → ℕ). EachMove old.configuration (ServesTurn old.configuration most) (after old.configuration old.entries) (all_moves walked.moves.moves)) started.turns walked.serves)))
+
+    rests : StaysAtRest t.configuration (moment_of old) (after t.configuration (take 1 t.entries)) (all_moves walked.moves.moves)
+    rests =
+        subst (λ (h : List Entry). StaysAtRest t.configuration (moment_of old) (after t.configuration h) (all_moves walked.moves.moves)) (sym first)
+        (subst (λ (x : Configuration). StaysAtRest x (moment_of old) (after x old.entries) (all_moves walked.moves.moves)) (sym same) walked.rests)
 
     order : HasOrder (run_of t.configuration t.entries entry exit v.operations (Played made walked.pieces left) end) t.entries
     order = ordered made left end old t entry exit v.operations started.fresh walked same started.most leaves

@@ -76,6 +76,7 @@ pub record Vouches (Kept : Type 0) (p : Payer) (before : PartTold) (t : StackTol
   pub operations : List Change
   pub ops : t.ops ≡ min (length operations) last_count
   pub failed : (k : ℕ) → k < t.ops → HasFailed (record { entry = entry; exit = exit; operations = operations }) k → p.failed k
+  pub more : entry.faults ≤ exit.faults
   pub faults : Rose before.faults t.faults → Rose entry.faults exit.faults
   pub counted : (n : ℕ) → WereCounted n before.faults t.faults → WereCounted n entry.faults exit.faults
   pub cuts : (n : ℕ) → WereCounted n before.planning.unplanned t.causes.unplanned → WereCounted n entry.cuts exit.cuts

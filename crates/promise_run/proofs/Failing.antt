@@ -1,6 +1,6 @@
 -- Operations that failed, in their moves.
 use Rattle.std.specs.Prelude.{map, IfSome}
-use Rattle.std.proofs.Common.{◌≡◌, ◌⊎◌, ◌≤◌, ◌<◌, ◌+◌, ℕ, zero, suc, List, [], ◌∷◌, ◌++◌, Option, Some, None, if◌then◌else◌, refl, sym, ap, ◌∙◌, subst, inl, inr, arith, append-nil, append_assoc, rules}
+use Rattle.std.proofs.Common.{◌≡◌, ◌⊎◌, ◌≤◌, ◌<◌, ◌+◌, ℕ, zero, suc, false, List, [], ◌∷◌, ◌++◌, Option, Some, None, if◌then◌else◌, refl, sym, ap, ◌∙◌, subst, inl, inr, arith, append-nil, append_assoc, rules}
 use Rattle.std.proofs.lemmas.Bool.{cases_lt}
 use Rattle.block_machine.specs.nv_base.Count.{Rose, WereCounted}
 use Rattle.block_machine.specs.nv_base.Entry.{ops_of}
@@ -18,7 +18,7 @@ use Rattle.promise_run.specs.Promise.{making_of}
 use Rattle.promise_run.specs.Turns.{Moment, Move, entry_list, entries_of, moment_behind, moment_after, AreTurnsMade, AreMovesOf, AreMoves, CountsOwn, CountFailed, IsPaidSince, ArePaidSince, HasTurns, is_picked, all_moves}
 use Rattle.promise_run.specs.Cases.{small, one, blank, picks_one, always, CountsFailed, mended, posts_on_credit, starts_on_credit, untold}
 use Rattle.promise_run.proofs.Counted.{behind_more, all_behind}
-use Rattle.promise_run.proofs.OneByOne.{two_lists, asked_one, asks_step, at_ops}
+use Rattle.promise_run.proofs.OneByOne.{two_lists, asked_one, asks_step, at_ops, no_sweep, at_work}
 
 -- A FAULT THAT WAS COUNTED
 -- no move takes a fault back
@@ -130,7 +130,7 @@ not_on_credit has =
 -- A WRITE THAT A RETRY MENDS
 -- one fault, behind so many operations
 abbrev after_fault : ℕ → Moment
-after_fault n = record { faults = 1; ops = n }
+after_fault n = record { faults = 1; ops = n; busy = false }
 
 abbrev wrote_five : Entry
 wrote_five = Wrote (record { block = 2; index = 0 }) (Content one) 5
@@ -200,24 +200,26 @@ mended_kept = record {
   counted = inl (omega arith);
   ends = tt;
   serves = (
-    record { begins = λ no_ask no_found. absurd (cc no_ask); posts = λ is. absurd (cc is) },
+    record { begins = λ no_ask no_found. absurd (cc no_ask); posts = λ is. absurd (cc is); cancels = λ no_ask no_found. absurd (cc no_ask) },
     (
-      record { begins = λ no_ask no_found. refl; posts = λ is j hand. inr (inr (inl (inl (omega arith)))) },
+      record { begins = λ no_ask no_found. refl; posts = λ is j hand. inr (inr (inl (inl (omega arith)))); cancels = λ no_ask no_found sw is. absurd (no_sweep sw is) },
       (
-        record { begins = λ no_ask no_found. refl; posts = λ is. absurd (cc is) },
+        record { begins = λ no_ask no_found. refl; posts = λ is. absurd (cc is); cancels = λ no_ask no_found sw is. absurd (no_sweep sw is) },
         (
-          record { begins = λ no_ask no_found. refl; posts = λ is. absurd (cc is) },
+          record { begins = λ no_ask no_found. refl; posts = λ is. absurd (cc is); cancels = λ no_ask no_found sw is. absurd (no_sweep sw is) },
           (
-            record { begins = λ no_ask no_found. refl; posts = λ is. absurd (cc is) },
+            record { begins = λ no_ask no_found. refl; posts = λ is. absurd (cc is); cancels = λ no_ask no_found sw is. absurd (no_sweep sw is) },
             (
-              record { begins = λ no_ask no_found. refl; posts = λ is. absurd (cc is) },
-              (record { begins = λ no_ask no_found. refl; posts = λ is. absurd (cc is) }, (record { begins = λ no_ask no_found. refl; posts = λ is. absurd (cc is) }, tt)),
+              record { begins = λ no_ask no_found. refl; posts = λ is. absurd (cc is); cancels = λ no_ask no_found sw is. absurd (no_sweep sw is) },
+              (record { begins = λ no_ask no_found. refl; posts = λ is. absurd (cc is); cancels = λ no_ask no_found sw is. absurd (no_sweep sw is) }, (record { begins = λ no_ask no_found. refl; posts = λ is. absurd (cc is); cancels = λ no_ask no_found sw is. absurd (no_sweep sw is) }, tt)),
             ),
           ),
         ),
       ),
     ),
   );
+  rests = (λ rest idle no_ask. absurd (cc no_ask), (at_work, (at_work, (at_work, (at_work, (at_work, (at_work, (at_work, tt))))))));
+  drains = λ calm. (λ drain. absurd (cc drain), (λ drain. absurd (cc drain), tt));
   paid = λ told sound. (free, (free, (free_behind, (free_behind, (free_behind, (free_behind, (free_behind, (free_behind, tt))))))));
 }
 

@@ -1,6 +1,7 @@
 mod Founds
 pub mod Paid
 pub mod Counted
+pub mod CalmPosts
 pub mod Composition
 pub mod InRoom
 pub mod Texts

@@ -1,12 +1,12 @@
 -- Turns, one by one.
 use Rattle.std.specs.Prelude.{map, IfSome}
-use Rattle.std.proofs.Common.{◌≡◌, ◌⊎◌, ◌≤◌, ◌<◌, ◌-◌, ℕ, zero, suc, IsTrue, List, [], ◌∷◌, ◌++◌, length, Option, Some, None, refl, sym, ap, ◌∙◌, subst, inl, inr, arith, append-nil, rules}
+use Rattle.std.proofs.Common.{◌≡◌, ◌⊎◌, ◌≤◌, ◌<◌, ◌-◌, ℕ, zero, suc, Bool, true, false, IsTrue, List, [], ◌∷◌, ◌++◌, length, Option, Some, None, refl, sym, ap, ◌∙◌, subst, inl, inr, arith, append-nil, rules}
 use Rattle.block_machine.specs.nv_base.Count.{WereCounted}
 use Rattle.block_machine.specs.nv_base.Entry.{ops_of}
 use Rattle.script_walks.specs.Words.{Step, AskStep, Turn}
 use Rattle.script_walks.specs.Walk.{begins_with_pick_or_post}
 use Rattle.block_machine.specs.Words.{Fine, Content, Write, Accepted, Entry, Ask, Wrote, Post, Found}
-use Rattle.block_machine.specs.State.{State, Job}
+use Rattle.block_machine.specs.State.{State, Job, Sweep}
 use Rattle.block_machine.specs.Blocks.{job_block}
 use Rattle.block_machine.specs.Steps.{after, after_from}
 use Rattle.promise_run.specs.Turns.{Moment, Move, entry_list, entries_of, moment_behind, moment_after, AreTurnsMade, AreMoves, IsPostedWithin, EachMove, ServesTurn, CountsOwn, HasTurns, is_asked, is_found, is_picked, all_moves}
@@ -64,8 +64,16 @@ no_count n (inr full) = omega (arith, full)
 
 -- SIX TURNS
 
+-- no WriteAll is pending
+pub no_sweep : (sw : Sweep) → None ≡ Some sw → ⊥
+no_sweep sw is = cc is
+
+-- something is pending
+pub at_work : {P Q R T : Type 0} → false ≡ true → P → Q → R → T
+at_work rest = absurd (cc rest)
+
 abbrev pub at_ops : ℕ → Moment
-at_ops n = record { faults = 0; ops = n }
+at_ops n = record { faults = 0; ops = n; busy = false }
 
 -- a turn that adds nothing
 passes : (id n : ℕ) (ops : ℕ) (ms : List Move) → 1 < n → IsPostedWithin id (n - 1) 0 ms → IsPostedWithin id n 0 (record { entry = None; behind = at_ops ops } ∷ ms)
@@ -142,21 +150,23 @@ six_kept = record {
   counted = inl (omega arith);
   ends = tt;
   serves = (
-    record { begins = λ no_ask no_found. absurd (cc no_ask); posts = λ is. absurd (cc is) },
+    record { begins = λ no_ask no_found. absurd (cc no_ask); posts = λ is. absurd (cc is); cancels = λ no_ask no_found. absurd (cc no_ask) },
     (
-      record { begins = λ no_ask no_found. refl; posts = λ is j hand. subst (λ (id : ℕ). IsPostedWithin id 8 0 behind_pick) (sym (picked_block j hand)) in_time },
+      record { begins = λ no_ask no_found. refl; posts = λ is j hand. subst (λ (id : ℕ). IsPostedWithin id 8 0 behind_pick) (sym (picked_block j hand)) in_time; cancels = λ no_ask no_found sw is. absurd (no_sweep sw is) },
       (
-        record { begins = λ no_ask no_found. refl; posts = λ is. absurd (cc is) },
+        record { begins = λ no_ask no_found. refl; posts = λ is. absurd (cc is); cancels = λ no_ask no_found sw is. absurd (no_sweep sw is) },
         (
-          record { begins = λ no_ask no_found. refl; posts = λ is. absurd (cc is) },
+          record { begins = λ no_ask no_found. refl; posts = λ is. absurd (cc is); cancels = λ no_ask no_found sw is. absurd (no_sweep sw is) },
           (
-            record { begins = λ no_ask no_found. refl; posts = λ is. absurd (cc is) },
-            (record { begins = λ no_ask no_found. refl; posts = λ is. absurd (cc is) }, (record { begins = λ no_ask no_found. refl; posts = λ is. absurd (cc is) }, tt)),
+            record { begins = λ no_ask no_found. refl; posts = λ is. absurd (cc is); cancels = λ no_ask no_found sw is. absurd (no_sweep sw is) },
+            (record { begins = λ no_ask no_found. refl; posts = λ is. absurd (cc is); cancels = λ no_ask no_found sw is. absurd (no_sweep sw is) }, (record { begins = λ no_ask no_found. refl; posts = λ is. absurd (cc is); cancels = λ no_ask no_found sw is. absurd (no_sweep sw is) }, tt)),
           ),
         ),
       ),
     ),
   );
+  rests = (λ rest idle no_ask. absurd (cc no_ask), (at_work, (at_work, (at_work, (at_work, (at_work, (at_work, tt)))))));
+  drains = λ calm. (λ drain. absurd (cc drain), (λ drain. absurd (cc drain), tt));
   paid = λ told sound. (free, (free, (free, (free, (free, (free, (free, tt)))))));
 }
 

@@ -1,6 +1,6 @@
 -- Runs on a small flash, of 10 pages a bank, and one beside another flash, that keep the promise and that break it, and a call
 -- of the demo.
-use Rattle.std.specs.Prelude.{ℕ, ◌+◌, ◌-◌, ◌*◌, ◌==◌, true, false, List, [], ◌∷◌, ◌++◌, map, flat_map, take, drop, replicate, codes, Option, Some, None}
+use Rattle.std.specs.Prelude.{ℕ, ◌+◌, ◌-◌, ◌*◌, ◌==◌, Bool, true, false, List, [], ◌∷◌, ◌++◌, map, flat_map, take, drop, replicate, codes, Option, Some, None}
 use Rattle.block_machine.specs.nv_base.Held.{never_written}
 use Rattle.block_machine.specs.nv_base.Plan.{no_planning}
 use Rattle.block_machine.specs.block_config.DemoConfig.{demo_config}
@@ -15,14 +15,14 @@ use Rattle.fee_format.specs.RecHead.{rec_head_page}
 use Rattle.fee_format.specs.declared.rec_head.RecordKind.TheVariants as record_kind
 use Rattle.nvm_script.specs.declared.script.Mode.TheVariants as mode
 use Rattle.script_walks.specs.Words.{Step, StepKind, AskStep, Store, Turn, Drain, Restart, Cut, Await}
+use Rattle.block_machine.specs.Words.{Fine, NotOk, Content, Write, SetLock, Status, WriteAll, CancelWriteAll, Accepted, StatusIs, WriteJob, WriteAllJob, TookNothing, TookContent, TookStale, Entry, Ask, Pick, Wrote, Post, Off, Found, BlockDesc, Dataset, Sync, Configuration}
 use Rattle.script_walks.specs.Looks.{Look}
-use Rattle.block_machine.specs.Words.{Fine, NotOk, Content, Write, SetLock, Status, Accepted, StatusIs, WriteJob, TookContent, TookStale, Entry, Ask, Pick, Wrote, Post, Off, Found, BlockDesc, Dataset, Sync, Configuration}
 use Rattle.block_machine.specs.State.{State, Job}
 use Rattle.promise_device.specs.FlashRun.{FlashRun, HasFailed}
 use Rattle.promise_run.specs.Beside.{Beside}
 use Rattle.promise_run.specs.Call.{Call}
 use Rattle.promise_run.specs.Promise.{Promise}
-use Rattle.promise_run.specs.Turns.{Moment, Move, CountFailed, ArePaidSince}
+use Rattle.promise_run.specs.Turns.{Moment, Move, EndsCanceled, StaysAtRest, ClosesAtDrains, CountFailed, ArePaidSince}
 use Rattle.block_machine.specs.Steps.{after}
 use Rattle.promise_run.specs.Run.{Run, Played, Ran, cap, HadRoom, LeavesFor, End, Whole, FlashFault, HistoryFull, Memory}
 
@@ -258,6 +258,10 @@ turned es = plays (asks_one ∷ (Turn 1, picks_one ∷ []) ∷ (Turn 8, es) ∷ 
 abbrev pub not_drained : Run
 not_drained = plays (asks_one ∷ (Drain, picks_one ∷ []) ∷ []) (unchanged [] blank)
 
+-- the write in hand is posted as failed, though nothing failed
+abbrev pub fails_for_nothing : Run
+fails_for_nothing = turned (Post 2 NotOk None 0 0 ∷ [])
+
 -- it ends at a flash fault, and none was counted
 abbrev pub ends_for_nothing : Run
 ends_for_nothing = record quiet { end = FlashFault }
@@ -296,7 +300,7 @@ faulty n = record at_rest { exit = record at_rest.exit { faults = n } }
 
 -- after so many faults, before any operation
 abbrev pub at_faults : ℕ → Moment
-at_faults n = record { faults = n; ops = 0 }
+at_faults n = record { faults = n; ops = 0; busy = false }
 
 -- its first operation failed, and one fault was counted
 abbrev pub failed_once : List FlashAnswer → FlashRun
@@ -306,8 +310,8 @@ failed_once others = record (answering (Failed ∷ others)) { exit = record at_r
 abbrev pub failed_at : ℕ → ℕ → List Move
 failed_at own later =
     record { entry = Some picks_one; behind = at_faults 0 }
-    ∷ record { entry = None; behind = record { faults = own; ops = 1 } }
-    ∷ record { entry = Some (Post 2 NotOk None 0 1); behind = record { faults = later; ops = 1 } } ∷ []
+    ∷ record { entry = None; behind = record { faults = own; ops = 1; busy = false } }
+    ∷ record { entry = Some (Post 2 NotOk None 0 1); behind = record { faults = later; ops = 1; busy = false } } ∷ []
 
 abbrev pub CountsFailed : ℕ → ℕ → Type 0
 CountsFailed own later = CountFailed (HasFailed (failed_once [])) (at_faults 0) (failed_at own later)
@@ -353,6 +357,23 @@ HadRoomAt n kind = HadRoom small cap (at_count n) (step_of kind) [] [] []
 -- behind so many entries a start-up was left, at this end
 abbrev pub LeftAt : ℕ → End → Type 0
 LeftAt n end = LeavesFor (record quiet { flash = faulty 1 }) (at_count n) end (step_of Restart ∷ [])
+
+-- AT REST
+-- before any operation, with nothing open at the device, or something
+abbrev pub at_busy : Bool → Moment
+at_busy busy = record { faults = 0; ops = 0; busy = busy }
+
+-- a `drain` of one turn leaves the device so
+abbrev pub DrainsTo : Bool → Type 0
+DrainsTo busy = ClosesAtDrains (at_faults 0) (step_of Drain ∷ []) ((record { entry = None; behind = at_busy busy } ∷ []) ∷ [])
+
+-- at a device that was left so, with nothing pending, a turn makes an operation
+abbrev pub WorksAt : Bool → Type 0
+WorksAt busy = StaysAtRest small (at_busy busy) (after small (Found [] 0 ∷ [])) (record { entry = None; behind = record { faults = 0; ops = 1; busy = false } } ∷ [])
+
+-- a WriteAll was begun, and canceled; a turn adds this
+abbrev pub EndsWith : Option Entry → Type 0
+EndsWith e = EndsCanceled (after small (Found [] 0 ∷ Ask 0 WriteAll Accepted ∷ Pick 0 WriteAllJob TookNothing 0 ∷ Ask 0 CancelWriteAll Accepted ∷ [])) e
 
 -- A CALL
 -- `play` of the demo configuration without a step, with this status and this output

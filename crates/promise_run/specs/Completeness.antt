@@ -1,13 +1,19 @@
 -- What is served, and in `play` by when: where nothing fails, each job comes to its Post.
-use Rattle.std.specs.Prelude.{◌≡◌, ◌≢◌, ◌-◌, ◌==◌, ◌&&◌, ◌||◌, ℕ, suc, nat_le, nat_lt, Bool, true, false, IsTrue, List, ◌∷◌, ◌++◌, take, option_map, if◌then◌else◌, Option, Some, None, IfSome}
+use Rattle.std.specs.Prelude.{◌≡◌, ◌≢◌, ◌⊎◌, ◌-◌, ◌==◌, ◌&&◌, ◌||◌, ℕ, suc, nat_le, nat_lt, Bool, true, false, IsTrue, List, [], ◌∷◌, ◌++◌, take, option_map, if◌then◌else◌, Option, Some, None, IfSome}
 use Rattle.std.specs.List.{list_all, list_any}
 use Rattle.block_machine.specs.nv_base.Count.{Rose}
 use Rattle.script_walks.specs.Words.{Step, StepKind, Turn, Drain, Restart}
 use Rattle.block_machine.specs.Words.{TookRefused, TookStale, Entry, Pick, Post, Off, Configuration}
 use Rattle.block_machine.specs.State.{State, Job}
 use Rattle.block_machine.specs.Blocks.{job_block}
-use Rattle.block_machine.specs.Steps.{after, after_from}
+use Rattle.block_machine.specs.StartUp.{at_first}
+use Rattle.block_machine.specs.Results.{own_of, failed_set}
+use Rattle.block_machine.specs.Steps.{step, after, after_from}
+use Rattle.promise_blocks.specs.Payment.{Worn, IsExcused}
 use Rattle.script_walks.specs.Walk.{is_at_rest}
+use Rattle.promise_device.specs.FlashRun.{TellsBytes, StartsSound}
+use Rattle.promise_device.specs.Bridge.{IsWornOut}
+use Rattle.promise_run.specs.Promise.{making_of}
 use Rattle.promise_run.specs.Run.{Run, Course, Played, Ran, FlashFault, EachPiece, Memory, HasOrder}
 use Rattle.script_walks.specs.Looks.{Look}
 
@@ -67,9 +73,31 @@ pub record IsServed (c : Configuration) (most : State → Job → ℕ) (made : L
   pub posts : EachPiece c (PostsInHand c most) (after c (take 1 h)) made pieces
   pub drains : EachPiece c (DrainsAll c) (after c (take 1 h)) made pieces
 
+-- EACH RESULT
+-- what each entry keeps: a fact on the state before it
+abbrev pub EachEntry : Configuration → (State → Entry → Type 0) → State → List Entry → Type 0
+EachEntry c P s [] = Unit {0}
+EachEntry c P s (e ∷ es) = P s e × EachEntry c P (step c s e) es
+
+-- A job in hand is posted with the result of the machine where no operation failed: the least failed set that explains it is
+-- empty. Or the device was worn out.
+abbrev pub PostsWell : Configuration → Worn → State → Entry → Type 0
+PostsWell c worn s (Post block r given refused ops) =
+    ((j : Job) → s.hand ≡ Some j → failed_set (own_of c s (job_block j)) j (r, given) ≡ Some []) ⊎ IsExcused c worn s (Post block r given refused ops)
+PostsWell c worn s e = Unit {0}
+
+abbrev pub PostWell : Run → Type 0
+PostWell r = EachEntry r.configuration (PostsWell r.configuration (IsWornOut (making_of r.configuration) r.flash)) at_first r.history
+
+-- A run over one flash in which nothing fails: it doesn't end at a fault, and over a flash that tells its bytes, from a sound
+-- image on, no result is one of a failure.
+pub record EndsWell (r : Run) : Type 0 where
+  pub ends : r.end ≢ FlashFault
+  pub results : r.beside ≡ None → TellsBytes r.flash → StartsSound (making_of r.configuration) r.flash → PostWell r
+
 -- completeness of a run of `play` in which nothing fails
 pub record IsComplete (most : State → Job → ℕ) (r : Run) (made : List Step) (pieces : List (List Entry)) : Type 0 where
-  pub ends : r.end ≢ FlashFault
+  pub well : EndsWell r
   pub served : IsServed r.configuration most made pieces r.history
 
 -- completeness of a run of callers in which nothing fails: nothing is pending at its end, so each accepted job has its Post

@@ -3,24 +3,26 @@ use Rattle.std.specs.Prelude.{◌≡◌, ◌⊎◌, ◌<◌, ◌≤◌, ◌+◌,
 use Rattle.block_machine.specs.nv_base.Count.{last_count, Rose, WereCounted}
 use Rattle.block_machine.specs.nv_base.Entry.{ops_of}
 use Rattle.script_walks.specs.Words.{Step, StepKind, AskStep, Turn, Drain, Restart}
-use Rattle.block_machine.specs.Words.{Entry, Ask, Pick, Found, Configuration}
-use Rattle.block_machine.specs.State.{State, Job}
+use Rattle.block_machine.specs.Words.{Canceled, WriteAllJob, TookNothing, Entry, Ask, Pick, Post, Found, Configuration}
+use Rattle.block_machine.specs.State.{State, Job, Sweep, jobs_of}
 use Rattle.block_machine.specs.Blocks.{job_block}
 use Rattle.block_machine.specs.Steps.{after, after_from}
 use Rattle.block_machine.specs.Prices.{price_in_faults, sum_from}
 use Rattle.promise_blocks.specs.Payment.{Worn, IsExcused}
-use Rattle.script_walks.specs.Walk.{is_due, begins_with_pick_or_post}
-use Rattle.promise_run.specs.Completeness.{is_calm_entry, ends_job}
+use Rattle.script_walks.specs.Walk.{is_due, is_at_rest, begins_with_pick_or_post}
+use Rattle.promise_run.specs.Completeness.{is_calm_entry, IsCalm, ends_job}
 use Rattle.promise_run.specs.Promise.{making_of}
 use Rattle.promise_device.specs.FlashRun.{FlashRun, TellsBytes, StartsSound, HasFailed}
 use Rattle.promise_device.specs.Bridge.{IsWornOut}
 use Rattle.promise_run.specs.Run.{Run, Course, Played, Ran, End, FlashFault}
 
 -- MOMENTS AND MOVES
--- what the device told at a moment: its faults and its operations so far
+-- what the device told at a moment: its faults and its operations so far, and whether a job of it or work of its own, as a
+-- switch of banks, is open
 pub record Moment : Type 0 where
   pub faults : ℕ
   pub ops : ℕ
+  pub busy : Bool
 
 -- what a step did at once, a turn, a request or a start-up: the entry that it added, if it added one, and the moment behind it
 pub record Move : Type 0 where
@@ -136,10 +138,31 @@ PostsPicked c most s m ms =
     IsTrue (is_picked m.entry) → (j : Job) → (after_from c s (entry_list m.entry)).hand ≡ Some j
     → IsPostedWithin (job_block j) (most (after_from c s (entry_list m.entry)) j) m.behind.faults ms
 
+-- CANCELED
+-- Where a WriteAll that was canceled is all that is pending, a turn posts id 0 as canceled, or picks it where it wasn't begun.
+abbrev pub EndsCanceled : State → Option Entry → Type 0
+EndsCanceled s e =
+    (sw : Sweep) → s.sweep ≡ Some sw → sw.writes ≡ true → sw.canceled ≡ true → jobs_of s ≡ [] → s.off ≡ false
+    → (ops : ℕ) × (e ≡ Some (if sw.under_way then Post 0 Canceled None 0 ops else Pick 0 WriteAllJob TookNothing ops))
+
 -- a turn doesn't go by where something is due, and a job that it picks is posted within its turns
 pub record ServesTurn (c : Configuration) (most : State → Job → ℕ) (s : State) (m : Move) (ms : List Move) : Type 0 where
   pub begins : is_asked m.entry ≡ false → is_found m.entry ≡ false → IsTrue (not (is_due s) || begins_with_pick_or_post (entry_list m.entry))
   pub posts : PostsPicked c most s m ms
+  pub cancels : is_asked m.entry ≡ false → is_found m.entry ≡ false → EndsCanceled s m.entry
+
+-- AT REST
+-- With nothing pending and nothing open at the device a turn has nothing to do: it adds no entry, and nothing changes.
+abbrev pub StaysAtRest : Configuration → Moment → State → List Move → Type 0
+StaysAtRest c before s [] = Unit {0}
+StaysAtRest c before s (m ∷ ms) =
+    (IsTrue (is_at_rest s) → before.busy ≡ false → is_asked m.entry ≡ false → is_found m.entry ≡ false → (m.entry ≡ None) × (m.behind ≡ before))
+    × StaysAtRest c m.behind (after_from c s (entry_list m.entry)) ms
+
+-- nothing is open at the device behind each `drain`
+abbrev pub ClosesAtDrains : Moment → List Step → List (List Move) → Type 0
+ClosesAtDrains before (x ∷ xs) (ms ∷ mss) = (x.kind ≡ Drain → (moment_behind before ms).busy ≡ false) × ClosesAtDrains (moment_behind before ms) xs mss
+ClosesAtDrains before xs mss = Unit {0}
 
 -- PAID SINCE THE PICK
 -- A Post is paid by the faults since so many were counted, or the device was worn out.
@@ -183,7 +206,8 @@ EndsBy last f end = Unit {0}
 -- A RUN
 -- Each step of `play` that was made has its moves, from a moment behind the first start-up on. They make all operations of
 -- the flash, and each that failed is counted in its own move; the flash counted the faults that they tell, and one more where
--- a start-up failed behind them. Each job is posted within its most turns, counted from its Pick; and over a flash that tells
+-- a start-up failed behind them. Each job is posted within its most turns, counted from its Pick, and a turn with nothing to do
+-- does nothing; where nothing fails a `drain` leaves nothing open at the device. Over a flash that tells
 -- its bytes, from a sound image on, each Post is paid since the last Pick before it, or the flash was worn out.
 pub record KeepsTurns (most : State → Job → ℕ) (r : Run) (made : List Step) (pieces : List (List Entry)) : Type 0 where
   pub first : Moment
@@ -195,6 +219,8 @@ pub record KeepsTurns (most : State → Job → ℕ) (r : Run) (made : List Step
   pub counted : WereCounted last.faults r.flash.entry.faults r.flash.exit.faults
   pub ends : EndsBy last r.flash r.end
   pub serves : EachMove r.configuration (ServesTurn r.configuration most) (after r.configuration (take 1 r.history)) (all_moves moves.moves)
+  pub rests : StaysAtRest r.configuration first (after r.configuration (take 1 r.history)) (all_moves moves.moves)
+  pub drains : IsCalm r → ClosesAtDrains first made moves.moves
   pub paid : TellsBytes r.flash → StartsSound (making_of r.configuration) r.flash
       → ArePaidSince r.configuration (IsWornOut (making_of r.configuration) r.flash) first.faults first (after r.configuration (take 1 r.history)) (all_moves moves.moves)
 

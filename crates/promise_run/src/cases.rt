@@ -1,5 +1,5 @@
 // Runs that keep the promise, and runs that break it.
-ghost use Rattle.std.specs.Prelude.{ℕ, []};
+ghost use Rattle.std.specs.Prelude.{ℕ, [], true, false, Some, None};
 ghost use Rattle.block_machine.specs.nv_base.Count.{WereCounted};
 ghost use Rattle.nvm_script.specs.Printed.{history_text};
 ghost use Rattle.block_machine.specs.Legal.{IsLegal};
@@ -10,10 +10,10 @@ ghost use Rattle.promise_run.specs.Promise.{OperationsAre, Promise, StartUpsFind
 ghost use Rattle.promise_run.specs.Call.{IsRunOf, text_of};
 ghost use Rattle.promise_run.specs.Completeness.{Completeness};
 ghost use Rattle.script_walks.specs.Words.{AskStep, Restart};
-ghost use Rattle.block_machine.specs.Words.{Status};
+ghost use Rattle.block_machine.specs.Words.{Status, Fine, Canceled, BlockSkipped, Post};
 ghost use Rattle.promise_run.specs.Run.{FlashFault, HistoryFull};
 ghost use Rattle.promise_run.specs.Turns.{BeginsAt, EndsBy, HasTurns};
-ghost use Rattle.promise_run.specs.Cases.{six_turns, lazy, leaps, at_faults, faulty, PaysFailed, CountsFailed, HadRoomAt, LeftAt, mended, posts_on_credit, starts_on_credit, untold, BreaksBy, small, one, two, quiet, quiet_beside, wiped, empty_at_11, made_up_mark, off_without_a_cut, stale_in_play, invented_store, second_found, other_dataset, worn_but_roomy, worn_and_full, kept_write, lost_write, two_callers, written_at, always, turned, not_drained, ends_for_nothing, demo_run, demo_call, untold_write, unseen_stale, later_store, full_for_nothing, not_served, worn_long_ago};
+ghost use Rattle.promise_run.specs.Cases.{six_turns, lazy, leaps, at_faults, faulty, PaysFailed, CountsFailed, HadRoomAt, LeftAt, DrainsTo, WorksAt, EndsWith, mended, posts_on_credit, starts_on_credit, untold, BreaksBy, small, one, two, quiet, quiet_beside, wiped, empty_at_11, made_up_mark, off_without_a_cut, stale_in_play, invented_store, second_found, other_dataset, worn_but_roomy, worn_and_full, kept_write, lost_write, two_callers, written_at, always, turned, not_drained, fails_for_nothing, ends_for_nothing, demo_run, demo_call, untold_write, unseen_stale, later_store, full_for_nothing, not_served, worn_long_ago};
 
 /// A start-up alone keeps it, and so do a write that a cut breaks off with a restart behind it, and the requests of two
 /// callers.
@@ -105,12 +105,13 @@ pub fn runs_of_calls()
     ensures two_flashes { IsRunOf (demo_call 0 (text_of demo_run)) (record demo_run { beside = (quiet_beside one one).beside }) → ⊥ }
 {}
 
-/// Where nothing fails a job is posted within its turns, a drain leaves none, nor does a run of callers, and no run ends at a flash
-/// fault.
+/// Where nothing fails a job is posted within its turns and with no result of a failure, a drain leaves none, nor does a run of
+/// callers, and no run ends at a flash fault.
 pub fn runs_that_are_served()
     ensures served { Completeness (always 8) (turned (written_at 4)) (turned (written_at 4)).course }
     ensures not_posted { Completeness (always 8) (turned []) (turned []).course → ⊥ }
     ensures not_drained { Completeness (always 100) not_drained not_drained.course → ⊥ }
+    ensures not_failed { Completeness (always 8) fails_for_nothing fails_for_nothing.course → ⊥ }
     ensures not_ended { Completeness (always 100) ends_for_nothing ends_for_nothing.course → ⊥ }
     ensures callers { Completeness (always 8) two_callers two_callers.course }
     ensures not_served { Completeness (always 8) not_served not_served.course → ⊥ }
@@ -128,7 +129,25 @@ pub fn turns_one_by_one()
     ensures on_credit { PaysFailed 2 → ⊥ }
     ensures own_end { EndsBy (at_faults 2) (faulty 3) FlashFault }
     ensures end_on_credit { EndsBy (at_faults 2) (faulty 2) FlashFault → ⊥ }
-    ensures begins_late { BeginsAt (record { faults = 0; ops = 4 }) six_turns.history → ⊥ }
+    ensures begins_late { BeginsAt (record { faults = 0; ops = 4; busy = false }) six_turns.history → ⊥ }
+{}
+
+/// Behind a drain nothing is open at the device. With nothing open and nothing pending a turn makes no operation, and one that
+/// ends a switch does.
+pub fn drains_leave_nothing_open()
+    ensures closed { DrainsTo false }
+    ensures open { DrainsTo true → ⊥ }
+    ensures works_on { WorksAt true }
+    ensures works_for_nothing { WorksAt false → ⊥ }
+{}
+
+/// Where a WriteAll that was canceled alone is pending a turn posts id 0 as canceled: it doesn't go by, and posts no further
+/// member, nor id 0 as done.
+pub fn canceled_requests_end()
+    ensures ends { EndsWith (Some (Post 0 Canceled None 0 0)) }
+    ensures goes_by { EndsWith None → ⊥ }
+    ensures goes_on { EndsWith (Some (Post 1 BlockSkipped None 0 0)) → ⊥ }
+    ensures as_done { EndsWith (Some (Post 0 Fine None 0 0)) → ⊥ }
 {}
 
 /// An operation that failed is counted in its own move and in no later one, and a write that a retry mends has its turns.

@@ -11,7 +11,7 @@ use Rattle.nvm_core.specs.block_machine.State.{State, Job}
 use Rattle.nvm_core.specs.block_machine.Blocks.{job_block}
 use Rattle.nvm_core.specs.block_machine.Steps.{after, after_from}
 use Rattle.promise_run.specs.Completeness.{is_calm_entry, ends_job}
-use Rattle.promise_run.specs.Turns.{Moment, Move, entry_list, is_asked, is_found, is_picked, fails, ends, IsPostedWithin, EachMove, PostsPicked, ServesTurn, all_moves}
+use Rattle.promise_run.specs.Turns.{Moment, Move, entry_list, is_asked, is_found, is_picked, fails, ends, IsPostedWithin, EachMove, PostsPicked, ServesTurn, StaysAtRest, all_moves}
 use Rattle.script_player.specs.Chain.{Shown, state_in, IsWithinTurns, IsMoved, AreMoved}
 use Rattle.script_player.proofs.Grown.{state_more}
 use Rattle.nvm_core.proofs.block_laws.Along.{asked_leaves}
@@ -154,7 +154,7 @@ picked_stays c s None is on = absurd (cc is)
 -- each turn serves
 pub each_posted : (ms : List Move) (v w : Shown) → AreMoved ms v w → EachMove v.configuration (ServesTurn v.configuration v.most) (state_in v) ms
 each_posted [] v w all = tt
-each_posted (m ∷ ms) v w (u, one, rest) = (record { begins = one.begins; posts = own (posted ms u w rest) }, further (each_posted ms u w rest))
+each_posted (m ∷ ms) v w (u, one, rest) = (record { begins = one.begins; posts = own (posted ms u w rest); cancels = one.cancels }, further (each_posted ms u w rest))
   where
     state : state_in u ≡ after_from v.configuration (state_in v) (entry_list m.entry)
     state = state_moved m v u one
@@ -174,3 +174,14 @@ each_posted (m ∷ ms) v w (u, one, rest) = (record { begins = one.begins; posts
         subst (λ (s : State). EachMove v.configuration (ServesTurn v.configuration v.most) s ms) state
         (subst (λ (f : State → Job → ℕ). EachMove v.configuration (ServesTurn v.configuration f) (state_in u) ms) one.most
         (subst (λ (c : Configuration). EachMove c (ServesTurn c u.most) (state_in u) ms) one.configuration all))
+
+-- with nothing to do a turn does nothing
+pub each_rests : (ms : List Move) (v w : Shown) → AreMoved ms v w → StaysAtRest v.configuration v.moment (state_in v) ms
+each_rests [] v w all = tt
+each_rests (m ∷ ms) v w (u, one, rest) = (λ at idle no_ask no_found. let (none, same) = one.rests no_ask no_found at idle in (none, one.behind ∙ same), further (each_rests ms u w rest))
+  where
+    further : StaysAtRest u.configuration u.moment (state_in u) ms → StaysAtRest v.configuration m.behind (after_from v.configuration (state_in v) (entry_list m.entry)) ms
+    further all =
+        subst (λ (s : State). StaysAtRest v.configuration m.behind s ms) (state_moved m v u one)
+        (subst (λ (x : Moment). StaysAtRest v.configuration x (state_in u) ms) (sym one.behind)
+        (subst (λ (c : Configuration). StaysAtRest c u.moment (state_in u) ms) one.configuration all))

@@ -2,6 +2,7 @@ pub mod Table
 pub mod Explained
 pub mod Making
 pub mod Turned
+pub mod Canceled
 pub mod Causes
 pub mod Walking
 pub mod Grown

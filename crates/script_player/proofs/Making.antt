@@ -29,6 +29,8 @@ use Rattle.script_player.specs.Chain.{shown_of}
 use Rattle.script_player.specs.Paying.{Payer, PaysNothing}
 use Rattle.script_player.proofs.Paying.{nothing_pays, ask_pays, found_pays}
 use Rattle.script_player.proofs.Explained.{by_cut, by_entries, by_nothing, by_refuse, by_restart}
+use Rattle.nvm_core.specs.nv_base.Count.{Rose}
+use Rattle.script_player.proofs.InHand.{power_on}
 use Rattle.script_player.proofs.Served.{same_serves, ask_serves, restart_serves, at_rest_where_calm}
 use Rattle.script_player.specs.Table.{HasLastStores}
 use Rattle.script_player.proofs.Table.{same_table}
@@ -69,6 +71,7 @@ nothing_made p q before line caller kind old new none room turns no_drain rests 
       room = room;
       explained = explained;
       serves = λ calm. same_serves kind old new turns no_drain (ap state_of same) (ap (λ t. t.left) same) (ap (λ t. t.most) same);
+      closes = λ calm drain. absurd (cc (drain, no_drain));
       moves = [];
       moved = rests;
       tell = refl;
@@ -105,8 +108,8 @@ found_takes c before true marks ops = tt
 found_takes c before false marks ops = tt
 
 not_both : (b : Bool) → IsTrue b → ¬ IsTrue (not b)
-not_both true is no = cc no
-not_both false is no = cc is
+not_both true is none = cc none
+not_both false is none = cc is
 
 -- a request
 pub ask_made : (p q : Payer) (before : List Step) (line caller : ℕ) (r : Request) (table : List ℕ) (old new : StackTold) → CanBePlayed old.configuration (AskStep r)
@@ -125,6 +128,7 @@ ask_made p q before line caller r table old new can asked pays has kept =
       room = not_both (fits old.configuration old.cap (state_of old) 1) adds.room;
       explained = by_entries (AskStep r) (e ∷ []) old new (λ plan ops. refl) adds.explained;
       serves = λ calm. ask_serves r caller (request_after old.configuration before caller r) reply old new adds;
+      closes = λ calm drain. absurd (cc drain);
       moves = move_to (e ∷ []) old ∷ [];
       moved = refl;
       tell = refl;
@@ -161,6 +165,7 @@ restart_made p q before line caller old new starts_again pays kept =
       room = starts_again.room;
       explained = by_restart (e ∷ []) old new starts_again.explained;
       serves = λ calm. restart_serves (e ∷ []) old new (ap (λ (s : State). s.hand) (ap state_of same ∙ after_is));
+      closes = λ calm drain. absurd (cc drain);
       moves = move_to (e ∷ []) new ∷ [];
       moved = (starts_again.counted, starts_again.operations);
       tell = refl;
@@ -179,8 +184,8 @@ restart_made p q before line caller old new starts_again pays kept =
 
 -- turns, with the piece that they added
 turned_made : (p q : Payer) (before : List Step) (line caller : ℕ) (kind : StepKind) (old new : StackTold) (es : List Entry) (ms : List Move) → AreMovesOf kind (moment_of old) ms → AreMade p q es ms old new → is_store kind ≡ false → ¬ HasNoRoom old.configuration old.cap (state_of old) kind → ((plan : Option ℕ) (ops : ℕ) → plan_after kind plan ops ≡ plan)
-    → HasTurned (turns_of kind) before old new es → (StaysCalm old new → is_drain kind ≡ true → IsTrue (is_at_rest (state_of new))) → IsPieceBy old.configuration before (state_of old) caller kind es → IsKept before new → IsMade p q before (record { line = line; caller = caller; kind = kind }) old new
-turned_made p q before line caller kind old new es ms own moved none room plans turned drains is kept =
+    → HasTurned (turns_of kind) before old new es → (StaysCalm old new → is_drain kind ≡ true → IsTrue (is_at_rest (state_of new))) → (StaysCalm old new → is_drain kind ≡ true → new.busy ≡ false) → IsPieceBy old.configuration before (state_of old) caller kind es → IsKept before new → IsMade p q before (record { line = line; caller = caller; kind = kind }) old new
+turned_made p q before line caller kind old new es ms own moved none room plans turned drains closes is kept =
     let x : Step = record { line = line; caller = caller; kind = kind } in
     record {
       piece = es;
@@ -192,6 +197,7 @@ turned_made p q before line caller kind old new es ms own moved none room plans 
       room = room;
       explained = by_entries kind es old new plans turned.explained;
       serves = λ calm. let serves = turned.serves calm in record { nears = λ on. serves.nears; within = serves.within; drains = drains calm };
+      closes = closes;
       moves = ms;
       moved = own;
       tell = moved.tell;
@@ -205,11 +211,13 @@ turned_made p q before line caller kind old new es ms own moved none room plans 
 pub turns_made : (p q : Payer) (before : List Step) (line caller count : ℕ) (old new : StackTold) → 1 ≤ count → MakesTurns p q count before old new → IsKept before new
     → IsMade p q before (record { line = line; caller = caller; kind = Turn count }) old new
 turns_made p q before line caller zero old new some made kept = absurd (let none : 1 ≤ 0 = some in omega (arith, none))
-turns_made p q before line caller (suc n) old new some (es, turned, is, (ms, many, moved)) kept = turned_made p q before line caller (Turn (suc n)) old new es ms (many, moved.turns) moved refl (λ no. no) (λ plan ops. refl) turned (λ calm no_. absurd (cc no_)) is kept
+turns_made p q before line caller (suc n) old new some (es, turned, is, (ms, many, moved)) kept = turned_made p q before line caller (Turn (suc n)) old new es ms (many, moved.turns) moved refl (λ no. no) (λ plan ops. refl) turned (λ calm no_. absurd (cc no_)) (λ calm no_. absurd (cc no_)) is kept
 
-pub drain_made : (p q : Payer) (before : List Step) (line caller : ℕ) (old new : StackTold) → Drains p q before old new → IsKept before new → IsMade p q before (record { line = line; caller = caller; kind = Drain }) old new
-drain_made p q before line caller old new (es, turned, is, (ms, moved)) kept =
-    turned_made p q before line caller Drain old new es ms moved.turns moved refl (λ no. no) (λ plan ops. refl) turned (λ calm drain. at_rest_where_calm old new es turned.grows calm is.ends) is kept
+pub drain_made : (p q : Payer) (before : List Step) (line caller : ℕ) (old new : StackTold) → Drains p q before old new → (¬ Rose old.faults new.faults → (state_of new).off ≡ false → new.busy ≡ false) → IsKept before new
+    → IsMade p q before (record { line = line; caller = caller; kind = Drain }) old new
+drain_made p q before line caller old new (es, turned, is, (ms, moved)) closes kept =
+    turned_made p q before line caller Drain old new es ms moved.turns moved refl (λ no. no) (λ plan ops. refl) turned (λ calm drain. at_rest_where_calm old new es turned.grows calm is.ends)
+    (λ calm drain. closes calm.no_fault (power_on new.configuration new.entries calm.entries)) is kept
 
 -- a store
 pub next_store : (c : Configuration) (before : List Step) (block n : ℕ) → length before < 2 ^ 32 → n ≡ length (stores_of block before) → next_number n ≡ length (stores_of block before) + 1
@@ -234,6 +242,7 @@ store_made p q before line caller block number content old new sync within small
       room = λ no. no;
       explained = by_nothing (Store block content) old (record old { stores = slice_set old.stores block (number, content) }) (λ plan ops. refl) refl;
       serves = λ calm. same_serves (Store block content) old (record old { stores = slice_set old.stores block (number, content) }) refl refl refl refl refl;
+      closes = λ calm drain. absurd (cc drain);
       moves = [];
       moved = refl;
       tell = refl;

@@ -2,14 +2,14 @@
 use Rattle.std.specs.Prelude.{IfSome, not, ◌||◌}
 use Rattle.script_walks.specs.Walk.{is_due, begins_with_pick_or_post}
 use Rattle.std.specs.List.{list_any}
-use Rattle.std.proofs.Common.{◌≡◌, ℕ, List, [], ◌∷◌, ◌++◌, IsTrue, map, Option, Some, None, refl, sym, ap, ◌∙◌, subst, append_assoc, append-nil}
+use Rattle.std.proofs.Common.{◌≡◌, ℕ, false, List, [], ◌∷◌, ◌++◌, IsTrue, map, Option, Some, None, refl, sym, ap, ◌∙◌, subst, append_assoc, append-nil}
 use Rattle.std.proofs.lemmas.List.{map-append}
 use Rattle.nvm_core.specs.nv_base.Entry.{ops_of}
 use Rattle.nvm_core.specs.block_machine.Words.{Instance, Mark, Request, Reply, Entry, Ask, Pick, Wrote, Post, Off, Found, Configuration}
 use Rattle.nvm_core.specs.block_machine.State.{State}
-use Rattle.script_walks.specs.Words.{Step}
+use Rattle.script_walks.specs.Words.{Step, Drain}
 use Rattle.script_walks.specs.Turn.{IsTurn}
-use Rattle.promise_run.specs.Turns.{Moment, Move, entry_list, entries_of, moment_behind, moment_after, AreTurnsMade, AreMovesOf, AreMoves, HasMoves, is_asked, is_picked, all_moves}
+use Rattle.promise_run.specs.Turns.{Moment, Move, entry_list, entries_of, moment_behind, moment_after, AreTurnsMade, AreMovesOf, AreMoves, HasMoves, ClosesAtDrains, is_asked, is_picked, all_moves}
 use Rattle.nvm_core.specs.block_machine.Steps.{after_from}
 use Rattle.script_player.specs.Told.{StackTold, state_of, moment_of, IsGrown}
 use Rattle.script_player.specs.Paying.{Payer, PaysTurn, PaysBy}
@@ -18,6 +18,7 @@ use Rattle.script_player.proofs.Grown.{state_grown}
 use Rattle.script_player.proofs.Paying.{none_pays, by_more}
 use Rattle.script_player.specs.Calls.{AllTell, AddsAsk, MakesTurn}
 use Rattle.script_player.specs.Chain.{Shown, shown_of, ServesIn, IsMoved, AreMoved}
+use Rattle.script_player.proofs.Canceled.{first_of, canceled_ends}
 use Rattle.script_player.proofs.Chain.{moved_more, all_more}
 use Rattle.script_player.specs.Kept.{AreMade}
 
@@ -52,10 +53,6 @@ moved_entries (m ∷ ms) v w (u, first, rest) =
     moved_entries ms u w rest ∙ ap (λ (es : List Entry). es ++ entries_of ms) first.entries ∙ append_assoc v.entries (entry_list m.entry) (entries_of ms)
 
 -- one turn
-abbrev pub first_of : List Entry → Option Entry
-first_of [] = None
-first_of (e ∷ es) = Some e
-
 abbrev pub move_to : List Entry → StackTold → Move
 move_to es new = record { entry = first_of es; behind = moment_of new }
 
@@ -103,6 +100,8 @@ turn_chain old new turn =
       waits = λ asked. absurd (no_ask old.configuration (state_of old) old.stores turn.entries turn.turn asked);
       picks = λ picked. turn.picks (some_pick turn.entries picked);
       begins = λ no_ask no_found. subst (λ (es : List Entry). IsTrue (not (is_due (state_of old)) || begins_with_pick_or_post es)) first turn.turn.begins;
+      cancels = λ no_ask no_found. canceled_ends old.configuration (state_of old) old.stores turn.entries turn.turn;
+      rests = λ no_ask no_found at idle. let (none, same) = turn.rests at idle in (ap first_of none, same);
       serves = λ no_ask no_found calm on. subst (λ (es : List Entry). ServesIn es (shown_of old) (shown_of new)) first (let serves = turn.serves calm on in record { nears = serves.nears; within = serves.within });
     }
 
@@ -137,6 +136,8 @@ ask_chain caller r reply old new adds = (
     waits = λ asked. (ap moment_of adds.adds, ap (λ t. t.left) adds.adds, adds.within);
     picks = λ picked. absurd (cc picked);
     begins = λ no_ask no_found. absurd (cc no_ask);
+    cancels = λ no_ask no_found. absurd (cc no_ask);
+    rests = λ no_ask no_found. absurd (cc no_ask);
     serves = λ no_ask no_found calm on. absurd (cc no_ask);
   },
   refl,
@@ -155,6 +156,8 @@ start_chain marks ops old new configuration most entries = (
     waits = λ asked. absurd (cc asked);
     picks = λ picked. absurd (cc picked);
     begins = λ no_ask no_found. absurd (cc no_found);
+    cancels = λ no_ask no_found. absurd (cc no_found);
+    rests = λ no_ask no_found. absurd (cc no_found);
     serves = λ no_ask no_found calm on. absurd (cc no_found);
   },
   refl,
@@ -167,6 +170,14 @@ moves_more m [] x [] ms all own = (own, tt)
 moves_more m (y ∷ ys) x (ns ∷ nss) ms all own = (all.0, moves_more (moment_behind m ns) ys x nss ms all.1 own)
 moves_more m [] x (ns ∷ nss) ms all own = absurd all
 moves_more m (y ∷ ys) x [] ms all own = absurd all
+
+-- a drain more that leaves nothing open
+pub closes_more : (m : Moment) (xs : List Step) (x : Step) (mss : List (List Move)) (ms : List Move) → AreMoves m xs mss → ClosesAtDrains m xs mss → (x.kind ≡ Drain → (moment_behind (moment_after m mss) ms).busy ≡ false)
+    → ClosesAtDrains m (xs ++ x ∷ []) (mss ++ ms ∷ [])
+closes_more m [] x [] ms are all own = (own, tt)
+closes_more m (y ∷ ys) x (ns ∷ nss) ms are all own = (all.0, closes_more (moment_behind m ns) ys x nss ms are.1 all.1 own)
+closes_more m [] x (ns ∷ nss) ms are all own = absurd are
+closes_more m (y ∷ ys) x [] ms are all own = absurd are
 
 pub after_more : (m : Moment) (mss : List (List Move)) (ms : List Move) → moment_after m (mss ++ ms ∷ []) ≡ moment_behind (moment_after m mss) ms
 after_more m [] ms = refl

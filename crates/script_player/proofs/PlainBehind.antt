@@ -1,12 +1,12 @@
 -- A turn of the device behind the first half.
-use Rattle.std.specs.Prelude.{IsTrue, map, sum_by}
+use Rattle.std.specs.Prelude.{IsTrue, map, sum_by, not}
 use Rattle.std.specs.List.{list_any}
 use Rattle.std.proofs.Common.{◌≡◌, ◌≤◌, ◌⊎◌, ℕ, Bool, true, false, List, [], ◌∷◌, ◌++◌, Option, Some, None, refl, sym, ap, ◌∙◌, subst, inl, inr, arith}
 use Rattle.nvm_core.specs.nv_base.Count.{WereCounted}
 use Rattle.nvm_core.specs.nv_base.Marks.{instance_of}
 use Rattle.nvm_core.specs.nv_base.Entry.{ops_of as ops_told}
 use Rattle.nvm_core.specs.memif.declared.answer.JobResult.TheVariants.{JobOk, JobFailed, JobPending, JobCanceled, BlockInconsistent, BlockInvalid}
-use Rattle.nvm_core.specs.memif.Told.{DeviceTold, Stand, Open, Ended as At, ops_of, is_off}
+use Rattle.nvm_core.specs.memif.Told.{DeviceTold, Stand, Open, Ended as At, ops_of, is_off, nothing_open}
 use Rattle.nvm_core.specs.memif.Clock.{Clock}
 use Rattle.nvm_core.specs.block_machine.Words.{Instance, Mark, Entry, Wrote, Off}
 use Rattle.nvm_core.specs.block_machine.State.{State, Job}
@@ -17,6 +17,8 @@ use Rattle.nvm_core.specs.ram_blocks.Plain.{told_of, store_of}
 use Rattle.nvm_core.specs.nv_desk.Desk.{DeskState, state_of}
 use Rattle.nvm_core.specs.nvm_device_laws.Turn.{settled_by, wrote_by}
 use Rattle.nvm_core.specs.job_progress.JobInHand.{IsPaired}
+use Rattle.nvm_core.specs.job_progress.Hand.{HandState}
+use Rattle.nvm_core.specs.nvm_laws.AtDevice.{GoesOn}
 use Rattle.nvm_core.specs.nvm_laws.Turns.{AddsBy}
 use Rattle.nvm_core.specs.nvm_laws.declared.turned.Turned.{Turned}
 use Rattle.nvm_core.specs.nvm_laws.declared.turned.Turned.TheVariants as turned
@@ -30,6 +32,7 @@ use Rattle.promise_run.specs.Turns.{is_picked}
 use Rattle.nvm_core.specs.block_machine.Prices.{block_price}
 use Rattle.script_walks.specs.Turn.{IsOfTurn}
 use Rattle.script_player.specs.PlainTold.{told_by, refusable_in, untold_of, plan_in, unplanned_in}
+use Rattle.script_player.proofs.Canceled.{rests_next, some_none}
 use Rattle.script_player.proofs.PlainDevices.{Goes, goes_from, turn_goes, turn_fixed, plan_same, unplanned_same, off_counted}
 use Rattle.script_player.proofs.PlainPicks.{due_hand, due_rest, at_rest}
 use Rattle.script_player.proofs.PlainRefused.{fewer, wrote_untold}
@@ -75,6 +78,23 @@ module _ {D : Type 0} (device : D → DeviceTold) (clock : D → Clock) (old bet
       by : (h : Option Job) → (state_of old.desk).hand ≡ h → is_due (state_of old.desk) ≡ false
       by None is = due_rest (state_of old.desk) (rests is)
       by (Some j) is = due_hand (state_of old.desk) j is
+
+  -- something is open, or something pending
+  still_open : IsPaired old.desk.config (state_of old.desk) old.hand (device old.device) → IsTrue (is_at_rest (state_of old.desk)) → not (nothing_open (device old.device)) ≡ false → ⊥
+  still_open paired rest free = by old.hand refl
+    where
+      none : (state_of old.desk).hand ≡ None
+      none = (rests_next old.desk.config (state_of old.desk) rest).0
+
+      closed : (t : Bool) → not t ≡ false → t ≡ false → ⊥
+      closed true is none = cc none
+      closed false is none = cc is
+
+      by : (h : Option HandState) → old.hand ≡ h → ⊥
+      by None is =
+          let stays = (subst (λ (h : Option HandState). GoesOn h (device old.device) between.hand (device between.device)) is half.at_device).1 in
+          closed (nothing_open (device old.device)) free (ap nothing_open (sym stays) ∙ half.half.1)
+      by (Some h) is = some_none _ (sym (subst (λ (x : Option HandState). IsPaired old.desk.config (state_of old.desk) x (device old.device)) is paired).hand ∙ none)
 
   made : (device between.device).ops ≡ (device old.device).ops
   made = ap (λ (d : DeviceTold). d.ops) half.device
@@ -124,6 +144,7 @@ module _ {D : Type 0} (device : D → DeviceTold) (clock : D → Clock) (old bet
                 (none_off _ _ goes.unplanned);
             picks = λ picked. absurd (cc picked);
             serves = serves;
+            rests = λ rest free. absurd (still_open behind.tied.paired rest free);
           };
           answers = answers;
           lowers = lowers;
@@ -153,6 +174,7 @@ module _ {D : Type 0} (device : D → DeviceTold) (clock : D → Clock) (old bet
                 (let price = (stays id).0 in let few = less id (step old.desk.config (state_of old.desk) e).hand (stays id).1 in omega (arith, price, few))) off;
             picks = λ picked. absurd (no_pick picked);
             serves = serves;
+            rests = λ rest free. absurd (still_open behind.tied.paired rest free);
           };
           answers = answers;
           lowers = lowers;

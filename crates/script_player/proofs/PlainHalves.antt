@@ -1,6 +1,6 @@
 -- A turn that is its first half alone.
 use Rattle.std.specs.Prelude.{IsTrue, map, not}
-use Rattle.std.proofs.Common.{◌≡◌, ◌<◌, ◌≤◌, ℕ, Bool, true, false, List, [], ◌∷◌, ◌++◌, get_or, Option, None, refl, sym, ap, ◌∙◌, subst, inl, inr, arith}
+use Rattle.std.proofs.Common.{◌≡◌, ◌<◌, ◌≤◌, ℕ, Bool, true, false, List, [], ◌∷◌, ◌++◌, get_or, Option, Some, None, refl, sym, ap, ◌∙◌, subst, inl, inr, arith}
 use Rattle.nvm_core.specs.nv_base.Count.{last_count, WereCounted}
 use Rattle.nvm_core.specs.memif.Told.{DeviceTold, faults_of, ops_of}
 use Rattle.nvm_core.specs.block_machine.Words.{ReqResult, Entry, Pick, Post}
@@ -28,7 +28,10 @@ use Rattle.nvm_core.specs.Work as work
 use Rattle.script_walks.specs.Walk.{is_due}
 use Rattle.script_walks.specs.Turn.{TakesNewest, copies_next}
 use Rattle.script_player.specs.Calls.{Turns, IsAnswer, Lowers}
-use Rattle.script_player.specs.PlainTold.{told_by, untold_of, IfCopied, AreWithin, may_copy}
+use Rattle.script_player.specs.PlainTold.{told_by, shown, untold_of, IfCopied, AreWithin, may_copy}
+use Rattle.nvm_core.specs.block_machine.Legal.{IsAllowed, MayPick, MayPost, MayPostNext}
+use Rattle.script_player.specs.Told.{moment_of}
+use Rattle.script_player.proofs.Canceled.{rests_next, some_none}
 use Rattle.script_player.proofs.PlainDevices.{goes_same, unplanned_same}
 use Rattle.script_player.proofs.PlainPicks.{newest, stored_so, counted, due_off, due_rest, at_rest}
 use Rattle.script_player.proofs.PlainRefused.{IsOn, fewer, pick_keeps, post_keeps}
@@ -58,6 +61,7 @@ record Posting (ops : ℕ) (old new : DeskState) (before after : List Told) : Ty
   adds : new ≡ record old { entries = old.entries ++ Post block result given refused ops ∷ [] }
   on : IsOn block (state_of old).hand
   told : WereCounted refused (refusals_of before block) (refusals_of after block)
+  may : (state_of old).hand ≡ None → MayPostNext old.config (state_of old) block (result, given) refused (next_of old.config (state_of old))
 
 over_counted : (goes : Bool) (ended posted : Answer) (refused tries block : ℕ) (before after : List Told) → refusals_of before block ≤ refusals_of after block
     → IsHandedOver goes ended posted refused tries block before after → WereCounted refused (refusals_of before block) (refusals_of after block)
@@ -68,8 +72,10 @@ over_counted true ended posted refused tries block before after less over = elim
 ]
 
 posting_of : (Premise : Type 0) (block : ℕ) (ram : Bool) (ended : Answer) (ops : ℕ) (old new : DeskState) (before after : List Told) → OnlyRefuses before after
-    → IsOn block (state_of old).hand → IsPosted Premise block ram ended ops old new before after → Posting ops old new before after
-posting_of Premise block ram ended ops old new before after only on is = record {
+    → IsOn block (state_of old).hand → (is : IsPosted Premise block ram ended ops old new before after)
+    → ((state_of old).hand ≡ None → MayPostNext old.config (state_of old) block (is.result, is.given) is.refused (next_of old.config (state_of old)))
+    → Posting ops old new before after
+posting_of Premise block ram ended ops old new before after only on is may = record {
   block = block;
   result = is.result;
   given = is.given;
@@ -77,14 +83,20 @@ posting_of Premise block ram ended ops old new before after only on is = record 
   adds = is.adds;
   on = on;
   told = over_counted _ ended (is.result, is.given) is.refused _ block before after (only block).1 is.over;
+  may = may;
 }
+
+-- with nothing in hand a Post that the machine allows is of what comes next
+next_allowed : (old : DeskState) (block : ℕ) (r : ReqResult) (given : Option (List ℕ)) (refused ops : ℕ) → IsAllowed old.config old.cap (state_of old) (Post block r given refused ops) → (state_of old).hand ≡ None
+    → MayPostNext old.config (state_of old) block (r, given) refused (next_of old.config (state_of old))
+next_allowed old block r given refused ops is none = subst (λ (h : Option Job). MayPost old.config (state_of old) block (r, given) refused h) none is.1
 
 posting_next : (n : Next) (ops : ℕ) (old new : DeskState) (before after : List Told) → OnlyRefuses before after → (state_of old).hand ≡ None
     → IsPostedNext n ops old new before after → Posting ops old new before after
 posting_next (PostMember sw id) ops old new before after only none is =
-    posting_of (Unit {0}) id true _ ops old new before after only (subst (λ (h : Option Job). IsOn id h) (sym none) tt) is
+    posting_of (Unit {0}) id true _ ops old new before after only (subst (λ (h : Option Job). IsOn id h) (sym none) tt) is (next_allowed old id is.result is.given is.refused ops (is.allowed tt))
 posting_next (EndSweep sw) ops old new before after only none is =
-    posting_of (Unit {0}) 0 false _ ops old new before after only (subst (λ (h : Option Job). IsOn 0 h) (sym none) tt) is
+    posting_of (Unit {0}) 0 false _ ops old new before after only (subst (λ (h : Option Job). IsOn 0 h) (sym none) tt) is (next_allowed old 0 is.result is.given is.refused ops (is.allowed tt))
 posting_next (PickJob j) ops old new before after only none is = absurd is
 posting_next (BeginSweep sw) ops old new before after only none is = absurd is
 posting_next (PickMember sw id) ops old new before after only none is = absurd is
@@ -93,7 +105,7 @@ posting_next Nothing ops old new before after only none is = absurd is
 posting : (Fits : Type 0) (ops : ℕ) (old new : DeskState) (before after : List Told) → OnlyRefuses before after → AddsPost Fits ops old new before after → Posting ops old new before after
 posting Fits ops old new before after only adds = elim adds [
   | inl held ↦ posting_of Fits (job_block held.job) (names_ram held.job.request) held.ended ops old new before after only
-      (subst (λ (h : Option Job). IsOn (job_block held.job) h) (sym held.hand) refl) held.is
+      (subst (λ (h : Option Job). IsOn (job_block held.job) h) (sym held.hand) refl) held.is (λ none. absurd (some_none held.job (sym held.hand ∙ none)))
   | inr next ↦ posting_next (next_of old.config (state_of old)) ops old new before after only next.0 next.1
 ]
 
@@ -116,10 +128,10 @@ pub record IsBehind {D : Type 0} (device : D → DeviceTold) (answer : Turned) (
 
 module _ {D : Type 0} (device : D → DeviceTold) (old new : StackState D (List PlainBlock)) where
   -- nothing is added
-  quiet : (answer : Turned) → IsFirstHalf device are_told is_now is_looked (Ended answer) old new → IsBehind device answer old new → new.desk ≡ old.desk → is_due (state_of old.desk) ≡ false
+  quiet : (answer : Turned) → IsFirstHalf device are_told is_now is_looked (Ended answer) old new → IsBehind device answer old new → device new.device ≡ device old.device → new.desk ≡ old.desk → is_due (state_of old.desk) ≡ false
       → IsAnswer answer [] (told_by device old) (told_by device new) → Lowers answer (told_by device old) (told_by device new) → IsServing device old new []
       → Turns answer (told_by device old) (told_by device new)
-  quiet answer half behind same due answers lowers serves =
+  quiet answer half behind stays same due answers lowers serves =
       let made = ap (λ (d : DeviceTold). d.ops) half.device in
       let one = ap (λ (d : DeviceTold). d.first) half.device in
       let two = ap (λ (d : DeviceTold). d.second) half.device in record {
@@ -135,6 +147,7 @@ module _ {D : Type 0} (device : D → DeviceTold) (old new : StackState D (List 
               (none_off _ _ (let as_many = unplanned_same (device old.device) (device new.device) one two in omega (arith, as_many)));
           picks = λ picked. absurd (cc picked);
           serves = serves;
+          rests = λ rest idle. (refl, ap (λ (d : DeviceTold). moment_of (shown old.desk None old.copies old.ready d)) stays);
         };
         answers = answers;
         lowers = lowers;
@@ -174,6 +187,7 @@ module _ {D : Type 0} (device : D → DeviceTold) (old new : StackState D (List 
               (none_off _ _ (let as_many = unplanned_same (device old.device) (device new.device) one two in omega (arith, as_many)));
           picks = λ is. (within_of new.desk.config (state_of new.desk) new.hand (device new.device) behind.tied_behind.paired behind.takes, is_on (state_of old.desk).off picked.allowed.0.on);
           serves = pick_serves device old new block ops picked.kind picked.taken behind.tied_behind.paired behind.takes;
+          rests = λ rest idle. absurd (subst (λ (n : Next). MayPick c s block picked.kind picked.taken n) (rests_next c s rest).1 may);
         };
         answers = tt;
         lowers = behind.lowers;
@@ -195,7 +209,7 @@ module _ {D : Type 0} (device : D → DeviceTold) (old new : StackState D (List 
           grows = grown device old new (Post post.block post.result post.given post.refused ops ∷ []) post.adds stores half.ready (ap (λ (d : DeviceTold). d.fixed) half.device);
           counted = behind.counted;
           operations = makes_one device old new (Post post.block post.result post.given post.refused ops ∷ []) (goes_same (device old.device) (device new.device) made one two) (refl, tt);
-          turn = record { entry = tt; begins = begins_by (is_due s) };
+          turn = record { entry = post.may; begins = begins_by (is_due s) };
           explained = explained device old new (Post post.block post.result post.given post.refused ops ∷ []) (goes_same (device old.device) (device new.device) made one two)
               (λ id. one_price c s id (Post post.block post.result post.given post.refused ops) (map told_of old.copies) (map told_of new.copies) s.hand _ (state_of new.desk).hand
               (ap (λ (x : State). x.hand) (one_more old.desk new.desk (Post post.block post.result post.given post.refused ops) post.adds))
@@ -204,6 +218,7 @@ module _ {D : Type 0} (device : D → DeviceTold) (old new : StackState D (List 
           picks = λ picked. absurd (cc picked);
           serves = post_serves device old new post.block post.refused ops post.result post.given post.on
               (subst (λ (h : Option HandState). IsPaired new.desk.config (state_of new.desk) h (device new.device)) half.at_device.1 behind.tied_behind.paired).0;
+          rests = λ rest idle. let (none, nothing) = rests_next c s rest in absurd (subst (λ (n : Next). MayPostNext c s post.block (post.result, post.given) post.refused n) nothing (post.may none));
         };
         answers = tt;
         lowers = behind.lowers;
@@ -215,9 +230,9 @@ module _ {D : Type 0} (device : D → DeviceTold) (old new : StackState D (List 
   ended turned.Off half behind =
       let same = half.half.0.0 in
       let off = sym (ap (λ (x : DeskState). (state_of x).off) same) ∙ behind.power half.half.1 in
-      quiet turned.Off half behind same (due_off (state_of old.desk) off) off tt (off_serves device old new [] (behind.power half.half.1))
+      quiet turned.Off half behind half.at_device.1 same (due_off (state_of old.desk) off) off tt (off_serves device old new [] (behind.power half.half.1))
   ended turned.Idle half behind =
       let rest = at_rest old.desk.config (state_of old.desk) half.half.1.hand half.half.1.next in
-      quiet turned.Idle half behind half.half.0.0 (due_rest (state_of old.desk) rest) (refl, rest, ap not half.half.1.device) tt
+      quiet turned.Idle half behind half.at_device.1 half.half.0.0 (due_rest (state_of old.desk) rest) (refl, rest, ap not half.half.1.device) tt
       (rest_serves device old new [] half.half.1.hand (ap (λ (x : DeskState). (state_of x).hand) half.half.0.0 ∙ half.half.1.hand))
   ended turned.Worked half behind = absurd half.half

@@ -17,7 +17,7 @@ use Rattle.nvm_script.specs.Played.{IsPlayed, ArePlayed}
 use Rattle.script_walks.specs.Stores.{AreNewest, JobsTookStored}
 use Rattle.nvm_core.specs.ram_blocks.Plain.{store_of, plain_blocks_of}
 use Rattle.promise_run.specs.Run.{Played, EachPiece, HasNoRoom, HadRoom, unpaid_offs, refusals_of, RefusalsExplain}
-use Rattle.promise_run.specs.Completeness.{IsServed}
+use Rattle.promise_run.specs.Completeness.{is_drain, IsServed}
 use Rattle.script_walks.proofs.Jobs.{starts_keep_stored}
 use Rattle.script_walks.proofs.First.{first_are_newest}
 use Rattle.script_walks.proofs.Walks.{walks_grow}
@@ -34,8 +34,8 @@ use Rattle.promise_run.proofs.Counted.{all_behind, behind_later, counted_by}
 use Rattle.script_player.specs.Paying.{Payer, PaysBy, since_behind}
 use Rattle.script_player.proofs.Paying.{none_pays, by_more}
 use Rattle.script_player.specs.Chain.{shown_of}
-use Rattle.script_player.proofs.Chain.{each_posted, all_more}
-use Rattle.script_player.proofs.Moves.{has_more, chain_more, moved_entries}
+use Rattle.script_player.proofs.Chain.{each_posted, each_rests, all_more}
+use Rattle.script_player.proofs.Moves.{has_more, chain_more, closes_more, moved_entries}
 use Rattle.script_player.proofs.Grown.{state_more}
 use Rattle.script_player.proofs.Table.{first_table}
 use Rattle.script_player.proofs.Explained.{counted_more, none_counted}
@@ -88,6 +88,8 @@ walks_on p q r made x old mid new same cap most counted walking step planned = r
       let a = walking.takes in
       let b = explained.takes in omega (arith, cuts, a, b);
   moves = has_more made x walking.pieces piece step.moves (moment_of old) (moment_of mid) (moment_of new) walking.moves step.moved step.tell step.behind;
+  closes = λ calm. closes_more (moment_of old) made x walking.moves.moves step.moves walking.moves.are (walking.closes (calm_until old mid new piece adds step.counted calm))
+      (λ drain. ap (λ (m : Moment). m.busy) (ap (λ (m : Moment). moment_behind m step.moves) walking.moves.behind ∙ step.behind) ∙ step.closes (calm_from old mid new counted calm) (ap is_drain drain));
   chain = chain_more walking.moves.moves step.moves (shown_of old) (shown_of mid) (shown_of new) walking.chain step.chain;
   pays = subst (λ (ms : List Move). PaysBy p r old ms) (sym (all_more walking.moves.moves step.moves))
       (by_more p q r old mid (all_moves walking.moves.moves) step.moves same (all_behind (moment_of old) walking.moves.moves ∙ walking.moves.behind) walked_state walking.pays step.pays);
@@ -155,6 +157,8 @@ has_walked p q r made old mid new same counted operations cuts pays walking = re
       (walking.serves (calm_until old mid new [] (same ∙ sym (append-nil mid.entries)) counted calm)));
   last = moment_of mid;
   serves = each_posted (all_moves walking.moves.moves) (shown_of old) (shown_of mid) walking.chain;
+  rests = each_rests (all_moves walking.moves.moves) (shown_of old) (shown_of mid) walking.chain;
+  closes = λ calm. walking.closes (calm_until old mid new [] (same ∙ sym (append-nil mid.entries)) counted calm);
   moves = walking.moves;
   operations = sym operations;
   counted = counted;
@@ -199,6 +203,7 @@ fresh_walking p t fresh = record {
   plan_stays = subst (λ (p : Option ℕ). IsNoEarlier None p) (sym fresh.none_planned) tt;
   takes = omega arith;
   moves = record { moves = []; are = tt; tell = refl; behind = refl };
+  closes = λ calm. tt;
   chain = refl;
   pays = none_pays p t;
   serves = λ calm. record { posts = tt; drains = tt; within = none_within t fresh.marks fresh.ops fresh.entries };

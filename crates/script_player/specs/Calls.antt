@@ -22,7 +22,7 @@ use Rattle.script_walks.specs.Turn.{IsTurn}
 use Rattle.promise_run.specs.Run.{unpaid_off, refusals_of}
 use Rattle.promise_run.specs.Completeness.{ends_job}
 use Rattle.promise_run.specs.Turns.{is_picked}
-use Rattle.script_player.specs.Told.{StackTold, state_of, IsWithin, IsGrown, IsNoEarlier}
+use Rattle.script_player.specs.Told.{StackTold, state_of, moment_of, IsWithin, IsGrown, IsNoEarlier}
 
 -- CAUSES
 
@@ -103,6 +103,8 @@ pub record MakesTurn (old new : StackTold) : Type 0 where
   -- behind a Pick its job has its turns, and the power was on
   pub picks : IsTrue (list_any (λ e. is_picked (Some e)) entries) → IsWithin new × ((state_of old).off ≡ false)
   pub serves : ¬ Rose old.faults new.faults → (state_of new).off ≡ false → Serves 1 entries old new
+  -- with nothing pending and nothing open it has nothing to do
+  pub rests : IsTrue (is_at_rest (state_of old)) → old.busy ≡ false → (entries ≡ []) × (moment_of new ≡ moment_of old)
 
 -- and its answer
 pub record Turns (answer : Turned) (old new : StackTold) : Type 0 where

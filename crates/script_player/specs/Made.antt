@@ -11,7 +11,7 @@ use Rattle.script_walks.specs.Words.{Step, StepKind, AskStep, Cut, Restart}
 use Rattle.script_walks.specs.Walk.{request_after, is_at_rest, IsPiece, IsWalkOf}
 use Rattle.promise_run.specs.Run.{Played, EachPiece, HasNoRoom, HadRoom, plan_after, unpaid_off, offs_of_flash, refusals_of, RefusalsExplain}
 use Rattle.promise_run.specs.Completeness.{turns_of, is_drain, is_restart, IsServed}
-use Rattle.promise_run.specs.Turns.{Moment, Move, entries_of, moment_behind, AreMovesOf, HasMoves, EachMove, ServesTurn, all_moves}
+use Rattle.promise_run.specs.Turns.{Moment, Move, entries_of, moment_behind, AreMovesOf, HasMoves, EachMove, ServesTurn, StaysAtRest, ClosesAtDrains, all_moves}
 use Rattle.script_player.specs.declared.steps.StepFault.{StepFault}
 use Rattle.script_player.specs.declared.steps.StepFault.TheVariants.{Flash, HistoryFull, Memory}
 use Rattle.script_player.specs.Told.{StackTold, state_of, moment_of, IsWithin, IsNoEarlier}
@@ -65,6 +65,7 @@ pub record IsMade (p q : Payer) (before : List Step) (x : Step) (old new : Stack
   pub room : ¬ HasNoRoom old.configuration old.cap (state_of old) x.kind
   pub explained : IsExplained x.kind piece old new
   pub serves : StaysCalm old new → ServesJobs x.kind piece old new
+  pub closes : StaysCalm old new → is_drain x.kind ≡ true → new.busy ≡ false
   -- its moves, whose entries are the piece
   pub moves : List Move
   pub moved : AreMovesOf x.kind (moment_of old) moves
@@ -129,6 +130,9 @@ pub record HasWalked (p q : Payer) (made : List Step) (old new : StackTold) : Ty
   pub moves : HasMoves made pieces (moment_of old) last
   -- none of which goes by where something is due, and each job that they pick is posted within its own
   pub serves : EachMove old.configuration (ServesTurn old.configuration old.most) (state_of old) (all_moves moves.moves)
+  -- one with nothing to do does nothing, and where nothing failed a drain leaves nothing open
+  pub rests : StaysAtRest old.configuration (moment_of old) (state_of old) (all_moves moves.moves)
+  pub closes : StaysCalm old new → ClosesAtDrains (moment_of old) made moves.moves
   -- and which make all operations
   pub operations : last.ops ≡ new.ops
   pub counted : last.faults ≤ new.faults

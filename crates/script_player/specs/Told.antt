@@ -47,7 +47,7 @@ state_of t = after t.configuration t.entries
 
 -- what is told of the device at this moment
 abbrev pub moment_of : StackTold → Moment
-moment_of t = record { faults = t.faults; ops = t.ops }
+moment_of t = record { faults = t.faults; ops = t.ops; busy = t.busy }
 
 -- a job in hand has a turn left, that of its Post, and no more than its most
 abbrev pub IsWithin : StackTold → Type 0

@@ -12,7 +12,7 @@ use Rattle.script_walks.specs.Words.{Step}
 use Rattle.script_walks.specs.Walk.{IsWalkOf, joined}
 use Rattle.promise_run.specs.Run.{EachPiece, HadRoom, plan_after, unpaid_offs, refusals_of}
 use Rattle.promise_run.specs.Completeness.{turns_of, is_drain, is_restart, ends_job, DrainsAll}
-use Rattle.promise_run.specs.Turns.{HasMoves, all_moves}
+use Rattle.promise_run.specs.Turns.{HasMoves, ClosesAtDrains, all_moves}
 use Rattle.script_player.specs.Chain.{shown_of, AreMoved}
 use Rattle.script_player.specs.Told.{StackTold, state_of, moment_of, IsWithin, IsNoEarlier}
 use Rattle.script_player.specs.Kept.{IsKept, StaysCalm}
@@ -79,6 +79,7 @@ pub record IsWalking (p q : Payer) (made : List Step) (old now : StackTold) : Ty
   pub takes : old.causes.takes ≤ now.causes.takes + cuts_of made
   -- their turns, one by one
   pub moves : HasMoves made pieces (moment_of old) (moment_of now)
+  pub closes : StaysCalm old now → ClosesAtDrains (moment_of old) made moves.moves
   pub chain : AreMoved (all_moves moves.moves) (shown_of old) (shown_of now)
   pub pays : PaysBy p q old (all_moves moves.moves)
   -- where nothing failed, they serve the jobs

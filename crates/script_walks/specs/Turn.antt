@@ -4,7 +4,7 @@ use Rattle.block_machine.specs.Words.{JobKind, Taken, TookContent, TookStale, En
 use Rattle.block_machine.specs.State.{State}
 use Rattle.block_machine.specs.Blocks.{desc_of, is_synchronized, names_ram, job_block}
 use Rattle.block_machine.specs.Next.{Next, PickJob, PickMember, next_of}
-use Rattle.block_machine.specs.Legal.{MayPick}
+use Rattle.block_machine.specs.Legal.{MayPick, MayPostNext}
 use Rattle.script_walks.specs.Walk.{is_due, begins_with_pick_or_post}
 
 -- the next Pick copies synchronized RAM: the job names it, and has taken no content before
@@ -24,9 +24,11 @@ pub record MakesPick (c : Configuration) (s : State) (stores : List (ℕ × List
   pub may : MayPick c s block kind t (next_of c s)
   pub newest : TakesNewest stores (copies_next c (next_of c s)) block t
 
+-- a Pick is of what comes next, and so is a Post where nothing is in hand
 abbrev pub IsOfTurn : Configuration → State → List (ℕ × List ℕ) → Entry → Type 0
 IsOfTurn c s stores (Ask caller r reply) = ⊥
 IsOfTurn c s stores (Pick block kind t ops) = MakesPick c s stores block kind t
+IsOfTurn c s stores (Post block r given refused ops) = s.hand ≡ None → MayPostNext c s block (r, given) refused (next_of c s)
 IsOfTurn c s stores (Found marks ops) = ⊥
 IsOfTurn c s stores e = Unit {0}
 

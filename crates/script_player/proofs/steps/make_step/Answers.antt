@@ -41,7 +41,7 @@ returns-in-Drain-clause-made g c =
     let new = g.S.PlayedStack.told c.drain.new.stack in
     step_made (g.S.PlayedStack.payer c.args.stack.now) (g.S.PlayedStack.payer c.drain.new.stack) c.args.step kind.Drain c.args.stores.now old new c.in-Drain.is refl (λ before has kept.
     let (made, now) = c.drain.ensures.drains before kept in
-    drain_made (g.S.PlayedStack.payer c.args.stack.now) (g.S.PlayedStack.payer c.drain.new.stack) before c.args.step.line c.args.step.caller old new made now)
+    drain_made (g.S.PlayedStack.payer c.args.stack.now) (g.S.PlayedStack.payer c.drain.new.stack) before c.args.step.line c.args.step.caller old new made c.drain.ensures.at_rest now)
 
 pub returns-in-Restart-clause-made : goal.returns-in-Restart-clause-made
 returns-in-Restart-clause-made g c =
