@@ -1,6 +1,7 @@
 -- The part of a device that is its flash's, over its calls.
 use Rattle.std.specs.Prelude.{min}
 use Rattle.std.proofs.Common.{◌≡◌, ◌≢◌, ◌⊎◌, inl, inr, ℕ, ◌≤◌, ◌+◌, true, false, List, length, refl, sym, ap, ◌∙◌, arith, ◌∷◌, [], length-append}
+use Rattle.std.proofs.lemmas.Bool.{cases_lt}
 use Rattle.nv_base.specs.Count.{Rose, next_count, last_count}
 use Rattle.memif.specs.Told.{PartTold}
 use Rattle.memif.specs.Calls.{FaultsGrow, PlanStays, PlanCuts}
@@ -45,11 +46,14 @@ works_off Done s t not_off cause = cause.2
 works_off Failed s t not_off cause = cause.2
 works_off Off s t not_off cause = absurd (not_off refl)
 
-works_plan : (answer : FlashAnswer) (a b : ℕ) (p q : PartTold) → answer ≢ Off → PlanGoes answer p.planning q.planning → b ≡ next_count a → PlanStays a b p q
-works_plan Done a b p q not_off goes ops = inr (goes, ops)
-works_plan Failed a b p q not_off (inl nears) ops = inr (nears, ops)
-works_plan Failed a b p q not_off (inr same) ops = inl same
-works_plan Off a b p q not_off goes ops = absurd (not_off refl)
+rose_next : (a b : ℕ) → b ≡ next_count a → a ≤ last_count → Rose a b
+rose_next a b is few = elim (cases_lt a last_count) [ inl small ↦ inl (omega (arith, is, small)) | inr full ↦ inr (full, omega (arith, is, few, full)) ]
+
+works_plan : (answer : FlashAnswer) (a b : ℕ) (p q : PartTold) → answer ≢ Off → PlanGoes answer p.planning q.planning → b ≡ next_count a → q.faults ≡ counts_fault answer p.faults → p.faults ≤ last_count → PlanStays a b p q
+works_plan Done a b p q not_off goes ops faults few = inr (goes, ops)
+works_plan Failed a b p q not_off (inl nears) ops faults few = inr (nears, ops)
+works_plan Failed a b p q not_off (inr same) ops faults few = inl (same, inr (rose_next p.faults q.faults faults few))
+works_plan Off a b p q not_off goes ops faults few = absurd (not_off refl)
 
 pub parts_work : PartsWork
 parts_work op answer d t c not_off =
@@ -60,7 +64,7 @@ parts_work op answer d t c not_off =
       on = c.on;
       later = omega (arith, long);
       one = inr ops;
-      plan = works_plan answer (asked_ops d) (asked_ops t) (flash_part d) (flash_part t) not_off c.makes.asked.planning ops;
+      plan = works_plan answer (asked_ops d) (asked_ops t) (flash_part d) (flash_part t) not_off c.makes.asked.planning ops c.faults c.small;
       faults = faults_grow answer d t c.makes.asked.cause c.faults c.small;
     }
 
@@ -94,7 +98,7 @@ parts_read d t r on =
       on = on;
       later = omega (arith, ops);
       one = inl ops;
-      plan = inl (ap (λ (f : Told). f.planning) r.flash);
+      plan = inl (ap (λ (f : Told). f.planning) r.flash, inl ops);
       faults = record { faults = g.0; flash = r.more; tied = g.1 };
     }
 

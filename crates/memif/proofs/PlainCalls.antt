@@ -181,7 +181,7 @@ module _ (numbers : List (DeviceNumber × ℕ)) (kept : List Kept) (up : StartUp
   before = told_with numbers kept up (Some j) last given
 
   part_works : PartTurns false 0 0 no_part no_part
-  part_works = record { only = refl; on = refl; later = omega arith; one = inl refl; plan = inl refl; faults = record { faults = omega arith; flash = omega arith; tied = inl (omega arith) } }
+  part_works = record { only = refl; on = refl; later = omega arith; one = inl refl; plan = inl (refl, inl refl); faults = record { faults = omega arith; flash = omega arith; tied = inl (omega arith) } }
 
   of_first : First ≡ part_of (plain_fixed numbers) the_job
   of_first = ap (λ (f : Figures). f.part) (sym figures_are)

@@ -188,9 +188,10 @@ abbrev pub is_read : Stand → Bool
 is_read (Open j) = is_none j.mark
 is_read (Ended result given) = false
 
--- without a cut the plan is one operation nearer, or as it was
+-- without a cut the plan is one operation nearer; or it is as it was, and no operation was made, or a fault was counted
 abbrev pub PlanStays : ℕ → ℕ → PartTold → PartTold → Type 0
-PlanStays ops ops_new old new = (new.planning ≡ old.planning) ⊎ (Nears old.planning new.planning × (ops_new ≡ next_count ops))
+PlanStays ops ops_new old new =
+    ((new.planning ≡ old.planning) × ((ops_new ≡ ops) ⊎ Rose old.faults new.faults)) ⊎ (Nears old.planning new.planning × (ops_new ≡ next_count ops))
 
 -- a cut was planned for its operation, or is counted as one without a plan
 abbrev pub PlanCuts : ℕ → ℕ → PartTold → PartTold → Type 0

@@ -87,6 +87,13 @@ module _ (a : DeviceTold) (ca : Clock) (anew : DeviceTold) (ca_new : Clock) (b :
       many : all_own false course ≤ length course
       many = own_few false course (length course)
 
+  -- where it made none, the count of the pair stays
+  stays : (anew.ops ≡ a.ops) → new.ops ≡ old.ops
+  stays same = elim goes.one [
+    | inl still ↦ (let e = ap length still.1 in omega (arith, e))
+    | inr more ↦ absurd (let one = more.0 in omega (arith, one, same))
+  ]
+
   one_both : (new.ops ≡ old.ops) ⊎ (new.ops ≡ next_count old.ops)
   one_both = elim goes.one [
     | inl still ↦ inl (let e = ap length still.1 in omega (arith, e))
@@ -110,7 +117,7 @@ module _ (a : DeviceTold) (ca : Clock) (anew : DeviceTold) (ca_new : Clock) (b :
     on = turns.on;
     later = later_both;
     one = one_both;
-    plan = elim turns.plan [ inl same ↦ inl same | inr nears ↦ inr (nears.0, counts nears.1) ];
+    plan = elim turns.plan [ inl same ↦ inl (same.0, elim same.1 [ inl none ↦ inl (stays none) | inr rose ↦ inr rose ]) | inr nears ↦ inr (nears.0, counts nears.1) ];
     faults = turns.faults;
   }
 

@@ -43,7 +43,7 @@ pub part_turned : (n : ℕ) (a b : PartTold) → PartTurns false n n a b → Par
 part_turned n a b turns = record {
   off = ap (λ (p : PartTold). p.off) turns.only ∙ sym turns.on;
   faults = turns.faults;
-  plan = λ none. elim turns.plan [ inl same ↦ same | inr nears ↦ no_nearer a.planning b.planning none nears.0 ];
+  plan = λ none. elim turns.plan [ inl same ↦ same.0 | inr nears ↦ no_nearer a.planning b.planning none nears.0 ];
 }
 
 powered : (a b : PartTold) (planning : Planning) → b.planning ≡ planning

@@ -1,5 +1,5 @@
 -- The stack over a flash: what it is behind its first start-up, and what its flash comes back with.
-use Rattle.std.specs.Prelude.{IfSome, IfOk, IsSome, slice_get, option_map, min}
+use Rattle.std.specs.Prelude.{not, IfSome, IfOk, IsSome, slice_get, option_map, min}
 use Rattle.std.proofs.Common.{◌≡◌, ◌≢◌, ◌<◌, ◌≤◌, ◌+◌, ◌*◌, ◌⊎◌, ℕ, Bool, true, false, IsTrue, List, [], ◌∷◌, Option, Some, None, Result, Ok, Err, length, refl, sym, ap, ◌∙◌, subst, inl, inr, arith}
 use Rattle.std.proofs.lemmas.Bool.Decides.{leb_tells}
 use Rattle.std.proofs.Math.Nat.{eq-or-lt_of_le}
@@ -176,6 +176,7 @@ started c inner cuts making entry m s legal origin made starts = record {
   fresh = fresh.0;
   ops = fresh.1;
   takes = let is = ap (λ p. p.planning.takes) starts.finds.up.restarted.first.only ∙ ap (λ p. p.planning.takes) part in omega (arith, is);
+  one = ap (λ (f : Fixed). not f.two) (starts.finds.up.restarted.fixed ∙ made.fixed);
   none = refl;
   faults = omega arith;
   unplanned =

@@ -27,7 +27,7 @@ use Rattle.nvm_flash.specs.promise_run.JobTurns.{job_turns}
 use Rattle.nvm_top.specs.Ends.{HasPlayable, HasStepsOf, HasWrongLine}
 use Rattle.nvm_top.specs.Play.{IsRunEnd, IsStepsEnd, IsAttachStop, IsBeforeAttach, IsRightSize, IsSizeStop, PlayStopsBy, StopsBy}
 use Rattle.nvm_top.specs.Reading.{IsEarly, IsReadStop}
-use Rattle.nvm_flash.specs.promise_run.Turns.{Moment, moment_behind, BeginsAt, EndsBy, ArePaidSince, HasTurns, EachMove, ServesTurn, StaysAtRest, all_moves}
+use Rattle.nvm_flash.specs.promise_run.Turns.{Moment, moment_behind, BeginsAt, EndsBy, ArePaidSince, HasTurns, EachMove, ServesTurn, StaysAtRest, all_moves, CutsCome}
 use Rattle.nvm_top.specs.Input.{input_limit}
 use Rattle.nvm_flash.proofs.promise_run.Paid.{since_too}
 use Rattle.nvm_flash.proofs.promise_run.CalmPosts.{calm_posts}
@@ -103,6 +103,7 @@ early_turns c steps entry exit end more ends = record {
   serves = tt;
   rests = tt;
   drains = λ calm. tt;
+  cuts = tt;
   paid = λ told sound. tt;
 }
 
@@ -284,6 +285,7 @@ has_run Kept p q c cuts all made left end before old t entry exit Tells started 
         no_fault = λ rose. calm.no_fault (v.faults (Rose-after before.faults old.faults t.faults started.faults rose));
         entries = calm.entries;
       });
+      cuts = in_time;
       paid = λ told sound. paid told sound;
     };
     promise = λ told sound. v.promise (keeps (well told sound)) made left walked.pieces end order refusals off;
@@ -316,6 +318,10 @@ has_run Kept p q c cuts all made left end before old t entry exit Tells started 
     rests =
         subst (λ (h : List Entry). StaysAtRest t.configuration (moment_of old) (after t.configuration h) (all_moves walked.moves.moves)) (sym first)
         (subst (λ (x : Configuration). StaysAtRest x (moment_of old) (after x old.entries) (all_moves walked.moves.moves)) (sym same) walked.rests)
+    in_time : CutsCome t.configuration None (moment_of old) (after t.configuration (take 1 t.entries)) made walked.moves.moves
+    in_time =
+        subst (λ (h : List Entry). CutsCome t.configuration None (moment_of old) (after t.configuration h) made walked.moves.moves) (sym first)
+        (subst (λ (x : Configuration). CutsCome x None (moment_of old) (after x old.entries) made walked.moves.moves) (sym same) (walked.cuts started.one))
 
     order : HasOrder (run_of t.configuration t.entries entry exit v.operations (Played made walked.pieces left) end) t.entries
     order = ordered made left end old t entry exit v.operations started.fresh walked same started.most leaves

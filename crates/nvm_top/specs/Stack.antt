@@ -1,5 +1,5 @@
 -- The stack that a command runs over a flash.
-use Rattle.std.specs.Prelude.{◌≡◌, ◌<◌, ◌≤◌, ℕ, List, [], length, min, Some, None}
+use Rattle.std.specs.Prelude.{◌≡◌, ◌<◌, ◌≤◌, ℕ, true, List, [], length, min, Some, None}
 use Rattle.nvm_flash.specs.nv_base.Count.{last_count, Rose, WereCounted}
 use Rattle.nvm_flash.specs.nv_base.Geometry.{size_of}
 use Rattle.nvm_flash.specs.block_config.Config.{Configuration}
@@ -41,6 +41,7 @@ pub record IsStarted (c : Configuration) (cuts : ℕ) (before : PartTold) (t : S
   pub fresh : IsFresh t
   pub ops : fresh.ops ≡ t.ops
   pub takes : cuts ≤ t.causes.takes
+  pub one : t.one ≡ true
   pub none : before.faults ≡ 0
   pub faults : before.faults ≤ t.faults
   pub unplanned : before.planning.unplanned ≤ t.causes.unplanned

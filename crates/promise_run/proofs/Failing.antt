@@ -220,6 +220,7 @@ mended_kept = record {
   );
   rests = (λ rest idle no_ask. absurd (cc no_ask), (at_work, (at_work, (at_work, (at_work, (at_work, (at_work, (at_work, tt))))))));
   drains = λ calm. (λ drain. absurd (cc drain), (λ drain. absurd (cc drain), tt));
+  cuts = ((tt, tt), ((tt, (tt, (tt, (tt, (tt, (tt, (tt, tt))))))), tt));
   paid = λ told sound. (free, (free, (free_behind, (free_behind, (free_behind, (free_behind, (free_behind, (free_behind, tt))))))));
 }
 

@@ -1,4 +1,6 @@
 mod Founds
+pub mod PlannedCuts
+mod CutsThatCome
 pub mod Paid
 pub mod Counted
 pub mod CalmPosts

@@ -21,7 +21,7 @@ two_lists a b x y is = (cc is, cc is)
 one_list : {X : Type 0} (a x : X) (xs ys : List X) → a ∷ xs ≡ x ∷ ys → (a ≡ x) × (xs ≡ ys)
 one_list a x xs ys is = (cc is, cc is)
 
-some_same : {X : Type 0} (x y : X) → Some x ≡ Some y → x ≡ y
+pub some_same : {X : Type 0} (x y : X) → Some x ≡ Some y → x ≡ y
 some_same x y is = cc is
 
 none_in : (e : Option Entry) (es : List Entry) → entry_list e ++ es ≡ [] → (e ≡ None) × (es ≡ [])
@@ -58,7 +58,7 @@ no_post id n before (m ∷ ms) many some none made few posted =
       | inr (fewer, later) ↦ no_post id (n - 1) m.behind ms (omega (arith, many)) (omega (arith, fewer)) rest made.1 few later
     ]
 
-no_count : (n : ℕ) → WereCounted n 0 0 → n ≤ 0
+pub no_count : (n : ℕ) → WereCounted n 0 0 → n ≤ 0
 no_count n (inl few) = omega (arith, few)
 no_count n (inr full) = omega (arith, full)
 
@@ -167,6 +167,7 @@ six_kept = record {
   );
   rests = (λ rest idle no_ask. absurd (cc no_ask), (at_work, (at_work, (at_work, (at_work, (at_work, (at_work, tt)))))));
   drains = λ calm. (λ drain. absurd (cc drain), (λ drain. absurd (cc drain), tt));
+  cuts = ((tt, tt), ((tt, (tt, (tt, (tt, (tt, (tt, tt)))))), tt));
   paid = λ told sound. (free, (free, (free, (free, (free, (free, (free, tt)))))));
 }
 

@@ -23,8 +23,7 @@ last_begins HistoryFull h _ rest e = let first : true ≡ false = ap (λ (l : Li
 
 -- the whole text was written
 whole : (call : Call) (r : Run) (end : End) → call.status ≢ 6 → call.status ≢ 8 → Ends call r end → Appends call.written call.written_after (text_of r)
-whole call r Memory six eight (text, inl is) = absurd (eight is)
-whole call r Memory six eight (text, inr is) = absurd (six is)
+whole call r Memory six eight (is, text) = absurd (eight is)
 whole call r Whole six eight (inl (is, text)) = text
 whole call r Whole six eight (inr (is, text)) = absurd (six is)
 whole call r FlashFault six eight (inl (is, text)) = text

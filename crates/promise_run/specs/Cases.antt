@@ -326,6 +326,14 @@ posts_on_credit =
     plays (asks_one ∷ (Turn 7, picks_one ∷ written_at 5) ∷ asks_one ∷ (Turn 2, Pick 2 WriteJob (TookContent one 0) 5 ∷ Post 2 NotOk None 0 5 ∷ []) ∷ [])
     (failed_once four_done)
 
+-- a cut is planned for the second operation, and comes in it
+abbrev pub cut_comes : Run
+cut_comes = plays ((Cut 2 0, []) ∷ asks_one ∷ (Turn 3, picks_one ∷ Off 2 ∷ []) ∷ []) (answering (Done ∷ FlashOff ∷ []))
+
+-- one is planned for the first operation, and four are made
+abbrev pub cut_missed : Run
+cut_missed = plays ((Cut 1 0, []) ∷ asks_one ∷ (Turn 6, picks_one ∷ written_at 4) ∷ []) (answering four_done)
+
 -- a start-up fails with no fault of its own, once an operation failed
 abbrev pub starts_on_credit : Run
 starts_on_credit = record (plays (asks_one ∷ (Turn 2, picks_one ∷ []) ∷ []) (failed_once [])) { end = FlashFault }

@@ -1,8 +1,8 @@
 -- The turns that a run of `play` made, one by one.
-use Rattle.std.specs.Prelude.{◌≡◌, ◌⊎◌, ◌<◌, ◌≤◌, ◌+◌, ◌-◌, ℕ, not, ◌||◌, if◌then◌else◌, Bool, true, false, IsTrue, List, [], ◌∷◌, ◌++◌, length, map, take, min, Option, Some, None, IfSome}
+use Rattle.std.specs.Prelude.{◌≡◌, ◌⊎◌, ◌<◌, ◌≤◌, ◌+◌, ◌-◌, ℕ, zero, suc, not, ◌||◌, if◌then◌else◌, Bool, true, false, IsTrue, List, [], ◌∷◌, ◌++◌, length, map, take, min, Option, Some, None, IfSome}
 use Rattle.block_machine.specs.nv_base.Count.{last_count, Rose, WereCounted}
 use Rattle.block_machine.specs.nv_base.Entry.{ops_of}
-use Rattle.script_walks.specs.Words.{Step, StepKind, AskStep, Turn, Drain, Restart}
+use Rattle.script_walks.specs.Words.{Step, StepKind, AskStep, Turn, Drain, Restart, Cut}
 use Rattle.block_machine.specs.Words.{Canceled, WriteAllJob, TookNothing, Entry, Ask, Pick, Post, Found, Configuration}
 use Rattle.block_machine.specs.State.{State, Job, Sweep, jobs_of}
 use Rattle.block_machine.specs.Blocks.{job_block}
@@ -187,6 +187,37 @@ abbrev pub CountFailed : (ℕ → Type 0) → Moment → List Move → Type 0
 CountFailed failed before [] = Unit {0}
 CountFailed failed before (m ∷ ms) = CountsOwn failed before m × CountFailed failed m.behind ms
 
+-- PLANNED CUTS
+-- a power cut that a step planned: with which operation it comes, and the faults that were counted when it was planned
+pub record Planned : Type 0 where
+  pub due : ℕ
+  pub since : ℕ
+
+-- the plan that stands from a step on
+abbrev pub planned_by : StepKind → Moment → Option Planned → Option Planned
+planned_by (Cut zero keep) now plan = plan
+planned_by (Cut (suc n) keep) now plan = Some (record { due = now.ops + suc n; since = now.faults })
+planned_by Restart now plan = None
+planned_by kind now plan = plan
+
+-- Its cut wasn't missed: fewer operations were made, or the power is off. An operation that failed may not have reached what cuts
+-- the power, so each fault since may put the cut off by one; a count of faults at its end tells none.
+abbrev pub IsInTime : Option Planned → Moment → State → Type 0
+IsInTime None now s = Unit {0}
+IsInTime (Some p) now s = (now.ops + p.since < p.due + now.faults) ⊎ ((s.off ≡ true) ⊎ (last_count ≤ now.faults))
+
+-- behind each of these moves it wasn't
+abbrev pub AreInTime : Configuration → Option Planned → State → List Move → Type 0
+AreInTime c plan s [] = Unit {0}
+AreInTime c plan s (m ∷ ms) = IsInTime plan m.behind (after_from c s (entry_list m.entry)) × AreInTime c plan (after_from c s (entry_list m.entry)) ms
+
+-- so it is with each plan of these steps, from a moment and a state on
+abbrev pub CutsCome : Configuration → Option Planned → Moment → State → List Step → List (List Move) → Type 0
+CutsCome c plan now s (x ∷ xs) (ms ∷ mss) =
+    AreInTime c (planned_by x.kind now plan) s ms
+    × CutsCome c (planned_by x.kind now plan) (moment_behind now ms) (after_from c s (entries_of ms)) xs mss
+CutsCome c plan now s steps moves = Unit {0}
+
 -- the moves of all steps, one after another
 abbrev pub all_moves : List (List Move) → List Move
 all_moves [] = []
@@ -206,9 +237,10 @@ EndsBy last f end = Unit {0}
 -- A RUN
 -- Each step of `play` that was made has its moves, from a moment behind the first start-up on. They make all operations of
 -- the flash, and each that failed is counted in its own move; the flash counted the faults that they tell, and one more where
--- a start-up failed behind them. Each job is posted within its most turns, counted from its Pick, and a turn with nothing to do
--- does nothing; where nothing fails a `drain` leaves nothing open at the device. Over a flash that tells
--- its bytes, from a sound image on, each Post is paid since the last Pick before it, or the flash was worn out.
+-- a start-up failed behind them. Each job is posted within its most turns, counted from its Pick, a turn with nothing to do does
+-- nothing, and each power cut that is planned comes at its operation; where nothing fails a `drain` leaves nothing open at the
+-- device. Over a flash that tells its bytes, from a sound image on, each Post is paid since the last Pick before it, or the flash
+-- was worn out.
 pub record KeepsTurns (most : State → Job → ℕ) (r : Run) (made : List Step) (pieces : List (List Entry)) : Type 0 where
   pub first : Moment
   pub last : Moment
@@ -221,6 +253,7 @@ pub record KeepsTurns (most : State → Job → ℕ) (r : Run) (made : List Step
   pub serves : EachMove r.configuration (ServesTurn r.configuration most) (after r.configuration (take 1 r.history)) (all_moves moves.moves)
   pub rests : StaysAtRest r.configuration first (after r.configuration (take 1 r.history)) (all_moves moves.moves)
   pub drains : IsCalm r → ClosesAtDrains first made moves.moves
+  pub cuts : CutsCome r.configuration None first (after r.configuration (take 1 r.history)) made moves.moves
   pub paid : TellsBytes r.flash → StartsSound (making_of r.configuration) r.flash
       → ArePaidSince r.configuration (IsWornOut (making_of r.configuration) r.flash) first.faults first (after r.configuration (take 1 r.history)) (all_moves moves.moves)
 

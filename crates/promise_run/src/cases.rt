@@ -13,7 +13,7 @@ ghost use Rattle.script_walks.specs.Words.{AskStep, Restart};
 ghost use Rattle.block_machine.specs.Words.{Status, Fine, Canceled, BlockSkipped, Post};
 ghost use Rattle.promise_run.specs.Run.{FlashFault, HistoryFull};
 ghost use Rattle.promise_run.specs.Turns.{BeginsAt, EndsBy, HasTurns};
-ghost use Rattle.promise_run.specs.Cases.{six_turns, lazy, leaps, at_faults, faulty, PaysFailed, CountsFailed, HadRoomAt, LeftAt, DrainsTo, WorksAt, EndsWith, mended, posts_on_credit, starts_on_credit, untold, BreaksBy, small, one, two, quiet, quiet_beside, wiped, empty_at_11, made_up_mark, off_without_a_cut, stale_in_play, invented_store, second_found, other_dataset, worn_but_roomy, worn_and_full, kept_write, lost_write, two_callers, written_at, always, turned, not_drained, fails_for_nothing, ends_for_nothing, demo_run, demo_call, untold_write, unseen_stale, later_store, full_for_nothing, not_served, worn_long_ago};
+ghost use Rattle.promise_run.specs.Cases.{six_turns, lazy, leaps, at_faults, faulty, PaysFailed, CountsFailed, HadRoomAt, LeftAt, DrainsTo, WorksAt, EndsWith, mended, posts_on_credit, starts_on_credit, untold, BreaksBy, small, one, two, quiet, quiet_beside, wiped, empty_at_11, made_up_mark, off_without_a_cut, stale_in_play, invented_store, second_found, other_dataset, worn_but_roomy, worn_and_full, kept_write, lost_write, two_callers, written_at, always, turned, not_drained, fails_for_nothing, ends_for_nothing, demo_run, demo_call, untold_write, unseen_stale, later_store, full_for_nothing, not_served, worn_long_ago, cut_comes, cut_missed};
 
 /// A start-up alone keeps it, and so do a write that a cut breaks off with a restart behind it, and the requests of two
 /// callers.
@@ -160,4 +160,12 @@ pub fn failures_are_counted_in_their_moves()
     ensures posts_on_credit { HasTurns (always 8) posts_on_credit posts_on_credit.course → ⊥ }
     ensures starts_on_credit { HasTurns (always 8) starts_on_credit starts_on_credit.course → ⊥ }
     ensures untold { HasTurns (always 8) untold untold.course → ⊥ }
+{}
+
+/// A power cut that is planned for the second operation comes in it. None is missed: with one planned for the first operation no
+/// run makes four.
+#[tactic(auto, using(crate::proofs::CutsThatCome::comes_kept, crate::proofs::CutsThatCome::not_missed))]
+pub fn planned_cuts_come()
+    ensures comes { HasTurns (always 8) cut_comes cut_comes.course }
+    ensures missed { HasTurns (always 8) cut_missed cut_missed.course → ⊥ }
 {}

@@ -151,7 +151,7 @@ by_restart es old new is = record {
   offs = λ plan ops within few stays. record { off = is.off; plan_stays = is.plan_stays };
 }
 
-pub by_cut : (nth keep : ℕ) (old new : StackTold) → Arms nth old new → IsExplained (Cut nth keep) [] old new
+pub by_cut : (nth keep : ℕ) (old new : StackTold) → Arms nth keep old new → IsExplained (Cut nth keep) [] old new
 by_cut nth keep old new arms = record {
   refusals = λ id. let same : new.causes.refusable id ≡ old.causes.refusable id = ap (λ t. t.causes.refusable id) arms.only in omega (arith, same);
   takes = arms.takes;

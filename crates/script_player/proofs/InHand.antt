@@ -13,6 +13,7 @@ use Rattle.nvm_core.specs.block_machine.Steps.{step, after, after_from, picked, 
 use Rattle.nvm_core.proofs.block_laws.Along.{Leaves, asked_leaves}
 use Rattle.script_walks.specs.Walk.{is_at_rest}
 use Rattle.promise_run.specs.Completeness.{is_calm_entry, ends_job}
+use Rattle.promise_run.specs.Turns.{is_found}
 
 -- THE POWER AND THE HAND
 
@@ -50,6 +51,29 @@ step_on c s (Found marks ops) on calm = refl
 pub stays_on : (c : Configuration) (s : State) (es : List Entry) → s.off ≡ false → IsTrue (list_all is_calm_entry es) → (after_from c s es).off ≡ false
 stays_on c s [] on calm = on
 stays_on c s (e ∷ es) on calm = let two = and_parts (is_calm_entry e) (list_all is_calm_entry es) calm in stays_on c (step c s e) es (step_on c s e on two.0) two.1
+
+-- once it is off it stays so until a start-up
+picked_off : (c : Configuration) (s : State) (t : Taken) (next : Next) → (picked c s t next).off ≡ s.off
+picked_off c s t (PickJob j) = refl
+picked_off c s t (BeginSweep sw) = refl
+picked_off c s t (PickMember sw id) = refl
+picked_off c s t next = refl
+
+wrote_off : (s : State) (i : Instance) (mark : Mark) (hand : Option Job) → (wrote s i mark hand).off ≡ s.off
+wrote_off s i mark None = refl
+wrote_off s i mark (Some j) = refl
+
+posted_off : (c : Configuration) (s : State) (r : ReqResult) (given : Option (List ℕ)) (hand : Option Job) → (posted c s r given hand).off ≡ s.off
+posted_off c s r given (Some j) = refl
+posted_off c s r given None = (next_leaves c s r given (next_of c s)).2
+
+pub stays_off : (c : Configuration) (s : State) (e : Entry) → is_found (Some e) ≡ false → s.off ≡ true → (step c s e).off ≡ true
+stays_off c s (Ask caller r reply) no_found off = (asked_leaves c s r reply).2 ∙ off
+stays_off c s (Pick block kind t ops) no_found off = picked_off c s t (next_of c s) ∙ off
+stays_off c s (Wrote i mark ops) no_found off = wrote_off s i mark s.hand ∙ off
+stays_off c s (Post block r given refused ops) no_found off = posted_off c s r given s.hand ∙ off
+stays_off c s (Off ops) no_found off = refl
+stays_off c s (Found marks ops) no_found off = absurd (cc no_found)
 
 -- behind calm entries it is on
 pub power_on : (c : Configuration) (h : List Entry) → IsTrue (list_all is_calm_entry h) → (after c h).off ≡ false

@@ -8,6 +8,7 @@ pub mod Walking
 pub mod Grown
 pub mod Paying
 pub mod Moves
+pub mod Coming
 pub mod Chain
 pub mod InHand
 pub mod Serving

@@ -22,8 +22,10 @@ use Rattle.script_walks.proofs.Jobs.{steps_keep_stored, asks_keep_stored, starts
 use Rattle.script_player.specs.Told.{StackTold, state_of, moment_of}
 use Rattle.script_player.specs.Calls.{StartsAgain, Arms, Stores, Refuses}
 use Rattle.script_player.specs.Kept.{IsKept, StaysCalm, HasTurned, AreMade, MakesTurns, Drains}
-use Rattle.script_player.specs.Made.{IsMade, Makes, IsAsked, IsExplained}
-use Rattle.promise_run.specs.Turns.{Move, AreMovesOf}
+use Rattle.script_player.specs.Coming.{PlansCuts, KeepsBy}
+use Rattle.script_player.specs.Made.{cuts_in, IsMade, Makes, IsAsked, IsExplained}
+use Rattle.promise_run.specs.Turns.{Moment, Move, Planned, planned_by, AreMovesOf}
+use Rattle.script_player.proofs.Coming.{pending_same, refuse_cuts, ask_cuts, turns_cuts}
 use Rattle.script_player.proofs.Moves.{move_to, ask_chain, start_chain}
 use Rattle.script_player.specs.Chain.{shown_of}
 use Rattle.script_player.specs.Paying.{Payer, PaysNothing}
@@ -57,8 +59,9 @@ kept_more before x t none kept = record {
 
 -- a step that adds nothing, and changes the causes at most
 nothing_made : (p q : Payer) (before : List Step) (line caller : ℕ) (kind : StepKind) (old new : StackTold) → is_store kind ≡ false → ¬ HasNoRoom old.configuration old.cap (state_of old) kind → turns_of kind ≡ 0 → is_drain kind ≡ false → AreMovesOf kind (moment_of old) [] → IsPieceBy old.configuration before (state_of old) caller kind []
-    → new ≡ record old { causes = new.causes } → IsExplained kind [] old new → PaysNothing p q new → IsKept before old → IsMade p q before (record { line = line; caller = caller; kind = kind }) old new
-nothing_made p q before line caller kind old new none room turns no_drain rests is same explained pays kept =
+    → new ≡ record old { causes = new.causes } → IsExplained kind [] old new → PaysNothing p q new → (cuts_in kind ≤ old.causes.takes → PlansCuts kind [] old new) → KeepsBy kind old new → IsKept before old
+    → IsMade p q before (record { line = line; caller = caller; kind = kind }) old new
+nothing_made p q before line caller kind old new none room turns no_drain rests is same explained pays cuts keeps kept =
     let x : Step = record { line = line; caller = caller; kind = kind } in
     record {
       piece = [];
@@ -78,6 +81,9 @@ nothing_made p q before line caller kind old new none room turns no_drain rests 
       behind = sym (ap moment_of same);
       chain = ap shown_of same;
       pays = nothing_pays p q old new pays;
+      one = ap (λ t. t.one) same;
+      cuts = cuts;
+      keeps = keeps;
       kept = subst (λ (t : StackTold). IsKept (before ++ x ∷ []) t) (sym same) (moved (kept_more before x old none kept));
     }
   where
@@ -86,18 +92,19 @@ nothing_made p q before line caller kind old new none room turns no_drain rests 
 
 -- a step that adds nothing, where the causes alone change
 causes_made : (p q : Payer) (x : Step) (kind : StepKind) (table : List ℕ) (old new : StackTold) → x.kind ≡ kind → is_store kind ≡ false → ¬ HasNoRoom old.configuration old.cap (state_of old) kind → turns_of kind ≡ 0 → is_drain kind ≡ false → AreMovesOf kind (moment_of old) []
-    → ((before : List Step) → IsPieceBy old.configuration before (state_of old) x.caller kind []) → new ≡ record old { causes = new.causes } → IsExplained kind [] old new → PaysNothing p q new → Makes p q x table table old new
-causes_made p q x kind table old new is none room turns no_drain rests piece same explained pays =
-    step_made p q x kind table old new is none (λ before has kept. nothing_made p q before x.line x.caller kind old new none room turns no_drain rests (piece before) same explained pays kept)
+    → ((before : List Step) → IsPieceBy old.configuration before (state_of old) x.caller kind []) → new ≡ record old { causes = new.causes } → IsExplained kind [] old new → PaysNothing p q new → (cuts_in kind ≤ old.causes.takes → PlansCuts kind [] old new) → KeepsBy kind old new
+    → Makes p q x table table old new
+causes_made p q x kind table old new is none room turns no_drain rests piece same explained pays cuts keeps =
+    step_made p q x kind table old new is none (λ before has kept. nothing_made p q before x.line x.caller kind old new none room turns no_drain rests (piece before) same explained pays cuts keeps kept)
 
 -- an arm, and a refusal
-pub arm_made : (p q : Payer) (x : Step) (nth keep : ℕ) (table : List ℕ) (old new : StackTold) → x.kind ≡ Cut nth keep → Arms nth old new → PaysNothing p q new → Makes p q x table table old new
+pub arm_made : (p q : Payer) (x : Step) (nth keep : ℕ) (table : List ℕ) (old new : StackTold) → x.kind ≡ Cut nth keep → Arms nth keep old new → PaysNothing p q new → Makes p q x table table old new
 arm_made p q x nth keep table old new is arms pays =
-    causes_made p q x (Cut nth keep) table old new is refl (λ no. no) refl refl refl (λ before. refl) (arms.only ∙ ap (λ y. record old { causes = y }) (sym (ap (λ t. t.causes) arms.only))) (by_cut nth keep old new arms) pays
+    causes_made p q x (Cut nth keep) table old new is refl (λ no. no) refl refl refl (λ before. refl) (arms.only ∙ ap (λ y. record old { causes = y }) (sym (ap (λ t. t.causes) arms.only))) (by_cut nth keep old new arms) pays arms.comes arms.keeps
 
 pub refuse_made : (p q : Payer) (x : Step) (block count : ℕ) (table : List ℕ) (old new : StackTold) → x.kind ≡ Refuse block count → Refuses block count old new → PaysNothing p q new → Makes p q x table table old new
 refuse_made p q x block count table old new is refuses pays =
-    causes_made p q x (Refuse block count) table old new is refl (λ no. no) refl refl refl (λ before. refl) (refuses.only ∙ ap (λ y. record old { causes = y }) (sym (ap (λ t. t.causes) refuses.only))) (by_refuse block count old new refuses) pays
+    causes_made p q x (Refuse block count) table old new is refl (λ no. no) refl refl refl (λ before. refl) (refuses.only ∙ ap (λ y. record old { causes = y }) (sym (ap (λ t. t.causes) refuses.only))) (by_refuse block count old new refuses) pays (λ few. refuse_cuts block count old new refuses) tt
 
 ask_takes : (c : Configuration) (before : List Step) (copies : Bool) (e : Entry) (caller : ℕ) (r : Request) (reply : Reply) → TakesStore c before copies (Ask caller r reply)
 ask_takes c before true e caller r reply = tt
@@ -135,6 +142,9 @@ ask_made p q before line caller r table old new can asked pays has kept =
       behind = sym (ap moment_of adds.adds);
       chain = ask_chain caller (request_after old.configuration before caller r) reply old new adds;
       pays = ask_pays p q caller (request_after old.configuration before caller r) reply old new (ap (λ t. t.faults) adds.adds) pays;
+      one = ap (λ t. t.one) adds.adds;
+      cuts = λ few. ask_cuts caller r (request_after old.configuration before caller r) reply old new adds;
+      keeps = tt;
       is = ((refl, refl), (ask_takes old.configuration before (copies_by old.configuration (next_of old.configuration (state_of old))) e caller (request_after old.configuration before caller r) reply, tt));
       kept = subst (λ (t : StackTold). IsKept (before ++ x ∷ []) t) (sym adds.adds) (record {
         ready = kept.ready;
@@ -172,6 +182,9 @@ restart_made p q before line caller old new starts_again pays kept =
       behind = refl;
       chain = start_chain marks ops old new (ap (λ t. t.configuration) same) (ap (λ t. t.most) same) (ap (λ t. t.entries) same);
       pays = found_pays p q marks ops old new starts_again.operations pays;
+      one = ap (λ t. t.one) same;
+      cuts = λ few one plan pending. ((tt, tt), tt);
+      keeps = tt;
       is = (tt, (found_takes old.configuration before (copies_by old.configuration (next_of old.configuration (state_of old))) marks ops, tt));
       kept = subst (λ (t : StackTold). IsKept (before ++ x ∷ []) t) (sym same) (record {
         ready = refl;
@@ -184,8 +197,8 @@ restart_made p q before line caller old new starts_again pays kept =
 
 -- turns, with the piece that they added
 turned_made : (p q : Payer) (before : List Step) (line caller : ℕ) (kind : StepKind) (old new : StackTold) (es : List Entry) (ms : List Move) → AreMovesOf kind (moment_of old) ms → AreMade p q es ms old new → is_store kind ≡ false → ¬ HasNoRoom old.configuration old.cap (state_of old) kind → ((plan : Option ℕ) (ops : ℕ) → plan_after kind plan ops ≡ plan)
-    → HasTurned (turns_of kind) before old new es → (StaysCalm old new → is_drain kind ≡ true → IsTrue (is_at_rest (state_of new))) → (StaysCalm old new → is_drain kind ≡ true → new.busy ≡ false) → IsPieceBy old.configuration before (state_of old) caller kind es → IsKept before new → IsMade p q before (record { line = line; caller = caller; kind = kind }) old new
-turned_made p q before line caller kind old new es ms own moved none room plans turned drains closes is kept =
+    → ((plan : Option Planned) (now : Moment) → planned_by kind now plan ≡ plan) → KeepsBy kind old new → HasTurned (turns_of kind) before old new es → (StaysCalm old new → is_drain kind ≡ true → IsTrue (is_at_rest (state_of new))) → (StaysCalm old new → is_drain kind ≡ true → new.busy ≡ false) → IsPieceBy old.configuration before (state_of old) caller kind es → IsKept before new → IsMade p q before (record { line = line; caller = caller; kind = kind }) old new
+turned_made p q before line caller kind old new es ms own moved none room plans planned keeps turned drains closes is kept =
     let x : Step = record { line = line; caller = caller; kind = kind } in
     record {
       piece = es;
@@ -204,6 +217,9 @@ turned_made p q before line caller kind old new es ms own moved none room plans 
       behind = moved.behind;
       chain = moved.chain;
       pays = moved.pays;
+      one = ap (λ t. t.one) turned.grows;
+      cuts = λ few. turns_cuts kind ms old new planned moved.cuts;
+      keeps = keeps;
       is = (is, turned.keeps.stores);
       kept = kept_more before x new none kept;
     }
@@ -211,12 +227,12 @@ turned_made p q before line caller kind old new es ms own moved none room plans 
 pub turns_made : (p q : Payer) (before : List Step) (line caller count : ℕ) (old new : StackTold) → 1 ≤ count → MakesTurns p q count before old new → IsKept before new
     → IsMade p q before (record { line = line; caller = caller; kind = Turn count }) old new
 turns_made p q before line caller zero old new some made kept = absurd (let none : 1 ≤ 0 = some in omega (arith, none))
-turns_made p q before line caller (suc n) old new some (es, turned, is, (ms, many, moved)) kept = turned_made p q before line caller (Turn (suc n)) old new es ms (many, moved.turns) moved refl (λ no. no) (λ plan ops. refl) turned (λ calm no_. absurd (cc no_)) (λ calm no_. absurd (cc no_)) is kept
+turns_made p q before line caller (suc n) old new some (es, turned, is, (ms, many, moved)) kept = turned_made p q before line caller (Turn (suc n)) old new es ms (many, moved.turns) moved refl (λ no. no) (λ plan ops. refl) (λ plan now. refl) tt turned (λ calm no_. absurd (cc no_)) (λ calm no_. absurd (cc no_)) is kept
 
 pub drain_made : (p q : Payer) (before : List Step) (line caller : ℕ) (old new : StackTold) → Drains p q before old new → (¬ Rose old.faults new.faults → (state_of new).off ≡ false → new.busy ≡ false) → IsKept before new
     → IsMade p q before (record { line = line; caller = caller; kind = Drain }) old new
 drain_made p q before line caller old new (es, turned, is, (ms, moved)) closes kept =
-    turned_made p q before line caller Drain old new es ms moved.turns moved refl (λ no. no) (λ plan ops. refl) turned (λ calm drain. at_rest_where_calm old new es turned.grows calm is.ends)
+    turned_made p q before line caller Drain old new es ms moved.turns moved refl (λ no. no) (λ plan ops. refl) (λ plan now. refl) tt turned (λ calm drain. at_rest_where_calm old new es turned.grows calm is.ends)
     (λ calm drain. closes calm.no_fault (power_on new.configuration new.entries calm.entries)) is kept
 
 -- a store
@@ -249,6 +265,9 @@ store_made p q before line caller block number content old new sync within small
       behind = refl;
       chain = refl;
       pays = nothing_pays p q old new pays;
+      one = refl;
+      cuts = λ few one plan pending. (tt, pending_same plan old (record old { stores = slice_set old.stores block (number, content) }) refl refl refl (λ off. off) pending);
+      keeps = tt;
       is = (refl, tt);
       kept = record {
         ready = kept.ready;

@@ -9,7 +9,7 @@ use Rattle.nvm_core.specs.block_machine.Words.{Instance, Mark, Request, Reply, E
 use Rattle.nvm_core.specs.block_machine.State.{State}
 use Rattle.script_walks.specs.Words.{Step, Drain}
 use Rattle.script_walks.specs.Turn.{IsTurn}
-use Rattle.promise_run.specs.Turns.{Moment, Move, entry_list, entries_of, moment_behind, moment_after, AreTurnsMade, AreMovesOf, AreMoves, HasMoves, ClosesAtDrains, is_asked, is_picked, all_moves}
+use Rattle.promise_run.specs.Turns.{Moment, Move, entry_list, entries_of, moment_behind, moment_after, AreTurnsMade, AreMovesOf, AreMoves, HasMoves, ClosesAtDrains, is_asked, is_picked, all_moves, IsInTime, AreInTime}
 use Rattle.nvm_core.specs.block_machine.Steps.{after_from}
 use Rattle.script_player.specs.Told.{StackTold, state_of, moment_of, IsGrown}
 use Rattle.script_player.specs.Paying.{Payer, PaysTurn, PaysBy}
@@ -19,6 +19,8 @@ use Rattle.script_player.proofs.Paying.{none_pays, by_more}
 use Rattle.script_player.specs.Calls.{AllTell, AddsAsk, MakesTurn}
 use Rattle.script_player.specs.Chain.{Shown, shown_of, ServesIn, IsMoved, AreMoved}
 use Rattle.script_player.proofs.Canceled.{first_of, canceled_ends}
+use Rattle.promise_run.proofs.PlannedCuts.{in_time_more}
+use Rattle.script_player.proofs.Coming.{entries_more, in_time, turn_coming}
 use Rattle.script_player.proofs.Chain.{moved_more, all_more}
 use Rattle.script_player.specs.Kept.{AreMade}
 
@@ -28,13 +30,9 @@ pub turns_more : (m : Moment) (xs ys : List Move) → AreTurnsMade m xs → AreT
 turns_more m [] ys one two = two
 turns_more m (x ∷ xs) ys one two = (one.0, turns_more x.behind xs ys one.1 two)
 
-pub entries_more : (xs ys : List Move) → entries_of (xs ++ ys) ≡ entries_of xs ++ entries_of ys
-entries_more [] ys = refl
-entries_more (x ∷ xs) ys = ap (λ (es : List Entry). entry_list x.entry ++ es) (entries_more xs ys) ∙ sym (append_assoc (entry_list x.entry) (entries_of xs) (entries_of ys))
-
 -- no turn
 pub none_moved : (p : Payer) (t : StackTold) → AreMade p p [] [] t t
-none_moved p t = record { turns = tt; tell = refl; behind = refl; chain = refl; pays = none_pays p t }
+none_moved p t = record { turns = tt; tell = refl; behind = refl; chain = refl; pays = none_pays p t; cuts = λ one plan coming. (tt, coming) }
 
 pub made_more : (p q r : Payer) (old mid new : StackTold) (es more : List Entry) (xs ys : List Move) → IsGrown es old mid → AreMade p q es xs old mid → AreMade q r more ys mid new → AreMade p r (es ++ more) (xs ++ ys) old new
 made_more p q r old mid new es more xs ys grows one two = record {
@@ -44,6 +42,14 @@ made_more p q r old mid new es more xs ys grows one two = record {
   chain = moved_more xs ys (shown_of old) (shown_of mid) (shown_of new) one.chain two.chain;
   pays = by_more p q r old mid xs ys (ap (λ (t : StackTold). t.configuration) grows) one.behind
       (state_grown old mid es grows ∙ ap (after_from old.configuration (state_of old)) one.tell) one.pays two.pays;
+  cuts = λ alone plan coming.
+      let (here, now) = one.cuts alone plan coming in
+      let (later, end) = two.cuts (ap (λ (t : StackTold). t.one) grows ∙ alone) plan now in (
+        in_time_more old.configuration (Some plan) (state_of old) xs ys here
+            (subst (λ (s : State). AreInTime old.configuration (Some plan) s ys) (state_grown old mid es grows ∙ ap (after_from old.configuration (state_of old)) one.tell)
+            (subst (λ (c : Configuration). AreInTime c (Some plan) (state_of mid) ys) (ap (λ (t : StackTold). t.configuration) grows) later)),
+        end,
+      );
 }
 
 -- the entries behind moves
@@ -122,6 +128,12 @@ turn_moved p q old new turn pays = record {
   behind = refl;
   chain = (shown_of new, turn_chain old new turn, refl);
   pays = turn_pays p q old new turn pays;
+  cuts = λ alone plan coming.
+      let now = turn_coming old new turn alone plan coming in
+      let first = all_first old.configuration (state_of old) old.stores turn.entries turn.turn in (
+        (subst (λ (s : State). IsInTime (Some plan) (moment_of new) s) (state_grown old new turn.entries turn.grows ∙ ap (after_from old.configuration (state_of old)) first) (in_time plan new now), tt),
+        now,
+      );
 }
 
 -- a request

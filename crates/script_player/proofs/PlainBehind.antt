@@ -37,7 +37,7 @@ use Rattle.script_player.proofs.PlainDevices.{Goes, goes_from, turn_goes, turn_f
 use Rattle.script_player.proofs.PlainPicks.{due_hand, due_rest, at_rest}
 use Rattle.script_player.proofs.PlainRefused.{fewer, wrote_untold}
 use Rattle.script_player.proofs.PlainServing.{IsServing, off_serves, work_serves}
-use Rattle.script_player.proofs.PlainTurning.{same_stores, grown, none_more, one_more, explained, makes_one, none_off, one_price, begins_late}
+use Rattle.script_player.proofs.PlainTurning.{same_stores, grown, none_more, one_more, explained, makes_one, misses_none, none_off, one_price, begins_late}
 use Rattle.script_player.proofs.PlainHalves.{are_told, is_now, is_looked, IsBehind}
 
 -- THE ENTRY OF A JOB THAT ENDED
@@ -110,7 +110,7 @@ module _ {D : Type 0} (device : D → DeviceTold) (clock : D → Clock) (old bet
 
   module _ (answer : Turned) (second : IsSecondHalf device clock answer between new) (behind : IsBehind device answer old new) where
     goes : Goes (device old.device) (device new.device)
-    goes = goes_from (device old.device) (device between.device) (device new.device) made one two
+    goes = goes_from (device old.device) (device between.device) (device new.device) (ap (λ (d : DeviceTold). d.fixed) half.device) made one two
         (turn_goes answer (device between.device) (device new.device) (clock between.device) (clock new.device) second.turns)
 
     stores : map store_of new.copies ≡ map store_of old.copies
@@ -145,6 +145,7 @@ module _ {D : Type 0} (device : D → DeviceTold) (clock : D → Clock) (old bet
             picks = λ picked. absurd (cc picked);
             serves = serves;
             rests = λ rest free. absurd (still_open behind.tied.paired rest free);
+            cuts = misses_none device old new goes behind.power;
           };
           answers = answers;
           lowers = lowers;
@@ -175,6 +176,7 @@ module _ {D : Type 0} (device : D → DeviceTold) (clock : D → Clock) (old bet
             picks = λ picked. absurd (no_pick picked);
             serves = serves;
             rests = λ rest free. absurd (still_open behind.tied.paired rest free);
+            cuts = misses_none device old new goes behind.power;
           };
           answers = answers;
           lowers = lowers;

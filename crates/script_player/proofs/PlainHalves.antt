@@ -37,7 +37,7 @@ use Rattle.script_player.proofs.PlainPicks.{newest, stored_so, counted, due_off,
 use Rattle.script_player.proofs.PlainRefused.{IsOn, fewer, pick_keeps, post_keeps}
 use Rattle.script_player.proofs.PlainMostTurns.{within_of}
 use Rattle.script_player.proofs.PlainServing.{IsServing, off_serves, rest_serves, pick_serves, post_serves}
-use Rattle.script_player.proofs.PlainTurning.{same_stores, grown, none_more, one_more, explained, makes_one, none_off, one_price, begins_by, begins_late}
+use Rattle.script_player.proofs.PlainTurning.{same_stores, grown, none_more, one_more, explained, makes_one, misses_none, none_off, one_price, begins_by, begins_late}
 
 -- what is told of the application, and the newest store of a block
 abbrev pub are_told : List PlainBlock → List Told
@@ -148,6 +148,7 @@ module _ {D : Type 0} (device : D → DeviceTold) (old new : StackState D (List 
           picks = λ picked. absurd (cc picked);
           serves = serves;
           rests = λ rest idle. (refl, ap (λ (d : DeviceTold). moment_of (shown old.desk None old.copies old.ready d)) stays);
+          cuts = misses_none device old new (goes_same (device old.device) (device new.device) made one two) behind.power;
         };
         answers = answers;
         lowers = lowers;
@@ -188,6 +189,7 @@ module _ {D : Type 0} (device : D → DeviceTold) (old new : StackState D (List 
           picks = λ is. (within_of new.desk.config (state_of new.desk) new.hand (device new.device) behind.tied_behind.paired behind.takes, is_on (state_of old.desk).off picked.allowed.0.on);
           serves = pick_serves device old new block ops picked.kind picked.taken behind.tied_behind.paired behind.takes;
           rests = λ rest idle. absurd (subst (λ (n : Next). MayPick c s block picked.kind picked.taken n) (rests_next c s rest).1 may);
+          cuts = misses_none device old new (goes_same (device old.device) (device new.device) made one two) behind.power;
         };
         answers = tt;
         lowers = behind.lowers;
@@ -219,6 +221,7 @@ module _ {D : Type 0} (device : D → DeviceTold) (old new : StackState D (List 
           serves = post_serves device old new post.block post.refused ops post.result post.given post.on
               (subst (λ (h : Option HandState). IsPaired new.desk.config (state_of new.desk) h (device new.device)) half.at_device.1 behind.tied_behind.paired).0;
           rests = λ rest idle. let (none, nothing) = rests_next c s rest in absurd (subst (λ (n : Next). MayPostNext c s post.block (post.result, post.given) post.refused n) nothing (post.may none));
+          cuts = misses_none device old new (goes_same (device old.device) (device new.device) made one two) behind.power;
         };
         answers = tt;
         lowers = behind.lowers;

@@ -21,7 +21,7 @@ part_unplanned true n m p q turns = elim turns.plan [
   | inr other ↦ elim other.unplanned [ inl less ↦ omega (arith, less) | inr last ↦ last.1 ]
 ]
 part_unplanned false n m p q turns = elim turns.plan [
-  | inl stays ↦ let same = ap (λ (x : Planning). x.unplanned) stays in omega (arith, same)
+  | inl stays ↦ let same = ap (λ (x : Planning). x.unplanned) stays.0 in omega (arith, same)
   | inr nears ↦ let same = ap (λ (x : Planning). x.unplanned) nears.0.planning in omega (arith, same)
 ]
 
@@ -31,7 +31,7 @@ part_takes true n m p q turns = elim turns.plan [
   | inr other ↦ other.takes
 ]
 part_takes false n m p q turns = elim turns.plan [
-  | inl stays ↦ ap (λ (x : Planning). x.takes) stays
+  | inl stays ↦ ap (λ (x : Planning). x.takes) stays.0
   | inr nears ↦ ap (λ (x : Planning). x.takes) nears.0.planning
 ]
 
@@ -58,7 +58,7 @@ same_plan n m less (Some x) = inl (omega (arith, less))
 
 stays_plan : (n m : ℕ) (p q : PartTold) → n ≤ m → PlanStays n m p q
     → IsNoEarlier (option_map (λ (x : Plan). n + x.left) p.planning.plan) (option_map (λ (x : Plan). m + x.left) q.planning.plan)
-stays_plan n m p q later (inl same) =
+stays_plan n m p q later (inl (same, why)) =
     subst (λ (x : Planning). IsNoEarlier (option_map (λ (x : Plan). n + x.left) p.planning.plan) (option_map (λ (x : Plan). m + x.left) x.plan)) (sym same)
     (same_plan n m later p.planning.plan)
 stays_plan n m p q later (inr nears) =
@@ -74,6 +74,52 @@ part_plan false n m p q turns =
     subst (λ (x : Option ℕ). IsNoEarlier x (plan_of m q)) (sym before)
     (subst (λ (x : Option ℕ). IsNoEarlier (option_map (λ (x : Plan). n + x.left) p.planning.plan) x) (sym behind)
     (stays_plan n m p q turns.later turns.plan))
+
+-- ITS CUT COMES
+
+-- a plan stands at a part that is on, no later than so, but for the faults since; a count of faults at its end tells none
+abbrev pub ComesBy : (n m x : ℕ) → PartTold → PartTold → Type 0
+ComesBy n m x p q = (last_count ≤ q.faults) ⊎ ((y : ℕ) × (plan_of m q ≡ Some y) × (m < y) × (y + p.faults ≤ x + q.faults))
+
+-- a turn in which nothing is cut
+pub part_comes : (n m x : ℕ) (p q : PartTold) → PartTurns false n m p q → plan_of n p ≡ Some x → n < x → ComesBy n m x p q
+part_comes n m x p q turns stands late = by p.planning.plan refl
+  where
+    on : q.off ≡ false
+    on = ap (λ (z : PartTold). z.off) turns.only
+
+    most : m ≤ n + 1
+    most = elim turns.one [ inl same ↦ omega (arith, same) | inr more ↦ omega (arith, more) ]
+
+    here : (o : Option Plan) → q.planning.plan ≡ o → plan_of m q ≡ option_map (λ (z : Plan). m + z.left) o
+    here o is = plan_on m q on ∙ ap (option_map (λ (z : Plan). m + z.left)) is
+
+    there : (o : Option Plan) → p.planning.plan ≡ o → option_map (λ (z : Plan). n + z.left) o ≡ Some x
+    there o is = ap (option_map (λ (z : Plan). n + z.left)) (sym is) ∙ sym (plan_on n p turns.on) ∙ stands
+
+    due : (z : Plan) → p.planning.plan ≡ Some z → n + z.left ≡ x
+    due z is = let same = there (Some z) is in cc same
+
+    by : (o : Option Plan) → p.planning.plan ≡ o → ComesBy n m x p q
+    by None is = let none = there None is in absurd (cc none)
+    by (Some z) is = elim turns.plan [
+      | inl (same, inl none) ↦
+          let at = due z is in
+          let more = turns.faults.faults in inr (m + z.left, here (Some z) (ap (λ (y : Planning). y.plan) same ∙ is), omega (arith, at, late, none), omega (arith, at, none, more))
+      | inl (same, inr (inl rose)) ↦
+          let at = due z is in inr (m + z.left, here (Some z) (ap (λ (y : Planning). y.plan) same ∙ is), omega (arith, at, late), omega (arith, at, most, rose))
+      | inl (same, inr (inr full)) ↦ inl (let last = full.0 in let more = full.1 in omega (arith, last, more))
+      | inr nears ↦ near nears.0.early nears.0.planning
+    ]
+      where
+        near : ¬ IsDue p.planning.plan → q.planning ≡ record p.planning { plan = nearer p.planning.plan } → ComesBy n m x p q
+        near early goes = elim (leb_tells z.left 1) [
+          | inl soon ↦ absurd (early (subst IsDue (sym is) soon.1))
+          | inr far ↦
+              let at = due z is in
+              let left = far.1 in
+              let more = turns.faults.faults in inr (m + (z.left - 1), here (Some (record z { left = z.left - 1 })) (ap (λ (y : Planning). y.plan) goes ∙ ap nearer is), omega (arith, left), omega (arith, at, most, left, more))
+        ]
 
 -- A CUT
 

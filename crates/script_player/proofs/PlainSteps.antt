@@ -6,7 +6,7 @@ use Prim.Native.Nat.compare
 use Rattle.nvm_core.specs.nv_base.Entry.{ops_behind}
 use Rattle.nvm_core.specs.nv_base.Plan.{Planning, planned}
 use Rattle.nvm_core.specs.nv_base.declared.plan.Plan.{Plan}
-use Rattle.nvm_core.specs.memif.Told.{DeviceTold, armed, plans, ops_of}
+use Rattle.nvm_core.specs.memif.Told.{DeviceTold, armed, plans, ops_of, faults_of}
 use Rattle.nvm_core.specs.ram_blocks.declared.plain_block.PlainBlock.{PlainBlock}
 use Rattle.nvm_core.specs.ram_blocks.Copies.{next_number}
 use Rattle.nvm_core.specs.ram_blocks.Told.{Told, IsSynchronized, refusals_by, refusals_of, most_by, most_of}
@@ -15,9 +15,13 @@ use Rattle.nvm_core.specs.nv_desk.Desk.{DeskState, state_of}
 use Rattle.nvm_core.specs.job_progress.Hand.{HandState}
 use Rattle.nvm_core.specs.nvm_laws.Work.{stack_work}
 use Rattle.nvm_core.specs.Work.{left_with}
+use Rattle.nvm_core.specs.Stack.{PowersOff}
+use Rattle.script_walks.specs.Words.{Cut}
 use Rattle.script_player.specs.Told.{IsNoEarlier}
+use Rattle.script_player.specs.Coming.{IsComing, PlansCuts, KeepsBy}
+use Rattle.script_player.proofs.Coming.{pending_same}
 use Rattle.script_player.specs.Calls.{Arms, Stores, Refuses}
-use Rattle.script_player.specs.PlainTold.{plan_of, plan_in, takes_in, ops_in, causes_in, refusable_in, shown}
+use Rattle.script_player.specs.PlainTold.{plan_of, plan_in, due_in, keep_in, takes_in, ops_in, causes_in, refusable_in, shown}
 use Rattle.script_player.proofs.PlainPlans.{none_earlier, both_later, ops_told}
 use Rattle.script_player.proofs.PlainCopies.{store_here, stored_told, stored_stores, refusing_stores}
 
@@ -43,6 +47,42 @@ armed_takes nth keep d = by (is_some (plan_of (ops_in d) d.second)) refl
     by : (t : Bool) → is_some (plan_of (ops_in d) d.second) ≡ t → takes_in d ≤ takes_in (armed 0 nth keep d) + 1
     by true is = rw is (omega arith)
     by false is = rw is (planned_takes nth keep d.first.planning)
+
+takes_first : (d : DeviceTold) → 1 ≤ takes_in d → nat_le 1 d.first.planning.takes ≡ true
+takes_first d one = by (is_some (plan_of (ops_in d) d.second)) one
+  where
+    by : (t : Bool) → 1 ≤ (if t then 0 else d.first.planning.takes) → nat_le 1 d.first.planning.takes ≡ true
+    by true none = absurd (omega (arith, none))
+    by false some = elim (leb_tells 1 d.first.planning.takes) [ inl has ↦ has.0 | inr few ↦ absurd (let less = few.1 in omega (arith, less, some)) ]
+
+is_some_nth : (n : ℕ) → nat_le 1 (suc n) ≡ true
+is_some_nth n = elim (leb_tells 1 (suc n)) [ inl has ↦ has.0 | inr none ↦ absurd (let less = none.1 in omega (arith, less)) ]
+
+-- its 0th operation changes nothing
+planned_none : (keep : ℕ) (p : Planning) → planned 0 keep p ≡ p
+planned_none keep p = by (nat_le 1 p.takes) refl
+  where
+    by : (t : Bool) → nat_le 1 p.takes ≡ t → planned 0 keep p ≡ p
+    by true is = rw is refl
+    by false is = rw is refl
+
+-- it comes with the nth operation, and keeps so much of it
+arms_cuts : (nth keep : ℕ) (desk : DeskState) (hand : Option HandState) (copies : List PlainBlock) (ready : Bool) (d : DeviceTold)
+    → PowersOff desk d → 1 ≤ takes_in d → PlansCuts (Cut nth keep) [] (shown desk hand copies ready d) (shown desk hand copies ready (armed 0 nth keep d))
+arms_cuts zero keep desk hand copies ready d power takes alone plan pending = (
+  tt,
+  pending_same plan (shown desk hand copies ready d) (shown desk hand copies ready (armed 0 0 keep d))
+      (ap (λ (p : Planning). plan_of (ops_in d) (record d.first { planning = p })) (planned_none keep d.first.planning)) refl refl (λ off. off) pending,
+)
+arms_cuts (suc n) keep desk hand copies ready d power takes alone plan pending = (tt, by d.first.off refl)
+  where
+    by : (off : Bool) → d.first.off ≡ off → IsComing (record { due = ops_in d + suc n; since = faults_of d }) (shown desk hand copies ready (armed 0 (suc n) keep d))
+    by true is = inr (inl (power (rw is refl)))
+    by false is = inl (record { due = ops_in d + suc n; is = rw (is, takes_first d takes, is_some_nth n) refl; later = omega arith; soon = omega arith })
+
+arms_keeps : (nth keep : ℕ) (desk : DeskState) (hand : Option HandState) (copies : List PlainBlock) (ready : Bool) (d : DeviceTold) → KeepsBy (Cut nth keep) (shown desk hand copies ready d) (shown desk hand copies ready (armed 0 nth keep d))
+arms_keeps zero keep desk hand copies ready d = tt
+arms_keeps (suc n) keep desk hand copies ready d = λ takes. rw (takes_first d takes, is_some_nth n) refl
 
 -- it comes no earlier than at the nth operation
 planned_later : (ops n nth keep : ℕ) (off : Bool) (p : Planning) → n ≤ ops → 1 ≤ p.takes
@@ -80,8 +120,8 @@ armed_left nth keep None d = refl
 armed_left nth keep (Some h) d = refl
 
 pub arms : (nth keep : ℕ) (desk : DeskState) (hand : Option HandState) (copies : List PlainBlock) (ready : Bool) (d : DeviceTold)
-    → (state_of desk).ops ≤ ops_of d → Arms nth (shown desk hand copies ready d) (shown desk hand copies ready (armed 0 nth keep d))
-arms nth keep desk hand copies ready d later = record {
+    → (state_of desk).ops ≤ ops_of d → PowersOff desk d → Arms nth keep (shown desk hand copies ready d) (shown desk hand copies ready (armed 0 nth keep d))
+arms nth keep desk hand copies ready d later power = record {
   only = ap (λ (n : ℕ). record (shown desk hand copies ready (armed 0 nth keep d)) { work = n }) (armed_work nth keep desk hand d)
       ∙ ap (λ (n : ℕ). record (shown desk hand copies ready (armed 0 nth keep d)) { work = stack_work desk hand d; left = n }) (armed_left nth keep hand d)
       ∙ ap (λ (n : ℕ). record (shown desk hand copies ready d) {
@@ -89,10 +129,14 @@ arms nth keep desk hand copies ready d later = record {
           unplanned = n + d.second.planning.unplanned;
           takes = takes_in (armed 0 nth keep d);
           plan = plan_in (armed 0 nth keep d);
+          due = due_in (armed 0 nth keep d);
+          keep = keep_in (armed 0 nth keep d);
         };
       }) (planned_unplanned nth keep d.first.planning);
   takes = armed_takes nth keep d;
   planned = λ one. armed_later (ops_behind 0 desk.entries) nth keep d (let told = ops_told desk.config desk.entries in omega (arith, told, later)) one;
+  comes = λ takes. arms_cuts nth keep desk hand copies ready d power takes;
+  keeps = arms_keeps nth keep desk hand copies ready d;
 }
 
 -- A STORE

@@ -1,9 +1,9 @@
 -- A turn: what it adds, and how that is explained.
 use Rattle.std.specs.Prelude.{◌||◌, not, IsTrue, map, sum_by}
-use Rattle.std.proofs.Common.{◌≡◌, ◌≤◌, ◌+◌, ℕ, suc, Bool, true, false, List, [], ◌∷◌, ◌++◌, length, get_or, Option, refl, sym, ap, ◌∙◌, subst, inl, arith, append-nil}
+use Rattle.std.proofs.Common.{◌≡◌, ◌≤◌, ◌+◌, ℕ, suc, Bool, true, false, List, [], ◌∷◌, ◌++◌, length, get_or, Option, refl, sym, ap, ◌∙◌, subst, inl, inr, arith, append-nil}
 use Rattle.std.proofs.lemmas.List.{ext_get_or, length-map}
 use Rattle.nvm_core.specs.nv_base.Count.{WereCounted}
-use Rattle.nvm_core.specs.memif.Told.{DeviceTold, Fixed}
+use Rattle.nvm_core.specs.memif.Told.{DeviceTold, Fixed, is_off}
 use Rattle.nvm_core.specs.block_machine.Words.{Entry, Configuration}
 use Rattle.nvm_core.specs.block_machine.State.{State, Job}
 use Rattle.nvm_core.specs.block_machine.Prices.{sum_from, block_price}
@@ -13,9 +13,10 @@ use Rattle.nvm_core.specs.ram_blocks.Told.{Told, sizes_of}
 use Rattle.nvm_core.specs.ram_blocks.Plain.{told_of, store_of}
 use Rattle.nvm_core.specs.nv_desk.Desk.{DeskState, state_of}
 use Rattle.promise_run.specs.Run.{unpaid_off}
-use Rattle.nvm_core.specs.Stack.{StackState}
+use Rattle.nvm_core.specs.Stack.{StackState, PowersOff}
 use Rattle.nvm_core.proofs.block_laws.HistoryLaws.{histories_step}
 use Rattle.script_player.specs.Told.{IsGrown}
+use Rattle.script_player.specs.Coming.{MissesNone}
 use Rattle.script_player.specs.Calls.{AreExplained, AllTell, MakesOne}
 use Rattle.script_walks.specs.Walk.{is_due, begins_with_pick_or_post}
 use Rattle.script_player.specs.PlainTold.{told_by, most_in, refusable_in, plan_in, unplanned_in, ops_in}
@@ -43,7 +44,7 @@ grown device old new es desk stores ready fixed =
     ap (λ (x : DeskState). record (told_by device new) { configuration = x.config; cap = x.cap; entries = x.entries; most = most_in (device new.device).fixed x.config }) desk
     ∙ ap (λ (xs : List (ℕ × List ℕ)). record (told_by device new) { configuration = old.desk.config; cap = old.desk.cap; entries = old.desk.entries ++ es; stores = xs; most = most_in (device new.device).fixed old.desk.config }) stores
     ∙ ap (λ (r : Bool). record (told_by device new) { configuration = old.desk.config; cap = old.desk.cap; entries = old.desk.entries ++ es; stores = map store_of old.copies; ready = r; most = most_in (device new.device).fixed old.desk.config }) ready
-    ∙ ap (λ (f : Fixed). record (told_by device new) { configuration = old.desk.config; cap = old.desk.cap; entries = old.desk.entries ++ es; stores = map store_of old.copies; ready = old.ready; most = most_in f old.desk.config }) fixed
+    ∙ ap (λ (f : Fixed). record (told_by device new) { configuration = old.desk.config; cap = old.desk.cap; entries = old.desk.entries ++ es; stores = map store_of old.copies; ready = old.ready; most = most_in f old.desk.config; one = not f.two }) fixed
 
 -- nothing
 pub none_more : (old new : DeskState) → new ≡ old → new ≡ record old { entries = old.entries ++ [] }
@@ -66,6 +67,23 @@ explained device old new es goes refusals off = record { refusals = refusals; of
 pub makes_one : {D : Type 0} (device : D → DeviceTold) (old new : StackState D (List PlainBlock)) (es : List Entry) → Goes (device old.device) (device new.device) → AllTell (ops_in (device new.device)) es
     → MakesOne es (told_by device old) (told_by device new)
 makes_one device old new es goes tell = record { later = goes.later; one = goes.one; told = tell }
+
+-- no planned cut is missed
+not_two : (two : Bool) → not two ≡ true → two ≡ false
+not_two true is = absurd (cc is)
+not_two false is = refl
+
+pub misses_none : {D : Type 0} (device : D → DeviceTold) (old new : StackState D (List PlainBlock)) → Goes (device old.device) (device new.device) → PowersOff new.desk (device new.device) → MissesNone (told_by device old) (told_by device new)
+misses_none device old new goes power alone p stands =
+    let soon = stands.soon in
+    elim (goes.comes (not_two (device old.device).fixed.two alone) stands.due stands.is stands.later) [
+      | inl off ↦ inr (inl (power (is_part_off (device new.device) off)))
+      | inr (inl full) ↦ inr (inr full)
+      | inr (inr (y, is, more, sooner)) ↦ inl (record { due = y; is = is; later = more; soon = omega (arith, soon, sooner) })
+    ]
+  where
+    is_part_off : (d : DeviceTold) → d.first.off ≡ true → is_off d ≡ true
+    is_part_off d off = rw off refl
 
 -- no Off among it
 pub none_off : (u v : ℕ) → u ≤ v → WereCounted 0 u v

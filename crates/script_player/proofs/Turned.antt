@@ -109,6 +109,7 @@ one_turn_more p q r zero before old mid new (made, paid) kept turn pays =
             behind = here.behind;
             chain = here.chain;
             pays = by_more p q r mid mid [] (move_to turn.entries new ∷ []) refl refl refl (subst (λ (t : StackTold). PaysBy p q t []) (sym made) paid) here.pays;
+            cuts = here.cuts;
           },
         ),
       ),

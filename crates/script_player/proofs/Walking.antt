@@ -25,14 +25,16 @@ use Rattle.script_player.specs.declared.steps.StepFault.{StepFault}
 use Rattle.script_player.specs.declared.steps.StepFault.TheVariants.{Flash, HistoryFull, Memory}
 use Rattle.script_player.specs.Told.{StackTold, state_of, moment_of, IsNoEarlier}
 use Rattle.script_player.specs.Kept.{IsKept}
-use Rattle.script_player.specs.Made.{cuts_in, cuts_of, PaysOffs, IsExplained, IsMade, IsLeft, IsFresh, Makes, HasWalked, WereLeft, WasBroken}
-use Rattle.script_player.specs.Walking.{plan_behind, refusals_in, IsWalking, AreUnderWay}
+use Rattle.script_player.specs.Made.{cuts_in, cuts_of, PaysOffs, IsExplained, IsMade, IsLeft, IsFresh, Makes, HasWalked, WereLeft, WasBroken, HasNoRoom}
+use Rattle.script_player.specs.Walking.{plan_behind, refusals_in, IsWalking, AreUnderWay, planned_behind}
 use Rattle.script_player.specs.Table.{HasLastStores}
-use Rattle.promise_run.specs.Turns.{Moment, Move, entries_of, moment_behind, all_moves}
+use Rattle.promise_run.specs.Turns.{Moment, Move, entries_of, moment_behind, moment_after, Planned, planned_by, AreInTime, all_moves}
 use Rattle.promise_run.proofs.Paid.{since_too}
 use Rattle.promise_run.proofs.Counted.{all_behind, behind_later, counted_by}
 use Rattle.script_player.specs.Paying.{Payer, PaysBy, since_behind}
 use Rattle.script_player.proofs.Paying.{none_pays, by_more}
+use Rattle.script_player.specs.Coming.{IsPending}
+use Rattle.script_player.proofs.Coming.{planned_more, come_more}
 use Rattle.script_player.specs.Chain.{shown_of}
 use Rattle.script_player.proofs.Chain.{each_posted, each_rests, all_more}
 use Rattle.script_player.proofs.Moves.{has_more, chain_more, closes_more, moved_entries}
@@ -57,8 +59,8 @@ behind P old mid same cap is = subst (λ (n : ℕ). P old.configuration n (after
 
 -- one more step
 pub walks_on : (p q r : Payer) (made : List Step) (x : Step) (old mid new : StackTold) → mid.configuration ≡ old.configuration → mid.cap ≡ old.cap → mid.most ≡ old.most → old.faults ≤ mid.faults → IsWalking p q made old mid
-    → IsMade q r made x mid new → cuts_in x.kind ≤ mid.causes.takes → IsWalking p r (made ++ x ∷ []) old new
-walks_on p q r made x old mid new same cap most counted walking step planned = record {
+    → IsMade q r made x mid new → cuts_in x.kind ≤ mid.causes.takes → mid.one ≡ old.one → IsWalking p r (made ++ x ∷ []) old new
+walks_on p q r made x old mid new same cap most counted walking step planned one_part = record {
   marks = walking.marks;
   ops = walking.ops;
   pieces = walking.pieces ++ piece ∷ [];
@@ -93,6 +95,17 @@ walks_on p q r made x old mid new same cap most counted walking step planned = r
   chain = chain_more walking.moves.moves step.moves (shown_of old) (shown_of mid) (shown_of new) walking.chain step.chain;
   pays = subst (λ (ms : List Move). PaysBy p r old ms) (sym (all_more walking.moves.moves step.moves))
       (by_more p q r old mid (all_moves walking.moves.moves) step.moves same (all_behind (moment_of old) walking.moves.moves ∙ walking.moves.behind) walked_state walking.pays step.pays);
+  cuts = λ one.
+      let (were, pending) = walking.cuts one in
+      let (here, now) = step.cuts planned (one_part ∙ one) (planned_behind None (moment_of old) made walking.moves.moves) pending in
+      let plan = planned_by x.kind (moment_of mid) (planned_behind None (moment_of old) made walking.moves.moves) in
+      let behind : moment_of mid ≡ moment_after (moment_of old) walking.moves.moves = sym walking.moves.behind in (
+        come_more old.configuration None (moment_of old) (state_of old) made x walking.moves.moves step.moves walking.moves.are were
+            (subst (λ (m : Moment). AreInTime old.configuration (planned_by x.kind m (planned_behind None (moment_of old) made walking.moves.moves)) (after_from old.configuration (state_of old) (entries_of (all_moves walking.moves.moves))) step.moves) behind
+            (subst (λ (s : State). AreInTime old.configuration plan s step.moves) walked_state (subst (λ (c : Configuration). AreInTime c plan (state_of mid) step.moves) same here))),
+        subst (λ (q : Option Planned). IsPending q new) (sym (planned_more None (moment_of old) made x walking.moves.moves step.moves walking.moves.are))
+            (subst (λ (m : Moment). IsPending (planned_by x.kind m (planned_behind None (moment_of old) made walking.moves.moves)) new) behind now),
+      );
   serves = λ calm.
       serving_more first made walking.pieces x old mid new walking.as_many same most walking.at step
       (walking.serves (calm_until old mid new piece adds step.counted calm)) (step.serves (calm_from old mid new counted calm));
@@ -162,6 +175,7 @@ has_walked p q r made old mid new same counted operations cuts pays walking = re
   moves = walking.moves;
   operations = sym operations;
   counted = counted;
+  cuts = λ one. (walking.cuts one).0;
   pays = record {
     failed = λ k few is. walking.pays.failed k few (pays.failed k (let later = behind_later q.failed (moment_of old) (all_moves walking.moves.moves) walking.pays.counts in omega (arith, few, later, ends)) is);
     counts = counted_by q.failed r.failed mid.ops pays.failed (moment_of old) (all_moves walking.moves.moves) (omega (arith, ends)) walking.pays.counts;
@@ -206,6 +220,7 @@ fresh_walking p t fresh = record {
   closes = λ calm. tt;
   chain = refl;
   pays = none_pays p t;
+  cuts = λ one. (tt, tt);
   serves = λ calm. record { posts = tt; drains = tt; within = none_within t fresh.marks fresh.ops fresh.entries };
 }
 
@@ -240,6 +255,7 @@ begin p blocks table t fresh count is = record {
   configuration = refl;
   cap = refl;
   most = refl;
+  one = refl;
   counted = omega arith;
   kept = fresh_kept t fresh;
   table_kept = subst (λ (xs : List ℕ). HasLastStores t.configuration [] xs) (sym (is ∙ ap (λ n. replicate (16 * (n + 1)) 0) count)) (first_table t.configuration);
@@ -262,12 +278,13 @@ go_on p q r steps made left x table table' old mid new order few planned way mak
       configuration = step.configuration ∙ way.configuration;
       cap = step.cap ∙ way.cap;
       most = step.most ∙ way.most;
+      one = step.one ∙ way.one;
       counted = let a = way.counted in let b = step.counted in omega (arith, a, b);
       kept = step.kept;
       table_kept = subst (λ (c : Configuration). HasLastStores c (made ++ x ∷ []) table') (sym step.configuration) has;
       walking =
           walks_on p q r made x old mid new way.configuration way.cap way.most way.counted way.walking step
-          (takes_enough made left x old mid (subst (λ (xs : List Step). cuts_of xs ≤ old.causes.takes) order planned) way.walking.takes);
+          (takes_enough made left x old mid (subst (λ (xs : List Step). cuts_of xs ≤ old.causes.takes) order planned) way.walking.takes) way.one;
     }
 
 -- all of them

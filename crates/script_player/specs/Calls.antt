@@ -16,13 +16,14 @@ use Rattle.nvm_core.specs.block_machine.Steps.{after_from}
 use Rattle.nvm_core.specs.block_machine.Reply.{fits}
 use Rattle.nvm_core.specs.block_machine.Prices.{sum_from, block_price}
 use Rattle.nvm_core.specs.ram_blocks.Copies.{next_number}
-use Rattle.script_walks.specs.Words.{Refuse}
+use Rattle.script_walks.specs.Words.{Cut, Refuse}
 use Rattle.script_walks.specs.Walk.{is_at_rest}
 use Rattle.script_walks.specs.Turn.{IsTurn}
 use Rattle.promise_run.specs.Run.{unpaid_off, refusals_of}
 use Rattle.promise_run.specs.Completeness.{ends_job}
 use Rattle.promise_run.specs.Turns.{is_picked}
 use Rattle.script_player.specs.Told.{StackTold, state_of, moment_of, IsWithin, IsGrown, IsNoEarlier}
+use Rattle.script_player.specs.Coming.{MissesNone, PlansCuts, KeepsBy}
 
 -- CAUSES
 
@@ -53,6 +54,7 @@ pub record Serves (turns : ℕ) (es : List Entry) (old new : StackTold) : Type 0
 pub record AddsAsk (e : Entry) (old new : StackTold) : Type 0 where
   pub room : IsTrue (fits old.configuration old.cap (state_of old) 1)
   pub adds : new ≡ record old { entries = old.entries ++ e ∷ []; work = new.work; causes = new.causes }
+  pub due : new.causes.due ≡ old.causes.due
   pub explained : AreExplained old.causes.plan (e ∷ []) old new
   pub within : IsWithin old → IsWithin new
 
@@ -105,6 +107,8 @@ pub record MakesTurn (old new : StackTold) : Type 0 where
   pub serves : ¬ Rose old.faults new.faults → (state_of new).off ≡ false → Serves 1 entries old new
   -- with nothing pending and nothing open it has nothing to do
   pub rests : IsTrue (is_at_rest (state_of old)) → old.busy ≡ false → (entries ≡ []) × (moment_of new ≡ moment_of old)
+  -- and no planned cut is missed
+  pub cuts : MissesNone old new
 
 -- and its answer
 pub record Turns (answer : Turned) (old new : StackTold) : Type 0 where
@@ -145,11 +149,13 @@ Restarts found.Memory old new = new ≡ old
 -- THE PLAYER'S OWN STEPS
 
 -- A power cut is planned, where a plan is taken: it comes no earlier than at the nth operation behind those that the entries
--- tell.
-pub record Arms (nth : ℕ) (old new : StackTold) : Type 0 where
-  pub only : new ≡ record old { causes = record old.causes { takes = new.causes.takes; plan = new.causes.plan } }
+-- tell, and over a device of one part with the nth operation from now, of which so much is done.
+pub record Arms (nth keep : ℕ) (old new : StackTold) : Type 0 where
+  pub only : new ≡ record old { causes = record old.causes { takes = new.causes.takes; plan = new.causes.plan; due = new.causes.due; keep = new.causes.keep } }
   pub takes : old.causes.takes ≤ new.causes.takes + 1
   pub planned : 1 ≤ old.causes.takes → IsNoEarlier (Some (ops_behind 0 old.entries + nth)) new.causes.plan
+  pub comes : 1 ≤ old.causes.takes → PlansCuts (Cut nth keep) [] old new
+  pub keeps : KeepsBy (Cut nth keep) old new
 
 -- the application stored a content of a block
 pub record Stores (block : ℕ) (content : List ℕ) (number : ℕ) (old new : StackTold) : Type 0 where

@@ -12,6 +12,7 @@ use Rattle.promise_run.specs.Turns.{Move, entries_of, moment_behind, AreTurnsMad
 use Rattle.script_player.specs.Told.{StackTold, state_of, moment_of, IsGrown}
 use Rattle.script_player.specs.Calls.{AreExplained, Serves}
 use Rattle.script_player.specs.Chain.{shown_of, AreMoved}
+use Rattle.script_player.specs.Coming.{CarriesCuts}
 use Rattle.script_player.specs.Paying.{Payer, PaysBy}
 
 -- after these steps its stores are theirs, and its jobs took none but these
@@ -41,6 +42,7 @@ pub record AreMade (p q : Payer) (es : List Entry) (moves : List Move) (old new 
   pub behind : moment_behind (moment_of old) moves ≡ moment_of new
   pub chain : AreMoved moves (shown_of old) (shown_of new)
   pub pays : PaysBy p q old moves
+  pub cuts : CarriesCuts moves old new
 
 -- so many turns
 abbrev pub MakesTurns : Payer → Payer → ℕ → List Step → StackTold → StackTold → Type 0

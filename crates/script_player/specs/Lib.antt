@@ -1,4 +1,5 @@
 pub mod Told
+pub mod Coming
 pub mod Calls
 pub mod Chain
 pub mod Table

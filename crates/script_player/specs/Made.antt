@@ -11,13 +11,14 @@ use Rattle.script_walks.specs.Words.{Step, StepKind, AskStep, Cut, Restart}
 use Rattle.script_walks.specs.Walk.{request_after, is_at_rest, IsPiece, IsWalkOf}
 use Rattle.promise_run.specs.Run.{Played, EachPiece, HasNoRoom, HadRoom, plan_after, unpaid_off, offs_of_flash, refusals_of, RefusalsExplain}
 use Rattle.promise_run.specs.Completeness.{turns_of, is_drain, is_restart, IsServed}
-use Rattle.promise_run.specs.Turns.{Moment, Move, entries_of, moment_behind, AreMovesOf, HasMoves, EachMove, ServesTurn, StaysAtRest, ClosesAtDrains, all_moves}
+use Rattle.promise_run.specs.Turns.{Moment, Move, entries_of, moment_behind, AreMovesOf, HasMoves, EachMove, ServesTurn, StaysAtRest, ClosesAtDrains, all_moves, CutsCome}
 use Rattle.script_player.specs.declared.steps.StepFault.{StepFault}
 use Rattle.script_player.specs.declared.steps.StepFault.TheVariants.{Flash, HistoryFull, Memory}
 use Rattle.script_player.specs.Told.{StackTold, state_of, moment_of, IsWithin, IsNoEarlier}
 use Rattle.script_player.specs.Calls.{Nears, AddsAsk}
 use Rattle.script_player.specs.Kept.{IsKept, StaysCalm}
 use Rattle.script_player.specs.Chain.{shown_of, AreMoved}
+use Rattle.script_player.specs.Coming.{PlansCuts, KeepsBy}
 use Rattle.script_player.specs.Paying.{Payer, PaysBy}
 use Rattle.script_player.specs.Table.{HasLastStores}
 
@@ -73,6 +74,10 @@ pub record IsMade (p q : Payer) (before : List Step) (x : Step) (old new : Stack
   pub behind : moment_behind (moment_of old) moves ≡ moment_of new
   pub chain : AreMoved moves (shown_of old) (shown_of new)
   pub pays : PaysBy p q old moves
+  -- no planned cut is missed
+  pub one : new.one ≡ old.one
+  pub cuts : cuts_in x.kind ≤ old.causes.takes → PlansCuts x.kind moves old new
+  pub keeps : KeepsBy x.kind old new
   pub kept : IsKept (before ++ x ∷ []) new
 
 -- a request was entered as the step asks it
@@ -138,6 +143,8 @@ pub record HasWalked (p q : Payer) (made : List Step) (old new : StackTold) : Ty
   pub counted : last.faults ≤ new.faults
   -- and each Post is paid since the last Pick before it, and each operation that failed is counted in its own
   pub pays : PaysBy p q old (all_moves moves.moves)
+  -- and each cut that they plan comes, over a device of one part
+  pub cuts : old.one ≡ true → CutsCome old.configuration None (moment_of old) (state_of old) made moves.moves
 
 -- why these steps were left behind this moment, in the state after the whole history: a start-up failed by a fault of its own
 abbrev pub WereLeft : StepFault → List Step → Moment → StackTold → StackTold → Type 0

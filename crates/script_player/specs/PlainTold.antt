@@ -81,6 +81,13 @@ takes_in d = if is_some (plan_of (ops_in d) d.second) then 0 else d.first.planni
 abbrev pub unplanned_in : DeviceTold → ℕ
 unplanned_in d = d.first.planning.unplanned + d.second.planning.unplanned
 
+-- how many operations are made when the cut of the first part comes, and how much of its operation is done
+abbrev pub due_in : DeviceTold → Option ℕ
+due_in d = plan_of (ops_in d) d.first
+
+abbrev pub keep_in : DeviceTold → Option ℕ
+keep_in d = option_map (λ x. x.keep) d.first.planning.plan
+
 -- THE STACK
 
 abbrev pub causes_in : List PlainBlock → Option Job → DeviceTold → Causes
@@ -89,6 +96,8 @@ causes_in copies hand d = record {
   unplanned = unplanned_in d;
   takes = takes_in d;
   plan = plan_in d;
+  due = due_in d;
+  keep = keep_in d;
 }
 
 -- the most turns of a job, by the device's figures
@@ -109,6 +118,7 @@ shown desk hand copies ready d = record {
   left = left_with hand d;
   most = most_in d.fixed desk.config;
   busy = not (nothing_open d);
+  one = not d.fixed.two;
   causes = causes_in copies (state_of desk).hand d;
 }
 

@@ -16,6 +16,10 @@ pub record Causes : Type 0 where
   pub takes : ℕ
   -- where one stands: how many operations were made, at the least, when its cut comes
   pub plan : Option ℕ
+  -- where one stands at the flash of the device's first part: how many operations are made when its cut comes, if no fault is
+  -- counted, and how much of its operation is done then
+  pub due : Option ℕ
+  pub keep : Option ℕ
 
 pub record StackTold : Type 0 where
   -- what never changes: the configuration, and the most entries of the history
@@ -39,6 +43,8 @@ pub record StackTold : Type 0 where
   pub most : State → Job → ℕ
   -- a job of the device is open, or work of its own
   pub busy : Bool
+  -- its device has one part
+  pub one : Bool
   pub causes : Causes
 
 -- the state after its entries

@@ -11,9 +11,10 @@ use Rattle.nvm_core.specs.block_machine.Prices.{prices_in_refusals}
 use Rattle.script_walks.specs.Words.{Step}
 use Rattle.script_walks.specs.Walk.{IsWalkOf, joined}
 use Rattle.promise_run.specs.Run.{EachPiece, HadRoom, plan_after, unpaid_offs, refusals_of}
-use Rattle.promise_run.specs.Completeness.{turns_of, is_drain, is_restart, ends_job, DrainsAll}
-use Rattle.promise_run.specs.Turns.{HasMoves, ClosesAtDrains, all_moves}
+use Rattle.promise_run.specs.Completeness.{turns_of, is_drain, is_restart, ends_job, DrainsAll, EachPiece}
+use Rattle.promise_run.specs.Turns.{HasMoves, ClosesAtDrains, all_moves, Moment, Move, Planned, planned_by, moment_behind, CutsCome}
 use Rattle.script_player.specs.Chain.{shown_of, AreMoved}
+use Rattle.script_player.specs.Coming.{IsPending}
 use Rattle.script_player.specs.Told.{StackTold, state_of, moment_of, IsWithin, IsNoEarlier}
 use Rattle.script_player.specs.Kept.{IsKept, StaysCalm}
 use Rattle.script_player.specs.Made.{cuts_of}
@@ -24,6 +25,11 @@ use Rattle.script_player.specs.Table.{HasLastStores}
 abbrev pub plan_behind : Option ℕ → ℕ → List Step → List (List Entry) → Option ℕ
 plan_behind plan ops (x ∷ xs) (p ∷ ps) = plan_behind (plan_after x.kind plan ops) (ops_behind ops p) xs ps
 plan_behind plan ops xs ps = plan
+
+-- with which operation it comes
+abbrev pub planned_behind : Option Planned → Moment → List Step → List (List Move) → Option Planned
+planned_behind plan now (x ∷ xs) (ms ∷ mss) = planned_behind (planned_by x.kind now plan) (moment_behind now ms) xs mss
+planned_behind plan now steps moves = plan
 
 -- the copies of a block that steps let be refused
 abbrev pub refusals_in : ℕ → List Step → ℕ
@@ -82,6 +88,8 @@ pub record IsWalking (p q : Payer) (made : List Step) (old now : StackTold) : Ty
   pub closes : StaysCalm old now → ClosesAtDrains (moment_of old) made moves.moves
   pub chain : AreMoved (all_moves moves.moves) (shown_of old) (shown_of now)
   pub pays : PaysBy p q old (all_moves moves.moves)
+  pub cuts : old.one ≡ true → CutsCome old.configuration None (moment_of old) (state_of old) made moves.moves
+      × IsPending (planned_behind None (moment_of old) made moves.moves) now
   -- where nothing failed, they serve the jobs
   pub serves : StaysCalm old now → AreServing (Found marks ops) made pieces old now
 
@@ -90,6 +98,7 @@ pub record AreUnderWay (p q : Payer) (made : List Step) (table : List ℕ) (old 
   pub configuration : now.configuration ≡ old.configuration
   pub cap : now.cap ≡ old.cap
   pub most : now.most ≡ old.most
+  pub one : now.one ≡ old.one
   pub counted : old.faults ≤ now.faults
   pub kept : IsKept made now
   pub table_kept : HasLastStores now.configuration made table

@@ -48,7 +48,7 @@ pub trait PlayedStack {
     /// Plans a power cut of the device's flash at its nth changing operation from now, with so many bytes of it done.
     fn arm(&mut self, nth: u32, keep: u32)
         requires { (told self.old).ready ≡ true }
-        ensures arms { Arms nth (told self.old) (told self.new) }
+        ensures arms { Arms nth keep (told self.old) (told self.new) }
         ensures pays { PaysNothing (payer self.old) (payer self.new) (told self.new) }
         ensures keeps { (before : Part → PartTold) → kept self.old before → kept self.new before };
 

@@ -1,6 +1,6 @@
 -- What a turn may add.
-use Rattle.std.specs.Prelude.{◌≡◌, ◌&&◌, ◌||◌, ℕ, not, Bool, true, IsTrue, List, [], ◌∷◌, get_or, is_some}
-use Rattle.block_machine.specs.Words.{JobKind, Taken, TookContent, TookStale, Entry, Ask, Pick, Found, Configuration}
+use Rattle.std.specs.Prelude.{◌≡◌, ◌&&◌, ◌||◌, ℕ, not, Bool, true, IsTrue, List, [], ◌∷◌, get_or, is_some, None}
+use Rattle.block_machine.specs.Words.{JobKind, Taken, TookContent, TookStale, Entry, Ask, Pick, Post, Found, Configuration}
 use Rattle.block_machine.specs.State.{State}
 use Rattle.block_machine.specs.Blocks.{desc_of, is_synchronized, names_ram, job_block}
 use Rattle.block_machine.specs.Next.{Next, PickJob, PickMember, next_of}

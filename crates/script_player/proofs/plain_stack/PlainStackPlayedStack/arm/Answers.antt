@@ -18,9 +18,9 @@ returns-clause-arms g c =
     let ready = ap (λ (t : StackState g.row.D.Denot (List PlainBlock)). t.ready) c.self.view_is ∙ c.requires in
     let is : told_by g.D.MemDevice.told c.arm.new.self ≡ shown s.desk s.hand s.copies s.ready (armed 0 c.args.nth c.args.keep d) =
     ap (told_by g.D.MemDevice.told) c.arm.ensures.only ∙ ap (shown s.desk s.hand s.copies s.ready) c.arm.ensures.arms.0 in
-    subst (λ (t : StackState g.row.D.Denot (List PlainBlock)). Arms c.args.nth (told_by g.D.MemDevice.told t) (told_by g.D.MemDevice.told c.arm.new.self)) c.self.view_is
-    (subst (λ (t : StackTold). Arms c.args.nth (told_by g.D.MemDevice.told s) t) (sym is)
-    (arms c.args.nth c.args.keep s.desk s.hand s.copies s.ready d (c.device-device.ensures.tied ready).later))
+    subst (λ (t : StackState g.row.D.Denot (List PlainBlock)). Arms c.args.nth c.args.keep (told_by g.D.MemDevice.told t) (told_by g.D.MemDevice.told c.arm.new.self)) c.self.view_is
+    (subst (λ (t : StackTold). Arms c.args.nth c.args.keep (told_by g.D.MemDevice.told s) t) (sym is)
+    (arms c.args.nth c.args.keep s.desk s.hand s.copies s.ready d (c.device-device.ensures.tied ready).later (c.device-device.ensures.power ready)))
 
 pub returns-clause-pays : goal.returns-clause-pays
 returns-clause-pays g c =

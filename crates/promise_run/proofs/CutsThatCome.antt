@@ -1,0 +1,95 @@
+-- A planned cut that comes, and one that is missed.
+use Rattle.std.specs.Prelude.{map}
+use Rattle.std.proofs.Common.{◌≡◌, ◌≤◌, ◌+◌, ℕ, zero, suc, true, List, [], ◌∷◌, Option, Some, None, refl, sym, ap, ◌∙◌, subst, inl, inr, arith, rules}
+use Rattle.script_walks.specs.Words.{Step, Cut, Turn}
+use Rattle.block_machine.specs.Words.{Entry, Off, Found, Configuration}
+use Rattle.block_machine.specs.State.{State}
+use Rattle.block_machine.specs.Steps.{after, after_from}
+use Rattle.promise_device.specs.FlashRun.{HasFailed}
+use Rattle.promise_run.specs.Turns.{Moment, Move, Planned, entry_list, entries_of, moment_behind, moment_after, AreMoves, CountsOwn, IsInTime, AreInTime, CutsCome, HasTurns}
+use Rattle.promise_run.specs.Cases.{small, picks_one, written_at, always, cut_comes, cut_missed}
+use Rattle.promise_run.proofs.PlannedCuts.{from_more}
+use Rattle.promise_run.proofs.OneByOne.{asked_one, asks_step, at_ops, no_count, no_sweep, at_work, some_same}
+
+-- IT COMES
+none_failed : (k : ℕ) → HasFailed cut_comes.flash k → ⊥
+none_failed zero (x, at, is) = cc (at, is)
+none_failed (suc zero) (x, at, is) = cc (at, is)
+none_failed (suc (suc k)) (x, at, is) = cc at
+
+none_fails : (n m : ℕ) {o : Option Entry} → n ≤ m → CountsOwn (HasFailed cut_comes.flash) (at_ops n) (record { entry = o; behind = at_ops m })
+none_fails n m more = record { later = more; own = λ k le lt failed. absurd (none_failed k failed) }
+
+pub comes_kept : HasTurns (always 8) cut_comes cut_comes.course
+comes_kept = record {
+  first = at_ops 0;
+  last = at_ops 2;
+  moves = record {
+    moves = [] ∷ (record { entry = Some asked_one; behind = at_ops 0 } ∷ []) ∷ (record { entry = Some picks_one; behind = at_ops 0 } ∷ record { entry = None; behind = at_ops 1 } ∷ record { entry = Some (Off 2); behind = at_ops 2 } ∷ []) ∷ [];
+    are = (refl, (refl, ((refl, search rules), tt)));
+    tell = refl;
+    behind = refl;
+  };
+  begins = refl;
+  operations = refl;
+  failed = (none_fails 0 0 (omega arith), (none_fails 0 0 (omega arith), (none_fails 0 1 (omega arith), (none_fails 1 2 (omega arith), tt))));
+  counted = inl (omega arith);
+  ends = tt;
+  serves = (
+    record { begins = λ no_ask no_found. absurd (cc no_ask); posts = λ is. absurd (cc is); cancels = λ no_ask no_found. absurd (cc no_ask) },
+    (
+      record { begins = λ no_ask no_found. refl; posts = λ is j hand. inr (inr (inr (inr (inr (omega arith, inr (inr (inr (inl refl)))))))); cancels = λ no_ask no_found sw is. absurd (no_sweep sw is) },
+      (record { begins = λ no_ask no_found. refl; posts = λ is. absurd (cc is); cancels = λ no_ask no_found sw is. absurd (no_sweep sw is) }, (record { begins = λ no_ask no_found. refl; posts = λ is. absurd (cc is); cancels = λ no_ask no_found sw is. absurd (no_sweep sw is) }, tt)),
+    ),
+  );
+  rests = (λ rest idle no_ask. absurd (cc no_ask), (at_work, (at_work, (at_work, tt))));
+  drains = λ calm. (λ drain. absurd (cc drain), (λ drain. absurd (cc drain), (λ drain. absurd (cc drain), tt)));
+  cuts = (tt, ((inl (omega arith), tt), ((inl (omega arith), (inl (omega arith), (inr (inl refl), tt))), tt)));
+  paid = λ told sound. (inl (inl (omega arith)), (inl (inl (omega arith)), (inl (inl (omega arith)), (inl (inl (omega arith)), tt))));
+}
+
+-- IT IS MISSED
+last_in_time : (c : Configuration) (plan : Option Planned) (before : Moment) (s : State) (m : Move) (ms : List Move) → AreInTime c plan s (m ∷ ms)
+    → IsInTime plan (moment_behind before (m ∷ ms)) (after_from c s (entries_of (m ∷ ms)))
+last_in_time c plan before s m [] are = subst (λ (t : State). IsInTime plan m.behind t) (sym (from_more c s (entry_list m.entry) [])) are.0
+last_in_time c plan before s m (n ∷ ns) are =
+    subst (λ (t : State). IsInTime plan (moment_behind m.behind (n ∷ ns)) t) (sym (from_more c s (entry_list m.entry) (entries_of (n ∷ ns))))
+    (last_in_time c plan m.behind (after_from c s (entry_list m.entry)) n ns are.1)
+
+three_lists : {X : Type 0} (a b c x y z : X) → a ∷ b ∷ c ∷ [] ≡ x ∷ y ∷ z ∷ [] → (b ≡ y) × (c ≡ z)
+three_lists a b c x y z is = (cc is, cc is)
+
+abbrev begun : State
+begun = after small (Found [] 0 ∷ [])
+
+abbrev all_steps : List Step
+all_steps = record { line = 0; caller = 0; kind = Cut 1 0 } ∷ asks_step ∷ record { line = 0; caller = 0; kind = Turn 6 } ∷ []
+
+still_on : (asked turned : List Entry) → asked_one ∷ [] ≡ asked → picks_one ∷ written_at 4 ≡ turned → (after_from small (after_from small begun asked) turned).off ≡ true → ⊥
+still_on asked turned one two =
+    subst (λ (es : List Entry). (after_from small (after_from small begun es) turned).off ≡ true → ⊥) one
+    (subst (λ (es : List Entry). (after_from small (after_from small begun (asked_one ∷ [])) es).off ≡ true → ⊥) two (λ off. cc off))
+
+late : (first end : Moment) (s : State) → first.ops ≡ 0 → end.ops ≡ 4 → end.faults ≤ 0 → (s.off ≡ true → ⊥) → IsInTime (Some (record { due = first.ops + 1; since = first.faults })) end s → ⊥
+late first end s start ops few on (inl less) = omega (arith, start, ops, few, less)
+late first end s start ops few on (inr (inl off)) = on off
+late first end s start ops few on (inr (inr full)) = omega (arith, few, full)
+
+missed : (first : Moment) (mss : List (List Move)) → first.ops ≡ 0 → AreMoves first all_steps mss → [] ∷ (asked_one ∷ []) ∷ (picks_one ∷ written_at 4) ∷ [] ≡ map entries_of mss
+    → (moment_after first mss).ops ≡ 4 → (moment_after first mss).faults ≤ 0 → CutsCome small None first begun all_steps mss → ⊥
+missed first [] start are tell ops few cuts = are
+missed first (cs ∷ []) start are tell ops few cuts = are.1
+missed first (cs ∷ xs ∷ []) start are tell ops few cuts = are.1.1
+missed first (cs ∷ xs ∷ ts ∷ us ∷ mss) start are tell ops few cuts = are.1.1.1
+missed first ((a ∷ cs) ∷ xs ∷ ts ∷ []) start are tell ops few cuts = cc are.0
+missed first ([] ∷ xs ∷ [] ∷ []) start are tell ops few cuts = let none = are.1.1.0.0 in omega (arith, none)
+missed first ([] ∷ xs ∷ (t ∷ ts) ∷ []) start are tell ops few cuts =
+    let (asks, turns) = three_lists [] (asked_one ∷ []) (picks_one ∷ written_at 4) [] (entries_of xs) (entries_of (t ∷ ts)) tell in
+    late first (moment_behind (moment_behind first xs) (t ∷ ts)) (after_from small (after_from small begun (entries_of xs)) (entries_of (t ∷ ts))) start ops few (still_on (entries_of xs) (entries_of (t ∷ ts)) asks turns)
+    (last_in_time small (Some (record { due = first.ops + 1; since = first.faults })) (moment_behind first xs) (after_from small begun (entries_of xs)) t ts cuts.1.1.0)
+
+pub not_missed : HasTurns (always 8) cut_missed cut_missed.course → ⊥
+not_missed has =
+    let end = has.moves.behind in
+    missed has.first has.moves.moves (sym (some_same 0 has.first.ops has.begins)) has.moves.are has.moves.tell
+    (ap (λ (m : Moment). m.ops) end ∙ has.operations) (let few = no_count has.last.faults has.counted in let same = ap (λ (m : Moment). m.faults) end in omega (arith, few, same)) has.cuts
