@@ -262,45 +262,56 @@ module _ (of : ℕ → Bool) (a : DeviceTold) (ca : Clock) (anew : DeviceTold) (
     ]
 
 -- NOTHING WAS DONE
-module _ (of : ℕ → Bool) (course : List Bool) (ca ca_new cb : Clock) where
-  finds_same : ((w : When) (m : ℕ → Held) → ca.may_find w m → ca_new.may_find w m) → (w v : When) (m : ℕ → Held) → FoundBoth of ca cb w v m → FoundBoth of ca_new cb w v m
-  finds_same more w v m found = record { first = found.first; second = found.second; finds_first = more w found.first found.finds_first; finds_second = found.finds_second; map = found.map }
+module _ (of : ℕ → Bool) (course : List Bool) (ca ca_new cb cb_new : Clock) where
+  finds_same : ((w : When) (m : ℕ → Held) → ca.may_find w m → ca_new.may_find w m) → ((w : When) (m : ℕ → Held) → cb.may_find w m → cb_new.may_find w m)
+      → (w v : When) (m : ℕ → Held) → FoundBoth of ca cb w v m → FoundBoth of ca_new cb_new w v m
+  finds_same more other w v m found = record { first = found.first; second = found.second; finds_first = more w found.first found.finds_first; finds_second = other v found.second found.finds_second; map = found.map }
 
-  may_same : ((w : When) (m : ℕ → Held) → ca.may_find w m → ca_new.may_find w m) → (w : When) (m : ℕ → Held) → may_find_both of course ca cb w m → may_find_both of course ca_new cb w m
-  may_same more (After k) m finds = record { small = finds.small; made = finds.made; found = finds_same more (After (own false course k)) (After (own true course k)) m finds.found }
-  may_same more (CutIn k) m finds = record {
+  may_same : ((w : When) (m : ℕ → Held) → ca.may_find w m → ca_new.may_find w m) → ((w : When) (m : ℕ → Held) → cb.may_find w m → cb_new.may_find w m)
+      → (w : When) (m : ℕ → Held) → may_find_both of course ca cb w m → may_find_both of course ca_new cb_new w m
+  may_same more other (After k) m finds = record { small = finds.small; made = finds.made; found = finds_same more other (After (own false course k)) (After (own true course k)) m finds.found }
+  may_same more other (CutIn k) m finds = record {
     small = finds.small;
     second = finds.second;
     is = finds.is;
-    found = finds_same more (if finds.second then After (own false course k) else CutIn (own false course k)) (if finds.second then CutIn (own true course k) else After (own true course k)) m finds.found;
+    found = finds_same more other (if finds.second then After (own false course k) else CutIn (own false course k)) (if finds.second then CutIn (own true course k) else After (own true course k)) m finds.found;
   }
 
-  off_same : ((k : ℕ) → ca.off_in k → ca_new.off_in k) → (k : ℕ) → OffBoth course ca cb k → OffBoth course ca_new cb k
-  off_same more k out = record { small = out.small; second = out.second; is = out.is; off = by out.second out.off }
+  off_same : ((k : ℕ) → ca.off_in k → ca_new.off_in k) → ((k : ℕ) → cb.off_in k → cb_new.off_in k) → (k : ℕ) → OffBoth course ca cb k → OffBoth course ca_new cb_new k
+  off_same more other k out = record { small = out.small; second = out.second; is = out.is; off = by out.second out.off }
     where
-      by : (q : Bool) → IfElse q (cb.off_in (own true course k)) (ca.off_in (own false course k)) → IfElse q (cb.off_in (own true course k)) (ca_new.off_in (own false course k))
-      by true off = off
+      by : (q : Bool) → IfElse q (cb.off_in (own true course k)) (ca.off_in (own false course k)) → IfElse q (cb_new.off_in (own true course k)) (ca_new.off_in (own false course k))
+      by true off = other (own true course k) off
       by false off = more (own false course k) off
 
-  failed_same : ((k : ℕ) → ca.failed k → ca_new.failed k) → (k : ℕ) → FailedBoth course ca cb k → FailedBoth course ca_new cb k
-  failed_same more k out = record { small = out.small; second = out.second; is = out.is; failed = by out.second out.failed }
+  failed_same : ((k : ℕ) → ca.failed k → ca_new.failed k) → ((k : ℕ) → cb.failed k → cb_new.failed k) → (k : ℕ) → FailedBoth course ca cb k → FailedBoth course ca_new cb_new k
+  failed_same more other k out = record { small = out.small; second = out.second; is = out.is; failed = by out.second out.failed }
     where
-      by : (q : Bool) → IfElse q (cb.failed (own true course k)) (ca.failed (own false course k)) → IfElse q (cb.failed (own true course k)) (ca_new.failed (own false course k))
-      by true out = out
+      by : (q : Bool) → IfElse q (cb.failed (own true course k)) (ca.failed (own false course k)) → IfElse q (cb_new.failed (own true course k)) (ca_new.failed (own false course k))
+      by true out = other (own true course k) out
       by false out = more (own false course k) out
 
-  worn_same : ((k n : ℕ) → ca.worn k n → ca_new.worn k n) → (k n : ℕ) → WornBoth of course ca cb k n → WornBoth of course ca_new cb k n
-  worn_same more k n out = record { moment = out.moment; by_then = out.by_then; is = by (of n) out.is }
+  worn_same : ((k n : ℕ) → ca.worn k n → ca_new.worn k n) → ((k n : ℕ) → cb.worn k n → cb_new.worn k n) → (k n : ℕ) → WornBoth of course ca cb k n → WornBoth of course ca_new cb_new k n
+  worn_same more other k n out = record { moment = out.moment; by_then = out.by_then; is = by (of n) out.is }
     where
-      by : (q : Bool) → IfElse q (cb.worn out.moment n) (ca.worn out.moment n) → IfElse q (cb.worn out.moment n) (ca_new.worn out.moment n)
-      by true is = is
+      by : (q : Bool) → IfElse q (cb.worn out.moment n) (ca.worn out.moment n) → IfElse q (cb_new.worn out.moment n) (ca_new.worn out.moment n)
+      by true is = other out.moment n is
       by false is = more out.moment n is
 
-pub same_both : (of : ℕ → Bool) (course : List Bool) (ca ca_new cb : Clock) → SameClock ca ca_new → SameClock (clock_both of course ca cb) (clock_both of course ca_new cb)
-same_both of course ca ca_new cb same = record {
-  may_find = λ w m. (may_same of course ca_new ca cb (λ v x. (same.may_find v x).0) w m, may_same of course ca ca_new cb (λ v x. (same.may_find v x).1) w m);
-  off_in = λ k. (off_same of course ca_new ca cb (λ j. (same.off_in j).0) k, off_same of course ca ca_new cb (λ j. (same.off_in j).1) k);
-  failed = λ k. (failed_same of course ca_new ca cb (λ j. (same.failed j).0) k, failed_same of course ca ca_new cb (λ j. (same.failed j).1) k);
-  worn = λ k n. (worn_same of course ca_new ca cb (λ j x. (same.worn j x).0) k n, worn_same of course ca ca_new cb (λ j x. (same.worn j x).1) k n);
+pub same_both : (of : ℕ → Bool) (course : List Bool) (ca ca_new cb cb_new : Clock) → SameClock ca ca_new → SameClock cb cb_new → SameClock (clock_both of course ca cb) (clock_both of course ca_new cb_new)
+same_both of course ca ca_new cb cb_new same other = record {
+  may_find = λ w m. (may_same of course ca_new ca cb_new cb (λ v x. (same.may_find v x).0) (λ v x. (other.may_find v x).0) w m, may_same of course ca ca_new cb cb_new (λ v x. (same.may_find v x).1) (λ v x. (other.may_find v x).1) w m);
+  off_in = λ k. (off_same of course ca_new ca cb_new cb (λ j. (same.off_in j).0) (λ j. (other.off_in j).0) k, off_same of course ca ca_new cb cb_new (λ j. (same.off_in j).1) (λ j. (other.off_in j).1) k);
+  failed = λ k. (failed_same of course ca_new ca cb_new cb (λ j. (same.failed j).0) (λ j. (other.failed j).0) k, failed_same of course ca ca_new cb cb_new (λ j. (same.failed j).1) (λ j. (other.failed j).1) k);
+  worn = λ k n. (worn_same of course ca_new ca cb_new cb (λ j x. (same.worn j x).0) (λ j x. (other.worn j x).0) k n, worn_same of course ca ca_new cb cb_new (λ j x. (same.worn j x).1) (λ j x. (other.worn j x).1) k n);
+  of_second = λ k. (λ is. is, λ is. is);
+}
+
+pub same_self : (c : Clock) → SameClock c c
+same_self c = record {
+  may_find = λ w m. (λ is. is, λ is. is);
+  off_in = λ k. (λ is. is, λ is. is);
+  failed = λ k. (λ is. is, λ is. is);
+  worn = λ k n. (λ is. is, λ is. is);
   of_second = λ k. (λ is. is, λ is. is);
 }

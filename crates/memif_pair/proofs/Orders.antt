@@ -10,6 +10,7 @@ use Rattle.memif.specs.Calls.{InOrder, urgent_first, is_first}
 use Rattle.memif_pair.specs.Pair.{told_both, fixed_both, is_second, ArePair, numbers_in, in_both}
 use Rattle.memif_pair.specs.PairClock.{IsCourse, own}
 use Rattle.memif_pair.specs.Laws.{pair_clock}
+use Rattle.memif_pair.specs.Together.{IsOwnJob}
 use Rattle.memif_pair.proofs.Numbers.{at_map, merged_length, figures_none}
 use Rattle.memif_pair.proofs.Ticking.{possible_both}
 
@@ -32,7 +33,7 @@ figures_are f g n =
 pub figures_first : (f g : Fixed) (n : ℕ) → is_second g.numbers n ≡ false → figures_at (fixed_both f g) n ≡ record (figures_at f n) { part = First }
 figures_first f g n of = figures_are f g n ∙ ap (λ (b : Bool). if b then record (figures_at g n) { part = Second } else record (figures_at f n) { part = First }) of
 
-most_same : (x : Figures) (p : Part) (op : DeviceOp) → most_of (record x { part = p }) op ≡ most_of x op
+pub most_same : (x : Figures) (p : Part) (op : DeviceOp) → most_of (record x { part = p }) op ≡ most_of x op
 most_same x p Read = refl
 most_same x p Write = refl
 most_same x p Invalidate = refl
@@ -40,14 +41,13 @@ most_same x p Erase = refl
 
 -- an open job of the first device is of one of its own numbers
 abbrev pub IsFirstJob : DeviceTold → Stand → Type 0
-IsFirstJob b (Open j) = is_second b.fixed.numbers j.number ≡ false
-IsFirstJob b (Ended result given) = Unit {0}
+IsFirstJob b stand = IsOwnJob false b stand
 
-most_first : (a b : DeviceTold) (stand : Stand) → IsFirstJob b stand → most_open (fixed_both a.fixed b.fixed) stand ≡ most_open a.fixed stand
+pub most_first : (a b : DeviceTold) (stand : Stand) → IsFirstJob b stand → most_open (fixed_both a.fixed b.fixed) stand ≡ most_open a.fixed stand
 most_first a b (Open j) of = ap (λ (x : Figures). most_of x (op_of j.mark)) (figures_first a.fixed b.fixed j.number of) ∙ most_same (figures_at a.fixed j.number) First (op_of j.mark)
 most_first a b (Ended result given) of = refl
 
-most_closed : (f : Fixed) (stand : Stand) → is_open stand ≡ false → most_open f stand ≡ 0
+pub most_closed : (f : Fixed) (stand : Stand) → is_open stand ≡ false → most_open f stand ≡ 0
 most_closed f (Open j) closed = cc
 most_closed f (Ended result given) closed = refl
 

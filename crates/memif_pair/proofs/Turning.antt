@@ -19,7 +19,7 @@ use Rattle.memif_pair.specs.Laws.{Goes, pair_clock}
 use Rattle.memif_pair.proofs.Courses.{length_push, own_few, own_push}
 use Rattle.memif_pair.proofs.Numbers.{merged_first}
 use Rattle.memif_pair.proofs.Ticking.{slot_is, first_ticks}
-use Rattle.memif_pair.proofs.Clocks.{same_both}
+use Rattle.memif_pair.proofs.Clocks.{same_both, same_self}
 use Rattle.memif_pair.proofs.Orders.{figures_first, order_first, IsFirstJob}
 
 same_if : (t : Bool) (n : ℕ) → (if t then n else n) ≡ n
@@ -27,11 +27,11 @@ same_if true n = refl
 same_if false n = refl
 
 -- MARKS
-keeps_self : (s : Slot) → Keeps s s
+pub keeps_self : (s : Slot) → Keeps s s
 keeps_self s = record { settled = refl; doubts = λ h has. has }
 
 -- a fact on each slot of the first device is one of each slot of the pair, where it holds of a slot that stays
-each_both : (P : ℕ → Slot → Slot → Type 0) (f g : Fixed) (s u t : Option (List Slot)) → ((n : ℕ) (x : Slot) → is_second g.numbers n ≡ true → P n x x)
+pub each_both : (P : ℕ → Slot → Slot → Type 0) (f g : Fixed) (s u t : Option (List Slot)) → ((n : ℕ) (x : Slot) → is_second g.numbers n ≡ true → P n x x)
     → IfTold s u (λ x y. (n : ℕ) → P n (slot_at f.numbers x n) (slot_at f.numbers y n))
     → IfTold (slots_both f g s t) (slots_both f g u t) (λ x y. (n : ℕ) → P n (slot_at (numbers_in f g) x n) (slot_at (numbers_in f g) y n))
 each_both P f g None None t self each = tt
@@ -59,7 +59,7 @@ module _ (a : DeviceTold) (ca : Clock) (anew : DeviceTold) (ca_new : Clock) (b :
   abbrev SlotsBehind : Fixed → Option (List Slot)
   SlotsBehind f = slots_both f b.fixed anew.slots b.slots
 
-  keeps_both : KeepsAll a anew → KeepsAll old new
+  pub keeps_both : KeepsAll a anew → KeepsAll old new
   keeps_both each = subst (λ (f : Fixed). IfTold (slots_both a.fixed b.fixed a.slots b.slots) (SlotsBehind f) (λ x y. (n : ℕ) → Keeps (slot_at (numbers_in a.fixed b.fixed) x n) (slot_at (numbers_in a.fixed b.fixed) y n))) (sym fixed)
       (each_both (λ n x y. Keeps x y) a.fixed b.fixed a.slots anew.slots b.slots (λ n x of. keeps_self x) each)
 
@@ -103,7 +103,7 @@ module _ (a : DeviceTold) (ca : Clock) (anew : DeviceTold) (ca_new : Clock) (b :
   later_both : old.ops ≤ new.ops
   later_both = elim one_both [ inl same ↦ omega (arith, same) | inr one ↦ omega (arith, one) ]
 
-  part_both : (cut : Bool) → PartTurns cut a.ops anew.ops a.first anew.first → PartTurns cut old.ops new.ops a.first anew.first
+  pub part_both : (cut : Bool) → PartTurns cut a.ops anew.ops a.first anew.first → PartTurns cut old.ops new.ops a.first anew.first
   part_both true turns = record {
     only = turns.only;
     on = turns.on;
@@ -145,6 +145,22 @@ module _ (a : DeviceTold) (ca : Clock) (anew : DeviceTold) (ca_new : Clock) (b :
             let at : new.ops ≡ last_count = omega (arith, large) in
             ap (λ (k : ℕ). own false next (reach next k)) at ∙ all
       ]
+
+  -- BEHIND IT
+  pub course_new : IsCourse anew b next
+  course_new = record {
+    first = elim goes.one [
+      | inl still ↦ ap (λ cs. own false cs (length cs)) still.1 ∙ (is.first ∙ sym still.0)
+      | inr more ↦ (let e = ap (λ cs. own false cs (length cs)) more.1 in let push = own_push false course false in let first = is.first in omega (arith, e, push, first, more.0))
+    ];
+    second = elim goes.one [
+      | inl still ↦ ap (λ cs. own true cs (length cs)) still.1 ∙ is.second
+      | inr more ↦ (let e = ap (λ cs. own true cs (length cs)) more.1 in let push = own_push true course false in let second = is.second in omega (arith, e, push, second))
+    ];
+  }
+
+  pub pair_new : ArePair anew b
+  pair_new = record { first = ap (λ (f : Fixed). f.two) fixed ∙ pair.first; second = pair.second; apart = λ n two. ap (λ (f : Fixed). length_of f.numbers n) fixed ∙ pair.apart n two }
 
   -- A JOB
   module _ (j : Job) (of : is_second b.fixed.numbers j.number ≡ false) where
@@ -236,7 +252,7 @@ module _ (a : DeviceTold) (ca : Clock) (anew : DeviceTold) (ca_new : Clock) (b :
 
     clock_same : SameClock ca ca_new → anew ≡ a → SameClock (pair_clock ca b cb course) (pair_clock ca_new b cb next)
     clock_same same still = elim goes.one [
-      | inl stays ↦ subst (λ (cs : List Bool). SameClock (pair_clock ca b cb course) (pair_clock ca_new b cb cs)) (sym stays.1) (same_both (is_second b.fixed.numbers) course ca ca_new cb same)
+      | inl stays ↦ subst (λ (cs : List Bool). SameClock (pair_clock ca b cb course) (pair_clock ca_new b cb cs)) (sym stays.1) (same_both (is_second b.fixed.numbers) course ca ca_new cb cb same (same_self cb))
       | inr more ↦ absurd (let none = ap (λ (d : DeviceTold). d.ops) still in omega (arith, more.0, none))
     ]
 
@@ -260,21 +276,6 @@ module _ (a : DeviceTold) (ca : Clock) (anew : DeviceTold) (ca_new : Clock) (b :
         off_of First (inr cut) = (First, inr (cut_both on cut.0, first_ticks Off a ca anew ca_new b cb order course next false false pair is goes cut.1))
         off_of Second (inl still) = (let wrong : true ≡ false = sym (subst (λ (s : Stand). IsOf Second a.fixed s) on still.1).0 ∙ pair.first in cc)
         off_of Second (inr cut) = (let wrong : true ≡ false = sym (subst (λ (s : Stand). IsOf Second a.fixed s) on cut.0.of).0 ∙ pair.first in cc)
-
-    course_new : IsCourse anew b next
-    course_new = record {
-      first = elim goes.one [
-        | inl still ↦ ap (λ cs. own false cs (length cs)) still.1 ∙ (is.first ∙ sym still.0)
-        | inr more ↦ (let e = ap (λ cs. own false cs (length cs)) more.1 in let push = own_push false course false in let first = is.first in omega (arith, e, push, first, more.0))
-      ];
-      second = elim goes.one [
-        | inl still ↦ ap (λ cs. own true cs (length cs)) still.1 ∙ is.second
-        | inr more ↦ (let e = ap (λ cs. own true cs (length cs)) more.1 in let push = own_push true course false in let second = is.second in omega (arith, e, push, second))
-      ];
-    }
-
-    pair_new : ArePair anew b
-    pair_new = record { first = ap (λ (f : Fixed). f.two) fixed ∙ pair.first; second = pair.second; apart = λ n two. ap (λ (f : Fixed). length_of f.numbers n) fixed ∙ pair.apart n two }
 
     pub turns_both : (answer : DeviceTurn) → InOrder b cb → is_open b.stand ≡ false → b.started ≡ true → a.stand ≡ Open j → IsFirstJob b anew.stand → Turns answer a ca anew ca_new
         → Turns answer old (pair_clock ca b cb course) new (pair_clock ca_new b cb next)

@@ -1,8 +1,7 @@
 -- The operations that a cutter tells, and those of the flash within it.
 use Rattle.std.specs.Prelude.{IsTrue, slice_get, ◌++◌, take, drop}
 use Rattle.std.specs.List.{list_all}
-use Rattle.std.proofs.Common.{◌≡◌, inl, inr, ℕ, zero, suc, ◌+◌, Bool, true, false, List, [], ◌∷◌, length, Some, refl, sym, subst, arith, length-append}
-use Rattle.std.proofs.lemmas.List.{length-take, length-replicate}
+use Rattle.std.proofs.Common.{◌≡◌, inl, inr, ℕ, zero, suc, ◌+◌, Bool, true, false, List, [], ◌∷◌, Some, refl, sym, subst, arith}
 use Rattle.std.proofs.lemmas.Bool.{and_parts}
 use Rattle.fee_core.specs.nv_base.declared.geometry.Geometry.{Geometry}
 use Rattle.fee_core.specs.fls_model.declared.flash.FlashAnswer.{FlashAnswer}
@@ -11,17 +10,14 @@ use Rattle.fee_core.specs.fls_model.Call.{op_of}
 use Rattle.fee_core.specs.fls_model.Op.{Op, Program, Erase}
 use Rattle.fee_core.specs.fls_model.Told.{Change}
 use Rattle.fls_devices.specs.Journal.{Harmed, HasPart, HaveParts, change_of, before_all, without_part, merged}
-use Rattle.fls_devices.specs.Part.{kept_page, part_of, off_of}
-use Rattle.fee_core.specs.promise_device.FlashRun.{HasSamePlace, AreSeen, StaysBack, next_bytes}
-use Rattle.fee_core.proofs.promise_device.FlashRun.{same_place, seen_all}
+use Rattle.fls_devices.specs.Part.{part_of, off_of}
+use Rattle.fee_core.specs.promise_device.FlashRun.{IsPartOf, AreSeen, StaysBack, next_bytes}
+use Rattle.fee_core.proofs.promise_device.FlashRun.{seen_all}
 
--- THE SAME PLACES
-length-kept : (keep : ℕ) (page : List ℕ) → length (kept_page keep page) ≡ length page
-length-kept keep page = simp (length-append, length-take, length-replicate) (omega arith)
-
-place_of_part : (keep : ℕ) (op : Op) → HasSamePlace op (part_of keep op)
-place_of_part keep (Program address page) = (refl, sym (length-kept keep page))
-place_of_part keep (Erase address n) = (refl, refl)
+-- THE PARTS
+is_part : (keep : ℕ) (op : Op) → IsPartOf op (part_of keep op)
+is_part keep (Program address page) = (refl, (keep, refl))
+is_part keep (Erase address n) = refl
 
 off_is : (a : FlashAnswer) → off_of a ≡ true → a ≡ Off
 off_is Done off = cc
@@ -60,7 +56,7 @@ seen_front : (kept : ℕ → Type 0) (last : List ℕ) (n k : ℕ) (cs rest : Li
     → ((j : ℕ) → OffsKept kept j rest → AreSeen kept j last rest (drop n cs)) → AreSeen kept k last (take n cs ++ rest) cs
 seen_front kept last zero k cs rest offs more = more k offs
 seen_front kept last (suc n) k [] rest offs more = more k offs
-seen_front kept last (suc n) k (x ∷ cs) rest offs more = inl (same_place x.op, refl, inl refl, seen_front kept last n (k + 1) cs rest offs.1 more)
+seen_front kept last (suc n) k (x ∷ cs) rest offs more = inl (inl refl, seen_front kept last n (k + 1) cs rest offs.1 more)
 
 stays_back : (kept : ℕ → Type 0) (k : ℕ) (last : List ℕ) (x : Change) (xs seen : List Change) → StaysBack kept k last x xs → AreSeen kept (k + 1) last xs seen → AreSeen kept k last (x ∷ xs) seen
 stays_back kept k last x xs [] back more = (back, more)
@@ -73,9 +69,9 @@ seen_event : (kept : ℕ → Type 0) (g : Geometry) (last : List ℕ) (e : Harme
     → AreSeen kept k last (change_of g e (before_all ds last) ∷ merged g es (without_part r ds) last) ds
 seen_event kept g last e es true [] k part off offs more = absurd part
 seen_event kept g last e es true (y ∷ ys) k part off offs more =
-    inl (subst (HasSamePlace (op_of g e.call)) (sym part.1) (place_of_part part.0 (op_of g e.call)), refl, inr (offs.0 (off_is e.answer off), off_is e.answer off), more (k + 1) offs.1)
+    inl (inr (offs.0 (off_is e.answer off), off_is e.answer off, refl, subst (IsPartOf (op_of g e.call)) (sym part.1) (is_part part.0 (op_of g e.call))), more (k + 1) offs.1)
 seen_event kept g last e es false ds k part off offs more =
-    stays_back kept k last (change_of g e (before_all ds last)) (merged g es ds last) ds (offs.0 (off_is e.answer off), next_merged g es ds last) (more (k + 1) offs.1)
+    stays_back kept k last (change_of g e (before_all ds last)) (merged g es ds last) ds (offs.0 (off_is e.answer off), off_is e.answer off, next_merged g es ds last) (more (k + 1) offs.1)
 
 pub seen_merged : (kept : ℕ → Type 0) (g : Geometry) (last : List ℕ) (es : List Harmed) (cs : List Change) (k : ℕ)
     → HaveParts g es cs → IsTrue (list_all (λ (e : Harmed). off_of e.answer) es) → OffsKept kept k (merged g es cs last) → AreSeen kept k last (merged g es cs last) cs

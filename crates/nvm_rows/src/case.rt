@@ -5,7 +5,7 @@ use script_soak::Draws;
 use std::alloc::{AllocError, Global};
 
 /// One call of the program: its name, its words, its input, the flash at the start, and what fails. Then what else is shown:
-/// whether the bytes of the flash at the end aren't; whether the script is also run with a cut and a fault everywhere, and
+/// whether the bytes of the flash at the end aren't; whether the call is made twice; whether the script is also run with a cut and a fault everywhere, and
 /// with a fault at each call of its last drain; the steps that are tried at each turn of that drain; and, where it is also
 /// played over a device in memory, the numbers of turns there.
 #[derive(Drop)]
@@ -16,6 +16,7 @@ pub struct Case {
     pub flash: Vec<u8>,
     pub faults: Faults,
     pub quiet: bool,
+    pub again: bool,
     pub everywhere: bool,
     pub each_fault: bool,
     pub between: Vec<String>,
@@ -32,6 +33,7 @@ impl Case {
             flash: Vec::new(alloc),
             faults: Faults::none(alloc),
             quiet: false,
+            again: false,
             everywhere: false,
             each_fault: false,
             between: Vec::new(alloc),
@@ -44,6 +46,7 @@ impl Case {
         let (key, rest) = line.split_once(' ').unwrap_or((line, ""));
         match key {
             "quiet" => self.quiet = true,
+            "again" => self.again = true,
             "everywhere" => self.everywhere = true,
             "faults" => self.each_fault = true,
             "plain" => self.plain = Some(numbers(alloc, rest)?),

@@ -36,6 +36,9 @@ use std::thread::Threads;
 fn run<R: Print + AllocGlobal + Threads + Wait + Sync>(rt: &R, case: &Case) -> anyhow::Result<()> {
     let called = call(rt, &case.words, &case.input, &case.flash, &case.faults)?;
     show_call(rt, case, &called)?;
+    if case.again {
+        show_again(rt, case, &called)?;
+    }
     if let Some(turns) = &case.plain {
         show_plain(rt, case, turns, &called)?;
     }
@@ -61,6 +64,23 @@ fn show_call<R: Print + AllocGlobal>(rt: &R, case: &Case, called: &Called) -> an
     println!(rt; "status {status}")?;
     if !case.quiet {
         show_flash(rt, &called.flash)?;
+    }
+    Ok(())
+}
+
+// Makes the call of a case once more, and prints whether it wrote and left the same.
+fn show_again<R: Print + AllocGlobal + Threads + Wait + Sync>(
+    rt: &R,
+    case: &Case,
+    called: &Called,
+) -> anyhow::Result<()> {
+    let again = call(rt, &case.words, &case.input, &case.flash, &case.faults)?;
+    let is_same = again.output.as_slice() == called.output.as_slice()
+        && again.flash.as_slice() == called.flash.as_slice();
+    if is_same && again.status == called.status {
+        println!(rt; "again the same")?;
+    } else {
+        println!(rt; "again something else")?;
     }
     Ok(())
 }

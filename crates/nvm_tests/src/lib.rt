@@ -11,6 +11,8 @@ mod devices;
 #[cfg(test)]
 mod driver;
 #[cfg(test)]
+mod failing;
+#[cfg(test)]
 mod faults;
 #[cfg(test)]
 mod figures;

@@ -1,3 +1,4 @@
 pub mod FlashRun
+mod Parts
 pub mod Readings
 pub mod Closings

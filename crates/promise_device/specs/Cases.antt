@@ -31,6 +31,10 @@ answered answer = record { op = Program 0 (0 ∷ 0 ∷ []); before = blank; answ
 abbrev pub program : Change
 program = answered Off
 
+-- of which the flash saw this page
+abbrev pub broken_off : List ℕ → Change
+broken_off part = record { op = Program 0 part; before = blank; answer = Done }
+
 abbrev pub erase : Change → List Change
 erase x = record { op = Erase 0 4; before = blank; answer = Done } ∷ x ∷ []
 

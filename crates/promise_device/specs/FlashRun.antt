@@ -1,8 +1,7 @@
 -- A run of a flash: what it tells, and the changing operations that it was asked for.
-use Rattle.std.specs.Prelude.{◌≡◌, ◌⊎◌, ◌+◌, ℕ, List, [], ◌∷◌, length, slice_get, Option, Some, IfSome}
+use Rattle.std.specs.Prelude.{◌≡◌, ◌⊎◌, ◌+◌, ◌-◌, ℕ, List, [], ◌∷◌, ◌++◌, length, take, replicate, slice_get, Option, Some, IfSome}
 use Rattle.std.specs.Option.{option_map_or}
 use Rattle.nv_base.specs.declared.geometry.Geometry.{Geometry}
-use Rattle.fls_model.specs.declared.flash.FlashAnswer.{FlashAnswer}
 use Rattle.fls_model.specs.declared.flash.FlashAnswer.TheVariants.{Failed, Off}
 use Rattle.fls_model.specs.Op.{Op, Program, Erase, MayLeave}
 use Rattle.fls_model.specs.Step.{Leaves}
@@ -56,31 +55,32 @@ abbrev pub IsChain : List ℕ → List Change → List ℕ → Type 0
 IsChain first [] last = last ≡ first
 IsChain first (x ∷ xs) last = (x.before ≡ first) × ((next : List ℕ) × Leaves x.op x.answer x.before next × IsChain next xs last)
 
--- the same page, or the same sectors
-abbrev pub HasSamePlace : Op → Op → Type 0
-HasSamePlace (Program address page) (Program there part) = (address ≡ there) × (length page ≡ length part)
-HasSamePlace (Erase address n) (Erase there m) = (address ≡ there) × (n ≡ m)
-HasSamePlace op other = ⊥
+-- What the flash is asked for of an operation that a planned cut breaks off: of a program the first bytes, with 0xFF behind them,
+-- of an erase all.
+abbrev pub IsPartOf : Op → Op → Type 0
+IsPartOf (Program address page) (Program there part) = (there ≡ address) × ((keep : ℕ) × (part ≡ take keep page ++ replicate (length page - keep) 255))
+IsPartOf (Erase address n) part = part ≡ Erase address n
+IsPartOf op part = ⊥
 
 abbrev pub next_bytes : List Change → List ℕ → List ℕ
 next_bytes [] last = last
 next_bytes (x ∷ xs) last = x.before
 
--- a planned cut kept an operation from the flash, whose bytes stay
+-- a planned cut kept an operation from the flash, whose bytes stay: the power went off in it
 abbrev pub StaysBack : (ℕ → Type 0) → ℕ → List ℕ → Change → List Change → Type 0
-StaysBack kept k last x xs = kept k × (next_bytes xs last ≡ x.before)
+StaysBack kept k last x xs = kept k × (x.answer ≡ Off) × (next_bytes xs last ≡ x.before)
 
--- the same answer, or Off, where a planned cut let the power go off in it
-abbrev pub HasSameAnswer : Type 0 → FlashAnswer → FlashAnswer → Type 0
-HasSameAnswer cut told seen = (told ≡ seen) ⊎ (cut × (told ≡ Off))
+-- the flash saw the operation itself, or such a part of it, where a planned cut let the power go off in it
+abbrev pub IsSeenAs : Type 0 → Change → Change → Type 0
+IsSeenAs cut x y = (x ≡ y) ⊎ (cut × (x.answer ≡ Off) × (x.before ≡ y.before) × IsPartOf x.op y.op)
 
--- The operations from number k on are those that the flash saw, at the same places, over the same bytes and with the same
--- answers, but for those that a planned cut kept from it, whole or in part.
+-- The operations from number k on are those that the flash saw, with all that is told of them, but for those that a planned cut
+-- kept from it, whole or behind a part.
 abbrev pub AreSeen : (ℕ → Type 0) → ℕ → List ℕ → List Change → List Change → Type 0
 AreSeen kept k last [] seen = seen ≡ []
 AreSeen kept k last (x ∷ xs) [] = StaysBack kept k last x xs × AreSeen kept (k + 1) last xs []
 AreSeen kept k last (x ∷ xs) (y ∷ ys) =
-    (HasSamePlace x.op y.op × (x.before ≡ y.before) × HasSameAnswer (kept k) x.answer y.answer × AreSeen kept (k + 1) last xs ys)
+    (IsSeenAs (kept k) x y × AreSeen kept (k + 1) last xs ys)
     ⊎ (StaysBack kept k last x xs × AreSeen kept (k + 1) last xs (y ∷ ys))
 
 -- The operations are the run's own. `kept` says which were kept from the flash, or cut in it.

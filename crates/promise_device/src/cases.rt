@@ -3,21 +3,26 @@ ghost use Rattle.std.specs.Prelude.{◌≡◌, ℕ, [], ◌∷◌, true, false};
 ghost use Rattle.fls_model.specs.declared.flash.FlashAnswer.TheVariants.{Done, Failed};
 ghost use Rattle.promise_device.specs.FlashRun.{AreSeen, IsChain};
 ghost use Rattle.promise_device.specs.Bridge.{may_be_closed};
-ghost use Rattle.promise_device.specs.Cases.{blank, other, erase, answered, program, seen_there, never, second, Tells, roomy, torn, no_job, urgent_write, standard_write, failed_erase};
+ghost use Rattle.promise_device.specs.Cases.{blank, other, erase, answered, broken_off, program, seen_there, never, second, Tells, roomy, torn, no_job, urgent_write, standard_write, failed_erase};
 
-/// An erase that the flash saw, and a program that a planned cut kept from it, whose bytes stay, or of which it saw a part. A
-/// program that failed, with its answer.
+/// An erase that the flash saw, and a program that a planned cut kept from it, whose bytes stay, or of which it saw the first bytes.
+/// A program that failed, with its answer.
+#[tactic(auto, using(crate::proofs::Parts::in_part, crate::proofs::Parts::in_half))]
 pub fn operations_of_the_flash()
     ensures seen { AreSeen never 0 blank seen_there seen_there }
     ensures kept_back { AreSeen second 0 blank (erase program) seen_there }
     ensures in_part { AreSeen second 0 blank (erase program) (erase (answered Done)) }
+    ensures in_half { AreSeen second 0 blank (erase program) (erase (broken_off (0 ∷ 255 ∷ []))) }
     ensures failed { AreSeen never 0 blank (erase (answered Failed)) (erase (answered Failed)) }
 {}
 
-/// Without a planned cut none is kept back, and none whose bytes changed; bytes that no operation left are not theirs.
+/// Without a planned cut none is kept back, and none whose bytes changed, nor are others than the first bytes seen of one; bytes that
+/// no operation left are not theirs.
+#[tactic(auto, using(crate::proofs::Parts::no_other))]
 pub fn operations_of_another_flash()
     ensures not_planned { AreSeen never 0 blank (erase program) seen_there → ⊥ }
     ensures changed { AreSeen second 0 other (erase program) seen_there → ⊥ }
+    ensures other_part { AreSeen second 0 blank (erase program) (erase (broken_off (255 ∷ 0 ∷ []))) → ⊥ }
     ensures wiped { IsChain other [] blank → ⊥ }
 {}
 

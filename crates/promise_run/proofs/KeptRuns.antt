@@ -180,7 +180,7 @@ chains first last a b = subst (λ (f : List ℕ). IsChain (attached small.geomet
     (subst (λ (l : List ℕ). IsChain blank kept_write.flash.operations l) b (refl, (blank, (record { size = refl; front = refl; back = refl }, grown_same 160), refl)))
 
 stays_back : (last : List ℕ) (changes : List Change) → blank ≡ last → [] ≡ changes → AreSeen (λ k. IsTrue true × ((last_count ≤ k) ⊎ HasOffAt whole (next_count k))) 0 last kept_write.flash.operations changes
-stays_back last changes a b = subst (λ (cs : List Change). AreSeen (λ k. IsTrue true × ((last_count ≤ k) ⊎ HasOffAt whole (next_count k))) 0 last kept_write.flash.operations cs) b (((refl, inr refl), sym a), refl)
+stays_back last changes a b = subst (λ (cs : List Change). AreSeen (λ k. IsTrue true × ((last_count ≤ k) ⊎ HasOffAt whole (next_count k))) 0 last kept_write.flash.operations cs) b (((refl, inr refl), refl, sym a), refl)
 
 no_refusals : (id : ℕ) → RefusalsExplain small kept_write.course whole id
 no_refusals id zero = omega arith

@@ -143,7 +143,7 @@ abbrev Kept : ℕ → Type 0
 Kept k = IsTrue (has_cutter lost_write.course) × ((last_count ≤ k) ⊎ HasOffAt whole (next_count k))
 
 seen : (last : List ℕ) (changes : List Change) → operations ≡ changes → AreSeen Kept 0 last operations changes
-seen last changes a = subst (λ (cs : List Change). AreSeen Kept 0 last operations cs) a (inl ((refl, refl), refl, inl refl, inl ((refl, refl), refl, inl refl, inl ((refl, refl), refl, inl refl, inl ((refl, refl), refl, inl refl, inl ((refl, refl), refl, inl refl, refl))))))
+seen last changes a = subst (λ (cs : List Change). AreSeen Kept 0 last operations cs) a (inl (inl refl, inl (inl refl, inl (inl refl, inl (inl refl, inl (inl refl, refl))))))
 
 pub are_operations : AreOperations small.geometry lost_write.flash Kept
 are_operations = record {

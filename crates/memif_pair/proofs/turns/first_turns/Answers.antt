@@ -1,3 +1,4 @@
+use Rattle.memif_pair.proofs.Resting.{own_turns}
 use Rattle.memif_pair.proofs.Ticking.{first_ticks}
 use Rattle.memif_pair.proofs.Turned.{first_turns}
 use Rattle.memif_pair.proofs.turns.first_turns.Goals as goal
@@ -7,3 +8,6 @@ returns-clause-ticks g c = first_ticks _ _ _ _ _ _ _ c.status-status.ensures.ord
 
 pub returns-clause-turns : goal.returns-clause-turns
 returns-clause-turns g c = first_turns _ _ _ _ _ _ _ c.status-status.ensures.order c.turn.ensures
+
+pub returns-clause-own : goal.returns-clause-own
+returns-clause-own g c = own_turns _ _ _ _ _ _ _ c.status-status.ensures.order c.turn.ensures
