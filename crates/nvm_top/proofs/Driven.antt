@@ -39,6 +39,7 @@ use Rattle.nvm_flash.specs.nvm_laws.declared.turned.FoundAnswer.TheVariants as f
 use Rattle.nvm_flash.specs.promise_run.Run.{Played, cap, offs_of_flash}
 use Rattle.nvm_flash.specs.promise_run.Promise.{making_of}
 use Rattle.nvm_flash.specs.promise_run.Halves.{HalvesMakeIt, beyond_end}
+use Rattle.script_walks.specs.Texts.{AreValues}
 use Rattle.script_player.specs.Made.{IsFresh}
 use Rattle.script_player.specs.PlainTold.{told_by}
 use Rattle.script_player.specs.PlainKept.{IsKept}
@@ -253,10 +254,10 @@ in_first : (a f t n : ℕ) → t ≡ min (f + 0) last_count → WereCounted n a 
 in_first a f t n is (inl more) = inl (omega (arith, is, more))
 in_first a f t n is (inr full) = inr (omega (arith, is, full))
 
-pub vouched : (c : Configuration) (inner : Told) (cuts : ℕ) (making : Making) (entry exit : Told) (s : StackState Device (List PlainBlock)) (e : Device) → e ≡ s.device → HalvesMakeIt (told_clock e) → IsOrigin c inner cuts making entry → s.desk.config ≡ c → s.desk.cap ≡ cap
+pub vouched : (c : Configuration) (inner : Told) (cuts : ℕ) (making : Making) (entry exit : Told) (s : StackState Device (List PlainBlock)) (e : Device) → e ≡ s.device → HalvesMakeIt (told_clock e) → AreValues s.desk.entries → IsOrigin c inner cuts making entry → s.desk.config ≡ c → s.desk.cap ≡ cap
     → IsBack c inner exit (part_at entry) (told_of e) (clock_of e)
     → Vouches (IsKept s.ready (one_part (part_at entry)) s.desk s.hand (told_of s.device) (told_clock s.device)) (payer_by told_of told_clock s) (part_at entry) (told_by told_of s) inner exit
-vouched c inner cuts making entry exit s e same halves origin config most back = record {
+vouched c inner cuts making entry exit s e same halves values origin config most back = record {
   operations = back.operations;
   ops = own.ops;
   failed = λ k few is.
@@ -268,6 +269,7 @@ vouched c inner cuts making entry exit s e same halves origin config most back =
   cuts = λ n counted. own.cuts n (subst (λ (k : ℕ). WereCounted n (part_at entry).planning.unplanned k) one_part_cuts counted);
   worn = λ k n (few, is).
       subst (λ (x : Configuration). IsWornOut (making_of x) (record { entry = inner; exit = exit; operations = back.operations }) k n) (sym config) (worn_banks_compute (making_of c) (record { entry = inner; exit = exit; operations = back.operations }) k n (own.worn k n is));
+  values = values;
   promise = λ kept made left pieces end order refusals off.
       its (run_of s.desk.config s.desk.entries inner exit back.operations (Played made pieces left) end) (one_part (part_at entry)) (told_of s.device)
       (record {

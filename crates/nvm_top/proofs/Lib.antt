@@ -3,6 +3,8 @@ pub mod Complete
 pub mod Driven
 pub mod Dumps
 pub mod Images
+pub mod InMemory
+pub mod Outputs
 pub mod PlayLemmas
 pub mod Printing
 pub mod Promised

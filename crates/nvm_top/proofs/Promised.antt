@@ -1,7 +1,7 @@
 -- A run keeps the promise, by the course of its steps and by what its stack vouches for.
 use Rattle.std.specs.Prelude.{OnOk, IfErr, IfSome, sum_by, take}
 use Rattle.std.specs.List.{Contains}
-use Rattle.std.proofs.Common.{◌≡◌, ◌≢◌, ◌≤◌, ◌+◌, ◌⊎◌, ℕ, zero, suc, List, [], ◌∷◌, ◌++◌, length, Option, Some, None, Result, Ok, Err, refl, sym, ap, ◌∙◌, subst, inl, inr, arith, append-nil}
+use Rattle.std.proofs.Common.{◌≡◌, ◌≢◌, ◌≤◌, ◌+◌, ◌⊎◌, ℕ, false, zero, suc, List, [], ◌∷◌, ◌++◌, length, Option, Some, None, Result, Ok, Err, refl, sym, ap, ◌∙◌, subst, inl, inr, arith, append-nil}
 use Rattle.nvm_flash.specs.nv_base.Count.{Rose, WereCounted}
 use Rattle.nvm_flash.specs.nv_base.Geometry.{size_of}
 use Rattle.nvm_flash.specs.block_config.Config.{Configuration}
@@ -119,7 +119,7 @@ early_has c steps Tells entry exit stop end stops ends tells = record {
   ends = tells;
   keeps =
       let promise = early_promise c steps entry exit stop end stops ends in
-      record { order = promise.order; size = λ started. absurd started; refusals = promise.refusals; off = promise.off; complete = early_complete c steps entry exit end promise.order; turns = early_turns c steps entry exit end stops.faults ends; promise = λ told sound. promise };
+      record { order = promise.order; size = λ started. absurd started; refusals = promise.refusals; off = promise.off; complete = early_complete c steps entry exit end promise.order; turns = early_turns c steps entry exit end stops.faults ends; values = tt; promise = λ told sound. promise };
 }
 
 -- WHAT IS TOLD OF A RUN
@@ -288,6 +288,7 @@ has_run Kept p q c cuts all made left end before old t entry exit Tells started 
       cuts = in_time;
       paid = λ told sound. paid told sound;
     };
+    values = v.values;
     promise = λ told sound. v.promise (keeps (well told sound)) made left walked.pieces end order refusals off;
   };
 }

@@ -6,6 +6,7 @@ pub mod Flashes
 pub mod Input
 pub mod Measures
 pub mod Output
+pub mod Outputs
 pub mod Play
 pub mod Reading
 pub mod Status
@@ -14,3 +15,4 @@ pub mod Runs
 pub mod Promised
 pub mod Soak
 pub mod Stack
+pub mod Worked

@@ -9,6 +9,7 @@ use Rattle.nvm_script.specs.declared.script.Mode.TheVariants as mode
 use Rattle.nvm_script.specs.Printed.{history_text}
 use Rattle.nvm_script.specs.Summary.{summary}
 use Rattle.script_walks.specs.Words.{Step}
+use Rattle.script_walks.specs.Texts.{AreValues}
 use Rattle.nvm_flash.specs.block_machine.Words.{Entry}
 use Rattle.nvm_flash.specs.promise_blocks.OverDevice.{HasStarted}
 use Rattle.nvm_flash.specs.promise_run.Run.{Run, End, Whole, HasOrder, LeavesAlone, RefusalsExplain, offs_of_flash}
@@ -40,8 +41,9 @@ played_call input x entry exit written written' =
 -- a size that it may have, but where no start-up was made; and where nothing fails each job in hand is posted within its turns,
 -- and a drain leaves nothing pending. Its steps have their turns, one by one, which make all operations of the flash and each
 -- count what failed in it, and each job is posted within its own, counted from its Pick; by their moments a start-up that
--- failed at the end had a fault of its own. Over a flash that tells its bytes, from a sound image on, each Post is paid by
--- them since its Pick, and the run keeps the promise.
+-- failed at the end had a fault of its own. The numbers and bytes of its history are those of a program, as its text needs
+-- them. Over a flash that tells its bytes, from a sound image on, each Post is paid by them since its Pick, and the run keeps
+-- the promise.
 pub record KeepsRun (r : Run) : Type 0 where
   pub order : HasOrder r r.history
   pub size : HasStarted r.history → IsRightSize (size_of r.configuration.geometry) r.flash.entry.bytes
@@ -49,6 +51,7 @@ pub record KeepsRun (r : Run) : Type 0 where
   pub off : WereCounted (offs_of_flash r.course r.history) r.flash.entry.cuts r.flash.exit.cuts
   pub complete : Completeness (job_turns r.configuration) r r.course
   pub turns : HasTurns (job_turns r.configuration) r r.course
+  pub values : AreValues r.history
   pub promise : TellsBytes r.flash → StartsSound (making_of r.configuration) r.flash → Promise r
 
 -- THE WHOLE CALL

@@ -7,6 +7,7 @@ use Rattle.nvm_flash.specs.memif.Told.{Part, First, Second, PartTold, no_part}
 use Rattle.nvm_flash.specs.fls_model.Told.{Told, Change, bytes_now}
 use Rattle.nvm_flash.specs.promise_device.Image.{IsSoundFlash}
 use Rattle.script_walks.specs.Words.{Step}
+use Rattle.script_walks.specs.Texts.{AreValues}
 use Rattle.nvm_flash.specs.block_machine.Words.{Entry}
 use Rattle.nvm_flash.specs.promise_run.Run.{Run, Course, Played, End, cap, HasOrder, LeavesFlash, RefusalsExplain, offs_of_flash}
 use Rattle.nvm_flash.specs.promise_run.Promise.{Promise, making_of}
@@ -71,8 +72,9 @@ abbrev pub IsKeptFrom : Type 0 → Payer → StackTold → Type 0
 IsKeptFrom Kept p t = Kept × p.owes t.faults
 
 -- The flash is given back: the operations, the faults and the cuts that the stack was told are its own, what failed of them
--- the stack was told of, and where it says that it is worn out the flash is; and where this was kept, a run that followed a
--- script keeps the promise, where its steps explain its refused copies and its power cuts.
+-- the stack was told of, and where it says that it is worn out the flash is; the numbers and bytes of its history are those of
+-- a program; and where this was kept, a run that followed a script keeps the promise, where its steps explain its refused
+-- copies and its power cuts.
 pub record Vouches (Kept : Type 0) (p : Payer) (before : PartTold) (t : StackTold) (entry exit : Told) : Type 0 where
   pub operations : List Change
   pub ops : t.ops ≡ min (length operations) last_count
@@ -82,6 +84,7 @@ pub record Vouches (Kept : Type 0) (p : Payer) (before : PartTold) (t : StackTol
   pub counted : (n : ℕ) → WereCounted n before.faults t.faults → WereCounted n entry.faults exit.faults
   pub cuts : (n : ℕ) → WereCounted n before.planning.unplanned t.causes.unplanned → WereCounted n entry.cuts exit.cuts
   pub worn : (k n : ℕ) → p.worn k n → IsWornOut (making_of t.configuration) (record { entry = entry; exit = exit; operations = operations }) k n
+  pub values : AreValues t.entries
   pub promise : Kept → (made left : List Step) (pieces : List (List Entry)) (end : End)
       → HasOrder (run_of t.configuration t.entries entry exit operations (Played made pieces left) end) t.entries
       → ((id : ℕ) → RefusalsExplain t.configuration (Played made pieces left) t.entries id)

@@ -23,6 +23,9 @@ mod soak;
 mod stack;
 mod status;
 mod stop;
+mod values;
+mod worked;
 
 pub use commands::{check_command, command, dump_command, play_command, soak_command};
 pub use status::Status;
+pub use worked::play_with_room;

@@ -16,6 +16,7 @@ use crate::output::report;
 use crate::playable::{Playable, read_playable};
 use crate::runs::{RunText, stop_of, write_text};
 use crate::stack::OneFlash;
+use crate::values::history_values;
 use nv_streams::{Sink, Source};
 use nvm_flash::fee_core::Origin;
 use nvm_flash::fls_model::Flash;
@@ -80,7 +81,9 @@ fn play_steps<K: Sink, F: Flash, O: Origin>(
     };
     match make_run(alloc, playable, handed) {
         Ok(Made { end, stack }) => {
-            let status = write_text(alloc, text, stop_of(end), stack.stack().history(), output);
+            let history = stack.stack().history();
+            history_values(history);
+            let status = write_text(alloc, text, stop_of(end), history, output);
             let device = stack.into_stack().into_device();
             let OneFlash { flash, .. } = OneFlash::<F, O>::back(device);
             (status, flash)

@@ -1,0 +1,16 @@
+// The numbers and bytes of a history.
+ghost use Rattle.script_walks.specs.Texts.{AreValues};
+
+use nvm_flash::nv_base::History;
+use nvm_script::entry_value;
+
+/// The numbers of a history's entries and the bytes of their contents are those of their types, as its text needs them.
+pub fn history_values(history: &History)
+    ensures { AreValues history.now.entries }
+{
+    for i in 0..history.len() {
+        if let Some(entry) = history.entry(i) {
+            entry_value(entry);
+        }
+    }
+}

@@ -1,0 +1,119 @@
+// What the unit does.
+ghost use Rattle.std.specs.Prelude.{◌≡◌, true};
+ghost use Rattle.nvm.specs.block_machine.Legal.{HasStore};
+
+use nvm::{MemDevice, Reply, ReqResult, Request, Turned, Unit, UnitStack, bytes_of};
+use std::alloc::Global;
+
+/// The block of the kilometres, one byte.
+const KILOMETRES: u16 = 2;
+
+/// Cycles of a ReadAll at most.
+const START: u32 = 20;
+
+/// Cycles of a WriteAll at most, with a switch of the banks before each record: 146 by the figures of `tools/plan`.
+pub const SHUTDOWN: u32 = 150;
+
+/// An odometer that drives so many kilometres in this life, the last one with a power cut at that operation of its write, if it
+/// is not 0. Behind its run it has what it found, what was stored for certain, and the cycles that its shutdown took, if the
+/// power was still on.
+#[derive(Drop)]
+pub struct Odometer {
+    pub drives: u8,
+    pub cut_at: u32,
+    pub found: u8,
+    pub stored: u8,
+    pub shutdown: Option<u32>,
+}
+
+impl Odometer {
+    pub fn make(drives: u8, cut_at: u32) -> Odometer {
+        Odometer {
+            drives,
+            cut_at,
+            found: 0,
+            stored: 0,
+            shutdown: None,
+        }
+    }
+}
+
+impl Unit for Odometer {
+    fn run<D: MemDevice>(&mut self, alloc: Global, stack: &mut UnitStack<D>) {
+        ask(alloc, stack, Request::ReadAll);
+        cycles(stack, 0, START);
+        self.found = kilometres(stack);
+        self.stored = self.found;
+        for left in 0..self.drives {
+            if left + 1 == self.drives {
+                stack.arm(0, self.cut_at, 0);
+            }
+            let driven = self.stored.saturating_add(1);
+            write(alloc, stack, driven);
+            cycles(stack, KILOMETRES, SHUTDOWN);
+            if let ReqResult::Fine = stack.status(KILOMETRES) {
+                self.stored = driven;
+            }
+        }
+        if ask(alloc, stack, Request::WriteAll) {
+            self.shutdown = Some(cycles(stack, 0, SHUTDOWN));
+        }
+    }
+}
+
+/// The 10 ms task: one turn, which is at most one call of the flash.
+fn task<D: MemDevice>(stack: &mut UnitStack<D>) -> Turned
+    requires { stack.old.ready ≡ true }
+    ensures { stack.new.ready ≡ true }
+{
+    stack.turn()
+}
+
+/// Cycles until a request is served or the power is off, at most so many. Answers how many it took. Looking at a status adds no entry.
+fn cycles<D: MemDevice>(stack: &mut UnitStack<D>, block: u16, most: u32) -> u32
+    requires { stack.old.ready ≡ true }
+    ensures { stack.new.ready ≡ true }
+{
+    for cycle in 0..most {
+        if !matches!(stack.status(block), ReqResult::Pending) {
+            return cycle;
+        }
+        if let Turned::Off = task(stack) {
+            return cycle;
+        }
+    }
+    most
+}
+
+/// Asks for something. A request that isn't accepted is a fault of the program.
+fn ask<D: MemDevice>(alloc: Global, stack: &mut UnitStack<D>, request: Request) -> bool
+    requires ready { stack.old.ready ≡ true }
+    requires store { HasStore stack.old.desk.config request }
+    ensures { stack.new.ready ≡ true }
+{
+    matches!(stack.ask(alloc, 0, request), Ok(Reply::Accepted))
+}
+
+/// Writes the kilometres.
+fn write<D: MemDevice>(alloc: Global, stack: &mut UnitStack<D>, kilometres: u8) -> bool
+    requires { stack.old.ready ≡ true }
+    ensures { stack.new.ready ≡ true }
+{
+    let Ok(content) = bytes_of(alloc, &[kilometres]) else {
+        return false;
+    };
+    let request = Request::Write {
+        block: KILOMETRES,
+        content: Some(content),
+        store: 0,
+    };
+    ask(alloc, stack, request)
+}
+
+/// What the unit's RAM has.
+fn kilometres<D: MemDevice>(stack: &UnitStack<D>) -> u8 {
+    match stack.ram(KILOMETRES).first() {
+        Some(kilometres) => *kilometres,
+        None => 0,
+    }
+}
