@@ -53,7 +53,7 @@ pub cuts_leave : (x : Status) (operations reads reads' : ℕ) (bytes : Option To
 cuts_leave status.Ok operations reads reads' bytes call last at_entry at_exit small (inl has) = has_cuts operations call last at_entry at_exit small has
 cuts_leave status.FlashFault operations reads reads' bytes call last at_entry at_exit small (inl has) = has_cuts operations call last at_entry at_exit small has
 cuts_leave status.HistoryFull operations reads reads' bytes call last at_entry at_exit small (inl has) = has_cuts operations call last at_entry at_exit small has
-cuts_leave status.Ok operations reads reads' bytes call last at_entry at_exit small (inr stops) = absurd stops.line.1.0
-cuts_leave status.FlashFault operations reads reads' bytes call last at_entry at_exit small (inr stops) = absurd stops.line.1.0
-cuts_leave status.HistoryFull operations reads reads' bytes call last at_entry at_exit small (inr stops) = absurd stops.line.1.0
+cuts_leave status.Ok operations reads reads' bytes call last at_entry at_exit small (inr stops) = absurd stops.line.1
+cuts_leave status.FlashFault operations reads reads' bytes call last at_entry at_exit small (inr stops) = absurd stops.line.1
+cuts_leave status.HistoryFull operations reads reads' bytes call last at_entry at_exit small (inr stops) = absurd stops.line.1
 cuts_leave _ operations reads reads' bytes call last at_entry at_exit small ends = tt

@@ -25,8 +25,8 @@ use Rattle.nvm_script.specs.Script.{IsScript, later_lines}
 use Rattle.nvm_script.specs.declared.script.Mode.TheVariants as mode
 use Rattle.nvm_flash.specs.promise_run.JobTurns.{job_turns}
 use Rattle.nvm_top.specs.Ends.{HasPlayable, HasStepsOf, HasWrongLine}
-use Rattle.nvm_top.specs.Play.{IsRunEnd, IsStepsEnd, IsAttachStop, IsBeforeAttach, IsRightSize, IsSizeStop, PlayStopsBy, StopsBy}
-use Rattle.nvm_top.specs.Reading.{IsEarly, IsReadStop}
+use Rattle.nvm_top.specs.Play.{IsAttachStop, IsBeforeAttach, IsRightSize, IsSizeStop, PlayStopsBy, StopsBy}
+use Rattle.nvm_top.specs.Reading.{IsReadStop}
 use Rattle.nvm_flash.specs.promise_run.Turns.{Moment, moment_behind, BeginsAt, EndsBy, ArePaidSince, HasTurns, EachMove, ServesTurn, StaysAtRest, all_moves, CutsCome}
 use Rattle.nvm_top.specs.Input.{input_limit}
 use Rattle.nvm_flash.proofs.promise_run.Paid.{since_too}
@@ -319,6 +319,7 @@ has_run Kept p q c cuts all made left end before old t entry exit Tells started 
     rests =
         subst (λ (h : List Entry). StaysAtRest t.configuration (moment_of old) (after t.configuration h) (all_moves walked.moves.moves)) (sym first)
         (subst (λ (x : Configuration). StaysAtRest x (moment_of old) (after x old.entries) (all_moves walked.moves.moves)) (sym same) walked.rests)
+
     in_time : CutsCome t.configuration None (moment_of old) (after t.configuration (take 1 t.entries)) made walked.moves.moves
     in_time =
         subst (λ (h : List Entry). CutsCome t.configuration None (moment_of old) (after t.configuration h) made walked.moves.moves) (sym first)

@@ -2,7 +2,7 @@
 use Rattle.std.specs.Prelude.{IsSome, unwrap_or}
 use Rattle.std.specs.List.{list_all}
 use Rattle.std.specs.Option.{option_map_or}
-use Rattle.std.proofs.Common.{◌≡◌, ◌⊎◌, ◌<◌, ◌≤◌, ◌+◌, ◌-◌, ◌*◌, ◌&&◌, ℕ, zero, suc, Bool, true, IsTrue, List, [], ◌∷◌, length, Option, Some, None, refl, sym, ap, ◌∙◌, subst, inl, inr, arith}
+use Rattle.std.proofs.Common.{◌≡◌, ◌<◌, ◌≤◌, ◌-◌, ◌*◌, ℕ, zero, suc, true, IsTrue, List, [], ◌∷◌, length, Option, Some, None, refl, subst, inl, inr, arith}
 use Rattle.std.proofs.lemmas.Bool.{and_parts}
 use Rattle.std.proofs.lemmas.Bool.Decides.{leb_tells}
 use Rattle.std.proofs.Math.Nat.{le-mul_of_pos_right}
@@ -21,7 +21,7 @@ use Rattle.promise_run.specs.Completeness.{is_calm_entry, EachEntry, PostsWell}
 -- NO FAULT PAYS
 none_counted : (n a b : ℕ) → a ≤ b → ¬ Rose a b → WereCounted n a b → n ≤ 0
 none_counted n a b less none counted = elim (leb_tells b a) [
-  | inl same ↦ elim counted [ | inl more ↦ let stays = same.1 in omega (arith, more, stays) | inr full ↦ absurd (none (inr (let stays = same.1 in omega (arith, full, stays), less))) ]
+  | inl same ↦ elim counted [ inl more ↦ let stays = same.1 in omega (arith, more, stays) | inr full ↦ absurd (none (inr (let stays = same.1 in omega (arith, full, stays), less))) ]
   | inr rose ↦ absurd (none (inl (let more = rose.1 in omega (arith, more))))
 ]
 

@@ -1,10 +1,10 @@
 -- Calls that are none of a run, and runs in which a job isn't served.
-use Rattle.std.proofs.Common.{rules, ◌≡◌, ◌<◌, ℕ, List, [], ◌∷◌, ◌++◌, length, Option, Some, None, subst, length-append, refl, ap, inl, inr, arith}
+use Rattle.std.proofs.Common.{rules, ◌≡◌, ◌<◌, ℕ, List, [], ◌∷◌, ◌++◌, length, Some, None, subst, length-append, refl, ap, inl, inr, arith}
 use Rattle.block_machine.specs.nv_base.Count.{Rose}
 use Rattle.nvm_script.specs.Printed.{history_text}
 use Rattle.promise_run.specs.Call.{IsRunOf, last_line}
 use Rattle.fee_image.specs.Laws.{SoundImagesCompute}
-use Rattle.block_machine.specs.Words.{Fine, Content, Write, Accepted, Entry, Ask, Wrote, Found}
+use Rattle.block_machine.specs.Words.{Fine, Content, Write, Accepted, Ask, Wrote, Found}
 use Rattle.block_machine.specs.State.{State, Job}
 use Rattle.block_machine.specs.Blocks.{job_block}
 use Rattle.block_machine.specs.Results.{own_of, failed_set}

@@ -2,7 +2,7 @@
 use Rattle.std.specs.Prelude.{IfSome, not, ◌||◌}
 use Rattle.script_walks.specs.Walk.{is_due, begins_with_pick_or_post}
 use Rattle.std.specs.List.{list_any}
-use Rattle.std.proofs.Common.{◌≡◌, ℕ, false, List, [], ◌∷◌, ◌++◌, IsTrue, map, Option, Some, None, refl, sym, ap, ◌∙◌, subst, append_assoc, append-nil}
+use Rattle.std.proofs.Common.{◌≡◌, ℕ, false, List, [], ◌∷◌, ◌++◌, IsTrue, map, Some, refl, sym, ap, ◌∙◌, subst, append_assoc, append-nil}
 use Rattle.std.proofs.lemmas.List.{map-append}
 use Rattle.nvm_core.specs.nv_base.Entry.{ops_of}
 use Rattle.nvm_core.specs.block_machine.Words.{Instance, Mark, Request, Reply, Entry, Ask, Pick, Wrote, Post, Off, Found, Configuration}

@@ -1,6 +1,6 @@
 -- A turn that is its first half alone.
 use Rattle.std.specs.Prelude.{IsTrue, map, not}
-use Rattle.std.proofs.Common.{◌≡◌, ◌<◌, ◌≤◌, ℕ, Bool, true, false, List, [], ◌∷◌, ◌++◌, get_or, Option, Some, None, refl, sym, ap, ◌∙◌, subst, inl, inr, arith}
+use Rattle.std.proofs.Common.{◌≡◌, ◌<◌, ◌≤◌, ℕ, Bool, true, false, List, [], ◌∷◌, ◌++◌, get_or, Option, None, refl, sym, ap, ◌∙◌, subst, inl, inr, arith}
 use Rattle.nvm_core.specs.nv_base.Count.{last_count, WereCounted}
 use Rattle.nvm_core.specs.memif.Told.{DeviceTold, faults_of, ops_of}
 use Rattle.nvm_core.specs.block_machine.Words.{ReqResult, Entry, Pick, Post}

@@ -1,13 +1,12 @@
 -- The steps that were made.
-use Rattle.std.specs.Prelude.{◌≡◌, ◌≤◌, ◌<◌, ◌+◌, ◌^◌, ℕ, not, true, false, IsTrue, List, [], ◌∷◌, ◌++◌, length, map, take, sum_by, Option, None}
+use Rattle.std.specs.Prelude.{◌≡◌, ◌≤◌, ◌<◌, ◌+◌, ◌^◌, ℕ, true, false, IsTrue, List, [], ◌∷◌, ◌++◌, length, map, take, sum_by, Option, None}
 use Rattle.nvm_core.specs.nv_base.Count.{Rose, WereCounted}
 use Rattle.nvm_core.specs.nv_base.Entry.{ops_behind}
-use Rattle.nvm_core.specs.block_machine.Words.{Instance, Mark, Request, Reply, Entry, Ask, Found, Configuration}
-use Rattle.nvm_core.specs.block_machine.State.{State}
+use Rattle.nvm_core.specs.block_machine.Words.{Instance, Mark, Request, Reply, Entry, Ask, Found}
 use Rattle.nvm_core.specs.block_machine.Prices.{sum_from, block_price}
 use Rattle.nvm_core.specs.block_machine.Steps.{after}
 use Rattle.nvm_core.specs.ram_blocks.Plain.{store_of, plain_blocks_of}
-use Rattle.script_walks.specs.Words.{Step, StepKind, AskStep, Cut, Restart}
+use Rattle.script_walks.specs.Words.{Step, StepKind, Cut, Restart}
 use Rattle.script_walks.specs.Walk.{request_after, is_at_rest, IsPiece, IsWalkOf}
 use Rattle.promise_run.specs.Run.{Played, EachPiece, HasNoRoom, HadRoom, plan_after, unpaid_off, offs_of_flash, refusals_of, RefusalsExplain}
 use Rattle.promise_run.specs.Completeness.{turns_of, is_drain, is_restart, IsServed}

@@ -11,7 +11,7 @@ use Rattle.nvm_core.specs.block_machine.Prices.{prices_in_refusals}
 use Rattle.script_walks.specs.Words.{Step}
 use Rattle.script_walks.specs.Walk.{IsWalkOf, joined}
 use Rattle.promise_run.specs.Run.{EachPiece, HadRoom, plan_after, unpaid_offs, refusals_of}
-use Rattle.promise_run.specs.Completeness.{turns_of, is_drain, is_restart, ends_job, DrainsAll, EachPiece}
+use Rattle.promise_run.specs.Completeness.{turns_of, is_drain, is_restart, ends_job, DrainsAll}
 use Rattle.promise_run.specs.Turns.{HasMoves, ClosesAtDrains, all_moves, Moment, Move, Planned, planned_by, moment_behind, CutsCome}
 use Rattle.script_player.specs.Chain.{shown_of, AreMoved}
 use Rattle.script_player.specs.Coming.{IsPending}
