@@ -24,6 +24,15 @@ own_few p [] k = omega arith
 own_few p (c ∷ cs) zero = omega arith
 own_few p (c ∷ cs) (suc k) = let rest = own_few p cs k in let one = one_few p c in omega (arith, rest, one)
 
+one_of : (q : Bool) → one_if false q + one_if true q ≡ 1
+one_of true = refl
+one_of false = refl
+
+-- each operation is of one of them
+pub own_both : (cs : List Bool) → own false cs (length cs) + own true cs (length cs) ≡ length cs
+own_both [] = refl
+own_both (c ∷ cs) = let rest = own_both cs in let one = one_of c in omega (arith, rest, one)
+
 pub own_grows : (p : Bool) (cs : List Bool) (k n : ℕ) → k ≤ n → own p cs k ≤ own p cs n
 own_grows p [] k n le = omega arith
 own_grows p (c ∷ cs) zero n le = omega arith

@@ -37,23 +37,23 @@ job_rests : (p : Part) (s u : Stand) (old new : DeviceTold) (c : Clock) → is_o
 job_rests p (Open j) u old new c closed same keeps = cc closed
 job_rests p (Ended r given) u old new c closed same keeps = (same, keeps)
 
-own_alone : (o p q : Bool) → o ≡ false → q ≡ false → (not o && not (p || q)) ≡ not p
+pub own_alone : (o p q : Bool) → o ≡ false → q ≡ false → (not o && not (p || q)) ≡ not p
 own_alone true p q is rests = cc is
 own_alone false p true is rests = cc rests
 own_alone false true false is rests = refl
 own_alone false false false is rests = refl
 
-own_only : (o p : Bool) → o ≡ false → (not o && not p) ≡ not p
+pub own_only : (o p : Bool) → o ≡ false → (not o && not p) ≡ not p
 own_only true p is = cc is
 own_only false p is = refl
 
-closed_both : (last : Bool) (s u : Stand) → is_open s ≡ false → is_open u ≡ false → is_open (stand_both last s u) ≡ false
+pub closed_both : (last : Bool) (s u : Stand) → is_open s ≡ false → is_open u ≡ false → is_open (stand_both last s u) ≡ false
 closed_both true s u one two = two
 closed_both false s u one two = one
 
 module _ (a : DeviceTold) (ca : Clock) (anew : DeviceTold) (ca_new : Clock) (b : DeviceTold) (cb : Clock) (course next : List Bool) (last : Bool)
     (pair : ArePair a b) (is : IsCourse a b course) (goes : Goes false a.ops anew.ops course next)
-    (closed : is_open a.stand ≡ false) (other : is_open b.stand ≡ false) (up : b.started ≡ true) (rests : b.switching ≡ false) where
+    (closed : is_open a.stand ≡ false) (other : is_open b.stand ≡ false) (up : nothing_open a ≡ false → b.started ≡ true) (rests : b.switching ≡ false) where
   abbrev old : DeviceTold
   old = told_both a b last course
 
@@ -72,7 +72,7 @@ module _ (a : DeviceTold) (ca : Clock) (anew : DeviceTold) (ca_new : Clock) (b :
   not_urgent : urgent_first old.fixed old.stand ≡ false
   not_urgent = urgent_closed old.fixed old.stand no_job
 
-  module _ (works : Works First a anew ca_new) where
+  module _ (some : nothing_open a ≡ false) (works : Works First a anew ca_new) where
     own : (anew.stand ≡ a.stand) × KeepsAll a anew
     own = stays First a.stand anew.stand a anew ca_new closed works.job
 
@@ -88,7 +88,7 @@ module _ (a : DeviceTold) (ca : Clock) (anew : DeviceTold) (ca_new : Clock) (b :
     works_rest : Works First old new (pair_clock ca_new b cb next)
     works_rest = record {
       only = λ i. record new { fixed = fixed_both (fixed i) b.fixed; started = (ap (λ (d : DeviceTold). d.started) works.only) i && b.started; starts = (ap (λ (d : DeviceTold). d.starts) works.only) i };
-      up = λ i. works.up i && up i;
+      up = λ i. works.up i && up some i;
       of = is_first_of old.fixed old.stand no_job;
       part = part_both a ca anew ca_new b cb course next pair is goes fixed false works.part;
       job = job_rests First old.stand new.stand old new (pair_clock ca_new b cb next) no_job (stand_same own.0) (keeps_both a ca anew ca_new b cb course next pair is goes fixed own.1);
@@ -120,10 +120,10 @@ module _ (a : DeviceTold) (ca : Clock) (anew : DeviceTold) (ca_new : Clock) (b :
     | inr more ↦ absurd (let none = ap (λ (d : DeviceTold). d.ops) still in omega (arith, more.0, none))
   ]
 
-  first_works : (p : Part) → p ≡ First → Works p a anew ca_new → Ticks p Worked a ca anew ca_new → InOrder b cb
+  first_works : nothing_open a ≡ false → (p : Part) → p ≡ First → Works p a anew ca_new → Ticks p Worked a ca anew ca_new → InOrder b cb
       → (q : Part) × Works q old new (pair_clock ca_new b cb next) × Ticks q Worked old (pair_clock ca b cb course) new (pair_clock ca_new b cb next)
-  first_works First at works ticks order = (First, works_rest works, first_ticks Worked a ca anew ca_new b cb order course next last last pair is goes ticks)
-  first_works Second at works ticks order = cc at
+  first_works some First at works ticks order = (First, works_rest some works, first_ticks Worked a ca anew ca_new b cb order course next last last pair is goes ticks)
+  first_works some Second at works ticks order = cc at
 
   first_off : (p : Part) → p ≡ First → IsOff p a ca anew ca_new ⊎ (IsCut p a anew × Ticks p Off a ca anew ca_new) → InOrder b cb
       → (q : Part) × (IsOff q old (pair_clock ca b cb course) new (pair_clock ca_new b cb next) ⊎ (IsCut q old new × Ticks q Off old (pair_clock ca b cb course) new (pair_clock ca_new b cb next)))
@@ -137,7 +137,7 @@ module _ (a : DeviceTold) (ca : Clock) (anew : DeviceTold) (ca_new : Clock) (b :
 
   pub turns_rest : (answer : DeviceTurn) → InOrder b cb → TurnsAs answer a ca anew ca_new → TurnsAs answer old (pair_clock ca b cb course) new (pair_clock ca_new b cb next)
   turns_rest Idle order turns = (nothing_same ∙ turns.0, still_rest turns.1, clock_rests turns.2 turns.1)
-  turns_rest Worked order turns = (nothing_same ∙ turns.0, first_works turns.1.0 (of_first a.fixed turns.1.0 a.stand closed turns.1.1.of) turns.1.1 turns.1.2 order)
+  turns_rest Worked order turns = (nothing_same ∙ turns.0, first_works turns.0 turns.1.0 (of_first a.fixed turns.1.0 a.stand closed turns.1.1.of) turns.1.1 turns.1.2 order)
   turns_rest Off order turns = (nothing_same ∙ turns.0, first_off turns.1.0 (of_off turns.1.0 turns.1.1) turns.1.1 order)
 
 -- what stays of the first device
@@ -149,7 +149,7 @@ kept_cut : (p : Part) (a anew : DeviceTold) → IsCut p a anew → (anew.fixed �
 kept_cut First a anew cut = (ap (λ (d : DeviceTold). d.fixed) cut.only, ap (λ (d : DeviceTold). d.stand) cut.only)
 kept_cut Second a anew cut = (ap (λ (d : DeviceTold). d.fixed) cut.only, ap (λ (d : DeviceTold). d.stand) cut.only)
 
-kept : (answer : DeviceTurn) (a : DeviceTold) (ca : Clock) (anew : DeviceTold) (ca_new : Clock) → is_open a.stand ≡ false → TurnsAs answer a ca anew ca_new → (anew.fixed ≡ a.fixed) × (anew.stand ≡ a.stand)
+pub kept : (answer : DeviceTurn) (a : DeviceTold) (ca : Clock) (anew : DeviceTold) (ca_new : Clock) → is_open a.stand ≡ false → TurnsAs answer a ca anew ca_new → (anew.fixed ≡ a.fixed) × (anew.stand ≡ a.stand)
 kept Idle a ca anew ca_new closed turns = (ap (λ (d : DeviceTold). d.fixed) turns.1, ap (λ (d : DeviceTold). d.stand) turns.1)
 kept Worked a ca anew ca_new closed turns = kept_works turns.1.0 a anew ca_new closed turns.1.1
 kept Off a ca anew ca_new closed turns = elim turns.1.1 [

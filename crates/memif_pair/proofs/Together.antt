@@ -45,7 +45,7 @@ now_both a ca b cb last course pair is one two m finds =
     (one.now finds.found.first (subst (λ (n : ℕ). ca.may_find (After n) finds.found.first) first finds.found.finds_first))
     (two.now finds.found.second (subst (λ (n : ℕ). cb.may_find (After n) finds.found.second) second finds.found.finds_second)) finds.found.map
 
-order_second : (a : DeviceTold) (ca : Clock) (b : DeviceTold) (cb : Clock) (course : List Bool) → ArePair a b → IsCourse a b course
+pub order_second : (a : DeviceTold) (ca : Clock) (b : DeviceTold) (cb : Clock) (course : List Bool) → ArePair a b → IsCourse a b course
     → IsOwnJob true b b.stand → is_open a.stand ≡ false → InOrder a ca → InOrder b cb → InOrder (told_both a b true course) (pair_clock ca b cb course)
 order_second a ca b cb course pair is of closed one two =
     let low : a.left < 2 ^ 63 = subst (λ (t : Bool). a.left < (if t then 2 ^ 64 else 2 ^ 63)) pair.first one.fits in
@@ -74,11 +74,11 @@ order_rest a ca b cb false course pair is closed other one two = order_first a c
 order_rest a ca b cb true course pair is closed other one two = order_second a ca b cb course pair is (no_own true b b.stand other) closed one two
 
 -- BEHIND A CALL OF ONE OF THEM
-own_same : (second : Bool) (b b_new : DeviceTold) (stand : Stand) → b_new.fixed ≡ b.fixed → IsOwnJob second b stand → IsOwnJob second b_new stand
+pub own_same : (second : Bool) (b b_new : DeviceTold) (stand : Stand) → b_new.fixed ≡ b.fixed → IsOwnJob second b stand → IsOwnJob second b_new stand
 own_same second b b_new (Open j) fixed of = ap (λ (f : Fixed). is_second f.numbers j.number) fixed ∙ of
 own_same second b b_new (Ended result given) fixed of = tt
 
-abbrev LengthsStay : Fixed → Fixed → Type 0
+abbrev pub LengthsStay : Fixed → Fixed → Type 0
 LengthsStay f g = (n : ℕ) → is_second g.numbers n ≡ true → length_of (numbers_in f g) n ≡ length_of g.numbers n
 
 pub together_both : (a a_new b b_new : DeviceTold) (last last_new : Bool) (course : List Bool) → AreTogether a b last course → a_new.fixed ≡ a.fixed → a_new.ops ≡ a.ops → b_new.fixed ≡ b.fixed → b_new.ops ≡ b.ops

@@ -15,11 +15,11 @@ module _ (a : DeviceTold) (ca : Clock) (anew : DeviceTold) (ca_new : Clock) wher
   fixed_worked First works = ap (λ (d : DeviceTold). d.fixed) works.only
   fixed_worked Second works = ap (λ (d : DeviceTold). d.fixed) works.only
 
-  fixed_cut : (p : Part) → IsCut p a anew → (anew.fixed ≡ a.fixed) × (anew.stand ≡ a.stand)
+  pub fixed_cut : (p : Part) → IsCut p a anew → (anew.fixed ≡ a.fixed) × (anew.stand ≡ a.stand)
   fixed_cut First cut = (ap (λ (d : DeviceTold). d.fixed) cut.only, ap (λ (d : DeviceTold). d.stand) cut.only)
   fixed_cut Second cut = (ap (λ (d : DeviceTold). d.fixed) cut.only, ap (λ (d : DeviceTold). d.stand) cut.only)
 
-  fixed_is : (answer : DeviceTurn) → Turns answer a ca anew ca_new → anew.fixed ≡ a.fixed
+  pub fixed_is : (answer : DeviceTurn) → Turns answer a ca anew ca_new → anew.fixed ≡ a.fixed
   fixed_is Idle turns = ap (λ (d : DeviceTold). d.fixed) turns.0.1
   fixed_is Worked turns = fixed_worked turns.0.1.0 turns.0.1.1
   fixed_is Off turns = elim turns.0.1.1 [ inl still ↦ ap (λ (d : DeviceTold). d.fixed) still.2 | inr cut ↦ (fixed_cut turns.0.1.0 cut.0).0 ]
@@ -28,7 +28,7 @@ module _ (a : DeviceTold) (ca : Clock) (anew : DeviceTold) (ca_new : Clock) wher
   job_stays b p j (Open k) of turns = subst (λ (x : Job). is_second b.fixed.numbers x.number ≡ false) (sym turns.0) of
   job_stays b p j (Ended r given) of turns = tt
 
-  job_is : (b : DeviceTold) (j : Job) → a.stand ≡ Open j → is_second b.fixed.numbers j.number ≡ false → (answer : DeviceTurn) → Turns answer a ca anew ca_new → IsFirstJob b anew.stand
+  pub job_is : (b : DeviceTold) (j : Job) → a.stand ≡ Open j → is_second b.fixed.numbers j.number ≡ false → (answer : DeviceTurn) → Turns answer a ca anew ca_new → IsFirstJob b anew.stand
   job_is b j on of Idle turns = subst (IsFirstJob b) (sym on ∙ sym (ap (λ (d : DeviceTold). d.stand) turns.0.1)) of
   job_is b j on of Worked turns = job_stays b turns.0.1.0 j anew.stand of (subst (λ (s : Stand). JobTurns turns.0.1.0 s anew.stand a anew ca_new) on turns.0.1.1.job)
   job_is b j on of Off turns = elim turns.0.1.1 [

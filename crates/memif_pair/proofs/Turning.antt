@@ -22,7 +22,7 @@ use Rattle.memif_pair.proofs.Ticking.{slot_is, first_ticks}
 use Rattle.memif_pair.proofs.Clocks.{same_both, same_self}
 use Rattle.memif_pair.proofs.Orders.{figures_first, order_first, IsFirstJob}
 
-same_if : (t : Bool) (n : ℕ) → (if t then n else n) ≡ n
+pub same_if : (t : Bool) (n : ℕ) → (if t then n else n) ≡ n
 same_if true n = refl
 same_if false n = refl
 

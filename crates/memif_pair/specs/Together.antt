@@ -1,15 +1,16 @@
 -- Two devices that are told as one, from call to call.
-use Rattle.std.specs.Prelude.{◌≡◌, ℕ, Bool, true, false, List, Option, Some, Result, Ok, Err}
+use Rattle.std.specs.Prelude.{◌≡◌, ◌+◌, ℕ, Bool, true, false, List, Option, Some, is_some, Result, Ok, Err}
 use Rattle.memif.specs.declared.answer.DeviceRefusal.{DeviceRefusal}
+use Rattle.memif.specs.declared.answer.DeviceTurn.{DeviceTurn}
 use Rattle.memif.specs.declared.answer.MemStatus.{MemStatus}
 use Rattle.memif.specs.declared.answer.MemStatus.TheVariants.{Uninit, Idle, Busy, BusyInternal}
 use Rattle.memif.specs.declared.answer.StartFault.{StartFault}
-use Rattle.memif.specs.Told.{DeviceTold, First, Stand, Open, Ended, figures_at, is_open, length_of}
+use Rattle.memif.specs.Told.{DeviceTold, First, Stand, Open, Ended, figures_at, is_open, length_of, nothing_open}
 use Rattle.memif.specs.Clock.{Clock}
-use Rattle.memif.specs.Calls.{refusal_of}
+use Rattle.memif.specs.Calls.{Turns, refusal_of}
 use Rattle.memif_pair.specs.Pair.{told_both, is_second, numbers_in, ArePair, IsLast}
 use Rattle.memif_pair.specs.PairClock.{IsCourse}
-use Rattle.memif_pair.specs.Laws.{pair_clock}
+use Rattle.memif_pair.specs.Laws.{Goes, pair_clock}
 
 -- an open job is on a number of its own device
 abbrev pub IsOwnJob : Bool → DeviceTold → Stand → Type 0
@@ -34,6 +35,33 @@ OfPair Call last last_new a ca b cb a_new ca_new b_new cb_new =
     (course : List Bool) → AreTogether a b last course
     → Call (told_both a b last course) (pair_clock ca b cb course) (told_both a_new b_new last_new course) (pair_clock ca_new b_new cb_new course)
     × AreTogether a_new b_new last_new course
+
+-- A TURN OF THE PAIR
+-- what is open is so only while the device is started
+abbrev pub IsUp : DeviceTold → Type 0
+IsUp d = nothing_open d ≡ false → d.started ≡ true
+
+-- the course behind it
+abbrev pub PairGoes : (a b a_new b_new : DeviceTold) → (course next : List Bool) → Type 0
+PairGoes a b a_new b_new course next = Goes (is_open b.stand) (a.ops + b.ops) (a_new.ops + b_new.ops) course next
+
+-- It is a turn of the second device where a job of that is open, else of the first one. So it is one of the pair, where the
+-- second one has no work of its own, and behind it they are together again.
+abbrev pub PairTurns : DeviceTurn → (last : Bool) → (a : DeviceTold) (ca : Clock) (b : DeviceTold) (cb : Clock) (a_new : DeviceTold) (ca_new : Clock) (b_new : DeviceTold) (cb_new : Clock) → Type 0
+PairTurns answer last a ca b cb a_new ca_new b_new cb_new =
+    (course next : List Bool) → AreTogether a b last course → IsUp (told_both a b last course) → b.switching ≡ false
+    → PairGoes a b a_new b_new course next
+    → Turns answer (told_both a b last course) (pair_clock ca b cb course) (told_both a_new b_new last next) (pair_clock ca_new b_new cb_new next)
+    × AreTogether a_new b_new last next × IsUp (told_both a_new b_new last next)
+
+-- QUERIES
+-- what a query of the pair says of it
+abbrev pub OfBoth : (DeviceTold → Type 0) → (last : Bool) → (a b : DeviceTold) → Type 0
+OfBoth Says last a b = (course : List Bool) → AreTogether a b last course → Says (told_both a b last course)
+
+-- the pair has this number
+abbrev pub HasNumber : ℕ → (a b : DeviceTold) → Type 0
+HasNumber number a b = is_some (length_of (numbers_in a.fixed b.fixed) number) ≡ true
 
 -- THE DEVICE OF A NUMBER
 -- a job may be started, on the device of its number; or it is refused, whatever length is given

@@ -194,7 +194,7 @@ fn look<A: MemDevice, B: MemDevice>(
     Ok(second.mark_kind(number).is_some())
 }
 
-fn is_busy<D: MemDevice>(device: &D) -> bool
+pub(crate) fn is_busy<D: MemDevice>(device: &D) -> bool
     ensures { result ≡ is_open (D.told device.now).stand }
 {
     device.result() == JobResult::JobPending

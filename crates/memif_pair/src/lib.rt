@@ -6,9 +6,11 @@
 #![tactic(auto)]
 
 mod calls;
+mod queries;
 mod turns;
 
 pub use calls::{
     arm, cancel, start, start_erase, start_invalidate, start_read, start_write, status,
 };
-pub use turns::first_turns;
+pub use queries::{faults, left, mark_kind, most, ops, result, take_data};
+pub use turns::{first_turns, second_turns, turn};

@@ -11,6 +11,7 @@ mod unit;
 
 pub use nvm_flash;
 pub use nvm_flash::block_config::{Config, ConfigFault, read};
+pub use nvm_flash::fls_devices::Cutter;
 pub use nvm_flash::fls_model::{AttachFault, Flash, FlashAnswer, MemFlash, mem_flash};
 pub use nvm_flash::memif::MemDevice;
 pub use nvm_flash::nv_base::{

@@ -1,6 +1,6 @@
 -- A cutter that counted no operation, and the flash within it.
 use Rattle.std.specs.Prelude.{IfSome, length, ◌≢◌}
-use Rattle.std.proofs.Common.{◌≡◌, inl, inr, ℕ, zero, suc, ◌+◌, List, Option, Some, None, sym, ap, ◌∙◌, arith}
+use Rattle.std.proofs.Common.{◌≡◌, inl, inr, ℕ, zero, suc, ◌+◌, true, false, List, Option, Some, None, sym, ap, ◌∙◌, arith}
 use Rattle.fee_core.specs.nv_base.Count.{Rose}
 use Rattle.fee_core.specs.nv_base.Geometry.{size_of}
 use Rattle.fee_core.specs.nv_base.declared.geometry.Geometry.{Geometry}
@@ -30,6 +30,8 @@ counts_stay_within inner cuts c only stay unplanned =
 left : (inner : Told) (cuts : ℕ) (c : Cutting) (fault : AttachFault) (faults : ℕ) → OnlyCuts c → told_cutting c ≡ record (told_cutting (cutting inner cuts)) { faults = faults }
     → IsRefusal inner fault c.flash.inner → IsRefused inner fault c.flash.inner
 left inner cuts c fault faults only same why = record {
+  geometry = ap (λ (t : Told). t.geometry) same;
+  off = λ off. absurd (let on = only.flash.power (ap (λ (t : Told). t.off) same) in let never : true ≡ false = sym off ∙ on in cc never);
   bytes = sym (same_exit c) ∙ ap bytes_now same ∙ same_entry inner cuts;
   counts = counts_stay_within inner cuts c only
       (record { ops = ap (λ (t : Told). t.ops) same; cuts = ap (λ (t : Told). t.cuts) same }) (ap (λ (t : Told). t.planning.unplanned) same);

@@ -1,5 +1,5 @@
 -- A cutter that counted no operation, and the flash within it.
-use Rattle.std.specs.Prelude.{◌≡◌, ℕ, length, IfSome, Err}
+use Rattle.std.specs.Prelude.{◌≡◌, ℕ, true, length, IfSome, Err}
 use Rattle.fee_core.specs.nv_base.Count.{Rose}
 use Rattle.fee_core.specs.nv_base.declared.geometry.Geometry.{Geometry}
 use Rattle.fee_core.specs.fls_model.Attach.{IsAttach}
@@ -29,8 +29,10 @@ IsRefusal s Failed t = Rose s.faults t.faults
 IsRefusal s (WrongSize found) t = IfSome s.bytes (λ b. length b.now ≡ found) × (t.faults ≡ s.faults)
 IsRefusal s Memory t = t.faults ≡ s.faults
 
--- an attach that was refused left the flash as it was, but for its faults
+-- an attach that was refused left the flash as it was, but for its faults, and for a cut that stood
 pub record IsRefused (s : Told) (fault : AttachFault) (t : Told) : Type 0 where
+  pub geometry : t.geometry ≡ s.geometry
+  pub off : t.off ≡ true → s.off ≡ true
   pub bytes : bytes_now t ≡ bytes_now s
   pub counts : CountsStay s t
   pub why : IsRefusal s fault t

@@ -49,6 +49,7 @@ pub record IsBack (c : Configuration) (inner exit : Told) (before : PartTold) (n
   pub bridges : Bridges (reading_of (making_of c)) true (record { entry = inner; exit = exit; operations = operations }) before now clock
   -- all numbers are of its one part
   pub parts : (n : ℕ) → (figures_at now.fixed n).part ≡ First
+  pub geometry : exit.geometry ≡ c.geometry
   pub faults : exit.faults ≡ now.first.flash_faults
   pub more : inner.faults ≤ exit.faults
   pub none : now.ops ≡ 0 → now.first.planning.unplanned ≡ inner.cuts → (operations ≡ []) × (exit.ops ≡ inner.ops) × (exit.cuts ≡ inner.cuts)

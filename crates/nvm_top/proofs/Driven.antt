@@ -260,6 +260,7 @@ pub vouched : (c : Configuration) (inner : Told) (cuts : ℕ) (making : Making) 
 vouched c inner cuts making entry exit s e same halves values origin config most back = record {
   operations = back.operations;
   ops = own.ops;
+  geometry = back.geometry ∙ ap (λ (x : Configuration). x.geometry) (sym config);
   failed = λ k few is.
       let all = own.ops in
       (few, own.failed k (omega (arith, few, all)) (subst (λ (x : Configuration). HasFailed (record { entry = inner; exit = exit; operations = back.operations }) k) config is));

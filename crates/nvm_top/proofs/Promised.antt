@@ -119,7 +119,7 @@ early_has c steps Tells entry exit stop end stops ends tells = record {
   ends = tells;
   keeps =
       let promise = early_promise c steps entry exit stop end stops ends in
-      record { order = promise.order; size = λ started. absurd started; refusals = promise.refusals; off = promise.off; complete = early_complete c steps entry exit end promise.order; turns = early_turns c steps entry exit end stops.faults ends; values = tt; promise = λ told sound. promise };
+      record { order = promise.order; size = λ started. absurd started; refusals = promise.refusals; off = promise.off; complete = early_complete c steps entry exit end promise.order; geometry = λ started. absurd started; turns = early_turns c steps entry exit end stops.faults ends; values = tt; promise = λ told sound. promise };
 }
 
 -- WHAT IS TOLD OF A RUN
@@ -267,6 +267,7 @@ has_run Kept p q c cuts all made left end before old t entry exit Tells started 
     size = λ _. subst (λ (x : Configuration). IsRightSize (size_of x.geometry) entry.bytes) (sym of) size;
     refusals = refusals;
     off = v.cuts (unpaid_offs None 0 made walked.pieces) off;
+    geometry = λ has. v.geometry;
     complete = walked_complete made left end before old t entry exit v.operations started walked same v.faults order (λ calm told sound.
         let promise = v.promise (keeps (well told sound)) made left walked.pieces end order refusals off in
         calm_posts t.configuration cap (IsWornOut (making_of t.configuration) (record { entry = entry; exit = exit; operations = v.operations })) t.entries entry.faults exit.faults v.more calm.no_fault calm.entries promise.block_machine promise.faults);
@@ -456,7 +457,7 @@ has_promise left x c steps entry exit w w' has run = (
 
 -- a call that stops early leaves the flash as it was
 pub alone : (told : Told) → LeavesAlone told told
-alone told = record { bytes = refl; ops = refl; faults = refl; cuts = refl }
+alone told = record { geometry = refl; off = λ off. off; bytes = refl; ops = refl; faults = refl; cuts = refl }
 
 -- WHERE NO RUN IS BEGUN
 

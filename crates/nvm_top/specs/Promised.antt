@@ -16,6 +16,7 @@ use Rattle.nvm_flash.specs.promise_run.Run.{Run, End, Whole, HasOrder, LeavesAlo
 use Rattle.nvm_flash.specs.nv_base.Count.{WereCounted}
 use Rattle.nvm_flash.specs.promise_device.FlashRun.{TellsBytes, StartsSound}
 use Rattle.nvm_flash.specs.promise_run.Promise.{Promise, making_of}
+use Rattle.nvm_flash.specs.promise_blocks.OverDevice.{HasStarted}
 use Rattle.nvm_flash.specs.promise_run.Completeness.{Completeness}
 use Rattle.nvm_flash.specs.promise_run.JobTurns.{job_turns}
 use Rattle.nvm_flash.specs.promise_run.Turns.{HasTurns}
@@ -38,18 +39,19 @@ played_call input x entry exit written written' =
 -- A RUN
 
 -- What a run keeps over any flash: it follows its script, which explains its refused copies and its power cuts; its flash had
--- a size that it may have, but where no start-up was made; and where nothing fails each job in hand is posted within its turns,
--- and a drain leaves nothing pending. Its steps have their turns, one by one, which make all operations of the flash and each
--- count what failed in it, and each job is posted within its own, counted from its Pick; by their moments a start-up that
--- failed at the end had a fault of its own. The numbers and bytes of its history are those of a program, as its text needs
--- them. Over a flash that tells its bytes, from a sound image on, each Post is paid by them since its Pick, and the run keeps
--- the promise.
+-- a size that it may have, and has the configuration's shape at the end, but where no start-up was made; and where nothing fails
+-- each job in hand is posted within its turns, and a drain leaves nothing pending. Its steps have their turns, one by one, which
+-- make all operations of the flash and each count what failed in it, and each job is posted within its own, counted from its
+-- Pick; by their moments a start-up that failed at the end had a fault of its own. The numbers and bytes of its history are
+-- those of a program, as its text needs them. Over a flash that tells its bytes, from a sound image on, each Post is paid by
+-- them since its Pick, and the run keeps the promise.
 pub record KeepsRun (r : Run) : Type 0 where
   pub order : HasOrder r r.history
   pub size : HasStarted r.history → IsRightSize (size_of r.configuration.geometry) r.flash.entry.bytes
   pub refusals : (id : ℕ) → RefusalsExplain r.configuration r.course r.history id
   pub off : WereCounted (offs_of_flash r.course r.history) r.flash.entry.cuts r.flash.exit.cuts
   pub complete : Completeness (job_turns r.configuration) r r.course
+  pub geometry : HasStarted r.history → r.flash.exit.geometry ≡ r.configuration.geometry
   pub turns : HasTurns (job_turns r.configuration) r r.course
   pub values : AreValues r.history
   pub promise : TellsBytes r.flash → StartsSound (making_of r.configuration) r.flash → Promise r

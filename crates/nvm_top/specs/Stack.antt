@@ -78,6 +78,7 @@ IsKeptFrom Kept p t = Kept × p.owes t.faults
 pub record Vouches (Kept : Type 0) (p : Payer) (before : PartTold) (t : StackTold) (entry exit : Told) : Type 0 where
   pub operations : List Change
   pub ops : t.ops ≡ min (length operations) last_count
+  pub geometry : exit.geometry ≡ t.configuration.geometry
   pub failed : (k : ℕ) → k < t.ops → HasFailed (record { entry = entry; exit = exit; operations = operations }) k → p.failed k
   pub more : entry.faults ≤ exit.faults
   pub faults : Rose before.faults t.faults → Rose entry.faults exit.faults

@@ -82,8 +82,10 @@ abbrev pub LeavesFlashes : Geometry → FlashRun → Option Beside → Type 0
 LeavesFlashes g f None = LeavesFlash g f
 LeavesFlashes g f (Some b) = LeavesFlash g f × LeavesFlash b.reading.geometry b.flash
 
--- no changing operation, no fault and no cut was counted, and the bytes are as they were
+-- no changing operation, no fault and no cut was counted, the shape and the bytes are as they were, and no cut stands that didn't
 pub record LeavesAlone (s t : Told) : Type 0 where
+  pub geometry : t.geometry ≡ s.geometry
+  pub off : t.off ≡ true → s.off ≡ true
   pub bytes : bytes_now t ≡ bytes_now s
   pub ops : t.ops ≡ s.ops
   pub faults : t.faults ≡ s.faults

@@ -11,8 +11,9 @@ const KILOMETRES: u16 = 2;
 /// Cycles of a ReadAll at most.
 const START: u32 = 20;
 
-/// Cycles of a WriteAll at most, with a switch of the banks before each record: 146 by the figures of `tools/plan`.
-pub const SHUTDOWN: u32 = 150;
+/// Cycles of a WriteAll at most, with a switch of the banks before each record: by `tools/plan` 146 of the configuration id and 56
+/// of the kilometres, each with its Pick, and the Pick and the Post of the request itself.
+pub const SHUTDOWN: u32 = 206;
 
 /// An odometer that drives so many kilometres in this life, the last one with a power cut at that operation of its write, if it
 /// is not 0. Behind its run it has what it found, what was stored for certain, and the cycles that its shutdown took, if the
