@@ -1,5 +1,5 @@
 // A unit over a flash.
-ghost use Rattle.std.specs.Prelude.{◌≡◌, true, IfErr, OnErr};
+ghost use Rattle.std.specs.Prelude.{◌≡◌, true, IfErr, OnErr, OnOk};
 ghost use Rattle.nvm_flash.specs.Made.{ComesBack, IsOrigin};
 
 use nvm_flash::block_config::Config;
@@ -17,13 +17,17 @@ pub type UnitStack<D> = Stack<D, PlainSync>;
 
 /// What a unit does between switching on and switching off.
 pub trait Unit {
+    /// What one run makes of it: the unit before it and behind it.
+    ghost ran: { Self → Self → Type 0 };
+
     /// Runs over a stack that is up: its first start-up stands.
     fn run<D: MemDevice>(&mut self, alloc: Global, stack: &mut UnitStack<D>)
-        requires { stack.old.ready ≡ true };
+        requires { stack.old.ready ≡ true }
+        ensures { ran self.old self.new };
 }
 
 /// Switches a unit on and off again: the stack of its configuration over a flash, of which so many power cuts can be planned, 0 for
-/// a real one; a start-up; what the unit does; and the flash comes back. At Err the unit did nothing.
+/// a real one; a start-up; what the unit does; and the flash comes back. At Ok the unit ran, at Err it did nothing.
 pub fn run_unit<F: Flash, U: Unit>(
     alloc: Global,
     config: Config,
@@ -31,6 +35,7 @@ pub fn run_unit<F: Flash, U: Unit>(
     cuts: u32,
     unit: &mut U,
 ) -> Result<F, (MakeFault, F)>
+    ensures ran { OnOk result (U.ran unit.old unit.new) }
     ensures stopped { IfErr result (λ e. ComesBack config e.0 (F.told flash) (F.told e.1)) }
     ensures untouched { OnErr result (unit.new ≡ unit.old) }
 {
@@ -46,6 +51,7 @@ fn run_over<F: Flash, U: Unit, O: Origin>(
     unit: &mut U,
 ) -> Result<F, (MakeFault, F)>
     requires { IsOrigin config (F.told flash) cuts O.making O.entry }
+    ensures ran { OnOk result (U.ran unit.old unit.new) }
     ensures stopped { IfErr result (λ e. ComesBack config e.0 (F.told flash) (F.told e.1)) }
     ensures untouched { OnErr result (unit.new ≡ unit.old) }
 {
@@ -65,6 +71,7 @@ fn switch_off<F: Flash, U: Unit, O: Origin>(
     unit: &mut U,
 ) -> F
     requires { stack.ready ≡ true }
+    ensures { U.ran unit.old unit.new }
 {
     let mut stack = stack;
     unit.run(alloc, &mut stack);

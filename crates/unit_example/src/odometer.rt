@@ -40,6 +40,9 @@ impl Odometer {
 }
 
 impl Unit for Odometer {
+    // nothing is asked of a run
+    ghost ran = { λ before behind. Unit {0} };
+
     fn run<D: MemDevice>(&mut self, alloc: Global, stack: &mut UnitStack<D>) {
         ask(alloc, stack, Request::ReadAll);
         cycles(stack, 0, START);
