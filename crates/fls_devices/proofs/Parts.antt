@@ -5,8 +5,7 @@ use Rattle.std.proofs.Math.Seq.{take-append-add}
 use Rattle.std.proofs.lemmas.List.{length-take, length-take-le, length-replicate, take-replicate, drop-replicate, take_all}
 use Rattle.std.proofs.lemmas.Bool.{cases_lt}
 use Rattle.fls_model.specs.Bytes.{piece, SameOutside, Grown}
-use Rattle.fls_model.specs.Op.{Op, Program, Erase, MayLeave}
-use Rattle.fls_devices.specs.Part.{kept_page, part_of}
+use Rattle.fls_model.specs.Op.{Op, Program, Erase, MayLeave, kept_page, part_of}
 
 take_within : (keep count : ℕ) (page : List ℕ) → count ≡ min (length page) keep → take count page ≡ take keep page
 take_within keep count page is = elim (cases_lt keep (length page)) [

@@ -8,14 +8,14 @@ use Rattle.fls_model.specs.declared.flash.FlashAnswer.{FlashAnswer}
 use Rattle.fls_model.specs.declared.flash.FlashAnswer.TheVariants.{Done, Failed, Off}
 use Rattle.nv_base.specs.Plan.{Planning}
 use Rattle.fls_model.specs.Told.{Told, ToldBytes, Change, TellsFor, IfBothTold, changes_in}
-use Rattle.fls_model.specs.Op.{Op, MayLeave}
+use Rattle.fls_model.specs.Op.{Op, MayLeave, part_of}
 use Rattle.nv_base.specs.declared.geometry.Geometry.{Geometry}
 use Rattle.fls_model.specs.Call.{op_of}
 use Rattle.fls_model.specs.Step.{IsStep, IsAsked, IsChanged, OffOrAsked, Notes, HasCause, Leaves, CountsUnplanned}
 use Rattle.fls_devices.specs.declared.part.Harm.{Harm}
 use Rattle.fls_devices.specs.declared.part.Harm.TheVariants.{Cut, Fault}
-use Rattle.fls_devices.specs.Journal.{Harmed, Journaled, change_of, merged, all_changes, bytes_over, Passes, Adds}
-use Rattle.fls_devices.specs.Part.{part_of, harmed, cuts_after, faults_after, off_of}
+use Rattle.fls_devices.specs.Journal.{Harmed, Journaled, has_reached, change_of, merged, all_changes, bytes_over, Passes, Adds}
+use Rattle.fls_devices.specs.Part.{harmed, cuts_after, faults_after, off_of}
 use Rattle.fls_devices.specs.Overlay.{Overlaid, IsOverlaid, IsAskedOver, CountsInner, FitsChanges, ops_over, told_over, span, reached_count}
 use Rattle.fls_devices.proofs.HaveParts.{parts_withheld, told_parts_reached, told_parts_pass}
 use Rattle.fls_devices.proofs.Merging.{merged_pass, merged_withheld, merged_reached}
@@ -32,12 +32,12 @@ told_pass g change es k now later c None is notes fits = notes_none change (opti
 told_pass g change es k now later None (Some cs') is notes fits = absurd notes
 told_pass g change es k now later (Some cs) (Some cs') is notes fits = ap (λ (l : List Change). merged g es l later) notes ∙ merged_pass g es cs change now later k fits is
 
-told_withheld : (g : Geometry) (es : List Harmed) (e : Harmed) (now : List ℕ) (c : Option (List Change)) → e.reached ≡ false → IfSome c (λ cs. length cs ≡ span es + e.since)
+told_withheld : (g : Geometry) (es : List Harmed) (e : Harmed) (now : List ℕ) (c : Option (List Change)) → e.keep ≡ 0 → IfSome c (λ cs. length cs ≡ span es + e.since)
     → Notes (change_of g e now) (option_map (λ cs. merged g es cs now) c) (option_map (λ cs. merged g (es ++ e ∷ []) cs now) c)
 told_withheld g es e now None not fits = tt
 told_withheld g es e now (Some cs) not fits = merged_withheld g es cs e now fits not
 
-told_reached : (g : Geometry) (part : Change) (es : List Harmed) (e : Harmed) (now later : List ℕ) (c c' : Option (List Change)) → e.reached ≡ true → part.before ≡ now → Notes part c c' → IfSome c (λ cs. length cs ≡ span es + e.since)
+told_reached : (g : Geometry) (part : Change) (es : List Harmed) (e : Harmed) (now later : List ℕ) (c c' : Option (List Change)) → has_reached e.keep ≡ true → part.before ≡ now → Notes part c c' → IfSome c (λ cs. length cs ≡ span es + e.since)
     → Notes (change_of g e now) (option_map (λ cs. merged g es cs now) c) (option_map (λ cs. merged g (es ++ e ∷ []) cs later) c')
 told_reached g part es e now later c None true_is is notes fits = notes_none (change_of g e now) (option_map (λ cs. merged g es cs now) c)
 told_reached g part es e now later None (Some cs') true_is is notes fits = absurd notes
@@ -80,7 +80,7 @@ over_pass g op a j j' (Some x) (Some y) passes changed fits =
     rw passes.events (told_pass g change j.events j.since x.now y.now x.changes y.changes refl changed.changes fits) in
     record { bytes = changed.bytes; within = changed.within; changes = notes; room = λ n. tells_over g j.events j'.events x y n changed.room }
 
-over_withheld : (g : Geometry) (op : Op) (h : Harm) (j j' : Journaled) (e : Harmed) (b : Option ToldBytes) → Adds e j j' → op_of g e.call ≡ op → e.answer ≡ harmed h Done → e.since ≡ j.since → e.reached ≡ false → FitsChanges j (changes_in b)
+over_withheld : (g : Geometry) (op : Op) (h : Harm) (j j' : Journaled) (e : Harmed) (b : Option ToldBytes) → Adds e j j' → op_of g e.call ≡ op → e.answer ≡ harmed h Done → e.since ≡ j.since → e.keep ≡ 0 → FitsChanges j (changes_in b)
     → IfBothTold (bytes_over j g b) (bytes_over j' g b) (IsChanged op (harmed h Done))
 over_withheld g op h j j' e None adds is answered since not fits = tt
 over_withheld g op h j j' e (Some x) adds is answered since not fits =
@@ -89,7 +89,7 @@ over_withheld g op h j j' e (Some x) adds is answered since not fits =
     rw adds.events (rw (← told_as g op (harmed h Done) e x.now is answered) (told_withheld g j.events e x.now x.changes not (rw since fits))) in
     record { bytes = leaves_harmed h Done op x.now x.now (may_stay op x.now); within = may_stay op x.now; changes = notes; room = λ n. tells_over g j.events j'.events x x n (λ k tells. (tells.0, omega (arith, tells.1))) }
 
-over_reached : (g : Geometry) (op : Op) (h : Harm) (keep : ℕ) (a : FlashAnswer) (j j' : Journaled) (e : Harmed) (b b' : Option ToldBytes) → Adds e j j' → op_of g e.call ≡ op → e.answer ≡ harmed h a → e.since ≡ j.since → e.reached ≡ true
+over_reached : (g : Geometry) (op : Op) (h : Harm) (keep : ℕ) (a : FlashAnswer) (j j' : Journaled) (e : Harmed) (b b' : Option ToldBytes) → Adds e j j' → op_of g e.call ≡ op → e.answer ≡ harmed h a → e.since ≡ j.since → has_reached e.keep ≡ true
     → IfBothTold b b' (IsChanged (part_of keep op) a) → FitsChanges j (changes_in b) → IfBothTold (bytes_over j g b) (bytes_over j' g b') (IsChanged op (harmed h a))
 over_reached g op h keep a j j' e None None adds is answered since true_is changed fits = tt
 over_reached g op h keep a j j' e None (Some y) adds is answered since true_is changed fits = absurd changed
@@ -170,7 +170,7 @@ asked_pass op o a i j kept asked passes = λ p q goes counts. record {
 }
 
 -- one of which nothing reached the inner flash
-pub asked_withheld : (h : Harm) (op : Op) (o : Overlaid) (e : Harmed) (j : Journaled) → IsOverlaid o → HasCounts o → o.off ≡ false → op_of o.inner.geometry e.call ≡ op → e.answer ≡ harmed h Done → e.since ≡ o.journal.since → e.reached ≡ false → Adds e o.journal j
+pub asked_withheld : (h : Harm) (op : Op) (o : Overlaid) (e : Harmed) (j : Journaled) → IsOverlaid o → HasCounts o → o.off ≡ false → op_of o.inner.geometry e.call ≡ op → e.answer ≡ harmed h Done → e.since ≡ o.journal.since → e.keep ≡ 0 → Adds e o.journal j
     → IsAskedOver op o (harmed h Done) (record { inner = o.inner; off = off_of (harmed h Done); cuts = cuts_after h o.cuts; faults = faults_after h o.faults; withheld = next_count o.withheld; journal = j })
 asked_withheld h op o e j kept counts on is answered since not adds =
     let n : Overlaid = record { inner = o.inner; off = off_of (harmed h Done); cuts = cuts_after h o.cuts; faults = faults_after h o.faults; withheld = next_count o.withheld; journal = j } in
@@ -184,7 +184,7 @@ asked_withheld h op o e j kept counts on is answered since not adds =
     }
 
 -- one of which a part reached it
-pub asked_reached : (h : Harm) (keep : ℕ) (op : Op) (a : FlashAnswer) (o : Overlaid) (i : Told) (e : Harmed) (j : Journaled) → IsOverlaid o → HasCounts o → IsAsked (part_of keep op) o.inner a i → op_of o.inner.geometry e.call ≡ op → e.answer ≡ harmed h a → e.since ≡ o.journal.since → e.reached ≡ true → Adds e o.journal j
+pub asked_reached : (h : Harm) (keep : ℕ) (op : Op) (a : FlashAnswer) (o : Overlaid) (i : Told) (e : Harmed) (j : Journaled) → IsOverlaid o → HasCounts o → IsAsked (part_of keep op) o.inner a i → op_of o.inner.geometry e.call ≡ op → e.answer ≡ harmed h a → e.since ≡ o.journal.since → has_reached e.keep ≡ true → Adds e o.journal j
     → IsAskedOver op o (harmed h a) (record { inner = i; off = off_of (harmed h a); cuts = cuts_after h o.cuts; faults = faults_after h o.faults; withheld = o.withheld; journal = j })
 asked_reached h keep op a o i e j kept counts asked is answered since true_is adds =
     let n : Overlaid = record { inner = i; off = off_of (harmed h a); cuts = cuts_after h o.cuts; faults = faults_after h o.faults; withheld = o.withheld; journal = j } in
@@ -198,20 +198,24 @@ asked_reached h keep op a o i e j kept counts asked is answered since true_is ad
     }
 
 -- WHAT STAYS TRUE
-span_push : (es : List Harmed) (e : Harmed) → span (es ++ e ∷ []) ≡ span es + (e.since + reached_count e.reached)
+pub some_reached : (keep : ℕ) → (keep ≡ 0 → ⊥) → has_reached keep ≡ true
+some_reached zero none = absurd (none refl)
+some_reached (suc keep) some = refl
+
+span_push : (es : List Harmed) (e : Harmed) → span (es ++ e ∷ []) ≡ span es + (e.since + reached_count (has_reached e.keep))
 span_push [] e = omega arith
 span_push (x ∷ es) e = omega (arith, span_push es e)
 
-fits_withheld : (j j' : Journaled) (e : Harmed) (c : Option (List Change)) → Adds e j j' → e.since ≡ j.since → e.reached ≡ false → FitsChanges j c → FitsChanges j' c
+fits_withheld : (j j' : Journaled) (e : Harmed) (c : Option (List Change)) → Adds e j j' → e.since ≡ j.since → e.keep ≡ 0 → FitsChanges j c → FitsChanges j' c
 fits_withheld j j' e None adds since not fits = tt
-fits_withheld j j' e (Some cs) adds since not fits = omega (arith, ap span adds.events, span_push j.events e, adds.since, ap reached_count not)
+fits_withheld j j' e (Some cs) adds since not fits = omega (arith, ap span adds.events, span_push j.events e, adds.since, ap (λ (n : ℕ). reached_count (has_reached n)) not)
 
 fits_more : (change : Change) (c c' : Option (List Change)) (n m : ℕ) → m ≡ n + 1 → Notes change c c' → IfSome c (λ cs. length cs ≡ n) → IfSome c' (λ cs. length cs ≡ m)
 fits_more change c None n m more notes fits = tt
 fits_more change None (Some cs') n m more notes fits = absurd notes
 fits_more change (Some cs) (Some cs') n m more notes fits = omega (arith, ap length notes, length_push cs change)
 
-fits_reached : (op : Op) (a : FlashAnswer) (j j' : Journaled) (e : Harmed) (b b' : Option ToldBytes) → Adds e j j' → e.since ≡ j.since → e.reached ≡ true → IfBothTold b b' (IsChanged op a) → FitsChanges j (changes_in b) → FitsChanges j' (changes_in b')
+fits_reached : (op : Op) (a : FlashAnswer) (j j' : Journaled) (e : Harmed) (b b' : Option ToldBytes) → Adds e j j' → e.since ≡ j.since → has_reached e.keep ≡ true → IfBothTold b b' (IsChanged op a) → FitsChanges j (changes_in b) → FitsChanges j' (changes_in b')
 fits_reached op a j j' e b None adds since true_is changed fits = tt
 fits_reached op a j j' e None (Some y) adds since true_is changed fits = absurd changed
 fits_reached op a j j' e (Some x) (Some y) adds since true_is changed fits =
@@ -236,7 +240,7 @@ fits_passed op a j j' (Some x) (Some y) passes changed fits =
     fits_more (record { op = op; before = x.now; answer = a }) x.changes y.changes (span j.events + j.since) (span j'.events + j'.since)
     (omega (arith, ap span passes.events, passes.since)) changed.changes fits
 
-pub kept_withheld : (h : Harm) (o : Overlaid) (e : Harmed) (j : Journaled) → IsOverlaid o → o.off ≡ false → e.since ≡ o.journal.since → e.reached ≡ false → Adds e o.journal j
+pub kept_withheld : (h : Harm) (o : Overlaid) (e : Harmed) (j : Journaled) → IsOverlaid o → o.off ≡ false → e.since ≡ o.journal.since → e.keep ≡ 0 → Adds e o.journal j
     → IsOverlaid (record { inner = o.inner; off = off_of (harmed h Done); cuts = cuts_after h o.cuts; faults = faults_after h o.faults; withheld = next_count o.withheld; journal = j })
 kept_withheld h o e j kept on since not adds = record {
   power = λ _. kept.power on;
@@ -244,13 +248,13 @@ kept_withheld h o e j kept on since not adds = record {
   parts = rw adds.events (parts_withheld o.inner.geometry o.journal.events e (changes_in o.inner.bytes) not kept.parts);
 }
 
-pub kept_reached : (h : Harm) (keep : ℕ) (op : Op) (a : FlashAnswer) (o : Overlaid) (i : Told) (e : Harmed) (j : Journaled) → IsOverlaid o → IsAsked (part_of keep op) o.inner a i → op_of o.inner.geometry e.call ≡ op → e.since ≡ o.journal.since → e.reached ≡ true → Adds e o.journal j
+pub kept_reached : (h : Harm) (keep : ℕ) (op : Op) (a : FlashAnswer) (o : Overlaid) (i : Told) (e : Harmed) (j : Journaled) → IsOverlaid o → IsAsked (part_of keep op) o.inner a i → op_of o.inner.geometry e.call ≡ op → e.since ≡ o.journal.since → e.keep ≡ keep → has_reached e.keep ≡ true → Adds e o.journal j
     → IsOverlaid (record { inner = i; off = off_of (harmed h a); cuts = cuts_after h o.cuts; faults = faults_after h o.faults; withheld = o.withheld; journal = j })
-kept_reached h keep op a o i e j kept asked is since true_is adds = record {
+kept_reached h keep op a o i e j kept asked is since same true_is adds = record {
   power = power_harmed h a o.inner i asked.cause;
   fits = fits_reached (part_of keep op) a o.journal j e o.inner.bytes i.bytes adds since true_is asked.bytes kept.fits;
   parts = rw (asked.geometry, adds.events)
-      (told_parts_reached o.inner.geometry keep op a o.journal.events e o.inner.bytes i.bytes is true_is asked.bytes (rw since kept.fits) kept.parts);
+      (told_parts_reached o.inner.geometry keep op a o.journal.events e o.inner.bytes i.bytes is same asked.bytes (rw since kept.fits) kept.parts);
 }
 
 -- by an operation that was handed on

@@ -1,5 +1,5 @@
 -- A flash whose power is cut on purpose.
-use Rattle.std.specs.Prelude.{◌≡◌, ℕ, Bool, true, false, IsTrue, Option, Some, None, nat_le, if◌then◌else◌}
+use Rattle.std.specs.Prelude.{◌≡◌, ℕ, Bool, true, false, IsTrue, map, Option, Some, None, nat_le, if◌then◌else◌}
 use Rattle.std.specs.List.{list_all}
 use Rattle.fls_model.specs.declared.flash.FlashAnswer.{FlashAnswer}
 use Rattle.fls_model.specs.declared.flash.FlashAnswer.TheVariants.{Off}
@@ -18,13 +18,14 @@ pub record Cutting : Type 0 where
   pub plan : Option Plan
   pub arms : ℕ
 
--- what is told of its changes is so, no fault is its own, and each operation that it kept from the inner flash, or a part of
--- it, was cut
+-- what is told of its changes is so, no fault is its own, each operation that it kept from the inner flash, or a part of it,
+-- was cut, and in the inner flash no plan stands while its power is on
 pub record OnlyCuts (c : Cutting) : Type 0 where
   pub flash : IsOverlaid c.flash
   pub faults : c.flash.faults ≡ 0
   pub events : IsTrue (list_all (λ e. off_of e.answer) c.flash.journal.events)
   pub none : c.flash.cuts ≡ 0 → c.flash.withheld ≡ 0
+  pub no_plan : c.flash.inner.off ≡ false → c.flash.inner.planning.plan ≡ None
 
 -- a new one, of at most so many cuts
 abbrev pub cutting : Told → ℕ → Cutting
@@ -32,7 +33,7 @@ cutting inner cuts = record { flash = overlaid inner (empty_journal cuts); plan 
 
 -- its planned cuts; each cut of the inner flash is one that no plan asked for
 abbrev pub planning_of : Cutting → Planning
-planning_of c = record { plan = c.plan; takes = c.arms; unplanned = c.flash.inner.cuts }
+planning_of c = record { plan = c.plan; takes = c.arms; unplanned = c.flash.inner.cuts; came = map (λ e. e.keep) c.flash.journal.events; withheld = c.flash.withheld }
 
 abbrev pub with_planning : Planning → Cutting → Cutting
 with_planning p c = record c { plan = p.plan; arms = p.takes }

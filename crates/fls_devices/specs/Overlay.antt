@@ -3,14 +3,14 @@ use Rattle.std.specs.Prelude.{◌≡◌, ◌+◌, ℕ, zero, suc, Bool, true, fa
 use Rattle.nv_base.specs.Count.{last_count, next_count}
 use Rattle.fls_model.specs.declared.flash.FlashAnswer.{FlashAnswer}
 use Rattle.fls_model.specs.declared.flash.FlashAnswer.TheVariants.{Done, Off}
-use Rattle.nv_base.specs.Plan.{Planning}
+use Rattle.nv_base.specs.Plan.{Planning, listed_anew}
 use Rattle.fls_model.specs.Plan.{PlanGoes}
 use Rattle.fls_model.specs.Told.{Told, Change, changes_in, powered}
-use Rattle.fls_model.specs.Op.{Op}
+use Rattle.fls_model.specs.Op.{Op, part_of}
 use Rattle.fls_model.specs.Step.{IsAsked, CountsUnplanned}
 use Rattle.fls_devices.specs.declared.part.Harm.{Harm}
-use Rattle.fls_devices.specs.Journal.{Harmed, Journaled, HaveParts, listed, bytes_over, Clears, Passes, AddsOf}
-use Rattle.fls_devices.specs.Part.{part_of, harmed, cuts_after, faults_after, off_of}
+use Rattle.fls_devices.specs.Journal.{Harmed, Journaled, has_reached, HaveParts, listed, bytes_over, Clears, Passes, AddsOf}
+use Rattle.fls_devices.specs.Part.{harmed, cuts_after, faults_after, off_of}
 
 -- what the inner flash tells, whether a cut stands, the cuts and faults of its own, the operations that were kept
 -- from the inner flash, and the events
@@ -46,7 +46,7 @@ reached_count false = 0
 
 abbrev pub span : List Harmed → ℕ
 span [] = 0
-span (e ∷ es) = e.since + reached_count e.reached + span es
+span (e ∷ es) = e.since + reached_count (has_reached e.keep) + span es
 
 abbrev pub FitsChanges : Journaled → Option (List Change) → Type 0
 FitsChanges j changes = IfSome changes (λ changes. length changes ≡ span j.events + j.since)
@@ -74,7 +74,7 @@ IsPassed op old answer new = OffOrHandedOn old.off op old answer new
 -- an operation is cut or fails, and nothing of it reaches the inner flash
 pub record IsWithheld (harm : Harm) (op : Op) (old : Overlaid) (answer : FlashAnswer) (new : Overlaid) : Type 0 where
   pub answer_is : answer ≡ harmed harm Done
-  pub journal : AddsOf old.inner.geometry op false answer old.journal new.journal
+  pub journal : AddsOf old.inner.geometry op 0 answer old.journal new.journal
   pub same : new ≡ record { inner = old.inner; off = off_of answer; cuts = cuts_after harm old.cuts; faults = faults_after harm old.faults; withheld = next_count old.withheld; journal = new.journal }
 
 -- an operation is cut or fails, and the inner flash is asked for its part
@@ -82,7 +82,7 @@ pub record IsPartDone (harm : Harm) (keep : ℕ) (op : Op) (old : Overlaid) (ans
   pub inner : FlashAnswer
   pub part : IsAsked (part_of keep op) old.inner inner new.inner
   pub answer_is : answer ≡ harmed harm inner
-  pub journal : AddsOf old.inner.geometry op true answer old.journal new.journal
+  pub journal : AddsOf old.inner.geometry op keep answer old.journal new.journal
   pub same : new ≡ record { inner = new.inner; off = off_of answer; cuts = cuts_after harm old.cuts; faults = faults_after harm old.faults; withheld = old.withheld; journal = new.journal }
 
 -- of 0 bytes nothing is done, else a part
@@ -105,6 +105,11 @@ IsAskedOver op old answer new = (p q : Planning) → PlanGoes answer p q → Cou
 abbrev pub JournalAfter : {A E : Type 0} → Result A E → Journaled → Journaled → Type 0
 JournalAfter (Ok _) old new = Clears old new
 JournalAfter (Err _) old new = new ≡ old
+
+-- and the list of the planned cuts that came
+abbrev pub PlanningAfter : {A E : Type 0} → Result A E → Planning → Planning → Type 0
+PlanningAfter (Ok _) old new = new ≡ listed_anew old
+PlanningAfter (Err _) old new = new ≡ old
 
 -- a new one, with the power on, over all changes that the inner flash tells
 abbrev pub overlaid : Told → Journaled → Overlaid

@@ -10,12 +10,12 @@ use std::marker::Model;
 use std::mem;
 
 /// An operation that a device cut or failed: how many operations the inner flash was asked for since the last such
-/// one, whether a part of this one reached it, and the answer.
+/// one, how many bytes of this one were let be done, and the answer.
 #[derive(Drop)]
 pub struct Event<F: Flash> {
     call: Call,
     since: Since<F>,
-    reached: bool,
+    keep: u32,
     answer: FlashAnswer,
 }
 
@@ -24,7 +24,7 @@ impl<F: Flash> Model for Event<F> {
 
     ghost Value = { Harmed };
 
-    ghost view = { λ e. record { call = e.call; since = e.since; reached = e.reached; answer = e.answer } };
+    ghost view = { λ e. record { call = e.call; since = e.since; keep = e.keep; answer = e.answer } };
 }
 
 // The events since the attach, in memory that is taken at once, and the operations since the last of them.
@@ -77,15 +77,15 @@ impl<F: Flash> Journal<F> {
     }
 
     // An operation was cut or failed.
-    pub fn add(&mut self, call: Call, reached: bool, answer: FlashAnswer)
+    pub fn add(&mut self, call: Call, keep: u32, answer: FlashAnswer)
         requires { 0 < self.old.room }
-        ensures { Adds (record { call = call; since = self.old.since; reached = reached; answer = answer }) self.old self.new }
+        ensures { Adds (record { call = call; since = self.old.since; keep = keep; answer = answer }) self.old self.new }
     {
         let since = mem::replace(&mut self.since, Since::none());
         self.events.push_reserved(Event {
             call,
             since,
-            reached,
+            keep,
             answer,
         });
     }

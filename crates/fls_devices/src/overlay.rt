@@ -9,7 +9,7 @@ ghost use Rattle.fls_model.specs.Step.{CountsUnplanned, programs, erases};
 ghost use Rattle.fls_model.specs.Read.{IsRead};
 ghost use Rattle.fls_model.specs.Attach.{IsAttach};
 ghost use Rattle.fls_model.specs.Call.{op_of};
-ghost use Rattle.fls_devices.specs.Overlay.{told_over, overlaid, IsOverlaid, IsPassed, IsWithheld, IsHarmed, IsAskedOver, JournalAfter};
+ghost use Rattle.fls_devices.specs.Overlay.{told_over, overlaid, IsOverlaid, IsPassed, IsWithheld, IsHarmed, IsAskedOver, JournalAfter, PlanningAfter};
 
 use crate::journal::Journal;
 use crate::part::{Harm, count_cut, count_fault, harmed_answer, is_off, kept_part};
@@ -66,14 +66,15 @@ impl<F: Flash> Overlay<F> {
     }
 
     pub fn is_off(&self) -> bool
-        ensures { result ≡ self.now.off }
+        ensures off { result ≡ self.now.off }
+        ensures inner { result ≡ false → self.now.inner.off ≡ false }
     {
         self.off
     }
 
     pub fn attach(&mut self, alloc: Global, geometry: Geometry) -> Result<(), AttachFault>
         requires { IsLegal geometry }
-        ensures attach { (p : Planning) → (result ≡ Ok tt → p.unplanned ≤ self.new.inner.cuts) → IsAttach geometry (told_over p self.old) result (told_over p self.new) }
+        ensures attach { (p q : Planning) → PlanningAfter result p q → (result ≡ Ok tt → q.unplanned ≤ self.new.inner.cuts) → IsAttach geometry (told_over p self.old) result (told_over q self.new) }
         ensures inner { IsAttach geometry self.old.inner result self.new.inner }
         ensures journal { JournalAfter result self.old.journal self.new.journal }
         ensures same { self.new ≡ record self.old { inner = self.new.inner; journal = self.new.journal } }
@@ -158,7 +159,7 @@ impl<F: Flash> Overlay<F> {
         ensures withheld { IsWithheld harm (op_of self.old.inner.geometry call) self.old result self.new }
     {
         let answer = harmed_answer(harm, FlashAnswer::Done);
-        self.journal.add(call, false, answer);
+        self.journal.add(call, 0, answer);
         self.withheld = self.withheld.saturating_add(1);
         self.cuts = count_cut(harm, self.cuts);
         self.faults = count_fault(harm, self.faults);
@@ -181,7 +182,7 @@ impl<F: Flash> Overlay<F> {
         let part = kept_part(page, keep);
         let inner = self.inner.program(address, &part[..page.len()]);
         let answer = harmed_answer(harm, inner);
-        self.journal.add(program_call(address, page), true, answer);
+        self.journal.add(program_call(address, page), keep, answer);
         self.cuts = count_cut(harm, self.cuts);
         self.faults = count_fault(harm, self.faults);
         self.off = is_off(answer);
@@ -202,7 +203,7 @@ impl<F: Flash> Overlay<F> {
         }
         let inner = self.inner.erase(sector);
         let answer = harmed_answer(harm, inner);
-        self.journal.add(Call::Sector { sector }, true, answer);
+        self.journal.add(Call::Sector { sector }, keep, answer);
         self.cuts = count_cut(harm, self.cuts);
         self.faults = count_fault(harm, self.faults);
         self.off = is_off(answer);

@@ -1,6 +1,7 @@
 // An operation that is cut or fails, and how much of it is done.
 ghost use Rattle.std.specs.Prelude.{◌≡◌, ◌≤◌, length, take};
-ghost use Rattle.fls_devices.specs.Part.{kept_page, harmed, cuts_after, faults_after, off_of};
+ghost use Rattle.fls_model.specs.Op.{kept_page};
+ghost use Rattle.fls_devices.specs.Part.{harmed, cuts_after, faults_after, off_of};
 
 use fls_model::FlashAnswer;
 

@@ -1,6 +1,7 @@
 -- What an attach does.
 use Rattle.std.specs.Prelude.{◌≡◌, ◌≢◌, ◌⊎◌, ◌≤◌, ℕ, List, [], ◌∷◌, length, replicate, IfSome, Result, Ok, Err}
 use Rattle.nv_base.specs.Count.{Rose}
+use Rattle.nv_base.specs.Plan.{listed_anew}
 use Rattle.nv_base.specs.Geometry.{size_of}
 use Rattle.nv_base.specs.declared.geometry.Geometry.{Geometry}
 use Rattle.fls_model.specs.declared.flash.AttachFault.{AttachFault}
@@ -38,7 +39,7 @@ pub record IsAttached (g : Geometry) (s t : Told) : Type 0 where
   pub faults : t.faults ≡ s.faults
   pub cuts : t.cuts ≡ s.cuts
   pub off : t.off ≡ s.off
-  pub planning : t.planning ≡ s.planning
+  pub planning : t.planning ≡ listed_anew s.planning
   -- the cuts that came without a plan are among its cuts
   pub unplanned : t.planning.unplanned ≤ t.cuts
 

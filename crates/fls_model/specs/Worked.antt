@@ -1,13 +1,21 @@
 -- What the worked cases take.
 use Rattle.std.specs.Prelude.{ℕ, List, [], ◌∷◌, Option, Some}
-use Rattle.nv_base.specs.Plan.{Planning}
+use Rattle.nv_base.specs.Plan.{Planning, no_planning}
 use Rattle.fls_model.specs.declared.flash.FlashAnswer.TheVariants.{Done}
 use Rattle.fls_model.specs.Op.{Program}
 use Rattle.fls_model.specs.Told.{ToldBytes, Change}
 
 -- a plan of a cut at the nth operation from now, with 7 bytes of it done
 abbrev pub planned_at : ℕ → Planning
-planned_at nth = record { plan = Some (record { left = nth; keep = 7 }); takes = 0; unplanned = 0 }
+planned_at nth = record no_planning { plan = Some (record { left = nth; keep = 7 }) }
+
+-- at the next one, with so many done
+abbrev pub planning_to_keep : ℕ → Planning
+planning_to_keep keep = record no_planning { plan = Some (record { left = 1; keep = keep }) }
+
+-- behind a cut that let so many be done, with so many operations withheld
+abbrev pub behind : ℕ → ℕ → Planning
+behind keep withheld = record no_planning { came = keep ∷ []; withheld = withheld }
 
 -- a flash of no bytes that has this list, with room for so many more
 abbrev pub listing : Option (List Change) → ℕ → ToldBytes

@@ -4,7 +4,7 @@ ghost use Rattle.fls_model.specs.Op.{after_op, MayLeave, Program, Erase};
 ghost use Rattle.nv_base.specs.Plan.{Planning, planned, no_planning};
 ghost use Rattle.fls_model.specs.Plan.{PlanGoes};
 ghost use Rattle.fls_model.specs.Step.{IsChanged};
-ghost use Rattle.fls_model.specs.Worked.{planned_at, listing, one_change};
+ghost use Rattle.fls_model.specs.Worked.{planned_at, planning_to_keep, behind, listing, one_change};
 ghost use Rattle.fls_model.specs.declared.flash.FlashAnswer.TheVariants.{Done, Off};
 
 /// Worked cases of what operations do, and of what a cut may and may not leave.
@@ -21,11 +21,14 @@ pub fn worked_cases()
 
 /// Worked cases of planned cuts.
 pub fn planned_cases()
-    ensures taken { planned 2 7 (record { plan = None; takes = 1; unplanned = 0 }) ≡ planned_at 2 }
-    ensures replaced { planned 1 7 (record { plan = (planned_at 2).plan; takes = 1; unplanned = 0 }) ≡ planned_at 1 }
+    ensures taken { planned 2 7 (record no_planning { takes = 1 }) ≡ planned_at 2 }
+    ensures replaced { planned 1 7 (record (planned_at 2) { takes = 1 }) ≡ planned_at 1 }
     ensures not_taken { planned 2 7 no_planning ≡ no_planning }
     ensures nears { PlanGoes Done (planned_at 2) (planned_at 1) }
-    ensures comes { PlanGoes Off (planned_at 1) no_planning }
+    ensures comes { PlanGoes Off (planned_at 1) (behind 7 0) }
+    ensures with_nothing_done { PlanGoes Off (planning_to_keep 0) (behind 0 1) }
+    ensures not_with_more_done { ¬ PlanGoes Off (planned_at 1) (behind 8 0) }
+    ensures not_unlisted { ¬ PlanGoes Off (planned_at 1) no_planning }
     ensures not_later { (after : Planning) → ¬ PlanGoes Done (planned_at 1) after }
     ensures not_earlier { ¬ PlanGoes Off (planned_at 2) no_planning }
     ensures not_by_itself { ¬ PlanGoes Off no_planning no_planning }

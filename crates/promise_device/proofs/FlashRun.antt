@@ -4,15 +4,15 @@ use Rattle.std.proofs.Common.{inl, inr, ℕ, List, [], ◌∷◌, refl}
 use Rattle.fls_model.specs.Told.{Change}
 use Rattle.promise_device.specs.FlashRun.{AreSeen}
 
--- a flash saw its own operations
-pub seen_all : (kept : ℕ → Type 0) (k : ℕ) (last : List ℕ) (xs : List Change) → AreSeen kept k last xs xs
-seen_all kept k last [] = refl
-seen_all kept k last (x ∷ xs) = inl (inl refl, seen_all kept (k + 1) last xs)
+-- a flash without planned cuts saw its own operations
+pub seen_all : (kept : ℕ → Type 0) (k : ℕ) (last : List ℕ) (xs : List Change) → AreSeen kept k last xs [] xs
+seen_all kept k last [] = (refl, refl)
+seen_all kept k last (x ∷ xs) = inl (xs, refl, seen_all kept (k + 1) last xs)
 
--- also where more may have been kept from it
-pub seen_more : (kept other : ℕ → Type 0) (k : ℕ) (last : List ℕ) (xs ys : List Change) → ((n : ℕ) → kept n → other n) → AreSeen kept k last xs ys → AreSeen other k last xs ys
-seen_more kept other k last [] ys more seen = seen
-seen_more kept other k last (x ∷ xs) [] more ((is, off, same), rest) = ((more k is, off, same), seen_more kept other (k + 1) last xs [] more rest)
-seen_more kept other k last (x ∷ xs) (y ∷ ys) more (inl (as_is, rest)) =
-    inl (elim as_is [ inl same ↦ inl same | inr (cut, off, before, part) ↦ inr (more k cut, off, before, part) ], seen_more kept other (k + 1) last xs ys more rest)
-seen_more kept other k last (x ∷ xs) (y ∷ ys) more (inr ((is, off, same), rest)) = inr ((more k is, off, same), seen_more kept other (k + 1) last xs (y ∷ ys) more rest)
+-- also where more may have been cut
+pub seen_more : (kept other : ℕ → Type 0) (k : ℕ) (last : List ℕ) (xs : List Change) (cuts : List ℕ) (seen : List Change) → ((n : ℕ) → kept n → other n)
+    → AreSeen kept k last xs cuts seen → AreSeen other k last xs cuts seen
+seen_more kept other k last [] cuts seen more are = are
+seen_more kept other k last (x ∷ xs) cuts seen more (inl (rest, head, behind)) = inl (rest, head, seen_more kept other (k + 1) last xs cuts rest more behind)
+seen_more kept other k last (x ∷ xs) cuts seen more (inr (later, rest, cut, behind)) =
+    inr (later, rest, record { off = (more k cut.off.0, cut.off.1); keep = cut.keep; first = cut.first; part = cut.part }, seen_more kept other (k + 1) last xs later rest more behind)

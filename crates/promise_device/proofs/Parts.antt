@@ -1,32 +1,33 @@
--- The part of an operation that a planned cut breaks off.
-use Rattle.std.proofs.Common.{◌≡◌, ℕ, zero, suc, ◌-◌, ◌++◌, List, [], ◌∷◌, take, replicate, refl, ap, inl, inr}
-use Rattle.fls_model.specs.declared.flash.FlashAnswer.TheVariants.{Done, Off}
-use Rattle.fls_model.specs.Told.{Change}
-use Rattle.promise_device.specs.FlashRun.{AreSeen}
-use Rattle.promise_device.specs.Cases.{blank, erase, answered, broken_off, program, second}
+-- The part of an operation that a planned cut lets be done.
+use Rattle.std.proofs.Common.{[], ◌∷◌, refl, inl, inr}
+use Rattle.fls_model.specs.declared.flash.FlashAnswer.TheVariants.{Done}
+use Rattle.promise_device.specs.FlashRun.{AreSeen, IsCutOff}
+use Rattle.promise_device.specs.Cases.{blank, other, erase, answered, broken_off, first_byte, program, two_programs, second, any, seen_there}
 
-pub in_part : AreSeen second 0 blank (erase program) (erase (answered Done))
-in_part = inl (inl refl, inl (inr (refl, refl, refl, (refl, (2, refl))), refl))
+-- of the program nothing was let be done
+withheld : IsCutOff (second 1) blank program [] (0 ∷ []) [] [] []
+withheld = record { off = (refl, refl); keep = 0; first = refl; part = (refl, refl) }
 
-pub in_half : AreSeen second 0 blank (erase program) (erase (broken_off (0 ∷ 255 ∷ [])))
-in_half = inl (inl refl, inl (inr (refl, refl, refl, (refl, (1, refl))), refl))
+pub kept_back : AreSeen second 0 blank (erase program) (0 ∷ []) seen_there
+kept_back = inl ([], refl, inr ([], [], withheld, (refl, refl)))
 
-abbrev page : List ℕ
-page = 0 ∷ 0 ∷ []
+half : IsCutOff (second 1) blank program [] (1 ∷ []) [] (broken_off first_byte ∷ []) []
+half = record { off = (refl, refl); keep = 1; first = refl; part = (Done, refl) }
 
-abbrev last_byte : List ℕ
-last_byte = 255 ∷ 0 ∷ []
+pub in_half : AreSeen second 0 blank (erase program) (1 ∷ []) (erase (broken_off first_byte))
+in_half = inl (broken_off first_byte ∷ [], refl, inr ([], [], half, (refl, refl)))
 
--- no first bytes of the page are these
-not_first : (keep : ℕ) → last_byte ≡ take keep page ++ replicate (2 - keep) 255 → ⊥
-not_first zero is = cc is
-not_first (suc keep) is = cc is
+whole : IsCutOff (second 1) blank program [] (2 ∷ []) [] (answered Done ∷ []) []
+whole = record { off = (refl, refl); keep = 2; first = refl; part = (Done, refl) }
 
-not_same : program ≡ broken_off last_byte → ⊥
-not_same same = let a : Off ≡ Done = ap (λ (x : Change). x.answer) same in cc a
+pub in_part : AreSeen second 0 blank (erase program) (2 ∷ []) (erase (answered Done))
+in_part = inl (answered Done ∷ [], refl, inr ([], [], whole, (refl, refl)))
 
-pub no_other : AreSeen second 0 blank (erase program) (erase (broken_off (255 ∷ 0 ∷ []))) → ⊥
-no_other (inl (as_is, inl (inl same, rest))) = not_same same
-no_other (inl (as_is, inl (inr (cut, off, before, (there, (keep, part))), rest))) = not_first keep part
-no_other (inl (as_is, inr (back, rest))) = cc rest
-no_other (inr (back, rest)) = cc back.1
+withheld_before : IsCutOff (any 0) other program (program ∷ []) (0 ∷ 1 ∷ []) (1 ∷ []) (broken_off first_byte ∷ []) (broken_off first_byte ∷ [])
+withheld_before = record { off = (tt, refl); keep = 0; first = refl; part = (refl, refl) }
+
+half_behind : IsCutOff (any 1) other program [] (1 ∷ []) [] (broken_off first_byte ∷ []) []
+half_behind = record { off = (tt, refl); keep = 1; first = refl; part = (Done, refl) }
+
+pub in_order : AreSeen any 0 other two_programs (0 ∷ 1 ∷ []) (broken_off first_byte ∷ [])
+in_order = inr (1 ∷ [], broken_off first_byte ∷ [], withheld_before, inr ([], [], half_behind, (refl, refl)))

@@ -1,5 +1,6 @@
 -- Two operations of a flash of two pages of 2 bytes, and what a device tells over two banks of ten pages.
-use Rattle.std.specs.Prelude.{◌≡◌, ℕ, Bool, true, false, List, [], ◌∷◌, ◌++◌, replicate, Some}
+use Rattle.std.specs.Prelude.{◌≡◌, ℕ, Bool, true, false, List, [], ◌∷◌, ◌++◌, replicate, Some, None}
+use Rattle.nv_base.specs.Plan.{no_planning}
 use Rattle.nv_base.specs.declared.mark.Mark.TheVariants.{Content}
 use Rattle.memif.specs.declared.answer.JobResult.TheVariants.{JobOk}
 use Rattle.memif.specs.Told.{Stand, Open, Ended}
@@ -7,10 +8,11 @@ use Rattle.memif.specs.Plain.{plain_store}
 use Rattle.fls_model.specs.declared.flash.FlashAnswer.{FlashAnswer}
 use Rattle.fls_model.specs.declared.flash.FlashAnswer.TheVariants.{Done, Failed, Off}
 use Rattle.fls_model.specs.Op.{Program, Erase}
-use Rattle.fls_model.specs.Told.{Change}
+use Rattle.fls_model.specs.Told.{Told, Change}
 use Rattle.fee_format.specs.Pages.{gate_page}
 use Rattle.fee_format.specs.BankHead.{bank_head_page}
 use Rattle.promise_device.specs.Making.{Making}
+use Rattle.promise_device.specs.FlashRun.{FlashRun}
 use Rattle.promise_device.specs.Room.{TellsWork}
 
 abbrev pub blank : List ℕ
@@ -38,16 +40,35 @@ broken_off part = record { op = Program 0 part; before = blank; answer = Done }
 abbrev pub erase : Change → List Change
 erase x = record { op = Erase 0 4; before = blank; answer = Done } ∷ x ∷ []
 
+-- a flash that tells no bytes and that counted so many operations
+abbrev pub told_ops : ℕ → Told
+told_ops ops = record { geometry = record { page = 2; sector = 4; sectors = 1 }; bytes = None; ops = ops; faults = 0; cuts = 0; off = false; planning = no_planning }
+
 -- an erase that failed
 abbrev pub failed_erase : Change
 failed_erase = record { op = Erase 0 4; before = blank; answer = Failed }
 
--- no operation was kept back; the second was
+-- the page with its first byte done
+abbrev pub first_byte : List ℕ
+first_byte = 0 ∷ 255 ∷ []
+
+-- two programs of it, in both of which the power went off
+abbrev pub two_programs : List Change
+two_programs = program ∷ program ∷ []
+
+-- a planned cut came in no operation; in the second; in any
 abbrev pub never : ℕ → Type 0
 never k = ⊥
 
 abbrev pub second : ℕ → Type 0
 second k = k ≡ 1
+
+abbrev pub any : ℕ → Type 0
+any k = Unit {0}
+
+-- a run over a flash that counted so many operations
+abbrev pub counted : ℕ → List Change → FlashRun
+counted ops operations = record { entry = told_ops 0; exit = told_ops ops; operations = operations }
 
 -- ROOM
 -- one number of 4 bytes, whose record takes four pages, as many as are kept

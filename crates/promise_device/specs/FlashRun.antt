@@ -1,9 +1,11 @@
 -- A run of a flash: what it tells, and the changing operations that it was asked for.
-use Rattle.std.specs.Prelude.{◌≡◌, ◌⊎◌, ◌+◌, ◌-◌, ℕ, List, [], ◌∷◌, ◌++◌, length, take, replicate, slice_get, Option, Some, IfSome}
+use Rattle.std.specs.Prelude.{◌≡◌, ◌⊎◌, ◌≤◌, ◌+◌, ℕ, zero, suc, Bool, true, false, List, [], ◌∷◌, length, slice_get, count_by, Option, Some, IfSome}
 use Rattle.std.specs.Option.{option_map_or}
 use Rattle.nv_base.specs.declared.geometry.Geometry.{Geometry}
+use Rattle.nv_base.specs.Count.{last_count}
+use Rattle.fls_model.specs.declared.flash.FlashAnswer.{FlashAnswer}
 use Rattle.fls_model.specs.declared.flash.FlashAnswer.TheVariants.{Failed, Off}
-use Rattle.fls_model.specs.Op.{Op, Program, Erase, MayLeave}
+use Rattle.fls_model.specs.Op.{MayLeave, part_of}
 use Rattle.fls_model.specs.Step.{Leaves}
 use Rattle.fls_model.specs.Told.{Told, Change, TellsFor, IfBothTold, bytes_now, changes_in}
 use Rattle.promise_device.specs.Making.{Making}
@@ -55,37 +57,44 @@ abbrev pub IsChain : List ℕ → List Change → List ℕ → Type 0
 IsChain first [] last = last ≡ first
 IsChain first (x ∷ xs) last = (x.before ≡ first) × ((next : List ℕ) × Leaves x.op x.answer x.before next × IsChain next xs last)
 
--- What the flash is asked for of an operation that a planned cut breaks off: of a program the first bytes, with 0xFF behind them,
--- of an erase all.
-abbrev pub IsPartOf : Op → Op → Type 0
-IsPartOf (Program address page) (Program there part) = (there ≡ address) × ((keep : ℕ) × (part ≡ take keep page ++ replicate (length page - keep) 255))
-IsPartOf (Erase address n) part = part ≡ Erase address n
-IsPartOf op part = ⊥
-
 abbrev pub next_bytes : List Change → List ℕ → List ℕ
 next_bytes [] last = last
 next_bytes (x ∷ xs) last = x.before
 
--- a planned cut kept an operation from the flash, whose bytes stay: the power went off in it
-abbrev pub StaysBack : (ℕ → Type 0) → ℕ → List ℕ → Change → List Change → Type 0
-StaysBack kept k last x xs = kept k × (x.answer ≡ Off) × (next_bytes xs last ≡ x.before)
+-- of an operation of which a planned cut let so many bytes be done the flash saw nothing where they are none, and its bytes stay,
+-- else that part; these are the operations that it saw from then on, and those that are left of them behind it
+abbrev pub IsSeenOf : ℕ → List ℕ → Change → List Change → List Change → List Change → Type 0
+IsSeenOf zero last x xs seen rest = (rest ≡ seen) × (next_bytes xs last ≡ x.before)
+IsSeenOf (suc keep) last x xs seen rest = (answer : FlashAnswer) × (seen ≡ record { op = part_of (suc keep) x.op; before = x.before; answer = answer } ∷ rest)
 
--- the flash saw the operation itself, or such a part of it, where a planned cut let the power go off in it
-abbrev pub IsSeenAs : Type 0 → Change → Change → Type 0
-IsSeenAs cut x y = (x ≡ y) ⊎ (cut × (x.answer ≡ Off) × (x.before ≡ y.before) × IsPartOf x.op y.op)
+-- a planned cut let the power go off in the operation
+pub record IsCutOff (cut : Type 0) (last : List ℕ) (x : Change) (xs : List Change) (cuts cuts' : List ℕ) (seen seen' : List Change) : Type 0 where
+  pub off : cut × (x.answer ≡ Off)
+  pub keep : ℕ
+  pub first : cuts ≡ keep ∷ cuts'
+  pub part : IsSeenOf keep last x xs seen seen'
 
--- The operations from number k on are those that the flash saw, with all that is told of them, but for those that a planned cut
--- kept from it, whole or behind a part.
-abbrev pub AreSeen : (ℕ → Type 0) → ℕ → List ℕ → List Change → List Change → Type 0
-AreSeen kept k last [] seen = seen ≡ []
-AreSeen kept k last (x ∷ xs) [] = StaysBack kept k last x xs × AreSeen kept (k + 1) last xs []
-AreSeen kept k last (x ∷ xs) (y ∷ ys) =
-    (IsSeenAs (kept k) x y × AreSeen kept (k + 1) last xs ys)
-    ⊎ (StaysBack kept k last x xs × AreSeen kept (k + 1) last xs (y ∷ ys))
+-- The operations from number k on are those that the flash saw, with all that is told of them, but for those that the planned
+-- cuts broke off, each of which let so many bytes be done.
+abbrev pub AreSeen : (ℕ → Type 0) → ℕ → List ℕ → List Change → (cuts : List ℕ) → (seen : List Change) → Type 0
+AreSeen kept k last [] cuts seen = (cuts ≡ []) × (seen ≡ [])
+AreSeen kept k last (x ∷ xs) cuts seen =
+    ((rest : List Change) × (seen ≡ x ∷ rest) × AreSeen kept (k + 1) last xs cuts rest)
+    ⊎ ((cuts' : List ℕ) × (rest : List Change) × IsCutOff (kept k) last x xs cuts cuts' seen rest × AreSeen kept (k + 1) last xs cuts' rest)
 
--- The operations are the run's own. `kept` says which were kept from the flash, or cut in it.
-pub record AreOperations (g : Geometry) (f : FlashRun) (kept : ℕ → Type 0) : Type 0 where
+abbrev pub is_none_done : ℕ → Bool
+is_none_done zero = true
+is_none_done (suc keep) = false
+
+-- The flash counted each of the operations, but for those of which a planned cut let nothing be done; a count at its end tells none.
+abbrev pub CountsAll : FlashRun → (cuts : List ℕ) → Type 0
+CountsAll f cuts = (f.exit.ops + count_by is_none_done cuts ≡ f.entry.ops + length f.operations) ⊎ (last_count ≤ f.entry.ops + length f.operations)
+
+-- The operations are the run's own. `kept` says in which of them a planned cut may have come, `cuts` of each such cut how many
+-- bytes it let be done.
+pub record AreOperations (g : Geometry) (f : FlashRun) (kept : ℕ → Type 0) (cuts : List ℕ) : Type 0 where
   pub told_alike : IfBothTold f.entry.bytes f.exit.bytes (λ first last. Unit {0})
   pub chain : (t : TellsBytes f) → IsChain (attached g t.first) f.operations t.last
-  pub seen : (t : TellsOperations f) → AreSeen kept 0 t.bytes.last f.operations t.changes
+  pub seen : (t : TellsOperations f) → AreSeen kept 0 t.bytes.last f.operations cuts t.changes
+  pub counted : CountsAll f cuts
   pub told : HasRoom f → TellsOperations f

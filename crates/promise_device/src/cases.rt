@@ -1,37 +1,54 @@
 // Whose operations they are, and whose room it is.
 ghost use Rattle.std.specs.Prelude.{◌≡◌, ℕ, [], ◌∷◌, true, false};
 ghost use Rattle.fls_model.specs.declared.flash.FlashAnswer.TheVariants.{Done, Failed};
-ghost use Rattle.promise_device.specs.FlashRun.{AreSeen, IsChain};
+ghost use Rattle.promise_device.specs.FlashRun.{AreSeen, IsChain, CountsAll};
 ghost use Rattle.promise_device.specs.Bridge.{may_be_closed};
-ghost use Rattle.promise_device.specs.Cases.{blank, other, erase, answered, broken_off, program, seen_there, never, second, Tells, roomy, torn, no_job, urgent_write, standard_write, failed_erase};
+ghost use Rattle.promise_device.specs.Cases.{blank, other, erase, answered, broken_off, first_byte, program, two_programs, seen_there, never, second, any, counted, Tells, roomy, torn, no_job, urgent_write, standard_write, failed_erase};
 
-/// An erase that the flash saw, and a program that a planned cut kept from it, whose bytes stay, or of which it saw the first bytes.
-/// A program that failed, with its answer.
-#[tactic(auto, using(crate::proofs::Parts::in_part, crate::proofs::Parts::in_half))]
+/// An erase that the flash saw, and a program of which a planned cut let nothing be done, so that its bytes stay, or one byte, or
+/// all; two such cuts take their bytes in order. A program that failed, with its answer.
+#[tactic(auto, using(crate::proofs::Parts::kept_back, crate::proofs::Parts::in_part, crate::proofs::Parts::in_half, crate::proofs::Parts::in_order))]
 pub fn operations_of_the_flash()
-    ensures seen { AreSeen never 0 blank seen_there seen_there }
-    ensures kept_back { AreSeen second 0 blank (erase program) seen_there }
-    ensures in_part { AreSeen second 0 blank (erase program) (erase (answered Done)) }
-    ensures in_half { AreSeen second 0 blank (erase program) (erase (broken_off (0 ∷ 255 ∷ []))) }
-    ensures failed { AreSeen never 0 blank (erase (answered Failed)) (erase (answered Failed)) }
+    ensures seen { AreSeen never 0 blank seen_there [] seen_there }
+    ensures kept_back { AreSeen second 0 blank (erase program) (0 ∷ []) seen_there }
+    ensures in_half { AreSeen second 0 blank (erase program) (1 ∷ []) (erase (broken_off first_byte)) }
+    ensures in_part { AreSeen second 0 blank (erase program) (2 ∷ []) (erase (answered Done)) }
+    ensures in_order { AreSeen any 0 other two_programs (0 ∷ 1 ∷ []) (broken_off first_byte ∷ []) }
+    ensures failed { AreSeen never 0 blank (erase (answered Failed)) [] (erase (answered Failed)) }
 {}
 
-/// Without a planned cut none is kept back, and none whose bytes changed, nor are others than the first bytes seen of one; bytes that
-/// no operation left are not theirs.
-#[tactic(auto, using(crate::proofs::Parts::no_other))]
+/// Without a planned cut none is kept back, and none whose bytes changed. Of one that a cut broke off exactly the bytes are seen
+/// that it let be done, and each cut has its operation. Bytes that no operation left are not theirs.
 pub fn operations_of_another_flash()
-    ensures not_planned { AreSeen never 0 blank (erase program) seen_there → ⊥ }
-    ensures changed { AreSeen second 0 other (erase program) seen_there → ⊥ }
-    ensures other_part { AreSeen second 0 blank (erase program) (erase (broken_off (255 ∷ 0 ∷ []))) → ⊥ }
+    ensures not_planned { AreSeen never 0 blank (erase program) (0 ∷ []) seen_there → ⊥ }
+    ensures changed { AreSeen second 0 other (erase program) (0 ∷ []) seen_there → ⊥ }
+    ensures one_byte_more { AreSeen second 0 blank (erase program) (1 ∷ []) (erase (answered Done)) → ⊥ }
+    ensures one_byte_fewer { AreSeen second 0 blank (erase program) (2 ∷ []) (erase (broken_off first_byte)) → ⊥ }
+    ensures not_kept_back { AreSeen second 0 blank (erase program) (1 ∷ []) seen_there → ⊥ }
+    ensures not_in_part { AreSeen second 0 blank (erase program) (0 ∷ []) (erase (broken_off first_byte)) → ⊥ }
+    ensures other_part { AreSeen second 0 blank (erase program) (1 ∷ []) (erase (broken_off (255 ∷ 0 ∷ []))) → ⊥ }
+    ensures not_in_order { AreSeen any 0 other two_programs (1 ∷ 0 ∷ []) (broken_off first_byte ∷ []) → ⊥ }
+    ensures without_its_bytes { AreSeen second 0 blank (erase program) [] seen_there → ⊥ }
+    ensures without_operation { AreSeen any 0 blank (erase (answered Done)) (2 ∷ []) (erase (answered Done)) → ⊥ }
     ensures wiped { IsChain other [] blank → ⊥ }
 {}
 
 /// Nor has one that failed another answer, whether a cut was planned for it or not, and none is cut without a plan.
 pub fn answers_of_another_flash()
-    ensures told_done { AreSeen never 0 blank (erase (answered Done)) (erase (answered Failed)) → ⊥ }
-    ensures planned_but_done { AreSeen second 0 blank (erase (answered Done)) (erase (answered Failed)) → ⊥ }
-    ensures failed_alone { AreSeen second 0 blank (erase (answered Failed)) (erase (answered Done)) → ⊥ }
-    ensures not_planned { AreSeen never 0 blank (erase program) (erase (answered Failed)) → ⊥ }
+    ensures told_done { AreSeen never 0 blank (erase (answered Done)) [] (erase (answered Failed)) → ⊥ }
+    ensures planned_but_done { AreSeen second 0 blank (erase (answered Done)) (2 ∷ []) (erase (answered Failed)) → ⊥ }
+    ensures failed_alone { AreSeen second 0 blank (erase (answered Failed)) (2 ∷ []) (erase (answered Done)) → ⊥ }
+    ensures not_planned { AreSeen never 0 blank (erase program) (2 ∷ []) (erase (answered Failed)) → ⊥ }
+{}
+
+/// The flash counts each operation but those of which a planned cut let nothing be done.
+pub fn counts_of_the_flash()
+    ensures all { CountsAll (counted 2 (erase (answered Done))) [] }
+    ensures in_part { CountsAll (counted 2 (erase program)) (1 ∷ []) }
+    ensures kept_back { CountsAll (counted 1 (erase program)) (0 ∷ []) }
+    ensures one_missed { CountsAll (counted 1 (erase (answered Done))) [] → ⊥ }
+    ensures one_more { CountsAll (counted 2 (erase program)) (0 ∷ []) → ⊥ }
+    ensures none_in_part { CountsAll (counted 1 (erase program)) (1 ∷ []) → ⊥ }
 {}
 
 /// Over a bank of eight free pages the four that are kept are ready, also beside the job that takes the other four, which has as
