@@ -77,9 +77,9 @@ member_copies c sw id =
     ∙ ap (λ (n : ℕ). copies_out_by (kind_of j) None (is_synchronized (desc_of c n).ram)) (sym (block_is sw.writes id))
 
 pub member_copied : (IsStore : ℕ → List ℕ → Type 0) (before after : List Told) (c : Configuration) (sw : Sweep) (id : ℕ) (taken : Taken)
-    → IsCopied IsStore id before after (copies_out_by (member_kind sw.writes) None (is_synchronized (desc_of c id).ram)) taken
-    → IsCopied IsStore id before after (copies_out_for c (member_job c sw id)) taken
-member_copied IsStore before after c sw id taken = subst (λ (b : Bool). IsCopied IsStore id before after b taken) (member_copies c sw id)
+    → IsCopied IsStore c id before after (copies_out_by (member_kind sw.writes) None (is_synchronized (desc_of c id).ram)) taken
+    → IsCopied IsStore c id before after (copies_out_for c (member_job c sw id)) taken
+member_copied IsStore before after c sw id taken = subst (λ (b : Bool). IsCopied IsStore c id before after b taken) (member_copies c sw id)
 
 -- WHAT COMES NEXT
 
@@ -125,20 +125,20 @@ not_nothing n is picks = subst IsPickNext is picks
 
 pub job_picked : (IsStore : ℕ → ℕ → List ℕ → Type 0) (before after : List Told) (c : Configuration) (n : Next) (j : Job) (block ops : ℕ) (old new : DeskState)
     → n ≡ PickJob j → block ≡ job_block j
-    → IsPicked (λ t. IsCopied (IsStore (job_block j)) (job_block j) before after (copies_out_for c j) t) (job_block j) ops old new
-    → IsPicked (λ t. IsCopied (IsStore block) block before after (copies_out_next c n) t) block ops old new
+    → IsPicked (λ t. IsCopied (IsStore (job_block j)) c (job_block j) before after (copies_out_for c j) t) (job_block j) ops old new
+    → IsPicked (λ t. IsCopied (IsStore block) c block before after (copies_out_next c n) t) block ops old new
 job_picked IsStore before after c n j block ops old new is at h = rw (is, at) h
 
 pub member_picked : (IsStore : ℕ → ℕ → List ℕ → Type 0) (before after : List Told) (c : Configuration) (n : Next) (sw : Sweep) (block ops : ℕ) (old new : DeskState)
     → n ≡ PickMember sw block
-    → IsPicked (λ t. IsCopied (IsStore block) block before after (copies_out_for c (member_job c sw block)) t) block ops old new
-    → IsPicked (λ t. IsCopied (IsStore block) block before after (copies_out_next c n) t) block ops old new
+    → IsPicked (λ t. IsCopied (IsStore block) c block before after (copies_out_for c (member_job c sw block)) t) block ops old new
+    → IsPicked (λ t. IsCopied (IsStore block) c block before after (copies_out_next c n) t) block ops old new
 member_picked IsStore before after c n sw block ops old new is h = rw is h
 
 pub sweep_picked : (IsStore : ℕ → ℕ → List ℕ → Type 0) (told : List Told) (sw : Sweep) (ops : ℕ) (old new : DeskState) → IsDriving (state_of old) ops
     → next_of old.config (state_of old) ≡ BeginSweep sw
     → new ≡ record old { entries = old.entries ++ Pick 0 (sweep_kind sw.writes) TookNothing ops ∷ [] }
-    → IsPicked (λ t. IsCopied (IsStore 0) 0 told told (copies_out_next old.config (next_of old.config (state_of old))) t) 0 ops old new
+    → IsPicked (λ t. IsCopied (IsStore 0) old.config 0 told told (copies_out_next old.config (next_of old.config (state_of old))) t) 0 ops old new
 sweep_picked IsStore told sw ops old new driving is adds = record {
   kind = sweep_kind sw.writes;
   taken = TookNothing;
@@ -148,5 +148,5 @@ sweep_picked IsStore told sw ops old new driving is adds = record {
     subst (λ (n : Next). MayPick old.config (state_of old) 0 (sweep_kind sw.writes) TookNothing n) (sym is)
         (record { all_blocks = refl; same_kind = refl; takes_nothing = refl }),
   );
-  copied = subst (λ (n : Next). IsCopied (IsStore 0) 0 told told (copies_out_next old.config n) TookNothing) (sym is) refl;
+  copied = subst (λ (n : Next). IsCopied (IsStore 0) old.config 0 told told (copies_out_next old.config n) TookNothing) (sym is) refl;
 }

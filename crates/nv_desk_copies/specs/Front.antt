@@ -27,8 +27,8 @@ AreSynchronized c told = (id : ℕ) → is_synchronized (desc_of c id).ram ≡ t
 abbrev pub OnlyRefusals : (block : ℕ) → (old new : List Told) → Type 0
 OnlyRefusals block old new = (new ≡ old) ⊎ OnlyCounts block old new
 
--- Whatever is copied, these stay: which blocks are synchronized, how many of their copies may be refused, and that no such
--- count falls; the stores that there were; and what the application's side is over.
+-- Whatever is copied, these stay: which blocks are synchronized; each refused copy that was counted; the stores that there were;
+-- and what the application's side is over.
 pub record CopiesStay {C : Type 0} (told : C → List Told) (is_store : C → ℕ → ℕ → List ℕ → Type 0) (over : C → C → Type 0) (old new : C) : Type 0 where
   pub sizes : sizes_of (told new) ≡ sizes_of (told old)
   pub refuses : OnlyRefuses (told old) (told new)

@@ -10,8 +10,8 @@ use Rattle.block_machine.specs.ResultTable.{table}
 use Rattle.block_machine.specs.Results.{Answer, Own, own_of, outcomes_of, device_content, took_none, checks_id, checked_id, result_of, unpicked_result, open_sets}
 use Rattle.block_machine.specs.Next.{Next, PostMember, EndSweep, next_of}
 use Rattle.block_machine.specs.Legal.{IsDriving, IsAllowed}
-use Rattle.ram_blocks.specs.Told.{Told, told_at, refusals_of}
-use Rattle.ram_blocks.specs.Tries.{OthersStay}
+use Rattle.ram_blocks.specs.Told.{Told, told_at, refusals_of, to_refuse_of}
+use Rattle.ram_blocks.specs.Tries.{Spends, OthersStay}
 use Rattle.nv_desk.specs.Desk.{DeskState, state_of}
 use Rattle.nv_desk_copies.specs.Front.{Numbers, given_if}
 
@@ -57,13 +57,13 @@ answer_in r gives bytes = (r, given_if gives bytes)
 abbrev pub goes_over : BlockDesc → (ram : Bool) → Option (List ℕ) → Bool
 goes_over d ram given = (ram && is_synchronized d.ram) && is_some given
 
--- It is posted as it ended, and what goes to synchronized RAM was handed over; or each copy of that was refused, and it is
--- posted with 1.
+-- It is posted as it ended, and what goes to synchronized RAM was handed over; or each copy of that was refused, which is where
+-- as many were to be, and it is posted with 1.
 abbrev pub IsHandedOver : (goes : Bool) → (ended posted : Answer) → (refused tries block : ℕ) → (old new : List Told) → Type 0
 IsHandedOver false ended posted refused tries block old new = (posted ≡ ended) × (refused ≡ 0) × (new ≡ old)
 IsHandedOver true ended posted refused tries block old new =
-    ((posted ≡ ended) × (refused ≡ 0) × (option_map (λ s. s.last) (told_at new block) ≡ ended.1))
-    ⊎ ((posted ≡ (NotOk, None)) × (refused ≡ tries) × WereCounted tries (refusals_of old block) (refusals_of new block))
+    ((posted ≡ ended) × (refused ≡ 0) × (option_map (λ s. s.last) (told_at new block) ≡ ended.1) × Spends false tries (to_refuse_of old block) (to_refuse_of new block))
+    ⊎ ((posted ≡ (NotOk, None)) × (refused ≡ tries) × WereCounted tries (refusals_of old block) (refusals_of new block) × Spends true tries (to_refuse_of old block) (to_refuse_of new block))
 
 -- One Post more, of what ended so on this block; of another block nothing is told otherwise. The machine allows it under a
 -- premise.

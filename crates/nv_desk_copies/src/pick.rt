@@ -35,7 +35,7 @@ pub fn pick<C: SyncCalls>(
     requires next { IsNextEntry next (next_of desk.old.config (state_of desk.old)) }
     requires staging { StagesAll desk.old.config staging.old }
     requires synchronized { AreSynchronized desk.old.config (C.told copies.old) }
-    ensures picks { PicksNext (λ block t. IsCopied (λ n x. C.is_store copies.new block n x × C.looked copies.old copies.new block n) block (C.told copies.old) (C.told copies.new) (copies_out_next desk.old.config (next_of desk.old.config (state_of desk.old))) t) ops desk.old desk.new (C.told copies.old) (C.told copies.new) }
+    ensures picks { PicksNext (λ block t. IsCopied (λ n x. C.is_store copies.new block n x × C.looked copies.old copies.new block n) desk.old.config block (C.told copies.old) (C.told copies.new) (copies_out_next desk.old.config (next_of desk.old.config (state_of desk.old))) t) ops desk.old desk.new (C.told copies.old) (C.told copies.new) }
     ensures room { staging.new.room ≡ staging.old.room }
     ensures stays { CopiesStay C.told C.is_store C.over copies.old copies.new }
 {
@@ -55,7 +55,7 @@ fn pick_job<C: SyncCalls>(desk: &mut Desk, staging: &mut Staging, ops: u64, copi
     requires staging { StagesAll desk.old.config staging.old }
     requires synchronized { AreSynchronized desk.old.config (C.told copies.old) }
     ensures picked { (j : MachineJob) → next_in desk.old.config (state_of desk.old).waiting ≡ Some j
-        → IsPicked (λ t. IsCopied (λ n x. C.is_store copies.new (job_block j) n x × C.looked copies.old copies.new (job_block j) n) (job_block j) (C.told copies.old) (C.told copies.new) (copies_out_for desk.old.config j) t) (job_block j) ops desk.old desk.new }
+        → IsPicked (λ t. IsCopied (λ n x. C.is_store copies.new (job_block j) n x × C.looked copies.old copies.new (job_block j) n) desk.old.config (job_block j) (C.told copies.old) (C.told copies.new) (copies_out_for desk.old.config j) t) (job_block j) ops desk.old desk.new }
     ensures room { staging.new.room ≡ staging.old.room }
     ensures counts { (j : MachineJob) → next_in desk.old.config (state_of desk.old).waiting ≡ Some j → OnlyRefusals (job_block j) (C.told copies.old) (C.told copies.new) }
     ensures stays { CopiesStay C.told C.is_store C.over copies.old copies.new }
@@ -79,7 +79,7 @@ fn pick_member<C: SyncCalls>(
     requires staging { StagesAll desk.old.config staging.old }
     requires synchronized { AreSynchronized desk.old.config (C.told copies.old) }
     ensures picked { (sw : MachineSweep) → next_of desk.old.config (state_of desk.old) ≡ PickMember sw block
-        → IsPicked (λ t. IsCopied (λ n x. C.is_store copies.new block n x × C.looked copies.old copies.new block n) block (C.told copies.old) (C.told copies.new) (copies_out_for desk.old.config (member_job desk.old.config sw block)) t) block ops desk.old desk.new }
+        → IsPicked (λ t. IsCopied (λ n x. C.is_store copies.new block n x × C.looked copies.old copies.new block n) desk.old.config block (C.told copies.old) (C.told copies.new) (copies_out_for desk.old.config (member_job desk.old.config sw block)) t) block ops desk.old desk.new }
     ensures room { staging.new.room ≡ staging.old.room }
     ensures counts { OnlyRefusals block (C.told copies.old) (C.told copies.new) }
     ensures stays { CopiesStay C.told C.is_store C.over copies.old copies.new }
@@ -94,7 +94,7 @@ fn take_for<C: SyncCalls>(desk: &Desk, staging: &mut Staging, job: &Job, copies:
     requires staging { StagesAll desk.now.config staging.old }
     requires synchronized { AreSynchronized desk.now.config (C.told copies.old) }
     ensures taken { TakesBy (desc_of desk.now.config (job_block job.now)) (block_at (state_of desk.now) (job_block job.now)) job.now (kind_of job.now) (taken_with job.now.content (took_of result staging.new.bytes)) }
-    ensures copied { IsCopied (λ n x. C.is_store copies.new (job_block job.now) n x × C.looked copies.old copies.new (job_block job.now) n) (job_block job.now) (C.told copies.old) (C.told copies.new) (copies_out_for desk.now.config job.now) (taken_with job.now.content (took_of result staging.new.bytes)) }
+    ensures copied { IsCopied (λ n x. C.is_store copies.new (job_block job.now) n x × C.looked copies.old copies.new (job_block job.now) n) desk.now.config (job_block job.now) (C.told copies.old) (C.told copies.new) (copies_out_for desk.now.config job.now) (taken_with job.now.content (took_of result staging.new.bytes)) }
     ensures room { staging.new.room ≡ staging.old.room }
     ensures counts { OnlyRefusals (job_block job.now) (C.told copies.old) (C.told copies.new) }
     ensures stays { CopiesStay C.told C.is_store C.over copies.old copies.new }
@@ -122,7 +122,7 @@ fn take_for_member<C: SyncCalls>(
     requires staging { StagesAll desk.now.config staging.old }
     requires synchronized { AreSynchronized desk.now.config (C.told copies.old) }
     ensures taken { (sw : MachineSweep) → (state_of desk.now).sweep ≡ Some sw → TakesBy (desc_of desk.now.config block) (block_at (state_of desk.now) block) (member_job desk.now.config sw block) (member_kind sw.writes) (taken_with None (took_of result staging.new.bytes)) }
-    ensures copied { (sw : MachineSweep) → (state_of desk.now).sweep ≡ Some sw → IsCopied (λ n x. C.is_store copies.new block n x × C.looked copies.old copies.new block n) block (C.told copies.old) (C.told copies.new) (copies_out_by (member_kind sw.writes) None (is_synchronized (desc_of desk.now.config block).ram)) (taken_with None (took_of result staging.new.bytes)) }
+    ensures copied { (sw : MachineSweep) → (state_of desk.now).sweep ≡ Some sw → IsCopied (λ n x. C.is_store copies.new block n x × C.looked copies.old copies.new block n) desk.now.config block (C.told copies.old) (C.told copies.new) (copies_out_by (member_kind sw.writes) None (is_synchronized (desc_of desk.now.config block).ram)) (taken_with None (took_of result staging.new.bytes)) }
     ensures room { staging.new.room ≡ staging.old.room }
     ensures counts { OnlyRefusals block (C.told copies.old) (C.told copies.new) }
     ensures stays { CopiesStay C.told C.is_store C.over copies.old copies.new }
@@ -147,7 +147,7 @@ fn take_ram<C: SyncCalls>(
     requires staging { StagesAll desk.now.config staging.old }
     requires synchronized { AreSynchronized desk.now.config (C.told copies.old) }
     ensures taken { (j : MachineJob) → asked_store j.request ≡ asked → TakesForWrite (desc_of desk.now.config block) (block_at (state_of desk.now) block) j None (is_synchronized (desc_of desk.now.config block).ram) (taken_with None (took_of result staging.new.bytes)) }
-    ensures copied { IsCopied (λ n x. C.is_store copies.new block n x × C.looked copies.old copies.new block n) block (C.told copies.old) (C.told copies.new) (is_synchronized (desc_of desk.now.config block).ram) (taken_with None (took_of result staging.new.bytes)) }
+    ensures copied { IsCopied (λ n x. C.is_store copies.new block n x × C.looked copies.old copies.new block n) desk.now.config block (C.told copies.old) (C.told copies.new) (is_synchronized (desc_of desk.now.config block).ram) (taken_with None (took_of result staging.new.bytes)) }
     ensures room { staging.new.room ≡ staging.old.room }
     ensures counts { OnlyRefusals block (C.told copies.old) (C.told copies.new) }
     ensures stays { CopiesStay C.told C.is_store C.over copies.old copies.new }
@@ -172,7 +172,7 @@ fn take_copy<C: SyncCalls>(
     requires staging { StagesAll config.now staging.old }
     requires synchronized { AreSynchronized config.now (C.told copies.old) }
     ensures taken { TakesCopy (desc_of config.now block) asked (taken_with None (took_of result staging.new.bytes)) }
-    ensures copied { IsCopied (λ n x. C.is_store copies.new block n x × C.looked copies.old copies.new block n) block (C.told copies.old) (C.told copies.new) true (taken_with None (took_of result staging.new.bytes)) }
+    ensures copied { IsCopied (λ n x. C.is_store copies.new block n x × C.looked copies.old copies.new block n) config.now block (C.told copies.old) (C.told copies.new) true (taken_with None (took_of result staging.new.bytes)) }
     ensures room { staging.new.room ≡ staging.old.room }
     ensures counts { OnlyRefusals block (C.told copies.old) (C.told copies.new) }
     ensures stays { CopiesStay C.told C.is_store C.over copies.old copies.new }

@@ -2,8 +2,8 @@
 ghost use Rattle.std.specs.Prelude.{◌≡◌, ◌≤◌, length, take, IfOk, option_copied};
 ghost use Rattle.std.specs.Option.{option_eq};
 ghost use Rattle.std.specs.Str.{bytes_eq};
-ghost use Rattle.ram_blocks.specs.Told.{IsSynchronized};
-ghost use Rattle.ram_blocks.specs.Tries.{IsOfStore, IsTried, OnlyCounts};
+ghost use Rattle.ram_blocks.specs.Told.{IsSynchronized, to_refuse_of};
+ghost use Rattle.ram_blocks.specs.Tries.{IsOfStore, IsTried, Spends, is_refused, OnlyCounts};
 ghost use Rattle.nv_desk_copies.specs.Front.{CopiesStay, given_if};
 
 use ram_blocks::{SyncCalls, Tried, copy_out};
@@ -90,6 +90,7 @@ impl Staging {
         ensures whole { length self.new.bytes ≡ count }
         ensures tried { IsTried result block asked tries (C.told copies.old) (C.told copies.new) }
         ensures store { IsOfStore result self.new.bytes (λ n x. C.is_store copies.new block n x × C.looked copies.old copies.new block n) }
+        ensures spends { Spends (is_refused result) tries (to_refuse_of (C.told copies.old) block) (to_refuse_of (C.told copies.new) block) }
         ensures counts { OnlyCounts block (C.told copies.old) (C.told copies.new) }
         ensures stays { CopiesStay C.told C.is_store C.over copies.old copies.new }
     {
@@ -121,6 +122,7 @@ fn copy_to<C: SyncCalls>(
     ensures whole { length (take count buffer.new) ≡ count }
     ensures tried { IsTried result block asked tries (C.told copies.old) (C.told copies.new) }
     ensures store { IsOfStore result (take count buffer.new) (λ n x. C.is_store copies.new block n x × C.looked copies.old copies.new block n) }
+    ensures spends { Spends (is_refused result) tries (to_refuse_of (C.told copies.old) block) (to_refuse_of (C.told copies.new) block) }
     ensures counts { OnlyCounts block (C.told copies.old) (C.told copies.new) }
     ensures stays { CopiesStay C.told C.is_store C.over copies.old copies.new }
 {

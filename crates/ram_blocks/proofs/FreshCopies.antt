@@ -1,5 +1,5 @@
--- The application's copies before the first store: the configuration's synchronized blocks, of which none was refused.
-use Rattle.std.specs.Prelude.{option_map, unwrap_or, slice_get, ◌-◌}
+-- The application's copies before the first store: the configuration's synchronized blocks, of which no copy is to be refused.
+use Rattle.std.specs.Prelude.{option_map, unwrap_or, slice_get}
 use Rattle.std.proofs.Common.{◌≡◌, ◌≤◌, ◌==◌, ℕ, zero, suc, Bool, true, false, List, [], ◌∷◌, map, length, replicate, get_or, Option, Some, None, if◌then◌else◌, refl, sym, ap, ◌∙◌, subst, inl, inr, arith}
 use Rattle.std.proofs.lemmas.Bool.{cases_Bool, eqb-true}
 use Rattle.std.proofs.lemmas.List.{length-replicate}
@@ -8,7 +8,7 @@ use Rattle.block_machine.specs.block_config.Block.{plain_block}
 use Rattle.block_machine.specs.block_config.Rules.{IsLegalConfig, IsLegalBlock, AreBlocks, AreDefaults}
 use Rattle.block_machine.specs.Words.{BlockDesc, BlockKind, Native, Redundant, Dataset, Configuration}
 use Rattle.block_machine.specs.Blocks.{desc_of, is_synchronized}
-use Rattle.ram_blocks.specs.Told.{IsSynchronized, most_of, refusals_of}
+use Rattle.ram_blocks.specs.Told.{IsSynchronized, to_refuse_by, to_refuse_of}
 use Rattle.ram_blocks.specs.Plain.{told_of, plain_of, plain_blocks_of, fresh_block, no_plain}
 use Rattle.ram_blocks.specs.declared.plain_block.PlainBlock.{PlainBlock}
 
@@ -57,27 +57,25 @@ are_synchronized c copies legal is id sync = subst (λ (xs : List PlainBlock). I
     own zero sync = cc sync
     own (suc i) sync = at_place c.blocks i (each_block c.id c.blocks legal.blocks_legal i) sync
 
--- NONE WAS REFUSED
+-- NONE IS TO BE REFUSED
 
-quiet : (p : PlainBlock) → p.refusals ≡ 0 → p.asked ≡ 0 → (most_of (told_of p ∷ []) 0 - refusals_of (told_of p ∷ []) 0) ≡ 0
-quiet p refused asked = elim (cases_Bool (length p.content == 0)) [ inl empty ↦ rw empty refl | inr full ↦ rw full (omega (arith, refused, asked)) ]
+none_by : (b : Bool) (p : PlainBlock) → p.to_refuse ≡ 0
+    → unwrap_or (to_refuse_by (if b then None else Some (record { bytes = length p.content; refusals = p.refusals; to_refuse = Some p.to_refuse; handed = p.handed; last = p.last }))) 0 ≡ 0
+none_by true p none = refl
+none_by false p none = none
 
-none_told : (d : BlockDesc) → (most_of (told_of (plain_of d) ∷ []) 0 - refusals_of (told_of (plain_of d) ∷ []) 0) ≡ 0
-none_told d = quiet (plain_of d) (by_kind (is_synchronized d.ram)) (asked_by (is_synchronized d.ram))
+none_told : (d : BlockDesc) → unwrap_or (to_refuse_by (told_of (plain_of d))) 0 ≡ 0
+none_told d = none_by (length (plain_of d).content == 0) (plain_of d) (by_kind (is_synchronized d.ram))
   where
-    by_kind : (b : Bool) → (if b then fresh_block (unwrap_or d.defaults (replicate d.length 0)) else no_plain).refusals ≡ 0
+    by_kind : (b : Bool) → (if b then fresh_block (unwrap_or d.defaults (replicate d.length 0)) else no_plain).to_refuse ≡ 0
     by_kind true = refl
     by_kind false = refl
 
-    asked_by : (b : Bool) → (if b then fresh_block (unwrap_or d.defaults (replicate d.length 0)) else no_plain).asked ≡ 0
-    asked_by true = refl
-    asked_by false = refl
-
-none_at : (bs : List BlockDesc) (i : ℕ) → (most_of (map told_of (map plain_of bs)) i - refusals_of (map told_of (map plain_of bs)) i) ≡ 0
+none_at : (bs : List BlockDesc) (i : ℕ) → unwrap_or (to_refuse_of (map told_of (map plain_of bs)) i) 0 ≡ 0
 none_at [] i = refl
 none_at (b ∷ bs) zero = none_told b
 none_at (b ∷ bs) (suc i) = none_at bs i
 
-pub none_refused : (c : Configuration) (id : ℕ) → (most_of (map told_of (plain_blocks_of c)) id - refusals_of (map told_of (plain_blocks_of c)) id) ≡ 0
-none_refused c zero = refl
-none_refused c (suc i) = none_at c.blocks i
+pub none_to_refuse : (c : Configuration) (id : ℕ) → unwrap_or (to_refuse_of (map told_of (plain_blocks_of c)) id) 0 ≡ 0
+none_to_refuse c zero = refl
+none_to_refuse c (suc i) = none_at c.blocks i

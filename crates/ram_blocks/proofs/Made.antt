@@ -1,5 +1,5 @@
 -- Blocks that are made one after the other.
-use Rattle.std.proofs.Common.{◌≡◌, inr, ◌<◌, ℕ, zero, suc, ◌+◌, Bool, true, false, if◌then◌else◌, List, [], ◌∷◌, ◌++◌, map, take, length, replicate, slice_get, refl, sym, ap, ◌∙◌, arith, add-one, get_or, Option, unwrap_or}
+use Rattle.std.proofs.Common.{◌≡◌, ◌<◌, ℕ, zero, suc, ◌+◌, Bool, true, false, if◌then◌else◌, List, [], ◌∷◌, ◌++◌, map, take, length, replicate, slice_get, refl, sym, ap, ◌∙◌, arith, add-one, get_or, Option, unwrap_or}
 use Rattle.std.specs.List.{All, enumerate_from}
 use Rattle.std.proofs.lemmas.List.{length-replicate}
 use Rattle.std.proofs.lemmas.List.Elements.{All-cons, All-map}
@@ -45,8 +45,8 @@ ram_made c i old new x d below before read one pushed =
     pushed ∙ (rw before (ap (λ y. no_ram ∷ (numbered 1 (take i c.blocks) ++ y ∷ [])) (one ∙ ap (ram_by (i + 1)) (read ∙ the_block c i)) ∙ ap (λ ys. no_ram ∷ ys) (sym (ram_more c.blocks i below))))
 
 whole_by : (t : Bool) (content : List ℕ) → IsWhole (if t then fresh_block content else no_plain)
-whole_by true content = (length-replicate (length content) 0, inr (omega arith))
-whole_by false content = (refl, inr (omega arith))
+whole_by true content = length-replicate (length content) 0
+whole_by false content = refl
 
 pub all_whole : (xs : List BlockDesc) → All IsWhole (no_plain ∷ map plain_of xs)
-all_whole xs = All-cons IsWhole no_plain (map plain_of xs) (refl, inr (omega arith)) (All-map IsWhole plain_of xs (λ k d below. whole_by (is_synchronized (get_or xs k d).ram) (unwrap_or (get_or xs k d).defaults (replicate (get_or xs k d).length 0))))
+all_whole xs = All-cons IsWhole no_plain (map plain_of xs) refl (All-map IsWhole plain_of xs (λ k d below. whole_by (is_synchronized (get_or xs k d).ram) (unwrap_or (get_or xs k d).defaults (replicate (get_or xs k d).length 0))))

@@ -1,5 +1,5 @@
 -- Copies of blocks in memory, by the blocks' own.
-use Rattle.std.proofs.Common.{◌≡◌, ◌<◌, ℕ, zero, suc, ◌==◌, Bool, true, false, if◌then◌else◌, List, [], ◌∷◌, map, length, get_or, slice_set, refl, sym, ap, ◌∙◌, arith, Some, None, option_map, subst}
+use Rattle.std.proofs.Common.{◌≡◌, ◌<◌, ℕ, zero, suc, ◌-◌, ◌==◌, Option, IfSome, Bool, true, false, if◌then◌else◌, List, [], ◌∷◌, map, length, get_or, slice_set, refl, sym, ap, ◌∙◌, arith, Some, None, option_map, subst}
 use Rattle.std.proofs.lemmas.List.{map-set, set-get_or}
 use Rattle.std.proofs.Math.ListN.{get_or-map}
 use Rattle.std.proofs.Math.Seq.{map-set_same}
@@ -7,8 +7,8 @@ use Rattle.block_machine.specs.nv_base.Count.{next_count, Rose}
 use Rattle.ram_blocks.specs.declared.sync_calls.Copied.{Copied}
 use Rattle.ram_blocks.specs.declared.sync_calls.Copied.TheVariants.{Got, Refused}
 use Rattle.ram_blocks.specs.declared.plain_block.PlainBlock.{PlainBlock}
-use Rattle.ram_blocks.specs.Told.{Synchronized, told_at, IsSynchronized, refusals_by, refusals_of, handed_by}
-use Rattle.ram_blocks.specs.Copies.{CopiesOut, CopiesIn, next_number, changed, handed_over as told_over}
+use Rattle.ram_blocks.specs.Told.{Told, Synchronized, told_at, IsSynchronized, refusals_by, refusals_of, handed_by, to_refuse_by, to_refuse_of}
+use Rattle.ram_blocks.specs.Copies.{CopiesOut, CopiesIn, Refuses, NoneIsRefused, with_refused, next_number, changed, handed_over as told_over}
 use Rattle.ram_blocks.specs.Plain.{told_of, store_of, no_plain, refused, handed_over, IsCopiedOut, IsCopiedIn}
 
 -- what is told of one
@@ -23,37 +23,44 @@ within [] i n e = no_bytes i n (i < 0) e
 within (x ∷ xs) zero n e = omega arith
 within (x ∷ xs) (suc i) n e = let h = within xs i n e in omega (arith, h)
 
-bytes_by : (t : Bool) (b : PlainBlock) (n : ℕ) → option_map (λ (s : Synchronized). s.bytes) (if t then None else Some (record { bytes = length b.content; refusals = b.refusals; most = b.asked; handed = b.handed; last = b.last })) ≡ Some n → length b.content ≡ n
+bytes_by : (t : Bool) (b : PlainBlock) (n : ℕ) → option_map (λ (s : Synchronized). s.bytes) (if t then None else Some (record { bytes = length b.content; refusals = b.refusals; to_refuse = Some b.to_refuse; handed = b.handed; last = b.last })) ≡ Some n → length b.content ≡ n
 bytes_by true b n e = cc
 bytes_by false b n e = cc
 
 pub told_set : (xs : List PlainBlock) (i : ℕ) (y : PlainBlock) → map told_of (slice_set xs i y) ≡ slice_set (map told_of xs) i (told_of y)
 told_set xs i y = map-set told_of xs i y
 
-some_told_by : (t : Bool) (b : PlainBlock) (r : ℕ) → (if t then None else Some (record { bytes = length b.content; refusals = r; most = b.asked; handed = b.handed; last = b.last })) ≡ option_map (λ (s : Synchronized). record s { refusals = r }) (if t then None else Some (record { bytes = length b.content; refusals = b.refusals; most = b.asked; handed = b.handed; last = b.last }))
+some_told_by : (t : Bool) (b : PlainBlock) (r : ℕ)
+    → (if t then None else Some (record { bytes = length b.content; refusals = r; to_refuse = Some (b.to_refuse - 1); handed = b.handed; last = b.last }))
+    ≡ option_map (with_refused r) (if t then None else Some (record { bytes = length b.content; refusals = b.refusals; to_refuse = Some b.to_refuse; handed = b.handed; last = b.last }))
 some_told_by true b r = refl
 some_told_by false b r = refl
 
-told_refused : (b : PlainBlock) → told_of (refused b) ≡ option_map (λ (s : Synchronized). record s { refusals = next_count b.refusals }) (told_of b)
+told_refused : (b : PlainBlock) → told_of (refused b) ≡ option_map (with_refused (next_count b.refusals)) (told_of b)
 told_refused b = some_told_by (length b.content == 0) b (next_count b.refusals)
 
-handed_told_by : (t : Bool) (content : List ℕ) (b : PlainBlock) → (if t then None else Some (record { bytes = length b.content; refusals = b.refusals; most = b.asked; handed = next_number b.handed; last = content })) ≡ option_map (told_over content) (if t then None else Some (record { bytes = length b.content; refusals = b.refusals; most = b.asked; handed = b.handed; last = b.last }))
+handed_told_by : (t : Bool) (content : List ℕ) (b : PlainBlock) → (if t then None else Some (record { bytes = length b.content; refusals = b.refusals; to_refuse = Some b.to_refuse; handed = next_number b.handed; last = content })) ≡ option_map (told_over content) (if t then None else Some (record { bytes = length b.content; refusals = b.refusals; to_refuse = Some b.to_refuse; handed = b.handed; last = b.last }))
 handed_told_by true content b = refl
 handed_told_by false content b = refl
 
 told_handed : (content : List ℕ) (b : PlainBlock) → told_of (handed_over content b) ≡ option_map (told_over content) (told_of b)
 told_handed content b = handed_told_by (length b.content == 0) content b
 
-refusals_some : (t : Bool) (b : PlainBlock) (n : ℕ) → option_map (λ (s : Synchronized). s.bytes) (if t then None else Some (record { bytes = length b.content; refusals = b.refusals; most = b.asked; handed = b.handed; last = b.last })) ≡ Some n
-    → (refusals_by (if t then None else Some (record { bytes = length b.content; refusals = b.refusals; most = b.asked; handed = b.handed; last = b.last })) ≡ b.refusals) × (handed_by (if t then None else Some (record { bytes = length b.content; refusals = b.refusals; most = b.asked; handed = b.handed; last = b.last })) ≡ b.handed)
-refusals_some true b n e = cc
-refusals_some false b n e = (refl, refl)
+-- what is told of a synchronized block
+record IsToldOf (t : Told) (b : PlainBlock) : Type 0 where
+  pub refusals : refusals_by t ≡ b.refusals
+  pub handed : handed_by t ≡ b.handed
+  pub left : to_refuse_by t ≡ Some b.to_refuse
 
-counts_at : (xs : List PlainBlock) (i n : ℕ) → IsSynchronized (map told_of xs) i n → (refusals_of (map told_of xs) i ≡ (get_or xs i no_plain).refusals) × (handed_by (told_at (map told_of xs) i) ≡ (get_or xs i no_plain).handed)
-counts_at xs i n e =
+some_told : (t : Bool) (b : PlainBlock) (n : ℕ) → option_map (λ (s : Synchronized). s.bytes) (if t then None else Some (record { bytes = length b.content; refusals = b.refusals; to_refuse = Some b.to_refuse; handed = b.handed; last = b.last })) ≡ Some n
+    → IsToldOf (if t then None else Some (record { bytes = length b.content; refusals = b.refusals; to_refuse = Some b.to_refuse; handed = b.handed; last = b.last })) b
+some_told true b n e = cc
+some_told false b n e = record { refusals = refl; handed = refl; left = refl }
+
+told_there : (xs : List PlainBlock) (i n : ℕ) → IsSynchronized (map told_of xs) i n → IsToldOf (told_at (map told_of xs) i) (get_or xs i no_plain)
+told_there xs i n e =
     let b = get_or xs i no_plain in
-    let h = refusals_some (length b.content == 0) b n (ap (option_map (λ (s : Synchronized). s.bytes)) (sym (told_one xs i)) ∙ e) in
-    (ap refusals_by (told_one xs i) ∙ h.0, ap handed_by (told_one xs i) ∙ h.1)
+    subst (λ (t : Told). IsToldOf t b) (sym (told_one xs i)) (some_told (length b.content == 0) b n (ap (option_map (λ (s : Synchronized). s.bytes)) (sym (told_one xs i)) ∙ e))
 
 -- what is told of one block changes
 told_changed : (xs : List PlainBlock) (i : ℕ) (y : PlainBlock) (change : Synchronized → Synchronized) → told_of y ≡ option_map change (told_of (get_or xs i no_plain)) → map told_of (slice_set xs i y) ≡ changed i change (map told_of xs)
@@ -63,17 +70,34 @@ same_told : (xs : List PlainBlock) (i : ℕ) (y : PlainBlock) → y ≡ get_or x
 same_told xs i y e = ap (map told_of) (ap (slice_set xs i) e ∙ set-get_or xs i no_plain)
 
 rose_at : (xs : List PlainBlock) (i n : ℕ) (y : PlainBlock) → IsSynchronized (map told_of xs) i n → Rose (get_or xs i no_plain).refusals y.refusals → y ≡ refused (get_or xs i no_plain) → Rose (refusals_of (map told_of xs) i) (next_count (get_or xs i no_plain).refusals)
-rose_at xs i n y at rose e = subst (λ r. Rose r (next_count (get_or xs i no_plain).refusals)) (sym (counts_at xs i n at).0) (subst (λ r. Rose (get_or xs i no_plain).refusals r) (ap (λ (b : PlainBlock). b.refusals) e) rose)
+rose_at xs i n y at rose e = subst (λ r. Rose r (next_count (get_or xs i no_plain).refusals)) (sym (told_there xs i n at).refusals) (subst (λ r. Rose (get_or xs i no_plain).refusals r) (ap (λ (b : PlainBlock). b.refusals) e) rose)
+
+none_left : (xs : List PlainBlock) (i n : ℕ) → IsSynchronized (map told_of xs) i n → (get_or xs i no_plain).to_refuse ≡ 0 → NoneIsRefused (map told_of xs) i
+none_left xs i n at none = subst (λ (o : Option ℕ). IfSome o (λ k. k ≡ 0)) (sym (told_there xs i n at).left) none
+
+some_left : (xs : List PlainBlock) (i n : ℕ) → IsSynchronized (map told_of xs) i n → 0 < (get_or xs i no_plain).to_refuse → IfSome (to_refuse_of (map told_of xs) i) (λ k. 0 < k)
+some_left xs i n at some = subst (λ (o : Option ℕ). IfSome o (λ k. 0 < k)) (sym (told_there xs i n at).left) some
+
+copy_refused : (xs : List PlainBlock) (i n : ℕ) (y : PlainBlock) → IsSynchronized (map told_of xs) i n → 0 < (get_or xs i no_plain).to_refuse
+    → Rose (get_or xs i no_plain).refusals y.refusals → y ≡ refused (get_or xs i no_plain) → Refuses i (map told_of xs) (map told_of (slice_set xs i y))
+copy_refused xs i n y at some rose is = (
+  next_count (get_or xs i no_plain).refusals,
+  rose_at xs i n y at rose is,
+  some_left xs i n at some,
+  told_changed xs i y _ (ap told_of is ∙ told_refused (get_or xs i no_plain)),
+)
 
 pub copies_out : (r : Copied) (xs : List PlainBlock) (i n : ℕ) (content : List ℕ) (y : PlainBlock) → IsSynchronized (map told_of xs) i n → IsCopiedOut r content (get_or xs i no_plain) y → CopiesOut r i (map told_of xs) (map told_of (slice_set xs i y))
-copies_out (Got m) xs i n content y at h = same_told xs i y h.3
-copies_out Refused xs i n content y at h =
-    (next_count (get_or xs i no_plain).refusals, rose_at xs i n y at h.1 h.2, told_changed xs i y _ (ap told_of h.2 ∙ told_refused (get_or xs i no_plain)))
+copies_out (Got m) xs i n content y at h = (none_left xs i n at h.0, same_told xs i y h.3)
+copies_out Refused xs i n content y at h = copy_refused xs i n y at h.0 h.1 h.2
 
 pub copies_in : (r : Copied) (xs : List PlainBlock) (i n : ℕ) (content : List ℕ) (y : PlainBlock) → IsSynchronized (map told_of xs) i n → IsCopiedIn r content (get_or xs i no_plain) y → CopiesIn r i content (map told_of xs) (map told_of (slice_set xs i y))
-copies_in (Got m) xs i n content y at h = (h.1 ∙ ap next_number (sym (counts_at xs i n at).1), told_changed xs i y (told_over content) (ap told_of h.2 ∙ told_handed content (get_or xs i no_plain)))
-copies_in Refused xs i n content y at h =
-    (next_count (get_or xs i no_plain).refusals, rose_at xs i n y at h.1 h.2, told_changed xs i y _ (ap told_of h.2 ∙ told_refused (get_or xs i no_plain)))
+copies_in (Got m) xs i n content y at h = (
+  none_left xs i n at h.0,
+  h.1 ∙ ap next_number (sym (told_there xs i n at).handed),
+  told_changed xs i y (told_over content) (ap told_of h.2 ∙ told_handed content (get_or xs i no_plain)),
+)
+copies_in Refused xs i n content y at h = copy_refused xs i n y at h.0 h.1 h.2
 
 -- the stores stay
 pub out_stays : (r : Copied) (content : List ℕ) (b y : PlainBlock) → IsCopiedOut r content b y → store_of y ≡ store_of b

@@ -1,9 +1,10 @@
 -- Tries, one after the other.
-use Rattle.std.proofs.Common.{◌≡◌, ◌<◌, ◌≤◌, ℕ, zero, suc, ◌+◌, inl, inr, List, [], ◌∷◌, option_map, refl, ap, sym, ◌∙◌, arith, Option, Some, None, get_or-set_other}
+use Rattle.std.proofs.Common.{◌≡◌, ◌<◌, ◌≤◌, ℕ, zero, suc, ◌+◌, ◌-◌, true, false, not, is_some, inl, inr, List, [], ◌∷◌, option_map, refl, ap, sym, ◌∙◌, arith, Option, Some, None, get_or-set_other}
 use Rattle.block_machine.specs.nv_base.Count.{Rose, WereCounted}
-use Rattle.ram_blocks.specs.Told.{Told, Synchronized, IsSynchronized, told_at, refusals_by, refusals_of, most_by, sizes_of}
-use Rattle.ram_blocks.specs.Copies.{Refuses, changed, handed_over}
-use Rattle.ram_blocks.specs.Tries.{OnlyCounts, OnlyRefuses, OthersStay}
+use Rattle.ram_blocks.specs.Told.{Told, Synchronized, IsSynchronized, told_at, refusals_by, refusals_of, to_refuse_by, to_refuse_of, sizes_of}
+use Rattle.ram_blocks.specs.Copies.{Refuses, NoneIsRefused, with_refused, changed, handed_over}
+use Rattle.ram_blocks.specs.Tries.{Spends, OnlyCounts, OnlyRefuses, OthersStay}
+use Rattle.ram_blocks.proofs.Spending.{spends_none, spends_refused, spends_made}
 
 -- A CHANGE OF WHAT IS TOLD OF ONE BLOCK
 
@@ -32,59 +33,78 @@ others_stay f ts k b other = get_or-set_other ts k b (option_map f (told_at ts k
 
 -- COUNTS OF ONE BLOCK
 
-abbrev counting : ℕ → Synchronized → Synchronized
-counting n s = record s { refusals = n }
+abbrev counting : ℕ → Option ℕ → Synchronized → Synchronized
+counting n left s = record s { refusals = n; to_refuse = left }
 
-same_by : (t : Told) → option_map (counting (refusals_by t)) t ≡ t
+same_by : (t : Told) → option_map (counting (refusals_by t) (to_refuse_by t)) t ≡ t
 same_by None = refl
 same_by (Some s) = refl
 
-same_counts : (ts : List Told) (k : ℕ) → ts ≡ changed k (counting (refusals_of ts k)) ts
+same_counts : (ts : List Told) (k : ℕ) → ts ≡ changed k (counting (refusals_of ts k) (to_refuse_of ts k)) ts
 same_counts [] k = refl
 same_counts (t ∷ ts) zero = ap (λ x. x ∷ ts) (sym (same_by t))
 same_counts (t ∷ ts) (suc k) = ap (λ xs. t ∷ xs) (same_counts ts k)
 
-twice_by : (n m : ℕ) (t : Told) → option_map (counting m) (option_map (counting n) t) ≡ option_map (counting m) t
-twice_by n m None = refl
-twice_by n m (Some s) = refl
+abbrev one_fewer : Option ℕ → Option ℕ
+one_fewer left = option_map (λ k. k - 1) left
 
-counted_twice : (n m : ℕ) (ts : List Told) (k : ℕ) → changed k (counting m) (changed k (counting n) ts) ≡ changed k (counting m) ts
-counted_twice n m [] k = refl
-counted_twice n m (t ∷ ts) zero = ap (λ x. x ∷ ts) (twice_by n m t)
-counted_twice n m (t ∷ ts) (suc k) = ap (λ xs. t ∷ xs) (counted_twice n m ts k)
+twice_by : (n m : ℕ) (left : Option ℕ) (t : Told) → option_map (with_refused m) (option_map (counting n left) t) ≡ option_map (counting m (one_fewer left)) t
+twice_by n m left None = refl
+twice_by n m left (Some s) = refl
 
-refusals_at : (n bytes : ℕ) (t : Told) → option_map (λ (s : Synchronized). s.bytes) t ≡ Some bytes → refusals_by (option_map (counting n) t) ≡ n
+counted_twice : (n m : ℕ) (left : Option ℕ) (ts : List Told) (k : ℕ) → changed k (with_refused m) (changed k (counting n left) ts) ≡ changed k (counting m (one_fewer left)) ts
+counted_twice n m left [] k = refl
+counted_twice n m left (t ∷ ts) zero = ap (λ x. x ∷ ts) (twice_by n m left t)
+counted_twice n m left (t ∷ ts) (suc k) = ap (λ xs. t ∷ xs) (counted_twice n m left ts k)
+
+refusals_at : (n bytes : ℕ) (t : Told) → option_map (λ (s : Synchronized). s.bytes) t ≡ Some bytes → refusals_by (option_map (with_refused n) t) ≡ n
 refusals_at n bytes None h = cc
 refusals_at n bytes (Some s) h = refl
 
 pub counts_sizes : (old new : List Told) (block : ℕ) → OnlyCounts block old new → sizes_of new ≡ sizes_of old
-counts_sizes old new block (n, is) = rw is (sizes_stay (counting n) (λ s. refl) old block)
+counts_sizes old new block (n, left, is) = rw is (sizes_stay (counting n left) (λ s. refl) old block)
+
+-- one fewer is to be refused, or as many as before
+fewer_by : (n : ℕ) (t : Told) → to_refuse_by (option_map (with_refused n) t) ≡ one_fewer (to_refuse_by t)
+fewer_by n None = refl
+fewer_by n (Some s) = refl
+
+fewer : (old new : List Told) (block n : ℕ) → new ≡ changed block (with_refused n) old → to_refuse_of new block ≡ one_fewer (to_refuse_of old block)
+fewer old new block n is = ap (λ ts. to_refuse_of ts block) is ∙ ap to_refuse_by (now_at (with_refused n) old block) ∙ fewer_by n (told_at old block)
+
+as_many_by : (content : List ℕ) (t : Told) → to_refuse_by (option_map (handed_over content) t) ≡ to_refuse_by t
+as_many_by content None = refl
+as_many_by content (Some s) = refl
+
+as_many : (old new : List Told) (block : ℕ) (content : List ℕ) → new ≡ changed block (handed_over content) old → to_refuse_of new block ≡ to_refuse_of old block
+as_many old new block content is =
+    ap (λ ts. to_refuse_of ts block) is ∙ ap to_refuse_by (now_at (handed_over content) old block) ∙ as_many_by content (told_at old block)
 
 -- REFUSALS
-refuses_by : (n : ℕ) (t : Told) → refusals_by t ≤ n → (most_by (option_map (counting n) t) ≡ most_by t) × (refusals_by t ≤ refusals_by (option_map (counting n) t))
-refuses_by n None low = (refl, omega arith)
-refuses_by n (Some s) low = (refl, low)
+refuses_by : (n : ℕ) (t : Told) → refusals_by t ≤ n → refusals_by t ≤ refusals_by (option_map (with_refused n) t)
+refuses_by n None low = omega arith
+refuses_by n (Some s) low = low
 
-counts_refuse : (n : ℕ) (ts : List Told) (k : ℕ) → refusals_of ts k ≤ n → OnlyRefuses ts (changed k (counting n) ts)
-counts_refuse n [] k low b = (refl, omega arith)
+counts_refuse : (n : ℕ) (ts : List Told) (k : ℕ) → refusals_of ts k ≤ n → OnlyRefuses ts (changed k (with_refused n) ts)
+counts_refuse n [] k low b = omega arith
 counts_refuse n (t ∷ ts) zero low zero = refuses_by n t low
-counts_refuse n (t ∷ ts) zero low (suc b) = (refl, omega arith)
-counts_refuse n (t ∷ ts) (suc k) low zero = (refl, omega arith)
+counts_refuse n (t ∷ ts) zero low (suc b) = omega arith
+counts_refuse n (t ∷ ts) (suc k) low zero = omega arith
 counts_refuse n (t ∷ ts) (suc k) low (suc b) = counts_refuse n ts k low b
 
-handed_by : (content : List ℕ) (t : Told) → (most_by (option_map (handed_over content) t) ≡ most_by t) × (refusals_by t ≤ refusals_by (option_map (handed_over content) t))
-handed_by content None = (refl, omega arith)
-handed_by content (Some s) = (refl, omega arith)
+handed_by : (content : List ℕ) (t : Told) → refusals_by t ≤ refusals_by (option_map (handed_over content) t)
+handed_by content None = omega arith
+handed_by content (Some s) = omega arith
 
 hands_refuse : (content : List ℕ) (ts : List Told) (k : ℕ) → OnlyRefuses ts (changed k (handed_over content) ts)
-hands_refuse content [] k b = (refl, omega arith)
+hands_refuse content [] k b = omega arith
 hands_refuse content (t ∷ ts) zero zero = handed_by content t
-hands_refuse content (t ∷ ts) zero (suc b) = (refl, omega arith)
-hands_refuse content (t ∷ ts) (suc k) zero = (refl, omega arith)
+hands_refuse content (t ∷ ts) zero (suc b) = omega arith
+hands_refuse content (t ∷ ts) (suc k) zero = omega arith
 hands_refuse content (t ∷ ts) (suc k) (suc b) = hands_refuse content ts k b
 
 refuses_on : (old mid new : List Told) → OnlyRefuses old mid → OnlyRefuses mid new → OnlyRefuses old new
-refuses_on old mid new first next b = ((next b).0 ∙ (first b).0, omega (arith, (first b).1, (next b).1))
+refuses_on old mid new first next b = omega (arith, first b, next b)
 
 rose_low : (before after : ℕ) → Rose before after → before ≤ after
 rose_low before after (inl rose) = omega (arith, rose)
@@ -99,13 +119,13 @@ pub record IsTrying (old now : List Told) (block bytes : ℕ) : Type 0 where
   pub synchronized : IsSynchronized now block bytes
 
 begins : (old : List Told) (block bytes : ℕ) → IsSynchronized old block bytes → IsTrying old old block bytes
-begins old block bytes h = record { counts = (refusals_of old block, same_counts old block); refuses = λ b. (refl, omega arith); synchronized = h }
+begins old block bytes h = record { counts = (refusals_of old block, to_refuse_of old block, same_counts old block); refuses = λ b. omega arith; synchronized = h }
 
 pub refused_try : (old now new : List Told) (block bytes : ℕ) → IsTrying old now block bytes → Refuses block now new → IsTrying old new block bytes
-refused_try old now new block bytes h (n, rose, is) = rw is (record {
-  counts = (n, ap (changed block (counting n)) h.counts.1 ∙ counted_twice h.counts.0 n old block);
-  refuses = refuses_on old now (changed block (counting n) now) h.refuses (counts_refuse n now block (rose_low (refusals_of now block) n rose));
-  synchronized = still (counting n) (λ s. refl) now block bytes h.synchronized;
+refused_try old now new block bytes h (n, rose, some, is) = rw is (record {
+  counts = (n, one_fewer h.counts.1, ap (changed block (with_refused n)) h.counts.2 ∙ counted_twice h.counts.0 n h.counts.1 old block);
+  refuses = refuses_on old now (changed block (with_refused n) now) h.refuses (counts_refuse n now block (rose_low (refusals_of now block) n rose));
+  synchronized = still (with_refused n) (λ s. refl) now block bytes h.synchronized;
 })
 
 counted_by : (i before mid next : ℕ) → WereCounted i before mid → Rose mid next → WereCounted (i + 1) before next
@@ -116,9 +136,9 @@ counted_by i before mid next (inr end) (inr rose) = inr (omega (arith, rose.0, r
 
 refused_counted : (old now new : List Told) (block bytes i : ℕ) → IsSynchronized now block bytes → Refuses block now new
     → WereCounted i (refusals_of old block) (refusals_of now block) → WereCounted (i + 1) (refusals_of old block) (refusals_of new block)
-refused_counted old now new block bytes i h (n, rose, is) so =
+refused_counted old now new block bytes i h (n, rose, some, is) so =
     let count : refusals_of new block ≡ n = ap (λ ts. refusals_of ts block) is
-    ∙ ap refusals_by (now_at (counting n) now block) ∙ refusals_at n bytes (told_at now block) h in
+    ∙ ap refusals_by (now_at (with_refused n) now block) ∙ refusals_at n bytes (told_at now block) h in
     rw count (counted_by i (refusals_of old block) (refusals_of now block) n so rose)
 
 -- A CONTENT IS HANDED OVER
@@ -153,6 +173,7 @@ pub record IsTriedOut (old now : List Told) (block bytes asked i : ℕ) (last : 
   pub trying : IsTrying old now block bytes
   pub older : AreOlder asked last IsStore
   pub counted : last ≡ None → WereCounted i (refusals_of old block) (refusals_of now block)
+  pub spent : Spends (not (is_some last)) i (to_refuse_of old block) (to_refuse_of now block)
 
 pub begins_out : (old : List Told) (block bytes asked : ℕ) (IsStore : ℕ → List ℕ → Type 0) → IsSynchronized old block bytes
     → IsTriedOut old old block bytes asked 0 None IsStore
@@ -160,6 +181,7 @@ begins_out old block bytes asked IsStore h = record {
   trying = begins old block bytes h;
   older = tt;
   counted = λ e. inl (omega arith);
+  spent = spends_none (to_refuse_of old block);
 }
 
 older_stays : (asked : ℕ) (last : Option ℕ) (Before After : ℕ → List ℕ → Type 0) → ((n : ℕ) (x : List ℕ) → Before n x → After n x)
@@ -174,28 +196,46 @@ refused_out old now new block bytes asked i last Before After stays h refuses = 
   trying = refused_try old now new block bytes h.trying refuses;
   older = older_stays asked last Before After stays h.older;
   counted = λ e. refused_counted old now new block bytes i h.trying.synchronized refuses (h.counted e);
+  spent = spends_refused (not (is_some last)) i (to_refuse_of old block) (to_refuse_of now block) h.spent refuses.2 (to_refuse_of new block) (fewer now new block refuses.0 refuses.3);
 }
 
 pub stale_out : (old now new : List Told) (block bytes asked i n : ℕ) (last : Option ℕ) (Before After : ℕ → List ℕ → Type 0) (content : List ℕ)
-    → IsTriedOut old now block bytes asked i last Before → new ≡ now → n < asked → After n content
+    → IsTriedOut old now block bytes asked i last Before → NoneIsRefused now block × (new ≡ now) → n < asked → After n content
     → IsTriedOut old new block bytes asked (i + 1) (Some n) After
-stale_out old now new block bytes asked i n last Before After content h is low store = record {
+stale_out old now new block bytes asked i n last Before After content h (none, is) low store = record {
   trying = rw is h.trying;
   older = record { low = low; content = content; is = store };
   counted = λ e. cc (e);
+  spent = spends_made (not (is_some last)) i (i + 1) (to_refuse_of old block) (to_refuse_of now block) h.spent none (omega arith) (to_refuse_of new block)
+      (ap (λ ts. to_refuse_of ts block) is);
 }
+
+-- a copy that was made spends those that were to be refused
+pub made_out : (old now new : List Told) (block bytes asked i tries : ℕ) (last : Option ℕ) (IsStore : ℕ → List ℕ → Type 0)
+    → IsTriedOut old now block bytes asked i last IsStore → NoneIsRefused now block × (new ≡ now) → i < tries
+    → Spends false tries (to_refuse_of old block) (to_refuse_of new block)
+made_out old now new block bytes asked i tries last IsStore h (none, is) below =
+    spends_made (not (is_some last)) i tries (to_refuse_of old block) (to_refuse_of now block) h.spent none below (to_refuse_of new block)
+    (ap (λ ts. to_refuse_of ts block) is)
 
 -- after so many tries of a copy in, each of which was refused
 pub record IsTriedIn (old now : List Told) (block bytes i : ℕ) : Type 0 where
   pub trying : IsTrying old now block bytes
   pub counted : WereCounted i (refusals_of old block) (refusals_of now block)
+  pub spent : Spends true i (to_refuse_of old block) (to_refuse_of now block)
 
 pub begins_in : (old : List Told) (block bytes : ℕ) → IsSynchronized old block bytes → IsTriedIn old old block bytes 0
-begins_in old block bytes h = record { trying = begins old block bytes h; counted = inl (omega arith) }
+begins_in old block bytes h = record { trying = begins old block bytes h; counted = inl (omega arith); spent = spends_none (to_refuse_of old block) }
 
 pub refused_in : (old now new : List Told) (block bytes i : ℕ) → IsTriedIn old now block bytes i → Refuses block now new
     → IsTriedIn old new block bytes (i + 1)
 refused_in old now new block bytes i h refuses = record {
   trying = refused_try old now new block bytes h.trying refuses;
   counted = refused_counted old now new block bytes i h.trying.synchronized refuses h.counted;
+  spent = spends_refused true i (to_refuse_of old block) (to_refuse_of now block) h.spent refuses.2 (to_refuse_of new block) (fewer now new block refuses.0 refuses.3);
 }
+
+pub made_in : (old now new : List Told) (block bytes i tries : ℕ) (content : List ℕ) → IsTriedIn old now block bytes i → NoneIsRefused now block
+    → new ≡ changed block (handed_over content) now → i < tries → Spends false tries (to_refuse_of old block) (to_refuse_of new block)
+made_in old now new block bytes i tries content h none is below =
+    spends_made true i tries (to_refuse_of old block) (to_refuse_of now block) h.spent none below (to_refuse_of new block) (as_many now new block content is)

@@ -1,5 +1,5 @@
 -- Synchronized blocks in memory.
-use Rattle.std.specs.Prelude.{◌≡◌, ◌⊎◌, ◌<◌, ◌≤◌, ℕ, ◌+◌, ◌-◌, ◌==◌, min, List, [], ◌∷◌, map, length, replicate, unwrap_or, if◌then◌else◌, Option, Some, None}
+use Rattle.std.specs.Prelude.{◌≡◌, ◌<◌, ℕ, ◌+◌, ◌-◌, ◌==◌, min, List, [], ◌∷◌, map, length, replicate, unwrap_or, if◌then◌else◌, Option, Some, None}
 use Rattle.block_machine.specs.nv_base.Count.{Rose, next_count, last_count}
 use Rattle.block_machine.specs.block_config.declared.block.BlockDesc.{BlockDesc}
 use Rattle.block_machine.specs.block_config.Config.{Configuration}
@@ -14,7 +14,7 @@ use Rattle.ram_blocks.specs.Copies.{next_number}
 
 -- before the first store, with this content
 abbrev pub fresh_block : List ℕ → PlainBlock
-fresh_block content = record { content = content; number = 0; last = replicate (length content) 0; handed = 0; refusals = 0; to_refuse = 0; asked = 0 }
+fresh_block content = record { content = content; number = 0; last = replicate (length content) 0; handed = 0; refusals = 0; to_refuse = 0 }
 
 -- one that isn't synchronized
 abbrev pub no_plain : PlainBlock
@@ -26,7 +26,7 @@ refused b = record b { to_refuse = b.to_refuse - 1; refusals = next_count b.refu
 
 -- the next copies are to be refused, so many more
 abbrev pub refusing : ℕ → PlainBlock → PlainBlock
-refusing count b = record b { to_refuse = min (b.to_refuse + count) last_count; asked = min (b.asked + count) last_count }
+refusing count b = record b { to_refuse = min (b.to_refuse + count) last_count }
 
 -- the application stored a content
 abbrev pub stored : List ℕ → PlainBlock → PlainBlock
@@ -45,18 +45,14 @@ abbrev pub IsCopiedIn : Copied → List ℕ → PlainBlock → PlainBlock → Ty
 IsCopiedIn (Got n) content old new = (old.to_refuse ≡ 0) × (n ≡ next_number old.handed) × (new ≡ handed_over content old)
 IsCopiedIn Refused content old new = (0 < old.to_refuse) × Rose old.refusals new.refusals × (new ≡ refused old)
 
--- those that were refused and those that are to be were asked for, while their count doesn't stand still
-abbrev pub AreAsked : PlainBlock → Type 0
-AreAsked b = (b.asked ≡ last_count) ⊎ (b.refusals + b.to_refuse ≤ b.asked)
-
 abbrev pub IsWhole : PlainBlock → Type 0
-IsWhole b = (length b.last ≡ length b.content) × AreAsked b
+IsWhole b = length b.last ≡ length b.content
 
 -- THE BLOCKS OF A CONFIGURATION
 
 -- what is told of a block: nothing where it has no bytes
 abbrev pub told_of : PlainBlock → Told
-told_of b = if length b.content == 0 then None else Some (record { bytes = length b.content; refusals = b.refusals; most = b.asked; handed = b.handed; last = b.last })
+told_of b = if length b.content == 0 then None else Some (record { bytes = length b.content; refusals = b.refusals; to_refuse = Some b.to_refuse; handed = b.handed; last = b.last })
 
 -- its newest store
 abbrev pub store_of : PlainBlock → ℕ × List ℕ

@@ -1,12 +1,13 @@
 -- What is told of the application's synchronized blocks.
 use Rattle.std.specs.Prelude.{◌≡◌, ℕ, List, map, get_or, option_map, Option, Some, None}
+use Rattle.std.specs.Option.{option_and_then}
 
--- its bytes, the copies that were refused so far, how many will be at most if nobody asks for more, the contents that were
--- handed over to the application, and the last one
+-- its bytes, the copies that were refused so far, how many of its next copies are refused where the application knows that, the
+-- contents that were handed over to the application, and the last one
 pub record Synchronized : Type 0 where
   pub bytes : ℕ
   pub refusals : ℕ
-  pub most : ℕ
+  pub to_refuse : Option ℕ
   pub handed : ℕ
   pub last : List ℕ
 
@@ -27,13 +28,12 @@ refusals_by (Some s) = s.refusals
 abbrev pub refusals_of : List Told → ℕ → ℕ
 refusals_of told block = refusals_by (told_at told block)
 
--- as many of its copies are refused at most
-abbrev pub most_by : Told → ℕ
-most_by None = 0
-most_by (Some s) = s.most
+-- how many of its next copies are refused, where that is told
+abbrev pub to_refuse_by : Told → Option ℕ
+to_refuse_by t = option_and_then (λ (s : Synchronized). s.to_refuse) t
 
-abbrev pub most_of : List Told → ℕ → ℕ
-most_of told block = most_by (told_at told block)
+abbrev pub to_refuse_of : List Told → ℕ → Option ℕ
+to_refuse_of told block = to_refuse_by (told_at told block)
 
 abbrev pub handed_by : Told → ℕ
 handed_by None = 0

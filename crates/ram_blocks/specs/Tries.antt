@@ -1,7 +1,7 @@
 -- What becomes of a copy that is tried several times.
-use Rattle.std.specs.Prelude.{◌≡◌, ◌≢◌, ◌≤◌, ◌<◌, ℕ, Bool, true, false, List, option_map, Some}
+use Rattle.std.specs.Prelude.{◌≡◌, ◌≢◌, ◌≤◌, ◌<◌, ◌-◌, nat_le, ℕ, Bool, true, false, List, option_map, Option, Some, IfSome}
 use Rattle.block_machine.specs.nv_base.Count.{WereCounted}
-use Rattle.ram_blocks.specs.Told.{Told, told_at, refusals_of, most_of}
+use Rattle.ram_blocks.specs.Told.{Told, told_at, refusals_of}
 use Rattle.ram_blocks.specs.Copies.{changed}
 use Rattle.ram_blocks.specs.declared.tries.Tried.{Tried}
 use Rattle.ram_blocks.specs.declared.tries.Tried.TheVariants.{Got, Refused, Stale}
@@ -19,17 +19,27 @@ IsTried (Got n) block asked tries old new = asked ≤ n
 IsTried Refused block asked tries old new = WereCounted tries (refusals_of old block) (refusals_of new block)
 IsTried (Stale got) block asked tries old new = got < asked
 
+-- no try of a copy out gave a store
+abbrev pub is_refused : Tried → Bool
+is_refused Refused = true
+is_refused tried = false
+
+-- Where it is told how many of a block's next copies are refused: so many tries of a copy are all refused exactly where as many
+-- are to be, and they use up as many.
+abbrev pub Spends : (refused : Bool) → (tries : ℕ) → (before after : Option ℕ) → Type 0
+Spends refused tries before after = IfSome before (λ n. refused ≡ nat_le tries n) × (after ≡ option_map (λ n. n - tries) before)
+
 -- nothing but the refused copies of one block was counted
 abbrev pub OnlyCounts : (block : ℕ) → (old new : List Told) → Type 0
-OnlyCounts block old new = (n : ℕ) × (new ≡ changed block (λ s. record s { refusals = n }) old)
+OnlyCounts block old new = (n : ℕ) × (left : Option ℕ) × (new ≡ changed block (λ s. record s { refusals = n; to_refuse = left }) old)
 
 -- nothing is told otherwise of another block
 abbrev pub OthersStay : (block : ℕ) → (old new : List Told) → Type 0
 OthersStay block old new = (b : ℕ) → b ≢ block → told_at new b ≡ told_at old b
 
--- nobody asked for more refusals, and none that was counted is forgotten
+-- no refused copy that was counted is forgotten
 abbrev pub OnlyRefuses : (old new : List Told) → Type 0
-OnlyRefuses old new = (b : ℕ) → (most_of new b ≡ most_of old b) × (refusals_of old b ≤ refusals_of new b)
+OnlyRefuses old new = (b : ℕ) → refusals_of old b ≤ refusals_of new b
 
 -- The application took the content, or each try was refused.
 abbrev pub IsHanded : Bool → (block tries : ℕ) → (content : List ℕ) → (old new : List Told) → Type 0

@@ -12,8 +12,7 @@ use std::alloc::{AllocError, Global};
 pub const LAST_NUMBER: u64 = 1 << 60;
 
 /// A synchronized block, or without bytes one that isn't: the application's content with the number of its store, the
-/// content that was handed to it last with the number of those, the copies that were refused, those that are to be, and how
-/// many refusals were asked for in all.
+/// content that was handed to it last with the number of those, the copies that were refused, and how many of the next ones are.
 #[derive(Drop)]
 pub struct PlainBlock {
     pub content: Bytes,
@@ -22,7 +21,6 @@ pub struct PlainBlock {
     pub handed: u64,
     pub refusals: u64,
     pub to_refuse: u64,
-    pub asked: u64,
 }
 
 impl PlainBlock {
@@ -38,7 +36,6 @@ impl PlainBlock {
             handed: 0,
             refusals: 0,
             to_refuse: 0,
-            asked: 0,
         })
     }
 
@@ -99,7 +96,6 @@ impl PlainBlock {
         ensures { self.new ≡ refusing count self.old }
     {
         self.to_refuse = self.to_refuse.saturating_add(u64::from(count));
-        self.asked = self.asked.saturating_add(u64::from(count));
     }
 }
 

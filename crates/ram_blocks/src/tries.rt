@@ -1,7 +1,7 @@
 // Tries of a copy.
-ghost use Rattle.std.specs.Prelude.{◌≡◌, ℕ, List, length};
-ghost use Rattle.ram_blocks.specs.Told.{IsSynchronized, sizes_of};
-ghost use Rattle.ram_blocks.specs.Tries.{IsOfStore, IsTried, IsHanded, OnlyCounts, OnlyRefuses, OthersStay};
+ghost use Rattle.std.specs.Prelude.{◌≡◌, ℕ, not, List, length};
+ghost use Rattle.ram_blocks.specs.Told.{IsSynchronized, sizes_of, to_refuse_of};
+ghost use Rattle.ram_blocks.specs.Tries.{IsOfStore, IsTried, IsHanded, Spends, is_refused, OnlyCounts, OnlyRefuses, OthersStay};
 
 use crate::{Copied, SyncCalls};
 
@@ -25,6 +25,7 @@ pub fn copy_out<C: SyncCalls>(
     requires { IsSynchronized (C.told copies.old) block (length into.old) }
     ensures tried { IsTried result block asked tries (C.told copies.old) (C.told copies.new) }
     ensures store { IsOfStore result into.new (λ n x. C.is_store copies.new block n x × C.looked copies.old copies.new block n) }
+    ensures spends { Spends (is_refused result) tries (to_refuse_of (C.told copies.old) block) (to_refuse_of (C.told copies.new) block) }
     ensures counts { OnlyCounts block (C.told copies.old) (C.told copies.new) }
     ensures sizes { sizes_of (C.told copies.new) ≡ sizes_of (C.told copies.old) }
     ensures refuses { OnlyRefuses (C.told copies.old) (C.told copies.new) }
@@ -53,6 +54,7 @@ pub fn copy_out<C: SyncCalls>(
 pub fn copy_in<C: SyncCalls>(copies: &mut C, block: u16, tries: u16, from: &[u8]) -> bool
     requires { IsSynchronized (C.told copies.old) block (length from.now) }
     ensures handed { IsHanded result block tries from.now (C.told copies.old) (C.told copies.new) }
+    ensures spends { Spends (not result) tries (to_refuse_of (C.told copies.old) block) (to_refuse_of (C.told copies.new) block) }
     ensures others { OthersStay block (C.told copies.old) (C.told copies.new) }
     ensures sizes { sizes_of (C.told copies.new) ≡ sizes_of (C.told copies.old) }
     ensures refuses { OnlyRefuses (C.told copies.old) (C.told copies.new) }

@@ -1,7 +1,7 @@
 -- Copies of blocks by their mirrors.
 use Rattle.std.proofs.Common.{◌≡◌, ℕ, zero, suc, ◌+◌, ◌≤◌, List, [], ◌∷◌, ◌++◌, length, map, get_or, slice_set, Option, Some, None, option_map, IfSome, refl, sym, ap, ◌∙◌, subst, arith, length-append}
-use Rattle.ram_blocks.specs.Told.{Synchronized, IsSynchronized, refusals_by, refusals_of, told_at, handed_by}
-use Rattle.ram_blocks.specs.Copies.{changed, handed_over, next_number}
+use Rattle.ram_blocks.specs.Told.{Synchronized, IsSynchronized, refusals_by, refusals_of, to_refuse_by, told_at, handed_by}
+use Rattle.ram_blocks.specs.Copies.{NoneIsRefused, changed, handed_over, next_number}
 use Rattle.ram_mirrors.specs.Stores.{Contents, store_number}
 use mathlib.Core.Option.{some}
 use lib.ListN.{get_elem?}
@@ -155,6 +155,15 @@ pub none_refused : (xs : EndList) (b : ℕ) → 0 ≡ refusals_of (map told_by x
 none_refused [] b = refl
 none_refused (x ∷ xs) zero = none_by x
 none_refused (x ∷ xs) (suc b) = none_refused xs b
+
+none_left : (o : Option EndValue) → IfSome (to_refuse_by (told_by o)) (λ n. n ≡ 0)
+none_left None = tt
+none_left (Some l) = refl
+
+pub none_to_refuse : (xs : EndList) (b : ℕ) → NoneIsRefused (map told_by xs) b
+none_to_refuse [] b = tt
+none_to_refuse (x ∷ xs) zero = none_left x
+none_to_refuse (x ∷ xs) (suc b) = none_to_refuse xs b
 
 -- THE LINE OF A SYNCHRONIZED BLOCK
 no_end : (i n : ℕ) (X : Type 0) → IsSynchronized (map told_by []) i n → X

@@ -1,5 +1,5 @@
 -- The two mirrors of a synchronized block, and the driver's ends of them.
-use Rattle.std.specs.Prelude.{◌≡◌, ◌⊎◌, ◌+◌, ◌≤◌, ℕ, List, [], ◌∷◌, ◌++◌, length}
+use Rattle.std.specs.Prelude.{Some, ◌≡◌, ◌⊎◌, ◌+◌, ◌≤◌, ℕ, List, [], ◌∷◌, ◌++◌, length}
 use mathlib.Core.Option.{some}
 use lib.ListN.{get_elem?}
 use Rattle.ram_mirrors.specs.Stores.{Contents, store_number}
@@ -37,7 +37,7 @@ pub record IsEndOf (p : PairValue) (e : EndValue) : Type 0 where
 
 -- what is told of a block by its end. No copy of it is refused.
 abbrev pub told_of : EndValue → Synchronized
-told_of e = record { bytes = e.up.size; refusals = 0; most = 0; handed = store_number (length e.down.stores); last = last_of e.down.stores [] }
+told_of e = record { bytes = e.up.size; refusals = 0; to_refuse = Some 0; handed = store_number (length e.down.stores); last = last_of e.down.stores [] }
 
 -- a pair that was taken; number 0 is what the application has before its first store
 abbrev pub IsTaken : EndValue → ℕ → List ℕ → Type 0

@@ -5,10 +5,10 @@ pub loop-i-init : goal.loop-i-init
 loop-i-init g c = record { tried = begins_in _ _ _ c.requires; stores = λ b n x h. h; over = λ first h. h }
 
 pub returns-in-Got-clause-sizes : goal.returns-in-Got-clause-sizes
-returns-in-Got-clause-sizes g c = handed_sizes _ _ _ _ _ _ c.loop-i.invariant.tried.trying c.in-Got.ensures.copied.1
+returns-in-Got-clause-sizes g c = handed_sizes _ _ _ _ _ _ c.loop-i.invariant.tried.trying c.in-Got.ensures.copied.2
 
 pub returns-in-Got-clause-refuses : goal.returns-in-Got-clause-refuses
-returns-in-Got-clause-refuses g c = handed_refuses _ _ _ _ _ _ c.loop-i.invariant.tried.trying c.in-Got.ensures.copied.1
+returns-in-Got-clause-refuses g c = handed_refuses _ _ _ _ _ _ c.loop-i.invariant.tried.trying c.in-Got.ensures.copied.2
 
 pub loop-i-preserved : goal.loop-i-preserved
 loop-i-preserved g c = record {

@@ -6,7 +6,7 @@ pub loop-i-init : goal.loop-i-init
 loop-i-init g c = record { tried = begins_out _ _ _ _ _ c.requires; stores = λ b n x h. h; over = λ first h. h; looks = λ until b n h. h }
 
 pub returns-then-asked-number-clause-sizes : goal.returns-then-asked-number-clause-sizes
-returns-then-asked-number-clause-sizes g c = rw c.in-Got.ensures.copied (counts_sizes _ _ _ c.loop-i.invariant.tried.trying.counts)
+returns-then-asked-number-clause-sizes g c = rw c.in-Got.ensures.copied.1 (counts_sizes _ _ _ c.loop-i.invariant.tried.trying.counts)
 
 pub loop-i-preserved : goal.loop-i-preserved
 loop-i-preserved g c =
@@ -35,7 +35,7 @@ pub returns-in-None-clause-sizes : goal.returns-in-None-clause-sizes
 returns-in-None-clause-sizes g c = counts_sizes _ _ _ c.loop-i.invariant.tried.trying.counts
 
 pub returns-then-asked-number-clause-refuses : goal.returns-then-asked-number-clause-refuses
-returns-then-asked-number-clause-refuses g c = rw c.in-Got.ensures.copied c.loop-i.invariant.tried.trying.refuses
+returns-then-asked-number-clause-refuses g c = rw c.in-Got.ensures.copied.1 c.loop-i.invariant.tried.trying.refuses
 
 pub returns-in-Some-clause-refuses : goal.returns-in-Some-clause-refuses
 returns-in-Some-clause-refuses g c = c.loop-i.invariant.tried.trying.refuses

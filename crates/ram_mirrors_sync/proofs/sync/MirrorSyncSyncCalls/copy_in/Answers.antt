@@ -3,7 +3,7 @@ use Rattle.ram_blocks.specs.Told.{told_at, handed_by}
 use Rattle.ram_blocks.specs.Copies.{changed, handed_over, next_number}
 use Rattle.ram_mirrors_sync.specs.Blocks.{SyncValue, end_at, told_by}
 use Rattle.ram_mirrors_sync.proofs.Belonging.{owns}
-use Rattle.ram_mirrors_sync.proofs.Copies.{Keeps, keeps, end_there, in_stores_stay, told_in, in_goes_on}
+use Rattle.ram_mirrors_sync.proofs.Copies.{Keeps, keeps, end_there, in_stores_stay, told_in, in_goes_on, none_to_refuse}
 use Rattle.ram_mirrors_sync.proofs.sync.MirrorSyncSyncCalls.copy_in.Goals as goal
 use Rattle.ram_mirrors_sync.proofs.sync.MirrorSyncSyncCalls.copy_in.Goals.{In-Some, After-copy_in}
 
@@ -24,6 +24,7 @@ returns-clause-copied c =
     let at = there (goal.at.returns-clause-copied c).In-Some in
     let i : c.from.result ≡ c.args.block = c.from.ensures in
     let h = told_in xs c.from.result c.in-Some.end new n x at c.copy_in.ensures.copied in (
+      none_to_refuse c.args.self.now.ends c.args.block,
       h.0 ∙ ap (λ (k : ℕ). next_number (handed_by (told_at (map told_by xs) k))) i ∙ ap (λ (v : SyncValue). next_number (handed_by (told_at (map told_by v.ends) c.args.block))) c.self.view_is,
       h.1 ∙ ap (λ (k : ℕ). changed k (handed_over x) (map told_by xs)) i ∙ ap (λ (v : SyncValue). changed c.args.block (handed_over x) (map told_by v.ends)) c.self.view_is,
     )

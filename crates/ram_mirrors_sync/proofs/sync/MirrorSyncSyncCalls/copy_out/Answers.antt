@@ -1,7 +1,7 @@
 use Rattle.std.proofs.Common.{◌≡◌, ℕ, Some, length, map, slice_set, subst, ap, ◌∙◌}
 use Rattle.ram_mirrors_sync.specs.Blocks.{IsStore, HasLooked, SyncValue, end_at, told_by}
 use Rattle.ram_mirrors_sync.proofs.Belonging.{owns}
-use Rattle.ram_mirrors_sync.proofs.Copies.{Keeps, keeps, end_there, store_now, told_same, out_goes_on, out_shows, looked_now}
+use Rattle.ram_mirrors_sync.proofs.Copies.{Keeps, keeps, end_there, store_now, told_same, out_goes_on, out_shows, looked_now, none_to_refuse}
 use Rattle.ram_mirrors_sync.proofs.sync.MirrorSyncSyncCalls.copy_out.Goals as goal
 use Rattle.ram_mirrors_sync.proofs.sync.MirrorSyncSyncCalls.copy_out.Goals.{In-Some, After-copy_out}
 
@@ -16,8 +16,10 @@ kept c at = keeps c.self.inside.ends.items _ _ _ _ (ap (λ (v : SyncValue). v.en
 pub returns-clause-copied : goal.returns-clause-copied
 returns-clause-copied c =
     let xs = c.self.inside.ends.items in
-    let at = there (goal.at.returns-clause-copied c).In-Some in
-    told_same xs c.from.result c.in-Some.end c.copy_out.new.self at c.copy_out.ensures.copied.rest ∙ ap (λ (v : SyncValue). map told_by v.ends) c.self.view_is
+    let at = there (goal.at.returns-clause-copied c).In-Some in (
+      none_to_refuse c.args.self.now.ends c.args.block,
+      told_same xs c.from.result c.in-Some.end c.copy_out.new.self at c.copy_out.ensures.copied.rest ∙ ap (λ (v : SyncValue). map told_by v.ends) c.self.view_is,
+    )
 
 pub returns-clause-stores_stay : goal.returns-clause-stores_stay
 returns-clause-stores_stay c = (kept (goal.at.returns-clause-stores_stay c).After-copy_out (there (goal.at.returns-clause-stores_stay c).In-Some)).stores
